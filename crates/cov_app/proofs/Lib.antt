@@ -1,0 +1,11 @@
+pub mod Evals
+pub mod Standing
+pub mod Tests
+pub mod Reaching
+pub mod Nodes
+pub mod Simple
+pub mod Loops
+pub mod ErrTexts
+pub mod Endings
+pub mod Answering
+pub mod SpellingLemmas

@@ -1,0 +1,100 @@
+-- Answers of a command, seen plainly, with their statuses and their texts on `err`.
+use Rattle.std.specs.Prelude.{ℕ, List, [], ◌∷◌, ◌++◌, Option, Some, None, codes, decimal}
+use Rattle.std.specs.String.{string_bytes}
+use Rattle.py_value.specs.declared.exception.ExcKind.{ExcKind}
+use Rattle.py_value.specs.declared.exception.ExcKind.TheVariants as kinds
+use Rattle.py_meaning.specs.Value.{Raised}
+use Rattle.cov_app.specs.declared.answer.Why.{Why}
+use Rattle.cov_app.specs.declared.answer.Why.TheVariants as why
+use Rattle.cov_app.specs.declared.answer.SyntaxKind.{SyntaxKind}
+use Rattle.cov_app.specs.declared.answer.SyntaxKind.TheVariants.{Unbuilt}
+use Rattle.cov_app.specs.declared.answer.LimitKind.{LimitKind}
+use Rattle.cov_app.specs.declared.answer.LimitKind.TheVariants.{FileBytes}
+
+-- names are the bytes of their texts
+pub data Answer : Type 0 where
+  program : ℕ → Answer
+  budget : ℕ → Answer
+  usage : ℕ → Answer
+  no_such_file : List ℕ → Answer
+  syntax : List ℕ → ℕ → SyntaxKind → Answer
+  limit : LimitKind → ℕ → Answer
+  write_fault : Answer
+  shelf_fault : Answer
+  no_memory : Answer
+
+abbrev pub answer_of : Why → Answer
+answer_of (why.Program n) = program n
+answer_of (why.Budget n) = budget n
+answer_of (why.Usage i) = usage i
+answer_of (why.NoSuchFile name) = no_such_file (string_bytes name)
+answer_of (why.Syntax file line kind) = syntax (string_bytes file) line kind
+answer_of (why.Limit kind n) = limit kind n
+answer_of why.WriteFault = write_fault
+answer_of why.ShelfFault = shelf_fault
+answer_of why.NoMemory = no_memory
+
+-- the exit status (74 and 75 as in sysexits.h, 70 for want of memory)
+abbrev pub status_of : Answer → ℕ
+status_of (program n) = n
+status_of (budget n) = 75
+status_of (usage i) = 1
+status_of (no_such_file name) = 1
+status_of (syntax file line kind) = 1
+status_of (limit kind n) = 1
+status_of write_fault = 74
+status_of shelf_fault = 74
+status_of no_memory = 70
+
+abbrev pub kind_name : ExcKind → List ℕ
+kind_name kinds.BaseException = codes "BaseException"
+kind_name kinds.SystemExit = codes "SystemExit"
+kind_name kinds.Exception = codes "Exception"
+kind_name kinds.ArithmeticError = codes "ArithmeticError"
+kind_name kinds.ZeroDivisionError = codes "ZeroDivisionError"
+kind_name kinds.OverflowError = codes "OverflowError"
+kind_name kinds.AssertionError = codes "AssertionError"
+kind_name kinds.AttributeError = codes "AttributeError"
+kind_name kinds.EOFError = codes "EOFError"
+kind_name kinds.ImportError = codes "ImportError"
+kind_name kinds.ModuleNotFoundError = codes "ModuleNotFoundError"
+kind_name kinds.LookupError = codes "LookupError"
+kind_name kinds.IndexError = codes "IndexError"
+kind_name kinds.KeyError = codes "KeyError"
+kind_name kinds.MemoryError = codes "MemoryError"
+kind_name kinds.NameError = codes "NameError"
+kind_name kinds.UnboundLocalError = codes "UnboundLocalError"
+kind_name kinds.RuntimeError = codes "RuntimeError"
+kind_name kinds.RecursionError = codes "RecursionError"
+kind_name kinds.TypeError = codes "TypeError"
+kind_name kinds.ValueError = codes "ValueError"
+
+abbrev pub after_kind : List ℕ → List ℕ
+after_kind [] = []
+after_kind (c ∷ cs) = codes ": " ++ c ∷ cs
+
+-- an uncaught exception: its kind, and its text where there is one
+abbrev pub exception_line : Raised → List ℕ
+exception_line e = kind_name e.kind ++ after_kind e.text ++ 10 ∷ []
+
+abbrev pub raised_line : Option Raised → List ℕ
+raised_line None = []
+raised_line (Some e) = exception_line e
+
+abbrev pub kind_text : SyntaxKind → List ℕ
+kind_text Unbuilt = codes "Unbuilt"
+
+abbrev pub limit_text : LimitKind → List ℕ
+limit_text FileBytes = codes "FileBytes"
+
+-- what a command writes to `err`
+abbrev pub err_text : Answer → Option Raised → List ℕ
+err_text (program n) e = raised_line e
+err_text (budget n) e = codes "coverage: budget of " ++ decimal n ++ codes " steps is spent\n"
+err_text (usage i) e = codes "coverage: usage: stopped after " ++ decimal i ++ codes " words\n"
+err_text (no_such_file name) e = codes "coverage: no file " ++ name ++ codes "\n"
+err_text (syntax file line kind) e = codes "coverage: " ++ (file ++ (codes ":" ++ (decimal line ++ (codes ": " ++ (kind_text kind ++ codes "\n")))))
+err_text (limit kind n) e = codes "coverage: limit " ++ limit_text kind ++ codes " passed: " ++ decimal n ++ codes "\n"
+err_text write_fault e = codes "coverage: writing output failed\n"
+err_text shelf_fault e = codes "coverage: files failed\n"
+err_text no_memory e = codes "coverage: no memory\n"

@@ -1,0 +1,132 @@
+-- The step of a command: what its words and the files make of it.
+use Rattle.std.specs.Prelude.{◌≡◌, ℕ, if◌then◌else◌, List, [], ◌∷◌, ◌++◌, Option, Some, None, Result, Ok, Err, length, nat_lt, codes}
+use Rattle.std.specs.Fmt.{signed_decimal}
+use Rattle.cov_outside.specs.Files.{Files}
+use Rattle.cov_outside.specs.Prefixes.{GainsPrefix}
+use Rattle.py_syntax.specs.Tree.{Stmts}
+use Rattle.py_meaning.specs.Value.{Raised}
+use Rattle.py_meaning.specs.State.{Res, done, cut, end_of, Out, normal, raised}
+use Rattle.py_meaning.specs.Meaning.{meaning}
+use Rattle.py_meaning.specs.Arcs.{Arc, arcs_of, in_order}
+use Rattle.cov_app.specs.Spelling.{SpellsBuilt}
+use Rattle.cov_app.specs.Spelling.Lines.{HasLines}
+use Rattle.cov_app.specs.declared.answer.Why.{Why}
+use Rattle.cov_app.specs.declared.answer.Why.TheVariants as why
+use Rattle.cov_app.specs.declared.answer.Told.{Told}
+use Rattle.cov_app.specs.declared.answer.Told.TheVariants as told_variants
+use Rattle.cov_app.specs.declared.answer.SyntaxKind.TheVariants.{Unbuilt}
+use Rattle.cov_app.specs.declared.answer.LimitKind.TheVariants.{FileBytes}
+use Rattle.cov_app.specs.Command.{command}
+use Rattle.cov_app.specs.Answer.{Answer, program, budget, usage, no_such_file, syntax, limit, answer_of, err_text}
+
+-- ---- the run
+
+abbrev pub arc_line : List ℕ → Arc → List ℕ
+arc_line path a = path ++ (codes " " ++ (signed_decimal a.0 ++ (codes " " ++ (signed_decimal a.1 ++ codes "\n"))))
+
+abbrev pub arc_lines : List ℕ → List Arc → List ℕ
+arc_lines path [] = []
+arc_lines path (a ∷ rest) = arc_line path a ++ arc_lines path rest
+
+-- the steps that a run may take
+abbrev pub budget_of_runs : ℕ
+budget_of_runs = 1000000
+
+-- the most bytes of a file
+abbrev pub most_bytes : ℕ
+most_bytes = 1048576
+
+-- what a command does: its answer, the exception that its program ended by, and the bytes for `out`
+pub record Stepped : Type 0 where
+  pub answer : Answer
+  pub raised_by : Option Raised
+  pub out : List ℕ
+
+abbrev pub refusal : Answer → Stepped
+refusal a = record { answer = a; raised_by = None; out = [] }
+
+abbrev pub ended_by : Res Out → Answer
+ended_by (done normal s n) = program 0
+ended_by (done (raised e) s n) = program 1
+ended_by (cut s) = budget budget_of_runs
+
+abbrev pub exception_of : Res Out → Option Raised
+exception_of (done normal s n) = None
+exception_of (done (raised e) s n) = Some e
+exception_of (cut s) = None
+
+abbrev pub printed_by : Res Out → List ℕ
+printed_by r = (end_of r).world.out
+
+-- what a run prints, and then its arcs
+abbrev pub shown_by : List ℕ → Res Out → List ℕ
+shown_by path r = printed_by r ++ arc_lines path (in_order (arcs_of r))
+
+abbrev pub run_of : List ℕ → Stmts → Stepped
+run_of path tree =
+    let r = meaning tree budget_of_runs in
+    record { answer = ended_by r; raised_by = exception_of r; out = shown_by path r }
+
+-- ---- the command
+
+-- a source was read, as a tree that spells it, or it wasn't
+abbrev pub Reads : List ℕ → Option Stmts → Type 0
+Reads bytes None = Unit {0}
+Reads bytes (Some tree) = SpellsBuilt bytes tree × HasLines tree
+
+abbrev pub of_tree : List ℕ → Option Stmts → Stepped
+of_tree path None = refusal (syntax path 1 Unbuilt)
+of_tree path (Some tree) = run_of path tree
+
+abbrev pub of_file : List ℕ → Option (List ℕ) → Option Stmts → Stepped
+of_file path None reading = refusal (no_such_file path)
+of_file path (Some bytes) reading = if nat_lt most_bytes (length bytes) then refusal (limit FileBytes 1048577) else of_tree path reading
+
+abbrev pub of_command : Result (List ℕ) ℕ → Files → Option Stmts → Stepped
+of_command (Err i) files reading = refusal (usage i)
+of_command (Ok path) files reading = of_file path (files path) reading
+
+-- the step of the words over the files, where the script was read so
+abbrev pub step : List (List ℕ) → Files → Option Stmts → Stepped
+step words files reading = of_command (command words) files reading
+
+-- a fault cuts the bytes for `out` short; any other answer is the step's
+abbrev pub Meets : Stepped → Why → Option Raised → Type 0 → List ℕ → List ℕ → Type 0
+Meets s why.WriteFault e tells before after = tells → GainsPrefix before after s.out
+Meets s why.ShelfFault e tells before after = tells → GainsPrefix before after s.out
+Meets s why.NoMemory e tells before after = tells → GainsPrefix before after s.out
+Meets s w e tells before after = (answer_of w ≡ s.answer) × (e ≡ s.raised_by) × (tells → after ≡ before ++ s.out)
+
+-- the answer is that of the step, and `out` gained its bytes
+pub record Answers (words : List (List ℕ)) (files : Files) (w : Why) (e : Option Raised) (tells : Type 0) (before after : List ℕ) : Type 0 where
+  pub reading : Option Stmts
+  pub read : (path bytes : List ℕ) → command words ≡ Ok path → files path ≡ Some bytes → Reads bytes reading
+  pub met : Meets (step words files reading) w e tells before after
+
+-- what became of a text for `err`
+abbrev pub IsTold : Told → List ℕ → List ℕ → List ℕ → Type 0
+IsTold told_variants.Whole text before after = after ≡ before ++ text
+IsTold told_variants.Failed text before after = GainsPrefix before after text
+IsTold told_variants.NoMemory text before after = GainsPrefix before after text
+
+-- the whole command: where the shelf tells its files the answer is the step's, and `err` gained its text
+pub record TakesStep (words : List (List ℕ)) (shelf_tells : Type 0) (files : Files) (w : Why) (t : Told) (out_tells : Type 0) (out_before out_after : List ℕ) (err_tells : Type 0) (err_before err_after : List ℕ) : Type 0 where
+  pub raised_by : Option Raised
+  pub answers : shelf_tells → Answers words files w raised_by out_tells out_before out_after
+  pub told : err_tells → IsTold t (err_text (answer_of w) raised_by) err_before err_after
+
+-- the part of a script, and that of its bytes
+pub record AnswersScript (path : List ℕ) (files : Files) (w : Why) (e : Option Raised) (tells : Type 0) (before after : List ℕ) : Type 0 where
+  pub reading : Option Stmts
+  pub read : (bytes : List ℕ) → files path ≡ Some bytes → Reads bytes reading
+  pub met : Meets (of_file path (files path) reading) w e tells before after
+
+pub record AnswersSource (path bytes : List ℕ) (w : Why) (e : Option Raised) (tells : Type 0) (before after : List ℕ) : Type 0 where
+  pub reading : Option Stmts
+  pub read : Reads bytes reading
+  pub met : Meets (of_tree path reading) w e tells before after
+
+-- the answer, where memory sufficed
+abbrev pub OrNoMemory : Why → Answer → Type 0
+OrNoMemory why.NoMemory a = Unit {0}
+OrNoMemory w a = answer_of w ≡ a

@@ -1,0 +1,57 @@
+// How a command ends.
+
+/// How a call of `coverage` ended.
+#[derive(Debug, Drop)]
+pub struct End {
+    /// The exit status, from 0 to 255.
+    pub status: u8,
+    pub why: Why,
+    pub told: Told,
+}
+
+/// What became of the text for `err`.
+#[derive(Clone, Copy, Debug, PartialEq, Eq)]
+pub enum Told {
+    /// All of it was written.
+    Whole,
+    /// Writing failed behind a prefix of it.
+    Failed,
+    /// No memory was left behind a prefix of it.
+    NoMemory,
+}
+
+/// Why a command ended.
+#[derive(Debug, Drop)]
+pub enum Why {
+    /// The program ended with this status.
+    Program(u8),
+    /// The program took this many steps and was cut.
+    Budget(u64),
+    /// The words are no command; the first so many begin one.
+    Usage(usize),
+    /// No file has this name.
+    NoSuchFile(String),
+    /// The file can't be read as a program from this line on, counted from 1.
+    Syntax(String, u32, SyntaxKind),
+    /// A count passes its limit: the least count that does.
+    Limit(LimitKind, u64),
+    /// Writing to `out` failed.
+    WriteFault,
+    /// The shelf failed.
+    ShelfFault,
+    NoMemory,
+}
+
+/// What is wrong with a source.
+#[derive(Clone, Copy, Debug, PartialEq, Eq)]
+pub enum SyntaxKind {
+    /// It uses a form of the language that isn't built yet.
+    Unbuilt,
+}
+
+/// What a limit counts.
+#[derive(Clone, Copy, Debug, PartialEq, Eq)]
+pub enum LimitKind {
+    /// The bytes of one file: at most 1,048,576.
+    FileBytes,
+}

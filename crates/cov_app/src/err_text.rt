@@ -1,0 +1,132 @@
+// The text of an answer on `err`.
+ghost use Rattle.std.specs.Prelude.{◌≡◌, ◌≤◌, IfOk, None};
+ghost use Rattle.std.specs.String.{string_bytes};
+ghost use Rattle.cov_outside.specs.Counts.{Rose};
+ghost use Rattle.cov_app.specs.Walk.{raised_of};
+ghost use Rattle.cov_app.specs.Answer.{syntax, answer_of, err_text, kind_text, limit_text, kind_name, exception_line, raised_line};
+ghost use Rattle.cov_app.specs.Runs.{plain_raised};
+ghost use Rattle.cov_app.specs.Step.{IsTold};
+
+use crate::answer::{LimitKind, SyntaxKind, Told, Why};
+use crate::walk::Raised;
+use cov_outside::{Sink, SinkError};
+use py_value::{ExcKind, NoMemory};
+use std::alloc::Global;
+
+/// Writes the text of the answer to `err`.
+pub(crate) fn tell<E: Sink>(alloc: Global, err: &mut E, why: &Why, raised: &Option<Raised>) -> Told
+    ensures told { E.tells → IsTold result (err_text (answer_of why.now) (plain_raised raised.now)) (E.contents err.old) (E.contents err.new) }
+    ensures count { E.faults err.old ≤ E.faults err.new }
+    ensures failed { result ≡ Told.Failed → Rose (E.faults err.old) (E.faults err.new) }
+{
+    match err_line(alloc, why, raised) {
+        Ok(line) => say(alloc, err, line.as_str()),
+        Err(_) => Told::NoMemory,
+    }
+}
+
+fn say<E: Sink>(alloc: Global, err: &mut E, text: &str) -> Told
+    ensures told { E.tells → IsTold result text.now (E.contents err.old) (E.contents err.new) }
+    ensures count { E.faults err.old ≤ E.faults err.new }
+    ensures failed { result ≡ Told.Failed → Rose (E.faults err.old) (E.faults err.new) }
+{
+    if text.is_empty() {
+        return Told::Whole;
+    }
+    match err.write(alloc, text.as_bytes()) {
+        Ok(()) => Told::Whole,
+        Err(SinkError::Failed) => Told::Failed,
+        Err(SinkError::NoMemory) => Told::NoMemory,
+    }
+}
+
+fn err_line(alloc: Global, why: &Why, raised: &Option<Raised>) -> Result<String, NoMemory>
+    ensures { IfOk result (λ line. string_bytes line ≡ err_text (answer_of why.now) (plain_raised raised.now)) }
+{
+    match why {
+        Why::Program(_) => program_line(alloc, raised),
+        Why::Budget(n) => format!(in alloc; "coverage: budget of {n} steps is spent\n"),
+        Why::Usage(i) => format!(in alloc; "coverage: usage: stopped after {i} words\n"),
+        Why::NoSuchFile(name) => format!(in alloc; "coverage: no file {name}\n"),
+        Why::Syntax(file, line, kind) => syntax_line(alloc, file.as_str(), *line, *kind),
+        Why::Limit(kind, n) => {
+            let kind = limit_text(*kind);
+            format!(in alloc; "coverage: limit {kind} passed: {n}\n")
+        }
+        Why::WriteFault => String::from_str(alloc, "coverage: writing output failed\n"),
+        Why::ShelfFault => String::from_str(alloc, "coverage: files failed\n"),
+        Why::NoMemory => String::from_str(alloc, "coverage: no memory\n"),
+    }
+}
+
+fn syntax_line(alloc: Global, file: &str, line: u32, kind: SyntaxKind) -> Result<String, NoMemory>
+    ensures { IfOk result (λ text. string_bytes text ≡ err_text (syntax file.now line kind) None) }
+{
+    let kind = kind_text(kind);
+    format!(in alloc; "coverage: {file}:{line}: {kind}\n")
+}
+
+fn kind_text(kind: SyntaxKind) -> &'static str
+    ensures { result.now ≡ kind_text kind }
+{
+    match kind {
+        SyntaxKind::Unbuilt => "Unbuilt",
+    }
+}
+
+fn limit_text(kind: LimitKind) -> &'static str
+    ensures { result.now ≡ limit_text kind }
+{
+    match kind {
+        LimitKind::FileBytes => "FileBytes",
+    }
+}
+
+/// The line of an uncaught exception, or nothing.
+fn program_line(alloc: Global, raised: &Option<Raised>) -> Result<String, NoMemory>
+    ensures { IfOk result (λ line. string_bytes line ≡ raised_line (plain_raised raised.now)) }
+{
+    match raised {
+        None => Ok(String::new(alloc)),
+        Some(raised) => exception_line(alloc, raised),
+    }
+}
+
+fn exception_line(alloc: Global, raised: &Raised) -> Result<String, NoMemory>
+    ensures { IfOk result (λ line. string_bytes line ≡ exception_line (raised_of raised.now)) }
+{
+    let kind = kind_name(raised.kind);
+    let text = raised.text.as_str();
+    if text.is_empty() {
+        return format!(in alloc; "{kind}\n");
+    }
+    format!(in alloc; "{kind}: {text}\n")
+}
+
+fn kind_name(kind: ExcKind) -> &'static str
+    ensures { result.now ≡ kind_name kind }
+{
+    match kind {
+        ExcKind::BaseException => "BaseException",
+        ExcKind::SystemExit => "SystemExit",
+        ExcKind::Exception => "Exception",
+        ExcKind::ArithmeticError => "ArithmeticError",
+        ExcKind::ZeroDivisionError => "ZeroDivisionError",
+        ExcKind::OverflowError => "OverflowError",
+        ExcKind::AssertionError => "AssertionError",
+        ExcKind::AttributeError => "AttributeError",
+        ExcKind::EOFError => "EOFError",
+        ExcKind::ImportError => "ImportError",
+        ExcKind::ModuleNotFoundError => "ModuleNotFoundError",
+        ExcKind::LookupError => "LookupError",
+        ExcKind::IndexError => "IndexError",
+        ExcKind::KeyError => "KeyError",
+        ExcKind::MemoryError => "MemoryError",
+        ExcKind::NameError => "NameError",
+        ExcKind::UnboundLocalError => "UnboundLocalError",
+        ExcKind::RuntimeError => "RuntimeError",
+        ExcKind::RecursionError => "RecursionError",
+        ExcKind::TypeError => "TypeError",
+        ExcKind::ValueError => "ValueError",
+    }
+}

@@ -1,0 +1,158 @@
+// The top call: one command over a shelf, an input and two sinks.
+ghost use Rattle.std.specs.Prelude.{◌≡◌, ◌≢◌, ◌↔◌, ℕ, Err, map};
+ghost use Rattle.std.specs.String.{string_bytes};
+ghost use Rattle.cov_outside.specs.Counts.{Rose};
+ghost use Rattle.cov_app.specs.Command.{command};
+ghost use Rattle.cov_app.specs.Answer.{answer_of, status_of, usage, no_such_file, syntax};
+ghost use Rattle.cov_app.specs.Runs.{plain_raised, answer_left, raised_left};
+ghost use Rattle.cov_app.specs.Step.{Answers, AnswersScript, AnswersSource, OrNoMemory, TakesStep};
+
+use crate::answer::{End, LimitKind, SyntaxKind, Told, Why};
+use crate::command::read_words;
+use crate::err_text::tell;
+use crate::front;
+use crate::script::{BUDGET, run};
+use crate::walk::{Left, Raised, RunFault};
+use cov_outside::{Shelf, ShelfError, Sink, Source};
+use std::alloc::Global;
+
+/// The most bytes of a file.
+const MOST_BYTES: usize = 1_048_576;
+
+/// Runs the command that the words spell: `arcs SCRIPT` runs the script and writes its output and then its
+/// arcs to `out`, one line `PATH FROM TO` each, where -1 is the outside. An uncaught exception or the line of
+/// a refusal goes to `err`.
+pub fn coverage<H: Shelf, I: Source, O: Sink, E: Sink>(
+    alloc: Global,
+    words: &[String],
+    shelf: &mut H,
+    input: &mut I,
+    out: &mut O,
+    err: &mut E,
+) -> End
+    // Where the shelf tells its files, the answer and the bytes are those of the step.
+    ensures step { TakesStep (map string_bytes words.now) H.tells (H.files shelf.old) result.why result.told O.tells (O.contents out.old) (O.contents out.new) E.tells (E.contents err.old) (E.contents err.new) }
+    ensures status { result.status ≡ status_of (answer_of result.why) }
+
+    // For every shelf and sink.
+    ensures usage { (i : ℕ) → (answer_of result.why ≡ usage i) ↔ (command (map string_bytes words.now) ≡ Err i) }
+    ensures write_fault { result.why ≡ Why.WriteFault → Rose (O.faults out.old) (O.faults out.new) }
+    ensures shelf_fault { result.why ≡ Why.ShelfFault → Rose (H.faults shelf.old) (H.faults shelf.new) }
+    ensures told_failed { result.told ≡ Told.Failed → Rose (E.faults err.old) (E.faults err.new) }
+
+    // The files and the input stay as they were.
+    ensures shelf_kept { H.tells → H.files shelf.new ≡ H.files shelf.old }
+    ensures input_kept { input.new ≡ input.old }
+{
+    let _ = input;
+    let (why, raised) = answer(alloc, words, shelf, out);
+    let told = tell(alloc, err, &why, &raised);
+    let status = status_of(&why);
+    End { status, why, told }
+}
+
+/// The answer, and the exception that the program ended by.
+fn answer<H: Shelf, O: Sink>(
+    alloc: Global,
+    words: &[String],
+    shelf: &mut H,
+    out: &mut O,
+) -> (Why, Option<Raised>)
+    ensures answers { H.tells → Answers (map string_bytes words.now) (H.files shelf.old) result.0 (plain_raised result.1) O.tells (O.contents out.old) (O.contents out.new) }
+    ensures usage { (i : ℕ) → (answer_of result.0 ≡ usage i) ↔ (command (map string_bytes words.now) ≡ Err i) }
+    ensures write_fault { result.0 ≡ Why.WriteFault → Rose (O.faults out.old) (O.faults out.new) }
+    ensures shelf_fault { result.0 ≡ Why.ShelfFault → Rose (H.faults shelf.old) (H.faults shelf.new) }
+    ensures shelf_kept { H.tells → H.files shelf.new ≡ H.files shelf.old }
+{
+    match read_words(words) {
+        Ok(script) => run_script(alloc, script, shelf, out),
+        Err(i) => (Why::Usage(i), None),
+    }
+}
+
+/// Reads the script and runs it.
+fn run_script<H: Shelf, O: Sink>(
+    alloc: Global,
+    script: &str,
+    shelf: &mut H,
+    out: &mut O,
+) -> (Why, Option<Raised>)
+    ensures answers { H.tells → AnswersScript script.now (H.files shelf.old) result.0 (plain_raised result.1) O.tells (O.contents out.old) (O.contents out.new) }
+    ensures no_usage { (i : ℕ) → answer_of result.0 ≢ usage i }
+    ensures write_fault { result.0 ≡ Why.WriteFault → Rose (O.faults out.old) (O.faults out.new) }
+    ensures shelf_fault { result.0 ≡ Why.ShelfFault → Rose (H.faults shelf.old) (H.faults shelf.new) }
+    ensures shelf_kept { H.tells → H.files shelf.new ≡ H.files shelf.old }
+{
+    match shelf.read(alloc, script, MOST_BYTES) {
+        Ok(bytes) => run_source(alloc, script, &bytes, out),
+        Err(ShelfError::Absent) => (no_such_file(alloc, script), None),
+        Err(ShelfError::TooLarge) => (Why::Limit(LimitKind::FileBytes, 1_048_577), None),
+        Err(ShelfError::Failed) => (Why::ShelfFault, None),
+        Err(ShelfError::NoMemory) => (Why::NoMemory, None),
+    }
+}
+
+/// Reads the bytes of a script into a tree and runs it.
+fn run_source<O: Sink>(
+    alloc: Global,
+    script: &str,
+    bytes: &[u8],
+    out: &mut O,
+) -> (Why, Option<Raised>)
+    ensures answers { AnswersSource script.now bytes.now result.0 (plain_raised result.1) O.tells (O.contents out.old) (O.contents out.new) }
+    ensures no_usage { (i : ℕ) → answer_of result.0 ≢ usage i }
+    ensures write_fault { result.0 ≡ Why.WriteFault → Rose (O.faults out.old) (O.faults out.new) }
+    ensures no_shelf_fault { result.0 ≢ Why.ShelfFault }
+{
+    match front::read(alloc, bytes) {
+        Ok(module) => match run(alloc, script, &module, out) {
+            Ok(left) => ended(left),
+            Err(RunFault::WriteFault) => (Why::WriteFault, None),
+            Err(RunFault::NoMemory) => (Why::NoMemory, None),
+        },
+        Err(front::ReadError::Unbuilt) => (unbuilt(alloc, script), None),
+        Err(front::ReadError::NoMemory) => (Why::NoMemory, None),
+    }
+}
+
+fn ended(left: Left) -> (Why, Option<Raised>)
+    ensures answer { answer_of result.0 ≡ answer_left left }
+    ensures raised { plain_raised result.1 ≡ raised_left left }
+{
+    match left {
+        Left::End => (Why::Program(0), None),
+        Left::Raised(raised) => (Why::Program(1), Some(raised)),
+        Left::Cut => (Why::Budget(BUDGET), None),
+    }
+}
+
+fn no_such_file(alloc: Global, script: &str) -> Why
+    ensures { OrNoMemory result (no_such_file script.now) }
+{
+    match String::from_str(alloc, script) {
+        Ok(name) => Why::NoSuchFile(name),
+        Err(_) => Why::NoMemory,
+    }
+}
+
+fn unbuilt(alloc: Global, script: &str) -> Why
+    ensures { OrNoMemory result (syntax script.now 1 SyntaxKind.Unbuilt) }
+{
+    match String::from_str(alloc, script) {
+        Ok(file) => Why::Syntax(file, 1, SyntaxKind::Unbuilt),
+        Err(_) => Why::NoMemory,
+    }
+}
+
+/// The exit status of an answer.
+fn status_of(why: &Why) -> u8
+    ensures { result ≡ status_of (answer_of why.now) }
+{
+    match why {
+        Why::Program(status) => *status,
+        Why::Budget(_) => 75,
+        Why::WriteFault | Why::ShelfFault => 74,
+        Why::NoMemory => 70,
+        _ => 1,
+    }
+}

@@ -1,0 +1,66 @@
+-- A finite map as the view of a tree whose keys are read by f: what a look-up, an insertion and the entries say.
+use Rattle.std.proofs.Common.{◌≡◌, Bool, true, false, cond, List, [], ◌∷◌, Option, Some, None, Ordering, refl, ap, sym, subst, ◌∙◌}
+use Rattle.std.specs.declared.cmp.Ordering.TheVariants.{Less, Equal, Greater}
+use Rattle.std.specs.Ordering.{is_eq, is_lt, eq_by_cmp, match_ordering}
+use Rattle.std.specs.Cmp.{IsTotalOrder}
+use Rattle.std.specs.Map.{lookup, keys_of}
+use Rattle.std.specs.List.{AllByRecursion}
+use Rattle.std.specs.List.Sorted.{IsStrictlySortedBy}
+use Rattle.std.specs.BTreeMap.{insert_entry}
+use Rattle.std.specs.FinMap.{FinMap, IsAntisymmetric, get, insert, entries, from_entries, from_sorted, find, put, is_sorted, get-from_entries, get-insert, get-from_sorted, entries-from_sorted, get_tied, same_map}
+use Rattle.std.specs.Prelude.{T, ◌&&◌, is_some}
+use Rattle.std.specs.FinMap.Entries.{below_all, find-put, by_order}
+use Rattle.cov_data.specs.DataSet.{rekeyed}
+
+both : (a b : Bool) → T a → T b → T (a && b)
+both true b p q = q
+both false b p q = p
+
+module _ {K B X : Type 0} (S : B → B → Ordering) (f : K → B) where
+  -- a look-up by the keys' views
+  pub find-rekeyed : (q : B) (es : List (K × X)) → find S q (rekeyed f es) ≡ lookup (λ k. is_eq (S q (f k))) es
+  find-rekeyed q [] = refl
+  find-rekeyed q (e ∷ es) = ap (cond (is_eq (S q (f e.0))) (Some e.1)) (find-rekeyed q es)
+
+  -- an insertion into the tree puts the entry in its place
+  pub rekeyed-insert_entry : (k : K) (v : X) (es : List (K × X)) → rekeyed f (insert_entry (λ x y. S (f x) (f y)) es k v) ≡ put S (f k) v (rekeyed f es)
+  rekeyed-insert_entry k v [] = refl
+  rekeyed-insert_entry k v (e ∷ es) =
+      elim (S (f k) (f e.0)) as (λ r. rekeyed f (match_ordering r ((k, v) ∷ e ∷ es) ((e.0, v) ∷ es) (e ∷ insert_entry (λ x y. S (f x) (f y)) es k v)) ≡ by_order r ((f k, v) ∷ rekeyed f (e ∷ es)) ((f e.0, v) ∷ rekeyed f es) ((f e.0, e.1) ∷ put S (f k) v (rekeyed f es))) [
+        | Less ↦ refl
+        | Equal ↦ refl
+        | Greater ↦ ap (λ xs. (f e.0, e.1) ∷ xs) (rekeyed-insert_entry k v es)
+      ]
+
+  below_all-rekeyed : (x : K) (es : List (K × X)) → AllByRecursion (λ y. S (f x) (f y) ≡ Less) (keys_of es) → T (below_all S (f x) (rekeyed f es))
+  below_all-rekeyed x [] h = tt
+  below_all-rekeyed x (e ∷ es) h = both _ _ (subst (λ r. T (is_lt r)) (sym h.0) tt) (below_all-rekeyed x es h.1)
+
+  pub is_sorted-rekeyed : (es : List (K × X)) → IsStrictlySortedBy (λ x y. S (f x) (f y)) (keys_of es) → T (is_sorted S (rekeyed f es))
+  unfolding IsStrictlySortedBy
+  is_sorted-rekeyed [] h = tt
+  is_sorted-rekeyed (e ∷ es) h = both _ _ (below_all-rekeyed e.0 es h.0) (is_sorted-rekeyed es h.1)
+
+module _ {B X : Type 0} {S : B → B → Ordering} (o : IsTotalOrder S) (same : IsAntisymmetric S) where
+  pub from_entries-put : (k : B) (v : X) (es : List (B × X)) → from_entries {R = S} (put S k v es) ≡ insert (from_entries es) k v
+  from_entries-put k v es = same_map o same _ _ (λ q. get-from_entries o (put S k v es) q ∙ find-put S o q k v es ∙ sym (get-insert o (from_entries es) k v q ∙ ap (cond (eq_by_cmp S q k) (Some v)) (get-from_entries o es q)))
+
+  -- the map of a list in order holds that list
+  pub entries-from_entries : (es : List (B × X)) → T (is_sorted S es) → entries (from_entries {R = S} es) ≡ es
+  entries-from_entries es h = ap entries (same_map o same (from_entries es) (from_sorted es) (λ q. get-from_entries o es q ∙ sym (get-from_sorted S es q h))) ∙ entries-from_sorted S es h
+
+  -- what is there, inserted again
+  pub insert-same : (m : FinMap S X) (k : B) (v : X) → get m k ≡ Some v → insert m k v ≡ m
+  insert-same m k v is = same_map o same _ _ (λ q. get-insert o m k v q ∙ elim (S q k) as (λ r. S q k ≡ r → cond (is_eq r) (Some v) (get m q) ≡ get m q) [
+    | Less ↦ λ p. refl
+    | Equal ↦ λ p. sym is ∙ get_tied o m q k p
+    | Greater ↦ λ p. refl
+  ] refl)
+
+pub none_from_is_some : {X : Type 0} (o : Option X) → is_some o ≡ false → o ≡ None
+none_from_is_some None h = refl
+none_from_is_some (Some x) h = cc
+
+pub some_from_is_some : {X : Type 0} (o : Option X) → is_some o ≡ true → (x : X) × (o ≡ Some x)
+some_from_is_some None h = cc
+some_from_is_some (Some x) h = (x, refl)

@@ -1,0 +1,23 @@
+use Rattle.std.proofs.Common.{◌≡◌, ap, sym, ◌∙◌}
+use Rattle.std.specs.Ordering.{is_eq}
+use Rattle.std.specs.Map.{lookup}
+use Rattle.std.specs.BTreeMap.{insert_entry}
+use Rattle.std.specs.Option.{option_copied}
+use Rattle.cov_data.specs.DataSet.{joined_count, add_count}
+use Rattle.cov_data.specs.Stored.{file_from, place_view}
+use Rattle.cov_data.proofs.FileViews.{file_from-joined, stored_cmp}
+use Rattle.cov_data.proofs.file.FileCounts.add.Goals as goal
+use Rattle.cov_data.proofs.file.FileCounts.add.Goals.{in-Some, in-None}
+
+pub returns-clause-ok : goal.returns-clause-ok
+returns-clause-ok c =
+    let k = c.args.place in
+    let es = c.self.inside.counts.entries in
+    let found = c.get.ensures.value in
+    let sum : c.match-get.sum ≡ joined_count (lookup (λ x. is_eq (stored_cmp k x)) es) c.args.count =
+    elim c.match-get.branch [
+      | in-Some w ↦ w.sum-is ∙ w.saturating_add-sum.ensures ∙ ap (λ o. joined_count o c.args.count) (ap option_copied (sym w.in-Some.is) ∙ found)
+      | in-None w ↦ w.sum-is ∙ ap (λ o. joined_count o c.args.count) (ap option_copied (sym w.in-None.is) ∙ found)
+    ] in
+    let same : c.match-get.self-inside.counts.entries ≡ es = elim c.match-get.branch [ in-Some w ↦ ap (λ s. s.counts.entries) w.self-inside-is | in-None w ↦ ap (λ s. s.counts.entries) w.self-inside-is ] in
+    ap file_from (c.in_ok-insert.ensures.entries ∙ ap (λ xs. insert_entry stored_cmp xs k c.match-get.sum) same) ∙ file_from-joined es k c.args.count c.match-get.sum sum ∙ ap (λ f. add_count f (place_view k) c.args.count) c.self.view_is

@@ -1,0 +1,4 @@
+pub mod DataSet
+pub mod Rows
+pub mod Stored
+pub mod Numbits

@@ -1,0 +1,5 @@
+x = 1
+if x:
+    print(x)
+else:
+    print(0)

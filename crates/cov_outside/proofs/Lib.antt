@@ -1,0 +1,4 @@
+mod Parts
+mod Placed
+pub mod PrefixLemmas
+pub mod CountLemmas

@@ -1,0 +1,242 @@
+use cov_app::{Told, coverage};
+use cov_outside::{MemShelf, MemSink, MemSource};
+use std::alloc::{AllocError, Global};
+use std::process::Abort;
+use std::test::Fail;
+
+/// A command over one file, with the calls of shelf, `out` and `err` that fail, and what must come of it.
+#[derive(Drop)]
+struct Row {
+    title: &'static str,
+    words: &'static str,
+    source: &'static str,
+    failing: (&'static [u64], &'static [u64], &'static [u64]),
+    status: u8,
+    out: &'static str,
+    err: &'static str,
+    told: Told,
+}
+
+/// A row where nothing fails.
+const fn unfailing(
+    title: &'static str,
+    words: &'static str,
+    source: &'static str,
+    status: u8,
+    out: &'static str,
+    err: &'static str,
+) -> Row {
+    Row {
+        title,
+        words,
+        source,
+        failing: (&[], &[], &[]),
+        status,
+        out,
+        err,
+        told: Told::Whole,
+    }
+}
+
+const FIRST_RUN: &str = "x = 1\nif x:\n    print(x)\nelse:\n    print(0)\n";
+
+fn numbers(alloc: Global, failing: &[u64]) -> Result<Vec<u64>, AllocError> {
+    Vec::from_slice(alloc, failing)
+}
+
+fn assert_row(rt: &impl Abort, alloc: Global, row: &Row) -> Result<(), AllocError> {
+    let mut words = Vec::new(alloc);
+    for word in row.words.split_whitespace() {
+        words.push(String::from_str(alloc, word)?)?;
+    }
+    let mut files = Vec::new(alloc);
+    let bytes = Vec::from_slice(alloc, row.source.as_bytes())?;
+    files.push((String::from_str(alloc, "s.py")?, bytes))?;
+    let mut shelf = MemShelf::new(alloc, files, numbers(alloc, row.failing.0)?);
+    let mut input = MemSource::new(Vec::new(alloc), Vec::new(alloc));
+    let mut out = MemSink::new(alloc, Vec::new(alloc), numbers(alloc, row.failing.1)?);
+    let mut err = MemSink::new(alloc, Vec::new(alloc), numbers(alloc, row.failing.2)?);
+    let end = coverage(alloc, &words, &mut shelf, &mut input, &mut out, &mut err);
+    assert_eq!(rt; end.status, row.status, "{}", row.title);
+    assert_eq!(rt; end.told, row.told, "{}", row.title);
+    assert_eq!(rt;
+        out.into_bytes().as_slice(),
+        row.out.as_bytes(),
+        "{}",
+        row.title
+    );
+    assert_eq!(rt;
+        err.into_bytes().as_slice(),
+        row.err.as_bytes(),
+        "{}",
+        row.title
+    );
+    Ok(())
+}
+
+#[test]
+fn rows(rt: HostRuntime) -> Result<(), Fail> {
+    let first = "1\ns.py -1 1\ns.py 1 2\ns.py 2 3\ns.py 3 -1\n";
+    let rows = [
+        unfailing("First run", "arcs s.py", FIRST_RUN, 0, first, ""),
+        unfailing(
+            "Counting loop",
+            "arcs s.py",
+            "n = 2\nwhile n:\n    n = n - 1\nprint(n)\n",
+            0,
+            "0\ns.py -1 1\ns.py 1 2\ns.py 2 3\ns.py 2 4\ns.py 3 2\ns.py 4 -1\n",
+            "",
+        ),
+        unfailing(
+            "Unset name",
+            "arcs s.py",
+            "x = 1 + y\n",
+            1,
+            "s.py -1 1\ns.py 1 -1\n",
+            "NameError: name 'y' is not defined\n",
+        ),
+        unfailing("Empty file", "arcs s.py", "", 0, "s.py -1 -1\n", ""),
+        unfailing(
+            "Endless loop",
+            "arcs s.py",
+            "while 1:\n    x = 1\n",
+            75,
+            "s.py -1 1\ns.py 1 2\ns.py 2 1\n",
+            "coverage: budget of 1000000 steps is spent\n",
+        ),
+        unfailing(
+            "A result out of range",
+            "arcs s.py",
+            "print(1)\nx = 9223372036854775807 + 1\n",
+            1,
+            "1\ns.py -1 1\ns.py 1 2\ns.py 2 -1\n",
+            "OverflowError: integer too large\n",
+        ),
+        unfailing(
+            "An unbuilt form",
+            "arcs s.py",
+            "def f():\n    return 1\n",
+            1,
+            "",
+            "coverage: s.py:1: Unbuilt\n",
+        ),
+        unfailing(
+            "No words",
+            "",
+            "",
+            1,
+            "",
+            "coverage: usage: stopped after 0 words\n",
+        ),
+        unfailing(
+            "No such command",
+            "run s.py",
+            "",
+            1,
+            "",
+            "coverage: usage: stopped after 0 words\n",
+        ),
+        unfailing(
+            "No script",
+            "arcs",
+            "",
+            1,
+            "",
+            "coverage: usage: stopped after 1 words\n",
+        ),
+        unfailing(
+            "An option",
+            "arcs -x",
+            "",
+            1,
+            "",
+            "coverage: usage: stopped after 1 words\n",
+        ),
+        unfailing(
+            "Words behind the script",
+            "arcs s.py x",
+            "",
+            1,
+            "",
+            "coverage: usage: stopped after 2 words\n",
+        ),
+        unfailing(
+            "No such file",
+            "arcs t.py",
+            "",
+            1,
+            "",
+            "coverage: no file t.py\n",
+        ),
+        Row {
+            title: "A sink whose first call fails",
+            words: "arcs s.py",
+            source: FIRST_RUN,
+            failing: (&[], &[0], &[]),
+            status: 74,
+            out: "",
+            err: "coverage: writing output failed\n",
+            told: Told::Whole,
+        },
+        Row {
+            title: "A sink whose second call fails",
+            words: "arcs s.py",
+            source: FIRST_RUN,
+            failing: (&[], &[1], &[]),
+            status: 74,
+            out: "1\n",
+            err: "coverage: writing output failed\n",
+            told: Told::Whole,
+        },
+        Row {
+            title: "A shelf whose call fails",
+            words: "arcs s.py",
+            source: FIRST_RUN,
+            failing: (&[0], &[], &[]),
+            status: 74,
+            out: "",
+            err: "coverage: files failed\n",
+            told: Told::Whole,
+        },
+        Row {
+            title: "An err whose call fails",
+            words: "arcs s.py",
+            source: "x = y\n",
+            failing: (&[], &[], &[0]),
+            status: 1,
+            out: "s.py -1 1\ns.py 1 -1\n",
+            err: "",
+            told: Told::Failed,
+        },
+    ];
+    for row in &rows {
+        assert_row(&rt, rt.alloc(), row)?;
+    }
+    Ok(())
+}
+
+#[test]
+fn files_have_a_limit(rt: HostRuntime) -> Result<(), Fail> {
+    let alloc = rt.alloc();
+    for (size, status, text) in [
+        (1_048_576, 1, "coverage: s.py:1: Unbuilt\n"),
+        (1_048_577, 1, "coverage: limit FileBytes passed: 1048577\n"),
+    ] {
+        let mut words = Vec::new(alloc);
+        words.push(String::from_str(alloc, "arcs")?)?;
+        words.push(String::from_str(alloc, "s.py")?)?;
+        let mut files = Vec::new(alloc);
+        files.push((
+            String::from_str(alloc, "s.py")?,
+            vec![in alloc; b'#'; size]?,
+        ))?;
+        let mut shelf = MemShelf::new(alloc, files, Vec::new(alloc));
+        let mut input = MemSource::new(Vec::new(alloc), Vec::new(alloc));
+        let mut out = MemSink::new(alloc, Vec::new(alloc), Vec::new(alloc));
+        let mut err = MemSink::new(alloc, Vec::new(alloc), Vec::new(alloc));
+        let end = coverage(alloc, &words, &mut shelf, &mut input, &mut out, &mut err);
+        assert_eq!(rt; end.status, status);
+        assert_eq!(rt; err.into_bytes().as_slice(), text.as_bytes());
+    }
+    Ok(())
+}

@@ -1,0 +1,4 @@
+pub mod Value
+pub mod State
+pub mod Meaning
+pub mod Arcs

@@ -1,0 +1,9 @@
+pub mod Tree
+pub mod View
+pub mod Kinds
+pub mod Tokens
+pub mod Normal
+pub mod Headers
+pub mod Statements
+pub mod Spelling
+pub mod Marks

@@ -1,0 +1,53 @@
+-- The lines of a module that its execution marks.
+use Rattle.std.specs.Prelude.{ℕ, List, [], ◌∷◌, ◌++◌}
+use Rattle.py_syntax.specs.Tree.{str, Stmts, no_stmts, stmt, Suite, suite, OptSuite, no_suite, has_suite, Arms, no_arms, arm, Clauses, no_clauses, clause, Cases, no_cases, case, StmtKind, expr, global, if', while, for, try, def, match}
+
+-- The first lines of all that marks, in the order of the text: simple statements but `global`, each `def`, each `try`, the tests
+-- of `if`, `elif` and loops, `for` headers, clauses, subjects and cases. A string that leads a module or a function marks nothing.
+abbrev mutual
+  pub stmts_marks : Stmts → List ℕ
+  stmts_marks no_stmts = []
+  stmts_marks (stmt first last k e ss) = kind_marks first k ++ stmts_marks ss
+
+  -- of a statement with this first line
+  pub kind_marks : ℕ → StmtKind → List ℕ
+  kind_marks first (global xs) = []
+  kind_marks first (if' arms o) = arms_marks arms ++ opt_marks o
+  kind_marks first (while t b o) = first ∷ (suite_marks b ++ opt_marks o)
+  kind_marks first (for t e b o) = first ∷ (suite_marks b ++ opt_marks o)
+  kind_marks first (try b cs o f) = first ∷ (suite_marks b ++ (clauses_marks cs ++ (opt_marks o ++ opt_marks f)))
+  kind_marks first (def x ps ds c b) = first ∷ function_marks b
+  kind_marks first (match e last cs) = first ∷ cases_marks cs
+  kind_marks first k = first ∷ []
+
+  pub suite_marks : Suite → List ℕ
+  suite_marks (suite first last inline b) = stmts_marks b
+
+  pub opt_marks : OptSuite → List ℕ
+  opt_marks no_suite = []
+  opt_marks (has_suite s) = suite_marks s
+
+  pub arms_marks : Arms → List ℕ
+  arms_marks no_arms = []
+  arms_marks (arm t (suite first last inline b) arms) = first ∷ (stmts_marks b ++ arms_marks arms)
+
+  pub clauses_marks : Clauses → List ℕ
+  clauses_marks no_clauses = []
+  clauses_marks (clause e x (suite first last inline b) cs) = first ∷ (stmts_marks b ++ clauses_marks cs)
+
+  pub cases_marks : Cases → List ℕ
+  cases_marks no_cases = []
+  cases_marks (case p g (suite first last inline b) cs) = first ∷ (stmts_marks b ++ cases_marks cs)
+
+  pub function_marks : Suite → List ℕ
+  function_marks (suite first last inline b) = body_marks b
+
+  -- of the body of a module or a function
+  pub body_marks : Stmts → List ℕ
+  body_marks (stmt first last (expr (str ps)) e ss) = stmts_marks ss
+  body_marks no_stmts = []
+  body_marks (stmt first last k e ss) = kind_marks first k ++ stmts_marks ss
+
+-- The statement lines of a module, as a set.
+abbrev pub statement_lines : Stmts → List ℕ
+statement_lines = body_marks

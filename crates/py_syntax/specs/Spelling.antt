@@ -1,0 +1,125 @@
+-- Which tree a list of tokens spells, lines included, and which prefixes begin one.
+use Rattle.std.specs.Prelude.{◌≡◌, ℕ, ◌+◌, ◌≤◌, ◌<◌, true, false, List, [], ◌∷◌, ◌++◌, length, take, drop}
+use Rattle.py_token.specs.declared.token.Keyword.{Keyword}
+use Rattle.py_token.specs.declared.token.Keyword.TheVariants as word
+use Rattle.py_token.specs.declared.token.Mark.TheVariants as mark
+use Rattle.py_token.specs.Plain.{PToken, first_of, last_of}
+use Rattle.py_syntax.specs.Tree.{Expr}
+use Rattle.py_syntax.specs.Tree.{Stmts, no_stmts, stmt, Suite, suite, OptSuite, no_suite, has_suite, Arms, no_arms, arm, Clauses, no_clauses, clause, Cases, no_cases, case, StmtKind, if', while, for, try, def, match}
+use Rattle.py_syntax.specs.Kinds.{Kind, Name, Word, Sign, Newline, Indent, End, bare}
+use Rattle.py_syntax.specs.Tokens.{tokens, pattern_tokens}
+use Rattle.py_syntax.specs.Headers.{Marked, put, kinds_marked, marked, match_name}
+use Rattle.py_syntax.specs.Statements.{stmts_tokens, kind_tokens, suite_tokens, else_tokens, elif_tokens, clause_tokens, end_tokens, param_tokens, except_tokens, guard_tokens, case_name, NormalStmts, EndLines, stmts_height, stmts_nesting}
+
+-- the first line of the first token
+abbrev pub first_line : List PToken → ℕ
+first_line [] = 0
+first_line (t ∷ ts) = first_of t
+
+-- the last line of the last token
+abbrev pub last_line : List PToken → ℕ
+last_line [] = 0
+last_line (t ∷ []) = last_of t
+last_line (t ∷ u ∷ ts) = last_line (u ∷ ts)
+
+abbrev pub test_head : Keyword → Expr → List Kind
+test_head w t = Word w ∷ tokens t (Sign mark.Colon ∷ [])
+
+abbrev pub for_head : Expr → Expr → List Kind
+for_head t e = Word word.For ∷ tokens t (Word word.In ∷ tokens e (Sign mark.Colon ∷ []))
+
+abbrev pub word_head : Keyword → List Kind
+word_head w = Word w ∷ Sign mark.Colon ∷ []
+
+-- the tokens behind these
+abbrev pub past : List Marked → List PToken → List PToken
+past before ts = drop (length before) ts
+
+-- the tokens behind a header and its suite
+abbrev pub behind : List Kind → Suite → List PToken → List PToken
+behind head s ts = drop (length head + length (suite_tokens s [])) ts
+
+-- The lines that the nodes keep are those of their first and last tokens in the list, which begins with theirs.
+abbrev mutual
+  pub KeepsLines : Stmts → List PToken → Type 0
+  KeepsLines no_stmts ts = Unit {0}
+  KeepsLines (stmt first last k e ss) ts =
+      (first ≡ first_line ts) × (last ≡ last_line (take (length (kind_tokens k [])) ts)) × KindLines k ts
+      × KeepsLines ss (drop (length (kind_tokens k []) + length (end_tokens e)) ts)
+
+  pub KindLines : StmtKind → List PToken → Type 0
+  KindLines (if' no_arms o) ts = Unit {0}
+  KindLines (if' (arm t b arms) o) ts =
+      SuiteLines b (test_head word.If t) ts × ArmLines arms (behind (test_head word.If t) b ts)
+      × OptLines o (word_head word.Else) (past (elif_tokens arms []) (behind (test_head word.If t) b ts))
+  KindLines (while t b o) ts = SuiteLines b (test_head word.While t) ts × OptLines o (word_head word.Else) (behind (test_head word.While t) b ts)
+  KindLines (for t e b o) ts = SuiteLines b (for_head t e) ts × OptLines o (word_head word.Else) (behind (for_head t e) b ts)
+  KindLines (try b cs o f) ts =
+      SuiteLines b (word_head word.Try) ts × ClauseLines cs (behind (word_head word.Try) b ts)
+      × OptLines o (word_head word.Else) (past (clause_tokens cs []) (behind (word_head word.Try) b ts))
+      × OptLines f (word_head word.Finally) (past (clause_tokens cs (else_tokens o [])) (behind (word_head word.Try) b ts))
+  KindLines (def x ps ds c b) ts = SuiteLines b (Word word.Def ∷ Name x ∷ Sign mark.LeftParen ∷ param_tokens ps ds c (Sign mark.RightParen ∷ Sign mark.Colon ∷ [])) ts
+  KindLines (match e last cs) ts =
+      (last ≡ last_line (take (length (Name match_name ∷ tokens e (Sign mark.Colon ∷ []))) ts))
+      × CaseLines cs (drop (length (Name match_name ∷ tokens e (Sign mark.Colon ∷ Newline ∷ Indent ∷ []))) ts)
+  KindLines k ts = Unit {0}
+
+  -- a suite keeps the lines of the header in front of it
+  pub SuiteLines : Suite → List Kind → List PToken → Type 0
+  SuiteLines (suite first last true b) head ts = (first ≡ first_line ts) × (last ≡ last_line (take (length head) ts)) × KeepsLines b (drop (length head) ts)
+  SuiteLines (suite first last false b) head ts = (first ≡ first_line ts) × (last ≡ last_line (take (length head) ts)) × KeepsLines b (drop (length head + 2) ts)
+
+  pub OptLines : OptSuite → List Kind → List PToken → Type 0
+  OptLines no_suite head ts = Unit {0}
+  OptLines (has_suite s) head ts = SuiteLines s head ts
+
+  pub ArmLines : Arms → List PToken → Type 0
+  ArmLines no_arms ts = Unit {0}
+  ArmLines (arm t b arms) ts = SuiteLines b (test_head word.Elif t) ts × ArmLines arms (behind (test_head word.Elif t) b ts)
+
+  pub ClauseLines : Clauses → List PToken → Type 0
+  ClauseLines no_clauses ts = Unit {0}
+  ClauseLines (clause e x b cs) ts = SuiteLines b (except_tokens e x) ts × ClauseLines cs (behind (except_tokens e x) b ts)
+
+  pub CaseLines : Cases → List PToken → Type 0
+  CaseLines no_cases ts = Unit {0}
+  CaseLines (case p g b cs) ts =
+      SuiteLines b (Name case_name ∷ pattern_tokens p (guard_tokens g)) ts × CaseLines cs (behind (Name case_name ∷ pattern_tokens p (guard_tokens g)) b ts)
+
+-- ---- a module
+
+-- the tokens of a module
+abbrev pub module_tokens : Stmts → List Marked
+module_tokens m = stmts_tokens m (put (End ∷ []) [])
+
+-- A normal module: its parts are, and a logical line of it has the form of a `match` header exactly where it is one.
+abbrev pub IsNormal : Stmts → Type 0
+IsNormal m = EndLines m × NormalStmts m × (marked (kinds_marked (module_tokens m)) ≡ module_tokens m)
+
+-- the list is that of this tree, which keeps its lines
+abbrev pub Spells : Stmts → List PToken → Type 0
+Spells m ts = IsNormal m × (bare ts ≡ kinds_marked (module_tokens m)) × KeepsLines m ts
+
+abbrev pub HEIGHT : ℕ
+HEIGHT = 200
+
+abbrev pub NESTING : ℕ
+NESTING = 64
+
+-- A prefix, with the headers of the whole list marked, that begins the tokens of some normal tree.
+abbrev pub IsViable : List Marked → Type 0
+IsViable front = (m : Stmts) × (more : List Marked) × IsNormal m × (module_tokens m ≡ front ++ more)
+
+abbrev pub IsViableWithin : List Marked → Type 0
+IsViableWithin front = (m : Stmts) × (more : List Marked) × IsNormal m × (module_tokens m ≡ front ++ more) × (stmts_height m ≤ HEIGHT) × (stmts_nesting m ≤ NESTING)
+
+-- so many tokens of the list
+abbrev pub front : ℕ → List PToken → List Marked
+front n ts = take n (marked (bare ts))
+
+-- A refusal stands behind the longest prefix that is viable within the limits.
+pub record StopsAt (ts : List PToken) (place : ℕ) : Type 0 where
+  pub inside : place ≤ length ts
+  pub viable : IsViableWithin (front place ts)
+  pub longest : place < length ts → IsViableWithin (front (place + 1) ts) → ⊥
+  pub no_tree : place ≡ length ts → (m : Stmts) → Spells m ts → ⊥

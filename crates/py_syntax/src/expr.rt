@@ -1,0 +1,104 @@
+// Expressions. A target of an assignment is an expression of a narrower form.
+
+use py_value::{BinOp, CmpOp, Text};
+
+/// An expression, as it was written: a parenthesis is a node, and `comma` says whether a comma stands behind
+/// the last item.
+#[cycle(expr)]
+#[derive(Drop)]
+pub enum Expr {
+    Name(Text),
+    Int(i64),
+    /// Neighbouring plain strings, which are one string.
+    Str(Vec<Text>),
+    /// Neighbouring strings with at least one f-string among them.
+    FStr(Vec<Fragment>),
+    None,
+    Bool(bool),
+    /// Items with commas, in no brackets of their own; or `()`, which has no items.
+    Tuple {
+        items: Vec<Expr>,
+        comma: bool,
+    },
+    List {
+        items: Vec<Expr>,
+        comma: bool,
+    },
+    Dict {
+        items: Vec<Pair>,
+        comma: bool,
+    },
+    Paren(Box<Expr>),
+    Not(Box<Expr>),
+    And(Box<Expr>, Box<Expr>),
+    Or(Box<Expr>, Box<Expr>),
+    Unary(Sign, Box<Expr>),
+    Binary(BinOp, Box<Expr>, Box<Expr>),
+    /// A chain of comparisons: the first operand, and then each operator with its right operand.
+    Compare(Box<Expr>, Vec<Link>),
+    /// `body if test else orelse`.
+    Cond {
+        body: Box<Expr>,
+        test: Box<Expr>,
+        orelse: Box<Expr>,
+    },
+    Call {
+        callee: Box<Expr>,
+        args: Vec<Expr>,
+        comma: bool,
+    },
+    Index(Box<Expr>, Box<Expr>),
+    Slice {
+        of: Box<Expr>,
+        from: Option<Box<Expr>>,
+        to: Option<Box<Expr>>,
+    },
+    Attr(Box<Expr>, Text),
+}
+
+/// A key of a dict display and its value.
+#[cycle(expr)]
+#[derive(Drop)]
+pub struct Pair {
+    pub key: Expr,
+    pub value: Expr,
+}
+
+/// One comparison of a chain.
+#[cycle(expr)]
+#[derive(Drop)]
+pub struct Link {
+    pub op: Comparison,
+    pub right: Expr,
+}
+
+/// One of the neighbouring strings of an `FStr`.
+#[cycle(expr)]
+#[derive(Drop)]
+pub enum Fragment {
+    Plain(Text),
+    Format(Vec<FormatPart>),
+}
+
+/// A part of an f-string.
+#[cycle(expr)]
+#[derive(Drop)]
+pub enum FormatPart {
+    Chars(Text),
+    Field(Expr),
+}
+
+/// What one comparison of a chain asks.
+#[derive(Clone, Copy, Debug, PartialEq, Eq)]
+pub enum Comparison {
+    Op(CmpOp),
+    Is,
+    IsNot,
+}
+
+/// The operator of a `Unary`.
+#[derive(Clone, Copy, Debug, PartialEq, Eq)]
+pub enum Sign {
+    Minus,
+    Plus,
+}

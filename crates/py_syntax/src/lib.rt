@@ -1,0 +1,10 @@
+//! The trees of a source text.
+#![tactic(auto)]
+
+pub mod expr;
+pub mod pattern;
+pub mod stmt;
+
+pub use expr::{Comparison, Expr, FormatPart, Fragment, Link, Pair, Sign};
+pub use pattern::{Brackets, Constant, Pattern};
+pub use stmt::{Alias, Arm, Case, Clause, LineEnd, Module, Stmt, StmtKind, Suite};

@@ -1,0 +1,45 @@
+// Patterns of a `case`.
+
+use py_value::Text;
+
+/// A pattern of a `case`.
+#[derive(Drop)]
+pub enum Pattern {
+    Literal {
+        /// Whether a minus stands in front of the number.
+        minus: bool,
+        value: Constant,
+    },
+    /// A name, which is bound. Never `_`.
+    Capture(Text),
+    Wild,
+    /// `module.name`.
+    Member(Text, Text),
+    Sequence {
+        brackets: Brackets,
+        items: Vec<Pattern>,
+        comma: bool,
+    },
+    Or(Vec<Pattern>),
+    As(Box<Pattern>, Text),
+    /// A pattern in round brackets with no comma.
+    Paren(Box<Pattern>),
+}
+
+/// The value of a literal pattern, without its minus.
+#[derive(Drop)]
+pub enum Constant {
+    Int(i64),
+    /// Neighbouring strings, which are one string.
+    Str(Vec<Text>),
+    None,
+    Bool(bool),
+}
+
+/// The brackets in which a sequence pattern was written.
+#[derive(Clone, Copy, Debug, PartialEq, Eq)]
+pub enum Brackets {
+    Round,
+    Square,
+    Bare,
+}

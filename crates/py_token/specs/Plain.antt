@@ -1,0 +1,61 @@
+-- Tokens as plain data: texts are lists of characters, and lists of tokens and pieces are their own.
+use Rattle.std.specs.Prelude.{ℕ, List, [], ◌∷◌}
+use Rattle.std.specs.Prelude.{ℤ}
+use Rattle.py_token.specs.declared.token.Keyword.{Keyword}
+use Rattle.py_token.specs.declared.token.Mark.{Mark}
+
+mutual
+  pub data PKind : Type 0 where
+    name : (spelling : List ℕ) → PKind
+    keyword : (word : Keyword) → PKind
+    int : (value : ℤ) → PKind
+    str : (characters : List ℕ) → PKind
+    fstring : (ps : PPieces) → PKind
+    mark : (sign : Mark) → PKind
+    newline : PKind
+    indent : PKind
+    dedent : PKind
+    end : PKind
+
+  -- a token with its first and last line
+  pub data PToken : Type 0 where
+    token : (kind : PKind) (first last : ℕ) → PToken
+
+  pub data PTokens : Type 0 where
+    no_tokens : PTokens
+    tokens : (t : PToken) (ts : PTokens) → PTokens
+
+  -- a piece of an f-string
+  pub data PPiece : Type 0 where
+    chars : (characters : List ℕ) → PPiece
+    field : (ts : PTokens) → PPiece
+
+  pub data PPieces : Type 0 where
+    no_pieces : PPieces
+    pieces : (p : PPiece) (ps : PPieces) → PPieces
+
+abbrev pub kind_of : PToken → PKind
+kind_of (token kind first last) = kind
+
+abbrev pub first_of : PToken → ℕ
+first_of (token kind first last) = first
+
+abbrev pub last_of : PToken → ℕ
+last_of (token kind first last) = last
+
+-- a list of tokens as the tokens of a field, and back
+abbrev pub token_row : List PToken → PTokens
+token_row [] = no_tokens
+token_row (t ∷ ts) = tokens t (token_row ts)
+
+abbrev pub token_list : PTokens → List PToken
+token_list no_tokens = []
+token_list (tokens t ts) = t ∷ token_list ts
+
+abbrev pub piece_row : List PPiece → PPieces
+piece_row [] = no_pieces
+piece_row (p ∷ ps) = pieces p (piece_row ps)
+
+abbrev pub piece_list : PPieces → List PPiece
+piece_list no_pieces = []
+piece_list (pieces p ps) = p ∷ piece_list ps

@@ -1,0 +1,216 @@
+// F-strings behind their opening marks.
+
+ghost use Rattle.std.specs.Prelude.{◌≡◌, ◌≤◌, ◌<◌, ◌+◌, ◌^◌, ◌++◌, ◌∷◌, [], length, false, OnOk};
+ghost use Rattle.py_token.specs.Source.{line_count};
+ghost use Rattle.py_token.specs.Fields.{reach, chars_bit, field_bit, fstring_bit, fstring_body, fstring_at};
+ghost use Rattle.py_token.specs.Bits.{bit_of};
+ghost use Rattle.py_token.specs.View.{view_piece, view_pieces};
+ghost use Rattle.py_token.specs.Held.{view_taken, view_field};
+ghost use Rattle.py_token.specs.HeldPieces.{opens_field, field_at, ended, PushesField, pieces_of, view_fstring, token_at_of};
+ghost use Rattle.py_token.specs.Answers.{Gives};
+
+use crate::characters::{begins, behind, doubled, front, split_first};
+use crate::error::TokenError;
+use crate::fields::{FieldBody, field_tokens, is_format_prefix, limit_fault, reach};
+use crate::plain::{Taken, begins_quote, plain_token};
+use crate::strings::{Bit, Opening, Shown, behind_marks, push_shown, text_bit};
+use crate::token::{Piece, TokenKind};
+use py_value::Text;
+use std::alloc::{AllocError, Global};
+use std::mem;
+
+/// Whether a `{` opens a field here.
+fn opens_field(c: char, others: &[char]) -> bool
+    ensures { result ≡ opens_field c others.now }
+{
+    c == '{' && !begins('{', others)
+}
+
+/// What stands at a place of an f-string where no field opens.
+#[tactic(auto, unfolding(crate::specs::Fields::fstring_bit))]
+fn piece_bit(opening: Opening, line: u32, c: char, others: &[char]) -> Result<Bit, TokenError>
+    requires on_a_line { line < 65536 }
+    requires not_raw { opening.raw ≡ false }
+    requires no_field { false ≡ opens_field c others.now }
+    ensures { chars_bit (bit_of result) ≡ fstring_bit opening.quote opening.triple opening.line line c others.now }
+{
+    if c == '{' {
+        return Ok(Bit::Holds(Shown::One('{'), 1, line));
+    }
+    if c == '}' {
+        if begins('}', others) {
+            return Ok(Bit::Holds(Shown::One('}'), 1, line));
+        }
+        return Err(TokenError::BadCharacter(line));
+    }
+    text_bit(opening, line, c, others)
+}
+
+/// How many characters are left at the end of a field's reach. It is known from an earlier field where the reach goes
+/// on, so that no character is looked at twice.
+fn limit_at(opening: Opening, limit: usize, others: &[char]) -> usize
+    requires { limit ≤ length others.now → reach opening.quote opening.triple others.now + limit ≡ length others.now }
+    ensures { reach opening.quote opening.triple others.now + result ≡ length others.now }
+{
+    if limit <= others.len() {
+        return limit;
+    }
+    others.len() - reach(opening, others)
+}
+
+/// A field with a reach of `n` characters behind its `{`.
+fn field_at(
+    alloc: Global,
+    opening: Opening,
+    line: u32,
+    others: &[char],
+    n: usize,
+) -> Result<FieldBody, TokenError>
+    requires reached { n ≡ reach opening.quote opening.triple others.now }
+    requires lines { line + line_count others.now ≤ 65536 }
+    requires few { length others.now < 2 ^ 63 }
+    ensures { Gives view_field result (field_at opening.quote opening.triple opening.line line others.now) }
+{
+    let limit = limit_fault(opening, line, behind(others, n));
+    field_tokens(alloc, limit, line, front(others, n))
+}
+
+/// Ends a piece of characters, where there are any.
+fn end_chars(pieces: &mut Vec<Piece>, held: Text) -> Result<(), AllocError>
+    ensures { OnOk result (view_pieces pieces.new.items ≡ view_pieces pieces.old.items ++ ended held) }
+{
+    if held.is_empty() {
+        return Ok(());
+    }
+    push_piece(pieces, Piece::Chars(held))
+}
+
+fn push_piece(pieces: &mut Vec<Piece>, piece: Piece) -> Result<(), AllocError>
+    ensures { OnOk result (view_pieces pieces.new.items ≡ view_pieces pieces.old.items ++ view_piece piece ∷ []) }
+{
+    pieces.push(piece)?;
+    Ok(())
+}
+
+/// A field with a reach of `n` characters, behind the characters that were held. Answers how many characters it has
+/// behind its `{`.
+fn push_field(
+    alloc: Global,
+    pieces: &mut Vec<Piece>,
+    held: Text,
+    opening: Opening,
+    line: u32,
+    others: &[char],
+    n: usize,
+) -> Result<usize, TokenError>
+    requires reached { n ≡ reach opening.quote opening.triple others.now }
+    requires lines { line + line_count others.now ≤ 65536 }
+    requires few { length others.now < 2 ^ 63 }
+    ensures { PushesField result (field_bit opening.quote opening.triple opening.line line others.now) line held (view_pieces pieces.old.items) (view_pieces pieces.new.items) }
+{
+    let field = field_at(alloc, opening, line, others, n)?;
+    let left = field.left;
+    end_chars(pieces, held)?;
+    push_piece(pieces, Piece::Field(field.tokens))?;
+    Ok(n - left)
+}
+
+/// An f-string behind its opening marks: its pieces, how many characters are left behind its closing marks, and the
+/// line where it ends.
+#[derive(Drop)]
+pub struct FStringBody {
+    pub pieces: Vec<Piece>,
+    pub left: usize,
+    pub next: u32,
+}
+
+pub fn fstring_body(
+    alloc: Global,
+    opening: Opening,
+    chars: &[char],
+) -> Result<FStringBody, TokenError>
+    requires not_raw { opening.raw ≡ false }
+    requires lines { opening.line + line_count chars.now ≤ 65536 }
+    requires few { length chars.now < 2 ^ 63 }
+    ensures { Gives view_fstring result (pieces_of (fstring_body opening.quote opening.triple opening.line chars.now)) }
+{
+    let mut pieces = Vec::new(alloc);
+    let mut held = Text::new(alloc);
+    let mut line = opening.line;
+    let mut rest = chars;
+    let mut limit = usize::MAX;
+    'bits: while let Some((c, others)) = split_first(rest) {
+        if opens_field(c, others) {
+            limit = limit_at(opening, limit, others);
+            let ended = mem::replace(&mut held, Text::new(alloc));
+            let n = push_field(
+                alloc,
+                &mut pieces,
+                ended,
+                opening,
+                line,
+                others,
+                others.len() - limit,
+            )?;
+            rest = behind(others, n);
+            continue;
+        }
+        match piece_bit(opening, line, c, others)? {
+            Bit::Closing(n) => {
+                let left = others.len() - n;
+                end_chars(&mut pieces, held)?;
+                return Ok(FStringBody {
+                    pieces,
+                    left,
+                    next: line,
+                });
+            }
+            Bit::Holds(shown, n, next) => {
+                push_shown(&mut held, shown)?;
+                line = next;
+                rest = behind(others, n);
+            }
+        }
+    }
+    Err(TokenError::OpenString(opening.line))
+}
+
+/// An f-string, with these characters behind its prefix.
+fn fstring_at(alloc: Global, line: u32, others: &[char]) -> Result<Taken, TokenError>
+    requires lines { line + line_count others.now ≤ 65536 }
+    requires few { length others.now < 2 ^ 63 }
+    ensures { Gives view_taken result (fstring_at line others.now) }
+{
+    let Some((quote, rest)) = split_first(others) else {
+        return Err(TokenError::BadCharacter(line));
+    };
+    let triple = doubled(quote, rest);
+    let opening = Opening {
+        raw: false,
+        quote,
+        triple,
+        line,
+    };
+    let text = behind_marks(triple, rest);
+    let body = fstring_body(alloc, opening, text)?;
+    Ok(Taken {
+        kind: TokenKind::FString(body.pieces),
+        behind: rest.len() - body.left + 1,
+        next: body.next,
+    })
+}
+
+/// The token at the front of a text.
+#[tactic(auto, unfolding(crate::specs::Fields::token_at))]
+pub fn token_at(alloc: Global, line: u32, chars: &[char]) -> Result<Taken, TokenError>
+    requires some { 0 < length chars.now }
+    requires lines { line + line_count chars.now ≤ 65536 }
+    requires few { length chars.now < 2 ^ 63 }
+    ensures { Gives view_taken result (token_at_of line chars.now) }
+{
+    let others = behind(chars, 1);
+    if is_format_prefix(chars[0]) && begins_quote(others) {
+        return fstring_at(alloc, line, others);
+    }
+    plain_token(alloc, line, chars)
+}

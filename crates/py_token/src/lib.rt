@@ -1,0 +1,28 @@
+//! Turns the text of a source into its tokens: `count_lines` tells whether a text is short enough, `tokens` cuts it.
+#![tactic(auto)]
+
+mod characters;
+mod error;
+mod fields;
+mod fstrings;
+mod laws;
+mod layout;
+mod lists;
+mod marks;
+mod numbers;
+mod pieces;
+mod plain;
+mod source;
+mod strings;
+mod token;
+mod tokenizer;
+mod words;
+
+pub use error::TokenError;
+pub use laws::one_spelling;
+pub use source::count_lines;
+pub use token::{Keyword, Mark, Piece, Token, TokenKind};
+pub use tokenizer::tokens;
+
+#[cfg(test)]
+mod tests;

@@ -1,0 +1,257 @@
+// Strings behind their opening marks.
+
+ghost use Rattle.std.specs.Prelude.{◌≡◌, ◌≤◌, ◌<◌, ◌+◌, ◌++◌, length, drop, if◌then◌else◌, IsTrue, OnOk, SomeIff, true};
+ghost use Rattle.std.specs.List.{list_all};
+ghost use Rattle.py_token.specs.Numbers.{is_digit_of};
+ghost use Rattle.py_token.specs.Source.{line_count};
+ghost use Rattle.py_token.specs.Strings.{closes, escaped, digits_asked, is_character, hex_bit, octal_len, octal_bit, escape_bit, raw_bit, text_bit, text_body};
+ghost use Rattle.py_token.specs.Bits.{shown_text, bit_of, text_of, view_text};
+ghost use Rattle.py_token.specs.Answers.{Gives};
+
+use crate::characters::{behind, doubled, split_first};
+use crate::error::TokenError;
+use crate::numbers::{digits_value, is_digit_of};
+use py_value::{NoMemory, Text};
+use std::alloc::Global;
+
+/// How a string was opened, and where.
+#[derive(Clone, Copy)]
+pub struct Opening {
+    pub raw: bool,
+    pub quote: char,
+    pub triple: bool,
+    pub line: u32,
+}
+
+/// The characters that a bit of a string stands for.
+#[derive(Clone, Copy)]
+pub enum Shown {
+    Nothing,
+    One(char),
+    Two(char, char),
+}
+
+/// What stands at a place in a string, with the number of characters behind the first.
+#[derive(Clone, Copy)]
+pub enum Bit {
+    Holds(Shown, usize, u32),
+    Closing(usize),
+}
+
+/// Whether the marks of the string stand here.
+pub fn closes(opening: Opening, c: char, others: &[char]) -> bool
+    ensures { result ≡ closes opening.quote opening.triple c others.now }
+{
+    c == opening.quote && (!opening.triple || doubled(opening.quote, others))
+}
+
+/// The characters behind marks, with these behind the first quote.
+pub fn behind_marks(triple: bool, others: &[char]) -> &[char]
+    requires { IsTrue triple → 2 ≤ length others.now }
+    ensures { result.now ≡ drop (if triple then 2 else 0) others.now }
+{
+    if triple { behind(others, 2) } else { others }
+}
+
+/// The character that a letter or a mark behind a backslash stands for.
+fn escaped(c: char) -> Option<char>
+    ensures { result ≡ escaped c }
+{
+    match c {
+        '\\' | '\'' | '"' => Some(c),
+        'a' => Some('\x07'),
+        'b' => Some('\x08'),
+        'f' => Some('\x0c'),
+        'n' => Some('\n'),
+        'r' => Some('\r'),
+        't' => Some('\t'),
+        'v' => Some('\x0b'),
+        _ => None,
+    }
+}
+
+/// How many hexadecimal digits a letter behind a backslash asks for.
+fn digits_asked(c: char) -> Option<usize>
+    ensures { result ≡ digits_asked c }
+{
+    match c {
+        'x' => Some(2),
+        'u' => Some(4),
+        'U' => Some(8),
+        _ => None,
+    }
+}
+
+/// The character of a code, where it is one.
+fn character(code: u64) -> Option<char>
+    ensures { SomeIff result (is_character code ≡ true) code }
+{
+    if code < 0xD800 || (0xDFFF < code && code < 0x11_0000) {
+        return char::from_u32(code as u32);
+    }
+    None
+}
+
+fn are_hexadecimal(digits: &[char]) -> bool
+    ensures { result ≡ list_all (is_digit_of 16) digits.now }
+{
+    digits.iter().all(|c| is_digit_of(16, *c))
+}
+
+/// So many hexadecimal digits behind the letter of an escape.
+#[tactic(auto, unfolding(crate::specs::Strings::hex_bit))]
+fn hex_bit(line: u32, n: usize, chars: &[char]) -> Result<Bit, TokenError>
+    requires { n < 16 }
+    ensures { bit_of result ≡ hex_bit line n chars.now }
+{
+    if chars.len() < n {
+        return Err(TokenError::BadCharacter(line));
+    }
+    let digits = &chars[..n];
+    if !are_hexadecimal(digits) {
+        return Err(TokenError::BadCharacter(line));
+    }
+    match character(digits_value(16, digits)) {
+        Some(c) => Ok(Bit::Holds(Shown::One(c), n + 1, line)),
+        None => Err(TokenError::BadCharacter(line)),
+    }
+}
+
+/// How many octal digits stand in front, of three at most.
+fn octal_len(chars: &[char]) -> usize
+    ensures { result ≡ octal_len chars.now }
+{
+    chars
+        .iter()
+        .take(3)
+        .take_while(|c| is_digit_of(8, **c))
+        .count()
+}
+
+/// One to three octal digits.
+#[tactic(auto, unfolding(crate::specs::Strings::octal_bit))]
+fn octal_bit(line: u32, chars: &[char]) -> Result<Bit, TokenError>
+    ensures { bit_of result ≡ octal_bit line chars.now }
+{
+    let n = octal_len(chars);
+    match character(digits_value(8, &chars[..n])) {
+        Some(c) => Ok(Bit::Holds(Shown::One(c), n, line)),
+        None => Err(TokenError::BadCharacter(line)),
+    }
+}
+
+/// A backslash, with these characters behind it.
+fn escape_bit(line: u32, chars: &[char]) -> Result<Bit, TokenError>
+    requires { line < 65536 }
+    ensures { bit_of result ≡ escape_bit line chars.now }
+{
+    let Some((d, others)) = split_first(chars) else {
+        return Ok(Bit::Holds(Shown::One('\\'), 0, line));
+    };
+    if d == '\n' {
+        return Ok(Bit::Holds(Shown::Nothing, 1, line + 1));
+    }
+    if let Some(c) = escaped(d) {
+        return Ok(Bit::Holds(Shown::One(c), 1, line));
+    }
+    if is_digit_of(8, d) {
+        return octal_bit(line, chars);
+    }
+    if let Some(n) = digits_asked(d) {
+        return hex_bit(line, n, others);
+    }
+    if d == 'N' {
+        return Err(TokenError::BadCharacter(line));
+    }
+    Ok(Bit::Holds(Shown::One('\\'), 0, line))
+}
+
+/// A backslash in a raw string, with these characters behind it.
+fn raw_bit(line: u32, chars: &[char]) -> Result<Bit, TokenError>
+    requires { line < 65536 }
+    ensures { bit_of result ≡ raw_bit line chars.now }
+{
+    match split_first(chars) {
+        None => Ok(Bit::Holds(Shown::One('\\'), 0, line)),
+        Some(('\n', _)) => Ok(Bit::Holds(Shown::Two('\\', '\n'), 1, line + 1)),
+        Some(('\r', _)) => Ok(Bit::Holds(Shown::One('\\'), 0, line)),
+        Some((d, _)) => Ok(Bit::Holds(Shown::Two('\\', d), 1, line)),
+    }
+}
+
+/// What stands at a place in a string, where the marks don't.
+#[tactic(auto, unfolding(crate::specs::Strings::text_bit))]
+pub fn text_bit(opening: Opening, line: u32, c: char, others: &[char]) -> Result<Bit, TokenError>
+    requires { line < 65536 }
+    ensures { bit_of result ≡ text_bit opening.raw opening.quote opening.triple opening.line line c others.now }
+{
+    if closes(opening, c, others) {
+        return Ok(Bit::Closing(if opening.triple { 2 } else { 0 }));
+    }
+    match c {
+        '\r' => Err(TokenError::BadCharacter(line)),
+        '\n' => {
+            if opening.triple {
+                return Ok(Bit::Holds(Shown::One('\n'), 0, line + 1));
+            }
+            Err(TokenError::OpenString(opening.line))
+        }
+        '\\' => {
+            if opening.raw {
+                return raw_bit(line, others);
+            }
+            escape_bit(line, others)
+        }
+        _ => Ok(Bit::Holds(Shown::One(c), 0, line)),
+    }
+}
+
+pub fn push_shown(text: &mut Text, shown: Shown) -> Result<(), NoMemory>
+    ensures { OnOk result (text.new ≡ text.old ++ shown_text shown) }
+{
+    match shown {
+        Shown::Nothing => Ok(()),
+        Shown::One(c) => text.push(c),
+        Shown::Two(c, d) => {
+            text.push(c)?;
+            text.push(d)
+        }
+    }
+}
+
+/// A string behind its opening marks: its text, how many characters are left behind its closing marks, and the line
+/// where it ends.
+#[derive(Drop)]
+pub struct TextBody {
+    pub text: Text,
+    pub left: usize,
+    pub next: u32,
+}
+
+pub fn text_body(alloc: Global, opening: Opening, chars: &[char]) -> Result<TextBody, TokenError>
+    requires { opening.line + line_count chars.now ≤ 65536 }
+    ensures { Gives view_text result (text_of (text_body opening.raw opening.quote opening.triple opening.line chars.now)) }
+{
+    let mut text = Text::new(alloc);
+    let first = opening.line;
+    let mut line = first;
+    let mut rest = chars;
+    'bits: while let Some((c, others)) = split_first(rest) {
+        match text_bit(opening, line, c, others)? {
+            Bit::Closing(n) => {
+                let left = others.len() - n;
+                return Ok(TextBody {
+                    text,
+                    left,
+                    next: line,
+                });
+            }
+            Bit::Holds(shown, n, next) => {
+                push_shown(&mut text, shown)?;
+                line = next;
+                rest = behind(others, n);
+            }
+        }
+    }
+    Err(TokenError::OpenString(first))
+}

@@ -1,0 +1,70 @@
+-- The steps of the walks that compare.
+use Rattle.std.proofs.Common.{◌≡◌, ◌≢◌, ℕ, zero, suc, ◌+◌, ◌-◌, ◌<◌, ◌≤◌, min, Bool, true, false, nat_eq, Result, Ok, Err, List, [], ◌∷◌, length, drop, map, refl, ap, sym, ◌∙◌, arith}
+use Rattle.std.specs.declared.cmp.Ordering.{Ordering}
+use Rattle.std.specs.declared.cmp.Ordering.TheVariants.{Less, Equal, Greater}
+use Rattle.std.specs.Ordering.{nat_cmp}
+use Rattle.std.proofs.Math.Dec.{eqb-suc-zero, eqb-zero-suc}
+use Rattle.std.proofs.lemmas.Bool.Decides.{nat_tests}
+use Rattle.py_value.specs.declared.cause.Cause.{Cause}
+use Rattle.py_value.specs.declared.cause.Cause.TheVariants.{TooDeep}
+use Rattle.py_value.specs.declared.value.Value.{Value}
+use Rattle.py_value.specs.Answers.{◌>>=◌}
+use Rattle.py_value.specs.Plain.{PlainValue, PlainValues, no_values, value_then, listed, packed, PlainHeap}
+use Rattle.py_value.specs.View.{plain, plains}
+use Rattle.py_value.specs.Comparison.{equal_step, equal_within, order_step, order_within, are_equal, order_of_items}
+
+pub equal-none : (n : ℕ) (h : PlainHeap) (a b : PlainValue) → n ≡ 0 → Err TooDeep ≡ equal_within n h a b
+unfolding equal_within
+equal-none zero h a b e = refl
+equal-none (suc n) h a b e = absurd (omega arith)
+
+pub equal-more : (n : ℕ) (h : PlainHeap) (a b : PlainValue) → n ≢ 0 → equal_step (equal_within (n - 1) h) h a b ≡ equal_within n h a b
+unfolding equal_within
+equal-more zero h a b e = absurd (e refl)
+equal-more (suc n) h a b e = let f : suc n - 1 ≡ n = omega arith in ap (λ k. equal_step (equal_within k h) h a b) f
+
+pub order-none : (n : ℕ) (h : PlainHeap) (a b : PlainValue) → n ≡ 0 → Err TooDeep ≡ order_within n h a b
+unfolding order_within
+order-none zero h a b e = refl
+order-none (suc n) h a b e = absurd (omega arith)
+
+pub order-more : (n : ℕ) (h : PlainHeap) (a b : PlainValue) → n ≢ 0 → order_step (equal_within (n - 1) h) (order_within (n - 1) h) h a b ≡ order_within n h a b
+unfolding order_within
+order-more zero h a b e = absurd (e refl)
+order-more (suc n) h a b e = let f : suc n - 1 ≡ n = omega arith in ap (λ k. order_step (equal_within k h) (order_within k h) h a b) f
+
+-- a tuple's items as a list
+pub listed-packed : (vs : List PlainValue) → listed (packed vs) ≡ vs
+listed-packed [] = refl
+listed-packed (v ∷ vs) = ap (λ ws. v ∷ ws) (listed-packed vs)
+
+-- a function of the items of two tuples
+pub tuples : {A : Type 0} (F : List PlainValue → List PlainValue → A) (vs ws : List PlainValue) → F (listed (packed vs)) (listed (packed ws)) ≡ F vs ws
+tuples F vs ws = ap (λ us. F us (listed (packed ws))) (listed-packed vs) ∙ ap (λ us. F vs us) (listed-packed ws)
+
+both_more : (a b : ℕ) → nat_eq (suc a) (suc b) ≡ nat_eq a b
+both_more a b = grind (arith, nat_tests)
+
+-- where one of two sequences has ended
+pub equal_ended : (equal : PlainValue → PlainValue → Result Bool Cause) (xs ys : List Value) (i : ℕ) → i ≡ min (length xs) (length ys)
+    → Ok (nat_eq (length xs) (length ys)) ≡ are_equal equal (plains (drop i xs)) (plains (drop i ys))
+equal_ended equal [] [] zero e = refl
+equal_ended equal [] (y ∷ ys) zero e = ap Ok (eqb-zero-suc (length ys))
+equal_ended equal (x ∷ xs) [] zero e = ap Ok (eqb-suc-zero (length xs))
+equal_ended equal (x ∷ xs) (y ∷ ys) zero e = absurd (omega arith)
+equal_ended equal [] ys (suc i) e = absurd (omega arith)
+equal_ended equal (x ∷ xs) [] (suc i) e = absurd (omega arith)
+equal_ended equal (x ∷ xs) (y ∷ ys) (suc i) e = ap Ok (both_more (length xs) (length ys)) ∙ equal_ended equal xs ys i (omega arith)
+
+cmp-more : (a b : ℕ) → nat_cmp (suc a) (suc b) ≡ nat_cmp a b
+cmp-more a b = grind (arith, nat_tests)
+
+pub order-ended : (equal : PlainValue → PlainValue → Result Bool Cause) (order : PlainValue → PlainValue → Result Ordering Cause) (xs ys : List Value) (i : ℕ) → i ≡ min (length xs) (length ys)
+    → Ok (nat_cmp (length xs) (length ys)) ≡ order_of_items equal order (plains (drop i xs)) (plains (drop i ys))
+order-ended equal order [] [] zero e = refl
+order-ended equal order [] (y ∷ ys) zero e = ap Ok (grind (arith, nat_tests))
+order-ended equal order (x ∷ xs) [] zero e = ap Ok (grind (arith, nat_tests))
+order-ended equal order (x ∷ xs) (y ∷ ys) zero e = absurd (omega arith)
+order-ended equal order [] ys (suc i) e = absurd (omega arith)
+order-ended equal order (x ∷ xs) [] (suc i) e = absurd (omega arith)
+order-ended equal order (x ∷ xs) (y ∷ ys) (suc i) e = ap Ok (cmp-more (length xs) (length ys)) ∙ order-ended equal order xs ys i (omega arith)

@@ -1,0 +1,15 @@
+pub mod CauseLaws
+pub mod Changes
+pub mod TextLaws
+pub mod Climb
+pub mod DistinctKeys
+pub mod KeyLaws
+pub mod Levels
+pub mod Lists
+pub mod PartLaws
+pub mod Parts
+pub mod Rows
+pub mod Tests
+pub mod TupleSteps
+pub mod Views
+pub mod Walks

@@ -1,0 +1,17 @@
+use Rattle.std.proofs.Common.{◌<◌, ◌++◌, length, arith}
+use Rattle.std.specs.List.{slice_set}
+use Rattle.py_value.specs.View.{plain, plains}
+use Rattle.py_value.specs.Heaps.{with_items, with_pairs, without}
+use Rattle.py_value.specs.Keys.{with_value}
+use Rattle.py_value.proofs.Changes.{changed, unchanged, on_err}
+use Rattle.py_value.proofs.heap.Heap.append.Goals as goal
+
+pub returns-in_ok-append-clause-ok : goal.returns-in_ok-append-clause-ok
+returns-in_ok-append-clause-ok c =
+    let inside : c.args.list.place < length c.args.self.now.objects.items = omega arith in
+    changed (with_items (λ vs. vs ++ plains c.args.values.items)) c.args.self.now.objects.items c.args.list.place c.index_mut.result.now c.append.new.self inside c.index_mut.ensures.value c.in_ok-append.ensures.ok
+
+pub returns-in_err-append-clause-err : goal.returns-in_err-append-clause-err
+returns-in_err-append-clause-err c =
+    let inside : c.args.list.place < length c.args.self.now.objects.items = omega arith in
+    on_err _ _ (unchanged c.args.self.now.objects.items c.args.list.place c.index_mut.result.now c.append.new.self inside c.index_mut.ensures.value c.in_err-append.ensures.err)

@@ -1,0 +1,12 @@
+use Rattle.std.proofs.Common.{◌<◌, ◌++◌, length, arith}
+use Rattle.std.specs.List.{slice_set}
+use Rattle.py_value.specs.View.{plain, plains}
+use Rattle.py_value.specs.Heaps.{with_items, with_pairs, without}
+use Rattle.py_value.specs.Keys.{with_value}
+use Rattle.py_value.proofs.Changes.{changed, unchanged, on_err}
+use Rattle.py_value.proofs.heap.Heap.set_items.Goals as goal
+
+pub returns-then-list-len : goal.returns-then-list-len
+returns-then-list-len c =
+    let inside : c.args.list.place < length c.args.self.now.objects.items = omega arith in
+    changed (with_items (λ _. plains c.args.values.items)) c.args.self.now.objects.items c.args.list.place c.index_mut.result.now c.set_items.new.self inside c.index_mut.ensures.value c.set_items.ensures

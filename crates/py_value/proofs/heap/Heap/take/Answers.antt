@@ -1,0 +1,14 @@
+use Rattle.std.proofs.Common.{◌<◌, ◌++◌, length, arith}
+use Rattle.std.proofs.lemmas.List.{length-map}
+use Rattle.py_value.specs.Objects.{plain_object}
+use Rattle.std.specs.List.{slice_set}
+use Rattle.py_value.specs.View.{plain, plains}
+use Rattle.py_value.specs.Heaps.{with_items, with_pairs, without}
+use Rattle.py_value.specs.Keys.{with_value}
+use Rattle.py_value.proofs.Changes.{changed, unchanged, on_err}
+use Rattle.py_value.proofs.heap.Heap.take.Goals as goal
+
+pub returns-clause-taken : goal.returns-clause-taken
+returns-clause-taken c =
+    let inside : c.args.of.place < length c.args.self.now.objects.items = omega (arith, c.requires.place, length-map c.args.self.now.objects.items plain_object) in
+    changed (without c.args.at) c.args.self.now.objects.items c.args.of.place c.index_mut.result.now c.take.new.self inside c.index_mut.ensures.value c.take.ensures.taken

@@ -1,0 +1,6 @@
+use Rattle.std.proofs.Common.{◌∙◌}
+use Rattle.py_value.proofs.PartLaws.{plains-part}
+use Rattle.py_value.proofs.slicing.part_of.Goals as goal
+
+pub returns-in_ok-copies : goal.returns-in_ok-copies
+returns-in_ok-copies c = c.in_ok-copies.ensures ∙ plains-part c.args.items.now c.args.from c.args.to c.first_bound-first.result c.last_bound-last.result c.first_bound-first.ensures c.last_bound-last.ensures

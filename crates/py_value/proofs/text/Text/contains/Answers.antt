@@ -1,0 +1,14 @@
+use Rattle.std.proofs.Common.{◌≡◌, ap, sym, ◌∙◌}
+use Rattle.std.specs.Str.Iter.{HasSubslice}
+use Rattle.std.proofs.lemmas.Str.Pattern.{contains_text}
+use Rattle.py_value.specs.Sequences.{is_part}
+use Rattle.py_value.proofs.KeyLaws.{same_answer}
+use Rattle.py_value.proofs.Parts.{part_from_bytes, bytes_from_part}
+use Rattle.py_value.proofs.text.Text.contains.Goals as goal
+
+pub returns : goal.returns
+returns c =
+    let t = contains_text c.contains.result c.as_str-2.result.now c.as_str.result.now c.contains.ensures.cases in
+    same_answer c.contains.result (is_part c.args.part.now c.args.self.now) (HasSubslice c.as_str.result.now c.as_str-2.result.now) t.0 t.1
+    (bytes_from_part c.as_str.result.now c.as_str-2.result.now c.args.part.now c.args.self.now c.as_str.ensures.bytes c.as_str-2.ensures.bytes)
+    (part_from_bytes c.as_str.result.now c.as_str-2.result.now c.args.part.now c.args.self.now c.as_str.utf8 c.as_str-2.utf8 c.as_str.ensures.characters c.as_str-2.ensures.characters c.as_str-2.ensures.bytes)

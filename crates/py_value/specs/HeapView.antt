@@ -1,0 +1,7 @@
+-- The plain view of a heap.
+use Rattle.py_value.specs.declared.heap.Heap.{Heap}
+use Rattle.py_value.specs.Plain.{PlainHeap}
+use Rattle.py_value.specs.Objects.{plain_objects}
+
+abbrev pub plain_heap : Heap → PlainHeap
+plain_heap h = plain_objects h.objects.items

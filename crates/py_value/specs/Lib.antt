@@ -1,0 +1,14 @@
+pub mod Answers
+pub mod Causes
+pub mod Comparison
+pub mod ExcKind
+pub mod HeapView
+pub mod Heaps
+pub mod Keys
+pub mod Numbers
+pub mod Objects
+pub mod Operators
+pub mod Pairs
+pub mod Plain
+pub mod Sequences
+pub mod View

@@ -1,0 +1,7 @@
+-- The plain view of a pair.
+use Rattle.py_value.specs.declared.pairs.Pair.{Pair}
+use Rattle.py_value.specs.Plain.{PlainValue}
+use Rattle.py_value.specs.View.{plain}
+
+abbrev pub plain_pair : Pair → PlainValue × PlainValue
+plain_pair p = (plain p.key, plain p.value)

@@ -1,0 +1,159 @@
+// The arithmetic operators.
+
+ghost use Rattle.std.specs.Prelude.{◌≡◌, IfOk, OnErr, Some, None};
+ghost use Rattle.py_value.specs.View.{plain, plains, plain_outcome, after_step, IsNumberOf};
+ghost use Rattle.py_value.specs.HeapView.{plain_heap};
+ghost use Rattle.py_value.specs.Numbers.{number_of};
+ghost use Rattle.py_value.specs.Operators.{number_result, repeated_sequence, binary_answer, binary_of};
+
+use crate::NoMemory;
+use crate::cause::Cause;
+use crate::heap::Heap;
+use crate::number::arithmetic;
+use crate::operator::BinOp;
+use crate::sequences::{join_items, join_texts, repeat_items, repeat_text};
+use crate::value::{Addr, Raised, Value};
+use std::alloc::Global;
+
+/// `left op right`.
+pub fn binary(
+    alloc: Global,
+    op: BinOp,
+    left: &Value,
+    right: &Value,
+    heap: &mut Heap,
+) -> Result<Result<Value, Raised>, NoMemory>
+    ensures answer { IfOk result (λ answer. plain_outcome answer (plain_heap heap.new) ≡ binary_of op (plain left.now) (plain right.now) (plain_heap heap.old)) }
+    ensures raised { IfOk result (λ answer. OnErr answer (plain_heap heap.new ≡ plain_heap heap.old)) }
+    ensures err { OnErr result (plain_heap heap.new ≡ plain_heap heap.old) }
+{
+    match operation(alloc, op, left, right, heap)? {
+        Ok(value) => Ok(Ok(value)),
+        Err(cause) => Ok(Err(Raised::of(alloc, cause)?)),
+    }
+}
+
+/// `left op right`, with the cause of what it raises.
+pub fn operation(
+    alloc: Global,
+    op: BinOp,
+    left: &Value,
+    right: &Value,
+    heap: &mut Heap,
+) -> Result<Result<Value, Cause>, NoMemory>
+    ensures answer { IfOk result (λ step. after_step step (plain_heap heap.new) ≡ binary_answer op (plain left.now) (plain right.now) (plain_heap heap.old)) }
+    ensures raised { IfOk result (λ step. OnErr step (plain_heap heap.new ≡ plain_heap heap.old)) }
+    ensures err { OnErr result (plain_heap heap.new ≡ plain_heap heap.old) }
+{
+    match op {
+        BinOp::Add => add(alloc, left, right, heap),
+        BinOp::Sub => Ok(numbers(BinOp::Sub, left, right)),
+        BinOp::Mul => multiply(alloc, left, right, heap),
+        BinOp::Floor => Ok(numbers(BinOp::Floor, left, right)),
+        BinOp::Mod => Ok(numbers(BinOp::Mod, left, right)),
+    }
+}
+
+fn numbers(op: BinOp, left: &Value, right: &Value) -> Result<Value, Cause>
+    ensures { IsNumberOf result (number_result op (number_of (plain left.now)) (number_of (plain right.now))) }
+{
+    match left.number() {
+        None => Err(Cause::UnsupportedOperand),
+        Some(x) => match right.number() {
+            None => Err(Cause::UnsupportedOperand),
+            Some(y) => match arithmetic(op, x, y) {
+                Ok(n) => Ok(Value::Int(n)),
+                Err(cause) => Err(cause),
+            },
+        },
+    }
+}
+
+fn add(
+    alloc: Global,
+    left: &Value,
+    right: &Value,
+    heap: &mut Heap,
+) -> Result<Result<Value, Cause>, NoMemory>
+    ensures answer { IfOk result (λ step. after_step step (plain_heap heap.new) ≡ binary_answer BinOp.Add (plain left.now) (plain right.now) (plain_heap heap.old)) }
+    ensures raised { IfOk result (λ step. OnErr step (plain_heap heap.new ≡ plain_heap heap.old)) }
+    ensures err { OnErr result (plain_heap heap.new ≡ plain_heap heap.old) }
+{
+    match left {
+        Value::Str(s) => match right {
+            Value::Str(t) => match join_texts(s, t)? {
+                Ok(text) => Ok(Ok(Value::Str(text))),
+                Err(cause) => Ok(Err(cause)),
+            },
+            _ => Ok(Err(Cause::UnsupportedOperand)),
+        },
+        Value::Tuple(items) => match right {
+            Value::Tuple(others) => match join_items(alloc, items, others)? {
+                Ok(joined) => Ok(Ok(Value::Tuple(joined))),
+                Err(cause) => Ok(Err(cause)),
+            },
+            _ => Ok(Err(Cause::UnsupportedOperand)),
+        },
+        Value::List(a) => match right {
+            Value::List(b) => match join_items(alloc, heap.items(*a), heap.items(*b))? {
+                Ok(joined) => Ok(Ok(Value::List(heap.make_list(joined)?))),
+                Err(cause) => Ok(Err(cause)),
+            },
+            _ => Ok(Err(Cause::UnsupportedOperand)),
+        },
+        _ => Ok(numbers(BinOp::Add, left, right)),
+    }
+}
+
+fn multiply(
+    alloc: Global,
+    left: &Value,
+    right: &Value,
+    heap: &mut Heap,
+) -> Result<Result<Value, Cause>, NoMemory>
+    ensures answer { IfOk result (λ step. after_step step (plain_heap heap.new) ≡ binary_answer BinOp.Mul (plain left.now) (plain right.now) (plain_heap heap.old)) }
+    ensures raised { IfOk result (λ step. OnErr step (plain_heap heap.new ≡ plain_heap heap.old)) }
+    ensures err { OnErr result (plain_heap heap.new ≡ plain_heap heap.old) }
+{
+    match left {
+        Value::Str(_) => repeat_sequence(alloc, left, right, heap),
+        Value::Tuple(_) => repeat_sequence(alloc, left, right, heap),
+        Value::List(_) => repeat_sequence(alloc, left, right, heap),
+        _ => match right {
+            Value::Str(_) => repeat_sequence(alloc, right, left, heap),
+            Value::Tuple(_) => repeat_sequence(alloc, right, left, heap),
+            Value::List(_) => repeat_sequence(alloc, right, left, heap),
+            _ => Ok(numbers(BinOp::Mul, left, right)),
+        },
+    }
+}
+
+fn repeat_sequence(
+    alloc: Global,
+    sequence: &Value,
+    count: &Value,
+    heap: &mut Heap,
+) -> Result<Result<Value, Cause>, NoMemory>
+    ensures answer { IfOk result (λ step. after_step step (plain_heap heap.new) ≡ repeated_sequence (plain_heap heap.old) (plain sequence.now) (number_of (plain count.now))) }
+    ensures raised { IfOk result (λ step. OnErr step (plain_heap heap.new ≡ plain_heap heap.old)) }
+    ensures err { OnErr result (plain_heap heap.new ≡ plain_heap heap.old) }
+{
+    match count.number() {
+        None => Ok(Err(Cause::UnsupportedOperand)),
+        Some(n) => match sequence {
+            Value::Str(text) => match repeat_text(alloc, text, n)? {
+                Ok(text) => Ok(Ok(Value::Str(text))),
+                Err(cause) => Ok(Err(cause)),
+            },
+            Value::Tuple(items) => match repeat_items(alloc, items, n)? {
+                Ok(items) => Ok(Ok(Value::Tuple(items))),
+                Err(cause) => Ok(Err(cause)),
+            },
+            Value::List(a) => match repeat_items(alloc, heap.items(*a), n)? {
+                Ok(items) => Ok(Ok(Value::List(heap.make_list(items)?))),
+                Err(cause) => Ok(Err(cause)),
+            },
+            _ => Ok(Err(Cause::UnsupportedOperand)),
+        },
+    }
+}

@@ -1,0 +1,117 @@
+// The comparisons, and the truth of a value.
+
+ghost use Rattle.std.specs.Prelude.{◌≡◌, IfOk};
+ghost use Rattle.py_value.specs.View.{plain, plains, plain_answer};
+ghost use Rattle.py_value.specs.HeapView.{plain_heap};
+ghost use Rattle.py_value.specs.Comparison.{equal_within, is_item, most_levels};
+ghost use Rattle.py_value.specs.Operators.{contains_answer, compare_answer, compare_of, truth_of};
+
+use crate::NoMemory;
+use crate::answer::told;
+use crate::cause::Cause;
+use crate::equality::equal;
+use crate::heap::Heap;
+use crate::key::is_key;
+use crate::operator::CmpOp;
+use crate::ordering::order;
+use crate::value::{Raised, Value};
+use std::alloc::Global;
+
+/// The most values inside each other that a comparison goes through.
+const MOST_LEVELS: u32 = 200;
+
+/// `left op right`.
+pub fn compare(
+    alloc: Global,
+    op: CmpOp,
+    left: &Value,
+    right: &Value,
+    heap: &Heap,
+) -> Result<Result<bool, Raised>, NoMemory>
+    ensures { IfOk result (λ answer. plain_answer answer ≡ compare_of op (plain left.now) (plain right.now) (plain_heap heap.now)) }
+{
+    told(alloc, comparison(op, left, right, heap))
+}
+
+fn comparison(op: CmpOp, left: &Value, right: &Value, heap: &Heap) -> Result<bool, Cause>
+    ensures { result ≡ compare_answer op (plain left.now) (plain right.now) (plain_heap heap.now) }
+{
+    match op {
+        CmpOp::Eq => equal(MOST_LEVELS, left, right, heap),
+        CmpOp::Ne => match equal(MOST_LEVELS, left, right, heap) {
+            Ok(same) => Ok(!same),
+            Err(cause) => Err(cause),
+        },
+        CmpOp::Lt => match order(MOST_LEVELS, left, right, heap) {
+            Ok(order) => Ok(order.is_lt()),
+            Err(cause) => Err(cause),
+        },
+        CmpOp::Le => match order(MOST_LEVELS, left, right, heap) {
+            Ok(order) => Ok(!order.is_gt()),
+            Err(cause) => Err(cause),
+        },
+        CmpOp::Gt => match order(MOST_LEVELS, left, right, heap) {
+            Ok(order) => Ok(order.is_gt()),
+            Err(cause) => Err(cause),
+        },
+        CmpOp::Ge => match order(MOST_LEVELS, left, right, heap) {
+            Ok(order) => Ok(!order.is_lt()),
+            Err(cause) => Err(cause),
+        },
+        CmpOp::In => contains(left, right, heap),
+        CmpOp::NotIn => match contains(left, right, heap) {
+            Ok(found) => Ok(!found),
+            Err(cause) => Err(cause),
+        },
+    }
+}
+
+fn contains(value: &Value, whole: &Value, heap: &Heap) -> Result<bool, Cause>
+    ensures { result ≡ contains_answer (plain value.now) (plain whole.now) (plain_heap heap.now) }
+{
+    match whole {
+        Value::List(addr) => is_item(value, heap.items(*addr), heap),
+        Value::Tuple(items) => is_item(value, items, heap),
+        Value::Str(text) => match value {
+            Value::Str(part) => Ok(text.contains(part)),
+            _ => Err(Cause::UnsupportedOperand),
+        },
+        Value::Dict(addr) => {
+            if is_key(value) {
+                Ok(heap.value_of(*addr, value).is_some())
+            } else {
+                Err(Cause::UnhashableKey)
+            }
+        }
+        _ => Err(Cause::UnsupportedOperand),
+    }
+}
+
+fn is_item(value: &Value, items: &[Value], heap: &Heap) -> Result<bool, Cause>
+    ensures { result ≡ is_item (equal_within most_levels (plain_heap heap.now)) (plain value.now) (plains items.now) }
+{
+    for item in items {
+        match equal(MOST_LEVELS, value, item, heap) {
+            Ok(true) => return Ok(true),
+            Ok(false) => {}
+            Err(cause) => return Err(cause),
+        }
+    }
+    Ok(false)
+}
+
+/// The truth of a value: false for `None`, `False`, 0 and what is empty.
+pub fn truth(value: &Value, heap: &Heap) -> bool
+    ensures { result ≡ truth_of (plain value.now) (plain_heap heap.now) }
+{
+    match value {
+        Value::None => false,
+        Value::Bool(b) => *b,
+        Value::Int(n) => *n != 0,
+        Value::Str(text) => !text.is_empty(),
+        Value::Tuple(items) => !items.as_slice().is_empty(),
+        Value::List(addr) => !heap.items(*addr).is_empty(),
+        Value::Dict(addr) => !heap.pairs(*addr).is_empty(),
+        _ => true,
+    }
+}

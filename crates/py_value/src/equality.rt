@@ -1,0 +1,186 @@
+// Equality of values: a walk from left to right.
+
+ghost use Rattle.std.specs.Prelude.{◌≡◌, map, ◌&&◌};
+ghost use Rattle.py_value.specs.View.{plain, plains, plain_argument, place_of};
+ghost use Rattle.std.specs.Option.{option_map};
+ghost use Rattle.py_value.specs.HeapView.{plain_heap};
+ghost use Rattle.py_value.specs.Pairs.{plain_pair};
+ghost use Rattle.py_value.specs.Comparison.{equal_within, equal_step, are_equal, are_equal_dicts, are_equal_pairs, are_equal_arguments, is_same_function, is_same_place, is_same_module, is_same_builtin};
+
+use crate::builtin::Builtin;
+use crate::cause::Cause;
+use crate::heap::Heap;
+use crate::pairs::{Pair, value_among};
+use crate::value::{Addr, FuncId, ModId, Value};
+
+/// Whether two values are equal, or `TooDeep` where more than `levels` stand inside each other.
+#[cycle(equal)]
+pub fn equal(levels: u32, left: &Value, right: &Value, heap: &Heap) -> Result<bool, Cause>
+    ensures { result ≡ equal_within levels (plain_heap heap.now) (plain left.now) (plain right.now) }
+{
+    if levels == 0 {
+        return Err(Cause::TooDeep);
+    }
+    equal_inside(levels - 1, left, right, heap)
+}
+
+#[cycle(equal)]
+fn equal_inside(levels: u32, left: &Value, right: &Value, heap: &Heap) -> Result<bool, Cause>
+    ensures { result ≡ equal_step (equal_within levels (plain_heap heap.now)) (plain_heap heap.now) (plain left.now) (plain right.now) }
+{
+    match left {
+        Value::None => match right {
+            Value::None => Ok(true),
+            _ => Ok(false),
+        },
+        Value::Str(s) => match right {
+            Value::Str(t) => Ok(s.is_same(t)),
+            _ => Ok(false),
+        },
+        Value::Tuple(items) => match right {
+            Value::Tuple(others) => equal_items(levels, items, others, heap),
+            _ => Ok(false),
+        },
+        Value::List(a) => match right {
+            Value::List(b) => equal_items(levels, heap.items(*a), heap.items(*b), heap),
+            _ => Ok(false),
+        },
+        Value::Dict(a) => match right {
+            Value::Dict(b) => equal_dicts(levels, heap.pairs(*a), heap.pairs(*b), heap),
+            _ => Ok(false),
+        },
+        Value::Func(f, a) => match right {
+            Value::Func(g, b) => Ok(is_same_function(*f, *g) && is_same_place(*a, *b)),
+            _ => Ok(false),
+        },
+        Value::Module(m) => match right {
+            Value::Module(n) => Ok(is_same_module(*m, *n)),
+            _ => Ok(false),
+        },
+        Value::Kind(k) => match right {
+            Value::Kind(l) => Ok(k.is_same(*l)),
+            _ => Ok(false),
+        },
+        Value::Exc(k, a) => match right {
+            Value::Exc(l, b) => {
+                if k.is_same(*l) {
+                    equal_arguments(levels, a, b, heap)
+                } else {
+                    Ok(false)
+                }
+            }
+            _ => Ok(false),
+        },
+        Value::Builtin(f) => match right {
+            Value::Builtin(g) => Ok(is_same_builtin(*f, *g)),
+            _ => Ok(false),
+        },
+        Value::Bool(_) | Value::Int(_) => match left.number() {
+            None => Ok(false),
+            Some(x) => match right.number() {
+                None => Ok(false),
+                Some(y) => Ok(x == y),
+            },
+        },
+    }
+}
+
+#[cycle(equal)]
+fn equal_items(levels: u32, left: &[Value], right: &[Value], heap: &Heap) -> Result<bool, Cause>
+    ensures { result ≡ are_equal (equal_within levels (plain_heap heap.now)) (plains left.now) (plains right.now) }
+{
+    let both = left.len().min(right.len());
+    for i in 0..both {
+        match equal(levels, &left[i], &right[i], heap) {
+            Ok(true) => {}
+            Ok(false) => return Ok(false),
+            Err(cause) => return Err(cause),
+        }
+    }
+    Ok(left.len() == right.len())
+}
+
+#[cycle(equal)]
+fn equal_dicts(levels: u32, left: &[Pair], right: &[Pair], heap: &Heap) -> Result<bool, Cause>
+    ensures { result ≡ are_equal_dicts (equal_within levels (plain_heap heap.now)) (map plain_pair left.now) (map plain_pair right.now) }
+{
+    match equal_pairs(levels, left, right, heap) {
+        Ok(true) => Ok(left.len() == right.len()),
+        Ok(false) => Ok(false),
+        Err(cause) => Err(cause),
+    }
+}
+
+#[cycle(equal)]
+fn equal_pairs(levels: u32, left: &[Pair], right: &[Pair], heap: &Heap) -> Result<bool, Cause>
+    ensures { result ≡ are_equal_pairs (equal_within levels (plain_heap heap.now)) (map plain_pair left.now) (map plain_pair right.now) }
+{
+    for i in 0..left.len() {
+        match value_among(&left[i].key, right) {
+            None => return Ok(false),
+            Some(other) => match equal(levels, &left[i].value, other, heap) {
+                Ok(true) => {}
+                Ok(false) => return Ok(false),
+                Err(cause) => return Err(cause),
+            },
+        }
+    }
+    Ok(true)
+}
+
+#[cycle(equal)]
+fn equal_arguments(
+    levels: u32,
+    left: &Option<Box<Value>>,
+    right: &Option<Box<Value>>,
+    heap: &Heap,
+) -> Result<bool, Cause>
+    ensures { result ≡ are_equal_arguments (equal_within levels (plain_heap heap.now)) (plain_argument left.now) (plain_argument right.now) }
+{
+    match left {
+        None => match right {
+            None => Ok(true),
+            Some(_) => Ok(false),
+        },
+        Some(a) => match right {
+            None => Ok(false),
+            Some(b) => equal(levels, a, b, heap),
+        },
+    }
+}
+
+fn is_same_function(left: FuncId, right: FuncId) -> bool
+    ensures { result ≡ is_same_function left right }
+{
+    left.module == right.module && left.unit == right.unit
+}
+
+fn is_same_place(left: Option<Addr>, right: Option<Addr>) -> bool
+    ensures { result ≡ is_same_place (option_map place_of left) (option_map place_of right) }
+{
+    match left {
+        None => right.is_none(),
+        Some(a) => match right {
+            None => false,
+            Some(b) => a.place == b.place,
+        },
+    }
+}
+
+fn is_same_module(left: ModId, right: ModId) -> bool
+    ensures { result ≡ is_same_module left right }
+{
+    match left {
+        ModId::Sys => matches!(right, ModId::Sys),
+        ModId::Loaded(m) => match right {
+            ModId::Sys => false,
+            ModId::Loaded(n) => m == n,
+        },
+    }
+}
+
+fn is_same_builtin(left: Builtin, right: Builtin) -> bool
+    ensures { result ≡ is_same_builtin left right }
+{
+    left as u8 == right as u8
+}

@@ -1,0 +1,71 @@
+// Parts of sequences.
+
+ghost use Rattle.std.specs.Prelude.{◌≡◌, IfOk, OnErr};
+ghost use Rattle.py_value.specs.View.{plain, plains, plain_outcome};
+ghost use Rattle.py_value.specs.HeapView.{plain_heap};
+ghost use Rattle.py_value.specs.Sequences.{part};
+ghost use Rattle.py_value.specs.Operators.{slice_of};
+
+use crate::NoMemory;
+use crate::cause::Cause;
+use crate::heap::Heap;
+use crate::places::{first_bound, last_bound};
+use crate::text::Text;
+use crate::value::{Raised, Value, copy_all};
+use std::alloc::Global;
+
+/// `of[from:to]`.
+pub fn slice(
+    alloc: Global,
+    of: &Value,
+    from: Option<i64>,
+    to: Option<i64>,
+    heap: &mut Heap,
+) -> Result<Result<Value, Raised>, NoMemory>
+    ensures answer { IfOk result (λ answer. plain_outcome answer (plain_heap heap.new) ≡ slice_of (plain of.now) from to (plain_heap heap.old)) }
+    ensures raised { IfOk result (λ answer. OnErr answer (plain_heap heap.new ≡ plain_heap heap.old)) }
+    ensures err { OnErr result (plain_heap heap.new ≡ plain_heap heap.old) }
+{
+    match of {
+        Value::List(addr) => {
+            let items = part_of(alloc, heap.items(*addr), from, to)?;
+            let made = heap.make_list(items)?;
+            Ok(Ok(Value::List(made)))
+        }
+        Value::Tuple(items) => Ok(Ok(Value::Tuple(part_of(alloc, items, from, to)?))),
+        Value::Str(text) => Ok(Ok(Value::Str(part_of_text(alloc, text, from, to)?))),
+        _ => Ok(Err(Raised::of(alloc, Cause::NotSubscriptable)?)),
+    }
+}
+
+fn part_of(
+    alloc: Global,
+    items: &[Value],
+    from: Option<i64>,
+    to: Option<i64>,
+) -> Result<Vec<Value>, NoMemory>
+    ensures { IfOk result (λ copies. plains copies.items ≡ part from to (plains items.now)) }
+{
+    let first = first_bound(items.len(), from);
+    let last = last_bound(items.len(), to);
+    if first < last {
+        let copies = copy_all(alloc, &items[first..last])?;
+        Ok(copies)
+    } else {
+        Ok(Vec::new(alloc))
+    }
+}
+
+fn part_of_text(
+    alloc: Global,
+    text: &Text,
+    from: Option<i64>,
+    to: Option<i64>,
+) -> Result<Text, NoMemory>
+    ensures { IfOk result (λ copy. copy ≡ part from to text.now) }
+{
+    let count = text.len();
+    let first = first_bound(count, from);
+    let last = last_bound(count, to);
+    text.part(alloc, first, last.saturating_sub(first))
+}
