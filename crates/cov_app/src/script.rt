@@ -21,10 +21,10 @@ pub(crate) const BUDGET: u64 = 1_000_000;
 pub(crate) fn run<O: Sink>(
     alloc: Global,
     path: &str,
-    module: &Module,
+    tree: &Module,
     out: &mut O,
 ) -> Result<Left, RunFault>
-    ensures shows { Shows path.now (meaning (plain_module module.now) budget_of_runs) result O.tells (O.contents out.old) (O.contents out.new) }
+    ensures shows { Shows path.now (meaning (plain_module tree.now) budget_of_runs) result O.tells (O.contents out.old) (O.contents out.new) }
     ensures count { O.faults out.old ≤ O.faults out.new }
     ensures fault { IsErrOf result RunFault.WriteFault → Rose (O.faults out.old) (O.faults out.new) }
 {
@@ -34,7 +34,7 @@ pub(crate) fn run<O: Sink>(
         arcs: BTreeSet::new(alloc),
         steps: BUDGET - 1,
     };
-    let left = run_suite(alloc, &mut walk, out, &module.body)?;
+    let left = run_suite(alloc, &mut walk, out, &tree.body)?;
     let arcs = arcs_at_end(alloc, walk, &left)?;
     let text = arc_text(alloc, path, &arcs)?;
     write(alloc, out, text.as_bytes())?;

@@ -1,7 +1,7 @@
 -- A heap with one object changed.
-use Rattle.std.proofs.Common.{◌≡◌, ℕ, zero, suc, ◌<◌, ◌≤◌, List, [], ◌∷◌, ◌++◌, map, length, get_or, true, false, refl, ap, sym, ◌∙◌, OnErr, Result, Ok, Err, arith}
-use Rattle.std.proofs.Math.ListN.{set, get_or-map}
-use Rattle.std.proofs.lemmas.List.{map-append, map-set}
+use Rattle.std.proofs.Common.{◌≡◌, ℕ, zero, suc, ◌<◌, ◌≤◌, List, [], ◌∷◌, map, length, get_or, false, refl, ap, ◌∙◌, OnErr, Result, Ok, Err, arith}
+use Rattle.std.proofs.Math.ListN.{set}
+use Rattle.std.proofs.lemmas.List.{map-set}
 use Rattle.py_value.specs.declared.heap.Object.{Object}
 use Rattle.py_value.specs.Plain.{PlainObject, PlainHeap, list_object, dict_object}
 use Rattle.py_value.specs.Objects.{plain_object, plain_objects}

@@ -1,5 +1,5 @@
 -- Pairs with distinct keys, as the code changes them.
-use Rattle.std.proofs.Common.{◌≡◌, ℕ, zero, suc, ◌<◌, Bool, true, false, ◌&&◌, not, cond, IsTrue, List, [], ◌∷◌, ◌++◌, map, length, get_or, take, drop, Option, Some, None, refl, ap, sym, ◌∙◌, arith}
+use Rattle.std.proofs.Common.{◌≡◌, ℕ, zero, suc, ◌<◌, Bool, true, false, ◌&&◌, not, cond, IsTrue, List, [], ◌∷◌, ◌++◌, map, length, get_or, Option, Some, None, refl, ap, sym, ◌∙◌, arith}
 use Rattle.std.proofs.Math.ListN.{set}
 use Rattle.std.proofs.lemmas.List.{map-append, length-map}
 use Rattle.std.specs.List.{remove, slice_get}
@@ -11,7 +11,7 @@ use Rattle.py_value.specs.Heaps.{is_list_object, pairs_of, values_of, length_of}
 use Rattle.py_value.specs.View.{plain}
 use Rattle.py_value.specs.Pairs.{plain_pair}
 use Rattle.py_value.specs.Keys.{is_same_key, place_of_key, value_at, with_value, has_none_same, has_distinct_keys}
-use Rattle.py_value.proofs.Tests.{both_true, first_true, second_true, not_true}
+use Rattle.py_value.proofs.TestLaws.{both_true, first_true, second_true, not_true}
 
 -- where a key was looked for: here, or behind
 here : (b : Bool) (o : Option ℕ) → cond b (Some 0) (option_map (λ i. suc i) o) ≡ None → (b ≡ false) × (o ≡ None)

@@ -1,10 +1,10 @@
 -- Texts and keys that are the same.
-use Rattle.std.proofs.Common.{◌≡◌, ◌≢◌, ℕ, zero, suc, Bool, true, false, ◌&&◌, ◌==◌, nat_eq, IsTrue, List, [], ◌∷◌, length, refl, ap, sym, ◌∙◌, arith}
+use Rattle.std.proofs.Common.{◌≡◌, ◌≢◌, ℕ, Bool, true, false, ◌&&◌, nat_eq, IsTrue, List, [], ◌∷◌, length, refl, ap, sym, ◌∙◌, arith}
 use Rattle.std.proofs.lemmas.Bool.{eqb-true, eq-eqb}
 use Rattle.py_value.specs.declared.value.Value.{Value}
-use Rattle.py_value.specs.Plain.{PlainValue, packed}
+use Rattle.py_value.specs.Plain.{packed}
 use Rattle.py_value.specs.View.{plain, plains}
-use Rattle.py_value.proofs.Tests.{both_true, first_true, second_true}
+use Rattle.py_value.proofs.TestLaws.{both_true, first_true, second_true}
 use Rattle.py_value.specs.Keys.{is_same_text, is_same_key, are_same_keys}
 
 -- two answers to one question

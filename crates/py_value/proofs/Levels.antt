@@ -1,16 +1,14 @@
 -- The steps of the walks that compare.
-use Rattle.std.proofs.Common.{◌≡◌, ◌≢◌, ℕ, zero, suc, ◌+◌, ◌-◌, ◌<◌, ◌≤◌, min, Bool, true, false, nat_eq, Result, Ok, Err, List, [], ◌∷◌, length, drop, map, refl, ap, sym, ◌∙◌, arith}
+use Rattle.std.proofs.Common.{◌≡◌, ◌≢◌, ℕ, zero, suc, ◌-◌, min, Bool, nat_eq, Result, Ok, Err, List, [], ◌∷◌, length, drop, refl, ap, ◌∙◌, arith}
 use Rattle.std.specs.declared.cmp.Ordering.{Ordering}
-use Rattle.std.specs.declared.cmp.Ordering.TheVariants.{Less, Equal, Greater}
 use Rattle.std.specs.Ordering.{nat_cmp}
 use Rattle.std.proofs.Math.Dec.{eqb-suc-zero, eqb-zero-suc}
 use Rattle.std.proofs.lemmas.Bool.Decides.{nat_tests}
 use Rattle.py_value.specs.declared.cause.Cause.{Cause}
 use Rattle.py_value.specs.declared.cause.Cause.TheVariants.{TooDeep}
 use Rattle.py_value.specs.declared.value.Value.{Value}
-use Rattle.py_value.specs.Answers.{◌>>=◌}
-use Rattle.py_value.specs.Plain.{PlainValue, PlainValues, no_values, value_then, listed, packed, PlainHeap}
-use Rattle.py_value.specs.View.{plain, plains}
+use Rattle.py_value.specs.Plain.{PlainValue, listed, packed, PlainHeap}
+use Rattle.py_value.specs.View.{plains}
 use Rattle.py_value.specs.Comparison.{equal_step, equal_within, order_step, order_within, are_equal, order_of_items}
 
 pub equal-none : (n : ℕ) (h : PlainHeap) (a b : PlainValue) → n ≡ 0 → Err TooDeep ≡ equal_within n h a b

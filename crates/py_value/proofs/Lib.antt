@@ -9,7 +9,8 @@ pub mod Lists
 pub mod PartLaws
 pub mod Parts
 pub mod Rows
-pub mod Tests
+pub mod SoundHeaps
+pub mod TestLaws
 pub mod TupleSteps
 pub mod Views
 pub mod Walks

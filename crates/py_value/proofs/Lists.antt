@@ -1,5 +1,5 @@
 -- Loops over lists.
-use Rattle.std.proofs.Common.{◌≡◌, ℕ, suc, ◌+◌, ◌-◌, ◌<◌, arith, ◌≤◌, List, [], ◌∷◌, ◌++◌, refl, ap, sym, ◌∙◌, length}
+use Rattle.std.proofs.Common.{◌≡◌, ℕ, suc, ◌+◌, ◌-◌, ◌<◌, arith, ◌≤◌, List, [], ◌++◌, ap, sym, ◌∙◌, length}
 use Rattle.std.proofs.Math.ListN.{drop, drop_of_length-le}
 use Rattle.py_value.specs.Sequences.{repeat}
 use Rattle.std.proofs.lemmas.List.{append-nil}

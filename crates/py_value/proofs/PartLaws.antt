@@ -1,8 +1,7 @@
 -- Parts of lists of values.
-use Rattle.std.proofs.Common.{◌≡◌, ℕ, zero, suc, ◌-◌, List, [], ◌∷◌, length, take, drop, map, Option, refl, ap, sym, ◌∙◌, ℤ}
+use Rattle.std.proofs.Common.{◌≡◌, ℕ, zero, suc, ◌-◌, List, [], ◌∷◌, length, take, drop, Option, refl, ap, sym, ◌∙◌, ℤ}
 use Rattle.std.proofs.lemmas.List.{length-map}
 use Rattle.py_value.specs.declared.value.Value.{Value}
-use Rattle.py_value.specs.Plain.{PlainValue}
 use Rattle.py_value.specs.View.{plain, plains}
 use Rattle.py_value.specs.Sequences.{part, first_bound, last_bound}
 

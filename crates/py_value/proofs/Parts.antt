@@ -1,12 +1,12 @@
 -- A text that is a part of another: by bytes and by characters.
-use Rattle.std.proofs.Common.{◌≡◌, ◌≢◌, ℕ, zero, suc, ◌+◌, ◌<◌, ◌≤◌, Bool, true, false, ◌||◌, ◌&&◌, IsTrue, List, [], ◌∷◌, ◌++◌, length, get_or, take, drop, refl, ap, sym, ◌∙◌, arith, nat_eq, length-append, subst}
+use Rattle.std.proofs.Common.{◌≡◌, ℕ, ◌<◌, Bool, true, false, ◌||◌, IsTrue, List, [], ◌∷◌, ◌++◌, length, get_or, refl, ap, sym, ◌∙◌, arith, nat_eq, length-append, subst}
 use Rattle.std.proofs.lemmas.Bool.{eqb-true, eq-eqb}
 use Rattle.std.proofs.Math.Seq.{take-append_seam}
 use Rattle.std.specs.Str.{chars, IsUtf8, IsCharBoundary, encode_utf8_all}
 use Rattle.std.specs.Str.Iter.{HasSubslice}
-use Rattle.std.proofs.lemmas.Str.{chars-append, encodes-chars, encodes-append, IsCharBoundary-start, IsUtf8-take, chars-nil}
+use Rattle.std.proofs.lemmas.Str.{chars-append, encodes-append, IsCharBoundary-start, IsUtf8-take, chars-nil}
 use Rattle.py_value.specs.Sequences.{begins, is_part}
-use Rattle.py_value.proofs.Tests.{both_true, first_true, second_true}
+use Rattle.py_value.proofs.TestLaws.{both_true, first_true, second_true}
 
 -- the first byte behind a front
 pub seam_byte : (a ys : List ℕ) → get_or (a ++ ys) (length a) 0 ≡ get_or ys 0 0

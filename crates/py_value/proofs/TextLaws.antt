@@ -1,9 +1,9 @@
 -- The characters of a text's bytes.
-use Rattle.std.proofs.Common.{◌≡◌, ℕ, true, false, Bool, IsTrue, ◌==◌, ◌&&◌, List, [], ◌∷◌, ◌++◌, refl, sym, ◌∙◌, ap, append-nil, length, ◌≤◌, arith}
+use Rattle.std.proofs.Common.{◌≡◌, ℕ, true, IsTrue, ◌==◌, ◌&&◌, List, [], ◌∷◌, ◌++◌, refl, sym, ◌∙◌, ap, append-nil, length, arith}
 use Rattle.std.specs.Str.{chars, IsUtf8, encode_utf8_all}
 use Rattle.std.proofs.lemmas.Bool.{eqb-true}
 use Rattle.std.specs.Char.{encode_utf8}
-use Rattle.std.proofs.lemmas.Str.{chars-append, chars-encodes, chars-nil, encodes-chars, length-le-encodes}
+use Rattle.std.proofs.lemmas.Str.{chars-append, chars-encodes, chars-nil, encodes-chars}
 use lib.Utf8.{scalars, scalar}
 
 one_scalar : (c : ℕ) → scalar c ≡ true → scalars (c ∷ []) ≡ true

@@ -5,7 +5,7 @@ use Rattle.py_value.specs.declared.value.Value.{Value}
 use Rattle.py_value.specs.declared.value.Value.TheVariants.{Tuple}
 use Rattle.py_value.specs.Answers.{◌>>=◌}
 use Rattle.py_value.specs.Plain.{PlainValue, PlainHeap, tuple_of}
-use Rattle.py_value.specs.View.{plain, plains, plain_items}
+use Rattle.py_value.specs.View.{plain, plain_items}
 use Rattle.py_value.specs.Operators.{Answer, gives}
 use Rattle.py_value.proofs.Views.{plain-Tuple}
 

@@ -1,10 +1,10 @@
 -- The plain view of a value that holds others.
-use Rattle.std.proofs.Common.{Vec, Global, Option, Some, None, Box, ◌≡◌, ℕ, List, [], ◌∷◌, map, refl, ap, sym, ◌∙◌}
+use Rattle.std.proofs.Common.{Vec, Global, Option, Some, None, Box, ◌≡◌, List, refl, ap, sym, ◌∙◌}
 use Rattle.py_value.specs.declared.exception.ExcKind.{ExcKind}
 use Rattle.py_value.specs.declared.value.Value.{Value, Row_of-Value, end_of-Value, more_of-Value, items-the_row-Value, items_shown-the_row-Value-0, items_hidden-the_row-Value-0, Held-Value-Exc-1, Value-Exc-1-None', Some', back-Value-Exc-1}
 use Rattle.py_value.specs.declared.value.Value.TheVariants.{Tuple, Exc}
-use Rattle.py_value.specs.Plain.{PlainValue, tuple_value, PlainValues, value_then, packed, tuple_of, exc_value, no_argument, argument}
-use Rattle.py_value.specs.View.{plain, plain_row, plain_held, plains, plain_argument}
+use Rattle.py_value.specs.Plain.{PlainValue, tuple_value, value_then, packed, tuple_of, exc_value}
+use Rattle.py_value.specs.View.{plain, plain_row, plains, plain_argument}
 
 pub plain_items : {n : _} (k : Row_of-Value n) → packed (plains (items-the_row-Value n k)) ≡ plain_row k
 plain_items end_of-Value = refl

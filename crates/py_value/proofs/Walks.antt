@@ -1,5 +1,5 @@
 -- Walks over the characters of a text.
-use Rattle.std.proofs.Common.{◌≡◌, ◌≢◌, ℕ, zero, suc, ◌+◌, ◌-◌, ◌<◌, ◌≤◌, List, [], ◌∷◌, ◌++◌, length, get_or, take, drop, Option, Some, None, refl, ap, sym, ◌∙◌, arith, append_assoc, add-one, Bool, true, false, cond, nat_eq}
+use Rattle.std.proofs.Common.{◌≡◌, ◌≢◌, ℕ, zero, suc, ◌+◌, ◌-◌, ◌<◌, ◌≤◌, List, [], ◌∷◌, ◌++◌, length, get_or, take, drop, Option, Some, None, refl, ap, sym, ◌∙◌, arith, Bool, true, false, cond, nat_eq}
 use Rattle.std.specs.declared.cmp.Ordering.{Ordering}
 use Rattle.std.specs.declared.cmp.Ordering.TheVariants.{Less, Equal, Greater}
 use Rattle.std.specs.Ordering.{nat_cmp}
@@ -8,8 +8,8 @@ use Rattle.py_value.specs.Comparison.{order_of_texts}
 use Rattle.std.specs.List.{slice_get}
 use Rattle.std.specs.Str.{chars, IsUtf8}
 use Rattle.std.specs.Char.{encode_utf8}
-use Rattle.std.proofs.lemmas.List.{at_drop_more, at_drop_all, length_push, append-nil}
-use Rattle.std.proofs.lemmas.Str.{chars_past_char, IsUtf8-past_char, chars-nil}
+use Rattle.std.proofs.lemmas.List.{at_drop_more, at_drop_all, length_push}
+use Rattle.std.proofs.lemmas.Str.{chars_past_char, chars-nil}
 
 -- the item at a place of what is left: here, one step on, and at the end
 pub got : (cs : List ℕ) (n x a : ℕ) (want : Option ℕ) → (n < length cs) × (x ≡ get_or cs n x) → a ≡ 0 → slice_get (drop n cs) a ≡ want → Some x ≡ want

@@ -1,5 +1,5 @@
 -- Equality and order of values: walks from left to right, through at most 200 values inside each other.
-use Rattle.std.specs.Prelude.{ℕ, zero, suc, ◌==◌, nat_eq, ℤ, Bool, true, false, ◌&&◌, not, if◌then◌else◌, List, [], ◌∷◌, length, Option, Some, None, Result, Ok, Err}
+use Rattle.std.specs.Prelude.{ℕ, zero, suc, ◌==◌, nat_eq, ℤ, Bool, true, false, ◌&&◌, if◌then◌else◌, List, [], ◌∷◌, length, Option, Some, None, Result, Ok, Err}
 use Rattle.std.specs.Ordering.{int_eq, int_cmp, nat_cmp}
 use Rattle.std.specs.declared.cmp.Ordering.{Ordering}
 use Rattle.std.specs.declared.cmp.Ordering.TheVariants.{Less, Equal, Greater}
@@ -12,7 +12,7 @@ use Rattle.py_value.specs.declared.value.ModId.{ModId}
 use Rattle.py_value.specs.declared.value.ModId.TheVariants.{Loaded, Sys}
 use Rattle.py_value.specs.ExcKind.{is_same_kind}
 use Rattle.py_value.specs.Answers.{◌>>=◌}
-use Rattle.py_value.specs.Plain.{PlainValue, none_value, bool_value, int_value, str_value, tuple_value, list_at, dict_at, func_value, module_value, kind_value, exc_value, builtin_value, PlainArgument, no_argument, argument, listed, PlainHeap}
+use Rattle.py_value.specs.Plain.{PlainValue, none_value, str_value, tuple_value, list_at, dict_at, func_value, module_value, kind_value, exc_value, builtin_value, PlainArgument, no_argument, argument, listed, PlainHeap}
 use Rattle.py_value.specs.Heaps.{list_items, dict_pairs}
 use Rattle.py_value.specs.Keys.{is_same_text, value_at}
 use Rattle.py_value.specs.Numbers.{number_of}

@@ -5,7 +5,7 @@ use Rattle.py_value.specs.declared.heap.Object.TheVariants.{List as ListObject, 
 use Rattle.py_value.specs.declared.pairs.Pairs.{Pairs}
 use Rattle.py_value.specs.Plain.{PlainValue, PlainObject, list_object, dict_object, PlainHeap}
 use Rattle.py_value.specs.Pairs.{plain_pair}
-use Rattle.py_value.specs.View.{plain, plains}
+use Rattle.py_value.specs.View.{plains}
 
 abbrev pub plain_pairs : Pairs → List (PlainValue × PlainValue)
 plain_pairs ps = map plain_pair ps.pairs.items

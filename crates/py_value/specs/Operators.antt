@@ -2,19 +2,18 @@
 -- Each operation gives a value and the heap behind it, or raises and leaves the heap as it was.
 use Rattle.std.specs.Prelude.{ℕ, ◌+◌, nat_le, nat_lt, ℤ, Bool, true, false, not, ◌||◌, if◌then◌else◌, List, [], ◌∷◌, ◌++◌, length, map, is_some, slice_get, slice_set, Option, Some, None, Result, Ok, Err}
 use Rattle.std.specs.Ordering.{is_lt, is_gt}
-use Rattle.std.specs.declared.cmp.Ordering.{Ordering}
 use Rattle.py_value.specs.declared.operator.BinOp.{BinOp}
-use Rattle.py_value.specs.declared.operator.BinOp.TheVariants.{Add, Sub, Mul, Floor, Mod}
+use Rattle.py_value.specs.declared.operator.BinOp.TheVariants.{Add, Mul}
 use Rattle.py_value.specs.declared.operator.CmpOp.{CmpOp}
 use Rattle.py_value.specs.declared.operator.CmpOp.TheVariants.{Eq, Ne, Lt, Le, Gt, Ge, In, NotIn}
 use Rattle.py_value.specs.declared.cause.Cause.{Cause}
 use Rattle.py_value.specs.declared.cause.Cause.TheVariants.{UnsupportedOperand, UnhashableKey, NotSubscriptable, ListIndex, TupleIndex, StringIndex, ListAssignmentIndex, TooManyItems}
 use Rattle.py_value.specs.Answers.{◌>>=◌, in_words}
 use Rattle.py_value.specs.Causes.{raised_by, key_error}
-use Rattle.py_value.specs.Plain.{PlainValue, none_value, bool_value, int_value, str_value, tuple_value, list_at, dict_at, listed, tuple_of, PlainObject, list_object, PlainHeap, PlainRaised}
+use Rattle.py_value.specs.Plain.{PlainValue, none_value, bool_value, int_value, str_value, tuple_value, list_at, dict_at, listed, tuple_of, list_object, PlainHeap, PlainRaised}
 use Rattle.py_value.specs.Heaps.{list_items, dict_pairs, dict_keys, change_list, change_dict, with_object}
 use Rattle.py_value.specs.Numbers.{number_of, arithmetic, is_zero}
-use Rattle.py_value.specs.Sequences.{most_items, within_limit, joined, repeated, place_among, part, is_part}
+use Rattle.py_value.specs.Sequences.{most_items, joined, repeated, place_among, part, is_part}
 use Rattle.py_value.specs.Keys.{is_key, value_at, with_value}
 use Rattle.py_value.specs.Comparison.{equal_within, order_within, most_levels, is_item}
 

@@ -1,5 +1,5 @@
 -- Texts, tuples and lists as sequences of at most 1,048,576 items.
-use Rattle.std.specs.Prelude.{ℕ, zero, suc, ◌+◌, ◌-◌, ◌*◌, nat_lt, nat_le, min, ℤ, pos, negsuc, Bool, true, false, ◌||◌, ◌&&◌, nat_eq, if◌then◌else◌, List, [], ◌∷◌, ◌++◌, length, take, drop, Option, Some, None, Result, Ok, Err}
+use Rattle.std.specs.Prelude.{ℕ, zero, suc, ◌-◌, ◌*◌, nat_lt, nat_le, min, ℤ, pos, negsuc, Bool, true, false, ◌||◌, ◌&&◌, nat_eq, if◌then◌else◌, List, [], ◌∷◌, ◌++◌, length, take, drop, Option, Some, None, Result, Ok, Err}
 use Rattle.py_value.specs.declared.cause.Cause.{Cause}
 use Rattle.py_value.specs.declared.cause.Cause.TheVariants.{TooManyItems}
 

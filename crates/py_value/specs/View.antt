@@ -2,7 +2,7 @@
 use Rattle.std.specs.Prelude.{◌≡◌, ℕ, ℤ, List, map, Option, Some, None, Box, Vec, Result, Ok, Err}
 use Rattle.std.specs.Option.{option_map}
 use Rattle.std.specs.declared.alloc.Global.{Global}
-use Rattle.py_value.specs.declared.value.Value.{Value, None as NoneVariant, Bool, Int, Str, Tuple', List as ListVariant, Dict, Func, Module, Kind, Exc', Builtin, Row_of-Value, end_of-Value, more_of-Value, Held-Value-Exc-1, Value-Exc-1-None', Some', back-Value-Exc-1}
+use Rattle.py_value.specs.declared.value.Value.{Value, None as NoneVariant, Bool, Int, Str, Tuple', List as ListVariant, Dict, Func, Module, Kind, Exc', Builtin, Row_of-Value, end_of-Value, more_of-Value, Held-Value-Exc-1, Value-Exc-1-None', Some'}
 use Rattle.py_value.specs.declared.cause.Cause.{Cause}
 use Rattle.py_value.specs.declared.value.Addr.{Addr}
 use Rattle.py_value.specs.declared.value.Raised.{Raised}

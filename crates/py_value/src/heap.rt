@@ -139,6 +139,14 @@ impl Heap {
         Ok(Heap { objects })
     }
 
+    /// The number of objects. The addresses below it lie in the heap.
+    pub fn object_count(&self) -> usize
+        ensures count { result ≡ length (plain_heap self.now) }
+        ensures distinct_keys { IsTrue (is_sound_heap (plain_heap self.now)) }
+    {
+        self.objects.len()
+    }
+
     /// Whether the address is that of a list.
     pub fn is_list(&self, of: Addr) -> bool
         ensures { result ≡ is_list_object (object_at (plain_heap self.now) of.place) }

@@ -22,6 +22,8 @@ pub mod raised;
 mod sequences;
 mod slicing;
 mod storing;
+#[cfg(test)]
+mod tests;
 pub mod text;
 pub mod value;
 

@@ -1,11 +1,10 @@
-use Rattle.std.proofs.Common.{◌≡◌, ap, sym, ◌∙◌, Some}
+use Rattle.std.proofs.Common.{sym, ◌∙◌}
 use Rattle.py_value.specs.declared.operator.BinOp.TheVariants.{Add}
-use Rattle.py_value.specs.Numbers.{number_of}
-use Rattle.py_value.specs.Operators.{binary_answer, repeated_sequence}
-use Rattle.py_value.specs.Sequences.{joined, repeated}
-use Rattle.py_value.specs.View.{plain, plains}
+use Rattle.py_value.specs.Operators.{binary_answer}
+use Rattle.py_value.specs.Sequences.{joined}
+use Rattle.py_value.specs.View.{plains}
 use Rattle.py_value.specs.HeapView.{plain_heap}
-use Rattle.py_value.proofs.Levels.{tuples, listed-packed}
+use Rattle.py_value.proofs.Levels.{tuples}
 use Rattle.py_value.proofs.TupleSteps.{as_tuple, made_tuple, made_none}
 use Rattle.py_value.proofs.Views.{tuple_view, in_both}
 use Rattle.py_value.proofs.arithmetic.add.Goals as goal

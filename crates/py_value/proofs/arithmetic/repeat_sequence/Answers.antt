@@ -1,16 +1,14 @@
-use Rattle.std.proofs.Common.{◌≡◌, ap, sym, ◌∙◌, Some, rules}
+use Rattle.std.proofs.Common.{ap, sym, ◌∙◌, Some, rules}
 use Rattle.std.proofs.lemmas.Int.{to_z-of_z}
 use mir.Val.{SFits}
 use mir.Syntax.{w64}
-use Rattle.py_value.specs.declared.operator.BinOp.TheVariants.{Add}
-use Rattle.py_value.specs.Numbers.{number_of}
-use Rattle.py_value.specs.Operators.{binary_answer, repeated_sequence}
-use Rattle.py_value.specs.Sequences.{joined, repeated}
+use Rattle.py_value.specs.Operators.{repeated_sequence}
+use Rattle.py_value.specs.Sequences.{repeated}
 use Rattle.py_value.specs.View.{plain, plains}
 use Rattle.py_value.specs.HeapView.{plain_heap}
-use Rattle.py_value.proofs.Levels.{tuples, listed-packed}
+use Rattle.py_value.proofs.Levels.{listed-packed}
 use Rattle.py_value.proofs.TupleSteps.{as_tuple, made_tuple, made_none}
-use Rattle.py_value.proofs.Views.{tuple_view, in_both}
+use Rattle.py_value.proofs.Views.{tuple_view}
 use Rattle.py_value.proofs.arithmetic.repeat_sequence.Goals as goal
 
 pub returns-in-Ok-2-clause-answer : goal.returns-in-Ok-2-clause-answer

@@ -1,4 +1,4 @@
-use Rattle.std.proofs.Common.{◌≡◌, ap, sym, ◌∙◌}
+use Rattle.std.proofs.Common.{ap, sym, ◌∙◌}
 use Rattle.py_value.specs.View.{plain, plains}
 use Rattle.py_value.specs.HeapView.{plain_heap}
 use Rattle.py_value.specs.Comparison.{equal_within, is_item, most_levels}

@@ -1,10 +1,8 @@
-use Rattle.std.proofs.Common.{◌≡◌, ℕ, List, not, nat_eq, nat_lt, length, ap, sym, ◌∙◌, arith}
+use Rattle.std.proofs.Common.{◌≡◌, ℕ, not, nat_eq, nat_lt, length, ap, sym, ◌∙◌, arith}
 use Rattle.std.proofs.lemmas.Bool.Decides.{nat_tests}
 use Rattle.std.proofs.lemmas.List.{length-map}
-use Rattle.py_value.specs.declared.value.Value.{Value}
 use Rattle.py_value.specs.View.{plain, plains}
 use Rattle.py_value.specs.HeapView.{plain_heap}
-use Rattle.py_value.specs.Plain.{listed, packed}
 use Rattle.py_value.specs.Operators.{truth_of}
 use Rattle.py_value.proofs.Levels.{listed-packed}
 use Rattle.py_value.proofs.Views.{tuple_view}

@@ -1,8 +1,8 @@
-use Rattle.std.proofs.Common.{◌≡◌, ap, sym, ◌∙◌, Ok}
+use Rattle.std.proofs.Common.{ap, sym, ◌∙◌, Ok}
 use Rattle.py_value.specs.Operators.{slice_of}
-use Rattle.py_value.specs.Plain.{PlainValue, PlainHeap, tuple_of}
+use Rattle.py_value.specs.Plain.{PlainValue, tuple_of}
 use Rattle.py_value.specs.Sequences.{part}
-use Rattle.py_value.specs.View.{plain, plains}
+use Rattle.py_value.specs.View.{plains}
 use Rattle.py_value.specs.HeapView.{plain_heap}
 use Rattle.py_value.proofs.Levels.{listed-packed}
 use Rattle.py_value.proofs.Views.{tuple_view, plain-Tuple}

@@ -1,8 +1,6 @@
 use Rattle.std.proofs.Common.{◌<◌, ◌++◌, length, arith}
-use Rattle.std.specs.List.{slice_set}
-use Rattle.py_value.specs.View.{plain, plains}
-use Rattle.py_value.specs.Heaps.{with_items, with_pairs, without}
-use Rattle.py_value.specs.Keys.{with_value}
+use Rattle.py_value.specs.View.{plains}
+use Rattle.py_value.specs.Heaps.{with_items}
 use Rattle.py_value.proofs.Changes.{changed, unchanged, on_err}
 use Rattle.py_value.proofs.heap.Heap.append.Goals as goal
 

@@ -1,7 +1,6 @@
-use Rattle.std.proofs.Common.{◌<◌, ◌++◌, length, arith}
-use Rattle.std.specs.List.{slice_set}
-use Rattle.py_value.specs.View.{plain, plains}
-use Rattle.py_value.specs.Heaps.{with_items, with_pairs, without}
+use Rattle.std.proofs.Common.{◌<◌, length, arith}
+use Rattle.py_value.specs.View.{plain}
+use Rattle.py_value.specs.Heaps.{with_pairs}
 use Rattle.py_value.specs.Keys.{with_value}
 use Rattle.py_value.proofs.Changes.{changed, unchanged, on_err}
 use Rattle.py_value.proofs.heap.Heap.set_value.Goals as goal

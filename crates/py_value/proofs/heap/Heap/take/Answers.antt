@@ -1,11 +1,8 @@
-use Rattle.std.proofs.Common.{◌<◌, ◌++◌, length, arith}
+use Rattle.std.proofs.Common.{◌<◌, length, arith}
 use Rattle.std.proofs.lemmas.List.{length-map}
 use Rattle.py_value.specs.Objects.{plain_object}
-use Rattle.std.specs.List.{slice_set}
-use Rattle.py_value.specs.View.{plain, plains}
-use Rattle.py_value.specs.Heaps.{with_items, with_pairs, without}
-use Rattle.py_value.specs.Keys.{with_value}
-use Rattle.py_value.proofs.Changes.{changed, unchanged, on_err}
+use Rattle.py_value.specs.Heaps.{without}
+use Rattle.py_value.proofs.Changes.{changed}
 use Rattle.py_value.proofs.heap.Heap.take.Goals as goal
 
 pub returns-clause-taken : goal.returns-clause-taken

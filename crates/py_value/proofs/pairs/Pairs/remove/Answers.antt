@@ -1,4 +1,4 @@
-use Rattle.std.proofs.Common.{IsTrue, map, ap, sym, ◌∙◌, length, ◌<◌, arith}
+use Rattle.std.proofs.Common.{map, ap, ◌∙◌, length, ◌<◌, arith}
 use Rattle.std.proofs.lemmas.List.{length-map}
 use Rattle.py_value.specs.Keys.{has_distinct_keys}
 use Rattle.py_value.specs.Pairs.{plain_pair}

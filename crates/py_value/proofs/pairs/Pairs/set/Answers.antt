@@ -1,5 +1,5 @@
-use Rattle.std.proofs.Common.{IsTrue, is_ok, map, ap, sym, ◌∙◌, length, ◌<◌, arith}
-use Rattle.std.proofs.lemmas.List.{length-map, map-append}
+use Rattle.std.proofs.Common.{is_ok, map, ap, sym, ◌∙◌, length, ◌<◌, arith}
+use Rattle.std.proofs.lemmas.List.{map-append}
 use Rattle.py_value.specs.View.{plain}
 use Rattle.py_value.specs.Keys.{has_distinct_keys}
 use Rattle.py_value.specs.Pairs.{plain_pair}

@@ -1,4 +1,4 @@
-use Rattle.std.proofs.Common.{◌≡◌, ℕ, zero, suc, ◌+◌, ◌-◌, ◌<◌, List, ◌++◌, append_assoc, ap, sym, ◌∙◌, refl, arith}
+use Rattle.std.proofs.Common.{◌+◌, ◌-◌, ◌++◌, append_assoc, ap, sym, ◌∙◌, arith}
 use Rattle.std.proofs.lemmas.List.{append-nil}
 use Rattle.py_value.specs.Sequences.{repeat}
 use Rattle.py_value.proofs.Lists.{repeat_more, repeat_none}

@@ -1,0 +1,524 @@
+// Rows of the table of operators. The expected values are those of the Python Language Reference.
+
+use crate::{
+    BinOp, CmpOp, ExcKind, Heap, NoMemory, Raised, Text, Value, binary, compare, in_place, index,
+    slice, store, truth,
+};
+use std::alloc::Global;
+
+/// A value to be made in a heap.
+#[derive(Clone, Copy)]
+enum Lit {
+    None,
+    Bool(bool),
+    Int(i64),
+    Str(&'static str),
+    Tuple(&'static [i64]),
+    List(&'static [i64]),
+    Dict(&'static [(&'static str, i64)]),
+}
+
+use Lit::{Bool, Dict, Int, List, Str, Tuple};
+
+/// What an operation answers.
+#[derive(Clone, Copy)]
+enum Want {
+    Gives(Lit),
+    Raises(ExcKind, &'static str),
+}
+
+use Want::{Gives, Raises};
+
+const UNSUPPORTED: Want = Raises(ExcKind::TypeError, "unsupported operand");
+
+const TOO_LARGE: Want = Raises(ExcKind::OverflowError, "integer too large");
+
+const BY_ZERO: Want = Raises(ExcKind::ZeroDivisionError, "division by zero");
+
+const UNHASHABLE: Want = Raises(ExcKind::TypeError, "unhashable key");
+
+const NOT_SUBSCRIPTABLE: Want = Raises(ExcKind::TypeError, "not subscriptable");
+
+const LEAST: i64 = -9_223_372_036_854_775_808;
+
+const MOST: i64 = 9_223_372_036_854_775_807;
+
+fn numbers(alloc: Global, items: &[i64]) -> Result<Vec<Value>, NoMemory> {
+    let mut values = Vec::new(alloc);
+    for n in items {
+        values.push(Value::Int(*n))?;
+    }
+    Ok(values)
+}
+
+fn make(alloc: Global, lit: Lit, heap: &mut Heap) -> Result<Value, NoMemory> {
+    match lit {
+        Lit::None => Ok(Value::None),
+        Lit::Bool(b) => Ok(Value::Bool(b)),
+        Lit::Int(n) => Ok(Value::Int(n)),
+        Lit::Str(s) => Ok(Value::Str(Text::from_str(alloc, s)?)),
+        Lit::Tuple(items) => Ok(Value::Tuple(numbers(alloc, items)?)),
+        Lit::List(items) => Ok(Value::List(heap.make_list(numbers(alloc, items)?)?)),
+        Lit::Dict(pairs) => {
+            let dict = Value::Dict(heap.make_dict()?);
+            for (key, n) in pairs {
+                let key = Value::Str(Text::from_str(alloc, key)?);
+                let _ = store(alloc, &dict, &key, Value::Int(*n), heap)?;
+            }
+            Ok(dict)
+        }
+    }
+}
+
+fn are_numbers(items: &[Value], wanted: &[i64]) -> bool {
+    if items.len() != wanted.len() {
+        return false;
+    }
+    for i in 0..items.len() {
+        match &items[i] {
+            Value::Int(n) => {
+                if *n != wanted[i] {
+                    return false;
+                }
+            }
+            _ => return false,
+        }
+    }
+    true
+}
+
+fn is_made(value: &Value, wanted: Lit, heap: &Heap) -> bool {
+    match wanted {
+        Lit::None => matches!(value, Value::None),
+        Lit::Bool(b) => match value {
+            Value::Bool(c) => *c == b,
+            _ => false,
+        },
+        Lit::Int(n) => match value {
+            Value::Int(m) => *m == n,
+            _ => false,
+        },
+        Lit::Str(s) => match value {
+            Value::Str(text) => text.as_str() == s,
+            _ => false,
+        },
+        Lit::Tuple(wanted) => match value {
+            Value::Tuple(items) => are_numbers(items, wanted),
+            _ => false,
+        },
+        Lit::List(wanted) => match value {
+            Value::List(list) => are_numbers(heap.items(*list), wanted),
+            _ => false,
+        },
+        Lit::Dict(_) => matches!(value, Value::Dict(_)),
+    }
+}
+
+fn is_raised(raised: &Raised, kind: ExcKind, text: &str) -> bool {
+    if !raised.kind.is_same(kind) {
+        return false;
+    }
+    match &raised.arg {
+        None => text.is_empty(),
+        Some(arg) => match &**arg {
+            Value::Str(said) => said.as_str() == text,
+            _ => false,
+        },
+    }
+}
+
+fn is_wanted(answer: &Result<Value, Raised>, want: Want, heap: &Heap) -> bool {
+    match answer {
+        Ok(value) => match want {
+            Gives(wanted) => is_made(value, wanted, heap),
+            Raises(_, _) => false,
+        },
+        Err(raised) => match want {
+            Gives(_) => false,
+            Raises(kind, text) => is_raised(raised, kind, text),
+        },
+    }
+}
+
+/// `left op right`.
+struct Operation(BinOp, Lit, Lit, Want);
+
+/// `left op right` of a comparison.
+struct Comparison(CmpOp, Lit, Lit, Want);
+
+/// `of[at]`.
+struct At(Lit, Lit, Want);
+
+/// `of[from:to]`.
+struct Part(Lit, Option<i64>, Option<i64>, Want);
+
+static BINARY: [Operation; 49] = [
+    Operation(BinOp::Add, Int(1), Int(2), Gives(Int(3))),
+    Operation(BinOp::Add, Bool(true), Bool(true), Gives(Int(2))),
+    Operation(BinOp::Sub, Int(5), Int(7), Gives(Int(-2))),
+    Operation(BinOp::Sub, Bool(true), Bool(false), Gives(Int(1))),
+    Operation(BinOp::Sub, Int(0), Int(LEAST), TOO_LARGE),
+    Operation(BinOp::Add, Int(MOST), Int(1), TOO_LARGE),
+    Operation(BinOp::Add, Int(LEAST), Int(-1), TOO_LARGE),
+    Operation(BinOp::Mul, Int(3), Int(-4), Gives(Int(-12))),
+    Operation(BinOp::Mul, Int(MOST), Int(2), TOO_LARGE),
+    Operation(BinOp::Mul, Int(LEAST), Int(-1), TOO_LARGE),
+    Operation(BinOp::Floor, Int(7), Int(2), Gives(Int(3))),
+    Operation(BinOp::Floor, Int(-7), Int(2), Gives(Int(-4))),
+    Operation(BinOp::Floor, Int(7), Int(-2), Gives(Int(-4))),
+    Operation(BinOp::Floor, Int(-7), Int(-2), Gives(Int(3))),
+    Operation(BinOp::Floor, Int(0), Int(-5), Gives(Int(0))),
+    Operation(BinOp::Floor, Int(-6), Int(3), Gives(Int(-2))),
+    Operation(BinOp::Floor, Int(LEAST), Int(-1), TOO_LARGE),
+    Operation(BinOp::Floor, Int(LEAST), Int(1), Gives(Int(LEAST))),
+    Operation(BinOp::Floor, Int(1), Int(0), BY_ZERO),
+    Operation(BinOp::Floor, Int(5), Bool(false), BY_ZERO),
+    Operation(BinOp::Mod, Int(7), Int(2), Gives(Int(1))),
+    Operation(BinOp::Mod, Int(-7), Int(2), Gives(Int(1))),
+    Operation(BinOp::Mod, Int(7), Int(-2), Gives(Int(-1))),
+    Operation(BinOp::Mod, Int(-7), Int(-2), Gives(Int(-1))),
+    Operation(BinOp::Mod, Int(0), Int(-5), Gives(Int(0))),
+    Operation(BinOp::Mod, Int(LEAST), Int(-1), Gives(Int(0))),
+    Operation(BinOp::Mod, Int(LEAST), Int(3), Gives(Int(1))),
+    Operation(BinOp::Mod, Int(1), Int(0), BY_ZERO),
+    Operation(BinOp::Add, Str("ab"), Str("é"), Gives(Str("abé"))),
+    Operation(
+        BinOp::Add,
+        Tuple(&[1]),
+        Tuple(&[2, 3]),
+        Gives(Tuple(&[1, 2, 3])),
+    ),
+    Operation(BinOp::Add, List(&[1]), List(&[2]), Gives(List(&[1, 2]))),
+    Operation(BinOp::Add, Str("a"), Int(1), UNSUPPORTED),
+    Operation(BinOp::Add, List(&[1]), Tuple(&[1]), UNSUPPORTED),
+    Operation(BinOp::Add, Lit::None, Lit::None, UNSUPPORTED),
+    Operation(BinOp::Sub, Str("a"), Str("a"), UNSUPPORTED),
+    Operation(BinOp::Add, Dict(&[]), Dict(&[]), UNSUPPORTED),
+    Operation(BinOp::Mul, Str("ab"), Int(-1), Gives(Str(""))),
+    Operation(BinOp::Mul, Str("ab"), Int(3), Gives(Str("ababab"))),
+    Operation(BinOp::Mul, Int(2), Str("ab"), Gives(Str("abab"))),
+    Operation(BinOp::Mul, Str("ab"), Bool(true), Gives(Str("ab"))),
+    Operation(BinOp::Mul, List(&[1]), Int(3), Gives(List(&[1, 1, 1]))),
+    Operation(
+        BinOp::Mul,
+        Int(2),
+        Tuple(&[1, 2]),
+        Gives(Tuple(&[1, 2, 1, 2])),
+    ),
+    Operation(BinOp::Mul, Tuple(&[1, 2]), Int(0), Gives(Tuple(&[]))),
+    Operation(BinOp::Mul, List(&[]), Int(MOST), Gives(List(&[]))),
+    Operation(
+        BinOp::Mul,
+        Str("a"),
+        Int(MOST),
+        Raises(ExcKind::MemoryError, ""),
+    ),
+    Operation(BinOp::Mul, Str("a"), Str("b"), UNSUPPORTED),
+    Operation(BinOp::Mul, List(&[1]), Lit::None, UNSUPPORTED),
+    Operation(BinOp::Mod, Str("a"), Int(1), UNSUPPORTED),
+    Operation(BinOp::Floor, List(&[1]), Int(2), UNSUPPORTED),
+];
+
+static AUGMENTED: [Operation; 15] = [
+    Operation(BinOp::Add, List(&[1]), List(&[2]), Gives(List(&[1, 2]))),
+    Operation(
+        BinOp::Add,
+        List(&[1]),
+        Tuple(&[2, 3]),
+        Gives(List(&[1, 2, 3])),
+    ),
+    Operation(BinOp::Add, List(&[1]), Str(""), Gives(List(&[1]))),
+    Operation(BinOp::Add, List(&[1]), Dict(&[]), Gives(List(&[1]))),
+    Operation(BinOp::Add, List(&[1]), Int(5), UNSUPPORTED),
+    Operation(BinOp::Add, List(&[1]), Lit::None, UNSUPPORTED),
+    Operation(
+        BinOp::Mul,
+        List(&[1, 2]),
+        Int(2),
+        Gives(List(&[1, 2, 1, 2])),
+    ),
+    Operation(BinOp::Mul, List(&[1]), Int(-1), Gives(List(&[]))),
+    Operation(
+        BinOp::Mul,
+        List(&[1]),
+        Int(MOST),
+        Raises(ExcKind::MemoryError, ""),
+    ),
+    Operation(BinOp::Mul, List(&[1]), Str("a"), UNSUPPORTED),
+    Operation(BinOp::Mul, Int(2), List(&[1]), Gives(List(&[1, 1]))),
+    Operation(BinOp::Sub, List(&[1]), List(&[1]), UNSUPPORTED),
+    Operation(BinOp::Add, Int(1), Int(2), Gives(Int(3))),
+    Operation(BinOp::Add, Tuple(&[1]), Tuple(&[2]), Gives(Tuple(&[1, 2]))),
+    Operation(BinOp::Floor, Int(-7), Int(2), Gives(Int(-4))),
+];
+
+static COMPARED: [Comparison; 49] = [
+    Comparison(CmpOp::Eq, Int(1), Bool(true), Gives(Bool(true))),
+    Comparison(CmpOp::Eq, Bool(false), Int(0), Gives(Bool(true))),
+    Comparison(CmpOp::Eq, Int(1), Int(2), Gives(Bool(false))),
+    Comparison(CmpOp::Eq, Str("a"), Str("a"), Gives(Bool(true))),
+    Comparison(CmpOp::Eq, Str("1"), Int(1), Gives(Bool(false))),
+    Comparison(CmpOp::Eq, Lit::None, Lit::None, Gives(Bool(true))),
+    Comparison(CmpOp::Eq, Lit::None, Bool(false), Gives(Bool(false))),
+    Comparison(CmpOp::Eq, Tuple(&[1, 2]), Tuple(&[1, 2]), Gives(Bool(true))),
+    Comparison(
+        CmpOp::Eq,
+        Tuple(&[1, 2]),
+        Tuple(&[1, 3]),
+        Gives(Bool(false)),
+    ),
+    Comparison(CmpOp::Eq, Tuple(&[1]), Tuple(&[1, 2]), Gives(Bool(false))),
+    Comparison(CmpOp::Eq, List(&[1]), List(&[1]), Gives(Bool(true))),
+    Comparison(CmpOp::Eq, List(&[1]), Tuple(&[1]), Gives(Bool(false))),
+    Comparison(
+        CmpOp::Eq,
+        Dict(&[("a", 1), ("b", 2)]),
+        Dict(&[("b", 2), ("a", 1)]),
+        Gives(Bool(true)),
+    ),
+    Comparison(
+        CmpOp::Eq,
+        Dict(&[("a", 1)]),
+        Dict(&[("a", 2)]),
+        Gives(Bool(false)),
+    ),
+    Comparison(
+        CmpOp::Eq,
+        Dict(&[("a", 1)]),
+        Dict(&[("b", 1)]),
+        Gives(Bool(false)),
+    ),
+    Comparison(
+        CmpOp::Eq,
+        Dict(&[("a", 1)]),
+        Dict(&[("a", 1), ("b", 2)]),
+        Gives(Bool(false)),
+    ),
+    Comparison(CmpOp::Ne, Int(1), Int(2), Gives(Bool(true))),
+    Comparison(CmpOp::Ne, Int(1), Bool(true), Gives(Bool(false))),
+    Comparison(CmpOp::Lt, Int(1), Int(2), Gives(Bool(true))),
+    Comparison(CmpOp::Le, Int(2), Int(2), Gives(Bool(true))),
+    Comparison(CmpOp::Lt, Bool(true), Int(2), Gives(Bool(true))),
+    Comparison(CmpOp::Lt, Str("a"), Str("b"), Gives(Bool(true))),
+    Comparison(CmpOp::Lt, Str("ab"), Str("abc"), Gives(Bool(true))),
+    Comparison(CmpOp::Lt, Str("b"), Str("abc"), Gives(Bool(false))),
+    Comparison(CmpOp::Lt, Str("Z"), Str("a"), Gives(Bool(true))),
+    Comparison(CmpOp::Gt, Str("é"), Str("z"), Gives(Bool(true))),
+    Comparison(CmpOp::Lt, Tuple(&[1, 2]), Tuple(&[1, 3]), Gives(Bool(true))),
+    Comparison(CmpOp::Lt, Tuple(&[1]), Tuple(&[1, 0]), Gives(Bool(true))),
+    Comparison(CmpOp::Gt, List(&[2]), List(&[1, 5]), Gives(Bool(true))),
+    Comparison(CmpOp::Ge, List(&[1, 2]), List(&[1, 2]), Gives(Bool(true))),
+    Comparison(CmpOp::Le, List(&[1]), List(&[]), Gives(Bool(false))),
+    Comparison(CmpOp::Lt, Int(1), Str("a"), UNSUPPORTED),
+    Comparison(CmpOp::Lt, Lit::None, Lit::None, UNSUPPORTED),
+    Comparison(CmpOp::Ge, List(&[1]), Tuple(&[1]), UNSUPPORTED),
+    Comparison(CmpOp::Gt, Dict(&[]), Dict(&[]), UNSUPPORTED),
+    Comparison(CmpOp::In, Bool(true), List(&[2, 1]), Gives(Bool(true))),
+    Comparison(CmpOp::In, Int(3), Tuple(&[1, 2]), Gives(Bool(false))),
+    Comparison(CmpOp::In, Str("b"), Str("abc"), Gives(Bool(true))),
+    Comparison(CmpOp::In, Str(""), Str("abc"), Gives(Bool(true))),
+    Comparison(CmpOp::In, Str("ac"), Str("abc"), Gives(Bool(false))),
+    Comparison(CmpOp::In, Str("é"), Str("café"), Gives(Bool(true))),
+    Comparison(CmpOp::In, Int(1), Str("1"), UNSUPPORTED),
+    Comparison(CmpOp::In, Str("a"), Dict(&[("a", 1)]), Gives(Bool(true))),
+    Comparison(CmpOp::In, Str("b"), Dict(&[("a", 1)]), Gives(Bool(false))),
+    Comparison(CmpOp::In, Bool(true), Dict(&[("a", 1)]), UNHASHABLE),
+    Comparison(CmpOp::In, List(&[1]), Dict(&[]), UNHASHABLE),
+    Comparison(CmpOp::In, Int(1), Int(5), UNSUPPORTED),
+    Comparison(CmpOp::NotIn, Int(3), List(&[1]), Gives(Bool(true))),
+    Comparison(CmpOp::NotIn, Str("a"), Str("abc"), Gives(Bool(false))),
+];
+
+static INDEXED: [At; 17] = [
+    At(List(&[10, 20, 30]), Int(0), Gives(Int(10))),
+    At(List(&[10, 20, 30]), Int(-1), Gives(Int(30))),
+    At(
+        List(&[10]),
+        Int(1),
+        Raises(ExcKind::IndexError, "list index out of range"),
+    ),
+    At(
+        List(&[10]),
+        Int(-2),
+        Raises(ExcKind::IndexError, "list index out of range"),
+    ),
+    At(List(&[10, 20]), Bool(true), Gives(Int(20))),
+    At(Tuple(&[10, 20]), Int(1), Gives(Int(20))),
+    At(
+        Tuple(&[10]),
+        Int(1),
+        Raises(ExcKind::IndexError, "tuple index out of range"),
+    ),
+    At(Str("héllo"), Int(1), Gives(Str("é"))),
+    At(Str("abc"), Int(-3), Gives(Str("a"))),
+    At(
+        Str("abc"),
+        Int(3),
+        Raises(ExcKind::IndexError, "string index out of range"),
+    ),
+    At(List(&[1]), Str("a"), NOT_SUBSCRIPTABLE),
+    At(Int(5), Int(0), NOT_SUBSCRIPTABLE),
+    At(List(&[1]), Lit::None, NOT_SUBSCRIPTABLE),
+    At(Dict(&[("a", 1)]), Str("a"), Gives(Int(1))),
+    At(Dict(&[("a", 1)]), Str("b"), Raises(ExcKind::KeyError, "b")),
+    At(Dict(&[("a", 1)]), List(&[1]), UNHASHABLE),
+    At(Dict(&[("a", 1)]), Bool(true), UNHASHABLE),
+];
+
+static SLICED: [Part; 14] = [
+    Part(List(&[1, 2, 3]), Some(1), Some(2), Gives(List(&[2]))),
+    Part(List(&[1, 2, 3]), None, None, Gives(List(&[1, 2, 3]))),
+    Part(List(&[1, 2, 3]), Some(-2), None, Gives(List(&[2, 3]))),
+    Part(List(&[1, 2, 3]), None, Some(-1), Gives(List(&[1, 2]))),
+    Part(List(&[1, 2, 3]), Some(5), Some(9), Gives(List(&[]))),
+    Part(List(&[1, 2, 3]), Some(2), Some(1), Gives(List(&[]))),
+    Part(List(&[1, 2, 3]), Some(-9), Some(2), Gives(List(&[1, 2]))),
+    Part(
+        List(&[1, 2, 3]),
+        Some(LEAST),
+        Some(MOST),
+        Gives(List(&[1, 2, 3])),
+    ),
+    Part(Tuple(&[1, 2, 3]), Some(1), None, Gives(Tuple(&[2, 3]))),
+    Part(Str("hello"), Some(1), Some(3), Gives(Str("el"))),
+    Part(Str("hello"), Some(-3), Some(-1), Gives(Str("ll"))),
+    Part(Str("héllo"), None, Some(2), Gives(Str("hé"))),
+    Part(Int(5), None, None, NOT_SUBSCRIPTABLE),
+    Part(Dict(&[]), None, None, NOT_SUBSCRIPTABLE),
+];
+
+static TRUTHS: [(Lit, bool); 13] = [
+    (Lit::None, false),
+    (Bool(false), false),
+    (Bool(true), true),
+    (Int(0), false),
+    (Int(-1), true),
+    (Str(""), false),
+    (Str("a"), true),
+    (Tuple(&[]), false),
+    (Tuple(&[0]), true),
+    (List(&[]), false),
+    (List(&[0]), true),
+    (Dict(&[]), false),
+    (Dict(&[("a", 0)]), true),
+];
+
+#[test]
+fn binary_operators(rt: HostRuntime) {
+    for (i, row) in BINARY.iter().enumerate() {
+        let alloc = rt.alloc();
+        let mut heap = Heap::new(alloc);
+        let left = make(alloc, row.1, &mut heap).expect(&rt, "memory");
+        let right = make(alloc, row.2, &mut heap).expect(&rt, "memory");
+        let answer = binary(alloc, row.0, &left, &right, &mut heap).expect(&rt, "memory");
+        assert!(rt; is_wanted(&answer, row.3, &heap), "row {i}");
+        assert!(rt; is_made(&left, row.1, &heap), "row {i}");
+    }
+}
+
+#[test]
+fn augmented_operators(rt: HostRuntime) {
+    for (i, row) in AUGMENTED.iter().enumerate() {
+        let alloc = rt.alloc();
+        let mut heap = Heap::new(alloc);
+        let left = make(alloc, row.1, &mut heap).expect(&rt, "memory");
+        let right = make(alloc, row.2, &mut heap).expect(&rt, "memory");
+        let answer = in_place(alloc, row.0, &left, &right, &mut heap).expect(&rt, "memory");
+        assert!(rt; is_wanted(&answer, row.3, &heap), "row {i}");
+    }
+}
+
+#[test]
+fn comparisons(rt: HostRuntime) {
+    for (i, row) in COMPARED.iter().enumerate() {
+        let alloc = rt.alloc();
+        let mut heap = Heap::new(alloc);
+        let left = make(alloc, row.1, &mut heap).expect(&rt, "memory");
+        let right = make(alloc, row.2, &mut heap).expect(&rt, "memory");
+        let answer = compare(alloc, row.0, &left, &right, &heap).expect(&rt, "memory");
+        let answer = answer.map(Value::Bool);
+        assert!(rt; is_wanted(&answer, row.3, &heap), "row {i}");
+    }
+}
+
+#[test]
+fn items_and_parts(rt: HostRuntime) {
+    let alloc = rt.alloc();
+    for (i, row) in INDEXED.iter().enumerate() {
+        let mut heap = Heap::new(alloc);
+        let of = make(alloc, row.0, &mut heap).expect(&rt, "memory");
+        let at = make(alloc, row.1, &mut heap).expect(&rt, "memory");
+        let answer = index(alloc, &of, &at, &heap).expect(&rt, "memory");
+        assert!(rt; is_wanted(&answer, row.2, &heap), "index row {i}");
+    }
+    for (i, row) in SLICED.iter().enumerate() {
+        let mut heap = Heap::new(alloc);
+        let of = make(alloc, row.0, &mut heap).expect(&rt, "memory");
+        let answer = slice(alloc, &of, row.1, row.2, &mut heap).expect(&rt, "memory");
+        assert!(rt; is_wanted(&answer, row.3, &heap), "slice row {i}");
+    }
+    for (i, row) in TRUTHS.iter().enumerate() {
+        let mut heap = Heap::new(alloc);
+        let value = make(alloc, row.0, &mut heap).expect(&rt, "memory");
+        assert!(rt; truth(&value, &heap) == row.1, "truth row {i}");
+    }
+}
+
+#[test]
+fn shared_lists(rt: HostRuntime) {
+    let alloc = rt.alloc();
+    let mut heap = Heap::new(alloc);
+    let list = make(alloc, List(&[1]), &mut heap).expect(&rt, "memory");
+    let same = list.copy(alloc).expect(&rt, "memory");
+    let more = make(alloc, List(&[2]), &mut heap).expect(&rt, "memory");
+    let _ = in_place(alloc, BinOp::Add, &list, &more, &mut heap).expect(&rt, "memory");
+    let stored = store(alloc, &list, &Value::Int(0), Value::Int(5), &mut heap).expect(
+        &rt, "memory",
+    );
+    assert!(rt; stored.is_ok());
+    assert!(rt; is_made(&same, List(&[5, 2]), &heap));
+    let _ = in_place(alloc, BinOp::Add, &list, &same, &mut heap).expect(&rt, "memory");
+    assert!(rt; is_made(&same, List(&[5, 2, 5, 2]), &heap));
+    let outside = store(alloc, &list, &Value::Int(4), Value::None, &mut heap).expect(&rt, "memory");
+    let answer = outside.map(|_| Value::None);
+    assert!(rt;
+        is_wanted(
+            &answer,
+            Raises(ExcKind::IndexError, "list assignment index out of range"),
+            &heap
+        )
+    );
+    if let Value::List(addr) = &list {
+        heap.push(*addr, same).expect(&rt, "memory");
+    }
+    let answer = compare(alloc, CmpOp::Eq, &list, &list, &heap).expect(&rt, "memory");
+    let answer = answer.map(Value::Bool);
+    assert!(rt;
+        is_wanted(
+            &answer,
+            Raises(ExcKind::RecursionError, "maximum recursion depth exceeded"),
+            &heap
+        )
+    );
+}
+
+#[test]
+fn dicts_keep_their_order(rt: HostRuntime) {
+    let alloc = rt.alloc();
+    let mut heap = Heap::new(alloc);
+    let dict = make(alloc, Dict(&[("a", 1), ("b", 2)]), &mut heap).expect(&rt, "memory");
+    let key = make(alloc, Str("a"), &mut heap).expect(&rt, "memory");
+    let stored = store(alloc, &dict, &key, Value::Int(9), &mut heap).expect(&rt, "memory");
+    assert!(rt; stored.is_ok());
+    let addr = heap.make_dict().expect(&rt, "memory");
+    assert!(rt; heap.len(addr) == 0 && !heap.is_list(addr));
+    let copy = heap.copy().expect(&rt, "memory");
+    if let Value::Dict(addr) = dict {
+        assert!(rt; copy.len(addr) == 2);
+        if copy.pairs(addr).len() == 2 && copy.len(addr) == 2 {
+            let first = copy.key(addr, 0).expect(&rt, "memory");
+            assert!(rt; is_made(&first, Str("a"), &copy));
+            assert!(rt; is_made(copy.item(addr, 0), Int(9), &copy));
+        }
+    }
+}
