@@ -17,3 +17,4 @@ pub mod Reading
 pub mod OneSpelling
 pub mod LinesKept
 pub mod LayoutKept
+pub mod LongestPieces

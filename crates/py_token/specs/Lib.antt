@@ -18,3 +18,4 @@ pub mod HeldPieces
 pub mod HeldCuts
 pub mod HeldLayout
 pub mod OnLines
+pub mod Longest

@@ -4,7 +4,7 @@ ghost use Rattle.std.specs.Prelude.{◌≡◌, IfOk};
 ghost use Rattle.py_value.specs.View.{plain, plains, plain_answer};
 ghost use Rattle.py_value.specs.HeapView.{plain_heap};
 ghost use Rattle.py_value.specs.Comparison.{equal_within, is_item, most_levels};
-ghost use Rattle.py_value.specs.Operators.{contains_answer, compare_answer, compare_of, truth_of};
+ghost use Rattle.py_value.specs.Operators.{contains_answer, compare_answer, compare_of, truth_of, is_none_value, is_bool_value};
 
 use crate::NoMemory;
 use crate::answer::told;
@@ -113,5 +113,24 @@ pub fn truth(value: &Value, heap: &Heap) -> bool
         Value::List(addr) => !heap.items(*addr).is_empty(),
         Value::Dict(addr) => !heap.pairs(*addr).is_empty(),
         _ => true,
+    }
+}
+
+impl Value {
+    /// `self is None`.
+    pub fn is_none(&self) -> bool
+        ensures { result ≡ is_none_value (plain self.now) }
+    {
+        matches!(self, Value::None)
+    }
+
+    /// `self is True`, or `self is False`.
+    pub fn is_bool(&self, wanted: bool) -> bool
+        ensures { result ≡ is_bool_value wanted (plain self.now) }
+    {
+        match self {
+            Value::Bool(b) => *b == wanted,
+            _ => false,
+        }
     }
 }

@@ -1,4 +1,9 @@
-//! Python's values, the heap of lists and dicts, and the table of operators over them.
+//! Turns an operator and its operands, with the heap of lists and dicts behind them, into the value and
+//! the heap that Python's table of operators gives, or into the exception that it raises.
+//!
+//! A caller makes a `Heap` by `Heap::new` and values by `Text::from_str`, `Heap::make_list` and
+//! `Heap::make_dict`. The operators are `binary`, `in_place`, `compare`, `truth`, `index`, `slice` and
+//! `store`. `Value::copy` and `Heap::copy` give equal ones, and `Heap`'s calls read and change its lists.
 #![tactic(auto)]
 
 mod answer;

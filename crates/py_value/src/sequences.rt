@@ -76,7 +76,7 @@ pub fn repeat_text(alloc: Global, text: &Text, number: i64) -> Result<Result<Tex
         return Ok(Ok(Text::new(alloc)));
     }
     match count.checked_mul(text.len()) {
-        Some(total) if total <= MOST_ITEMS => Ok(Ok(text.repeat(alloc, count)?)),
+        Some(total) if total <= MOST_ITEMS => Ok(Ok(text.repeat(count)?)),
         _ => Ok(Err(Cause::TooManyItems)),
     }
 }

@@ -33,7 +33,7 @@ pub fn slice(
             Ok(Ok(Value::List(made)))
         }
         Value::Tuple(items) => Ok(Ok(Value::Tuple(part_of(alloc, items, from, to)?))),
-        Value::Str(text) => Ok(Ok(Value::Str(part_of_text(alloc, text, from, to)?))),
+        Value::Str(text) => Ok(Ok(Value::Str(part_of_text(text, from, to)?))),
         _ => Ok(Err(Raised::of(alloc, Cause::NotSubscriptable)?)),
     }
 }
@@ -56,16 +56,11 @@ fn part_of(
     }
 }
 
-fn part_of_text(
-    alloc: Global,
-    text: &Text,
-    from: Option<i64>,
-    to: Option<i64>,
-) -> Result<Text, NoMemory>
+fn part_of_text(text: &Text, from: Option<i64>, to: Option<i64>) -> Result<Text, NoMemory>
     ensures { IfOk result (λ copy. copy ≡ part from to text.now) }
 {
     let count = text.len();
     let first = first_bound(count, from);
     let last = last_bound(count, to);
-    text.part(alloc, first, last.saturating_sub(first))
+    text.part(first, last.saturating_sub(first))
 }

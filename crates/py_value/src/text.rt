@@ -126,10 +126,10 @@ impl Text {
     }
 
     /// The text so many times.
-    pub fn repeat(&self, alloc: Global, times: usize) -> Result<Text, NoMemory>
+    pub fn repeat(&self, times: usize) -> Result<Text, NoMemory>
         ensures { IfOk result (λ t. t ≡ repeat times self.now) }
     {
-        let mut text = Text::new(alloc);
+        let mut text = Text::new(self.alloc());
         'turns: for _ in 0..times {
             text.append(self)?;
         }
@@ -137,10 +137,10 @@ impl Text {
     }
 
     /// So many characters from a place on, or as many as there are.
-    pub fn part(&self, alloc: Global, first: usize, count: usize) -> Result<Text, NoMemory>
+    pub fn part(&self, first: usize, count: usize) -> Result<Text, NoMemory>
         ensures { IfOk result (λ t. t ≡ take count (drop first self.now)) }
     {
-        part(alloc, self.as_str(), first, count)
+        part(self.alloc(), self.as_str(), first, count)
     }
 
     /// The character at a place.
@@ -162,5 +162,9 @@ impl Text {
         ensures { result ≡ is_part part.now self.now }
     {
         self.as_str().contains(part.as_str())
+    }
+
+    fn alloc(&self) -> Global {
+        *self.body.allocator()
     }
 }

@@ -1,0 +1,5 @@
+pub mod Parts
+pub mod Matches
+pub mod RuleMaps
+pub mod Unions
+pub mod Laws

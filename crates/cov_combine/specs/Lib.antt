@@ -1,0 +1,3 @@
+pub mod Aliases
+pub mod Combined
+pub mod Stored
