@@ -1,5 +1,5 @@
 -- What the parts of the top call answer, as the step says it.
-use Rattle.std.proofs.Common.{◌≡◌, ℕ, ◌<◌, Bool, true, false, List, [], ◌∷◌, ◌++◌, Option, Some, None, Result, Ok, Err, refl, sym, ap, ◌∙◌, subst, length, nat_lt, lt-ltb, if◌then◌else◌}
+use Rattle.std.proofs.Common.{◌≡◌, ℕ, ◌<◌, List, [], ◌++◌, Option, Some, None, Err, refl, sym, ap, ◌∙◌, subst, length, ◌≤◌, lt-ltb, le-ltb, if◌then◌else◌}
 use Rattle.std.proofs.lemmas.List.{append-nil}
 use Rattle.cov_outside.specs.Prefixes.{GainsPrefix}
 use Rattle.cov_outside.specs.Files.{Files}
@@ -7,15 +7,17 @@ use Rattle.cov_outside.proofs.PrefixLemmas.{gains_nothing, gains_whole}
 use Rattle.py_syntax.specs.Tree.{Stmts}
 use Rattle.py_meaning.specs.Value.{Raised}
 use Rattle.py_meaning.specs.Meaning.{meaning}
-use Rattle.cov_app.specs.Spelling.{SpellsBuilt}
-use Rattle.cov_app.specs.Spelling.Lines.{HasLines}
+use Rattle.py_token.specs.declared.error.TokenError.TheVariants as token_error
+use Rattle.cov_app.specs.declared.front.SourceError.{SourceError}
+use Rattle.cov_app.specs.declared.front.SourceError.TheVariants as source_error
+use Rattle.cov_app.specs.Reading.{tree, unread, Reads, reading_of}
 use Rattle.cov_app.specs.declared.answer.Why.{Why}
 use Rattle.cov_app.specs.declared.answer.Why.TheVariants as why
 use Rattle.cov_app.specs.declared.answer.LimitKind.TheVariants.{FileBytes}
 use Rattle.cov_app.specs.declared.walk.Left.{Left}
 use Rattle.cov_app.specs.Command.{command}
 use Rattle.cov_app.specs.Answer.{Answer, no_such_file, limit, usage, answer_of}
-use Rattle.cov_app.specs.Step.{Stepped, refusal, step, run_of, of_tree, of_file, of_command, most_bytes, budget_of_runs, ended_by, exception_of, shown_by, Meets, Reads, Answers, AnswersScript, AnswersSource, OrNoMemory}
+use Rattle.cov_app.specs.Step.{Stepped, refusal, run_of, of_reading, of_file, of_command, most_bytes, budget_of_runs, ended_by, exception_of, shown_by, Meets, Answers, AnswersScript, AnswersSource, OrNoMemory}
 use Rattle.cov_app.specs.Runs.{answer_left, raised_left}
 
 pub meets : (s : Stepped) (w : Why) (e : Option Raised) (T : Type 0) (c d : List ℕ) → answer_of w ≡ s.answer → e ≡ s.raised_by → (T → d ≡ c ++ s.out) → Meets s w e T c d
@@ -42,51 +44,80 @@ refused a (why.Limit k n) T c h = meets (refusal a) (why.Limit k n) None T c c h
 
 -- ---- a source
 
-pub ran : (path bytes : List ℕ) (tree : Stmts) (l : Left) (w : Why) (e : Option Raised) (T : Type 0) (c d : List ℕ) → SpellsBuilt bytes tree → HasLines tree → answer_of w ≡ answer_left l → e ≡ raised_left l
-    → (ended_by (meaning tree budget_of_runs) ≡ answer_left l) × (exception_of (meaning tree budget_of_runs) ≡ raised_left l) × (T → d ≡ c ++ shown_by path (meaning tree budget_of_runs)) → AnswersSource path bytes w e T c d
-ran path bytes tree l w e T c d spelled lines a b shown = record {
-  reading = Some tree;
-  read = (spelled, lines);
-  met = meets (run_of path tree) w e T c d (a ∙ sym shown.0) (b ∙ sym shown.1) shown.2;
+pub ran : (path bytes : List ℕ) (t : Stmts) (l : Left) (w : Why) (e : Option Raised) (T : Type 0) (c d : List ℕ) → Reads bytes (tree t) → answer_of w ≡ answer_left l → e ≡ raised_left l
+    → (ended_by (meaning t budget_of_runs) ≡ answer_left l) × (exception_of (meaning t budget_of_runs) ≡ raised_left l) × (T → d ≡ c ++ shown_by path (meaning t budget_of_runs)) → AnswersSource path bytes w e T c d
+ran path bytes t l w e T c d read a b shown = record {
+  reading = tree t;
+  read = read;
+  met = meets (run_of path t) w e T c d (a ∙ sym shown.0) (b ∙ sym shown.1) shown.2;
 }
 
-pub write_failed : (path bytes : List ℕ) (tree : Stmts) (e : Option Raised) (T : Type 0) (c d : List ℕ) → SpellsBuilt bytes tree → HasLines tree → (T → GainsPrefix c d (shown_by path (meaning tree budget_of_runs))) → AnswersSource path bytes why.WriteFault e T c d
-write_failed path bytes tree e T c d spelled lines g = record { reading = Some tree; read = (spelled, lines); met = g }
+pub write_failed : (path bytes : List ℕ) (t : Stmts) (e : Option Raised) (T : Type 0) (c d : List ℕ) → Reads bytes (tree t) → (T → GainsPrefix c d (shown_by path (meaning t budget_of_runs))) → AnswersSource path bytes why.WriteFault e T c d
+write_failed path bytes t e T c d read g = record { reading = tree t; read = read; met = g }
 
-pub starved : (path bytes : List ℕ) (tree : Stmts) (e : Option Raised) (T : Type 0) (c d : List ℕ) → SpellsBuilt bytes tree → HasLines tree → (T → GainsPrefix c d (shown_by path (meaning tree budget_of_runs))) → AnswersSource path bytes why.NoMemory e T c d
-starved path bytes tree e T c d spelled lines g = record { reading = Some tree; read = (spelled, lines); met = g }
+pub starved : (path bytes : List ℕ) (t : Stmts) (e : Option Raised) (T : Type 0) (c d : List ℕ) → Reads bytes (tree t) → (T → GainsPrefix c d (shown_by path (meaning t budget_of_runs))) → AnswersSource path bytes why.NoMemory e T c d
+starved path bytes t e T c d read g = record { reading = tree t; read = read; met = g }
+
+no_run : (path : List ℕ) (e : SourceError) → of_reading path (reading_of e) ≡ refusal (of_reading path (reading_of e)).answer
+no_run path (source_error.NoText line) = refl
+no_run path (source_error.Long lines) = refl
+no_run path (source_error.Tokens (token_error.BadCharacter line)) = refl
+no_run path (source_error.Tokens (token_error.BadIndent line)) = refl
+no_run path (source_error.Tokens (token_error.OpenString line)) = refl
+no_run path (source_error.Tokens (token_error.OpenBracket line)) = refl
+no_run path (source_error.Tokens (token_error.WideNumber line)) = refl
+no_run path (source_error.Tokens token_error.NoMemory) = refl
+no_run path source_error.Unbuilt = refl
+no_run path source_error.NoMemory = refl
+
+-- a source that was not read
+pub not_run : (path bytes : List ℕ) (error : SourceError) (w : Why) (T : Type 0) (c : List ℕ) → Reads bytes (reading_of error) → OrNoMemory w (of_reading path (reading_of error)).answer → AnswersSource path bytes w None T c c
+not_run path bytes error w T c read h = record {
+  reading = reading_of error;
+  read = read;
+  met = subst (λ s. Meets s w None T c c) (sym (no_run path error)) (refused (of_reading path (reading_of error)).answer w T c h);
+}
 
 -- ---- a script
 
 pub absent : (path : List ℕ) (files : Files) (w : Why) (T : Type 0) (c : List ℕ) → files path ≡ None → OrNoMemory w (no_such_file path) → AnswersScript path files w None T c c
 absent path files w T c is h = record {
-  reading = None;
+  reading = unread;
   read = λ bytes k. tt;
-  met = subst (λ f. Meets (of_file path f None) w None T c c) (sym is) (refused (no_such_file path) w T c h);
+  met = subst (λ f. Meets (of_file path f unread) w None T c c) (sym is) (refused (no_such_file path) w T c h);
 }
 
-over : (path bytes : List ℕ) (files : Files) → files path ≡ Some bytes → most_bytes < length bytes → of_file path (files path) None ≡ refusal (limit FileBytes 1048577)
-over path bytes files is more = ap (λ f. of_file path f None) is ∙ ap (λ b. if b then refusal (limit FileBytes 1048577) else of_tree path None) (lt-ltb most_bytes (length bytes) more)
+over : (path bytes : List ℕ) (files : Files) → files path ≡ Some bytes → most_bytes < length bytes → of_file path (files path) unread ≡ refusal (limit FileBytes 1048577)
+over path bytes files is more = ap (λ f. of_file path f unread) is ∙ ap (λ b. if b then refusal (limit FileBytes 1048577) else of_reading path unread) (lt-ltb most_bytes (length bytes) more)
 
 pub too_large : (path bytes : List ℕ) (files : Files) (T : Type 0) (c : List ℕ) → files path ≡ Some bytes → most_bytes < length bytes → AnswersScript path files (why.Limit FileBytes 1048577) None T c c
 too_large path bytes files T c is more = record {
-  reading = None;
+  reading = unread;
   read = λ bytes k. tt;
   met = subst (λ s. Meets s (why.Limit FileBytes 1048577) None T c c) (sym (over path bytes files is more)) (refused (limit FileBytes 1048577) (why.Limit FileBytes 1048577) T c refl);
 }
 
+pub from_source : (path bytes : List ℕ) (files : Files) (w : Why) (e : Option Raised) (T : Type 0) (c d : List ℕ) → files path ≡ Some bytes → length bytes ≤ most_bytes → AnswersSource path bytes w e T c d → AnswersScript path files w e T c d
+from_source path bytes files w e T c d is few h =
+    let r = h.reading in
+    let same : of_file path (files path) r ≡ of_reading path r = ap (λ f. of_file path f r) is ∙ ap (λ b. if b then refusal (limit FileBytes 1048577) else of_reading path r) (le-ltb most_bytes (length bytes) few) in
+    record { reading = r; read = λ b k. subst (λ x. Reads x r) (some_same bytes b (sym is ∙ k)) h.read; met = subst (λ s. Meets s w e T c d) (sym same) h.met }
+  where
+    some_same : (a b : List ℕ) → Some a ≡ Some b → a ≡ b
+    some_same a b k = ap (λ o. elim o as (λ (o : Option (List ℕ)). List ℕ) [ None ↦ a | Some x ↦ x ]) k
+
 -- the shelf failed, or no memory was left, before anything was written
 pub not_read : (path : List ℕ) (files : Files) (e : Option Raised) (T : Type 0) (c : List ℕ) → AnswersScript path files why.ShelfFault e T c c
-not_read path files e T c = record { reading = None; read = λ bytes k. tt; met = λ t. gains_nothing c c _ refl }
+not_read path files e T c = record { reading = unread; read = λ bytes k. tt; met = λ t. gains_nothing c c _ refl }
 
 pub starved_before : (path : List ℕ) (files : Files) (e : Option Raised) (T : Type 0) (c : List ℕ) → AnswersScript path files why.NoMemory e T c c
-starved_before path files e T c = record { reading = None; read = λ bytes k. tt; met = λ t. gains_nothing c c _ refl }
+starved_before path files e T c = record { reading = unread; read = λ bytes k. tt; met = λ t. gains_nothing c c _ refl }
 
 -- ---- the words
 
 pub no_command : (words : List (List ℕ)) (files : Files) (i : ℕ) (T : Type 0) (c : List ℕ) → command words ≡ Err i → Answers words files (why.Usage i) None T c c
 no_command words files i T c is = record {
-  reading = None;
+  reading = unread;
   read = λ path bytes h k. tt;
-  met = subst (λ r. Meets (of_command r files None) (why.Usage i) None T c c) (sym is) (refused (usage i) (why.Usage i) T c refl);
+  met = subst (λ r. Meets (of_command r files unread) (why.Usage i) None T c c) (sym is) (refused (usage i) (why.Usage i) T c refl);
 }

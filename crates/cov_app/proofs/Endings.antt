@@ -1,7 +1,6 @@
 -- The run of a module from its beginning to its end.
-use Rattle.std.proofs.Common.{◌≡◌, ℕ, suc, List, [], ◌∷◌, ◌++◌, Option, Some, None, Result, Ok, Err, ℤ, String, refl, sym, ap, ◌∙◌, subst, append_assoc}
+use Rattle.std.proofs.Common.{◌≡◌, ℕ, List, [], ◌∷◌, ◌++◌, Result, Ok, Err, refl, sym, ap, ◌∙◌, subst, append_assoc}
 use Rattle.std.proofs.lemmas.List.{append-nil}
-use Rattle.std.specs.Global.{Global}
 use Rattle.std.specs.BTreeMap.{BTreeMap, get_by_text}
 use Rattle.std.specs.BTreeSet.{insert_key}
 use Rattle.std.specs.Result.{IsErr}
@@ -10,12 +9,12 @@ use Rattle.py_syntax.specs.Tree.{Stmts}
 use Rattle.py_meaning.specs.Value.{look}
 use Rattle.py_meaning.specs.State.{State, Res, Out, done, cut, end_of, M, give, normal, raised, stop}
 use Rattle.py_meaning.specs.Meaning.{exec, first_state, meaning}
-use Rattle.py_meaning.specs.Arcs.{Arc, arc_cmp, arc_to, arcs, arcs_of, end, kept, ordered, in_order}
+use Rattle.py_meaning.specs.Arcs.{Arc, arc_cmp, arc_to, arcs, arcs_of, end, ordered, in_order}
 use Rattle.cov_app.specs.declared.walk.RunFault.{RunFault}
 use Rattle.cov_app.specs.declared.walk.Left.{Left}
 use Rattle.cov_app.specs.declared.walk.Left.TheVariants as left
 use Rattle.cov_app.specs.declared.walk.Walk.{Walk}
-use Rattle.cov_app.specs.Walk.{Stands, Holds, Arrival, Reaches, Prints_part, leaves, raised_of}
+use Rattle.cov_app.specs.Walk.{Stands, Reaches, Prints_part, leaves}
 use Rattle.cov_app.proofs.Standing.{ordered-push}
 use Rattle.cov_app.specs.Runs.{Shows, answer_left, raised_left, last_arcs}
 use Rattle.cov_app.specs.Step.{budget_of_runs, ended_by, exception_of, printed_by, shown_by, arc_lines}

@@ -1,8 +1,7 @@
 -- The value of an expression from those of its parts.
-use Rattle.std.proofs.Common.{◌≡◌, ℕ, Bool, List, [], ◌∷◌, ◌++◌, Option, Some, None, Result, Ok, Err, ℤ, Vec, Box, refl, sym, ap, ◌∙◌, subst, String, encode_utf8_all, codes, IfOk}
+use Rattle.std.proofs.Common.{◌≡◌, ℕ, List, Some, None, Result, Ok, Err, ℤ, Box, refl, sym, ap, ◌∙◌, subst, String, IfOk}
 use Rattle.std.specs.Global.{Global}
 use Rattle.std.specs.Str.{IsUtf8, chars}
-use Rattle.std.specs.String.{string_bytes}
 use Rattle.std.specs.BTreeMap.{BTreeMap, get_by_text}
 use Rattle.py_value.specs.declared.operator.BinOp.{BinOp}
 use Rattle.py_syntax.specs.declared.expr.Expr as node
@@ -12,13 +11,12 @@ use Rattle.py_syntax.specs.declared.expr.FormatPart.{FormatPart}
 use Rattle.py_syntax.specs.declared.expr.Fragment.{Fragment}
 use Rattle.py_syntax.specs.declared.expr.Link.{Link}
 use Rattle.py_syntax.specs.declared.expr.Pair.{Pair}
-use Rattle.py_syntax.specs.Tree.{Text, Expr, name, int, binary, compare, Links}
-use Rattle.py_syntax.specs.View.{plain_expr, plain_links}
-use Rattle.py_meaning.specs.Value as V
-use Rattle.py_meaning.specs.Value.{Vars, look, Ans, gives, raises, after, found, eval, holds, chain_of, truth, binary_of, unset_name, unbuilt}
+use Rattle.py_syntax.specs.Tree.{Expr, name, int, binary}
+use Rattle.py_syntax.specs.View.{plain_expr}
+use Rattle.py_meaning.specs.Value.{Vars, gives, raises, after, found, eval, binary_of, unset_name, unbuilt}
 use Rattle.std.specs.declared.alloc.AllocError.{AllocError as NoMemory}
 use Rattle.cov_app.specs.declared.walk.Raised.{Raised}
-use Rattle.cov_app.specs.Walk.{Agree, raised_of, answer_of, Values, Tests}
+use Rattle.cov_app.specs.Walk.{raised_of, answer_of, Values}
 
 abbrev Map : Type 0
 Map = BTreeMap (String Global) ℤ

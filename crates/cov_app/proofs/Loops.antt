@@ -1,5 +1,5 @@
 -- What the loops of the walk keep.
-use Rattle.std.proofs.Common.{◌≡◌, ℕ, zero, suc, ◌+◌, ◌-◌, ◌≤◌, ◌<◌, Bool, true, false, List, [], ◌∷◌, drop, length, get_or, Vec, Option, Some, None, Result, Ok, Err, refl, sym, ap, ◌∙◌, subst, arith, if◌then◌else◌, add-one}
+use Rattle.std.proofs.Common.{◌≡◌, ℕ, zero, suc, ◌+◌, ◌≤◌, ◌<◌, Bool, true, false, List, [], ◌∷◌, drop, length, get_or, Vec, Option, Some, None, Result, Ok, Err, refl, sym, ap, ◌∙◌, subst, arith, if◌then◌else◌}
 use Rattle.std.proofs.Math.ListN.{drop_of_length-le}
 use Rattle.std.specs.Global.{Global}
 use Rattle.std.specs.Result.{IsErr}
@@ -9,18 +9,18 @@ use Rattle.py_syntax.specs.declared.expr.Expr.{Expr as Node}
 use Rattle.py_syntax.specs.declared.stmt.Stmt.{Stmt}
 use Rattle.py_syntax.specs.declared.stmt.Arm.{Arm, out-Arm}
 use Rattle.py_syntax.specs.declared.stmt.Suite.{Suite as SuiteNode, out-Suite}
-use Rattle.py_syntax.specs.Tree.{Expr, OptSuite, has_suite, Stmts, stmt, no_stmts, Arms, arm, no_arms, suite}
+use Rattle.py_syntax.specs.Tree.{OptSuite, has_suite, arm}
 use Rattle.py_syntax.specs.View.{plain_expr, plain_kind, plain_stmts, plain_suite, plain_opt_suite, plain_arms}
-use Rattle.py_meaning.specs.State.{Act, marked, marked_again, M, Out, give, normal, raised, chain, step, next, stop, within}
+use Rattle.py_meaning.specs.State.{marked, M, Out, give, normal, chain, step, next, stop, within}
 use Rattle.py_meaning.specs.Meaning.{exec, exec_kind, exec_arms, exec_else, exec_while, turns, with_test}
-use Rattle.py_meaning.proofs.Growth.{Grows, grows-exec, grows-next, grows-turns, grows-if, grows-test, grows-chain, grows-step, grows-arms, grows-else, grows-while}
+use Rattle.py_meaning.proofs.Growth.{Grows, grows-exec, grows-next, grows-turns, grows-arms, grows-else, grows-while}
 use Rattle.cov_app.specs.declared.walk.Raised.{Raised}
 use Rattle.cov_app.specs.declared.walk.RunFault.{RunFault}
 use Rattle.cov_app.specs.declared.walk.Left.{Left}
 use Rattle.cov_app.specs.declared.walk.Left.TheVariants as left
 use Rattle.cov_app.specs.declared.walk.Walk.{Walk}
 use Rattle.cov_app.specs.Walk.{Tests, Notes, mark_of, Moves, Reaches, Does, DoesOr, Prints_part, leaves}
-use Rattle.cov_app.proofs.Reaching.{reaches, reaches-trans, moves-trans, does-after, part-after, fault-before, at_once, follows, chain-reaches, fault-in-chain, in-chain, marked-on, no-step, test-given, test-raised}
+use Rattle.cov_app.proofs.Reaching.{reaches, reaches-trans, moves-trans, does-after, part-after, fault-before, at_once, follows, chain-reaches, fault-in-chain, marked-on, no-step, test-given, test-raised}
 use Rattle.cov_app.proofs.Nodes.{plain-stmts, plain-arms, plain-Suite, plain-If, plain-While}
 
 -- a loop has come from one computation to another

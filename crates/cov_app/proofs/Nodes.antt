@@ -1,5 +1,5 @@
 -- The plain view of the statements that the walk meets.
-use Rattle.std.proofs.Common.{◌≡◌, ℕ, false, List, [], ◌∷◌, Option, Some, None, Vec, refl, sym, ap, ◌∙◌}
+use Rattle.std.proofs.Common.{◌≡◌, ℕ, false, List, ◌∷◌, Option, Some, None, Vec, refl, sym, ap, ◌∙◌}
 use Rattle.std.specs.Global.{Global}
 use Rattle.py_syntax.specs.declared.expr.Expr as node
 use Rattle.py_syntax.specs.declared.expr.Expr.{Expr as Node, roll-Expr, out-Expr, roll-out-Expr, fold-roll-Expr}
@@ -18,9 +18,9 @@ use Rattle.py_syntax.specs.declared.stmt.Stmt.{Stmt}
 use Rattle.py_syntax.specs.declared.stmt.Suite.{Suite as SuiteNode, out-Suite}
 use Rattle.py_syntax.specs.declared.stmt.Suite as suites
 use Rattle.py_syntax.specs.declared.stmt.Arm as arms
-use Rattle.py_syntax.specs.Tree.{Expr, Exprs, exprs, no_exprs, name, call, StmtKind, expr, assign, if', while, Suite, suite, Stmts, stmt, Arms, arm}
+use Rattle.py_syntax.specs.Tree.{Expr, exprs, no_exprs, name, call, expr, assign, if', while, suite, stmt, arm}
 use Rattle.py_syntax.specs.View.{plain_expr, plain_exprs, plain_kind, plain_stmts, plain_suite, plain_opt_suite, plain_arms}
-use Rattle.py_meaning.specs.State.{M, Out, marked, step}
+use Rattle.py_meaning.specs.State.{marked, step}
 use Rattle.py_meaning.specs.Meaning.{exec_kind, simple, refused, expression, assignment, names_print}
 
 pub plain-If : (as' : Vec Arm Global) (o : Option SuiteNode) → plain_kind (kind.If as' o) ≡ if' (plain_arms as'.items) (plain_opt_suite o)

@@ -1,18 +1,18 @@
 -- How what the walk does is put together as the meaning is.
-use Rattle.std.proofs.Common.{◌≡◌, ℕ, zero, suc, ◌+◌, ◌≤◌, ◌<◌, Bool, true, false, List, [], ◌∷◌, ◌++◌, Option, Some, None, Result, Ok, Err, ℤ, refl, sym, ap, ◌∙◌, subst, append_assoc, add-one, arith, OnOk, if◌then◌else◌}
+use Rattle.std.proofs.Common.{◌≡◌, ℕ, ◌+◌, Bool, List, [], ◌∷◌, ◌++◌, Result, Ok, Err, ℤ, refl, sym, ap, ◌∙◌, subst, append_assoc, add-one}
 use Rattle.std.specs.Fmt.{signed_decimal}
 use Rattle.cov_outside.specs.Prefixes.{IsPrefix, GainsPrefix}
 use Rattle.py_syntax.specs.Tree.{Expr}
-use Rattle.py_meaning.specs.Value.{Ans, gives, raises, eval, holds, unbuilt}
-use Rattle.py_meaning.specs.State.{Act, marked, marked_again, thrown, State, World, Res, done, cut, end_of, M, bind, add, put, give, chain, step, note, read, write, within, stop, Out, normal, raised, next, using, store, print}
-use Rattle.py_meaning.specs.Meaning.{with_value, with_test, refused, print_arguments}
-use Rattle.py_meaning.proofs.Growth.{Grows, Printed, prefix-refl, prefix-trans, grows-bind}
+use Rattle.py_meaning.specs.Value.{unbuilt}
+use Rattle.py_meaning.specs.State.{Act, thrown, State, end_of, M, bind, add, put, give, chain, step, note, read, write, stop, Out, normal, raised, next, using, store, print}
+use Rattle.py_meaning.specs.Meaning.{with_value, with_test, refused}
+use Rattle.py_meaning.proofs.Growth.{Grows, prefix-trans, grows-bind}
 use Rattle.cov_app.specs.declared.walk.Raised.{Raised}
 use Rattle.cov_app.specs.declared.walk.RunFault.{RunFault}
 use Rattle.cov_app.specs.declared.walk.Left.{Left}
 use Rattle.cov_app.specs.declared.walk.Left.TheVariants as left
 use Rattle.cov_app.specs.declared.walk.Walk.{Walk}
-use Rattle.cov_app.specs.Walk.{Stands, mark_of, Notes, Stores, Values, Tests, answer_of, raised_of, Holds, Arrival, Reaches, Prints_part, leaves, Does, Move, Moves}
+use Rattle.cov_app.specs.Walk.{Stands, mark_of, Notes, Stores, Values, Tests, answer_of, raised_of, Reaches, Prints_part, leaves, Does, Moves}
 
 -- ---- one after the other
 

@@ -1,5 +1,5 @@
 -- The statements that mark their own line.
-use Rattle.std.proofs.Common.{◌≡◌, ℕ, ◌+◌, ◌≤◌, Bool, true, false, not, List, [], ◌∷◌, ◌++◌, Option, Some, None, Result, Ok, Err, ℤ, Vec, refl, sym, ap, ◌∙◌, subst, length, bytes_eq, codes, ◌⊎◌, inl, inr, if◌then◌else◌}
+use Rattle.std.proofs.Common.{◌≡◌, ℕ, ◌+◌, Bool, true, false, List, [], ◌∷◌, ◌++◌, Result, Ok, Err, ℤ, Vec, refl, sym, ap, ◌∙◌, subst, length, bytes_eq, codes, ◌⊎◌, inl, inr, if◌then◌else◌}
 use Rattle.std.specs.Fmt.{signed_decimal}
 use Rattle.std.specs.Global.{Global}
 use Rattle.std.specs.Str.{IsUtf8, chars}
@@ -13,7 +13,7 @@ use Rattle.py_syntax.specs.View.{plain_expr, plain_exprs, plain_kind}
 use Rattle.py_meaning.specs.Value.{unbuilt}
 use Rattle.py_meaning.specs.State.{M, Out, marked, step, give, normal, write, store, print}
 use Rattle.py_meaning.specs.Meaning.{with_value, refused, print_arguments, print_call, names_print, expression, assignment, simple}
-use Rattle.py_meaning.proofs.Growth.{Grows, grows-print_call, grows-expression, grows-give, grows-print, grows-simple, grows-step}
+use Rattle.py_meaning.proofs.Growth.{Grows, grows-simple, grows-step}
 use Rattle.cov_app.specs.declared.walk.Raised.{Raised}
 use Rattle.cov_app.specs.declared.walk.RunFault.{RunFault}
 use Rattle.cov_app.specs.declared.walk.RunFault.TheVariants as faults
@@ -23,8 +23,8 @@ use Rattle.cov_app.specs.declared.walk.Left.TheVariants as left
 use Rattle.cov_app.specs.declared.walk.Walk.{Walk}
 use Rattle.cov_app.specs.Walk.{raised_of, Values, Stores, Notes, Moves, Reaches, Does, Prints_part, leaves}
 use Rattle.cov_app.proofs.Standing.{same_chars}
-use Rattle.cov_app.proofs.Reaching.{moves-trans, reaches-trans, reaches, does-moved, does-after, value-given, value-raised, was-refused, stored, printed, fault-in-print, fault-before, marked-on, no-step}
-use Rattle.cov_app.proofs.Nodes.{plain-Name, plain-Call, plain-Expr, plain-Assign, no_name, no_target, no_call, other_kind}
+use Rattle.cov_app.proofs.Reaching.{moves-trans, reaches-trans, reaches, does-moved, value-given, value-raised, was-refused, stored, printed, fault-in-print, fault-before, marked-on}
+use Rattle.cov_app.proofs.Nodes.{plain-Name, plain-Expr, plain-Assign, no_name, no_target}
 
 pub moves-at : (m k j : M Out) (a b : Walk) → m ≡ k → Moves k j a b → Moves m j a b
 moves-at m k j a b e h = subst (λ q. Moves q j a b) (sym e) h

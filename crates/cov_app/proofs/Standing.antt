@@ -1,6 +1,6 @@
 -- How the walk keeps standing where the meaning does.
-use Rattle.std.proofs.Common.{◌≡◌, ℕ, zero, suc, ◌+◌, Bool, true, false, cond, eqb, eq-eqb, List, [], ◌∷◌, ◌++◌, Option, Some, None, ℤ, String, refl, sym, ap, ◌∙◌, subst, ◌⊎◌, inl, inr, bytes_eq, if◌then◌else◌, encode_utf8_all, ◌==◌, arith}
-use Rattle.std.specs.Bool.{Decides, one_answer}
+use Rattle.std.proofs.Common.{◌≡◌, ℕ, Bool, true, false, cond, eq-eqb, List, [], ◌∷◌, ◌++◌, Some, ℤ, String, refl, sym, ap, ◌∙◌, ◌⊎◌, inl, inr, bytes_eq, if◌then◌else◌, encode_utf8_all, ◌==◌, arith}
+use Rattle.std.specs.Bool.{one_answer}
 use Rattle.std.proofs.lemmas.Bool.Decides.{Decides-like}
 use Rattle.std.proofs.lemmas.Bool.{false_from_ne_true}
 use Rattle.std.proofs.lemmas.Slice.Eq.{bytes_eq-Decides}
@@ -11,10 +11,10 @@ use Rattle.std.specs.Map.{update}
 use Rattle.std.specs.BTreeMap.{BTreeMap, get_by_text}
 use Rattle.std.specs.BTreeSet.{BTreeSet, insert_key}
 use Rattle.py_meaning.specs.Value.{Vars, look, bind_name}
-use Rattle.py_meaning.specs.State.{Act, marked, marked_again, thrown, Acts, more, State, World, add, put, store}
+use Rattle.py_meaning.specs.State.{marked, Acts, more}
 use Rattle.py_meaning.specs.Arcs.{Arc, kept, end, arc_to, arcs, arc_cmp, ordered, in_order}
 use Rattle.cov_app.specs.declared.walk.Walk.{Walk}
-use Rattle.cov_app.specs.Walk.{Agree, Stands, mark_of, Notes, Stores}
+use Rattle.cov_app.specs.Walk.{Agree, mark_of, Notes, Stores}
 
 -- ---- names
 

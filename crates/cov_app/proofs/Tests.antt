@@ -1,6 +1,5 @@
 -- Whether a test holds, from the values of its operands.
-use Rattle.std.proofs.Common.{◌≡◌, ◌≢◌, ℕ, zero, suc, Bool, not, List, [], ◌∷◌, Option, Some, None, Result, Ok, Err, ℤ, pos, negsuc, Vec, Box, String, refl, sym, ap, ◌∙◌, subst, length, get_or, IfOk, nat_eq, of_z, w64, slice_index, to_z, arith}
-use Rattle.std.proofs.lemmas.Int.{to_z-of_z}
+use Rattle.std.proofs.Common.{◌≡◌, Bool, not, List, [], ◌∷◌, Result, Ok, Err, ℤ, pos, negsuc, Vec, Box, String, refl, sym, ap, ◌∙◌, length, get_or, IfOk, nat_eq, of_z, w64, to_z, arith}
 use Rattle.std.specs.Global.{Global}
 use Rattle.std.specs.BTreeMap.{BTreeMap}
 use Rattle.std.specs.declared.alloc.AllocError.{AllocError as NoMemory}
@@ -12,11 +11,11 @@ use Rattle.py_syntax.specs.declared.expr.Fragment.{Fragment}
 use Rattle.py_syntax.specs.declared.expr.Link.{Link}
 use Rattle.py_syntax.specs.declared.expr.Pair.{Pair}
 use Rattle.py_syntax.specs.declared.expr.Comparison.{Comparison}
-use Rattle.py_syntax.specs.Tree.{Expr, compare, Links, link, no_links}
+use Rattle.py_syntax.specs.Tree.{Expr, compare, link, no_links}
 use Rattle.py_syntax.specs.View.{plain_expr, plain_links}
 use Rattle.py_meaning.specs.Value.{Vars, Ans, gives, raises, after, eval, holds, chain_of, truth, compare_of, unbuilt}
 use Rattle.cov_app.specs.declared.walk.Raised.{Raised}
-use Rattle.cov_app.specs.Walk.{Agree, raised_of, answer_of, Values, Tests, Chains}
+use Rattle.cov_app.specs.Walk.{raised_of, answer_of, Values, Tests, Chains}
 
 abbrev Map : Type 0
 Map = BTreeMap (String Global) ℤ

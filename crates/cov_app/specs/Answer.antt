@@ -7,9 +7,9 @@ use Rattle.py_meaning.specs.Value.{Raised}
 use Rattle.cov_app.specs.declared.answer.Why.{Why}
 use Rattle.cov_app.specs.declared.answer.Why.TheVariants as why
 use Rattle.cov_app.specs.declared.answer.SyntaxKind.{SyntaxKind}
-use Rattle.cov_app.specs.declared.answer.SyntaxKind.TheVariants.{Unbuilt}
+use Rattle.cov_app.specs.declared.answer.SyntaxKind.TheVariants.{BadCharacter, BadIndent, OpenString, OpenBracket, WideNumber, Unbuilt}
 use Rattle.cov_app.specs.declared.answer.LimitKind.{LimitKind}
-use Rattle.cov_app.specs.declared.answer.LimitKind.TheVariants.{FileBytes}
+use Rattle.cov_app.specs.declared.answer.LimitKind.TheVariants.{FileBytes, Lines}
 
 -- names are the bytes of their texts
 pub data Answer : Type 0 where
@@ -82,10 +82,16 @@ raised_line None = []
 raised_line (Some e) = exception_line e
 
 abbrev pub kind_text : SyntaxKind → List ℕ
+kind_text BadCharacter = codes "BadCharacter"
+kind_text BadIndent = codes "BadIndent"
+kind_text OpenString = codes "OpenString"
+kind_text OpenBracket = codes "OpenBracket"
+kind_text WideNumber = codes "WideNumber"
 kind_text Unbuilt = codes "Unbuilt"
 
 abbrev pub limit_text : LimitKind → List ℕ
 limit_text FileBytes = codes "FileBytes"
+limit_text Lines = codes "Lines"
 
 -- what a command writes to `err`
 abbrev pub err_text : Answer → Option Raised → List ℕ

@@ -8,16 +8,17 @@ use Rattle.py_meaning.specs.Value.{Raised}
 use Rattle.py_meaning.specs.State.{Res, done, cut, end_of, Out, normal, raised}
 use Rattle.py_meaning.specs.Meaning.{meaning}
 use Rattle.py_meaning.specs.Arcs.{Arc, arcs_of, in_order}
-use Rattle.cov_app.specs.Spelling.{SpellsBuilt}
-use Rattle.cov_app.specs.Spelling.Lines.{HasLines}
+use Rattle.py_token.specs.declared.error.TokenError.{TokenError}
+use Rattle.py_token.specs.declared.error.TokenError.TheVariants as token_error
 use Rattle.cov_app.specs.declared.answer.Why.{Why}
 use Rattle.cov_app.specs.declared.answer.Why.TheVariants as why
 use Rattle.cov_app.specs.declared.answer.Told.{Told}
 use Rattle.cov_app.specs.declared.answer.Told.TheVariants as told_variants
-use Rattle.cov_app.specs.declared.answer.SyntaxKind.TheVariants.{Unbuilt}
-use Rattle.cov_app.specs.declared.answer.LimitKind.TheVariants.{FileBytes}
+use Rattle.cov_app.specs.declared.answer.SyntaxKind.TheVariants.{BadCharacter, BadIndent, OpenString, OpenBracket, WideNumber, Unbuilt}
+use Rattle.cov_app.specs.declared.answer.LimitKind.TheVariants.{FileBytes, Lines}
 use Rattle.cov_app.specs.Command.{command}
-use Rattle.cov_app.specs.Answer.{Answer, program, budget, usage, no_such_file, syntax, limit, answer_of, err_text}
+use Rattle.cov_app.specs.Answer.{Answer, program, budget, usage, no_such_file, syntax, limit, no_memory, answer_of, err_text}
+use Rattle.cov_app.specs.Reading.{Reading, no_text, long, stuck, unbuilt, tree, unread, Reads}
 
 -- ---- the run
 
@@ -63,31 +64,39 @@ abbrev pub shown_by : List ℕ → Res Out → List ℕ
 shown_by path r = printed_by r ++ arc_lines path (in_order (arcs_of r))
 
 abbrev pub run_of : List ℕ → Stmts → Stepped
-run_of path tree =
-    let r = meaning tree budget_of_runs in
+run_of path t =
+    let r = meaning t budget_of_runs in
     record { answer = ended_by r; raised_by = exception_of r; out = shown_by path r }
 
 -- ---- the command
 
--- a source was read, as a tree that spells it, or it wasn't
-abbrev pub Reads : List ℕ → Option Stmts → Type 0
-Reads bytes None = Unit {0}
-Reads bytes (Some tree) = SpellsBuilt bytes tree × HasLines tree
+-- the answer to a text that no tokens spell
+abbrev pub stuck_answer : List ℕ → TokenError → Answer
+stuck_answer path (token_error.BadCharacter line) = syntax path line BadCharacter
+stuck_answer path (token_error.BadIndent line) = syntax path line BadIndent
+stuck_answer path (token_error.OpenString line) = syntax path line OpenString
+stuck_answer path (token_error.OpenBracket line) = syntax path line OpenBracket
+stuck_answer path (token_error.WideNumber line) = syntax path line WideNumber
+stuck_answer path token_error.NoMemory = no_memory
 
-abbrev pub of_tree : List ℕ → Option Stmts → Stepped
-of_tree path None = refusal (syntax path 1 Unbuilt)
-of_tree path (Some tree) = run_of path tree
+abbrev pub of_reading : List ℕ → Reading → Stepped
+of_reading path (no_text line) = refusal (syntax path line BadCharacter)
+of_reading path (long lines) = refusal (limit Lines lines)
+of_reading path (stuck error) = refusal (stuck_answer path error)
+of_reading path unbuilt = refusal (syntax path 1 Unbuilt)
+of_reading path (tree t) = run_of path t
+of_reading path unread = refusal no_memory
 
-abbrev pub of_file : List ℕ → Option (List ℕ) → Option Stmts → Stepped
+abbrev pub of_file : List ℕ → Option (List ℕ) → Reading → Stepped
 of_file path None reading = refusal (no_such_file path)
-of_file path (Some bytes) reading = if nat_lt most_bytes (length bytes) then refusal (limit FileBytes 1048577) else of_tree path reading
+of_file path (Some bytes) reading = if nat_lt most_bytes (length bytes) then refusal (limit FileBytes 1048577) else of_reading path reading
 
-abbrev pub of_command : Result (List ℕ) ℕ → Files → Option Stmts → Stepped
+abbrev pub of_command : Result (List ℕ) ℕ → Files → Reading → Stepped
 of_command (Err i) files reading = refusal (usage i)
 of_command (Ok path) files reading = of_file path (files path) reading
 
 -- the step of the words over the files, where the script was read so
-abbrev pub step : List (List ℕ) → Files → Option Stmts → Stepped
+abbrev pub step : List (List ℕ) → Files → Reading → Stepped
 step words files reading = of_command (command words) files reading
 
 -- a fault cuts the bytes for `out` short; any other answer is the step's
@@ -99,7 +108,7 @@ Meets s w e tells before after = (answer_of w ≡ s.answer) × (e ≡ s.raised_b
 
 -- the answer is that of the step, and `out` gained its bytes
 pub record Answers (words : List (List ℕ)) (files : Files) (w : Why) (e : Option Raised) (tells : Type 0) (before after : List ℕ) : Type 0 where
-  pub reading : Option Stmts
+  pub reading : Reading
   pub read : (path bytes : List ℕ) → command words ≡ Ok path → files path ≡ Some bytes → Reads bytes reading
   pub met : Meets (step words files reading) w e tells before after
 
@@ -117,14 +126,14 @@ pub record TakesStep (words : List (List ℕ)) (shelf_tells : Type 0) (files : F
 
 -- the part of a script, and that of its bytes
 pub record AnswersScript (path : List ℕ) (files : Files) (w : Why) (e : Option Raised) (tells : Type 0) (before after : List ℕ) : Type 0 where
-  pub reading : Option Stmts
+  pub reading : Reading
   pub read : (bytes : List ℕ) → files path ≡ Some bytes → Reads bytes reading
   pub met : Meets (of_file path (files path) reading) w e tells before after
 
 pub record AnswersSource (path bytes : List ℕ) (w : Why) (e : Option Raised) (tells : Type 0) (before after : List ℕ) : Type 0 where
-  pub reading : Option Stmts
+  pub reading : Reading
   pub read : Reads bytes reading
-  pub met : Meets (of_tree path reading) w e tells before after
+  pub met : Meets (of_reading path reading) w e tells before after
 
 -- the answer, where memory sufficed
 abbrev pub OrNoMemory : Why → Answer → Type 0

@@ -1,5 +1,5 @@
 -- How the walk over a tree stands to the meaning.
-use Rattle.std.specs.Prelude.{◌≡◌, ℕ, zero, suc, ◌≤◌, Bool, true, false, List, ◌++◌, Option, Some, None, Result, Ok, Err, ℤ, String}
+use Rattle.std.specs.Prelude.{◌≡◌, ℕ, Bool, true, false, List, ◌++◌, Option, Some, None, Result, Ok, Err, ℤ, String}
 use Rattle.std.specs.Global.{Global}
 use Rattle.std.specs.Str.{IsUtf8, chars}
 use Rattle.std.specs.String.{string_bytes}
@@ -7,7 +7,7 @@ use Rattle.std.specs.BTreeMap.{BTreeMap, get_by_text}
 use Rattle.cov_outside.specs.Prefixes.{GainsPrefix}
 use Rattle.py_meaning.specs.Value as V
 use Rattle.py_meaning.specs.Value.{Vars, look, Ans, gives, raises, eval, holds, chain_of}
-use Rattle.py_meaning.specs.State.{Act, marked, marked_again, State, Res, done, cut, end_of, M, add, put, store, give, stop, Out, normal, raised}
+use Rattle.py_meaning.specs.State.{Act, marked, marked_again, State, end_of, M, add, put, store, give, stop, Out, normal, raised}
 use Rattle.py_meaning.specs.Arcs.{kept, arcs, in_order}
 use Rattle.py_syntax.specs.Tree.{Expr, Links}
 use Rattle.cov_app.specs.declared.walk.Raised.{Raised}

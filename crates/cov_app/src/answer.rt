@@ -33,7 +33,7 @@ pub enum Why {
     NoSuchFile(String),
     /// The file can't be read as a program from this line on, counted from 1.
     Syntax(String, u32, SyntaxKind),
-    /// A count passes its limit: the least count that does.
+    /// A count passes its limit: the count that was met for lines, and else the limit and one more.
     Limit(LimitKind, u64),
     /// Writing to `out` failed.
     WriteFault,
@@ -45,6 +45,16 @@ pub enum Why {
 /// What is wrong with a source.
 #[derive(Clone, Copy, Debug, PartialEq, Eq)]
 pub enum SyntaxKind {
+    /// A byte or character that can't stand here, a bad escape or a malformed number.
+    BadCharacter,
+    /// The indentation of the line fits none of those that are open.
+    BadIndent,
+    /// The string that begins on the line has no end.
+    OpenString,
+    /// The bracket on the line is the last one that was opened and not closed.
+    OpenBracket,
+    /// A number above 9223372036854775807.
+    WideNumber,
     /// It uses a form of the language that isn't built yet.
     Unbuilt,
 }
@@ -54,4 +64,6 @@ pub enum SyntaxKind {
 pub enum LimitKind {
     /// The bytes of one file: at most 1,048,576.
     FileBytes,
+    /// The lines of one source: at most 65,535. The count is that of all its lines.
+    Lines,
 }

@@ -70,6 +70,11 @@ fn kind_text(kind: SyntaxKind) -> &'static str
     ensures { result.now ≡ kind_text kind }
 {
     match kind {
+        SyntaxKind::BadCharacter => "BadCharacter",
+        SyntaxKind::BadIndent => "BadIndent",
+        SyntaxKind::OpenString => "OpenString",
+        SyntaxKind::OpenBracket => "OpenBracket",
+        SyntaxKind::WideNumber => "WideNumber",
         SyntaxKind::Unbuilt => "Unbuilt",
     }
 }
@@ -79,6 +84,7 @@ fn limit_text(kind: LimitKind) -> &'static str
 {
     match kind {
         LimitKind::FileBytes => "FileBytes",
+        LimitKind::Lines => "Lines",
     }
 }
 

@@ -1,19 +1,21 @@
 // The top call: one command over a shelf, an input and two sinks.
-ghost use Rattle.std.specs.Prelude.{◌≡◌, ◌≢◌, ◌↔◌, ℕ, Err, map};
+ghost use Rattle.std.specs.Prelude.{◌≡◌, ◌≢◌, ◌≤◌, ◌↔◌, ℕ, Err, length, map};
 ghost use Rattle.std.specs.String.{string_bytes};
 ghost use Rattle.cov_outside.specs.Counts.{Rose};
 ghost use Rattle.cov_app.specs.Command.{command};
 ghost use Rattle.cov_app.specs.Answer.{answer_of, status_of, usage, no_such_file, syntax};
+ghost use Rattle.cov_app.specs.Reading.{reading_of};
 ghost use Rattle.cov_app.specs.Runs.{plain_raised, answer_left, raised_left};
-ghost use Rattle.cov_app.specs.Step.{Answers, AnswersScript, AnswersSource, OrNoMemory, TakesStep};
+ghost use Rattle.cov_app.specs.Step.{Answers, AnswersScript, AnswersSource, OrNoMemory, TakesStep, of_reading, stuck_answer};
 
 use crate::answer::{End, LimitKind, SyntaxKind, Told, Why};
 use crate::command::read_words;
 use crate::err_text::tell;
-use crate::front;
+use crate::front::{self, SourceError};
 use crate::script::{BUDGET, run};
 use crate::walk::{Left, Raised, RunFault};
 use cov_outside::{Shelf, ShelfError, Sink, Source};
+use py_token::TokenError;
 use std::alloc::Global;
 
 /// The most bytes of a file.
@@ -99,6 +101,7 @@ fn run_source<O: Sink>(
     bytes: &[u8],
     out: &mut O,
 ) -> (Why, Option<Raised>)
+    requires { length bytes.now ≤ 1048576 }
     ensures answers { AnswersSource script.now bytes.now result.0 (plain_raised result.1) O.tells (O.contents out.old) (O.contents out.new) }
     ensures no_usage { (i : ℕ) → answer_of result.0 ≢ usage i }
     ensures write_fault { result.0 ≡ Why.WriteFault → Rose (O.faults out.old) (O.faults out.new) }
@@ -110,8 +113,7 @@ fn run_source<O: Sink>(
             Err(RunFault::WriteFault) => (Why::WriteFault, None),
             Err(RunFault::NoMemory) => (Why::NoMemory, None),
         },
-        Err(front::ReadError::Unbuilt) => (unbuilt(alloc, script), None),
-        Err(front::ReadError::NoMemory) => (Why::NoMemory, None),
+        Err(error) => (refused(alloc, script, &error), None),
     }
 }
 
@@ -135,11 +137,38 @@ fn no_such_file(alloc: Global, script: &str) -> Why
     }
 }
 
-fn unbuilt(alloc: Global, script: &str) -> Why
-    ensures { OrNoMemory result (syntax script.now 1 SyntaxKind.Unbuilt) }
+/// The answer to a source that was not read.
+fn refused(alloc: Global, script: &str, error: &SourceError) -> Why
+    ensures { OrNoMemory result (of_reading script.now (reading_of error.now)).answer }
+{
+    match error {
+        SourceError::NoText(line) => syntax(alloc, script, *line, SyntaxKind::BadCharacter),
+        SourceError::Long(lines) => Why::Limit(LimitKind::Lines, *lines as u64),
+        SourceError::Tokens(error) => stuck(alloc, script, error),
+        SourceError::Unbuilt => syntax(alloc, script, 1, SyntaxKind::Unbuilt),
+        SourceError::NoMemory => Why::NoMemory,
+    }
+}
+
+/// The answer to a text that no tokens spell.
+fn stuck(alloc: Global, script: &str, error: &TokenError) -> Why
+    ensures { OrNoMemory result (stuck_answer script.now error.now) }
+{
+    match error {
+        TokenError::BadCharacter(line) => syntax(alloc, script, *line, SyntaxKind::BadCharacter),
+        TokenError::BadIndent(line) => syntax(alloc, script, *line, SyntaxKind::BadIndent),
+        TokenError::OpenString(line) => syntax(alloc, script, *line, SyntaxKind::OpenString),
+        TokenError::OpenBracket(line) => syntax(alloc, script, *line, SyntaxKind::OpenBracket),
+        TokenError::WideNumber(line) => syntax(alloc, script, *line, SyntaxKind::WideNumber),
+        TokenError::NoMemory => Why::NoMemory,
+    }
+}
+
+fn syntax(alloc: Global, script: &str, line: u32, kind: SyntaxKind) -> Why
+    ensures { OrNoMemory result (syntax script.now line kind) }
 {
     match String::from_str(alloc, script) {
-        Ok(file) => Why::Syntax(file, 1, SyntaxKind::Unbuilt),
+        Ok(file) => Why::Syntax(file, line, kind),
         Err(_) => Why::NoMemory,
     }
 }

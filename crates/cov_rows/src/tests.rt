@@ -215,28 +215,68 @@ fn rows(rt: HostRuntime) -> Result<(), Fail> {
     Ok(())
 }
 
+/// The status of `arcs s.py` and the bytes for `err`, where the file holds these bytes.
+fn refusal(alloc: Global, source: Vec<u8>) -> Result<(u8, Vec<u8>), AllocError> {
+    let mut words = Vec::new(alloc);
+    words.push(String::from_str(alloc, "arcs")?)?;
+    words.push(String::from_str(alloc, "s.py")?)?;
+    let mut files = Vec::new(alloc);
+    files.push((String::from_str(alloc, "s.py")?, source))?;
+    let mut shelf = MemShelf::new(alloc, files, Vec::new(alloc));
+    let mut input = MemSource::new(Vec::new(alloc), Vec::new(alloc));
+    let mut out = MemSink::new(alloc, Vec::new(alloc), Vec::new(alloc));
+    let mut err = MemSink::new(alloc, Vec::new(alloc), Vec::new(alloc));
+    let end = coverage(alloc, &words, &mut shelf, &mut input, &mut out, &mut err);
+    Ok((end.status, err.into_bytes()))
+}
+
 #[test]
-fn files_have_a_limit(rt: HostRuntime) -> Result<(), Fail> {
+fn refused_sources(rt: HostRuntime) -> Result<(), Fail> {
     let alloc = rt.alloc();
-    for (size, status, text) in [
-        (1_048_576, 1, "coverage: s.py:1: Unbuilt\n"),
-        (1_048_577, 1, "coverage: limit FileBytes passed: 1048577\n"),
+    for (title, source, line, kind) in [
+        ("Indentation", "if 1:\n    x = 1\n  y = 2\n", 3, "BadIndent"),
+        ("Open bracket", "x = (1", 1, "OpenBracket"),
+        ("Open string", "x = \"a", 1, "OpenString"),
+        ("A fraction", "x = 1.5\n", 1, "BadCharacter"),
+        ("A wide number", "x = 9223372036854775808\n", 1, "WideNumber"),
+        ("A conversion in a field", "x = 1\ny = f\"{x!r}\"\n", 2, "BadCharacter"),
+        ("A field without an end", "f\"{x\"", 1, "BadCharacter"),
+        ("A brace alone", "f\"}\"", 1, "BadCharacter"),
+        ("Open f-string", "f\"{x", 1, "OpenString"),
+        ("A character of no rule", "x = 1\n\nx = ?\n", 3, "BadCharacter"),
     ] {
-        let mut words = Vec::new(alloc);
-        words.push(String::from_str(alloc, "arcs")?)?;
-        words.push(String::from_str(alloc, "s.py")?)?;
-        let mut files = Vec::new(alloc);
-        files.push((
-            String::from_str(alloc, "s.py")?,
-            vec![in alloc; b'#'; size]?,
-        ))?;
-        let mut shelf = MemShelf::new(alloc, files, Vec::new(alloc));
-        let mut input = MemSource::new(Vec::new(alloc), Vec::new(alloc));
-        let mut out = MemSink::new(alloc, Vec::new(alloc), Vec::new(alloc));
-        let mut err = MemSink::new(alloc, Vec::new(alloc), Vec::new(alloc));
-        let end = coverage(alloc, &words, &mut shelf, &mut input, &mut out, &mut err);
-        assert_eq!(rt; end.status, status);
-        assert_eq!(rt; err.into_bytes().as_slice(), text.as_bytes());
+        let (status, text) = refusal(alloc, Vec::from_slice(alloc, source.as_bytes())?)?;
+        let wanted = format!(in alloc; "coverage: s.py:{line}: {kind}\n")?;
+        assert_eq!(rt; status, 1, "{title}");
+        assert_eq!(rt; text.as_slice(), wanted.as_bytes(), "{title}");
+    }
+    let (_, text) = refusal(alloc, Vec::from_slice(alloc, &[0x78, 0x0a, 0xff])?)?;
+    assert_eq!(rt; text.as_slice(), b"coverage: s.py:2: BadCharacter\n".as_slice());
+    Ok(())
+}
+
+#[test]
+fn files_and_lines_have_limits(rt: HostRuntime) -> Result<(), Fail> {
+    let alloc = rt.alloc();
+    for (byte, count, status, text) in [
+        (b'#', 1_048_576, 0, ""),
+        (
+            b'#',
+            1_048_577,
+            1,
+            "coverage: limit FileBytes passed: 1048577\n",
+        ),
+        (b'\n', 65_535, 0, ""),
+        (
+            b'\n',
+            65_536,
+            1,
+            "coverage: limit Lines passed: 65536\n",
+        ),
+    ] {
+        let (ended, told) = refusal(alloc, vec![in alloc; byte; count]?)?;
+        assert_eq!(rt; ended, status);
+        assert_eq!(rt; told.as_slice(), text.as_bytes());
     }
     Ok(())
 }

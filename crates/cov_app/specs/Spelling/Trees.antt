@@ -7,12 +7,12 @@ use Rattle.py_syntax.specs.declared.expr.Comparison.{Comparison}
 use Rattle.py_syntax.specs.declared.expr.Comparison.TheVariants.{Op}
 use Rattle.py_syntax.specs.declared.stmt.LineEnd.{LineEnd}
 use Rattle.py_syntax.specs.Tree.{Expr, name, int, binary, compare, call, Exprs, no_exprs, exprs, Links, no_links, link, Stmts, no_stmts, stmt, Suite, suite, OptSuite, no_suite, has_suite, Arms, no_arms, arm, StmtKind, expr, assign, if', while}
-use Rattle.cov_app.specs.declared.front.token.Keyword.TheVariants.{If, Else, While}
-use Rattle.cov_app.specs.declared.front.token.Mark.{Mark}
-use Rattle.cov_app.specs.declared.front.token.Mark.TheVariants.{Assign, Equal, Less, Greater, Plus, Minus, Open, Close, Colon}
+use Rattle.py_token.specs.declared.token.Keyword.TheVariants.{If, Else, While}
+use Rattle.py_token.specs.declared.token.Mark.{Mark}
+use Rattle.py_token.specs.declared.token.Mark.TheVariants.{Equal, EqualEqual, Less, Greater, Plus, Minus, LeftParen, RightParen, Colon}
 use Rattle.cov_app.specs.declared.front.token.Kind.TheVariants.{Name, Number, Word, Sign, Newline, Indent, Dedent}
 use Rattle.cov_app.specs.declared.front.token.Token.{Token}
-use Rattle.cov_app.specs.Spelling.Layout.{token}
+use Rattle.cov_app.specs.Spelling.Tokens.{token}
 
 -- ---- which trees are built
 
@@ -117,7 +117,7 @@ operator op = Plus
 abbrev pub relation : Comparison → Mark
 relation (Op comparisons.Lt) = Less
 relation (Op comparisons.Gt) = Greater
-relation op = Equal
+relation op = EqualEqual
 
 -- The tokens of an expression on one line, and then others.
 abbrev mutual
@@ -126,7 +126,7 @@ abbrev mutual
   expr_tokens (int n) line rest = token (Number n) line ∷ rest
   expr_tokens (binary op a b) line rest = expr_tokens a line (token (Sign (operator op)) line ∷ expr_tokens b line rest)
   expr_tokens (compare a links) line rest = expr_tokens a line (links_tokens links line rest)
-  expr_tokens (call f args comma) line rest = expr_tokens f line (token (Sign Open) line ∷ exprs_tokens args line (token (Sign Close) line ∷ rest))
+  expr_tokens (call f args comma) line rest = expr_tokens f line (token (Sign LeftParen) line ∷ exprs_tokens args line (token (Sign RightParen) line ∷ rest))
   expr_tokens e line rest = rest
 
   pub links_tokens : Links → ℕ → List Token → List Token
@@ -155,7 +155,7 @@ abbrev mutual
 
   pub kind_tokens : ℕ → ℕ → StmtKind → List Token → List Token
   kind_tokens first last (expr e) rest = expr_tokens e first (token Newline last ∷ rest)
-  kind_tokens first last (assign targets value) rest = exprs_tokens targets first (token (Sign Assign) first ∷ expr_tokens value first (token Newline last ∷ rest))
+  kind_tokens first last (assign targets value) rest = exprs_tokens targets first (token (Sign Equal) first ∷ expr_tokens value first (token Newline last ∷ rest))
   kind_tokens first last (if' arms orelse) rest = token (Word If) first ∷ arms_tokens first arms (line_behind orelse last) (else_tokens orelse last rest)
   kind_tokens first last (while test body orelse) rest = token (Word While) first ∷ expr_tokens test first (suite_tokens body last rest)
   kind_tokens first last kind rest = rest

@@ -2,7 +2,7 @@
 
 ghost use Rattle.std.specs.Prelude.{◌≡◌, ◌<◌, ◌≤◌, ◌∷◌, [], length, IfOk, Some, None};
 ghost use Rattle.std.specs.Bool.{OnTrue};
-ghost use Rattle.cov_app.specs.Spelling.Layout.{token};
+ghost use Rattle.cov_app.specs.Spelling.Tokens.{token};
 ghost use Rattle.cov_app.specs.Spelling.Trees.{IsBuilt, IsBlock, IsSome, no_end, first_line, stmts_tokens, suite_tokens};
 ghost use Rattle.cov_app.specs.Spelling.Views.{one};
 ghost use Rattle.py_syntax.specs.Tree.{stmt, if', while, arm, no_arms, no_suite, no_stmts};
@@ -11,8 +11,9 @@ ghost use Rattle.py_syntax.specs.View.{plain_expr, plain_stmts, plain_suite, pla
 use super::ReadError;
 use super::expression::{after_sign, test};
 use super::statement::{after_dedent, after_indent, after_newline, behind_word, simple};
-use super::token::{Keyword, Kind, Mark, Token};
+use super::token::{Kind, Token};
 use py_syntax::{Arm, Expr, LineEnd, Stmt, StmtKind, Suite};
+use py_token::{Keyword, Mark};
 use std::alloc::{AllocError, Global};
 
 fn while_statement(first: u32, last: u32, test: Expr, body: Suite) -> Stmt

@@ -1,14 +1,15 @@
 //! Reads expressions: sums, tests and calls of `print`.
 
 ghost use Rattle.std.specs.Prelude.{◌≡◌, ◌≢◌, ◌<◌, ◌≤◌, ◌+◌, ◌↔◌, ◌∷◌, length, IfOk, IfSome, IsTrue, codes, false};
-ghost use Rattle.cov_app.specs.Spelling.Layout.{token};
+ghost use Rattle.cov_app.specs.Spelling.Tokens.{token};
 ghost use Rattle.cov_app.specs.Spelling.Trees.{IsItem, IsAdditive, IsSum, IsRelation, IsTest, IsPrint, operator, relation, expr_tokens};
 ghost use Rattle.py_syntax.specs.Tree.{compare, call, link, no_links, exprs, no_exprs};
 ghost use Rattle.py_syntax.specs.View.{plain_expr};
 
 use super::ReadError;
-use super::token::{Keyword, Kind, Mark, Token};
+use super::token::{Kind, Token};
 use py_syntax::{Comparison, Expr, Link};
+use py_token::{Keyword, Mark};
 use py_value::{BinOp, CmpOp, Text};
 use std::alloc::{AllocError, Global};
 
@@ -114,7 +115,7 @@ fn relation(tokens: &[Token], line: u32) -> Option<(Comparison, &[Token])>
     ensures tokens { IfSome result (λ r. tokens.now ≡ token (Kind.Sign (relation r.0)) line ∷ r.1.now) }
     ensures forms { IfSome result (λ r. IsRelation r.0) }
 {
-    if let Some(rest) = behind_sign(tokens, line, Mark::Equal) {
+    if let Some(rest) = behind_sign(tokens, line, Mark::EqualEqual) {
         return Some((Comparison::Op(CmpOp::Eq), rest));
     }
     if let Some(rest) = behind_sign(tokens, line, Mark::Less) {
@@ -179,12 +180,12 @@ pub(super) fn print<'a>(
     ensures forms { IfOk result (λ r. IsPrint (plain_expr r.0)) }
     ensures shorter { IfOk result (λ r. length r.1.now < length tokens.now) }
 {
-    let opened = after_sign(tokens, line, Mark::Open)?;
+    let opened = after_sign(tokens, line, Mark::LeftParen)?;
     let arg = sum(alloc, opened, line)?;
     if arg.height >= MAX_HEIGHT {
         return Err(ReadError::Unbuilt);
     }
-    let rest = after_sign(arg.rest, line, Mark::Close)?;
+    let rest = after_sign(arg.rest, line, Mark::RightParen)?;
     let callee = Expr::Name(name.copy()?);
     Ok((call(alloc, callee, arg.tree)?, rest))
 }

@@ -2,7 +2,7 @@
 
 ghost use Rattle.std.specs.Prelude.{◌≡◌, ◌<◌, ◌≤◌, ◌∷◌, [], length, IfOk, IfSome};
 ghost use Rattle.std.specs.Bool.{OnTrue};
-ghost use Rattle.cov_app.specs.Spelling.Layout.{token};
+ghost use Rattle.cov_app.specs.Spelling.Tokens.{token};
 ghost use Rattle.cov_app.specs.Spelling.Trees.{IsBuilt, IsBlock, IsSome, IsTest, line_end, no_end, expr_tokens, first_line, stmts_tokens, suite_tokens};
 ghost use Rattle.cov_app.specs.Spelling.Views.{one};
 ghost use Rattle.py_syntax.specs.Tree.{stmt, expr, if', while, assign, exprs, no_exprs, name, arm, no_arms, no_suite, no_stmts};
@@ -10,8 +10,9 @@ ghost use Rattle.py_syntax.specs.View.{plain_expr, plain_stmts, plain_suite, pla
 
 use super::ReadError;
 use super::expression::{after_sign, is_print, print, sum, test};
-use super::token::{Keyword, Kind, Mark, Token};
+use super::token::{Kind, Token};
 use py_syntax::{Expr, LineEnd, Stmt, StmtKind};
+use py_token::{Keyword, Mark};
 use py_value::Text;
 use std::alloc::{AllocError, Global};
 
@@ -126,7 +127,7 @@ pub(super) fn simple(alloc: Global, tokens: &[Token]) -> Result<(Stmt, &[Token])
         let rest = after_newline(rest, line)?;
         return Ok((print_statement(line, call), rest));
     }
-    let rest = after_sign(rest, line, Mark::Assign)?;
+    let rest = after_sign(rest, line, Mark::Equal)?;
     let value = sum(alloc, rest, line)?;
     let rest = after_newline(value.rest, line)?;
     Ok((assignment(alloc, line, name.copy()?, value.tree)?, rest))

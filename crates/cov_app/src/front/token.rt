@@ -1,28 +1,7 @@
 //! The tokens of the built forms.
 
+use py_token::{Keyword, Mark};
 use py_value::Text;
-
-/// A keyword of a built form.
-#[derive(Clone, Copy, Debug, PartialEq, Eq)]
-pub enum Keyword {
-    If,
-    Else,
-    While,
-}
-
-/// An operator or a delimiter.
-#[derive(Clone, Copy, Debug, PartialEq, Eq)]
-pub enum Mark {
-    Assign,
-    Equal,
-    Less,
-    Greater,
-    Plus,
-    Minus,
-    Open,
-    Close,
-    Colon,
-}
 
 #[derive(Drop)]
 pub enum Kind {
@@ -36,7 +15,7 @@ pub enum Kind {
     End,
 }
 
-/// A token and the line, counted from 1, that it keeps.
+/// A token and the one line, counted from 1, that it stands on.
 #[derive(Drop)]
 pub struct Token {
     pub kind: Kind,

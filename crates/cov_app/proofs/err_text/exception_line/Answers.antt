@@ -1,4 +1,4 @@
-use Rattle.std.proofs.Common.{◌≡◌, ◌∙◌, sym, arith}
+use Rattle.std.proofs.Common.{◌∙◌, sym}
 use Rattle.cov_app.specs.Walk.{raised_of}
 use Rattle.cov_app.proofs.ErrTexts.{text-is, without-text, no-length}
 use Rattle.cov_app.proofs.err_text.exception_line.Goals as goal

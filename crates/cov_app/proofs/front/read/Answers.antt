@@ -1,17 +1,12 @@
-use Rattle.std.proofs.Common.{sym, ap, subst, ◌∙◌, Some}
-use Rattle.py_syntax.specs.View.{plain_stmts}
-use Rattle.cov_app.specs.Spelling.Lines.{OnLines}
-use Rattle.cov_app.specs.Spelling.Trees.{stmts_tokens}
-use Rattle.cov_app.proofs.SpellingLemmas.TreeLines.{stmts_lines}
+use Rattle.std.proofs.Common.{◌≤◌, arith}
+use Rattle.py_syntax.specs.View.{plain_module}
+use Rattle.py_token.specs.Source.{line_count}
+use Rattle.std.specs.Str.{chars}
+use Rattle.py_token.specs.View.{view_tokens}
+use Rattle.cov_app.proofs.SpellingLemmas.Sources.{read_tree}
 use Rattle.cov_app.proofs.front.read.Goals as goal
 
-pub returns-clause-spelled : goal.returns-clause-spelled
-returns-clause-spelled c =
-    let read = c.in_ok-body.ensures in
-    let value = sym c.deref.ensures.value ∙ read.tokens ∙ ap (stmts_tokens (plain_stmts c.in_ok-body.body.items)) c.in_ok-end.ensures in
-    record { last = c.in_ok-end.field-0; tokens = c.in_ok-tokens.ensures.spelled ∙ ap Some value; forms = read.forms }
-
-pub returns-clause-lines : goal.returns-clause-lines
-returns-clause-lines c =
-    let read = c.in_ok-body.ensures in
-    (stmts_lines (plain_stmts c.in_ok-body.body.items) c.in_ok-body.rest.now read.forms (subst OnLines (sym c.deref.ensures.value ∙ read.tokens) c.in_ok-tokens.ensures.lines)).0
+pub returns-clause-read : goal.returns-clause-read
+returns-clause-read c =
+    let few : line_count (chars c.in-Ok.text.now) ≤ 65535 = omega (arith, c.count_lines-lines.ensures, c.if-lines-gt-MAX_LINES.false) in
+    read_tree c.args.bytes.now c.in-Ok.text.now (plain_module c.in_ok-module.module) (view_tokens c.in_ok-tokens.tokens.items) c.in-Ok.ensures.0 c.in-Ok.ensures.1 few c.in_ok-tokens.ensures.spelled c.in_ok-tokens.ensures.on_lines c.in_ok-module.ensures

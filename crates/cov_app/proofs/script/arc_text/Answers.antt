@@ -1,6 +1,6 @@
-use Rattle.std.proofs.Common.{◌≡◌, ◌∙◌, sym, ap, arith, rules, ℤ, pos, w64, to_z, of_z, add-one, get_or}
+use Rattle.std.proofs.Common.{◌≡◌, ◌∙◌, arith, pos, w64, to_z, of_z, add-one, get_or}
 use Rattle.std.proofs.lemmas.Int.{to_z-of_z}
-use Rattle.cov_app.proofs.ErrTexts.{lines-on, lines-end}
+use Rattle.cov_app.proofs.ErrTexts.{lines-on}
 use Rattle.cov_app.proofs.script.arc_text.Goals as goal
 
 pub loop-arc-preserved : goal.loop-arc-preserved

@@ -1,9 +1,9 @@
-use Rattle.std.proofs.Common.{◌≡◌, ◌∙◌, sym, ap, refl}
+use Rattle.std.proofs.Common.{◌∙◌, ap, refl}
 use Rattle.py_syntax.specs.View.{plain_module}
 use Rattle.cov_app.specs.Walk.{leaves}
 use Rattle.cov_app.specs.Step.{arc_lines}
 use Rattle.cov_app.proofs.Loops.{suite-reached, suite-part}
-use Rattle.cov_app.proofs.Endings.{Begins, ran, shows, fault-in-run, fault-behind-run, fault-in-arcs}
+use Rattle.cov_app.proofs.Endings.{ran, shows, fault-in-run, fault-behind-run, fault-in-arcs}
 use Rattle.cov_app.proofs.script.run.Goals as goal
 
 pub returns-in_err-left-clause-shows : goal.returns-in_err-left-clause-shows

@@ -1,6 +1,7 @@
-use Rattle.std.proofs.Common.{◌≡◌, ap, Result, Err, Vec}
-use Rattle.cov_outside.specs.declared.shelf.ShelfError.{ShelfError}
-use Rattle.cov_app.proofs.Answering.{absent, too_large, not_read, starved_before}
+use Rattle.std.proofs.Common.{ap, subst, Err}
+use Rattle.cov_app.proofs.Answering.{absent, too_large, from_source, not_read, starved_before}
+use Rattle.cov_app.specs.Runs.{plain_raised}
+use Rattle.cov_app.specs.Step.{AnswersSource}
 use Rattle.cov_app.proofs.top_call.run_script.Goals as goal
 
 pub returns-in-Err-Absent-clause-answers : goal.returns-in-Err-Absent-clause-answers
@@ -16,3 +17,6 @@ returns-in-Err-Failed-clause-answers g c = λ t. not_read c.args.script.now _ _ 
 
 pub returns-in-Err-NoMemory-clause-answers : goal.returns-in-Err-NoMemory-clause-answers
 returns-in-Err-NoMemory-clause-answers g c = λ t. starved_before c.args.script.now _ _ _ _
+
+pub returns-in-Ok-clause-answers : goal.returns-in-Ok-clause-answers
+returns-in-Ok-clause-answers g c = λ t. from_source c.args.script.now c.in-Ok.bytes.items _ _ _ _ _ _ (c.in-Ok.ensures.found t) c.in-Ok.ensures.fits (subst (λ b. AnswersSource c.args.script.now b c.run_source.result.0 (plain_raised c.run_source.result.1) g.O.Sink.tells (g.O.Sink.contents c.args.out.now) (g.O.Sink.contents c.run_source.new.out)) c.deref.ensures.value c.run_source.ensures.answers)

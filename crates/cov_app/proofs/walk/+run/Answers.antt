@@ -1,16 +1,12 @@
-use Rattle.std.proofs.Common.{◌≡◌, sym, ap, ◌∙◌, Bool, true, false, Result, Ok, add-one, arith}
-use Rattle.cov_outside.proofs.CountLemmas.{rose_then, rose_after}
-use Rattle.py_syntax.specs.View.{plain_expr, plain_stmts, plain_opt_suite}
-use Rattle.py_meaning.specs.State.{marked}
+use Rattle.std.proofs.Common.{ap, ◌∙◌, Bool, true, false, Result, Ok, add-one, arith}
+use Rattle.py_syntax.specs.View.{plain_stmts, plain_opt_suite}
 use Rattle.py_meaning.specs.Meaning.{exec, exec_else}
-use Rattle.py_meaning.proofs.Growth.{grows-exec, grows-kind}
 use Rattle.cov_app.specs.declared.walk.Raised.{Raised}
-use Rattle.cov_app.specs.declared.walk.Left.TheVariants as left
 use Rattle.cov_app.specs.Walk.{leaves}
 use Rattle.cov_app.proofs.Nodes.{simple_kind}
-use Rattle.cov_app.proofs.Reaching.{reaches-trans, part-after, does-after}
+use Rattle.cov_app.proofs.Reaching.{reaches-trans, part-after}
 use Rattle.cov_app.proofs.Simple.{broke, does-at}
-use Rattle.cov_app.proofs.Loops.{comes-at_once, rest_of, statement, suite-goes_on, suite-left, suite-broke, suite-ends, arm-cut, arm-tested, arm-raised, arms-end, arms-begin, turns-begin, turn-held, turn-failed, turn-raised, turn-done, turn-left, turn-broke, turns-cut, whole, whole-grows, arms-grow, arms-broke, turning-grows, fault-at, item-at, broke-or, if-chosen, while-chosen, or-left, or-else, else-none, else-some, body_of, suite-reached, suite-part}
+use Rattle.cov_app.proofs.Loops.{comes-at_once, suite-goes_on, suite-left, suite-broke, suite-ends, arm-cut, arm-tested, arm-raised, arms-end, arms-begin, turns-begin, turn-held, turn-failed, turn-raised, turn-done, turn-left, turn-broke, turns-cut, arms-broke, turning-grows, item-at, broke-or, if-chosen, while-chosen, or-left, or-else, else-none, else-some, body_of, suite-reached, suite-part}
 use Rattle.cov_app.proofs.walk.+run.Goals as goal
 
 abbrev ok : Bool → Result Bool Raised

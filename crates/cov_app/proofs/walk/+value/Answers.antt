@@ -1,9 +1,5 @@
-use Rattle.std.proofs.Common.{rules, arith, ◌≡◌, refl, sym, ap, subst, ◌∙◌, ℤ, w64, to_z, of_z, Result, Ok, Err, IfOk}
+use Rattle.std.proofs.Common.{arith, ◌≡◌, w64, to_z, of_z}
 use Rattle.std.proofs.lemmas.Int.{to_z-of_z}
-use Rattle.py_syntax.specs.declared.expr.Expr.{Expr as Node}
-use Rattle.py_syntax.specs.View.{plain_expr}
-use Rattle.cov_app.specs.declared.walk.Raised.{Raised}
-use Rattle.cov_app.specs.Walk.{Values, answer_of}
 use Rattle.cov_app.proofs.Evals.{value_other, left_fails, right_fails, both_given, int_given}
 use Rattle.cov_app.proofs.walk.+value.Goals as goal
 

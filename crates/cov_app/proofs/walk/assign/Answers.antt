@@ -1,4 +1,4 @@
-use Rattle.std.proofs.Common.{◌≡◌, ◌∙◌, sym, ap, refl, arith, ℤ, w64, to_z, of_z}
+use Rattle.std.proofs.Common.{◌≡◌, sym, refl, arith, w64, to_z, of_z}
 use Rattle.std.proofs.lemmas.Int.{to_z-of_z}
 use Rattle.py_syntax.specs.View.{plain_expr}
 use Rattle.cov_app.proofs.Tests.{single}

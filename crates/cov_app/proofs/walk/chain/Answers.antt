@@ -1,4 +1,4 @@
-use Rattle.std.proofs.Common.{arith, ◌≡◌, ◌∙◌, ℤ, sym, w64, to_z, of_z, ap}
+use Rattle.std.proofs.Common.{arith, ◌≡◌, ◌∙◌, sym, w64, to_z, of_z, ap}
 use Rattle.std.proofs.lemmas.Int.{to_z-of_z}
 use Rattle.py_syntax.specs.declared.expr.Link.{Link}
 use Rattle.cov_app.proofs.Tests.{chain_other, chain_left, chain_right, chain_both, single, same_op}

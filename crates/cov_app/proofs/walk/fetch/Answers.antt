@@ -1,4 +1,4 @@
-use Rattle.std.proofs.Common.{arith, ◌≡◌, refl, sym, ap, ◌∙◌, ℤ, w64, to_z, of_z, rules}
+use Rattle.std.proofs.Common.{arith, ◌≡◌, sym, w64, to_z, of_z}
 use Rattle.std.proofs.lemmas.Int.{to_z-of_z}
 use Rattle.cov_app.proofs.Evals.{value_name, value_unset}
 use Rattle.cov_app.proofs.walk.fetch.Goals as goal

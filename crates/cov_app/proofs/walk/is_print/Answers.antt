@@ -1,4 +1,4 @@
-use Rattle.cov_app.proofs.Simple.{print_named, print_unnamed}
+use Rattle.cov_app.proofs.Simple.{print_named}
 use Rattle.cov_app.proofs.walk.is_print.Goals as goal
 
 pub returns-in-Name : goal.returns-in-Name

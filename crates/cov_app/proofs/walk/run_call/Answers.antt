@@ -1,6 +1,5 @@
-use Rattle.std.proofs.Common.{◌≡◌, ◌∙◌, sym, ap, refl, inl, inr, arith, ℤ, w64, to_z, of_z}
+use Rattle.std.proofs.Common.{◌≡◌, sym, inl, inr, arith, w64, to_z, of_z}
 use Rattle.std.proofs.lemmas.Int.{to_z-of_z}
-use Rattle.std.proofs.lemmas.Result.{err_from_is_err_and}
 use Rattle.py_syntax.specs.View.{plain_expr, plain_exprs}
 use Rattle.py_meaning.proofs.Growth.{grows-print_call}
 use Rattle.cov_app.specs.declared.walk.Left.TheVariants as left

@@ -1,4 +1,4 @@
-use Rattle.std.proofs.Common.{refl, ◌≤◌, arith}
+use Rattle.std.proofs.Common.{arith}
 use Rattle.py_syntax.specs.View.{plain_expr}
 use Rattle.py_meaning.proofs.Growth.{grows-expression}
 use Rattle.cov_app.specs.declared.walk.Left.TheVariants as left

@@ -1,4 +1,4 @@
-use Rattle.std.proofs.Common.{◌≡◌, refl, sym, ap, ◌∙◌, arith}
+use Rattle.std.proofs.Common.{sym, ap, ◌∙◌, arith}
 use Rattle.py_syntax.specs.View.{plain_expr, plain_exprs, plain_kind}
 use Rattle.py_meaning.specs.State.{marked}
 use Rattle.py_meaning.specs.Meaning.{simple, assignment}

@@ -1,4 +1,4 @@
-use Rattle.std.proofs.Common.{arith, ◌≡◌, ℤ, w64, to_z, of_z}
+use Rattle.std.proofs.Common.{arith, ◌≡◌, w64, to_z, of_z}
 use Rattle.std.proofs.lemmas.Int.{to_z-of_z}
 use Rattle.cov_app.proofs.Tests.{test_chain, test_number, test_fails}
 use Rattle.cov_app.proofs.walk.test.Goals as goal

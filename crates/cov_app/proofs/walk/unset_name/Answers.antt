@@ -1,4 +1,4 @@
-use Rattle.std.proofs.Common.{◌≡◌, sym, ap, ◌∙◌, List, ℕ, ◌++◌, codes}
+use Rattle.std.proofs.Common.{sym, ap, ◌∙◌, List, ℕ, ◌++◌, codes}
 use Rattle.std.proofs.lemmas.Str.{encodes-chars}
 use Rattle.py_value.specs.declared.exception.ExcKind.TheVariants.{NameError}
 use Rattle.py_meaning.specs.Value.{Raised}

@@ -1,4 +1,4 @@
-use Rattle.std.proofs.Common.{arith, ◌≡◌, ◌∙◌, refl, ℤ, negsuc, w64, to_z, of_z}
+use Rattle.std.proofs.Common.{arith, ◌≡◌, ◌∙◌, refl, w64, to_z, of_z}
 use Rattle.std.proofs.lemmas.Int.{to_z-of_z}
 use Rattle.cov_app.proofs.Standing.{keyed}
 use Rattle.cov_app.proofs.walk.Walk.leave.Goals as goal

@@ -1,4 +1,4 @@
-use Rattle.std.proofs.Common.{arith, ◌≡◌, ◌⊎◌, inl, inr, sym, ap, ◌∙◌, ℤ, w64, to_z, of_z, true}
+use Rattle.std.proofs.Common.{arith, ◌≡◌, ◌⊎◌, inl, inr, ◌∙◌, w64, to_z, of_z, true}
 use Rattle.std.proofs.lemmas.Int.{to_z-of_z}
 use Rattle.cov_app.proofs.Standing.{crosses, stays, keyed}
 use Rattle.cov_app.proofs.walk.Walk.mark.Goals as goal

@@ -1,4 +1,4 @@
-use Rattle.std.proofs.Common.{arith, ◌≡◌, ap, sym, ◌∙◌, List, ℕ, ℤ, Some, w64, to_z, of_z, bytes_eq}
+use Rattle.std.proofs.Common.{arith, ◌≡◌, ap, ◌∙◌, List, ℕ, Some, w64, to_z, of_z, bytes_eq}
 use Rattle.std.proofs.lemmas.Int.{to_z-of_z}
 use Rattle.std.proofs.lemmas.Map.Text.{btree_map_updates_text}
 use Rattle.std.specs.Map.{update}
