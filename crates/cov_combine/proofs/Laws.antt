@@ -1,5 +1,5 @@
 -- Combined data don't depend on the order of the inputs, hold the same rows whatever is repeated, and may be combined in groups.
-use Rattle.std.proofs.Common.{◌≡◌, ℕ, suc, zero, ◌+◌, ◌<◌, Bool, true, false, not, cond, List, [], ◌∷◌, ◌++◌, map, length, get_or, set, Option, Some, None, is_some, refl, ap, sym, subst, ◌∙◌, arith}
+use Rattle.std.proofs.Common.{◌≡◌, ℕ, suc, zero, ◌<◌, Bool, true, false, not, cond, List, [], ◌∷◌, ◌++◌, length, get_or, set, Option, Some, None, is_some, refl, ap, sym, ◌∙◌, arith}
 use Rattle.std.specs.declared.cmp.Ordering.TheVariants.{Less, Equal, Greater}
 use Rattle.std.specs.Prelude.{◌||◌, Contains, ◌↔◌}
 use Rattle.std.specs.Bool.{beq}
@@ -7,14 +7,14 @@ use Rattle.std.specs.Ordering.{is_eq}
 use Rattle.std.specs.Option.{unwrap_or}
 use Rattle.std.specs.List.{fold, list_any, swap, AllByRecursion}
 use Rattle.std.specs.List.Sorted.{IsPermutation}
-use Rattle.std.specs.FinMap.{FinMap, get, insert, entries, get-insert, get-empty, get_tied, same_map}
+use Rattle.std.specs.FinMap.{get, entries, get-insert, get-empty, get_tied, same_map}
 use Rattle.std.proofs.lemmas.List.Sorted.{IsPermutation-keeps, list_any-IsPermutation, length_permutation}
 use Rattle.std.proofs.lemmas.List.Sums.{fold-append}
 use Rattle.std.proofs.lemmas.List.Folds.{Any-from_list_any, list_any_at}
 use Rattle.std.proofs.lemmas.List.{get_or_default}
 use Rattle.std.specs.Cmp.{both_ways}
 use Rattle.std.proofs.lemmas.List.Elements.{recursion_from_All, All-weaker}
-use Rattle.cov_data.specs.DataSet.{Text, text_cmp, Place, place_cmp, File, Files, DataSet, no_data, no_files, no_rows, joined_count, file_in, file_of, has_path, merged, add_file, with_file, all_files}
+use Rattle.cov_data.specs.DataSet.{Text, text_cmp, Place, File, Files, DataSet, no_data, no_files, no_rows, joined_count, file_in, has_path, merged, add_file, with_file, all_files}
 use Rattle.cov_data.proofs.FileViews.{text_cmp_total, text_cmp_same}
 use Rattle.cov_data.proofs.Merging.{joined, joined_file, get-merged, get-all_files, merged-none, all_files-none, none-all_files, all_files-comm, all_files-assoc}
 use Rattle.cov_data.proofs.Soundness.{file_in-none, file_in-all_files}

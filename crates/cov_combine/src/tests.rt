@@ -157,3 +157,50 @@ fn arcs_and_lines_are_not_combined(rt: HostRuntime) -> Result<(), Fail> {
     assert!(rt; refused);
     Ok(())
 }
+
+/// Arc data of 1,000 paths with 100 rows each, which come path by path in turn.
+fn large(alloc: Global, run: i32) -> Result<Data, Fail> {
+    let mut data = Data::new(alloc, true);
+    for line in 1..101 {
+        for file in 0..1_000 {
+            let row = Row {
+                path: format!(in alloc; "/home/run{}/src/file{}.py", run, file)?,
+                context: String::new(alloc),
+                from: line,
+                to: run,
+                count: 1,
+            };
+            if data.accepts(&row) {
+                data.add(row)?;
+            }
+        }
+    }
+    Ok(data)
+}
+
+/// The number of paths, of rows and of executions of two large runs of the same files as one.
+fn large_combined(alloc: Global) -> Result<(usize, usize, u64), Fail> {
+    let mut inputs = Vec::new(alloc);
+    inputs.push(large(alloc, 1)?)?;
+    inputs.push(large(alloc, 2)?)?;
+    inputs.push(large(alloc, 2)?)?;
+    let rules = rules_of(alloc, "source=src,/home/*/src")?;
+    if inputs.is_empty() {
+        return Ok((0, 0, 0));
+    }
+    let data = combine(alloc, inputs.as_slice(), &rules)
+        .ok()
+        .ok_or("one kind")?;
+    let mut executions = 0u64;
+    for row in &data.rows()? {
+        executions = executions.saturating_add(row.count as u64);
+    }
+    Ok((data.paths()?.len(), data.rows()?.len(), executions))
+}
+
+#[test]
+fn large_combinations(rt: HostRuntime) -> Result<(), Fail> {
+    let sizes = large_combined(rt.alloc())?;
+    assert_eq!(rt; sizes, (1_000, 200_000, 300_000));
+    Ok(())
+}

@@ -1,4 +1,4 @@
-use Rattle.std.proofs.Common.{◌≡◌, Bool, true, false, not, List, ◌∷◌, ◌++◌, take, ap, sym, subst, ◌∙◌}
+use Rattle.std.proofs.Common.{◌≡◌, true, false, not, List, ◌∷◌, ◌++◌, take, ap, sym, subst, ◌∙◌}
 use Rattle.std.specs.List.{fold, list_any}
 use Rattle.std.specs.Bool.{beq}
 use Rattle.std.proofs.lemmas.List.{take_all}
