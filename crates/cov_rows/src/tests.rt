@@ -238,12 +238,27 @@ fn refused_sources(rt: HostRuntime) -> Result<(), Fail> {
         ("Open bracket", "x = (1", 1, "OpenBracket"),
         ("Open string", "x = \"a", 1, "OpenString"),
         ("A fraction", "x = 1.5\n", 1, "BadCharacter"),
-        ("A wide number", "x = 9223372036854775808\n", 1, "WideNumber"),
-        ("A conversion in a field", "x = 1\ny = f\"{x!r}\"\n", 2, "BadCharacter"),
+        (
+            "A wide number",
+            "x = 9223372036854775808\n",
+            1,
+            "WideNumber",
+        ),
+        (
+            "A conversion in a field",
+            "x = 1\ny = f\"{x!r}\"\n",
+            2,
+            "BadCharacter",
+        ),
         ("A field without an end", "f\"{x\"", 1, "BadCharacter"),
         ("A brace alone", "f\"}\"", 1, "BadCharacter"),
         ("Open f-string", "f\"{x", 1, "OpenString"),
-        ("A character of no rule", "x = 1\n\nx = ?\n", 3, "BadCharacter"),
+        (
+            "A character of no rule",
+            "x = 1\n\nx = ?\n",
+            3,
+            "BadCharacter",
+        ),
     ] {
         let (status, text) = refusal(alloc, Vec::from_slice(alloc, source.as_bytes())?)?;
         let wanted = format!(in alloc; "coverage: s.py:{line}: {kind}\n")?;
@@ -251,7 +266,10 @@ fn refused_sources(rt: HostRuntime) -> Result<(), Fail> {
         assert_eq!(rt; text.as_slice(), wanted.as_bytes(), "{title}");
     }
     let (_, text) = refusal(alloc, Vec::from_slice(alloc, &[0x78, 0x0a, 0xff])?)?;
-    assert_eq!(rt; text.as_slice(), b"coverage: s.py:2: BadCharacter\n".as_slice());
+    assert_eq!(rt;
+        text.as_slice(),
+        b"coverage: s.py:2: BadCharacter\n".as_slice()
+    );
     Ok(())
 }
 
@@ -267,12 +285,7 @@ fn files_and_lines_have_limits(rt: HostRuntime) -> Result<(), Fail> {
             "coverage: limit FileBytes passed: 1048577\n",
         ),
         (b'\n', 65_535, 0, ""),
-        (
-            b'\n',
-            65_536,
-            1,
-            "coverage: limit Lines passed: 65536\n",
-        ),
+        (b'\n', 65_536, 1, "coverage: limit Lines passed: 65536\n"),
     ] {
         let (ended, told) = refusal(alloc, vec![in alloc; byte; count]?)?;
         assert_eq!(rt; ended, status);

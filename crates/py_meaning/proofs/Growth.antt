@@ -1,12 +1,12 @@
 -- What is printed stays printed.
-use Rattle.std.proofs.Common.{◌≡◌, ℕ, zero, suc, Bool, true, false, List, [], ◌∷◌, ◌++◌, refl, sym, ap, ◌∙◌, append_assoc}
+use Rattle.std.proofs.Common.{ℕ, zero, suc, Bool, true, false, List, [], ◌∷◌, ◌++◌, sym, ap, ◌∙◌, append_assoc}
 use Rattle.std.proofs.lemmas.List.{append-nil}
 use Rattle.std.specs.Prelude.{if◌then◌else◌, ℤ}
 use Rattle.std.specs.Fmt.{signed_decimal}
 use Rattle.cov_outside.specs.Prefixes.{IsPrefix}
 use Rattle.py_syntax.specs.Tree.{Text, Expr, name, call, Exprs, no_exprs, exprs, Stmts, no_stmts, stmt, Suite, suite, OptSuite, no_suite, has_suite, Arms, no_arms, arm, StmtKind, expr, assign, if', while}
 use Rattle.py_meaning.specs.Value.{Raised, Ans, gives, raises, eval, holds, unbuilt}
-use Rattle.py_meaning.specs.State.{Act, marked, marked_again, thrown, World, State, Res, done, cut, end_of, M, bind, add, put, give, chain, step, tick, note, read, write, within, stop, Out, normal, raised, next, using, store, print}
+use Rattle.py_meaning.specs.State.{Act, marked, marked_again, thrown, World, State, Res, done, cut, end_of, M, bind, add, put, give, chain, step, note, read, write, within, stop, Out, normal, raised, next, using, store, print}
 use Rattle.py_meaning.specs.Meaning.{with_value, with_test, turns, refused, print_arguments, names_print, print_call, expression, assignment, simple, exec, exec_else, exec_arms, exec_while, exec_kind}
 
 pub prefix-refl : {A : Type 0} (xs : List A) → IsPrefix xs xs

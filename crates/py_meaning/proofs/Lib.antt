@@ -1,2 +1,15 @@
 pub mod Rows
 pub mod Growth
+pub mod Before
+pub mod Budget
+pub mod ExpressionLaws
+pub mod StatementLaws
+pub mod ProgramLaws
+pub mod Sources
+pub mod RunRows
+pub mod ExceptionRows
+pub mod MatchRows
+pub mod ValueRows
+pub mod DefaultRows
+pub mod ModuleRows
+pub mod LoopRows

@@ -1,9 +1,9 @@
 -- Lines and arcs of an activation.
-use Rattle.std.specs.Prelude.{ℕ, zero, suc, Bool, true, false, if◌then◌else◌, ◌==◌, List, [], ◌∷◌, ◌++◌, ℤ, pos, negsuc}
+use Rattle.std.specs.Prelude.{ℕ, zero, suc, if◌then◌else◌, ◌==◌, List, [], ◌∷◌, ◌++◌, ℤ, pos, negsuc}
 use Rattle.std.specs.declared.cmp.Ordering.{Ordering}
 use Rattle.std.specs.Ordering.{int_cmp, ordering_then}
 use Rattle.std.specs.BTreeSet.{insert_key}
-use Rattle.py_meaning.specs.State.{Act, marked, marked_again, thrown, Acts, no_acts, more, State, Res, done, cut, Out}
+use Rattle.py_meaning.specs.State.{marked, marked_again, thrown, Acts, no_acts, more, Res, done, cut, Out}
 
 -- a pair of neighbouring lines, where -1 stands for the outside of a module
 abbrev pub Arc : Type 0

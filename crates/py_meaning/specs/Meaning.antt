@@ -1,8 +1,8 @@
 -- What a module does within a budget of steps (Python Language Reference, "Simple statements", "Compound statements").
-use Rattle.std.specs.Prelude.{ℕ, zero, suc, Bool, true, false, if◌then◌else◌, List, [], ◌∷◌, ℤ, bytes_eq, codes}
-use Rattle.py_syntax.specs.Tree.{Text, Expr, name, call, Exprs, no_exprs, exprs, Stmts, no_stmts, stmt, Suite, suite, OptSuite, no_suite, has_suite, Arms, no_arms, arm, StmtKind, expr, assign, if', while}
-use Rattle.py_meaning.specs.Value.{Raised, Ans, gives, raises, Vars, eval, holds, unbuilt}
-use Rattle.py_meaning.specs.State.{Act, marked, marked_again, thrown, Acts, no_acts, more, World, State, Res, done, cut, M, give, chain, step, tick, note, read, write, within, stop, Out, normal, raised, next, using, store, print}
+use Rattle.std.specs.Prelude.{ℕ, zero, suc, Bool, false, if◌then◌else◌, [], ℤ, bytes_eq, codes}
+use Rattle.py_syntax.specs.Tree.{Expr, name, call, Exprs, no_exprs, exprs, Stmts, no_stmts, stmt, Suite, suite, OptSuite, no_suite, has_suite, Arms, no_arms, arm, StmtKind, expr, assign, if', while}
+use Rattle.py_meaning.specs.Value.{eval, holds, unbuilt}
+use Rattle.py_meaning.specs.State.{Act, marked, marked_again, thrown, no_acts, State, Res, M, give, chain, step, tick, note, read, write, within, stop, Out, normal, raised, next, using, store, print}
 
 -- the value of an expression goes on; an exception is thrown at the last mark
 unfoldable pub with_value : Expr → (ℤ → M Out) → M Out

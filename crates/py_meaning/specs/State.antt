@@ -1,5 +1,5 @@
 -- States, and how computations over them are put together.
-use Rattle.std.specs.Prelude.{ℕ, zero, suc, ◌+◌, Bool, List, [], ◌∷◌, ◌++◌, ℤ}
+use Rattle.std.specs.Prelude.{ℕ, zero, suc, List, [], ◌∷◌, ◌++◌, ℤ}
 use Rattle.std.specs.Fmt.{signed_decimal}
 use Rattle.py_syntax.specs.Tree.{Text}
 use Rattle.py_value.specs.declared.exception.ExcKind.{ExcKind}

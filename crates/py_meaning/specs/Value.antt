@@ -1,5 +1,5 @@
 -- Values, and what an expression gives (Python Language Reference, "Expressions"): whole numbers of 64 bits.
-use Rattle.std.specs.Prelude.{ℕ, ◌+◌, ◌^◌, Bool, true, false, not, if◌then◌else◌, List, [], ◌∷◌, ◌++◌, Option, Some, None, ℤ, pos, negsuc, ◌+ℤ◌, ◌-ℤ◌, nat_lt, nat_eq, bytes_eq, codes, encode_utf8_all}
+use Rattle.std.specs.Prelude.{ℕ, ◌^◌, Bool, true, not, if◌then◌else◌, List, [], ◌∷◌, ◌++◌, Option, Some, None, ℤ, pos, negsuc, ◌+ℤ◌, ◌-ℤ◌, nat_lt, nat_eq, bytes_eq, codes, encode_utf8_all}
 use Rattle.std.specs.Ordering.{int_cmp, int_eq, is_lt}
 use Rattle.py_value.specs.declared.exception.ExcKind.{ExcKind}
 use Rattle.py_value.specs.declared.exception.ExcKind.TheVariants.{NameError, OverflowError, TypeError}

@@ -7,3 +7,4 @@ pub mod Headers
 pub mod Statements
 pub mod Spelling
 pub mod Marks
+pub mod Names

@@ -1,0 +1,13 @@
+pub mod Attributes
+pub mod CallRows
+pub mod Characters
+pub mod Joins
+pub mod KeyPlaces
+pub mod Lists
+pub mod Others
+pub mod Pieces
+pub mod Rests
+pub mod Rows
+pub mod Splitting
+pub mod Starts
+pub mod Values

@@ -1,0 +1,37 @@
+// Texts as lists of characters.
+
+ghost use Rattle.std.specs.Prelude.{◌≡◌, IfOk};
+ghost use Rattle.py_value.specs.Sequences.{begins};
+
+use py_value::{NoMemory, Text};
+use std::alloc::Global;
+
+/// The most items of a text or a list.
+pub(crate) const MOST_ITEMS: usize = 1_048_576;
+
+/// The characters of a text.
+pub(crate) fn characters_of(alloc: Global, text: &Text) -> Result<Vec<char>, NoMemory>
+    ensures { IfOk result (λ characters. characters.items ≡ text.now) }
+{
+    let mut characters = Vec::new(alloc);
+    for c in text.as_str().chars() {
+        characters.push(c)?;
+    }
+    Ok(characters)
+}
+
+/// Whether a text begins with another.
+#[tactic(auto, using(crate::proofs::Starts::too_short))]
+pub(crate) fn begins(front: &[char], whole: &[char]) -> bool
+    ensures { result ≡ begins front.now whole.now }
+{
+    for i in 0..front.len() {
+        if i >= whole.len() {
+            return false;
+        }
+        if front[i] != whole[i] {
+            return false;
+        }
+    }
+    true
+}

@@ -1,0 +1,103 @@
+// The methods of lists.
+
+ghost use Rattle.std.specs.Prelude.{◌≡◌, IfOk, OnErr, Some};
+ghost use Rattle.py_value.specs.View.{plain, plains, plain_outcome};
+ghost use Rattle.py_value.specs.HeapView.{plain_heap};
+ghost use Rattle.py_value.specs.Sequences.{place_among};
+ghost use Rattle.py_builtins.specs.Methods.{append_value, append_of, take_item, pop_of_list};
+
+use crate::arguments::{are_none, only};
+use crate::char_lists::MOST_ITEMS;
+use py_value::{Addr, Cause, Heap, NoMemory, Raised, Value};
+use std::alloc::Global;
+
+/// `l.append(x)`.
+pub(crate) fn append(
+    alloc: Global,
+    list: Addr,
+    args: &[Value],
+    heap: &mut Heap,
+) -> Result<Result<Value, Raised>, NoMemory>
+    ensures answer { IfOk result (λ answer. plain_outcome answer (plain_heap heap.new) ≡ append_of list.place (plains args.now) (plain_heap heap.old)) }
+    ensures raised { IfOk result (λ answer. OnErr answer (plain_heap heap.new ≡ plain_heap heap.old)) }
+    ensures err { OnErr result (plain_heap heap.new ≡ plain_heap heap.old) }
+{
+    match only(args) {
+        Some(value) => append_value(alloc, list, value, heap),
+        None => Ok(Err(Raised::of(alloc, Cause::WrongArgumentCount)?)),
+    }
+}
+
+fn append_value(
+    alloc: Global,
+    list: Addr,
+    value: &Value,
+    heap: &mut Heap,
+) -> Result<Result<Value, Raised>, NoMemory>
+    ensures answer { IfOk result (λ answer. plain_outcome answer (plain_heap heap.new) ≡ append_value list.place (plain value.now) (plain_heap heap.old)) }
+    ensures raised { IfOk result (λ answer. OnErr answer (plain_heap heap.new ≡ plain_heap heap.old)) }
+    ensures err { OnErr result (plain_heap heap.new ≡ plain_heap heap.old) }
+{
+    if heap.items(list).len() >= MOST_ITEMS {
+        return Ok(Err(Raised::of(alloc, Cause::TooManyItems)?));
+    }
+    let value = value.copy(alloc)?;
+    heap.push(list, value)?;
+    Ok(Ok(Value::None))
+}
+
+/// `l.pop()`, `l.pop(i)`.
+pub(crate) fn pop_item(
+    alloc: Global,
+    list: Addr,
+    args: &[Value],
+    heap: &mut Heap,
+) -> Result<Result<Value, Raised>, NoMemory>
+    ensures answer { IfOk result (λ answer. plain_outcome answer (plain_heap heap.new) ≡ pop_of_list list.place (plains args.now) (plain_heap heap.old)) }
+    ensures raised { IfOk result (λ answer. OnErr answer (plain_heap heap.new ≡ plain_heap heap.old)) }
+    ensures err { OnErr result (plain_heap heap.new ≡ plain_heap heap.old) }
+{
+    match only(args) {
+        Some(at) => match at.number() {
+            Some(i) => take_item(alloc, list, i, heap),
+            None => Ok(Err(Raised::of(alloc, Cause::BadArgument)?)),
+        },
+        None => {
+            if are_none(args) {
+                take_item(alloc, list, -1, heap)
+            } else {
+                Ok(Err(Raised::of(alloc, Cause::WrongArgumentCount)?))
+            }
+        }
+    }
+}
+
+fn take_item(
+    alloc: Global,
+    list: Addr,
+    at: i64,
+    heap: &mut Heap,
+) -> Result<Result<Value, Raised>, NoMemory>
+    ensures answer { IfOk result (λ answer. plain_outcome answer (plain_heap heap.new) ≡ take_item list.place (plain_heap heap.old) (Some at)) }
+    ensures raised { IfOk result (λ answer. OnErr answer (plain_heap heap.new ≡ plain_heap heap.old)) }
+    ensures err { OnErr result (plain_heap heap.new ≡ plain_heap heap.old) }
+{
+    match place_among(heap.items(list).len(), at) {
+        Some(k) => Ok(Ok(heap.take(list, k))),
+        None => Ok(Err(Raised::of(alloc, Cause::PopIndex)?)),
+    }
+}
+
+/// The place among so many items, from the end where the index is negative.
+fn place_among(count: usize, at: i64) -> Option<usize>
+    ensures { result ≡ place_among count at }
+{
+    let size = at.unsigned_abs() as usize;
+    if at >= 0 {
+        if size < count { Some(size) } else { None }
+    } else if size <= count {
+        Some(count - size)
+    } else {
+        None
+    }
+}

@@ -1,0 +1,135 @@
+// The methods of values.
+
+ghost use Rattle.std.specs.Prelude.{◌≡◌, IfOk, OnErr};
+ghost use Rattle.py_value.specs.View.{plain, plains, plain_outcome, plain_raised};
+ghost use Rattle.py_value.specs.HeapView.{plain_heap};
+ghost use Rattle.py_builtins.specs.Methods.{method_name, absent_text, no_attribute, list_method, dict_method, text_method, method_of, is_list_method, is_dict_method, is_text_method, has_method};
+
+use crate::dict_methods::{get_value, list_keys, pop_value};
+use crate::list_methods::{append, pop_item};
+use crate::text_methods::{join_list, split, test_start};
+use py_value::{Addr, ExcKind, Heap, Method, NoMemory, Raised, Text, Value};
+use std::alloc::Global;
+
+/// A method of a value, called with these arguments. A value without the method raises `AttributeError`.
+pub fn call_method(
+    alloc: Global,
+    which: Method,
+    on: &Value,
+    args: &[Value],
+    heap: &mut Heap,
+) -> Result<Result<Value, Raised>, NoMemory>
+    ensures answer { IfOk result (λ answer. plain_outcome answer (plain_heap heap.new) ≡ method_of which (plain on.now) (plains args.now) (plain_heap heap.old)) }
+    ensures raised { IfOk result (λ answer. OnErr answer (plain_heap heap.new ≡ plain_heap heap.old)) }
+    ensures err { OnErr result (plain_heap heap.new ≡ plain_heap heap.old) }
+{
+    match on {
+        Value::List(addr) => list_method(alloc, which, *addr, args, heap),
+        Value::Dict(addr) => dict_method(alloc, which, *addr, args, heap),
+        Value::Str(text) => text_method(alloc, which, text, args, heap),
+        _ => Ok(Err(no_attribute(alloc, which)?)),
+    }
+}
+
+fn list_method(
+    alloc: Global,
+    which: Method,
+    list: Addr,
+    args: &[Value],
+    heap: &mut Heap,
+) -> Result<Result<Value, Raised>, NoMemory>
+    ensures answer { IfOk result (λ answer. plain_outcome answer (plain_heap heap.new) ≡ list_method which list.place (plains args.now) (plain_heap heap.old)) }
+    ensures raised { IfOk result (λ answer. OnErr answer (plain_heap heap.new ≡ plain_heap heap.old)) }
+    ensures err { OnErr result (plain_heap heap.new ≡ plain_heap heap.old) }
+{
+    match which {
+        Method::Append => append(alloc, list, args, heap),
+        Method::Pop => pop_item(alloc, list, args, heap),
+        Method::Get => Ok(Err(no_attribute(alloc, which)?)),
+        Method::Keys => Ok(Err(no_attribute(alloc, which)?)),
+        Method::StartsWith => Ok(Err(no_attribute(alloc, which)?)),
+        Method::Join => Ok(Err(no_attribute(alloc, which)?)),
+        Method::Split => Ok(Err(no_attribute(alloc, which)?)),
+    }
+}
+
+fn dict_method(
+    alloc: Global,
+    which: Method,
+    dict: Addr,
+    args: &[Value],
+    heap: &mut Heap,
+) -> Result<Result<Value, Raised>, NoMemory>
+    ensures answer { IfOk result (λ answer. plain_outcome answer (plain_heap heap.new) ≡ dict_method which dict.place (plains args.now) (plain_heap heap.old)) }
+    ensures raised { IfOk result (λ answer. OnErr answer (plain_heap heap.new ≡ plain_heap heap.old)) }
+    ensures err { OnErr result (plain_heap heap.new ≡ plain_heap heap.old) }
+{
+    match which {
+        Method::Pop => pop_value(alloc, dict, args, heap),
+        Method::Get => get_value(alloc, dict, args, heap),
+        Method::Keys => list_keys(alloc, dict, args, heap),
+        Method::Append => Ok(Err(no_attribute(alloc, which)?)),
+        Method::StartsWith => Ok(Err(no_attribute(alloc, which)?)),
+        Method::Join => Ok(Err(no_attribute(alloc, which)?)),
+        Method::Split => Ok(Err(no_attribute(alloc, which)?)),
+    }
+}
+
+fn text_method(
+    alloc: Global,
+    which: Method,
+    text: &Text,
+    args: &[Value],
+    heap: &mut Heap,
+) -> Result<Result<Value, Raised>, NoMemory>
+    ensures answer { IfOk result (λ answer. plain_outcome answer (plain_heap heap.new) ≡ text_method which text.now (plains args.now) (plain_heap heap.old)) }
+    ensures raised { IfOk result (λ answer. OnErr answer (plain_heap heap.new ≡ plain_heap heap.old)) }
+    ensures err { OnErr result (plain_heap heap.new ≡ plain_heap heap.old) }
+{
+    match which {
+        Method::StartsWith => test_start(alloc, text, args, heap),
+        Method::Join => join_list(alloc, text, args, heap),
+        Method::Split => split(alloc, text, args, heap),
+        Method::Append => Ok(Err(no_attribute(alloc, which)?)),
+        Method::Pop => Ok(Err(no_attribute(alloc, which)?)),
+        Method::Get => Ok(Err(no_attribute(alloc, which)?)),
+        Method::Keys => Ok(Err(no_attribute(alloc, which)?)),
+    }
+}
+
+/// Whether a value has a method. A caller asks this before it evaluates the arguments.
+pub fn has_method(which: Method, on: &Value) -> bool
+    ensures { result ≡ has_method which (plain on.now) }
+{
+    match on {
+        Value::List(_) => matches!(which, Method::Append | Method::Pop),
+        Value::Dict(_) => matches!(which, Method::Pop | Method::Get | Method::Keys),
+        Value::Str(_) => matches!(which, Method::StartsWith | Method::Join | Method::Split),
+        _ => false,
+    }
+}
+
+fn no_attribute(alloc: Global, which: Method) -> Result<Raised, NoMemory>
+    ensures { IfOk result (λ raised. plain_raised raised ≡ no_attribute (method_name which)) }
+{
+    let text = Text::from_str(alloc, absent_text(which))?;
+    let arg = Box::new(alloc, Value::Str(text))?;
+    Ok(Raised {
+        kind: ExcKind::AttributeError,
+        arg: Some(arg),
+    })
+}
+
+fn absent_text(which: Method) -> &'static str
+    ensures { result.now ≡ absent_text (method_name which) }
+{
+    match which {
+        Method::Append => "no attribute 'append'",
+        Method::Pop => "no attribute 'pop'",
+        Method::Get => "no attribute 'get'",
+        Method::Keys => "no attribute 'keys'",
+        Method::StartsWith => "no attribute 'startswith'",
+        Method::Join => "no attribute 'join'",
+        Method::Split => "no attribute 'split'",
+    }
+}

@@ -1,0 +1,47 @@
+-- What assignments do to their targets (Python Language Reference, 7.2, "Assignment statements").
+use Rattle.std.specs.Prelude.{ℕ, suc, List, [], ◌∷◌, Err}
+use Rattle.py_value.specs.declared.cause.Cause.TheVariants.{NotSubscriptable}
+use Rattle.py_value.specs.declared.operator.BinOp.{BinOp}
+use Rattle.py_value.specs.Causes.{raised_by}
+use Rattle.py_value.specs.Operators.{in_place_of, index_of}
+use Rattle.py_value.specs.Plain.{PlainValue}
+use Rattle.py_syntax.specs.Tree.{Expr, name, tuple, list, paren, index, Exprs, no_exprs, exprs}
+use Rattle.py_meaning.specs.Calls.{Calls}
+use Rattle.py_meaning.specs.Computations.{Ans, M, give, write, value, ask, work}
+use Rattle.py_meaning.specs.Displays.{stored, unpacked}
+use Rattle.py_meaning.specs.Expressions.{gives, eval}
+use Rattle.py_meaning.specs.Places.{Place, fetched, bound}
+
+abbrev pub count : Exprs → ℕ
+count no_exprs = 0
+count (exprs e es) = suc (count es)
+
+unfoldable mutual
+  -- a value assigned to a target
+  pub assign_to : Calls → Place → Expr → PlainValue → M (Ans (Unit {0}))
+  assign_to c p (name x) v = write (bound p x v) (gives tt)
+  assign_to c p (index of at) v = value (eval c p of) (λ o. value (eval c p at) (λ i. work (stored o i v)))
+  assign_to c p (paren t) v = assign_to c p t v
+  assign_to c p (tuple ts comma) v = value (ask (λ w. unpacked (count ts) v w.world.heap)) (λ vs. assign_each c p ts vs)
+  assign_to c p (list ts comma) v = value (ask (λ w. unpacked (count ts) v w.world.heap)) (λ vs. assign_each c p ts vs)
+  assign_to c p _ v = give (Err (raised_by NotSubscriptable))
+
+  -- values to targets, from left to right
+  pub assign_each : Calls → Place → Exprs → List PlainValue → M (Ans (Unit {0}))
+  assign_each c p no_exprs vs = gives tt
+  assign_each c p (exprs t ts) [] = gives tt
+  assign_each c p (exprs t ts) (v ∷ vs) = value (assign_to c p t v) (λ u. assign_each c p ts vs)
+
+-- one value to each of these targets, from left to right
+unfoldable pub assign_all : Calls → Place → Exprs → PlainValue → M (Ans (Unit {0}))
+assign_all c p no_exprs v = gives tt
+assign_all c p (exprs t ts) v = value (assign_to c p t v) (λ u. assign_all c p ts v)
+
+-- `place op= e`: the object and the index are evaluated once, and the place is read before the right side (7.2.1)
+unfoldable pub augment : Calls → Place → Expr → BinOp → Expr → M (Ans (Unit {0}))
+augment c p (name x) op e =
+    value (ask (fetched p x)) (λ v. value (eval c p e) (λ w. value (work (in_place_of op v w)) (λ u. write (bound p x u) (gives tt))))
+augment c p (index of at) op e =
+    value (eval c p of) (λ o. value (eval c p at) (λ i. value (ask (λ s. index_of o i s.world.heap)) (λ v.
+    value (eval c p e) (λ w. value (work (in_place_of op v w)) (λ u. work (stored o i u))))))
+augment c p _ op e = give (Err (raised_by NotSubscriptable))

@@ -1,0 +1,34 @@
+-- The events of an activation, in order: it is called, its lines begin, exceptions are thrown, and it returns.
+use Rattle.std.specs.Prelude.{ℕ, Bool, true, false, List, [], ◌∷◌, ◌++◌}
+use Rattle.cov_event.specs.declared.event.Event.{Event}
+use Rattle.cov_event.specs.declared.event.Event.TheVariants.{Call, Line, Throw, Return}
+use Rattle.py_meaning.specs.Activations.{Activation, activation, Items, no_items, more, marked, marked_again, thrown, entered, is_kept}
+
+-- Events come behind those that came before.
+abbrev pub line_unless : Bool → ℕ → List Event → List Event
+line_unless true l events = events
+line_unless false l events = events ++ Line l ∷ []
+
+abbrev pub return_if : Bool → List Event → List Event
+return_if true events = events ++ Return ∷ []
+return_if false events = events
+
+unfoldable mutual
+  -- the events of these items
+  pub told : List Event → Items → List Event
+  told events no_items = events
+  told events (more before (marked l)) = line_unless (is_kept l before) l (told events before)
+  told events (more before (marked_again l)) = told events before ++ Line l ∷ []
+  told events (more before (thrown kind)) = told events before ++ Throw kind ∷ []
+  told events (more before (entered a)) = told_of (told events before) a
+
+  -- those of an activation
+  pub told_of : List Event → Activation → List Event
+  told_of events (activation code items ended) = return_if ended (told (events ++ Call code ∷ []) items)
+
+abbrev pub events_of : Activation → List Event
+events_of a = told_of [] a
+
+-- those of what happened in a run
+abbrev pub events_in : Items → List Event
+events_in items = told [] items

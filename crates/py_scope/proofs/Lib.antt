@@ -1,0 +1,6 @@
+pub mod Firsts
+pub mod Gathering
+pub mod Linking
+pub mod NameSets
+pub mod PatternLaws
+pub mod Turns

@@ -1,0 +1,143 @@
+-- The occurrences of names in a body of a module or a function, in the order of the text. The body of a function that it defines
+-- is none of it; the defaults of that function's parameters are.
+use Rattle.std.specs.Prelude.{ℕ, List, [], ◌∷◌, ◌++◌, map, Option, Some, None}
+use Rattle.py_syntax.specs.Tree.{Text, Expr, name, int, str, fstr, none, bool, tuple, list, dict, paren, not', and, or, unary, binary, compare, cond, call, index, slice, attr, Exprs, no_exprs, exprs, Pairs, no_pairs, pair, Links, no_links, link, OptExpr, absent, present, Fragments, no_fragments, plain, format, Parts, no_parts, text, field}
+use Rattle.py_syntax.specs.Tree.{Pattern, literal, capture, wild, member, sequence, p_or, p_as, p_paren, Patterns, no_patterns, patterns, Alias}
+use Rattle.py_syntax.specs.Tree.{Stmts, no_stmts, stmt, Suite, suite, OptSuite, no_suite, has_suite, Arms, no_arms, arm, Clauses, no_clauses, clause, Cases, no_cases, case, StmtKind, expr, assign, aug_assign, pass, break, continue, return, raise, assert, global, import, from, if', while, for, try, def, match}
+use Rattle.py_syntax.specs.Names.{alias_name}
+use Rattle.py_scope.specs.declared.occurrence.Occurrence.{Occurrence}
+use Rattle.py_scope.specs.declared.occurrence.Occurrence.TheVariants.{Uses, Assigns, Declares}
+
+abbrev mutual
+  pub in_expr : Expr → List Occurrence
+  in_expr (name x) = Uses x ∷ []
+  in_expr (fstr fs) = in_fragments fs
+  in_expr (tuple es c) = in_exprs es
+  in_expr (list es c) = in_exprs es
+  in_expr (dict ps c) = in_pairs ps
+  in_expr (paren e) = in_expr e
+  in_expr (not' e) = in_expr e
+  in_expr (and a b) = in_expr a ++ in_expr b
+  in_expr (or a b) = in_expr a ++ in_expr b
+  in_expr (unary s e) = in_expr e
+  in_expr (binary op a b) = in_expr a ++ in_expr b
+  in_expr (compare a ls) = in_expr a ++ in_links ls
+  in_expr (cond b t o) = in_expr b ++ (in_expr t ++ in_expr o)
+  in_expr (call f es c) = in_expr f ++ in_exprs es
+  in_expr (index a b) = in_expr a ++ in_expr b
+  in_expr (slice a f t) = in_expr a ++ (in_optional f ++ in_optional t)
+  in_expr (attr a x) = in_expr a
+  in_expr e = []
+
+  pub in_exprs : Exprs → List Occurrence
+  in_exprs no_exprs = []
+  in_exprs (exprs e es) = in_expr e ++ in_exprs es
+
+  pub in_pairs : Pairs → List Occurrence
+  in_pairs no_pairs = []
+  in_pairs (pair k v ps) = in_expr k ++ (in_expr v ++ in_pairs ps)
+
+  pub in_links : Links → List Occurrence
+  in_links no_links = []
+  in_links (link op e ls) = in_expr e ++ in_links ls
+
+  pub in_optional : OptExpr → List Occurrence
+  in_optional absent = []
+  in_optional (present e) = in_expr e
+
+  pub in_fragments : Fragments → List Occurrence
+  in_fragments no_fragments = []
+  in_fragments (plain x fs) = in_fragments fs
+  in_fragments (format ps fs) = in_parts ps ++ in_fragments fs
+
+  pub in_parts : Parts → List Occurrence
+  in_parts no_parts = []
+  in_parts (text x ps) = in_parts ps
+  in_parts (field e ps) = in_expr e ++ in_parts ps
+
+abbrev pub in_option : Option Expr → List Occurrence
+in_option None = []
+in_option (Some e) = in_expr e
+
+-- of a target
+abbrev mutual
+  pub in_target : Expr → List Occurrence
+  in_target (name x) = Assigns x ∷ []
+  in_target (tuple es c) = in_targets es
+  in_target (list es c) = in_targets es
+  in_target (paren e) = in_target e
+  in_target e = in_expr e
+
+  pub in_targets : Exprs → List Occurrence
+  in_targets no_exprs = []
+  in_targets (exprs e es) = in_target e ++ in_targets es
+
+-- of a pattern; `m.x` Uses m
+abbrev mutual
+  pub in_pattern : Pattern → List Occurrence
+  in_pattern (capture x) = Assigns x ∷ []
+  in_pattern (member m x) = Uses m ∷ []
+  in_pattern (sequence b ps c) = in_patterns ps
+  in_pattern (p_or ps) = in_patterns ps
+  in_pattern (p_as p x) = in_pattern p ++ Assigns x ∷ []
+  in_pattern (p_paren p) = in_pattern p
+  in_pattern p = []
+
+  pub in_patterns : Patterns → List Occurrence
+  in_patterns no_patterns = []
+  in_patterns (patterns p ps) = in_pattern p ++ in_patterns ps
+
+abbrev pub assigning : List Text → List Occurrence
+assigning xs = map Assigns xs
+
+abbrev pub declaring : ℕ → List Text → List Occurrence
+declaring line xs = map (λ x. Declares x line) xs
+
+abbrev pub in_bound : Option Text → List Occurrence
+in_bound None = []
+in_bound (Some x) = Assigns x ∷ []
+
+abbrev mutual
+  pub occurrences : Stmts → List Occurrence
+  occurrences no_stmts = []
+  occurrences (stmt first last k e ss) = in_kind first k ++ occurrences ss
+
+  -- of a statement with this first line
+  pub in_kind : ℕ → StmtKind → List Occurrence
+  in_kind line (expr e) = in_expr e
+  in_kind line (assign ts e) = in_targets ts ++ in_expr e
+  in_kind line (aug_assign place op e) = in_target place ++ in_expr e
+  in_kind line pass = []
+  in_kind line break = []
+  in_kind line continue = []
+  in_kind line (return e) = in_option e
+  in_kind line (raise e) = in_option e
+  in_kind line (assert e why) = in_expr e ++ in_option why
+  in_kind line (global xs) = declaring line xs
+  in_kind line (import names) = assigning (map alias_name names)
+  in_kind line (from m names) = assigning (map alias_name names)
+  in_kind line (if' arms o) = in_arms arms ++ in_opt o
+  in_kind line (while t b o) = in_expr t ++ (in_suite b ++ in_opt o)
+  in_kind line (for t e b o) = in_target t ++ (in_expr e ++ (in_suite b ++ in_opt o))
+  in_kind line (try b cs o f) = in_suite b ++ (in_clauses cs ++ (in_opt o ++ in_opt f))
+  in_kind line (def x ps ds c b) = Assigns x ∷ in_exprs ds
+  in_kind line (match e last cs) = in_expr e ++ in_cases cs
+
+  pub in_suite : Suite → List Occurrence
+  in_suite (suite first last inline b) = occurrences b
+
+  pub in_opt : OptSuite → List Occurrence
+  in_opt no_suite = []
+  in_opt (has_suite s) = in_suite s
+
+  pub in_arms : Arms → List Occurrence
+  in_arms no_arms = []
+  in_arms (arm t b arms) = in_expr t ++ (in_suite b ++ in_arms arms)
+
+  pub in_clauses : Clauses → List Occurrence
+  in_clauses no_clauses = []
+  in_clauses (clause e x b cs) = in_option e ++ (in_bound x ++ (in_suite b ++ in_clauses cs))
+
+  pub in_cases : Cases → List Occurrence
+  in_cases no_cases = []
+  in_cases (case p g b cs) = in_pattern p ++ (in_option g ++ (in_suite b ++ in_cases cs))

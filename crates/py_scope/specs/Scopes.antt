@@ -1,0 +1,15 @@
+-- What is told of a function.
+use Rattle.std.specs.Prelude.{Bool, not, ◌&&◌, List}
+use Rattle.py_syntax.specs.Tree.{Text}
+use Rattle.py_syntax.specs.Names.{is_among}
+
+-- the names that it assigns, parameters first, and those that it declares `global`, each once, in the order of the text
+pub record Names : Type 0 where
+  pub assigned : List Text
+  pub globals : List Text
+
+abbrev pub is_local : Names → Text → Bool
+is_local n x = is_among n.assigned x && not (is_among n.globals x)
+
+abbrev pub is_global : Names → Text → Bool
+is_global n x = is_among n.globals x

@@ -1,0 +1,52 @@
+// Sets of names in the order in which they came.
+
+ghost use Rattle.std.specs.Prelude.{◌≡◌, [], not, IfOk, OnOk, OnErr};
+ghost use Rattle.py_syntax.specs.Names.{is_among, add_name};
+
+use indexmap::IndexSet;
+use py_value::{NoMemory, Text};
+use std::alloc::Global;
+use std::marker::Model;
+
+/// Names without repeats, seen as their list in the order in which they came.
+#[derive(Drop)]
+pub struct NameSet {
+    all: IndexSet<String>,
+}
+
+impl Model for NameSet {
+    ghost use Rattle.std.specs.Prelude.{List, ℕ, map};
+    ghost use Rattle.std.specs.Str.{chars};
+    ghost use Rattle.std.specs.String.{string_bytes};
+
+    ghost Value = { List (List ℕ) };
+
+    ghost view = { λ s. map (λ k. chars (string_bytes k)) s.all.keys };
+}
+
+impl NameSet {
+    pub(crate) fn new(alloc: Global) -> NameSet
+        ensures { result ≡ [] }
+    {
+        NameSet {
+            all: IndexSet::new(alloc),
+        }
+    }
+
+    /// Adds a name, and tells whether it is new.
+    pub(crate) fn insert(&mut self, alloc: Global, name: &Text) -> Result<bool, NoMemory>
+        ensures added { OnOk result (self.new ≡ add_name self.old name.now) }
+        ensures is_new { IfOk result (λ b. b ≡ not (is_among self.old name.now)) }
+        ensures err { OnErr result (self.new ≡ self.old) }
+    {
+        let owned = String::from_str(alloc, name.as_str())?;
+        let (_, added) = self.all.insert_full(owned)?;
+        Ok(added)
+    }
+
+    pub fn contains(&self, name: &Text) -> bool
+        ensures { result ≡ is_among self.now name.now }
+    {
+        self.all.contains(name.as_str())
+    }
+}

@@ -1,0 +1,71 @@
+// The names of functions.
+
+ghost use Rattle.std.specs.Prelude.{◌≡◌, slice_get, length, option_copied};
+ghost use Rattle.py_scope.specs.Scopes.{is_local, is_global};
+
+use crate::names::NameSet;
+use py_value::Text;
+use std::marker::Model;
+
+/// The names of a function, seen as the list of those that it assigns and the list of those that it declares
+/// `global`, each once, in the order of the text. Its parameters are assigned first.
+#[derive(Drop)]
+pub struct FunctionNames {
+    pub(crate) assigned: NameSet,
+    pub(crate) globals: NameSet,
+}
+
+impl Model for FunctionNames {
+    ghost use Rattle.py_scope.specs.Scopes.{Names};
+
+    ghost Value = { Names };
+
+    ghost view = { λ f. record { assigned = f.assigned; globals = f.globals } };
+}
+
+impl FunctionNames {
+    /// Whether the name is local in the function.
+    pub fn is_local(&self, name: &Text) -> bool
+        ensures { result ≡ is_local self.now name.now }
+    {
+        self.assigned.contains(name) && !self.globals.contains(name)
+    }
+
+    /// Whether the function declares the name `global`.
+    pub fn is_global(&self, name: &Text) -> bool
+        ensures { result ≡ is_global self.now name.now }
+    {
+        self.globals.contains(name)
+    }
+}
+
+/// The names of the functions of a module in the order of their `def`s, seen as their list.
+#[derive(Drop)]
+pub struct Scopes {
+    pub(crate) functions: Vec<FunctionNames>,
+}
+
+impl Model for Scopes {
+    ghost use Rattle.std.specs.Prelude.{List};
+    ghost use Rattle.py_scope.specs.Scopes.{Names};
+
+    ghost Value = { List Names };
+
+    ghost view = { λ s. s.functions.items };
+}
+
+impl Scopes {
+    /// How many functions there are.
+    pub fn len(&self) -> usize
+        ensures { result ≡ length self.now }
+    {
+        self.functions.len()
+    }
+
+    /// The names of the function whose `def` has so many before it.
+    pub fn function(&self, at: usize) -> Option<&FunctionNames>
+        ensures { option_copied result ≡ slice_get self.now at }
+    {
+        self.functions.get(at)
+    }
+}

@@ -1,0 +1,250 @@
+// The names that occur in statements.
+
+ghost use Rattle.std.specs.Prelude.{◌≡◌, ◌++◌, OnOk, map};
+ghost use Rattle.std.specs.Option.{option_map};
+ghost use Rattle.py_syntax.specs.View.{plain_expr, plain_exprs, plain_pattern, plain_patterns, plain_aliases, plain_stmts, plain_kind, plain_suite, plain_opt_suite, plain_arms, plain_clauses, plain_cases};
+ghost use Rattle.py_syntax.specs.Names.{alias_name};
+ghost use Rattle.py_scope.specs.Occurrences.{assigning, declaring, in_expr, in_target, in_targets, in_pattern, in_patterns, in_bound, occurrences, in_kind, in_suite, in_opt, in_arms, in_clauses, in_cases};
+
+use crate::expressions::{expr, exprs, option};
+use crate::occurrence::{Occurrence, push_assigned, push_declared, push_use};
+use py_syntax::{Alias, Arm, Case, Clause, Expr, Pattern, Stmt, StmtKind, Suite};
+use py_value::{NoMemory, Text};
+
+#[cycle(target)]
+fn target(out: &mut Vec<Occurrence>, e: &Expr) -> Result<(), NoMemory>
+    ensures { OnOk result (out.new.items ≡ out.old.items ++ in_target (plain_expr e.now)) }
+{
+    match e {
+        Expr::Name(x) => push_assigned(out, x),
+        Expr::Tuple { items, comma: _ } => targets(out, items),
+        Expr::List { items, comma: _ } => targets(out, items),
+        Expr::Paren(inner) => target(out, inner),
+        _ => expr(out, e),
+    }
+}
+
+#[cycle(target)]
+fn targets(out: &mut Vec<Occurrence>, items: &[Expr]) -> Result<(), NoMemory>
+    ensures { OnOk result (out.new.items ≡ out.old.items ++ in_targets (plain_exprs items.now)) }
+{
+    for e in items {
+        target(out, e)?;
+    }
+    Ok(())
+}
+
+#[cycle(pattern)]
+fn pattern(out: &mut Vec<Occurrence>, p: &Pattern) -> Result<(), NoMemory>
+    ensures { OnOk result (out.new.items ≡ out.old.items ++ in_pattern (plain_pattern p.now)) }
+{
+    match p {
+        Pattern::Literal { minus: _, value: _ } => Ok(()),
+        Pattern::Capture(x) => push_assigned(out, x),
+        Pattern::Wild => Ok(()),
+        Pattern::Member(name, _) => push_use(out, name),
+        Pattern::Sequence {
+            brackets: _,
+            items,
+            comma: _,
+        } => patterns(out, items),
+        Pattern::Or(alternatives) => patterns(out, alternatives),
+        Pattern::As(inner, x) => {
+            pattern(out, inner)?;
+            push_assigned(out, x)
+        }
+        Pattern::Paren(inner) => pattern(out, inner),
+    }
+}
+
+#[cycle(pattern)]
+fn patterns(out: &mut Vec<Occurrence>, items: &[Pattern]) -> Result<(), NoMemory>
+    ensures { OnOk result (out.new.items ≡ out.old.items ++ in_patterns (plain_patterns items.now)) }
+{
+    for p in items {
+        pattern(out, p)?;
+    }
+    Ok(())
+}
+
+fn aliases(out: &mut Vec<Occurrence>, names: &[Alias]) -> Result<(), NoMemory>
+    ensures { OnOk result (out.new.items ≡ out.old.items ++ assigning (map alias_name (plain_aliases names.now))) }
+{
+    for alias in names {
+        match &alias.bound {
+            Some(name) => push_assigned(out, name)?,
+            None => push_assigned(out, &alias.name)?,
+        }
+    }
+    Ok(())
+}
+
+fn declared(out: &mut Vec<Occurrence>, names: &[Text], line: u32) -> Result<(), NoMemory>
+    ensures { OnOk result (out.new.items ≡ out.old.items ++ declaring line names.now) }
+{
+    for name in names {
+        push_declared(out, name, line)?;
+    }
+    Ok(())
+}
+
+fn bound(out: &mut Vec<Occurrence>, name: &Option<Text>) -> Result<(), NoMemory>
+    ensures { OnOk result (out.new.items ≡ out.old.items ++ in_bound name.now) }
+{
+    match name {
+        None => Ok(()),
+        Some(x) => push_assigned(out, x),
+    }
+}
+
+/// Takes the names that occur in these statements.
+#[cycle(statements)]
+pub(crate) fn statements(out: &mut Vec<Occurrence>, items: &[Stmt]) -> Result<(), NoMemory>
+    ensures { OnOk result (out.new.items ≡ out.old.items ++ occurrences (plain_stmts items.now)) }
+{
+    for s in items {
+        statement(out, s.first, &s.kind)?;
+    }
+    Ok(())
+}
+
+#[cycle(statements)]
+fn statement(out: &mut Vec<Occurrence>, line: u32, kind: &StmtKind) -> Result<(), NoMemory>
+    ensures { OnOk result (out.new.items ≡ out.old.items ++ in_kind line (plain_kind kind.now)) }
+{
+    match kind {
+        StmtKind::Expr(e) => expr(out, e),
+        StmtKind::Assign { targets: to, value } => {
+            targets(out, to)?;
+            expr(out, value)
+        }
+        StmtKind::AugAssign {
+            place,
+            op: _,
+            value,
+        } => {
+            target(out, place)?;
+            expr(out, value)
+        }
+        StmtKind::Pass => Ok(()),
+        StmtKind::Break => Ok(()),
+        StmtKind::Continue => Ok(()),
+        StmtKind::Return(e) => option(out, e),
+        StmtKind::Raise(e) => option(out, e),
+        StmtKind::Assert(test, why) => {
+            expr(out, test)?;
+            option(out, why)
+        }
+        StmtKind::Global(names) => declared(out, names, line),
+        StmtKind::Import(names) => aliases(out, names),
+        StmtKind::From(_, names) => aliases(out, names),
+        StmtKind::If {
+            arms: tests,
+            orelse,
+        } => {
+            arms(out, tests)?;
+            opt(out, orelse)
+        }
+        StmtKind::While {
+            test,
+            body: turn,
+            orelse,
+        } => {
+            expr(out, test)?;
+            suite(out, turn)?;
+            opt(out, orelse)
+        }
+        StmtKind::For {
+            target: to,
+            over,
+            body: turn,
+            orelse,
+        } => {
+            target(out, to)?;
+            expr(out, over)?;
+            suite(out, turn)?;
+            opt(out, orelse)
+        }
+        StmtKind::Try {
+            body: tried,
+            clauses: handlers,
+            orelse,
+            finally,
+        } => {
+            suite(out, tried)?;
+            clauses(out, handlers)?;
+            opt(out, orelse)?;
+            opt(out, finally)
+        }
+        StmtKind::Def {
+            name,
+            params: _,
+            defaults,
+            comma: _,
+            body: _,
+        } => {
+            push_assigned(out, name)?;
+            exprs(out, defaults)
+        }
+        StmtKind::Match {
+            subject,
+            header_last: _,
+            cases: list,
+        } => {
+            expr(out, subject)?;
+            cases(out, list)
+        }
+    }
+}
+
+#[cycle(statements)]
+fn suite(out: &mut Vec<Occurrence>, s: &Suite) -> Result<(), NoMemory>
+    ensures { OnOk result (out.new.items ≡ out.old.items ++ in_suite (plain_suite s.now)) }
+{
+    statements(out, &s.body)
+}
+
+#[cycle(statements)]
+fn opt(out: &mut Vec<Occurrence>, s: &Option<Suite>) -> Result<(), NoMemory>
+    ensures { OnOk result (out.new.items ≡ out.old.items ++ in_opt (plain_opt_suite s.now)) }
+{
+    match s {
+        None => Ok(()),
+        Some(s) => suite(out, s),
+    }
+}
+
+#[cycle(statements)]
+fn arms(out: &mut Vec<Occurrence>, items: &[Arm]) -> Result<(), NoMemory>
+    ensures { OnOk result (out.new.items ≡ out.old.items ++ in_arms (plain_arms items.now)) }
+{
+    for arm in items {
+        expr(out, &arm.test)?;
+        suite(out, &arm.body)?;
+    }
+    Ok(())
+}
+
+#[cycle(statements)]
+fn clauses(out: &mut Vec<Occurrence>, items: &[Clause]) -> Result<(), NoMemory>
+    ensures { OnOk result (out.new.items ≡ out.old.items ++ in_clauses (plain_clauses items.now)) }
+{
+    for clause in items {
+        option(out, &clause.kind)?;
+        bound(out, &clause.name)?;
+        suite(out, &clause.body)?;
+    }
+    Ok(())
+}
+
+#[cycle(statements)]
+fn cases(out: &mut Vec<Occurrence>, items: &[Case]) -> Result<(), NoMemory>
+    ensures { OnOk result (out.new.items ≡ out.old.items ++ in_cases (plain_cases items.now)) }
+{
+    for case in items {
+        pattern(out, &case.pattern)?;
+        option(out, &case.guard)?;
+        suite(out, &case.body)?;
+    }
+    Ok(())
+}
