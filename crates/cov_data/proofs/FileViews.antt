@@ -1,9 +1,10 @@
 -- The counts of a path's rows as a finite map over the tree that holds them.
-use Rattle.std.proofs.Common.{◌≡◌, ℕ, List, Ordering, ap, sym, ◌∙◌}
+use Rattle.std.proofs.Common.{◌≡◌, ℕ, List, [], ◌∷◌, Ordering, refl, ap, sym, ◌∙◌}
 use Rattle.std.specs.Ordering.{is_eq, int_cmp, ordering_then}
 use Rattle.std.specs.Cmp.{IsTotalOrder, then_total, on_total, int_cmp_total}
 use Rattle.std.specs.Cmp.Lexicographic.{nat_list_cmp_total}
 use Rattle.std.specs.Map.{lookup, keys_of}
+use Rattle.std.specs.List.{AllZip}
 use Rattle.std.specs.List.Sorted.{IsStrictlySortedBy}
 use Rattle.std.specs.BTreeMap.{insert_entry}
 use Rattle.std.specs.FinMap.{IsAntisymmetric, get, insert, entries, from_entries, get-from_entries}
@@ -46,3 +47,11 @@ file_from-joined es k n v is = file_from-insert_entry k v es ∙ ap (insert (fil
 -- what an iterator over the tree has left as a loop begins
 pub left_at_start : (es s : List (Stored × ℕ)) (f : File) → file_from es ≡ f → s ≡ es → IsStrictlySortedBy stored_cmp (keys_of es) → rekeyed place_view s ≡ entries f
 left_at_start es s f is at h = ap (rekeyed place_view) at ∙ sym (entries-file_from es h) ∙ ap entries is
+
+-- a tree whose keys are read alike, and whose values are equal, place by place
+pub file_from-alike : {C : Stored → Stored → Type 0} {D : ℕ → ℕ → Type 0} → ((k l : Stored) → C k l → place_view l ≡ place_view k) → ((m n : ℕ) → D m n → n ≡ m)
+    → (es fs : List (Stored × ℕ)) → AllZip (λ p q. C p.0 q.0 × D p.1 q.1) es fs → file_from fs ≡ file_from es
+file_from-alike keys values [] [] h = refl
+file_from-alike keys values [] (f ∷ fs) h = absurd h
+file_from-alike keys values (e ∷ es) [] h = absurd h
+file_from-alike keys values (e ∷ es) (f ∷ fs) h = λ i. insert (file_from-alike keys values es fs h.1 i) (keys e.0 f.0 h.0.0 i) (values e.1 f.1 h.0.1 i)

@@ -2,6 +2,8 @@ pub mod MapViews
 pub mod FileViews
 pub mod FilesViews
 pub mod Merging
+pub mod SideBySide
+pub mod Unions
 pub mod Soundness
 pub mod RowLists
 pub mod Distinct

@@ -2,17 +2,32 @@
 use Rattle.std.proofs.Common.{◌≡◌, Bool, true, false, cond, List, [], ◌∷◌, Option, Some, None, Ordering, refl, ap, sym, subst, ◌∙◌}
 use Rattle.std.specs.declared.cmp.Ordering.TheVariants.{Less, Equal, Greater}
 use Rattle.std.specs.Ordering.{is_eq, is_lt, eq_by_cmp, match_ordering}
-use Rattle.std.specs.Cmp.{IsTotalOrder}
+use Rattle.std.specs.Cmp.{IsTotalOrder, on_total, eq_by_cmp_equiv}
 use Rattle.std.specs.Map.{lookup, keys_of}
 use Rattle.std.specs.List.{AllByRecursion}
 use Rattle.std.specs.List.Sorted.{IsStrictlySortedBy}
-use Rattle.std.specs.BTreeMap.{insert_entry}
+use Rattle.std.specs.BTreeMap.{BTreeMap, insert_entry, IsFromIterResult}
 use Rattle.std.specs.FinMap.{FinMap, IsAntisymmetric, get, insert, entries, from_entries, from_sorted, find, put, is_sorted, get-from_entries, get-insert, get-from_sorted, entries-from_sorted, get_tied, same_map}
 use Rattle.std.specs.Prelude.{T, ◌&&◌, is_some}
-use Rattle.std.specs.FinMap.Entries.{below_all, find-put, by_order}
+use Rattle.std.specs.FinMap.Entries.{below_all, find-put, find_tied, by_order, same_entries}
+use Rattle.std.proofs.lemmas.Map.Made.{update_all_none}
+use Rattle.std.proofs.lemmas.Map.Keys.{IsDistinct-from_sorted}
 use Rattle.cov_data.specs.DataSet.{rekeyed}
 
-both : (a b : Bool) → T a → T b → T (a && b)
+pub first : (a b : Bool) → T (a && b) → T a
+first true b p = tt
+first false b p = p
+
+pub second : (a b : Bool) → T (a && b) → T b
+second true b p = p
+second false b p = absurd p
+
+pub less : (r : Ordering) → T (is_lt r) → r ≡ Less
+less Less p = refl
+less Equal p = absurd p
+less Greater p = absurd p
+
+pub both : (a b : Bool) → T a → T b → T (a && b)
 both true b p q = q
 both false b p q = p
 
@@ -40,6 +55,37 @@ module _ {K B X : Type 0} (S : B → B → Ordering) (f : K → B) where
   unfolding IsStrictlySortedBy
   is_sorted-rekeyed [] h = tt
   is_sorted-rekeyed (e ∷ es) h = both _ _ (below_all-rekeyed e.0 es h.0) (is_sorted-rekeyed es h.1)
+
+  rises : (x : K) (es : List (K × X)) → T (below_all S (f x) (rekeyed f es)) → AllByRecursion (λ y. S (f x) (f y) ≡ Less) (keys_of es)
+  rises x [] h = tt
+  rises x (e ∷ es) h = (less _ (first _ _ h), rises x es (second _ _ h))
+
+  sorted_from_rekeyed : (es : List (K × X)) → T (is_sorted S (rekeyed f es)) → IsStrictlySortedBy (λ x y. S (f x) (f y)) (keys_of es)
+  unfolding IsStrictlySortedBy
+  sorted_from_rekeyed [] h = tt
+  sorted_from_rekeyed (e ∷ es) h = (rises e.0 es (first _ _ h), sorted_from_rekeyed es (second _ _ h))
+
+  -- A follows where q is not found, and where it ties with a key
+  known : (q : B) (es : List (K × X)) (A : Type 0) → (find S q (rekeyed f es) ≡ None → A) → ((k : K) → S q (f k) ≡ Equal → A) → A
+  known q [] A absent at = absent refl
+  known q (e ∷ es) A absent at =
+      elim (S q (f e.0)) as (λ r. S q (f e.0) ≡ r → A) [
+        | Less ↦ λ t. known q es A (λ none. absent (ap (λ r. cond (is_eq r) (Some e.1) (find S q (rekeyed f es))) t ∙ none)) at
+        | Equal ↦ λ t. at e.0 t
+        | Greater ↦ λ t. known q es A (λ none. absent (ap (λ r. cond (is_eq r) (Some e.1) (find S q (rekeyed f es))) t ∙ none)) at
+      ] refl
+
+  -- a tree that is made of pairs in order holds these pairs
+  pub rekeyed-collected : IsTotalOrder S → IsAntisymmetric S → (xs : List (K × X)) (n : BTreeMap K X) → T (is_sorted S (rekeyed f xs)) → IsFromIterResult (λ x y. S (f x) (f y)) xs n → rekeyed f n.entries ≡ rekeyed f xs
+  rekeyed-collected o same xs n h made =
+      let R : K → K → Ordering = λ x y. S (f x) (f y) in
+      let total : IsTotalOrder R = on_total f o in
+      let apart = IsDistinct-from_sorted R (keys_of xs) (sorted_from_rekeyed xs h) in
+      let es = rekeyed f n.entries in
+      let ys = rekeyed f xs in
+      let stored : (k : K) → find S (f k) es ≡ find S (f k) ys = λ k. find-rekeyed (f k) n.entries ∙ made.0 k ∙ update_all_none (eq_by_cmp_equiv total) (eq_by_cmp R) (λ x y. refl) xs k apart ∙ sym (find-rekeyed (f k) xs) in
+      let tied : (q : B) (k : K) → S q (f k) ≡ Equal → find S q es ≡ find S q ys = λ q k t. sym (find_tied S o q (f k) t es) ∙ stored k ∙ find_tied S o q (f k) t ys in
+      same_entries S o same es ys (is_sorted-rekeyed n.entries made.1) h (λ q. known q n.entries (find S q es ≡ find S q ys) (λ none. known q xs (find S q es ≡ find S q ys) (λ other. none ∙ sym other) (tied q)) (tied q))
 
 module _ {B X : Type 0} {S : B → B → Ordering} (o : IsTotalOrder S) (same : IsAntisymmetric S) where
   pub from_entries-put : (k : B) (v : X) (es : List (B × X)) → from_entries {R = S} (put S k v es) ≡ insert (from_entries es) k v

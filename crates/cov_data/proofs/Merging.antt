@@ -1,28 +1,16 @@
 -- What two files, and two maps of files, hold together.
-use Rattle.std.proofs.Common.{◌≡◌, ℕ, Bool, true, false, cond, List, [], ◌∷◌, Option, Some, None, Ordering, refl, ap, sym, ◌∙◌, arith}
+use Rattle.std.proofs.Common.{◌≡◌, ℕ, cond, List, [], ◌∷◌, Option, Some, None, Ordering, refl, ap, sym, ◌∙◌, arith}
 use Rattle.std.specs.declared.cmp.Ordering.TheVariants.{Less, Equal, Greater}
-use Rattle.std.specs.Prelude.{T, ◌&&◌}
+use Rattle.std.specs.Prelude.{T}
 use Rattle.std.specs.Option.{unwrap_or}
-use Rattle.std.specs.Ordering.{is_eq, is_lt}
+use Rattle.std.specs.Ordering.{is_eq}
 use Rattle.std.specs.Cmp.{IsTotalOrder}
 use Rattle.std.specs.List.{fold}
 use Rattle.std.specs.FinMap.{FinMap, get, insert, entries, find, is_sorted, entries_sorted, get-entries, get-empty, get-insert, get_tied, same_map}
 use Rattle.std.specs.FinMap.Entries.{below_all}
 use Rattle.cov_data.specs.DataSet.{Text, text_cmp, Place, place_cmp, File, Files, add_counts, joined_count, merged, no_rows, no_files, all_files}
+use Rattle.cov_data.proofs.MapViews.{first, second, less}
 use Rattle.cov_data.proofs.FileViews.{place_cmp_total, place_cmp_same, text_cmp_total, text_cmp_same}
-
-pub first : (a b : Bool) → T (a && b) → T a
-first true b p = tt
-first false b p = p
-
-pub second : (a b : Bool) → T (a && b) → T b
-second true b p = p
-second false b p = absurd p
-
-pub less : (r : Ordering) → T (is_lt r) → r ≡ Less
-less Less p = refl
-less Equal p = absurd p
-less Greater p = absurd p
 
 -- what is there, with what comes if it does
 abbrev pub joined : {X : Type 0} → (Option X → X → X) → Option X → Option X → Option X
@@ -31,7 +19,7 @@ joined op o (Some x) = Some (op o x)
 
 module _ {K X : Type 0} {R : K → K → Ordering} (o : IsTotalOrder R) where
   -- a key below all keys, or tied with one that is, is not found
-  find-below : (q x : K) (es : List (K × X)) → R q x ≡ Equal → T (below_all R x es) → find R q es ≡ None
+  pub find-below : (q x : K) (es : List (K × X)) → R q x ≡ Equal → T (below_all R x es) → find R q es ≡ None
   find-below q x [] t h = refl
   find-below q x (e ∷ es) t h = ap (λ r. cond (is_eq r) (Some e.1) (find R q es)) (o.congr q x e.0 t ∙ less (R x e.0) (first _ _ h)) ∙ find-below q x es t (second _ _ h)
 

@@ -12,7 +12,7 @@ use Rattle.std.proofs.lemmas.List.Elements.{All-from_recursion, recursion_from_A
 use Rattle.cov_data.specs.DataSet.{Text, place_cmp, File, DataSet, no_rows, file_of, IsInRange, IsSoundFile, IsSound}
 use Rattle.cov_data.specs.Rows.{RowView, row_of, file_rows, file_arcs, arc_cmp, distinct_in_order, rows_of, arcs_of}
 use Rattle.cov_data.proofs.FileViews.{place_cmp_total, text_cmp_total}
-use Rattle.cov_data.proofs.Merging.{first, second, less}
+use Rattle.cov_data.proofs.MapViews.{first, second, less}
 
 no_elements : {X : Type 0} (xs : List X) → length xs ≡ 0 → xs ≡ []
 no_elements [] h = refl

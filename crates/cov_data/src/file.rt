@@ -7,12 +7,13 @@ ghost use Rattle.cov_data.specs.DataSet.{add_count, merged, no_rows};
 
 use crate::rows::Row;
 use crate::sets::{add_line, listed_arcs, listed_lines};
+use itertools::{EitherOrBoth, Itertools};
 use std::alloc::{AllocError, Global};
 use std::collections::{BTreeMap, BTreeSet};
 use std::marker::Model;
 
 /// Where a row stands in its file.
-#[derive(PartialEq, Eq, PartialOrd, Ord, Drop)]
+#[derive(Clone, PartialEq, Eq, PartialOrd, Ord, Drop)]
 pub(crate) struct Place {
     pub(crate) context: String,
     pub(crate) from: i32,
@@ -22,16 +23,6 @@ pub(crate) struct Place {
 impl Place {
     ghost use Rattle.cov_data.specs.Stored.{place_view};
     ghost use Rattle.cov_data.specs.Rows.{row_view, row_of, place_lines};
-
-    pub(crate) fn copy(&self) -> Result<Place, AllocError>
-        ensures { IfOk result (λ k. place_view k ≡ place_view self.now) }
-    {
-        Ok(Place {
-            context: self.context.clone()?,
-            from: self.from,
-            to: self.to,
-        })
-    }
 
     pub(crate) fn numbers(&self) -> (i32, i32)
         ensures { result ≡ (place_view self.now).1 }
@@ -102,14 +93,48 @@ impl FileCounts {
         Ok(())
     }
 
-    /// Adds all counts of `other`. After a refusal some of them are added.
+    /// Adds all counts of `other`, one by one, since the counts here may be many more. After a refusal
+    /// some of them are added.
     pub(crate) fn merge(&mut self, other: &FileCounts) -> Result<(), AllocError>
         ensures ok { OnOk result (self.new ≡ merged self.old other.now) }
     {
         for (place, count) in &other.counts {
-            self.add(place.copy()?, *count)?;
+            self.add(place.clone()?, *count)?;
         }
         Ok(())
+    }
+
+    pub(crate) fn copied(&self) -> Result<FileCounts, AllocError>
+        ensures { IfOk result (λ copy. copy ≡ self.now) }
+    {
+        Ok(FileCounts {
+            counts: self.counts.clone()?,
+        })
+    }
+
+    /// The counts of both, in linear time: one walk goes over both side by side, and the map is
+    /// collected from places that are in order already.
+    pub(crate) fn united(&self, alloc: Global, other: &FileCounts) -> Result<FileCounts, AllocError>
+        ensures { IfOk result (λ all. all ≡ merged self.now other.now) }
+    {
+        let sides = self
+            .counts
+            .iter()
+            .merge_join_by(&other.counts, |mine, theirs| mine.0.cmp(theirs.0));
+        let mut counts = Vec::new(alloc);
+        for side in sides {
+            let (place, count) = match side {
+                EitherOrBoth::Left((place, count)) => (place, *count),
+                EitherOrBoth::Right((place, count)) => (place, *count),
+                EitherOrBoth::Both((place, mine), (_, theirs)) => {
+                    (place, mine.saturating_add(*theirs))
+                }
+            };
+            counts.push((place.clone()?, count))?;
+        }
+        Ok(FileCounts {
+            counts: counts.into_iter().collect(alloc)?,
+        })
     }
 
     /// Appends the rows, as rows of `path`. After a refusal some of them are there.

@@ -6,6 +6,7 @@ ghost use Rattle.cov_data.specs.DataSet.{no_files, add_path, add_row, add_file, 
 
 use crate::file::{FileCounts, Place};
 use crate::rows::Row;
+use itertools::{EitherOrBoth, Itertools};
 use std::alloc::{AllocError, Global};
 use std::collections::BTreeMap;
 use std::marker::Model;
@@ -91,14 +92,30 @@ impl FileMap {
         }
     }
 
-    /// Adds all files of `other`. After a refusal some of them are added.
-    pub(crate) fn add_all(&mut self, other: &FileMap) -> Result<(), AllocError>
-        ensures ok { OnOk result (self.new ≡ all_files self.old other.now) }
+    /// The files of both, in linear time: one walk goes over both side by side, and the map is
+    /// collected from paths that are in order already.
+    pub(crate) fn united(&self, other: &FileMap) -> Result<FileMap, AllocError>
+        ensures { IfOk result (λ all. all ≡ all_files self.now other.now) }
     {
-        for (path, file) in &other.files {
-            self.add_file(path.as_str(), file)?;
+        let sides = self
+            .files
+            .iter()
+            .merge_join_by(&other.files, |mine, theirs| mine.0.cmp(theirs.0));
+        let mut files = Vec::new(self.alloc);
+        for side in sides {
+            let (path, file) = match side {
+                EitherOrBoth::Left((path, file)) => (path, file.copied()?),
+                EitherOrBoth::Right((path, file)) => (path, file.copied()?),
+                EitherOrBoth::Both((path, mine), (_, theirs)) => {
+                    (path, mine.united(self.alloc, theirs)?)
+                }
+            };
+            files.push((path.clone()?, file))?;
         }
-        Ok(())
+        Ok(FileMap {
+            alloc: self.alloc,
+            files: files.into_iter().collect(self.alloc)?,
+        })
     }
 
     pub(crate) fn paths(&self) -> Result<Vec<String>, AllocError>

@@ -1,7 +1,6 @@
 use Rattle.std.proofs.Common.{◌≡◌, true, false, ap, sym, subst, refl, ◌∙◌, Bool, not}
-use Rattle.cov_data.specs.DataSet.{Text, IsSoundFile, IsSound, file_in, all_files, union, has_path, count_at}
+use Rattle.cov_data.specs.DataSet.{Text, IsSoundFile, IsSound, file_in, union, has_path, count_at}
 use Rattle.cov_data.proofs.Soundness.{all_files-sound, has_path-union, count_at-union}
-use Rattle.cov_data.proofs.Merging.{all_files-none}
 use Rattle.cov_data.proofs.dataset.Data.union.Goals as goal
 use Rattle.std.specs.Bool.{beq}
 
@@ -16,15 +15,10 @@ invariant_of-self c =
     let arcs = c.self.inside.arcs in
     let same : c.other.inside.arcs ≡ c.self.inside.arcs = same_flags _ _ c.if-self-other.false in
     let other : (p : Text) → IsSoundFile arcs (file_in c.other.inside.files p) = subst (λ b. (p : Text) → IsSoundFile b (file_in c.other.inside.files p)) same c.other.invariant in
-    let all : c.add_all-2.new.self ≡ all_files c.self.inside.files c.other.inside.files = c.in_ok-add_all-2.ensures.ok
-    ∙ ap (λ m. all_files m c.other.inside.files) (c.in_ok-add_all.ensures.ok ∙ ap (λ m. all_files m c.self.inside.files) c.new-files.ensures ∙ all_files-none c.self.inside.files) in
-    subst (λ m. (p : Text) → IsSoundFile arcs (file_in m p)) (sym all) (all_files-sound arcs c.self.inside.files c.other.inside.files c.self.invariant other)
+    subst (λ m. (p : Text) → IsSoundFile arcs (file_in m p)) (sym c.in_ok-self-inside.ensures) (all_files-sound arcs c.self.inside.files c.other.inside.files c.self.invariant other)
 
-united : (c : goal.After-drop-self-inside) → record { arcs = c.self.inside.arcs; files = c.add_all-2.new.self } ≡ union c.args.self.now c.args.other.now
-united c =
-    let all : c.add_all-2.new.self ≡ all_files c.self.inside.files c.other.inside.files = c.in_ok-add_all-2.ensures.ok
-    ∙ ap (λ m. all_files m c.other.inside.files) (c.in_ok-add_all.ensures.ok ∙ ap (λ m. all_files m c.self.inside.files) c.new-files.ensures ∙ all_files-none c.self.inside.files) in
-    (λ i. record { arcs = c.self.inside.arcs; files = all i }) ∙ (λ i. union (c.self.view_is i) (c.other.view_is i))
+united : (c : goal.After-drop-self-inside) → record { arcs = c.self.inside.arcs; files = c.in_ok-self-inside.field-0 } ≡ union c.args.self.now c.args.other.now
+united c = (λ i. record { arcs = c.self.inside.arcs; files = c.in_ok-self-inside.ensures i }) ∙ (λ i. union (c.self.view_is i) (c.other.view_is i))
 
 pub returns-clause-ok : goal.returns-clause-ok
 returns-clause-ok c = united c

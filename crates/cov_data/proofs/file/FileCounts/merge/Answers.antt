@@ -1,4 +1,4 @@
-use Rattle.std.proofs.Common.{ap, sym, ◌∙◌, ℕ}
+use Rattle.std.proofs.Common.{◌≡◌, ap, sym, ◌∙◌, ℕ, rules}
 use Rattle.std.specs.List.{fold}
 use Rattle.cov_data.specs.DataSet.{Place, File, add_count, merged, rekeyed}
 use Rattle.cov_data.specs.Stored.{place_view}
@@ -17,7 +17,8 @@ loop-place-init c =
 pub loop-place-preserved : goal.loop-place-preserved
 loop-place-preserved c =
     let left = rekeyed place_view c.next.new.self in
-    ap (λ h. fold step h left) (c.in_ok-add.ensures.ok ∙ ap (λ k. add_count c.loop-place.self k c.in-Some.count.now) c.in_ok-copy.ensures)
+    let alike : place_view c.in_ok-clone.field-0 ≡ place_view c.in-Some.place.now = search (rules, c.in_ok-clone.ensures) in
+    ap (λ h. fold step h left) (c.in_ok-add.ensures.ok ∙ ap (λ k. add_count c.loop-place.self k c.in-Some.count.now) alike)
     ∙ ap (λ xs. fold step c.loop-place.self (rekeyed place_view xs)) (sym c.in-Some.ensures.steps) ∙ c.loop-place.invariant
 
 pub returns : goal.returns

@@ -1,0 +1,8 @@
+use Rattle.std.proofs.Common.{◌≡◌, map, string_bytes}
+use Rattle.cov_data.specs.DataSet.{rekeyed, merged}
+use Rattle.cov_data.proofs.SideBySide.{entry_of}
+use Rattle.cov_data.proofs.Unions.{entry_by}
+use Rattle.cov_data.proofs.files.FileMap.united.Given as goal
+
+abbrev pub invariant-loop-side : goal.invariant-loop-side
+invariant-loop-side l = rekeyed string_bytes l.files.items ≡ map (entry_of (entry_by string_bytes) merged) l.yielded
