@@ -8,3 +8,4 @@ pub mod PatternHeights
 pub mod PatternHeld
 pub mod PatternRows
 pub mod PatternReads
+pub mod Reading

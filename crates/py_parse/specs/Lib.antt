@@ -1,0 +1,5 @@
+pub mod Open
+pub mod Machine
+pub mod Least
+pub mod Places
+pub mod Refusal
