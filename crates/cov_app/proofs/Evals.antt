@@ -1,5 +1,5 @@
 -- The value of an expression from those of its parts.
-use Rattle.std.proofs.Common.{◌≡◌, ℕ, List, Some, None, Result, Ok, Err, ℤ, Box, refl, sym, ap, ◌∙◌, subst, String, IfOk}
+use Rattle.std.proofs.Common.{◌≡◌, ℕ, List, Some, None, Result, Ok, Err, ℤ, Box, refl, sym, ap, ◌∙◌, subst, String}
 use Rattle.std.specs.Global.{Global}
 use Rattle.std.specs.Str.{IsUtf8, chars}
 use Rattle.std.specs.BTreeMap.{BTreeMap, get_by_text}
@@ -13,8 +13,8 @@ use Rattle.py_syntax.specs.declared.expr.Link.{Link}
 use Rattle.py_syntax.specs.declared.expr.Pair.{Pair}
 use Rattle.py_syntax.specs.Tree.{Expr, name, int, binary}
 use Rattle.py_syntax.specs.View.{plain_expr}
-use Rattle.py_meaning.specs.Value.{Vars, gives, raises, after, found, eval, binary_of, unset_name, unbuilt}
-use Rattle.std.specs.declared.alloc.AllocError.{AllocError as NoMemory}
+use Rattle.py_meaning.specs.Faults.{name_unknown}
+use Rattle.cov_app.specs.Walking.Value.{Vars, gives, raises, after, found, eval, binary_of, unbuilt}
 use Rattle.cov_app.specs.declared.walk.Raised.{Raised}
 use Rattle.cov_app.specs.Walk.{raised_of, answer_of, Values}
 
@@ -29,7 +29,7 @@ pub value_name : (m : Map) (bs : List ℕ) (z k : ℤ) → IsUtf8 bs → get_by_
 unfolding Values eval
 value_name m bs z k u h e = λ vs a. ap (found (chars bs)) (sym (a bs u) ∙ h) ∙ ap gives (sym e)
 
-pub value_unset : (m : Map) (bs : List ℕ) (x : Raised) → IsUtf8 bs → get_by_text m bs ≡ None → raised_of x ≡ unset_name (chars bs) → Values m (name (chars bs)) (Err x)
+pub value_unset : (m : Map) (bs : List ℕ) (x : Raised) → IsUtf8 bs → get_by_text m bs ≡ None → raised_of x ≡ name_unknown (chars bs) → Values m (name (chars bs)) (Err x)
 unfolding Values eval
 value_unset m bs x u h e = λ vs a. ap (found (chars bs)) (sym (a bs u) ∙ h) ∙ ap raises (sym e)
 
@@ -80,14 +80,13 @@ right_fails m e d f op a b r q z x e-is d-is f-is r-is q-is h k =
     let right : Values m (plain_expr b.value) (Err x) = subst (λ w. Values m (plain_expr w) (Err x)) f-is (subst (λ w. Values m (plain_expr f) w) q-is k) in
     subst (λ w. Values m w (Err x)) (sym (ap plain_expr e-is ∙ plain-Binary op a b)) (value_right m op (plain_expr a.value) (plain_expr b.value) z x left right)
 
-pub both_given : (m : Map) (e d f : Node) (op : BinOp) (a b : Box Node Global) (r q : Result ℤ Raised) (z y z' y' : ℤ) (s : Result (Result ℤ Raised) NoMemory) → e ≡ node.Binary op a b → d ≡ a.value → f ≡ b.value → r ≡ Ok z → q ≡ Ok y → Values m (plain_expr d) r → Values m (plain_expr f) q
-    → z' ≡ z → y' ≡ y → IfOk s (λ w. answer_of w ≡ binary_of op z' y') → IfOk s (λ w. Values m (plain_expr e) w)
-both_given m e d f op a b r q z y z' y' (Ok w) e-is d-is f-is r-is q-is h k z-is y-is given =
+pub both_given : (m : Map) (e d f : Node) (op : BinOp) (a b : Box Node Global) (r q : Result ℤ Raised) (z y z' y' : ℤ) (w : Result ℤ Raised) → e ≡ node.Binary op a b → d ≡ a.value → f ≡ b.value → r ≡ Ok z → q ≡ Ok y → Values m (plain_expr d) r → Values m (plain_expr f) q
+    → z' ≡ z → y' ≡ y → answer_of w ≡ binary_of op z' y' → Values m (plain_expr e) w
+both_given m e d f op a b r q z y z' y' w e-is d-is f-is r-is q-is h k z-is y-is given =
     let left : Values m (plain_expr a.value) (Ok z) = subst (λ w. Values m (plain_expr w) (Ok z)) d-is (subst (λ w. Values m (plain_expr d) w) r-is h) in
     let right : Values m (plain_expr b.value) (Ok y) = subst (λ w. Values m (plain_expr w) (Ok y)) f-is (subst (λ w. Values m (plain_expr f) w) q-is k) in
     let same : answer_of w ≡ binary_of op z y = given ∙ ap (λ v. binary_of op v y') z-is ∙ ap (binary_of op z) y-is in
     subst (λ v. Values m v w) (sym (ap plain_expr e-is ∙ plain-Binary op a b)) (value_both m op (plain_expr a.value) (plain_expr b.value) z y w left right same)
-both_given m e d f op a b r q z y z' y' (Err w) e-is d-is f-is r-is q-is h k z-is y-is given = tt
 
 pub int_given : (m : Map) (e : Node) (n k : ℤ) → e ≡ node.Int n → k ≡ n → Values m (plain_expr e) (Ok k)
 int_given m e n k e-is h = subst (λ w. Values m w (Ok k)) (sym (ap plain_expr e-is ∙ plain-Int n)) (value_int m n k h)

@@ -1,3 +1,4 @@
+pub mod Growth
 pub mod Evals
 pub mod Standing
 pub mod Tests
@@ -6,6 +7,11 @@ pub mod Nodes
 pub mod Simple
 pub mod Loops
 pub mod ErrTexts
+pub mod Walked
+pub mod Mirrors
+pub mod Agreeing
+pub mod AgreeingRuns
+pub mod Wholes
 pub mod Endings
 pub mod Answering
 pub mod SpellingLemmas

@@ -11,9 +11,9 @@ use Rattle.py_syntax.specs.declared.stmt.Arm.{Arm, out-Arm}
 use Rattle.py_syntax.specs.declared.stmt.Suite.{Suite as SuiteNode, out-Suite}
 use Rattle.py_syntax.specs.Tree.{OptSuite, has_suite, arm}
 use Rattle.py_syntax.specs.View.{plain_expr, plain_kind, plain_stmts, plain_suite, plain_opt_suite, plain_arms}
-use Rattle.py_meaning.specs.State.{marked, M, Out, give, normal, chain, step, next, stop, within}
-use Rattle.py_meaning.specs.Meaning.{exec, exec_kind, exec_arms, exec_else, exec_while, turns, with_test}
-use Rattle.py_meaning.proofs.Growth.{Grows, grows-exec, grows-next, grows-turns, grows-arms, grows-else, grows-while}
+use Rattle.cov_app.specs.Walking.State.{marked, M, Out, give, normal, chain, step, next, stop, within}
+use Rattle.cov_app.specs.Walking.Meaning.{exec, exec_kind, exec_arms, exec_else, exec_while, turns, with_test}
+use Rattle.cov_app.proofs.Growth.{Grows, grows-exec, grows-next, grows-turns, grows-arms, grows-else, grows-while}
 use Rattle.cov_app.specs.declared.walk.Raised.{Raised}
 use Rattle.cov_app.specs.declared.walk.RunFault.{RunFault}
 use Rattle.cov_app.specs.declared.walk.Left.{Left}

@@ -20,8 +20,8 @@ use Rattle.py_syntax.specs.declared.stmt.Suite as suites
 use Rattle.py_syntax.specs.declared.stmt.Arm as arms
 use Rattle.py_syntax.specs.Tree.{Expr, exprs, no_exprs, name, call, expr, assign, if', while, suite, stmt, arm}
 use Rattle.py_syntax.specs.View.{plain_expr, plain_exprs, plain_kind, plain_stmts, plain_suite, plain_opt_suite, plain_arms}
-use Rattle.py_meaning.specs.State.{marked, step}
-use Rattle.py_meaning.specs.Meaning.{exec_kind, simple, refused, expression, assignment, names_print}
+use Rattle.cov_app.specs.Walking.State.{marked, step}
+use Rattle.cov_app.specs.Walking.Meaning.{exec_kind, simple, refused, expression, assignment, names_print}
 
 pub plain-If : (as' : Vec Arm Global) (o : Option SuiteNode) → plain_kind (kind.If as' o) ≡ if' (plain_arms as'.items) (plain_opt_suite o)
 plain-If as' None = search kind.the_lemmas

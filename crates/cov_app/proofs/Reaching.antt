@@ -3,10 +3,10 @@ use Rattle.std.proofs.Common.{◌≡◌, ℕ, ◌+◌, Bool, List, [], ◌∷◌
 use Rattle.std.specs.Fmt.{signed_decimal}
 use Rattle.cov_outside.specs.Prefixes.{IsPrefix, GainsPrefix}
 use Rattle.py_syntax.specs.Tree.{Expr}
-use Rattle.py_meaning.specs.Value.{unbuilt}
-use Rattle.py_meaning.specs.State.{Act, thrown, State, end_of, M, bind, add, put, give, chain, step, note, read, write, stop, Out, normal, raised, next, using, store, print}
-use Rattle.py_meaning.specs.Meaning.{with_value, with_test, refused}
-use Rattle.py_meaning.proofs.Growth.{Grows, prefix-trans, grows-bind}
+use Rattle.cov_app.specs.Walking.Value.{unbuilt}
+use Rattle.cov_app.specs.Walking.State.{Act, thrown, State, end_of, M, bind, add, put, give, chain, step, note, read, write, stop, Out, normal, raised, next, using, store, print}
+use Rattle.cov_app.specs.Walking.Meaning.{with_value, with_test, refused}
+use Rattle.cov_app.proofs.Growth.{Grows, prefix-trans, grows-bind}
 use Rattle.cov_app.specs.declared.walk.Raised.{Raised}
 use Rattle.cov_app.specs.declared.walk.RunFault.{RunFault}
 use Rattle.cov_app.specs.declared.walk.Left.{Left}
@@ -109,13 +109,13 @@ value-given e f w z r is v = λ s st.
     record { state = s; stands = st; silent = refl; same = ap (λ q. using q f s w.steps) (v s.world.globals st.globals ∙ ap answer_of is) }
 
 throws : (x : Raised) (w : Walk) (s : State) → Stands w s → Stands w (add (thrown (raised_of x).kind) s)
-unfolding Rattle.py_meaning.specs.Arcs.arcs
+unfolding Rattle.cov_app.specs.Walking.Arcs.arcs
 throws x w s st = record { globals = st.globals; line = st.line; known = st.known }
 
 pub value-raised : (e : Expr) (f : ℤ → M Out) (w : Walk) (x : Raised) (r : Result ℤ Raised) → r ≡ Err x → Values w.globals e r → Moves (with_value e f) (leaves (left.Raised x)) w w
 unfolding Moves Values with_value read note
 value-raised e f w x r is v = λ s st.
-    record { state = add (thrown x.kind) s; stands = throws x w s st; silent = refl; same = ap (λ q. using q f s w.steps) (v s.world.globals st.globals ∙ ap answer_of is) }
+    record { state = add (thrown (raised_of x).kind) s; stands = throws x w s st; silent = refl; same = ap (λ q. using q f s w.steps) (v s.world.globals st.globals ∙ ap answer_of is) }
 
 pub test-given : (e : Expr) (f : Bool → M Out) (w : Walk) (b : Bool) (r : Result Bool Raised) → r ≡ Ok b → Tests w.globals e r → Moves (with_test e f) (f b) w w
 unfolding Moves Tests with_test read
@@ -125,7 +125,7 @@ test-given e f w b r is v = λ s st.
 pub test-raised : (e : Expr) (f : Bool → M Out) (w : Walk) (x : Raised) (r : Result Bool Raised) → r ≡ Err x → Tests w.globals e r → Moves (with_test e f) (leaves (left.Raised x)) w w
 unfolding Moves Tests with_test read note
 test-raised e f w x r is v = λ s st.
-    record { state = add (thrown x.kind) s; stands = throws x w s st; silent = refl; same = ap (λ q. using q f s w.steps) (v s.world.globals st.globals ∙ ap answer_of is) }
+    record { state = add (thrown (raised_of x).kind) s; stands = throws x w s st; silent = refl; same = ap (λ q. using q f s w.steps) (v s.world.globals st.globals ∙ ap answer_of is) }
 
 pub was-refused : (x : Raised) (w : Walk) → raised_of x ≡ unbuilt → Moves refused (leaves (left.Raised x)) w w
 unfolding Moves note

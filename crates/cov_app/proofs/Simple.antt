@@ -10,10 +10,10 @@ use Rattle.py_syntax.specs.declared.stmt.StmtKind as kind
 use Rattle.py_syntax.specs.declared.stmt.StmtKind.{StmtKind as KindNode}
 use Rattle.py_syntax.specs.Tree.{Expr, Exprs, exprs, no_exprs, name}
 use Rattle.py_syntax.specs.View.{plain_expr, plain_exprs, plain_kind}
-use Rattle.py_meaning.specs.Value.{unbuilt}
-use Rattle.py_meaning.specs.State.{M, Out, marked, step, give, normal, write, store, print}
-use Rattle.py_meaning.specs.Meaning.{with_value, refused, print_arguments, print_call, names_print, expression, assignment, simple}
-use Rattle.py_meaning.proofs.Growth.{Grows, grows-simple, grows-step}
+use Rattle.cov_app.specs.Walking.Value.{unbuilt}
+use Rattle.cov_app.specs.Walking.State.{M, Out, marked, step, give, normal, write, store, print}
+use Rattle.cov_app.specs.Walking.Meaning.{with_value, refused, print_arguments, print_call, names_print, expression, assignment, simple}
+use Rattle.cov_app.proofs.Growth.{Grows, grows-simple, grows-step}
 use Rattle.cov_app.specs.declared.walk.Raised.{Raised}
 use Rattle.cov_app.specs.declared.walk.RunFault.{RunFault}
 use Rattle.cov_app.specs.declared.walk.RunFault.TheVariants as faults

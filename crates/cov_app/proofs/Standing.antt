@@ -10,9 +10,10 @@ use Rattle.std.specs.Str.{IsUtf8, chars}
 use Rattle.std.specs.Map.{update}
 use Rattle.std.specs.BTreeMap.{BTreeMap, get_by_text}
 use Rattle.std.specs.BTreeSet.{BTreeSet, insert_key}
-use Rattle.py_meaning.specs.Value.{Vars, look, bind_name}
-use Rattle.py_meaning.specs.State.{marked, Acts, more}
-use Rattle.py_meaning.specs.Arcs.{Arc, kept, end, arc_to, arcs, arc_cmp, ordered, in_order}
+use Rattle.cov_app.specs.Walking.Value.{Vars, look, bind_name}
+use Rattle.cov_app.specs.Walking.State.{marked, Acts, more}
+use Rattle.py_meaning.specs.Crossings.{by_lines, ordered}
+use Rattle.cov_app.specs.Walking.Arcs.{Arc, kept, end, arc_to, arcs, in_order}
 use Rattle.cov_app.specs.declared.walk.Walk.{Walk}
 use Rattle.cov_app.specs.Walk.{Agree, mark_of, Notes, Stores}
 
@@ -32,7 +33,7 @@ same_chars a b u v =
 same_is : (a b x : List ℕ) → bytes_eq a b ≡ true → bytes_eq x a ≡ bytes_eq x b
 same_is a b x e = ap (bytes_eq x) ((bytes_eq-Decides a b).0 e)
 
-look-bind : (vs : Vars) (x y : List ℕ) (z : ℤ) → look (bind_name vs x z) y ≡ (if bytes_eq y x then Some z else look vs y)
+pub look-bind : (vs : Vars) (x y : List ℕ) (z : ℤ) → look (bind_name vs x z) y ≡ (if bytes_eq y x then Some z else look vs y)
 unfolding look bind_name
 look-bind [] x y z = refl
 look-bind (v ∷ vs) x y z = go (bytes_eq x v.0) refl (look-bind vs x y z)
@@ -67,10 +68,10 @@ stores w name z k m u e h = λ s st.
 
 -- ---- marks
 
-pub ordered-push : (done' new : List Arc) (a : Arc) → ordered done' (new ++ a ∷ []) ≡ insert_key arc_cmp (ordered done' new) a
+pub ordered-push : (done' new : List Arc) (a : Arc) → ordered done' (new ++ a ∷ []) ≡ insert_key by_lines (ordered done' new) a
 unfolding ordered
 ordered-push done' [] a = refl
-ordered-push done' (b ∷ bs) a = ordered-push (insert_key arc_cmp done' b) bs a
+ordered-push done' (b ∷ bs) a = ordered-push (insert_key by_lines done' b) bs a
 
 kept-mark : (again : Bool) (l : ℕ) (is : Acts) → l ≡ kept (more is (mark_of again l))
 kept-mark true l is = refl
@@ -89,7 +90,7 @@ uncrossed : (l : ℕ) (is : Acts) → l ≡ kept is → arcs (more is (marked l)
 unfolding arcs
 uncrossed l is e = ap (λ b. if b then arcs is else arcs is ++ arc_to is l ∷ []) (eq-eqb l (kept is) e)
 
-pub crosses : (w : Walk) (again : Bool) (l n : ℕ) (set : BTreeSet (ℤ × ℤ)) → (again ≡ true) ⊎ (l ≡ w.kept → ⊥) → set.keys ≡ insert_key arc_cmp w.arcs.keys (end w.kept, end l)
+pub crosses : (w : Walk) (again : Bool) (l n : ℕ) (set : BTreeSet (ℤ × ℤ)) → (again ≡ true) ⊎ (l ≡ w.kept → ⊥) → set.keys ≡ insert_key by_lines w.arcs.keys (end w.kept, end l)
     → Notes w again l (record { globals = w.globals; kept = l; arcs = set; steps = n })
 unfolding Notes
 crosses w again l n set moves keys = λ s st.
@@ -98,7 +99,7 @@ crosses w again l n set moves keys = λ s st.
       globals = st.globals;
       line = kept-mark again l s.acts;
       known =
-          keys ∙ ap (λ k. insert_key arc_cmp w.arcs.keys (end k, end l)) st.line ∙ ap (λ ks. insert_key arc_cmp ks (arc_to s.acts l)) st.known
+          keys ∙ ap (λ k. insert_key by_lines w.arcs.keys (end k, end l)) st.line ∙ ap (λ ks. insert_key by_lines ks (arc_to s.acts l)) st.known
           ∙ sym (ordered-push [] (arcs s.acts) (arc_to s.acts l)) ∙ ap in_order (sym (crossed again l s.acts moved));
     }
 
@@ -108,5 +109,5 @@ stays w l n same = λ s st.
     record { globals = st.globals; line = sym same; known = st.known ∙ ap in_order (sym (uncrossed l s.acts (same ∙ st.line))) }
 
 -- the arc that was put, in the meaning's words
-pub keyed : (ks new : List Arc) {a b p q : ℤ} → a ≡ p → b ≡ q → new ≡ insert_key arc_cmp ks (a, b) → new ≡ insert_key arc_cmp ks (p, q)
-keyed ks new {b = b} {p = p} e f h = h ∙ ap (λ x. insert_key arc_cmp ks (x, b)) e ∙ ap (λ y. insert_key arc_cmp ks (p, y)) f
+pub keyed : (ks new : List Arc) {a b p q : ℤ} → a ≡ p → b ≡ q → new ≡ insert_key by_lines ks (a, b) → new ≡ insert_key by_lines ks (p, q)
+keyed ks new {b = b} {p = p} e f h = h ∙ ap (λ x. insert_key by_lines ks (x, b)) e ∙ ap (λ y. insert_key by_lines ks (p, y)) f

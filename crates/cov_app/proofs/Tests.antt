@@ -13,7 +13,7 @@ use Rattle.py_syntax.specs.declared.expr.Pair.{Pair}
 use Rattle.py_syntax.specs.declared.expr.Comparison.{Comparison}
 use Rattle.py_syntax.specs.Tree.{Expr, compare, link, no_links}
 use Rattle.py_syntax.specs.View.{plain_expr, plain_links}
-use Rattle.py_meaning.specs.Value.{Vars, Ans, gives, raises, after, eval, holds, chain_of, truth, compare_of, unbuilt}
+use Rattle.cov_app.specs.Walking.Value.{Vars, Ans, gives, raises, after, eval, holds, chain_of, truth, compare_of, unbuilt}
 use Rattle.cov_app.specs.declared.walk.Raised.{Raised}
 use Rattle.cov_app.specs.Walk.{raised_of, answer_of, Values, Tests, Chains}
 
@@ -54,15 +54,14 @@ chain_right m d f ls l r q z x ls-is f-is r-is q-is h k = λ vs g.
     ∙ ap (λ q. after q (λ x. after (eval vs (plain_expr l.right)) (λ y. compare_of l.op x y))) (h vs g ∙ ap answer_of r-is)
     ∙ ap (λ q. after q (λ y. compare_of l.op z y)) (ap (λ w. eval vs (plain_expr w)) (sym f-is) ∙ k vs g ∙ ap answer_of q-is)
 
-pub chain_both : (m : Map) (d f : Node) (ls : List Link) (l : Link) (r q : Result ℤ Raised) (z y z' y' : ℤ) (op : Comparison) (s : Result (Result Bool Raised) NoMemory) → ls ≡ l ∷ [] → f ≡ l.right → op ≡ l.op → r ≡ Ok z → q ≡ Ok y → Values m (plain_expr d) r → Values m (plain_expr f) q
-    → z' ≡ z → y' ≡ y → IfOk s (λ w. answer_of w ≡ compare_of op z' y') → IfOk s (λ w. Chains m (plain_expr d) (plain_links ls) w)
+pub chain_both : (m : Map) (d f : Node) (ls : List Link) (l : Link) (r q : Result ℤ Raised) (z y z' y' : ℤ) (op : Comparison) (s : Result Bool Raised) → ls ≡ l ∷ [] → f ≡ l.right → op ≡ l.op → r ≡ Ok z → q ≡ Ok y → Values m (plain_expr d) r → Values m (plain_expr f) q
+    → z' ≡ z → y' ≡ y → answer_of s ≡ compare_of op z' y' → Chains m (plain_expr d) (plain_links ls) s
 unfolding Chains Values
-chain_both m d f ls l r q z y z' y' op (Ok s) ls-is f-is op-is r-is q-is h k z-is y-is given = λ vs g.
+chain_both m d f ls l r q z y z' y' op s ls-is f-is op-is r-is q-is h k z-is y-is given = λ vs g.
     ap (λ w. chain_of vs (plain_expr d) (plain_links w)) ls-is ∙ ap (chain_of vs (plain_expr d)) (plain-link l)
     ∙ ap (λ q. after q (λ x. after (eval vs (plain_expr l.right)) (λ y. compare_of l.op x y))) (h vs g ∙ ap answer_of r-is)
     ∙ ap (λ q. after q (λ y. compare_of l.op z y)) (ap (λ w. eval vs (plain_expr w)) (sym f-is) ∙ k vs g ∙ ap answer_of q-is)
     ∙ sym (given ∙ ap (λ o. compare_of o z' y') op-is ∙ ap (λ w. compare_of l.op w y') z-is ∙ ap (compare_of l.op z) y-is)
-chain_both m d f ls l r q z y z' y' op (Err s) ls-is f-is op-is r-is q-is h k z-is y-is given = tt
 
 pub test_chain : (m : Map) (e d : Node) (xs : List Link) (a : Box Node Global) (ls : Vec Link Global) (s : Result (Result Bool Raised) NoMemory) → e ≡ node.Compare a ls → d ≡ a.value → xs ≡ ls.items → IfOk s (λ r. Chains m (plain_expr d) (plain_links xs) r) → IfOk s (λ r. Tests m (plain_expr e) r)
 unfolding Chains Tests holds

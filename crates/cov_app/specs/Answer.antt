@@ -1,9 +1,6 @@
 -- Answers of a command, seen plainly, with their statuses and their texts on `err`.
-use Rattle.std.specs.Prelude.{ℕ, List, [], ◌∷◌, ◌++◌, Option, Some, None, codes, decimal}
+use Rattle.std.specs.Prelude.{ℕ, List, ◌++◌, codes, decimal}
 use Rattle.std.specs.String.{string_bytes}
-use Rattle.py_value.specs.declared.exception.ExcKind.{ExcKind}
-use Rattle.py_value.specs.declared.exception.ExcKind.TheVariants as kinds
-use Rattle.py_meaning.specs.Value.{Raised}
 use Rattle.cov_app.specs.declared.answer.Why.{Why}
 use Rattle.cov_app.specs.declared.answer.Why.TheVariants as why
 use Rattle.cov_app.specs.declared.answer.SyntaxKind.{SyntaxKind}
@@ -46,41 +43,6 @@ status_of write_fault = 74
 status_of shelf_fault = 74
 status_of no_memory = 70
 
-abbrev pub kind_name : ExcKind → List ℕ
-kind_name kinds.BaseException = codes "BaseException"
-kind_name kinds.SystemExit = codes "SystemExit"
-kind_name kinds.Exception = codes "Exception"
-kind_name kinds.ArithmeticError = codes "ArithmeticError"
-kind_name kinds.ZeroDivisionError = codes "ZeroDivisionError"
-kind_name kinds.OverflowError = codes "OverflowError"
-kind_name kinds.AssertionError = codes "AssertionError"
-kind_name kinds.AttributeError = codes "AttributeError"
-kind_name kinds.EOFError = codes "EOFError"
-kind_name kinds.ImportError = codes "ImportError"
-kind_name kinds.ModuleNotFoundError = codes "ModuleNotFoundError"
-kind_name kinds.LookupError = codes "LookupError"
-kind_name kinds.IndexError = codes "IndexError"
-kind_name kinds.KeyError = codes "KeyError"
-kind_name kinds.MemoryError = codes "MemoryError"
-kind_name kinds.NameError = codes "NameError"
-kind_name kinds.UnboundLocalError = codes "UnboundLocalError"
-kind_name kinds.RuntimeError = codes "RuntimeError"
-kind_name kinds.RecursionError = codes "RecursionError"
-kind_name kinds.TypeError = codes "TypeError"
-kind_name kinds.ValueError = codes "ValueError"
-
-abbrev pub after_kind : List ℕ → List ℕ
-after_kind [] = []
-after_kind (c ∷ cs) = codes ": " ++ c ∷ cs
-
--- an uncaught exception: its kind, and its text where there is one
-abbrev pub exception_line : Raised → List ℕ
-exception_line e = kind_name e.kind ++ after_kind e.text ++ 10 ∷ []
-
-abbrev pub raised_line : Option Raised → List ℕ
-raised_line None = []
-raised_line (Some e) = exception_line e
-
 abbrev pub kind_text : SyntaxKind → List ℕ
 kind_text BadCharacter = codes "BadCharacter"
 kind_text BadIndent = codes "BadIndent"
@@ -93,9 +55,9 @@ abbrev pub limit_text : LimitKind → List ℕ
 limit_text FileBytes = codes "FileBytes"
 limit_text Lines = codes "Lines"
 
--- what a command writes to `err`
-abbrev pub err_text : Answer → Option Raised → List ℕ
-err_text (program n) e = raised_line e
+-- what a command writes to `err`, where its program's ending writes these bytes
+abbrev pub err_text : Answer → List ℕ → List ℕ
+err_text (program n) e = e
 err_text (budget n) e = codes "coverage: budget of " ++ decimal n ++ codes " steps is spent\n"
 err_text (usage i) e = codes "coverage: usage: stopped after " ++ decimal i ++ codes " words\n"
 err_text (no_such_file name) e = codes "coverage: no file " ++ name ++ codes "\n"

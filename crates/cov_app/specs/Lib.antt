@@ -1,3 +1,5 @@
+pub mod Names
+pub mod Walking
 pub mod Walk
 pub mod Spelling
 pub mod Reading

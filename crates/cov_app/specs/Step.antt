@@ -1,13 +1,14 @@
 -- The step of a command: what its words and the files make of it.
-use Rattle.std.specs.Prelude.{◌≡◌, ℕ, if◌then◌else◌, List, [], ◌∷◌, ◌++◌, Option, Some, None, Result, Ok, Err, length, nat_lt, codes}
+use Rattle.std.specs.Prelude.{◌≡◌, ℕ, if◌then◌else◌, List, [], ◌∷◌, ◌++◌, ℤ, Option, Some, None, Result, Ok, Err, length, nat_lt, codes}
 use Rattle.std.specs.Fmt.{signed_decimal}
+use Rattle.std.specs.Str.{chars}
 use Rattle.cov_outside.specs.Files.{Files}
 use Rattle.cov_outside.specs.Prefixes.{GainsPrefix}
-use Rattle.py_syntax.specs.Tree.{Stmts}
-use Rattle.py_meaning.specs.Value.{Raised}
-use Rattle.py_meaning.specs.State.{Res, done, cut, end_of, Out, normal, raised}
-use Rattle.py_meaning.specs.Meaning.{meaning}
-use Rattle.py_meaning.specs.Arcs.{Arc, arcs_of, in_order}
+use Rattle.py_syntax.specs.Tree.{Text, Stmts}
+use Rattle.py_meaning.specs.Crossings.{crossings, lines_crossed}
+use Rattle.py_meaning.specs.Loading as loading
+use Rattle.py_meaning.specs.Loading.{loaded}
+use Rattle.py_meaning.specs.Program.{Outcome, finished, exited, failed, spent, err_of, Run, meaning}
 use Rattle.py_token.specs.declared.error.TokenError.{TokenError}
 use Rattle.py_token.specs.declared.error.TokenError.TheVariants as token_error
 use Rattle.cov_app.specs.declared.answer.Why.{Why}
@@ -21,6 +22,10 @@ use Rattle.cov_app.specs.Answer.{Answer, program, budget, usage, no_such_file, s
 use Rattle.cov_app.specs.Reading.{Reading, no_text, long, stuck, unbuilt, tree, unread, Reads}
 
 -- ---- the run
+
+-- a pair of neighbouring lines, where -1 stands for the outside of the module
+abbrev pub Arc : Type 0
+Arc = ℤ × ℤ
 
 abbrev pub arc_line : List ℕ → Arc → List ℕ
 arc_line path a = path ++ (codes " " ++ (signed_decimal a.0 ++ (codes " " ++ (signed_decimal a.1 ++ codes "\n"))))
@@ -37,36 +42,41 @@ budget_of_runs = 1000000
 abbrev pub most_bytes : ℕ
 most_bytes = 1048576
 
--- what a command does: its answer, the exception that its program ended by, and the bytes for `out`
+-- what a command does: its answer, the bytes that its program's ending writes to `err`, and the bytes for `out`
 pub record Stepped : Type 0 where
   pub answer : Answer
-  pub raised_by : Option Raised
+  pub ending : List ℕ
   pub out : List ℕ
 
 abbrev pub refusal : Answer → Stepped
-refusal a = record { answer = a; raised_by = None; out = [] }
+refusal a = record { answer = a; ending = []; out = [] }
 
-abbrev pub ended_by : Res Out → Answer
-ended_by (done normal s n) = program 0
-ended_by (done (raised e) s n) = program 1
-ended_by (cut s) = budget budget_of_runs
+abbrev pub ended_by : Outcome → Answer
+ended_by finished = program 0
+ended_by (exited status text) = program status
+ended_by (failed kind text) = program 1
+ended_by spent = budget budget_of_runs
 
-abbrev pub exception_of : Res Out → Option Raised
-exception_of (done normal s n) = None
-exception_of (done (raised e) s n) = Some e
-exception_of (cut s) = None
+-- the files of a script: no built form imports, so it is the only one
+abbrev pub files_of : List ℕ → Stmts → loading.Files
+files_of path t = (chars path, t) ∷ []
 
-abbrev pub printed_by : Res Out → List ℕ
-printed_by r = (end_of r).world.out
+-- the name of a script's module
+abbrev pub main_name : Text
+main_name = codes "__main__"
+
+-- the run of a script by the meaning of the language; its own name is the first of its words
+abbrev pub run_of : List ℕ → Stmts → List ℕ → Run
+run_of path t input = meaning (files_of path t) (chars path) main_name (chars path ∷ []) input budget_of_runs
 
 -- what a run prints, and then its arcs
-abbrev pub shown_by : List ℕ → Res Out → List ℕ
-shown_by path r = printed_by r ++ arc_lines path (in_order (arcs_of r))
+abbrev pub shown_by : List ℕ → Stmts → Run → List ℕ
+shown_by path t r = r.out ++ arc_lines path (lines_crossed (crossings (loaded (files_of path t) (chars path) main_name) 0 r.items))
 
-abbrev pub run_of : List ℕ → Stmts → Stepped
-run_of path t =
-    let r = meaning t budget_of_runs in
-    record { answer = ended_by r; raised_by = exception_of r; out = shown_by path r }
+abbrev pub step_of : List ℕ → Stmts → List ℕ → Stepped
+step_of path t input =
+    let r = run_of path t input in
+    record { answer = ended_by r.outcome; ending = err_of r.outcome; out = shown_by path t r }
 
 -- ---- the command
 
@@ -79,38 +89,39 @@ stuck_answer path (token_error.OpenBracket line) = syntax path line OpenBracket
 stuck_answer path (token_error.WideNumber line) = syntax path line WideNumber
 stuck_answer path token_error.NoMemory = no_memory
 
-abbrev pub of_reading : List ℕ → Reading → Stepped
-of_reading path (no_text line) = refusal (syntax path line BadCharacter)
-of_reading path (long lines) = refusal (limit Lines lines)
-of_reading path (stuck error) = refusal (stuck_answer path error)
-of_reading path unbuilt = refusal (syntax path 1 Unbuilt)
-of_reading path (tree t) = run_of path t
-of_reading path unread = refusal no_memory
+abbrev pub of_reading : List ℕ → List ℕ → Reading → Stepped
+of_reading path input (no_text line) = refusal (syntax path line BadCharacter)
+of_reading path input (long lines) = refusal (limit Lines lines)
+of_reading path input (stuck error) = refusal (stuck_answer path error)
+of_reading path input unbuilt = refusal (syntax path 1 Unbuilt)
+of_reading path input (tree t) = step_of path t input
+of_reading path input unread = refusal no_memory
 
-abbrev pub of_file : List ℕ → Option (List ℕ) → Reading → Stepped
-of_file path None reading = refusal (no_such_file path)
-of_file path (Some bytes) reading = if nat_lt most_bytes (length bytes) then refusal (limit FileBytes 1048577) else of_reading path reading
+abbrev pub of_file : List ℕ → Option (List ℕ) → List ℕ → Reading → Stepped
+of_file path None input reading = refusal (no_such_file path)
+of_file path (Some bytes) input reading =
+    if nat_lt most_bytes (length bytes) then refusal (limit FileBytes 1048577) else of_reading path input reading
 
-abbrev pub of_command : Result (List ℕ) ℕ → Files → Reading → Stepped
-of_command (Err i) files reading = refusal (usage i)
-of_command (Ok path) files reading = of_file path (files path) reading
+abbrev pub of_command : Result (List ℕ) ℕ → Files → List ℕ → Reading → Stepped
+of_command (Err i) files input reading = refusal (usage i)
+of_command (Ok path) files input reading = of_file path (files path) input reading
 
--- the step of the words over the files, where the script was read so
-abbrev pub step : List (List ℕ) → Files → Reading → Stepped
-step words files reading = of_command (command words) files reading
+-- the step of the words over the files and the input, where the script was read so
+abbrev pub step : List (List ℕ) → Files → List ℕ → Reading → Stepped
+step words files input reading = of_command (command words) files input reading
 
 -- a fault cuts the bytes for `out` short; any other answer is the step's
-abbrev pub Meets : Stepped → Why → Option Raised → Type 0 → List ℕ → List ℕ → Type 0
+abbrev pub Meets : Stepped → Why → List ℕ → Type 0 → List ℕ → List ℕ → Type 0
 Meets s why.WriteFault e tells before after = tells → GainsPrefix before after s.out
 Meets s why.ShelfFault e tells before after = tells → GainsPrefix before after s.out
 Meets s why.NoMemory e tells before after = tells → GainsPrefix before after s.out
-Meets s w e tells before after = (answer_of w ≡ s.answer) × (e ≡ s.raised_by) × (tells → after ≡ before ++ s.out)
+Meets s w e tells before after = (answer_of w ≡ s.answer) × (e ≡ s.ending) × (tells → after ≡ before ++ s.out)
 
 -- the answer is that of the step, and `out` gained its bytes
-pub record Answers (words : List (List ℕ)) (files : Files) (w : Why) (e : Option Raised) (tells : Type 0) (before after : List ℕ) : Type 0 where
+pub record Answers (words : List (List ℕ)) (files : Files) (input : List ℕ) (w : Why) (e : List ℕ) (tells : Type 0) (before after : List ℕ) : Type 0 where
   pub reading : Reading
   pub read : (path bytes : List ℕ) → command words ≡ Ok path → files path ≡ Some bytes → Reads bytes reading
-  pub met : Meets (step words files reading) w e tells before after
+  pub met : Meets (step words files input reading) w e tells before after
 
 -- what became of a text for `err`
 abbrev pub IsTold : Told → List ℕ → List ℕ → List ℕ → Type 0
@@ -119,21 +130,21 @@ IsTold told_variants.Failed text before after = GainsPrefix before after text
 IsTold told_variants.NoMemory text before after = GainsPrefix before after text
 
 -- the whole command: where the shelf tells its files the answer is the step's, and `err` gained its text
-pub record TakesStep (words : List (List ℕ)) (shelf_tells : Type 0) (files : Files) (w : Why) (t : Told) (out_tells : Type 0) (out_before out_after : List ℕ) (err_tells : Type 0) (err_before err_after : List ℕ) : Type 0 where
-  pub raised_by : Option Raised
-  pub answers : shelf_tells → Answers words files w raised_by out_tells out_before out_after
-  pub told : err_tells → IsTold t (err_text (answer_of w) raised_by) err_before err_after
+pub record TakesStep (words : List (List ℕ)) (shelf_tells : Type 0) (files : Files) (input : List ℕ) (w : Why) (t : Told) (out_tells : Type 0) (out_before out_after : List ℕ) (err_tells : Type 0) (err_before err_after : List ℕ) : Type 0 where
+  pub ending : List ℕ
+  pub answers : shelf_tells → Answers words files input w ending out_tells out_before out_after
+  pub told : err_tells → IsTold t (err_text (answer_of w) ending) err_before err_after
 
 -- the part of a script, and that of its bytes
-pub record AnswersScript (path : List ℕ) (files : Files) (w : Why) (e : Option Raised) (tells : Type 0) (before after : List ℕ) : Type 0 where
+pub record AnswersScript (path : List ℕ) (files : Files) (input : List ℕ) (w : Why) (e : List ℕ) (tells : Type 0) (before after : List ℕ) : Type 0 where
   pub reading : Reading
   pub read : (bytes : List ℕ) → files path ≡ Some bytes → Reads bytes reading
-  pub met : Meets (of_file path (files path) reading) w e tells before after
+  pub met : Meets (of_file path (files path) input reading) w e tells before after
 
-pub record AnswersSource (path bytes : List ℕ) (w : Why) (e : Option Raised) (tells : Type 0) (before after : List ℕ) : Type 0 where
+pub record AnswersSource (path bytes input : List ℕ) (w : Why) (e : List ℕ) (tells : Type 0) (before after : List ℕ) : Type 0 where
   pub reading : Reading
   pub read : Reads bytes reading
-  pub met : Meets (of_reading path reading) w e tells before after
+  pub met : Meets (of_reading path input reading) w e tells before after
 
 -- the answer, where memory sufficed
 abbrev pub OrNoMemory : Why → Answer → Type 0

@@ -2,15 +2,16 @@
 use Rattle.std.specs.Prelude.{◌≡◌, ℕ, Bool, true, false, List, ◌++◌, Option, Some, None, Result, Ok, Err, ℤ, String}
 use Rattle.std.specs.Global.{Global}
 use Rattle.std.specs.Str.{IsUtf8, chars}
-use Rattle.std.specs.String.{string_bytes}
 use Rattle.std.specs.BTreeMap.{BTreeMap, get_by_text}
 use Rattle.cov_outside.specs.Prefixes.{GainsPrefix}
-use Rattle.py_meaning.specs.Value as V
-use Rattle.py_meaning.specs.Value.{Vars, look, Ans, gives, raises, eval, holds, chain_of}
-use Rattle.py_meaning.specs.State.{Act, marked, marked_again, State, end_of, M, add, put, store, give, stop, Out, normal, raised}
-use Rattle.py_meaning.specs.Arcs.{kept, arcs, in_order}
+use Rattle.py_value.specs.Plain.{PlainRaised}
+use Rattle.py_meaning.specs.Faults.{name_unknown}
+use Rattle.cov_app.specs.Walking.Value.{too_large, unbuilt, Vars, look, Ans, gives, raises, eval, holds, chain_of}
+use Rattle.cov_app.specs.Walking.State.{Act, marked, marked_again, State, end_of, M, add, put, store, give, stop, Out, normal, raised}
+use Rattle.cov_app.specs.Walking.Arcs.{kept, arcs, in_order}
 use Rattle.py_syntax.specs.Tree.{Expr, Links}
 use Rattle.cov_app.specs.declared.walk.Raised.{Raised}
+use Rattle.cov_app.specs.declared.walk.Raised.TheVariants as raised_variant
 use Rattle.cov_app.specs.declared.walk.RunFault.{RunFault}
 use Rattle.cov_app.specs.declared.walk.Left.{Left}
 use Rattle.cov_app.specs.declared.walk.Left.TheVariants as left
@@ -20,8 +21,10 @@ use Rattle.cov_app.specs.declared.walk.Walk.{Walk}
 abbrev pub Agree : BTreeMap (String Global) ℤ → Vars → Type 0
 Agree globals vs = (bs : List ℕ) → IsUtf8 bs → get_by_text globals bs ≡ look vs (chars bs)
 
-abbrev pub raised_of : Raised → V.Raised
-raised_of x = record { kind = x.kind; text = string_bytes x.text }
+abbrev pub raised_of : Raised → PlainRaised
+raised_of (raised_variant.UnsetName x) = name_unknown x
+raised_of raised_variant.TooLarge = too_large
+raised_of raised_variant.Unbuilt = unbuilt
 
 abbrev pub answer_of : {A : Type 0} → Result A Raised → Ans A
 answer_of (Ok a) = gives a

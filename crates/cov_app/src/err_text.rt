@@ -1,21 +1,23 @@
 // The text of an answer on `err`.
-ghost use Rattle.std.specs.Prelude.{◌≡◌, ◌≤◌, IfOk, None};
+ghost use Rattle.std.specs.Prelude.{◌≡◌, ◌≤◌, IfOk, []};
 ghost use Rattle.std.specs.String.{string_bytes};
 ghost use Rattle.cov_outside.specs.Counts.{Rose};
-ghost use Rattle.cov_app.specs.Walk.{raised_of};
-ghost use Rattle.cov_app.specs.Answer.{syntax, answer_of, err_text, kind_text, limit_text, kind_name, exception_line, raised_line};
-ghost use Rattle.cov_app.specs.Runs.{plain_raised};
+ghost use Rattle.cov_app.specs.Answer.{syntax, answer_of, err_text, kind_text, limit_text};
+ghost use Rattle.cov_app.specs.Runs.{ending_of, raised_line, line_unset};
 ghost use Rattle.cov_app.specs.Step.{IsTold};
 
 use crate::answer::{LimitKind, SyntaxKind, Told, Why};
 use crate::walk::Raised;
 use cov_outside::{Sink, SinkError};
-use py_value::{ExcKind, NoMemory};
+use py_value::{NoMemory, Text};
 use std::alloc::Global;
+
+/// The most characters of a name that the text of its exception can hold: that text adds 22.
+const MOST_NAME_CHARS: usize = 1_048_554;
 
 /// Writes the text of the answer to `err`.
 pub(crate) fn tell<E: Sink>(alloc: Global, err: &mut E, why: &Why, raised: &Option<Raised>) -> Told
-    ensures told { E.tells → IsTold result (err_text (answer_of why.now) (plain_raised raised.now)) (E.contents err.old) (E.contents err.new) }
+    ensures told { E.tells → IsTold result (err_text (answer_of why.now) (ending_of raised.now)) (E.contents err.old) (E.contents err.new) }
     ensures count { E.faults err.old ≤ E.faults err.new }
     ensures failed { result ≡ Told.Failed → Rose (E.faults err.old) (E.faults err.new) }
 {
@@ -41,7 +43,7 @@ fn say<E: Sink>(alloc: Global, err: &mut E, text: &str) -> Told
 }
 
 fn err_line(alloc: Global, why: &Why, raised: &Option<Raised>) -> Result<String, NoMemory>
-    ensures { IfOk result (λ line. string_bytes line ≡ err_text (answer_of why.now) (plain_raised raised.now)) }
+    ensures { IfOk result (λ line. string_bytes line ≡ err_text (answer_of why.now) (ending_of raised.now)) }
 {
     match why {
         Why::Program(_) => program_line(alloc, raised),
@@ -60,7 +62,7 @@ fn err_line(alloc: Global, why: &Why, raised: &Option<Raised>) -> Result<String,
 }
 
 fn syntax_line(alloc: Global, file: &str, line: u32, kind: SyntaxKind) -> Result<String, NoMemory>
-    ensures { IfOk result (λ text. string_bytes text ≡ err_text (syntax file.now line kind) None) }
+    ensures { IfOk result (λ text. string_bytes text ≡ err_text (syntax file.now line kind) []) }
 {
     let kind = kind_text(kind);
     format!(in alloc; "coverage: {file}:{line}: {kind}\n")
@@ -90,7 +92,7 @@ fn limit_text(kind: LimitKind) -> &'static str
 
 /// The line of an uncaught exception, or nothing.
 fn program_line(alloc: Global, raised: &Option<Raised>) -> Result<String, NoMemory>
-    ensures { IfOk result (λ line. string_bytes line ≡ raised_line (plain_raised raised.now)) }
+    ensures { IfOk result (λ line. string_bytes line ≡ ending_of raised.now) }
 {
     match raised {
         None => Ok(String::new(alloc)),
@@ -99,40 +101,22 @@ fn program_line(alloc: Global, raised: &Option<Raised>) -> Result<String, NoMemo
 }
 
 fn exception_line(alloc: Global, raised: &Raised) -> Result<String, NoMemory>
-    ensures { IfOk result (λ line. string_bytes line ≡ exception_line (raised_of raised.now)) }
+    ensures { IfOk result (λ line. string_bytes line ≡ raised_line raised.now) }
 {
-    let kind = kind_name(raised.kind);
-    let text = raised.text.as_str();
-    if text.is_empty() {
-        return format!(in alloc; "{kind}\n");
+    match raised {
+        Raised::UnsetName(name) => unset_name_line(alloc, name),
+        Raised::TooLarge => String::from_str(alloc, "OverflowError: integer too large\n"),
+        Raised::Unbuilt => String::from_str(alloc, "TypeError: unsupported operand\n"),
     }
-    format!(in alloc; "{kind}: {text}\n")
 }
 
-fn kind_name(kind: ExcKind) -> &'static str
-    ensures { result.now ≡ kind_name kind }
+/// The text of an exception has no more characters than a text may have; a longer one is left out.
+fn unset_name_line(alloc: Global, name: &Text) -> Result<String, NoMemory>
+    ensures { IfOk result (λ line. string_bytes line ≡ line_unset name.now) }
 {
-    match kind {
-        ExcKind::BaseException => "BaseException",
-        ExcKind::SystemExit => "SystemExit",
-        ExcKind::Exception => "Exception",
-        ExcKind::ArithmeticError => "ArithmeticError",
-        ExcKind::ZeroDivisionError => "ZeroDivisionError",
-        ExcKind::OverflowError => "OverflowError",
-        ExcKind::AssertionError => "AssertionError",
-        ExcKind::AttributeError => "AttributeError",
-        ExcKind::EOFError => "EOFError",
-        ExcKind::ImportError => "ImportError",
-        ExcKind::ModuleNotFoundError => "ModuleNotFoundError",
-        ExcKind::LookupError => "LookupError",
-        ExcKind::IndexError => "IndexError",
-        ExcKind::KeyError => "KeyError",
-        ExcKind::MemoryError => "MemoryError",
-        ExcKind::NameError => "NameError",
-        ExcKind::UnboundLocalError => "UnboundLocalError",
-        ExcKind::RuntimeError => "RuntimeError",
-        ExcKind::RecursionError => "RecursionError",
-        ExcKind::TypeError => "TypeError",
-        ExcKind::ValueError => "ValueError",
+    if name.len() > MOST_NAME_CHARS {
+        return String::from_str(alloc, "NameError\n");
     }
+    let name = name.as_str();
+    format!(in alloc; "NameError: name '{name}' is not defined\n")
 }

@@ -1,10 +1,10 @@
 // Runs a module: what it prints, and then its arcs.
-ghost use Rattle.std.specs.Prelude.{◌≡◌, ℕ, ◌≤◌, IfOk, IsErrOf};
+ghost use Rattle.std.specs.Prelude.{◌≡◌, ℕ, List, ◌≤◌, IfOk, IsErrOf};
 ghost use Rattle.std.specs.String.{string_bytes};
 ghost use Rattle.cov_outside.specs.Counts.{Rose};
 ghost use Rattle.py_syntax.specs.View.{plain_module};
-ghost use Rattle.py_meaning.specs.Meaning.{meaning};
-ghost use Rattle.cov_app.specs.Step.{arc_line, arc_lines, budget_of_runs};
+ghost use Rattle.cov_app.specs.Spelling.Trees.{IsBuilt};
+ghost use Rattle.cov_app.specs.Step.{arc_line, arc_lines, run_of};
 ghost use Rattle.cov_app.specs.Runs.{last_arcs, Shows};
 
 use crate::walk::{Left, RunFault, Walk, run_suite, write};
@@ -24,7 +24,7 @@ pub(crate) fn run<O: Sink>(
     tree: &Module,
     out: &mut O,
 ) -> Result<Left, RunFault>
-    ensures shows { Shows path.now (meaning (plain_module tree.now) budget_of_runs) result O.tells (O.contents out.old) (O.contents out.new) }
+    ensures shows { IsBuilt (plain_module tree.now) → (input : List ℕ) → Shows path.now (plain_module tree.now) (run_of path.now (plain_module tree.now) input) result O.tells (O.contents out.old) (O.contents out.new) }
     ensures count { O.faults out.old ≤ O.faults out.new }
     ensures fault { IsErrOf result RunFault.WriteFault → Rose (O.faults out.old) (O.faults out.new) }
 {

@@ -1,11 +1,11 @@
 // The top call: one command over a shelf, an input and two sinks.
-ghost use Rattle.std.specs.Prelude.{◌≡◌, ◌≢◌, ◌≤◌, ◌↔◌, ℕ, Err, length, map};
+ghost use Rattle.std.specs.Prelude.{◌≡◌, ◌≢◌, ◌≤◌, ◌↔◌, ℕ, List, [], Err, length, map};
 ghost use Rattle.std.specs.String.{string_bytes};
 ghost use Rattle.cov_outside.specs.Counts.{Rose};
 ghost use Rattle.cov_app.specs.Command.{command};
 ghost use Rattle.cov_app.specs.Answer.{answer_of, status_of, usage, no_such_file, syntax};
 ghost use Rattle.cov_app.specs.Reading.{reading_of};
-ghost use Rattle.cov_app.specs.Runs.{plain_raised, answer_left, raised_left};
+ghost use Rattle.cov_app.specs.Runs.{ending_of, answer_left, ending_left};
 ghost use Rattle.cov_app.specs.Step.{Answers, AnswersScript, AnswersSource, OrNoMemory, TakesStep, of_reading, stuck_answer};
 
 use crate::answer::{End, LimitKind, SyntaxKind, Told, Why};
@@ -33,7 +33,7 @@ pub fn coverage<H: Shelf, I: Source, O: Sink, E: Sink>(
     err: &mut E,
 ) -> End
     // Where the shelf tells its files, the answer and the bytes are those of the step.
-    ensures step { TakesStep (map string_bytes words.now) H.tells (H.files shelf.old) result.why result.told O.tells (O.contents out.old) (O.contents out.new) E.tells (E.contents err.old) (E.contents err.new) }
+    ensures step { TakesStep (map string_bytes words.now) H.tells (H.files shelf.old) (I.left input.old) result.why result.told O.tells (O.contents out.old) (O.contents out.new) E.tells (E.contents err.old) (E.contents err.new) }
     ensures status { result.status ≡ status_of (answer_of result.why) }
 
     // For every shelf and sink.
@@ -60,7 +60,7 @@ fn answer<H: Shelf, O: Sink>(
     shelf: &mut H,
     out: &mut O,
 ) -> (Why, Option<Raised>)
-    ensures answers { H.tells → Answers (map string_bytes words.now) (H.files shelf.old) result.0 (plain_raised result.1) O.tells (O.contents out.old) (O.contents out.new) }
+    ensures answers { (input : List ℕ) → H.tells → Answers (map string_bytes words.now) (H.files shelf.old) input result.0 (ending_of result.1) O.tells (O.contents out.old) (O.contents out.new) }
     ensures usage { (i : ℕ) → (answer_of result.0 ≡ usage i) ↔ (command (map string_bytes words.now) ≡ Err i) }
     ensures write_fault { result.0 ≡ Why.WriteFault → Rose (O.faults out.old) (O.faults out.new) }
     ensures shelf_fault { result.0 ≡ Why.ShelfFault → Rose (H.faults shelf.old) (H.faults shelf.new) }
@@ -79,7 +79,7 @@ fn run_script<H: Shelf, O: Sink>(
     shelf: &mut H,
     out: &mut O,
 ) -> (Why, Option<Raised>)
-    ensures answers { H.tells → AnswersScript script.now (H.files shelf.old) result.0 (plain_raised result.1) O.tells (O.contents out.old) (O.contents out.new) }
+    ensures answers { (input : List ℕ) → H.tells → AnswersScript script.now (H.files shelf.old) input result.0 (ending_of result.1) O.tells (O.contents out.old) (O.contents out.new) }
     ensures no_usage { (i : ℕ) → answer_of result.0 ≢ usage i }
     ensures write_fault { result.0 ≡ Why.WriteFault → Rose (O.faults out.old) (O.faults out.new) }
     ensures shelf_fault { result.0 ≡ Why.ShelfFault → Rose (H.faults shelf.old) (H.faults shelf.new) }
@@ -102,7 +102,7 @@ fn run_source<O: Sink>(
     out: &mut O,
 ) -> (Why, Option<Raised>)
     requires { length bytes.now ≤ 1048576 }
-    ensures answers { AnswersSource script.now bytes.now result.0 (plain_raised result.1) O.tells (O.contents out.old) (O.contents out.new) }
+    ensures answers { (input : List ℕ) → AnswersSource script.now bytes.now input result.0 (ending_of result.1) O.tells (O.contents out.old) (O.contents out.new) }
     ensures no_usage { (i : ℕ) → answer_of result.0 ≢ usage i }
     ensures write_fault { result.0 ≡ Why.WriteFault → Rose (O.faults out.old) (O.faults out.new) }
     ensures no_shelf_fault { result.0 ≢ Why.ShelfFault }
@@ -119,7 +119,7 @@ fn run_source<O: Sink>(
 
 fn ended(left: Left) -> (Why, Option<Raised>)
     ensures answer { answer_of result.0 ≡ answer_left left }
-    ensures raised { plain_raised result.1 ≡ raised_left left }
+    ensures raised { ending_of result.1 ≡ ending_left left }
 {
     match left {
         Left::End => (Why::Program(0), None),
@@ -139,7 +139,7 @@ fn no_such_file(alloc: Global, script: &str) -> Why
 
 /// The answer to a source that was not read.
 fn refused(alloc: Global, script: &str, error: &SourceError) -> Why
-    ensures { OrNoMemory result (of_reading script.now (reading_of error.now)).answer }
+    ensures { OrNoMemory result (of_reading script.now [] (reading_of error.now)).answer }
 {
     match error {
         SourceError::NoText(line) => syntax(alloc, script, *line, SyntaxKind::BadCharacter),

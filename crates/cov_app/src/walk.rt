@@ -7,16 +7,17 @@ ghost use Rattle.cov_outside.specs.Prefixes.{GainsPrefix};
 ghost use Rattle.py_syntax.specs.Tree.{OptSuite, name as named};
 ghost use Rattle.py_syntax.specs.View.{plain_expr, plain_exprs, plain_links, plain_kind, plain_stmts, plain_suite, plain_opt_suite, plain_arms};
 ghost use Rattle.std.specs.BTreeSet.{insert_key};
-ghost use Rattle.py_meaning.specs.Arcs.{arc_cmp, end};
-ghost use Rattle.py_meaning.specs.Value.{unset_name, too_large, unbuilt, binary_of, compare_of};
-ghost use Rattle.py_meaning.specs.State.{marked, step};
-ghost use Rattle.py_meaning.specs.Meaning.{exec, exec_kind, exec_arms, exec_else, exec_while, simple, expression, assignment, print_call, names_print};
+ghost use Rattle.py_meaning.specs.Crossings.{by_lines};
+ghost use Rattle.cov_app.specs.Walking.Arcs.{end};
+ghost use Rattle.cov_app.specs.Walking.Value.{binary_of, compare_of};
+ghost use Rattle.cov_app.specs.Walking.State.{marked, step};
+ghost use Rattle.cov_app.specs.Walking.Meaning.{exec, exec_kind, exec_arms, exec_else, exec_while, simple, expression, assignment, print_call, names_print};
 ghost use Rattle.cov_app.specs.declared.walk.RunFault.TheVariants.{NoMemory};
-ghost use Rattle.cov_app.specs.Walk.{raised_of, answer_of, Values, Tests, Chains, Does, DoesOr, Moves, leaves};
+ghost use Rattle.cov_app.specs.Walk.{answer_of, Values, Tests, Chains, Does, DoesOr, Moves, leaves};
 
 use cov_outside::{Sink, SinkError};
 use py_syntax::{Arm, Comparison, Expr, Link, Stmt, StmtKind, Suite};
-use py_value::{BinOp, CmpOp, ExcKind, NoMemory};
+use py_value::{BinOp, CmpOp, NoMemory, Text};
 use std::alloc::{AllocError, AllocFailed, Global};
 use std::collections::{BTreeMap, BTreeSet};
 
@@ -27,11 +28,14 @@ pub(crate) enum RunFault {
     NoMemory,
 }
 
-/// A raised exception with its text.
+/// What a script of the built forms can raise.
 #[derive(Drop)]
-pub(crate) struct Raised {
-    pub kind: ExcKind,
-    pub text: String,
+pub(crate) enum Raised {
+    /// A name that isn't set.
+    UnsetName(Text),
+    TooLarge,
+    /// No accepted source has a form that gives this.
+    Unbuilt,
 }
 
 /// How a statement is left.
@@ -51,56 +55,28 @@ pub(crate) struct Walk {
     pub steps: u64,
 }
 
-fn unset_name(alloc: Global, name: &str) -> Result<Raised, NoMemory>
-    ensures { IfOk result (λ x. raised_of x ≡ unset_name (chars name.now)) }
-{
-    Ok(Raised {
-        kind: ExcKind::NameError,
-        text: format!(in alloc; "name '{name}' is not defined")?,
-    })
-}
-
-fn too_large(alloc: Global) -> Result<Raised, NoMemory>
-    ensures { IfOk result (λ x. raised_of x ≡ too_large) }
-{
-    Ok(Raised {
-        kind: ExcKind::OverflowError,
-        text: String::from_str(alloc, "integer too large")?,
-    })
-}
-
-/// No accepted source has a form that gives this.
-fn unbuilt(alloc: Global) -> Result<Raised, NoMemory>
-    ensures { IfOk result (λ x. raised_of x ≡ unbuilt) }
-{
-    Ok(Raised {
-        kind: ExcKind::TypeError,
-        text: String::from_str(alloc, "unsupported operand")?,
-    })
-}
-
-fn apply(alloc: Global, op: BinOp, x: i64, y: i64) -> Result<Result<i64, Raised>, NoMemory>
-    ensures { IfOk result (λ r. answer_of r ≡ binary_of op x y) }
+fn apply(op: BinOp, x: i64, y: i64) -> Result<i64, Raised>
+    ensures { answer_of result ≡ binary_of op x y }
 {
     let exact = match op {
         BinOp::Add => x.checked_add(y),
         BinOp::Sub => x.checked_sub(y),
-        _ => return Ok(Err(unbuilt(alloc)?)),
+        _ => return Err(Raised::Unbuilt),
     };
     match exact {
-        Some(z) => Ok(Ok(z)),
-        None => Ok(Err(too_large(alloc)?)),
+        Some(z) => Ok(z),
+        None => Err(Raised::TooLarge),
     }
 }
 
-fn compared(alloc: Global, op: Comparison, x: i64, y: i64) -> Result<Result<bool, Raised>, NoMemory>
-    ensures { IfOk result (λ r. answer_of r ≡ compare_of op x y) }
+fn compared(op: Comparison, x: i64, y: i64) -> Result<bool, Raised>
+    ensures { answer_of result ≡ compare_of op x y }
 {
     match op {
-        Comparison::Op(CmpOp::Eq) => Ok(Ok(x == y)),
-        Comparison::Op(CmpOp::Lt) => Ok(Ok(x < y)),
-        Comparison::Op(CmpOp::Gt) => Ok(Ok(y < x)),
-        _ => Ok(Err(unbuilt(alloc)?)),
+        Comparison::Op(CmpOp::Eq) => Ok(x == y),
+        Comparison::Op(CmpOp::Lt) => Ok(x < y),
+        Comparison::Op(CmpOp::Gt) => Ok(y < x),
+        _ => Err(Raised::Unbuilt),
     }
 }
 
@@ -124,9 +100,9 @@ fn value(
                 Ok(y) => y,
                 Err(raised) => return Ok(Err(raised)),
             };
-            apply(alloc, *op, x, y)
+            Ok(apply(*op, x, y))
         }
-        _ => Ok(Err(unbuilt(alloc)?)),
+        _ => Ok(Err(Raised::Unbuilt)),
     }
 }
 
@@ -139,7 +115,7 @@ fn fetch(
 {
     match globals.get(name) {
         Some(z) => Ok(Ok(*z)),
-        None => Ok(Err(unset_name(alloc, name)?)),
+        None => Ok(Err(Raised::UnsetName(Text::from_str(alloc, name)?))),
     }
 }
 
@@ -170,7 +146,7 @@ fn chain(
     ensures { IfOk result (λ r. Chains globals.now (plain_expr first.now) (plain_links links.now) r) }
 {
     if links.len() != 1 {
-        return Ok(Err(unbuilt(alloc)?));
+        return Ok(Err(Raised::Unbuilt));
     }
     let x = match value(alloc, globals, first)? {
         Ok(x) => x,
@@ -180,7 +156,7 @@ fn chain(
         Ok(y) => y,
         Err(raised) => return Ok(Err(raised)),
     };
-    compared(alloc, links[0].op, x, y)
+    Ok(compared(links[0].op, x, y))
 }
 
 /// A line as an arc shows it: -1 for the outside.
@@ -209,7 +185,7 @@ impl Walk {
 
     /// Notes the arc of leaving the module.
     pub(crate) fn leave(&mut self) -> Result<(), NoMemory>
-        ensures { OnOk result (self.new.arcs.keys ≡ insert_key arc_cmp self.old.arcs.keys (end self.old.kept, end 0)) }
+        ensures { OnOk result (self.new.arcs.keys ≡ insert_key by_lines self.old.arcs.keys (end self.old.kept, end 0)) }
     {
         self.arcs.insert((end_of_arc(self.kept), -1))?;
         Ok(())
@@ -373,7 +349,7 @@ fn run_simple<O: Sink>(
     match kind {
         StmtKind::Expr(e) => run_expression(alloc, walk, out, e),
         StmtKind::Assign { targets, value } => Ok(assign(alloc, walk, targets, value)?),
-        _ => Ok(Left::Raised(unbuilt(alloc)?)),
+        _ => Ok(Left::Raised(Raised::Unbuilt)),
     }
 }
 
@@ -394,7 +370,7 @@ fn run_expression<O: Sink>(
             args,
             comma: _,
         } => run_call(alloc, walk, out, callee, args),
-        _ => Ok(Left::Raised(unbuilt(alloc)?)),
+        _ => Ok(Left::Raised(Raised::Unbuilt)),
     }
 }
 
@@ -411,7 +387,7 @@ fn run_call<O: Sink>(
     ensures fault { IsErrOf result RunFault.WriteFault → Rose (O.faults out.old) (O.faults out.new) }
 {
     if !is_print(callee) || args.len() != 1 {
-        return Ok(Left::Raised(unbuilt(alloc)?));
+        return Ok(Left::Raised(Raised::Unbuilt));
     }
     match value(alloc, &walk.globals, &args[0])? {
         Ok(z) => {
@@ -462,10 +438,10 @@ fn assign(alloc: Global, walk: &mut Walk, targets: &[Expr], e: &Expr) -> Result<
     ensures steps { OnOk result (walk.new.steps ≡ walk.old.steps) }
 {
     if targets.len() != 1 {
-        return Ok(Left::Raised(unbuilt(alloc)?));
+        return Ok(Left::Raised(Raised::Unbuilt));
     }
     let Expr::Name(name) = &targets[0] else {
-        return Ok(Left::Raised(unbuilt(alloc)?));
+        return Ok(Left::Raised(Raised::Unbuilt));
     };
     match value(alloc, &walk.globals, e)? {
         Ok(z) => {

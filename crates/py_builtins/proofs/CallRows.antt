@@ -1,11 +1,11 @@
 -- Rows of the table of calls, computed. The expected values are those of the Python Standard Library Reference.
-use Rattle.std.proofs.Common.{◌≡◌, ℕ, refl, pos, negsuc, Ok, Err, [], ◌∷◌, List, map, true, false, codes, Result}
-use Rattle.py_value.specs.declared.builtin.Builtin.TheVariants.{Print, Len, Range, Int, Input, Exit}
-use Rattle.py_value.specs.declared.builtin.Method.TheVariants.{Append, Pop, Get, Keys, StartsWith, Join, Split}
-use Rattle.py_value.specs.declared.cause.Cause.TheVariants.{WrongArgumentCount, BadArgument, InvalidLiteral, ZeroStep, IntegerTooLarge, NoInput, EmptySeparator, PopIndex, UnhashableKey}
+use Rattle.std.proofs.Common.{◌≡◌, ℕ, refl, pos, negsuc, Ok, Err, [], ◌∷◌, List, true, false, codes}
+use Rattle.py_value.specs.declared.builtin.Builtin.TheVariants.{Len, Range, Input, Exit}
+use Rattle.py_value.specs.declared.builtin.Method.TheVariants.{Append, Pop, Get, StartsWith, Join, Split}
+use Rattle.py_value.specs.declared.cause.Cause.TheVariants.{BadArgument, InvalidLiteral, ZeroStep, IntegerTooLarge, NoInput, EmptySeparator, PopIndex, UnhashableKey}
 use Rattle.py_value.specs.declared.exception.ExcKind.TheVariants.{SystemExit, KeyError}
 use Rattle.py_value.specs.Causes.{raised_by}
-use Rattle.py_value.specs.Plain.{PlainValue, none_value, bool_value, int_value, str_value, tuple_of, list_at, dict_at, no_argument, argument, list_object, dict_object, PlainHeap}
+use Rattle.py_value.specs.Plain.{none_value, bool_value, int_value, str_value, tuple_of, list_at, dict_at, argument, list_object, dict_object, PlainHeap}
 use Rattle.py_builtins.specs.Arguments.{Answer}
 use Rattle.py_builtins.specs.Methods.{method_of, no_attribute, texts}
 use Rattle.py_builtins.specs.Builtins.{signed, builtin_of}

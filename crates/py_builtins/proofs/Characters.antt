@@ -1,5 +1,5 @@
 -- Walks over the characters of a text.
-use Rattle.std.proofs.Common.{◌≡◌, ◌≢◌, ℕ, zero, suc, ◌+◌, ◌<◌, ◌≤◌, ◌^◌, ◌||◌, nat_eq, nat_lt, ◌&&◌, ℤ, Bool, true, false, IsTrue, List, [], ◌∷◌, ◌++◌, length, get_or, drop, refl, ap, sym, ◌∙◌, arith}
+use Rattle.std.proofs.Common.{◌≡◌, ◌≢◌, ℕ, zero, suc, ◌+◌, ◌<◌, ◌≤◌, ◌^◌, ◌||◌, nat_lt, ◌&&◌, ℤ, Bool, true, false, IsTrue, List, [], ◌∷◌, ◌++◌, length, get_or, drop, refl, ap, sym, ◌∙◌, arith}
 use Rattle.std.proofs.lemmas.Bool.{eq-eqb, ne_eqb}
 use Rattle.std.proofs.lemmas.List.{at_drop_more, at_drop_all, length_push}
 use Rattle.std.proofs.lemmas.Bool.Decides.{nat_tests}
@@ -12,7 +12,7 @@ use Rattle.std.specs.Str.{chars, IsAscii}
 use lib.Signed.{mag}
 use Rattle.py_builtins.specs.Written.{are_ascii}
 use Rattle.py_builtins.specs.Displays.{has, escaped, all_escaped}
-use Rattle.py_builtins.specs.Writing.{Writing, whole, ◌▸◌}
+use Rattle.py_builtins.specs.Writing.{whole, ◌▸◌}
 
 -- one more character is taken
 pub chars_left : (cs ys : List ℕ) (x : ℕ) → (length ys < length cs) × (x ≡ get_or cs (length ys) x) → drop (length ys) cs ≡ x ∷ drop (length (ys ++ x ∷ [])) cs

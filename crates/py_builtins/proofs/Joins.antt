@@ -4,7 +4,7 @@ use Rattle.py_value.specs.declared.cause.Cause.{Cause}
 use Rattle.py_value.specs.declared.cause.Cause.TheVariants.{BadArgument, TooManyItems}
 use Rattle.py_value.specs.declared.value.Value.{Value}
 use Rattle.py_value.specs.View.{plain, plains}
-use Rattle.py_value.specs.Sequences.{most_items, within_limit}
+use Rattle.py_value.specs.Sequences.{most_items}
 use Rattle.py_builtins.specs.Methods.{each_after, each_length, are_texts, characters_in, joined_texts}
 use Rattle.py_builtins.proofs.Lists.{length_each_after}
 

@@ -1,5 +1,5 @@
 -- Values whose text is their display.
-use Rattle.std.proofs.Common.{◌≡◌, List, ℕ, [], Option, Box, refl, ap, sym, ◌∙◌}
+use Rattle.std.proofs.Common.{◌≡◌, List, ℕ, [], Option, Box, ap, sym, ◌∙◌}
 use Rattle.std.specs.Global.{Global}
 use Rattle.py_value.specs.declared.exception.ExcKind.{ExcKind}
 use Rattle.py_value.specs.declared.value.Value.{Value, roll-Value, out-Value, roll-out-Value}

@@ -1,5 +1,5 @@
 -- Pieces of writing, one behind the other.
-use Rattle.std.proofs.Common.{◌≡◌, ℕ, zero, suc, ◌+◌, ◌<◌, ◌≤◌, ◌==◌, nat_le, Bool, true, false, IsTrue, IsErrAnd, List, [], ◌∷◌, ◌++◌, length, get_or, drop, add-one, Result, Ok, Err, Option, Some, None, refl, ap, sym, ◌∙◌, subst, append_assoc, append-nil, length-append, arith, if◌then◌else◌}
+use Rattle.std.proofs.Common.{◌≡◌, ℕ, zero, suc, ◌+◌, ◌<◌, ◌≤◌, nat_le, Bool, false, IsTrue, IsErrAnd, List, [], ◌∷◌, ◌++◌, length, drop, add-one, Result, Ok, Err, Some, refl, ap, sym, ◌∙◌, subst, append_assoc, append-nil, length-append, arith, if◌then◌else◌}
 use Rattle.std.specs.List.{slice_get}
 use Rattle.std.proofs.lemmas.Bool.Decides.{nat_tests}
 use Rattle.std.proofs.lemmas.Option.{slice_get_within, get_or_from_slice_get}

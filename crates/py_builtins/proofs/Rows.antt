@@ -1,10 +1,8 @@
 -- Rows of texts and displays, computed.
-use Rattle.std.proofs.Common.{◌≡◌, refl, pos, negsuc, Ok, Err, [], ◌∷◌, true, codes, Some, None}
+use Rattle.std.proofs.Common.{◌≡◌, refl, negsuc, Ok, [], ◌∷◌, true, codes}
 use Rattle.std.specs.Fmt as F
 use Rattle.py_value.specs.declared.builtin.Builtin.TheVariants.{Exit}
-use Rattle.py_value.specs.declared.cause.Cause.TheVariants.{TooDeep, TooManyItems}
 use Rattle.py_value.specs.declared.exception.ExcKind.TheVariants.{KeyError, ValueError}
-use Rattle.py_value.specs.Causes.{raised_by}
 use Rattle.py_value.specs.Plain.{none_value, bool_value, int_value, str_value, tuple_of, list_at, dict_at, kind_value, exc_value, builtin_value, no_argument, argument, list_object, dict_object}
 use Rattle.py_builtins.specs.Texts as T
 use Rattle.py_builtins.specs.Texts.{str_text, repr_text}

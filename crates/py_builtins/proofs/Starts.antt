@@ -1,5 +1,5 @@
 -- How texts begin.
-use Rattle.std.proofs.Common.{◌≡◌, ℕ, zero, suc, ◌<◌, ◌≤◌, ◌&&◌, nat_eq, false, List, [], ◌∷◌, length, take, drop, get_or, refl, ap, sym, ◌∙◌, arith}
+use Rattle.std.proofs.Common.{◌≡◌, ℕ, zero, suc, ◌<◌, ◌≤◌, ◌&&◌, nat_eq, false, List, [], ◌∷◌, length, take, drop, refl, ap, arith}
 use Rattle.py_value.specs.Sequences.{begins}
 
 -- a text that ended before the other one

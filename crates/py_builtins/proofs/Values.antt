@@ -1,18 +1,18 @@
 -- Displays of values, step by step.
-use Rattle.std.proofs.Common.{◌≡◌, ℕ, zero, suc, ◌-◌, ◌<◌, Bool, false, List, [], ◌∷◌, ◌++◌, length, map, get_or, Result, Ok, Err, Option, Some, None, refl, ap, sym, ◌∙◌, arith, if◌then◌else◌, unwrap_or}
+use Rattle.std.proofs.Common.{◌≡◌, ℕ, zero, suc, ◌-◌, ◌<◌, Bool, false, List, [], length, map, get_or, Result, Some, refl, ap, sym, ◌∙◌, arith, if◌then◌else◌, unwrap_or}
 use Rattle.std.specs.List.{slice_get}
 use Rattle.std.specs.Option.{option_map}
 use Rattle.std.proofs.lemmas.Option.{slice_get-map, slice_get-get_or, slice_get_read, slice_get_within}
 use Rattle.std.proofs.lemmas.List.{length-map}
 use Rattle.py_value.specs.declared.value.Value.{Value}
 use Rattle.py_value.specs.Heaps.{pairs_of, values_of}
-use Rattle.py_value.specs.Plain.{PlainValue, none_value, PlainHeap, PlainObject, list_object, dict_object, listed, packed, tuple_of}
+use Rattle.py_value.specs.Plain.{PlainValue, none_value, PlainHeap, PlainObject, list_object, dict_object, tuple_of}
 use Rattle.py_value.specs.View.{plain, plains}
 use Rattle.py_value.proofs.Levels.{listed-packed}
 use Rattle.py_builtins.specs.declared.writer.Stop.{Stop}
 use Rattle.py_builtins.specs.Displays.{display_step, tuple_display}
 use Rattle.py_builtins.specs.Texts.{display_within, text_within, text_step}
-use Rattle.py_builtins.specs.Writing.{Writing, whole, broken, ◌▸◌}
+use Rattle.py_builtins.specs.Writing.{Writing, broken}
 use Rattle.py_builtins.specs.Written.{IsWritten}
 use Rattle.py_builtins.proofs.Pieces.{written_same}
 

@@ -65,7 +65,7 @@ is_before (negsuc step) n bound = is_lt (int_cmp bound n)
 -- the numbers from one on that stand before a bound, by steps; at most so many
 unfoldable pub numbers_before : ℕ → ℤ → ℤ → ℤ → List PlainValue
 numbers_before zero bound step n = []
-numbers_before (suc most) bound step n = if is_before step n bound then int_value n ∷ numbers_before most bound step (n +ℤ step) else []
+numbers_before (suc most) bound step n = elim (is_before step n bound) [ true ↦ int_value n ∷ numbers_before most bound step (n +ℤ step) | false ↦ [] ]
 
 -- a new list of the numbers; a million and some more numbers are too many
 abbrev pub range_between : Option ℤ → Option ℤ → Option ℤ → PlainHeap → Answer

@@ -7,7 +7,7 @@ use Rattle.py_value.specs.declared.exception.ExcKind.{ExcKind}
 use Rattle.py_value.specs.declared.exception.ExcKind.TheVariants.{BaseException, SystemExit, Exception, ArithmeticError, ZeroDivisionError, OverflowError, AssertionError, AttributeError, EOFError, ImportError, ModuleNotFoundError, LookupError, IndexError, KeyError, MemoryError, NameError, UnboundLocalError, RuntimeError, RecursionError, TypeError, ValueError}
 use Rattle.py_value.specs.Plain.{PlainValue, none_value, bool_value, int_value, str_value, tuple_value, list_at, dict_at, func_value, module_value, kind_value, exc_value, builtin_value, PlainArgument, no_argument, argument, listed, PlainHeap}
 use Rattle.py_value.specs.Heaps.{list_items, dict_pairs}
-use Rattle.py_builtins.specs.Writing.{Writing, whole, broken, ◌▸◌}
+use Rattle.py_builtins.specs.Writing.{Writing, whole, ◌▸◌}
 
 -- the name of a kind of exceptions
 abbrev pub kind_name : ExcKind → List ℕ

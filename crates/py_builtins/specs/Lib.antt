@@ -1,8 +1,10 @@
+pub mod Arguments
+pub mod Builtins
+pub mod Calls
+pub mod Displays
+pub mod Inputs
+pub mod Methods
+pub mod Texts
 pub mod World
 pub mod Writing
 pub mod Written
-pub mod Displays
-pub mod Texts
-pub mod Arguments
-pub mod Methods
-pub mod Builtins

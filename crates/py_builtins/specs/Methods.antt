@@ -1,9 +1,9 @@
 -- What a method gives: the value and the heap behind it, or the exception. In the order of the table of calls.
-use Rattle.std.specs.Prelude.{ℕ, zero, suc, ◌+◌, ◌-◌, ◌||◌, ◌&&◌, nat_eq, nat_le, nat_lt, Bool, true, false, if◌then◌else◌, ℤ, pos, negsuc, List, [], ◌∷◌, ◌++◌, length, map, remove, Option, Some, None, Result, Ok, Err, codes}
+use Rattle.std.specs.Prelude.{ℕ, zero, suc, ◌+◌, ◌-◌, ◌||◌, ◌&&◌, nat_eq, nat_le, nat_lt, Bool, true, false, if◌then◌else◌, ℤ, negsuc, List, [], ◌∷◌, ◌++◌, length, map, remove, Option, Some, None, Result, Ok, Err, codes}
 use Rattle.py_value.specs.declared.builtin.Method.{Method}
 use Rattle.py_value.specs.declared.builtin.Method.TheVariants.{Append, Pop, Get, Keys, StartsWith, Join, Split}
 use Rattle.py_value.specs.declared.cause.Cause.{Cause}
-use Rattle.py_value.specs.declared.cause.Cause.TheVariants.{WrongArgumentCount, UnhashableKey, BadArgument, EmptySeparator, PopIndex, TooManyItems}
+use Rattle.py_value.specs.declared.cause.Cause.TheVariants.{UnhashableKey, BadArgument, EmptySeparator, PopIndex, TooManyItems}
 use Rattle.py_value.specs.declared.exception.ExcKind.TheVariants.{AttributeError}
 use Rattle.py_value.specs.Answers.{◌>>=◌, in_words}
 use Rattle.py_value.specs.Causes.{raised_by, key_error}

@@ -1,5 +1,5 @@
 -- How writing comes out in the code.
-use Rattle.std.specs.Prelude.{◌≡◌, ℕ, zero, suc, nat_lt, Bool, true, false, ◌&&◌, List, [], ◌∷◌, Result, Ok, Err, codes}
+use Rattle.std.specs.Prelude.{◌≡◌, ℕ, zero, suc, nat_lt, Bool, true, ◌&&◌, List, [], ◌∷◌, Result, Ok, Err, codes}
 use Rattle.py_builtins.specs.declared.writer.Stop.{Stop}
 use Rattle.py_builtins.specs.declared.writer.Stop.TheVariants.{Raises, NoMemory}
 use Rattle.py_builtins.specs.Writing.{Writing, whole, ◌▸◌, answer_of}

@@ -7,6 +7,7 @@ ghost use Rattle.py_value.specs.Heaps.{dict_pairs, dict_keys};
 ghost use Rattle.py_builtins.specs.Methods.{pop_key, pop_key_or, pop_of_dict, get_or, get_of, keys_of};
 
 use crate::arguments::{are_none, only, pair};
+use crate::pairs::pair_count;
 use py_value::key::is_key;
 use py_value::{Addr, Cause, Heap, NoMemory, Raised, Value};
 use std::alloc::Global;
@@ -133,19 +134,9 @@ fn copy_keys(alloc: Global, dict: Addr, heap: &Heap) -> Result<Vec<Value>, NoMem
     ensures { IfOk result (λ keys. plains keys.items ≡ dict_keys (plain_heap heap.now) dict.place) }
 {
     let mut keys = Vec::new(alloc);
-    let count = pair_count(dict, heap);
+    let count = pair_count(heap, dict);
     for at in 0..count {
         keys.push(heap.key(dict, at)?)?;
     }
     Ok(keys)
-}
-
-fn pair_count(dict: Addr, heap: &Heap) -> usize
-    ensures { result ≡ length (dict_pairs (plain_heap heap.now) dict.place) }
-{
-    if heap.is_list(dict) {
-        0
-    } else {
-        heap.len(dict)
-    }
 }

@@ -73,7 +73,7 @@ fn display_pair(
 }
 
 /// The number of a dict's pairs.
-fn pair_count(heap: &Heap, dict: Addr) -> usize
+pub(crate) fn pair_count(heap: &Heap, dict: Addr) -> usize
     ensures { result ≡ length (dict_pairs (plain_heap heap.now) dict.place) }
 {
     if heap.is_list(dict) {

@@ -6,7 +6,7 @@ use std::alloc::Global;
 
 /// A value to be made in a heap.
 #[derive(Clone, Copy)]
-enum Lit {
+pub(crate) enum Lit {
     None,
     Bool(bool),
     Int(i64),
@@ -47,7 +47,7 @@ fn texts(alloc: Global, items: &[&str]) -> Result<Vec<Value>, NoMemory> {
     Ok(values)
 }
 
-fn make(alloc: Global, lit: Lit, heap: &mut Heap) -> Result<Value, NoMemory> {
+pub(crate) fn make(alloc: Global, lit: Lit, heap: &mut Heap) -> Result<Value, NoMemory> {
     match lit {
         Lit::None => Ok(Value::None),
         Lit::Bool(b) => Ok(Value::Bool(b)),
@@ -424,17 +424,6 @@ static CALLS: [Call; 44] = [
         Texts(&["a"]),
     ),
 ];
-
-fn calls_give(alloc: Global, call: &Call) -> Result<bool, NoMemory> {
-    let mut heap = Heap::new(alloc);
-    let on = make(alloc, call.1, &mut heap)?;
-    let mut args = Vec::new(alloc);
-    for arg in call.2 {
-        args.push(make(alloc, *arg, &mut heap)?)?;
-    }
-    let answer = call_method(alloc, call.0, &on, &args, &mut heap)?;
-    Ok(is_wanted(&answer, call.3, &heap) && is_made(&on, call.4, &heap))
-}
 
 #[test]
 fn methods_answer_as_the_table_says(rt: HostRuntime) {

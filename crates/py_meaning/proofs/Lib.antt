@@ -1,5 +1,3 @@
-pub mod Rows
-pub mod Growth
 pub mod Before
 pub mod Budget
 pub mod ExpressionLaws
@@ -13,3 +11,7 @@ pub mod ValueRows
 pub mod DefaultRows
 pub mod ModuleRows
 pub mod LoopRows
+pub mod DepthRows
+pub mod EventLaws
+pub mod OneLineRows
+pub mod CallRows

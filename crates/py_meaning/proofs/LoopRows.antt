@@ -10,8 +10,8 @@ use Rattle.py_meaning.proofs.Sources.{runs, var, num, quote, items, call, attr, 
 use Rattle.py_meaning.specs.Loading.{Files}
 
 -- Loop else
---  1  for k in [0, 1, 2]:
---  2      for j in [0, 1]:
+--  1  for k in range(3):
+--  2      for j in range(2):
 --  3          if j == k:
 --  4              break
 --  5      else:
@@ -19,8 +19,8 @@ use Rattle.py_meaning.specs.Loading.{Files}
 --  7  print(9)
 abbrev loop_else_source : Stmts
 loop_else_source =
-    line 1 (T.for (var "k") (list ((num 0) ∷ (num 1) ∷ (num 2) ∷ [])) (T.suite 1 1 false (
-    line 2 (T.for (var "j") (list ((num 0) ∷ (num 1) ∷ [])) (T.suite 2 2 false (
+    line 1 (T.for (var "k") (call (var "range") ((num 3) ∷ [])) (T.suite 1 1 false (
+    line 2 (T.for (var "j") (call (var "range") ((num 2) ∷ [])) (T.suite 2 2 false (
     line 3 (T.if' (T.arm (T.compare (var "j") (T.link (Op Eq) (var "k") T.no_links)) (T.suite 3 3 false (
     line 4 T.break (
     end))) T.no_arms) T.no_suite) (
@@ -36,7 +36,7 @@ unfolding runs
 loop_else = refl
 
 -- Continue through finally
---  1  for k in [0, 1]:
+--  1  for k in range(2):
 --  2      try:
 --  3          continue
 --  4      finally:
@@ -44,7 +44,7 @@ loop_else = refl
 --  6  print(9)
 abbrev continue_through_finally_source : Stmts
 continue_through_finally_source =
-    line 1 (T.for (var "k") (list ((num 0) ∷ (num 1) ∷ [])) (T.suite 1 1 false (
+    line 1 (T.for (var "k") (call (var "range") ((num 2) ∷ [])) (T.suite 1 1 false (
     line 2 (T.try (T.suite 2 2 false (
     line 3 T.continue (
     end))) T.no_clauses T.no_suite (T.has_suite (T.suite 4 4 false (
@@ -87,7 +87,7 @@ break_in_finally = refl
 
 -- Defaults in a loop
 --  1  fs = []
---  2  for i in [0, 1]:
+--  2  for i in range(2):
 --  3      def f(a, b=i):
 --  4          return a + b
 --  5      fs.append(f)
@@ -95,7 +95,7 @@ break_in_finally = refl
 abbrev defaults_in_a_loop_source : Stmts
 defaults_in_a_loop_source =
     line 1 (T.assign (items ((var "fs") ∷ [])) (list [])) (
-    line 2 (T.for (var "i") (list ((num 0) ∷ (num 1) ∷ [])) (T.suite 2 2 false (
+    line 2 (T.for (var "i") (call (var "range") ((num 2) ∷ [])) (T.suite 2 2 false (
     line 3 (T.def (codes "f") (codes "a" ∷ codes "b" ∷ []) (items ((var "i") ∷ [])) false (T.suite 3 3 false (
     line 4 (T.return (Some (T.binary Add (var "a") (var "b")))) (
     end)))) (

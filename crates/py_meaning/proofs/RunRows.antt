@@ -173,6 +173,47 @@ made_of_one : row made_of_one_source 100 ≡ record { out = printed ("0" ∷ [])
 unfolding runs
 made_of_one = refl
 
+-- Pragma, whatever is excluded
+--  1  debug = False
+--  2  if debug:
+--  3      print(1)
+--  4  else:
+--  5      print(2)
+--  6  while True:
+--  7      break
+abbrev pragma_source : Stmts
+pragma_source =
+    line 1 (T.assign (items ((var "debug") ∷ [])) (T.bool false)) (
+    line 2 (T.if' (T.arm (var "debug") (T.suite 2 2 false (
+    line 3 (T.expr (call (var "print") ((num 1) ∷ []))) (
+    end))) T.no_arms) (T.has_suite (T.suite 4 4 false (
+    line 5 (T.expr (call (var "print") ((num 2) ∷ []))) (
+    end))))) (
+    line 6 (T.while (T.bool true) (T.suite 6 6 false (
+    line 7 T.break (
+    end))) T.no_suite) (
+    end)))
+
+pragma : row pragma_source 100 ≡ record { out = printed ("2" ∷ []); err = []; status = 0; steps = 6; arcs = (negsuc 0, pos 1) ∷ (pos 1, pos 2) ∷ (pos 2, pos 5) ∷ (pos 5, pos 6) ∷ (pos 6, pos 7) ∷ (pos 7, negsuc 0) ∷ []; thrown = [] }
+unfolding runs
+pragma = refl
+
+-- Numbers
+--  1  x = 0
+--  2  if x:
+--  3      print(x)
+abbrev numbers_source : Stmts
+numbers_source =
+    line 1 (T.assign (items ((var "x") ∷ [])) (num 0)) (
+    line 2 (T.if' (T.arm (var "x") (T.suite 2 2 false (
+    line 3 (T.expr (call (var "print") ((var "x") ∷ []))) (
+    end))) T.no_arms) T.no_suite) (
+    end))
+
+numbers : row numbers_source 100 ≡ record { out = []; err = []; status = 0; steps = 3; arcs = (negsuc 0, pos 1) ∷ (pos 1, pos 2) ∷ (pos 2, negsuc 0) ∷ []; thrown = [] }
+unfolding runs
+numbers = refl
+
 -- Hook and plugin, whatever the labels
 --  1  def test_a():
 --  2      pass

@@ -1,11 +1,14 @@
 -- Laws of programs.
-use Rattle.std.specs.Prelude.{◌≡◌, ◌≢◌, ℕ, ◌<◌, ◌≤◌, List}
+use Rattle.std.specs.Prelude.{◌≡◌, ◌≢◌, ℕ, suc, ◌<◌, ◌≤◌, Bool, List, ◌++◌}
+use Rattle.cov_event.specs.declared.event.CodeId.{CodeId}
+use Rattle.cov_event.specs.declared.event.Event.{Event}
 use Rattle.cov_outside.specs.Prefixes.{IsPrefix}
 use Rattle.py_value.specs.Plain.{PlainValue}
 use Rattle.py_syntax.specs.Tree.{Text, Stmts}
 use Rattle.py_builtins.specs.World.{World}
+use Rattle.py_meaning.specs.Activations.{Activation, activation, Items, no_items, more, entered}
 use Rattle.py_meaning.specs.Computations.{State, Res, done, cut}
-use Rattle.py_meaning.specs.Events.{events_in}
+use Rattle.py_meaning.specs.Events.{told, told_of, events_of, events_in}
 use Rattle.py_meaning.specs.Frames.{calls}
 use Rattle.py_meaning.specs.Loading.{Files}
 use Rattle.py_meaning.specs.Modules.{LoadedModule}
@@ -55,3 +58,20 @@ IsAtMost n (cut s) = Unit {0}
 
 abbrev pub StepsLaw : Type 0
 StepsLaw = (ms : List LoadedModule) (depth : ℕ) (p : Place) (body : Stmts) (s : State) (n : ℕ) → IsAtMost n (exec (calls ms depth) p body s n)
+
+-- The events of a run are those of its items: what they tell comes behind what was told before, and is the same whatever that
+-- was. A run of at least one step has one item, the activation of the script's body, and tells what this one tells.
+abbrev pub script_code : CodeId
+script_code = record { «module» = 0; unit = 0 }
+
+pub record TellsItsItems (items : Items) : Type 0 where
+  pub inside : Items
+  pub ended : Bool
+  pub is : items ≡ more no_items (entered (activation script_code inside ended))
+  pub told : events_in items ≡ events_of (activation script_code inside ended)
+
+pub record EventsLaw : Type 0 where
+  pub behind : (events : List Event) (items : Items) → told events items ≡ events ++ events_in items
+  pub behind_of : (events : List Event) (a : Activation) → told_of events a ≡ events ++ events_of a
+  pub of_run : (files : Files) (script name : Text) (words : List Text) (input : List ℕ) (budget : ℕ) →
+      TellsItsItems (meaning files script name words input (suc budget)).items

@@ -1,7 +1,3 @@
-pub mod Value
-pub mod State
-pub mod Meaning
-pub mod Arcs
 pub mod Activations
 pub mod Events
 pub mod Computations

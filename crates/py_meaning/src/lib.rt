@@ -3,7 +3,7 @@
 //! nothing, and stands for the law that its contract states.
 #![tactic(auto)]
 
-ghost use Rattle.py_meaning.specs.Laws.{ProgramBudgetLaw, CallBudgetLaw, ProgramPrefixLaw, CallPrefixLaw, StepsLaw};
+ghost use Rattle.py_meaning.specs.Laws.{ProgramBudgetLaw, CallBudgetLaw, ProgramPrefixLaw, CallPrefixLaw, StepsLaw, EventsLaw};
 
 /// A larger budget changes nothing: where a program isn't cut, its run is the same with every budget of at least the
 /// steps that it took, and is cut with every smaller one.
@@ -29,4 +29,9 @@ pub fn smaller_budget_of_call()
 /// Statements never raise the number of the steps that are left.
 pub fn steps_left()
     ensures { StepsLaw }
+{}
+
+/// The events of a run are those of its items.
+pub fn events_of_items()
+    ensures { EventsLaw }
 {}

@@ -2,5 +2,5 @@ pub mod Firsts
 pub mod Gathering
 pub mod Linking
 pub mod NameSets
-pub mod PatternLaws
+pub mod Scoped
 pub mod Turns

@@ -1,6 +1,9 @@
 // The names of functions.
 
-ghost use Rattle.std.specs.Prelude.{◌≡◌, slice_get, length, option_copied};
+ghost use Rattle.std.specs.Prelude.{◌≡◌, List, slice_get, length, option_copied};
+ghost use Rattle.py_syntax.specs.Names.{is_among, declared_names, is_local as is_local_in};
+ghost use Rattle.py_syntax.specs.Tree.{Text, Stmts};
+ghost use Rattle.py_scope.specs.Faults.{names_of};
 ghost use Rattle.py_scope.specs.Scopes.{is_local, is_global};
 
 use crate::names::NameSet;
@@ -26,14 +29,17 @@ impl Model for FunctionNames {
 impl FunctionNames {
     /// Whether the name is local in the function.
     pub fn is_local(&self, name: &Text) -> bool
-        ensures { result ≡ is_local self.now name.now }
+        ensures names { result ≡ is_local self.now name.now }
+        // In a function with these parameters and this body.
+        ensures function { (params : List Text) (body : Stmts) → self.now ≡ names_of params body → result ≡ is_local_in params body name.now }
     {
         self.assigned.contains(name) && !self.globals.contains(name)
     }
 
     /// Whether the function declares the name `global`.
     pub fn is_global(&self, name: &Text) -> bool
-        ensures { result ≡ is_global self.now name.now }
+        ensures names { result ≡ is_global self.now name.now }
+        ensures function { (params : List Text) (body : Stmts) → self.now ≡ names_of params body → result ≡ is_among (declared_names body) name.now }
     {
         self.globals.contains(name)
     }

@@ -1,8 +1,14 @@
 -- The name `print`, by its characters and by its bytes.
 use Rattle.std.proofs.Common.{◌≡◌, ℕ, Bool, List, refl, sym, ap, ◌∙◌, ◌↔◌, IsTrue}
-use Rattle.std.specs.Prelude.{codes}
+use Rattle.std.specs.Prelude.{codes, ◌||◌}
 use Rattle.std.specs.Str.{bytes_eq, chars, encode_utf8_all}
+use Rattle.std.specs.List.{list_any}
 use Rattle.std.proofs.lemmas.Slice.Eq.{bytes_eq-Decides}
+use Rattle.std.proofs.lemmas.Str.{encodes_same}
+use Rattle.std.proofs.Common.{[], ◌∷◌}
+use Rattle.py_value.specs.Keys.{is_same_text}
+use Rattle.py_value.proofs.KeyLaws.{text_test}
+use Rattle.cov_app.specs.Names.{taken, is_taken}
 
 pub print_tested : (name bytes : List ℕ) (r : Bool) → bytes ≡ encode_utf8_all name → chars bytes ≡ name → r ≡ bytes_eq bytes (codes "print") → IsTrue r ↔ (name ≡ codes "print")
 unfolding chars lib.Utf8.encode
@@ -10,3 +16,27 @@ print_tested name bytes r is back tested = (
   λ t. sym back ∙ ap chars ((bytes_eq-Decides bytes (codes "print")).0 (sym tested ∙ t)) ∙ refl,
   λ e. tested ∙ (bytes_eq-Decides bytes (codes "print")).1 (is ∙ ap encode_utf8_all e ∙ refl),
 )
+
+-- ---- names that are taken
+
+abbrev ArePlain : List (List ℕ) → Type 0
+ArePlain [] = Unit {0}
+ArePlain (x ∷ xs) = (encode_utf8_all x ≡ x) × ArePlain xs
+
+plain_test : (word x : List ℕ) → encode_utf8_all x ≡ x → bytes_eq (encode_utf8_all word) x ≡ is_same_text word x
+plain_test word x plain =
+    text_test (bytes_eq (encode_utf8_all word) x) word x (
+      λ t. encodes_same word x ((bytes_eq-Decides (encode_utf8_all word) x).0 t ∙ sym plain),
+      λ e. (bytes_eq-Decides (encode_utf8_all word) x).1 (ap encode_utf8_all e ∙ plain),
+    )
+
+plain_any : (word : List ℕ) (xs : List (List ℕ)) → ArePlain xs → list_any (bytes_eq (encode_utf8_all word)) xs ≡ list_any (is_same_text word) xs
+plain_any word [] plain = refl
+plain_any word (x ∷ xs) plain = ap (λ b. b || list_any (bytes_eq (encode_utf8_all word)) xs) (plain_test word x plain.0) ∙ ap (λ b. is_same_text word x || b) (plain_any word xs plain.1)
+
+taken_plain : ArePlain taken
+unfolding lib.Utf8.encode
+taken_plain = (refl, (refl, (refl, (refl, (refl, (refl, (refl, (refl, (refl, (refl, (refl, (refl, (refl, (refl, (refl, (refl, (refl, (refl, (refl, (refl, (refl, (refl, (refl, (refl, (refl, (refl, (refl, (refl, (refl, tt)))))))))))))))))))))))))))))
+
+pub taken_tested : (name bytes : List ℕ) (r : Bool) → bytes ≡ encode_utf8_all name → r ≡ list_any (bytes_eq bytes) taken → r ≡ is_taken name
+taken_tested name bytes r is tested = tested ∙ ap (λ b. list_any (bytes_eq b) taken) is ∙ plain_any name taken taken_plain

@@ -1,8 +1,9 @@
 -- The trees of the built forms, and the tokens of each (Python Language Reference, chapters 6 to 8).
-use Rattle.std.specs.Prelude.{◌≡◌, ◌≢◌, ℕ, true, false, List, ◌∷◌, codes}
+use Rattle.std.specs.Prelude.{◌≡◌, ℕ, true, false, List, ◌∷◌, codes}
 use Rattle.py_value.specs.declared.operator.BinOp.{BinOp}
 use Rattle.py_value.specs.declared.operator.BinOp.TheVariants as operators
 use Rattle.py_value.specs.declared.operator.CmpOp.TheVariants as comparisons
+use Rattle.py_value.specs.Numbers.{fits_64_bits}
 use Rattle.py_syntax.specs.declared.expr.Comparison.{Comparison}
 use Rattle.py_syntax.specs.declared.expr.Comparison.TheVariants.{Op}
 use Rattle.py_syntax.specs.declared.stmt.LineEnd.{LineEnd}
@@ -12,16 +13,18 @@ use Rattle.py_token.specs.declared.token.Mark.{Mark}
 use Rattle.py_token.specs.declared.token.Mark.TheVariants.{Equal, EqualEqual, Less, Greater, Plus, Minus, LeftParen, RightParen, Colon}
 use Rattle.cov_app.specs.declared.front.token.Kind.TheVariants.{Name, Number, Word, Sign, Newline, Indent, Dedent}
 use Rattle.cov_app.specs.declared.front.token.Token.{Token}
+use Rattle.cov_app.specs.Names.{is_taken}
 use Rattle.cov_app.specs.Spelling.Tokens.{token}
 
 -- ---- which trees are built
 
+-- names that stand for something else are no names of the built forms
 abbrev pub IsName : List ℕ → Type 0
-IsName x = x ≢ codes "print"
+IsName x = is_taken x ≡ false
 
 abbrev pub IsItem : Expr → Type 0
 IsItem (name x) = IsName x
-IsItem (int n) = Unit {0}
+IsItem (int n) = fits_64_bits n ≡ true
 IsItem e = ⊥
 
 abbrev pub IsAdditive : BinOp → Type 0

@@ -1,6 +1,8 @@
 //! Reads expressions: sums, tests and calls of `print`.
 
-ghost use Rattle.std.specs.Prelude.{◌≡◌, ◌≢◌, ◌<◌, ◌≤◌, ◌+◌, ◌↔◌, ◌∷◌, length, IfOk, IfSome, IsTrue, codes, false};
+ghost use Rattle.std.specs.Prelude.{◌≡◌, ◌≢◌, ◌<◌, ◌≤◌, ◌+◌, ◌↔◌, ◌∷◌, length, IfOk, IfSome, IsTrue, codes, false, bytes_eq};
+ghost use Rattle.std.specs.List.{list_any};
+ghost use Rattle.cov_app.specs.Names.{is_taken, taken};
 ghost use Rattle.cov_app.specs.Spelling.Tokens.{token};
 ghost use Rattle.cov_app.specs.Spelling.Trees.{IsItem, IsAdditive, IsSum, IsRelation, IsTest, IsPrint, operator, relation, expr_tokens};
 ghost use Rattle.py_syntax.specs.Tree.{compare, call, link, no_links, exprs, no_exprs};
@@ -43,6 +45,50 @@ pub(super) fn is_print(name: &Text) -> bool
     name.as_str() == "print"
 }
 
+/// Whether the name stands for something before a script sets it.
+pub(super) fn is_taken(name: &Text) -> bool
+    ensures { result ≡ is_taken name.now }
+{
+    is_taken_word(name.as_str())
+}
+
+fn is_taken_word(name: &str) -> bool
+    ensures { result ≡ list_any (bytes_eq name.now) taken }
+{
+    matches!(
+        name,
+        "__name__"
+            | "print"
+            | "len"
+            | "range"
+            | "str"
+            | "repr"
+            | "int"
+            | "input"
+            | "BaseException"
+            | "SystemExit"
+            | "Exception"
+            | "ArithmeticError"
+            | "ZeroDivisionError"
+            | "OverflowError"
+            | "AssertionError"
+            | "AttributeError"
+            | "EOFError"
+            | "ImportError"
+            | "ModuleNotFoundError"
+            | "LookupError"
+            | "IndexError"
+            | "KeyError"
+            | "MemoryError"
+            | "NameError"
+            | "UnboundLocalError"
+            | "RuntimeError"
+            | "RecursionError"
+            | "TypeError"
+            | "ValueError"
+    )
+}
+
 /// A name or a number.
 fn item(tokens: &[Token], line: u32) -> Result<(Expr, &[Token]), ReadError>
     ensures tokens { IfOk result (λ r. tokens.now ≡ expr_tokens (plain_expr r.0) line r.1.now) }
@@ -57,7 +103,7 @@ fn item(tokens: &[Token], line: u32) -> Result<(Expr, &[Token]), ReadError>
     }
     match &first.kind {
         Kind::Name(name) => {
-            if is_print(name) {
+            if is_taken(name) {
                 return Err(ReadError::Unbuilt);
             }
             Ok((Expr::Name(name.copy()?), rest))

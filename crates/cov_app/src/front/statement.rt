@@ -9,7 +9,7 @@ ghost use Rattle.py_syntax.specs.Tree.{stmt, expr, if', while, assign, exprs, no
 ghost use Rattle.py_syntax.specs.View.{plain_expr, plain_stmts, plain_suite, plain_opt_suite, plain_kind};
 
 use super::ReadError;
-use super::expression::{after_sign, is_print, print, sum, test};
+use super::expression::{after_sign, is_print, is_taken, print, sum, test};
 use super::token::{Kind, Token};
 use py_syntax::{Expr, LineEnd, Stmt, StmtKind};
 use py_token::{Keyword, Mark};
@@ -126,6 +126,9 @@ pub(super) fn simple(alloc: Global, tokens: &[Token]) -> Result<(Stmt, &[Token])
         let (call, rest) = print(alloc, name, rest, line)?;
         let rest = after_newline(rest, line)?;
         return Ok((print_statement(line, call), rest));
+    }
+    if is_taken(name) {
+        return Err(ReadError::Unbuilt);
     }
     let rest = after_sign(rest, line, Mark::Equal)?;
     let value = sum(alloc, rest, line)?;

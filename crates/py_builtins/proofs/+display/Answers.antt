@@ -1,5 +1,4 @@
-use Rattle.std.proofs.Common.{◌≡◌, ◌+◌, ◌∷◌, ◌++◌, [], length, get_or, ap, sym, ◌∙◌, refl, suc, arith, codes, Some}
-use Rattle.std.specs.List.{slice_get}
+use Rattle.std.proofs.Common.{◌∷◌, ◌++◌, [], get_or, ap, sym, ◌∙◌, arith, codes}
 use Rattle.std.proofs.lemmas.Option.{slice_get-get_or}
 use Rattle.py_value.specs.declared.cause.Cause.TheVariants.{TooDeep}
 use Rattle.py_value.specs.Heaps.{list_items, dict_pairs, object_at}
@@ -8,10 +7,9 @@ use Rattle.py_value.specs.Plain.{none_value}
 use Rattle.py_value.specs.View.{plain, plains, plain_argument}
 use Rattle.py_value.proofs.Views.{tuple_view}
 use Rattle.py_builtins.specs.declared.writer.Stop.TheVariants.{Raises}
-use Rattle.py_builtins.specs.Displays.{has, separated, display_step, tuple_display, tuple_end, list_display, dict_display, pair_display, kind_name, exception_display, argument_display}
+use Rattle.py_builtins.specs.Displays.{has, separated, display_step, tuple_end, pair_display, kind_name, argument_display}
 use Rattle.py_builtins.specs.Texts.{display_within}
 use Rattle.py_builtins.specs.Writing.{whole, ◌▸◌}
-use Rattle.py_builtins.specs.Written.{separator}
 use Rattle.py_builtins.proofs.Pieces.{written_same, settles_same, stopped, stopped_then, wrote_then, too_deep, item_written, stops_at_separator, stops_at_item}
 use Rattle.py_builtins.proofs.Values.{display_none, display_more, entered, tuple_items, item_at, some_item, key_of_pair, value_of_pair}
 use Rattle.py_builtins.proofs.+display.Goals as goal

@@ -1,6 +1,6 @@
 use Rattle.std.proofs.Common.{ap, ◌∙◌, Bool, true, false, Result, Ok, add-one, arith}
 use Rattle.py_syntax.specs.View.{plain_stmts, plain_opt_suite}
-use Rattle.py_meaning.specs.Meaning.{exec, exec_else}
+use Rattle.cov_app.specs.Walking.Meaning.{exec, exec_else}
 use Rattle.cov_app.specs.declared.walk.Raised.{Raised}
 use Rattle.cov_app.specs.Walk.{leaves}
 use Rattle.cov_app.proofs.Nodes.{simple_kind}

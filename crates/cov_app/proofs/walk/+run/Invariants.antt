@@ -1,5 +1,5 @@
 use Rattle.py_syntax.specs.View.{plain_stmts}
-use Rattle.py_meaning.specs.Meaning.{exec}
+use Rattle.cov_app.specs.Walking.Meaning.{exec}
 use Rattle.cov_app.proofs.Loops.{Comes, ArmsCome, Turns, rest_of}
 use Rattle.cov_app.proofs.walk.+run.Given as goal
 

@@ -1,17 +1,18 @@
 use Rattle.std.proofs.Common.{◌≡◌, sym, refl, arith, w64, to_z, of_z}
 use Rattle.std.proofs.lemmas.Int.{to_z-of_z}
 use Rattle.py_syntax.specs.View.{plain_expr}
+use Rattle.cov_app.specs.declared.walk.Raised.TheVariants as raised
 use Rattle.cov_app.proofs.Tests.{single}
 use Rattle.cov_app.proofs.Simple.{refused-at, many_targets, other_target, name_target, stored-value, storing-raised}
 use Rattle.cov_app.proofs.walk.assign.Goals as goal
 
 pub returns-then-targets-ne1-clause-moves : goal.returns-then-targets-ne1-clause-moves
-returns-then-targets-ne1-clause-moves c = refused-at _ c.in_ok-unbuilt.field-0 c.args.walk.now (many_targets c.args.targets.now (plain_expr c.args.e.now) c.if-targets-ne1.true) c.in_ok-unbuilt.ensures
+returns-then-targets-ne1-clause-moves c = refused-at _ raised.Unbuilt c.args.walk.now (many_targets c.args.targets.now (plain_expr c.args.e.now) c.if-targets-ne1.true) refl
 
 pub returns-in_default : goal.returns-in_default
 returns-in_default c = record {
   moves =
-      refused-at _ c.in_ok-unbuilt-2.field-0 c.args.walk.now (other_target c.args.targets.now c.index-targets-0.result (plain_expr c.args.e.now) (single c.args.targets.now c.index-targets-0.result c.if-targets-ne1.false (sym c.index-targets-0.is)) c.in_default.not-Name) c.in_ok-unbuilt-2.ensures;
+      refused-at _ raised.Unbuilt c.args.walk.now (other_target c.args.targets.now c.index-targets-0.result (plain_expr c.args.e.now) (single c.args.targets.now c.index-targets-0.result c.if-targets-ne1.false (sym c.index-targets-0.is)) c.in_default.not-Name) refl;
   steps = refl;
 }
 

@@ -1,8 +1,9 @@
-use Rattle.std.proofs.Common.{◌≡◌, sym, inl, inr, arith, w64, to_z, of_z}
+use Rattle.std.proofs.Common.{◌≡◌, refl, sym, inl, inr, arith, w64, to_z, of_z}
 use Rattle.std.proofs.lemmas.Int.{to_z-of_z}
 use Rattle.py_syntax.specs.View.{plain_expr, plain_exprs}
-use Rattle.py_meaning.proofs.Growth.{grows-print_call}
+use Rattle.cov_app.proofs.Growth.{grows-print_call}
 use Rattle.cov_app.specs.declared.walk.Left.TheVariants as left
+use Rattle.cov_app.specs.declared.walk.Raised.TheVariants as raised
 use Rattle.cov_app.specs.Walk.{leaves}
 use Rattle.cov_app.proofs.Tests.{single}
 use Rattle.cov_app.proofs.Reaching.{reaches}
@@ -10,17 +11,14 @@ use Rattle.cov_app.proofs.Simple.{no-memory, refused-at, call_refused, call_prin
 use Rattle.cov_app.proofs.walk.run_call.Goals as goal
 use Rattle.cov_app.proofs.walk.run_call.Goals.{then-not-is_print-via-then-not-is_print, then-not-is_print-via-else-not-is_print+then-args-ne1}
 
-pub returns-in_err-unbuilt-clause-does : goal.returns-in_err-unbuilt-clause-does
-returns-in_err-unbuilt-clause-does g c = no-memory _ c.args.walk.now _ _ _ c.from_residual.result (grows-print_call (plain_expr c.args.callee.now) (plain_exprs c.args.args.now)) c.from_residual.ensures.1
-
 pub returns-in_err-z-clause-does : goal.returns-in_err-z-clause-does
-returns-in_err-z-clause-does g c = no-memory _ c.args.walk.now _ _ _ c.from_residual-in_err-z.result (grows-print_call (plain_expr c.args.callee.now) (plain_exprs c.args.args.now)) c.from_residual-in_err-z.ensures.1
+returns-in_err-z-clause-does g c = no-memory _ c.args.walk.now _ _ _ c.from_residual.result (grows-print_call (plain_expr c.args.callee.now) (plain_exprs c.args.args.now)) c.from_residual.ensures.1
 
 pub returns-then-not-is_print-clause-does : goal.returns-then-not-is_print-clause-does
 returns-then-not-is_print-clause-does g c =
-    reaches _ (leaves (left.Raised c.in_ok-unbuilt.field-0)) c.args.walk.now c.args.walk.now _ _
-    (refused-at _ c.in_ok-unbuilt.field-0 c.args.walk.now (call_refused c.args.callee.now c.args.args.now c.is_print.result c.is_print.ensures
-    (elim c.then-not-is_print.branch [ then-not-is_print-via-then-not-is_print w ↦ inl w.if-not-is_print.true | then-not-is_print-via-else-not-is_print+then-args-ne1 w ↦ inr w.if-args-ne1.true ])) c.in_ok-unbuilt.ensures)
+    reaches _ (leaves (left.Raised raised.Unbuilt)) c.args.walk.now c.args.walk.now _ _
+    (refused-at _ raised.Unbuilt c.args.walk.now (call_refused c.args.callee.now c.args.args.now c.is_print.result c.is_print.ensures
+    (elim c.then-not-is_print.branch [ then-not-is_print-via-then-not-is_print w ↦ inl w.if-not-is_print.true | then-not-is_print-via-else-not-is_print+then-args-ne1 w ↦ inr w.if-args-ne1.true ])) refl)
 
 pub returns-in_err-print-in-Ok-clause-does : goal.returns-in_err-print-in-Ok-clause-does
 returns-in_err-print-in-Ok-clause-does g c =

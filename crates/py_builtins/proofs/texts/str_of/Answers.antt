@@ -1,4 +1,4 @@
-use Rattle.std.proofs.Common.{[], ℕ, List, subst}
+use Rattle.std.proofs.Common.{ℕ, List, subst}
 use Rattle.py_value.specs.HeapView.{plain_heap}
 use Rattle.py_value.specs.View.{plain}
 use Rattle.py_builtins.specs.Texts.{str_text, text_within}

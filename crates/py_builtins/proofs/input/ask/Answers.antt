@@ -1,0 +1,38 @@
+use Rattle.std.proofs.Common.{◌≡◌, ◌++◌, Ok, Err, OnOk, ap, sym, ◌∙◌, subst}
+use Rattle.py_value.specs.declared.text.Text.{Text}
+use Rattle.py_value.specs.HeapView.{plain_heap}
+use Rattle.py_value.specs.View.{plains, plain_answer}
+use Rattle.py_builtins.specs.Builtins.{Done, input_of}
+use Rattle.py_builtins.specs.Calls.{prompt_of}
+use Rattle.py_builtins.proofs.Turns.{on_err}
+use Rattle.py_builtins.proofs.Asking.{asks_with, still_asked, on_same, on_any}
+use Rattle.py_builtins.proofs.input.ask.Goals as goal
+
+pub returns-in_err-prompt-clause-no_further : goal.returns-in_err-prompt-clause-no_further
+returns-in_err-prompt-clause-no_further g c = λ t. on_err c.from_residual.result (still_asked (plains c.args.args.now) (plain_heap c.args.heap.now) (g.I.Source.left c.args.input.now))
+
+pub returns-in-Ok-clause-answer : goal.returns-in-Ok-clause-answer
+returns-in-Ok-clause-answer g c =
+    let same : plain_answer {A = Text} (Ok c.in-Ok.prompt) ≡ prompt_of (plains c.args.args.now) (plain_heap c.args.heap.now) = ap plain_answer (sym c.in-Ok.is) ∙ c.in_ok-prompt.ensures in
+    on_same c.ask_with.result _ _ (plain_heap c.args.heap.now) _ (input_of (plains c.args.args.now) (plain_heap c.args.heap.now))
+    (λ bytes. asks_with (plains c.args.args.now) (plain_heap c.args.heap.now) _ bytes same) c.ask_with.ensures.answer
+
+pub returns-in-Ok-clause-written : goal.returns-in-Ok-clause-written
+returns-in-Ok-clause-written g c = λ t.
+    let same : plain_answer {A = Text} (Ok c.in-Ok.prompt) ≡ prompt_of (plains c.args.args.now) (plain_heap c.args.heap.now) = ap plain_answer (sym c.in-Ok.is) ∙ c.in_ok-prompt.ensures in
+    let w = c.ask_with.ensures.written t in
+    subst (λ (d : Done). OnOk c.ask_with.result (g.O.Sink.contents c.ask_with.new.out ≡ g.O.Sink.contents c.args.out.now ++ d.written))
+    (asks_with (plains c.args.args.now) (plain_heap c.args.heap.now) _ (g.I.Source.left c.args.input.now) same) w
+
+pub returns-in-Ok-clause-left : goal.returns-in-Ok-clause-left
+returns-in-Ok-clause-left g c = λ t.
+    let same : plain_answer {A = Text} (Ok c.in-Ok.prompt) ≡ prompt_of (plains c.args.args.now) (plain_heap c.args.heap.now) = ap plain_answer (sym c.in-Ok.is) ∙ c.in_ok-prompt.ensures in
+    let w = c.ask_with.ensures.left t in
+    subst (λ (d : Done). OnOk c.ask_with.result (g.I.Source.left c.ask_with.new.input ≡ d.left))
+    (asks_with (plains c.args.args.now) (plain_heap c.args.heap.now) _ (g.I.Source.left c.args.input.now) same) w
+
+pub returns-in-Err-clause-answer : goal.returns-in-Err-clause-answer
+returns-in-Err-clause-answer g c =
+    let same : plain_answer {A = Text} (Err c.in-Err.raised) ≡ prompt_of (plains c.args.args.now) (plain_heap c.args.heap.now) = ap plain_answer (sym c.in-Err.is) ∙ c.in_ok-prompt.ensures in
+    on_any _ _ _ (input_of (plains c.args.args.now) (plain_heap c.args.heap.now))
+    (ap (λ (d : Done). d.answer) (asks_with (plains c.args.args.now) (plain_heap c.args.heap.now) _ (g.I.Source.left c.args.input.now) same))

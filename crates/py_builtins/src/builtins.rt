@@ -1,0 +1,89 @@
+// The built-in functions.
+
+ghost use Rattle.std.specs.Prelude.{◌≡◌, ◌≢◌, ◌≤◌, ◌++◌, IfOk, OnOk, OnErr, IsErrOf};
+ghost use Rattle.cov_outside.specs.Counts.{Rose};
+ghost use Rattle.cov_outside.specs.Prefixes.{GainsPrefix, LosesPrefix};
+ghost use Rattle.py_value.specs.HeapView.{plain_heap};
+ghost use Rattle.py_value.specs.View.{plain, plains, plain_outcome};
+ghost use Rattle.py_builtins.specs.Builtins.{str_of, repr_of, builtin_of};
+ghost use Rattle.py_builtins.specs.Inputs.{OnInput};
+
+use crate::arguments::only;
+use crate::exceptions::raised_with;
+use crate::fault::RunFault;
+use crate::input::ask;
+use crate::lengths::len;
+use crate::literals::int;
+use crate::print::print;
+use crate::ranges::range;
+use crate::texts::{repr_of, str_of};
+use cov_outside::{Sink, Source};
+use py_value::{Builtin, Cause, ExcKind, Heap, NoMemory, Raised, Value};
+use std::alloc::Global;
+
+/// A built-in, called with these arguments. It writes and reads also where it raises.
+pub fn call_builtin<I: Source, O: Sink>(
+    alloc: Global,
+    which: Builtin,
+    args: &[Value],
+    heap: &mut Heap,
+    input: &mut I,
+    out: &mut O,
+) -> Result<Result<Value, Raised>, RunFault>
+    ensures answer { IfOk result (λ answer. OnInput I.tells (I.left input.old) (λ bytes. plain_outcome answer (plain_heap heap.new) ≡ (builtin_of which (plains args.now) (plain_heap heap.old) bytes).answer)) }
+    ensures raised { IfOk result (λ answer. OnErr answer (plain_heap heap.new ≡ plain_heap heap.old)) }
+    ensures written { O.tells → OnOk result (O.contents out.new ≡ O.contents out.old ++ (builtin_of which (plains args.now) (plain_heap heap.old) (I.left input.old)).written) }
+    ensures left { I.tells → OnOk result (I.left input.new ≡ (builtin_of which (plains args.now) (plain_heap heap.old) (I.left input.old)).left) }
+
+    // After a fault a part of it is written, and no more is read than without the fault.
+    ensures heap { OnErr result (plain_heap heap.new ≡ plain_heap heap.old) }
+    ensures gained { O.tells → OnErr result (GainsPrefix (O.contents out.old) (O.contents out.new) (builtin_of which (plains args.now) (plain_heap heap.old) (I.left input.old)).written) }
+    ensures lost { I.tells → OnErr result (LosesPrefix (I.left input.old) (I.left input.new)) }
+    ensures no_further { I.tells → OnErr result (LosesPrefix (I.left input.new) (builtin_of which (plains args.now) (plain_heap heap.old) (I.left input.old)).left) }
+
+    ensures reads { I.faults input.old ≤ I.faults input.new }
+    ensures writes { O.faults out.old ≤ O.faults out.new }
+    ensures read_fault { IsErrOf result RunFault.ReadFault → Rose (I.faults input.old) (I.faults input.new) }
+    ensures write_fault { IsErrOf result RunFault.WriteFault → Rose (O.faults out.old) (O.faults out.new) }
+
+    // The other built-ins touch neither the source nor the sink.
+    ensures source { which ≢ Builtin.Input → input.new ≡ input.old }
+    ensures sink { which ≢ Builtin.Print → which ≢ Builtin.Input → out.new ≡ out.old }
+{
+    match which {
+        Builtin::Print => print(alloc, args, heap, out),
+        Builtin::Len => Ok(len(alloc, args, heap)?),
+        Builtin::Range => Ok(range(alloc, args, heap)?),
+        Builtin::Str => Ok(text(alloc, args, heap)?),
+        Builtin::Repr => Ok(display(alloc, args, heap)?),
+        Builtin::Int => Ok(int(alloc, args, heap)?),
+        Builtin::Input => ask(alloc, args, heap, input, out),
+        Builtin::Exit => Ok(Err(raised_with(alloc, ExcKind::SystemExit, args)?)),
+    }
+}
+
+/// `str(x)`.
+fn text(alloc: Global, args: &[Value], heap: &Heap) -> Result<Result<Value, Raised>, NoMemory>
+    ensures { IfOk result (λ answer. plain_outcome answer (plain_heap heap.now) ≡ str_of (plains args.now) (plain_heap heap.now)) }
+{
+    match only(args) {
+        None => Ok(Err(Raised::of(alloc, Cause::WrongArgumentCount)?)),
+        Some(value) => match str_of(alloc, value, heap)? {
+            Ok(text) => Ok(Ok(Value::Str(text))),
+            Err(raised) => Ok(Err(raised)),
+        },
+    }
+}
+
+/// `repr(x)`.
+fn display(alloc: Global, args: &[Value], heap: &Heap) -> Result<Result<Value, Raised>, NoMemory>
+    ensures { IfOk result (λ answer. plain_outcome answer (plain_heap heap.now) ≡ repr_of (plains args.now) (plain_heap heap.now)) }
+{
+    match only(args) {
+        None => Ok(Err(Raised::of(alloc, Cause::WrongArgumentCount)?)),
+        Some(value) => match repr_of(alloc, value, heap)? {
+            Ok(text) => Ok(Ok(Value::Str(text))),
+            Err(raised) => Ok(Err(raised)),
+        },
+    }
+}

@@ -1,0 +1,54 @@
+// Exceptions that a program makes, and `sys.exit`.
+
+ghost use Rattle.std.specs.Prelude.{◌≡◌, IfOk};
+ghost use Rattle.py_value.specs.View.{plains, plain_raised, plain_value_answer};
+ghost use Rattle.py_builtins.specs.Builtins.{raised_with, exception_of};
+
+use crate::arguments::{are_none, only};
+use py_value::{Cause, ExcKind, NoMemory, Raised, Value};
+use std::alloc::Global;
+
+/// A kind called with these arguments: an exception with the value as its argument, where it is given one.
+pub fn exception_of(
+    alloc: Global,
+    kind: ExcKind,
+    args: &[Value],
+) -> Result<Result<Value, Raised>, NoMemory>
+    ensures { IfOk result (λ answer. plain_value_answer answer ≡ exception_of kind (plains args.now)) }
+{
+    if are_none(args) {
+        return Ok(Ok(Value::Exc(kind, None)));
+    }
+    match only(args) {
+        None => Ok(Err(Raised::of(alloc, Cause::WrongArgumentCount)?)),
+        Some(value) => {
+            if !value.may_nest() {
+                return Ok(Err(Raised::of(alloc, Cause::TooDeep)?));
+            }
+            let arg = Box::new(alloc, value.copy(alloc)?)?;
+            Ok(Ok(Value::Exc(kind, Some(arg))))
+        }
+    }
+}
+
+/// The exception of a kind, raised with these arguments.
+pub(crate) fn raised_with(alloc: Global, kind: ExcKind, args: &[Value]) -> Result<Raised, NoMemory>
+    ensures { IfOk result (λ raised. plain_raised raised ≡ raised_with kind (plains args.now)) }
+{
+    if are_none(args) {
+        return Ok(Raised { kind, arg: None });
+    }
+    match only(args) {
+        None => Raised::of(alloc, Cause::WrongArgumentCount),
+        Some(value) => {
+            if !value.may_nest() {
+                return Raised::of(alloc, Cause::TooDeep);
+            }
+            let arg = Box::new(alloc, value.copy(alloc)?)?;
+            Ok(Raised {
+                kind,
+                arg: Some(arg),
+            })
+        }
+    }
+}
