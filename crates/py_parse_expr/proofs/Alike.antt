@@ -7,67 +7,9 @@ use Rattle.py_syntax.specs.Tree.{Text, Expr, name, int, str, fstr, none, bool, t
 use Rattle.py_syntax.specs.Tree as tree_
 use Rattle.py_syntax.specs.Normal.{Level, LExprs, LExpr, LOr, LAnd, LNot, LCmp, LSum, LTerm, LUnary}
 use Rattle.py_parse_expr.specs.Roles.{j_op, Role, r_name, r_int, r_none, r_bool, r_string, r_format, r_not, r_is, r_if, r_else, r_compare, r_joint, r_comma, r_colon, r_dot, r_left_paren, r_right_paren, r_left_bracket, r_right_bracket, r_left_brace, r_right_brace, joint_level, joint_right, joined}
-use Rattle.py_parse_expr.specs.Machine.{at_most, same_level, snoc, snoc_link, Goal, any, one, target, targets, Opener, a_call, a_list, Frame, exprs_first, exprs_rest, cond_first, cond_test, cond_else, first, right, not_of, compare_first, compare_rest, unary_of, post_rest, in_items, index_first, in_index, slice_to, in_paren, in_key, in_value, Ctx, Outside, on, State, Want, Have, Strings, AfterOpen, AfterComma, AfterTarget, ItemsOpen, ItemsComma, DictOpen, DictComma, IndexOpen, SliceColon, AfterDot, AfterNot, AfterIs, AfterIsNot, Linked, Out, Next, Stuck, Left, upto_exprs, upto_cond, upto_or, upto_and, upto_compare, upto_sum, upto_term, begin, close_items, give}
+use Rattle.py_parse_expr.specs.Machine.{at_most, same_level, snoc, snoc_link, any, one, target, targets, Opener, a_call, a_list, Frame, exprs_first, exprs_rest, cond_first, cond_test, cond_else, first, right, not_of, compare_first, compare_rest, unary_of, post_rest, in_items, index_first, in_index, slice_to, in_paren, in_key, in_value, Ctx, Outside, on, Want, Have, Strings, AfterOpen, AfterComma, ItemsOpen, ItemsComma, DictOpen, DictComma, IndexOpen, SliceColon, AfterDot, AfterNot, AfterIs, Out, Next, Stuck, upto_exprs, upto_cond, upto_or, upto_and, upto_compare, upto_sum, upto_term, begin, close_items, give}
 use Rattle.py_parse_expr.specs.Least.{least_name}
-
--- ---- the same with the least trees
-
-abbrev pub bare_goal : Goal → Goal
-bare_goal (targets f es) = targets least_name no_exprs
-bare_goal g = g
-
-abbrev pub bare_opener : Opener → Opener
-bare_opener (a_call f) = a_call least_name
-bare_opener a_list = a_list
-
-abbrev pub bare_frame : Frame → Frame
-bare_frame (exprs_rest f es) = exprs_rest least_name no_exprs
-bare_frame (cond_test b) = cond_test least_name
-bare_frame (cond_else b c) = cond_else least_name least_name
-bare_frame (right j a) = right j least_name
-bare_frame (compare_rest a ls op) = compare_rest least_name no_links op
-bare_frame (in_items o es) = in_items (bare_opener o) no_exprs
-bare_frame (index_first f) = index_first least_name
-bare_frame (in_index f) = in_index least_name
-bare_frame (slice_to f from) = slice_to least_name absent
-bare_frame (in_key ps) = in_key no_pairs
-bare_frame (in_value ps key) = in_value no_pairs least_name
-bare_frame f = f
-
-abbrev pub bare_ctx : Ctx → Ctx
-bare_ctx (Outside g) = Outside (bare_goal g)
-bare_ctx (on f k) = on (bare_frame f) (bare_ctx k)
-
-abbrev pub bare : State → State
-bare (Want lev k) = Want lev (bare_ctx k)
-bare (Have e k) = Have least_name (bare_ctx k)
-bare (Strings fs k) = Strings (plain [] no_fragments) (bare_ctx k)
-bare (AfterOpen k) = AfterOpen (bare_ctx k)
-bare (AfterComma f es k) = AfterComma least_name no_exprs (bare_ctx k)
-bare (AfterTarget f es) = AfterTarget least_name no_exprs
-bare (ItemsOpen o k) = ItemsOpen (bare_opener o) (bare_ctx k)
-bare (ItemsComma o es k) = ItemsComma (bare_opener o) no_exprs (bare_ctx k)
-bare (DictOpen k) = DictOpen (bare_ctx k)
-bare (DictComma ps k) = DictComma no_pairs (bare_ctx k)
-bare (IndexOpen f k) = IndexOpen least_name (bare_ctx k)
-bare (SliceColon f from k) = SliceColon least_name absent (bare_ctx k)
-bare (AfterDot f k) = AfterDot least_name (bare_ctx k)
-bare (AfterNot a ls k) = AfterNot least_name no_links (bare_ctx k)
-bare (AfterIs a ls k) = AfterIs least_name no_links (bare_ctx k)
-bare (AfterIsNot a ls k) = AfterIsNot least_name no_links (bare_ctx k)
-bare (Linked a ls k) = Linked least_name no_links (bare_ctx k)
-
-abbrev pub bare_out : Out → Out
-bare_out (Next s) = Next (bare s)
-bare_out Stuck = Stuck
-bare_out (Left e) = Left least_name
-
--- no target is asked for
-abbrev pub Free : Ctx → Type 0
-Free (Outside any) = Unit {0}
-Free (Outside one) = Unit {0}
-Free (Outside g) = ⊥
-Free (on f k) = Free k
+use Rattle.py_parse_expr.specs.Bare.{bare_opener, bare_frame, bare_ctx, bare_out, Free}
 
 bare_opener_twice : (o : Opener) → bare_opener (bare_opener o) ≡ bare_opener o
 bare_opener_twice (a_call f) = refl

@@ -12,7 +12,8 @@ use Rattle.py_parse_expr.specs.Roles.{j_op, Role, r_name, r_int, r_none, r_bool,
 use Rattle.py_parse_expr.specs.Machine.{at_most, same_level, snoc, snoc_link, strings_of, any, one, target, targets, Opener, a_call, a_list, Frame, exprs_first, exprs_rest, cond_first, cond_test, cond_else, first, right, not_of, compare_first, compare_rest, unary_of, post_rest, in_items, index_first, in_index, slice_to, in_paren, in_key, in_value, Ctx, Outside, on, State, Want, Have, Strings, AfterOpen, AfterComma, AfterTarget, ItemsOpen, ItemsComma, DictOpen, DictComma, IndexOpen, SliceColon, AfterDot, AfterNot, AfterIs, AfterIsNot, Linked, Out, Next, Stuck, Left, upto_exprs, upto_cond, upto_or, upto_and, upto_compare, upto_sum, upto_term, begin, close_items, give, step, role, field_expr}
 use Rattle.py_parse_expr.specs.Least.{least_name}
 use Rattle.py_parse_expr.proofs.Spelled.{field_after, ended_by}
-use Rattle.py_parse_expr.proofs.Alike.{bare_opener, bare_ctx, bare, bare_out, Free, bare_twice, close_alike, give_alike, begin_alike}
+use Rattle.py_parse_expr.specs.Bare.{bare_opener, bare_ctx, bare, bare_out, Free}
+use Rattle.py_parse_expr.proofs.Alike.{bare_twice, close_alike, give_alike, begin_alike}
 
 abbrev pub FreeState : State → Type 0
 FreeState (Want lev k) = Free k

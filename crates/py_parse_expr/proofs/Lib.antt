@@ -29,3 +29,14 @@ pub mod PatternOutside
 pub mod PatternReader
 pub mod PatternLimits
 pub mod PatternTokens
+pub mod FieldOffers
+pub mod FieldRoles
+pub mod FieldRuns
+pub mod ExprTokens
+pub mod ExprLeft
+pub mod ExprStuck
+pub mod ExprExact
+pub mod ExprPlaces
+pub mod Embedded
+pub mod EmbeddedReaders
+pub mod FieldOrder

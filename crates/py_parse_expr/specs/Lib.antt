@@ -1,6 +1,7 @@
 pub mod Roles
 pub mod Machine
 pub mod Least
+pub mod Bare
 pub mod Refusal
 pub mod PatternMachine
 pub mod PatternTrees
@@ -9,3 +10,8 @@ pub mod PatternHeld
 pub mod PatternRows
 pub mod PatternReads
 pub mod Reading
+pub mod FieldFrames
+pub mod FieldReader
+pub mod ExprTrees
+pub mod ExprReads
+pub mod FieldOrder

@@ -1,7 +1,11 @@
 //! Reads expressions, the targets of `for` and the patterns of `case` from lists of tokens: the laws of expressions,
-//! and `read_patterns`.
+//! `is_spelled`, and `read_patterns`.
 #![tactic(auto)]
 
+mod field_cues;
+mod field_frames;
+mod field_reader;
+mod fields;
 mod laws;
 mod pattern_cues;
 mod pattern_laws;
@@ -10,9 +14,12 @@ mod pattern_nodes;
 mod pattern_reader;
 mod patterns;
 
-pub use laws::one_tree;
+pub use fields::is_spelled;
+pub use laws::{exact_ends, one_expr, one_exprs, one_target, one_tree};
 pub use pattern_laws::one_pattern;
 pub use patterns::{PatternError, PatternRead, read_patterns};
 
+#[cfg(test)]
+mod field_tests;
 #[cfg(test)]
 mod pattern_tests;
