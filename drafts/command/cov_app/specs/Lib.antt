@@ -1,0 +1,10 @@
+pub mod Names
+pub mod Forms
+pub mod Least
+pub mod Walking
+pub mod Walk
+pub mod Reading
+pub mod Command
+pub mod Answer
+pub mod Step
+pub mod Runs

@@ -1,0 +1,111 @@
+-- The least module that a state can be completed to: it is the least in height, and in suites inside each other.
+--
+-- What is added stands on the last line that was read.
+use Rattle.std.specs.Prelude.{ℕ, Bool, true, false, List, [], ◌∷◌, ◌++◌, Some, None}
+use Rattle.py_syntax.specs.declared.stmt.LineEnd.{LineEnd}
+use Rattle.py_syntax.specs.Tree.{Text, Expr, Exprs, no_exprs, exprs, wild}
+use Rattle.py_syntax.specs.Tree.{Stmts, no_stmts, stmt, Suite, suite, no_suite, has_suite, no_clauses, Cases, no_cases, case, StmtKind, aug_assign, pass, assert, try, match}
+use Rattle.py_syntax.specs.Statements.{stmts_height, stmts_nesting}
+use Rattle.py_parse_expr.specs.Machine.{snoc}
+use Rattle.py_parse_expr.specs.Least as expression
+use Rattle.py_parse_expr.specs.Least.{least_name}
+use Rattle.py_parse_expr.specs.PatternMachine as pattern
+use Rattle.py_parse.specs.Open.{snoc_stmt, no_end, newline_end, both_end, Owner, an_arm, a_while, a_for, a_clause, a_def, a_case, closed, Block, top, inside}
+use Rattle.py_parse.specs.Machine.{Resume, value, augmented, leaving, asserted, reason, arm_test, while_test, for_target, for_over, clause_kind, subject, guard, default, froms, Place, Reading, Matching, Simple, Semicolon, Leaving, NameWanted, NameRead, BoundWanted, BoundRead, ModuleWanted, ImportWanted, FunctionWanted, ParamsWanted, ParamWanted, ParamRead, Except, ClauseBound, ColonWanted, SuiteWanted, IndentWanted, MatchLine, MatchBlock, Lines, State, Line, at, Behind, Choosing, Over, assigned, left, listed, with_name, is_some}
+
+-- `pass` alone, as statements and as a suite on the line of its header
+abbrev pub pass_line : ℕ → Stmts
+pass_line l = stmt l l pass newline_end no_stmts
+
+abbrev pub pass_suite : ℕ → Suite
+pass_suite l = suite l l true (pass_line l)
+
+-- a statement that has all that it needs
+abbrev pub ended : ℕ → StmtKind → StmtKind
+ended l (try b no_clauses o no_suite) = try b no_clauses o (has_suite (pass_suite l))
+ended l k = k
+
+-- a `match` with a case
+abbrev pub chosen : ℕ → Expr → ℕ → Cases → StmtKind
+chosen l e header_last no_cases = match e header_last (case wild None (pass_suite l) no_cases)
+chosen l e header_last (case p g b cs) = match e header_last (case p g b cs)
+
+-- The open suites end, from the inside, behind one statement more.
+abbrev pub ending : ℕ → Block → ℕ → ℕ → StmtKind → LineEnd → Stmts
+ending l (top ss) first last k e = snoc_stmt ss first last k e
+ending l (inside ss inline f g begun o b) first last k e = ending l b begun l (ended l (closed o (suite f g inline (snoc_stmt ss first last k e)))) no_end
+
+-- They end where a statement may begin. A block that was just opened gets one.
+abbrev pub closing : ℕ → Block → Stmts
+closing l (top ss) = ss
+closing l (inside no_stmts inline first last begun o b) = ending l b begun l (ended l (closed o (suite first last inline (pass_line l)))) no_end
+closing l (inside ss inline first last begun o b) = ending l b begun l (ended l (closed o (suite first last inline ss))) no_end
+
+-- What a place inside a statement or a header is completed to.
+pub data Form : Type 0 where
+  a_statement : (k : StmtKind) (e : LineEnd) → Form
+  a_header : (inline : Bool) (o : Owner) → Form
+  a_match : (e : Expr) (header_last : ℕ) → Form
+
+abbrev pub resumed : Resume → Expr → ℕ → Form
+resumed (value ts) e l = a_statement (assigned ts e) newline_end
+resumed (augmented p op) e l = a_statement (aug_assign p op e) newline_end
+resumed (leaving raises) e l = a_statement (left raises (Some e)) newline_end
+resumed asserted e l = a_statement (assert e None) newline_end
+resumed (reason test) e l = a_statement (assert test (Some e)) newline_end
+resumed (arm_test arms) e l = a_header true (an_arm arms e)
+resumed while_test e l = a_header true (a_while e)
+resumed for_target e l = a_header true (a_for e least_name)
+resumed (for_over t) e l = a_header true (a_for t e)
+resumed (clause_kind b cs) e l = a_header true (a_clause b cs (Some e) None)
+resumed subject e l = a_match e l
+resumed (guard e' last cs p) e l = a_header true (a_case e' last cs p (Some e))
+resumed (default x ps ds y) e l = a_header true (a_def x (ps ++ y ∷ []) (snoc ds e) false)
+
+-- the parameters with this one, which has a default where one stands in front of it
+abbrev pub with_param : Text → List Text → Exprs → Text → Owner
+with_param x ps no_exprs y = a_def x (ps ++ y ∷ []) no_exprs false
+with_param x ps (exprs d ds) y = a_def x (ps ++ y ∷ []) (snoc (exprs d ds) least_name) false
+
+abbrev pub form : Place → ℕ → Form
+form (Reading r s) l = resumed r (expression.finished s) l
+form (Matching e last cs s) l = a_header true (a_case e last cs (pattern.finished s) None)
+form (Simple k) l = a_statement k newline_end
+form (Semicolon k) l = a_statement k both_end
+form (Leaving raises) l = a_statement (left raises None) newline_end
+form (NameWanted xs) l = a_statement (listed (with_name xs [] None)) newline_end
+form (NameRead xs x) l = a_statement (listed (with_name xs x None)) newline_end
+form (BoundWanted xs x) l = a_statement (listed (with_name xs x (Some []))) newline_end
+form (BoundRead xs) l = a_statement (listed xs) newline_end
+form ModuleWanted l = a_statement (listed (with_name (froms [] []) [] None)) newline_end
+form (ImportWanted m) l = a_statement (listed (with_name (froms m []) [] None)) newline_end
+form FunctionWanted l = a_header true (a_def [] [] no_exprs false)
+form (ParamsWanted x) l = a_header true (a_def x [] no_exprs false)
+form (ParamWanted x ps ds) l = a_header true (a_def x ps ds (is_some ps))
+form (ParamRead x ps ds y) l = a_header true (with_param x ps ds y)
+form (Except b cs) l = a_header true (a_clause b cs None None)
+form (ClauseBound b cs e) l = a_header true (a_clause b cs (Some e) (Some []))
+form (ColonWanted o) l = a_header true o
+form (SuiteWanted o) l = a_header true o
+form (IndentWanted o) l = a_header false o
+form (MatchLine e last) l = a_match e last
+form (MatchBlock e last) l = a_match e last
+
+abbrev pub complete : Form → Lines → Block → Stmts
+complete (a_statement k e) n b = ending n.last b n.begun n.last k e
+complete (a_header inline o) n b = ending n.last b n.begun n.last (ended n.last (closed o (suite n.first n.last inline (pass_line n.last)))) no_end
+complete (a_match e header_last) n b = ending n.last b n.begun n.last (chosen n.last e header_last no_cases) no_end
+
+abbrev pub finished : State → Stmts
+finished (Line b) = closing 0 b
+finished (at p n b) = complete (form p n.last) n b
+finished (Behind k first last b) = ending last b first last (ended last k) no_end
+finished (Choosing e header_last cs first b) = ending 0 b first 0 (chosen 0 e header_last cs) no_end
+finished (Over ss) = ss
+
+-- its height, and how many suites stand inside each other
+abbrev pub least_height : State → ℕ
+least_height s = stmts_height (finished s)
+
+abbrev pub least_nesting : State → ℕ
+least_nesting s = stmts_nesting (finished s)

@@ -1,0 +1,365 @@
+-- The reader of statements as a machine: open suites, a place in them, and a step for each token. No limits stand in it.
+--
+-- A step takes a token, whether the header of a `match` statement begins at it, and its lines. Lines go into the trees and
+-- decide nothing. An expression or a pattern that is being read is a state of its own machine, with what it is for.
+--
+-- A state stands at the beginning of a line, inside a simple statement or a header, behind a suite of a statement that may
+-- go on, between the cases of a `match`, or behind the end. A compound statement is put into its block when the token
+-- behind it comes, since only that one tells that it takes no further suite.
+use Rattle.std.specs.Prelude.{ℕ, Bool, true, false, cond, List, [], ◌∷◌, ◌++◌, Option, Some, None, bytes_eq}
+use Rattle.py_value.specs.declared.operator.BinOp.{BinOp}
+use Rattle.py_value.specs.declared.operator.BinOp.TheVariants as op_
+use Rattle.py_token.specs.declared.token.Keyword.TheVariants as word
+use Rattle.py_token.specs.declared.token.Mark.TheVariants as mark
+use Rattle.py_syntax.specs.Tree.{Text, Expr, Exprs, no_exprs, exprs, Alias, Pattern}
+use Rattle.py_syntax.specs.Tree.{Stmts, no_stmts, stmt, Suite, suite, no_suite, Arms, no_arms, Clauses, no_clauses, clause, Cases, no_cases, case, StmtKind, expr, assign, aug_assign, pass, break, continue, return, raise, assert, global, import, from, if', while, for, try, match}
+use Rattle.py_syntax.specs.Kinds.{Kind, Name, Word, Sign, Newline, Indent, Dedent, End}
+use Rattle.py_syntax.specs.Normal.{is_target, is_place}
+use Rattle.py_syntax.specs.Headers.{Marked, is_match}
+use Rattle.py_syntax.specs.Statements.{case_name}
+use Rattle.py_parse_expr.specs.Machine as expression
+use Rattle.py_parse_expr.specs.Machine.{Goal, any, one, target, snoc, start, role}
+use Rattle.py_parse_expr.specs.PatternMachine as pattern
+use Rattle.py_parse.specs.Open.{snoc_case, no_end, newline_end, semicolon_end, both_end, Owner, an_arm, a_while, a_for, a_try, a_clause, an_else, a_finally, a_def, a_case, closed, Block, top, inside, add}
+
+-- ---- places
+
+-- what an expression is for, with the parts of its statement in front of it
+pub data Resume : Type 0 where
+  -- An expression statement, or the value of an assignment with these targets; or one more target.
+  value : (targets : Exprs) → Resume
+  augmented : (place : Expr) (op : BinOp) → Resume
+  leaving : (raises : Bool) → Resume
+  asserted : Resume
+  reason : (test : Expr) → Resume
+  arm_test : (arms : Arms) → Resume
+  while_test : Resume
+  for_target : Resume
+  for_over : (t : Expr) → Resume
+  clause_kind : (body : Suite) (clauses : Clauses) → Resume
+  subject : Resume
+  guard : (e : Expr) (header_last : ℕ) (cases : Cases) (p : Pattern) → Resume
+  -- the default of a parameter, behind the others with theirs
+  default : (x : Text) (params : List Text) (defaults : Exprs) (y : Text) → Resume
+
+-- what names are listed for
+pub data Listed : Type 0 where
+  globals : (xs : List Text) → Listed
+  imports : (names : List Alias) → Listed
+  froms : (m : Text) (names : List Alias) → Listed
+
+-- A place inside a statement or a header.
+pub data Place : Type 0 where
+  Reading : (r : Resume) (s : expression.State) → Place
+  Matching : (e : Expr) (header_last : ℕ) (cases : Cases) (s : pattern.State) → Place
+  -- behind a simple statement that takes no more; behind its semicolon
+  Simple : (k : StmtKind) → Place
+  Semicolon : (k : StmtKind) → Place
+  -- behind `return` or `raise`
+  Leaving : (raises : Bool) → Place
+  -- a listed name is wanted; behind it; its `as` is read; behind the name that follows
+  NameWanted : (l : Listed) → Place
+  NameRead : (l : Listed) (x : Text) → Place
+  BoundWanted : (l : Listed) (x : Text) → Place
+  BoundRead : (l : Listed) → Place
+  -- behind `from`; behind its module
+  ModuleWanted : Place
+  ImportWanted : (m : Text) → Place
+  -- behind `def`; behind its name; a parameter may come; behind it
+  FunctionWanted : Place
+  ParamsWanted : (x : Text) → Place
+  ParamWanted : (x : Text) (params : List Text) (defaults : Exprs) → Place
+  ParamRead : (x : Text) (params : List Text) (defaults : Exprs) (y : Text) → Place
+  -- behind `except`; behind the `as` of a clause
+  Except : (body : Suite) (clauses : Clauses) → Place
+  ClauseBound : (body : Suite) (clauses : Clauses) (kind : Expr) → Place
+  -- a header wants its colon; behind it; the line ended there
+  ColonWanted : (o : Owner) → Place
+  SuiteWanted : (o : Owner) → Place
+  IndentWanted : (o : Owner) → Place
+  -- behind the colon of a `match` header; its line ended
+  MatchLine : (e : Expr) (header_last : ℕ) → Place
+  MatchBlock : (e : Expr) (header_last : ℕ) → Place
+
+-- The first lines of the statement and of the part of it that is read, and the last line of that part so far.
+pub record Lines : Type 0 where
+  pub begun : ℕ
+  pub first : ℕ
+  pub last : ℕ
+
+pub data State : Type 0 where
+  -- a statement begins on a new line, or its block ends
+  Line : (b : Block) → State
+  at : (p : Place) (n : Lines) (b : Block) → State
+  -- behind a suite of a statement that may go on
+  Behind : (k : StmtKind) (first last : ℕ) (b : Block) → State
+  -- between the cases of a `match`
+  Choosing : (e : Expr) (header_last : ℕ) (cases : Cases) (first : ℕ) (b : Block) → State
+  -- behind the end of the module
+  Over : (ss : Stmts) → State
+
+-- ---- lines and suites end
+
+-- a suite ends with a token whose last line is this
+abbrev pub close : Block → ℕ → State
+close (top ss) l = Line (top ss)
+close (inside ss inline first last begun (a_case e header_last cs p g) b) l = Choosing e header_last (snoc_case cs p g (suite first last inline ss)) begun b
+close (inside ss inline first last begun o b) l = Behind (closed o (suite first last inline ss)) begun l b
+
+-- a line ends, and a suite that shares it
+abbrev pub over_line : Block → ℕ → State
+over_line (inside ss true first last begun o b) l = close (inside ss true first last begun o b) l
+over_line b l = Line b
+
+-- a simple statement is whole
+abbrev pub end_simple : StmtKind → Lines → Block → Kind → ℕ → Option State
+end_simple k n b (Sign mark.Semicolon) l = Some (at (Semicolon k) n b)
+end_simple k n b Newline l = Some (over_line (add b n.begun n.last k newline_end) l)
+end_simple k n b t l = None
+
+-- a header is whole
+abbrev pub end_header : Owner → Lines → Block → Kind → ℕ → Option State
+end_header o n b (Sign mark.Colon) l = Some (at (SuiteWanted o) (record { begun = n.begun; first = n.first; last = l }) b)
+end_header o n b t l = None
+
+-- ---- statements begin
+
+abbrev pub begun_at : ℕ → ℕ → Lines
+begun_at f l = record { begun = f; first = f; last = l }
+
+-- with one token more
+abbrev pub onward : Lines → ℕ → Lines
+onward n l = record { begun = n.begun; first = n.first; last = l }
+
+-- an expression begins
+abbrev pub reads : Resume → Lines → Block → expression.Out → Option State
+reads r n b o = elim o as (λ (w : expression.Out). Option State) [ expression.Next s ↦ Some (at (Reading r s) n b) | expression.Stuck ↦ None | expression.Left e ↦ None ]
+
+abbrev pub goal : Resume → Goal
+goal (value ts) = any
+goal (augmented t op) = any
+goal (leaving raises) = cond raises one any
+goal (for_over t) = any
+goal subject = any
+goal for_target = target
+goal r = one
+
+-- a place where an expression begins
+abbrev pub wanted : Resume → Place
+wanted r = Reading r (start (goal r))
+
+-- the simple statements that begin with a keyword
+abbrev pub simple_place : Kind → Option Place
+simple_place (Word word.Pass) = Some (Simple pass)
+simple_place (Word word.Break) = Some (Simple break)
+simple_place (Word word.Continue) = Some (Simple continue)
+simple_place (Word word.Return) = Some (Leaving false)
+simple_place (Word word.Raise) = Some (Leaving true)
+simple_place (Word word.Assert) = Some (wanted asserted)
+simple_place (Word word.Global) = Some (NameWanted (globals []))
+simple_place (Word word.Import) = Some (NameWanted (imports []))
+simple_place (Word word.From) = Some ModuleWanted
+simple_place t = None
+
+-- and the compound ones
+abbrev pub compound_place : Kind → Option Place
+compound_place (Word word.If) = Some (wanted (arm_test no_arms))
+compound_place (Word word.While) = Some (wanted while_test)
+compound_place (Word word.For) = Some (wanted for_target)
+compound_place (Word word.Try) = Some (ColonWanted a_try)
+compound_place (Word word.Def) = Some FunctionWanted
+compound_place t = None
+
+abbrev pub begin_simple : Block → Kind → ℕ → ℕ → Option State
+begin_simple b t f l = elim (simple_place t) as (λ (o : Option Place). Option State) [ Some p ↦ Some (at p (begun_at f l) b) | None ↦ reads (value no_exprs) (begun_at f l) b (expression.step (start any) (role t)) ]
+
+abbrev pub begin_line : Block → Kind → ℕ → ℕ → Option State
+begin_line b t f l = elim (compound_place t) as (λ (o : Option Place). Option State) [ Some p ↦ Some (at p (begun_at f l) b) | None ↦ begin_simple b t f l ]
+
+-- A token comes on a new line.
+abbrev pub line : Block → Kind → ℕ → ℕ → Option State
+line (top ss) End f l = Some (Over ss)
+line (inside (stmt f' l' k e ss) false first last begun o b) Dedent f l = Some (close (inside (stmt f' l' k e ss) false first last begun o b) l)
+line b t f l = begin_line b t f l
+
+-- ---- statements go on behind a suite
+
+abbrev pub next_part : StmtKind → Kind → Option Place
+next_part (if' arms no_suite) (Word word.Elif) = Some (wanted (arm_test arms))
+next_part (if' arms no_suite) (Word word.Else) = Some (ColonWanted (an_else (if' arms no_suite)))
+next_part (while t b no_suite) (Word word.Else) = Some (ColonWanted (an_else (while t b no_suite)))
+next_part (for t e b no_suite) (Word word.Else) = Some (ColonWanted (an_else (for t e b no_suite)))
+next_part (try b cs no_suite no_suite) (Word word.Except) = Some (Except b cs)
+next_part (try b (clause e x s cs) no_suite no_suite) (Word word.Else) = Some (ColonWanted (an_else (try b (clause e x s cs) no_suite no_suite)))
+next_part (try b cs o no_suite) (Word word.Finally) = Some (ColonWanted (a_finally b cs o))
+next_part k t = None
+
+-- a `try` needs a clause or a `finally`
+abbrev pub is_whole : StmtKind → Bool
+is_whole (try b no_clauses o no_suite) = false
+is_whole k = true
+
+-- ---- parts of statements
+
+abbrev pub in_place_op : Kind → Option BinOp
+in_place_op (Sign mark.PlusEqual) = Some op_.Add
+in_place_op (Sign mark.MinusEqual) = Some op_.Sub
+in_place_op (Sign mark.StarEqual) = Some op_.Mul
+in_place_op (Sign mark.DoubleSlashEqual) = Some op_.Floor
+in_place_op (Sign mark.PercentEqual) = Some op_.Mod
+in_place_op t = None
+
+abbrev pub assigned : Exprs → Expr → StmtKind
+assigned no_exprs e = expr e
+assigned (exprs t ts) e = assign (exprs t ts) e
+
+abbrev pub left : Bool → Option Expr → StmtKind
+left raises e = cond raises (raise e) (return e)
+
+-- behind an expression, and targets in front of it
+abbrev pub behind_value : Exprs → Expr → Lines → Block → Kind → ℕ → Option State
+behind_value ts e n b (Sign mark.Equal) l = cond (is_target e) (Some (at (wanted (value (snoc ts e))) (onward n l) b)) None
+behind_value no_exprs e n b t l = elim (in_place_op t) as (λ (o : Option BinOp). Option State) [ Some op ↦ cond (is_place e) (Some (at (wanted (augmented e op)) (onward n l) b)) None | None ↦ end_simple (expr e) n b t l ]
+behind_value ts e n b t l = end_simple (assigned ts e) n b t l
+
+abbrev pub behind_default : Text → List Text → Exprs → Lines → Block → Kind → ℕ → Option State
+behind_default x ps ds n b (Sign mark.Comma) l = Some (at (ParamWanted x ps ds) (onward n l) b)
+behind_default x ps ds n b (Sign mark.RightParen) l = Some (at (ColonWanted (a_def x ps ds false)) (onward n l) b)
+behind_default x ps ds n b t l = None
+
+-- An expression is whole, and this token comes.
+abbrev pub resume : Resume → Expr → Lines → Block → Kind → ℕ → Option State
+resume (value ts) e n b t l = behind_value ts e n b t l
+resume (augmented p op) e n b t l = end_simple (aug_assign p op e) n b t l
+resume (leaving raises) e n b t l = end_simple (left raises (Some e)) n b t l
+resume asserted e n b (Sign mark.Comma) l = Some (at (wanted (reason e)) (onward n l) b)
+resume asserted e n b t l = end_simple (assert e None) n b t l
+resume (reason test) e n b t l = end_simple (assert test (Some e)) n b t l
+resume (arm_test arms) e n b t l = end_header (an_arm arms e) n b t l
+resume while_test e n b t l = end_header (a_while e) n b t l
+resume for_target e n b (Word word.In) l = Some (at (wanted (for_over e)) (onward n l) b)
+resume for_target e n b t l = None
+resume (for_over x) e n b t l = end_header (a_for x e) n b t l
+resume (clause_kind body cs) e n b (Word word.As) l = Some (at (ClauseBound body cs e) (onward n l) b)
+resume (clause_kind body cs) e n b t l = end_header (a_clause body cs (Some e) None) n b t l
+resume subject e n b (Sign mark.Colon) l = Some (at (MatchLine e l) (onward n l) b)
+resume subject e n b t l = None
+resume (guard e' last cs p) e n b t l = end_header (a_case e' last cs p (Some e)) n b t l
+resume (default x ps ds y) e n b t l = behind_default x (ps ++ y ∷ []) (snoc ds e) n b t l
+
+abbrev pub resume_pattern : Expr → ℕ → Cases → Pattern → Lines → Block → Kind → ℕ → Option State
+resume_pattern e last cs p n b (Word word.If) l = Some (at (wanted (guard e last cs p)) (onward n l) b)
+resume_pattern e last cs p n b t l = end_header (a_case e last cs p None) n b t l
+
+-- ---- listed names
+
+abbrev pub listed : Listed → StmtKind
+listed (globals xs) = global xs
+listed (imports names) = import names
+listed (froms m names) = from m names
+
+abbrev pub alias : Text → Option Text → Alias
+alias x y = record { name = x; bound = y }
+
+abbrev pub with_name : Listed → Text → Option Text → Listed
+with_name (globals xs) x y = globals (xs ++ x ∷ [])
+with_name (imports names) x y = imports (names ++ alias x y ∷ [])
+with_name (froms m names) x y = froms m (names ++ alias x y ∷ [])
+
+abbrev pub may_bind : Listed → Bool
+may_bind (globals xs) = false
+may_bind l = true
+
+-- behind a listed name and what it is bound to
+abbrev pub behind_name : Listed → Lines → Block → Kind → ℕ → Option State
+behind_name l n b (Sign mark.Comma) last = Some (at (NameWanted l) (onward n last) b)
+behind_name l n b t last = end_simple (listed l) n b t last
+
+abbrev pub is_some : List Text → Bool
+is_some [] = false
+is_some (x ∷ xs) = true
+
+-- ---- the steps
+
+-- A token inside a statement or a header.
+abbrev pub act : Place → Lines → Block → Kind → ℕ → ℕ → Option State
+act (Reading r s) n b t f l = elim (expression.step s (role t)) as (λ (w : expression.Out). Option State) [ expression.Next s' ↦ Some (at (Reading r s') (onward n l) b) | expression.Stuck ↦ None | expression.Left e ↦ resume r e n b t l ]
+act (Matching e last cs s) n b t f l = elim (pattern.step s t) as (λ (w : pattern.Out). Option State) [ pattern.Next s' ↦ Some (at (Matching e last cs s') (onward n l) b) | pattern.Stuck ↦ None | pattern.Left p ↦ resume_pattern e last cs p n b t l ]
+act (Simple k) n b t f l = end_simple k n b t l
+act (Semicolon k) n b Newline f l = Some (over_line (add b n.begun n.last k both_end) l)
+act (Semicolon k) n b t f l = begin_simple (add b n.begun n.last k semicolon_end) t f l
+act (Leaving raises) n b (Sign mark.Semicolon) f l = end_simple (left raises None) n b (Sign mark.Semicolon) l
+act (Leaving raises) n b Newline f l = end_simple (left raises None) n b Newline l
+act (Leaving raises) n b t f l = reads (leaving raises) (onward n l) b (expression.step (start (goal (leaving raises))) (role t))
+act (NameWanted xs) n b (Name x) f l = Some (at (NameRead xs x) (onward n l) b)
+act (NameWanted xs) n b t f l = None
+act (NameRead xs x) n b (Word word.As) f l = cond (may_bind xs) (Some (at (BoundWanted xs x) (onward n l) b)) None
+act (NameRead xs x) n b t f l = behind_name (with_name xs x None) n b t l
+act (BoundWanted xs x) n b (Name y) f l = Some (at (BoundRead (with_name xs x (Some y))) (onward n l) b)
+act (BoundWanted xs x) n b t f l = None
+act (BoundRead xs) n b t f l = behind_name xs n b t l
+act ModuleWanted n b (Name m) f l = Some (at (ImportWanted m) (onward n l) b)
+act ModuleWanted n b t f l = None
+act (ImportWanted m) n b (Word word.Import) f l = Some (at (NameWanted (froms m [])) (onward n l) b)
+act (ImportWanted m) n b t f l = None
+act FunctionWanted n b (Name x) f l = Some (at (ParamsWanted x) (onward n l) b)
+act FunctionWanted n b t f l = None
+act (ParamsWanted x) n b (Sign mark.LeftParen) f l = Some (at (ParamWanted x [] no_exprs) (onward n l) b)
+act (ParamsWanted x) n b t f l = None
+act (ParamWanted x ps ds) n b (Name y) f l = Some (at (ParamRead x ps ds y) (onward n l) b)
+act (ParamWanted x ps ds) n b (Sign mark.RightParen) f l = Some (at (ColonWanted (a_def x ps ds (is_some ps))) (onward n l) b)
+act (ParamWanted x ps ds) n b t f l = None
+act (ParamRead x ps ds y) n b (Sign mark.Equal) f l = Some (at (wanted (default x ps ds y)) (onward n l) b)
+act (ParamRead x ps no_exprs y) n b t f l = behind_default x (ps ++ y ∷ []) no_exprs n b t l
+act (ParamRead x ps ds y) n b t f l = None
+act (Except body cs) n b (Sign mark.Colon) f l = end_header (a_clause body cs None None) n b (Sign mark.Colon) l
+act (Except body cs) n b t f l = reads (clause_kind body cs) (onward n l) b (expression.step (start one) (role t))
+act (ClauseBound body cs e) n b (Name x) f l = Some (at (ColonWanted (a_clause body cs (Some e) (Some x))) (onward n l) b)
+act (ClauseBound body cs e) n b t f l = None
+act (ColonWanted o) n b t f l = end_header o n b t l
+act (SuiteWanted o) n b Newline f l = Some (at (IndentWanted o) n b)
+act (SuiteWanted o) n b t f l = begin_simple (inside no_stmts true n.first n.last n.begun o b) t f l
+act (IndentWanted o) n b Indent f l = Some (Line (inside no_stmts false n.first n.last n.begun o b))
+act (IndentWanted o) n b t f l = None
+act (MatchLine e last) n b Newline f l = Some (at (MatchBlock e last) n b)
+act (MatchLine e last) n b t f l = None
+act (MatchBlock e last) n b Indent f l = Some (Choosing e last no_cases n.begun b)
+act (MatchBlock e last) n b t f l = None
+
+-- between the cases of a `match`, in its block
+abbrev pub choose : Expr → ℕ → Cases → ℕ → Block → Kind → ℕ → ℕ → Option State
+choose e last cs first b (Name x) f l = cond (bytes_eq x case_name) (Some (at (Matching e last cs pattern.start) (record { begun = first; first = f; last = l }) b)) None
+choose e last (case p g s cs) first b Dedent f l = Some (Behind (match e last (case p g s cs)) first l b)
+choose e last cs first b t f l = None
+
+-- the open suites, where a statement may begin on a new line
+abbrev pub at_line : State → Option Block
+at_line (Line b) = Some b
+at_line (Behind k first last b) = cond (is_whole k) (Some (add b first last k no_end)) None
+at_line s = None
+
+abbrev pub on_line : Option Block → Kind → ℕ → ℕ → Option State
+on_line o t f l = elim o as (λ (w : Option Block). Option State) [ Some b ↦ line b t f l | None ↦ None ]
+
+-- A token at which no header of a `match` begins.
+abbrev pub plain_step : State → Kind → ℕ → ℕ → Option State
+plain_step (Line b) t f l = line b t f l
+plain_step (at p n b) t f l = act p n b t f l
+plain_step (Behind k first last b) t f l = elim (next_part k t) as (λ (o : Option Place). Option State) [ Some p ↦ Some (at p (record { begun = first; first = f; last = l }) b) | None ↦ on_line (at_line (Behind k first last b)) t f l ]
+plain_step (Choosing e last cs first b) t f l = choose e last cs first b t f l
+plain_step (Over ss) t f l = None
+
+-- The header of a `match` begins here.
+abbrev pub header_step : Option Block → Kind → ℕ → ℕ → Option State
+header_step o t f l = elim o as (λ (w : Option Block). Option State) [ Some b ↦ cond (is_match t) (Some (at (wanted subject) (begun_at f l) b)) None | None ↦ None ]
+
+abbrev pub step : State → Marked → ℕ → ℕ → Option State
+step s m f l = cond (m.header) (header_step (at_line s) m.kind f l) (plain_step s m.kind f l)
+
+-- nothing is read
+abbrev pub begun : State
+begun = Line (top no_stmts)
+
+abbrev pub done : State → Option Stmts
+done (Over ss) = Some ss
+done s = None

@@ -1,0 +1,83 @@
+-- What is open round a place in the text of a module: suites, from the inside, with what was read of them.
+use Rattle.std.specs.Prelude.{ℕ, Bool, true, false, List, Option}
+use Rattle.py_syntax.specs.declared.stmt.LineEnd.{LineEnd}
+use Rattle.py_syntax.specs.Tree.{Text, Expr, Exprs, Pattern}
+use Rattle.py_syntax.specs.Tree.{Stmts, no_stmts, stmt, Suite, OptSuite, no_suite, has_suite, Arms, no_arms, arm, Clauses, no_clauses, clause, Cases, no_cases, case, StmtKind, if', while, for, try, def, match}
+
+-- ---- one more at the end
+
+abbrev pub snoc_stmt : Stmts → ℕ → ℕ → StmtKind → LineEnd → Stmts
+snoc_stmt no_stmts first last k e = stmt first last k e no_stmts
+snoc_stmt (stmt f l k' e' ss) first last k e = stmt f l k' e' (snoc_stmt ss first last k e)
+
+abbrev pub snoc_arm : Arms → Expr → Suite → Arms
+snoc_arm no_arms t b = arm t b no_arms
+snoc_arm (arm t' b' arms) t b = arm t' b' (snoc_arm arms t b)
+
+abbrev pub snoc_clause : Clauses → Option Expr → Option Text → Suite → Clauses
+snoc_clause no_clauses e x b = clause e x b no_clauses
+snoc_clause (clause e' x' b' cs) e x b = clause e' x' b' (snoc_clause cs e x b)
+
+abbrev pub snoc_case : Cases → Pattern → Option Expr → Suite → Cases
+snoc_case no_cases p g b = case p g b no_cases
+snoc_case (case p' g' b' cs) p g b = case p' g' b' (snoc_case cs p g b)
+
+-- ---- how a statement ends its line
+
+abbrev pub no_end : LineEnd
+no_end = record { semicolon = false; newline = false }
+
+abbrev pub newline_end : LineEnd
+newline_end = record { semicolon = false; newline = true }
+
+abbrev pub semicolon_end : LineEnd
+semicolon_end = record { semicolon = true; newline = false }
+
+abbrev pub both_end : LineEnd
+both_end = record { semicolon = true; newline = true }
+
+-- ---- suites
+
+-- What an open suite belongs to: a part of a compound statement, with what was read of the statement before it.
+pub data Owner : Type 0 where
+  an_arm : (arms : Arms) (test : Expr) → Owner
+  a_while : (test : Expr) → Owner
+  a_for : (target over : Expr) → Owner
+  a_try : Owner
+  a_clause : (body : Suite) (clauses : Clauses) (kind : Option Expr) (bound : Option Text) → Owner
+  -- the `else` of a statement that has none yet
+  an_else : (so_far : StmtKind) → Owner
+  a_finally : (body : Suite) (clauses : Clauses) (orelse : OptSuite) → Owner
+  a_def : (x : Text) (params : List Text) (defaults : Exprs) (comma : Bool) → Owner
+  a_case : (subject : Expr) (header_last : ℕ) (cases : Cases) (p : Pattern) (guard : Option Expr) → Owner
+
+-- a statement with an `else` suite
+abbrev pub with_else : StmtKind → Suite → StmtKind
+with_else (if' arms o) s = if' arms (has_suite s)
+with_else (while t b o) s = while t b (has_suite s)
+with_else (for t e b o) s = for t e b (has_suite s)
+with_else (try b cs o f) s = try b cs (has_suite s) f
+with_else k s = k
+
+-- The statement so far, where the suite is closed.
+abbrev pub closed : Owner → Suite → StmtKind
+closed (an_arm arms t) s = if' (snoc_arm arms t s) no_suite
+closed (a_while t) s = while t s no_suite
+closed (a_for t e) s = for t e s no_suite
+closed a_try s = try s no_clauses no_suite no_suite
+closed (a_clause b cs e x) s = try b (snoc_clause cs e x s) no_suite no_suite
+closed (an_else k) s = with_else k s
+closed (a_finally b cs o) s = try b cs o (has_suite s)
+closed (a_def x ps ds c) s = def x ps ds c s
+closed (a_case e last cs p g) s = match e last (snoc_case cs p g s)
+
+-- The open suites with the statements that were read in them. A suite has the lines of its header, its form, and the
+-- first line of the statement that it belongs to.
+pub data Block : Type 0 where
+  top : (ss : Stmts) → Block
+  inside : (ss : Stmts) (inline : Bool) (first last begun : ℕ) (o : Owner) (k : Block) → Block
+
+-- a statement more in the innermost suite
+abbrev pub add : Block → ℕ → ℕ → StmtKind → LineEnd → Block
+add (top ss) first last k e = top (snoc_stmt ss first last k e)
+add (inside ss inline f l begun o b) first last k e = inside (snoc_stmt ss first last k e) inline f l begun o b

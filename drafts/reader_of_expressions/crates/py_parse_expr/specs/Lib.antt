@@ -1,0 +1,15 @@
+pub mod Roles
+pub mod Machine
+pub mod Least
+pub mod Refusal
+pub mod PatternMachine
+pub mod PatternTrees
+pub mod PatternHeights
+pub mod PatternHeld
+pub mod PatternRows
+pub mod PatternReads
+pub mod Reading
+pub mod Rooms
+pub mod ExprHeld
+pub mod ExprStacks
+pub mod ExprTurns
