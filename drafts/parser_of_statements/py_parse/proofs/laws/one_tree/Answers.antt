@@ -1,5 +1,0 @@
-use Rattle.py_parse.proofs.WholeTokens.{one_tree}
-use Rattle.py_parse.proofs.laws.one_tree.Goals as goal
-
-pub returns : goal.returns
-returns c = record { one_module = one_tree }
