@@ -38,3 +38,13 @@ pub mod ListLines
 pub mod Whole
 pub mod WholeTokens
 pub mod WholeStands
+pub mod Falls
+pub mod PatternFalls
+pub mod Quits
+pub mod Weights
+pub mod NearForms
+pub mod Near
+pub mod Marks
+pub mod Moves
+pub mod Walk
+pub mod PatternWalk

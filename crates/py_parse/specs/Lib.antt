@@ -3,3 +3,5 @@ pub mod Machine
 pub mod Least
 pub mod Places
 pub mod Refusal
+pub mod HeldMarks
+pub mod Levels

@@ -1,0 +1,61 @@
+-- A reading that stands at a place goes on where a step keeps to the limits.
+use Rattle.std.proofs.Common.{◌≡◌, ℕ, suc, ◌+◌, ◌≤◌, ◌<◌, max, Bool, true, false, cond, List, [], ◌∷◌, length, take, drop, Option, Some, None, refl, sym, ap, subst, ◌∙◌, arith}
+use Rattle.py_token.specs.Plain.{PToken}
+use Rattle.py_syntax.specs.Spelling.{HEIGHT, NESTING}
+use Rattle.py_parse_expr.specs.Least as expression_least
+use Rattle.py_parse.specs.Machine.{State, Reading, at, Lines, begun, step}
+use Rattle.py_parse.specs.Open.{Block}
+use Rattle.py_parse.specs.Least.{least_height, least_nesting}
+use Rattle.py_parse.specs.Refusal.{HasDeepSuites, HasDeepExpressions}
+use Rattle.py_parse.proofs.Fine.{Fine}
+use Rattle.py_parse.proofs.Keeps.{step_keeps, fine_begun}
+use Rattle.py_parse.proofs.WholeLists.{Lexeme, next, reading}
+use Rattle.py_parse.proofs.WholeTokens.{with_lines, reached}
+use Rattle.py_parse.proofs.WholeStands.{Stands, goes_on, deep_suites, deep_expressions}
+use Rattle.py_parse.proofs.Weights.{tall, deep, is_tall, is_deep, inner, level, Near}
+use Rattle.py_parse.proofs.NearForms.{level_deep, inner_tall}
+use Rattle.py_parse.proofs.Near.{step_near, apt_state}
+
+-- the state is fine
+fine_run : (s last : State) (ts : List Lexeme) → Fine s → reading s ts ≡ Some last → Fine last
+fine_run s last [] fine h = let same : s ≡ last = cc in subst Fine same fine
+fine_run s last (t ∷ ts) fine h = go (λ n. fine_run n last ts) (next s t) refl h
+  where
+    go : ((n : State) → Fine n → reading n ts ≡ Some last → Fine last) → (o : Option State) → next s t ≡ o → (elim o as (λ (w : Option State). Option State) [ None ↦ None | Some n ↦ reading n ts ]) ≡ Some last → Fine last
+    go rec None is h = absurd cc
+    go rec (Some n) is h = rec n (step_keeps s n t.mark t.first t.last fine is) h
+
+pub stands_fine : (ts : List PToken) (place : ℕ) (s : State) → Stands ts place s → Fine s
+stands_fine ts place s h = fine_run begun s (take place (with_lines ts)) fine_begun h.passes
+
+-- how high and how deep the next state is
+pub near : (ts : List PToken) (place : ℕ) (s n : State) (t : Lexeme) → Stands ts place s → next s t ≡ Some n → (tall n ≤ max 200 (inner n)) × (deep n ≤ max 64 (level n))
+near ts place s n t h is =
+    let fine = stands_fine ts place s h in
+    let low = h.low in let shallow = h.shallow in
+    let one = is_tall s (apt_state s fine) in let two = is_deep s (apt_state s fine) in
+    let k : Near (tall s) (deep s) (Some n) = subst (Near (tall s) (deep s)) is (step_near s t.mark t.first t.last fine) in
+    let high = k.0 in let down = k.1 in
+    (omega arith, omega arith)
+
+pub moves : (ts : List PToken) (place : ℕ) (s n : State) (t : Lexeme) (rest : List Lexeme) → Stands ts place s → drop place (with_lines ts) ≡ t ∷ rest → next s t ≡ Some n → inner n ≤ 200 → level n ≤ 64 → Stands ts (place + 1) n
+moves ts place s n t rest h there is low flat =
+    let fine = step_keeps s n t.mark t.first t.last (stands_fine ts place s h) is in
+    let k = near ts place s n t h is in let high = k.0 in let down = k.1 in
+    let one = is_tall n (apt_state n fine) in let two = is_deep n (apt_state n fine) in
+    goes_on ts place s n t rest h there is (omega arith) (omega arith)
+
+-- too many suites inside each other
+pub too_many : (ts : List PToken) (place : ℕ) (s n : State) (t : Lexeme) (rest : List Lexeme) → Stands ts place s → drop place (with_lines ts) ≡ t ∷ rest → next s t ≡ Some n → 64 < level n → HasDeepSuites ts place
+too_many ts place s n t rest h there is over =
+    let fine = step_keeps s n t.mark t.first t.last (stands_fine ts place s h) is in
+    let one = is_deep n (apt_state n fine) in let two = level_deep n in
+    deep_suites ts place s n t rest h there is (omega arith)
+
+-- the expression or the pattern that is read is too high
+pub too_high : (ts : List PToken) (place : ℕ) (s n : State) (t : Lexeme) (rest : List Lexeme) → Stands ts place s → drop place (with_lines ts) ≡ t ∷ rest → next s t ≡ Some n → level n ≤ 64 → 200 < inner n → HasDeepExpressions ts place
+too_high ts place s n t rest h there is flat over =
+    let fine = step_keeps s n t.mark t.first t.last (stands_fine ts place s h) is in
+    let k = near ts place s n t h is in let down = k.1 in
+    let one = is_tall n (apt_state n fine) in let two = is_deep n (apt_state n fine) in let three = inner_tall n in
+    deep_expressions ts place s n t rest h there is (omega arith) (omega arith)

@@ -1,0 +1,151 @@
+-- The height and the depth of what stands in a state, and what of them a step may add.
+use Rattle.std.proofs.Common.{◌≡◌, ℕ, suc, ◌+◌, ◌≤◌, max, Bool, true, false, cond, Option, Some, None, refl, ap, arith}
+use Rattle.py_syntax.specs.declared.stmt.LineEnd.{LineEnd}
+use Rattle.py_syntax.specs.Tree.{Expr, no_exprs, Stmts, no_stmts, stmt, Suite, suite, no_suite, Arms, no_arms, arm, Cases, no_cases, case, StmtKind, match, Pattern}
+use Rattle.py_syntax.specs.Normal.{height}
+use Rattle.py_syntax.specs.Statements.{stmts_height, kind_height, suite_height, cases_height, stmts_nesting, kind_nesting, suite_nesting, cases_nesting}
+use Rattle.py_parse_expr.specs.Machine as expression
+use Rattle.py_parse_expr.specs.Least as expression_least
+use Rattle.py_parse_expr.specs.PatternMachine as pattern
+use Rattle.py_parse.specs.Open.{snoc_stmt, snoc_case, no_end, Owner, an_arm, a_while, a_for, a_try, a_clause, an_else, a_finally, a_def, a_case, closed, Block, top, inside, add}
+use Rattle.py_parse.specs.Machine.{Resume, arm_test, while_test, for_target, subject, Place, Reading, Matching, FunctionWanted, ColonWanted, Lines, State, Line, at, Behind, Choosing, Over, close, over_line}
+use Rattle.py_parse.specs.Least.{ended, chosen, form, finished, least_height, least_nesting}
+use Rattle.py_parse.specs.Levels as levels
+use Rattle.py_parse.specs.Levels.{is_start, begins_at, open_count}
+use Rattle.py_parse.proofs.GrowthParts.{snoc_height, snoc_nesting, case_height, case_nesting, ended_height, ended_nesting}
+use Rattle.py_parse.proofs.GrowthForms.{core}
+use Rattle.py_parse.proofs.GrowthEnding.{owner_height, owner_nesting, Apt, closed_height, closed_nesting, block_height, depth, block_nesting, AptBlock, ending_height, ending_nesting, closing_height, closing_nesting, complete_height, complete_nesting}
+
+-- ---- what stands in a state
+
+abbrev pub tall : State → ℕ
+tall (Line b) = block_height b
+tall (at p n b) = max (block_height b) (kind_height (core (form p n.last)))
+tall (Behind k first last b) = max (block_height b) (kind_height k)
+tall (Choosing e last cs first b) = max (block_height b) (kind_height (chosen 0 e last cs))
+tall (Over ss) = stmts_height ss
+
+abbrev pub deep : State → ℕ
+deep (Line b) = block_nesting b
+deep (at p n b) = max (block_nesting b) (kind_nesting (core (form p n.last)) + depth b)
+deep (Behind k first last b) = max (block_nesting b) (kind_nesting k + depth b)
+deep (Choosing e last cs first b) = max (block_nesting b) (kind_nesting (chosen 0 e last cs) + depth b)
+deep (Over ss) = stmts_nesting ss
+
+abbrev pub AptState : State → Type 0
+AptState (Line b) = AptBlock b
+AptState (at p n b) = AptBlock b
+AptState (Behind k first last b) = AptBlock b
+AptState (Choosing e last cs first b) = AptBlock b
+AptState (Over ss) = Unit {0}
+
+pub is_tall : (s : State) → AptState s → least_height s ≡ tall s
+is_tall (Line b) h = closing_height 0 b h
+is_tall (at p n b) h = complete_height (form p n.last) n b h
+is_tall (Behind k first last b) h = let one = ended_height last k in let two = ending_height last b first last (ended last k) no_end h in omega arith
+is_tall (Choosing e last cs first b) h = ending_height 0 b first 0 (chosen 0 e last cs) no_end h
+is_tall (Over ss) h = refl
+
+pub is_deep : (s : State) → AptState s → least_nesting s ≡ deep s
+is_deep (Line b) h = closing_nesting 0 b h
+is_deep (at p n b) h = complete_nesting (form p n.last) n b h
+is_deep (Behind k first last b) h = let one = ended_nesting last k in let two = ending_nesting last b first last (ended last k) no_end h in omega arith
+is_deep (Choosing e last cs first b) h = ending_nesting 0 b first 0 (chosen 0 e last cs) no_end h
+is_deep (Over ss) h = refl
+
+-- ---- what a step may add
+
+-- the height of the expression or the pattern that is being read
+abbrev pub inner : State → ℕ
+inner (at (Reading r s) n b) = expression_least.least s
+inner (at (Matching e last cs s) n b) = pattern.least s
+inner s = 0
+
+pub not_begun : (r : Resume) (s : expression.State) → is_start s ≡ false → begins_at (Reading r s) ≡ false
+not_begun (arm_test no_arms) s h = h
+not_begun (arm_test (arm t b arms)) s h = refl
+not_begun while_test s h = h
+not_begun for_target s h = h
+not_begun subject s h = h
+not_begun r s h = refl
+
+abbrev pub level : State → ℕ
+level (at p n b) = cond (begins_at p) (suc (depth b)) 0
+level s = 0
+
+-- the suites that are open
+pub level_is : (s : State) → levels.level s ≡ level s
+level_is (at p n b) = ap (λ (d : ℕ). cond (begins_at p) (suc d) 0) (open_is b)
+  where
+    open_is : (b : Block) → open_count b ≡ depth b
+    open_is (top ss) = refl
+    open_is (inside ss i x y begun o b) = ap suc (open_is b)
+level_is s = refl
+
+pub begun_level : (r : Resume) (s : expression.State) (n : Lines) (b : Block) → is_start s ≡ false → level (at (Reading r s) n b) ≡ 0
+begun_level r s n b h = ap (λ (c : Bool). cond c (suc (depth b)) 0) (not_begun r s h)
+
+-- What comes of a step is no higher than this and the limit, but for what is being read, and no deeper than that, but for
+-- a suite that begins.
+abbrev pub Near : ℕ → ℕ → Option State → Type 0
+Near h d None = Unit {0}
+Near h d (Some s) = (tall s ≤ max (max h 200) (inner s)) × (deep s ≤ max d (level s))
+
+pub near_from : (h h' d d' : ℕ) (o : Option State) → h' ≤ max h 200 → d' ≤ d → Near h' d' o → Near h d o
+near_from h h' d d' None low shallow n = tt
+near_from h h' d d' (Some s) low shallow n = let one = n.0 in let two = n.1 in (omega arith, omega arith)
+
+-- ---- suites and statements end
+
+pub added_height : (b : Block) (f l : ℕ) (k : StmtKind) (e : LineEnd) → block_height (add b f l k e) ≡ max (block_height b) (kind_height k)
+added_height (top ss) f l k e = snoc_height ss f l k e
+added_height (inside ss i x y begun o b) f l k e = let one = snoc_height ss f l k e in omega arith
+
+pub added_depth : (b : Block) (f l : ℕ) (k : StmtKind) (e : LineEnd) → depth (add b f l k e) ≡ depth b
+added_depth (top ss) f l k e = refl
+added_depth (inside ss i x y begun o b) f l k e = refl
+
+pub added_nesting : (b : Block) (f l : ℕ) (k : StmtKind) (e : LineEnd) → block_nesting (add b f l k e) ≡ max (block_nesting b) (kind_nesting k + depth b)
+added_nesting (top ss) f l k e = let one = snoc_nesting ss f l k e in omega arith
+added_nesting (inside ss i x y begun o b) f l k e = let one = snoc_nesting ss f l k e in omega arith
+
+pub added_apt : (b : Block) (f l : ℕ) (k : StmtKind) (e : LineEnd) → AptBlock b → AptBlock (add b f l k e)
+added_apt (top ss) f l k e h = h
+added_apt (inside ss i x y begun o b) f l k e h = h
+
+chosen_height : (e : Expr) (last : ℕ) (cs : Cases) (p : Pattern) (g : Option Expr) (s : Suite) → chosen 0 e last (snoc_case cs p g s) ≡ match e last (snoc_case cs p g s)
+chosen_height e last no_cases p g s = refl
+chosen_height e last (case p' g' s' cs) p g s = refl
+
+pub close_tall : (b : Block) (l : ℕ) → AptBlock b → tall (close b l) ≡ block_height b
+close_tall (top ss) l h = refl
+close_tall (inside ss i x y begun (a_case e last cs p g) b) l h =
+    let same = ap kind_height (chosen_height e last cs p g (suite x y i ss)) in
+    let one = case_height cs p g (suite x y i ss) in
+    omega arith
+close_tall (inside ss i x y begun o b) l h = let one = closed_height o (suite x y i ss) h.0 in omega arith
+
+pub close_deep : (b : Block) (l : ℕ) → AptBlock b → deep (close b l) ≡ block_nesting b
+close_deep (top ss) l h = refl
+close_deep (inside ss i x y begun (a_case e last cs p g) b) l h =
+    let same = ap kind_nesting (chosen_height e last cs p g (suite x y i ss)) in
+    let one = case_nesting cs p g (suite x y i ss) in
+    omega arith
+close_deep (inside ss i x y begun o b) l h = let one = closed_nesting o (suite x y i ss) h.0 in omega arith
+
+pub over_line_tall : (b : Block) (l : ℕ) → AptBlock b → tall (over_line b l) ≡ block_height b
+over_line_tall (inside ss true x y begun o b) l h = close_tall (inside ss true x y begun o b) l h
+over_line_tall (inside ss false x y begun o b) l h = refl
+over_line_tall (top ss) l h = refl
+
+pub over_line_deep : (b : Block) (l : ℕ) → AptBlock b → deep (over_line b l) ≡ block_nesting b
+over_line_deep (inside ss true x y begun o b) l h = close_deep (inside ss true x y begun o b) l h
+over_line_deep (inside ss false x y begun o b) l h = refl
+over_line_deep (top ss) l h = refl
+
+-- a suite or a line ends: nothing is added
+pub close_near : (b : Block) (l : ℕ) → AptBlock b → Near (block_height b) (block_nesting b) (Some (close b l))
+close_near b l h = let one = close_tall b l h in let two = close_deep b l h in (omega arith, omega arith)
+
+pub over_line_near : (b : Block) (l : ℕ) → AptBlock b → Near (block_height b) (block_nesting b) (Some (over_line b l))
+over_line_near b l h = let one = over_line_tall b l h in let two = over_line_deep b l h in (omega arith, omega arith)
