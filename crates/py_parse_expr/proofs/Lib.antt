@@ -40,3 +40,13 @@ pub mod ExprPlaces
 pub mod Embedded
 pub mod EmbeddedReaders
 pub mod FieldOrder
+pub mod ExprLimits
+pub mod ExprRoles
+pub mod Rooms
+pub mod ExprNodes
+pub mod ExprFrames
+pub mod ExprSteps
+pub mod ExprStrings
+pub mod ExprFields
+pub mod ExprReader
+pub mod ExprWhole

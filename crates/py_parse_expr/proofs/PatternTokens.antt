@@ -23,8 +23,8 @@ use Rattle.py_syntax.specs.Kinds.{bare, bare_token, bare_kind}
 use Rattle.py_syntax.specs.View.{plain_pattern}
 use Rattle.py_parse_expr.specs.declared.pattern_reader.Reader.{Reader}
 use Rattle.py_parse_expr.specs.declared.patterns.PatternRead.{PatternRead}
-use Rattle.py_parse_expr.specs.declared.patterns.PatternError.{PatternError}
-use Rattle.py_parse_expr.specs.declared.patterns.PatternError.TheVariants as error
+use Rattle.py_parse_expr.specs.declared.error.ReadError.{ReadError}
+use Rattle.py_parse_expr.specs.declared.error.ReadError.TheVariants as error
 use Rattle.py_parse_expr.specs.PatternMachine as machine
 use Rattle.py_parse_expr.specs.declared.pattern_nodes.Tall.{Tall}
 use Rattle.py_parse_expr.specs.declared.pattern_reader.Turn.{Turn}
@@ -98,7 +98,7 @@ is_over ts at place r h le =
     record { forward = h.forward; inside = h.inside; ends = h.same ∙ ap (within HEIGHT (view_reader r)) none ∙ ap Unexpected (sym none) }
 
 -- The same, said of trees alone.
-pub reads : (ts : List Kind) (at : ℕ) (r : Result PatternRead PatternError) → FollowsMachine ts at r → IsRead ts at r
+pub reads : (ts : List Kind) (at : ℕ) (r : Result PatternRead ReadError) → FollowsMachine ts at r → IsRead ts at r
 reads ts at (Ok r) h = exact HEIGHT (drop at ts) (machine.Reads (plain_pattern r.pattern) (drop r.next ts)) (omega arith) h.ends
 reads ts at (Err (error.Unexpected place)) h = exact HEIGHT (drop at ts) (Unexpected (drop place ts)) (omega arith) h.ends
 reads ts at (Err (error.TooDeep place)) h = exact HEIGHT (drop at ts) (TooDeep (drop place ts)) (omega arith) h.ends

@@ -224,12 +224,12 @@ begin_grows lev k t n h = tt
 pub strings_target : (fs : Fragments) → is_target (strings_of fs) ≡ false
 strings_target fs = elim (has_format fs) as (λ b. is_target (cond b (fstr fs) (str (texts fs))) ≡ false) [ true ↦ refl | false ↦ refl ]
 
-plain_snoc : (fs : Fragments) (x : Text) → (has_format (snoc_plain fs x) ≡ has_format fs) × (height_fragments (snoc_plain fs x) ≡ height_fragments fs)
+pub plain_snoc : (fs : Fragments) (x : Text) → (has_format (snoc_plain fs x) ≡ has_format fs) × (height_fragments (snoc_plain fs x) ≡ height_fragments fs)
 plain_snoc no_fragments x = (refl, refl)
 plain_snoc (plain y fs) x = plain_snoc fs x
 plain_snoc (format ps fs) x = (refl, ap (λ (n : ℕ). max (height_parts ps) n) (plain_snoc fs x).1)
 
-format_snoc : (fs : Fragments) (qs : Parts) → (has_format (snoc_format fs qs) ≡ true) × (height_fragments (snoc_format fs qs) ≡ max (height_fragments fs) (height_parts qs))
+pub format_snoc : (fs : Fragments) (qs : Parts) → (has_format (snoc_format fs qs) ≡ true) × (height_fragments (snoc_format fs qs) ≡ max (height_fragments fs) (height_parts qs))
 format_snoc no_fragments qs = (refl, omega arith)
 format_snoc (plain y fs) qs = format_snoc fs qs
 format_snoc (format ps fs) qs = (refl, let h = (format_snoc fs qs).1 in omega arith)

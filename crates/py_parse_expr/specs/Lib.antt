@@ -15,3 +15,8 @@ pub mod FieldReader
 pub mod ExprTrees
 pub mod ExprReads
 pub mod FieldOrder
+pub mod Rooms
+pub mod ExprHeld
+pub mod ExprStacks
+pub mod ExprTurns
+pub mod ExprFields

@@ -4,8 +4,8 @@ use Rattle.py_syntax.specs.Spelling.{HEIGHT}
 use Rattle.py_syntax.specs.Kinds.{Kind}
 use Rattle.py_syntax.specs.View.{plain_pattern}
 use Rattle.py_parse_expr.specs.declared.patterns.PatternRead.{PatternRead}
-use Rattle.py_parse_expr.specs.declared.patterns.PatternError.{PatternError}
-use Rattle.py_parse_expr.specs.declared.patterns.PatternError.TheVariants as error
+use Rattle.py_parse_expr.specs.declared.error.ReadError.{ReadError}
+use Rattle.py_parse_expr.specs.declared.error.ReadError.TheVariants as error
 use Rattle.py_parse_expr.specs.PatternMachine.{start, Ending, Unexpected, TooDeep, Reads, within}
 use Rattle.py_parse_expr.specs.PatternTrees.{IsPattern, IsUnexpected, IsTooDeep}
 
@@ -15,7 +15,7 @@ pub record EndsAt (ts : List Kind) (at place : ℕ) (end : List Kind → Ending)
   pub inside : place ≤ length ts
   pub ends : within HEIGHT start (drop at ts) ≡ end (drop place ts)
 
-abbrev pub FollowsMachine : List Kind → ℕ → Result PatternRead PatternError → Type 0
+abbrev pub FollowsMachine : List Kind → ℕ → Result PatternRead ReadError → Type 0
 FollowsMachine ts at (Ok r) = EndsAt ts at r.next (Reads (plain_pattern r.pattern))
 FollowsMachine ts at (Err (error.Unexpected place)) = EndsAt ts at place Unexpected
 FollowsMachine ts at (Err (error.TooDeep place)) = EndsAt ts at place TooDeep
@@ -26,7 +26,7 @@ abbrev pub Parted : List Kind → ℕ → ℕ → (List Kind → List Kind → T
 Parted ts at place Holds = (front : List Kind) × (drop at ts ≡ front ++ drop place ts) × Holds front (drop place ts)
 
 -- The pattern whose tokens stand there, up to the first token that goes on with none; or why there is none.
-abbrev pub IsRead : List Kind → ℕ → Result PatternRead PatternError → Type 0
+abbrev pub IsRead : List Kind → ℕ → Result PatternRead ReadError → Type 0
 IsRead ts at (Ok r) = Parted ts at r.next (IsPattern HEIGHT (plain_pattern r.pattern))
 IsRead ts at (Err (error.Unexpected place)) = Parted ts at place (IsUnexpected HEIGHT)
 IsRead ts at (Err (error.TooDeep place)) = Parted ts at place (IsTooDeep HEIGHT)

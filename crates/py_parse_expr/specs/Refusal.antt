@@ -1,9 +1,14 @@
 -- Which expression a whole list of tokens spells, and where a list is refused, said of all trees.
-use Rattle.std.specs.Prelude.{◌≡◌, ℕ, ◌+◌, ◌≤◌, ◌<◌, List, [], ◌∷◌, ◌++◌, length, take}
+use Rattle.std.specs.Prelude.{◌≡◌, ℕ, ◌+◌, ◌≤◌, ◌<◌, List, [], ◌∷◌, ◌++◌, length, take, Result, Ok, Err}
+use Rattle.py_syntax.specs.declared.expr.Expr.{Expr as Node}
+use Rattle.py_syntax.specs.Spelling.{HEIGHT}
 use Rattle.py_syntax.specs.Tree.{Expr}
 use Rattle.py_syntax.specs.Kinds.{Kind, End}
 use Rattle.py_syntax.specs.Tokens.{tokens}
 use Rattle.py_syntax.specs.Normal.{Normal, height}
+use Rattle.py_syntax.specs.View.{plain_expr}
+use Rattle.py_parse_expr.specs.declared.error.ReadError.{ReadError}
+use Rattle.py_parse_expr.specs.declared.error.ReadError.TheVariants as error
 
 -- the whole list is the tokens of this tree, and the end
 abbrev pub Spells : Expr → List Kind → Type 0
@@ -35,3 +40,10 @@ IsTooDeep limit ts place = StopsAt limit ts place × (place < length ts) × IsVi
 -- a list spells one expression at most
 abbrev pub OneTree : Type 0
 OneTree = (e f : Expr) (ts : List Kind) → Spells e ts → Spells f ts → e ≡ f
+
+-- The expression that a whole list spells, or where and why it is refused.
+abbrev pub Parses : List Kind → Result Node ReadError → Type 0
+Parses ts (Ok e) = Spells (plain_expr e) ts × (height (plain_expr e) ≤ HEIGHT)
+Parses ts (Err (error.Unexpected place)) = IsUnexpected HEIGHT ts place
+Parses ts (Err (error.TooDeep place)) = IsTooDeep HEIGHT ts place
+Parses ts (Err error.NoMemory) = Unit {0}

@@ -1,7 +1,19 @@
-//! Reads expressions, the targets of `for` and the patterns of `case` from lists of tokens: the laws of expressions,
-//! `is_spelled`, and `read_patterns`.
+//! Reads expressions, the targets of `for` and the patterns of `case` from lists of tokens: `read_expr` and
+//! `read_patterns` from a place to the next, `parse_expr` a whole list, `is_spelled` for f-strings, and the laws of
+//! expressions.
 #![tactic(auto)]
 
+mod error;
+mod expr_fields;
+mod expr_frames;
+mod expr_limits;
+mod expr_nodes;
+mod expr_roles;
+mod expr_stack;
+mod expr_steps;
+mod expr_strings;
+mod expr_turns;
+mod exprs;
 mod field_cues;
 mod field_frames;
 mod field_reader;
@@ -14,12 +26,9 @@ mod pattern_nodes;
 mod pattern_reader;
 mod patterns;
 
+pub use error::ReadError;
+pub use exprs::{ExprPart, ExprRead, parse_expr, read_expr};
 pub use fields::is_spelled;
 pub use laws::{exact_ends, one_expr, one_exprs, one_target, one_tree};
 pub use pattern_laws::one_pattern;
-pub use patterns::{PatternError, PatternRead, read_patterns};
-
-#[cfg(test)]
-mod field_tests;
-#[cfg(test)]
-mod pattern_tests;
+pub use patterns::{PatternRead, read_patterns};

@@ -7,42 +7,20 @@ ghost use Rattle.py_parse_expr.specs.PatternRows.{view_reader, Kept};
 ghost use Rattle.py_token.specs.View.{view_tokens};
 ghost use Rattle.py_syntax.specs.Kinds.{bare};
 ghost use Rattle.py_parse_expr.specs.PatternReads.{FollowsMachine, IsRead};
-ghost use Rattle.py_parse_expr.specs.declared.patterns.PatternError.TheVariants.{NoMemory};
 
+use crate::error::ReadError;
 use crate::pattern_limits::step;
 use crate::pattern_nodes::Many;
 use crate::pattern_reader::{Progress, Reader, Row, Rows, Turn};
 use py_syntax::Pattern;
 use py_token::Token;
-use std::alloc::{AllocError, Global};
-use thiserror::Error;
+use std::alloc::Global;
 
 /// The pattern of a `case`, and the place of the token behind it.
 #[derive(Drop)]
 pub struct PatternRead {
     pub pattern: Pattern,
     pub next: usize,
-}
-
-/// Why no pattern was read, with the place of the token.
-#[derive(Debug, PartialEq, Eq, Drop, Error)]
-pub enum PatternError {
-    /// No pattern goes on with the token, or the list ends there.
-    #[error("token {0}: a token that can't stand here")]
-    Unexpected(usize),
-    /// With the token the pattern is higher than 200 nodes.
-    #[error("token {0}: the pattern is too deep")]
-    TooDeep(usize),
-    #[error("out of memory")]
-    NoMemory,
-}
-
-impl From<AllocError> for PatternError {
-    ghost from_gives = { λ _ e. e ≡ NoMemory };
-
-    fn from(_error: AllocError) -> PatternError {
-        PatternError::NoMemory
-    }
 }
 
 /// A reader that has read nothing.
@@ -67,11 +45,7 @@ fn begun(alloc: Global) -> Reader
 
 /// Reads the pattern of a `case`, which may be a list with commas, from a place in the tokens up to the first token that
 /// goes on with no pattern. Places count from 0.
-pub fn read_patterns(
-    alloc: Global,
-    tokens: &[Token],
-    at: usize,
-) -> Result<PatternRead, PatternError>
+pub fn read_patterns(alloc: Global, tokens: &[Token], at: usize) -> Result<PatternRead, ReadError>
     requires { at ≤ length tokens.now }
     ensures follows { FollowsMachine (bare (view_tokens tokens.now)) at result }
     ensures is_read { IsRead (bare (view_tokens tokens.now)) at result }
@@ -81,8 +55,8 @@ pub fn read_patterns(
     'tokens: while place < tokens.len() {
         match step(alloc, reader, &tokens[place].kind)? {
             Turn::Next(next) => reader = next,
-            Turn::Stuck => return Err(PatternError::Unexpected(place)),
-            Turn::Deep => return Err(PatternError::TooDeep(place)),
+            Turn::Stuck => return Err(ReadError::Unexpected(place)),
+            Turn::Deep => return Err(ReadError::TooDeep(place)),
             Turn::Left(tall) => {
                 return Ok(PatternRead {
                     pattern: tall.pattern,
@@ -92,5 +66,5 @@ pub fn read_patterns(
         }
         place += 1;
     }
-    Err(PatternError::Unexpected(place))
+    Err(ReadError::Unexpected(place))
 }

@@ -1,0 +1,116 @@
+-- From the code's walk over the tokens of an expression to what it answers.
+use Rattle.std.proofs.Common.{◌≡◌, ℕ, ◌+◌, ◌≤◌, ◌<◌, nat_le, Bool, true, false, cond, List, [], ◌∷◌, length, drop, get_or, Result, Ok, Err, refl, sym, ap, subst, ◌∙◌, arith}
+use Rattle.std.proofs.lemmas.Bool.{le-leb, lt-leb}
+use Rattle.std.proofs.lemmas.List.{drop_all}
+use Rattle.py_token.specs.declared.token.Token.{Token}
+use Rattle.py_syntax.specs.Spelling.{HEIGHT}
+use Rattle.py_syntax.specs.Tree.{Expr}
+use Rattle.py_syntax.specs.Kinds.{Kind}
+use Rattle.py_syntax.specs.View.{plain_expr}
+use Rattle.py_parse_expr.specs.declared.error.ReadError.{ReadError}
+use Rattle.py_parse_expr.specs.declared.error.ReadError.TheVariants as error
+use Rattle.py_parse_expr.specs.declared.expr_nodes.Tall.{Tall}
+use Rattle.py_parse_expr.specs.declared.expr_roles.Level.{Level}
+use Rattle.py_parse_expr.specs.declared.expr_stack.Stack.{Stack}
+use Rattle.py_parse_expr.specs.declared.expr_turns.Progress.{Progress}
+use Rattle.py_parse_expr.specs.declared.expr_turns.Progress.TheVariants as progress_
+use Rattle.py_parse_expr.specs.declared.expr_turns.Turn.{Turn}
+use Rattle.py_parse_expr.specs.declared.expr_turns.Turn.TheVariants as turn_
+use Rattle.py_parse_expr.specs.declared.exprs.ExprPart.{ExprPart}
+use Rattle.py_parse_expr.specs.declared.exprs.ExprPart.TheVariants as part_
+use Rattle.py_parse_expr.specs.declared.exprs.ExprRead.{ExprRead}
+use Rattle.py_parse_expr.specs.Machine.{Goal, Ctx, Outside, State, Want, Out, Next, Stuck, Left, step, start, role}
+use Rattle.py_parse_expr.specs.Least.{least}
+use Rattle.py_parse_expr.specs.Reading.{Ending, Unexpected, TooDeep, Reads, within, EndsAt}
+use Rattle.py_parse_expr.specs.ExprTrees.{IsAsked}
+use Rattle.py_parse_expr.specs.ExprHeld.{view_level, view_tall, IsTall}
+use Rattle.py_parse_expr.specs.ExprStacks.{view_stack, Kept}
+use Rattle.py_parse_expr.specs.ExprTurns.{view_at, KeptAt}
+use Rattle.py_parse_expr.specs.ExprFields.{has_spelled_fields, IsHighIf, GoesTo}
+use Rattle.py_parse_expr.specs.ExprReads.{goal_of, FollowsMachine, IsRead}
+use Rattle.py_parse_expr.proofs.PatternTokens.{kinds_of_all, kind_at, kinds_length, kind_there}
+use Rattle.py_parse_expr.proofs.ExprPlaces.{is_exact}
+
+-- The reading has come so far.
+pub record Reading (goal : Goal) (ts : List Kind) (at place : ℕ) (p : Progress) (s : Stack) : Type 0 where
+  pub forward : at ≤ place
+  pub inside : place ≤ length ts
+  pub same : within HEIGHT (start goal) (drop at ts) ≡ within HEIGHT (view_at p (view_stack s)) (drop place ts)
+  pub going : KeptAt p
+  pub kept : Kept HEIGHT s
+
+pub starts : (goal : Goal) (tokens : List Token) (at : ℕ) (l : Level) (s : Stack) → at ≤ length tokens → start goal ≡ Want (view_level l) (Outside goal) → view_stack s ≡ Outside goal → Kept HEIGHT s → Reading goal (kinds_of_all tokens) at at (progress_.Want l) s
+starts goal tokens at l s le begins view kept =
+    let e = kinds_length tokens in
+    record { forward = omega arith; inside = omega arith; same = ap (λ (x : State). within HEIGHT x (drop at (kinds_of_all tokens))) (begins ∙ ap (Want (view_level l)) (sym view)); going = tt; kept = kept }
+
+abbrev ending : Out → Kind → List Kind → Ending
+ending o t ts = elim o as (λ (w : Out). Ending) [ Next n ↦ cond (nat_le (least n) HEIGHT) (within HEIGHT n ts) (TooDeep (t ∷ ts)) | Stuck ↦ Unexpected (t ∷ ts) | Left e ↦ Reads e (t ∷ ts) ]
+
+-- ---- what each turn of the walk answers
+
+module _ (goal : Goal) (tokens : List Token) (at place : ℕ) (p : Progress) (s new : Stack) (t : Token) (turn : Turn) (h : Reading goal (kinds_of_all tokens) at place p s) (lt : place < length tokens) (goes : GoesTo (step (view_at p (view_stack s)) (role (kind_at (get_or tokens place t)))) s.limit new (kind_at (get_or tokens place t)) turn) where
+  there : drop place (kinds_of_all tokens) ≡ kind_at (get_or tokens place t) ∷ drop (place + 1) (kinds_of_all tokens)
+  there = kind_there tokens place t lt
+
+  stepped : (o : Out) → step (view_at p (view_stack s)) (role (kind_at (get_or tokens place t))) ≡ o → within HEIGHT (start goal) (drop at (kinds_of_all tokens)) ≡ ending o (kind_at (get_or tokens place t)) (drop (place + 1) (kinds_of_all tokens))
+  stepped o is = h.same ∙ ap (within HEIGHT (view_at p (view_stack s))) there ∙ ap (λ (w : Out). ending w (kind_at (get_or tokens place t)) (drop (place + 1) (kinds_of_all tokens))) is
+
+  as_turn : (u : Turn) → turn ≡ u → GoesTo (step (view_at p (view_stack s)) (role (kind_at (get_or tokens place t)))) s.limit new (kind_at (get_or tokens place t)) u
+  as_turn u is = subst (GoesTo (step (view_at p (view_stack s)) (role (kind_at (get_or tokens place t)))) s.limit new (kind_at (get_or tokens place t))) is goes
+
+  ends : (end : List Kind → Ending) (o : Out) → step (view_at p (view_stack s)) (role (kind_at (get_or tokens place t))) ≡ o → ending o (kind_at (get_or tokens place t)) (drop (place + 1) (kinds_of_all tokens)) ≡ end (kind_at (get_or tokens place t) ∷ drop (place + 1) (kinds_of_all tokens)) → EndsAt HEIGHT (start goal) (kinds_of_all tokens) at place end
+  ends end o is so = record { forward = h.forward; inside = h.inside; ends = stepped o is ∙ so ∙ ap end (sym there) }
+
+  pub turn_next : (n : Progress) → turn ≡ turn_.Next n → Reading goal (kinds_of_all tokens) at (place + 1) n new
+  turn_next n is =
+      let g = as_turn (turn_.Next n) is in
+      let forward = h.forward in
+      let e = kinds_length tokens in
+      let same = h.kept.same in
+      let low = g.3 in
+      record {
+        forward = omega arith;
+        inside = omega arith;
+        same = stepped (Next (view_at n (view_stack new))) g.0 ∙ ap (λ (b : Bool). cond b (within HEIGHT (view_at n (view_stack new)) (drop (place + 1) (kinds_of_all tokens))) (TooDeep (kind_at (get_or tokens place t) ∷ drop (place + 1) (kinds_of_all tokens)))) (le-leb (least (view_at n (view_stack new))) HEIGHT (omega arith));
+        going = g.1;
+        kept = subst (λ (l : ℕ). Kept l new) h.kept.same g.2;
+      }
+
+  pub turn_stuck : turn ≡ turn_.Stuck → EndsAt HEIGHT (start goal) (kinds_of_all tokens) at place Unexpected
+  turn_stuck is = ends Unexpected Stuck (as_turn turn_.Stuck is) refl
+
+  pub turn_left : (e : Tall) → turn ≡ turn_.Left e → EndsAt HEIGHT (start goal) (kinds_of_all tokens) at place (Reads (view_tall e))
+  turn_left e is = ends (Reads (view_tall e)) (Left (view_tall e)) (as_turn (turn_.Left e) is).0 refl
+
+  same_kind : (u : Token) → kind_at (get_or tokens place u) ≡ kind_at (get_or tokens place t)
+  same_kind u = let both : kind_at (get_or tokens place u) ∷ drop (place + 1) (kinds_of_all tokens) ≡ kind_at (get_or tokens place t) ∷ drop (place + 1) (kinds_of_all tokens) = sym (kind_there tokens place u lt) ∙ there in cc
+
+  pub turn_deep : turn ≡ turn_.Deep → (u : Token) → true ≡ has_spelled_fields (kind_at (get_or tokens place u)) → EndsAt HEIGHT (start goal) (kinds_of_all tokens) at place TooDeep
+  turn_deep is u spelled =
+      let high = subst (λ (b : Bool). IsHighIf b s.limit (step (view_at p (view_stack s)) (role (kind_at (get_or tokens place t))))) (sym (spelled ∙ ap has_spelled_fields (same_kind u))) (as_turn turn_.Deep is) in
+      let same = h.kept.same in
+      let above = high.2 in
+      ends TooDeep (Next high.0) high.1 (ap (λ (b : Bool). cond b (within HEIGHT high.0 (drop (place + 1) (kinds_of_all tokens))) (TooDeep (kind_at (get_or tokens place t) ∷ drop (place + 1) (kinds_of_all tokens)))) (lt-leb (least high.0) HEIGHT (omega arith)))
+
+  pub turn_bad : turn ≡ turn_.Deep → (u : Token) → false ≡ has_spelled_fields (kind_at (get_or tokens place u)) → EndsAt HEIGHT (start goal) (kinds_of_all tokens) at place Unexpected
+  turn_bad is u bad = ends Unexpected Stuck (subst (λ (b : Bool). IsHighIf b s.limit (step (view_at p (view_stack s)) (role (kind_at (get_or tokens place t))))) (sym (bad ∙ ap has_spelled_fields (same_kind u))) (as_turn turn_.Deep is)) refl
+
+pub over_there : (goal : Goal) (tokens : List Token) (at place : ℕ) (p : Progress) (s : Stack) → Reading goal (kinds_of_all tokens) at place p s → length tokens ≤ place → EndsAt HEIGHT (start goal) (kinds_of_all tokens) at place Unexpected
+over_there goal tokens at place p s h le =
+    let e = kinds_length tokens in
+    let none = drop_all place (kinds_of_all tokens) (omega arith) in
+    record { forward = h.forward; inside = h.inside; ends = h.same ∙ ap (within HEIGHT (view_at p (view_stack s))) none ∙ ap Unexpected (sym none) }
+
+-- ---- the same, said of trees alone
+
+asked : (part : ExprPart) → IsAsked (goal_of part)
+asked part_.Any = tt
+asked part_.One = tt
+asked part_.Target = tt
+
+pub reads : (ts : List Kind) (at : ℕ) (part : ExprPart) (r : Result ExprRead ReadError) → FollowsMachine ts at part r → IsRead ts at part r
+reads ts at part (Ok r) h = (is_exact (goal_of part) HEIGHT ts at r.next (asked part) (omega arith)).reads (plain_expr r.expr) h
+reads ts at part (Err (error.Unexpected place)) h = (is_exact (goal_of part) HEIGHT ts at place (asked part) (omega arith)).unexpected h
+reads ts at part (Err (error.TooDeep place)) h = (is_exact (goal_of part) HEIGHT ts at place (asked part) (omega arith)).too_deep h
+reads ts at part (Err error.NoMemory) h = tt

@@ -1,0 +1,22 @@
+-- The roles of tokens where all f-strings are one.
+use Rattle.std.proofs.Common.{◌≡◌, Option, Some, None, refl, ap, ◌∙◌}
+use Rattle.std.specs.Global.{Vec}
+use Rattle.py_token.specs.declared.token.Piece.{Piece}
+use Rattle.py_token.specs.declared.token.TokenKind.TheVariants as kind_
+use Rattle.py_token.specs.Plain.{piece_row}
+use Rattle.py_token.specs.View.{view_kind, view_pieces}
+use Rattle.py_token.proofs.Views.{plain-fstring}
+use Rattle.py_syntax.specs.Tree.{Parts}
+use Rattle.py_syntax.specs.Kinds.{End, Pieces, bare_kind, bare_pieces}
+use Rattle.py_parse_expr.specs.Roles.{r_other}
+use Rattle.py_parse_expr.specs.Machine.{format_role, role, parts}
+use Rattle.py_parse_expr.specs.ExprHeld.{plain_role}
+
+plain_format : (ps : Pieces) (o : Option Parts) → plain_role (format_role ps o) ≡ r_other End
+plain_format ps (Some qs) = refl
+plain_format ps None = refl
+
+pub plain_fstring : (ps : Vec Piece) → plain_role (role (bare_kind (view_kind (kind_.FString ps)))) ≡ r_other End
+plain_fstring ps =
+    let qs = bare_pieces (piece_row (view_pieces ps.items)) in
+    ap (λ k. plain_role (role (bare_kind k))) (plain-fstring ps) ∙ plain_format qs (parts qs)

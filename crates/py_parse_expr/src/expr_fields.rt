@@ -1,0 +1,173 @@
+// F-strings, whose fields are expressions of their own.
+
+ghost use Rattle.std.specs.Prelude.{◌≡◌, ◌≤◌, IfOk};
+ghost use Rattle.py_token.specs.Plain.{token_row};
+ghost use Rattle.py_token.specs.View.{view_kind, view_tokens};
+ghost use Rattle.py_syntax.specs.Kinds.{bare_kind, bare_tokens};
+ghost use Rattle.py_syntax.specs.Spelling.{HEIGHT};
+ghost use Rattle.py_parse_expr.specs.Machine.{Ctx, any, step, start, role, parts, field_expr};
+ghost use Rattle.py_parse_expr.specs.FieldOrder.{plain_pieces};
+ghost use Rattle.py_parse_expr.specs.ExprStacks.{view_stack, Kept};
+ghost use Rattle.py_parse_expr.specs.ExprTurns.{view_at, KeptAt};
+ghost use Rattle.py_parse_expr.specs.ExprFields.{takes_string, has_spelled_fields, HasPieces, ended_turn, IsField, AreParts, Goes};
+
+use crate::expr_limits::step;
+use crate::expr_nodes::{Fields, Tall, higher};
+use crate::expr_roles::{Level, Role, role_of};
+use crate::expr_stack::{Goal, Stack};
+use crate::expr_turns::{Progress, Turn};
+use crate::fields::is_spelled;
+use py_syntax::FormatPart;
+use py_token::{Piece, Token, TokenKind};
+use py_value::NoMemory;
+use std::alloc::Global;
+
+/// Why the fields of an f-string have no trees within the limit.
+#[derive(Drop)]
+pub enum Unread {
+    /// A field is no expression.
+    Unspelled,
+    /// A field is too high, if it is an expression.
+    TooDeep,
+}
+
+/// The pieces of an f-string.
+fn pieces_of(kind: &TokenKind) -> Option<&[Piece]>
+    ensures { HasPieces (bare_kind (view_kind kind.now)) result }
+{
+    match kind {
+        TokenKind::Name(_) => None,
+        TokenKind::Keyword(_) => None,
+        TokenKind::Int(_) => None,
+        TokenKind::Str(_) => None,
+        TokenKind::FString(pieces) => Some(pieces.as_slice()),
+        TokenKind::Mark(_) => None,
+        TokenKind::Newline => None,
+        TokenKind::Indent => None,
+        TokenKind::Dedent => None,
+        TokenKind::End => None,
+    }
+}
+
+/// Whether a string may stand here.
+fn takes_string(progress: &Progress) -> bool
+    ensures { (k : Ctx) → result ≡ takes_string (view_at progress.now k) }
+{
+    match progress {
+        Progress::Want(_) => true,
+        Progress::Have(_) => false,
+        Progress::Strings(_) => true,
+        Progress::AfterOpen => true,
+        Progress::AfterComma(_) => true,
+        Progress::AfterTarget(_) => true,
+        Progress::ItemsOpen(_) => true,
+        Progress::ItemsComma(_, _) => true,
+        Progress::DictOpen => true,
+        Progress::DictComma(_) => true,
+        Progress::IndexOpen(_) => true,
+        Progress::SliceColon(_, _) => true,
+        Progress::AfterDot(_) => false,
+        Progress::AfterNot(_) => false,
+        Progress::AfterIs(_) => false,
+        Progress::AfterIsNot(_) => false,
+        Progress::Linked(_) => false,
+    }
+}
+
+/// The tree of a field behind its last token.
+fn ended(turn: Turn) -> Result<Tall, Unread>
+    ensures { result ≡ ended_turn turn }
+{
+    match turn {
+        Turn::Next(progress) => {
+            drop(progress);
+            Err(Unread::Unspelled)
+        }
+        Turn::Stuck => Err(Unread::Unspelled),
+        Turn::Deep => Err(Unread::Unspelled),
+        Turn::Left(tall) => Ok(tall),
+    }
+}
+
+/// What a token does within the limit. An f-string that is said to be too high may have a field that is no expression.
+#[cycle(turn)]
+pub fn turn(
+    alloc: Global,
+    stack: &mut Stack,
+    progress: Progress,
+    kind: &TokenKind,
+) -> Result<Turn, NoMemory>
+    requires kept { Kept stack.old.limit stack.old }
+    requires at { KeptAt progress }
+    ensures { Goes (step (view_at progress (view_stack stack.old)) (role (bare_kind (view_kind kind.now)))) stack.old.limit stack.new (bare_kind (view_kind kind.now)) result }
+{
+    let Some(pieces) = pieces_of(kind) else {
+        return step(alloc, stack, progress, role_of(kind)?);
+    };
+    if !takes_string(&progress) {
+        return step(alloc, stack, progress, Role::Other);
+    }
+    match fields(alloc, pieces, stack.limit)? {
+        Ok(fields) => step(alloc, stack, progress, Role::Format(fields)),
+        Err(Unread::Unspelled) => Ok(Turn::Stuck),
+        Err(Unread::TooDeep) => Ok(Turn::Deep),
+    }
+}
+
+/// The trees of the fields of an f-string that is to be at most that high.
+#[cycle(turn)]
+fn fields(alloc: Global, pieces: &[Piece], limit: usize) -> Result<Result<Fields, Unread>, NoMemory>
+    requires { limit ≤ HEIGHT }
+    ensures { IfOk result (AreParts limit (parts (plain_pieces pieces.now))) }
+{
+    if limit == 0 {
+        return Ok(Err(Unread::TooDeep));
+    }
+    let mut parts = Vec::new(alloc);
+    let mut height = 0;
+    'pieces: for piece in pieces {
+        match piece {
+            Piece::Chars(text) => parts.push(FormatPart::Chars(text.copy()?))?,
+            Piece::Field(tokens) => match field(alloc, tokens, limit - 1)? {
+                Ok(tall) => {
+                    height = higher(height, tall.height);
+                    parts.push(FormatPart::Field(tall.expr))?;
+                }
+                Err(unread) => return Ok(Err(unread)),
+            },
+        }
+    }
+    Ok(Ok(Fields { parts, height }))
+}
+
+/// The tree of a field within a limit.
+#[cycle(turn)]
+fn field(alloc: Global, tokens: &[Token], limit: usize) -> Result<Result<Tall, Unread>, NoMemory>
+    requires { limit ≤ HEIGHT }
+    ensures { IfOk result (IsField limit (field_expr (start any) (bare_tokens (token_row (view_tokens tokens.now))))) }
+{
+    let mut stack = Stack::new(alloc, limit, Goal::Any);
+    let mut progress = Progress::Want(Level::Exprs);
+    'tokens: for token in tokens {
+        match turn(alloc, &mut stack, progress, &token.kind)? {
+            Turn::Next(next) => progress = next,
+            Turn::Stuck => return Ok(Err(Unread::Unspelled)),
+            Turn::Deep => return Ok(Err(Unread::TooDeep)),
+            Turn::Left(tall) => {
+                drop(tall);
+                return Ok(Err(Unread::Unspelled));
+            }
+        }
+    }
+    Ok(ended(step(alloc, &mut stack, progress, Role::Other)?))
+}
+
+/// Whether the fields of a token are expressions.
+pub fn has_spelled_fields(alloc: Global, kind: &TokenKind) -> Result<bool, NoMemory>
+    ensures { IfOk result (λ b. b ≡ has_spelled_fields (bare_kind (view_kind kind.now))) }
+{
+    match pieces_of(kind) {
+        Some(pieces) => is_spelled(alloc, pieces),
+        None => Ok(true),
+    }
+}

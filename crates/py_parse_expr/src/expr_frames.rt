@@ -1,0 +1,323 @@
+// An expression is whole as far as the stack knows, and a token comes: one function for each frame.
+
+ghost use Rattle.std.specs.Prelude.{◌≡◌};
+ghost use Rattle.py_syntax.specs.View.{plain_expr};
+ghost use Rattle.py_parse_expr.specs.Roles.{Role as SpecRole};
+ghost use Rattle.py_parse_expr.specs.Machine.{on, Ctx, Next, Have, Linked, step, give, exprs_first, cond_first, cond_test, cond_else, first, right, not_of, compare_first, unary_of, post_rest, in_items, index_first, in_index, slice_to, in_paren, in_key, in_value};
+ghost use Rattle.py_parse_expr.specs.ExprHeld.{view_level, view_joint, view_role, view_tall, view_row, view_entries, view_links, view_opener, view_bound, IsTall, AreTall, AreEntries, IsChain, KeptOpener, KeptBound};
+ghost use Rattle.py_parse_expr.specs.ExprStacks.{view_frame, KeptFrame};
+ghost use Rattle.py_parse_expr.specs.ExprTurns.{closes, Becomes, MeetsAs, Meets};
+
+use crate::expr_nodes::{
+    Chain, Entries, Opener, Row, Tall, comparison, conditional, dict, index, joined, made,
+    negation, paren, slice, tuple, unary,
+};
+use crate::expr_roles::{Joint, Level, Role};
+use crate::expr_stack::Frame;
+use crate::expr_turns::{Met, Progress};
+use py_syntax::{Comparison, Sign};
+use py_value::{CmpOp, NoMemory};
+use std::alloc::Global;
+
+fn exprs_first(alloc: Global, tall: Tall, role: &Role) -> Result<Met, NoMemory>
+    requires { IsTall tall }
+    ensures { Meets (view_tall tall) exprs_first (view_role role.now) result }
+{
+    match role {
+        Role::Comma => Ok(Met::Next(Progress::AfterComma(Row::new(alloc).with(tall)?))),
+        _ => Ok(Met::Passes(tall)),
+    }
+}
+
+fn exprs_rest(items: Row, tall: Tall, role: &Role) -> Result<Met, NoMemory>
+    requires frame { KeptFrame (Frame.ExprsRest items) }
+    requires tall { IsTall tall }
+    ensures { Meets (view_tall tall) (view_frame (Frame.ExprsRest items)) (view_role role.now) result }
+{
+    let items = items.with(tall)?;
+    match role {
+        Role::Comma => Ok(Met::Next(Progress::AfterComma(items))),
+        _ => Ok(Met::Passes(tuple(items, false))),
+    }
+}
+
+fn cond_first(tall: Tall, role: &Role) -> Met
+    requires { IsTall tall }
+    ensures { MeetsAs (view_tall tall) cond_first (view_role role.now) result }
+{
+    match role {
+        Role::If => Met::Opens(Frame::CondTest(tall), Progress::Want(Level::Or)),
+        _ => Met::Passes(tall),
+    }
+}
+
+fn cond_test(body: Tall, tall: Tall, role: &Role) -> Met
+    requires body { IsTall body }
+    requires tall { IsTall tall }
+    ensures { MeetsAs (view_tall tall) (cond_test (view_tall body)) (view_role role.now) result }
+{
+    match role {
+        Role::Else => Met::Opens(Frame::CondElse(body, tall), Progress::Want(Level::Expr)),
+        _ => Met::Stuck,
+    }
+}
+
+fn cond_else(alloc: Global, body: Tall, test: Tall, tall: Tall) -> Result<Met, NoMemory>
+    requires body { IsTall body }
+    requires test { IsTall test }
+    requires tall { IsTall tall }
+    ensures { (t : SpecRole) → Meets (view_tall tall) (cond_else (view_tall body) (view_tall test)) t result }
+{
+    Ok(Met::Passes(conditional(alloc, body, test, tall)?))
+}
+
+/// An operand in front of a joint of its level, or not.
+fn operand(level: Level, tall: Tall, role: &Role) -> Met
+    requires { IsTall tall }
+    ensures { MeetsAs (view_tall tall) (first (view_level level)) (view_role role.now) result }
+{
+    match role {
+        Role::Joint(joint) => {
+            if level.is(joint.level()) {
+                return Met::Opens(Frame::Right(*joint, tall), Progress::Want(joint.right()));
+            }
+            Met::Passes(tall)
+        }
+        _ => Met::Passes(tall),
+    }
+}
+
+fn right(alloc: Global, joint: Joint, left: Tall, tall: Tall, role: &Role) -> Result<Met, NoMemory>
+    requires left { IsTall left }
+    requires tall { IsTall tall }
+    ensures { Meets (view_tall tall) (right (view_joint joint) (view_tall left)) (view_role role.now) result }
+{
+    let tall = joined(alloc, joint, left, tall)?;
+    Ok(operand(joint.level(), tall, role))
+}
+
+fn not_of(alloc: Global, tall: Tall) -> Result<Met, NoMemory>
+    requires { IsTall tall }
+    ensures { (t : SpecRole) → Meets (view_tall tall) not_of t result }
+{
+    Ok(Met::Passes(negation(alloc, tall)?))
+}
+
+fn compare_first(alloc: Global, tall: Tall, role: &Role) -> Result<Met, NoMemory>
+    requires { IsTall tall }
+    ensures { Meets (view_tall tall) compare_first (view_role role.now) result }
+{
+    match role {
+        Role::Compare(op) => Ok(Met::Opens(
+            Frame::CompareRest(Chain::new(alloc, tall), *op),
+            Progress::Want(Level::Sum),
+        )),
+        Role::Not => Ok(Met::Next(Progress::AfterNot(Chain::new(alloc, tall)))),
+        Role::Is => Ok(Met::Next(Progress::AfterIs(Chain::new(alloc, tall)))),
+        _ => Ok(Met::Passes(tall)),
+    }
+}
+
+/// Behind a comparison.
+pub fn link(alloc: Global, chain: Chain, role: &Role) -> Result<Met, NoMemory>
+    requires { IsChain chain }
+    ensures { (k : Ctx) → Becomes (step (Linked (plain_expr chain.first) (view_links chain) k) (view_role role.now)) k (view_role role.now) result }
+{
+    match role {
+        Role::Compare(op) => Ok(Met::Opens(
+            Frame::CompareRest(chain, *op),
+            Progress::Want(Level::Sum),
+        )),
+        Role::Not => Ok(Met::Next(Progress::AfterNot(chain))),
+        Role::Is => Ok(Met::Next(Progress::AfterIs(chain))),
+        _ => Ok(Met::Passes(comparison(alloc, chain)?)),
+    }
+}
+
+fn compare_rest(
+    alloc: Global,
+    chain: Chain,
+    op: CmpOp,
+    tall: Tall,
+    role: &Role,
+) -> Result<Met, NoMemory>
+    requires chain { IsChain chain }
+    requires tall { IsTall tall }
+    ensures { Meets (view_tall tall) (view_frame (Frame.CompareRest chain op)) (view_role role.now) result }
+{
+    link(alloc, chain.with(Comparison::Op(op), tall)?, role)
+}
+
+fn unary_of(alloc: Global, sign: Sign, tall: Tall) -> Result<Met, NoMemory>
+    requires { IsTall tall }
+    ensures { (t : SpecRole) → Meets (view_tall tall) (unary_of sign) t result }
+{
+    Ok(Met::Passes(unary(alloc, sign, tall)?))
+}
+
+fn post_rest(tall: Tall, role: &Role) -> Met
+    requires { IsTall tall }
+    ensures { MeetsAs (view_tall tall) post_rest (view_role role.now) result }
+{
+    match role {
+        Role::LeftParen => Met::Next(Progress::ItemsOpen(Opener::Call(tall))),
+        Role::LeftBracket => Met::Next(Progress::IndexOpen(tall)),
+        Role::Dot => Met::Next(Progress::AfterDot(tall)),
+        _ => Met::Passes(tall),
+    }
+}
+
+/// Whether a token closes a bracket with items.
+pub fn closes(opener: &Opener, role: &Role) -> bool
+    ensures { result ≡ closes (view_opener opener.now) (view_role role.now) }
+{
+    match opener {
+        Opener::Call(_) => matches!(role, Role::RightParen),
+        Opener::List => matches!(role, Role::RightBracket),
+    }
+}
+
+fn in_items(
+    alloc: Global,
+    opener: Opener,
+    items: Row,
+    tall: Tall,
+    role: &Role,
+) -> Result<Met, NoMemory>
+    requires opener { KeptOpener opener }
+    requires items { AreTall items }
+    requires tall { IsTall tall }
+    ensures { Meets (view_tall tall) (in_items (view_opener opener) (view_row items)) (view_role role.now) result }
+{
+    let items = items.with(tall)?;
+    match role {
+        Role::Comma => Ok(Met::Next(Progress::ItemsComma(opener, items))),
+        _ => {
+            if !closes(&opener, role) {
+                return Ok(Met::Stuck);
+            }
+            let tall = made(alloc, opener, items, false)?;
+            Ok(Met::Opens(Frame::PostRest, Progress::Have(tall)))
+        }
+    }
+}
+
+fn index_first(alloc: Global, of: Tall, tall: Tall, role: &Role) -> Result<Met, NoMemory>
+    requires of { IsTall of }
+    requires tall { IsTall tall }
+    ensures { Meets (view_tall tall) (index_first (view_tall of)) (view_role role.now) result }
+{
+    match role {
+        Role::Comma => {
+            let items = Row::new(alloc).with(tall)?;
+            Ok(Met::Opens(Frame::InIndex(of), Progress::AfterComma(items)))
+        }
+        Role::Colon => Ok(Met::Next(Progress::SliceColon(of, Some(tall)))),
+        Role::RightBracket => Ok(Met::Opens(
+            Frame::PostRest,
+            Progress::Have(index(alloc, of, tall)?),
+        )),
+        _ => Ok(Met::Stuck),
+    }
+}
+
+fn in_index(alloc: Global, of: Tall, tall: Tall, role: &Role) -> Result<Met, NoMemory>
+    requires of { IsTall of }
+    requires tall { IsTall tall }
+    ensures { Meets (view_tall tall) (in_index (view_tall of)) (view_role role.now) result }
+{
+    match role {
+        Role::RightBracket => Ok(Met::Opens(
+            Frame::PostRest,
+            Progress::Have(index(alloc, of, tall)?),
+        )),
+        _ => Ok(Met::Stuck),
+    }
+}
+
+fn slice_to(
+    alloc: Global,
+    of: Tall,
+    from: Option<Tall>,
+    tall: Tall,
+    role: &Role,
+) -> Result<Met, NoMemory>
+    requires of { IsTall of }
+    requires from { KeptBound from }
+    requires tall { IsTall tall }
+    ensures { Meets (view_tall tall) (slice_to (view_tall of) (view_bound from)) (view_role role.now) result }
+{
+    match role {
+        Role::RightBracket => Ok(Met::Opens(
+            Frame::PostRest,
+            Progress::Have(slice(alloc, of, from, Some(tall))?),
+        )),
+        _ => Ok(Met::Stuck),
+    }
+}
+
+fn in_paren(alloc: Global, tall: Tall, role: &Role) -> Result<Met, NoMemory>
+    requires { IsTall tall }
+    ensures { Meets (view_tall tall) in_paren (view_role role.now) result }
+{
+    match role {
+        Role::RightParen => Ok(Met::Opens(Frame::PostRest, Progress::Have(paren(alloc, tall)?))),
+        _ => Ok(Met::Stuck),
+    }
+}
+
+fn in_key(entries: Entries, tall: Tall, role: &Role) -> Met
+    requires entries { AreEntries entries }
+    requires tall { IsTall tall }
+    ensures { MeetsAs (view_tall tall) (in_key (view_entries entries)) (view_role role.now) result }
+{
+    match role {
+        Role::Colon => Met::Opens(Frame::InValue(entries, tall), Progress::Want(Level::Expr)),
+        _ => Met::Stuck,
+    }
+}
+
+fn in_value(entries: Entries, key: Tall, tall: Tall, role: &Role) -> Result<Met, NoMemory>
+    requires entries { AreEntries entries }
+    requires key { IsTall key }
+    requires tall { IsTall tall }
+    ensures { Meets (view_tall tall) (in_value (view_entries entries) (view_tall key)) (view_role role.now) result }
+{
+    match role {
+        Role::Comma => Ok(Met::Next(Progress::DictComma(entries.with(key, tall)?))),
+        Role::RightBrace => Ok(Met::Opens(
+            Frame::PostRest,
+            Progress::Have(dict(entries.with(key, tall)?, false)),
+        )),
+        _ => Ok(Met::Stuck),
+    }
+}
+
+/// What the innermost frame makes of an expression and the token behind it.
+pub fn meet(alloc: Global, frame: Frame, tall: Tall, role: &Role) -> Result<Met, NoMemory>
+    requires frame { KeptFrame frame }
+    requires tall { IsTall tall }
+    ensures { Meets (view_tall tall) (view_frame frame) (view_role role.now) result }
+{
+    match frame {
+        Frame::ExprsFirst => exprs_first(alloc, tall, role),
+        Frame::ExprsRest(items) => exprs_rest(items, tall, role),
+        Frame::CondFirst => Ok(cond_first(tall, role)),
+        Frame::CondTest(body) => Ok(cond_test(body, tall, role)),
+        Frame::CondElse(body, test) => cond_else(alloc, body, test, tall),
+        Frame::First(level) => Ok(operand(level, tall, role)),
+        Frame::Right(joint, left) => right(alloc, joint, left, tall, role),
+        Frame::NotOf => not_of(alloc, tall),
+        Frame::CompareFirst => compare_first(alloc, tall, role),
+        Frame::CompareRest(chain, op) => compare_rest(alloc, chain, op, tall, role),
+        Frame::UnaryOf(sign) => unary_of(alloc, sign, tall),
+        Frame::PostRest => Ok(post_rest(tall, role)),
+        Frame::InItems(opener, items) => in_items(alloc, opener, items, tall, role),
+        Frame::IndexFirst(of) => index_first(alloc, of, tall, role),
+        Frame::InIndex(of) => in_index(alloc, of, tall, role),
+        Frame::SliceTo(of, from) => slice_to(alloc, of, from, tall, role),
+        Frame::InParen => in_paren(alloc, tall, role),
+        Frame::InKey(entries) => Ok(in_key(entries, tall, role)),
+        Frame::InValue(entries, key) => in_value(entries, key, tall, role),
+    }
+}

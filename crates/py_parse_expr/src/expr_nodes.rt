@@ -1,0 +1,429 @@
+// Expressions with their heights.
+
+ghost use Rattle.std.specs.Prelude.{◌≡◌, suc, max, true, false, ◌&&◌, IfOk, OnOk};
+ghost use Rattle.py_syntax.specs.Tree.{name, tuple, list, dict, paren, not', unary, compare, cond, index, slice, attr, no_exprs, no_pairs, no_links};
+ghost use Rattle.std.specs.Option.{option_map};
+ghost use Rattle.py_syntax.specs.Normal.{is_target, height, height_bound};
+ghost use Rattle.py_syntax.specs.View.{plain_expr, opt_of};
+ghost use Rattle.py_parse_expr.specs.Roles.{joined};
+ghost use Rattle.py_parse_expr.specs.Machine.{snoc, snoc_pair, snoc_link, made, strings_of};
+ghost use Rattle.py_parse_expr.specs.ExprHeld.{view_joint, view_tall, view_row, view_entries, view_links, view_opener, view_bound, capped, IsTall, AreTall, AreEntries, IsChain, KeptOpener, KeptBound, KeptStrings, Makes, view_strings};
+
+use crate::expr_roles::Joint;
+use py_syntax::{Comparison, Expr, FormatPart, Fragment, Link, Pair, Sign};
+use py_value::{NoMemory, Text};
+use std::alloc::Global;
+
+/// The greatest height that is told from greater ones.
+const CAP: usize = 201;
+
+/// An expression, its height, and whether it has the form of a target.
+#[derive(Drop)]
+pub struct Tall {
+    pub expr: Expr,
+    pub height: usize,
+    pub target: bool,
+}
+
+/// Expressions, the greatest of their heights, and whether all have the form of targets.
+#[derive(Drop)]
+pub struct Row {
+    pub items: Vec<Expr>,
+    pub height: usize,
+    pub targets: bool,
+}
+
+/// The entries of a dict, and the greatest of their heights.
+#[derive(Drop)]
+pub struct Entries {
+    pub pairs: Vec<Pair>,
+    pub height: usize,
+}
+
+/// A chain of comparisons, and the greatest height of an operand.
+#[derive(Drop)]
+pub struct Chain {
+    pub first: Expr,
+    pub links: Vec<Link>,
+    pub height: usize,
+}
+
+/// What stands in an f-string, and the greatest height of a field.
+#[derive(Drop)]
+pub struct Fields {
+    pub parts: Vec<FormatPart>,
+    pub height: usize,
+}
+
+/// Neighbouring strings: plain ones, or some with an f-string among them and the greatest height of a field.
+#[derive(Drop)]
+pub enum Strings {
+    Plain(Vec<Text>),
+    Mixed(Vec<Fragment>, usize),
+}
+
+/// What opened a bracket that holds items.
+#[derive(Drop)]
+pub enum Opener {
+    Call(Tall),
+    List,
+}
+
+/// The greater of two numbers.
+pub fn higher(one: usize, other: usize) -> usize
+    ensures { result ≡ max one other }
+{
+    if one < other { other } else { one }
+}
+
+pub fn both(one: bool, other: bool) -> bool
+    ensures { result ≡ (one && other) }
+{
+    one && other
+}
+
+/// The height of a node over parts of that height.
+pub fn over(height: usize) -> usize
+    ensures { result ≡ capped (suc height) }
+{
+    if height < CAP { height + 1 } else { CAP }
+}
+
+impl Tall {
+    /// What has the height of a name and isn't one.
+    pub fn low(expr: Expr) -> Tall
+        requires height { height (plain_expr expr) ≡ 1 }
+        requires target { is_target (plain_expr expr) ≡ false }
+        ensures { Makes (plain_expr expr) result }
+    {
+        Tall {
+            expr,
+            height: 1,
+            target: false,
+        }
+    }
+
+    pub fn name(text: Text) -> Tall
+        ensures { Makes (name text) result }
+    {
+        Tall {
+            expr: Expr::Name(text),
+            height: 1,
+            target: true,
+        }
+    }
+}
+
+impl Row {
+    pub fn new(alloc: Global) -> Row
+        ensures none { view_row result ≡ no_exprs }
+        ensures are { AreTall result }
+    {
+        Row {
+            items: Vec::new(alloc),
+            height: 0,
+            targets: true,
+        }
+    }
+
+    pub fn push(&mut self, tall: Tall) -> Result<(), NoMemory>
+        requires are { AreTall self.old }
+        requires is { IsTall tall }
+        ensures items { OnOk result (view_row self.new ≡ snoc (view_row self.old) (view_tall tall)) }
+        ensures are { OnOk result (AreTall self.new) }
+    {
+        self.items.push(tall.expr)?;
+        self.height = higher(self.height, tall.height);
+        self.targets = both(self.targets, tall.target);
+        Ok(())
+    }
+
+    /// The same with one more at the end.
+    pub fn with(self, tall: Tall) -> Result<Row, NoMemory>
+        requires are { AreTall self }
+        requires is { IsTall tall }
+        ensures items { IfOk result (λ r. view_row r ≡ snoc (view_row self) (view_tall tall)) }
+        ensures are { IfOk result AreTall }
+    {
+        let mut row = self;
+        row.push(tall)?;
+        Ok(row)
+    }
+}
+
+impl Entries {
+    pub fn new(alloc: Global) -> Entries
+        ensures none { view_entries result ≡ no_pairs }
+        ensures are { AreEntries result }
+    {
+        Entries {
+            pairs: Vec::new(alloc),
+            height: 0,
+        }
+    }
+
+    /// The same with one more at the end.
+    pub fn with(self, key: Tall, value: Tall) -> Result<Entries, NoMemory>
+        requires are { AreEntries self }
+        requires key { IsTall key }
+        requires value { IsTall value }
+        ensures pairs { IfOk result (λ r. view_entries r ≡ snoc_pair (view_entries self) (view_tall key) (view_tall value)) }
+        ensures are { IfOk result AreEntries }
+    {
+        let mut entries = self;
+        entries.height = higher(entries.height, higher(key.height, value.height));
+        entries.pairs.push(Pair {
+            key: key.expr,
+            value: value.expr,
+        })?;
+        Ok(entries)
+    }
+}
+
+impl Chain {
+    /// A chain that begins with this operand.
+    pub fn new(alloc: Global, first: Tall) -> Chain
+        requires { IsTall first }
+        ensures first { plain_expr result.first ≡ view_tall first }
+        ensures links { view_links result ≡ no_links }
+        ensures is { IsChain result }
+    {
+        Chain {
+            first: first.expr,
+            links: Vec::new(alloc),
+            height: first.height,
+        }
+    }
+
+    /// The same with one more comparison at the end.
+    pub fn with(self, op: Comparison, right: Tall) -> Result<Chain, NoMemory>
+        requires is { IsChain self }
+        requires right { IsTall right }
+        ensures first { IfOk result (λ r. plain_expr r.first ≡ plain_expr self.first) }
+        ensures links { IfOk result (λ r. view_links r ≡ snoc_link (view_links self) op (view_tall right)) }
+        ensures is { IfOk result IsChain }
+    {
+        let mut chain = self;
+        chain.height = higher(chain.height, right.height);
+        chain.links.push(Link {
+            op,
+            right: right.expr,
+        })?;
+        Ok(chain)
+    }
+}
+
+pub fn tuple(items: Row, comma: bool) -> Tall
+    requires { AreTall items }
+    ensures { Makes (tuple (view_row items) comma) result }
+{
+    Tall {
+        height: over(items.height),
+        target: items.targets,
+        expr: Expr::Tuple {
+            items: items.items,
+            comma,
+        },
+    }
+}
+
+/// A call, or a list.
+pub fn made(alloc: Global, opener: Opener, items: Row, comma: bool) -> Result<Tall, NoMemory>
+    requires opener { KeptOpener opener }
+    requires items { AreTall items }
+    ensures { IfOk result (Makes (made (view_opener opener) (view_row items) comma)) }
+{
+    match opener {
+        Opener::Call(callee) => {
+            let height = over(higher(callee.height, items.height));
+            let callee = Box::new(alloc, callee.expr)?;
+            Ok(Tall {
+                expr: Expr::Call {
+                    callee,
+                    args: items.items,
+                    comma,
+                },
+                height,
+                target: false,
+            })
+        }
+        Opener::List => Ok(Tall {
+            height: over(items.height),
+            target: items.targets,
+            expr: Expr::List {
+                items: items.items,
+                comma,
+            },
+        }),
+    }
+}
+
+pub fn dict(entries: Entries, comma: bool) -> Tall
+    requires { AreEntries entries }
+    ensures { Makes (dict (view_entries entries) comma) result }
+{
+    Tall {
+        height: over(entries.height),
+        expr: Expr::Dict {
+            items: entries.pairs,
+            comma,
+        },
+        target: false,
+    }
+}
+
+pub fn paren(alloc: Global, inner: Tall) -> Result<Tall, NoMemory>
+    requires { IsTall inner }
+    ensures { IfOk result (Makes (paren (view_tall inner))) }
+{
+    let height = over(inner.height);
+    let target = inner.target;
+    Ok(Tall {
+        expr: Expr::Paren(Box::new(alloc, inner.expr)?),
+        height,
+        target,
+    })
+}
+
+pub fn negation(alloc: Global, operand: Tall) -> Result<Tall, NoMemory>
+    requires { IsTall operand }
+    ensures { IfOk result (Makes (not' (view_tall operand))) }
+{
+    let height = over(operand.height);
+    Ok(Tall {
+        expr: Expr::Not(Box::new(alloc, operand.expr)?),
+        height,
+        target: false,
+    })
+}
+
+pub fn unary(alloc: Global, sign: Sign, operand: Tall) -> Result<Tall, NoMemory>
+    requires { IsTall operand }
+    ensures { IfOk result (Makes (unary sign (view_tall operand))) }
+{
+    let height = over(operand.height);
+    Ok(Tall {
+        expr: Expr::Unary(sign, Box::new(alloc, operand.expr)?),
+        height,
+        target: false,
+    })
+}
+
+pub fn joined(alloc: Global, joint: Joint, left: Tall, right: Tall) -> Result<Tall, NoMemory>
+    requires left { IsTall left }
+    requires right { IsTall right }
+    ensures { IfOk result (Makes (joined (view_joint joint) (view_tall left) (view_tall right))) }
+{
+    let height = over(higher(left.height, right.height));
+    let left = Box::new(alloc, left.expr)?;
+    let right = Box::new(alloc, right.expr)?;
+    let expr = match joint {
+        Joint::Or => Expr::Or(left, right),
+        Joint::And => Expr::And(left, right),
+        Joint::Op(op) => Expr::Binary(op, left, right),
+    };
+    Ok(Tall {
+        expr,
+        height,
+        target: false,
+    })
+}
+
+pub fn comparison(alloc: Global, chain: Chain) -> Result<Tall, NoMemory>
+    requires { IsChain chain }
+    ensures { IfOk result (Makes (compare (plain_expr chain.first) (view_links chain))) }
+{
+    let height = over(chain.height);
+    Ok(Tall {
+        expr: Expr::Compare(Box::new(alloc, chain.first)?, chain.links),
+        height,
+        target: false,
+    })
+}
+
+pub fn conditional(alloc: Global, body: Tall, test: Tall, orelse: Tall) -> Result<Tall, NoMemory>
+    requires body { IsTall body }
+    requires test { IsTall test }
+    requires orelse { IsTall orelse }
+    ensures { IfOk result (Makes (cond (view_tall body) (view_tall test) (view_tall orelse))) }
+{
+    let height = over(higher(body.height, higher(test.height, orelse.height)));
+    Ok(Tall {
+        expr: Expr::Cond {
+            body: Box::new(alloc, body.expr)?,
+            test: Box::new(alloc, test.expr)?,
+            orelse: Box::new(alloc, orelse.expr)?,
+        },
+        height,
+        target: false,
+    })
+}
+
+pub fn index(alloc: Global, of: Tall, at: Tall) -> Result<Tall, NoMemory>
+    requires of { IsTall of }
+    requires at { IsTall at }
+    ensures { IfOk result (Makes (index (view_tall of) (view_tall at))) }
+{
+    let height = over(higher(of.height, at.height));
+    Ok(Tall {
+        expr: Expr::Index(Box::new(alloc, of.expr)?, Box::new(alloc, at.expr)?),
+        height,
+        target: true,
+    })
+}
+
+/// The height of a bound of a slice.
+pub fn bound_height(bound: &Option<Tall>) -> usize
+    requires { KeptBound bound.now }
+    ensures { result ≡ capped (height_bound (view_bound bound.now)) }
+{
+    match bound {
+        None => 0,
+        Some(tall) => tall.height,
+    }
+}
+
+fn boxed(alloc: Global, bound: Option<Tall>) -> Result<Option<Box<Expr>>, NoMemory>
+    ensures { IfOk result (λ b. opt_of (option_map (λ x. plain_expr x.value) b) ≡ view_bound bound) }
+{
+    match bound {
+        None => Ok(None),
+        Some(tall) => Ok(Some(Box::new(alloc, tall.expr)?)),
+    }
+}
+
+pub fn slice(
+    alloc: Global,
+    of: Tall,
+    from: Option<Tall>,
+    to: Option<Tall>,
+) -> Result<Tall, NoMemory>
+    requires of { IsTall of }
+    requires from { KeptBound from }
+    requires to { KeptBound to }
+    ensures { IfOk result (Makes (slice (view_tall of) (view_bound from) (view_bound to))) }
+{
+    let height = over(higher(of.height, higher(bound_height(&from), bound_height(&to))));
+    let of = Box::new(alloc, of.expr)?;
+    Ok(Tall {
+        expr: Expr::Slice {
+            of,
+            from: boxed(alloc, from)?,
+            to: boxed(alloc, to)?,
+        },
+        height,
+        target: false,
+    })
+}
+
+pub fn attribute(alloc: Global, of: Tall, name: Text) -> Result<Tall, NoMemory>
+    requires { IsTall of }
+    ensures { IfOk result (Makes (attr (view_tall of) name)) }
+{
+    let height = over(of.height);
+    Ok(Tall {
+        expr: Expr::Attr(Box::new(alloc, of.expr)?, name),
+        height,
+        target: false,
+    })
+}

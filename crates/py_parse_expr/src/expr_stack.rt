@@ -1,0 +1,348 @@
+// What is open round a place of an expression, with the room that is left there.
+
+ghost use Rattle.std.specs.Prelude.{◌≡◌, ℕ, ◌≤◌, cond, true, false, IfOk, OnOk, nat_le};
+ghost use Rattle.py_syntax.specs.Spelling.{HEIGHT};
+ghost use Rattle.py_syntax.specs.Normal.{LPost};
+ghost use Rattle.py_parse_expr.specs.Machine.{on, Ctx, Outside, in_items, upto_exprs, upto_cond, upto_or, upto_and, upto_compare, upto_sum, upto_term, upto};
+ghost use Rattle.py_parse_expr.specs.Rooms.{under, room, postfix};
+ghost use Rattle.py_parse_expr.specs.ExprHeld.{capped, view_level, view_row, view_opener, AreTall, KeptOpener};
+ghost use Rattle.py_parse_expr.specs.ExprStacks.{view_goal, view_frame, view_stack, KeptGoal, KeptFrame, IsRoom, Kept, Pops};
+
+use crate::expr_nodes::{Chain, Entries, Opener, Row, Tall, both, bound_height, higher};
+use crate::expr_roles::{Joint, Level};
+use py_syntax::Sign;
+use py_value::{CmpOp, NoMemory};
+use std::alloc::Global;
+
+/// What the whole is to be: any list of expressions, one expression, or the target of a `for`, of which the items in
+/// front of a comma are kept.
+#[derive(Drop)]
+pub enum Goal {
+    Any,
+    One,
+    Target,
+    Targets(Row),
+}
+
+/// A place where a production waits for a part, with the parts in front of it.
+#[derive(Drop)]
+pub enum Frame {
+    ExprsFirst,
+    ExprsRest(Row),
+    CondFirst,
+    CondTest(Tall),
+    CondElse(Tall, Tall),
+    First(Level),
+    Right(Joint, Tall),
+    NotOf,
+    CompareFirst,
+    CompareRest(Chain, CmpOp),
+    UnaryOf(Sign),
+    PostRest,
+    InItems(Opener, Row),
+    IndexFirst(Tall),
+    InIndex(Tall),
+    SliceTo(Tall, Option<Tall>),
+    InParen,
+    InKey(Entries),
+    InValue(Entries, Tall),
+}
+
+/// How high a tree may be at a place: one that has the form of a target, and any other; and whether what is open can
+/// still become a target by it.
+#[derive(Clone, Copy, Debug)]
+pub struct Room {
+    pub target: usize,
+    pub other: usize,
+    pub wants: bool,
+}
+
+/// A frame with the room inside it.
+#[derive(Drop)]
+pub struct Held {
+    pub frame: Frame,
+    pub room: Room,
+}
+
+/// What is open, the innermost last, under a limit of heights.
+#[derive(Drop)]
+pub struct Stack {
+    pub limit: usize,
+    pub goal: Goal,
+    pub frames: Vec<Held>,
+}
+
+/// The room below a node with other parts of that height.
+fn under(height: usize, room: usize) -> usize
+    ensures { result ≡ under height room }
+{
+    if height < room { room - 1 } else { 0 }
+}
+
+impl Room {
+    /// The same room for all trees, none of which makes a target of the whole.
+    fn same(room: usize) -> Room
+        ensures target { result.target ≡ room }
+        ensures other { result.other ≡ room }
+        ensures wants { result.wants ≡ false }
+    {
+        Room {
+            target: room,
+            other: room,
+            wants: false,
+        }
+    }
+
+    pub fn of(self, target: bool) -> usize
+        ensures { result ≡ cond target self.target self.other }
+    {
+        if target { self.target } else { self.other }
+    }
+
+    /// The room where a postfix stands, which an index behind it can make a target.
+    pub fn postfix(self, target: bool) -> usize
+        ensures { (limit : ℕ) (k : Ctx) → IsRoom limit k self → result ≡ postfix limit k target }
+    {
+        if target {
+            return self.target;
+        }
+        if self.wants {
+            return under(0, self.target);
+        }
+        self.other
+    }
+}
+
+fn room_in_items(opener: &Opener, items: &Row, outer: Room) -> Room
+    requires opener { KeptOpener opener.now }
+    requires items { AreTall items.now }
+    ensures { (limit : ℕ) (k : Ctx) → limit ≤ HEIGHT → IsRoom limit k outer → IsRoom limit (on (in_items (view_opener opener.now) (view_row items.now)) k) result }
+{
+    match opener {
+        Opener::Call(callee) => {
+            let room = outer.postfix(false);
+            Room::same(under(higher(callee.height, items.height), room))
+        }
+        Opener::List => Room {
+            target: under(items.height, outer.postfix(items.targets)),
+            other: under(items.height, outer.postfix(false)),
+            wants: both(items.targets, outer.wants),
+        },
+    }
+}
+
+/// The room inside a frame.
+fn room_inside(frame: &Frame, outer: Room) -> Room
+    requires { KeptFrame frame.now }
+    ensures { (limit : ℕ) (k : Ctx) → limit ≤ HEIGHT → IsRoom limit k outer → IsRoom limit (on (view_frame frame.now) k) result }
+{
+    match frame {
+        Frame::ExprsFirst => outer,
+        Frame::ExprsRest(items) => Room {
+            target: under(items.height, outer.of(items.targets)),
+            other: under(items.height, outer.other),
+            wants: both(items.targets, outer.wants),
+        },
+        Frame::CondFirst => outer,
+        Frame::CondTest(body) => Room::same(under(higher(body.height, 1), outer.other)),
+        Frame::CondElse(body, test) => {
+            Room::same(under(higher(body.height, test.height), outer.other))
+        }
+        Frame::First(_) => outer,
+        Frame::Right(_, left) => Room::same(under(left.height, outer.other)),
+        Frame::NotOf => Room::same(under(0, outer.other)),
+        Frame::CompareFirst => outer,
+        Frame::CompareRest(chain, _) => Room::same(under(chain.height, outer.other)),
+        Frame::UnaryOf(_) => Room::same(under(0, outer.other)),
+        Frame::PostRest => Room {
+            target: outer.target,
+            other: outer.postfix(false),
+            wants: outer.wants,
+        },
+        Frame::InItems(opener, items) => room_in_items(opener, items, outer),
+        Frame::IndexFirst(of) => Room::same(under(of.height, outer.target)),
+        Frame::InIndex(of) => Room::same(under(of.height, outer.target)),
+        Frame::SliceTo(of, from) => {
+            let height = higher(of.height, bound_height(from));
+            Room::same(under(height, outer.postfix(false)))
+        }
+        Frame::InParen => Room {
+            target: under(0, outer.target),
+            other: under(0, outer.postfix(false)),
+            wants: outer.wants,
+        },
+        Frame::InKey(entries) => {
+            Room::same(under(higher(entries.height, 1), outer.postfix(false)))
+        }
+        Frame::InValue(entries, key) => {
+            let height = higher(entries.height, key.height);
+            Room::same(under(height, outer.postfix(false)))
+        }
+    }
+}
+
+/// The room with nothing open.
+fn room_outside(limit: usize, goal: &Goal) -> Room
+    requires low { limit ≤ HEIGHT }
+    requires goal { KeptGoal goal.now }
+    ensures { IsRoom limit (Outside (view_goal goal.now)) result }
+{
+    match goal {
+        Goal::Any => Room::same(limit),
+        Goal::One => Room::same(limit),
+        Goal::Target => Room {
+            target: limit,
+            other: under(0, limit),
+            wants: true,
+        },
+        Goal::Targets(items) => Room {
+            target: under(items.height, limit),
+            other: under(0, under(items.height, limit)),
+            wants: true,
+        },
+    }
+}
+
+impl Stack {
+    pub fn new(alloc: Global, limit: usize, goal: Goal) -> Stack
+        requires low { limit ≤ HEIGHT }
+        requires goal { KeptGoal goal }
+        ensures view { view_stack result ≡ Outside (view_goal goal) }
+        ensures kept { Kept limit result }
+    {
+        Stack {
+            limit,
+            goal,
+            frames: Vec::new(alloc),
+        }
+    }
+
+    /// The room at the place.
+    pub fn room(&self) -> Room
+        requires { Kept self.now.limit self.now }
+        ensures { IsRoom self.now.limit (view_stack self.now) result }
+    {
+        match self.frames.last() {
+            Some(held) => held.room,
+            None => room_outside(self.limit, &self.goal),
+        }
+    }
+
+    pub fn push(&mut self, frame: Frame) -> Result<(), NoMemory>
+        requires kept { Kept self.old.limit self.old }
+        requires frame { KeptFrame frame }
+        ensures view { OnOk result (view_stack self.new ≡ on (view_frame frame) (view_stack self.old)) }
+        ensures kept { OnOk result (Kept self.old.limit self.new) }
+    {
+        let room = room_inside(&frame, self.room());
+        self.frames.push(Held { frame, room })?;
+        Ok(())
+    }
+
+    /// Takes the innermost frame off.
+    pub fn pop(&mut self) -> Option<Frame>
+        requires { Kept self.old.limit self.old }
+        ensures pops { Pops result self.old self.new }
+        ensures kept { Kept self.old.limit self.new }
+    {
+        match self.frames.pop() {
+            Some(held) => Some(held.frame),
+            None => None,
+        }
+    }
+
+    // ---- the frames from one level up to another
+
+    fn upto_exprs(&mut self, from: Level) -> Result<(), NoMemory>
+        requires { Kept self.old.limit self.old }
+        ensures view { OnOk result (view_stack self.new ≡ upto_exprs (view_level from) (view_stack self.old)) }
+        ensures kept { OnOk result (Kept self.old.limit self.new) }
+    {
+        if from.at_most(Level::Exprs) {
+            self.push(Frame::ExprsFirst)?;
+        }
+        Ok(())
+    }
+
+    fn upto_cond(&mut self, from: Level) -> Result<(), NoMemory>
+        requires { Kept self.old.limit self.old }
+        ensures view { OnOk result (view_stack self.new ≡ upto_cond (view_level from) (view_stack self.old)) }
+        ensures kept { OnOk result (Kept self.old.limit self.new) }
+    {
+        if from.at_most(Level::Expr) {
+            self.upto_exprs(from)?;
+            self.push(Frame::CondFirst)?;
+        }
+        Ok(())
+    }
+
+    fn upto_or(&mut self, from: Level) -> Result<(), NoMemory>
+        requires { Kept self.old.limit self.old }
+        ensures view { OnOk result (view_stack self.new ≡ upto_or (view_level from) (view_stack self.old)) }
+        ensures kept { OnOk result (Kept self.old.limit self.new) }
+    {
+        if from.at_most(Level::Or) {
+            self.upto_cond(from)?;
+            self.push(Frame::First(Level::Or))?;
+        }
+        Ok(())
+    }
+
+    pub fn upto_and(&mut self, from: Level) -> Result<(), NoMemory>
+        requires { Kept self.old.limit self.old }
+        ensures view { OnOk result (view_stack self.new ≡ upto_and (view_level from) (view_stack self.old)) }
+        ensures kept { OnOk result (Kept self.old.limit self.new) }
+    {
+        if from.at_most(Level::And) {
+            self.upto_or(from)?;
+            self.push(Frame::First(Level::And))?;
+        }
+        Ok(())
+    }
+
+    fn upto_compare(&mut self, from: Level) -> Result<(), NoMemory>
+        requires { Kept self.old.limit self.old }
+        ensures view { OnOk result (view_stack self.new ≡ upto_compare (view_level from) (view_stack self.old)) }
+        ensures kept { OnOk result (Kept self.old.limit self.new) }
+    {
+        if from.at_most(Level::Compare) {
+            self.upto_and(from)?;
+            self.push(Frame::CompareFirst)?;
+        }
+        Ok(())
+    }
+
+    fn upto_sum(&mut self, from: Level) -> Result<(), NoMemory>
+        requires { Kept self.old.limit self.old }
+        ensures view { OnOk result (view_stack self.new ≡ upto_sum (view_level from) (view_stack self.old)) }
+        ensures kept { OnOk result (Kept self.old.limit self.new) }
+    {
+        if from.at_most(Level::Sum) {
+            self.upto_compare(from)?;
+            self.push(Frame::First(Level::Sum))?;
+        }
+        Ok(())
+    }
+
+    pub fn upto_term(&mut self, from: Level) -> Result<(), NoMemory>
+        requires { Kept self.old.limit self.old }
+        ensures view { OnOk result (view_stack self.new ≡ upto_term (view_level from) (view_stack self.old)) }
+        ensures kept { OnOk result (Kept self.old.limit self.new) }
+    {
+        if from.at_most(Level::Term) {
+            self.upto_sum(from)?;
+            self.push(Frame::First(Level::Term))?;
+        }
+        Ok(())
+    }
+
+    /// The frames above a name, a number or a string.
+    pub fn upto_post(&mut self, from: Level) -> Result<(), NoMemory>
+        requires { Kept self.old.limit self.old }
+        ensures view { OnOk result (view_stack self.new ≡ upto (view_level from) LPost (view_stack self.old)) }
+        ensures kept { OnOk result (Kept self.old.limit self.new) }
+    {
+        self.upto_term(from)?;
+        self.push(Frame::PostRest)
+    }
+}

@@ -1,0 +1,444 @@
+// Expressions, a token at a time, whatever their heights.
+
+ghost use Rattle.std.specs.Prelude.{◌≡◌};
+ghost use Rattle.py_syntax.specs.View.{plain_expr};
+ghost use Rattle.py_syntax.specs.Normal.{LExpr, LPost};
+ghost use Rattle.py_parse_expr.specs.Roles.{r_not};
+ghost use Rattle.py_parse_expr.specs.Machine.{snoc_link, target, on, in_items, post_rest, AfterOpen, Strings as StringsState, IndexOpen, SliceColon, AfterDot, Linked, Next, Have, upto, upto_term, begin, close_items, leave, give, step};
+ghost use Rattle.py_parse_expr.specs.ExprHeld.{view_level, view_role, view_tall, view_row, view_entries, view_links, view_bound, view_opener, view_strings, IsTall, AreTall, AreEntries, IsChain, KeptOpener, KeptBound, KeptRole, KeptStrings};
+ghost use Rattle.py_parse_expr.specs.ExprStacks.{view_goal, view_frame, view_stack, KeptGoal, KeptItems, KeptFrame, Kept};
+ghost use Rattle.py_parse_expr.specs.ExprTurns.{view_at, KeptAt, sign_role, close_dict, Stays, Acts};
+
+use crate::expr_frames::{closes, link, meet};
+use crate::expr_nodes::{
+    Chain, Entries, Opener, Row, Strings, Tall, attribute, dict, made, slice, tuple,
+};
+use crate::expr_roles::{Joint, Level, Role};
+use crate::expr_stack::{Frame, Goal, Stack};
+use crate::expr_turns::{Met, Progress, Turn};
+use py_syntax::{Comparison, Expr, Sign};
+use py_value::{BinOp, CmpOp, NoMemory};
+use std::alloc::Global;
+
+/// The outermost expression is whole, and is to be the target of a `for`, or its first item.
+fn leave_first(alloc: Global, tall: Tall, role: &Role) -> Result<Turn, NoMemory>
+    requires { IsTall tall }
+    ensures { Stays (λ k. leave (view_tall tall) target (view_role role.now)) result }
+{
+    if !tall.target {
+        return Ok(Turn::Stuck);
+    }
+    match role {
+        Role::Comma => {
+            let items = Row::new(alloc).with(tall)?;
+            Ok(Turn::Next(Progress::AfterTarget(items)))
+        }
+        _ => Ok(Turn::Left(tall)),
+    }
+}
+
+/// The outermost expression is whole, and is to be a further item of the target of a `for`.
+fn leave_next(items: Row, tall: Tall, role: &Role) -> Result<Turn, NoMemory>
+    requires items { KeptItems items }
+    requires tall { IsTall tall }
+    ensures { Stays (λ k. leave (view_tall tall) (view_goal (Goal.Targets items)) (view_role role.now)) result }
+{
+    if !tall.target {
+        return Ok(Turn::Stuck);
+    }
+    let items = items.with(tall)?;
+    match role {
+        Role::Comma => Ok(Turn::Next(Progress::AfterTarget(items))),
+        _ => Ok(Turn::Left(tuple(items, false))),
+    }
+}
+
+/// The outermost expression is whole.
+fn leave(alloc: Global, goal: Goal, tall: Tall, role: &Role) -> Result<Turn, NoMemory>
+    requires goal { KeptGoal goal }
+    requires tall { IsTall tall }
+    ensures { Stays (λ k. leave (view_tall tall) (view_goal goal) (view_role role.now)) result }
+{
+    match goal {
+        Goal::Any => Ok(Turn::Left(tall)),
+        Goal::One => Ok(Turn::Left(tall)),
+        Goal::Target => leave_first(alloc, tall, role),
+        Goal::Targets(items) => leave_next(items, tall, role),
+    }
+}
+
+/// An expression is whole as far as the stack knows.
+fn give(alloc: Global, stack: &mut Stack, tall: Tall, role: &Role) -> Result<Turn, NoMemory>
+    requires kept { Kept stack.old.limit stack.old }
+    requires tall { IsTall tall }
+    ensures { Acts (give (view_tall tall) (view_stack stack.old) (view_role role.now)) stack.old.limit stack.new result }
+{
+    let mut tall = tall;
+    'frames: while let Some(frame) = stack.pop() {
+        match meet(alloc, frame, tall, role)? {
+            Met::Next(progress) => return Ok(Turn::Next(progress)),
+            Met::Opens(frame, progress) => {
+                stack.push(frame)?;
+                return Ok(Turn::Next(progress));
+            }
+            Met::Stuck => return Ok(Turn::Stuck),
+            Met::Passes(next) => tall = next,
+        }
+    }
+    let goal = std::mem::replace(&mut stack.goal, Goal::Any);
+    *stack = Stack::new(alloc, stack.limit, Goal::Any);
+    leave(alloc, goal, tall, role)
+}
+
+/// A name, a number or a word that is an expression.
+fn atom(stack: &mut Stack, level: Level, tall: Tall) -> Result<Turn, NoMemory>
+    requires kept { Kept stack.old.limit stack.old }
+    requires tall { IsTall tall }
+    ensures { Acts (Next (Have (view_tall tall) (upto (view_level level) LPost (view_stack stack.old)))) stack.old.limit stack.new result }
+{
+    stack.upto_post(level)?;
+    Ok(Turn::Next(Progress::Have(tall)))
+}
+
+/// Strings begin.
+fn strings(stack: &mut Stack, level: Level, strings: Strings) -> Result<Turn, NoMemory>
+    requires kept { Kept stack.old.limit stack.old }
+    requires strings { KeptStrings strings }
+    ensures { Acts (Next (StringsState (view_strings strings) (upto (view_level level) LPost (view_stack stack.old)))) stack.old.limit stack.new result }
+{
+    stack.upto_post(level)?;
+    Ok(Turn::Next(Progress::Strings(strings)))
+}
+
+fn negation(stack: &mut Stack, level: Level) -> Result<Turn, NoMemory>
+    requires { Kept stack.old.limit stack.old }
+    ensures { Acts (begin (view_level level) (view_stack stack.old) r_not) stack.old.limit stack.new result }
+{
+    if !level.at_most(Level::Not) {
+        return Ok(Turn::Stuck);
+    }
+    stack.upto_and(level)?;
+    stack.push(Frame::NotOf)?;
+    Ok(Turn::Next(Progress::Want(Level::Not)))
+}
+
+fn unary(stack: &mut Stack, level: Level, sign: Sign) -> Result<Turn, NoMemory>
+    requires { Kept stack.old.limit stack.old }
+    ensures { Acts (begin (view_level level) (view_stack stack.old) (sign_role sign)) stack.old.limit stack.new result }
+{
+    if !level.at_most(Level::Unary) {
+        return Ok(Turn::Stuck);
+    }
+    stack.upto_term(level)?;
+    stack.push(Frame::UnaryOf(sign))?;
+    Ok(Turn::Next(Progress::Want(Level::Unary)))
+}
+
+/// A bracket opens.
+fn open(stack: &mut Stack, level: Level, progress: Progress) -> Result<Turn, NoMemory>
+    requires kept { Kept stack.old.limit stack.old }
+    requires at { KeptAt progress }
+    ensures { Acts (Next (view_at progress (upto_term (view_level level) (view_stack stack.old)))) stack.old.limit stack.new result }
+{
+    stack.upto_term(level)?;
+    Ok(Turn::Next(progress))
+}
+
+/// An expression of that level begins.
+fn begin(alloc: Global, stack: &mut Stack, level: Level, role: Role) -> Result<Turn, NoMemory>
+    requires kept { Kept stack.old.limit stack.old }
+    requires role { KeptRole role }
+    ensures { Acts (begin (view_level level) (view_stack stack.old) (view_role role)) stack.old.limit stack.new result }
+{
+    match role {
+        Role::Name(text) => atom(stack, level, Tall::name(text)),
+        Role::Int(number) => atom(stack, level, Tall::low(Expr::Int(number))),
+        Role::NoneWord => atom(stack, level, Tall::low(Expr::None)),
+        Role::Bool(truth) => atom(stack, level, Tall::low(Expr::Bool(truth))),
+        Role::Str(text) => strings(stack, level, Strings::text(alloc, text)?),
+        Role::Format(fields) => strings(stack, level, Strings::format(alloc, fields)?),
+        Role::Not => negation(stack, level),
+        Role::Joint(Joint::Op(BinOp::Add)) => unary(stack, level, Sign::Plus),
+        Role::Joint(Joint::Op(BinOp::Sub)) => unary(stack, level, Sign::Minus),
+        Role::LeftParen => open(stack, level, Progress::AfterOpen),
+        Role::LeftBracket => open(stack, level, Progress::ItemsOpen(Opener::List)),
+        Role::LeftBrace => open(stack, level, Progress::DictOpen),
+        _ => Ok(Turn::Stuck),
+    }
+}
+
+/// An expression of that level begins in a frame of its own.
+fn begin_in(
+    alloc: Global,
+    stack: &mut Stack,
+    frame: Frame,
+    level: Level,
+    role: Role,
+) -> Result<Turn, NoMemory>
+    requires kept { Kept stack.old.limit stack.old }
+    requires frame { KeptFrame frame }
+    requires role { KeptRole role }
+    ensures { Acts (begin (view_level level) (on (view_frame frame) (view_stack stack.old)) (view_role role)) stack.old.limit stack.new result }
+{
+    stack.push(frame)?;
+    begin(alloc, stack, level, role)
+}
+
+fn in_strings(
+    alloc: Global,
+    stack: &mut Stack,
+    strings: Strings,
+    role: Role,
+) -> Result<Turn, NoMemory>
+    requires kept { Kept stack.old.limit stack.old }
+    requires strings { KeptStrings strings }
+    requires role { KeptRole role }
+    ensures { Acts (step (StringsState (view_strings strings) (view_stack stack.old)) (view_role role)) stack.old.limit stack.new result }
+{
+    match role {
+        Role::Str(text) => Ok(Turn::Next(Progress::Strings(strings.with_text(text)?))),
+        Role::Format(fields) => {
+            let strings = strings.with_format(alloc, fields)?;
+            Ok(Turn::Next(Progress::Strings(strings)))
+        }
+        rest => give(alloc, stack, strings.tall(), &rest),
+    }
+}
+
+fn after_open(alloc: Global, stack: &mut Stack, role: Role) -> Result<Turn, NoMemory>
+    requires kept { Kept stack.old.limit stack.old }
+    requires role { KeptRole role }
+    ensures { Acts (step (AfterOpen (view_stack stack.old)) (view_role role)) stack.old.limit stack.new result }
+{
+    match role {
+        Role::RightParen => {
+            stack.push(Frame::PostRest)?;
+            Ok(Turn::Next(Progress::Have(tuple(Row::new(alloc), false))))
+        }
+        rest => begin_in(alloc, stack, Frame::InParen, Level::Exprs, rest),
+    }
+}
+
+fn after_comma(alloc: Global, stack: &mut Stack, items: Row, role: Role) -> Result<Turn, NoMemory>
+    requires kept { Kept stack.old.limit stack.old }
+    requires items { KeptItems items }
+    requires role { KeptRole role }
+    ensures { Acts (step (view_at (Progress.AfterComma items) (view_stack stack.old)) (view_role role)) stack.old.limit stack.new result }
+{
+    if role.begins() {
+        return begin_in(alloc, stack, Frame::ExprsRest(items), Level::Expr, role);
+    }
+    give(alloc, stack, tuple(items, true), &role)
+}
+
+fn after_target(alloc: Global, stack: &mut Stack, items: Row, role: Role) -> Result<Turn, NoMemory>
+    requires kept { Kept stack.old.limit stack.old }
+    requires items { KeptItems items }
+    requires role { KeptRole role }
+    ensures { Acts (step (view_at (Progress.AfterTarget items) (view_stack stack.old)) (view_role role)) stack.old.limit stack.new result }
+{
+    if !role.begins() {
+        return Ok(Turn::Left(tuple(items, true)));
+    }
+    *stack = Stack::new(alloc, stack.limit, Goal::Targets(items));
+    begin(alloc, stack, Level::Post, role)
+}
+
+/// A bracket with items is closed, or another item begins.
+fn in_items(
+    alloc: Global,
+    stack: &mut Stack,
+    opener: Opener,
+    items: Row,
+    comma: bool,
+    role: Role,
+) -> Result<Turn, NoMemory>
+    requires kept { Kept stack.old.limit stack.old }
+    requires opener { KeptOpener opener }
+    requires items { AreTall items }
+    requires role { KeptRole role }
+    ensures { Acts (close_items (view_opener opener) (view_row items) comma (view_stack stack.old) (view_role role) (begin LExpr (on (in_items (view_opener opener) (view_row items)) (view_stack stack.old)) (view_role role))) stack.old.limit stack.new result }
+{
+    if closes(&opener, &role) {
+        stack.push(Frame::PostRest)?;
+        let tall = made(alloc, opener, items, comma)?;
+        return Ok(Turn::Next(Progress::Have(tall)));
+    }
+    begin_in(
+        alloc,
+        stack,
+        Frame::InItems(opener, items),
+        Level::Expr,
+        role,
+    )
+}
+
+/// The bracket of a dict is closed, or another entry begins.
+fn in_dict(
+    alloc: Global,
+    stack: &mut Stack,
+    entries: Entries,
+    comma: bool,
+    role: Role,
+) -> Result<Turn, NoMemory>
+    requires kept { Kept stack.old.limit stack.old }
+    requires entries { AreEntries entries }
+    requires role { KeptRole role }
+    ensures { Acts (close_dict (view_entries entries) comma (view_stack stack.old) (view_role role)) stack.old.limit stack.new result }
+{
+    match role {
+        Role::RightBrace => {
+            stack.push(Frame::PostRest)?;
+            Ok(Turn::Next(Progress::Have(dict(entries, comma))))
+        }
+        rest => begin_in(alloc, stack, Frame::InKey(entries), Level::Expr, rest),
+    }
+}
+
+fn index_open(alloc: Global, stack: &mut Stack, of: Tall, role: Role) -> Result<Turn, NoMemory>
+    requires kept { Kept stack.old.limit stack.old }
+    requires of { IsTall of }
+    requires role { KeptRole role }
+    ensures { Acts (step (IndexOpen (view_tall of) (view_stack stack.old)) (view_role role)) stack.old.limit stack.new result }
+{
+    match role {
+        Role::Colon => Ok(Turn::Next(Progress::SliceColon(of, None))),
+        rest => begin_in(alloc, stack, Frame::IndexFirst(of), Level::Expr, rest),
+    }
+}
+
+fn slice_colon(
+    alloc: Global,
+    stack: &mut Stack,
+    of: Tall,
+    from: Option<Tall>,
+    role: Role,
+) -> Result<Turn, NoMemory>
+    requires kept { Kept stack.old.limit stack.old }
+    requires of { IsTall of }
+    requires from { KeptBound from }
+    requires role { KeptRole role }
+    ensures { Acts (step (SliceColon (view_tall of) (view_bound from) (view_stack stack.old)) (view_role role)) stack.old.limit stack.new result }
+{
+    match role {
+        Role::RightBracket => {
+            stack.push(Frame::PostRest)?;
+            let tall = slice(alloc, of, from, None)?;
+            Ok(Turn::Next(Progress::Have(tall)))
+        }
+        rest => begin_in(alloc, stack, Frame::SliceTo(of, from), Level::Expr, rest),
+    }
+}
+
+fn after_dot(alloc: Global, stack: &mut Stack, of: Tall, role: Role) -> Result<Turn, NoMemory>
+    requires kept { Kept stack.old.limit stack.old }
+    requires of { IsTall of }
+    ensures { Acts (step (AfterDot (view_tall of) (view_stack stack.old)) (view_role role)) stack.old.limit stack.new result }
+{
+    match role {
+        Role::Name(text) => {
+            stack.push(Frame::PostRest)?;
+            let tall = attribute(alloc, of, text)?;
+            Ok(Turn::Next(Progress::Have(tall)))
+        }
+        _ => Ok(Turn::Stuck),
+    }
+}
+
+fn after_not(stack: &mut Stack, chain: Chain, role: Role) -> Result<Turn, NoMemory>
+    requires kept { Kept stack.old.limit stack.old }
+    requires chain { IsChain chain }
+    ensures { Acts (step (view_at (Progress.AfterNot chain) (view_stack stack.old)) (view_role role)) stack.old.limit stack.new result }
+{
+    match role {
+        Role::Compare(CmpOp::In) => {
+            stack.push(Frame::CompareRest(chain, CmpOp::NotIn))?;
+            Ok(Turn::Next(Progress::Want(Level::Sum)))
+        }
+        _ => Ok(Turn::Stuck),
+    }
+}
+
+/// Behind `is` or `is not`, a word stands that is an expression.
+fn constant(chain: Chain, op: Comparison, tall: Tall) -> Result<Turn, NoMemory>
+    requires chain { IsChain chain }
+    requires tall { IsTall tall }
+    ensures { Stays (λ k. Next (Linked (plain_expr chain.first) (snoc_link (view_links chain) op (view_tall tall)) k)) result }
+{
+    Ok(Turn::Next(Progress::Linked(chain.with(op, tall)?)))
+}
+
+fn after_is(chain: Chain, role: Role) -> Result<Turn, NoMemory>
+    requires { IsChain chain }
+    ensures { Stays (λ k. step (view_at (Progress.AfterIs chain) k) (view_role role)) result }
+{
+    match role {
+        Role::Not => Ok(Turn::Next(Progress::AfterIsNot(chain))),
+        Role::NoneWord => constant(chain, Comparison::Is, Tall::low(Expr::None)),
+        Role::Bool(truth) => constant(chain, Comparison::Is, Tall::low(Expr::Bool(truth))),
+        _ => Ok(Turn::Stuck),
+    }
+}
+
+fn after_is_not(chain: Chain, role: Role) -> Result<Turn, NoMemory>
+    requires { IsChain chain }
+    ensures { Stays (λ k. step (view_at (Progress.AfterIsNot chain) k) (view_role role)) result }
+{
+    match role {
+        Role::NoneWord => constant(chain, Comparison::IsNot, Tall::low(Expr::None)),
+        Role::Bool(truth) => constant(chain, Comparison::IsNot, Tall::low(Expr::Bool(truth))),
+        _ => Ok(Turn::Stuck),
+    }
+}
+
+fn linked(alloc: Global, stack: &mut Stack, chain: Chain, role: Role) -> Result<Turn, NoMemory>
+    requires kept { Kept stack.old.limit stack.old }
+    requires chain { IsChain chain }
+    requires role { KeptRole role }
+    ensures { Acts (step (view_at (Progress.Linked chain) (view_stack stack.old)) (view_role role)) stack.old.limit stack.new result }
+{
+    match link(alloc, chain, &role)? {
+        Met::Next(progress) => Ok(Turn::Next(progress)),
+        Met::Opens(frame, progress) => {
+            stack.push(frame)?;
+            Ok(Turn::Next(progress))
+        }
+        Met::Stuck => Ok(Turn::Stuck),
+        Met::Passes(tall) => give(alloc, stack, tall, &role),
+    }
+}
+
+/// What a token does, whatever its height.
+pub fn act(
+    alloc: Global,
+    stack: &mut Stack,
+    progress: Progress,
+    role: Role,
+) -> Result<Turn, NoMemory>
+    requires kept { Kept stack.old.limit stack.old }
+    requires at { KeptAt progress }
+    requires role { KeptRole role }
+    ensures { Acts (step (view_at progress (view_stack stack.old)) (view_role role)) stack.old.limit stack.new result }
+{
+    match progress {
+        Progress::Want(level) => begin(alloc, stack, level, role),
+        Progress::Have(tall) => give(alloc, stack, tall, &role),
+        Progress::Strings(strings) => in_strings(alloc, stack, strings, role),
+        Progress::AfterOpen => after_open(alloc, stack, role),
+        Progress::AfterComma(items) => after_comma(alloc, stack, items, role),
+        Progress::AfterTarget(items) => after_target(alloc, stack, items, role),
+        Progress::ItemsOpen(opener) => {
+            in_items(alloc, stack, opener, Row::new(alloc), false, role)
+        }
+        Progress::ItemsComma(opener, items) => { in_items(alloc, stack, opener, items, true, role) }
+        Progress::DictOpen => in_dict(alloc, stack, Entries::new(alloc), false, role),
+        Progress::DictComma(entries) => in_dict(alloc, stack, entries, true, role),
+        Progress::IndexOpen(of) => index_open(alloc, stack, of, role),
+        Progress::SliceColon(of, from) => slice_colon(alloc, stack, of, from, role),
+        Progress::AfterDot(of) => after_dot(alloc, stack, of, role),
+        Progress::AfterNot(chain) => after_not(stack, chain, role),
+        Progress::AfterIs(chain) => after_is(chain, role),
+        Progress::AfterIsNot(chain) => after_is_not(chain, role),
+        Progress::Linked(chain) => linked(alloc, stack, chain, role),
+    }
+}

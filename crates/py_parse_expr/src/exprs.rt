@@ -1,0 +1,132 @@
+// Expressions, and the targets of `for`.
+
+ghost use Rattle.std.specs.Prelude.{◌≡◌, ◌≤◌, length};
+ghost use Rattle.py_token.specs.View.{view_kind, view_tokens};
+ghost use Rattle.py_syntax.specs.Kinds.{bare, bare_kind};
+ghost use Rattle.py_parse_expr.specs.Machine.{Outside, Want, start};
+ghost use Rattle.py_parse_expr.specs.ExprHeld.{view_level};
+ghost use Rattle.py_parse_expr.specs.ExprStacks.{view_goal, KeptGoal};
+ghost use Rattle.py_parse_expr.specs.ExprReads.{goal_of, FollowsMachine, IsRead, is_end};
+ghost use Rattle.py_parse_expr.specs.Refusal.{Parses};
+
+use crate::error::ReadError;
+use crate::expr_fields::{has_spelled_fields, turn};
+use crate::expr_roles::Level;
+use crate::expr_stack::{Goal, Stack};
+use crate::expr_turns::{Progress, Turn};
+use py_syntax::Expr;
+use py_token::{Token, TokenKind};
+use std::alloc::Global;
+
+/// Which expression is read.
+#[derive(Clone, Copy, Debug, PartialEq, Eq)]
+pub enum ExprPart {
+    /// One or several with commas.
+    Any,
+    One,
+    /// The target of a `for`.
+    Target,
+}
+
+/// An expression, and the place of the token behind it.
+#[derive(Drop)]
+pub struct ExprRead {
+    pub expr: Expr,
+    pub next: usize,
+}
+
+/// The greatest height of an expression.
+const HEIGHT_LIMIT: usize = 200;
+
+fn goal(part: ExprPart) -> Goal
+    ensures view { view_goal result ≡ goal_of part }
+    ensures kept { KeptGoal result }
+{
+    match part {
+        ExprPart::Any => Goal::Any,
+        ExprPart::One => Goal::One,
+        ExprPart::Target => Goal::Target,
+    }
+}
+
+/// The level at which it begins.
+fn level(part: ExprPart) -> Level
+    ensures { start (goal_of part) ≡ Want (view_level result) (Outside (goal_of part)) }
+{
+    match part {
+        ExprPart::Any => Level::Exprs,
+        ExprPart::One => Level::Expr,
+        ExprPart::Target => Level::Post,
+    }
+}
+
+/// Reads an expression from a place in the tokens up to the first token that goes on with none. Places count from 0.
+pub fn read_expr(
+    alloc: Global,
+    tokens: &[Token],
+    at: usize,
+    part: ExprPart,
+) -> Result<ExprRead, ReadError>
+    requires { at ≤ length tokens.now }
+    ensures follows { FollowsMachine (bare (view_tokens tokens.now)) at part result }
+    ensures is_read { IsRead (bare (view_tokens tokens.now)) at part result }
+{
+    let mut stack = Stack::new(alloc, HEIGHT_LIMIT, goal(part));
+    let mut progress = Progress::Want(level(part));
+    let mut place = at;
+    'tokens: while place < tokens.len() {
+        match turn(alloc, &mut stack, progress, &tokens[place].kind)? {
+            Turn::Next(next) => progress = next,
+            Turn::Stuck => return Err(ReadError::Unexpected(place)),
+            Turn::Deep => {
+                if has_spelled_fields(alloc, &tokens[place].kind)? {
+                    return Err(ReadError::TooDeep(place));
+                }
+                return Err(ReadError::Unexpected(place));
+            }
+            Turn::Left(tall) => {
+                return Ok(ExprRead {
+                    expr: tall.expr,
+                    next: place,
+                });
+            }
+        }
+        place += 1;
+    }
+    drop(progress);
+    Err(ReadError::Unexpected(place))
+}
+
+fn is_end(kind: &TokenKind) -> bool
+    ensures { result ≡ is_end (bare_kind (view_kind kind.now)) }
+{
+    match kind {
+        TokenKind::Name(_) => false,
+        TokenKind::Keyword(_) => false,
+        TokenKind::Int(_) => false,
+        TokenKind::Str(_) => false,
+        TokenKind::FString(_) => false,
+        TokenKind::Mark(_) => false,
+        TokenKind::Newline => false,
+        TokenKind::Indent => false,
+        TokenKind::Dedent => false,
+        TokenKind::End => true,
+    }
+}
+
+/// Reads a list of tokens that is one expression, or several with commas, and the end. Places count from 0.
+pub fn parse_expr(alloc: Global, tokens: &[Token]) -> Result<Expr, ReadError>
+    ensures { Parses (bare (view_tokens tokens.now)) result }
+{
+    let read = read_expr(alloc, tokens, 0, ExprPart::Any)?;
+    let next = read.next;
+    if !is_end(&tokens[next].kind) {
+        drop(read);
+        return Err(ReadError::Unexpected(next));
+    }
+    if next + 1 < tokens.len() {
+        drop(read);
+        return Err(ReadError::Unexpected(next + 1));
+    }
+    Ok(read.expr)
+}
