@@ -38,6 +38,13 @@ pub mod ListLines
 pub mod Whole
 pub mod WholeTokens
 pub mod WholeStands
+pub mod Held
+pub mod HeldKinds
+pub mod HeaderPlaces
+pub mod TargetItems
+pub mod HeaderNames
+pub mod Acts
+pub mod Stepping
 pub mod Falls
 pub mod PatternFalls
 pub mod Quits
@@ -48,3 +55,6 @@ pub mod Marks
 pub mod Moves
 pub mod Walk
 pub mod PatternWalk
+pub mod Going
+pub mod Turning
+pub mod Answering

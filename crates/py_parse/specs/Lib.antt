@@ -3,5 +3,10 @@ pub mod Machine
 pub mod Least
 pub mod Places
 pub mod Refusal
+pub mod HeldOwners
+pub mod HeldStates
+pub mod HeldParts
 pub mod HeldMarks
 pub mod Levels
+pub mod Progress
+pub mod HeldLists

@@ -1,0 +1,269 @@
+-- Steps of the machine, as the code comes to them.
+use Rattle.std.proofs.Common.{◌≡◌, ℕ, ◌+◌, ◌-◌, Bool, true, false, cond, ◌&&◌, List, [], ◌∷◌, ◌++◌, reverse, Option, Some, None, option_map, Result, refl, sym, ap, subst, ◌∙◌}
+use Rattle.std.specs.declared.alloc.AllocError.{AllocError}
+use Rattle.py_value.specs.declared.operator.BinOp.{BinOp}
+use Rattle.py_token.specs.declared.token.Mark.TheVariants as mark
+use Rattle.py_syntax.specs.Tree.{Text, Expr, Exprs, no_exprs, exprs, Stmts, no_stmts, stmt, Suite, suite, Clauses, expr, Cases, no_cases, case, Pattern, StmtKind, match}
+use Rattle.py_syntax.specs.View.{plain_stmts}
+use Rattle.py_syntax.specs.Kinds.{Kind, Name, Sign, Newline, Dedent, End}
+use Rattle.py_syntax.specs.Headers.{is_colon}
+use Rattle.py_syntax.specs.Normal.{is_target, is_place}
+use Rattle.py_syntax.specs.declared.stmt.LineEnd.{LineEnd}
+use Rattle.py_parse_expr.specs.Machine as expression
+use Rattle.py_parse_expr.specs.Machine.{snoc, start, role}
+use Rattle.py_parse_expr.specs.PatternMachine as pattern
+use Rattle.py_syntax.specs.declared.expr.Expr.{Expr as Node}
+use Rattle.py_syntax.specs.declared.pattern.Pattern.{Pattern as PatternNode}
+use Rattle.py_parse.specs.declared.owner.Choice.{Choice}
+use Rattle.py_parse.specs.declared.owner.Owner as held
+use Rattle.py_parse.specs.declared.owner.Owner.TheVariants as owner_
+use Rattle.py_parse.specs.declared.places.Place as held_place
+use Rattle.py_parse.specs.declared.places.State as held_state
+use Rattle.py_parse.specs.declared.block.Open.{Open}
+use Rattle.py_parse.specs.declared.places.Turn.{Turn}
+use Rattle.py_parse.specs.Open.{Owner, a_clause, a_def, a_case, closed, snoc_case, newline_end, semicolon_end, both_end, Block, top, inside, add}
+use Rattle.py_parse.specs.Machine.{Place, Line, Semicolon, Leaving, NameWanted, Behind, Choosing, Over, Matching, choose, close, over_line, begin_line, line, value, augmented, default, ParamWanted, ParamRead, BoundWanted, BoundRead, ClauseBound, ColonWanted, SuiteWanted, IndentWanted, Except, Lines, State, at, wanted, onward, goal, reads, leaving, left, Listed, listed, behind_name, with_name, is_some, in_place_op, assigned, end_simple, end_header, begin_simple, behind_value, behind_default, act}
+use Rattle.py_parse.specs.HeldLists.{some_exprs, some_cases, NoName, is_equal_sign, is_semicolon, ends_simple, is_comma, is_right_paren, is_dedent, is_end, is_case}
+use Rattle.py_parse.specs.HeldMarks.{is_newline}
+use Rattle.py_parse.specs.HeldStates.{view_state, view_place, blocks, Opens, SharesLine, is_closable, is_top, Makes, ActsAs}
+use Rattle.py_parse.specs.HeldOwners.{view_owner}
+
+-- ---- simple statements end
+
+pub simple_semicolon : (k : StmtKind) (n : Lines) (b : Block) (t : Kind) (l : ℕ) → is_semicolon t ≡ true → end_simple k n b t l ≡ Some (at (Semicolon k) n b)
+simple_semicolon k n b (Sign mark.Semicolon) l h = refl
+simple_semicolon k n b t l h = absurd cc
+
+pub simple_newline : (k : StmtKind) (n : Lines) (b : Block) (t : Kind) (l : ℕ) (s : State) → is_newline t ≡ true → s ≡ over_line (add b n.begun n.last k newline_end) l → end_simple k n b t l ≡ Some s
+simple_newline k n b Newline l s h i = sym (ap (λ (w : State). Some w) i)
+simple_newline k n b t l s h i = absurd cc
+
+pub simple_goes_on : (k : StmtKind) (n : Lines) (b : Block) (t : Kind) (l : ℕ) → is_semicolon t ≡ false → is_newline t ≡ false → end_simple k n b t l ≡ None
+simple_goes_on k n b (Sign mark.Semicolon) l h i = absurd cc
+simple_goes_on k n b Newline l h i = absurd cc
+simple_goes_on k n b t l h i = refl
+
+pub semicolon_line : (k : StmtKind) (n : Lines) (b : Block) (t : Kind) (f l : ℕ) (s : State) → is_newline t ≡ true → s ≡ over_line (add b n.begun n.last k both_end) l → act (Semicolon k) n b t f l ≡ Some s
+semicolon_line k n b Newline f l s h i = sym (ap (λ (w : State). Some w) i)
+semicolon_line k n b t f l s h i = absurd cc
+
+semicolon_begins : (k : StmtKind) (n : Lines) (b : Block) (t : Kind) (f l : ℕ) → is_newline t ≡ false → begin_simple (add b n.begun n.last k semicolon_end) t f l ≡ act (Semicolon k) n b t f l
+semicolon_begins k n b Newline f l h = absurd cc
+semicolon_begins k n b t f l h = refl
+
+pub semicolon_turn : (k : StmtKind) (n : Lines) (b c : Block) (t : Kind) (f l : ℕ) (e : LineEnd) (turn : Turn) → is_newline t ≡ false → e ≡ semicolon_end → c ≡ add b n.begun n.last k e → ActsAs t f l (begin_simple c t f l) turn → ActsAs t f l (act (Semicolon k) n b t f l) turn
+semicolon_turn k n b c t f l e turn h end is acts = subst (λ (w : Option State). ActsAs t f l w turn) (ap (λ (d : Block). begin_simple d t f l) (is ∙ ap (λ (x : LineEnd). add b n.begun n.last k x) end) ∙ semicolon_begins k n b t f l h) acts
+
+-- the state that a token leads to, where there is one, and what the code does then
+pub acts_so : (o : Option State) (t : Kind) (f l : ℕ) (s : Option held_state.State) (turn : Turn) → o ≡ option_map view_state s → ((t : Kind) (f l : ℕ) → ActsAs t f l (option_map view_state s) turn) → ActsAs t f l o turn
+acts_so o t f l s turn is acts = subst (λ (w : Option State). ActsAs t f l w turn) (sym is) (acts t f l)
+
+pub acts_in : (held : held_place.Place) (p : Place) (n : Lines) (b : Block) (t : Kind) (f l : ℕ) (s : Option held_state.State) (turn : Turn) → view_place held ≡ p → act p n b t f l ≡ option_map view_state s → ((t : Kind) (f l : ℕ) → ActsAs t f l (option_map view_state s) turn) → ActsAs t f l (act (view_place held) n b t f l) turn
+acts_in held p n b t f l s turn same is acts = acts_so (act (view_place held) n b t f l) t f l s turn (ap (λ (q : Place). act q n b t f l) same ∙ is) acts
+
+pub leaving_ends : (r : Bool) (k : StmtKind) (n : Lines) (b : Block) (t : Kind) (f l : ℕ) (o : Option State) → ends_simple t ≡ true → k ≡ left r None → end_simple k n b t l ≡ o → act (Leaving r) n b t f l ≡ o
+leaving_ends r k n b t f l o h same is = go t h ∙ ap (λ (x : StmtKind). end_simple x n b t l) (sym same) ∙ is
+  where
+    go : (t : Kind) → ends_simple t ≡ true → act (Leaving r) n b t f l ≡ end_simple (left r None) n b t l
+    go (Sign mark.Semicolon) h = refl
+    go Newline h = refl
+    go t h = absurd cc
+
+pub leaving_reads : (r : Bool) (n q : Lines) (b : Block) (t : Kind) (f l : ℕ) → ends_simple t ≡ false → q ≡ onward n l → act (Leaving r) n b t f l ≡ reads (leaving r) q b (expression.step (start (goal (leaving r))) (role t))
+leaving_reads r n q b t f l h is = go t h ∙ ap (λ (m : Lines). reads (leaving r) m b (expression.step (start (goal (leaving r))) (role t))) (sym is)
+  where
+    go : (t : Kind) → ends_simple t ≡ false → act (Leaving r) n b t f l ≡ reads (leaving r) (onward n l) b (expression.step (start (goal (leaving r))) (role t))
+    go (Sign mark.Semicolon) h = absurd cc
+    go Newline h = absurd cc
+    go t h = refl
+
+-- ---- values
+
+pub value_targets : (ts : Exprs) (e : Expr) (n : Lines) (b : Block) (k : Kind) (l : ℕ) (r : Result (Option held_state.State) AllocError) → is_equal_sign k ≡ true → Makes (cond (is_target e) (Some (at (wanted (value (snoc ts e))) (onward n l) b)) None) r → Makes (behind_value ts e n b k l) r
+value_targets ts e n b (Sign mark.Equal) l r h m = m
+value_targets ts e n b k l r h m = absurd cc
+
+pub value_assigns : (ts : Exprs) (e : Expr) (n : Lines) (b : Block) (k : Kind) (l : ℕ) (r : Result (Option held_state.State) AllocError) → is_equal_sign k ≡ false → some_exprs ts ≡ true → Makes (end_simple (assigned ts e) n b k l) r → Makes (behind_value ts e n b k l) r
+value_assigns no_exprs e n b k l r h i m = absurd cc
+value_assigns (exprs t ts) e n b (Sign mark.Equal) l r h i m = absurd cc
+value_assigns (exprs t ts) e n b k l r h i m = m
+
+pub value_alone : (ts : Exprs) (e : Expr) (n : Lines) (b : Block) (k : Kind) (l : ℕ) (r : Result (Option held_state.State) AllocError) → some_exprs ts ≡ false → Makes (behind_value no_exprs e n b k l) r → Makes (behind_value ts e n b k l) r
+value_alone no_exprs e n b k l r i m = m
+value_alone (exprs t ts) e n b k l r i m = absurd cc
+
+abbrev behind_op : Expr → Lines → Block → Kind → ℕ → Option BinOp → Option State
+behind_op e n b t l o = elim o as (λ (o : Option BinOp). Option State) [ Some op ↦ cond (is_place e) (Some (at (wanted (augmented e op)) (onward n l) b)) None | None ↦ end_simple (expr e) n b t l ]
+
+op_is : (e : Expr) (n : Lines) (b : Block) (k : Kind) (l : ℕ) → is_equal_sign k ≡ false → behind_value no_exprs e n b k l ≡ behind_op e n b k l (in_place_op k)
+op_is e n b (Sign mark.Equal) l h = absurd cc
+op_is e n b k l h = refl
+
+pub value_ends : (e : Expr) (n : Lines) (b : Block) (k : Kind) (l : ℕ) (r : Result (Option held_state.State) AllocError) → is_equal_sign k ≡ false → None ≡ in_place_op k → Makes (end_simple (expr e) n b k l) r → Makes (behind_value no_exprs e n b k l) r
+value_ends e n b k l r h i m = subst (λ (o : Option State). Makes o r) (ap (behind_op e n b k l) i ∙ sym (op_is e n b k l h)) m
+
+pub value_misplaced : (e : Expr) (n : Lines) (b : Block) (k : Kind) (l : ℕ) (op : BinOp) → is_equal_sign k ≡ false → Some op ≡ in_place_op k → is_place e ≡ false → behind_value no_exprs e n b k l ≡ None
+value_misplaced e n b k l op h i p = op_is e n b k l h ∙ ap (behind_op e n b k l) (sym i) ∙ ap (λ (c : Bool). cond c (Some (at (wanted (augmented e op)) (onward n l) b)) None) p
+
+pub value_augments : (e : Expr) (n : Lines) (b : Block) (k : Kind) (l : ℕ) (op : BinOp) (q : Lines) → is_equal_sign k ≡ false → Some op ≡ in_place_op k → is_place e ≡ true → q ≡ onward n l → behind_value no_exprs e n b k l ≡ Some (at (wanted (augmented e op)) q b)
+value_augments e n b k l op q h i p j = op_is e n b k l h ∙ ap (behind_op e n b k l) (sym i) ∙ ap (λ (c : Bool). cond c (Some (at (wanted (augmented e op)) (onward n l) b)) None) p ∙ ap (λ (m : Lines). Some (at (wanted (augmented e op)) m b)) (sym j)
+
+-- ---- parameters
+
+pub param_default : (x : Text) (ps : List Text) (ds : Exprs) (y : Text) (n : Lines) (b : Block) (k : Kind) (f l : ℕ) (q : Lines) → is_equal_sign k ≡ true → q ≡ onward n l → act (ParamRead x ps ds y) n b k f l ≡ Some (at (wanted (default x ps ds y)) q b)
+param_default x ps ds y n b (Sign mark.Equal) f l q h j = ap (λ (m : Lines). Some (at (wanted (default x ps ds y)) m b)) (sym j)
+param_default x ps ds y n b k f l q h j = absurd cc
+
+pub param_late : (x : Text) (ps : List Text) (ds : Exprs) (y : Text) (n : Lines) (b : Block) (k : Kind) (f l : ℕ) → is_equal_sign k ≡ false → some_exprs ds ≡ true → act (ParamRead x ps ds y) n b k f l ≡ None
+param_late x ps no_exprs y n b k f l h i = absurd cc
+param_late x ps (exprs d ds) y n b (Sign mark.Equal) f l h i = absurd cc
+param_late x ps (exprs d ds) y n b k f l h i = refl
+
+pub param_ends : (x x' : Text) (ps qs : List Text) (ds es : Exprs) (y : Text) (n : Lines) (b : Block) (k : Kind) (f l : ℕ) (o : Option State) → is_equal_sign k ≡ false → some_exprs ds ≡ false → x' ≡ x → qs ≡ ps ++ y ∷ [] → es ≡ ds → behind_default x' qs es n b k l ≡ o → act (ParamRead x ps ds y) n b k f l ≡ o
+param_ends x x' ps qs ds es y n b k f l o h i same more with_same is =
+    go ds i ∙ sym (ap (λ (z : Text). behind_default z qs es n b k l) same ∙ ap (λ (zs : List Text). behind_default x zs es n b k l) more ∙ ap (λ (zs : Exprs). behind_default x (ps ++ y ∷ []) zs n b k l) with_same) ∙ is
+  where
+    plainly : (k : Kind) → is_equal_sign k ≡ false → act (ParamRead x ps no_exprs y) n b k f l ≡ behind_default x (ps ++ y ∷ []) no_exprs n b k l
+    plainly (Sign mark.Equal) h = absurd cc
+    plainly k h = refl
+
+    go : (ds : Exprs) → some_exprs ds ≡ false → act (ParamRead x ps ds y) n b k f l ≡ behind_default x (ps ++ y ∷ []) ds n b k l
+    go no_exprs i = plainly k h
+    go (exprs d ds) i = absurd cc
+
+pub param_some : (x : Text) (ps : List Text) (ds : Exprs) (y : Text) (n : Lines) (b : Block) (k : Kind) (f l : ℕ) (q : Lines) → k ≡ Name y → q ≡ onward n l → act (ParamWanted x ps ds) n b k f l ≡ Some (at (ParamRead x ps ds y) q b)
+param_some x ps ds y n b k f l q h j = ap (λ (t : Kind). act (ParamWanted x ps ds) n b t f l) h ∙ ap (λ (m : Lines). Some (at (ParamRead x ps ds y) m b)) (sym j)
+
+pub param_close : (x : Text) (ps : List Text) (ds : Exprs) (n : Lines) (b : Block) (k : Kind) (f l : ℕ) (c : Bool) (q : Lines) → is_right_paren k ≡ true → c ≡ is_some ps → q ≡ onward n l → act (ParamWanted x ps ds) n b k f l ≡ Some (at (ColonWanted (a_def x ps ds c)) q b)
+param_close x ps ds n b (Sign mark.RightParen) f l c q h i j = ap (λ (d : Bool). Some (at (ColonWanted (a_def x ps ds d)) (onward n l) b)) (sym i) ∙ ap (λ (m : Lines). Some (at (ColonWanted (a_def x ps ds c)) m b)) (sym j)
+param_close x ps ds n b k f l c q h i j = absurd cc
+
+pub param_none : (x : Text) (ps : List Text) (ds : Exprs) (n : Lines) (b : Block) (k : Kind) (f l : ℕ) → NoName k → is_right_paren k ≡ false → act (ParamWanted x ps ds) n b k f l ≡ None
+param_none x ps ds n b (Name y) f l h i = absurd h
+param_none x ps ds n b (Sign mark.RightParen) f l h i = absurd cc
+param_none x ps ds n b k f l h i = refl
+
+-- ---- names
+
+pub name_more : (xs : Listed) (n q : Lines) (b : Block) (t : Kind) (l : ℕ) → is_comma t ≡ true → q ≡ onward n l → behind_name xs n b t l ≡ Some (at (NameWanted xs) q b)
+name_more xs n q b (Sign mark.Comma) l h is = ap (λ (m : Lines). Some (at (NameWanted xs) m b)) (sym is)
+name_more xs n q b t l h is = absurd cc
+
+pub name_ends : (xs : Listed) (k : StmtKind) (n : Lines) (b : Block) (t : Kind) (l : ℕ) (r : Result (Option held_state.State) AllocError) → is_comma t ≡ false → k ≡ listed xs → Makes (end_simple k n b t l) r → Makes (behind_name xs n b t l) r
+name_ends xs k n b t l r h same m = subst (λ (o : Option State). Makes o r) (ap (λ (x : StmtKind). end_simple x n b t l) same ∙ go t h) m
+  where
+    go : (t : Kind) → is_comma t ≡ false → end_simple (listed xs) n b t l ≡ behind_name xs n b t l
+    go (Sign mark.Comma) h = absurd cc
+    go t h = refl
+
+pub bound_some : (xs : Listed) (x y : Text) (n : Lines) (b : Block) (k : Kind) (f l : ℕ) (ys : Listed) (q : Lines) → k ≡ Name y → ys ≡ with_name xs x (Some y) → q ≡ onward n l → act (BoundWanted xs x) n b k f l ≡ Some (at (BoundRead ys) q b)
+bound_some xs x y n b k f l ys q h i j = ap (λ (t : Kind). act (BoundWanted xs x) n b t f l) h ∙ ap (λ (zs : Listed). Some (at (BoundRead zs) (onward n l) b)) (sym i) ∙ ap (λ (m : Lines). Some (at (BoundRead ys) m b)) (sym j)
+
+pub bound_none : (xs : Listed) (x : Text) (n : Lines) (b : Block) (k : Kind) (f l : ℕ) → NoName k → act (BoundWanted xs x) n b k f l ≡ None
+bound_none xs x n b (Name y) f l h = absurd h
+bound_none xs x n b k f l h = refl
+
+pub clause_some : (body : Suite) (cs : Clauses) (e : Expr) (y : Text) (n : Lines) (b : Block) (k : Kind) (f l : ℕ) (q : Lines) → k ≡ Name y → q ≡ onward n l → act (ClauseBound body cs e) n b k f l ≡ Some (at (ColonWanted (a_clause body cs (Some e) (Some y))) q b)
+clause_some body cs e y n b k f l q h j = ap (λ (t : Kind). act (ClauseBound body cs e) n b t f l) h ∙ ap (λ (m : Lines). Some (at (ColonWanted (a_clause body cs (Some e) (Some y))) m b)) (sym j)
+
+pub clause_none : (body : Suite) (cs : Clauses) (e : Expr) (n : Lines) (b : Block) (k : Kind) (f l : ℕ) → NoName k → act (ClauseBound body cs e) n b k f l ≡ None
+clause_none body cs e n b (Name y) f l h = absurd h
+clause_none body cs e n b k f l h = refl
+
+-- ---- suites
+
+pub suite_line : (o : Owner) (n : Lines) (b : Block) (k : Kind) (f l : ℕ) → is_newline k ≡ true → act (SuiteWanted o) n b k f l ≡ Some (at (IndentWanted o) n b)
+suite_line o n b Newline f l h = refl
+suite_line o n b k f l h = absurd cc
+
+suite_begins : (o : Owner) (n : Lines) (b : Block) (k : Kind) (f l : ℕ) → is_newline k ≡ false → begin_simple (inside no_stmts true n.first n.last n.begun o b) k f l ≡ act (SuiteWanted o) n b k f l
+suite_begins o n b Newline f l h = absurd cc
+suite_begins o n b k f l h = refl
+
+pub suite_turn : (o : Owner) (n : Lines) (b c : Block) (k : Kind) (f l : ℕ) (t : Turn) → is_newline k ≡ false → c ≡ inside no_stmts true n.first n.last n.begun o b → ActsAs k f l (begin_simple c k f l) t → ActsAs k f l (act (SuiteWanted o) n b k f l) t
+suite_turn o n b c k f l t h is acts = subst (λ (w : Option State). ActsAs k f l w t) (ap (λ (d : Block). begin_simple d k f l) is ∙ suite_begins o n b k f l h) acts
+
+pub except_ends : (body : Suite) (cs : Clauses) (n : Lines) (b : Block) (k : Kind) (f l : ℕ) (o : Option State) → is_colon k ≡ true → end_header (a_clause body cs None None) n b k l ≡ o → act (Except body cs) n b k f l ≡ o
+except_ends body cs n b (Sign mark.Colon) f l o h is = is
+except_ends body cs n b k f l o h is = absurd cc
+
+-- ---- between cases
+
+pub choose_ends : (e : Expr) (last : ℕ) (cs : Cases) (first : ℕ) (b : Block) (k : Kind) (f l : ℕ) (m : StmtKind) → is_dedent k ≡ true → some_cases cs ≡ true → m ≡ match e last cs → choose e last cs first b k f l ≡ Some (Behind m first l b)
+choose_ends e last no_cases first b k f l m h i j = absurd cc
+choose_ends e last (case p g s cs) first b Dedent f l m h i j = ap (λ (x : StmtKind). Some (Behind x first l b)) (sym j)
+choose_ends e last (case p g s cs) first b k f l m h i j = absurd cc
+
+pub choose_empty : (e : Expr) (last : ℕ) (cs : Cases) (first : ℕ) (b : Block) (k : Kind) (f l : ℕ) → is_dedent k ≡ true → some_cases cs ≡ false → choose e last cs first b k f l ≡ None
+choose_empty e last no_cases first b Dedent f l h i = refl
+choose_empty e last no_cases first b k f l h i = absurd cc
+choose_empty e last (case p g s cs) first b k f l h i = absurd cc
+
+pub choose_case : (e : Expr) (last : ℕ) (cs : Cases) (first : ℕ) (b : Block) (k : Kind) (f l : ℕ) → is_case k ≡ true → choose e last cs first b k f l ≡ Some (at (Matching e last cs pattern.start) (record { begun = first; first = f; last = l }) b)
+choose_case e last cs first b (Name x) f l h = ap (λ (c : Bool). cond c (Some (at (Matching e last cs pattern.start) (record { begun = first; first = f; last = l }) b)) None) h
+choose_case e last cs first b k f l h = absurd cc
+
+pub choose_other : (e : Expr) (last : ℕ) (cs : Cases) (first : ℕ) (b : Block) (k : Kind) (f l : ℕ) → is_dedent k ≡ false → is_case k ≡ false → choose e last cs first b k f l ≡ None
+choose_other e last cs first b (Name x) f l h i = ap (λ (c : Bool). cond c (Some (at (Matching e last cs pattern.start) (record { begun = first; first = f; last = l }) b)) None) i
+choose_other e last (case p g s cs) first b Dedent f l h i = absurd cc
+choose_other e last (case p g s cs) first b k f l h i = refl
+choose_other e last no_cases first b k f l h i = refl
+
+-- ---- lines
+
+pub line_over : (ss : Stmts) (os : List Open) (k : Kind) (f l : ℕ) → is_end k ≡ true → is_top (blocks ss os) ≡ true → line (blocks ss os) k f l ≡ Some (Over ss)
+line_over ss [] End f l h i = refl
+line_over ss [] k f l h i = absurd cc
+line_over ss (o ∷ os) k f l h i = absurd cc
+
+pub line_closes : (b : Block) (k : Kind) (f l : ℕ) (s : State) → is_dedent k ≡ true → is_closable b ≡ true → s ≡ close b l → line b k f l ≡ Some s
+line_closes (inside (stmt f' l' k' e ss) false x y begun o b) Dedent f l s h i j = ap (λ (w : State). Some w) (sym j)
+line_closes (inside (stmt f' l' k' e ss) false x y begun o b) k f l s h i j = absurd cc
+line_closes b k f l s h i j = absurd cc
+
+pub line_begins : (b : Block) (k : Kind) (f l : ℕ) (t : Turn) → (is_end k && is_top b) ≡ false → (is_dedent k && is_closable b) ≡ false → ActsAs k f l (begin_line b k f l) t → ActsAs k f l (line b k f l) t
+line_begins b k f l t h i acts = subst (λ (o : Option State). ActsAs k f l o t) (same b k h i) acts
+  where
+    same : (b : Block) (k : Kind) → (is_end k && is_top b) ≡ false → (is_dedent k && is_closable b) ≡ false → begin_line b k f l ≡ line b k f l
+    same (top ss) End h i = absurd cc
+    same (top ss) k h i = refl
+    same (inside (stmt f' l' k' e ss) false x y begun o b) Dedent h i = absurd cc
+    same (inside (stmt f' l' k' e ss) false x y begun o b) k h i = refl
+    same (inside (stmt f' l' k' e ss) true x y begun o b) k h i = refl
+    same (inside no_stmts i' x y begun o b) k h i = refl
+
+-- ---- suites end
+
+pub shared_line : (b : Block) (c : Bool) (l : ℕ) (s : State) → SharesLine b c → c ≡ true → s ≡ close b l → s ≡ over_line b l
+shared_line b c l s h is same = same ∙ sym (h l ∙ ap (λ (x : Bool). cond x (close b l) (Line b)) is)
+
+pub own_line : (b : Block) (c : Bool) (l : ℕ) → SharesLine b c → c ≡ false → Line b ≡ over_line b l
+own_line b c l h is = sym (h l ∙ ap (λ (x : Bool). cond x (close b l) (Line b)) is)
+
+pub close_top : (ss : Stmts) (old new : List Open) (l : ℕ) → Opens ss old new None → Line (blocks ss (reverse new)) ≡ close (blocks ss (reverse old)) l
+close_top ss old new l h = ap Line h.1 ∙ sym (ap (λ (b : Block). close b l) h.0)
+
+pub close_cases : (ss : Stmts) (old new : List Open) (l : ℕ) (o : Open) (e : Expr) (last : ℕ) (cs ds : Cases) (p : Pattern) (g : Option Expr) (s : Suite) → Opens ss old new (Some o) → view_owner o.owner ≡ a_case e last cs p g → s ≡ suite o.lines.first o.lines.last o.inline ss → ds ≡ snoc_case cs p g s → Choosing e last ds o.lines.begun (blocks (plain_stmts o.outer.items) (reverse new)) ≡ close (blocks ss (reverse old)) l
+close_cases ss old new l o e last cs ds p g s h is same more =
+    let b = blocks (plain_stmts o.outer.items) (reverse new) in
+    ap (λ (x : Cases). Choosing e last x o.lines.begun b) (more ∙ ap (snoc_case cs p g) same)
+    ∙ sym (ap (λ (w : Block). close w l) h ∙ ap (λ (w : Owner). close (inside ss o.inline o.lines.first o.lines.last o.lines.begun w b) l) is)
+
+-- an owner that is no `case`
+abbrev pub NoCase : Owner → Type 0
+NoCase (a_case e last cs p g) = ⊥
+NoCase o = Unit {0}
+
+pub no_case : (o : held.Owner) → ((c : Choice) (p : PatternNode) (g : Option Node) → o ≡ owner_.Case c p g → ⊥) → NoCase (view_owner o)
+no_case (owner_.Case c p g) other = other c p g refl
+no_case o other = tt
+
+pub close_other : (ss : Stmts) (old new : List Open) (l : ℕ) (o : Open) (k : StmtKind) (s : Suite) → Opens ss old new (Some o) → NoCase (view_owner o.owner) → s ≡ suite o.lines.first o.lines.last o.inline ss → k ≡ closed (view_owner o.owner) s → Behind k o.lines.begun l (blocks (plain_stmts o.outer.items) (reverse new)) ≡ close (blocks ss (reverse old)) l
+close_other ss old new l o k s h other same is =
+    let b = blocks (plain_stmts o.outer.items) (reverse new) in
+    ap (λ (x : StmtKind). Behind x o.lines.begun l b) (is ∙ ap (closed (view_owner o.owner)) same)
+    ∙ sym (ap (λ (w : Block). close w l) h ∙ go (view_owner o.owner) other)
+  where
+    go : (w : Owner) → NoCase w → close (inside ss o.inline o.lines.first o.lines.last o.lines.begun w (blocks (plain_stmts o.outer.items) (reverse new))) l ≡ Behind (closed w (suite o.lines.first o.lines.last o.inline ss)) o.lines.begun l (blocks (plain_stmts o.outer.items) (reverse new))
+    go (a_case e last cs p g) other = absurd other
+    go w other = refl

@@ -1,0 +1,14 @@
+use Rattle.std.proofs.Common.{◌∙◌, sym, option_map}
+use Rattle.py_syntax.specs.View.{plain_kind}
+use Rattle.py_parse.specs.Machine.{Leaving, act}
+use Rattle.py_parse.specs.HeldStates.{kind_at, first_at, last_at, view_lines, view_block, view_state}
+use Rattle.py_parse.proofs.Acts.{acts_so, leaving_ends}
+use Rattle.py_parse.proofs.act.behind_leaving.Goals as goal
+
+pub returns-then-ends_simple : goal.returns-then-ends_simple
+returns-then-ends_simple c =
+    let a = c.args in
+    let t = a.token.now in
+    acts_so (act (Leaving a.raises) (view_lines a.lines) (view_block a.block) (kind_at t) (first_at t) (last_at t)) (kind_at t) (first_at t) (last_at t) c.in_ok-state.state c.turn.result
+    (leaving_ends a.raises (plain_kind c.left-kind.result) (view_lines a.lines) (view_block a.block) (kind_at t) (first_at t) (last_at t) (option_map view_state c.in_ok-state.state) (sym c.ends_simple.ensures ∙ c.if-ends_simple.true) c.left-kind.ensures c.in_ok-state.ensures)
+    c.turn.ensures

@@ -1,0 +1,97 @@
+-- The reading of a list of tokens by places, and what it answers.
+use Rattle.std.specs.Prelude.{◌≡◌, ℕ, zero, suc, ◌+◌, ◌≤◌, ◌<◌, List, [], ◌∷◌, length, drop, Option, Some, None, Result, Ok, Err}
+use Rattle.py_token.specs.Plain.{PToken, first_of, last_of}
+use Rattle.py_syntax.specs.Tree.{Expr, Cases}
+use Rattle.py_syntax.specs.Kinds.{Kind, bare_token, bare}
+use Rattle.py_syntax.specs.Headers.{Marked, marked}
+use Rattle.py_syntax.specs.Statements.{stmts_height, stmts_nesting}
+use Rattle.py_syntax.specs.Spelling.{Spells, HEIGHT, NESTING}
+use Rattle.py_syntax.specs.View.{plain_module}
+use Rattle.py_syntax.specs.declared.stmt.Module.{Module}
+use Rattle.py_parse_expr.specs.Machine as expression
+use Rattle.py_parse_expr.specs.Machine.{start, role}
+use Rattle.py_parse_expr.specs.PatternMachine as pattern
+use Rattle.py_parse.specs.declared.error.DepthKind.TheVariants as depth_
+use Rattle.py_parse.specs.declared.error.SyntaxError.{SyntaxError}
+use Rattle.py_parse.specs.declared.error.SyntaxError.TheVariants as error_
+use Rattle.py_parse.specs.declared.progress.Progress.{Progress}
+use Rattle.py_parse.specs.Open.{Block}
+use Rattle.py_parse.specs.Machine.{Resume, Matching, Lines, State, begun, goal, reads, act, step}
+use Rattle.py_parse.specs.Least.{least_height, least_nesting}
+use Rattle.py_parse.specs.Refusal.{IsUnexpected, HasDeepSuites, HasDeepExpressions}
+use Rattle.py_parse.specs.HeldMarks.{header_at}
+use Rattle.py_parse.specs.HeldStates.{view_state}
+
+-- the machine behind so many marked tokens
+abbrev pub behind : State → ℕ → List Marked → List PToken → Option State
+behind s zero ms ts = Some s
+behind s (suc n) [] ts = Some s
+behind s (suc n) (m ∷ ms) [] = Some s
+behind s (suc n) (m ∷ ms) (t ∷ ts) = elim (step s m (first_of t) (last_of t)) as (λ (o : Option State). Option State) [ None ↦ None | Some s' ↦ behind s' n ms ts ]
+
+-- The tokens in front of the place lead to that state, whose least tree is within the limits.
+pub record StandsAt (ts : List PToken) (place : ℕ) (s : State) : Type 0 where
+  pub inside : place ≤ length ts
+  pub passes : behind begun place (marked (bare ts)) ts ≡ Some s
+  pub low : least_height s ≤ HEIGHT
+  pub shallow : least_nesting s ≤ NESTING
+
+-- a step with the token at a place
+abbrev pub step_at : List PToken → ℕ → State → PToken → Option State
+step_at ts place s t = step s (record { kind = bare_token t; header = header_at (bare ts) place }) (first_of t) (last_of t)
+
+-- The machine stands at the place, and the token there makes this of its state.
+pub record Turns (ts : List PToken) (place : ℕ) (makes : PToken → Option State → Type 0) : Type 0 where
+  pub state : State
+  pub stands : StandsAt ts place state
+  pub turn : (t : PToken) (more : List PToken) → drop place ts ≡ t ∷ more → makes t (step_at ts place state t)
+
+-- an expression begins with the token at the place
+abbrev pub ReadsFrom : List PToken → ℕ → Resume → Lines → Block → Type 0
+ReadsFrom ts place r n b = Turns ts place (λ t o. (o ≡ reads r n b (expression.step (start (goal r)) (role (bare_token t)))) × (n.last ≡ last_of t))
+
+-- the pattern of a `case` does
+abbrev pub MatchesFrom : List PToken → ℕ → Expr → ℕ → Cases → Lines → Block → Type 0
+MatchesFrom ts place e l cs n b = Turns ts place (λ t o. o ≡ act (Matching e l cs pattern.start) n b (bare_token t) (first_of t) (last_of t))
+
+-- the last line of the token at a place, and of the one before a place
+abbrev pub last_there : List PToken → ℕ → ℕ
+last_there [] place = 0
+last_there (t ∷ ts) zero = last_of t
+last_there (t ∷ ts) (suc place) = last_there ts place
+
+abbrev pub line_before : List PToken → ℕ → ℕ
+line_before ts zero = 0
+line_before ts (suc place) = last_there ts place
+
+-- Behind an expression or a pattern that begins at a place and ends in front of a later one, the token there goes on so.
+pub record Resumes (ts : List PToken) (place later_place : ℕ) (o : Lines → Kind → ℕ → Option State) (n : Lines) : Type 0 where
+  pub later : place < later_place
+  pub inside : later_place < length ts
+  pub turns : Turns ts later_place (λ t w. w ≡ o (record { begun = n.begun; first = n.first; last = line_before ts later_place }) (bare_token t) (last_of t))
+
+-- ---- answers
+
+-- the first line of the token at a place; behind the last one its last line, and 1 where there is none
+abbrev pub line_of : List PToken → ℕ → ℕ
+line_of [] place = 1
+line_of (t ∷ ts) zero = first_of t
+line_of (t ∷ []) (suc place) = last_of t
+line_of (t ∷ u ∷ ts) (suc place) = line_of (u ∷ ts) place
+
+-- why a list is refused, with the line of its place
+abbrev pub IsRefused : List PToken → SyntaxError → Type 0
+IsRefused ts (error_.Unexpected line) = (place : ℕ) × IsUnexpected ts place × (line ≡ line_of ts place)
+IsRefused ts (error_.TooDeep depth_.Suites line) = (place : ℕ) × HasDeepSuites ts place × (line ≡ line_of ts place)
+IsRefused ts (error_.TooDeep depth_.Expressions line) = (place : ℕ) × HasDeepExpressions ts place × (line ≡ line_of ts place)
+IsRefused ts error_.NoMemory = Unit {0}
+
+-- The tree that the list spells, within the limits, or why there is none.
+abbrev pub IsParsed : List PToken → Result Module SyntaxError → Type 0
+IsParsed ts (Ok m) = Spells (plain_module m) ts × (stmts_height (plain_module m) ≤ HEIGHT) × (stmts_nesting (plain_module m) ≤ NESTING)
+IsParsed ts (Err e) = IsRefused ts e
+
+-- A later place where the machine stands, or why there is none.
+abbrev pub Advances : List PToken → ℕ → Result Progress SyntaxError → Type 0
+Advances ts place (Ok r) = (place < r.next) × StandsAt ts r.next (view_state r.state)
+Advances ts place (Err e) = IsRefused ts e

@@ -1,0 +1,99 @@
+// Statements begin.
+
+ghost use Rattle.std.specs.Prelude.{◌≡◌, Some, None, IfOk};
+ghost use Rattle.py_parse.specs.Machine.{simple_place, compound_place, begin_simple, begin_line, line};
+ghost use Rattle.py_parse.specs.HeldStates.{kind_at, first_at, last_at, view_block, view_place, view_lines, ActsAs, Acts, MakesPlace};
+
+use crate::block::{Block, Lines};
+use crate::lists::{is_dedent, is_end};
+use crate::owner::Owner;
+use crate::places::{Listed, Place, Resume, State, Turn};
+use crate::simple::close;
+use py_syntax::StmtKind;
+use py_token::{Keyword, Token, TokenKind};
+use py_value::NoMemory;
+use std::alloc::Global;
+
+/// The lines of a statement that begins with the token.
+pub fn begun_at(token: &Token) -> Lines
+    ensures begun { result.begun ≡ (first_at token.now) }
+    ensures first { result.first ≡ (first_at token.now) }
+    ensures last { result.last ≡ (last_at token.now) }
+{
+    Lines {
+        begun: token.first,
+        first: token.first,
+        last: token.last,
+    }
+}
+
+/// The simple statements that begin with a keyword.
+fn simple_place(alloc: Global, token: &Token) -> Option<Place>
+    ensures { MakesPlace (simple_place (kind_at token.now)) result }
+{
+    match &token.kind {
+        TokenKind::Keyword(Keyword::Pass) => Some(Place::Simple(StmtKind::Pass)),
+        TokenKind::Keyword(Keyword::Break) => Some(Place::Simple(StmtKind::Break)),
+        TokenKind::Keyword(Keyword::Continue) => Some(Place::Simple(StmtKind::Continue)),
+        TokenKind::Keyword(Keyword::Return) => Some(Place::Leaving(false)),
+        TokenKind::Keyword(Keyword::Raise) => Some(Place::Leaving(true)),
+        TokenKind::Keyword(Keyword::Assert) => Some(Place::Wanted(Resume::Asserted)),
+        TokenKind::Keyword(Keyword::Global) => {
+            Some(Place::NameWanted(Listed::Globals(Vec::new(alloc))))
+        }
+        TokenKind::Keyword(Keyword::Import) => {
+            Some(Place::NameWanted(Listed::Imports(Vec::new(alloc))))
+        }
+        TokenKind::Keyword(Keyword::From) => Some(Place::ModuleWanted),
+        _ => None,
+    }
+}
+
+/// And the compound ones.
+fn compound_place(alloc: Global, token: &Token) -> Option<Place>
+    ensures { MakesPlace (compound_place (kind_at token.now)) result }
+{
+    match &token.kind {
+        TokenKind::Keyword(Keyword::If) => Some(Place::Wanted(Resume::ArmTest(Vec::new(alloc)))),
+        TokenKind::Keyword(Keyword::While) => Some(Place::Wanted(Resume::WhileTest)),
+        TokenKind::Keyword(Keyword::For) => Some(Place::Wanted(Resume::ForTarget)),
+        TokenKind::Keyword(Keyword::Try) => Some(Place::ColonWanted(Owner::Try)),
+        TokenKind::Keyword(Keyword::Def) => Some(Place::FunctionWanted),
+        _ => None,
+    }
+}
+
+/// A simple statement begins with the token.
+pub fn begin_simple(alloc: Global, block: Block, token: &Token) -> Turn
+    ensures { ActsAs (kind_at token.now) (first_at token.now) (last_at token.now) (begin_simple (view_block block) (kind_at token.now) (first_at token.now) (last_at token.now)) result }
+{
+    let lines = begun_at(token);
+    match simple_place(alloc, token) {
+        Some(place) => Turn::Next(State::At(place, lines, block)),
+        None => Turn::Reads(Resume::Value(Vec::new(alloc)), lines, block),
+    }
+}
+
+/// Any statement but a `match`.
+fn begin_line(alloc: Global, block: Block, token: &Token) -> Turn
+    ensures { ActsAs (kind_at token.now) (first_at token.now) (last_at token.now) (begin_line (view_block block) (kind_at token.now) (first_at token.now) (last_at token.now)) result }
+{
+    match compound_place(alloc, token) {
+        Some(place) => Turn::Next(State::At(place, begun_at(token), block)),
+        None => begin_simple(alloc, block, token),
+    }
+}
+
+/// A token comes on a new line.
+#[tactic(auto, using(crate::proofs::Acts::line_over, crate::proofs::Acts::line_closes, crate::proofs::Acts::line_begins))]
+pub fn line(alloc: Global, block: Block, token: &Token) -> Result<Turn, NoMemory>
+    ensures { Acts token.now (line (view_block block) (kind_at token.now) (first_at token.now) (last_at token.now)) result }
+{
+    if is_end(token) && block.is_top() {
+        return Ok(Turn::Next(State::Over(block.body)));
+    }
+    if is_dedent(token) && block.ends() {
+        return Ok(Turn::Next(close(alloc, block, token.last)?));
+    }
+    Ok(begin_line(alloc, block, token))
+}

@@ -1,0 +1,30 @@
+// Modules.
+
+ghost use Rattle.py_token.specs.View.{view_tokens};
+ghost use Rattle.py_parse.specs.Progress.{IsParsed};
+
+use crate::error::SyntaxError;
+use crate::places::State;
+use crate::progress::{advance, unexpected};
+use crate::steps::begun;
+use py_syntax::Module;
+use py_token::Token;
+use std::alloc::Global;
+
+/// The tree of a module from the tokens of its source, or why there is none.
+#[tactic(auto, using(crate::proofs::Going::first_place, crate::proofs::Answering::parsed, crate::proofs::Answering::unparsed, crate::proofs::Answering::stands_inside))]
+pub fn parse(alloc: Global, tokens: &[Token]) -> Result<Module, SyntaxError>
+    ensures { IsParsed (view_tokens tokens.now) result }
+{
+    let mut state = begun(alloc);
+    let mut place = 0;
+    'tokens: while place < tokens.len() {
+        let progress = advance(alloc, tokens, place, state)?;
+        state = progress.state;
+        place = progress.next;
+    }
+    match state {
+        State::Over(body) => Ok(Module { body }),
+        _ => Err(unexpected(tokens, place)),
+    }
+}

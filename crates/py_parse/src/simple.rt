@@ -1,0 +1,143 @@
+// Statements, lines and suites end.
+
+ghost use Rattle.std.specs.Prelude.{◌≡◌, IfOk, option_map, true};
+ghost use Rattle.py_syntax.specs.View.{plain_kind};
+ghost use Rattle.py_parse.specs.Machine.{close, over_line, end_simple, end_header};
+ghost use Rattle.py_parse.specs.Open.{add};
+ghost use Rattle.py_parse.specs.HeldLists.{is_semicolon, ends_simple};
+ghost use Rattle.py_parse.specs.HeldOwners.{view_owner};
+ghost use Rattle.py_parse.specs.HeldStates.{kind_at, first_at, last_at, view_block, view_lines, view_state, Makes};
+
+use crate::block::{Block, Lines, Open, add, innermost, line_end};
+use crate::lists::is_newline;
+use crate::owner::{Choice, Owner, add_case, closed};
+use crate::places::{Place, State};
+use py_syntax::{StmtKind, Suite};
+use py_token::{Mark, Token, TokenKind};
+use py_value::NoMemory;
+use std::alloc::Global;
+
+/// A suite ends with a token whose last line is this.
+#[tactic(auto, using(crate::proofs::Acts::close_top, crate::proofs::Acts::close_cases, crate::proofs::Acts::close_other))]
+pub fn close(alloc: Global, block: Block, last: u32) -> Result<State, NoMemory>
+    ensures { IfOk result (λ s. view_state s ≡ close (view_block block) last) }
+{
+    let Block { body, open } = block;
+    let mut open = open;
+    let Some(inner) = innermost(&body, &mut open) else {
+        return Ok(State::Line(Block { body, open }));
+    };
+    let Open {
+        inline,
+        lines,
+        owner,
+        outer,
+    } = inner;
+    let suite = Suite {
+        first: lines.first,
+        last: lines.last,
+        inline,
+        body,
+    };
+    let outer = Block { body: outer, open };
+    match owner {
+        Owner::Case(choice, pattern, guard) => {
+            let cases = add_case(choice.cases, pattern, guard, suite)?;
+            let choice = Choice {
+                subject: choice.subject,
+                header_last: choice.header_last,
+                cases,
+            };
+            Ok(State::Choosing(choice, lines.begun, outer))
+        }
+        owner => {
+            let kind = closed(alloc, owner, suite)?;
+            Ok(State::Behind(kind, lines.begun, last, outer))
+        }
+    }
+}
+
+/// A line ends, and a suite that shares it.
+#[tactic(auto, using(crate::proofs::Acts::shared_line, crate::proofs::Acts::own_line))]
+fn over_line(alloc: Global, block: Block, last: u32) -> Result<State, NoMemory>
+    ensures { IfOk result (λ s. view_state s ≡ over_line (view_block block) last) }
+{
+    if block.shares_line() {
+        close(alloc, block, last)
+    } else {
+        Ok(State::Line(block))
+    }
+}
+
+/// A statement that ends its line.
+pub fn end_line(
+    alloc: Global,
+    kind: StmtKind,
+    semicolon: bool,
+    lines: Lines,
+    block: Block,
+    last: u32,
+) -> Result<State, NoMemory>
+    ensures { IfOk result (λ s. view_state s ≡ over_line (add (view_block block) lines.begun lines.last (plain_kind kind) (record { semicolon = semicolon; newline = true })) last) }
+{
+    let block = add(
+        block,
+        lines.begun,
+        lines.last,
+        kind,
+        line_end(semicolon, true),
+    )?;
+    over_line(alloc, block, last)
+}
+
+/// Whether the token ends a simple statement.
+pub fn ends_simple(token: &Token) -> bool
+    ensures { result ≡ ends_simple (kind_at token.now) }
+{
+    match &token.kind {
+        TokenKind::Mark(Mark::Semicolon) => true,
+        TokenKind::Newline => true,
+        _ => false,
+    }
+}
+
+fn is_semicolon(token: &Token) -> bool
+    ensures { result ≡ is_semicolon (kind_at token.now) }
+{
+    match &token.kind {
+        TokenKind::Mark(Mark::Semicolon) => true,
+        _ => false,
+    }
+}
+
+/// A simple statement is whole.
+#[tactic(auto, using(crate::proofs::Acts::simple_semicolon, crate::proofs::Acts::simple_newline, crate::proofs::Acts::simple_goes_on))]
+pub fn end_simple(
+    alloc: Global,
+    kind: StmtKind,
+    lines: Lines,
+    block: Block,
+    token: &Token,
+) -> Result<Option<State>, NoMemory>
+    ensures { Makes (end_simple (plain_kind kind) (view_lines lines) (view_block block) (kind_at token.now) (last_at token.now)) result }
+{
+    if is_semicolon(token) {
+        return Ok(Some(State::At(Place::Semicolon(kind), lines, block)));
+    }
+    if is_newline(token) {
+        return Ok(Some(end_line(alloc, kind, false, lines, block, token.last)?));
+    }
+    Ok(None)
+}
+
+/// A header is whole.
+pub fn end_header(owner: Owner, lines: Lines, block: Block, token: &Token) -> Option<State>
+    ensures { end_header (view_owner owner) (view_lines lines) (view_block block) (kind_at token.now) (last_at token.now) ≡ option_map view_state result }
+{
+    match &token.kind {
+        TokenKind::Mark(Mark::Colon) => {
+            Some(State::At(Place::SuiteWanted(owner), lines.onward(token.last), block))
+        }
+        _ => None,
+    }
+}
