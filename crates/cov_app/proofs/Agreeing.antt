@@ -37,7 +37,7 @@ use Rattle.py_meaning.specs.Displays.{compared}
 use Rattle.py_meaning.specs.Faults.{name_unknown}
 use Rattle.py_meaning.specs.Places.{or_builtin, or_raise}
 use Rattle.cov_app.specs.Names.{is_taken}
-use Rattle.cov_app.specs.Spelling.Trees.{IsItem, IsSum, IsTest, IsAdditive, IsRelation}
+use Rattle.cov_app.proofs.Walked.{IsItem, IsSum, IsTest, IsAdditive, IsRelation}
 use Rattle.cov_app.specs.Walking.Value as V
 use Rattle.cov_app.specs.Walking.Value.{Vars, look, gives, raises, after, found}
 use Rattle.cov_app.specs.Walking.State as walked

@@ -13,12 +13,11 @@ use Rattle.py_meaning.specs.Modules.{LoadedModule}
 use Rattle.py_meaning.specs.Statements as S
 use Rattle.py_meaning.specs.Statements.{using, simply, on_answer}
 use Rattle.cov_app.specs.Names.{is_taken}
-use Rattle.cov_app.specs.Spelling.Trees.{IsSum, IsTest}
 use Rattle.cov_app.specs.Walking.Value as V
 use Rattle.cov_app.specs.Walking.State as walked
 use Rattle.cov_app.specs.Walking.State.{Act}
 use Rattle.cov_app.specs.Walking.Meaning as reading
-use Rattle.cov_app.proofs.Walked.{IsPrintCall, IsWalked, IsWalkedKind, AreWalkedArms, IsWalkedElse}
+use Rattle.cov_app.proofs.Walked.{IsSum, IsTest, IsPrintCall, IsWalked, IsWalkedKind, AreWalkedArms, IsWalkedElse}
 use Rattle.cov_app.proofs.Mirrors.{Mirrors, item_of, out_of, script, mirrors-add, mirrors-store}
 use Rattle.cov_app.proofs.Agreeing.{Evals, Tests, Prints, eval-agrees, test-agrees, print-agrees, after_print}
 

@@ -7,9 +7,10 @@ use Rattle.cov_outside.proofs.PrefixLemmas.{gains_nothing, gains_whole}
 use Rattle.py_syntax.specs.Tree.{Stmts}
 use Rattle.py_meaning.specs.Program.{err_of}
 use Rattle.py_token.specs.declared.error.TokenError.TheVariants as token_error
+use Rattle.py_parse.specs.declared.error.SyntaxError.TheVariants as syntax_error
+use Rattle.py_scope.specs.declared.error.ScopeError.TheVariants as scope_error
 use Rattle.cov_app.specs.declared.front.SourceError.{SourceError}
 use Rattle.cov_app.specs.declared.front.SourceError.TheVariants as source_error
-use Rattle.cov_app.specs.Spelling.Trees.{IsBuilt}
 use Rattle.cov_app.specs.Reading.{tree, unread, Reads, reading_of}
 use Rattle.cov_app.specs.declared.answer.Why.{Why}
 use Rattle.cov_app.specs.declared.answer.Why.TheVariants as why
@@ -58,10 +59,6 @@ write_failed path bytes input t e T c d read g = record { reading = tree t; read
 pub starved : (path bytes input : List ℕ) (t : Stmts) (e : List ℕ) (T : Type 0) (c d : List ℕ) → Reads bytes (tree t) → (T → GainsPrefix c d (shown_by path t (run_of path t input))) → AnswersSource path bytes input why.NoMemory e T c d
 starved path bytes input t e T c d read g = record { reading = tree t; read = read; met = g }
 
--- a tree that was read is of the built forms
-pub is_built : (bytes : List ℕ) (t : Stmts) → Reads bytes (tree t) → IsBuilt t
-is_built bytes t r = r.1.tree_has.forms
-
 no_run : (path input : List ℕ) (e : SourceError) → of_reading path input (reading_of e) ≡ refusal (of_reading path [] (reading_of e)).answer
 no_run path input (source_error.NoText line) = refl
 no_run path input (source_error.Long lines) = refl
@@ -71,8 +68,17 @@ no_run path input (source_error.Tokens (token_error.OpenString line)) = refl
 no_run path input (source_error.Tokens (token_error.OpenBracket line)) = refl
 no_run path input (source_error.Tokens (token_error.WideNumber line)) = refl
 no_run path input (source_error.Tokens token_error.NoMemory) = refl
-no_run path input source_error.Unbuilt = refl
-no_run path input source_error.NoMemory = refl
+no_run path input (source_error.Syntax (syntax_error.Unexpected line)) = refl
+no_run path input (source_error.Syntax (syntax_error.TooDeep kind line)) = refl
+no_run path input (source_error.Syntax syntax_error.NoMemory) = refl
+no_run path input (source_error.Scopes (scope_error.BreakOutside line)) = refl
+no_run path input (source_error.Scopes (scope_error.ReturnOutside line)) = refl
+no_run path input (source_error.Scopes (scope_error.GlobalAfterUse line)) = refl
+no_run path input (source_error.Scopes (scope_error.NestedFunction line)) = refl
+no_run path input (source_error.Scopes (scope_error.EarlyIrrefutable line)) = refl
+no_run path input (source_error.Scopes (scope_error.TwiceNamed line)) = refl
+no_run path input (source_error.Scopes scope_error.NoMemory) = refl
+no_run path input (source_error.Unbuilt line) = refl
 
 -- a source that was not read
 pub not_run : (path bytes input : List ℕ) (error : SourceError) (w : Why) (T : Type 0) (c : List ℕ) → Reads bytes (reading_of error) → OrNoMemory w (of_reading path [] (reading_of error)).answer → AnswersSource path bytes input w [] T c c

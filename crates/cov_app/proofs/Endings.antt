@@ -20,12 +20,11 @@ use Rattle.cov_app.specs.Walk.{Stands, Reaches, Prints_part, leaves}
 use Rattle.cov_app.proofs.Standing.{ordered-push}
 use Rattle.cov_app.specs.Answer.{program}
 use Rattle.cov_app.specs.Runs.{Shows, answer_left, ending_left, last_arcs}
-use Rattle.cov_app.specs.Spelling.Trees.{IsBuilt}
 use Rattle.cov_app.specs.Step.{Arc, budget_of_runs, ended_by, run_of, shown_by, arc_lines}
 use Rattle.cov_app.specs.declared.walk.Raised.{Raised}
 use Rattle.cov_app.specs.declared.walk.Raised.TheVariants as raised_variant
 use Rattle.cov_app.specs.Walk.{raised_of}
-use Rattle.cov_app.proofs.Walked.{is-walked}
+use Rattle.cov_app.proofs.Walked.{IsWalked}
 use Rattle.cov_app.proofs.Wholes.{outcome_in, loaded-alone, run-is}
 use Rattle.py_meaning.specs.Crossings.{crossings, lines_crossed}
 use Rattle.py_value.specs.Plain.{PlainHeap}
@@ -100,23 +99,23 @@ prints (left.Raised x) s n = refl
 prints left.Cut s n = refl
 
 -- what the run shows, by the reading of the walk
-shown-by : (path : List ℕ) (b : Stmts) (input : List ℕ) → IsBuilt b → shown_by path b (run_of path b input) ≡ (end_of (meaning b budget_of_runs)).world.out ++ arc_lines path (in_order (arcs_of (meaning b budget_of_runs)))
-shown-by path b input built =
-    let r = run-is path b input (is-walked b built) in
-    ap (λ ms. (run_of path b input).out ++ arc_lines path (lines_crossed (crossings ms 0 (run_of path b input).items))) (loaded-alone (chars path) b (is-walked b built))
+shown-by : (path : List ℕ) (b : Stmts) (input : List ℕ) → IsWalked b → shown_by path b (run_of path b input) ≡ (end_of (meaning b budget_of_runs)).world.out ++ arc_lines path (in_order (arcs_of (meaning b budget_of_runs)))
+shown-by path b input walked =
+    let r = run-is path b input walked in
+    ap (λ ms. (run_of path b input).out ++ arc_lines path (lines_crossed (crossings ms 0 (run_of path b input).items))) (loaded-alone (chars path) b walked)
     ∙ ap (λ xs. (run_of path b input).out ++ arc_lines path xs) r.arcs ∙ ap (λ o. o ++ arc_lines path (in_order (arcs_of (meaning b budget_of_runs)))) r.out
 
-shown-is : (path : List ℕ) (b : Stmts) (input : List ℕ) (l : Left) (w : Walk) (T : Type 0) (c d : List ℕ) → IsBuilt b → (r : Ran b l w T c d) → shown_by path b (run_of path b input) ≡ r.state.world.out ++ arc_lines path (last_arcs l w)
-shown-is path b input l w T c d built r =
-    shown-by path b input built ∙ ap (λ q. (end_of q).world.out ++ arc_lines path (in_order (arcs_of q))) r.is ∙ ap (λ o. o ++ arc_lines path (in_order (arcs_of (leaves l r.state w.steps)))) (prints l r.state w.steps)
+shown-is : (path : List ℕ) (b : Stmts) (input : List ℕ) (l : Left) (w : Walk) (T : Type 0) (c d : List ℕ) → IsWalked b → (r : Ran b l w T c d) → shown_by path b (run_of path b input) ≡ r.state.world.out ++ arc_lines path (last_arcs l w)
+shown-is path b input l w T c d walked r =
+    shown-by path b input walked ∙ ap (λ q. (end_of q).world.out ++ arc_lines path (in_order (arcs_of q))) r.is ∙ ap (λ o. o ++ arc_lines path (in_order (arcs_of (leaves l r.state w.steps)))) (prints l r.state w.steps)
     ∙ ap (λ xs. r.state.world.out ++ arc_lines path xs) (last-arcs l w r.state w.steps r.stands)
 
-pub shows : (path : List ℕ) (b : Stmts) (input : List ℕ) (l : Left) (w : Walk) (T : Type 0) (c d e : List ℕ) (as' : List Arc) (text : List ℕ) → IsBuilt b → Ran b l w T c d → as' ≡ last_arcs l w → text ≡ arc_lines path as' → (T → e ≡ d ++ text) → Shows path b (run_of path b input) (Ok l) T c e
-shows path b input l w T c d e as' text built r arcs-is text-is gained =
-    let run = run-is path b input (is-walked b built) in (
+pub shows : (path : List ℕ) (b : Stmts) (input : List ℕ) (l : Left) (w : Walk) (T : Type 0) (c d e : List ℕ) (as' : List Arc) (text : List ℕ) → IsWalked b → Ran b l w T c d → as' ≡ last_arcs l w → text ≡ arc_lines path as' → (T → e ≡ d ++ text) → Shows path b (run_of path b input) (Ok l) T c e
+shows path b input l w T c d e as' text walked r arcs-is text-is gained =
+    let run = run-is path b input walked in (
       ap ended_by (run.outcome ∙ ap (outcome_in run.heap) r.is) ∙ answered run.heap l r.state w.steps,
       ap err_of (run.outcome ∙ ap (outcome_in run.heap) r.is) ∙ told run.heap l r.state w.steps,
-      λ t. gained t ∙ ap (λ o. o ++ text) (r.holds t) ∙ append_assoc c r.state.world.out text ∙ ap (λ x. c ++ (r.state.world.out ++ x)) (text-is ∙ ap (arc_lines path) arcs-is) ∙ ap (λ o. c ++ o) (sym (shown-is path b input l w T c d built r)),
+      λ t. gained t ∙ ap (λ o. o ++ text) (r.holds t) ∙ append_assoc c r.state.world.out text ∙ ap (λ x. c ++ (r.state.world.out ++ x)) (text-is ∙ ap (arc_lines path) arcs-is) ∙ ap (λ o. c ++ o) (sym (shown-is path b input l w T c d walked r)),
     )
 
 -- ---- faults
@@ -124,25 +123,25 @@ shows path b input l w T c d e as' text built r arcs-is text-is gained =
 longer : {base after xs ys : List ℕ} → GainsPrefix base after xs → IsPrefix xs ys → GainsPrefix base after ys
 longer {xs = xs} g p = record { front = g.front; prefix = record { rest = g.prefix.rest ++ p.rest; is = p.is ∙ ap (λ o. o ++ p.rest) g.prefix.is ∙ append_assoc g.front g.prefix.rest p.rest }; is = g.is }
 
-pub fault-in-run : (path : List ℕ) (b : Stmts) (input : List ℕ) (a : Walk) (T : Type 0) (c d : List ℕ) (r : Result Left RunFault) → IsErr r → IsBuilt b → Begins a → Prints_part (exec b) a T c d → Shows path b (run_of path b input) r T c d
+pub fault-in-run : (path : List ℕ) (b : Stmts) (input : List ℕ) (a : Walk) (T : Type 0) (c d : List ℕ) (r : Result Left RunFault) → IsErr r → IsWalked b → Begins a → Prints_part (exec b) a T c d → Shows path b (run_of path b input) r T c d
 unfolding Prints_part
-fault-in-run path b input a T c d (Ok l) h built begins p = absurd cc
-fault-in-run path b input a T c d (Err x) h built begins p = λ t.
+fault-in-run path b input a T c d (Ok l) h walked begins p = absurd cc
+fault-in-run path b input a T c d (Err x) h walked begins p = λ t.
     let g = p c first_state (stands-first a begins) (λ t. sym (append-nil c)) t in
     let whole : GainsPrefix c d (end_of (meaning b budget_of_runs)).world.out = subst (λ r. GainsPrefix c d (end_of r).world.out) (sym (meant b a.steps begins.steps)) g in
-    longer whole (record { rest = arc_lines path (in_order (arcs_of (meaning b budget_of_runs))); is = shown-by path b input built })
+    longer whole (record { rest = arc_lines path (in_order (arcs_of (meaning b budget_of_runs))); is = shown-by path b input walked })
 
-pub fault-behind-run : (path : List ℕ) (b : Stmts) (input : List ℕ) (l : Left) (w : Walk) (T : Type 0) (c d : List ℕ) (q : Result Left RunFault) → IsErr q → IsBuilt b → Ran b l w T c d → Shows path b (run_of path b input) q T c d
-fault-behind-run path b input l w T c d (Ok x) h built r = absurd cc
-fault-behind-run path b input l w T c d (Err x) h built r = λ t.
-    record { front = r.state.world.out; prefix = record { rest = arc_lines path (last_arcs l w); is = shown-is path b input l w T c d built r }; is = r.holds t }
+pub fault-behind-run : (path : List ℕ) (b : Stmts) (input : List ℕ) (l : Left) (w : Walk) (T : Type 0) (c d : List ℕ) (q : Result Left RunFault) → IsErr q → IsWalked b → Ran b l w T c d → Shows path b (run_of path b input) q T c d
+fault-behind-run path b input l w T c d (Ok x) h walked r = absurd cc
+fault-behind-run path b input l w T c d (Err x) h walked r = λ t.
+    record { front = r.state.world.out; prefix = record { rest = arc_lines path (last_arcs l w); is = shown-is path b input l w T c d walked r }; is = r.holds t }
 
-pub fault-in-arcs : (path : List ℕ) (b : Stmts) (input : List ℕ) (l : Left) (w : Walk) (T : Type 0) (c d e : List ℕ) (as' : List Arc) (text : List ℕ) (q : Result Left RunFault) → IsErr q → IsBuilt b → Ran b l w T c d → as' ≡ last_arcs l w → text ≡ arc_lines path as' → (T → GainsPrefix d e text) → Shows path b (run_of path b input) q T c e
-fault-in-arcs path b input l w T c d e as' text (Ok x) h built r arcs-is text-is gained = absurd cc
-fault-in-arcs path b input l w T c d e as' text (Err x) h built r arcs-is text-is gained = λ t.
+pub fault-in-arcs : (path : List ℕ) (b : Stmts) (input : List ℕ) (l : Left) (w : Walk) (T : Type 0) (c d e : List ℕ) (as' : List Arc) (text : List ℕ) (q : Result Left RunFault) → IsErr q → IsWalked b → Ran b l w T c d → as' ≡ last_arcs l w → text ≡ arc_lines path as' → (T → GainsPrefix d e text) → Shows path b (run_of path b input) q T c e
+fault-in-arcs path b input l w T c d e as' text (Ok x) h walked r arcs-is text-is gained = absurd cc
+fault-in-arcs path b input l w T c d e as' text (Err x) h walked r arcs-is text-is gained = λ t.
     let g = gained t in
     record {
       front = r.state.world.out ++ g.front;
-      prefix = record { rest = g.prefix.rest; is = shown-is path b input l w T c d built r ∙ ap (λ o. r.state.world.out ++ o) (ap (arc_lines path) (sym arcs-is) ∙ sym text-is ∙ g.prefix.is) ∙ sym (append_assoc r.state.world.out g.front g.prefix.rest) };
+      prefix = record { rest = g.prefix.rest; is = shown-is path b input l w T c d walked r ∙ ap (λ o. r.state.world.out ++ o) (ap (arc_lines path) (sym arcs-is) ∙ sym text-is ∙ g.prefix.is) ∙ sym (append_assoc r.state.world.out g.front g.prefix.rest) };
       is = g.is ∙ ap (λ o. o ++ g.front) (r.holds t) ∙ append_assoc c r.state.world.out g.front;
     }

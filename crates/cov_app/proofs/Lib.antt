@@ -14,4 +14,7 @@ pub mod AgreeingRuns
 pub mod Wholes
 pub mod Endings
 pub mod Answering
-pub mod SpellingLemmas
+pub mod Names
+pub mod OneOf
+pub mod Parts
+pub mod Earliest

@@ -4,9 +4,9 @@ use Rattle.std.specs.String.{string_bytes}
 use Rattle.cov_app.specs.declared.answer.Why.{Why}
 use Rattle.cov_app.specs.declared.answer.Why.TheVariants as why
 use Rattle.cov_app.specs.declared.answer.SyntaxKind.{SyntaxKind}
-use Rattle.cov_app.specs.declared.answer.SyntaxKind.TheVariants.{BadCharacter, BadIndent, OpenString, OpenBracket, WideNumber, Unbuilt}
+use Rattle.cov_app.specs.declared.answer.SyntaxKind.TheVariants.{BadCharacter, BadIndent, OpenString, OpenBracket, WideNumber, Unexpected, BreakOutside, ReturnOutside, GlobalAfterUse, NestedFunction, EarlyIrrefutable, TwiceNamed, Unbuilt}
 use Rattle.cov_app.specs.declared.answer.LimitKind.{LimitKind}
-use Rattle.cov_app.specs.declared.answer.LimitKind.TheVariants.{FileBytes, Lines}
+use Rattle.cov_app.specs.declared.answer.LimitKind.TheVariants.{FileBytes, Lines, Expressions, Suites}
 
 -- names are the bytes of their texts
 pub data Answer : Type 0 where
@@ -49,11 +49,20 @@ kind_text BadIndent = codes "BadIndent"
 kind_text OpenString = codes "OpenString"
 kind_text OpenBracket = codes "OpenBracket"
 kind_text WideNumber = codes "WideNumber"
+kind_text Unexpected = codes "Unexpected"
+kind_text BreakOutside = codes "BreakOutside"
+kind_text ReturnOutside = codes "ReturnOutside"
+kind_text GlobalAfterUse = codes "GlobalAfterUse"
+kind_text NestedFunction = codes "NestedFunction"
+kind_text EarlyIrrefutable = codes "EarlyIrrefutable"
+kind_text TwiceNamed = codes "TwiceNamed"
 kind_text Unbuilt = codes "Unbuilt"
 
 abbrev pub limit_text : LimitKind → List ℕ
 limit_text FileBytes = codes "FileBytes"
 limit_text Lines = codes "Lines"
+limit_text Expressions = codes "Expressions"
+limit_text Suites = codes "Suites"
 
 -- what a command writes to `err`, where its program's ending writes these bytes
 abbrev pub err_text : Answer → List ℕ → List ℕ

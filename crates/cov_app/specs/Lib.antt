@@ -1,7 +1,8 @@
 pub mod Names
+pub mod Forms
+pub mod Least
 pub mod Walking
 pub mod Walk
-pub mod Spelling
 pub mod Reading
 pub mod Command
 pub mod Answer

@@ -2,25 +2,36 @@
 use Rattle.std.specs.Prelude.{◌≡◌, ℕ, suc, ◌≤◌, ◌<◌, ◌==◌, List, [], ◌∷◌, take, if◌then◌else◌}
 use Rattle.std.specs.Str.{IsUtf8, chars}
 use Rattle.std.specs.Str.Lossy.{utf8_valid_len}
-use Rattle.py_syntax.specs.Tree.{Stmts}
 use Rattle.py_token.specs.declared.error.TokenError.{TokenError}
 use Rattle.py_token.specs.declared.error.TokenError.TheVariants as token_error
+use Rattle.py_token.specs.OnLines.{AreOnLines}
 use Rattle.py_token.specs.Plain.{PToken}
 use Rattle.py_token.specs.Source.{line_count}
-use Rattle.py_token.specs.Spelling.{Spells, StuckAt}
-use Rattle.cov_app.specs.declared.front.ReadError.{ReadError}
-use Rattle.cov_app.specs.declared.front.ReadError.TheVariants as read_error
+use Rattle.py_token.specs.Spelling as text
+use Rattle.py_token.specs.Spelling.{StuckAt}
+use Rattle.py_syntax.specs.Tree.{Stmts}
+use Rattle.py_syntax.specs.Statements.{stmts_height, stmts_nesting}
+use Rattle.py_syntax.specs.Spelling.{Spells, HEIGHT, NESTING}
+use Rattle.py_parse.specs.declared.error.SyntaxError.{SyntaxError}
+use Rattle.py_parse.specs.declared.error.SyntaxError.TheVariants as syntax_error
+use Rattle.py_parse.specs.Progress.{IsRefused}
+use Rattle.py_scope.specs.declared.error.ScopeError.{ScopeError}
+use Rattle.py_scope.specs.declared.error.ScopeError.TheVariants as scope_error
+use Rattle.py_scope.specs.Answer.{IsFirst}
+use Rattle.py_scope.specs.Faults.{IsWellFormed, faults_of}
 use Rattle.cov_app.specs.declared.front.SourceError.{SourceError}
 use Rattle.cov_app.specs.declared.front.SourceError.TheVariants as source_error
-use Rattle.cov_app.specs.Spelling.{SpellsBuilt}
-use Rattle.cov_app.specs.Spelling.Lines.{HasLines}
+use Rattle.cov_app.specs.Forms.{unbuilt_lines, IsBuilt}
+use Rattle.cov_app.specs.Least.{IsLeast}
 
 pub data Reading : Type 0 where
   no_text : (line : ℕ) → Reading
   long : (lines : ℕ) → Reading
   stuck : (error : TokenError) → Reading
-  unbuilt : Reading
-  tree : (t : Stmts) → Reading
+  no_tree : (error : SyntaxError) → Reading
+  ill_formed : (error : ScopeError) → Reading
+  unbuilt : (line : ℕ) → Reading
+  tree : (m : Stmts) → Reading
   -- no memory was left, or a file failed
   unread : Reading
 
@@ -41,18 +52,30 @@ pub record AreShortText (bytes : List ℕ) : Type 0 where
   pub utf8 : IsUtf8 bytes
   pub few : line_count (chars bytes) ≤ most_lines
 
--- the checks in their order: text, lines, tokens, forms
+-- that text has these tokens
+pub record HasTokens (bytes : List ℕ) (tokens : List PToken) : Type 0 where
+  pub short : AreShortText bytes
+  pub spelled : text.Spells (chars bytes) tokens
+  pub on_lines : AreOnLines tokens
+
+-- which are those of the module, and its depth is within the limits
+pub record HasTree (bytes : List ℕ) (m : Stmts) : Type 0 where
+  pub tokens : List PToken
+  pub read : HasTokens bytes tokens
+  pub spelled : Spells m tokens
+  pub low : stmts_height m ≤ HEIGHT
+  pub few : stmts_nesting m ≤ NESTING
+
+-- the checks in their order: text, lines, tokens, tree, scopes, forms
 abbrev pub Reads : List ℕ → Reading → Type 0
 Reads bytes (no_text line) = ¬ (IsUtf8 bytes) × (line ≡ fault_line bytes)
 Reads bytes (long lines) = IsUtf8 bytes × (lines ≡ line_count (chars bytes)) × (most_lines < lines)
 Reads bytes (stuck error) = AreShortText bytes × StuckAt (chars bytes) error
-Reads bytes unbuilt = AreShortText bytes × (ts : List PToken) × Spells (chars bytes) ts
-Reads bytes (tree t) = AreShortText bytes × SpellsBuilt (chars bytes) t × HasLines t
+Reads bytes (no_tree error) = (tokens : List PToken) × HasTokens bytes tokens × IsRefused tokens error
+Reads bytes (ill_formed error) = (m : Stmts) × HasTree bytes m × IsFirst (faults_of m) error
+Reads bytes (unbuilt line) = (m : Stmts) × HasTree bytes m × IsWellFormed m × IsLeast (unbuilt_lines m) line
+Reads bytes (tree m) = HasTree bytes m × IsWellFormed m × IsBuilt m
 Reads bytes unread = Unit {0}
-
-abbrev pub source_error_of : ReadError → SourceError
-source_error_of read_error.Unbuilt = source_error.Unbuilt
-source_error_of read_error.NoMemory = source_error.NoMemory
 
 -- what an error of the code says of the source
 abbrev pub reading_of : SourceError → Reading
@@ -60,5 +83,8 @@ reading_of (source_error.NoText line) = no_text line
 reading_of (source_error.Long lines) = long lines
 reading_of (source_error.Tokens token_error.NoMemory) = unread
 reading_of (source_error.Tokens error) = stuck error
-reading_of source_error.Unbuilt = unbuilt
-reading_of source_error.NoMemory = unread
+reading_of (source_error.Syntax syntax_error.NoMemory) = unread
+reading_of (source_error.Syntax error) = no_tree error
+reading_of (source_error.Scopes scope_error.NoMemory) = unread
+reading_of (source_error.Scopes error) = ill_formed error
+reading_of (source_error.Unbuilt line) = unbuilt line

@@ -11,15 +11,20 @@ use Rattle.py_meaning.specs.Loading.{loaded}
 use Rattle.py_meaning.specs.Program.{Outcome, finished, exited, failed, spent, err_of, Run, meaning}
 use Rattle.py_token.specs.declared.error.TokenError.{TokenError}
 use Rattle.py_token.specs.declared.error.TokenError.TheVariants as token_error
+use Rattle.py_parse.specs.declared.error.DepthKind.TheVariants as depth
+use Rattle.py_parse.specs.declared.error.SyntaxError.{SyntaxError}
+use Rattle.py_parse.specs.declared.error.SyntaxError.TheVariants as syntax_error
+use Rattle.py_scope.specs.declared.error.ScopeError.{ScopeError}
+use Rattle.py_scope.specs.declared.error.ScopeError.TheVariants as scope_error
 use Rattle.cov_app.specs.declared.answer.Why.{Why}
 use Rattle.cov_app.specs.declared.answer.Why.TheVariants as why
 use Rattle.cov_app.specs.declared.answer.Told.{Told}
 use Rattle.cov_app.specs.declared.answer.Told.TheVariants as told_variants
-use Rattle.cov_app.specs.declared.answer.SyntaxKind.TheVariants.{BadCharacter, BadIndent, OpenString, OpenBracket, WideNumber, Unbuilt}
-use Rattle.cov_app.specs.declared.answer.LimitKind.TheVariants.{FileBytes, Lines}
+use Rattle.cov_app.specs.declared.answer.SyntaxKind.TheVariants as kinds
+use Rattle.cov_app.specs.declared.answer.LimitKind.TheVariants.{FileBytes, Lines, Expressions, Suites}
 use Rattle.cov_app.specs.Command.{command}
 use Rattle.cov_app.specs.Answer.{Answer, program, budget, usage, no_such_file, syntax, limit, no_memory, answer_of, err_text}
-use Rattle.cov_app.specs.Reading.{Reading, no_text, long, stuck, unbuilt, tree, unread, Reads}
+use Rattle.cov_app.specs.Reading.{Reading, no_text, long, stuck, no_tree, ill_formed, unbuilt, tree, unread, Reads}
 
 -- ---- the run
 
@@ -82,18 +87,37 @@ step_of path t input =
 
 -- the answer to a text that no tokens spell
 abbrev pub stuck_answer : List ℕ → TokenError → Answer
-stuck_answer path (token_error.BadCharacter line) = syntax path line BadCharacter
-stuck_answer path (token_error.BadIndent line) = syntax path line BadIndent
-stuck_answer path (token_error.OpenString line) = syntax path line OpenString
-stuck_answer path (token_error.OpenBracket line) = syntax path line OpenBracket
-stuck_answer path (token_error.WideNumber line) = syntax path line WideNumber
+stuck_answer path (token_error.BadCharacter line) = syntax path line kinds.BadCharacter
+stuck_answer path (token_error.BadIndent line) = syntax path line kinds.BadIndent
+stuck_answer path (token_error.OpenString line) = syntax path line kinds.OpenString
+stuck_answer path (token_error.OpenBracket line) = syntax path line kinds.OpenBracket
+stuck_answer path (token_error.WideNumber line) = syntax path line kinds.WideNumber
 stuck_answer path token_error.NoMemory = no_memory
 
+-- the answer to tokens that no tree spells within the limits
+abbrev pub no_tree_answer : List ℕ → SyntaxError → Answer
+no_tree_answer path (syntax_error.Unexpected line) = syntax path line kinds.Unexpected
+no_tree_answer path (syntax_error.TooDeep depth.Expressions line) = limit Expressions 201
+no_tree_answer path (syntax_error.TooDeep depth.Suites line) = limit Suites 65
+no_tree_answer path syntax_error.NoMemory = no_memory
+
+-- the answer to a module that isn't well formed
+abbrev pub ill_formed_answer : List ℕ → ScopeError → Answer
+ill_formed_answer path (scope_error.BreakOutside line) = syntax path line kinds.BreakOutside
+ill_formed_answer path (scope_error.ReturnOutside line) = syntax path line kinds.ReturnOutside
+ill_formed_answer path (scope_error.GlobalAfterUse line) = syntax path line kinds.GlobalAfterUse
+ill_formed_answer path (scope_error.NestedFunction line) = syntax path line kinds.NestedFunction
+ill_formed_answer path (scope_error.EarlyIrrefutable line) = syntax path line kinds.EarlyIrrefutable
+ill_formed_answer path (scope_error.TwiceNamed line) = syntax path line kinds.TwiceNamed
+ill_formed_answer path scope_error.NoMemory = no_memory
+
 abbrev pub of_reading : List ℕ → List ℕ → Reading → Stepped
-of_reading path input (no_text line) = refusal (syntax path line BadCharacter)
+of_reading path input (no_text line) = refusal (syntax path line kinds.BadCharacter)
 of_reading path input (long lines) = refusal (limit Lines lines)
 of_reading path input (stuck error) = refusal (stuck_answer path error)
-of_reading path input unbuilt = refusal (syntax path 1 Unbuilt)
+of_reading path input (no_tree error) = refusal (no_tree_answer path error)
+of_reading path input (ill_formed error) = refusal (ill_formed_answer path error)
+of_reading path input (unbuilt line) = refusal (syntax path line kinds.Unbuilt)
 of_reading path input (tree t) = step_of path t input
 of_reading path input unread = refusal no_memory
 

@@ -55,7 +55,21 @@ pub enum SyntaxKind {
     OpenBracket,
     /// A number above 9223372036854775807.
     WideNumber,
-    /// It uses a form of the language that isn't built yet.
+    /// The first token on the line that no program goes on with.
+    Unexpected,
+    /// A `break` or `continue` in no loop of its function.
+    BreakOutside,
+    /// A `return` in no function, or a bare `raise` where no exception is handled.
+    ReturnOutside,
+    /// A name that is declared `global` after it was used, or is a parameter.
+    GlobalAfterUse,
+    /// A `def` in a function.
+    NestedFunction,
+    /// A bare `except`, an irrefutable case or an irrefutable alternative that isn't the last of its list.
+    EarlyIrrefutable,
+    /// Two parameters of one name, a pattern that binds a name twice, or an alternative that binds a name.
+    TwiceNamed,
+    /// A form of the language that isn't built yet.
     Unbuilt,
 }
 
@@ -66,4 +80,8 @@ pub enum LimitKind {
     FileBytes,
     /// The lines of one source: at most 65,535. The count is that of all its lines.
     Lines,
+    /// The nodes of expressions and patterns above each other: at most 200.
+    Expressions,
+    /// The suites inside each other: at most 64.
+    Suites,
 }

@@ -77,6 +77,13 @@ fn kind_text(kind: SyntaxKind) -> &'static str
         SyntaxKind::OpenString => "OpenString",
         SyntaxKind::OpenBracket => "OpenBracket",
         SyntaxKind::WideNumber => "WideNumber",
+        SyntaxKind::Unexpected => "Unexpected",
+        SyntaxKind::BreakOutside => "BreakOutside",
+        SyntaxKind::ReturnOutside => "ReturnOutside",
+        SyntaxKind::GlobalAfterUse => "GlobalAfterUse",
+        SyntaxKind::NestedFunction => "NestedFunction",
+        SyntaxKind::EarlyIrrefutable => "EarlyIrrefutable",
+        SyntaxKind::TwiceNamed => "TwiceNamed",
         SyntaxKind::Unbuilt => "Unbuilt",
     }
 }
@@ -87,6 +94,8 @@ fn limit_text(kind: LimitKind) -> &'static str
     match kind {
         LimitKind::FileBytes => "FileBytes",
         LimitKind::Lines => "Lines",
+        LimitKind::Expressions => "Expressions",
+        LimitKind::Suites => "Suites",
     }
 }
 

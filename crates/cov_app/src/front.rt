@@ -1,65 +1,39 @@
-// The front end of the built forms: bytes into a text, its tokens, and a tree.
+// The front end: the bytes of a source into a tree of the built forms.
 
-mod block;
-mod expression;
-mod narrow;
-mod statement;
+mod forms;
 mod text;
-mod token;
+mod unbuilt;
 
 ghost use Rattle.std.specs.Prelude.{◌≡◌, ◌≤◌, length, IfErr, IfOk};
-ghost use Rattle.cov_app.specs.declared.front.ReadError.TheVariants.{NoMemory};
+ghost use Rattle.std.specs.Str.{IsUtf8};
 ghost use Rattle.cov_app.specs.declared.front.SourceError.TheVariants as source_error;
-ghost use Rattle.cov_app.specs.Reading.{Reads, reading_of, source_error_of, tree};
-ghost use Rattle.cov_app.specs.Spelling.{HasTokens};
+ghost use Rattle.cov_app.specs.Reading.{Reads, reading_of, tree};
 ghost use Rattle.py_syntax.specs.View.{plain_module};
-ghost use Rattle.py_token.specs.View.{view_tokens};
 
+use py_parse::{SyntaxError, parse};
+use py_scope::{ScopeError, check};
 use py_syntax::Module;
-use py_token::{Token, TokenError, count_lines, tokens};
-use std::alloc::{AllocError, AllocFailed, Global};
+use py_token::{TokenError, count_lines, tokens};
+use std::alloc::Global;
 
 /// The most lines of a source.
 const MAX_LINES: usize = 65_535;
 
-/// The most suites inside each other that are read.
-const MAX_SUITES: u32 = 64;
-
-/// Why no tree of the built forms was read from tokens.
-#[derive(Debug, Drop)]
-pub(crate) enum ReadError {
-    /// The tokens are not of the built forms, or nest too deeply.
-    Unbuilt,
-    NoMemory,
-}
-
-impl From<AllocError> for ReadError {
-    ghost from_gives = { λ _ e. e ≡ NoMemory };
-
-    fn from(_error: AllocError) -> ReadError {
-        ReadError::NoMemory
-    }
-}
-
-impl<T: Drop> From<AllocFailed<T>> for ReadError {
-    ghost from_gives = { λ _ e. e ≡ NoMemory };
-
-    fn from(_error: AllocFailed<T>) -> ReadError {
-        ReadError::NoMemory
-    }
-}
-
-/// Why no tree was read from a source.
+/// Why no tree was read from a source, by the first check that fails.
 #[derive(Debug, Drop)]
 pub(crate) enum SourceError {
     /// The bytes are not UTF-8 from this line on.
     NoText(u32),
     /// The text has so many lines.
     Long(usize),
-    /// No tokens spell the text, or no memory was left.
+    /// No tokens spell the text.
     Tokens(TokenError),
-    Unbuilt,
-    NoMemory,
+    /// No tree spells the tokens within the limits.
+    Syntax(SyntaxError),
+    /// The tree isn't well formed.
+    Scopes(ScopeError),
+    /// The line uses a form that isn't built.
+    Unbuilt(u32),
 }
 
 impl From<TokenError> for SourceError {
@@ -70,46 +44,49 @@ impl From<TokenError> for SourceError {
     }
 }
 
-impl From<ReadError> for SourceError {
-    ghost from_gives = { λ given e. e ≡ source_error_of given };
+impl From<SyntaxError> for SourceError {
+    ghost from_gives = { λ given e. e ≡ source_error.Syntax given };
 
-    fn from(error: ReadError) -> SourceError {
-        match error {
-            ReadError::Unbuilt => SourceError::Unbuilt,
-            ReadError::NoMemory => SourceError::NoMemory,
-        }
+    fn from(error: SyntaxError) -> SourceError {
+        SourceError::Syntax(error)
     }
 }
 
-/// The tree of a source, or why there is none. An expression higher than 200 nodes and more than 64 suites inside
-/// each other are not read.
+impl From<ScopeError> for SourceError {
+    ghost from_gives = { λ given e. e ≡ source_error.Scopes given };
+
+    fn from(error: ScopeError) -> SourceError {
+        SourceError::Scopes(error)
+    }
+}
+
+/// The tree of a source, or why there is none.
 pub(crate) fn read(alloc: Global, bytes: &[u8]) -> Result<Module, SourceError>
     requires { length bytes.now ≤ 1048576 }
     ensures read { IfOk result (λ m. Reads bytes.now (tree (plain_module m))) }
     ensures refused { IfErr result (λ e. Reads bytes.now (reading_of e)) }
 {
-    let text = match text::text_of(bytes) {
-        Ok(text) => text,
-        Err(line) => return Err(SourceError::NoText(line)),
-    };
+    match text::text_of(bytes) {
+        Ok(text) => read_text(alloc, text),
+        Err(line) => Err(SourceError::NoText(line)),
+    }
+}
+
+/// The same of the text of the bytes.
+fn read_text(alloc: Global, text: &str) -> Result<Module, SourceError>
+    requires { IsUtf8 text.now }
+    ensures read { IfOk result (λ m. Reads text.now (tree (plain_module m))) }
+    ensures refused { IfErr result (λ e. Reads text.now (reading_of e)) }
+{
     let lines = count_lines(text);
     if lines > MAX_LINES {
         return Err(SourceError::Long(lines));
     }
     let tokens = tokens(alloc, text)?;
-    let module = read_tokens(alloc, tokens)?;
-    Ok(module)
+    let module = parse(alloc, &tokens)?;
+    check(alloc, &module)?;
+    match unbuilt::unbuilt_line(&module) {
+        Some(line) => Err(SourceError::Unbuilt(line)),
+        None => Ok(module),
+    }
 }
-
-/// The tree of the tokens of a source.
-fn read_tokens(alloc: Global, tokens: Vec<Token>) -> Result<Module, ReadError>
-    ensures { IfOk result (λ read. HasTokens (plain_module read) (view_tokens tokens.items)) }
-{
-    let tokens = narrow::built_tokens(alloc, tokens)?;
-    let (body, rest) = block::statements(alloc, &tokens, MAX_SUITES)?;
-    statement::end(rest)?;
-    Ok(Module { body })
-}
-
-#[cfg(test)]
-mod tests;

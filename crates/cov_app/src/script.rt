@@ -3,7 +3,9 @@ ghost use Rattle.std.specs.Prelude.{◌≡◌, ℕ, List, ◌≤◌, IfOk, IsErr
 ghost use Rattle.std.specs.String.{string_bytes};
 ghost use Rattle.cov_outside.specs.Counts.{Rose};
 ghost use Rattle.py_syntax.specs.View.{plain_module};
-ghost use Rattle.cov_app.specs.Spelling.Trees.{IsBuilt};
+ghost use Rattle.py_syntax.specs.Spelling.{Spells};
+ghost use Rattle.py_token.specs.Plain.{PToken};
+ghost use Rattle.cov_app.specs.Forms.{IsBuilt};
 ghost use Rattle.cov_app.specs.Step.{arc_line, arc_lines, run_of};
 ghost use Rattle.cov_app.specs.Runs.{last_arcs, Shows};
 
@@ -24,7 +26,7 @@ pub(crate) fn run<O: Sink>(
     tree: &Module,
     out: &mut O,
 ) -> Result<Left, RunFault>
-    ensures shows { IsBuilt (plain_module tree.now) → (input : List ℕ) → Shows path.now (plain_module tree.now) (run_of path.now (plain_module tree.now) input) result O.tells (O.contents out.old) (O.contents out.new) }
+    ensures shows { IsBuilt (plain_module tree.now) → (tokens : List PToken) → Spells (plain_module tree.now) tokens → (input : List ℕ) → Shows path.now (plain_module tree.now) (run_of path.now (plain_module tree.now) input) result O.tells (O.contents out.old) (O.contents out.new) }
     ensures count { O.faults out.old ≤ O.faults out.new }
     ensures fault { IsErrOf result RunFault.WriteFault → Rose (O.faults out.old) (O.faults out.new) }
 {

@@ -6,7 +6,7 @@ ghost use Rattle.cov_app.specs.Command.{command};
 ghost use Rattle.cov_app.specs.Answer.{answer_of, status_of, usage, no_such_file, syntax};
 ghost use Rattle.cov_app.specs.Reading.{reading_of};
 ghost use Rattle.cov_app.specs.Runs.{ending_of, answer_left, ending_left};
-ghost use Rattle.cov_app.specs.Step.{Answers, AnswersScript, AnswersSource, OrNoMemory, TakesStep, of_reading, stuck_answer};
+ghost use Rattle.cov_app.specs.Step.{Answers, AnswersScript, AnswersSource, OrNoMemory, TakesStep, of_reading, stuck_answer, no_tree_answer, ill_formed_answer};
 
 use crate::answer::{End, LimitKind, SyntaxKind, Told, Why};
 use crate::command::read_words;
@@ -15,6 +15,8 @@ use crate::front::{self, SourceError};
 use crate::script::{BUDGET, run};
 use crate::walk::{Left, Raised, RunFault};
 use cov_outside::{Shelf, ShelfError, Sink, Source};
+use py_parse::{DepthKind, SyntaxError};
+use py_scope::ScopeError;
 use py_token::TokenError;
 use std::alloc::Global;
 
@@ -145,8 +147,9 @@ fn refused(alloc: Global, script: &str, error: &SourceError) -> Why
         SourceError::NoText(line) => syntax(alloc, script, *line, SyntaxKind::BadCharacter),
         SourceError::Long(lines) => Why::Limit(LimitKind::Lines, *lines as u64),
         SourceError::Tokens(error) => stuck(alloc, script, error),
-        SourceError::Unbuilt => syntax(alloc, script, 1, SyntaxKind::Unbuilt),
-        SourceError::NoMemory => Why::NoMemory,
+        SourceError::Syntax(error) => no_tree(alloc, script, error),
+        SourceError::Scopes(error) => ill_formed(alloc, script, error),
+        SourceError::Unbuilt(line) => syntax(alloc, script, *line, SyntaxKind::Unbuilt),
     }
 }
 
@@ -162,6 +165,34 @@ fn stuck(alloc: Global, script: &str, error: &TokenError) -> Why
         TokenError::WideNumber(line) => syntax(alloc, script, *line, SyntaxKind::WideNumber),
         TokenError::NoMemory => Why::NoMemory,
     }
+}
+
+/// The answer to tokens that no tree spells within the limits.
+fn no_tree(alloc: Global, script: &str, error: &SyntaxError) -> Why
+    ensures { OrNoMemory result (no_tree_answer script.now error.now) }
+{
+    match error {
+        SyntaxError::Unexpected(line) => syntax(alloc, script, *line, SyntaxKind::Unexpected),
+        SyntaxError::TooDeep(DepthKind::Expressions, _) => Why::Limit(LimitKind::Expressions, 201),
+        SyntaxError::TooDeep(DepthKind::Suites, _) => Why::Limit(LimitKind::Suites, 65),
+        SyntaxError::NoMemory => Why::NoMemory,
+    }
+}
+
+/// The answer to a module that isn't well formed.
+fn ill_formed(alloc: Global, script: &str, error: &ScopeError) -> Why
+    ensures { OrNoMemory result (ill_formed_answer script.now error.now) }
+{
+    let kind = match error {
+        ScopeError::BreakOutside(_) => SyntaxKind::BreakOutside,
+        ScopeError::ReturnOutside(_) => SyntaxKind::ReturnOutside,
+        ScopeError::GlobalAfterUse(_) => SyntaxKind::GlobalAfterUse,
+        ScopeError::NestedFunction(_) => SyntaxKind::NestedFunction,
+        ScopeError::EarlyIrrefutable(_) => SyntaxKind::EarlyIrrefutable,
+        ScopeError::TwiceNamed(_) => SyntaxKind::TwiceNamed,
+        ScopeError::NoMemory => return Why::NoMemory,
+    };
+    syntax(alloc, script, error.line(), kind)
 }
 
 fn syntax(alloc: Global, script: &str, line: u32, kind: SyntaxKind) -> Why
