@@ -12,8 +12,6 @@
 
 mod arguments;
 mod builtins;
-#[cfg(test)]
-mod builtins_tests;
 mod char_lists;
 mod dict_methods;
 mod displays;
@@ -31,12 +29,8 @@ mod pairs;
 mod print;
 mod quotes;
 mod ranges;
-#[cfg(test)]
-mod tests;
 mod text_methods;
 mod texts;
-#[cfg(test)]
-mod texts_tests;
 mod writer;
 
 pub use builtins::call_builtin;

@@ -12,8 +12,6 @@ mod place;
 mod report;
 mod scopes;
 mod statements;
-#[cfg(test)]
-mod tests;
 mod verdict;
 mod walk;
 

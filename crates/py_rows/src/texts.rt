@@ -1,7 +1,7 @@
 // Rows of texts and displays. The expected values are those of CPython 3.11, but for functions, modules and
 // built-in functions, whose texts are the language's own.
 
-use crate::{builtin_name, kind_name, repr_of, str_of};
+use py_builtins::{builtin_name, kind_name, repr_of, str_of};
 use py_value::{Addr, Builtin, ExcKind, FuncId, Heap, ModId, NoMemory, Raised, Text, Value, store};
 use std::alloc::Global;
 

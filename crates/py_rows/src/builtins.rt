@@ -1,9 +1,9 @@
 // Rows of the table of built-in functions. The expected values are those of the Python Standard Library Reference,
 // but for lists from `range` and the words of exceptions, which are the language's own.
 
-use crate::tests::{Lit, make};
-use crate::{RunFault, call_builtin, call_method, exception_of, str_of};
+use crate::methods::{Lit, make};
 use cov_outside::{MemSink, MemSource, Source};
+use py_builtins::{RunFault, call_builtin, call_method, exception_of, str_of};
 use py_value::{Builtin, ExcKind, Heap, Method, NoMemory, Raised, Text, Value};
 use std::alloc::Global;
 
@@ -44,7 +44,7 @@ fn has_left(source: &mut MemSource, wanted: &[u8]) -> bool {
 
 /// Whether the value has this display.
 fn is_shown(alloc: Global, value: &Value, wanted: &str, heap: &Heap) -> Result<bool, NoMemory> {
-    match crate::repr_of(alloc, value, heap)? {
+    match py_builtins::repr_of(alloc, value, heap)? {
         Ok(text) => Ok(text.as_str() == wanted),
         Err(_) => Ok(false),
     }

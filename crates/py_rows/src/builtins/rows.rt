@@ -1,7 +1,7 @@
 // The rows.
 
-use crate::tests::Lit;
-use crate::tests::Lit::{Bool, Dict, Int, Str, Texts, Tuple};
+use crate::methods::Lit;
+use crate::methods::Lit::{Bool, Dict, Int, Str, Texts, Tuple};
 use py_value::{Builtin, ExcKind};
 
 /// What a call answers: a value with this display, or an exception of this kind with this text.

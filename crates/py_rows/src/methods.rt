@@ -1,6 +1,6 @@
 // Rows of the table of methods. The expected values are those of the Python Standard Library Reference.
 
-use crate::{call_method, has_method};
+use py_builtins::{call_method, has_method};
 use py_value::{ExcKind, Heap, Method, NoMemory, Raised, Text, Value, store};
 use std::alloc::Global;
 
