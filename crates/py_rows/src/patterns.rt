@@ -1,0 +1,210 @@
+// What patterns are read from sources, row by row: the pattern with the place behind it, or the refusal with its place.
+
+use py_parse_expr::read_patterns;
+use py_syntax::{Brackets, Constant, Pattern};
+use py_token::{count_lines, tokens};
+use std::alloc::Global;
+use std::test::Fail;
+
+fn show_constant(alloc: Global, out: &mut String, value: &Constant) -> Result<(), Fail> {
+    match value {
+        Constant::Int(number) => out.push_str(format!(in alloc; "{number}")?.as_str())?,
+        Constant::Str(texts) => {
+            for text in texts {
+                out.push('\'')?;
+                out.push_str(text.as_str())?;
+                out.push('\'')?;
+            }
+        }
+        Constant::None => out.push_str("None")?,
+        Constant::Bool(is) => out.push_str(format!(in alloc; "{is}")?.as_str())?,
+    }
+    Ok(())
+}
+
+fn show_brackets(alloc: Global, out: &mut String, brackets: &Brackets) -> Result<(), Fail> {
+    out.push_str(format!(in alloc; "{brackets:?}")?.as_str())?;
+    Ok(())
+}
+
+/// Writes a pattern down.
+#[cycle(show)]
+fn show(alloc: Global, out: &mut String, pattern: &Pattern) -> Result<(), Fail> {
+    match pattern {
+        Pattern::Literal { minus, value } => {
+            if *minus {
+                out.push('-')?;
+            }
+            show_constant(alloc, out, value)?;
+        }
+        Pattern::Capture(name) => out.push_str(name.as_str())?,
+        Pattern::Wild => out.push('_')?,
+        Pattern::Member(of, name) => {
+            out.push_str(of.as_str())?;
+            out.push('.')?;
+            out.push_str(name.as_str())?;
+        }
+        Pattern::Sequence {
+            brackets,
+            items,
+            comma,
+        } => {
+            show_brackets(alloc, out, brackets)?;
+            show_all(alloc, out, items)?;
+            if *comma {
+                out.push(',')?;
+            }
+        }
+        Pattern::Or(patterns) => {
+            out.push_str("Or")?;
+            show_all(alloc, out, patterns)?;
+        }
+        Pattern::As(pattern, name) => {
+            out.push_str("As[")?;
+            show(alloc, out, pattern)?;
+            out.push_str("]=")?;
+            out.push_str(name.as_str())?;
+        }
+        Pattern::Paren(pattern) => {
+            out.push('(')?;
+            show(alloc, out, pattern)?;
+            out.push(')')?;
+        }
+    }
+    Ok(())
+}
+
+#[cycle(show)]
+fn show_all(alloc: Global, out: &mut String, patterns: &[Pattern]) -> Result<(), Fail> {
+    out.push('[')?;
+    for pattern in patterns {
+        show(alloc, out, pattern)?;
+        out.push(' ')?;
+    }
+    out.push(']')?;
+    Ok(())
+}
+
+/// What is read from the beginning of a source, written down.
+fn shown(alloc: Global, source: &str) -> Result<String, Fail> {
+    let mut out = String::new(alloc);
+    if count_lines(source) > 65535 {
+        return Ok(out);
+    }
+    let Ok(tokens) = tokens(alloc, source) else {
+        out.push_str("tokens")?;
+        return Ok(out);
+    };
+    match read_patterns(alloc, &tokens, 0) {
+        Ok(read) => {
+            show(alloc, &mut out, &read.pattern)?;
+            let next = read.next;
+            out.push_str(format!(in alloc; " @{next}")?.as_str())?;
+        }
+        Err(error) => out.push_str(format!(in alloc; "{error:?}")?.as_str())?,
+    }
+    Ok(out)
+}
+
+// A row is a source and what is read from it, with `~` between them and `^` behind.
+
+fn rows() -> &'static str {
+    "\
+    a:~a @1^\
+    _:~_ @1^\
+    1 if x:~1 @1^\
+    -1:~-1 @2^\
+    - a:~Unexpected(1)^\
+    -'x':~Unexpected(1)^\
+    --1:~Unexpected(1)^\
+    'a' 'b':~'a''b' @2^\
+    f'a':~Unexpected(0)^\
+    'a' f'b':~'a' @1^\
+    None | True | False:~Or[None true false ] @5^\
+    a.b:~a.b @3^\
+    a.b.c:~a.b @3^\
+    a.1:~Unexpected(2)^\
+    (a):~(a) @3^\
+    (a,):~Round[a ], @4^\
+    (a, b):~Round[a b ] @5^\
+    (a, b,):~Round[a b ], @6^\
+    ():~Round[] @2^\
+    (,):~Unexpected(1)^\
+    []:~Square[] @2^\
+    [a]:~Square[a ] @3^\
+    [a, b,]:~Square[a b ], @6^\
+    a, b:~Bare[a b ] @3^\
+    a,:~Bare[a ], @2^\
+    a, *b:~Bare[a ], @2^\
+    ((a, b), [c]):~Round[Round[a b ] Square[c ] ] @11^\
+    a | b as c:~As[Or[a b ]]=c @5^\
+    (a as b) | c:~Or[(As[a]=b) c ] @7^\
+    a as b, c:~Bare[As[a]=b c ] @5^\
+    a as b as c:~As[a]=b @3^\
+    a as b | c:~As[a]=b @3^\
+    a as _:~Unexpected(2)^\
+    a as 1:~Unexpected(2)^\
+    a |:~Unexpected(2)^\
+    a | | b:~Unexpected(2)^\
+    (a | b]:~Unexpected(4)^\
+    (a b):~Unexpected(2)^\
+    [a | b, -1 as n]:~Square[Or[a b ] As[-1]=n ] @10^\
+    *a:~Unexpected(0)^\
+    {}:~Unexpected(0)^\
+    :~Unexpected(0)\
+    "
+}
+
+#[test]
+fn patterns_of_sources(rt: HostRuntime) -> Result<(), Fail> {
+    for row in rows().split('^') {
+        if let Some((source, expected)) = row.split_once('~') {
+            let found = shown(rt.alloc(), source)?;
+            assert_eq!(rt; found.as_str(), expected, "{source}");
+        } else {
+            assert!(rt; false, "{row}");
+        }
+    }
+    Ok(())
+}
+
+/// Where the reading of a pattern in so many brackets ends.
+fn nested(alloc: Global, count: usize, middle: &str) -> Result<String, Fail> {
+    let mut source = String::new(alloc);
+    for _ in 0..count {
+        source.push('(')?;
+    }
+    source.push_str(middle)?;
+    for _ in 0..count {
+        source.push(')')?;
+    }
+    source.push(':')?;
+    let mut out = String::new(alloc);
+    if count_lines(source.as_str()) > 65535 {
+        return Ok(out);
+    }
+    let Ok(tokens) = tokens(alloc, source.as_str()) else {
+        return Ok(out);
+    };
+    match read_patterns(alloc, &tokens, 0) {
+        Ok(read) => {
+            let next = read.next;
+            out.push_str(format!(in alloc; "@{next}")?.as_str())?;
+        }
+        Err(error) => out.push_str(format!(in alloc; "{error:?}")?.as_str())?,
+    }
+    Ok(out)
+}
+
+#[test]
+fn deep_patterns(rt: HostRuntime) -> Result<(), Fail> {
+    assert_eq!(rt; nested(rt.alloc(), 200, "")?.as_str(), "@400");
+    assert_eq!(rt; nested(rt.alloc(), 199, "a")?.as_str(), "@399");
+    assert_eq!(rt; nested(rt.alloc(), 200, "a")?.as_str(), "TooDeep(200)");
+    assert_eq!(rt; nested(rt.alloc(), 201, "")?.as_str(), "TooDeep(200)");
+    assert_eq!(rt; nested(rt.alloc(), 198, "a | b")?.as_str(), "@399");
+    assert_eq!(rt; nested(rt.alloc(), 199, "a | b")?.as_str(), "TooDeep(200)");
+    assert_eq!(rt; nested(rt.alloc(), 200, "1 |")?.as_str(), "TooDeep(200)");
+    assert_eq!(rt; nested(rt.alloc(), 50000, "a")?.as_str(), "TooDeep(200)");
+    Ok(())
+}

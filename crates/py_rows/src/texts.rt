@@ -1,0 +1,336 @@
+// Rows of texts and displays. The expected values are those of CPython 3.11, but for functions, modules and
+// built-in functions, whose texts are the language's own.
+
+use py_builtins::{builtin_name, kind_name, repr_of, str_of};
+use py_value::{Addr, Builtin, ExcKind, FuncId, Heap, ModId, NoMemory, Raised, Text, Value, store};
+use std::alloc::Global;
+
+mod rows;
+
+use rows::{CONTAINERS, EXCEPTIONS, PLAIN, Row, STRINGS};
+
+static KINDS: [ExcKind; 21] = [
+    ExcKind::BaseException,
+    ExcKind::SystemExit,
+    ExcKind::Exception,
+    ExcKind::ArithmeticError,
+    ExcKind::ZeroDivisionError,
+    ExcKind::OverflowError,
+    ExcKind::AssertionError,
+    ExcKind::AttributeError,
+    ExcKind::EOFError,
+    ExcKind::ImportError,
+    ExcKind::ModuleNotFoundError,
+    ExcKind::LookupError,
+    ExcKind::IndexError,
+    ExcKind::KeyError,
+    ExcKind::MemoryError,
+    ExcKind::NameError,
+    ExcKind::UnboundLocalError,
+    ExcKind::RuntimeError,
+    ExcKind::RecursionError,
+    ExcKind::TypeError,
+    ExcKind::ValueError,
+];
+
+static BUILTINS: [Builtin; 8] = [
+    Builtin::Print,
+    Builtin::Len,
+    Builtin::Range,
+    Builtin::Str,
+    Builtin::Repr,
+    Builtin::Int,
+    Builtin::Input,
+    Builtin::Exit,
+];
+
+fn kind_named(name: &str) -> ExcKind {
+    for kind in &KINDS {
+        if kind_name(*kind) == name {
+            return *kind;
+        }
+    }
+    ExcKind::Exception
+}
+
+fn builtin_named(name: &str) -> Builtin {
+    for which in &BUILTINS {
+        if builtin_name(*which) == name {
+            return *which;
+        }
+    }
+    Builtin::Print
+}
+
+fn text_value(alloc: Global, text: &str) -> Result<Value, NoMemory> {
+    Ok(Value::Str(Text::from_str(alloc, text)?))
+}
+
+fn one(alloc: Global, value: Value) -> Result<Vec<Value>, NoMemory> {
+    let mut values = Vec::new(alloc);
+    values.push(value)?;
+    Ok(values)
+}
+
+/// The last values, of as many as a word counts.
+fn last(alloc: Global, made: &mut Vec<Value>, count: &str) -> Result<Vec<Value>, NoMemory> {
+    let count = count.parse::<u32>().unwrap_or(0);
+    let mut values = Vec::new(alloc);
+    for _ in 0..count {
+        if let Some(value) = made.pop() {
+            values.insert(0, value)?;
+        }
+    }
+    Ok(values)
+}
+
+fn make_dict(
+    alloc: Global,
+    made: &mut Vec<Value>,
+    count: &str,
+    heap: &mut Heap,
+) -> Result<Value, NoMemory> {
+    let count = count.parse::<u32>().unwrap_or(0);
+    let mut values = Vec::new(alloc);
+    for _ in 0..count {
+        let value = made.pop().unwrap_or(Value::None);
+        let key = made.pop().unwrap_or(Value::None);
+        values.push((key, value))?;
+    }
+    let dict = Value::Dict(heap.make_dict()?);
+    for _ in 0..count {
+        if let Some((key, value)) = values.pop() {
+            let _ = store(alloc, &dict, &key, value, heap)?;
+        }
+    }
+    Ok(dict)
+}
+
+fn made_by(
+    alloc: Global,
+    word: &str,
+    made: &mut Vec<Value>,
+    heap: &mut Heap,
+) -> Result<Value, NoMemory> {
+    if let Some(text) = word.strip_prefix("'") {
+        return text_value(alloc, text);
+    }
+    if let Some(count) = word.strip_prefix("(") {
+        return Ok(Value::Tuple(last(alloc, made, count)?));
+    }
+    if let Some(count) = word.strip_prefix("[") {
+        return Ok(Value::List(heap.make_list(last(alloc, made, count)?)?));
+    }
+    if let Some(count) = word.strip_prefix("{") {
+        return make_dict(alloc, made, count, heap);
+    }
+    named(alloc, word, made)
+}
+
+fn named(alloc: Global, word: &str, made: &mut Vec<Value>) -> Result<Value, NoMemory> {
+    if let Some(name) = word.strip_prefix("#") {
+        return Ok(Value::Kind(kind_named(name)));
+    }
+    if let Some(name) = word.strip_prefix("!") {
+        return Ok(Value::Exc(kind_named(name), None));
+    }
+    if let Some(name) = word.strip_prefix("?") {
+        let arg = made.pop().unwrap_or(Value::None);
+        return Ok(Value::Exc(kind_named(name), Some(Box::new(alloc, arg)?)));
+    }
+    if let Some(name) = word.strip_prefix("@") {
+        return Ok(Value::Builtin(builtin_named(name)));
+    }
+    Ok(plain(word))
+}
+
+fn plain(word: &str) -> Value {
+    match word {
+        "None" => Value::None,
+        "True" => Value::Bool(true),
+        "False" => Value::Bool(false),
+        "function" => Value::Func(FuncId { module: 0, unit: 1 }, None),
+        "module" => Value::Module(ModId::Sys),
+        _ => Value::Int(word.parse::<i64>().unwrap_or(0)),
+    }
+}
+
+fn make(alloc: Global, words: &str, heap: &mut Heap) -> Result<Value, NoMemory> {
+    let mut made = Vec::new(alloc);
+    for word in words.split(';') {
+        let value = made_by(alloc, word, &mut made, heap)?;
+        made.push(value)?;
+    }
+    Ok(made.pop().unwrap_or(Value::None))
+}
+
+fn is_text(answer: &Result<Text, Raised>, wanted: &str) -> bool {
+    match answer {
+        Ok(text) => text.as_str() == wanted,
+        Err(_) => false,
+    }
+}
+
+fn is_raised(answer: &Result<Text, Raised>, kind: ExcKind) -> bool {
+    match answer {
+        Ok(_) => false,
+        Err(raised) => raised.kind.is_same(kind),
+    }
+}
+
+fn has_length(answer: &Result<Text, Raised>, length: usize) -> bool {
+    match answer {
+        Ok(text) => text.len() == length,
+        Err(_) => false,
+    }
+}
+
+fn gives(
+    alloc: Global,
+    value: &Value,
+    heap: &Heap,
+    text: &str,
+    display: &str,
+) -> Result<bool, NoMemory> {
+    let by_str = str_of(alloc, value, heap)?;
+    let by_repr = repr_of(alloc, value, heap)?;
+    Ok(is_text(&by_str, text) && is_text(&by_repr, display))
+}
+
+fn is_right(alloc: Global, row: &Row) -> Result<bool, NoMemory> {
+    let mut heap = Heap::new(alloc);
+    let value = make(alloc, row.0, &mut heap)?;
+    gives(alloc, &value, &heap, row.1, row.2)
+}
+
+#[test]
+fn plain_values(rt: HostRuntime) {
+    for row in &PLAIN {
+        let right = is_right(rt.alloc(), row).expect(&rt, "memory");
+        let words = row.0;
+        assert!(rt; right, "at {words}");
+    }
+}
+
+#[test]
+fn strings(rt: HostRuntime) {
+    for row in &STRINGS {
+        let right = is_right(rt.alloc(), row).expect(&rt, "memory");
+        let words = row.0;
+        assert!(rt; right, "at {words}");
+    }
+}
+
+#[test]
+fn containers(rt: HostRuntime) {
+    for row in &CONTAINERS {
+        let right = is_right(rt.alloc(), row).expect(&rt, "memory");
+        let words = row.0;
+        assert!(rt; right, "at {words}");
+    }
+}
+
+#[test]
+fn exceptions(rt: HostRuntime) {
+    for row in &EXCEPTIONS {
+        let right = is_right(rt.alloc(), row).expect(&rt, "memory");
+        let words = row.0;
+        assert!(rt; right, "at {words}");
+    }
+}
+
+/// `l = []`, `d = {'l': l}`, then `l` gets `d`, `(l,)` and an empty list twice.
+fn knot(alloc: Global, heap: &mut Heap) -> Result<(Addr, Addr), NoMemory> {
+    let list = heap.make_list(Vec::new(alloc))?;
+    let dict = heap.make_dict()?;
+    let key = text_value(alloc, "l")?;
+    let _ = store(alloc, &Value::Dict(dict), &key, Value::List(list), heap)?;
+    heap.push(list, Value::Dict(dict))?;
+    heap.push(list, Value::Tuple(one(alloc, Value::List(list))?))?;
+    let empty = heap.make_list(Vec::new(alloc))?;
+    heap.push(list, Value::List(empty))?;
+    heap.push(list, Value::List(empty))?;
+    Ok((list, dict))
+}
+
+#[test]
+fn inside_themselves(rt: HostRuntime) {
+    let alloc = rt.alloc();
+    let mut heap = Heap::new(alloc);
+    let (list, dict) = knot(alloc, &mut heap).expect(&rt, "memory");
+    let of_list = "[{'l': [...]}, ([...],), [], []]";
+    let of_dict = "{'l': [{...}, ([...],), [], []]}";
+    let right = gives(alloc, &Value::List(list), &heap, of_list, of_list).expect(&rt, "memory");
+    assert!(rt; right);
+    let right = gives(alloc, &Value::Dict(dict), &heap, of_dict, of_dict).expect(&rt, "memory");
+    assert!(rt; right);
+}
+
+/// A list in so many others, each in the next.
+fn nested(alloc: Global, count: u32, heap: &mut Heap) -> Result<Value, NoMemory> {
+    let mut list = heap.make_list(Vec::new(alloc))?;
+    for _ in 0..count {
+        list = heap.make_list(one(alloc, Value::List(list))?)?;
+    }
+    Ok(Value::List(list))
+}
+
+/// A list of the same list twice, and so on.
+fn doubled(alloc: Global, count: u32, heap: &mut Heap) -> Result<Value, NoMemory> {
+    let mut list = heap.make_list(Vec::new(alloc))?;
+    for _ in 0..count {
+        let mut items = one(alloc, Value::List(list))?;
+        items.push(Value::List(list))?;
+        list = heap.make_list(items)?;
+    }
+    Ok(Value::List(list))
+}
+
+fn raises(alloc: Global, value: &Value, heap: &Heap, kind: ExcKind) -> Result<bool, NoMemory> {
+    let by_str = str_of(alloc, value, heap)?;
+    let by_repr = repr_of(alloc, value, heap)?;
+    Ok(is_raised(&by_str, kind) && is_raised(&by_repr, kind))
+}
+
+#[test]
+fn depths(rt: HostRuntime) {
+    let alloc = rt.alloc();
+    let mut heap = Heap::new(alloc);
+    let deep = nested(alloc, 199, &mut heap).expect(&rt, "memory");
+    let text = str_of(alloc, &deep, &heap).expect(&rt, "memory");
+    assert!(rt; has_length(&text, 400));
+    let deeper = nested(alloc, 200, &mut heap).expect(&rt, "memory");
+    assert!(rt; raises(alloc, &deeper, &heap, ExcKind::RecursionError).expect(&rt, "memory"));
+    let wide = doubled(alloc, 150, &mut heap).expect(&rt, "memory");
+    assert!(rt; raises(alloc, &wide, &heap, ExcKind::MemoryError).expect(&rt, "memory"));
+}
+
+/// A text of so many characters.
+fn long(alloc: Global, count: usize) -> Result<Value, NoMemory> {
+    let text = Text::from_str(alloc, "é")?;
+    Ok(Value::Str(text.repeat(count)?))
+}
+
+#[test]
+fn sizes(rt: HostRuntime) {
+    let alloc = rt.alloc();
+    let mut heap = Heap::new(alloc);
+    let whole = long(alloc, 1_048_576).expect(&rt, "memory");
+    let text = str_of(alloc, &whole, &heap).expect(&rt, "memory");
+    assert!(rt; has_length(&text, 1_048_576));
+    let display = repr_of(alloc, &whole, &heap).expect(&rt, "memory");
+    assert!(rt; is_raised(&display, ExcKind::MemoryError));
+    let short = long(alloc, 1_048_574).expect(&rt, "memory");
+    let display = repr_of(alloc, &short, &heap).expect(&rt, "memory");
+    assert!(rt; has_length(&display, 1_048_576));
+    let deep = nested(alloc, 200, &mut heap).expect(&rt, "memory");
+    let mut items = one(alloc, short).expect(&rt, "memory");
+    items.push(deep).expect(&rt, "memory");
+    let list = Value::List(heap.make_list(items).expect(&rt, "memory"));
+    assert!(rt; raises(alloc, &list, &heap, ExcKind::MemoryError).expect(&rt, "memory"));
+    let deep = nested(alloc, 200, &mut heap).expect(&rt, "memory");
+    let mut items = one(alloc, deep).expect(&rt, "memory");
+    items.push(whole).expect(&rt, "memory");
+    let list = Value::List(heap.make_list(items).expect(&rt, "memory"));
+    assert!(rt; raises(alloc, &list, &heap, ExcKind::RecursionError).expect(&rt, "memory"));
+}
