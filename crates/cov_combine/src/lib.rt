@@ -14,6 +14,3 @@ pub use combining::{CombineError, combine};
 
 /// Want of memory.
 pub use cov_data::NoMemory;
-
-#[cfg(test)]
-mod tests;

@@ -18,6 +18,3 @@ pub use rows::Row;
 
 /// Want of memory.
 pub type NoMemory = std::alloc::AllocError;
-
-#[cfg(test)]
-mod tests;

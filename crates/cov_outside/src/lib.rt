@@ -15,8 +15,6 @@ mod shelf;
 mod sink;
 mod source;
 mod standard;
-#[cfg(test)]
-mod tests;
 
 pub use folder::FolderShelf;
 pub use memory_shelf::{MemShelf, SureShelf};

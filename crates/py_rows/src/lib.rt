@@ -11,6 +11,8 @@ mod heights;
 #[cfg(test)]
 mod methods;
 #[cfg(test)]
+mod operators;
+#[cfg(test)]
 mod patterns;
 #[cfg(test)]
 mod scopes;
@@ -18,3 +20,5 @@ mod scopes;
 mod statements;
 #[cfg(test)]
 mod texts;
+#[cfg(test)]
+mod tokens;

@@ -23,6 +23,3 @@ pub use laws::one_spelling;
 pub use source::count_lines;
 pub use token::{Keyword, Mark, Piece, Token, TokenKind};
 pub use tokenizer::tokens;
-
-#[cfg(test)]
-mod tests;

@@ -27,8 +27,6 @@ pub mod raised;
 mod sequences;
 mod slicing;
 mod storing;
-#[cfg(test)]
-mod tests;
 pub mod text;
 pub mod value;
 

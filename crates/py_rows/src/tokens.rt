@@ -1,8 +1,6 @@
 // What sources spell, row by row: each token, with its lines where they aren't the first, or the fault.
 
-use crate::source::count_lines;
-use crate::token::{Piece, Token, TokenKind};
-use crate::tokenizer::tokens;
+use py_token::{Piece, Token, TokenKind, count_lines, tokens};
 use std::alloc::Global;
 use std::test::Fail;
 

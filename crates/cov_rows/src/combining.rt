@@ -1,4 +1,4 @@
-use super::*;
+use cov_combine::{AliasRules, CombineError, combine};
 use cov_data::{Data, Row};
 use std::alloc::Global;
 use std::test::Fail;

@@ -1,4 +1,4 @@
-use super::*;
+use cov_data::{Data, DataError, Row, has_line, lines_of_numbits, numbits_of};
 use std::alloc::Global;
 use std::test::Fail;
 

@@ -2,7 +2,7 @@
 
 use super::Lit::{self, Bool, Dict, Int, List, Str, Tuple};
 use super::Want::{self, Gives, Raises};
-use crate::{BinOp, CmpOp, ExcKind};
+use py_value::{BinOp, CmpOp, ExcKind};
 
 const UNSUPPORTED: Want = Raises(ExcKind::TypeError, "unsupported operand");
 

@@ -1,4 +1,4 @@
-use crate::{
+use cov_outside::{
     Failed, FolderShelf, MemShelf, MemSink, MemSource, NullSink, Shelf, ShelfError, Sink,
     SinkError, Source, StdSink, StdSource, Stream, SureShelf, SureSink, SureSource,
 };

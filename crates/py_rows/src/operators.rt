@@ -1,6 +1,6 @@
 // Rows of the table of operators. The expected values are those of the Python Language Reference.
 
-use crate::{
+use py_value::{
     BinOp, CmpOp, ExcKind, Heap, NoMemory, Raised, Text, Value, binary, compare, in_place, index,
     slice, store, truth,
 };
