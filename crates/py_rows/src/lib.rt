@@ -5,6 +5,8 @@
 #[cfg(test)]
 mod builtins;
 #[cfg(test)]
+mod expressions;
+#[cfg(test)]
 mod fields;
 #[cfg(test)]
 mod heights;
