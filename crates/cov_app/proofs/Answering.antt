@@ -1,6 +1,7 @@
 -- What the parts of the top call answer, as the step says it.
 use Rattle.std.proofs.Common.{◌≡◌, ℕ, ◌<◌, List, [], ◌++◌, Option, Some, None, Result, Ok, Err, refl, sym, ap, ◌∙◌, subst, length, ◌≤◌, lt-ltb, le-ltb, if◌then◌else◌}
-use Rattle.std.proofs.lemmas.List.{append-nil}
+use Rattle.std.proofs.lemmas.List.{append-nil, length-replicate}
+use Rattle.std.proofs.Math.ListN.{replicate}
 use Rattle.cov_outside.specs.Prefixes.{GainsPrefix}
 use Rattle.cov_outside.specs.Files.{Files}
 use Rattle.cov_outside.proofs.PrefixLemmas.{gains_nothing, gains_whole}
@@ -18,7 +19,7 @@ use Rattle.cov_app.specs.declared.answer.LimitKind.TheVariants.{FileBytes}
 use Rattle.cov_app.specs.declared.walk.Left.{Left}
 use Rattle.cov_app.specs.Command.{command}
 use Rattle.cov_app.specs.Answer.{Answer, no_such_file, limit, usage, answer_of}
-use Rattle.cov_app.specs.Step.{Stepped, refusal, run_of, step_of, of_reading, of_file, of_command, most_bytes, ended_by, shown_by, Meets, Answers, AnswersScript, AnswersSource, OrNoMemory}
+use Rattle.cov_app.specs.Step.{Stepped, refusal, run_of, step_of, of_reading, of_file, of_command, most_bytes, ended_by, shown_by, Meets, Answers, AnswersGiven, AnswersScript, AnswersScriptGiven, AnswersSource, OrNoMemory}
 use Rattle.cov_app.specs.Runs.{answer_left, ending_left}
 
 pub meets : (s : Stepped) (w : Why) (e : List ℕ) (T : Type 0) (c d : List ℕ) → answer_of w ≡ s.answer → e ≡ s.ending → (T → d ≡ c ++ s.out) → Meets s w e T c d
@@ -144,3 +145,29 @@ of_script words path files input w e T c d is h = record {
 
     ok_same : (a b : List ℕ) → ok_of a ≡ ok_of b → a ≡ b
     ok_same a b k = ap (λ r. elim r as (λ (r : Result (List ℕ) ℕ). List ℕ) [ Ok x ↦ x | Err i ↦ a ]) k
+
+-- ---- over some files
+
+pub given_command : (words : List (List ℕ)) (input : List ℕ) (i : ℕ) (T : Type 0) (c : List ℕ) → command words ≡ Err i → AnswersGiven words input (why.Usage i) [] T c c
+given_command words input i T c is = record { files = λ name. None; answers = no_command words (λ name. None) input i T c is }
+
+pub given_script : (words : List (List ℕ)) (path input : List ℕ) (w : Why) (e : List ℕ) (T : Type 0) (c d : List ℕ) → command words ≡ Ok path → AnswersScriptGiven path input w e T c d → AnswersGiven words input w e T c d
+given_script words path input w e T c d is h = record { files = h.files; answers = of_script words path h.files input w e T c d is h.answers }
+
+pub given_absent : (path input : List ℕ) (w : Why) (T : Type 0) (c : List ℕ) → OrNoMemory w (no_such_file path) → AnswersScriptGiven path input w [] T c c
+given_absent path input w T c h = record { files = λ name. None; answers = absent path input (λ name. None) w T c refl h }
+
+more_bytes : (path input : List ℕ) (n : ℕ) (T : Type 0) (c : List ℕ) → most_bytes < n → AnswersScriptGiven path input (why.Limit FileBytes 1048577) [] T c c
+more_bytes path input n T c more = record {
+  files = λ name. Some (replicate n 0);
+  answers = too_large path (replicate n 0) input (λ name. Some (replicate n 0)) T c refl (subst (λ k. most_bytes < k) (sym (length-replicate n 0)) more);
+}
+
+pub given_too_large : (path input : List ℕ) (T : Type 0) (c : List ℕ) → AnswersScriptGiven path input (why.Limit FileBytes 1048577) [] T c c
+given_too_large path input T c = more_bytes path input 1048577 T c (omega arith)
+
+pub given_source : (path bytes input : List ℕ) (w : Why) (e : List ℕ) (T : Type 0) (c d : List ℕ) → length bytes ≤ most_bytes → AnswersSource path bytes input w e T c d → AnswersScriptGiven path input w e T c d
+given_source path bytes input w e T c d few h = record { files = λ name. Some bytes; answers = from_source path bytes input (λ name. Some bytes) w e T c d refl few h }
+
+pub given_unread : (path input : List ℕ) (w : Why) (e : List ℕ) (T : Type 0) (c : List ℕ) → ((files : Files) → AnswersScript path files input w e T c c) → AnswersScriptGiven path input w e T c c
+given_unread path input w e T c h = record { files = λ name. None; answers = h (λ name. None) }

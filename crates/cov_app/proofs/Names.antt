@@ -1,14 +1,22 @@
 -- Names, by their characters and by their bytes.
 use Rattle.std.proofs.Common.{◌≡◌, ℕ, Bool, List, refl, sym, ap, ◌∙◌}
 use Rattle.std.specs.Prelude.{codes, ◌||◌}
-use Rattle.std.specs.Str.{bytes_eq, encode_utf8_all}
+use Rattle.std.specs.Str.{bytes_eq, encode_utf8_all, IsUtf8, chars}
 use Rattle.std.specs.List.{list_any}
 use Rattle.std.proofs.lemmas.Slice.Eq.{bytes_eq-Decides}
-use Rattle.std.proofs.lemmas.Str.{encodes_same}
+use Rattle.std.proofs.lemmas.Str.{encodes_same, encodes-chars}
 use Rattle.std.proofs.Common.{[], ◌∷◌}
 use Rattle.py_value.specs.Keys.{is_same_text}
 use Rattle.py_value.proofs.KeyLaws.{text_test}
 use Rattle.cov_app.specs.Names.{taken, is_taken}
+
+-- texts are equal where their characters are
+pub same_name : (a b : List ℕ) → IsUtf8 a → IsUtf8 b → bytes_eq a b ≡ is_same_text (chars b) (chars a)
+same_name a b u v =
+    text_test (bytes_eq a b) (chars b) (chars a) (
+      λ t. ap chars (sym ((bytes_eq-Decides a b).0 t)),
+      λ e. (bytes_eq-Decides a b).1 (sym (encodes-chars a u) ∙ ap encode_utf8_all (sym e) ∙ encodes-chars b v),
+    )
 
 -- ---- names that are taken
 

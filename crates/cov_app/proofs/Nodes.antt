@@ -1,5 +1,5 @@
--- The plain view of the statements that the walk meets.
-use Rattle.std.proofs.Common.{◌≡◌, ℕ, false, List, ◌∷◌, Option, Some, None, Vec, refl, sym, ap, ◌∙◌}
+-- The plain view of the statements and expressions that the walk meets.
+use Rattle.std.proofs.Common.{◌≡◌, ℕ, Bool, false, List, [], ◌∷◌, Option, Some, None, Vec, refl, sym, ap, ◌∙◌, subst, length, codes}
 use Rattle.std.specs.Global.{Global}
 use Rattle.py_syntax.specs.declared.expr.Expr as node
 use Rattle.py_syntax.specs.declared.expr.Expr.{Expr as Node, roll-Expr, out-Expr, roll-out-Expr, fold-roll-Expr}
@@ -18,10 +18,11 @@ use Rattle.py_syntax.specs.declared.stmt.Stmt.{Stmt}
 use Rattle.py_syntax.specs.declared.stmt.Suite.{Suite as SuiteNode, out-Suite}
 use Rattle.py_syntax.specs.declared.stmt.Suite as suites
 use Rattle.py_syntax.specs.declared.stmt.Arm as arms
-use Rattle.py_syntax.specs.Tree.{Expr, exprs, no_exprs, name, call, expr, assign, if', while, suite, stmt, arm}
-use Rattle.py_syntax.specs.View.{plain_expr, plain_exprs, plain_kind, plain_stmts, plain_suite, plain_opt_suite, plain_arms}
-use Rattle.cov_app.specs.Walking.State.{marked, step}
-use Rattle.cov_app.specs.Walking.Meaning.{exec_kind, simple, refused, expression, assignment, names_print}
+use Rattle.py_syntax.specs.Tree.{Expr, exprs, no_exprs, name, call, expr, assign, if', while, suite, stmt, arm, link, no_links}
+use Rattle.py_syntax.specs.View.{plain_expr, plain_exprs, plain_links, plain_kind, plain_stmts, plain_suite, plain_opt_suite, plain_arms}
+use Rattle.py_value.specs.Keys.{is_same_text}
+use Rattle.cov_app.specs.Forms.{is_print_name}
+use Rattle.cov_app.specs.Walked.{IsPrintCall, IsOneSum, IsOneName, IsSimple, IsWalkedKind}
 
 pub plain-If : (as' : Vec Arm Global) (o : Option SuiteNode) → plain_kind (kind.If as' o) ≡ if' (plain_arms as'.items) (plain_opt_suite o)
 plain-If as' None = search kind.the_lemmas
@@ -52,32 +53,44 @@ plain-Name x = search node.the_lemmas
 pub plain-Call : (f : _) (es : Vec Node Global) (comma : _) → plain_expr (node.Call f es comma) ≡ call (plain_expr f.value) (plain_exprs es.items) comma
 plain-Call f es comma = search node.the_lemmas
 
+pub plain-link : (l : Link) → plain_links (l ∷ []) ≡ link l.op (plain_expr l.right) no_links
+plain-link l = search node.the_lemmas
+
 abbrev One : Type 0
 One = open_kind.StmtKind-F KindNode Arm Case Clause Stmt SuiteNode
 
-unrolled_kind : (x : One) (line : ℕ) → ((as' : Vec Arm Global) (o : Option SuiteNode) → roll-StmtKind x ≡ kind.If as' o → ⊥) → ((t : Node) (b : SuiteNode) (o : Option SuiteNode) → roll-StmtKind x ≡ kind.While t b o → ⊥)
-    → exec_kind line (plain_kind (roll-StmtKind x)) ≡ step (marked line) (simple (plain_kind (roll-StmtKind x)))
-unfolding exec_kind roll-StmtKind denote.Hole.Carrier.roll
+abbrev NoIf : KindNode → Type 0
+NoIf n = (as' : Vec Arm Global) (o : Option SuiteNode) → n ≡ kind.If as' o → ⊥
+
+abbrev NoWhile : KindNode → Type 0
+NoWhile n = (t : Node) (b : SuiteNode) (o : Option SuiteNode) → n ≡ kind.While t b o → ⊥
+
+unrolled_kind : (x : One) (line : ℕ) → NoIf (roll-StmtKind x) → NoWhile (roll-StmtKind x) → IsWalkedKind line (plain_kind (roll-StmtKind x)) → IsSimple (plain_kind (roll-StmtKind x))
+unfolding roll-StmtKind denote.Hole.Carrier.roll
 unrolled_kind (open_kind.If as' o) line h k = absurd (h as' o refl)
 unrolled_kind (open_kind.While t b o) line h k = absurd (k t b o refl)
-unrolled_kind x line h k = ap (exec_kind line) (fold-roll-StmtKind _ _ _ _ _ _ _ _ _ _ _ _ x) ∙ sym (ap (λ w. step (marked line) (simple w)) (fold-roll-StmtKind _ _ _ _ _ _ _ _ _ _ _ _ x))
+unrolled_kind x line h k = λ w. subst IsSimple (sym (fold-roll-StmtKind _ _ _ _ _ _ _ _ _ _ _ _ x)) (subst (IsWalkedKind line) (fold-roll-StmtKind _ _ _ _ _ _ _ _ _ _ _ _ x) w)
 
 -- a statement that marks its own line
-pub simple_kind : (n : KindNode) (line : ℕ) → ((as' : Vec Arm Global) (o : Option SuiteNode) → n ≡ kind.If as' o → ⊥) → ((t : Node) (b : SuiteNode) (o : Option SuiteNode) → n ≡ kind.While t b o → ⊥) → exec_kind line (plain_kind n) ≡ step (marked line) (simple (plain_kind n))
-simple_kind n line h k =
+pub simple_kind : (n : KindNode) (line : ℕ) → NoIf n → NoWhile n → IsWalkedKind line (plain_kind n) → IsSimple (plain_kind n)
+simple_kind n line h k w =
     let r = roll-out-StmtKind n in
-    ap (λ w. exec_kind line (plain_kind w)) (sym r) ∙ unrolled_kind (out-StmtKind n) line (λ as' o q. h as' o (sym r ∙ q)) (λ t b o q. k t b o (sym r ∙ q)) ∙ ap (λ w. step (marked line) (simple (plain_kind w))) r
+    subst (λ q. IsSimple (plain_kind q)) r
+    (unrolled_kind (out-StmtKind n) line (λ as' o q. h as' o (sym r ∙ q)) (λ t b o q. k t b o (sym r ∙ q)) (subst (λ q. IsWalkedKind line (plain_kind q)) (sym r) w))
 
-unrolled_simple : (x : One) → ((e : Node) → roll-StmtKind x ≡ kind.Expr e → ⊥) → ((ts : Vec Node Global) (e : Node) → roll-StmtKind x ≡ kind.Assign ts e → ⊥) → simple (plain_kind (roll-StmtKind x)) ≡ refused
+unrolled_simple : (x : One) → ((e : Node) → roll-StmtKind x ≡ kind.Expr e → ⊥) → ((ts : Vec Node Global) (e : Node) → roll-StmtKind x ≡ kind.Assign ts e → ⊥) → IsSimple (plain_kind (roll-StmtKind x)) → ⊥
 unfolding roll-StmtKind denote.Hole.Carrier.roll
 unrolled_simple (open_kind.Expr e) h k = absurd (h e refl)
 unrolled_simple (open_kind.Assign ts e) h k = absurd (k ts e refl)
-unrolled_simple x h k = ap simple (fold-roll-StmtKind _ _ _ _ _ _ _ _ _ _ _ _ x)
+unrolled_simple x h k = subst IsSimple (fold-roll-StmtKind _ _ _ _ _ _ _ _ _ _ _ _ x)
 
-pub other_kind : (n : KindNode) → ((e : Node) → n ≡ kind.Expr e → ⊥) → ((ts : Vec Node Global) (e : Node) → n ≡ kind.Assign ts e → ⊥) → simple (plain_kind n) ≡ refused
-other_kind n h k =
+-- no other kind is one
+pub other_kind : (n : KindNode) → ((e : Node) → n ≡ kind.Expr e → ⊥) → ((ts : Vec Node Global) (e : Node) → n ≡ kind.Assign ts e → ⊥) → IsSimple (plain_kind n) → ⊥
+other_kind n h k is =
     let r = roll-out-StmtKind n in
-    ap (λ w. simple (plain_kind w)) (sym r) ∙ unrolled_simple (out-StmtKind n) (λ e q. h e (sym r ∙ q)) (λ ts e q. k ts e (sym r ∙ q))
+    unrolled_simple (out-StmtKind n) (λ e q. h e (sym r ∙ q)) (λ ts e q. k ts e (sym r ∙ q)) (subst (λ q. IsSimple (plain_kind q)) (sym r) is)
+
+-- ---- expressions
 
 abbrev OneExpr : Type 0
 OneExpr = open_.Expr-F Node FormatPart Fragment Link Pair
@@ -85,26 +98,47 @@ OneExpr = open_.Expr-F Node FormatPart Fragment Link Pair
 abbrev NoName : Node → Type 0
 NoName e = (x : _) → e ≡ node.Name x → ⊥
 
-unrolled_name : (x : OneExpr) → ((t : _) → roll-Expr x ≡ node.Name t → ⊥) → names_print (plain_expr (roll-Expr x)) ≡ false
+unrolled_name : (x : OneExpr) → NoName (roll-Expr x) → is_print_name (plain_expr (roll-Expr x)) ≡ false
 unfolding roll-Expr denote.Hole.Carrier.roll
 unrolled_name (open_.Name t) h = absurd (h t refl)
-unrolled_name x h = ap names_print (fold-roll-Expr _ _ _ _ _ _ _ _ _ _ x)
+unrolled_name x h = ap is_print_name (fold-roll-Expr _ _ _ _ _ _ _ _ _ _ x)
 
-pub no_name : (e : Node) → ((t : _) → e ≡ node.Name t → ⊥) → names_print (plain_expr e) ≡ false
-no_name e h = let r = roll-out-Expr e in ap (λ w. names_print (plain_expr w)) (sym r) ∙ unrolled_name (out-Expr e) (λ t q. h t (sym r ∙ q))
+pub no_name : (e : Node) → NoName e → false ≡ is_print_name (plain_expr e)
+no_name e h = let r = roll-out-Expr e in sym (ap (λ w. is_print_name (plain_expr w)) (sym r) ∙ unrolled_name (out-Expr e) (λ t q. h t (sym r ∙ q)))
 
-unrolled_target : (x : OneExpr) (v : Expr) → ((t : _) → roll-Expr x ≡ node.Name t → ⊥) → assignment (exprs (plain_expr (roll-Expr x)) no_exprs) v ≡ refused
+pub a_name : (e : Node) (x : _) (b : Bool) → e ≡ node.Name x → b ≡ is_same_text x (codes "print") → b ≡ is_print_name (plain_expr e)
+a_name e x b is tested = tested ∙ sym (ap is_print_name (ap plain_expr is ∙ plain-Name x))
+
+unrolled_target : (x : OneExpr) → NoName (roll-Expr x) → IsOneName (exprs (plain_expr (roll-Expr x)) no_exprs) → ⊥
 unfolding roll-Expr denote.Hole.Carrier.roll
-unrolled_target (open_.Name t) v h = absurd (h t refl)
-unrolled_target x v h = ap (λ e. assignment (exprs e no_exprs) v) (fold-roll-Expr _ _ _ _ _ _ _ _ _ _ x)
+unrolled_target (open_.Name t) h = absurd (h t refl)
+unrolled_target x h = subst (λ e. IsOneName (exprs e no_exprs)) (fold-roll-Expr _ _ _ _ _ _ _ _ _ _ x)
 
-pub no_target : (e : Node) (v : Expr) → ((t : _) → e ≡ node.Name t → ⊥) → assignment (exprs (plain_expr e) no_exprs) v ≡ refused
-no_target e v h = let r = roll-out-Expr e in ap (λ w. assignment (exprs (plain_expr w) no_exprs) v) (sym r) ∙ unrolled_target (out-Expr e) v (λ t q. h t (sym r ∙ q))
+pub no_target : (ts : List Node) (t : Node) → ts ≡ t ∷ [] → NoName t → IsOneName (plain_exprs ts) → ⊥
+no_target ts t ts-is h is =
+    let r = roll-out-Expr t in
+    unrolled_target (out-Expr t) (λ x q. h x (sym r ∙ q)) (subst (λ w. IsOneName (exprs (plain_expr w) no_exprs)) (sym r) (subst (λ l. IsOneName (plain_exprs l)) ts-is is))
 
-unrolled_call : (x : OneExpr) → ((f : _) (es : Vec Node Global) (comma : _) → roll-Expr x ≡ node.Call f es comma → ⊥) → expression (plain_expr (roll-Expr x)) ≡ refused
+unrolled_call : (x : OneExpr) → ((f : _) (es : Vec Node Global) (comma : _) → roll-Expr x ≡ node.Call f es comma → ⊥) → IsPrintCall (plain_expr (roll-Expr x)) → ⊥
 unfolding roll-Expr denote.Hole.Carrier.roll
 unrolled_call (open_.Call f es comma) h = absurd (h f es comma refl)
-unrolled_call x h = ap expression (fold-roll-Expr _ _ _ _ _ _ _ _ _ _ x)
+unrolled_call x h = subst IsPrintCall (fold-roll-Expr _ _ _ _ _ _ _ _ _ _ x)
 
-pub no_call : (e : Node) → ((f : _) (es : Vec Node Global) (comma : _) → e ≡ node.Call f es comma → ⊥) → expression (plain_expr e) ≡ refused
-no_call e h = let r = roll-out-Expr e in ap (λ w. expression (plain_expr w)) (sym r) ∙ unrolled_call (out-Expr e) (λ f es comma q. h f es comma (sym r ∙ q))
+pub no_call : (e : Node) → ((f : _) (es : Vec Node Global) (comma : _) → e ≡ node.Call f es comma → ⊥) → IsPrintCall (plain_expr e) → ⊥
+no_call e h is = let r = roll-out-Expr e in unrolled_call (out-Expr e) (λ f es comma q. h f es comma (sym r ∙ q)) (subst (λ w. IsPrintCall (plain_expr w)) (sym r) is)
+
+-- ---- lists of one element
+
+pub many_arguments : (es : List Node) → (length es ≡ 1 → ⊥) → IsOneSum (plain_exprs es) → ⊥
+many_arguments [] h is = is
+many_arguments (e ∷ []) h is = absurd (h refl)
+many_arguments (e ∷ f ∷ es) h is = is
+
+pub many_targets : (ts : List Node) → (length ts ≡ 1 → ⊥) → IsOneName (plain_exprs ts) → ⊥
+many_targets [] h is = is
+many_targets (t ∷ []) h is = absurd (h refl)
+many_targets (t ∷ u ∷ ts) h is = no-pair (plain_expr t) is
+  where
+    no-pair : (a : Expr) → IsOneName (exprs a (exprs (plain_expr u) (plain_exprs ts))) → ⊥
+    no-pair (name x) k = k
+    no-pair e k = k

@@ -1,14 +1,10 @@
 -- Lists of one element, and all others.
 use Rattle.std.proofs.Common.{◌≡◌, ◌≤◌, arith, false, ◌&&◌, List, [], ◌∷◌, length, get_or, refl, sym, ap, ◌∙◌}
-use Rattle.py_syntax.specs.declared.expr.Expr as node
 use Rattle.py_syntax.specs.declared.expr.Expr.{Expr as Node}
 use Rattle.py_syntax.specs.declared.expr.Link.{Link}
-use Rattle.py_syntax.specs.Tree.{link, no_links}
 use Rattle.py_syntax.specs.View.{plain_expr, plain_exprs, plain_links}
+use Rattle.cov_app.proofs.Nodes.{plain-link}
 use Rattle.cov_app.specs.Forms.{is_sum, is_relation, is_name, is_one_link, is_one_sum, is_one_name}
-
-plain-link : (l : Link) → plain_links (l ∷ []) ≡ link l.op (plain_expr l.right) no_links
-plain-link l = search node.the_lemmas
 
 pub link_alone : (ls : List Link) (l : Link) → length ls ≡ 1 → l ≡ get_or ls 0 l → is_one_link (plain_links ls) ≡ (is_relation l.op && is_sum (plain_expr l.right))
 link_alone [] l n is = absurd cc

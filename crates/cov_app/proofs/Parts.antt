@@ -2,32 +2,23 @@
 use Rattle.std.proofs.Common.{◌≡◌, ℕ, ◌+◌, ◌<◌, Bool, true, false, ◌&&◌, List, ◌∷◌, ◌++◌, Option, Some, None, Vec, Global, sym, ap, ◌∙◌, get_or, length, drop}
 use Rattle.py_syntax.specs.declared.expr.Expr.{Expr as Node}
 use Rattle.py_syntax.specs.declared.stmt.Arm.{Arm, out-Arm}
-use Rattle.py_syntax.specs.declared.stmt.Arm as arms_
 use Rattle.py_syntax.specs.declared.stmt.Case.{Case, out-Case}
 use Rattle.py_syntax.specs.declared.stmt.Case as cases_
 use Rattle.py_syntax.specs.declared.stmt.Clause.{Clause, out-Clause}
 use Rattle.py_syntax.specs.declared.stmt.Clause as clauses_
 use Rattle.py_syntax.specs.declared.stmt.Stmt.{Stmt, out-Stmt}
-use Rattle.py_syntax.specs.declared.stmt.Stmt as stmts_
 use Rattle.py_syntax.specs.declared.stmt.StmtKind.{StmtKind}
 use Rattle.py_syntax.specs.declared.stmt.StmtKind as kind_
 use Rattle.py_syntax.specs.declared.stmt.Suite.{Suite}
-use Rattle.py_syntax.specs.Tree.{stmt, if', while, for, try, arm, clause, case}
+use Rattle.py_syntax.specs.Tree.{for, try, clause, case}
 use Rattle.py_syntax.specs.View.{plain_expr, plain_pattern, plain_stmts, plain_kind, plain_suite, plain_opt_suite, plain_arms, plain_clauses, plain_cases}
 use Rattle.std.specs.Option.{option_map}
 use Rattle.cov_app.specs.Least.{earlier, least}
 use Rattle.cov_app.specs.Forms.{is_test, unbuilt_lines, in_kind, in_suite, in_opt, in_arms, in_clauses, in_cases}
 use Rattle.cov_app.proofs.Earliest.{a_turn}
+use Rattle.cov_app.proofs.Nodes.{plain-If, plain-While, plain-stmts, plain-arms}
 
 -- ---- statements
-
-plain-If : (as' : Vec Arm Global) (o : Option Suite) → plain_kind (kind_.If as' o) ≡ if' (plain_arms as'.items) (plain_opt_suite o)
-plain-If as' None = search kind_.the_lemmas
-plain-If as' (Some o) = search kind_.the_lemmas
-
-plain-While : (t : Node) (b : Suite) (o : Option Suite) → plain_kind (kind_.While t b o) ≡ while (plain_expr t) (plain_suite b) (plain_opt_suite o)
-plain-While t b None = search kind_.the_lemmas
-plain-While t b (Some o) = search kind_.the_lemmas
 
 plain-For : (t e : Node) (b : Suite) (o : Option Suite) → plain_kind (kind_.For t e b o) ≡ for (plain_expr t) (plain_expr e) (plain_suite b) (plain_opt_suite o)
 plain-For t e b None = search kind_.the_lemmas
@@ -60,12 +51,6 @@ try-parts line k b cs slice o f is same =
     ∙ ap (λ xs. line ∷ ((in_suite false (plain_suite b) ++ in_clauses (plain_clauses xs)) ++ (in_opt false (plain_opt_suite o) ++ in_opt false (plain_opt_suite f)))) (sym same)
 
 -- ---- lists
-
-plain-stmts : (s : Stmt) (ss : List Stmt) → plain_stmts (s ∷ ss) ≡ stmt (out-Stmt s).first (out-Stmt s).last (plain_kind (out-Stmt s).kind) (out-Stmt s).end (plain_stmts ss)
-plain-stmts s ss = search stmts_.the_lemmas
-
-plain-arms : (a : Arm) (as' : List Arm) → plain_arms (a ∷ as') ≡ arm (plain_expr (out-Arm a).test) (plain_suite (out-Arm a).body) (plain_arms as')
-plain-arms a as' = search arms_.the_lemmas
 
 plain-clauses : (c : Clause) (cs : List Clause) → plain_clauses (c ∷ cs) ≡ clause (option_map plain_expr (out-Clause c).kind) (out-Clause c).name (plain_suite (out-Clause c).body) (plain_clauses cs)
 plain-clauses c cs = search clauses_.the_lemmas

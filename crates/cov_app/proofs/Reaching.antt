@@ -1,18 +1,24 @@
 -- How what the walk does is put together as the meaning is.
-use Rattle.std.proofs.Common.{◌≡◌, ℕ, ◌+◌, Bool, List, [], ◌∷◌, ◌++◌, Result, Ok, Err, ℤ, refl, sym, ap, ◌∙◌, subst, append_assoc, add-one}
-use Rattle.std.specs.Fmt.{signed_decimal}
+use Rattle.std.proofs.Common.{◌≡◌, ℕ, ◌+◌, Bool, true, List, ◌++◌, Result, Ok, Err, refl, sym, ap, ◌∙◌, subst, add-one, if◌then◌else◌}
 use Rattle.cov_outside.specs.Prefixes.{IsPrefix, GainsPrefix}
+use Rattle.py_value.specs.Plain.{PlainRaised}
 use Rattle.py_syntax.specs.Tree.{Expr}
-use Rattle.cov_app.specs.Walking.Value.{unbuilt}
-use Rattle.cov_app.specs.Walking.State.{Act, thrown, State, end_of, M, bind, add, put, give, chain, step, note, read, write, stop, Out, normal, raised, next, using, store, print}
-use Rattle.cov_app.specs.Walking.Meaning.{with_value, with_test, refused}
-use Rattle.cov_app.proofs.Growth.{Grows, prefix-trans, grows-bind}
+use Rattle.py_meaning.proofs.Before.{begins-trans}
+use Rattle.py_meaning.specs.Activations.{Item, thrown}
+use Rattle.py_meaning.specs.Calls.{Calls}
+use Rattle.py_meaning.specs.Computations.{State, done, Ans, M, bind, add, give, chain, step, note, read, stop, branch}
+use Rattle.py_meaning.specs.Expressions.{eval}
+use Rattle.py_meaning.specs.Modules.{LoadedModule}
+use Rattle.py_meaning.specs.Statements.{Out, normal, raises, on_answer, using}
 use Rattle.cov_app.specs.declared.walk.Raised.{Raised}
 use Rattle.cov_app.specs.declared.walk.RunFault.{RunFault}
 use Rattle.cov_app.specs.declared.walk.Left.{Left}
 use Rattle.cov_app.specs.declared.walk.Left.TheVariants as left
 use Rattle.cov_app.specs.declared.walk.Walk.{Walk}
-use Rattle.cov_app.specs.Walk.{Stands, mark_of, Notes, Stores, Values, Tests, answer_of, raised_of, Reaches, Prints_part, leaves, Does, Moves}
+use Rattle.cov_app.specs.Walked.{IsTest}
+use Rattle.cov_app.specs.Walk.{script, Stands, mark_of, Notes, Tests, IsTested, raised_of, end_of, Reaches, Prints_part, leaves, Does, Move, Moves}
+use Rattle.cov_app.proofs.Growth.{Grows, grows-bind}
+use Rattle.cov_app.proofs.Standing.{throws}
 
 -- ---- one after the other
 
@@ -43,7 +49,7 @@ pub part-after : (m k : M Out) (a b : Walk) (T : Type 0) (c e f : List ℕ) → 
 unfolding Prints_part Reaches
 part-after m k a b T c e f p q = λ base s st h t.
     let y = p base s st h in
-    subst (λ r. GainsPrefix base f (end_of r).world.out) (sym y.same) (q base y.state y.stands y.holds t)
+    subst (λ r. GainsPrefix base f (end_of r).out) (sym y.same) (q base y.state y.stands y.holds t)
 
 pub does-after : (m k : M Out) (a b d : Walk) (T : Type 0) (c e f : List ℕ) (r : Result Left RunFault) → Reaches m k a b T c e → Does k b r d T e f → Does m a r d T c f
 does-after m k a b d T c e f (Ok l) p q = reaches-trans m k (leaves l) a b d T c e f p q
@@ -56,12 +62,12 @@ does-moved m k a b d T c f r p q = does-after m k a b d T c c f r (reaches m k a
 -- ---- what fails where nothing was printed
 
 longer : {base after xs ys : List ℕ} → GainsPrefix base after xs → IsPrefix xs ys → GainsPrefix base after ys
-longer g p = record { front = g.front; prefix = prefix-trans g.prefix p; is = g.is }
+longer g p = record { front = g.front; prefix = begins-trans g.prefix p; is = g.is }
 
 -- a fault before anything was printed, as want of memory is
 pub fault-before : (m : M Out) (a : Walk) (T : Type 0) (c : List ℕ) → Grows m → Prints_part m a T c c
 unfolding Prints_part Grows
-fault-before m a T c g = λ base s st h t. record { front = s.world.out; prefix = g s a.steps; is = h t }
+fault-before m a T c g = λ base s st h t. record { front = s.out; prefix = (g s a.steps st.print).printed; is = h t }
 
 -- ---- parts
 
@@ -71,24 +77,39 @@ in-chain m k f a b T c d p = λ base s st h.
     let x = p base s st h in
     record { state = x.state; stands = x.stands; holds = x.holds; same = ap (λ r. bind r f) x.same }
 
-pub fault-in-chain : (m : M Out) (f : Out → M Out) (a : Walk) (T : Type 0) (c d : List ℕ) → ((o : Out) → Grows (f o)) → Prints_part m a T c d → Prints_part (chain m f) a T c d
-unfolding Prints_part chain
-fault-in-chain m f a T c d g p = λ base s st h t. longer (p base s st h t) (grows-bind (m s a.steps) f g)
+pub fault-in-chain : (m : M Out) (f : Out → M Out) (a : Walk) (T : Type 0) (c d : List ℕ) → Grows m → ((o : Out) → Grows (f o)) → Prints_part m a T c d → Prints_part (chain m f) a T c d
+unfolding Prints_part Grows chain
+fault-in-chain m f a T c d gm g p = λ base s st h t.
+    longer (p base s st h t) (grows-bind (m s a.steps) f (gm s a.steps st.print).print g).printed
 
 -- what follows a statement that was left so
 abbrev pub follows : Left → M Out → M Out
 follows left.End m = m
-follows (left.Raised x) m = give (raised (raised_of x))
+follows (left.Raised x) m = give (raises (raised_of x) true)
 follows left.Cut m = stop
 
-pub goes-on : (l : Left) (m : M Out) (w : Walk) → Moves (chain (leaves l) (λ o. next o m)) (follows l m) w w
-unfolding Moves chain give stop
-goes-on left.End m w = λ s st. record { state = s; stands = st; silent = refl; same = refl }
-goes-on (left.Raised x) m w = λ s st. record { state = s; stands = st; silent = refl; same = refl }
-goes-on left.Cut m w = λ s st. record { state = s; stands = st; silent = refl; same = refl }
+-- going on with m behind a normal end, and passing on an exception
+pub record Passes (f : Out → M Out) (m : M Out) : Type 0 where
+  pub on : f normal ≡ m
+  pub out : (e : PlainRaised) → f (raises e true) ≡ give (raises e true)
 
-pub chain-reaches : (m k : M Out) (l : Left) (a b : Walk) (T : Type 0) (c d : List ℕ) → Reaches m (leaves l) a b T c d → Reaches (chain m (λ o. next o k)) (follows l k) a b T c d
-chain-reaches m k l a b T c d p = reaches-trans _ _ _ a b b T c d d (in-chain m (leaves l) (λ o. next o k) a b T c d p) (reaches _ _ b b T d (goes-on l k b))
+goes-on : (f : Out → M Out) (m : M Out) (l : Left) (w : Walk) → Passes f m → Moves (chain (leaves l) f) (follows l m) w w
+unfolding Moves chain give stop
+goes-on f m left.End w p = λ s st. record { state = s; stands = st; silent = refl; same = ap (λ k. k s w.steps) p.on }
+goes-on f m (left.Raised x) w p = λ s st. record { state = s; stands = st; silent = refl; same = ap (λ k. k s w.steps) (p.out (raised_of x)) }
+goes-on f m left.Cut w p = λ s st. record { state = s; stands = st; silent = refl; same = refl }
+
+pub chain-reaches : (m k : M Out) (f : Out → M Out) (l : Left) (a b : Walk) (T : Type 0) (c d : List ℕ) → Passes f k → Reaches m (leaves l) a b T c d → Reaches (chain m f) (follows l k) a b T c d
+chain-reaches m k f l a b T c d g p = reaches-trans _ _ _ a b b T c d d (in-chain m (leaves l) f a b T c d p) (reaches _ _ b b T d (goes-on f k l b g))
+
+-- it was left there, and the rest isn't reached
+pub chain-left : (m k : M Out) (f : Out → M Out) (l : Left) (a b : Walk) (T : Type 0) (c d : List ℕ) → Passes f k → (l ≡ left.End → ⊥) → Reaches m (leaves l) a b T c d → Reaches (chain m f) (leaves l) a b T c d
+chain-left m k f l a b T c d g other p = go l other (chain-reaches m k f l a b T c d g p)
+  where
+    go : (l : Left) → (l ≡ left.End → ⊥) → Reaches (chain m f) (follows l k) a b T c d → Reaches (chain m f) (leaves l) a b T c d
+    go left.End other r = absurd (other refl)
+    go (left.Raised x) other r = r
+    go left.Cut other r = r
 
 -- ---- marks and steps
 
@@ -97,61 +118,38 @@ unfolding Moves Notes step
 marked-on m again l a b n e = λ s st.
     record { state = add (mark_of again l) s; stands = n s st; silent = refl; same = ap (λ k. step (mark_of again l) m s k) (sym e ∙ add-one b.steps) }
 
-pub no-step : (m : M Out) (i : Act) (a : Walk) → a.steps ≡ 0 → Moves (step i m) stop a a
+pub no-step : (m : M Out) (i : Item) (a : Walk) → a.steps ≡ 0 → Moves (step i m) stop a a
 unfolding Moves step stop
 no-step m i a e = λ s st. record { state = s; stands = st; silent = refl; same = ap (λ k. step i m s k) e }
 
 -- ---- values
 
-pub value-given : (e : Expr) (f : ℤ → M Out) (w : Walk) (z : ℤ) (r : Result ℤ Raised) → r ≡ Ok z → Values w.globals e r → Moves (with_value e f) (f z) w w
-unfolding Moves Values with_value read
-value-given e f w z r is v = λ s st.
-    record { state = s; stands = st; silent = refl; same = ap (λ q. using q f s w.steps) (v s.world.globals st.globals ∙ ap answer_of is) }
+pub given-on : {A : Type 0} (m : M (Ans A)) (f : A → M Out) (a : A) (s t : State) (n k : ℕ) → m s n ≡ done (Ok a) t k → using m f s n ≡ f a t k
+unfolding using chain
+given-on m f a s t n k h = ap (λ r. bind r (λ a. on_answer a f)) h
 
-throws : (x : Raised) (w : Walk) (s : State) → Stands w s → Stands w (add (thrown (raised_of x).kind) s)
-unfolding Rattle.cov_app.specs.Walking.Arcs.arcs
-throws x w s st = record { globals = st.globals; line = st.line; known = st.known }
+-- the exception is thrown there
+pub raised-on : {A : Type 0} (m : M (Ans A)) (f : A → M Out) (x : Raised) (w : Walk) (s : State) → Stands w s → m s w.steps ≡ done (Err (raised_of x)) s w.steps → Move (using m f) (leaves (left.Raised x)) w w s
+unfolding using chain note
+raised-on m f x w s st h = record { state = add (thrown (raised_of x).kind) s; stands = throws (raised_of x) w s st; silent = refl; same = ap (λ r. bind r (λ a. on_answer a f)) h }
 
-pub value-raised : (e : Expr) (f : ℤ → M Out) (w : Walk) (x : Raised) (r : Result ℤ Raised) → r ≡ Err x → Values w.globals e r → Moves (with_value e f) (leaves (left.Raised x)) w w
-unfolding Moves Values with_value read note
-value-raised e f w x r is v = λ s st.
-    record { state = add (thrown (raised_of x).kind) s; stands = throws x w s st; silent = refl; same = ap (λ q. using q f s w.steps) (v s.world.globals st.globals ∙ ap answer_of is) }
+-- ---- tests
 
-pub test-given : (e : Expr) (f : Bool → M Out) (w : Walk) (b : Bool) (r : Result Bool Raised) → r ≡ Ok b → Tests w.globals e r → Moves (with_test e f) (f b) w w
-unfolding Moves Tests with_test read
-test-given e f w b r is v = λ s st.
-    record { state = s; stands = st; silent = refl; same = ap (λ q. using q f s w.steps) (v s.world.globals st.globals ∙ ap answer_of is) }
+abbrev pub testing : Calls → List LoadedModule → Expr → M Out → M Out → M Out
+testing calls ms e m k = using (eval calls (script ms) e) (λ v. branch v m k)
 
-pub test-raised : (e : Expr) (f : Bool → M Out) (w : Walk) (x : Raised) (r : Result Bool Raised) → r ≡ Err x → Tests w.globals e r → Moves (with_test e f) (leaves (left.Raised x)) w w
-unfolding Moves Tests with_test read note
-test-raised e f w x r is v = λ s st.
-    record { state = add (thrown (raised_of x).kind) s; stands = throws x w s st; silent = refl; same = ap (λ q. using q f s w.steps) (v s.world.globals st.globals ∙ ap answer_of is) }
-
-pub was-refused : (x : Raised) (w : Walk) → raised_of x ≡ unbuilt → Moves refused (leaves (left.Raised x)) w w
-unfolding Moves note
-was-refused x w is = λ s st.
-    record { state = add (thrown (raised_of x).kind) s; stands = throws x w s st; silent = refl; same = ap (λ r. note (thrown r.kind) (give (raised r)) s w.steps) (sym is) }
-
--- ---- changes of the world
-
-pub stored : (m : M Out) (x : List ℕ) (z : ℤ) (a b : Walk) → Stores a x z b → b.steps ≡ a.steps → Moves (write (store x z) m) m a b
-unfolding Moves Stores write
-stored m x z a b h e = λ s st. record { state = put (store x z) s; stands = h s st; silent = refl; same = ap (m (put (store x z) s)) (sym e) }
-
-pub printed : (m : M Out) (z : ℤ) (w : Walk) (T : Type 0) (c d : List ℕ) → (T → d ≡ c ++ signed_decimal z ++ 10 ∷ []) → Reaches (write (print z) m) m w w T c d
-unfolding Reaches write
-printed m z w T c d p = λ base s st h.
-    record { state = put (print z) s; stands = record { globals = st.globals; line = st.line; known = st.known }; holds = λ t. p t ∙ ap (λ o. o ++ signed_decimal z ++ 10 ∷ []) (h t) ∙ assoc base s.world.out (signed_decimal z) (10 ∷ []); same = refl }
-  where
-    assoc : (xs bs cs ds : List ℕ) → (xs ++ bs) ++ cs ++ ds ≡ xs ++ (bs ++ cs ++ ds)
-    assoc xs bs cs ds = append_assoc (xs ++ bs) cs ds ∙ append_assoc xs bs (cs ++ ds) ∙ ap (λ o. xs ++ o) (sym (append_assoc bs cs ds))
-
-pub fault-in-print : (z : ℤ) (w : Walk) (T : Type 0) (c d : List ℕ) → (T → GainsPrefix c d (signed_decimal z ++ 10 ∷ [])) → Prints_part (write (print z) (give normal)) w T c d
-unfolding Prints_part write give
-fault-in-print z w T c d g = λ base s st h t.
-    let p = g t in
+pub test-given : (calls : Calls) (ms : List LoadedModule) (e : Expr) (m k : M Out) (w : Walk) (b : Bool) (r : Result Bool Raised) → r ≡ Ok b → IsTest e → Tests w.globals e r → Moves (testing calls ms e m k) (if b then m else k) w w
+unfolding Moves Tests branch read
+test-given calls ms e m k w b r r-is is t = λ s st.
+    let h = subst (λ q. IsTested q s w.steps (eval calls (script ms) e s w.steps)) r-is (t calls ms s w.steps is st.names) in
     record {
-      front = s.world.out ++ p.front;
-      prefix = record { rest = p.prefix.rest; is = append_assoc s.world.out (signed_decimal z) (10 ∷ []) ∙ ap (λ o. s.world.out ++ o) p.prefix.is ∙ sym (append_assoc s.world.out p.front p.prefix.rest) };
-      is = p.is ∙ ap (λ o. o ++ p.front) (h t) ∙ append_assoc base s.world.out p.front;
+      state = s;
+      stands = st;
+      silent = refl;
+      same = given-on (eval calls (script ms) e) (λ v. branch v m k) h.value s s w.steps w.steps h.is ∙ ap (λ b. (if b then m else k) s w.steps) h.truth;
     }
+
+pub test-raised : (calls : Calls) (ms : List LoadedModule) (e : Expr) (m k : M Out) (w : Walk) (x : Raised) (r : Result Bool Raised) → r ≡ Err x → IsTest e → Tests w.globals e r → Moves (testing calls ms e m k) (leaves (left.Raised x)) w w
+unfolding Moves Tests
+test-raised calls ms e m k w x r r-is is t = λ s st.
+    raised-on (eval calls (script ms) e) (λ v. branch v m k) x w s st (subst (λ q. IsTested q s w.steps (eval calls (script ms) e s w.steps)) r-is (t calls ms s w.steps is st.names))

@@ -1,68 +1,21 @@
--- The forms that the walk follows, whatever the layout of their text.
+-- A tree of the built forms that keeps the lines of its tokens is one of the forms that the walk follows.
 use Rattle.std.proofs.Common.{◌≡◌, ℕ, Bool, true, false, not, ◌&&◌, List, [], ◌∷◌, ◌++◌, refl, sym, ◌∙◌, codes}
 use Rattle.py_value.specs.declared.operator.BinOp.{BinOp}
 use Rattle.py_value.specs.declared.operator.BinOp.TheVariants as operators
 use Rattle.py_value.specs.declared.operator.CmpOp.TheVariants as comparisons
-use Rattle.py_value.specs.Numbers.{fits_64_bits}
 use Rattle.py_value.proofs.KeyLaws.{same_text}
 use Rattle.py_token.specs.Plain.{PToken}
 use Rattle.py_syntax.specs.declared.expr.Comparison.{Comparison}
 use Rattle.py_syntax.specs.declared.expr.Comparison.TheVariants.{Op}
-use Rattle.py_syntax.specs.Tree.{Text, Expr, name, int, binary, compare, call, Exprs, no_exprs, exprs, Links, no_links, link, Stmts, no_stmts, stmt, Suite, suite, OptSuite, no_suite, has_suite, Arms, no_arms, arm, StmtKind, expr, assign, if', while}
+use Rattle.py_syntax.specs.Tree.{Expr, name, int, binary, compare, call, Exprs, no_exprs, exprs, Links, no_links, link, Stmts, no_stmts, stmt, suite, OptSuite, no_suite, has_suite, Arms, no_arms, arm, StmtKind, expr, assign, if', while}
 use Rattle.py_syntax.specs.Kinds.{Kind}
 use Rattle.py_syntax.specs.Statements.{NormalStmts, NormalKind, NormalSuite, NormalOpt}
 use Rattle.py_syntax.specs.Spelling.{first_line, KeepsLines, KindLines, SuiteLines, OptLines}
 use Rattle.cov_app.specs.Names.{is_taken}
+use Rattle.cov_app.specs.Walked.{IsItem, IsAdditive, IsSum, IsRelation, IsOneLink, IsTest, IsOneSum, IsPrintName, IsPrintCall, IsOneName, IsWalked, IsWalkedKind, AreWalkedArms, IsWalkedElse}
 use Rattle.cov_app.specs.Forms.{is_name, is_item, is_additive, is_sum, is_relation, is_one_link, is_test, is_print_name, is_one_sum, is_print, is_one_name, unless, unbuilt_lines, in_kind, in_suite, in_opt, in_arms}
 
 -- ---- expressions
-
-abbrev pub IsName : Text → Type 0
-IsName x = is_taken x ≡ false
-
-abbrev pub IsItem : Expr → Type 0
-IsItem (name x) = IsName x
-IsItem (int n) = fits_64_bits n ≡ true
-IsItem e = ⊥
-
-abbrev pub IsAdditive : BinOp → Type 0
-IsAdditive operators.Add = Unit {0}
-IsAdditive operators.Sub = Unit {0}
-IsAdditive op = ⊥
-
-abbrev pub IsSum : Expr → Type 0
-IsSum (binary op a b) = IsAdditive op × IsSum a × IsItem b
-IsSum e = IsItem e
-
-abbrev pub IsRelation : Comparison → Type 0
-IsRelation (Op comparisons.Eq) = Unit {0}
-IsRelation (Op comparisons.Lt) = Unit {0}
-IsRelation (Op comparisons.Gt) = Unit {0}
-IsRelation op = ⊥
-
-abbrev pub IsOneLink : Links → Type 0
-IsOneLink (link op b no_links) = IsRelation op × IsSum b
-IsOneLink links = ⊥
-
-abbrev pub IsTest : Expr → Type 0
-IsTest (compare a links) = IsSum a × IsOneLink links
-IsTest e = IsSum e
-
-abbrev pub IsOneSum : Exprs → Type 0
-IsOneSum (exprs e no_exprs) = IsSum e
-IsOneSum es = ⊥
-
-abbrev pub IsPrintName : Expr → Type 0
-IsPrintName (name x) = x ≡ codes "print"
-IsPrintName e = ⊥
-
-abbrev pub IsPrintCall : Expr → Type 0
-IsPrintCall (call f args comma) = IsPrintName f × IsOneSum args
-IsPrintCall e = ⊥
-
-abbrev pub IsOneName : Exprs → Type 0
-IsOneName (exprs (name x) no_exprs) = IsName x
-IsOneName es = ⊥
 
 both : (a b : Bool) → (a && b) ≡ true → (a ≡ true) × (b ≡ true)
 both true b h = (refl, h)
@@ -124,32 +77,6 @@ one-name-is (exprs e no_exprs) h = name-alone e h
 one-name-is es h = absurd cc
 
 -- ---- statements
-
-abbrev mutual
-  pub IsWalked : Stmts → Type 0
-  IsWalked no_stmts = Unit {0}
-  IsWalked (stmt first last kind end more) = IsWalkedKind first kind × IsWalked more
-
-  pub IsWalkedKind : ℕ → StmtKind → Type 0
-  IsWalkedKind l (expr e) = IsPrintCall e
-  IsWalkedKind l (assign targets value) = IsOneName targets × IsSum value
-  IsWalkedKind l (if' arms orelse) = AreWalkedArms arms × IsWalkedElse orelse
-  IsWalkedKind l (while test body orelse) = IsTest test × IsWalkedLoop l body × IsWalkedElse orelse
-  IsWalkedKind l kind = ⊥
-
-  pub AreWalkedArms : Arms → Type 0
-  AreWalkedArms no_arms = Unit {0}
-  AreWalkedArms (arm test (suite first last inline body) rest) = IsTest test × IsWalked body × AreWalkedArms rest
-
-  -- the header of a loop begins on the line of its statement
-  pub IsWalkedLoop : ℕ → Suite → Type 0
-  IsWalkedLoop l (suite first last inline body) = (first ≡ l) × IsWalked body
-
-  pub IsWalkedElse : OptSuite → Type 0
-  IsWalkedElse no_suite = Unit {0}
-  IsWalkedElse (has_suite (suite first last inline body)) = IsWalked body
-
--- ---- a tree of the built forms that keeps the lines of its tokens is such
 
 unless-is : (b : Bool) (l : ℕ) → unless b l ≡ [] → b ≡ true
 unless-is true l h = refl

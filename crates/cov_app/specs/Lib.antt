@@ -1,7 +1,7 @@
 pub mod Names
 pub mod Forms
 pub mod Least
-pub mod Walking
+pub mod Walked
 pub mod Walk
 pub mod Reading
 pub mod Command

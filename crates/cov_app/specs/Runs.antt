@@ -4,9 +4,8 @@ use Rattle.std.specs.BTreeSet.{insert_key}
 use Rattle.cov_outside.specs.Prefixes.{GainsPrefix}
 use Rattle.py_syntax.specs.Tree.{Text, Stmts}
 use Rattle.py_meaning.specs.Faults.{name_unknown}
-use Rattle.py_meaning.specs.Crossings.{by_lines}
+use Rattle.py_meaning.specs.Crossings.{by_lines, shown_line}
 use Rattle.py_meaning.specs.Program.{Run, outcome_of, err_of}
-use Rattle.cov_app.specs.Walking.Arcs.{end}
 use Rattle.cov_app.specs.declared.walk.Raised.{Raised}
 use Rattle.cov_app.specs.declared.walk.RunFault.{RunFault}
 use Rattle.cov_app.specs.declared.walk.Left.{Left}
@@ -38,7 +37,7 @@ ending_left left.Cut = []
 -- the arcs at the end: with that of leaving, unless the run was cut
 abbrev pub last_arcs : Left → Walk → List Arc
 last_arcs left.Cut w = w.arcs.keys
-last_arcs l w = insert_key by_lines w.arcs.keys (end w.kept, end 0)
+last_arcs l w = insert_key by_lines w.arcs.keys (shown_line 1 w.kept, shown_line 1 0)
 
 abbrev pub ending_of : Option Raised → List ℕ
 ending_of None = []

@@ -147,16 +147,22 @@ pub record Answers (words : List (List ℕ)) (files : Files) (input : List ℕ) 
   pub read : (path bytes : List ℕ) → command words ≡ Ok path → files path ≡ Some bytes → Reads bytes reading
   pub met : Meets (step words files input reading) w e tells before after
 
+-- the same over some files, such as the shelf gave
+pub record AnswersGiven (words : List (List ℕ)) (input : List ℕ) (w : Why) (e : List ℕ) (tells : Type 0) (before after : List ℕ) : Type 0 where
+  pub files : Files
+  pub answers : Answers words files input w e tells before after
+
 -- what became of a text for `err`
 abbrev pub IsTold : Told → List ℕ → List ℕ → List ℕ → Type 0
 IsTold told_variants.Whole text before after = after ≡ before ++ text
 IsTold told_variants.Failed text before after = GainsPrefix before after text
 IsTold told_variants.NoMemory text before after = GainsPrefix before after text
 
--- the whole command: where the shelf tells its files the answer is the step's, and `err` gained its text
+-- the whole command: the answer is the step's over some files, over the shelf's own where it tells them, and `err` gained its text
 pub record TakesStep (words : List (List ℕ)) (shelf_tells : Type 0) (files : Files) (input : List ℕ) (w : Why) (t : Told) (out_tells : Type 0) (out_before out_after : List ℕ) (err_tells : Type 0) (err_before err_after : List ℕ) : Type 0 where
   pub ending : List ℕ
   pub answers : shelf_tells → Answers words files input w ending out_tells out_before out_after
+  pub given : AnswersGiven words input w ending out_tells out_before out_after
   pub told : err_tells → IsTold t (err_text (answer_of w) ending) err_before err_after
 
 -- the part of a script, and that of its bytes
@@ -164,6 +170,11 @@ pub record AnswersScript (path : List ℕ) (files : Files) (input : List ℕ) (w
   pub reading : Reading
   pub read : (bytes : List ℕ) → files path ≡ Some bytes → Reads bytes reading
   pub met : Meets (of_file path (files path) input reading) w e tells before after
+
+-- the part of a script over some files
+pub record AnswersScriptGiven (path input : List ℕ) (w : Why) (e : List ℕ) (tells : Type 0) (before after : List ℕ) : Type 0 where
+  pub files : Files
+  pub answers : AnswersScript path files input w e tells before after
 
 pub record AnswersSource (path bytes input : List ℕ) (w : Why) (e : List ℕ) (tells : Type 0) (before after : List ℕ) : Type 0 where
   pub reading : Reading

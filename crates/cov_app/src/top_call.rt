@@ -6,7 +6,7 @@ ghost use Rattle.cov_app.specs.Command.{command};
 ghost use Rattle.cov_app.specs.Answer.{answer_of, status_of, usage, no_such_file, syntax};
 ghost use Rattle.cov_app.specs.Reading.{reading_of};
 ghost use Rattle.cov_app.specs.Runs.{ending_of, answer_left, ending_left};
-ghost use Rattle.cov_app.specs.Step.{Answers, AnswersScript, AnswersSource, OrNoMemory, TakesStep, of_reading, stuck_answer, no_tree_answer, ill_formed_answer};
+ghost use Rattle.cov_app.specs.Step.{Answers, AnswersGiven, AnswersScript, AnswersScriptGiven, AnswersSource, OrNoMemory, TakesStep, of_reading, stuck_answer, no_tree_answer, ill_formed_answer};
 
 use crate::answer::{End, LimitKind, SyntaxKind, Told, Why};
 use crate::command::read_words;
@@ -34,7 +34,7 @@ pub fn coverage<H: Shelf, I: Source, O: Sink, E: Sink>(
     out: &mut O,
     err: &mut E,
 ) -> End
-    // Where the shelf tells its files, the answer and the bytes are those of the step.
+    // The answer and the bytes are those of the step over some files, and over the shelf's own where it tells them.
     ensures step { TakesStep (map string_bytes words.now) H.tells (H.files shelf.old) (I.left input.old) result.why result.told O.tells (O.contents out.old) (O.contents out.new) E.tells (E.contents err.old) (E.contents err.new) }
     ensures status { result.status ≡ status_of (answer_of result.why) }
 
@@ -63,6 +63,7 @@ fn answer<H: Shelf, O: Sink>(
     out: &mut O,
 ) -> (Why, Option<Raised>)
     ensures answers { (input : List ℕ) → H.tells → Answers (map string_bytes words.now) (H.files shelf.old) input result.0 (ending_of result.1) O.tells (O.contents out.old) (O.contents out.new) }
+    ensures given { (input : List ℕ) → AnswersGiven (map string_bytes words.now) input result.0 (ending_of result.1) O.tells (O.contents out.old) (O.contents out.new) }
     ensures usage { (i : ℕ) → (answer_of result.0 ≡ usage i) ↔ (command (map string_bytes words.now) ≡ Err i) }
     ensures write_fault { result.0 ≡ Why.WriteFault → Rose (O.faults out.old) (O.faults out.new) }
     ensures shelf_fault { result.0 ≡ Why.ShelfFault → Rose (H.faults shelf.old) (H.faults shelf.new) }
@@ -82,6 +83,7 @@ fn run_script<H: Shelf, O: Sink>(
     out: &mut O,
 ) -> (Why, Option<Raised>)
     ensures answers { (input : List ℕ) → H.tells → AnswersScript script.now (H.files shelf.old) input result.0 (ending_of result.1) O.tells (O.contents out.old) (O.contents out.new) }
+    ensures given { (input : List ℕ) → AnswersScriptGiven script.now input result.0 (ending_of result.1) O.tells (O.contents out.old) (O.contents out.new) }
     ensures no_usage { (i : ℕ) → answer_of result.0 ≢ usage i }
     ensures write_fault { result.0 ≡ Why.WriteFault → Rose (O.faults out.old) (O.faults out.new) }
     ensures shelf_fault { result.0 ≡ Why.ShelfFault → Rose (H.faults shelf.old) (H.faults shelf.new) }

@@ -1,19 +1,21 @@
 // Runs a module by walking over its tree, and keeps the arcs of its lines.
-ghost use Rattle.std.specs.Prelude.{◌≡◌, ℕ, ◌+◌, ◌-◌, ◌<◌, ◌≤◌, ℤ, [], ◌∷◌, ◌++◌, IfOk, OnOk, OnErr, IsErrOf};
+ghost use Rattle.std.specs.Prelude.{◌≡◌, ℕ, ◌+◌, ◌-◌, ◌<◌, ◌≤◌, List, ℤ, Bool, [], ◌∷◌, ◌++◌, IfOk, OnOk, OnErr, IsErrOf};
 ghost use Rattle.std.specs.Fmt.{signed_decimal};
 ghost use Rattle.std.specs.Str.{chars};
+ghost use Rattle.std.specs.BTreeSet.{insert_key};
 ghost use Rattle.cov_outside.specs.Counts.{Rose};
 ghost use Rattle.cov_outside.specs.Prefixes.{GainsPrefix};
-ghost use Rattle.py_syntax.specs.Tree.{OptSuite, name as named};
+ghost use Rattle.py_syntax.specs.Tree.{OptSuite, name as named, compare, call, while};
 ghost use Rattle.py_syntax.specs.View.{plain_expr, plain_exprs, plain_links, plain_kind, plain_stmts, plain_suite, plain_opt_suite, plain_arms};
-ghost use Rattle.std.specs.BTreeSet.{insert_key};
-ghost use Rattle.py_meaning.specs.Crossings.{by_lines};
-ghost use Rattle.cov_app.specs.Walking.Arcs.{end};
-ghost use Rattle.cov_app.specs.Walking.Value.{binary_of, compare_of};
-ghost use Rattle.cov_app.specs.Walking.State.{marked, step};
-ghost use Rattle.cov_app.specs.Walking.Meaning.{exec, exec_kind, exec_arms, exec_else, exec_while, simple, expression, assignment, print_call, names_print};
+ghost use Rattle.py_meaning.specs.Calls.{Calls};
+ghost use Rattle.py_meaning.specs.Crossings.{by_lines, shown_line};
+ghost use Rattle.py_meaning.specs.Expressions.{eval};
+ghost use Rattle.py_meaning.specs.Modules.{LoadedModule};
+ghost use Rattle.py_meaning.specs.Statements.{simply, exec, exec_kind, exec_arms, exec_opt};
 ghost use Rattle.cov_app.specs.declared.walk.RunFault.TheVariants.{NoMemory};
-ghost use Rattle.cov_app.specs.Walk.{answer_of, Values, Tests, Chains, Does, DoesOr, Moves, leaves};
+ghost use Rattle.cov_app.specs.Forms.{is_print_name};
+ghost use Rattle.cov_app.specs.Walked.{IsSum, IsPrintCall, IsOneName, IsSimple, IsWalked, IsWalkedKind, AreWalkedArms, IsWalkedElse};
+ghost use Rattle.cov_app.specs.Walk.{script, Applies, Compares, Values, Tests, assigning, Does, DoesOr, Moves, leaves};
 
 use cov_outside::{Sink, SinkError};
 use py_syntax::{Arm, Comparison, Expr, Link, Stmt, StmtKind, Suite};
@@ -56,7 +58,7 @@ pub(crate) struct Walk {
 }
 
 fn apply(op: BinOp, x: i64, y: i64) -> Result<i64, Raised>
-    ensures { answer_of result ≡ binary_of op x y }
+    ensures { Applies op x y result }
 {
     let exact = match op {
         BinOp::Add => x.checked_add(y),
@@ -70,7 +72,7 @@ fn apply(op: BinOp, x: i64, y: i64) -> Result<i64, Raised>
 }
 
 fn compared(op: Comparison, x: i64, y: i64) -> Result<bool, Raised>
-    ensures { answer_of result ≡ compare_of op x y }
+    ensures { Compares op x y result }
 {
     match op {
         Comparison::Op(CmpOp::Eq) => Ok(x == y),
@@ -143,7 +145,7 @@ fn chain(
     first: &Expr,
     links: &[Link],
 ) -> Result<Result<bool, Raised>, NoMemory>
-    ensures { IfOk result (λ r. Chains globals.now (plain_expr first.now) (plain_links links.now) r) }
+    ensures { IfOk result (λ r. Tests globals.now (compare (plain_expr first.now) (plain_links links.now)) r) }
 {
     if links.len() != 1 {
         return Ok(Err(Raised::Unbuilt));
@@ -161,7 +163,7 @@ fn chain(
 
 /// A line as an arc shows it: -1 for the outside.
 fn end_of_arc(line: u32) -> i64
-    ensures { result ≡ end line }
+    ensures { result ≡ shown_line 1 line }
 {
     if line == 0 { -1 } else { i64::from(line) }
 }
@@ -185,7 +187,7 @@ impl Walk {
 
     /// Notes the arc of leaving the module.
     pub(crate) fn leave(&mut self) -> Result<(), NoMemory>
-        ensures { OnOk result (self.new.arcs.keys ≡ insert_key by_lines self.old.arcs.keys (end self.old.kept, end 0)) }
+        ensures { OnOk result (self.new.arcs.keys ≡ insert_key by_lines self.old.arcs.keys (shown_line 1 self.old.kept, shown_line 1 0)) }
     {
         self.arcs.insert((end_of_arc(self.kept), -1))?;
         Ok(())
@@ -210,7 +212,7 @@ pub(crate) fn run_suite<O: Sink>(
     out: &mut O,
     body: &[Stmt],
 ) -> Result<Left, RunFault>
-    ensures does { Does (exec (plain_stmts body.now)) walk.old result walk.new O.tells (O.contents out.old) (O.contents out.new) }
+    ensures does { (calls : Calls) → (ms : List LoadedModule) → IsWalked (plain_stmts body.now) → Does (exec calls (script ms) (plain_stmts body.now)) walk.old result walk.new O.tells (O.contents out.old) (O.contents out.new) }
     ensures fewer { OnOk result (walk.new.steps ≤ walk.old.steps) }
     ensures count { O.faults out.old ≤ O.faults out.new }
     ensures fault { IsErrOf result RunFault.WriteFault → Rose (O.faults out.old) (O.faults out.new) }
@@ -232,7 +234,7 @@ fn run_kind<O: Sink>(
     line: u32,
     kind: &StmtKind,
 ) -> Result<Left, RunFault>
-    ensures does { Does (exec_kind line (plain_kind kind.now)) walk.old result walk.new O.tells (O.contents out.old) (O.contents out.new) }
+    ensures does { (calls : Calls) → (ms : List LoadedModule) → IsWalkedKind line (plain_kind kind.now) → Does (exec_kind calls (script ms) line (plain_kind kind.now)) walk.old result walk.new O.tells (O.contents out.old) (O.contents out.new) }
     ensures fewer { OnOk result (walk.new.steps ≤ walk.old.steps) }
     ensures count { O.faults out.old ≤ O.faults out.new }
     ensures fault { IsErrOf result RunFault.WriteFault → Rose (O.faults out.old) (O.faults out.new) }
@@ -258,7 +260,7 @@ fn run_arms<O: Sink>(
     out: &mut O,
     arms: &[Arm],
 ) -> Result<Option<Left>, RunFault>
-    ensures does { (o : OptSuite) → DoesOr (exec_arms (plain_arms arms.now) (exec_else o)) (exec_else o) walk.old result walk.new O.tells (O.contents out.old) (O.contents out.new) }
+    ensures does { (calls : Calls) → (ms : List LoadedModule) → (o : OptSuite) → AreWalkedArms (plain_arms arms.now) → IsWalkedElse o → DoesOr (exec_arms calls (script ms) (plain_arms arms.now) (exec_opt calls (script ms) o)) (exec_opt calls (script ms) o) walk.old result walk.new O.tells (O.contents out.old) (O.contents out.new) }
     ensures fewer { OnOk result (walk.new.steps ≤ walk.old.steps) }
     ensures count { O.faults out.old ≤ O.faults out.new }
     ensures fault { IsErrOf result RunFault.WriteFault → Rose (O.faults out.old) (O.faults out.new) }
@@ -287,7 +289,7 @@ fn run_else<O: Sink>(
     out: &mut O,
     orelse: &Option<Suite>,
 ) -> Result<Left, RunFault>
-    ensures does { Does (exec_else (plain_opt_suite orelse.now)) walk.old result walk.new O.tells (O.contents out.old) (O.contents out.new) }
+    ensures does { (calls : Calls) → (ms : List LoadedModule) → IsWalkedElse (plain_opt_suite orelse.now) → Does (exec_opt calls (script ms) (plain_opt_suite orelse.now)) walk.old result walk.new O.tells (O.contents out.old) (O.contents out.new) }
     ensures fewer { OnOk result (walk.new.steps ≤ walk.old.steps) }
     ensures count { O.faults out.old ≤ O.faults out.new }
     ensures fault { IsErrOf result RunFault.WriteFault → Rose (O.faults out.old) (O.faults out.new) }
@@ -307,7 +309,7 @@ fn run_while<O: Sink>(
     body: &Suite,
     header: &Expr,
 ) -> Result<Option<Left>, RunFault>
-    ensures does { (o : OptSuite) → DoesOr (exec_while (plain_expr header.now) (plain_suite body.now) (exec_else o)) (exec_else o) walk.old result walk.new O.tells (O.contents out.old) (O.contents out.new) }
+    ensures does { (calls : Calls) → (ms : List LoadedModule) → (line : ℕ) → (o : OptSuite) → IsWalkedKind line (while (plain_expr header.now) (plain_suite body.now) o) → DoesOr (exec_kind calls (script ms) line (while (plain_expr header.now) (plain_suite body.now) o)) (exec_opt calls (script ms) o) walk.old result walk.new O.tells (O.contents out.old) (O.contents out.new) }
     ensures fewer { OnOk result (walk.new.steps ≤ walk.old.steps) }
     ensures count { O.faults out.old ≤ O.faults out.new }
     ensures fault { IsErrOf result RunFault.WriteFault → Rose (O.faults out.old) (O.faults out.new) }
@@ -337,7 +339,7 @@ fn run_simple<O: Sink>(
     line: u32,
     kind: &StmtKind,
 ) -> Result<Left, RunFault>
-    ensures does { Does (step (marked line) (simple (plain_kind kind.now))) walk.old result walk.new O.tells (O.contents out.old) (O.contents out.new) }
+    ensures does { (calls : Calls) → (ms : List LoadedModule) → IsSimple (plain_kind kind.now) → Does (exec_kind calls (script ms) line (plain_kind kind.now)) walk.old result walk.new O.tells (O.contents out.old) (O.contents out.new) }
     ensures fewer { OnOk result (walk.new.steps ≤ walk.old.steps) }
     ensures count { O.faults out.old ≤ O.faults out.new }
     ensures fault { IsErrOf result RunFault.WriteFault → Rose (O.faults out.old) (O.faults out.new) }
@@ -360,7 +362,7 @@ fn run_expression<O: Sink>(
     out: &mut O,
     e: &Expr,
 ) -> Result<Left, RunFault>
-    ensures does { Does (expression (plain_expr e.now)) walk.now result walk.now O.tells (O.contents out.old) (O.contents out.new) }
+    ensures does { (calls : Calls) → (ms : List LoadedModule) → IsPrintCall (plain_expr e.now) → Does (simply (eval calls (script ms) (plain_expr e.now))) walk.now result walk.now O.tells (O.contents out.old) (O.contents out.new) }
     ensures count { O.faults out.old ≤ O.faults out.new }
     ensures fault { IsErrOf result RunFault.WriteFault → Rose (O.faults out.old) (O.faults out.new) }
 {
@@ -382,7 +384,7 @@ fn run_call<O: Sink>(
     callee: &Expr,
     args: &[Expr],
 ) -> Result<Left, RunFault>
-    ensures does { Does (print_call (plain_expr callee.now) (plain_exprs args.now)) walk.now result walk.now O.tells (O.contents out.old) (O.contents out.new) }
+    ensures does { (calls : Calls) → (ms : List LoadedModule) → (comma : Bool) → IsPrintCall (call (plain_expr callee.now) (plain_exprs args.now) comma) → Does (simply (eval calls (script ms) (call (plain_expr callee.now) (plain_exprs args.now) comma))) walk.now result walk.now O.tells (O.contents out.old) (O.contents out.new) }
     ensures count { O.faults out.old ≤ O.faults out.new }
     ensures fault { IsErrOf result RunFault.WriteFault → Rose (O.faults out.old) (O.faults out.new) }
 {
@@ -399,7 +401,7 @@ fn run_call<O: Sink>(
 }
 
 fn is_print(e: &Expr) -> bool
-    ensures { result ≡ names_print (plain_expr e.now) }
+    ensures { result ≡ is_print_name (plain_expr e.now) }
 {
     match e {
         Expr::Name(x) => x.as_str() == "print",
@@ -434,7 +436,7 @@ pub(crate) fn write<O: Sink>(alloc: Global, out: &mut O, piece: &[u8]) -> Result
 
 /// `name = sum`.
 fn assign(alloc: Global, walk: &mut Walk, targets: &[Expr], e: &Expr) -> Result<Left, NoMemory>
-    ensures moves { IfOk result (λ left. Moves (assignment (plain_exprs targets.now) (plain_expr e.now)) (leaves left) walk.old walk.new) }
+    ensures moves { IfOk result (λ left. (calls : Calls) → (ms : List LoadedModule) → IsOneName (plain_exprs targets.now) → IsSum (plain_expr e.now) → Moves (assigning calls ms (plain_exprs targets.now) (plain_expr e.now)) (leaves left) walk.old walk.new) }
     ensures steps { OnOk result (walk.new.steps ≡ walk.old.steps) }
 {
     if targets.len() != 1 {

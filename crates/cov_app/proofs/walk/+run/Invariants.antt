@@ -1,6 +1,5 @@
-use Rattle.py_syntax.specs.View.{plain_stmts}
-use Rattle.cov_app.specs.Walking.Meaning.{exec}
-use Rattle.cov_app.proofs.Loops.{Comes, ArmsCome, Turns, rest_of}
+use Rattle.cov_app.proofs.Loops.{SuiteComes, ArmsCome}
+use Rattle.cov_app.proofs.Turns.{Turns}
 use Rattle.cov_app.proofs.walk.+run.Given as goal
 
 abbrev pub invariant-run_arms-loop-arm : goal.invariant-run_arms-loop-arm
@@ -9,8 +8,7 @@ invariant-run_arms-loop-arm g l =
 
 abbrev pub invariant-run_suite-loop-stmt : goal.invariant-run_suite-loop-stmt
 invariant-run_suite-loop-stmt g l =
-    Comes (exec (plain_stmts l.body)) (rest_of l.body l.stmt-index)
-    l.initial.walk l.walk g.O.Sink.tells (g.O.Sink.contents l.initial.out) (g.O.Sink.contents l.out) (g.O.Sink.faults l.initial.out) (g.O.Sink.faults l.out)
+    SuiteComes l.body l.stmt-index l.initial.walk l.walk g.O.Sink.tells (g.O.Sink.contents l.initial.out) (g.O.Sink.contents l.out) (g.O.Sink.faults l.initial.out) (g.O.Sink.faults l.out)
 
 abbrev pub invariant-run_while-turns : goal.invariant-run_while-turns
 invariant-run_while-turns g l =

@@ -1,11 +1,11 @@
-use Rattle.std.proofs.Common.{arith, ◌≡◌, refl, w64, to_z, of_z}
+use Rattle.std.proofs.Common.{arith, ◌≡◌, w64, to_z, of_z}
 use Rattle.std.proofs.lemmas.Int.{to_z-of_z}
 use Rattle.cov_app.specs.declared.walk.Raised.TheVariants as raised
 use Rattle.cov_app.proofs.Evals.{value_other, left_fails, right_fails, both_given, int_given}
 use Rattle.cov_app.proofs.walk.+value.Goals as goal
 
 pub returns-in_default : goal.returns-in_default
-returns-in_default t c = value_other c.args.globals.now c.args.e.now raised.Unbuilt c.in_default.not-Name c.in_default.not-Int c.in_default.not-Binary refl
+returns-in_default t c = value_other c.args.globals.now c.args.e.now raised.Unbuilt c.in_default.not-Name c.in_default.not-Int c.in_default.not-Binary
 
 pub returns-in-Err : goal.returns-in-Err
 returns-in-Err t c = left_fails c.args.globals.now c.args.e.now _ c.in-Binary.op c.in-Binary.a c.in-Binary.b _ c.in-Err.raised c.in-Binary.is c.deref.ensures c.in-Err.is c.in_ok-x-in-Binary.ensures

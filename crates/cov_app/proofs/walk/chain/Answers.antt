@@ -1,4 +1,4 @@
-use Rattle.std.proofs.Common.{arith, ◌≡◌, ◌∙◌, refl, sym, w64, to_z, of_z, ap}
+use Rattle.std.proofs.Common.{arith, ◌≡◌, ◌∙◌, sym, w64, to_z, of_z, ap}
 use Rattle.std.proofs.lemmas.Int.{to_z-of_z}
 use Rattle.py_syntax.specs.declared.expr.Link.{Link}
 use Rattle.cov_app.specs.declared.walk.Raised.TheVariants as raised
@@ -6,10 +6,10 @@ use Rattle.cov_app.proofs.Tests.{chain_other, chain_left, chain_right, chain_bot
 use Rattle.cov_app.proofs.walk.chain.Goals as goal
 
 pub returns-then-links-ne1 : goal.returns-then-links-ne1
-returns-then-links-ne1 c = chain_other c.args.globals.now _ c.args.links.now raised.Unbuilt c.if-links-ne1.true refl
+returns-then-links-ne1 c = chain_other c.args.globals.now _ c.args.links.now raised.Unbuilt c.if-links-ne1.true
 
 pub returns-in-Err : goal.returns-in-Err
-returns-in-Err c = chain_left c.args.globals.now c.args.first.now c.args.links.now _ c.in-Err.raised c.if-links-ne1.false c.in-Err.is c.in_ok-x.ensures
+returns-in-Err c = chain_left c.args.globals.now c.args.first.now c.args.links.now _ c.in-Err.raised c.in-Err.is c.in_ok-x.ensures
 
 pub returns-in-Err-2 : goal.returns-in-Err-2
 returns-in-Err-2 c =

@@ -1,15 +1,15 @@
-use Rattle.std.proofs.Common.{arith, refl}
-use Rattle.cov_app.specs.declared.walk.Left.TheVariants as left
-use Rattle.cov_app.specs.declared.walk.Raised.TheVariants as raised
-use Rattle.cov_app.specs.Walk.{leaves}
-use Rattle.cov_app.proofs.Reaching.{reaches}
+use Rattle.std.proofs.Common.{arith}
 use Rattle.cov_app.proofs.Nodes.{no_call}
-use Rattle.cov_app.proofs.Simple.{refused-at}
+use Rattle.cov_app.proofs.Simple.{called}
 use Rattle.cov_app.proofs.walk.run_expression.Goals as goal
+
+pub returns-in-Call-clause-does : goal.returns-in-Call-clause-does
+returns-in-Call-clause-does g c = λ calls ms is.
+    called calls ms c.args.e.now c.in-Call.callee c.deref.result.now c.in-Call.args c.deref-in-Call.result.now c.in-Call.comma c.args.walk.now _ _ _ c.run_call.result c.in-Call.is c.deref.ensures c.deref-in-Call.ensures.value is (c.run_call.ensures.does calls ms c.in-Call.comma)
 
 pub returns-in_default : goal.returns-in_default
 returns-in_default g c = record {
-  does = reaches _ (leaves (left.Raised raised.Unbuilt)) c.args.walk.now c.args.walk.now _ _ (refused-at _ raised.Unbuilt c.args.walk.now (no_call c.args.e.now c.in_default.not-Call) refl);
+  does = λ calls ms is. absurd (no_call c.args.e.now c.in_default.not-Call is);
   count = omega arith;
   fault = λ w. absurd cc;
 }
