@@ -1,5 +1,5 @@
 -- What the answers of the code say of the list of tokens.
-use Rattle.std.proofs.Common.{◌≡◌, ℕ, ◌+◌, ◌-◌, ◌<◌, ◌≤◌, Bool, List, [], ◌∷◌, length, get_or, Option, Some, None, option_map, Result, Ok, Err, Vec, refl, sym, ap, subst, ◌∙◌, arith}
+use Rattle.std.proofs.Common.{◌≡◌, ℕ, ◌+◌, ◌-◌, ◌<◌, ◌≤◌, Bool, List, length, get_or, Option, Some, None, option_map, Result, Ok, Err, Vec, refl, sym, ap, subst, ◌∙◌, arith}
 use Rattle.std.specs.Global.{Global}
 use Rattle.std.proofs.lemmas.List.{length-map}
 use Rattle.py_token.specs.declared.token.Token.{Token}
@@ -8,9 +8,7 @@ use Rattle.py_token.specs.View.{view_token, view_tokens}
 use Rattle.py_syntax.specs.Tree.{Expr, Cases, Pattern}
 use Rattle.py_syntax.specs.Kinds.{Kind, bare}
 use Rattle.py_syntax.specs.Spelling.{HEIGHT}
-use Rattle.py_syntax.specs.Headers.{Marked}
-use Rattle.py_syntax.specs.View.{plain_stmts, plain_module}
-use Rattle.py_syntax.specs.declared.stmt.Module.{Module}
+use Rattle.py_syntax.specs.View.{plain_stmts}
 use Rattle.py_syntax.specs.declared.stmt.Stmt.{Stmt}
 use Rattle.py_parse_expr.specs.declared.error.ReadError.{ReadError}
 use Rattle.py_parse_expr.specs.declared.error.ReadError.TheVariants as read_error_

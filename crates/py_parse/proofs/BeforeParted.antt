@@ -9,7 +9,7 @@ use Rattle.py_syntax.specs.Tokens.{strings, sign_mark, comparison, tokens, items
 use Rattle.py_syntax.specs.Headers.{Marked, put}
 use Rattle.py_syntax.specs.Statements.{in_place_mark, target_tokens, as_tokens, more_params, params_from, count, param_tokens, case_name}
 use Rattle.py_parse_expr.specs.Roles.{joint_kind}
-use Rattle.py_parse_expr.specs.Machine.{any, one, target, targets, Opener, a_call, a_list, exprs_first, exprs_rest, cond_first, cond_test, cond_else, first, right, not_of, compare_first, compare_rest, unary_of, post_rest, in_items, index_first, in_index, slice_to, in_paren, in_key, in_value, Ctx, Outside, on}
+use Rattle.py_parse_expr.specs.Machine.{one, targets, Opener, a_call, a_list, exprs_first, exprs_rest, cond_first, cond_test, cond_else, first, right, not_of, compare_first, compare_rest, unary_of, post_rest, in_items, index_first, in_index, slice_to, in_paren, in_key, in_value, Ctx, Outside, on}
 use Rattle.py_parse_expr.specs.Machine as expression
 use Rattle.py_parse_expr.specs.PatternMachine as pattern
 use Rattle.py_parse_expr.specs.PatternMachine.{Frame, frame, Stack, stack, open_mark}

@@ -1,17 +1,17 @@
 -- An expression that is whole is no higher than what the state before was completed to.
-use Rattle.std.proofs.Common.{◌≡◌, ℕ, ◌+◌, ◌≤◌, max, Bool, true, false, cond, ◌&&◌, refl, sym, ap, ◌∙◌, arith}
+use Rattle.std.proofs.Common.{◌≡◌, ℕ, ◌≤◌, Bool, true, false, cond, ◌&&◌, refl, ap, ◌∙◌, arith}
 use Rattle.py_value.specs.declared.operator.CmpOp.TheVariants as cmp_
 use Rattle.py_value.specs.declared.operator.BinOp.TheVariants as op_
-use Rattle.py_syntax.specs.declared.expr.Comparison.TheVariants.{Op, Is, IsNot}
-use Rattle.py_syntax.specs.Tree.{Expr, none, bool, tuple, list, dict, paren, not', unary, compare, call, index, slice, attr, Exprs, no_exprs, exprs, no_pairs, absent, present}
+use Rattle.py_syntax.specs.declared.expr.Comparison.TheVariants.{Op}
+use Rattle.py_syntax.specs.Tree.{Expr, tuple, not', unary, compare, index, Exprs, no_exprs, exprs, no_pairs}
 use Rattle.py_syntax.specs.Tree as tree_
 use Rattle.py_syntax.specs.Normal.{Level, LExprs, LExpr, LNot, LUnary, LPost, is_target, are_targets, height}
-use Rattle.py_parse_expr.specs.Roles.{Role, Joint, j_op, r_name, r_int, r_none, r_bool, r_string, r_format, r_bad_format, r_not, r_is, r_if, r_else, r_compare, r_joint, r_comma, r_colon, r_dot, r_left_paren, r_right_paren, r_left_bracket, r_right_bracket, r_left_brace, r_right_brace, joint_level, joined, begins}
-use Rattle.py_parse_expr.specs.Machine.{at_most, same_level, snoc, snoc_pair, snoc_link, strings_of, Goal, any, one, target, targets, Opener, a_call, a_list, exprs_first, exprs_rest, cond_first, cond_test, cond_else, first, right, not_of, compare_first, compare_rest, unary_of, post_rest, in_items, index_first, in_index, slice_to, in_paren, in_key, in_value, Ctx, Outside, on, State, Want, Have, Strings, AfterOpen, AfterComma, AfterTarget, ItemsOpen, ItemsComma, DictOpen, DictComma, IndexOpen, SliceColon, AfterDot, AfterNot, AfterIs, AfterIsNot, Linked, Out, Next, Stuck, Left, upto, begin, close_items, leave, give, step, start}
-use Rattle.py_parse_expr.specs.Least.{least_name, as_target, target_if, wants, fit, whole, finished, least}
+use Rattle.py_parse_expr.specs.Roles.{Role, j_op, r_name, r_int, r_none, r_bool, r_string, r_format, r_bad_format, r_not, r_is, r_if, r_else, r_compare, r_joint, r_comma, r_colon, r_dot, r_left_paren, r_right_paren, r_left_bracket, r_right_bracket, r_left_brace, r_right_brace, joint_level, joined, begins}
+use Rattle.py_parse_expr.specs.Machine.{at_most, same_level, snoc, snoc_link, strings_of, Goal, any, one, target, targets, Opener, a_call, a_list, exprs_first, exprs_rest, cond_first, cond_test, cond_else, first, right, not_of, compare_first, compare_rest, unary_of, post_rest, in_items, index_first, in_index, slice_to, in_paren, in_key, in_value, Ctx, Outside, on, State, Want, Have, Strings, AfterOpen, AfterComma, AfterTarget, ItemsOpen, ItemsComma, DictOpen, DictComma, IndexOpen, SliceColon, AfterDot, AfterNot, AfterIs, AfterIsNot, Linked, Out, Next, Stuck, Left, upto, begin, close_items, leave, give, step, start}
+use Rattle.py_parse_expr.specs.Least.{least_name, as_target, target_if, wants, fit, whole, least}
 use Rattle.py_parse.specs.Machine.{Resume, value, augmented, leaving, asserted, reason, arm_test, while_test, for_target, for_over, clause_kind, subject, guard, default, goal}
 use Rattle.py_parse.specs.Levels.{is_start}
-use Rattle.py_parse_expr.proofs.Grows.{heights_snoc, joined_target, tuple_snoc, and_left, and_right}
+use Rattle.py_parse_expr.proofs.Grows.{heights_snoc, tuple_snoc, and_right}
 
 -- What leaves is no higher than this, and a step leads to no beginning.
 abbrev pub Falls : ℕ → Out → Type 0
@@ -29,10 +29,6 @@ target_high e = go (is_target e)
     go : (b : Bool) → height e ≤ height (cond b e (index e least_name))
     go true = omega arith
     go false = omega arith
-
-fit_high : (w : Bool) (e : Expr) → height e ≤ height (target_if w e)
-fit_high true e = target_high e
-fit_high false e = omega arith
 
 leave_falls : (e : Expr) (g : Goal) (t : Role) → Falls (height (whole (Outside g) e)) (leave e g t)
 leave_falls e any t = omega arith

@@ -8,7 +8,7 @@ use Rattle.py_syntax.specs.Headers.{Marked}
 use Rattle.py_parse.specs.Open.{snoc_stmt, no_end, Owner, an_arm, a_while, a_for, a_try, a_clause, an_else, a_finally, a_def, a_case, closed, Block, top, inside, add}
 use Rattle.py_parse.specs.Machine.{Place, SuiteWanted, IndentWanted, MatchBlock, Lines, State, Line, at, Behind, Choosing, Over, close, over_line, line, next_part, is_whole, at_line, on_line, plain_step, step}
 use Rattle.py_parse.specs.Least as least
-use Rattle.py_parse.specs.Least.{pass_suite, ended, chosen, ending, closing, Form, a_header, a_match, complete, finished}
+use Rattle.py_parse.specs.Least.{pass_suite, ended, chosen, ending, closing, a_header, a_match, complete}
 use Rattle.py_parse.specs.Places.{Source, run}
 use Rattle.py_parse.proofs.Fine.{FineLine, FineSimple}
 use Rattle.py_parse.proofs.GrowthEnding.{Apt, apt}

@@ -1,15 +1,14 @@
 -- What the reading of a list does from a place to a later one.
-use Rattle.std.proofs.Common.{◌≡◌, ℕ, zero, suc, ◌+◌, ◌-◌, ◌≤◌, ◌<◌, Bool, true, false, cond, List, [], ◌∷◌, length, take, drop, get_or, Option, Some, None, option_map, refl, sym, ap, subst, ◌∙◌, arith}
+use Rattle.std.proofs.Common.{◌≡◌, ℕ, zero, suc, ◌+◌, ◌-◌, ◌≤◌, ◌<◌, true, false, List, [], ◌∷◌, length, take, drop, Option, Some, None, refl, sym, ap, subst, ◌∙◌, arith}
 use Rattle.std.proofs.lemmas.List.{length-drop}
 use Rattle.py_token.specs.Plain.{PToken, first_of, last_of}
 use Rattle.py_syntax.specs.Tree.{Expr, Cases, Pattern, Stmts}
-use Rattle.py_syntax.specs.Kinds.{Kind, bare_token, bare}
+use Rattle.py_syntax.specs.Kinds.{bare_token, bare}
 use Rattle.py_syntax.specs.Headers.{Marked, marked}
 use Rattle.py_syntax.specs.Spelling.{HEIGHT, NESTING, Spells}
 use Rattle.py_syntax.specs.Statements.{stmts_height, stmts_nesting}
-use Rattle.py_syntax.specs.View.{plain_stmts}
 use Rattle.py_parse_expr.specs.Machine as expression
-use Rattle.py_parse_expr.specs.Machine.{start, role}
+use Rattle.py_parse_expr.specs.Machine.{start}
 use Rattle.py_parse_expr.specs.Reading as reading_
 use Rattle.py_parse_expr.specs.PatternMachine as pattern
 use Rattle.py_parse_expr.specs.PatternReads as pattern_reads
@@ -19,15 +18,14 @@ use Rattle.py_parse.specs.declared.places.Place.TheVariants as place_
 use Rattle.py_parse.specs.declared.places.State as held_state
 use Rattle.py_parse.specs.declared.places.State.TheVariants as state_
 use Rattle.py_parse.specs.Open.{Block}
-use Rattle.py_parse.specs.Machine.{Resume, Reading, Matching, Lines, State, Line, at, Over, begun, goal, resume, resume_pattern, done, plain_step, step}
+use Rattle.py_parse.specs.Machine.{Resume, Reading, Matching, Lines, State, at, Over, begun, goal, resume, resume_pattern, done, step}
 use Rattle.py_parse.specs.Places.{last_before}
 use Rattle.py_parse.specs.Levels as levels
 use Rattle.py_parse.specs.Refusal.{IsUnexpected, HasDeepSuites, HasDeepExpressions}
-use Rattle.py_parse.specs.HeldMarks.{header_at}
 use Rattle.py_parse.specs.HeldStates.{view_block, view_lines, view_state, view_resume}
-use Rattle.py_parse.specs.Progress.{behind, StandsAt, step_at, Turns, ReadsFrom, MatchesFrom, last_there, line_before, Resumes}
+use Rattle.py_parse.specs.Progress.{behind, StandsAt, Turns, ReadsFrom, MatchesFrom, last_there, line_before, Resumes}
 use Rattle.py_parse.proofs.TokenLines.{token_last, token_source}
-use Rattle.py_parse.proofs.WholeLists.{Lexeme, next, reading}
+use Rattle.py_parse.proofs.WholeLists.{reading}
 use Rattle.py_parse.proofs.WholeTokens.{lexemes}
 use Rattle.py_parse.proofs.WholeStands.{Stands, stands_first, unexpected, whole_list}
 use Rattle.py_parse.proofs.Weights.{inner, level_is}

@@ -9,7 +9,7 @@ use Rattle.py_syntax.specs.Tree.{Stmts, stmt, Suite, suite, Cases, no_cases, cas
 use Rattle.py_syntax.specs.Kinds.{Kind, Word, Sign, Newline, Dedent, End}
 use Rattle.py_syntax.specs.Normal.{is_target, is_place, height, pattern_height}
 use Rattle.py_parse_expr.specs.Machine as expression
-use Rattle.py_parse_expr.specs.Machine.{any, one, snoc, start, role}
+use Rattle.py_parse_expr.specs.Machine.{any, snoc, start, role}
 use Rattle.py_parse_expr.specs.Least.{least_name}
 use Rattle.py_parse_expr.specs.PatternMachine as pattern
 use Rattle.py_parse.specs.Open.{snoc_stmt, snoc_case, no_end, newline_end, both_end, Owner, an_arm, a_while, a_for, a_clause, a_def, a_case, closed, Block, top, inside, add}

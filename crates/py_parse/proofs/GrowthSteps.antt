@@ -8,7 +8,7 @@ use Rattle.py_syntax.specs.Kinds.{Kind, Name, Word, Sign, Newline, Indent, Deden
 use Rattle.py_syntax.specs.Headers.{Marked, is_match}
 use Rattle.py_syntax.specs.Statements.{case_name}
 use Rattle.py_parse_expr.specs.Machine as expression
-use Rattle.py_parse_expr.specs.Machine.{any, one, snoc, start, role}
+use Rattle.py_parse_expr.specs.Machine.{one, start, role}
 use Rattle.py_parse_expr.specs.Least as expression_least
 use Rattle.py_parse_expr.specs.Least.{least_name}
 use Rattle.py_parse_expr.specs.PatternMachine as pattern

@@ -1,9 +1,8 @@
 -- Headers of `match` statements by the places of the tokens that the code reads.
-use Rattle.std.proofs.Common.{◌≡◌, ◌≢◌, ℕ, zero, suc, ◌+◌, ◌-◌, ◌<◌, ◌≤◌, Bool, true, false, not, ◌&&◌, List, [], ◌∷◌, length, drop, get_or, refl, sym, ap, ◌∙◌, arith, add-one}
+use Rattle.std.proofs.Common.{◌≡◌, ℕ, zero, suc, ◌+◌, ◌-◌, ◌<◌, ◌≤◌, Bool, true, false, not, ◌&&◌, List, [], ◌∷◌, length, drop, get_or, refl, sym, ap, ◌∙◌, arith}
 use Rattle.std.proofs.Math.ListN.{drop_of_length-le}
-use Rattle.py_token.specs.declared.token.Token.{Token, out-Token}
-use Rattle.py_token.specs.View.{view_kind}
-use Rattle.py_syntax.specs.Kinds.{Kind, Newline, bare_kind}
+use Rattle.py_token.specs.declared.token.Token.{Token}
+use Rattle.py_syntax.specs.Kinds.{Kind, Newline}
 use Rattle.py_syntax.specs.Headers.{is_match, is_colon, is_header, ends_in_colon, ends_line}
 use Rattle.py_parse_expr.proofs.PatternTokens.{kind_there, kinds_length}
 use Rattle.py_parse.specs.HeldMarks.{kinds_of, is_newline, begins_from, heads, header_at}

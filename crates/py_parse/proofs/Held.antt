@@ -1,5 +1,5 @@
 -- What the code holds, with one more.
-use Rattle.std.proofs.Common.{◌≡◌, ℕ, suc, ◌-◌, Bool, true, false, not, ◌&&◌, cond, List, [], ◌∷◌, ◌++◌, length, reverse, slice_get, Some, None, option_map, Vec, ◌⊎◌, inl, inr, refl, sym, ap, ◌∙◌, arith}
+use Rattle.std.proofs.Common.{◌≡◌, ℕ, suc, ◌-◌, Bool, true, false, not, ◌&&◌, cond, List, [], ◌∷◌, ◌++◌, length, reverse, slice_get, Some, option_map, Vec, ◌⊎◌, inl, inr, refl, sym, ap, ◌∙◌, arith}
 use Rattle.std.proofs.lemmas.Bool.{ne_eqb}
 use Rattle.std.proofs.lemmas.List.{reverse-append, length-append, length-reverse}
 use Rattle.std.specs.Global.{Global}
@@ -22,7 +22,7 @@ use Rattle.py_syntax.specs.Tree.{Stmts, stmt, suite, StmtKind, exprs, Arms, arm,
 use Rattle.py_syntax.specs.View.{plain_expr, plain_exprs, plain_pattern, plain_kind, plain_suite, plain_stmts, plain_arms, plain_clauses, plain_cases, plain_alias, plain_aliases}
 use Rattle.py_parse_expr.specs.Machine.{snoc}
 use Rattle.py_parse.specs.declared.block.Open.{Open}
-use Rattle.py_parse.specs.Open.{snoc_stmt, snoc_arm, snoc_clause, snoc_case, Block, top, inside, add}
+use Rattle.py_parse.specs.Open.{snoc_stmt, snoc_arm, snoc_clause, snoc_case, Block, inside, add}
 use Rattle.py_parse.specs.Machine.{Line, close, over_line}
 use Rattle.py_parse.specs.HeldOwners.{view_owner}
 use Rattle.py_parse.specs.Levels.{open_count}
@@ -112,21 +112,12 @@ block_last ss os o h = elim (ends os) [ inl none ↦ absurd (nothing none) | inr
     same : (init : List Open) (p : Open) → os ≡ init ++ p ∷ [] → p ≡ o
     same init p is = let both = sym (last_of_snoc init p) ∙ sym (ap (λ (xs : List Open). slice_get xs (length xs - 1)) is) ∙ h in cc
 
-pub block_none : (ss : Stmts) (os : List Open) → slice_get os (length os - 1) ≡ None → blocks ss (reverse os) ≡ top ss
-block_none ss os h = elim (ends os) [ inl none ↦ ap (λ (xs : List Open). blocks ss (reverse xs)) none | inr r ↦ absurd (nothing r.0 r.1 r.2) ]
-  where
-    nothing : (init : List Open) (p : Open) → os ≡ init ++ p ∷ [] → ⊥
-    nothing init p is = let both = sym (last_of_snoc init p) ∙ sym (ap (λ (xs : List Open). slice_get xs (length xs - 1)) is) ∙ h in cc
-
 pub line_shared : (ss : Stmts) (os : List Open) (o : Open) → slice_get os (length os - 1) ≡ Some o → SharesLine (blocks ss (reverse os)) o.inline
 line_shared ss os o h l = let b = block_last ss os o h in rw b.1 (go o.inline)
   where
     go : (i : Bool) → over_line (inside ss i o.lines.first o.lines.last o.lines.begun (view_owner o.owner) (block_last ss os o h).0) l ≡ cond i (close (inside ss i o.lines.first o.lines.last o.lines.begun (view_owner o.owner) (block_last ss os o h).0) l) (Line (inside ss i o.lines.first o.lines.last o.lines.begun (view_owner o.owner) (block_last ss os o h).0))
     go true = refl
     go false = refl
-
-pub line_alone : (ss : Stmts) (os : List Open) → slice_get os (length os - 1) ≡ None → SharesLine (blocks ss (reverse os)) false
-line_alone ss os h l = rw (block_none ss os h) refl
 
 pub block_ends : (body : List Stmt) (os : List Open) (o : Open) → slice_get os (length os - 1) ≡ Some o → (not o.inline && not (length body == 0)) ≡ is_closable (blocks (plain_stmts body) (reverse os))
 block_ends body os o h = let b = block_last (plain_stmts body) os o h in go body o.inline b.0 ∙ sym (ap is_closable b.1)
@@ -136,9 +127,6 @@ block_ends body os o h = let b = block_last (plain_stmts body) os o h in go body
     go [] false b = refl
     go (s ∷ rest) true b = sym (ap (λ (ss : Stmts). is_closable (inside ss true o.lines.first o.lines.last o.lines.begun (view_owner o.owner) b)) (plain-stmts s rest))
     go (s ∷ rest) false b = ap not (ne_eqb (suc (length rest)) 0 (λ e. absurd (omega arith))) ∙ sym (ap (λ (ss : Stmts). is_closable (inside ss false o.lines.first o.lines.last o.lines.begun (view_owner o.owner) b)) (plain-stmts s rest))
-
-pub block_closed : (ss : Stmts) (os : List Open) → slice_get os (length os - 1) ≡ None → is_closable (blocks ss (reverse os)) ≡ false
-block_closed ss os h = ap is_closable (block_none ss os h)
 
 pub block_top : (ss : Stmts) (os : List Open) → (length os == 0) ≡ is_top (blocks ss (reverse os))
 block_top ss os = elim (ends os) [ inl none ↦ ap (λ (xs : List Open). length xs == 0) none ∙ sym (ap (λ (xs : List Open). is_top (blocks ss (reverse xs))) none) | inr r ↦ long r.0 r.1 r.2 ]

@@ -10,7 +10,7 @@ use Rattle.py_syntax.specs.Normal.{Normal, Each, is_target, is_place}
 use Rattle.py_syntax.specs.Headers.{Marked, is_match}
 use Rattle.py_syntax.specs.Statements.{count, case_name, NormalExpr, NormalTargets, NormalParams, NormalKind, is_simple}
 use Rattle.py_parse_expr.specs.Machine as expression
-use Rattle.py_parse_expr.specs.Machine.{any, one, target, snoc, start, role}
+use Rattle.py_parse_expr.specs.Machine.{any, one, snoc, start, role}
 use Rattle.py_parse_expr.specs.PatternMachine as pattern
 use Rattle.py_parse_expr.proofs.Fine.{Sound, Meets, Keeps, each_snoc}
 use Rattle.py_parse_expr.proofs.Keeps as kept_

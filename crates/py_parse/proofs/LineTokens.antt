@@ -13,7 +13,7 @@ use Rattle.py_syntax.specs.declared.pattern.Brackets.TheVariants.{Round, Square,
 use Rattle.py_syntax.specs.Tree.{Text, Expr, name, int, str, fstr, none, bool, tuple, list, dict, paren, not', and, or, unary, binary, compare, call, index, slice, attr, Exprs, no_exprs, exprs, Pairs, no_pairs, pair, Links, no_links, link, OptExpr, absent, present, Fragments, no_fragments, plain, format}
 use Rattle.py_syntax.specs.Tree as tree_
 use Rattle.py_syntax.specs.Tree.{Constant, c_int, c_str, c_none, c_bool, Pattern, literal, capture, wild, member, sequence, p_or, p_as, p_paren, Patterns, no_patterns, patterns}
-use Rattle.py_syntax.specs.Tree.{Alias, StmtKind, expr, assign, aug_assign, pass, break, continue, return, raise, assert, global, import, from, if', while, for, try, def, match}
+use Rattle.py_syntax.specs.Tree.{Alias, StmtKind, expr, assign, aug_assign, pass, break, continue, return, raise, assert, global, import, from}
 use Rattle.py_syntax.specs.Kinds.{Kind, Name, Word, Sign}
 use Rattle.py_syntax.specs.Tokens.{comma_if, strings, bool_word, operator, sign_mark, comparison, tokens, items, more, entries, more_entries, links, bound, fragments, constant, pattern_tokens, more_patterns, alternatives}
 use Rattle.py_syntax.specs.Normal.{Normal, NormalLinks, NormalItems, Each, NormalEntries, EachEntry, NormalBound, NormalConstant, NormalPattern, EachPattern}

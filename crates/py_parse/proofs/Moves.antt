@@ -1,16 +1,13 @@
 -- A reading that stands at a place goes on where a step keeps to the limits.
-use Rattle.std.proofs.Common.{◌≡◌, ℕ, suc, ◌+◌, ◌≤◌, ◌<◌, max, Bool, true, false, cond, List, [], ◌∷◌, length, take, drop, Option, Some, None, refl, sym, ap, subst, ◌∙◌, arith}
+use Rattle.std.proofs.Common.{◌≡◌, ℕ, ◌+◌, ◌≤◌, ◌<◌, max, List, [], ◌∷◌, take, drop, Option, Some, None, refl, subst, arith}
 use Rattle.py_token.specs.Plain.{PToken}
-use Rattle.py_syntax.specs.Spelling.{HEIGHT, NESTING}
 use Rattle.py_parse_expr.specs.Least as expression_least
-use Rattle.py_parse.specs.Machine.{State, Reading, at, Lines, begun, step}
-use Rattle.py_parse.specs.Open.{Block}
-use Rattle.py_parse.specs.Least.{least_height, least_nesting}
+use Rattle.py_parse.specs.Machine.{State, at, begun, step}
 use Rattle.py_parse.specs.Refusal.{HasDeepSuites, HasDeepExpressions}
 use Rattle.py_parse.proofs.Fine.{Fine}
 use Rattle.py_parse.proofs.Keeps.{step_keeps, fine_begun}
 use Rattle.py_parse.proofs.WholeLists.{Lexeme, next, reading}
-use Rattle.py_parse.proofs.WholeTokens.{with_lines, reached}
+use Rattle.py_parse.proofs.WholeTokens.{with_lines}
 use Rattle.py_parse.proofs.WholeStands.{Stands, goes_on, deep_suites, deep_expressions}
 use Rattle.py_parse.proofs.Weights.{tall, deep, is_tall, is_deep, inner, level, Near}
 use Rattle.py_parse.proofs.NearForms.{level_deep, inner_tall}

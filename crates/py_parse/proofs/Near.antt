@@ -1,34 +1,32 @@
 -- A step makes the least tree hardly higher but for the expression that is read, and no deeper but for a suite that begins.
-use Rattle.std.proofs.Common.{◌≡◌, ℕ, suc, ◌+◌, ◌≤◌, max, Bool, true, false, cond, List, [], ◌∷◌, ◌++◌, Option, Some, None, bytes_eq, refl, ap, subst, arith}
+use Rattle.std.proofs.Common.{◌≡◌, ℕ, suc, ◌+◌, ◌≤◌, max, Bool, true, false, cond, List, [], ◌∷◌, ◌++◌, Option, Some, None, bytes_eq, refl, ap, arith}
 use Rattle.py_value.specs.declared.operator.BinOp.{BinOp}
 use Rattle.py_token.specs.declared.token.Keyword.TheVariants as word
 use Rattle.py_token.specs.declared.token.Mark.TheVariants as mark
-use Rattle.py_syntax.specs.declared.stmt.LineEnd.{LineEnd}
 use Rattle.py_syntax.specs.Tree.{Text, Expr, Exprs, no_exprs, exprs, Pattern, wild}
-use Rattle.py_syntax.specs.Tree.{Stmts, stmt, no_stmts, Suite, suite, no_suite, no_arms, Clauses, Cases, no_cases, case, StmtKind, expr, assert, aug_assign, match}
+use Rattle.py_syntax.specs.Tree.{stmt, no_stmts, Suite, suite, Clauses, Cases, no_cases, case, StmtKind, expr, assert, aug_assign}
 use Rattle.py_syntax.specs.Kinds.{Kind, Name, Word, Sign, Newline, Indent, Dedent, End}
 use Rattle.py_syntax.specs.Headers.{Marked, is_match}
-use Rattle.py_syntax.specs.Normal.{is_target, is_place, height, heights, pattern_height}
-use Rattle.py_syntax.specs.Statements.{case_name, kind_height, kind_nesting, option_height, stmts_height, stmts_nesting}
+use Rattle.py_syntax.specs.Normal.{is_target, is_place, height}
+use Rattle.py_syntax.specs.Statements.{case_name, kind_height, kind_nesting}
 use Rattle.py_parse_expr.specs.Machine as expression
 use Rattle.py_parse_expr.specs.Machine.{any, one, snoc, start, role}
 use Rattle.py_parse_expr.specs.Least as expression_least
 use Rattle.py_parse_expr.specs.Least.{least_name}
 use Rattle.py_parse_expr.specs.PatternMachine as pattern
-use Rattle.py_parse_expr.proofs.Grows.{heights_snoc, height_some}
-use Rattle.py_parse.specs.Open.{no_end, newline_end, semicolon_end, both_end, Owner, an_arm, a_while, a_for, a_try, a_clause, an_else, a_finally, a_def, a_case, closed, Block, top, inside, add}
-use Rattle.py_parse.specs.Machine.{Resume, value, augmented, leaving, asserted, reason, arm_test, while_test, for_target, for_over, clause_kind, subject, guard, default, Place, Reading, Matching, Simple, Semicolon, Leaving, NameWanted, NameRead, BoundWanted, BoundRead, ModuleWanted, ImportWanted, FunctionWanted, ParamsWanted, ParamWanted, ParamRead, Except, ClauseBound, ColonWanted, SuiteWanted, IndentWanted, MatchLine, MatchBlock, Lines, State, Line, at, Behind, Choosing, Over, close, over_line, end_simple, end_header, begun_at, onward, goal, reads, wanted, simple_place, compound_place, begin_simple, begin_line, line, in_place_op, assigned, left, behind_value, behind_default, resume, resume_pattern, Listed, globals, imports, froms, listed, with_name, may_bind, behind_name, is_some, is_whole, next_part, act, choose, at_line, on_line, plain_step, header_step, step}
-use Rattle.py_parse.specs.Least.{ended, chosen, Form, a_statement, a_header, a_match, resumed, with_param, form}
-use Rattle.py_parse.proofs.Fine.{Fine, FinePlace, FineResume, FineSimple, FineLine}
-use Rattle.py_parse.proofs.GrowthParts.{Under, under_same, clause_height, clause_nesting, case_height, case_nesting}
+use Rattle.py_parse.specs.Open.{no_end, newline_end, semicolon_end, both_end, Owner, an_arm, a_while, a_for, a_clause, a_def, a_case, Block, top, inside, add}
+use Rattle.py_parse.specs.Machine.{Resume, value, augmented, leaving, asserted, reason, arm_test, while_test, for_target, for_over, clause_kind, subject, guard, default, Place, Reading, Matching, Simple, Semicolon, Leaving, NameWanted, NameRead, BoundWanted, BoundRead, ModuleWanted, ImportWanted, FunctionWanted, ParamsWanted, ParamWanted, ParamRead, Except, ClauseBound, ColonWanted, SuiteWanted, IndentWanted, MatchLine, MatchBlock, Lines, State, Line, at, Behind, Choosing, Over, over_line, end_simple, end_header, begun_at, onward, goal, reads, wanted, simple_place, compound_place, begin_simple, begin_line, line, in_place_op, assigned, left, behind_value, behind_default, resume, resume_pattern, Listed, globals, imports, froms, listed, with_name, may_bind, behind_name, is_some, is_whole, next_part, act, choose, at_line, on_line, plain_step, header_step, step}
+use Rattle.py_parse.specs.Least.{chosen, Form, a_header, resumed, form}
+use Rattle.py_parse.proofs.Fine.{Fine, FinePlace, FineResume}
+use Rattle.py_parse.proofs.GrowthParts.{clause_height, clause_nesting, case_height, case_nesting}
 use Rattle.py_parse.proofs.GrowthForms.{pass_only, passed, core, resumed_under, clause_under, case_under}
 use Rattle.py_parse.proofs.GrowthEnding.{Apt, closed_height, closed_nesting, block_height, depth, block_nesting, AptBlock, apt_line, apt_simple}
 use Rattle.py_parse.proofs.GrowthEnding.{apt as apt_owner}
 use Rattle.py_parse.specs.Levels.{begins_at}
 use Rattle.py_parse.proofs.Falls.{Falls, step_falls}
 use Rattle.py_parse.proofs.PatternFalls as falls
-use Rattle.py_parse.proofs.Weights.{tall, deep, AptState, inner, level, Near, near_from, added_height, added_depth, added_nesting, added_apt, close_near, over_line_near}
-use Rattle.py_parse.proofs.NearForms.{Hardly, hardly, resumed_hardly, resumed_high, case_hardly, target_hardly, param_hardly, default_hardly, Goes, next_goes}
+use Rattle.py_parse.proofs.Weights.{tall, deep, AptState, inner, level, Near, near_from, added_height, added_nesting, added_apt, close_near, over_line_near}
+use Rattle.py_parse.proofs.NearForms.{Hardly, hardly, resumed_hardly, case_hardly, target_hardly, param_hardly, default_hardly, Goes, next_goes}
 
 -- the height and the depth of a place
 abbrev high_at : Form → Block → ℕ
@@ -202,10 +200,6 @@ reading_near r s n b t f l apt = go (expression.step s (role t)) (step_falls s (
 -- a suite opens
 opened_near : (o : Owner) (i j : Bool) (n : Lines) (b : Block) → Apt o → (block_height (inside no_stmts i n.first n.last n.begun o b) ≤ high_at (a_header j o) b) × (block_nesting (inside no_stmts i n.first n.last n.begun o b) ≤ deep_at (a_header j o) b)
 opened_near o i j n b h = let one = closed_height o pass_only h in let two = closed_nesting o pass_only h in (omega arith, omega arith)
-
-leaving_small : (raises : Bool) → (kind_height (left raises None) ≡ 0) × (kind_nesting (left raises None) ≡ 0)
-leaving_small true = (refl, refl)
-leaving_small false = (refl, refl)
 
 leaving_near : (raises : Bool) (n : Lines) (b : Block) (l : ℕ) (s : expression.State) → Near (high_at (form (Leaving raises) n.last) b) (deep_at (form (Leaving raises) n.last) b) (Some (at (Reading (leaving raises) s) (onward n l) b))
 leaving_near true n b l s = (omega arith, omega arith)

@@ -1,28 +1,26 @@
 -- The height and the depth of a statement that a place is completed to, behind an expression or a part more.
-use Rattle.std.proofs.Common.{◌≡◌, ℕ, suc, ◌+◌, ◌≤◌, max, Bool, true, false, cond, List, [], ◌∷◌, ◌++◌, Option, Some, None, refl, arith}
-use Rattle.py_value.specs.declared.operator.BinOp.{BinOp}
+use Rattle.std.proofs.Common.{ℕ, suc, ◌+◌, ◌≤◌, max, Bool, true, false, cond, List, [], ◌∷◌, ◌++◌, Option, Some, None, arith}
 use Rattle.py_token.specs.declared.token.Keyword.TheVariants as word
 use Rattle.py_token.specs.declared.token.Mark.TheVariants as mark
-use Rattle.py_syntax.specs.declared.stmt.LineEnd.{LineEnd}
 use Rattle.py_syntax.specs.Tree.{Text, Expr, Exprs, no_exprs, exprs, Pattern}
-use Rattle.py_syntax.specs.Tree.{Stmts, stmt, no_stmts, Suite, suite, no_suite, Arms, no_arms, arm, Cases, clause, no_cases, case, StmtKind, expr, assert, match, if', while, for, try}
-use Rattle.py_syntax.specs.Kinds.{Kind, Name, Word, Sign, Newline, Dedent, End}
-use Rattle.py_syntax.specs.Normal.{is_target, is_place, height, heights, pattern_height}
-use Rattle.py_syntax.specs.Statements.{NormalKind, kind_height, kind_nesting, suite_nesting, arms_nesting, option_height, stmts_height, stmts_nesting}
+use Rattle.py_syntax.specs.Tree.{Suite, suite, no_suite, Arms, no_arms, arm, Cases, clause, StmtKind, if', while, for, try}
+use Rattle.py_syntax.specs.Kinds.{Kind, Word}
+use Rattle.py_syntax.specs.Normal.{height, pattern_height}
+use Rattle.py_syntax.specs.Statements.{NormalKind, kind_height, kind_nesting, suite_nesting, arms_nesting, option_height}
 use Rattle.py_parse_expr.specs.Machine as expression
-use Rattle.py_parse_expr.specs.Machine.{any, one, snoc, start, role}
+use Rattle.py_parse_expr.specs.Machine.{one, snoc}
 use Rattle.py_parse_expr.specs.Least as expression_least
 use Rattle.py_parse_expr.specs.Least.{least_name}
 use Rattle.py_parse_expr.specs.PatternMachine as pattern
 use Rattle.py_parse_expr.proofs.Grows.{heights_snoc, height_some}
-use Rattle.py_parse.specs.Open.{newline_end, both_end, Owner, an_arm, a_while, a_for, a_try, a_clause, a_def, a_case, Block, top, inside, add}
-use Rattle.py_parse.specs.Machine.{Resume, value, augmented, leaving, asserted, reason, arm_test, while_test, for_target, for_over, clause_kind, subject, guard, default, Place, Reading, Matching, NameWanted, FunctionWanted, ParamWanted, ClauseBound, ColonWanted, Lines, State, at, close, over_line, end_simple, end_header, begun_at, onward, reads, wanted, simple_place, compound_place, begin_simple, begin_line, line, in_place_op, assigned, left, behind_value, behind_default, resume, resume_pattern, Listed, globals, imports, froms, listed, with_name, behind_name, next_part}
-use Rattle.py_parse.specs.Least.{ended, Form, a_statement, a_header, a_match, resumed, with_param, form}
-use Rattle.py_parse.proofs.GrowthParts.{Under, under_same, arm_height, arm_nesting, clause_height, clause_nesting, case_height, case_nesting}
-use Rattle.py_parse.proofs.GrowthForms.{pass_only, passed, core, resumed_under}
-use Rattle.py_parse.proofs.GrowthEnding.{block_height, depth, block_nesting, AptBlock}
-use Rattle.py_parse.specs.Levels.{is_start, begins_at}
-use Rattle.py_parse.proofs.Weights.{tall, deep, inner, level, Near, added_height, added_depth, added_nesting, added_apt, close_near, over_line_near, close_tall, close_deep, over_line_tall, over_line_deep}
+use Rattle.py_parse.specs.Open.{a_try, a_def, a_case, Block}
+use Rattle.py_parse.specs.Machine.{Resume, value, augmented, leaving, asserted, reason, arm_test, while_test, for_target, for_over, clause_kind, subject, guard, default, Place, Reading, Matching, FunctionWanted, ColonWanted, Lines, State, at, next_part}
+use Rattle.py_parse.specs.Least.{ended, resumed, with_param, form}
+use Rattle.py_parse.proofs.GrowthParts.{Under, arm_height, arm_nesting, clause_height, clause_nesting, case_height, case_nesting}
+use Rattle.py_parse.proofs.GrowthForms.{pass_only, passed, core}
+use Rattle.py_parse.proofs.GrowthEnding.{depth, block_nesting}
+use Rattle.py_parse.specs.Levels.{is_start}
+use Rattle.py_parse.proofs.Weights.{tall, deep, inner, level}
 
 -- the second is hardly higher than the first, or than this, and no deeper
 abbrev pub Hardly : ℕ → StmtKind → StmtKind → Type 0

@@ -11,7 +11,7 @@ use Rattle.py_syntax.specs.Normal.{is_target, is_place}
 use Rattle.py_syntax.specs.Headers.{Marked, put}
 use Rattle.py_syntax.specs.Statements.{in_place_mark, case_name}
 use Rattle.py_parse_expr.specs.Machine as expression
-use Rattle.py_parse_expr.specs.Machine.{one, snoc, start, role}
+use Rattle.py_parse_expr.specs.Machine.{one, snoc, role}
 use Rattle.py_parse_expr.specs.PatternMachine as pattern
 use Rattle.py_parse_expr.proofs.Sound as read_
 use Rattle.py_parse_expr.proofs.PatternSound as pattern_read_

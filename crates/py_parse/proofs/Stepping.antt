@@ -1,5 +1,5 @@
 -- What a step from a state makes, as the code comes to it.
-use Rattle.std.proofs.Common.{◌≡◌, ℕ, Bool, true, false, cond, Option, Some, None, option_map, Result, Ok, Err, refl, sym, ap, subst, ◌∙◌}
+use Rattle.std.proofs.Common.{◌≡◌, ℕ, Bool, true, false, cond, Option, Some, None, option_map, Result, sym, ap, subst, ◌∙◌}
 use Rattle.std.specs.declared.alloc.AllocError.{AllocError}
 use Rattle.py_token.specs.declared.token.Token.{Token}
 use Rattle.py_syntax.specs.declared.stmt.LineEnd.{LineEnd}

@@ -1,5 +1,5 @@
 -- Whether the items of a list are targets, item by item.
-use Rattle.std.proofs.Common.{◌≡◌, ℕ, suc, ◌+◌, ◌<◌, ◌≤◌, Bool, true, false, ◌&&◌, List, [], ◌∷◌, drop, length, get_or, refl, sym, ap, ◌∙◌, drop-cons, add-one}
+use Rattle.std.proofs.Common.{◌≡◌, ℕ, ◌+◌, ◌<◌, ◌≤◌, Bool, true, false, ◌&&◌, List, drop, length, get_or, sym, ap, ◌∙◌, drop-cons, add-one}
 use Rattle.std.proofs.Math.ListN.{drop_of_length-le}
 use Rattle.py_syntax.specs.declared.expr.Expr.{Expr as Node}
 use Rattle.py_syntax.specs.Normal.{is_target, are_targets}

@@ -1,10 +1,10 @@
 -- The tokens that the code reads are those that the machine takes.
-use Rattle.std.proofs.Common.{◌≡◌, ℕ, zero, suc, ◌+◌, ◌-◌, ◌≤◌, ◌<◌, Bool, List, [], ◌∷◌, length, drop, map, get_or, Option, refl, sym, ap, subst, ◌∙◌, arith}
+use Rattle.std.proofs.Common.{◌≡◌, ℕ, zero, suc, ◌-◌, ◌≤◌, ◌<◌, Bool, List, [], ◌∷◌, length, drop, get_or, Option, refl, sym, ap, ◌∙◌, arith}
 use Rattle.std.proofs.lemmas.List.{drop-map}
 use Rattle.std.proofs.Math.Seq.{drop-cons}
-use Rattle.py_token.specs.declared.token.Token.{Token, out-Token}
+use Rattle.py_token.specs.declared.token.Token.{Token}
 use Rattle.py_token.specs.Plain.{PToken, first_of, last_of, token}
-use Rattle.py_token.specs.View.{view_token, view_tokens, view_kind}
+use Rattle.py_token.specs.View.{view_token, view_tokens}
 use Rattle.py_token.proofs.Views.{plain-token}
 use Rattle.py_syntax.specs.Tree.{Expr, Cases}
 use Rattle.py_syntax.specs.Kinds.{Kind, bare_token, bare}

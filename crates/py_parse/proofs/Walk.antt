@@ -1,5 +1,5 @@
 -- An expression is read in one go from where the machine stands.
-use Rattle.std.proofs.Common.{◌≡◌, ℕ, zero, suc, ◌+◌, ◌≤◌, ◌<◌, max, nat_le, Bool, true, false, cond, List, [], ◌∷◌, length, drop, Option, Some, None, refl, sym, ap, subst, ◌∙◌, arith}
+use Rattle.std.proofs.Common.{◌≡◌, ℕ, zero, suc, ◌+◌, ◌≤◌, ◌<◌, nat_le, Bool, true, false, cond, List, [], ◌∷◌, length, drop, Option, Some, None, refl, sym, ap, subst, ◌∙◌, arith}
 use Rattle.std.proofs.lemmas.Bool.{leb-true, leb-false}
 use Rattle.std.proofs.lemmas.List.{length-drop}
 use Rattle.py_token.specs.Plain.{PToken, first_of, last_of}
@@ -7,14 +7,14 @@ use Rattle.py_syntax.specs.Tree.{Expr}
 use Rattle.py_syntax.specs.Kinds.{Kind, bare_token, bare}
 use Rattle.py_syntax.specs.Headers.{ends_line}
 use Rattle.py_syntax.specs.Normal.{height}
-use Rattle.py_syntax.specs.Spelling.{HEIGHT, NESTING}
+use Rattle.py_syntax.specs.Spelling.{HEIGHT}
 use Rattle.py_parse_expr.specs.Machine as expression
-use Rattle.py_parse_expr.specs.Machine.{Goal, start, role}
+use Rattle.py_parse_expr.specs.Machine.{start, role}
 use Rattle.py_parse_expr.specs.Least.{least}
 use Rattle.py_parse_expr.specs.Reading.{Ending, Unexpected, TooDeep, Reads, within}
 use Rattle.py_parse_expr.proofs.Grows.{height_some}
 use Rattle.py_parse.specs.Open.{Block}
-use Rattle.py_parse.specs.Machine.{Resume, Reading, Lines, State, at, goal, reads, onward, act, plain_step, resume, done}
+use Rattle.py_parse.specs.Machine.{Resume, Reading, Lines, State, at, goal, reads, onward, act, resume}
 use Rattle.py_parse.specs.Places.{last_before}
 use Rattle.py_parse.specs.HeldMarks.{header_at}
 use Rattle.py_parse.specs.Refusal.{IsUnexpected, HasDeepExpressions}
@@ -23,7 +23,7 @@ use Rattle.py_parse.proofs.WholeLists.{Lexeme, next}
 use Rattle.py_parse.proofs.WholeTokens.{with_lines}
 use Rattle.py_parse.proofs.WholeStands.{Stands, count, unexpected}
 use Rattle.py_parse.specs.Levels.{is_start}
-use Rattle.py_parse.proofs.Falls.{Falls, step_falls, begin_falls, start_falls}
+use Rattle.py_parse.proofs.Falls.{Falls, step_falls, start_falls}
 use Rattle.py_parse.proofs.Quits.{Quits, step_quits}
 use Rattle.py_parse.proofs.Weights.{inner, level, begun_level}
 use Rattle.py_parse.proofs.Marks.{lexeme, there, no_header, plainly, drop_more}

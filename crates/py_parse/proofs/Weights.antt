@@ -1,20 +1,20 @@
 -- The height and the depth of what stands in a state, and what of them a step may add.
 use Rattle.std.proofs.Common.{◌≡◌, ℕ, suc, ◌+◌, ◌≤◌, max, Bool, true, false, cond, Option, Some, None, refl, ap, arith}
 use Rattle.py_syntax.specs.declared.stmt.LineEnd.{LineEnd}
-use Rattle.py_syntax.specs.Tree.{Expr, no_exprs, Stmts, no_stmts, stmt, Suite, suite, no_suite, Arms, no_arms, arm, Cases, no_cases, case, StmtKind, match, Pattern}
+use Rattle.py_syntax.specs.Tree.{Expr, Suite, suite, no_arms, arm, Cases, no_cases, case, StmtKind, match, Pattern}
 use Rattle.py_syntax.specs.Normal.{height}
-use Rattle.py_syntax.specs.Statements.{stmts_height, kind_height, suite_height, cases_height, stmts_nesting, kind_nesting, suite_nesting, cases_nesting}
+use Rattle.py_syntax.specs.Statements.{stmts_height, kind_height, stmts_nesting, kind_nesting}
 use Rattle.py_parse_expr.specs.Machine as expression
 use Rattle.py_parse_expr.specs.Least as expression_least
 use Rattle.py_parse_expr.specs.PatternMachine as pattern
-use Rattle.py_parse.specs.Open.{snoc_stmt, snoc_case, no_end, Owner, an_arm, a_while, a_for, a_try, a_clause, an_else, a_finally, a_def, a_case, closed, Block, top, inside, add}
-use Rattle.py_parse.specs.Machine.{Resume, arm_test, while_test, for_target, subject, Place, Reading, Matching, FunctionWanted, ColonWanted, Lines, State, Line, at, Behind, Choosing, Over, close, over_line}
-use Rattle.py_parse.specs.Least.{ended, chosen, form, finished, least_height, least_nesting}
+use Rattle.py_parse.specs.Open.{snoc_case, no_end, a_case, Block, top, inside, add}
+use Rattle.py_parse.specs.Machine.{Resume, arm_test, while_test, for_target, subject, Reading, Matching, Lines, State, Line, at, Behind, Choosing, Over, close, over_line}
+use Rattle.py_parse.specs.Least.{ended, chosen, form, least_height, least_nesting}
 use Rattle.py_parse.specs.Levels as levels
 use Rattle.py_parse.specs.Levels.{is_start, begins_at, open_count}
 use Rattle.py_parse.proofs.GrowthParts.{snoc_height, snoc_nesting, case_height, case_nesting, ended_height, ended_nesting}
 use Rattle.py_parse.proofs.GrowthForms.{core}
-use Rattle.py_parse.proofs.GrowthEnding.{owner_height, owner_nesting, Apt, closed_height, closed_nesting, block_height, depth, block_nesting, AptBlock, ending_height, ending_nesting, closing_height, closing_nesting, complete_height, complete_nesting}
+use Rattle.py_parse.proofs.GrowthEnding.{closed_height, closed_nesting, block_height, depth, block_nesting, AptBlock, ending_height, ending_nesting, closing_height, closing_nesting, complete_height, complete_nesting}
 
 -- ---- what stands in a state
 
@@ -100,10 +100,6 @@ near_from h h' d d' (Some s) low shallow n = let one = n.0 in let two = n.1 in (
 pub added_height : (b : Block) (f l : ℕ) (k : StmtKind) (e : LineEnd) → block_height (add b f l k e) ≡ max (block_height b) (kind_height k)
 added_height (top ss) f l k e = snoc_height ss f l k e
 added_height (inside ss i x y begun o b) f l k e = let one = snoc_height ss f l k e in omega arith
-
-pub added_depth : (b : Block) (f l : ℕ) (k : StmtKind) (e : LineEnd) → depth (add b f l k e) ≡ depth b
-added_depth (top ss) f l k e = refl
-added_depth (inside ss i x y begun o b) f l k e = refl
 
 pub added_nesting : (b : Block) (f l : ℕ) (k : StmtKind) (e : LineEnd) → block_nesting (add b f l k e) ≡ max (block_nesting b) (kind_nesting k + depth b)
 added_nesting (top ss) f l k e = let one = snoc_nesting ss f l k e in omega arith

@@ -20,41 +20,6 @@ expr_turn (Left e) = leaves e
 abbrev pub expr_step : State → Kind → Turn State Expr
 expr_step s t = expr_turn (step s (role t))
 
-abbrev pub expr_fits : ℕ → State → Bool
-expr_fits limit s = nat_le (least s) limit
-
-abbrev pub expr_ends : Form Expr → List Kind → expression.Ending
-expr_ends unexpected rest = expression.Unexpected rest
-expr_ends too_deep rest = expression.TooDeep rest
-expr_ends (reads e) rest = expression.Reads e rest
-
-abbrev expr_told : expression.Ending → Form Expr × List Kind
-expr_told (expression.Unexpected rest) = ended unexpected rest
-expr_told (expression.TooDeep rest) = ended too_deep rest
-expr_told (expression.Reads e rest) = ended (reads e) rest
-
-expr_same : (form : Form Expr) (rest : List Kind) → expr_told (expr_ends form rest) ≡ ended form rest
-expr_same unexpected rest = refl
-expr_same too_deep rest = refl
-expr_same (reads e) rest = refl
-
-expr_within : (limit : ℕ) (s : State) (ts : List Kind) → within expr_step (expr_fits limit) s ts ≡ expr_told (expression.within limit s ts)
-expr_within limit s [] = refl
-expr_within limit s (t ∷ ts) = go (λ n. expr_within limit n ts) (step s (role t))
-  where
-    passed : ((n : State) → within expr_step (expr_fits limit) n ts ≡ expr_told (expression.within limit n ts)) → (n : State) (b : Bool) → cond b (within expr_step (expr_fits limit) n ts) (ended too_deep (t ∷ ts)) ≡ expr_told (cond b (expression.within limit n ts) (expression.TooDeep (t ∷ ts)))
-    passed rec n true = rec n
-    passed rec n false = refl
-
-    go : ((n : State) → within expr_step (expr_fits limit) n ts ≡ expr_told (expression.within limit n ts)) → (o : Out) → (elim (expr_turn o) as (λ (w : Turn State Expr). Form Expr × List Kind) [ goes n ↦ cond (expr_fits limit n) (within expr_step (expr_fits limit) n ts) (ended too_deep (t ∷ ts)) | sticks ↦ ended unexpected (t ∷ ts) | leaves e ↦ ended (reads e) (t ∷ ts) ]) ≡ expr_told (elim o as (λ (w : Out). expression.Ending) [ Next n ↦ cond (nat_le (least n) limit) (expression.within limit n ts) (expression.TooDeep (t ∷ ts)) | Stuck ↦ expression.Unexpected (t ∷ ts) | Left e ↦ expression.Reads e (t ∷ ts) ])
-    go rec (Next n) = passed rec n (nat_le (least n) limit)
-    go rec Stuck = refl
-    go rec (Left e) = refl
-
--- how a reading of an expression ends, for an outer reader
-pub expr_inside : (limit : ℕ) (s : State) (ts : List Kind) (at place : ℕ) (form : Form Expr) → expression.EndsAt limit s ts at place (expr_ends form) → within expr_step (expr_fits limit) s (drop at ts) ≡ ended form (drop place ts)
-expr_inside limit s ts at place form h = expr_within limit s (drop at ts) ∙ ap expr_told h.ends ∙ expr_same form (drop place ts)
-
 -- ---- patterns
 
 abbrev pub pattern_turn : pattern.Out → Turn pattern.State Pattern

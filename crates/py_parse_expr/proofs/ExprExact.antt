@@ -9,7 +9,7 @@ use Rattle.py_syntax.specs.Normal.{Normal, height}
 use Rattle.py_parse_expr.specs.Machine.{Goal, any, one, target, targets, State, Out, Next, Stuck, Left, step, start, role, Leaves, run}
 use Rattle.py_parse_expr.specs.Least.{finished, least}
 use Rattle.py_parse_expr.specs.Reading as reading
-use Rattle.py_parse_expr.specs.Reading.{Ending, Unexpected, TooDeep, within, EndsAt}
+use Rattle.py_parse_expr.specs.Reading.{Ending, Unexpected, TooDeep, within}
 use Rattle.py_parse_expr.proofs.Sound.{before, Reads, step_reads}
 use Rattle.py_parse_expr.proofs.Fine.{Sound, Meets, Keeps}
 use Rattle.py_parse_expr.proofs.Keeps.{step_keeps}

@@ -1,5 +1,5 @@
 -- From the code's walk over the fields of f-strings to what it answers.
-use Rattle.std.proofs.Common.{◌≡◌, ℕ, ◌+◌, ◌-◌, ◌≤◌, ◌<◌, max, Bool, true, false, cond, List, [], ◌∷◌, ◌++◌, drop, length, get_or, Option, Some, None, is_some, option_map, Result, Ok, Err, refl, sym, ap, subst, ◌∙◌, arith}
+use Rattle.std.proofs.Common.{◌≡◌, ℕ, ◌+◌, ◌-◌, ◌≤◌, ◌<◌, max, Bool, true, false, List, [], ◌∷◌, ◌++◌, drop, length, get_or, Option, Some, None, is_some, option_map, Result, Ok, Err, refl, sym, ap, subst, ◌∙◌, arith}
 use Rattle.std.proofs.lemmas.List.{at_drop_more, at_drop_all}
 use Rattle.std.specs.Global.{Vec}
 use Rattle.std.specs.declared.alloc.AllocError.{AllocError}
@@ -31,11 +31,11 @@ use Rattle.py_parse_expr.specs.declared.expr_fields.Unread.TheVariants as unread
 use Rattle.py_parse_expr.specs.Roles.{Role, r_format, r_other}
 use Rattle.py_parse_expr.specs.Machine.{any, Ctx, Outside, State, Want, Out, Next, Stuck, Left, step, start, format_role, role, parts, field_expr}
 use Rattle.py_parse_expr.specs.Least.{least}
-use Rattle.py_parse_expr.specs.ExprHeld.{capped, view_tall, view_fields, plain_role, IsTall, AreFields}
+use Rattle.py_parse_expr.specs.ExprHeld.{capped, view_tall, view_fields, plain_role}
 use Rattle.py_parse_expr.specs.ExprStacks.{view_stack, Kept}
 use Rattle.py_parse_expr.specs.ExprTurns.{view_at, KeptAt, TurnsTo, Turns}
 use Rattle.py_parse_expr.specs.FieldOrder.{plain_pieces}
-use Rattle.py_parse_expr.specs.ExprFields.{takes_string, NoFString, has_spelled_fields, ended_turn, IsField, AreParts, IsHigh, IsHighIf, GoesTo, Goes}
+use Rattle.py_parse_expr.specs.ExprFields.{takes_string, NoFString, has_spelled_fields, ended_turn, IsField, AreParts, IsHighIf, GoesTo, Goes}
 use Rattle.py_parse_expr.proofs.Spelled.{field_after, ended_by}
 use Rattle.py_parse_expr.proofs.Rising.{Grows, step_grows}
 use Rattle.py_parse_expr.proofs.FieldRuns.{row, next_row, plain-chars}
@@ -75,10 +75,6 @@ quiet_goes s limit new t ps r is quiet h = subst (λ (x : Kind). Goes (step s (r
 -- an f-string with these fields
 pub format_goes : (s : State) (limit : ℕ) (new : Stack) (t : Kind) (ps : Pieces) (fs : Fields) (r : Result Turn AllocError) → t ≡ FString ps → AreParts limit (parts ps) (Ok fs) → Turns (step s (r_format (view_fields fs))) limit new r → Goes (step s (role t)) limit new t r
 format_goes s limit new t ps fs r is are h = subst (λ (x : Kind). Goes (step s (role x)) limit new x r) (sym is) (high_turns (step s (role (FString ps))) (step s (r_format (view_fields fs))) limit new (FString ps) r (ap (λ (o : Option Parts). step s (format_role ps o)) (sym are.0)) (ap is_some are.0) h)
-
--- one with a field that is no expression
-pub bad_goes : (s : State) (limit : ℕ) (new : Stack) (t : Kind) (ps : Pieces) → t ≡ FString ps → takes_string s ≡ true → parts ps ≡ None → GoesTo (step s (role t)) limit new t turn_.Stuck
-bad_goes s limit new t ps is takes none = ap (λ (x : Kind). step s (role x)) is ∙ ap (λ (o : Option Parts). step s (format_role ps o)) none ∙ step_bad s ps takes
 
 -- one that is too high
 pub deep_goes : (s : State) (limit : ℕ) (new : Stack) (t : Kind) (ps : Pieces) → t ≡ FString ps → takes_string s ≡ true → AreParts limit (parts ps) (Err unread_.TooDeep) → GoesTo (step s (role t)) limit new t turn_.Deep
@@ -123,9 +119,6 @@ module _ (limit : ℕ) (all : Option Expr) (ts : List Token) (i : ℕ) (t : Toke
 
   pub field_next : (n : Progress) → turn ≡ turn_.Next n → FieldSoFar limit all n new (row (drop (i + 1) ts))
   field_next n is = let g = as_turn (turn_.Next n) is in record { is = stepped ∙ ap (λ (w : Out). field_after w (row (drop (i + 1) ts))) g.0; place = g.1; kept = subst (λ (l : ℕ). Kept l new) h.kept.same g.2 }
-
-  pub field_stuck : turn ≡ turn_.Stuck → all ≡ None
-  field_stuck is = stepped ∙ ap (λ (w : Out). field_after w (row (drop (i + 1) ts))) (as_turn turn_.Stuck is)
 
   pub field_left : (e : Tall) → turn ≡ turn_.Left e → all ≡ None
   field_left e is = stepped ∙ ap (λ (w : Out). field_after w (row (drop (i + 1) ts))) (as_turn (turn_.Left e) is).0
@@ -194,13 +187,6 @@ field_is e = search (node.the_lemmas, node_part.the_lemmas)
 pub record PartsSoFar (all : Option Parts) (fs : List FormatPart) (high : ℕ) (ps : Pieces) : Type 0 where
   pub is : all ≡ option_map (λ qs. behind (plain_parts fs) qs) (parts ps)
   pub height : high ≡ capped (height_parts (plain_parts fs))
-
-mapped_none : (o : Option Parts) → o ≡ option_map (λ qs. behind no_parts qs) o
-mapped_none None = refl
-mapped_none (Some qs) = refl
-
-pub parts_begin : (ps : Pieces) (fs : List FormatPart) → fs ≡ [] → PartsSoFar (parts ps) fs 0 ps
-parts_begin ps fs is = record { is = mapped_none (parts ps) ∙ ap (λ (x : List FormatPart). option_map (λ qs. behind (plain_parts x) qs) (parts ps)) (sym is); height = ap (λ (x : List FormatPart). capped (height_parts (plain_parts x))) (sym is) }
 
 pub parts_end : (ps : List Piece) (i : ℕ) (all : Option Parts) (fs : Vec FormatPart) (high limit : ℕ) → length ps ≤ i → PartsSoFar all fs.items high (plain_pieces (drop i ps)) → AreParts limit all (Ok (record { parts = fs; height = high }))
 parts_end ps i all fs high limit over h = (

@@ -1,12 +1,12 @@
 -- What the machine does with a frame, in the forms in which the code does it.
-use Rattle.std.proofs.Common.{◌≡◌, Bool, true, false, cond, refl, sym, ap, ◌∙◌}
+use Rattle.std.proofs.Common.{◌≡◌, false, refl}
 use Rattle.py_syntax.specs.declared.expr.Comparison.TheVariants.{Op}
-use Rattle.py_syntax.specs.Tree.{Expr, compare, Exprs, Links}
+use Rattle.py_syntax.specs.Tree.{Expr, Exprs, Links}
 use Rattle.py_value.specs.declared.operator.CmpOp.{CmpOp}
 use Rattle.py_parse_expr.specs.declared.expr_roles.Role as held_role
 use Rattle.py_parse_expr.specs.declared.expr_roles.Role.TheVariants as role_
-use Rattle.py_parse_expr.specs.Roles.{Joint, Role, r_compare, r_joint, r_not, r_is, r_right_paren, r_right_bracket, joint_level, joined}
-use Rattle.py_parse_expr.specs.Machine.{snoc, snoc_link, Opener, a_call, a_list, made, Ctx, on, first, right, compare_rest, post_rest, in_items, State, Have, Linked, Out, Next, Stuck, give, step}
+use Rattle.py_parse_expr.specs.Roles.{Joint, Role, r_compare, r_joint, r_not, r_is, joint_level, joined}
+use Rattle.py_parse_expr.specs.Machine.{snoc_link, Opener, a_call, a_list, Ctx, on, first, right, compare_rest, in_items, Linked, Stuck, give, step}
 use Rattle.py_parse_expr.specs.ExprHeld.{view_role}
 use Rattle.py_parse_expr.specs.ExprTurns.{closes}
 
@@ -19,13 +19,6 @@ give_link a ls op e k (r_compare p) = refl
 give_link a ls op e k r_not = refl
 give_link a ls op e k r_is = refl
 give_link a ls op e k t = refl
-
--- a token that closes items behind one, or doesn't
-pub give_closed : (e : Expr) (o : Opener) (es : Exprs) (k : Ctx) (t : Role) → closes o t ≡ true → give e (on (in_items o es) k) t ≡ Next (Have (made o (snoc es e) false) (on post_rest k))
-give_closed e (a_call f) es k r_right_paren h = refl
-give_closed e a_list es k r_right_bracket h = refl
-give_closed e (a_call f) es k t h = absurd cc
-give_closed e a_list es k t h = absurd cc
 
 pub give_unclosed : (e : Expr) (o : Opener) (es : Exprs) (k : Ctx) (r : held_role.Role) → (r ≡ role_.Comma → ⊥) → closes o (view_role r) ≡ false → give e (on (in_items o es) k) (view_role r) ≡ Stuck
 give_unclosed e o es k role_.Comma h i = absurd (h refl)

@@ -1,5 +1,5 @@
 -- Whether the least expression that goes on from a state is within the limit, told by the room.
-use Rattle.std.proofs.Common.{◌≡◌, ℕ, ◌≤◌, nat_le, Bool, true, false, cond, refl, sym, ap, ◌∙◌}
+use Rattle.std.proofs.Common.{◌≡◌, ℕ, ◌≤◌, nat_le, Bool, sym, ap, ◌∙◌}
 use Rattle.py_syntax.specs.Spelling.{HEIGHT}
 use Rattle.py_syntax.specs.Tree.{Expr}
 use Rattle.py_syntax.specs.Normal.{is_target, height}

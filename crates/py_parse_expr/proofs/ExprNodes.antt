@@ -1,5 +1,5 @@
 -- One more at the end of what the code holds.
-use Rattle.std.proofs.Common.{◌≡◌, ℕ, suc, ◌≤◌, max, min, Bool, true, false, cond, ◌&&◌, List, [], ◌∷◌, ◌++◌, map, refl, sym, ap, subst, ◌∙◌, arith}
+use Rattle.std.proofs.Common.{◌≡◌, ℕ, suc, max, Bool, true, false, cond, ◌&&◌, List, [], ◌∷◌, ◌++◌, refl, sym, ap, ◌∙◌, arith}
 use Rattle.std.specs.Global.{Vec}
 use Rattle.py_syntax.specs.declared.expr.Comparison.{Comparison}
 use Rattle.py_syntax.specs.declared.expr.Expr.{Expr as Node}
@@ -13,7 +13,7 @@ use Rattle.py_syntax.specs.declared.expr.Fragment.{Fragment}
 use Rattle.py_syntax.specs.declared.expr.FormatPart.{FormatPart}
 use Rattle.py_syntax.specs.declared.expr.Fragment.TheVariants as fragment_
 use Rattle.py_syntax.specs.declared.expr.Expr.TheVariants as variant
-use Rattle.py_syntax.specs.Tree.{Text, Expr, none, bool, str, fstr, Exprs, exprs, Pairs, pair, Links, link, Fragments, no_fragments, plain, format, Parts}
+use Rattle.py_syntax.specs.Tree.{Text, Expr, none, bool, str, fstr, exprs, Pairs, pair, Links, link, Fragments, no_fragments, plain, format, Parts}
 use Rattle.py_syntax.specs.Normal.{is_target, are_targets, height, heights, height_entries, height_links, height_fragments, height_parts}
 use Rattle.py_syntax.specs.View.{PlainFragment, a_plain, a_format, fragments_of, plain_expr, plain_exprs, plain_pairs, plain_links, plain_fragments, plain_parts}
 use Rattle.py_parse_expr.specs.Machine.{snoc, snoc_pair, snoc_link, snoc_plain, snoc_format, has_format, texts, strings_of}

@@ -1,10 +1,9 @@
 -- From the code's walk over the tokens of an expression to what it answers.
-use Rattle.std.proofs.Common.{◌≡◌, ℕ, ◌+◌, ◌≤◌, ◌<◌, nat_le, Bool, true, false, cond, List, [], ◌∷◌, length, drop, get_or, Result, Ok, Err, refl, sym, ap, subst, ◌∙◌, arith}
+use Rattle.std.proofs.Common.{◌≡◌, ℕ, ◌+◌, ◌≤◌, ◌<◌, nat_le, Bool, true, false, cond, List, ◌∷◌, length, drop, get_or, Result, Ok, Err, refl, sym, ap, subst, ◌∙◌, arith}
 use Rattle.std.proofs.lemmas.Bool.{le-leb, lt-leb}
 use Rattle.std.proofs.lemmas.List.{drop_all}
 use Rattle.py_token.specs.declared.token.Token.{Token}
 use Rattle.py_syntax.specs.Spelling.{HEIGHT}
-use Rattle.py_syntax.specs.Tree.{Expr}
 use Rattle.py_syntax.specs.Kinds.{Kind}
 use Rattle.py_syntax.specs.View.{plain_expr}
 use Rattle.py_parse_expr.specs.declared.error.ReadError.{ReadError}
@@ -19,11 +18,11 @@ use Rattle.py_parse_expr.specs.declared.expr_turns.Turn.TheVariants as turn_
 use Rattle.py_parse_expr.specs.declared.exprs.ExprPart.{ExprPart}
 use Rattle.py_parse_expr.specs.declared.exprs.ExprPart.TheVariants as part_
 use Rattle.py_parse_expr.specs.declared.exprs.ExprRead.{ExprRead}
-use Rattle.py_parse_expr.specs.Machine.{Goal, Ctx, Outside, State, Want, Out, Next, Stuck, Left, step, start, role}
+use Rattle.py_parse_expr.specs.Machine.{Goal, Outside, State, Want, Out, Next, Stuck, Left, step, start, role}
 use Rattle.py_parse_expr.specs.Least.{least}
 use Rattle.py_parse_expr.specs.Reading.{Ending, Unexpected, TooDeep, Reads, within, EndsAt}
 use Rattle.py_parse_expr.specs.ExprTrees.{IsAsked}
-use Rattle.py_parse_expr.specs.ExprHeld.{view_level, view_tall, IsTall}
+use Rattle.py_parse_expr.specs.ExprHeld.{view_level, view_tall}
 use Rattle.py_parse_expr.specs.ExprStacks.{view_stack, Kept}
 use Rattle.py_parse_expr.specs.ExprTurns.{view_at, KeptAt}
 use Rattle.py_parse_expr.specs.ExprFields.{has_spelled_fields, IsHighIf, GoesTo}

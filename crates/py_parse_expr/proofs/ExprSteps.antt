@@ -1,36 +1,28 @@
 -- Steps of the machine, in the forms in which the code takes them.
-use Rattle.std.proofs.Common.{◌≡◌, ℕ, suc, ◌<◌, ◌+◌, Bool, true, false, not, cond, length, Option, Some, None, Result, Ok, Err, refl, sym, subst, ap, ◌∙◌, arith}
+use Rattle.std.proofs.Common.{◌≡◌, ℕ, Bool, true, false, not, cond, Some, Result, Ok, Err, refl, sym, subst, ap, ◌∙◌}
 use Rattle.std.specs.declared.alloc.AllocError.{AllocError}
-use Rattle.py_syntax.specs.Tree.{Expr, tuple, dict, Exprs, no_exprs, exprs, Pairs, no_pairs}
-use Rattle.py_syntax.specs.Normal.{LExpr, is_target}
+use Rattle.py_syntax.specs.Tree.{Expr, tuple, Exprs, no_exprs, exprs, Pairs, no_pairs}
+use Rattle.py_syntax.specs.Normal.{is_target}
 use Rattle.py_parse_expr.specs.declared.expr_nodes.Tall.{Tall}
-use Rattle.py_parse_expr.specs.declared.expr_nodes.Row.{Row}
 use Rattle.py_parse_expr.specs.declared.expr_roles.Role as held_role
 use Rattle.py_parse_expr.specs.declared.expr_roles.Role.TheVariants as role_
 use Rattle.py_parse_expr.specs.declared.expr_stack.Frame as held_frame
 use Rattle.py_parse_expr.specs.declared.expr_stack.Stack.{Stack}
 use Rattle.py_parse_expr.specs.declared.expr_turns.Progress as held_progress
-use Rattle.py_parse_expr.specs.declared.expr_turns.Met.{Met}
 use Rattle.py_parse_expr.specs.declared.expr_turns.Met.TheVariants as met_
 use Rattle.py_parse_expr.specs.declared.expr_turns.Turn.{Turn}
 use Rattle.py_parse_expr.specs.declared.expr_turns.Turn.TheVariants as turn_
-use Rattle.py_parse_expr.specs.Roles.{Role, r_comma, r_right_paren, r_right_bracket, r_right_brace}
-use Rattle.py_parse_expr.specs.Machine.{snoc, Goal, targets, AfterTarget, Opener, a_call, a_list, made, post_rest, in_items, in_key, Ctx, Outside, on, State, Have, DictOpen, DictComma, ItemsOpen, ItemsComma, Out, Next, Stuck, Left, begin, close_items, leave, give, step}
-use Rattle.py_parse_expr.specs.ExprHeld.{view_tall, view_role, view_row, IsTall}
-use Rattle.py_parse_expr.specs.ExprStacks.{head_of, tail_of, AreSome, view_goal, view_frame, view_stack, KeptFrame, Kept, Pops}
-use Rattle.py_parse_expr.specs.ExprTurns.{view_at, KeptAt, closes, close_dict, StaysAs, Stays, ActsAs, Acts}
+use Rattle.py_parse_expr.specs.Roles.{Role, r_comma, r_right_brace}
+use Rattle.py_parse_expr.specs.Machine.{snoc, targets, AfterTarget, Ctx, on, DictOpen, DictComma, Out, Next, Stuck, Left, leave, give, step}
+use Rattle.py_parse_expr.specs.ExprHeld.{view_tall, view_role, IsTall}
+use Rattle.py_parse_expr.specs.ExprStacks.{head_of, tail_of, AreSome, view_frame, view_stack, Kept, Pops}
+use Rattle.py_parse_expr.specs.ExprTurns.{close_dict, Stays, Acts}
 
 -- an expression that goes through the frames
 pub record Giving (o : Out) (limit : ℕ) (t : Role) (e : Tall) (s : Stack) : Type 0 where
   pub same : o ≡ give (view_tall e) (view_stack s) t
   pub tall : IsTall e
   pub kept : Kept limit s
-
-pub close_items_is : (p : Opener) (es : Exprs) (c : Bool) (k : Ctx) (t : Role) (o : Out) → close_items p es c k t o ≡ cond (closes p t) (Next (Have (made p es c) (on post_rest k))) o
-close_items_is (a_call f) es c k r_right_paren o = refl
-close_items_is a_list es c k r_right_bracket o = refl
-close_items_is (a_call f) es c k t o = refl
-close_items_is a_list es c k t o = refl
 
 pub dict_open : (k : Ctx) (t : Role) → step (DictOpen k) t ≡ close_dict no_pairs false k t
 dict_open k r_right_brace = refl

@@ -1,19 +1,18 @@
 -- Where a string may stand in an expression, and how high it makes the whole.
-use Rattle.std.proofs.Common.{◌≡◌, ℕ, suc, ◌≤◌, ◌<◌, max, nat_le, Bool, true, false, cond, refl, sym, ap, ◌∙◌, arith}
-use Rattle.std.proofs.lemmas.Bool.{leb-true, leb-false, le-leb}
-use Rattle.py_value.specs.declared.operator.CmpOp.{CmpOp}
+use Rattle.std.proofs.Common.{◌≡◌, ℕ, ◌≤◌, ◌<◌, nat_le, Bool, true, false, cond, refl, sym, ap, ◌∙◌, arith}
+use Rattle.std.proofs.lemmas.Bool.{leb-true, leb-false}
 use Rattle.py_token.specs.declared.token.Keyword.{Keyword}
 use Rattle.py_token.specs.declared.token.Keyword.TheVariants as word
 use Rattle.py_token.specs.declared.token.Mark.{Mark}
 use Rattle.py_token.specs.declared.token.Mark.TheVariants as mark
 use Rattle.py_syntax.specs.declared.expr.Comparison.TheVariants.{Op}
-use Rattle.py_syntax.specs.Tree.{Expr, fstr, tuple, not', unary, compare, Exprs, exprs, Fragments, no_fragments, format, Parts}
+use Rattle.py_syntax.specs.Tree.{Expr, fstr, tuple, not', unary, compare, exprs, Fragments, no_fragments, format, Parts}
 use Rattle.py_syntax.specs.Tree as tree_
-use Rattle.py_syntax.specs.Kinds.{Kind, Name, Word, Int, Str, FString, Sign, Newline, Indent, Dedent, End, Pieces}
+use Rattle.py_syntax.specs.Kinds.{Kind, Word, FString, Sign, End, Pieces}
 use Rattle.py_syntax.specs.Normal.{LExpr, LExprs, LPost, is_target, height, height_fragments, height_parts}
-use Rattle.py_parse_expr.specs.Roles.{Role, r_name, r_none, r_bool, r_format, r_bad_format, r_not, r_is, r_if, r_else, r_compare, r_joint, r_comma, r_colon, r_dot, r_left_paren, r_right_paren, r_left_bracket, r_right_bracket, r_left_brace, r_right_brace, r_other, joined}
+use Rattle.py_parse_expr.specs.Roles.{Role, r_name, r_none, r_bool, r_format, r_bad_format, r_not, r_is, r_if, r_else, r_compare, r_joint, r_comma, r_colon, r_dot, r_left_paren, r_right_paren, r_left_bracket, r_right_bracket, r_right_brace, r_other, joined}
 use Rattle.py_parse_expr.specs.Machine.{snoc, snoc_link, snoc_format, has_format, strings_of, any, one, target, targets, a_call, a_list, exprs_first, exprs_rest, cond_first, cond_test, cond_else, first, right, not_of, compare_first, compare_rest, unary_of, post_rest, in_items, index_first, in_index, slice_to, in_paren, in_key, in_value, Ctx, Outside, on, State, Want, Have, Strings, AfterOpen, AfterComma, AfterTarget, ItemsOpen, ItemsComma, DictOpen, DictComma, IndexOpen, SliceColon, AfterDot, AfterNot, AfterIs, AfterIsNot, Linked, Out, Next, Stuck, Left, upto, give, step, role}
-use Rattle.py_parse_expr.specs.Least.{whole, least}
+use Rattle.py_parse_expr.specs.Least.{whole}
 use Rattle.py_parse_expr.specs.Rooms.{room}
 use Rattle.py_parse_expr.specs.ExprHeld.{plain_role}
 use Rattle.py_parse_expr.specs.ExprFields.{takes_string, NoFString, has_spelled_fields, IsHigh}

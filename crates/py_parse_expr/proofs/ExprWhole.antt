@@ -1,5 +1,5 @@
 -- From the reading of one expression to what a whole list of tokens is.
-use Rattle.std.proofs.Common.{◌≡◌, ℕ, ◌+◌, ◌≤◌, ◌<◌, nat_le, Bool, true, false, cond, List, [], ◌∷◌, ◌++◌, length, drop, get_or, Option, Some, None, Result, Ok, Err, refl, sym, ap, subst, ◌∙◌, arith}
+use Rattle.std.proofs.Common.{◌≡◌, ℕ, ◌+◌, ◌≤◌, ◌<◌, nat_le, Bool, true, false, cond, List, [], ◌∷◌, length, drop, get_or, None, Result, Ok, Err, refl, sym, ap, subst, ◌∙◌, arith}
 use Rattle.std.proofs.lemmas.Bool.{leb-true, leb-false}
 use Rattle.std.proofs.lemmas.List.{length-drop, drop-drop}
 use Rattle.std.specs.Result.{IsErrAnd}
@@ -20,7 +20,7 @@ use Rattle.py_parse_expr.specs.Reading.{Ending, Unexpected, TooDeep, Reads, with
 use Rattle.py_parse_expr.specs.ExprTrees.{IsExpr}
 use Rattle.py_parse_expr.specs.ExprReads.{FollowsMachine, is_end}
 use Rattle.py_parse_expr.specs.Refusal.{Spells, IsUnexpected, IsTooDeep, Parses}
-use Rattle.py_parse_expr.proofs.Whole.{Whole, Going, Over, over_at, goes, next, done, lowest, begun}
+use Rattle.py_parse_expr.proofs.Whole.{Going, Over, over_at, goes, next}
 use Rattle.py_parse_expr.proofs.Stands.{Stands, stands_first, goes_on, unexpected, too_deep, whole_list}
 use Rattle.py_parse_expr.proofs.PatternTokens.{kinds_of_all, kind_at, kinds_length, kind_there}
 use Rattle.py_parse_expr.proofs.ExprPlaces.{is_exact}

@@ -1,12 +1,11 @@
 -- The f-strings in fields may be asked behind the fields.
-use Rattle.std.proofs.Common.{◌≡◌, ℕ, suc, ◌+◌, ◌<◌, ◌≤◌, Bool, true, false, cond, ◌&&◌, List, [], ◌∷◌, ◌++◌, map, Option, Some, None, is_some, Ok, refl, sym, ap, subst, ◌∙◌, arith, append_assoc}
+use Rattle.std.proofs.Common.{◌≡◌, ℕ, ◌+◌, ◌<◌, ◌≤◌, Bool, true, false, cond, ◌&&◌, List, [], ◌∷◌, ◌++◌, Option, Some, None, is_some, Ok, refl, sym, ap, subst, ◌∙◌, arith, append_assoc}
 use Rattle.py_syntax.specs.declared.expr.Comparison.TheVariants.{Op}
-use Rattle.py_syntax.specs.Tree.{Expr, Parts, no_parts, tuple, not', unary, compare, Exprs, exprs, Fragments}
+use Rattle.py_syntax.specs.Tree.{Expr, Parts, no_parts, tuple, not', unary, compare, exprs}
 use Rattle.py_syntax.specs.Tree as tree_
-use Rattle.py_syntax.specs.Kinds.{Kind, FString, Pieces, no_pieces, chars_piece, field_piece, Kinds, no_kinds, kinds}
-use Rattle.py_parse_expr.specs.Roles.{Role, r_string, r_format, r_bad_format, r_other, joined}
-use Rattle.py_parse_expr.specs.Machine.{snoc, snoc_link, strings_of, any, one, target, targets, a_call, a_list, exprs_first, exprs_rest, cond_first, cond_test, cond_else, first, right, not_of, compare_first, compare_rest, unary_of, post_rest, in_items, index_first, in_index, slice_to, in_paren, in_key, in_value, Ctx, Outside, on, State, Want, Have, Strings, AfterOpen, AfterComma, AfterTarget, ItemsOpen, ItemsComma, DictOpen, DictComma, IndexOpen, SliceColon, AfterDot, AfterNot, AfterIs, AfterIsNot, Linked, Out, Next, Stuck, Left, leave, give, step, start, format_role, role, parts, field_expr}
-use Rattle.py_parse_expr.specs.Bare.{bare_out}
+use Rattle.py_syntax.specs.Kinds.{Kind, FString, Pieces, no_pieces, chars_piece, field_piece, Kinds, kinds}
+use Rattle.py_parse_expr.specs.Roles.{Role, r_format, r_bad_format, joined}
+use Rattle.py_parse_expr.specs.Machine.{snoc, snoc_link, any, one, target, targets, a_call, a_list, exprs_first, exprs_rest, cond_first, cond_test, cond_else, first, right, not_of, compare_first, compare_rest, unary_of, post_rest, in_items, index_first, in_index, slice_to, in_paren, in_key, in_value, Ctx, Outside, on, State, Want, Have, Strings, AfterOpen, AfterComma, AfterTarget, ItemsOpen, ItemsComma, DictOpen, DictComma, IndexOpen, SliceColon, AfterDot, AfterNot, AfterIs, AfterIsNot, Linked, Out, Next, Stuck, Left, leave, give, step, start, format_role, role, parts, field_expr}
 use Rattle.py_parse_expr.specs.declared.field_cues.Cue.{Cue}
 use Rattle.py_parse_expr.specs.declared.field_reader.Reader.{Reader}
 use Rattle.py_parse_expr.specs.declared.field_reader.Turn.{Turn}

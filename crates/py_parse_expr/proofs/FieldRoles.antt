@@ -1,7 +1,7 @@
 -- What texts, numbers and trees a token holds makes no difference to which tokens are taken.
 use Rattle.std.proofs.Common.{◌≡◌, Bool, true, false, refl}
 use Rattle.py_syntax.specs.declared.expr.Comparison.TheVariants.{Op}
-use Rattle.py_syntax.specs.Tree.{Expr, name, str, tuple, not', unary, compare, Exprs, no_exprs, exprs, no_pairs, OptExpr, Links, no_links, Fragments, Parts, field}
+use Rattle.py_syntax.specs.Tree.{Expr, tuple, not', unary, compare, Exprs, no_exprs, exprs, no_pairs}
 use Rattle.py_syntax.specs.Tree as tree_
 use Rattle.py_syntax.specs.Normal.{Level, LExprs, LExpr}
 use Rattle.py_parse_expr.specs.Roles.{Role, r_name, r_none, r_string, r_format, r_bad_format, r_not, r_is, r_if, r_else, r_compare, r_joint, r_comma, r_colon, r_dot, r_left_paren, r_right_paren, r_left_bracket, r_right_bracket, r_right_brace, r_other, joined}

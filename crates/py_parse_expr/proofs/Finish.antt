@@ -5,14 +5,14 @@ use Rattle.py_value.specs.declared.operator.CmpOp.TheVariants as cmp_
 use Rattle.py_token.specs.declared.token.Keyword.TheVariants as word
 use Rattle.py_token.specs.declared.token.Mark.TheVariants as mark
 use Rattle.py_syntax.specs.declared.expr.Comparison.TheVariants.{Op, Is, IsNot}
-use Rattle.py_syntax.specs.Tree.{Text, Expr, name, int, str, fstr, none, bool, tuple, list, dict, paren, not', and, or, unary, binary, compare, call, index, slice, attr, Exprs, no_exprs, exprs, Pairs, no_pairs, pair, Links, no_links, link, OptExpr, absent, present, Fragments, no_fragments, plain, format, Parts, no_parts, text, field}
+use Rattle.py_syntax.specs.Tree.{Expr, none, tuple, dict, paren, not', and, unary, compare, index, slice, attr, Exprs, no_exprs, exprs, no_pairs, absent, present}
 use Rattle.py_syntax.specs.Tree as tree_
 use Rattle.py_syntax.specs.Kinds.{Kind, Name, Word, Sign}
 use Rattle.py_syntax.specs.Normal.{Level, LExpr, LOr, LAnd, LSum, LTerm, LPost, rank, is_target}
 use Rattle.py_parse_expr.specs.Roles.{Joint, j_or, j_and, j_op, Role, r_comma, joint_level, joint_right, joined, binds, begins}
 use Rattle.py_parse_expr.specs.Machine.{snoc, snoc_pair, snoc_link, strings_of, Goal, any, one, target, targets, Opener, a_call, a_list, made, Frame, exprs_first, exprs_rest, cond_first, cond_test, cond_else, first, right, not_of, compare_first, compare_rest, unary_of, post_rest, in_items, index_first, in_index, slice_to, in_paren, in_key, in_value, Ctx, Outside, on, State, Want, Have, Strings, AfterOpen, AfterComma, AfterTarget, ItemsOpen, ItemsComma, DictOpen, DictComma, IndexOpen, SliceColon, AfterDot, AfterNot, AfterIs, AfterIsNot, Linked, Out, Stuck, Left, upto_cond, upto_or, upto_and, upto_compare, upto_sum, upto_term, upto, leave, give, step, role, Leaves, run}
 use Rattle.py_parse_expr.specs.Least.{least_name, as_target, target_if, wants, fit, whole}
-use Rattle.py_parse_expr.proofs.Fine.{needs, Under, Fine, highest, joint_rank}
+use Rattle.py_parse_expr.proofs.Fine.{needs, Fine, highest, joint_rank}
 use Rattle.py_parse_expr.proofs.Spelled.{outcome}
 use Rattle.py_parse_expr.proofs.Passes.{pass_post, pass_first, pass_compare, pass_linked, pass_cond, pass_exprs, pass_rest, give_right, give_compared, is_string}
 use Rattle.py_parse_expr.proofs.Enclosed.{closer, item_closed}
@@ -140,9 +140,6 @@ right_low (j_op op_.Mul) = (omega arith, omega arith, omega arith)
 right_low (j_op op_.Floor) = (omega arith, omega arith, omega arith)
 right_low (j_op op_.Mod) = (omega arith, omega arith, omega arith)
 
-needs_low : (g : Goal) (k : Ctx) → Fine g k → (l : Level) → Under k l → rank (needs k) ≤ rank l
-needs_low g k fine l u = u
-
 goal_first : (l : Level) (k : Ctx) (ts : List Kind) → rank (needs k) ≤ rank l → Heads k ts → Heads (on (first l) k) ts
 goal_first l k [] u h = absurd h
 goal_first l k (t ∷ ts) u h = (let x = h.0 in omega arith, h.1, λ low. h.2 (omega arith))
@@ -230,10 +227,6 @@ close_post g k e t r fine c rec = go (wants k) refl (is_target e) refl
 -- an index is a target
 pub fit_index : (k : Ctx) (f e : Expr) → fit k (index f e) ≡ index f e
 fit_index k f e = elim (wants k) as (λ b. target_if b (index f e) ≡ index f e) [ true ↦ refl | false ↦ refl ]
-
-patch_index : (w : Bool) (f e : Expr) (r : List Kind) → patch w (index f e) r ≡ r
-patch_index true f e r = refl
-patch_index false f e r = refl
 
 close_index : (g : Goal) (k : Ctx) (f e : Expr) (t : Kind) (r : List Kind) → Fine g k → Closes g (role t) → Ended g t r k (index f e) → run (Have (index f e) (on post_rest k)) (closing k (index f e) (t ∷ r)) ≡ Leaves (whole k (index f e)) (t ∷ r)
 close_index g k f e t r fine c rec = passes k (Have (index f e) (on post_rest k)) (Have (index f e) k) (λ u lt. pass_post (index f e) k u (let any = highest (needs k) in omega arith)) (closing k (index f e) (t ∷ r)) (heads g k (index f e) t r fine c (λ high w. refl)) ∙ rec

@@ -2,7 +2,7 @@
 use Rattle.std.proofs.Common.{◌≡◌, ℕ, suc, ◌≤◌, max, Bool, true, false, cond, ◌&&◌, refl, sym, ◌∙◌, arith}
 use Rattle.py_syntax.specs.declared.expr.Comparison.{Comparison}
 use Rattle.py_syntax.specs.declared.expr.Comparison.TheVariants.{Op}
-use Rattle.py_syntax.specs.Tree.{Text, Expr, name, int, str, fstr, none, bool, tuple, list, dict, paren, not', and, or, unary, binary, compare, call, index, slice, attr, Exprs, no_exprs, exprs, Pairs, no_pairs, pair, Links, no_links, link, OptExpr, absent, present, Fragments, no_fragments, plain, format, Parts, no_parts, text, field}
+use Rattle.py_syntax.specs.Tree.{Expr, tuple, list, dict, paren, not', or, unary, compare, call, index, slice, Exprs, no_exprs, exprs, Pairs, no_pairs, pair, Links, no_links, link, present}
 use Rattle.py_syntax.specs.Tree as tree_
 use Rattle.py_syntax.specs.Normal.{is_target, are_targets, height, heights, height_entries, height_links}
 use Rattle.py_parse_expr.specs.Roles.{Joint, j_or, j_and, j_op, joined}

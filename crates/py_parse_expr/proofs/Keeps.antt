@@ -4,7 +4,7 @@ use Rattle.py_value.specs.declared.operator.BinOp.TheVariants as op_
 use Rattle.py_value.specs.declared.operator.CmpOp.TheVariants as cmp_
 use Rattle.py_syntax.specs.declared.expr.Comparison.TheVariants.{Op, Is, IsNot}
 use Rattle.py_syntax.specs.declared.expr.Sign.TheVariants as sign_
-use Rattle.py_syntax.specs.Tree.{Text, Expr, name, int, str, fstr, none, bool, tuple, list, dict, paren, not', and, or, unary, binary, compare, call, index, slice, attr, Exprs, no_exprs, exprs, Pairs, no_pairs, pair, Links, no_links, link, OptExpr, absent, present, Fragments, no_fragments, plain, format, Parts, no_parts, text, field}
+use Rattle.py_syntax.specs.Tree.{Expr, none, bool, tuple, not', and, or, unary, compare, Exprs, no_exprs, exprs, no_pairs, Fragments}
 use Rattle.py_syntax.specs.Tree as tree_
 use Rattle.py_syntax.specs.Normal.{Level, LExprs, LExpr, LOr, LAnd, LNot, LCmp, LSum, LTerm, LUnary, LPost, rank, level, At, Normal, NormalItems, NormalFragments, is_target, are_targets}
 use Rattle.py_parse_expr.specs.Roles.{j_op, Role, r_name, r_int, r_none, r_bool, r_string, r_format, r_bad_format, r_not, r_is, r_if, r_else, r_compare, r_joint, r_comma, r_colon, r_dot, r_left_paren, r_right_paren, r_left_bracket, r_right_bracket, r_left_brace, r_right_brace, joint_level, joint_right, joined, begins}

@@ -10,7 +10,7 @@ use Rattle.py_syntax.specs.declared.expr.Comparison.{Comparison}
 use Rattle.py_syntax.specs.declared.expr.Comparison.TheVariants.{Op, Is, IsNot}
 use Rattle.py_syntax.specs.declared.expr.Sign.{Sign as UnarySign}
 use Rattle.py_syntax.specs.declared.expr.Sign.TheVariants as sign_
-use Rattle.py_syntax.specs.Tree.{Text, Expr, name, int, str, fstr, none, bool, tuple, list, dict, paren, not', and, or, unary, binary, compare, call, index, slice, attr, Exprs, no_exprs, exprs, Pairs, no_pairs, pair, Links, no_links, link, OptExpr, absent, present, Fragments, no_fragments, plain, format, Parts, no_parts, text, field}
+use Rattle.py_syntax.specs.Tree.{Expr, none, bool, tuple, not', and, or, unary, binary, compare, no_exprs, exprs, Links, no_links, link}
 use Rattle.py_syntax.specs.Tree as tree_
 use Rattle.py_syntax.specs.Kinds.{Kind, Word, Sign}
 use Rattle.py_syntax.specs.Tokens.{sign_mark, comparison, tokens, links}

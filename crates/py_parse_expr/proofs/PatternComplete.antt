@@ -1,14 +1,13 @@
 -- The tokens of a normal pattern lead the machine to that pattern.
-use Rattle.std.proofs.Common.{◌≡◌, ◌≢◌, ℕ, suc, ◌+◌, ◌≤◌, ◌<◌, max, nat_eq, ℤ, pos, Bool, true, false, cond, List, [], ◌∷◌, ◌++◌, length, Option, Some, None, refl, sym, ap, subst, ◌∙◌, arith, append_assoc}
-use Rattle.std.proofs.lemmas.Bool.{eqb-true, le-leb, leb-true, leb-false}
+use Rattle.std.proofs.Common.{◌≡◌, ◌≢◌, ◌≤◌, Bool, true, false, cond, List, [], ◌∷◌, ◌++◌, refl, sym, ap, ◌∙◌, arith, append_assoc}
 use Rattle.py_syntax.specs.declared.pattern.Brackets.TheVariants as brackets_
 use Rattle.py_syntax.specs.Tree.{Text, Constant, c_int, c_str, c_none, c_bool, Pattern, literal, capture, wild, member, sequence, p_or, p_as, p_paren, Patterns, no_patterns, patterns}
-use Rattle.py_syntax.specs.Kinds.{Kind, Name, Word, Int, Str, Sign}
-use Rattle.py_syntax.specs.Tokens.{comma_if, strings, bool_word, underscore, minus_if, constant, pattern_tokens, pattern_items, more_patterns, alternatives}
-use Rattle.py_syntax.specs.Normal.{IsSomething, pattern_rank, NormalConstant, NormalPattern, EachPattern, pattern_height, pattern_heights}
+use Rattle.py_syntax.specs.Kinds.{Kind, Name, Word, Str, Sign}
+use Rattle.py_syntax.specs.Tokens.{strings, bool_word, underscore, minus_if, pattern_tokens, pattern_items, more_patterns, alternatives}
+use Rattle.py_syntax.specs.Normal.{pattern_rank, NormalConstant, NormalPattern, EachPattern}
 use Rattle.py_parse_expr.specs.declared.pattern_cues.Bracket.{Bracket}
 use Rattle.py_parse_expr.specs.declared.pattern_cues.Bracket.TheVariants.{Round, Square}
-use Rattle.py_parse_expr.specs.PatternMachine.{Cue, a_name, a_number, a_string, a_none, a_bool, a_minus, opens, shuts, a_bar, an_as, a_comma, a_dot, other, cue, open_mark, shut_mark, brackets_of, same_bracket, snoc, is_some, is_underscore, named, joined, enclosed, listed, ended, Frame, frame, Stack, stack, State, Want, Minus, Named, Dotted, Strings, Have, Naming, Item, Out, Next, Stuck, Left, offer, give, leave, shut, wanting, inside, begin, act, step, start, Verdict, Refused, Leaves, run, put, whole, trailed, closed, settled, some_name, finished, least}
+use Rattle.py_parse_expr.specs.PatternMachine.{Cue, a_string, a_bar, an_as, a_dot, other, cue, shut_mark, brackets_of, snoc, is_some, is_underscore, named, joined, enclosed, listed, ended, Frame, frame, Stack, stack, State, Want, Named, Strings, Have, Naming, Item, Out, Next, Stuck, Left, offer, give, leave, begin, act, step, start, Verdict, Refused, Leaves, run}
 use Rattle.py_token.specs.declared.token.Keyword.TheVariants as word
 use Rattle.py_token.specs.declared.token.Mark.TheVariants as mark
 use Rattle.py_syntax.specs.declared.pattern.Brackets.{Brackets}

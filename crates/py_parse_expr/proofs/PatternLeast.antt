@@ -1,16 +1,11 @@
 -- The least height that a state can be completed at never falls, and how it hangs on what is open.
-use Rattle.std.proofs.Common.{◌≡◌, ◌≢◌, ℕ, suc, ◌+◌, ◌≤◌, ◌<◌, max, nat_eq, ℤ, pos, Bool, true, false, cond, List, [], ◌∷◌, ◌++◌, length, Option, Some, None, refl, sym, ap, subst, ◌∙◌, arith, append_assoc}
-use Rattle.std.proofs.lemmas.Bool.{eqb-true, le-leb, leb-true, leb-false}
-use Rattle.py_syntax.specs.declared.pattern.Brackets.TheVariants as brackets_
-use Rattle.py_syntax.specs.Tree.{Text, Constant, c_int, c_str, c_none, c_bool, Pattern, literal, capture, wild, member, sequence, p_or, p_as, p_paren, Patterns, no_patterns, patterns}
-use Rattle.py_syntax.specs.Kinds.{Kind, Name, Word, Int, Str, Sign}
-use Rattle.py_syntax.specs.Tokens.{comma_if, strings, bool_word, underscore, minus_if, constant, pattern_tokens, pattern_items, more_patterns, alternatives}
-use Rattle.py_syntax.specs.Normal.{IsSomething, pattern_rank, NormalConstant, NormalPattern, EachPattern, pattern_height, pattern_heights}
+use Rattle.std.proofs.Common.{◌≡◌, ℕ, suc, ◌+◌, ◌≤◌, max, pos, Bool, true, false, cond, List, [], ◌∷◌, ◌++◌, refl, ap, arith}
+use Rattle.py_syntax.specs.Tree.{Text, c_int, c_str, c_none, c_bool, Pattern, literal, capture, wild, member, sequence, p_or, p_as, p_paren, Patterns, no_patterns, patterns}
+use Rattle.py_syntax.specs.Kinds.{Kind}
+use Rattle.py_syntax.specs.Normal.{pattern_height, pattern_heights}
 use Rattle.py_parse_expr.specs.declared.pattern_cues.Bracket.{Bracket}
 use Rattle.py_parse_expr.specs.declared.pattern_cues.Bracket.TheVariants.{Round, Square}
-use Rattle.py_parse_expr.specs.PatternMachine.{Cue, a_name, a_number, a_string, a_none, a_bool, a_minus, opens, shuts, a_bar, an_as, a_comma, a_dot, other, cue, open_mark, shut_mark, brackets_of, same_bracket, snoc, is_some, is_underscore, named, joined, enclosed, listed, ended, Frame, frame, Stack, stack, State, Want, Minus, Named, Dotted, Strings, Have, Naming, Item, Out, Next, Stuck, Left, offer, give, leave, shut, wanting, inside, begin, act, step, start, Verdict, Refused, Leaves, run, put, whole, trailed, closed, settled, some_name, finished, least}
-use Rattle.py_token.specs.declared.token.Keyword.TheVariants as word
-use Rattle.py_token.specs.declared.token.Mark.TheVariants as mark
+use Rattle.py_parse_expr.specs.PatternMachine.{Cue, a_name, a_number, a_string, a_none, a_bool, a_minus, opens, shuts, a_bar, an_as, a_comma, a_dot, cue, same_bracket, snoc, is_underscore, named, joined, enclosed, listed, ended, Frame, frame, Stack, stack, State, Want, Minus, Named, Dotted, Strings, Have, Naming, Item, Out, Next, Stuck, Left, offer, give, shut, wanting, begin, act, step, put, whole, closed, settled, some_name, least}
 use Rattle.py_parse_expr.specs.PatternHeights.{levels, over, raised, depth, base, base_closed}
 
 pub heights_snoc : (ps : Patterns) (p : Pattern) → pattern_heights (snoc ps p) ≡ max (pattern_heights ps) (pattern_height p)
@@ -63,12 +58,6 @@ closed_height no_patterns [] = omega arith
 closed_height (patterns p ps) [] = omega arith
 closed_height is (frame b js bs ∷ fs) = let w = whole_height (ended b is) js bs fs in let e = ended_height b is in omega arith
 
-abbrev pub depth_closed : Stack → ℕ
-depth_closed (stack is as' fs) = levels as' + depth is fs
-
-abbrev pub whole_is : (p : Pattern) (k : Stack) → pattern_height (whole p k) ≡ max (base_closed k) (pattern_height p + depth_closed k)
-whole_is p (stack is as' fs) = let w = whole_height p is as' fs in omega arith
-
 pub settled_low : (k : Stack) → base_closed k ≤ pattern_height (settled k)
 settled_low (stack is no_patterns fs) = let h = closed_height is fs in omega arith
 settled_low (stack is (patterns a as') fs) = let h = whole_height wild is (patterns a as') fs in omega arith
@@ -76,10 +65,6 @@ settled_low (stack is (patterns a as') fs) = let h = whole_height wild is (patte
 pub settled_high : (k : Stack) (p : Pattern) → pattern_height (settled k) ≤ pattern_height (whole p k)
 settled_high (stack is no_patterns fs) p = let h = closed_height is fs in let w = whole_height p is no_patterns fs in let one = at_least_one p in omega arith
 settled_high (stack is (patterns a as') fs) p = let h = whole_height wild is (patterns a as') fs in let w = whole_height p is (patterns a as') fs in let one = at_least_one p in omega arith
-
--- behind a comma
-pub behind_comma : (p : Pattern) (is : Patterns) (fs : List Frame) → pattern_height (closed (snoc is p) fs) ≡ max (base (snoc is p) fs) 1
-behind_comma p is fs = closed_height (snoc is p) fs
 
 over_snoc : (is : Patterns) (p : Pattern) → over (snoc is p) ≡ suc (max (pattern_heights is) (pattern_height p))
 over_snoc no_patterns p = omega arith
@@ -96,10 +81,6 @@ raised_snoc (patterns q qs) p d = let h = heights_snoc qs p in omega arith
 raised_low : (is : Patterns) (d : ℕ) → raised is d ≤ suc (pattern_heights is) + d
 raised_low no_patterns d = omega arith
 raised_low (patterns p ps) d = omega arith
-
-over_low : (is : Patterns) → over is ≤ suc (pattern_heights is)
-over_low no_patterns = omega arith
-over_low (patterns p ps) = omega arith
 
 levels_low : (is : Patterns) → levels is ≤ 1
 levels_low no_patterns = omega arith

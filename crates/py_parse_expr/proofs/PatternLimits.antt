@@ -1,17 +1,14 @@
 -- The least height of a state, from the heights that the code holds.
-use Rattle.std.proofs.Common.{◌≡◌, ◌≢◌, ℕ, suc, ◌+◌, ◌≤◌, ◌<◌, max, nat_eq, ℤ, pos, Bool, true, false, cond, List, [], ◌∷◌, ◌++◌, length, Option, Some, None, refl, sym, ap, subst, ◌∙◌, arith, append_assoc}
-use Rattle.std.proofs.lemmas.Bool.{eqb-true, le-leb, leb-true, leb-false}
+use Rattle.std.proofs.Common.{◌≡◌, ℕ, ◌+◌, ◌≤◌, max, pos, Bool, true, false, List, refl, sym, ap, subst, ◌∙◌, arith}
 use Rattle.py_syntax.specs.declared.pattern.Brackets.TheVariants as brackets_
-use Rattle.py_syntax.specs.Tree.{Text, Constant, c_int, c_str, c_none, c_bool, Pattern, literal, capture, wild, member, sequence, p_or, p_as, p_paren, Patterns, no_patterns, patterns}
-use Rattle.py_syntax.specs.Kinds.{Kind, Name, Word, Int, Str, Sign}
-use Rattle.py_syntax.specs.Tokens.{comma_if, strings, bool_word, underscore, minus_if, constant, pattern_tokens, pattern_items, more_patterns, alternatives}
-use Rattle.py_syntax.specs.Normal.{IsSomething, pattern_rank, NormalConstant, NormalPattern, EachPattern, pattern_height, pattern_heights}
-use Rattle.py_parse_expr.specs.declared.pattern_cues.Bracket.{Bracket}
-use Rattle.py_parse_expr.specs.declared.pattern_cues.Bracket.TheVariants.{Round, Square}
-use Rattle.py_parse_expr.specs.PatternMachine.{Cue, a_name, a_number, a_string, a_none, a_bool, a_minus, opens, shuts, a_bar, an_as, a_comma, a_dot, other, cue, open_mark, shut_mark, brackets_of, same_bracket, snoc, is_some, is_underscore, named, joined, enclosed, listed, ended, Frame, frame, Stack, stack, State, Want, Minus, Named, Dotted, Strings, Have, Naming, Item, Out, Next, Stuck, Left, offer, give, leave, shut, wanting, inside, begin, act, step, start, Verdict, Refused, Leaves, run, put, whole, trailed, closed, settled, some_name, finished, least}
+use Rattle.py_syntax.specs.Tree.{Text, c_int, c_str, Pattern, literal, wild, member, p_as, Patterns, no_patterns, patterns}
+use Rattle.py_syntax.specs.Kinds.{Kind}
+use Rattle.py_syntax.specs.Tokens.{alternatives}
+use Rattle.py_syntax.specs.Normal.{pattern_height, pattern_heights}
+use Rattle.py_parse_expr.specs.PatternMachine.{Cue, cue, is_some, named, Frame, stack, Want, Minus, Named, Dotted, Strings, Have, Naming, Item, Next, act, step, put, whole, closed, settled, some_name, least}
 use Rattle.py_token.specs.declared.token.Keyword.TheVariants as word
 use Rattle.py_token.specs.declared.token.Mark.TheVariants as mark
-use Rattle.py_parse_expr.specs.PatternHeights.{levels, over, raised, depth, base, base_closed, base_outside}
+use Rattle.py_parse_expr.specs.PatternHeights.{levels, raised, depth, base_outside}
 use Rattle.py_parse_expr.proofs.PatternLeast.{put_height, whole_height, closed_height as closed_is, at_least_one, named_height}
 use Rattle.py_parse_expr.proofs.PatternOutside.{base_is, outside, next_outside}
 use Rattle.std.specs.Global.{Vec}
@@ -23,16 +20,8 @@ use Rattle.py_parse_expr.specs.declared.pattern_reader.Progress.{Progress}
 use Rattle.py_parse_expr.specs.declared.pattern_reader.Progress.TheVariants as progress_
 use Rattle.py_parse_expr.specs.declared.pattern_reader.Turn.{Turn}
 use Rattle.py_parse_expr.specs.declared.pattern_reader.Turn.TheVariants as turn_
-use Rattle.py_parse_expr.specs.PatternHeld.{view_tall, view_many, AreTall}
-use Rattle.py_parse_expr.specs.PatternRows.{view_frames, view_rows, view_at, view_reader, KeptRow, KeptRows, KeptTall, KeptAt, Kept, SLACK, ActsAs, row_height, closed_height, item_height}
-
-pub raised_some : (ps : Patterns) (d : ℕ) → is_some ps ≡ true → raised ps d ≡ suc (pattern_heights ps) + d
-raised_some no_patterns d h = absurd cc
-raised_some (patterns p ps) d h = refl
-
-pub raised_none : (ps : Patterns) (d : ℕ) → is_some ps ≡ false → raised ps d ≡ 0
-raised_none no_patterns d h = refl
-raised_none (patterns p ps) d h = absurd cc
+use Rattle.py_parse_expr.specs.PatternHeld.{view_tall, view_many}
+use Rattle.py_parse_expr.specs.PatternRows.{view_frames, view_rows, view_at, view_reader, KeptRows, KeptTall, KeptAt, Kept, SLACK, ActsAs, row_height, closed_height, item_height}
 
 -- behind a closed pattern
 pub whole_needs : (p : Pattern) (is as' : Patterns) (fs : List Frame) → pattern_height (whole p (stack is as' fs)) ≡ max (max (base_outside fs) 1) (max (max (pattern_heights is + depth is fs) (raised as' (depth is fs))) (depth is fs + levels as' + pattern_height p))
@@ -46,10 +35,6 @@ put_needs p is fs = let w = put_height p is fs in let b = base_is is fs in let o
 pub begin_needs : (is as' : Patterns) (fs : List Frame) → is_some as' ≡ false → pattern_height (settled (stack is as' fs)) ≡ max (max (base_outside fs) 1) (max (pattern_heights is + depth is fs) (raised as' (depth is fs)))
 begin_needs is no_patterns fs h = let c = closed_is is fs in let b = base_is is fs in omega arith
 begin_needs is (patterns a as') fs h = absurd cc
-
-pub again_needs : (is as' : Patterns) (fs : List Frame) → is_some as' ≡ true → pattern_height (settled (stack is as' fs)) ≡ max (max (base_outside fs) 1) (max (max (pattern_heights is + depth is fs) (raised as' (depth is fs))) (depth is fs + levels as' + 1))
-again_needs is no_patterns fs h = absurd cc
-again_needs is (patterns a as') fs h = whole_needs wild is (patterns a as') fs
 
 settled_whole : (is as' : Patterns) (fs : List Frame) → is_some as' ≡ true → settled (stack is as' fs) ≡ whole wild (stack is as' fs)
 settled_whole is no_patterns fs h = absurd cc

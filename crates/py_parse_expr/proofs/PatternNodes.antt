@@ -1,17 +1,13 @@
 -- Patterns made of others, and their heights.
-use Rattle.std.proofs.Common.{◌≡◌, ◌≢◌, ℕ, suc, ◌+◌, ◌≤◌, ◌<◌, max, nat_lt, nat_eq, ℤ, pos, Bool, true, false, cond, List, [], ◌∷◌, ◌++◌, length, Option, Some, None, refl, sym, ap, subst, ◌∙◌, arith, append_assoc}
-use Rattle.std.proofs.lemmas.Bool.{eqb-true, ne_eqb, le-leb, leb-true, leb-false}
+use Rattle.std.proofs.Common.{◌≡◌, ℕ, suc, ◌+◌, max, nat_eq, Bool, true, false, List, [], ◌∷◌, ◌++◌, length, refl, sym, ap, ◌∙◌, arith}
+use Rattle.std.proofs.lemmas.Bool.{ne_eqb}
 use Rattle.py_syntax.specs.declared.pattern.Brackets.TheVariants as brackets_
-use Rattle.py_syntax.specs.Tree.{Text, Constant, c_int, c_str, c_none, c_bool, Pattern, literal, capture, wild, member, sequence, p_or, p_as, p_paren, Patterns, no_patterns, patterns}
-use Rattle.py_syntax.specs.Kinds.{Kind, Name, Word, Int, Str, Sign}
-use Rattle.py_syntax.specs.Tokens.{comma_if, strings, bool_word, underscore, minus_if, constant, pattern_tokens, pattern_items, more_patterns, alternatives}
-use Rattle.py_syntax.specs.Normal.{IsSomething, pattern_rank, NormalConstant, NormalPattern, EachPattern, pattern_height, pattern_heights}
-use Rattle.py_parse_expr.specs.declared.pattern_cues.Bracket.{Bracket}
-use Rattle.py_parse_expr.specs.declared.pattern_cues.Bracket.TheVariants.{Round, Square}
-use Rattle.py_parse_expr.specs.PatternMachine.{Cue, a_name, a_number, a_string, a_none, a_bool, a_minus, opens, shuts, a_bar, an_as, a_comma, a_dot, other, cue, open_mark, shut_mark, brackets_of, same_bracket, snoc, is_some, is_underscore, named, joined, enclosed, listed, ended, Frame, frame, Stack, stack, State, Want, Minus, Named, Dotted, Strings, Have, Naming, Item, Out, Next, Stuck, Left, offer, give, leave, shut, wanting, inside, begin, act, step, start, Verdict, Refused, Leaves, run, put, whole, trailed, closed, settled, some_name, finished, least}
+use Rattle.py_syntax.specs.Tree.{Pattern, sequence, p_or, Patterns, no_patterns, patterns}
+use Rattle.py_syntax.specs.Normal.{pattern_height, pattern_heights}
+use Rattle.py_parse_expr.specs.PatternMachine.{snoc, is_some, is_underscore, joined}
 use Rattle.py_token.specs.declared.token.Keyword.TheVariants as word
 use Rattle.py_token.specs.declared.token.Mark.TheVariants as mark
-use Rattle.std.proofs.Common.{map, not}
+use Rattle.std.proofs.Common.{not}
 use Rattle.std.specs.Prelude.{◌==◌}
 use Rattle.std.specs.Prelude.{encode_utf8_all}
 use Rattle.std.specs.Str.{chars}
@@ -22,7 +18,7 @@ use Rattle.py_syntax.specs.declared.pattern.Pattern as node
 use Rattle.py_syntax.specs.declared.pattern.Pattern.TheVariants as variant
 use Rattle.py_parse_expr.proofs.PatternSound.{is_wild}
 use Rattle.py_syntax.specs.declared.pattern.Pattern.{Pattern as Node}
-use Rattle.py_syntax.specs.View.{plain_pattern, plain_patterns, patterns_of}
+use Rattle.py_syntax.specs.View.{plain_pattern, plain_patterns}
 use Rattle.py_syntax.specs.declared.pattern.Brackets.{Brackets}
 use Rattle.py_parse_expr.specs.declared.pattern_nodes.Tall.{Tall}
 use Rattle.py_parse_expr.specs.declared.pattern_nodes.Many.{Many}
@@ -57,21 +53,6 @@ is_none (patterns p ps) h = absurd cc
 pub joined_some : (ps : Patterns) (p : Pattern) → is_some ps ≡ true → joined ps p ≡ p_or (snoc ps p)
 joined_some no_patterns p h = absurd cc
 joined_some (patterns q qs) p h = refl
-
-pub enclosed_some : (ps : Patterns) (p : Pattern) → is_some ps ≡ true → enclosed Round ps p ≡ sequence brackets_.Round (snoc ps p) false
-enclosed_some no_patterns p h = absurd cc
-enclosed_some (patterns q qs) p h = refl
-
-pub listed_some : (ps : Patterns) (p : Pattern) → is_some ps ≡ true → listed ps p ≡ sequence brackets_.Bare (snoc ps p) false
-listed_some no_patterns p h = absurd cc
-listed_some (patterns q qs) p h = refl
-
--- nothing stands in front of it
-pub makes_joined_one : (ps : Patterns) (t : Tall) → is_some ps ≡ false → IsTall t → Makes (joined ps (view_tall t)) t
-makes_joined_one ps t none h = rw (is_none ps none) record { is = refl; height = h }
-
-pub makes_listed_one : (ps : Patterns) (t : Tall) → is_some ps ≡ false → IsTall t → Makes (listed ps (view_tall t)) t
-makes_listed_one ps t none h = rw (is_none ps none) record { is = refl; height = h }
 
 -- the height behind a further pattern
 pub pushed_height : (m n : Many) (t : Tall) → AreTall m → IsTall t → view_many n ≡ snoc (view_many m) (view_tall t) → n.height ≡ max m.height t.height → AreTall n

@@ -1,30 +1,26 @@
 -- What the open rows keep, as the code holds them.
-use Rattle.std.proofs.Common.{◌≡◌, ◌≢◌, ℕ, suc, ◌+◌, ◌≤◌, ◌<◌, max, nat_eq, ℤ, pos, Bool, true, false, cond, List, [], ◌∷◌, ◌++◌, length, Option, Some, None, refl, sym, ap, subst, ◌∙◌, arith, append_assoc}
-use Rattle.std.proofs.lemmas.Bool.{eqb-true, le-leb, leb-true, leb-false}
+use Rattle.std.proofs.Common.{◌≡◌, ℕ, suc, ◌+◌, ◌≤◌, max, List, [], ◌∷◌, ◌++◌, length, refl, sym, ap, subst, ◌∙◌, arith}
 use Rattle.py_syntax.specs.declared.pattern.Brackets.TheVariants as brackets_
-use Rattle.py_syntax.specs.Tree.{Text, Constant, c_int, c_str, c_none, c_bool, Pattern, literal, capture, wild, member, sequence, p_or, p_as, p_paren, Patterns, no_patterns, patterns}
-use Rattle.py_syntax.specs.Kinds.{Kind, Name, Word, Int, Str, Sign}
-use Rattle.py_syntax.specs.Tokens.{comma_if, strings, bool_word, underscore, minus_if, constant, pattern_tokens, pattern_items, more_patterns, alternatives}
-use Rattle.py_syntax.specs.Normal.{IsSomething, pattern_rank, NormalConstant, NormalPattern, EachPattern, pattern_height, pattern_heights}
+use Rattle.py_syntax.specs.Tree.{Pattern, Patterns, no_patterns, patterns}
+use Rattle.py_syntax.specs.Tokens.{alternatives}
+use Rattle.py_syntax.specs.Normal.{pattern_height, pattern_heights}
 use Rattle.py_parse_expr.specs.declared.pattern_cues.Bracket.{Bracket}
-use Rattle.py_parse_expr.specs.declared.pattern_cues.Bracket.TheVariants.{Round, Square}
-use Rattle.py_parse_expr.specs.PatternMachine.{Cue, a_name, a_number, a_string, a_none, a_bool, a_minus, opens, shuts, a_bar, an_as, a_comma, a_dot, other, cue, open_mark, shut_mark, brackets_of, same_bracket, snoc, is_some, is_underscore, named, joined, enclosed, listed, ended, Frame, frame, Stack, stack, State, Want, Minus, Named, Dotted, Strings, Have, Naming, Item, Out, Next, Stuck, Left, offer, give, leave, shut, wanting, inside, begin, act, step, start, Verdict, Refused, Leaves, run, put, whole, trailed, closed, settled, some_name, finished, least}
+use Rattle.py_parse_expr.specs.PatternMachine.{opens, snoc, joined, enclosed, Frame, frame}
 use Rattle.py_token.specs.declared.token.Keyword.TheVariants as word
 use Rattle.py_token.specs.declared.token.Mark.TheVariants as mark
-use Rattle.std.proofs.Common.{map, reverse, Result, Ok, Err}
-use Rattle.std.proofs.lemmas.List.{reverse-append, length-append}
+use Rattle.std.proofs.Common.{map, reverse}
+use Rattle.std.proofs.lemmas.List.{reverse-append}
 use Rattle.py_syntax.specs.Spelling.{HEIGHT}
-use Rattle.py_parse_expr.specs.PatternHeights.{levels, over, raised, depth, base, base_closed, base_outside}
+use Rattle.py_parse_expr.specs.PatternHeights.{levels, over, depth}
 use Rattle.py_parse_expr.specs.declared.pattern_nodes.Tall.{Tall}
 use Rattle.py_parse_expr.specs.declared.pattern_nodes.Many.{Many}
 use Rattle.py_parse_expr.specs.declared.pattern_reader.Row as held_row
 use Rattle.py_parse_expr.specs.declared.pattern_reader.Frame as held_frame
 use Rattle.py_parse_expr.specs.declared.pattern_reader.Rows.{Rows}
-use Rattle.py_parse_expr.specs.declared.pattern_reader.Turn.{Turn}
-use Rattle.py_parse_expr.specs.PatternHeld.{view_tall, IsTall, view_many, AreTall, Makes}
-use Rattle.py_parse_expr.specs.PatternRows.{view_frame, view_frames, view_rows, view_at, view_reader, KeptRow, KeptRows, KeptFrames, KeptTall, Kept, SLACK, ActsAs, Acts, Pops, KeptPops, depth_behind}
+use Rattle.py_parse_expr.specs.PatternHeld.{view_tall, view_many, AreTall, Makes}
+use Rattle.py_parse_expr.specs.PatternRows.{view_frame, view_frames, KeptRow, KeptRows, KeptFrames, KeptTall, SLACK, depth_behind}
 use Rattle.py_parse_expr.proofs.PatternNodes.{pushed_height}
-use Rattle.py_parse_expr.proofs.PatternLeast.{heights_snoc, joined_height, enclosed_height, ended_height, levels_snoc}
+use Rattle.py_parse_expr.proofs.PatternLeast.{joined_height, enclosed_height, levels_snoc}
 
 loosen_row : (r : held_row.Row) (fs : List Frame) → KeptRow HEIGHT r fs → KeptRow SLACK r fs
 loosen_row r fs k =
@@ -33,23 +29,11 @@ loosen_row r fs k =
     let three = k.shallow in
     record { items = k.items; alternatives = k.alternatives; depth_is = k.depth_is; low_items = omega arith; low_alternatives = omega arith; shallow = omega arith }
 
-pub loosen : (r : Rows) → KeptRows HEIGHT r → KeptRows SLACK r
-loosen r k = record { row = loosen_row r.row (view_frames r.frames.items) k.row; frames = k.frames }
-
 reversed : {A : Type 0} (xs : List A) (x : A) → reverse (xs ++ x ∷ []) ≡ x ∷ reverse xs
 reversed xs x = reverse-append xs (x ∷ [])
 
 pub viewed_push : (fs : List held_frame.Frame) (f : held_frame.Frame) → view_frames (fs ++ f ∷ []) ≡ view_frame f ∷ view_frames fs
 viewed_push fs f = ap (map view_frame) (reversed fs f)
-
-pub pops_some : (old new : List held_frame.Frame) (f : held_frame.Frame) → old ≡ new ++ f ∷ [] → Pops (Some f) (view_frames old) (view_frames new)
-pops_some old new f h = ap view_frames h ∙ viewed_push new f
-
-pub pops_none : (old new : List held_frame.Frame) → old ≡ [] → Pops None (view_frames old) (view_frames new)
-pops_none old new h = ap view_frames h
-
-pub kept_some : (old new : List held_frame.Frame) (f : held_frame.Frame) → old ≡ new ++ f ∷ [] → KeptFrames (reverse old) → KeptPops (Some f) (view_frames new) (reverse new)
-kept_some old new f h k = subst KeptFrames (ap reverse h ∙ reversed new f) k
 
 -- a bracket opens
 pub opened : (row : held_row.Row) (frames new : List held_frame.Frame) (b : Bracket) (inner : held_row.Row) →

@@ -1,19 +1,15 @@
 -- From the code's walk over the tokens to what it answers.
-use Rattle.std.proofs.Common.{◌≡◌, ◌≢◌, ℕ, suc, ◌+◌, ◌≤◌, ◌<◌, max, nat_eq, ℤ, pos, Bool, true, false, cond, List, [], ◌∷◌, ◌++◌, length, take, drop, nat_le, get_or, Result, Ok, Err, Option, Some, None, refl, sym, ap, subst, ◌∙◌, arith, append_assoc}
-use Rattle.std.proofs.lemmas.Bool.{eqb-true, le-leb, leb-true, leb-false, lt-leb}
+use Rattle.std.proofs.Common.{◌≡◌, ℕ, suc, ◌+◌, ◌≤◌, ◌<◌, Bool, cond, List, ◌∷◌, length, drop, nat_le, get_or, Result, Ok, Err, sym, ap, subst, ◌∙◌, arith}
+use Rattle.std.proofs.lemmas.Bool.{le-leb, lt-leb}
 use Rattle.py_syntax.specs.declared.pattern.Brackets.TheVariants as brackets_
-use Rattle.py_syntax.specs.Tree.{Text, Constant, c_int, c_str, c_none, c_bool, Pattern, literal, capture, wild, member, sequence, p_or, p_as, p_paren, Patterns, no_patterns, patterns}
-use Rattle.py_syntax.specs.Kinds.{Kind, Name, Word, Int, Str, Sign}
-use Rattle.py_syntax.specs.Tokens.{comma_if, strings, bool_word, underscore, minus_if, constant, pattern_tokens, pattern_items, more_patterns, alternatives}
-use Rattle.py_syntax.specs.Normal.{IsSomething, pattern_rank, NormalConstant, NormalPattern, EachPattern, pattern_height, pattern_heights}
-use Rattle.py_parse_expr.specs.declared.pattern_cues.Bracket.{Bracket}
-use Rattle.py_parse_expr.specs.declared.pattern_cues.Bracket.TheVariants.{Round, Square}
-use Rattle.py_parse_expr.specs.PatternMachine.{Cue, a_name, a_number, a_string, a_none, a_bool, a_minus, opens, shuts, a_bar, an_as, a_comma, a_dot, other, cue, open_mark, shut_mark, brackets_of, same_bracket, snoc, is_some, is_underscore, named, joined, enclosed, listed, ended, Frame, frame, Stack, stack, State, Want, Minus, Named, Dotted, Strings, Have, Naming, Item, Out, Next, Stuck, Left, offer, give, leave, shut, wanting, inside, begin, act, step, start, Verdict, Refused, Leaves, run, put, whole, trailed, closed, settled, some_name, finished, least, Ending, Unexpected, TooDeep, within}
+use Rattle.py_syntax.specs.Tree.{Pattern}
+use Rattle.py_syntax.specs.Kinds.{Kind}
+use Rattle.py_parse_expr.specs.PatternMachine.{State, Out, Next, Stuck, Left, inside, step, start, least, Ending, Unexpected, TooDeep, within}
 use Rattle.py_token.specs.declared.token.Keyword.TheVariants as word
 use Rattle.py_token.specs.declared.token.Mark.TheVariants as mark
 use Rattle.std.proofs.lemmas.List.{drop-map, length-map, drop_all}
 use Rattle.std.proofs.Math.Seq.{drop-cons}
-use Rattle.std.proofs.Common.{map, add-one}
+use Rattle.std.proofs.Common.{add-one}
 use Rattle.py_token.specs.declared.token.Token.{Token, out-Token}
 use Rattle.py_token.specs.Plain as plain_
 use Rattle.py_token.specs.View.{view_token, view_tokens, view_kind}

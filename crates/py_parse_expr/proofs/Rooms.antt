@@ -1,14 +1,14 @@
 -- A tree has room at a place exactly where the whole that comes of it is within the limit.
-use Rattle.std.proofs.Common.{◌≡◌, ℕ, suc, ◌-◌, ◌≤◌, ◌<◌, max, min, nat_le, nat_lt, Bool, true, false, cond, ◌&&◌, refl, sym, ap, subst, ◌∙◌, arith}
-use Rattle.std.proofs.lemmas.Bool.{le-leb, leb-true, leb-false, lt-leb, ltb-true, ltb-false}
+use Rattle.std.proofs.Common.{◌≡◌, ℕ, suc, ◌-◌, ◌≤◌, max, nat_le, nat_lt, Bool, true, false, cond, ◌&&◌, refl, sym, ap, ◌∙◌, arith}
+use Rattle.std.proofs.lemmas.Bool.{leb-true, leb-false, ltb-true, ltb-false}
 use Rattle.py_syntax.specs.declared.expr.Comparison.TheVariants.{Op}
-use Rattle.py_syntax.specs.Tree.{Expr, tuple, list, dict, paren, not', unary, compare, call, index, slice, Exprs, no_exprs, exprs, OptExpr, present}
+use Rattle.py_syntax.specs.Tree.{Expr, tuple, list, dict, paren, not', unary, compare, call, index, slice, Exprs, no_exprs, exprs, present}
 use Rattle.py_syntax.specs.Tree as tree_
 use Rattle.py_syntax.specs.Spelling.{HEIGHT}
 use Rattle.py_syntax.specs.Normal.{is_target, are_targets, height, heights, height_entries, height_links, height_bound}
 use Rattle.py_parse_expr.specs.Roles.{joined}
-use Rattle.py_parse_expr.specs.Machine.{snoc, snoc_pair, snoc_link, Goal, any, one, target, targets, Opener, a_call, a_list, made, exprs_first, exprs_rest, cond_first, cond_test, cond_else, first, right, not_of, compare_first, compare_rest, unary_of, post_rest, in_items, index_first, in_index, slice_to, in_paren, in_key, in_value, Ctx, Outside, on}
-use Rattle.py_parse_expr.specs.Least.{least_name, as_target, target_if, targets_so_far, wants, fit, whole}
+use Rattle.py_parse_expr.specs.Machine.{snoc, snoc_pair, snoc_link, any, one, target, targets, a_call, a_list, exprs_first, exprs_rest, cond_first, cond_test, cond_else, first, right, not_of, compare_first, compare_rest, unary_of, post_rest, in_items, index_first, in_index, slice_to, in_paren, in_key, in_value, Ctx, Outside, on}
+use Rattle.py_parse_expr.specs.Least.{least_name, as_target, target_if, wants, fit, whole}
 use Rattle.py_parse_expr.specs.Rooms.{under, fitted, room, postfix}
 use Rattle.py_parse_expr.specs.declared.expr_nodes.Row.{Row}
 use Rattle.py_parse_expr.specs.declared.expr_stack.Room.{Room}

@@ -17,10 +17,6 @@ pub record Stands (limit : ℕ) (ts : List Kind) (place : ℕ) (s : Whole) : Typ
 pub stands_first : (limit : ℕ) (ts : List Kind) → 1 ≤ limit → Stands limit ts 0 begun
 stands_first limit ts some = record { inside = omega arith; passes = refl; low = some }
 
-some_itself : (o : Option Whole) → (elim o as (λ (w : Option Whole). Option Whole) [ None ↦ None | Some n ↦ Some n ]) ≡ o
-some_itself None = refl
-some_itself (Some n) = refl
-
 extends : (front : List Kind) (s : Whole) (t : Kind) → reading begun front ≡ Some s → reading begun (front ++ t ∷ []) ≡ next s t
 extends front s t h = run_append begun front (t ∷ []) ∙ ap (λ (o : Option Whole). onward o (t ∷ [])) h ∙ last (next s t)
   where

@@ -1,10 +1,10 @@
 -- Roles of tokens and expressions as the code holds them.
-use Rattle.std.specs.Prelude.{◌≡◌, ℕ, suc, min, max, Bool, true, false, ◌&&◌, List, [], ◌∷◌, Option, Some, None}
+use Rattle.std.specs.Prelude.{◌≡◌, ℕ, min, max, Bool, true, List, [], ◌∷◌, Option, Some, None}
 use Rattle.py_token.specs.declared.token.Keyword.{Keyword}
 use Rattle.py_token.specs.declared.token.Mark.{Mark}
 use Rattle.py_syntax.specs.Tree.{Text, Expr, Exprs, Pairs, Links, OptExpr, absent, present, Fragments, no_fragments, plain, Parts}
-use Rattle.py_syntax.specs.Kinds.{Kind, Word, Sign, End, no_pieces}
-use Rattle.py_syntax.specs.Normal.{Level, LExprs, LExpr, LOr, LAnd, LNot, LCmp, LSum, LTerm, LUnary, LPost, is_target, are_targets, height, heights, height_entries, height_links, height_fragments, height_parts, height_bound}
+use Rattle.py_syntax.specs.Kinds.{Word, Sign, End}
+use Rattle.py_syntax.specs.Normal.{Level, LExprs, LExpr, LOr, LAnd, LNot, LCmp, LSum, LTerm, LUnary, LPost, is_target, are_targets, height, heights, height_entries, height_links, height_fragments, height_parts}
 use Rattle.py_syntax.specs.View.{plain_expr, plain_exprs, plain_pairs, plain_links, plain_fragments, plain_parts}
 use Rattle.py_parse_expr.specs.declared.expr_roles.Level as held_level
 use Rattle.py_parse_expr.specs.declared.expr_roles.Level.TheVariants as level_

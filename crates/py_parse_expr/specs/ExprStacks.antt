@@ -1,5 +1,5 @@
 -- What is open round a place of an expression, as the code holds it.
-use Rattle.std.specs.Prelude.{◌≡◌, ℕ, suc, ◌≤◌, Bool, true, false, List, [], ◌∷◌, length, reverse, Option, Some, None}
+use Rattle.std.specs.Prelude.{◌≡◌, ℕ, suc, ◌≤◌, true, false, List, [], ◌∷◌, length, reverse, Option, Some, None}
 use Rattle.py_syntax.specs.Spelling.{HEIGHT}
 use Rattle.py_syntax.specs.Tree.{Expr, none, Exprs, no_exprs, exprs}
 use Rattle.py_syntax.specs.View.{plain_expr}

@@ -1,5 +1,5 @@
 -- What a token makes of an expression that is read, as the code holds it.
-use Rattle.std.specs.Prelude.{◌≡◌, ℕ, ◌≤◌, ◌<◌, Bool, true, false, List, [], Option, Some, None, Result, Ok, Err}
+use Rattle.std.specs.Prelude.{◌≡◌, ℕ, ◌≤◌, ◌<◌, Bool, true, false, Result, Ok, Err}
 use Rattle.std.specs.declared.alloc.AllocError.{AllocError}
 use Rattle.py_value.specs.declared.operator.BinOp.TheVariants as op_
 use Rattle.py_syntax.specs.declared.expr.Sign.{Sign}
@@ -7,7 +7,6 @@ use Rattle.py_syntax.specs.declared.expr.Sign.TheVariants as sign_
 use Rattle.py_syntax.specs.Tree.{Expr, dict, Pairs}
 use Rattle.py_syntax.specs.Normal.{LExpr}
 use Rattle.py_syntax.specs.View.{plain_expr}
-use Rattle.py_parse_expr.specs.declared.expr_nodes.Tall.{Tall}
 use Rattle.py_parse_expr.specs.declared.expr_stack.Stack.{Stack}
 use Rattle.py_parse_expr.specs.declared.expr_turns.Progress as held_progress
 use Rattle.py_parse_expr.specs.declared.expr_turns.Progress.TheVariants as progress_

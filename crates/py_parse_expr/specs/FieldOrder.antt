@@ -1,14 +1,14 @@
 -- Fields without the f-strings that stand in them, which are asked on their own.
-use Rattle.std.specs.Prelude.{◌≡◌, ℕ, suc, ◌+◌, ◌≤◌, ◌<◌, Bool, true, false, ◌&&◌, List, [], ◌∷◌, ◌++◌, map, Option, Some, None, is_some}
+use Rattle.std.specs.Prelude.{◌≡◌, ℕ, ◌+◌, ◌≤◌, ◌<◌, Bool, true, ◌&&◌, List, [], ◌∷◌, ◌++◌, map, is_some}
 use Rattle.std.specs.Borrow.{Bor}
 use Rattle.py_token.specs.declared.token.Piece.{Piece}
 use Rattle.py_token.specs.Plain.{piece_row}
 use Rattle.py_token.specs.View.{view_pieces}
-use Rattle.py_syntax.specs.Tree.{Expr, no_parts}
+use Rattle.py_syntax.specs.Tree.{no_parts}
 use Rattle.py_syntax.specs.Kinds.{Kind, FString, Pieces, no_pieces, chars_piece, field_piece, Kinds, no_kinds, kinds, bare_pieces}
 use Rattle.py_parse_expr.specs.declared.field_cues.Cue.{Cue}
 use Rattle.py_parse_expr.specs.Roles.{Role, r_format}
-use Rattle.py_parse_expr.specs.Machine.{any, start, State, Out, Next, Stuck, Left, step, ended, role, parts, field_expr}
+use Rattle.py_parse_expr.specs.Machine.{State, role, parts, field_expr}
 use Rattle.py_parse_expr.specs.FieldFrames.{bare_role, view_cue}
 
 abbrev pub plain_pieces : List Piece → Pieces

@@ -2,7 +2,7 @@
 use Rattle.std.specs.Prelude.{ℕ, Bool, true, false, cond, ◌&&◌, []}
 use Rattle.py_value.specs.declared.operator.CmpOp.TheVariants as cmp_
 use Rattle.py_syntax.specs.declared.expr.Comparison.TheVariants.{Op, Is, IsNot}
-use Rattle.py_syntax.specs.Tree.{Expr, name, none, tuple, list, dict, paren, not', unary, compare, call, index, slice, attr, Exprs, no_exprs, exprs, Pairs, no_pairs, OptExpr, absent, present}
+use Rattle.py_syntax.specs.Tree.{Expr, name, none, tuple, dict, paren, not', unary, compare, index, slice, attr, no_exprs, exprs, no_pairs, absent, present}
 use Rattle.py_syntax.specs.Tree as tree_
 use Rattle.py_syntax.specs.Normal.{is_target, are_targets, height}
 use Rattle.py_parse_expr.specs.Roles.{joined}

@@ -1,8 +1,8 @@
 -- The reading of a pattern as the code holds it.
-use Rattle.std.specs.Prelude.{◌≡◌, ℕ, suc, ◌+◌, ◌≤◌, List, [], ◌∷◌, map, reverse}
+use Rattle.std.specs.Prelude.{◌≡◌}
 use Rattle.py_token.specs.declared.token.Keyword.{Keyword}
 use Rattle.py_token.specs.declared.token.Mark.{Mark}
-use Rattle.py_syntax.specs.Tree.{Pattern, Patterns, no_patterns, patterns}
+use Rattle.py_syntax.specs.Tree.{Pattern, Patterns, patterns}
 use Rattle.py_syntax.specs.Kinds.{Word, Sign}
 use Rattle.py_syntax.specs.Normal.{pattern_height, pattern_heights}
 use Rattle.py_syntax.specs.View.{plain_pattern, plain_patterns}

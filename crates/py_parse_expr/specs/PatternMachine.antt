@@ -1,11 +1,11 @@
 -- The patterns of a `case`, read a token at a time: a stack of what is open, and a step for each token.
-use Rattle.std.specs.Prelude.{◌≡◌, ℕ, nat_eq, nat_le, ℤ, pos, Bool, true, false, cond, List, [], ◌∷◌, ◌++◌}
+use Rattle.std.specs.Prelude.{ℕ, nat_eq, nat_le, ℤ, pos, Bool, true, false, cond, List, [], ◌∷◌, ◌++◌}
 use Rattle.py_token.specs.declared.token.Keyword.TheVariants as word
 use Rattle.py_token.specs.declared.token.Mark.{Mark}
 use Rattle.py_token.specs.declared.token.Mark.TheVariants as mark
 use Rattle.py_syntax.specs.declared.pattern.Brackets.{Brackets}
 use Rattle.py_syntax.specs.declared.pattern.Brackets.TheVariants as brackets_
-use Rattle.py_syntax.specs.Tree.{Text, Constant, c_int, c_str, c_none, c_bool, Pattern, literal, capture, wild, member, sequence, p_or, p_as, p_paren, Patterns, no_patterns, patterns}
+use Rattle.py_syntax.specs.Tree.{Text, c_int, c_str, c_none, c_bool, Pattern, literal, capture, wild, member, sequence, p_or, p_as, p_paren, Patterns, no_patterns, patterns}
 use Rattle.py_syntax.specs.Kinds.{Kind, Name, Word, Int, Str, Sign}
 use Rattle.py_syntax.specs.Normal.{pattern_height}
 use Rattle.py_parse_expr.specs.declared.pattern_cues.Bracket.{Bracket}

@@ -1,8 +1,7 @@
 -- How high a tree may be at a place of an open expression, where a limit holds for the whole.
-use Rattle.std.specs.Prelude.{ℕ, suc, ◌-◌, max, nat_lt, Bool, true, false, cond, ◌&&◌}
-use Rattle.py_syntax.specs.Tree.{Expr, Exprs}
+use Rattle.std.specs.Prelude.{ℕ, ◌-◌, max, nat_lt, Bool, true, false, cond, ◌&&◌}
 use Rattle.py_syntax.specs.Normal.{is_target, are_targets, height, heights, height_entries, height_links, height_bound}
-use Rattle.py_parse_expr.specs.Machine.{Goal, target, targets, a_call, a_list, exprs_first, exprs_rest, cond_first, cond_test, cond_else, first, right, not_of, compare_first, compare_rest, unary_of, post_rest, in_items, index_first, in_index, slice_to, in_paren, in_key, in_value, Ctx, Outside, on}
+use Rattle.py_parse_expr.specs.Machine.{target, targets, a_call, a_list, exprs_first, exprs_rest, cond_first, cond_test, cond_else, first, right, not_of, compare_first, compare_rest, unary_of, post_rest, in_items, index_first, in_index, slice_to, in_paren, in_key, in_value, Ctx, Outside, on}
 use Rattle.py_parse_expr.specs.Least.{wants}
 
 -- the room below a node with other parts of that height

@@ -213,10 +213,10 @@ fn index_first(alloc: Global, of: Tall, tall: Tall, role: &Role) -> Result<Met, 
             Ok(Met::Opens(Frame::InIndex(of), Progress::AfterComma(items)))
         }
         Role::Colon => Ok(Met::Next(Progress::SliceColon(of, Some(tall)))),
-        Role::RightBracket => Ok(Met::Opens(
-            Frame::PostRest,
-            Progress::Have(index(alloc, of, tall)?),
-        )),
+        Role::RightBracket => {
+            let whole = index(alloc, of, tall)?;
+            Ok(Met::Opens(Frame::PostRest, Progress::Have(whole)))
+        }
         _ => Ok(Met::Stuck),
     }
 }
@@ -227,10 +227,10 @@ fn in_index(alloc: Global, of: Tall, tall: Tall, role: &Role) -> Result<Met, NoM
     ensures { Meets (view_tall tall) (in_index (view_tall of)) (view_role role.now) result }
 {
     match role {
-        Role::RightBracket => Ok(Met::Opens(
-            Frame::PostRest,
-            Progress::Have(index(alloc, of, tall)?),
-        )),
+        Role::RightBracket => {
+            let whole = index(alloc, of, tall)?;
+            Ok(Met::Opens(Frame::PostRest, Progress::Have(whole)))
+        }
         _ => Ok(Met::Stuck),
     }
 }
@@ -248,10 +248,10 @@ fn slice_to(
     ensures { Meets (view_tall tall) (slice_to (view_tall of) (view_bound from)) (view_role role.now) result }
 {
     match role {
-        Role::RightBracket => Ok(Met::Opens(
-            Frame::PostRest,
-            Progress::Have(slice(alloc, of, from, Some(tall))?),
-        )),
+        Role::RightBracket => {
+            let whole = slice(alloc, of, from, Some(tall))?;
+            Ok(Met::Opens(Frame::PostRest, Progress::Have(whole)))
+        }
         _ => Ok(Met::Stuck),
     }
 }
@@ -261,7 +261,10 @@ fn in_paren(alloc: Global, tall: Tall, role: &Role) -> Result<Met, NoMemory>
     ensures { Meets (view_tall tall) in_paren (view_role role.now) result }
 {
     match role {
-        Role::RightParen => Ok(Met::Opens(Frame::PostRest, Progress::Have(paren(alloc, tall)?))),
+        Role::RightParen => {
+            let whole = paren(alloc, tall)?;
+            Ok(Met::Opens(Frame::PostRest, Progress::Have(whole)))
+        }
         _ => Ok(Met::Stuck),
     }
 }
@@ -285,10 +288,10 @@ fn in_value(entries: Entries, key: Tall, tall: Tall, role: &Role) -> Result<Met,
 {
     match role {
         Role::Comma => Ok(Met::Next(Progress::DictComma(entries.with(key, tall)?))),
-        Role::RightBrace => Ok(Met::Opens(
-            Frame::PostRest,
-            Progress::Have(dict(entries.with(key, tall)?, false)),
-        )),
+        Role::RightBrace => {
+            let entries = entries.with(key, tall)?;
+            Ok(Met::Opens(Frame::PostRest, Progress::Have(dict(entries, false))))
+        }
         _ => Ok(Met::Stuck),
     }
 }

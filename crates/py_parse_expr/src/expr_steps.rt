@@ -134,16 +134,6 @@ fn unary(stack: &mut Stack, level: Level, sign: Sign) -> Result<Turn, NoMemory>
     Ok(Turn::Next(Progress::Want(Level::Unary)))
 }
 
-/// A bracket opens.
-fn open(stack: &mut Stack, level: Level, progress: Progress) -> Result<Turn, NoMemory>
-    requires kept { Kept stack.old.limit stack.old }
-    requires at { KeptAt progress }
-    ensures { Acts (Next (view_at progress (upto_term (view_level level) (view_stack stack.old)))) stack.old.limit stack.new result }
-{
-    stack.upto_term(level)?;
-    Ok(Turn::Next(progress))
-}
-
 /// An expression of that level begins.
 fn begin(alloc: Global, stack: &mut Stack, level: Level, role: Role) -> Result<Turn, NoMemory>
     requires kept { Kept stack.old.limit stack.old }
@@ -160,9 +150,18 @@ fn begin(alloc: Global, stack: &mut Stack, level: Level, role: Role) -> Result<T
         Role::Not => negation(stack, level),
         Role::Joint(Joint::Op(BinOp::Add)) => unary(stack, level, Sign::Plus),
         Role::Joint(Joint::Op(BinOp::Sub)) => unary(stack, level, Sign::Minus),
-        Role::LeftParen => open(stack, level, Progress::AfterOpen),
-        Role::LeftBracket => open(stack, level, Progress::ItemsOpen(Opener::List)),
-        Role::LeftBrace => open(stack, level, Progress::DictOpen),
+        Role::LeftParen => {
+            stack.upto_term(level)?;
+            Ok(Turn::Next(Progress::AfterOpen))
+        }
+        Role::LeftBracket => {
+            stack.upto_term(level)?;
+            Ok(Turn::Next(Progress::ItemsOpen(Opener::List)))
+        }
+        Role::LeftBrace => {
+            stack.upto_term(level)?;
+            Ok(Turn::Next(Progress::DictOpen))
+        }
         _ => Ok(Turn::Stuck),
     }
 }

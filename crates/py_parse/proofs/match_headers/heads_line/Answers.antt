@@ -1,4 +1,4 @@
-use Rattle.std.proofs.Common.{ℕ, ◌+◌, Bool, not, ◌&&◌, false, drop, sym, ap, ◌∙◌, arith}
+use Rattle.std.proofs.Common.{◌+◌, Bool, not, ◌&&◌, false, drop, sym, ap, ◌∙◌, arith}
 use Rattle.py_syntax.specs.Headers.{ends_in_colon}
 use Rattle.py_parse.specs.HeldMarks.{kinds_of}
 use Rattle.py_parse.proofs.HeaderPlaces.{no_more, whole_line}

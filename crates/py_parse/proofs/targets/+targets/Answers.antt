@@ -1,4 +1,4 @@
-use Rattle.std.proofs.Common.{◌≡◌, ◌∙◌, refl, sym, arith, rules}
+use Rattle.std.proofs.Common.{rules}
 use Rattle.py_parse.proofs.TargetItems.{an_item, no_item, no_more}
 use Rattle.py_parse.proofs.targets.+targets.Goals as goal
 

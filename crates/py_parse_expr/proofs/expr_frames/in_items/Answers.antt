@@ -1,5 +1,5 @@
-use Rattle.std.proofs.Common.{◌≡◌, sym, subst, ap, ◌∙◌}
-use Rattle.py_parse_expr.specs.ExprHeld.{view_tall, view_row, view_opener, view_role}
+use Rattle.std.proofs.Common.{sym, ◌∙◌}
+use Rattle.py_parse_expr.specs.ExprHeld.{view_tall, view_row, view_opener}
 use Rattle.py_parse_expr.proofs.ExprFrames.{give_unclosed}
 use Rattle.py_parse_expr.proofs.expr_frames.in_items.Goals as goal
 

@@ -1,4 +1,4 @@
-use Rattle.std.proofs.Common.{◌≡◌, ℕ, ◌≤◌, max, Bool, true, false, refl, sym, ap, ◌∙◌, arith}
+use Rattle.std.proofs.Common.{max, false, refl, arith}
 use Rattle.py_syntax.specs.Normal.{height, heights}
 use Rattle.py_parse_expr.specs.Machine.{on, in_items, a_call}
 use Rattle.py_parse_expr.specs.Rooms.{postfix}

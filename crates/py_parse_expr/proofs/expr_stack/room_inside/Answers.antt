@@ -1,10 +1,9 @@
-use Rattle.std.proofs.Common.{◌≡◌, ℕ, ◌≤◌, max, Bool, true, false, refl, sym, ap, ◌∙◌, arith}
-use Rattle.py_syntax.specs.Normal.{height, heights, height_entries, height_links, height_bound}
+use Rattle.std.proofs.Common.{max, true, false, refl, ap, ◌∙◌, arith}
+use Rattle.py_syntax.specs.Normal.{height, height_entries, height_links, height_bound}
 use Rattle.py_syntax.specs.View.{plain_expr}
-use Rattle.py_parse_expr.specs.Machine.{on, cond_test, cond_else, exprs_rest, right, compare_rest, index_first, in_index, slice_to, in_key, in_value}
+use Rattle.py_parse_expr.specs.Machine.{on, cond_test, cond_else, right, compare_rest, index_first, in_index, slice_to, in_key, in_value}
 use Rattle.py_parse_expr.specs.Rooms.{under, room, postfix}
-use Rattle.py_parse_expr.specs.ExprHeld.{capped, view_joint, view_tall, view_row, view_entries, view_links, view_bound}
-use Rattle.py_parse_expr.specs.ExprStacks.{head_of, tail_of}
+use Rattle.py_parse_expr.specs.ExprHeld.{view_joint, view_tall, view_entries, view_links, view_bound}
 use Rattle.py_parse_expr.proofs.Rooms.{room_low, postfix_low, same_room, rest_room}
 use Rattle.py_parse_expr.proofs.expr_stack.room_inside.Goals as goal
 

@@ -1,4 +1,4 @@
-use Rattle.std.proofs.Common.{◌≡◌, subst, sym, ap, ◌∙◌}
+use Rattle.std.proofs.Common.{subst, ◌∙◌}
 use Rattle.py_syntax.specs.declared.expr.Comparison.TheVariants.{IsNot}
 use Rattle.py_syntax.specs.Tree.{Expr}
 use Rattle.py_syntax.specs.View.{plain_expr}

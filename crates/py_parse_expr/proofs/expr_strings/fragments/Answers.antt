@@ -1,4 +1,4 @@
-use Rattle.std.proofs.Common.{add-one, ◌≡◌, ◌∷◌, ◌++◌, [], take, get_or, ap, sym, ◌∙◌}
+use Rattle.std.proofs.Common.{add-one, ◌∷◌, ◌++◌, [], take, ap, sym, ◌∙◌}
 use Rattle.std.proofs.Math.Seq.{take-suc}
 use Rattle.py_syntax.specs.View.{plain_fragments}
 use Rattle.py_parse_expr.specs.Machine.{snoc_plain}

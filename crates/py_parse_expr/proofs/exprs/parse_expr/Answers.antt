@@ -1,4 +1,3 @@
-use Rattle.std.proofs.Common.{sym, ◌∙◌}
 use Rattle.py_parse_expr.proofs.PatternTokens.{kinds_of_all}
 use Rattle.py_parse_expr.proofs.ExprWhole.{answer_other, answer_more, answer_whole, answer_refused}
 use Rattle.py_parse_expr.proofs.exprs.parse_expr.Goals as goal

@@ -1,4 +1,4 @@
-use Rattle.std.proofs.Common.{◌+◌, drop, is_some, true, false, sym, arith}
+use Rattle.std.proofs.Common.{◌+◌, drop, is_some, true, false, arith}
 use Rattle.py_parse_expr.specs.Machine.{parts}
 use Rattle.py_parse_expr.specs.FieldOrder.{plain_pieces, waiting_of, weight}
 use Rattle.py_parse_expr.proofs.FieldOrder.{pieces_begin, pieces_chars, pieces_field, weight_some}

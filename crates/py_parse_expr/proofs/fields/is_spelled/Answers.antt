@@ -1,4 +1,4 @@
-use Rattle.std.proofs.Common.{is_some, true, false, sym, arith}
+use Rattle.std.proofs.Common.{is_some, true, false, sym}
 use Rattle.py_parse_expr.specs.Machine.{parts}
 use Rattle.py_parse_expr.specs.FieldOrder.{plain_pieces, waiting_of}
 use Rattle.py_parse_expr.proofs.FieldOrder.{next_told}

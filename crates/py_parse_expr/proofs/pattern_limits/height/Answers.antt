@@ -1,4 +1,4 @@
-use Rattle.std.proofs.Common.{sym, ◌∙◌, arith}
+use Rattle.std.proofs.Common.{sym, ◌∙◌}
 use Rattle.py_parse_expr.proofs.PatternLimits.{at_want, at_again, at_minus, at_named, at_dotted, at_strings, at_have, at_naming, at_item}
 use Rattle.py_parse_expr.proofs.pattern_limits.height.Goals as goal
 

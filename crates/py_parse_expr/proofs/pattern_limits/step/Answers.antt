@@ -1,4 +1,4 @@
-use Rattle.std.proofs.Common.{sym, ◌∙◌, arith}
+use Rattle.std.proofs.Common.{arith}
 use Rattle.py_parse_expr.proofs.PatternLimits.{stays}
 use Rattle.py_syntax.specs.Kinds.{bare_kind}
 use Rattle.py_token.specs.View.{view_kind}

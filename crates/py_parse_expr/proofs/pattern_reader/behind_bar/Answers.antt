@@ -1,4 +1,3 @@
-use Rattle.std.proofs.Common.{rules, arith}
 use Rattle.py_parse_expr.proofs.PatternReader.{bar_rows}
 use Rattle.py_parse_expr.proofs.pattern_reader.behind_bar.Goals as goal
 

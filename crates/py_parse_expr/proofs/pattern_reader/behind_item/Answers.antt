@@ -1,4 +1,4 @@
-use Rattle.std.proofs.Common.{rules, arith}
+use Rattle.std.proofs.Common.{rules}
 use Rattle.py_parse_expr.proofs.PatternReader.{item_rows}
 use Rattle.py_parse_expr.proofs.pattern_reader.behind_item.Goals as goal
 

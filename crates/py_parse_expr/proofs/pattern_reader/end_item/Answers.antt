@@ -1,4 +1,3 @@
-use Rattle.std.proofs.Common.{rules, arith}
 use Rattle.py_parse_expr.proofs.PatternReader.{enclosed_kept}
 use Rattle.py_parse_expr.proofs.pattern_reader.end_item.Goals as goal
 

@@ -1,4 +1,4 @@
-use Rattle.std.proofs.Common.{rules, arith}
+use Rattle.std.proofs.Common.{arith}
 use Rattle.py_parse_expr.proofs.PatternReader.{joined_kept}
 use Rattle.py_parse_expr.proofs.pattern_reader.give.Goals as goal
 

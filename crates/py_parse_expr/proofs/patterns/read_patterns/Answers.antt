@@ -1,5 +1,4 @@
-use Rattle.std.proofs.Common.{sym, ◌∙◌, arith}
-use Rattle.std.proofs.Common.{Result, Ok, Err}
+use Rattle.std.proofs.Common.{Ok, Err}
 use Rattle.py_parse_expr.specs.declared.error.ReadError.TheVariants as error
 use Rattle.py_parse_expr.proofs.PatternTokens.{kinds_of_all, turn_stuck, turn_deep, turn_left, turn_next, over_there, reads}
 use Rattle.py_parse_expr.proofs.patterns.read_patterns.Goals as goal

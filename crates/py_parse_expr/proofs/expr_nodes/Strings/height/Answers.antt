@@ -1,4 +1,3 @@
-use Rattle.std.proofs.Common.{ap, sym, ◌∙◌}
 use Rattle.py_syntax.specs.View.{plain_fragments}
 use Rattle.py_parse_expr.proofs.ExprNodes.{plain_height, mixed_height}
 use Rattle.py_parse_expr.proofs.expr_nodes.Strings.height.Goals as goal

@@ -1,4 +1,3 @@
-use Rattle.std.proofs.Common.{ap, sym, ◌∙◌}
 use Rattle.py_parse_expr.proofs.ExprNodes.{makes_plain, makes_mixed}
 use Rattle.py_parse_expr.proofs.expr_nodes.Strings.tall.Goals as goal
 
