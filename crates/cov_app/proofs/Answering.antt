@@ -1,5 +1,5 @@
 -- What the parts of the top call answer, as the step says it.
-use Rattle.std.proofs.Common.{◌≡◌, ℕ, ◌<◌, List, [], ◌++◌, Option, Some, None, Result, Ok, Err, refl, sym, ap, ◌∙◌, subst, length, ◌≤◌, lt-ltb, le-ltb, if◌then◌else◌}
+use Rattle.std.proofs.Common.{◌≡◌, ℕ, ◌<◌, List, [], ◌++◌, Option, Some, None, Result, Ok, Err, arith, refl, sym, ap, ◌∙◌, subst, length, ◌≤◌, lt-ltb, le-ltb, if◌then◌else◌}
 use Rattle.std.proofs.lemmas.List.{append-nil, length-replicate}
 use Rattle.std.proofs.Math.ListN.{replicate}
 use Rattle.cov_outside.specs.Prefixes.{GainsPrefix}
