@@ -5,7 +5,6 @@ use py_value::{BinOp, CmpOp, Text};
 /// An expression, as it was written: a parenthesis is a node, and `comma` says whether a comma stands behind
 /// the last item.
 #[cycle(expr)]
-#[derive(Drop)]
 pub enum Expr {
     Name(Text),
     Int(i64),
@@ -54,6 +53,69 @@ pub enum Expr {
         to: Option<Box<Expr>>,
     },
     Attr(Box<Expr>, Text),
+}
+
+// Written out, and not derived, so that letting an expression go is one call wherever that happens.
+impl Drop for Expr {
+    #[cycle(expr)]
+    fn drop(self) {
+        match self {
+            Expr::Name(name) => drop(name),
+            Expr::Int(_) => (),
+            Expr::Str(texts) => drop(texts),
+            Expr::FStr(fragments) => drop(fragments),
+            Expr::None => (),
+            Expr::Bool(_) => (),
+            Expr::Tuple { items, comma: _ } => drop(items),
+            Expr::List { items, comma: _ } => drop(items),
+            Expr::Dict { items, comma: _ } => drop(items),
+            Expr::Paren(inner) => drop(inner),
+            Expr::Not(operand) => drop(operand),
+            Expr::And(left, right) => {
+                drop(left);
+                drop(right)
+            }
+            Expr::Or(left, right) => {
+                drop(left);
+                drop(right)
+            }
+            Expr::Unary(_, operand) => drop(operand),
+            Expr::Binary(_, left, right) => {
+                drop(left);
+                drop(right)
+            }
+            Expr::Compare(first, links) => {
+                drop(first);
+                drop(links)
+            }
+            Expr::Cond { body, test, orelse } => {
+                drop(body);
+                drop(test);
+                drop(orelse)
+            }
+            Expr::Call {
+                callee,
+                args,
+                comma: _,
+            } => {
+                drop(callee);
+                drop(args)
+            }
+            Expr::Index(of, at) => {
+                drop(of);
+                drop(at)
+            }
+            Expr::Slice { of, from, to } => {
+                drop(of);
+                drop(from);
+                drop(to)
+            }
+            Expr::Attr(of, name) => {
+                drop(of);
+                drop(name)
+            }
+        }
+    }
 }
 
 /// A key of a dict display and its value.

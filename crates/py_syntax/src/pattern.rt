@@ -3,7 +3,7 @@
 use py_value::Text;
 
 /// A pattern of a `case`.
-#[derive(Drop)]
+#[cycle(pattern)]
 pub enum Pattern {
     Literal {
         /// Whether a minus stands in front of the number.
@@ -24,6 +24,33 @@ pub enum Pattern {
     As(Box<Pattern>, Text),
     /// A pattern in round brackets with no comma.
     Paren(Box<Pattern>),
+}
+
+// As of `Expr`: letting a pattern go is one call.
+impl Drop for Pattern {
+    #[cycle(pattern)]
+    fn drop(self) {
+        match self {
+            Pattern::Literal { minus: _, value } => drop(value),
+            Pattern::Capture(name) => drop(name),
+            Pattern::Wild => (),
+            Pattern::Member(of, name) => {
+                drop(of);
+                drop(name)
+            }
+            Pattern::Sequence {
+                brackets: _,
+                items,
+                comma: _,
+            } => drop(items),
+            Pattern::Or(items) => drop(items),
+            Pattern::As(inner, name) => {
+                drop(inner);
+                drop(name)
+            }
+            Pattern::Paren(inner) => drop(inner),
+        }
+    }
 }
 
 /// The value of a literal pattern, without its minus.

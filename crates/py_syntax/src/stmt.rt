@@ -24,13 +24,26 @@ pub struct LineEnd {
 
 /// Statements with the first and last line of the header in front of them, from 1.
 #[cycle(stmt)]
-#[derive(Drop)]
 pub struct Suite {
     pub first: u32,
     pub last: u32,
     /// Whether it stands on the line of its header, and isn't a block.
     pub inline: bool,
     pub body: Vec<Stmt>,
+}
+
+// As of `Expr`: letting a suite go is one call.
+impl Drop for Suite {
+    #[cycle(stmt)]
+    fn drop(self) {
+        let Suite {
+            first: _,
+            last: _,
+            inline: _,
+            body,
+        } = self;
+        drop(body)
+    }
 }
 
 /// A test of an `if` or `elif` and its suite.
