@@ -28,17 +28,17 @@ use Rattle.py_parse_expr.specs.declared.expr_turns.Turn.{Turn}
 use Rattle.py_parse_expr.specs.declared.expr_turns.Turn.TheVariants as turn_
 use Rattle.py_parse_expr.specs.declared.expr_fields.Unread.{Unread}
 use Rattle.py_parse_expr.specs.declared.expr_fields.Unread.TheVariants as unread_
-use Rattle.py_parse_expr.specs.Roles.{Role, r_format, r_other}
-use Rattle.py_parse_expr.specs.Machine.{any, Ctx, Outside, State, Want, Out, Next, Stuck, Left, step, start, format_role, role, parts, field_expr}
-use Rattle.py_parse_expr.specs.Least.{least}
+use Rattle.py_grammar.specs.Roles.{Role, r_format, r_other}
+use Rattle.py_grammar.specs.Machine.{any, Ctx, Outside, State, Want, Out, Next, Stuck, Left, step, start, format_role, role, parts, field_expr}
+use Rattle.py_grammar.specs.Least.{least}
 use Rattle.py_parse_expr.specs.ExprHeld.{capped, view_tall, view_fields, plain_role}
 use Rattle.py_parse_expr.specs.ExprStacks.{view_stack, Kept}
 use Rattle.py_parse_expr.specs.ExprTurns.{view_at, KeptAt, TurnsTo, Turns}
-use Rattle.py_parse_expr.specs.FieldOrder.{plain_pieces}
+use Rattle.py_parse_fields.specs.Order.{plain_pieces}
 use Rattle.py_parse_expr.specs.ExprFields.{takes_string, NoFString, has_spelled_fields, ended_turn, IsField, AreParts, IsHighIf, GoesTo, Goes}
-use Rattle.py_parse_expr.proofs.Spelled.{field_after, ended_by}
-use Rattle.py_parse_expr.proofs.Rising.{Grows, step_grows}
-use Rattle.py_parse_expr.proofs.FieldRuns.{row, next_row, plain-chars}
+use Rattle.py_grammar.proofs.Spelled.{field_after, ended_by}
+use Rattle.py_grammar.proofs.Rising.{Grows, step_grows}
+use Rattle.py_parse_fields.proofs.Runs.{row, next_row, plain-chars}
 use Rattle.py_parse_expr.proofs.ExprStrings.{Foreign, Ends, Alike, step_alike, step_token, spelled_token, step_bad, step_high}
 
 -- ---- a token

@@ -5,8 +5,8 @@ use Rattle.py_syntax.specs.Tree.{Expr, Exprs, Links}
 use Rattle.py_value.specs.declared.operator.CmpOp.{CmpOp}
 use Rattle.py_parse_expr.specs.declared.expr_roles.Role as held_role
 use Rattle.py_parse_expr.specs.declared.expr_roles.Role.TheVariants as role_
-use Rattle.py_parse_expr.specs.Roles.{Joint, Role, r_compare, r_joint, r_not, r_is, joint_level, joined}
-use Rattle.py_parse_expr.specs.Machine.{snoc_link, Opener, a_call, a_list, Ctx, on, first, right, compare_rest, in_items, Linked, Stuck, give, step}
+use Rattle.py_grammar.specs.Roles.{Joint, Role, r_compare, r_joint, r_not, r_is, joint_level, joined}
+use Rattle.py_grammar.specs.Machine.{snoc_link, Opener, a_call, a_list, Ctx, on, first, right, compare_rest, in_items, Linked, Stuck, give, step}
 use Rattle.py_parse_expr.specs.ExprHeld.{view_role}
 use Rattle.py_parse_expr.specs.ExprTurns.{closes}
 

@@ -3,9 +3,9 @@ use Rattle.std.proofs.Common.{◌≡◌, ℕ, ◌≤◌, nat_le, Bool, sym, ap, 
 use Rattle.py_syntax.specs.Spelling.{HEIGHT}
 use Rattle.py_syntax.specs.Tree.{Expr}
 use Rattle.py_syntax.specs.Normal.{is_target, height}
-use Rattle.py_parse_expr.specs.Machine.{Ctx, on, post_rest}
-use Rattle.py_parse_expr.specs.Least.{whole}
-use Rattle.py_parse_expr.specs.Rooms.{room, postfix}
+use Rattle.py_grammar.specs.Machine.{Ctx, on, post_rest}
+use Rattle.py_grammar.specs.Least.{whole}
+use Rattle.py_grammar.specs.Rooms.{room, postfix}
 use Rattle.py_parse_expr.specs.ExprHeld.{capped}
 use Rattle.py_parse_expr.proofs.Rooms.{room_low, whole_fits, capped_test}
 

@@ -16,14 +16,14 @@ use Rattle.py_syntax.specs.declared.expr.Expr.TheVariants as variant
 use Rattle.py_syntax.specs.Tree.{Text, Expr, none, bool, str, fstr, exprs, Pairs, pair, Links, link, Fragments, no_fragments, plain, format, Parts}
 use Rattle.py_syntax.specs.Normal.{is_target, are_targets, height, heights, height_entries, height_links, height_fragments, height_parts}
 use Rattle.py_syntax.specs.View.{PlainFragment, a_plain, a_format, fragments_of, plain_expr, plain_exprs, plain_pairs, plain_links, plain_fragments, plain_parts}
-use Rattle.py_parse_expr.specs.Machine.{snoc, snoc_pair, snoc_link, snoc_plain, snoc_format, has_format, texts, strings_of}
+use Rattle.py_grammar.specs.Machine.{snoc, snoc_pair, snoc_link, snoc_plain, snoc_format, has_format, texts, strings_of}
 use Rattle.py_parse_expr.specs.declared.expr_nodes.Tall.{Tall}
 use Rattle.py_parse_expr.specs.declared.expr_nodes.Row.{Row}
 use Rattle.py_parse_expr.specs.declared.expr_nodes.Entries.{Entries}
 use Rattle.py_parse_expr.specs.declared.expr_nodes.Chain.{Chain}
 use Rattle.py_parse_expr.specs.ExprHeld.{capped, plains, view_tall, view_row, view_entries, view_links, IsTall, AreTall, AreEntries, IsChain, Makes}
-use Rattle.py_parse_expr.proofs.Grows.{heights_snoc, entries_snoc, links_snoc, targets_snoc}
-use Rattle.py_parse_expr.proofs.Rising.{plain_snoc, format_snoc}
+use Rattle.py_grammar.proofs.Grows.{heights_snoc, entries_snoc, links_snoc, targets_snoc}
+use Rattle.py_grammar.proofs.Rising.{plain_snoc, format_snoc}
 
 pub exprs_more : (es : List Node) (e : Node) → plain_exprs (es ++ e ∷ []) ≡ snoc (plain_exprs es) (plain_expr e)
 exprs_more [] e = refl

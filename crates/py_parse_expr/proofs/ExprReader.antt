@@ -5,9 +5,6 @@ use Rattle.std.proofs.lemmas.List.{drop_all}
 use Rattle.py_token.specs.declared.token.Token.{Token}
 use Rattle.py_syntax.specs.Spelling.{HEIGHT}
 use Rattle.py_syntax.specs.Kinds.{Kind}
-use Rattle.py_syntax.specs.View.{plain_expr}
-use Rattle.py_parse_expr.specs.declared.error.ReadError.{ReadError}
-use Rattle.py_parse_expr.specs.declared.error.ReadError.TheVariants as error
 use Rattle.py_parse_expr.specs.declared.expr_nodes.Tall.{Tall}
 use Rattle.py_parse_expr.specs.declared.expr_roles.Level.{Level}
 use Rattle.py_parse_expr.specs.declared.expr_stack.Stack.{Stack}
@@ -15,20 +12,14 @@ use Rattle.py_parse_expr.specs.declared.expr_turns.Progress.{Progress}
 use Rattle.py_parse_expr.specs.declared.expr_turns.Progress.TheVariants as progress_
 use Rattle.py_parse_expr.specs.declared.expr_turns.Turn.{Turn}
 use Rattle.py_parse_expr.specs.declared.expr_turns.Turn.TheVariants as turn_
-use Rattle.py_parse_expr.specs.declared.exprs.ExprPart.{ExprPart}
-use Rattle.py_parse_expr.specs.declared.exprs.ExprPart.TheVariants as part_
-use Rattle.py_parse_expr.specs.declared.exprs.ExprRead.{ExprRead}
-use Rattle.py_parse_expr.specs.Machine.{Goal, Outside, State, Want, Out, Next, Stuck, Left, step, start, role}
-use Rattle.py_parse_expr.specs.Least.{least}
-use Rattle.py_parse_expr.specs.Reading.{Ending, Unexpected, TooDeep, Reads, within, EndsAt}
-use Rattle.py_parse_expr.specs.ExprTrees.{IsAsked}
+use Rattle.py_grammar.specs.Machine.{Goal, Outside, State, Want, Out, Next, Stuck, Left, step, start, role}
+use Rattle.py_grammar.specs.Least.{least}
+use Rattle.py_grammar.specs.Reading.{Ending, Unexpected, TooDeep, Reads, within, EndsAt}
 use Rattle.py_parse_expr.specs.ExprHeld.{view_level, view_tall}
 use Rattle.py_parse_expr.specs.ExprStacks.{view_stack, Kept}
 use Rattle.py_parse_expr.specs.ExprTurns.{view_at, KeptAt}
 use Rattle.py_parse_expr.specs.ExprFields.{has_spelled_fields, IsHighIf, GoesTo}
-use Rattle.py_parse_expr.specs.ExprReads.{goal_of, FollowsMachine, IsRead}
-use Rattle.py_parse_expr.proofs.PatternTokens.{kinds_of_all, kind_at, kinds_length, kind_there}
-use Rattle.py_parse_expr.proofs.ExprPlaces.{is_exact}
+use Rattle.py_grammar.proofs.Places.{kinds_of_all, kind_at, kinds_length, kind_there}
 
 -- The reading has come so far.
 pub record Reading (goal : Goal) (ts : List Kind) (at place : ℕ) (p : Progress) (s : Stack) : Type 0 where
@@ -100,16 +91,3 @@ over_there goal tokens at place p s h le =
     let e = kinds_length tokens in
     let none = drop_all place (kinds_of_all tokens) (omega arith) in
     record { forward = h.forward; inside = h.inside; ends = h.same ∙ ap (within HEIGHT (view_at p (view_stack s))) none ∙ ap Unexpected (sym none) }
-
--- ---- the same, said of trees alone
-
-asked : (part : ExprPart) → IsAsked (goal_of part)
-asked part_.Any = tt
-asked part_.One = tt
-asked part_.Target = tt
-
-pub reads : (ts : List Kind) (at : ℕ) (part : ExprPart) (r : Result ExprRead ReadError) → FollowsMachine ts at part r → IsRead ts at part r
-reads ts at part (Ok r) h = (is_exact (goal_of part) HEIGHT ts at r.next (asked part) (omega arith)).reads (plain_expr r.expr) h
-reads ts at part (Err (error.Unexpected place)) h = (is_exact (goal_of part) HEIGHT ts at place (asked part) (omega arith)).unexpected h
-reads ts at part (Err (error.TooDeep place)) h = (is_exact (goal_of part) HEIGHT ts at place (asked part) (omega arith)).too_deep h
-reads ts at part (Err error.NoMemory) h = tt

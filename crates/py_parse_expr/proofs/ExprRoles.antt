@@ -8,8 +8,8 @@ use Rattle.py_token.specs.View.{view_kind, view_pieces}
 use Rattle.py_token.proofs.Views.{plain-fstring}
 use Rattle.py_syntax.specs.Tree.{Parts}
 use Rattle.py_syntax.specs.Kinds.{End, Pieces, bare_kind, bare_pieces}
-use Rattle.py_parse_expr.specs.Roles.{r_other}
-use Rattle.py_parse_expr.specs.Machine.{format_role, role, parts}
+use Rattle.py_grammar.specs.Roles.{r_other}
+use Rattle.py_grammar.specs.Machine.{format_role, role, parts}
 use Rattle.py_parse_expr.specs.ExprHeld.{plain_role}
 
 plain_format : (ps : Pieces) (o : Option Parts) → plain_role (format_role ps o) ≡ r_other End

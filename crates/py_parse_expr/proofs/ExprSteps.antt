@@ -12,8 +12,8 @@ use Rattle.py_parse_expr.specs.declared.expr_turns.Progress as held_progress
 use Rattle.py_parse_expr.specs.declared.expr_turns.Met.TheVariants as met_
 use Rattle.py_parse_expr.specs.declared.expr_turns.Turn.{Turn}
 use Rattle.py_parse_expr.specs.declared.expr_turns.Turn.TheVariants as turn_
-use Rattle.py_parse_expr.specs.Roles.{Role, r_comma, r_right_brace}
-use Rattle.py_parse_expr.specs.Machine.{snoc, targets, AfterTarget, Ctx, on, DictOpen, DictComma, Out, Next, Stuck, Left, leave, give, step}
+use Rattle.py_grammar.specs.Roles.{Role, r_comma, r_right_brace}
+use Rattle.py_grammar.specs.Machine.{snoc, targets, AfterTarget, Ctx, on, DictOpen, DictComma, Out, Next, Stuck, Left, leave, give, step}
 use Rattle.py_parse_expr.specs.ExprHeld.{view_tall, view_role, IsTall}
 use Rattle.py_parse_expr.specs.ExprStacks.{head_of, tail_of, AreSome, view_frame, view_stack, Kept, Pops}
 use Rattle.py_parse_expr.specs.ExprTurns.{close_dict, Stays, Acts}

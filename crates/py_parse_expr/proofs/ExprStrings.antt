@@ -10,13 +10,13 @@ use Rattle.py_syntax.specs.Tree.{Expr, fstr, tuple, not', unary, compare, exprs,
 use Rattle.py_syntax.specs.Tree as tree_
 use Rattle.py_syntax.specs.Kinds.{Kind, Word, FString, Sign, End, Pieces}
 use Rattle.py_syntax.specs.Normal.{LExpr, LExprs, LPost, is_target, height, height_fragments, height_parts}
-use Rattle.py_parse_expr.specs.Roles.{Role, r_name, r_none, r_bool, r_format, r_bad_format, r_not, r_is, r_if, r_else, r_compare, r_joint, r_comma, r_colon, r_dot, r_left_paren, r_right_paren, r_left_bracket, r_right_bracket, r_right_brace, r_other, joined}
-use Rattle.py_parse_expr.specs.Machine.{snoc, snoc_link, snoc_format, has_format, strings_of, any, one, target, targets, a_call, a_list, exprs_first, exprs_rest, cond_first, cond_test, cond_else, first, right, not_of, compare_first, compare_rest, unary_of, post_rest, in_items, index_first, in_index, slice_to, in_paren, in_key, in_value, Ctx, Outside, on, State, Want, Have, Strings, AfterOpen, AfterComma, AfterTarget, ItemsOpen, ItemsComma, DictOpen, DictComma, IndexOpen, SliceColon, AfterDot, AfterNot, AfterIs, AfterIsNot, Linked, Out, Next, Stuck, Left, upto, give, step, role}
-use Rattle.py_parse_expr.specs.Least.{whole}
-use Rattle.py_parse_expr.specs.Rooms.{room}
+use Rattle.py_grammar.specs.Roles.{Role, r_name, r_none, r_bool, r_format, r_bad_format, r_not, r_is, r_if, r_else, r_compare, r_joint, r_comma, r_colon, r_dot, r_left_paren, r_right_paren, r_left_bracket, r_right_bracket, r_right_brace, r_other, joined}
+use Rattle.py_grammar.specs.Machine.{snoc, snoc_link, snoc_format, has_format, strings_of, any, one, target, targets, a_call, a_list, exprs_first, exprs_rest, cond_first, cond_test, cond_else, first, right, not_of, compare_first, compare_rest, unary_of, post_rest, in_items, index_first, in_index, slice_to, in_paren, in_key, in_value, Ctx, Outside, on, State, Want, Have, Strings, AfterOpen, AfterComma, AfterTarget, ItemsOpen, ItemsComma, DictOpen, DictComma, IndexOpen, SliceColon, AfterDot, AfterNot, AfterIs, AfterIsNot, Linked, Out, Next, Stuck, Left, upto, give, step, role}
+use Rattle.py_grammar.specs.Least.{whole}
+use Rattle.py_grammar.specs.Rooms.{room}
 use Rattle.py_parse_expr.specs.ExprHeld.{plain_role}
 use Rattle.py_parse_expr.specs.ExprFields.{takes_string, NoFString, has_spelled_fields, IsHigh}
-use Rattle.py_parse_expr.proofs.Rising.{format_snoc}
+use Rattle.py_grammar.proofs.Rising.{format_snoc}
 use Rattle.py_parse_expr.proofs.Rooms.{room_low, whole_fits}
 
 -- ---- tokens that no expression goes on with
@@ -212,7 +212,7 @@ whole_high k e limit high = go (nat_le (height (whole k e)) limit) refl
     go false is = let no = leb-false (height (whole k e)) limit is in omega arith
 
 strings_high : (fs : Fragments) (limit : ℕ) → has_format fs ≡ true → limit ≤ height_fragments fs → limit < height (strings_of fs)
-strings_high fs limit some high = let is = ap (λ (b : Bool). height (cond b (fstr fs) (tree_.str (Rattle.py_parse_expr.specs.Machine.texts fs)))) some in omega arith
+strings_high fs limit some high = let is = ap (λ (b : Bool). height (cond b (fstr fs) (tree_.str (Rattle.py_grammar.specs.Machine.texts fs)))) some in omega arith
 
 -- An f-string with fields that are too high makes all too high.
 pub step_high : (s : State) (qs : Parts) (limit : ℕ) → takes_string s ≡ true → limit ≤ height_parts qs → IsHigh limit (step s (r_format qs))

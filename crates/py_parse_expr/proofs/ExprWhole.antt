@@ -10,20 +10,21 @@ use Rattle.py_syntax.specs.Tree.{Expr}
 use Rattle.py_syntax.specs.Kinds.{Kind, End}
 use Rattle.py_syntax.specs.Normal.{height}
 use Rattle.py_syntax.specs.View.{plain_expr}
-use Rattle.py_parse_expr.specs.declared.error.ReadError.{ReadError}
-use Rattle.py_parse_expr.specs.declared.error.ReadError.TheVariants as error
+use Rattle.py_grammar.specs.declared.error.ReadError.{ReadError}
+use Rattle.py_grammar.specs.declared.error.ReadError.TheVariants as error
 use Rattle.py_parse_expr.specs.declared.exprs.ExprPart.TheVariants as part_
 use Rattle.py_parse_expr.specs.declared.exprs.ExprRead.{ExprRead}
-use Rattle.py_parse_expr.specs.Machine.{any, State, Out, Next, Stuck, Left, step, start, role}
-use Rattle.py_parse_expr.specs.Least.{least}
-use Rattle.py_parse_expr.specs.Reading.{Ending, Unexpected, TooDeep, Reads, within, EndsAt}
-use Rattle.py_parse_expr.specs.ExprTrees.{IsExpr}
+use Rattle.py_grammar.specs.Machine.{any, State, Out, Next, Stuck, Left, step, start, role}
+use Rattle.py_grammar.specs.Least.{least}
+use Rattle.py_grammar.specs.Reading.{Ending, Unexpected, TooDeep, Reads, within, EndsAt}
+use Rattle.py_grammar.specs.ExprTrees.{IsExpr}
 use Rattle.py_parse_expr.specs.ExprReads.{FollowsMachine, is_end}
-use Rattle.py_parse_expr.specs.Refusal.{Spells, IsUnexpected, IsTooDeep, Parses}
-use Rattle.py_parse_expr.proofs.Whole.{Going, Over, over_at, goes, next}
-use Rattle.py_parse_expr.proofs.Stands.{Stands, stands_first, goes_on, unexpected, too_deep, whole_list}
-use Rattle.py_parse_expr.proofs.PatternTokens.{kinds_of_all, kind_at, kinds_length, kind_there}
-use Rattle.py_parse_expr.proofs.ExprPlaces.{is_exact}
+use Rattle.py_grammar.specs.Refusal.{Spells, IsUnexpected, IsTooDeep}
+use Rattle.py_parse_expr.specs.Refusal.{Parses}
+use Rattle.py_grammar.proofs.Whole.{Going, Over, over_at, goes, next}
+use Rattle.py_grammar.proofs.Stands.{Stands, stands_first, goes_on, unexpected, too_deep, whole_list}
+use Rattle.py_grammar.proofs.Places.{kinds_of_all, kind_at, kinds_length, kind_there}
+use Rattle.py_grammar.proofs.ExprPlaces.{is_exact}
 
 -- ---- the machine's walk, place by place
 

@@ -6,15 +6,15 @@ use Rattle.py_syntax.specs.Tree.{Expr, tuple, list, dict, paren, not', unary, co
 use Rattle.py_syntax.specs.Tree as tree_
 use Rattle.py_syntax.specs.Spelling.{HEIGHT}
 use Rattle.py_syntax.specs.Normal.{is_target, are_targets, height, heights, height_entries, height_links, height_bound}
-use Rattle.py_parse_expr.specs.Roles.{joined}
-use Rattle.py_parse_expr.specs.Machine.{snoc, snoc_pair, snoc_link, any, one, target, targets, a_call, a_list, exprs_first, exprs_rest, cond_first, cond_test, cond_else, first, right, not_of, compare_first, compare_rest, unary_of, post_rest, in_items, index_first, in_index, slice_to, in_paren, in_key, in_value, Ctx, Outside, on}
-use Rattle.py_parse_expr.specs.Least.{least_name, as_target, target_if, wants, fit, whole}
-use Rattle.py_parse_expr.specs.Rooms.{under, fitted, room, postfix}
+use Rattle.py_grammar.specs.Roles.{joined}
+use Rattle.py_grammar.specs.Machine.{snoc, snoc_pair, snoc_link, any, one, target, targets, a_call, a_list, exprs_first, exprs_rest, cond_first, cond_test, cond_else, first, right, not_of, compare_first, compare_rest, unary_of, post_rest, in_items, index_first, in_index, slice_to, in_paren, in_key, in_value, Ctx, Outside, on}
+use Rattle.py_grammar.specs.Least.{least_name, as_target, target_if, wants, fit, whole}
+use Rattle.py_grammar.specs.Rooms.{under, fitted, room, postfix}
 use Rattle.py_parse_expr.specs.declared.expr_nodes.Row.{Row}
 use Rattle.py_parse_expr.specs.declared.expr_stack.Room.{Room}
 use Rattle.py_parse_expr.specs.ExprHeld.{capped, view_row, AreTall}
 use Rattle.py_parse_expr.specs.ExprStacks.{IsRoom, head_of, tail_of, AreSome, KeptItems}
-use Rattle.py_parse_expr.proofs.Grows.{height_some, heights_snoc, entries_snoc, links_snoc, joined_height, joined_target, targets_snoc, tuple_snoc}
+use Rattle.py_grammar.proofs.Grows.{height_some, heights_snoc, entries_snoc, links_snoc, joined_height, joined_target, targets_snoc, tuple_snoc}
 
 -- two tests that hold together
 pub same_test : (a b c d : ℕ) → (a ≤ b → c ≤ d) → (c ≤ d → a ≤ b) → nat_le a b ≡ nat_le c d

@@ -13,11 +13,11 @@ use Rattle.py_parse_expr.specs.declared.expr_turns.Turn.{Turn}
 use Rattle.py_parse_expr.specs.declared.expr_turns.Turn.TheVariants as turn_
 use Rattle.py_parse_expr.specs.declared.expr_fields.Unread.{Unread}
 use Rattle.py_parse_expr.specs.declared.expr_fields.Unread.TheVariants as unread_
-use Rattle.py_parse_expr.specs.Machine.{State, Have, AfterDot, AfterNot, AfterIs, AfterIsNot, Linked, Out, Next, Stuck, parts}
-use Rattle.py_parse_expr.specs.Least.{least}
+use Rattle.py_grammar.specs.Machine.{State, Have, AfterDot, AfterNot, AfterIs, AfterIsNot, Linked, Out, Next, Stuck, parts}
+use Rattle.py_grammar.specs.Least.{least}
 use Rattle.py_parse_expr.specs.ExprHeld.{view_tall, IsTall, view_fields, AreFields}
 use Rattle.py_parse_expr.specs.ExprTurns.{TurnsTo}
-use Rattle.py_parse_expr.specs.FieldOrder.{plain_pieces}
+use Rattle.py_parse_fields.specs.Order.{plain_pieces}
 
 -- whether a string may stand there
 abbrev pub takes_string : State → Bool

@@ -21,8 +21,8 @@ use Rattle.py_parse_expr.specs.declared.expr_nodes.Strings as held_strings
 use Rattle.py_parse_expr.specs.declared.expr_nodes.Strings.TheVariants as strings_
 use Rattle.py_parse_expr.specs.declared.expr_nodes.Opener as held_opener
 use Rattle.py_parse_expr.specs.declared.expr_nodes.Opener.TheVariants as opener_
-use Rattle.py_parse_expr.specs.Roles.{Joint, j_or, j_and, j_op, Role, r_name, r_int, r_none, r_bool, r_string, r_format, r_bad_format, r_not, r_is, r_if, r_else, r_compare, r_joint, r_comma, r_colon, r_dot, r_left_paren, r_right_paren, r_left_bracket, r_right_bracket, r_left_brace, r_right_brace, r_other}
-use Rattle.py_parse_expr.specs.Machine.{Opener, a_call, a_list, has_format, role}
+use Rattle.py_grammar.specs.Roles.{Joint, j_or, j_and, j_op, Role, r_name, r_int, r_none, r_bool, r_string, r_format, r_bad_format, r_not, r_is, r_if, r_else, r_compare, r_joint, r_comma, r_colon, r_dot, r_left_paren, r_right_paren, r_left_bracket, r_right_bracket, r_left_brace, r_right_brace, r_other}
+use Rattle.py_grammar.specs.Machine.{Opener, a_call, a_list, has_format, role}
 
 abbrev pub view_level : held_level.Level → Level
 view_level level_.Exprs = LExprs

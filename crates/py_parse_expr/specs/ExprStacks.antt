@@ -11,9 +11,9 @@ use Rattle.py_parse_expr.specs.declared.expr_stack.Frame.TheVariants as frame_
 use Rattle.py_parse_expr.specs.declared.expr_stack.Room.{Room}
 use Rattle.py_parse_expr.specs.declared.expr_stack.Held.{Held}
 use Rattle.py_parse_expr.specs.declared.expr_stack.Stack.{Stack}
-use Rattle.py_parse_expr.specs.Machine.{Goal, any, one, target, targets, Frame, exprs_first, exprs_rest, cond_first, cond_test, cond_else, first, right, not_of, compare_first, compare_rest, unary_of, post_rest, in_items, index_first, in_index, slice_to, in_paren, in_key, in_value, Ctx, Outside, on}
-use Rattle.py_parse_expr.specs.Least.{wants}
-use Rattle.py_parse_expr.specs.Rooms.{room}
+use Rattle.py_grammar.specs.Machine.{Goal, any, one, target, targets, Frame, exprs_first, exprs_rest, cond_first, cond_test, cond_else, first, right, not_of, compare_first, compare_rest, unary_of, post_rest, in_items, index_first, in_index, slice_to, in_paren, in_key, in_value, Ctx, Outside, on}
+use Rattle.py_grammar.specs.Least.{wants}
+use Rattle.py_grammar.specs.Rooms.{room}
 use Rattle.py_parse_expr.specs.ExprHeld.{view_level, view_joint, view_tall, view_row, view_entries, view_links, view_opener, view_bound, IsTall, AreTall, AreEntries, IsChain, KeptOpener, KeptBound}
 
 -- the first of some items, and the others

@@ -14,9 +14,9 @@ use Rattle.py_parse_expr.specs.declared.expr_turns.Met.{Met}
 use Rattle.py_parse_expr.specs.declared.expr_turns.Met.TheVariants as met_
 use Rattle.py_parse_expr.specs.declared.expr_turns.Turn.{Turn}
 use Rattle.py_parse_expr.specs.declared.expr_turns.Turn.TheVariants as turn_
-use Rattle.py_parse_expr.specs.Roles.{j_op, Role, r_joint, r_right_paren, r_right_bracket, r_right_brace}
-use Rattle.py_parse_expr.specs.Machine.{Opener, a_call, a_list, Frame, post_rest, in_key, Ctx, on, State, Want, Have, Strings, AfterOpen, AfterComma, AfterTarget, ItemsOpen, ItemsComma, DictOpen, DictComma, IndexOpen, SliceColon, AfterDot, AfterNot, AfterIs, AfterIsNot, Linked, Out, Next, Stuck, Left, begin, give}
-use Rattle.py_parse_expr.specs.Least.{least}
+use Rattle.py_grammar.specs.Roles.{j_op, Role, r_joint, r_right_paren, r_right_bracket, r_right_brace}
+use Rattle.py_grammar.specs.Machine.{Opener, a_call, a_list, Frame, post_rest, in_key, Ctx, on, State, Want, Have, Strings, AfterOpen, AfterComma, AfterTarget, ItemsOpen, ItemsComma, DictOpen, DictComma, IndexOpen, SliceColon, AfterDot, AfterNot, AfterIs, AfterIsNot, Linked, Out, Next, Stuck, Left, begin, give}
+use Rattle.py_grammar.specs.Least.{least}
 use Rattle.py_parse_expr.specs.ExprHeld.{view_level, view_tall, view_row, view_entries, view_links, view_opener, view_bound, view_strings, IsTall, AreTall, AreEntries, IsChain, KeptOpener, KeptBound, KeptStrings}
 use Rattle.py_parse_expr.specs.ExprStacks.{head_of, tail_of, KeptItems, view_frame, KeptFrame, view_stack, Kept}
 

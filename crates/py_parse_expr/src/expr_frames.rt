@@ -2,8 +2,8 @@
 
 ghost use Rattle.std.specs.Prelude.{◌≡◌};
 ghost use Rattle.py_syntax.specs.View.{plain_expr};
-ghost use Rattle.py_parse_expr.specs.Roles.{Role as SpecRole};
-ghost use Rattle.py_parse_expr.specs.Machine.{on, Ctx, Next, Have, Linked, step, give, exprs_first, cond_first, cond_test, cond_else, first, right, not_of, compare_first, unary_of, post_rest, in_items, index_first, in_index, slice_to, in_paren, in_key, in_value};
+ghost use Rattle.py_grammar.specs.Roles.{Role as SpecRole};
+ghost use Rattle.py_grammar.specs.Machine.{on, Ctx, Next, Have, Linked, step, give, exprs_first, cond_first, cond_test, cond_else, first, right, not_of, compare_first, unary_of, post_rest, in_items, index_first, in_index, slice_to, in_paren, in_key, in_value};
 ghost use Rattle.py_parse_expr.specs.ExprHeld.{view_level, view_joint, view_role, view_tall, view_row, view_entries, view_links, view_opener, view_bound, IsTall, AreTall, AreEntries, IsChain, KeptOpener, KeptBound};
 ghost use Rattle.py_parse_expr.specs.ExprStacks.{view_frame, KeptFrame};
 ghost use Rattle.py_parse_expr.specs.ExprTurns.{closes, Becomes, MeetsAs, Meets};
@@ -19,7 +19,7 @@ use py_syntax::{Comparison, Sign};
 use py_value::{CmpOp, NoMemory};
 use std::alloc::Global;
 
-fn exprs_first(alloc: Global, tall: Tall, role: &Role) -> Result<Met, NoMemory>
+pub fn exprs_first(alloc: Global, tall: Tall, role: &Role) -> Result<Met, NoMemory>
     requires { IsTall tall }
     ensures { Meets (view_tall tall) exprs_first (view_role role.now) result }
 {
@@ -29,7 +29,7 @@ fn exprs_first(alloc: Global, tall: Tall, role: &Role) -> Result<Met, NoMemory>
     }
 }
 
-fn exprs_rest(items: Row, tall: Tall, role: &Role) -> Result<Met, NoMemory>
+pub fn exprs_rest(items: Row, tall: Tall, role: &Role) -> Result<Met, NoMemory>
     requires frame { KeptFrame (Frame.ExprsRest items) }
     requires tall { IsTall tall }
     ensures { Meets (view_tall tall) (view_frame (Frame.ExprsRest items)) (view_role role.now) result }
@@ -41,7 +41,7 @@ fn exprs_rest(items: Row, tall: Tall, role: &Role) -> Result<Met, NoMemory>
     }
 }
 
-fn cond_first(tall: Tall, role: &Role) -> Met
+pub fn cond_first(tall: Tall, role: &Role) -> Met
     requires { IsTall tall }
     ensures { MeetsAs (view_tall tall) cond_first (view_role role.now) result }
 {
@@ -51,7 +51,7 @@ fn cond_first(tall: Tall, role: &Role) -> Met
     }
 }
 
-fn cond_test(body: Tall, tall: Tall, role: &Role) -> Met
+pub fn cond_test(body: Tall, tall: Tall, role: &Role) -> Met
     requires body { IsTall body }
     requires tall { IsTall tall }
     ensures { MeetsAs (view_tall tall) (cond_test (view_tall body)) (view_role role.now) result }
@@ -62,7 +62,7 @@ fn cond_test(body: Tall, tall: Tall, role: &Role) -> Met
     }
 }
 
-fn cond_else(alloc: Global, body: Tall, test: Tall, tall: Tall) -> Result<Met, NoMemory>
+pub fn cond_else(alloc: Global, body: Tall, test: Tall, tall: Tall) -> Result<Met, NoMemory>
     requires body { IsTall body }
     requires test { IsTall test }
     requires tall { IsTall tall }
@@ -72,7 +72,7 @@ fn cond_else(alloc: Global, body: Tall, test: Tall, tall: Tall) -> Result<Met, N
 }
 
 /// An operand in front of a joint of its level, or not.
-fn operand(level: Level, tall: Tall, role: &Role) -> Met
+pub fn operand(level: Level, tall: Tall, role: &Role) -> Met
     requires { IsTall tall }
     ensures { MeetsAs (view_tall tall) (first (view_level level)) (view_role role.now) result }
 {
@@ -87,7 +87,13 @@ fn operand(level: Level, tall: Tall, role: &Role) -> Met
     }
 }
 
-fn right(alloc: Global, joint: Joint, left: Tall, tall: Tall, role: &Role) -> Result<Met, NoMemory>
+pub fn right(
+    alloc: Global,
+    joint: Joint,
+    left: Tall,
+    tall: Tall,
+    role: &Role,
+) -> Result<Met, NoMemory>
     requires left { IsTall left }
     requires tall { IsTall tall }
     ensures { Meets (view_tall tall) (right (view_joint joint) (view_tall left)) (view_role role.now) result }
@@ -96,14 +102,14 @@ fn right(alloc: Global, joint: Joint, left: Tall, tall: Tall, role: &Role) -> Re
     Ok(operand(joint.level(), tall, role))
 }
 
-fn not_of(alloc: Global, tall: Tall) -> Result<Met, NoMemory>
+pub fn not_of(alloc: Global, tall: Tall) -> Result<Met, NoMemory>
     requires { IsTall tall }
     ensures { (t : SpecRole) → Meets (view_tall tall) not_of t result }
 {
     Ok(Met::Passes(negation(alloc, tall)?))
 }
 
-fn compare_first(alloc: Global, tall: Tall, role: &Role) -> Result<Met, NoMemory>
+pub fn compare_first(alloc: Global, tall: Tall, role: &Role) -> Result<Met, NoMemory>
     requires { IsTall tall }
     ensures { Meets (view_tall tall) compare_first (view_role role.now) result }
 {
@@ -134,7 +140,7 @@ pub fn link(alloc: Global, chain: Chain, role: &Role) -> Result<Met, NoMemory>
     }
 }
 
-fn compare_rest(
+pub fn compare_rest(
     alloc: Global,
     chain: Chain,
     op: CmpOp,
@@ -148,14 +154,14 @@ fn compare_rest(
     link(alloc, chain.with(Comparison::Op(op), tall)?, role)
 }
 
-fn unary_of(alloc: Global, sign: Sign, tall: Tall) -> Result<Met, NoMemory>
+pub fn unary_of(alloc: Global, sign: Sign, tall: Tall) -> Result<Met, NoMemory>
     requires { IsTall tall }
     ensures { (t : SpecRole) → Meets (view_tall tall) (unary_of sign) t result }
 {
     Ok(Met::Passes(unary(alloc, sign, tall)?))
 }
 
-fn post_rest(tall: Tall, role: &Role) -> Met
+pub fn post_rest(tall: Tall, role: &Role) -> Met
     requires { IsTall tall }
     ensures { MeetsAs (view_tall tall) post_rest (view_role role.now) result }
 {
@@ -177,7 +183,7 @@ pub fn closes(opener: &Opener, role: &Role) -> bool
     }
 }
 
-fn in_items(
+pub fn in_items(
     alloc: Global,
     opener: Opener,
     items: Row,
@@ -202,7 +208,7 @@ fn in_items(
     }
 }
 
-fn index_first(alloc: Global, of: Tall, tall: Tall, role: &Role) -> Result<Met, NoMemory>
+pub fn index_first(alloc: Global, of: Tall, tall: Tall, role: &Role) -> Result<Met, NoMemory>
     requires of { IsTall of }
     requires tall { IsTall tall }
     ensures { Meets (view_tall tall) (index_first (view_tall of)) (view_role role.now) result }
@@ -221,7 +227,7 @@ fn index_first(alloc: Global, of: Tall, tall: Tall, role: &Role) -> Result<Met, 
     }
 }
 
-fn in_index(alloc: Global, of: Tall, tall: Tall, role: &Role) -> Result<Met, NoMemory>
+pub fn in_index(alloc: Global, of: Tall, tall: Tall, role: &Role) -> Result<Met, NoMemory>
     requires of { IsTall of }
     requires tall { IsTall tall }
     ensures { Meets (view_tall tall) (in_index (view_tall of)) (view_role role.now) result }
@@ -235,7 +241,7 @@ fn in_index(alloc: Global, of: Tall, tall: Tall, role: &Role) -> Result<Met, NoM
     }
 }
 
-fn slice_to(
+pub fn slice_to(
     alloc: Global,
     of: Tall,
     from: Option<Tall>,
@@ -256,7 +262,7 @@ fn slice_to(
     }
 }
 
-fn in_paren(alloc: Global, tall: Tall, role: &Role) -> Result<Met, NoMemory>
+pub fn in_paren(alloc: Global, tall: Tall, role: &Role) -> Result<Met, NoMemory>
     requires { IsTall tall }
     ensures { Meets (view_tall tall) in_paren (view_role role.now) result }
 {
@@ -269,7 +275,7 @@ fn in_paren(alloc: Global, tall: Tall, role: &Role) -> Result<Met, NoMemory>
     }
 }
 
-fn in_key(entries: Entries, tall: Tall, role: &Role) -> Met
+pub fn in_key(entries: Entries, tall: Tall, role: &Role) -> Met
     requires entries { AreEntries entries }
     requires tall { IsTall tall }
     ensures { MeetsAs (view_tall tall) (in_key (view_entries entries)) (view_role role.now) result }
@@ -280,7 +286,7 @@ fn in_key(entries: Entries, tall: Tall, role: &Role) -> Met
     }
 }
 
-fn in_value(entries: Entries, key: Tall, tall: Tall, role: &Role) -> Result<Met, NoMemory>
+pub fn in_value(entries: Entries, key: Tall, tall: Tall, role: &Role) -> Result<Met, NoMemory>
     requires entries { AreEntries entries }
     requires key { IsTall key }
     requires tall { IsTall tall }
@@ -293,34 +299,5 @@ fn in_value(entries: Entries, key: Tall, tall: Tall, role: &Role) -> Result<Met,
             Ok(Met::Opens(Frame::PostRest, Progress::Have(dict(entries, false))))
         }
         _ => Ok(Met::Stuck),
-    }
-}
-
-/// What the innermost frame makes of an expression and the token behind it.
-pub fn meet(alloc: Global, frame: Frame, tall: Tall, role: &Role) -> Result<Met, NoMemory>
-    requires frame { KeptFrame frame }
-    requires tall { IsTall tall }
-    ensures { Meets (view_tall tall) (view_frame frame) (view_role role.now) result }
-{
-    match frame {
-        Frame::ExprsFirst => exprs_first(alloc, tall, role),
-        Frame::ExprsRest(items) => exprs_rest(items, tall, role),
-        Frame::CondFirst => Ok(cond_first(tall, role)),
-        Frame::CondTest(body) => Ok(cond_test(body, tall, role)),
-        Frame::CondElse(body, test) => cond_else(alloc, body, test, tall),
-        Frame::First(level) => Ok(operand(level, tall, role)),
-        Frame::Right(joint, left) => right(alloc, joint, left, tall, role),
-        Frame::NotOf => not_of(alloc, tall),
-        Frame::CompareFirst => compare_first(alloc, tall, role),
-        Frame::CompareRest(chain, op) => compare_rest(alloc, chain, op, tall, role),
-        Frame::UnaryOf(sign) => unary_of(alloc, sign, tall),
-        Frame::PostRest => Ok(post_rest(tall, role)),
-        Frame::InItems(opener, items) => in_items(alloc, opener, items, tall, role),
-        Frame::IndexFirst(of) => index_first(alloc, of, tall, role),
-        Frame::InIndex(of) => in_index(alloc, of, tall, role),
-        Frame::SliceTo(of, from) => slice_to(alloc, of, from, tall, role),
-        Frame::InParen => in_paren(alloc, tall, role),
-        Frame::InKey(entries) => Ok(in_key(entries, tall, role)),
-        Frame::InValue(entries, key) => in_value(entries, key, tall, role),
     }
 }

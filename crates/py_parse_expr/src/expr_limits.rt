@@ -2,8 +2,8 @@
 
 ghost use Rattle.std.specs.Prelude.{◌≡◌, ◌≤◌, ℕ, nat_le};
 ghost use Rattle.py_syntax.specs.Spelling.{HEIGHT};
-ghost use Rattle.py_parse_expr.specs.Machine.{Ctx, ItemsOpen, ItemsComma, step};
-ghost use Rattle.py_parse_expr.specs.Least.{least};
+ghost use Rattle.py_grammar.specs.Machine.{Ctx, ItemsOpen, ItemsComma, step};
+ghost use Rattle.py_grammar.specs.Least.{least};
 ghost use Rattle.py_parse_expr.specs.ExprHeld.{AreTall, KeptOpener, KeptRole, view_opener, view_role, view_row};
 ghost use Rattle.py_parse_expr.specs.ExprStacks.{view_stack, IsRoom, Kept};
 ghost use Rattle.py_parse_expr.specs.ExprTurns.{view_at, KeptAt, Turns};
@@ -11,7 +11,6 @@ ghost use Rattle.py_parse_expr.specs.ExprTurns.{view_at, KeptAt, Turns};
 use crate::expr_nodes::{Opener, Row, bound_height, higher, over};
 use crate::expr_roles::Role;
 use crate::expr_stack::{Room, Stack};
-use crate::expr_steps::act;
 use crate::expr_turns::{Progress, Turn};
 use py_value::NoMemory;
 use std::alloc::Global;
@@ -81,7 +80,7 @@ pub fn step(
     requires role { KeptRole role }
     ensures { Turns (step (view_at progress (view_stack stack.old)) (view_role role)) stack.old.limit stack.new result }
 {
-    match act(alloc, stack, progress, role)? {
+    match progress.act(alloc, stack, role)? {
         Turn::Next(next) => {
             if !has_room(&next, stack) {
                 return Ok(Turn::Deep);

@@ -5,8 +5,8 @@ ghost use Rattle.py_syntax.specs.Tree.{name, tuple, list, dict, paren, not', una
 ghost use Rattle.std.specs.Option.{option_map};
 ghost use Rattle.py_syntax.specs.Normal.{is_target, height, height_bound};
 ghost use Rattle.py_syntax.specs.View.{plain_expr, opt_of};
-ghost use Rattle.py_parse_expr.specs.Roles.{joined};
-ghost use Rattle.py_parse_expr.specs.Machine.{snoc, snoc_pair, snoc_link, made, strings_of};
+ghost use Rattle.py_grammar.specs.Roles.{joined};
+ghost use Rattle.py_grammar.specs.Machine.{snoc, snoc_pair, snoc_link, made, strings_of};
 ghost use Rattle.py_parse_expr.specs.ExprHeld.{view_joint, view_tall, view_row, view_entries, view_links, view_opener, view_bound, capped, IsTall, AreTall, AreEntries, IsChain, KeptOpener, KeptBound, KeptStrings, Makes, view_strings};
 
 use crate::expr_roles::Joint;

@@ -4,8 +4,8 @@ ghost use Rattle.std.specs.Prelude.{◌≡◌, IfOk, nat_le};
 ghost use Rattle.py_token.specs.View.{view_kind};
 ghost use Rattle.py_syntax.specs.Kinds.{bare_kind};
 ghost use Rattle.py_syntax.specs.Normal.{rank};
-ghost use Rattle.py_parse_expr.specs.Roles.{joint_level, joint_right, begins};
-ghost use Rattle.py_parse_expr.specs.Machine.{at_most, same_level, role};
+ghost use Rattle.py_grammar.specs.Roles.{joint_level, joint_right, begins};
+ghost use Rattle.py_grammar.specs.Machine.{at_most, same_level, role};
 ghost use Rattle.py_parse_expr.specs.ExprHeld.{view_level, view_joint, view_role, word_role, mark_role, plain_role};
 
 use crate::expr_nodes::Fields;
@@ -13,7 +13,7 @@ use py_token::{Keyword, Mark, TokenKind};
 use py_value::{BinOp, CmpOp, NoMemory, Text};
 
 /// The levels of the grammar, from the loosest.
-#[derive(Clone, Copy, Debug, PartialEq, Eq)]
+#[derive(Clone, Copy)]
 pub enum Level {
     Exprs,
     Expr,
@@ -28,7 +28,7 @@ pub enum Level {
 }
 
 /// An operator that joins two operands and groups to the left.
-#[derive(Clone, Copy, Debug, PartialEq, Eq)]
+#[derive(Clone, Copy)]
 pub enum Joint {
     Or,
     And,

@@ -3,13 +3,20 @@
 ghost use Rattle.std.specs.Prelude.{◌≡◌, ℕ, ◌≤◌, cond, true, false, IfOk, OnOk, nat_le};
 ghost use Rattle.py_syntax.specs.Spelling.{HEIGHT};
 ghost use Rattle.py_syntax.specs.Normal.{LPost};
-ghost use Rattle.py_parse_expr.specs.Machine.{on, Ctx, Outside, in_items, upto_exprs, upto_cond, upto_or, upto_and, upto_compare, upto_sum, upto_term, upto};
-ghost use Rattle.py_parse_expr.specs.Rooms.{under, room, postfix};
-ghost use Rattle.py_parse_expr.specs.ExprHeld.{capped, view_level, view_row, view_opener, AreTall, KeptOpener};
+ghost use Rattle.py_grammar.specs.Machine.{on, Ctx, Outside, in_items, upto_exprs, upto_cond, upto_or, upto_and, upto_compare, upto_sum, upto_term, upto};
+ghost use Rattle.py_grammar.specs.Rooms.{under, room, postfix};
+ghost use Rattle.py_parse_expr.specs.ExprHeld.{view_tall, view_role, IsTall, capped, view_level, view_row, view_opener, AreTall, KeptOpener};
 ghost use Rattle.py_parse_expr.specs.ExprStacks.{view_goal, view_frame, view_stack, KeptGoal, KeptFrame, IsRoom, Kept, Pops};
+ghost use Rattle.py_parse_expr.specs.ExprTurns.{Meets};
 
+use crate::expr_frames::{
+    compare_first, compare_rest, cond_else, cond_first, cond_test, exprs_first, exprs_rest,
+    in_index, in_items, in_key, in_paren, in_value, index_first, not_of, operand, post_rest, right,
+    slice_to, unary_of,
+};
 use crate::expr_nodes::{Chain, Entries, Opener, Row, Tall, both, bound_height, higher};
-use crate::expr_roles::{Joint, Level};
+use crate::expr_roles::{Joint, Level, Role};
+use crate::expr_turns::Met;
 use py_syntax::Sign;
 use py_value::{CmpOp, NoMemory};
 use std::alloc::Global;
@@ -25,7 +32,6 @@ pub enum Goal {
 }
 
 /// A place where a production waits for a part, with the parts in front of it.
-#[derive(Drop)]
 pub enum Frame {
     ExprsFirst,
     ExprsRest(Row),
@@ -48,9 +54,67 @@ pub enum Frame {
     InValue(Entries, Tall),
 }
 
+// Written out, and not derived, so that letting it go is one call wherever that happens.
+impl Drop for Frame {
+    fn drop(self) {
+        match self {
+            Frame::ExprsFirst => (),
+            Frame::ExprsRest(items) => drop(items),
+            Frame::CondFirst => (),
+            Frame::CondTest(body) => drop(body),
+            Frame::CondElse(body, test) => drop((body, test)),
+            Frame::First(_) => (),
+            Frame::Right(_, left) => drop(left),
+            Frame::NotOf => (),
+            Frame::CompareFirst => (),
+            Frame::CompareRest(chain, _) => drop(chain),
+            Frame::UnaryOf(_) => (),
+            Frame::PostRest => (),
+            Frame::InItems(opener, items) => drop((opener, items)),
+            Frame::IndexFirst(of) => drop(of),
+            Frame::InIndex(of) => drop(of),
+            Frame::SliceTo(of, from) => drop((of, from)),
+            Frame::InParen => (),
+            Frame::InKey(entries) => drop(entries),
+            Frame::InValue(entries, key) => drop((entries, key)),
+        }
+    }
+}
+
+impl Frame {
+    /// What the innermost frame makes of an expression and the token behind it.
+    pub fn meet(self, alloc: Global, tall: Tall, role: &Role) -> Result<Met, NoMemory>
+        requires frame { KeptFrame self }
+        requires tall { IsTall tall }
+        ensures { Meets (view_tall tall) (view_frame self) (view_role role.now) result }
+    {
+        match self {
+            Frame::ExprsFirst => exprs_first(alloc, tall, role),
+            Frame::ExprsRest(items) => exprs_rest(items, tall, role),
+            Frame::CondFirst => Ok(cond_first(tall, role)),
+            Frame::CondTest(body) => Ok(cond_test(body, tall, role)),
+            Frame::CondElse(body, test) => cond_else(alloc, body, test, tall),
+            Frame::First(level) => Ok(operand(level, tall, role)),
+            Frame::Right(joint, left) => right(alloc, joint, left, tall, role),
+            Frame::NotOf => not_of(alloc, tall),
+            Frame::CompareFirst => compare_first(alloc, tall, role),
+            Frame::CompareRest(chain, op) => compare_rest(alloc, chain, op, tall, role),
+            Frame::UnaryOf(sign) => unary_of(alloc, sign, tall),
+            Frame::PostRest => Ok(post_rest(tall, role)),
+            Frame::InItems(opener, items) => in_items(alloc, opener, items, tall, role),
+            Frame::IndexFirst(of) => index_first(alloc, of, tall, role),
+            Frame::InIndex(of) => in_index(alloc, of, tall, role),
+            Frame::SliceTo(of, from) => slice_to(alloc, of, from, tall, role),
+            Frame::InParen => in_paren(alloc, tall, role),
+            Frame::InKey(entries) => Ok(in_key(entries, tall, role)),
+            Frame::InValue(entries, key) => in_value(entries, key, tall, role),
+        }
+    }
+}
+
 /// How high a tree may be at a place: one that has the form of a target, and any other; and whether what is open can
 /// still become a target by it.
-#[derive(Clone, Copy, Debug)]
+#[derive(Clone, Copy)]
 pub struct Room {
     pub target: usize,
     pub other: usize,

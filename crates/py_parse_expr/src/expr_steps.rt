@@ -3,13 +3,13 @@
 ghost use Rattle.std.specs.Prelude.{◌≡◌};
 ghost use Rattle.py_syntax.specs.View.{plain_expr};
 ghost use Rattle.py_syntax.specs.Normal.{LExpr, LPost};
-ghost use Rattle.py_parse_expr.specs.Roles.{r_not};
-ghost use Rattle.py_parse_expr.specs.Machine.{snoc_link, target, on, in_items, post_rest, AfterOpen, Strings as StringsState, IndexOpen, SliceColon, AfterDot, Linked, Next, Have, upto, upto_term, begin, close_items, leave, give, step};
+ghost use Rattle.py_grammar.specs.Roles.{r_not};
+ghost use Rattle.py_grammar.specs.Machine.{snoc_link, target, on, in_items, post_rest, AfterOpen, Strings as StringsState, IndexOpen, SliceColon, AfterDot, Linked, Next, Have, upto, upto_term, begin, close_items, leave, give, step};
 ghost use Rattle.py_parse_expr.specs.ExprHeld.{view_level, view_role, view_tall, view_row, view_entries, view_links, view_bound, view_opener, view_strings, IsTall, AreTall, AreEntries, IsChain, KeptOpener, KeptBound, KeptRole, KeptStrings};
 ghost use Rattle.py_parse_expr.specs.ExprStacks.{view_goal, view_frame, view_stack, KeptGoal, KeptItems, KeptFrame, Kept};
 ghost use Rattle.py_parse_expr.specs.ExprTurns.{view_at, KeptAt, sign_role, close_dict, Stays, Acts};
 
-use crate::expr_frames::{closes, link, meet};
+use crate::expr_frames::{closes, link};
 use crate::expr_nodes::{
     Chain, Entries, Opener, Row, Strings, Tall, attribute, dict, made, slice, tuple,
 };
@@ -68,14 +68,14 @@ fn leave(alloc: Global, goal: Goal, tall: Tall, role: &Role) -> Result<Turn, NoM
 }
 
 /// An expression is whole as far as the stack knows.
-fn give(alloc: Global, stack: &mut Stack, tall: Tall, role: &Role) -> Result<Turn, NoMemory>
+pub fn give(alloc: Global, stack: &mut Stack, tall: Tall, role: &Role) -> Result<Turn, NoMemory>
     requires kept { Kept stack.old.limit stack.old }
     requires tall { IsTall tall }
     ensures { Acts (give (view_tall tall) (view_stack stack.old) (view_role role.now)) stack.old.limit stack.new result }
 {
     let mut tall = tall;
     'frames: while let Some(frame) = stack.pop() {
-        match meet(alloc, frame, tall, role)? {
+        match frame.meet(alloc, tall, role)? {
             Met::Next(progress) => return Ok(Turn::Next(progress)),
             Met::Opens(frame, progress) => {
                 stack.push(frame)?;
@@ -135,7 +135,7 @@ fn unary(stack: &mut Stack, level: Level, sign: Sign) -> Result<Turn, NoMemory>
 }
 
 /// An expression of that level begins.
-fn begin(alloc: Global, stack: &mut Stack, level: Level, role: Role) -> Result<Turn, NoMemory>
+pub fn begin(alloc: Global, stack: &mut Stack, level: Level, role: Role) -> Result<Turn, NoMemory>
     requires kept { Kept stack.old.limit stack.old }
     requires role { KeptRole role }
     ensures { Acts (begin (view_level level) (view_stack stack.old) (view_role role)) stack.old.limit stack.new result }
@@ -183,7 +183,7 @@ fn begin_in(
     begin(alloc, stack, level, role)
 }
 
-fn in_strings(
+pub fn in_strings(
     alloc: Global,
     stack: &mut Stack,
     strings: Strings,
@@ -204,7 +204,7 @@ fn in_strings(
     }
 }
 
-fn after_open(alloc: Global, stack: &mut Stack, role: Role) -> Result<Turn, NoMemory>
+pub fn after_open(alloc: Global, stack: &mut Stack, role: Role) -> Result<Turn, NoMemory>
     requires kept { Kept stack.old.limit stack.old }
     requires role { KeptRole role }
     ensures { Acts (step (AfterOpen (view_stack stack.old)) (view_role role)) stack.old.limit stack.new result }
@@ -218,7 +218,12 @@ fn after_open(alloc: Global, stack: &mut Stack, role: Role) -> Result<Turn, NoMe
     }
 }
 
-fn after_comma(alloc: Global, stack: &mut Stack, items: Row, role: Role) -> Result<Turn, NoMemory>
+pub fn after_comma(
+    alloc: Global,
+    stack: &mut Stack,
+    items: Row,
+    role: Role,
+) -> Result<Turn, NoMemory>
     requires kept { Kept stack.old.limit stack.old }
     requires items { KeptItems items }
     requires role { KeptRole role }
@@ -230,7 +235,12 @@ fn after_comma(alloc: Global, stack: &mut Stack, items: Row, role: Role) -> Resu
     give(alloc, stack, tuple(items, true), &role)
 }
 
-fn after_target(alloc: Global, stack: &mut Stack, items: Row, role: Role) -> Result<Turn, NoMemory>
+pub fn after_target(
+    alloc: Global,
+    stack: &mut Stack,
+    items: Row,
+    role: Role,
+) -> Result<Turn, NoMemory>
     requires kept { Kept stack.old.limit stack.old }
     requires items { KeptItems items }
     requires role { KeptRole role }
@@ -244,7 +254,7 @@ fn after_target(alloc: Global, stack: &mut Stack, items: Row, role: Role) -> Res
 }
 
 /// A bracket with items is closed, or another item begins.
-fn in_items(
+pub fn in_items(
     alloc: Global,
     stack: &mut Stack,
     opener: Opener,
@@ -273,7 +283,7 @@ fn in_items(
 }
 
 /// The bracket of a dict is closed, or another entry begins.
-fn in_dict(
+pub fn in_dict(
     alloc: Global,
     stack: &mut Stack,
     entries: Entries,
@@ -294,7 +304,7 @@ fn in_dict(
     }
 }
 
-fn index_open(alloc: Global, stack: &mut Stack, of: Tall, role: Role) -> Result<Turn, NoMemory>
+pub fn index_open(alloc: Global, stack: &mut Stack, of: Tall, role: Role) -> Result<Turn, NoMemory>
     requires kept { Kept stack.old.limit stack.old }
     requires of { IsTall of }
     requires role { KeptRole role }
@@ -306,7 +316,7 @@ fn index_open(alloc: Global, stack: &mut Stack, of: Tall, role: Role) -> Result<
     }
 }
 
-fn slice_colon(
+pub fn slice_colon(
     alloc: Global,
     stack: &mut Stack,
     of: Tall,
@@ -329,7 +339,7 @@ fn slice_colon(
     }
 }
 
-fn after_dot(alloc: Global, stack: &mut Stack, of: Tall, role: Role) -> Result<Turn, NoMemory>
+pub fn after_dot(alloc: Global, stack: &mut Stack, of: Tall, role: Role) -> Result<Turn, NoMemory>
     requires kept { Kept stack.old.limit stack.old }
     requires of { IsTall of }
     ensures { Acts (step (AfterDot (view_tall of) (view_stack stack.old)) (view_role role)) stack.old.limit stack.new result }
@@ -344,7 +354,7 @@ fn after_dot(alloc: Global, stack: &mut Stack, of: Tall, role: Role) -> Result<T
     }
 }
 
-fn after_not(stack: &mut Stack, chain: Chain, role: Role) -> Result<Turn, NoMemory>
+pub fn after_not(stack: &mut Stack, chain: Chain, role: Role) -> Result<Turn, NoMemory>
     requires kept { Kept stack.old.limit stack.old }
     requires chain { IsChain chain }
     ensures { Acts (step (view_at (Progress.AfterNot chain) (view_stack stack.old)) (view_role role)) stack.old.limit stack.new result }
@@ -367,7 +377,7 @@ fn constant(chain: Chain, op: Comparison, tall: Tall) -> Result<Turn, NoMemory>
     Ok(Turn::Next(Progress::Linked(chain.with(op, tall)?)))
 }
 
-fn after_is(chain: Chain, role: Role) -> Result<Turn, NoMemory>
+pub fn after_is(chain: Chain, role: Role) -> Result<Turn, NoMemory>
     requires { IsChain chain }
     ensures { Stays (λ k. step (view_at (Progress.AfterIs chain) k) (view_role role)) result }
 {
@@ -379,7 +389,7 @@ fn after_is(chain: Chain, role: Role) -> Result<Turn, NoMemory>
     }
 }
 
-fn after_is_not(chain: Chain, role: Role) -> Result<Turn, NoMemory>
+pub fn after_is_not(chain: Chain, role: Role) -> Result<Turn, NoMemory>
     requires { IsChain chain }
     ensures { Stays (λ k. step (view_at (Progress.AfterIsNot chain) k) (view_role role)) result }
 {
@@ -390,7 +400,7 @@ fn after_is_not(chain: Chain, role: Role) -> Result<Turn, NoMemory>
     }
 }
 
-fn linked(alloc: Global, stack: &mut Stack, chain: Chain, role: Role) -> Result<Turn, NoMemory>
+pub fn linked(alloc: Global, stack: &mut Stack, chain: Chain, role: Role) -> Result<Turn, NoMemory>
     requires kept { Kept stack.old.limit stack.old }
     requires chain { IsChain chain }
     requires role { KeptRole role }
@@ -404,40 +414,5 @@ fn linked(alloc: Global, stack: &mut Stack, chain: Chain, role: Role) -> Result<
         }
         Met::Stuck => Ok(Turn::Stuck),
         Met::Passes(tall) => give(alloc, stack, tall, &role),
-    }
-}
-
-/// What a token does, whatever its height.
-pub fn act(
-    alloc: Global,
-    stack: &mut Stack,
-    progress: Progress,
-    role: Role,
-) -> Result<Turn, NoMemory>
-    requires kept { Kept stack.old.limit stack.old }
-    requires at { KeptAt progress }
-    requires role { KeptRole role }
-    ensures { Acts (step (view_at progress (view_stack stack.old)) (view_role role)) stack.old.limit stack.new result }
-{
-    match progress {
-        Progress::Want(level) => begin(alloc, stack, level, role),
-        Progress::Have(tall) => give(alloc, stack, tall, &role),
-        Progress::Strings(strings) => in_strings(alloc, stack, strings, role),
-        Progress::AfterOpen => after_open(alloc, stack, role),
-        Progress::AfterComma(items) => after_comma(alloc, stack, items, role),
-        Progress::AfterTarget(items) => after_target(alloc, stack, items, role),
-        Progress::ItemsOpen(opener) => {
-            in_items(alloc, stack, opener, Row::new(alloc), false, role)
-        }
-        Progress::ItemsComma(opener, items) => { in_items(alloc, stack, opener, items, true, role) }
-        Progress::DictOpen => in_dict(alloc, stack, Entries::new(alloc), false, role),
-        Progress::DictComma(entries) => in_dict(alloc, stack, entries, true, role),
-        Progress::IndexOpen(of) => index_open(alloc, stack, of, role),
-        Progress::SliceColon(of, from) => slice_colon(alloc, stack, of, from, role),
-        Progress::AfterDot(of) => after_dot(alloc, stack, of, role),
-        Progress::AfterNot(chain) => after_not(stack, chain, role),
-        Progress::AfterIs(chain) => after_is(chain, role),
-        Progress::AfterIsNot(chain) => after_is_not(chain, role),
-        Progress::Linked(chain) => linked(alloc, stack, chain, role),
     }
 }

@@ -4,7 +4,7 @@ ghost use Rattle.std.specs.Prelude.{◌≡◌, IfOk};
 ghost use Rattle.py_syntax.specs.Tree.{plain, format, no_fragments};
 ghost use Rattle.py_syntax.specs.View.{plain_parts, plain_fragments};
 ghost use Rattle.py_syntax.specs.Normal.{height};
-ghost use Rattle.py_parse_expr.specs.Machine.{snoc_plain, snoc_format, strings_of};
+ghost use Rattle.py_grammar.specs.Machine.{snoc_plain, snoc_format, strings_of};
 ghost use Rattle.py_parse_expr.specs.ExprHeld.{capped, plains, view_fields, AreFields, view_strings, KeptStrings, Makes};
 
 use crate::expr_nodes::{Fields, Strings, Tall, higher, over};

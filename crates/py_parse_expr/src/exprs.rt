@@ -3,23 +3,23 @@
 ghost use Rattle.std.specs.Prelude.{◌≡◌, ◌≤◌, length};
 ghost use Rattle.py_token.specs.View.{view_kind, view_tokens};
 ghost use Rattle.py_syntax.specs.Kinds.{bare, bare_kind};
-ghost use Rattle.py_parse_expr.specs.Machine.{Outside, Want, start};
+ghost use Rattle.py_grammar.specs.Machine.{Outside, Want, start};
 ghost use Rattle.py_parse_expr.specs.ExprHeld.{view_level};
 ghost use Rattle.py_parse_expr.specs.ExprStacks.{view_goal, KeptGoal};
-ghost use Rattle.py_parse_expr.specs.ExprReads.{goal_of, FollowsMachine, IsRead, is_end};
+ghost use Rattle.py_parse_expr.specs.ExprReads.{goal_of, FollowsMachine, is_end};
 ghost use Rattle.py_parse_expr.specs.Refusal.{Parses};
 
-use crate::error::ReadError;
 use crate::expr_fields::{has_spelled_fields, turn};
 use crate::expr_roles::Level;
 use crate::expr_stack::{Goal, Stack};
 use crate::expr_turns::{Progress, Turn};
+use py_grammar::ReadError;
 use py_syntax::Expr;
 use py_token::{Token, TokenKind};
 use std::alloc::Global;
 
 /// Which expression is read.
-#[derive(Clone, Copy, Debug, PartialEq, Eq)]
+#[derive(Clone, Copy)]
 pub enum ExprPart {
     /// One or several with commas.
     Any,
@@ -69,7 +69,6 @@ pub fn read_expr(
 ) -> Result<ExprRead, ReadError>
     requires { at ≤ length tokens.now }
     ensures follows { FollowsMachine (bare (view_tokens tokens.now)) at part result }
-    ensures is_read { IsRead (bare (view_tokens tokens.now)) at part result }
 {
     let mut stack = Stack::new(alloc, HEIGHT_LIMIT, goal(part));
     let mut progress = Progress::Want(level(part));

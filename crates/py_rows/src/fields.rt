@@ -1,6 +1,6 @@
 // Which fields of f-strings are expressions, row by row.
 
-use py_parse_expr::is_spelled;
+use py_parse_expr::{ExprPart, ReadError, read_expr};
 use py_token::{TokenKind, count_lines, tokens};
 use std::alloc::Global;
 use std::test::Fail;
@@ -17,12 +17,15 @@ fn told(alloc: Global, source: &str) -> Result<&'static str, Fail> {
         return Ok("nothing");
     }
     match &tokens[0].kind {
-        TokenKind::FString(pieces) => {
-            if is_spelled(alloc, pieces)? {
-                return Ok("yes");
+        TokenKind::FString(_) => match read_expr(alloc, &tokens, 0, ExprPart::Any) {
+            Ok(read) => {
+                drop(read);
+                Ok("yes")
             }
-            Ok("no")
-        }
+            Err(ReadError::Unexpected(_)) => Ok("no"),
+            Err(ReadError::TooDeep(_)) => Ok("too deep"),
+            Err(ReadError::NoMemory) => Ok("memory"),
+        },
         _ => Ok("another token"),
     }
 }

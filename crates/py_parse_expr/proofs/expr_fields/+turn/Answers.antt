@@ -4,13 +4,13 @@ use Rattle.py_syntax.specs.Kinds.{bare_kind}
 use Rattle.py_syntax.specs.declared.expr.FormatPart.TheVariants as part_
 use Rattle.py_parse_expr.specs.declared.expr_fields.Unread.TheVariants as unread_
 use Rattle.py_parse_expr.specs.declared.expr_turns.Turn.TheVariants as turn_
-use Rattle.py_parse_expr.specs.Machine.{any, start, parts, field_expr}
+use Rattle.py_grammar.specs.Machine.{any, start, parts, field_expr}
 use Rattle.py_parse_expr.specs.ExprHeld.{view_role}
 use Rattle.py_parse_expr.specs.ExprStacks.{view_stack}
 use Rattle.py_parse_expr.specs.ExprTurns.{view_at}
-use Rattle.py_parse_expr.specs.FieldOrder.{plain_pieces}
+use Rattle.py_parse_fields.specs.Order.{plain_pieces}
 use Rattle.py_parse_expr.specs.ExprFields.{AreParts}
-use Rattle.py_parse_expr.proofs.FieldRuns.{row}
+use Rattle.py_parse_fields.proofs.Runs.{row}
 use Rattle.py_parse_expr.proofs.ExprFields.{same_limit, token_goes, quiet_goes, deep_goes, field_next, field_left, field_deep, field_over, parts_chars, parts_field, parts_end, parts_unread}
 use Rattle.py_parse_expr.proofs.expr_fields.+turn.Goals as goal
 use Rattle.py_parse_expr.proofs.expr_fields.+turn.Goals.{fields-in-Chars+in_ok-copy-in-Chars+in_ok-push-in-Chars, fields-in-Field+in_ok-tall-in-Field+in-Ok+in_ok-push-in-Ok}

@@ -1,7 +1,7 @@
 use Rattle.std.proofs.Common.{sym, subst, ap, ◌∙◌}
 use Rattle.py_syntax.specs.Tree.{Expr, Links}
 use Rattle.py_syntax.specs.View.{plain_expr}
-use Rattle.py_parse_expr.specs.Machine.{Linked, step, Out}
+use Rattle.py_grammar.specs.Machine.{Linked, step, Out}
 use Rattle.py_parse_expr.specs.ExprHeld.{view_tall, view_links, view_role}
 use Rattle.py_parse_expr.specs.ExprTurns.{Becomes}
 use Rattle.py_parse_expr.proofs.ExprFrames.{give_link}

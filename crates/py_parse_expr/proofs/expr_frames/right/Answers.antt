@@ -1,7 +1,7 @@
 use Rattle.std.proofs.Common.{sym, subst, ap, ◌∙◌}
 use Rattle.py_syntax.specs.Tree.{Expr}
-use Rattle.py_parse_expr.specs.Roles.{joined}
-use Rattle.py_parse_expr.specs.Machine.{on, first, give, Out}
+use Rattle.py_grammar.specs.Roles.{joined}
+use Rattle.py_grammar.specs.Machine.{on, first, give, Out}
 use Rattle.py_parse_expr.specs.ExprHeld.{view_level, view_joint, view_tall, view_role}
 use Rattle.py_parse_expr.specs.ExprTurns.{BecomesAs}
 use Rattle.py_parse_expr.proofs.ExprFrames.{give_right}

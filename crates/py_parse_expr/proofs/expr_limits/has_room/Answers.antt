@@ -3,12 +3,12 @@ use Rattle.py_value.specs.declared.operator.CmpOp.TheVariants.{NotIn}
 use Rattle.py_syntax.specs.declared.expr.Comparison.TheVariants.{Op, Is, IsNot}
 use Rattle.py_syntax.specs.Tree.{none, tuple, dict, compare, index, slice, attr, no_exprs, exprs, no_pairs, absent}
 use Rattle.py_syntax.specs.View.{plain_expr}
-use Rattle.py_parse_expr.specs.Machine.{snoc_link, strings_of}
-use Rattle.py_parse_expr.specs.Least.{least_name}
+use Rattle.py_grammar.specs.Machine.{snoc_link, strings_of}
+use Rattle.py_grammar.specs.Least.{least_name}
 use Rattle.py_parse_expr.specs.ExprHeld.{view_tall, view_row, view_entries, view_links, view_strings, view_bound}
 use Rattle.py_parse_expr.specs.ExprStacks.{head_of, tail_of, view_stack}
-use Rattle.py_parse_expr.proofs.Grows.{links_snoc}
-use Rattle.py_parse_expr.proofs.Rising.{strings_target}
+use Rattle.py_grammar.proofs.Grows.{links_snoc}
+use Rattle.py_grammar.proofs.Rising.{strings_target}
 use Rattle.py_parse_expr.proofs.Rooms.{chosen, items_heights, items_targets}
 use Rattle.py_parse_expr.proofs.ExprLimits.{has_tall, has_post}
 use Rattle.py_parse_expr.proofs.expr_limits.has_room.Goals as goal

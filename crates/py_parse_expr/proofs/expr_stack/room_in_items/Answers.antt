@@ -1,7 +1,7 @@
 use Rattle.std.proofs.Common.{max, false, refl, arith}
 use Rattle.py_syntax.specs.Normal.{height, heights}
-use Rattle.py_parse_expr.specs.Machine.{on, in_items, a_call}
-use Rattle.py_parse_expr.specs.Rooms.{postfix}
+use Rattle.py_grammar.specs.Machine.{on, in_items, a_call}
+use Rattle.py_grammar.specs.Rooms.{postfix}
 use Rattle.py_parse_expr.specs.ExprHeld.{view_tall, view_row}
 use Rattle.py_parse_expr.proofs.Rooms.{postfix_low, same_room, list_room}
 use Rattle.py_parse_expr.proofs.expr_stack.room_in_items.Goals as goal

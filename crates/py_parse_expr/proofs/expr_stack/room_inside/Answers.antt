@@ -1,8 +1,8 @@
 use Rattle.std.proofs.Common.{max, true, false, refl, ap, ◌∙◌, arith}
 use Rattle.py_syntax.specs.Normal.{height, height_entries, height_links, height_bound}
 use Rattle.py_syntax.specs.View.{plain_expr}
-use Rattle.py_parse_expr.specs.Machine.{on, cond_test, cond_else, right, compare_rest, index_first, in_index, slice_to, in_key, in_value}
-use Rattle.py_parse_expr.specs.Rooms.{under, room, postfix}
+use Rattle.py_grammar.specs.Machine.{on, cond_test, cond_else, right, compare_rest, index_first, in_index, slice_to, in_key, in_value}
+use Rattle.py_grammar.specs.Rooms.{under, room, postfix}
 use Rattle.py_parse_expr.specs.ExprHeld.{view_joint, view_tall, view_entries, view_links, view_bound}
 use Rattle.py_parse_expr.proofs.Rooms.{room_low, postfix_low, same_room, rest_room}
 use Rattle.py_parse_expr.proofs.expr_stack.room_inside.Goals as goal

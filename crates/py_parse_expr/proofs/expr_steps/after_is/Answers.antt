@@ -2,7 +2,7 @@ use Rattle.std.proofs.Common.{subst, ◌∙◌}
 use Rattle.py_syntax.specs.declared.expr.Comparison.TheVariants.{Is}
 use Rattle.py_syntax.specs.Tree.{Expr}
 use Rattle.py_syntax.specs.View.{plain_expr}
-use Rattle.py_parse_expr.specs.Machine.{Ctx, snoc_link, Linked, Next}
+use Rattle.py_grammar.specs.Machine.{Ctx, snoc_link, Linked, Next}
 use Rattle.py_parse_expr.specs.ExprHeld.{view_links}
 use Rattle.py_parse_expr.specs.ExprTurns.{Stays}
 use Rattle.py_parse_expr.proofs.ExprNodes.{none_is, bool_is}

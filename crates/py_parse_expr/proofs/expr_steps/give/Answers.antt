@@ -1,5 +1,5 @@
 use Rattle.std.proofs.Common.{◌≡◌, ℕ, subst, sym, ap, ◌∙◌}
-use Rattle.py_parse_expr.specs.Machine.{Ctx, Out, Next, give, leave}
+use Rattle.py_grammar.specs.Machine.{Ctx, Out, Next, give, leave}
 use Rattle.py_parse_expr.specs.ExprHeld.{view_tall, view_role}
 use Rattle.py_parse_expr.specs.ExprStacks.{view_goal, view_stack, Kept}
 use Rattle.py_parse_expr.specs.ExprTurns.{view_at, Acts}

@@ -1,5 +1,5 @@
 use Rattle.std.proofs.Common.{length}
-use Rattle.py_parse_expr.specs.Machine.{give}
+use Rattle.py_grammar.specs.Machine.{give}
 use Rattle.py_parse_expr.specs.ExprHeld.{view_tall, view_role}
 use Rattle.py_parse_expr.specs.ExprStacks.{view_stack}
 use Rattle.py_parse_expr.proofs.ExprSteps.{Giving}

@@ -1,5 +1,5 @@
 use Rattle.std.proofs.Common.{sym, ap, ◌∙◌}
-use Rattle.py_parse_expr.specs.Machine.{Left}
+use Rattle.py_grammar.specs.Machine.{Left}
 use Rattle.py_parse_expr.specs.ExprHeld.{view_tall, view_row}
 use Rattle.py_parse_expr.proofs.ExprSteps.{leave_comma, leave_other, some_more, not_false}
 use Rattle.py_parse_expr.proofs.expr_steps.leave_next.Goals as goal

@@ -1,5 +1,5 @@
 use Rattle.std.proofs.Common.{subst, sym, ap, ◌∙◌}
-use Rattle.py_parse_expr.specs.Machine.{Ctx, Out, Next}
+use Rattle.py_grammar.specs.Machine.{Ctx, Out, Next}
 use Rattle.py_parse_expr.specs.ExprStacks.{view_stack}
 use Rattle.py_parse_expr.specs.ExprTurns.{view_at, Acts}
 use Rattle.py_parse_expr.proofs.expr_steps.linked.Goals as goal

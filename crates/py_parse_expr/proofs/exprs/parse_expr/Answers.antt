@@ -1,4 +1,4 @@
-use Rattle.py_parse_expr.proofs.PatternTokens.{kinds_of_all}
+use Rattle.py_grammar.proofs.Places.{kinds_of_all}
 use Rattle.py_parse_expr.proofs.ExprWhole.{answer_other, answer_more, answer_whole, answer_refused}
 use Rattle.py_parse_expr.proofs.exprs.parse_expr.Goals as goal
 

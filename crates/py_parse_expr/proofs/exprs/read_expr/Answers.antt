@@ -1,11 +1,11 @@
 use Rattle.std.proofs.Common.{Ok, Err, sym, ap, ◌∙◌}
-use Rattle.py_parse_expr.specs.declared.error.ReadError.TheVariants as error
-use Rattle.py_parse_expr.specs.Machine.{Outside}
+use Rattle.py_grammar.specs.declared.error.ReadError.TheVariants as error
+use Rattle.py_grammar.specs.Machine.{Outside}
 use Rattle.py_parse_expr.specs.ExprReads.{goal_of}
 use Rattle.py_syntax.specs.Spelling.{HEIGHT}
-use Rattle.py_parse_expr.proofs.PatternTokens.{kinds_of_all}
+use Rattle.py_grammar.proofs.Places.{kinds_of_all}
 use Rattle.py_parse_expr.proofs.ExprFields.{same_limit}
-use Rattle.py_parse_expr.proofs.ExprReader.{starts, turn_next, turn_stuck, turn_left, turn_deep, turn_bad, over_there, reads}
+use Rattle.py_parse_expr.proofs.ExprReader.{starts, turn_next, turn_stuck, turn_left, turn_deep, turn_bad, over_there}
 use Rattle.py_parse_expr.proofs.exprs.read_expr.Goals as goal
 
 pub tokens-init : goal.tokens-init
@@ -23,29 +23,14 @@ turn-requires-clause-at c = c.tokens.invariant.going
 pub returns-in-Stuck-clause-follows : goal.returns-in-Stuck-clause-follows
 returns-in-Stuck-clause-follows c = turn_stuck (goal_of c.args.part) c.args.tokens.now c.args.at c.tokens.place c.tokens.progress c.tokens.stack c.turn.new.stack c.index-tokens-place.result c.in_ok-next.field-0 c.tokens.invariant c.tokens-test.true c.in_ok-next.ensures c.in-Stuck.is
 
-pub returns-in-Stuck-clause-is_read : goal.returns-in-Stuck-clause-is_read
-returns-in-Stuck-clause-is_read c = reads (kinds_of_all c.args.tokens.now) c.args.at c.args.part (Err (error.Unexpected c.tokens.place)) (turn_stuck (goal_of c.args.part) c.args.tokens.now c.args.at c.tokens.place c.tokens.progress c.tokens.stack c.turn.new.stack c.index-tokens-place.result c.in_ok-next.field-0 c.tokens.invariant c.tokens-test.true c.in_ok-next.ensures c.in-Stuck.is)
-
 pub returns-in-Left-clause-follows : goal.returns-in-Left-clause-follows
 returns-in-Left-clause-follows c = turn_left (goal_of c.args.part) c.args.tokens.now c.args.at c.tokens.place c.tokens.progress c.tokens.stack c.turn.new.stack c.index-tokens-place.result c.in_ok-next.field-0 c.tokens.invariant c.tokens-test.true c.in_ok-next.ensures c.in-Left.tall c.in-Left.is
-
-pub returns-in-Left-clause-is_read : goal.returns-in-Left-clause-is_read
-returns-in-Left-clause-is_read c = reads (kinds_of_all c.args.tokens.now) c.args.at c.args.part (Ok (record { expr = c.in-Left.tall.expr; next = c.tokens.place })) (turn_left (goal_of c.args.part) c.args.tokens.now c.args.at c.tokens.place c.tokens.progress c.tokens.stack c.turn.new.stack c.index-tokens-place.result c.in_ok-next.field-0 c.tokens.invariant c.tokens-test.true c.in_ok-next.ensures c.in-Left.tall c.in-Left.is)
 
 pub returns-then-branch-clause-follows : goal.returns-then-branch-clause-follows
 returns-then-branch-clause-follows c = turn_deep (goal_of c.args.part) c.args.tokens.now c.args.at c.tokens.place c.tokens.progress c.tokens.stack c.turn.new.stack c.index-tokens-place.result c.in_ok-next.field-0 c.tokens.invariant c.tokens-test.true c.in_ok-next.ensures c.in-Deep.is c.index-tokens-place-in-Deep.result (sym c.if-branch.true ∙ c.in_ok-has_spelled_fields-in-Deep.ensures)
 
-pub returns-then-branch-clause-is_read : goal.returns-then-branch-clause-is_read
-returns-then-branch-clause-is_read c = reads (kinds_of_all c.args.tokens.now) c.args.at c.args.part (Err (error.TooDeep c.tokens.place)) (turn_deep (goal_of c.args.part) c.args.tokens.now c.args.at c.tokens.place c.tokens.progress c.tokens.stack c.turn.new.stack c.index-tokens-place.result c.in_ok-next.field-0 c.tokens.invariant c.tokens-test.true c.in_ok-next.ensures c.in-Deep.is c.index-tokens-place-in-Deep.result (sym c.if-branch.true ∙ c.in_ok-has_spelled_fields-in-Deep.ensures))
-
 pub returns-in-Deep-clause-follows : goal.returns-in-Deep-clause-follows
 returns-in-Deep-clause-follows c = turn_bad (goal_of c.args.part) c.args.tokens.now c.args.at c.tokens.place c.tokens.progress c.tokens.stack c.turn.new.stack c.index-tokens-place.result c.in_ok-next.field-0 c.tokens.invariant c.tokens-test.true c.in_ok-next.ensures c.in-Deep.is c.index-tokens-place-in-Deep.result (sym c.if-branch.false ∙ c.in_ok-has_spelled_fields-in-Deep.ensures)
 
-pub returns-in-Deep-clause-is_read : goal.returns-in-Deep-clause-is_read
-returns-in-Deep-clause-is_read c = reads (kinds_of_all c.args.tokens.now) c.args.at c.args.part (Err (error.Unexpected c.tokens.place)) (turn_bad (goal_of c.args.part) c.args.tokens.now c.args.at c.tokens.place c.tokens.progress c.tokens.stack c.turn.new.stack c.index-tokens-place.result c.in_ok-next.field-0 c.tokens.invariant c.tokens-test.true c.in_ok-next.ensures c.in-Deep.is c.index-tokens-place-in-Deep.result (sym c.if-branch.false ∙ c.in_ok-has_spelled_fields-in-Deep.ensures))
-
 pub returns-clause-follows : goal.returns-clause-follows
 returns-clause-follows c = over_there (goal_of c.args.part) c.args.tokens.now c.args.at c.tokens.place c.tokens.progress c.tokens.stack c.tokens.invariant c.tokens-test.false
-
-pub returns-clause-is_read : goal.returns-clause-is_read
-returns-clause-is_read c = reads (kinds_of_all c.args.tokens.now) c.args.at c.args.part (Err (error.Unexpected c.tokens.place)) (over_there (goal_of c.args.part) c.args.tokens.now c.args.at c.tokens.place c.tokens.progress c.tokens.stack c.tokens.invariant c.tokens-test.false)

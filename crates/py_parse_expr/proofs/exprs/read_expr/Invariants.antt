@@ -1,6 +1,6 @@
 use Rattle.std.proofs.Common.{◌-◌, length}
 use Rattle.py_parse_expr.specs.ExprReads.{goal_of}
-use Rattle.py_parse_expr.proofs.PatternTokens.{kinds_of_all}
+use Rattle.py_grammar.proofs.Places.{kinds_of_all}
 use Rattle.py_parse_expr.proofs.ExprReader.{Reading}
 use Rattle.py_parse_expr.proofs.exprs.read_expr.Given as goal
 

@@ -1,6 +1,6 @@
 use Rattle.std.proofs.Common.{ap, ◌∙◌}
 use Rattle.py_syntax.specs.View.{plain_fragments}
-use Rattle.py_parse_expr.specs.Machine.{snoc_format}
+use Rattle.py_grammar.specs.Machine.{snoc_format}
 use Rattle.py_parse_expr.specs.ExprHeld.{plains, view_fields}
 use Rattle.py_parse_expr.proofs.ExprNodes.{fragments_format, a_format_is, mixed_format, first_format}
 use Rattle.py_parse_expr.proofs.expr_nodes.Strings.with_format.Goals as goal

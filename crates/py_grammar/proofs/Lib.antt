@@ -1,0 +1,26 @@
+mod Rows
+pub mod Sound
+pub mod Fine
+pub mod Keeps
+pub mod Spelled
+pub mod Passes
+pub mod Opens
+pub mod Operators
+pub mod Complete
+pub mod Enclosed
+pub mod Finish
+pub mod Finishes
+pub mod Grows
+pub mod Rising
+pub mod Exact
+pub mod Whole
+pub mod Stands
+pub mod Targets
+pub mod Alike
+pub mod AlikeSteps
+pub mod ExprTokens
+pub mod ExprLeft
+pub mod ExprStuck
+pub mod ExprExact
+pub mod ExprPlaces
+pub mod Places

@@ -1,0 +1,5 @@
+use Rattle.py_grammar.proofs.ExprPlaces.{one_expr}
+use Rattle.py_grammar.proofs.laws.one_expr.Goals as goal
+
+pub returns : goal.returns
+returns c = one_expr

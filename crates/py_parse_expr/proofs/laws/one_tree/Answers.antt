@@ -1,5 +1,0 @@
-use Rattle.py_parse_expr.proofs.Whole.{one_tree}
-use Rattle.py_parse_expr.proofs.laws.one_tree.Goals as goal
-
-pub returns : goal.returns
-returns c = record { one_expression = one_tree }

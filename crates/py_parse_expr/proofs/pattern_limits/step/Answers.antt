@@ -1,9 +1,0 @@
-use Rattle.std.proofs.Common.{arith}
-use Rattle.py_parse_expr.proofs.PatternLimits.{stays}
-use Rattle.py_syntax.specs.Kinds.{bare_kind}
-use Rattle.py_token.specs.View.{view_kind}
-use Rattle.py_parse_expr.specs.PatternHeld.{view_cue}
-use Rattle.py_parse_expr.proofs.pattern_limits.step.Goals as goal
-
-pub returns-else-height-gt-HEIGHT_LIMIT : goal.returns-else-height-gt-HEIGHT_LIMIT
-returns-else-height-gt-HEIGHT_LIMIT c = stays c.args.reader c.in-Next.next (bare_kind (view_kind c.args.kind.now)) (view_cue c.in_ok-cue_of.field-0) c.in_ok-next.field-0 c.height.result c.requires.low c.in_ok-cue_of.ensures c.in-Next.is c.in_ok-next.ensures c.height.ensures (omega arith)

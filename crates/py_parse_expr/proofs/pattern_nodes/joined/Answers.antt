@@ -1,6 +1,0 @@
-use Rattle.std.proofs.Common.{rules, ◌-◌}
-use Rattle.py_parse_expr.proofs.pattern_nodes.joined.Goals as goal
-use Rattle.py_parse_expr.proofs.PatternNodes.{makes_joined}
-
-pub returns : goal.returns
-returns c = makes_joined c.args.alternatives c.push.new.self c.args.last (search rules) c.requires.heights c.requires.height c.in_ok-push.ensures.patterns c.in_ok-push.ensures.height

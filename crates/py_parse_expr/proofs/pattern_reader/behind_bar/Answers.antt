@@ -1,5 +1,0 @@
-use Rattle.py_parse_expr.proofs.PatternReader.{bar_rows}
-use Rattle.py_parse_expr.proofs.pattern_reader.behind_bar.Goals as goal
-
-pub next-requires-clause-rows : goal.next-requires-clause-rows
-next-requires-clause-rows c = bar_rows c.args.rows c.push.new.self c.args.tall c.requires.rows c.requires.tall c.in_ok-push.ensures.patterns c.in_ok-push.ensures.height

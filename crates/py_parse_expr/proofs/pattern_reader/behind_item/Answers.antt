@@ -1,6 +1,0 @@
-use Rattle.std.proofs.Common.{rules}
-use Rattle.py_parse_expr.proofs.PatternReader.{item_rows}
-use Rattle.py_parse_expr.proofs.pattern_reader.behind_item.Goals as goal
-
-pub next-requires-clause-rows : goal.next-requires-clause-rows
-next-requires-clause-rows c = item_rows c.args.rows c.push.new.self c.new.result c.args.tall c.depth_behind-depth.result c.requires.rows c.requires.tall c.in_ok-push.ensures.patterns c.in_ok-push.ensures.height c.new.ensures.none c.new.ensures.height (search rules)

@@ -1,9 +1,0 @@
-// Laws of patterns.
-
-ghost use Rattle.py_parse_expr.specs.PatternTrees.{OnePattern};
-
-/// A list of tokens is that of at most one pattern. It does nothing when it runs.
-#[tactic(auto, using(crate::proofs::PatternExact::one_pattern))]
-pub fn one_pattern()
-    ensures { OnePattern }
-{}

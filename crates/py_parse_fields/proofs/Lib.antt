@@ -1,0 +1,4 @@
+pub mod Offers
+pub mod Roles
+pub mod Runs
+pub mod Order

@@ -1,0 +1,11 @@
+pub mod Sound
+pub mod Fine
+pub mod Least
+pub mod Finish
+pub mod Complete
+pub mod Exact
+pub mod Built
+pub mod Outside
+pub mod Turning
+pub mod Heights
+pub mod Tokens

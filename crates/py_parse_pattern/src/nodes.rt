@@ -1,0 +1,223 @@
+// Patterns with their heights.
+
+ghost use Rattle.std.specs.Prelude.{◌≡◌, ◌<◌, ◌^◌, max, true, false, IfOk, OnOk};
+ghost use Rattle.py_syntax.specs.Tree.{no_patterns, sequence, p_as};
+ghost use Rattle.py_syntax.specs.View.{plain_pattern, plain_patterns};
+ghost use Rattle.py_parse_pattern.specs.Machine.{snoc, joined, enclosed, listed, ended, is_some, named, is_underscore, brackets_of};
+ghost use Rattle.py_parse_pattern.specs.Held.{view_tall, IsTall, view_many, AreTall, Makes};
+
+use crate::cues::Bracket;
+use py_syntax::{Brackets, Pattern};
+use py_value::{NoMemory, Text};
+use std::alloc::Global;
+
+/// A pattern and its height.
+#[derive(Drop)]
+pub struct Tall {
+    pub pattern: Pattern,
+    pub height: usize,
+}
+
+/// Patterns and the greatest of their heights.
+#[derive(Drop)]
+pub struct Many {
+    pub patterns: Vec<Pattern>,
+    pub height: usize,
+}
+
+/// The greater of two numbers.
+pub fn higher(one: usize, other: usize) -> usize
+    ensures { result ≡ max one other }
+{
+    if one < other { other } else { one }
+}
+
+fn are_some(patterns: &[Pattern]) -> bool
+    ensures { result ≡ is_some (plain_patterns patterns.now) }
+{
+    !patterns.is_empty()
+}
+
+impl Many {
+    pub fn new(alloc: Global) -> Many
+        ensures none { view_many result ≡ no_patterns }
+        ensures height { result.height ≡ 0 }
+    {
+        Many {
+            patterns: Vec::new(alloc),
+            height: 0,
+        }
+    }
+
+    pub fn push(&mut self, tall: Tall) -> Result<(), NoMemory>
+        ensures patterns { OnOk result (view_many self.new ≡ snoc (view_many self.old) (view_tall tall)) }
+        ensures height { OnOk result (self.new.height ≡ max self.old.height tall.height) }
+    {
+        self.patterns.push(tall.pattern)?;
+        self.height = higher(self.height, tall.height);
+        Ok(())
+    }
+
+    pub fn is_some(&self) -> bool
+        ensures { result ≡ is_some (view_many self.now) }
+    {
+        are_some(&self.patterns)
+    }
+}
+
+/// The last of some alternatives, with those in front of it.
+pub fn joined(alternatives: Many, last: Tall) -> Result<Tall, NoMemory>
+    requires few { alternatives.height < 2 ^ 60 }
+    requires low { last.height < 2 ^ 60 }
+    requires heights { AreTall alternatives }
+    requires height { IsTall last }
+    ensures { IfOk result (Makes (joined (view_many alternatives) (view_tall last))) }
+{
+    if !alternatives.is_some() {
+        return Ok(last);
+    }
+    let mut all = alternatives;
+    all.push(last)?;
+    Ok(Tall {
+        pattern: Pattern::Or(all.patterns),
+        height: all.height + 1,
+    })
+}
+
+fn brackets_of(bracket: Bracket) -> Brackets
+    ensures { result ≡ brackets_of bracket }
+{
+    match bracket {
+        Bracket::Round => Brackets::Round,
+        Bracket::Square => Brackets::Square,
+    }
+}
+
+/// The items and a last one with no comma behind it.
+fn sequence(brackets: Brackets, items: Many, last: Tall) -> Result<Tall, NoMemory>
+    requires few { items.height < 2 ^ 60 }
+    requires low { last.height < 2 ^ 60 }
+    requires heights { AreTall items }
+    requires height { IsTall last }
+    ensures { IfOk result (Makes (sequence brackets (snoc (view_many items) (view_tall last)) false)) }
+{
+    let mut all = items;
+    all.push(last)?;
+    Ok(Tall {
+        pattern: Pattern::Sequence {
+            brackets,
+            items: all.patterns,
+            comma: false,
+        },
+        height: all.height + 1,
+    })
+}
+
+/// What brackets hold where the last item has no comma behind it.
+pub fn enclosed(alloc: Global, bracket: Bracket, items: Many, last: Tall) -> Result<Tall, NoMemory>
+    requires few { items.height < 2 ^ 60 }
+    requires low { last.height < 2 ^ 60 }
+    requires heights { AreTall items }
+    requires height { IsTall last }
+    ensures { IfOk result (Makes (enclosed bracket (view_many items) (view_tall last))) }
+{
+    match bracket {
+        Bracket::Square => sequence(Brackets::Square, items, last),
+        Bracket::Round => {
+            if !items.is_some() {
+                let height = last.height + 1;
+                return Ok(Tall {
+                    pattern: Pattern::Paren(Box::new(alloc, last.pattern)?),
+                    height,
+                });
+            }
+            sequence(Brackets::Round, items, last)
+        }
+    }
+}
+
+/// The same with no brackets.
+pub fn listed(items: Many, last: Tall) -> Result<Tall, NoMemory>
+    requires few { items.height < 2 ^ 60 }
+    requires low { last.height < 2 ^ 60 }
+    requires heights { AreTall items }
+    requires height { IsTall last }
+    ensures { IfOk result (Makes (listed (view_many items) (view_tall last))) }
+{
+    if !items.is_some() {
+        return Ok(last);
+    }
+    sequence(Brackets::Bare, items, last)
+}
+
+/// What brackets hold where each item has a comma behind it.
+pub fn ended(bracket: Bracket, items: Many) -> Tall
+    requires few { items.height < 2 ^ 60 }
+    requires heights { AreTall items }
+    ensures { Makes (ended bracket (view_many items)) result }
+{
+    let height = items.height + 1;
+    let comma = items.is_some();
+    Tall {
+        pattern: Pattern::Sequence {
+            brackets: brackets_of(bracket),
+            items: items.patterns,
+            comma,
+        },
+        height,
+    }
+}
+
+/// A list with no brackets where each item has a comma behind it.
+pub fn trailed(items: Many) -> Tall
+    requires few { items.height < 2 ^ 60 }
+    requires heights { AreTall items }
+    ensures { Makes (sequence Brackets.Bare (view_many items) true) result }
+{
+    let height = items.height + 1;
+    Tall {
+        pattern: Pattern::Sequence {
+            brackets: Brackets::Bare,
+            items: items.patterns,
+            comma: true,
+        },
+        height,
+    }
+}
+
+pub fn is_underscore(name: &Text) -> bool
+    ensures { result ≡ is_underscore name.now }
+{
+    name.as_str() == "_"
+}
+
+/// A name alone.
+pub fn named(name: Text) -> Pattern
+    ensures { plain_pattern result ≡ named name }
+{
+    if is_underscore(&name) {
+        return Pattern::Wild;
+    }
+    Pattern::Capture(name)
+}
+
+/// What has the height of a name.
+pub fn low(pattern: Pattern) -> Tall
+    ensures pattern { view_tall result ≡ plain_pattern pattern }
+    ensures height { result.height ≡ 1 }
+{
+    Tall { pattern, height: 1 }
+}
+
+/// `p as name`.
+pub fn renamed(alloc: Global, tall: Tall, name: Text) -> Result<Tall, NoMemory>
+    requires low { tall.height < 2 ^ 60 }
+    requires height { IsTall tall }
+    ensures { IfOk result (Makes (p_as (view_tall tall) name)) }
+{
+    let height = tall.height + 1;
+    Ok(Tall {
+        pattern: Pattern::As(Box::new(alloc, tall.pattern)?, name),
+        height,
+    })
+}
