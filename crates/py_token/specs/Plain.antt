@@ -43,19 +43,12 @@ first_of (token kind first last) = first
 abbrev pub last_of : PToken → ℕ
 last_of (token kind first last) = last
 
--- a list of tokens as the tokens of a field, and back
+-- a list of tokens as the tokens of a field
 abbrev pub token_row : List PToken → PTokens
 token_row [] = no_tokens
 token_row (t ∷ ts) = tokens t (token_row ts)
 
-abbrev pub token_list : PTokens → List PToken
-token_list no_tokens = []
-token_list (tokens t ts) = t ∷ token_list ts
-
+-- a list of pieces as those of an f-string
 abbrev pub piece_row : List PPiece → PPieces
 piece_row [] = no_pieces
 piece_row (p ∷ ps) = pieces p (piece_row ps)
-
-abbrev pub piece_list : PPieces → List PPiece
-piece_list no_pieces = []
-piece_list (pieces p ps) = p ∷ piece_list ps

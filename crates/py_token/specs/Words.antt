@@ -1,5 +1,6 @@
 -- Names and keywords (The Python Language Reference, "Identifiers and keywords").
 use Rattle.std.specs.Prelude.{ℕ, Bool, ◌||◌, ◌==◌, nat_eq, List, [], ◌∷◌, Option, Some, None, codes, if◌then◌else◌}
+use Rattle.std.specs.Borrow.{Bor}
 use Rattle.std.specs.Char.{is_ascii_digit, is_ascii_alphabetic}
 use Rattle.std.specs.Cmp.Lexicographic.{pointwise}
 use Rattle.py_token.specs.declared.token.Keyword.{Keyword}
@@ -33,6 +34,10 @@ keyword_table =
 abbrev pub keyword_in : List (List ℕ × Keyword) → List ℕ → Option Keyword
 keyword_in [] word = None
 keyword_in (row ∷ rows) word = if same_text word row.0 then Some row.1 else keyword_in rows word
+
+-- a row of the table as the code holds it
+abbrev pub view_row : Bor (List ℕ) × Keyword → List ℕ × Keyword
+view_row row = (row.0.now, row.1)
 
 unfoldable pub keyword_of : List ℕ → Option Keyword
 keyword_of word = keyword_in keyword_table word
