@@ -5,6 +5,7 @@ use Rattle.py_token.specs.declared.token.Keyword.{Keyword}
 use Rattle.py_token.specs.declared.token.Mark.{Mark}
 
 mutual
+  -- what a token is, with its spelling
   pub data PKind : Type 0 where
     name : (spelling : List ℕ) → PKind
     keyword : (word : Keyword) → PKind
@@ -21,6 +22,7 @@ mutual
   pub data PToken : Type 0 where
     token : (kind : PKind) (first last : ℕ) → PToken
 
+  -- the tokens of a field
   pub data PTokens : Type 0 where
     no_tokens : PTokens
     tokens : (t : PToken) (ts : PTokens) → PTokens
@@ -30,16 +32,20 @@ mutual
     chars : (characters : List ℕ) → PPiece
     field : (ts : PTokens) → PPiece
 
+  -- the pieces of an f-string
   pub data PPieces : Type 0 where
     no_pieces : PPieces
     pieces : (p : PPiece) (ps : PPieces) → PPieces
 
+-- what a token is
 abbrev pub kind_of : PToken → PKind
 kind_of (token kind first last) = kind
 
+-- the first line of a token
 abbrev pub first_of : PToken → ℕ
 first_of (token kind first last) = first
 
+-- the last line of a token
 abbrev pub last_of : PToken → ℕ
 last_of (token kind first last) = last
 
