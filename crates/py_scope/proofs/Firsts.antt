@@ -1,9 +1,9 @@
 -- The fault that comes first.
-use Rattle.std.proofs.Common.{◌≡◌, ◌<◌, ◌+◌, ◌≤◌, ◌⊎◌, inl, inr, ⊎_elim, ℕ, List, length, get_or, refl, sym, ap, ◌∙◌, subst, arith}
+use Rattle.std.proofs.Common.{◌≡◌, ◌<◌, ◌+◌, ◌⊎◌, inl, inr, ⊎_elim, ℕ, List, length, get_or, sym, ◌∙◌, subst, arith}
 use Rattle.std.specs.Prelude.{Contains}
 use Rattle.std.proofs.lemmas.Bool.{cases_eq}
 use Rattle.py_scope.specs.declared.error.ScopeError.{ScopeError}
-use Rattle.py_scope.specs.Answer.{line_of, number_of, ComesBefore}
+use Rattle.py_scope.specs.Answer.{ComesBefore}
 
 pub before-trans : (x f b : ScopeError) → ComesBefore x f → ComesBefore f b → ComesBefore x b
 before-trans x f b (inl p) (inl q) = inl (omega (arith, p, q))

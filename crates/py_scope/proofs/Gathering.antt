@@ -83,13 +83,6 @@ pub goes_on : {S L E : Type 0} (G : Gathers S L) (r : Result (Unit {0}) E) (s m 
 goes_on G (Ok u) s m n x y z h e f = h ∙ ap (λ k. G.put k y) e ∙ sym (G.joined s x y) ∙ ap (G.put s) (sym f)
 goes_on G (Err e') s m n x y z h e f = h
 
-pub stays_on : {S L E : Type 0} (G : Gathers S L) (r : Result (Unit {0}) E) (s n : S) (y z : L) → OnOk r (n ≡ G.put s y) → z ≡ y → OnOk r (n ≡ G.put s z)
-stays_on G (Ok u) s n y z h f = h ∙ ap (G.put s) (sym f)
-stays_on G (Err e) s n y z h f = h
-
-pub nothing_on : {S L : Type 0} (G : Gathers S L) (s : S) (z : L) → z ≡ G.unit → s ≡ G.put s z
-nothing_on G s z f = sym (G.none s) ∙ ap (G.put s) (sym f)
-
 -- the end of a loop over a list: nothing is left
 pub at_end : {S L X : Type 0} (G : Gathers S L) (F : List X → L) → F [] ≡ G.unit → (now was : S) (xs : List X) (i : ℕ) → length xs ≤ i → G.put now (F (drop i xs)) ≡ G.put was (F xs) → now ≡ G.put was (F xs)
 at_end G F e now was xs i le h = sym (G.none now) ∙ ap (G.put now) (sym e ∙ ap F (sym (drop_of_length-le xs le))) ∙ h

@@ -1,3 +1,4 @@
+pub mod Alternatives
 pub mod Firsts
 pub mod Gathering
 pub mod Linking

@@ -1,10 +1,10 @@
--- What is picked from the occurrences in a body is what the body assigns and declares.
+-- The occurrences in a body that bind a name are what the body binds.
 use Rattle.std.proofs.Common.{◌≡◌, ℕ, List, [], ◌∷◌, ◌++◌, Option, Some, None, option_to_list, map, refl, ap, sym, ◌∙◌, append_assoc}
 use Rattle.std.proofs.lemmas.List.{append-nil}
 use Rattle.py_syntax.specs.Tree.{Text, Expr, name, int, str, fstr, none, bool, tuple, list, dict, paren, not', and, or, unary, binary, compare, cond, call, index, slice, attr, Exprs, no_exprs, exprs, Pairs, no_pairs, pair, Links, no_links, link, OptExpr, absent, present, Fragments, no_fragments, plain, format, Parts, no_parts, text, field}
-use Rattle.py_syntax.specs.Tree.{Pattern, literal, capture, wild, member, sequence, p_or, p_as, p_paren, Patterns, no_patterns, patterns, Alias}
+use Rattle.py_syntax.specs.Tree.{Pattern, literal, capture, wild, member, sequence, p_or, p_as, p_paren, Patterns, no_patterns, patterns}
 use Rattle.py_syntax.specs.Tree.{Stmts, no_stmts, stmt, Suite, suite, OptSuite, no_suite, has_suite, Arms, no_arms, arm, Clauses, no_clauses, clause, Cases, no_cases, case, StmtKind, expr, assign, aug_assign, pass, break, continue, return, raise, assert, global, import, from, if', while, for, try, def, match}
-use Rattle.py_syntax.specs.Names.{target_names, targets_names, pattern_names, patterns_names, alias_name, assigned_names, kind_assigned, suite_assigned, opt_assigned, arms_assigned, clauses_assigned, cases_assigned, declared_names, kind_declared, suite_declared, opt_declared, arms_declared, clauses_declared, cases_declared, is_among, add_name, add_names, distinct}
+use Rattle.py_syntax.specs.Names.{target_names, targets_names, pattern_names, patterns_names, alias_name, Binding, assigns, declares, assigning_all, declaring_all, bindings, kind_bindings, suite_bindings, opt_bindings, arms_bindings, clauses_bindings, cases_bindings, assigned_in, declared_in, assigned_names, declared_names, is_among, add_name, add_names, distinct}
 use Rattle.py_scope.specs.declared.error.ScopeError.{ScopeError}
 use Rattle.py_scope.specs.declared.error.ScopeError.TheVariants.{GlobalAfterUse}
 use Rattle.py_scope.specs.declared.occurrence.Occurrence.{Occurrence}
@@ -15,309 +15,203 @@ use Rattle.py_scope.specs.Faults.{Findings, ◌&◌, in_function, names_of, late
 use Rattle.py_scope.proofs.Gathering.{the_findings, both_lists as both_findings}
 use Rattle.py_scope.specs.Seen.{Seen, after, after_one, starting}
 
-abbrev Pick : Type 0
-Pick = Occurrence → List Text
+-- the occurrences that bind a name
+abbrev bound : List Occurrence → List Binding
+bound [] = []
+bound (Uses x ∷ os) = bound os
+bound (Assigns x ∷ os) = assigns x ∷ bound os
+bound (Declares x line ∷ os) = declares x ∷ bound os
 
-abbrev picked : Pick → List Occurrence → List Text
-picked f [] = []
-picked f (o ∷ os) = f o ++ picked f os
+bound-append : (xs ys : List Occurrence) → bound (xs ++ ys) ≡ bound xs ++ bound ys
+bound-append [] ys = refl
+bound-append (Uses x ∷ xs) ys = bound-append xs ys
+bound-append (Assigns x ∷ xs) ys = ap (λ t. assigns x ∷ t) (bound-append xs ys)
+bound-append (Declares x line ∷ xs) ys = ap (λ t. declares x ∷ t) (bound-append xs ys)
 
-abbrev assigned_one : Pick
-assigned_one (Uses x) = []
-assigned_one (Assigns x) = x ∷ []
-assigned_one (Declares x line) = []
+two : (xs ys : List Occurrence) (a b : List Binding) → bound xs ≡ a → bound ys ≡ b → bound (xs ++ ys) ≡ a ++ b
+two xs ys a b h k = bound-append xs ys ∙ ap (λ t. t ++ bound ys) h ∙ ap (λ t. a ++ t) k
 
-abbrev declared_one : Pick
-declared_one (Uses x) = []
-declared_one (Assigns x) = []
-declared_one (Declares x line) = x ∷ []
-
-picked-append : (f : Pick) (xs ys : List Occurrence) → picked f (xs ++ ys) ≡ picked f xs ++ picked f ys
-picked-append f [] ys = refl
-picked-append f (x ∷ xs) ys = ap (λ t. f x ++ t) (picked-append f xs ys) ∙ sym (append_assoc (f x) (picked f xs) (picked f ys))
-
-two : (f : Pick) (xs ys : List Occurrence) (a b : List Text) → picked f xs ≡ a → picked f ys ≡ b → picked f (xs ++ ys) ≡ a ++ b
-two f xs ys a b h k = picked-append f xs ys ∙ ap (λ t. t ++ picked f ys) h ∙ ap (λ t. a ++ t) k
-
--- one of both gives nothing
-left : (f : Pick) (xs ys : List Occurrence) (a : List Text) → picked f xs ≡ a → picked f ys ≡ [] → picked f (xs ++ ys) ≡ a
-left f xs ys a h k = two f xs ys a [] h k ∙ append-nil a
-
-abbrev Silent : Pick → Type 0
-Silent f = (x : Text) → f (Uses x) ≡ []
+-- the second binds nothing
+left : (xs ys : List Occurrence) (a : List Binding) → bound xs ≡ a → bound ys ≡ [] → bound (xs ++ ys) ≡ a
+left xs ys a h k = two xs ys a [] h k ∙ append-nil a
 
 -- expressions only use names
 mutual
-  silent-expr : (f : Pick) → Silent f → (e : Expr) → picked f (in_expr e) ≡ []
-  silent-expr f h (name x) = ap (λ t. t ++ []) (h x)
-  silent-expr f h (int n) = refl
-  silent-expr f h (str ps) = refl
-  silent-expr f h (fstr fs) = silent-fragments f h fs
-  silent-expr f h none = refl
-  silent-expr f h (bool b) = refl
-  silent-expr f h (tuple es c) = silent-exprs f h es
-  silent-expr f h (list es c) = silent-exprs f h es
-  silent-expr f h (dict ps c) = silent-pairs f h ps
-  silent-expr f h (paren e) = silent-expr f h e
-  silent-expr f h (not' e) = silent-expr f h e
-  silent-expr f h (and a b) = two f _ _ [] [] (silent-expr f h a) (silent-expr f h b)
-  silent-expr f h (or a b) = two f _ _ [] [] (silent-expr f h a) (silent-expr f h b)
-  silent-expr f h (unary s e) = silent-expr f h e
-  silent-expr f h (binary op a b) = two f _ _ [] [] (silent-expr f h a) (silent-expr f h b)
-  silent-expr f h (compare a ls) = two f _ _ [] [] (silent-expr f h a) (silent-links f h ls)
-  silent-expr f h (cond b t o) = two f _ _ [] [] (silent-expr f h b) (two f _ _ [] [] (silent-expr f h t) (silent-expr f h o))
-  silent-expr f h (call g es c) = two f _ _ [] [] (silent-expr f h g) (silent-exprs f h es)
-  silent-expr f h (index a b) = two f _ _ [] [] (silent-expr f h a) (silent-expr f h b)
-  silent-expr f h (slice a b t) = two f _ _ [] [] (silent-expr f h a) (two f _ _ [] [] (silent-optional f h b) (silent-optional f h t))
-  silent-expr f h (attr a x) = silent-expr f h a
+  silent-expr : (e : Expr) → bound (in_expr e) ≡ []
+  silent-expr (name x) = refl
+  silent-expr (int n) = refl
+  silent-expr (str ps) = refl
+  silent-expr (fstr fs) = silent-fragments fs
+  silent-expr none = refl
+  silent-expr (bool b) = refl
+  silent-expr (tuple es c) = silent-exprs es
+  silent-expr (list es c) = silent-exprs es
+  silent-expr (dict ps c) = silent-pairs ps
+  silent-expr (paren e) = silent-expr e
+  silent-expr (not' e) = silent-expr e
+  silent-expr (and a b) = two (in_expr a) (in_expr b) [] [] (silent-expr a) (silent-expr b)
+  silent-expr (or a b) = two (in_expr a) (in_expr b) [] [] (silent-expr a) (silent-expr b)
+  silent-expr (unary s e) = silent-expr e
+  silent-expr (binary op a b) = two (in_expr a) (in_expr b) [] [] (silent-expr a) (silent-expr b)
+  silent-expr (compare a ls) = two (in_expr a) (in_links ls) [] [] (silent-expr a) (silent-links ls)
+  silent-expr (cond b t o) = two (in_expr b) (in_expr t ++ in_expr o) [] [] (silent-expr b) (two (in_expr t) (in_expr o) [] [] (silent-expr t) (silent-expr o))
+  silent-expr (call g es c) = two (in_expr g) (in_exprs es) [] [] (silent-expr g) (silent-exprs es)
+  silent-expr (index a b) = two (in_expr a) (in_expr b) [] [] (silent-expr a) (silent-expr b)
+  silent-expr (slice a b t) = two (in_expr a) (in_optional b ++ in_optional t) [] [] (silent-expr a) (two (in_optional b) (in_optional t) [] [] (silent-optional b) (silent-optional t))
+  silent-expr (attr a x) = silent-expr a
 
-  silent-exprs : (f : Pick) → Silent f → (es : Exprs) → picked f (in_exprs es) ≡ []
-  silent-exprs f h no_exprs = refl
-  silent-exprs f h (exprs e es) = two f _ _ [] [] (silent-expr f h e) (silent-exprs f h es)
+  silent-exprs : (es : Exprs) → bound (in_exprs es) ≡ []
+  silent-exprs no_exprs = refl
+  silent-exprs (exprs e es) = two (in_expr e) (in_exprs es) [] [] (silent-expr e) (silent-exprs es)
 
-  silent-pairs : (f : Pick) → Silent f → (ps : Pairs) → picked f (in_pairs ps) ≡ []
-  silent-pairs f h no_pairs = refl
-  silent-pairs f h (pair k v ps) = two f _ _ [] [] (silent-expr f h k) (two f _ _ [] [] (silent-expr f h v) (silent-pairs f h ps))
+  silent-pairs : (ps : Pairs) → bound (in_pairs ps) ≡ []
+  silent-pairs no_pairs = refl
+  silent-pairs (pair k v ps) = two (in_expr k) (in_expr v ++ in_pairs ps) [] [] (silent-expr k) (two (in_expr v) (in_pairs ps) [] [] (silent-expr v) (silent-pairs ps))
 
-  silent-links : (f : Pick) → Silent f → (ls : Links) → picked f (in_links ls) ≡ []
-  silent-links f h no_links = refl
-  silent-links f h (link op e ls) = two f _ _ [] [] (silent-expr f h e) (silent-links f h ls)
+  silent-links : (ls : Links) → bound (in_links ls) ≡ []
+  silent-links no_links = refl
+  silent-links (link op e ls) = two (in_expr e) (in_links ls) [] [] (silent-expr e) (silent-links ls)
 
-  silent-optional : (f : Pick) → Silent f → (o : OptExpr) → picked f (in_optional o) ≡ []
-  silent-optional f h absent = refl
-  silent-optional f h (present e) = silent-expr f h e
+  silent-optional : (o : OptExpr) → bound (in_optional o) ≡ []
+  silent-optional absent = refl
+  silent-optional (present e) = silent-expr e
 
-  silent-fragments : (f : Pick) → Silent f → (fs : Fragments) → picked f (in_fragments fs) ≡ []
-  silent-fragments f h no_fragments = refl
-  silent-fragments f h (plain x fs) = silent-fragments f h fs
-  silent-fragments f h (format ps fs) = two f _ _ [] [] (silent-parts f h ps) (silent-fragments f h fs)
+  silent-fragments : (fs : Fragments) → bound (in_fragments fs) ≡ []
+  silent-fragments no_fragments = refl
+  silent-fragments (plain x fs) = silent-fragments fs
+  silent-fragments (format ps fs) = two (in_parts ps) (in_fragments fs) [] [] (silent-parts ps) (silent-fragments fs)
 
-  silent-parts : (f : Pick) → Silent f → (ps : Parts) → picked f (in_parts ps) ≡ []
-  silent-parts f h no_parts = refl
-  silent-parts f h (text x ps) = silent-parts f h ps
-  silent-parts f h (field e ps) = two f _ _ [] [] (silent-expr f h e) (silent-parts f h ps)
+  silent-parts : (ps : Parts) → bound (in_parts ps) ≡ []
+  silent-parts no_parts = refl
+  silent-parts (text x ps) = silent-parts ps
+  silent-parts (field e ps) = two (in_expr e) (in_parts ps) [] [] (silent-expr e) (silent-parts ps)
 
-silent-option : (f : Pick) → Silent f → (o : Option Expr) → picked f (in_option o) ≡ []
-silent-option f h None = refl
-silent-option f h (Some e) = silent-expr f h e
+silent-option : (o : Option Expr) → bound (in_option o) ≡ []
+silent-option None = refl
+silent-option (Some e) = silent-expr e
 
--- ---- what is assigned
+-- ---- what is bound
 
-no_use : Silent assigned_one
-no_use x = refl
-
-mutual
-  target-assigned : (e : Expr) → picked assigned_one (in_target e) ≡ target_names e
-  target-assigned (name x) = refl
-  target-assigned (tuple es c) = targets-assigned es
-  target-assigned (list es c) = targets-assigned es
-  target-assigned (paren e) = target-assigned e
-  target-assigned (int n) = silent-expr assigned_one no_use (int n)
-  target-assigned (str ps) = silent-expr assigned_one no_use (str ps)
-  target-assigned (fstr fs) = silent-expr assigned_one no_use (fstr fs)
-  target-assigned (none) = silent-expr assigned_one no_use (none)
-  target-assigned (bool b) = silent-expr assigned_one no_use (bool b)
-  target-assigned (dict ps c) = silent-expr assigned_one no_use (dict ps c)
-  target-assigned (not' e) = silent-expr assigned_one no_use (not' e)
-  target-assigned (and a b) = silent-expr assigned_one no_use (and a b)
-  target-assigned (or a b) = silent-expr assigned_one no_use (or a b)
-  target-assigned (unary s e) = silent-expr assigned_one no_use (unary s e)
-  target-assigned (binary op a b) = silent-expr assigned_one no_use (binary op a b)
-  target-assigned (compare a ls) = silent-expr assigned_one no_use (compare a ls)
-  target-assigned (cond b t o) = silent-expr assigned_one no_use (cond b t o)
-  target-assigned (call g es c) = silent-expr assigned_one no_use (call g es c)
-  target-assigned (index a b) = silent-expr assigned_one no_use (index a b)
-  target-assigned (slice a b t) = silent-expr assigned_one no_use (slice a b t)
-  target-assigned (attr a x) = silent-expr assigned_one no_use (attr a x)
-
-  targets-assigned : (es : Exprs) → picked assigned_one (in_targets es) ≡ targets_names es
-  targets-assigned no_exprs = refl
-  targets-assigned (exprs e es) = two assigned_one (in_target e) (in_targets es) (target_names e) (targets_names es) (target-assigned e) (targets-assigned es)
+both : (xs ys : List Text) → assigning_all (xs ++ ys) ≡ assigning_all xs ++ assigning_all ys
+both [] ys = refl
+both (x ∷ xs) ys = ap (λ t. assigns x ∷ t) (both xs ys)
 
 mutual
-  pattern-assigned : (p : Pattern) → picked assigned_one (in_pattern p) ≡ pattern_names p
-  pattern-assigned (literal m c) = refl
-  pattern-assigned (capture x) = refl
-  pattern-assigned (wild) = refl
-  pattern-assigned (member m x) = refl
-  pattern-assigned (sequence b ps c) = patterns-assigned ps
-  pattern-assigned (p_or ps) = patterns-assigned ps
-  pattern-assigned (p_as p x) = two assigned_one (in_pattern p) (Assigns x ∷ []) (pattern_names p) (x ∷ []) (pattern-assigned p) (refl)
-  pattern-assigned (p_paren p) = pattern-assigned p
+  target-bound : (e : Expr) → bound (in_target e) ≡ assigning_all (target_names e)
+  target-bound (name x) = refl
+  target-bound (int n) = silent-expr (int n)
+  target-bound (str ps) = silent-expr (str ps)
+  target-bound (fstr fs) = silent-expr (fstr fs)
+  target-bound none = silent-expr none
+  target-bound (bool b) = silent-expr (bool b)
+  target-bound (tuple es c) = targets-bound es
+  target-bound (list es c) = targets-bound es
+  target-bound (dict ps c) = silent-expr (dict ps c)
+  target-bound (paren e) = target-bound e
+  target-bound (not' e) = silent-expr (not' e)
+  target-bound (and a b) = silent-expr (and a b)
+  target-bound (or a b) = silent-expr (or a b)
+  target-bound (unary s e) = silent-expr (unary s e)
+  target-bound (binary op a b) = silent-expr (binary op a b)
+  target-bound (compare a ls) = silent-expr (compare a ls)
+  target-bound (cond b t o) = silent-expr (cond b t o)
+  target-bound (call g es c) = silent-expr (call g es c)
+  target-bound (index a b) = silent-expr (index a b)
+  target-bound (slice a b t) = silent-expr (slice a b t)
+  target-bound (attr a x) = silent-expr (attr a x)
 
-  patterns-assigned : (ps : Patterns) → picked assigned_one (in_patterns ps) ≡ patterns_names ps
-  patterns-assigned no_patterns = refl
-  patterns-assigned (patterns p ps) = two assigned_one (in_pattern p) (in_patterns ps) (pattern_names p) (patterns_names ps) (pattern-assigned p) (patterns-assigned ps)
-
-assigning-assigned : (xs : List Text) → picked assigned_one (assigning xs) ≡ xs
-assigning-assigned [] = refl
-assigning-assigned (x ∷ xs) = ap (λ t. x ∷ t) (assigning-assigned xs)
-
-declaring-assigned : (line : ℕ) (xs : List Text) → picked assigned_one (declaring line xs) ≡ []
-declaring-assigned line [] = refl
-declaring-assigned line (x ∷ xs) = declaring-assigned line xs
-
-bound-assigned : (x : Option Text) → picked assigned_one (in_bound x) ≡ option_to_list x
-bound-assigned None = refl
-bound-assigned (Some x) = refl
-
-mutual
-  all-assigned : (b : Stmts) → picked assigned_one (occurrences b) ≡ assigned_names b
-  all-assigned no_stmts = refl
-  all-assigned (stmt first last k e ss) = two assigned_one (in_kind first k) (occurrences ss) (kind_assigned k) (assigned_names ss) (kind-assigned first k) (all-assigned ss)
-
-  kind-assigned : (line : ℕ) (k : StmtKind) → picked assigned_one (in_kind line k) ≡ kind_assigned k
-  kind-assigned line (expr e) = silent-expr assigned_one no_use e
-  kind-assigned line (assign ts e) = left assigned_one (in_targets ts) (in_expr e) (targets_names ts) (targets-assigned ts) (silent-expr assigned_one no_use e)
-  kind-assigned line (aug_assign t op e) = left assigned_one (in_target t) (in_expr e) (target_names t) (target-assigned t) (silent-expr assigned_one no_use e)
-  kind-assigned line (pass) = refl
-  kind-assigned line (break) = refl
-  kind-assigned line (continue) = refl
-  kind-assigned line (return e) = silent-option assigned_one no_use e
-  kind-assigned line (raise e) = silent-option assigned_one no_use e
-  kind-assigned line (assert e why) = two assigned_one (in_expr e) (in_option why) [] ([]) (silent-expr assigned_one no_use e) (silent-option assigned_one no_use why)
-  kind-assigned line (global xs) = declaring-assigned line xs
-  kind-assigned line (import names) = assigning-assigned (map alias_name names)
-  kind-assigned line (from m names) = assigning-assigned (map alias_name names)
-  kind-assigned line (if' arms o) = two assigned_one (in_arms arms) (in_opt o) (arms_assigned arms) (opt_assigned o) (arms-assigned arms) (opt-assigned o)
-  kind-assigned line (while t b o) = two assigned_one (in_expr t) ((in_suite b ++ in_opt o)) [] ((suite_assigned b ++ opt_assigned o)) (silent-expr assigned_one no_use t) (two assigned_one (in_suite b) (in_opt o) (suite_assigned b) (opt_assigned o) (suite-assigned b) (opt-assigned o))
-  kind-assigned line (for t e b o) = two assigned_one (in_target t) ((in_expr e ++ (in_suite b ++ in_opt o))) (target_names t) ((suite_assigned b ++ opt_assigned o)) (target-assigned t) (two assigned_one (in_expr e) ((in_suite b ++ in_opt o)) [] ((suite_assigned b ++ opt_assigned o)) (silent-expr assigned_one no_use e) (two assigned_one (in_suite b) (in_opt o) (suite_assigned b) (opt_assigned o) (suite-assigned b) (opt-assigned o)))
-  kind-assigned line (try b cs o g) = two assigned_one (in_suite b) ((in_clauses cs ++ (in_opt o ++ in_opt g))) (suite_assigned b) ((clauses_assigned cs ++ (opt_assigned o ++ opt_assigned g))) (suite-assigned b) (two assigned_one (in_clauses cs) ((in_opt o ++ in_opt g)) (clauses_assigned cs) ((opt_assigned o ++ opt_assigned g)) (clauses-assigned cs) (two assigned_one (in_opt o) (in_opt g) (opt_assigned o) (opt_assigned g) (opt-assigned o) (opt-assigned g)))
-  kind-assigned line (def x ps ds c b) = ap (λ t. x ∷ t) (silent-exprs assigned_one no_use ds)
-  kind-assigned line (match e last cs) = two assigned_one (in_expr e) (in_cases cs) [] (cases_assigned cs) (silent-expr assigned_one no_use e) (cases-assigned cs)
-
-  suite-assigned : (s : Suite) → picked assigned_one (in_suite s) ≡ suite_assigned s
-  suite-assigned (suite first last inline b) = all-assigned b
-
-  opt-assigned : (o : OptSuite) → picked assigned_one (in_opt o) ≡ opt_assigned o
-  opt-assigned no_suite = refl
-  opt-assigned (has_suite s) = suite-assigned s
-
-  arms-assigned : (arms : Arms) → picked assigned_one (in_arms arms) ≡ arms_assigned arms
-  arms-assigned no_arms = refl
-  arms-assigned (arm t b arms) = two assigned_one (in_expr t) ((in_suite b ++ in_arms arms)) [] ((suite_assigned b ++ arms_assigned arms)) (silent-expr assigned_one no_use t) (two assigned_one (in_suite b) (in_arms arms) (suite_assigned b) (arms_assigned arms) (suite-assigned b) (arms-assigned arms))
-
-  clauses-assigned : (cs : Clauses) → picked assigned_one (in_clauses cs) ≡ clauses_assigned cs
-  clauses-assigned no_clauses = refl
-  clauses-assigned (clause e x b cs) = two assigned_one (in_option e) ((in_bound x ++ (in_suite b ++ in_clauses cs))) [] ((option_to_list x ++ (suite_assigned b ++ clauses_assigned cs))) (silent-option assigned_one no_use e) (two assigned_one (in_bound x) ((in_suite b ++ in_clauses cs)) (option_to_list x) ((suite_assigned b ++ clauses_assigned cs)) (bound-assigned x) (two assigned_one (in_suite b) (in_clauses cs) (suite_assigned b) (clauses_assigned cs) (suite-assigned b) (clauses-assigned cs)))
-
-  cases-assigned : (cs : Cases) → picked assigned_one (in_cases cs) ≡ cases_assigned cs
-  cases-assigned no_cases = refl
-  cases-assigned (case p g b cs) = two assigned_one (in_pattern p) ((in_option g ++ (in_suite b ++ in_cases cs))) (pattern_names p) ((suite_assigned b ++ cases_assigned cs)) (pattern-assigned p) (two assigned_one (in_option g) ((in_suite b ++ in_cases cs)) [] ((suite_assigned b ++ cases_assigned cs)) (silent-option assigned_one no_use g) (two assigned_one (in_suite b) (in_cases cs) (suite_assigned b) (cases_assigned cs) (suite-assigned b) (cases-assigned cs)))
-
--- ---- what is declared
-
-nor_use : Silent declared_one
-nor_use x = refl
+  targets-bound : (es : Exprs) → bound (in_targets es) ≡ assigning_all (targets_names es)
+  targets-bound no_exprs = refl
+  targets-bound (exprs e es) = two (in_target e) (in_targets es) _ _ (target-bound e) (targets-bound es) ∙ sym (both (target_names e) (targets_names es))
 
 mutual
-  target-declared : (e : Expr) → picked declared_one (in_target e) ≡ []
-  target-declared (name x) = refl
-  target-declared (tuple es c) = targets-declared es
-  target-declared (list es c) = targets-declared es
-  target-declared (paren e) = target-declared e
-  target-declared (int n) = silent-expr declared_one nor_use (int n)
-  target-declared (str ps) = silent-expr declared_one nor_use (str ps)
-  target-declared (fstr fs) = silent-expr declared_one nor_use (fstr fs)
-  target-declared (none) = silent-expr declared_one nor_use (none)
-  target-declared (bool b) = silent-expr declared_one nor_use (bool b)
-  target-declared (dict ps c) = silent-expr declared_one nor_use (dict ps c)
-  target-declared (not' e) = silent-expr declared_one nor_use (not' e)
-  target-declared (and a b) = silent-expr declared_one nor_use (and a b)
-  target-declared (or a b) = silent-expr declared_one nor_use (or a b)
-  target-declared (unary s e) = silent-expr declared_one nor_use (unary s e)
-  target-declared (binary op a b) = silent-expr declared_one nor_use (binary op a b)
-  target-declared (compare a ls) = silent-expr declared_one nor_use (compare a ls)
-  target-declared (cond b t o) = silent-expr declared_one nor_use (cond b t o)
-  target-declared (call g es c) = silent-expr declared_one nor_use (call g es c)
-  target-declared (index a b) = silent-expr declared_one nor_use (index a b)
-  target-declared (slice a b t) = silent-expr declared_one nor_use (slice a b t)
-  target-declared (attr a x) = silent-expr declared_one nor_use (attr a x)
+  pattern-bound : (p : Pattern) → bound (in_pattern p) ≡ assigning_all (pattern_names p)
+  pattern-bound (literal m c) = refl
+  pattern-bound (capture x) = refl
+  pattern-bound wild = refl
+  pattern-bound (member m x) = refl
+  pattern-bound (sequence b ps c) = patterns-bound ps
+  pattern-bound (p_or ps) = patterns-bound ps
+  pattern-bound (p_as p x) = two (in_pattern p) (Assigns x ∷ []) _ (assigns x ∷ []) (pattern-bound p) refl ∙ sym (both (pattern_names p) (x ∷ []))
+  pattern-bound (p_paren p) = pattern-bound p
 
-  targets-declared : (es : Exprs) → picked declared_one (in_targets es) ≡ []
-  targets-declared no_exprs = refl
-  targets-declared (exprs e es) = two declared_one (in_target e) (in_targets es) [] ([]) (target-declared e) (targets-declared es)
+  patterns-bound : (ps : Patterns) → bound (in_patterns ps) ≡ assigning_all (patterns_names ps)
+  patterns-bound no_patterns = refl
+  patterns-bound (patterns p ps) = two (in_pattern p) (in_patterns ps) _ _ (pattern-bound p) (patterns-bound ps) ∙ sym (both (pattern_names p) (patterns_names ps))
 
-mutual
-  pattern-declared : (p : Pattern) → picked declared_one (in_pattern p) ≡ []
-  pattern-declared (literal m c) = refl
-  pattern-declared (capture x) = refl
-  pattern-declared (wild) = refl
-  pattern-declared (member m x) = refl
-  pattern-declared (sequence b ps c) = patterns-declared ps
-  pattern-declared (p_or ps) = patterns-declared ps
-  pattern-declared (p_as p x) = two declared_one (in_pattern p) (Assigns x ∷ []) [] ([]) (pattern-declared p) (refl)
-  pattern-declared (p_paren p) = pattern-declared p
+assigning-bound : (xs : List Text) → bound (assigning xs) ≡ assigning_all xs
+assigning-bound [] = refl
+assigning-bound (x ∷ xs) = ap (λ t. assigns x ∷ t) (assigning-bound xs)
 
-  patterns-declared : (ps : Patterns) → picked declared_one (in_patterns ps) ≡ []
-  patterns-declared no_patterns = refl
-  patterns-declared (patterns p ps) = two declared_one (in_pattern p) (in_patterns ps) [] ([]) (pattern-declared p) (patterns-declared ps)
+declaring-bound : (line : ℕ) (xs : List Text) → bound (declaring line xs) ≡ declaring_all xs
+declaring-bound line [] = refl
+declaring-bound line (x ∷ xs) = ap (λ t. declares x ∷ t) (declaring-bound line xs)
 
-assigning-declared : (xs : List Text) → picked declared_one (assigning xs) ≡ []
-assigning-declared [] = refl
-assigning-declared (x ∷ xs) = assigning-declared xs
-
-declaring-declared : (line : ℕ) (xs : List Text) → picked declared_one (declaring line xs) ≡ xs
-declaring-declared line [] = refl
-declaring-declared line (x ∷ xs) = ap (λ t. x ∷ t) (declaring-declared line xs)
-
-bound-declared : (x : Option Text) → picked declared_one (in_bound x) ≡ []
-bound-declared None = refl
-bound-declared (Some x) = refl
+name-bound : (x : Option Text) → bound (in_bound x) ≡ assigning_all (option_to_list x)
+name-bound None = refl
+name-bound (Some x) = refl
 
 mutual
-  all-declared : (b : Stmts) → picked declared_one (occurrences b) ≡ declared_names b
-  all-declared no_stmts = refl
-  all-declared (stmt first last k e ss) = two declared_one (in_kind first k) (occurrences ss) (kind_declared k) (declared_names ss) (kind-declared first k) (all-declared ss)
+  all-bound : (b : Stmts) → bound (occurrences b) ≡ bindings b
+  all-bound no_stmts = refl
+  all-bound (stmt first last k e ss) = two (in_kind first k) (occurrences ss) _ _ (kind-bound first k) (all-bound ss)
 
-  kind-declared : (line : ℕ) (k : StmtKind) → picked declared_one (in_kind line k) ≡ kind_declared k
-  kind-declared line (expr e) = silent-expr declared_one nor_use e
-  kind-declared line (assign ts e) = two declared_one (in_targets ts) (in_expr e) [] ([]) (targets-declared ts) (silent-expr declared_one nor_use e)
-  kind-declared line (aug_assign t op e) = two declared_one (in_target t) (in_expr e) [] ([]) (target-declared t) (silent-expr declared_one nor_use e)
-  kind-declared line (pass) = refl
-  kind-declared line (break) = refl
-  kind-declared line (continue) = refl
-  kind-declared line (return e) = silent-option declared_one nor_use e
-  kind-declared line (raise e) = silent-option declared_one nor_use e
-  kind-declared line (assert e why) = two declared_one (in_expr e) (in_option why) [] ([]) (silent-expr declared_one nor_use e) (silent-option declared_one nor_use why)
-  kind-declared line (global xs) = declaring-declared line xs
-  kind-declared line (import names) = assigning-declared (map alias_name names)
-  kind-declared line (from m names) = assigning-declared (map alias_name names)
-  kind-declared line (if' arms o) = two declared_one (in_arms arms) (in_opt o) (arms_declared arms) (opt_declared o) (arms-declared arms) (opt-declared o)
-  kind-declared line (while t b o) = two declared_one (in_expr t) ((in_suite b ++ in_opt o)) [] ((suite_declared b ++ opt_declared o)) (silent-expr declared_one nor_use t) (two declared_one (in_suite b) (in_opt o) (suite_declared b) (opt_declared o) (suite-declared b) (opt-declared o))
-  kind-declared line (for t e b o) = two declared_one (in_target t) ((in_expr e ++ (in_suite b ++ in_opt o))) [] ((suite_declared b ++ opt_declared o)) (target-declared t) (two declared_one (in_expr e) ((in_suite b ++ in_opt o)) [] ((suite_declared b ++ opt_declared o)) (silent-expr declared_one nor_use e) (two declared_one (in_suite b) (in_opt o) (suite_declared b) (opt_declared o) (suite-declared b) (opt-declared o)))
-  kind-declared line (try b cs o g) = two declared_one (in_suite b) ((in_clauses cs ++ (in_opt o ++ in_opt g))) (suite_declared b) ((clauses_declared cs ++ (opt_declared o ++ opt_declared g))) (suite-declared b) (two declared_one (in_clauses cs) ((in_opt o ++ in_opt g)) (clauses_declared cs) ((opt_declared o ++ opt_declared g)) (clauses-declared cs) (two declared_one (in_opt o) (in_opt g) (opt_declared o) (opt_declared g) (opt-declared o) (opt-declared g)))
-  kind-declared line (def x ps ds c b) = silent-exprs declared_one nor_use ds
-  kind-declared line (match e last cs) = two declared_one (in_expr e) (in_cases cs) [] (cases_declared cs) (silent-expr declared_one nor_use e) (cases-declared cs)
+  kind-bound : (line : ℕ) (k : StmtKind) → bound (in_kind line k) ≡ kind_bindings k
+  kind-bound line (expr e) = silent-expr e
+  kind-bound line (assign ts e) = left (in_targets ts) (in_expr e) _ (targets-bound ts) (silent-expr e)
+  kind-bound line (aug_assign t op e) = left (in_target t) (in_expr e) _ (target-bound t) (silent-expr e)
+  kind-bound line pass = refl
+  kind-bound line break = refl
+  kind-bound line continue = refl
+  kind-bound line (return e) = silent-option e
+  kind-bound line (raise e) = silent-option e
+  kind-bound line (assert e why) = two (in_expr e) (in_option why) [] [] (silent-expr e) (silent-option why)
+  kind-bound line (global xs) = declaring-bound line xs
+  kind-bound line (import names) = assigning-bound (map alias_name names)
+  kind-bound line (from m names) = assigning-bound (map alias_name names)
+  kind-bound line (if' arms o) = two (in_arms arms) (in_opt o) _ _ (arms-bound arms) (opt-bound o)
+  kind-bound line (while t b o) = two (in_expr t) (in_suite b ++ in_opt o) [] _ (silent-expr t) (two (in_suite b) (in_opt o) _ _ (suite-bound b) (opt-bound o))
+  kind-bound line (for t e b o) =
+      two (in_target t) (in_expr e ++ (in_suite b ++ in_opt o)) _ _ (target-bound t)
+      (two (in_expr e) (in_suite b ++ in_opt o) [] _ (silent-expr e) (two (in_suite b) (in_opt o) _ _ (suite-bound b) (opt-bound o)))
+  kind-bound line (try b cs o g) =
+      two (in_suite b) (in_clauses cs ++ (in_opt o ++ in_opt g)) _ _ (suite-bound b)
+      (two (in_clauses cs) (in_opt o ++ in_opt g) _ _ (clauses-bound cs) (two (in_opt o) (in_opt g) _ _ (opt-bound o) (opt-bound g)))
+  kind-bound line (def x ps ds c b) = ap (λ t. assigns x ∷ t) (silent-exprs ds)
+  kind-bound line (match e last cs) = two (in_expr e) (in_cases cs) [] _ (silent-expr e) (cases-bound cs)
 
-  suite-declared : (s : Suite) → picked declared_one (in_suite s) ≡ suite_declared s
-  suite-declared (suite first last inline b) = all-declared b
+  suite-bound : (s : Suite) → bound (in_suite s) ≡ suite_bindings s
+  suite-bound (suite first last inline b) = all-bound b
 
-  opt-declared : (o : OptSuite) → picked declared_one (in_opt o) ≡ opt_declared o
-  opt-declared no_suite = refl
-  opt-declared (has_suite s) = suite-declared s
+  opt-bound : (o : OptSuite) → bound (in_opt o) ≡ opt_bindings o
+  opt-bound no_suite = refl
+  opt-bound (has_suite s) = suite-bound s
 
-  arms-declared : (arms : Arms) → picked declared_one (in_arms arms) ≡ arms_declared arms
-  arms-declared no_arms = refl
-  arms-declared (arm t b arms) = two declared_one (in_expr t) ((in_suite b ++ in_arms arms)) [] ((suite_declared b ++ arms_declared arms)) (silent-expr declared_one nor_use t) (two declared_one (in_suite b) (in_arms arms) (suite_declared b) (arms_declared arms) (suite-declared b) (arms-declared arms))
+  arms-bound : (arms : Arms) → bound (in_arms arms) ≡ arms_bindings arms
+  arms-bound no_arms = refl
+  arms-bound (arm t b arms) = two (in_expr t) (in_suite b ++ in_arms arms) [] _ (silent-expr t) (two (in_suite b) (in_arms arms) _ _ (suite-bound b) (arms-bound arms))
 
-  clauses-declared : (cs : Clauses) → picked declared_one (in_clauses cs) ≡ clauses_declared cs
-  clauses-declared no_clauses = refl
-  clauses-declared (clause e x b cs) = two declared_one (in_option e) ((in_bound x ++ (in_suite b ++ in_clauses cs))) [] ((suite_declared b ++ clauses_declared cs)) (silent-option declared_one nor_use e) (two declared_one (in_bound x) ((in_suite b ++ in_clauses cs)) [] ((suite_declared b ++ clauses_declared cs)) (bound-declared x) (two declared_one (in_suite b) (in_clauses cs) (suite_declared b) (clauses_declared cs) (suite-declared b) (clauses-declared cs)))
+  clauses-bound : (cs : Clauses) → bound (in_clauses cs) ≡ clauses_bindings cs
+  clauses-bound no_clauses = refl
+  clauses-bound (clause e x b cs) =
+      two (in_option e) (in_bound x ++ (in_suite b ++ in_clauses cs)) [] _ (silent-option e)
+      (two (in_bound x) (in_suite b ++ in_clauses cs) _ _ (name-bound x) (two (in_suite b) (in_clauses cs) _ _ (suite-bound b) (clauses-bound cs)))
 
-  cases-declared : (cs : Cases) → picked declared_one (in_cases cs) ≡ cases_declared cs
-  cases-declared no_cases = refl
-  cases-declared (case p g b cs) = two declared_one (in_pattern p) ((in_option g ++ (in_suite b ++ in_cases cs))) [] ((suite_declared b ++ cases_declared cs)) (pattern-declared p) (two declared_one (in_option g) ((in_suite b ++ in_cases cs)) [] ((suite_declared b ++ cases_declared cs)) (silent-option declared_one nor_use g) (two declared_one (in_suite b) (in_cases cs) (suite_declared b) (cases_declared cs) (suite-declared b) (cases-declared cs)))
+  cases-bound : (cs : Cases) → bound (in_cases cs) ≡ cases_bindings cs
+  cases-bound no_cases = refl
+  cases-bound (case p g b cs) =
+      two (in_pattern p) (in_option g ++ (in_suite b ++ in_cases cs)) _ _ (pattern-bound p)
+      (two (in_option g) (in_suite b ++ in_cases cs) [] _ (silent-option g) (two (in_suite b) (in_cases cs) _ _ (suite-bound b) (cases-bound cs)))
 
 -- ---- what is gathered
 
-after-assigned : (s : Seen) (os : List Occurrence) → (after s os).assigned ≡ add_names s.assigned (picked assigned_one os)
+after-assigned : (s : Seen) (os : List Occurrence) → (after s os).assigned ≡ add_names s.assigned (assigned_in (bound os))
 after-assigned s [] = refl
 after-assigned s (Uses x ∷ os) = after-assigned (after_one s (Uses x)) os
 after-assigned s (Assigns x ∷ os) = after-assigned (after_one s (Assigns x)) os
 after-assigned s (Declares x line ∷ os) = after-assigned (after_one s (Declares x line)) os
 
-after-declared : (s : Seen) (os : List Occurrence) → (after s os).declared ≡ add_names s.declared (picked declared_one os)
+after-declared : (s : Seen) (os : List Occurrence) → (after s os).declared ≡ add_names s.declared (declared_in (bound os))
 after-declared s [] = refl
 after-declared s (Uses x ∷ os) = after-declared (after_one s (Uses x)) os
 after-declared s (Assigns x ∷ os) = after-declared (after_one s (Assigns x)) os
@@ -334,10 +228,10 @@ add_names-append a [] ys = refl
 add_names-append a (x ∷ xs) ys = add_names-append (add_name a x) xs ys
 
 assigned-is : (ps : List Text) (b : Stmts) → (after (starting ps) (occurrences b)).assigned ≡ distinct (ps ++ assigned_names b)
-assigned-is ps b = after-assigned (starting ps) (occurrences b) ∙ ap (add_names (add_names [] ps)) (all-assigned b) ∙ sym (add_names-append [] ps (assigned_names b))
+assigned-is ps b = after-assigned (starting ps) (occurrences b) ∙ ap (λ bs. add_names (add_names [] ps) (assigned_in bs)) (all-bound b) ∙ sym (add_names-append [] ps (assigned_names b))
 
 declared-is : (ps : List Text) (b : Stmts) → (after (starting ps) (occurrences b)).declared ≡ distinct (declared_names b)
-declared-is ps b = after-declared (starting ps) (occurrences b) ∙ ap (add_names []) (all-declared b)
+declared-is ps b = after-declared (starting ps) (occurrences b) ∙ ap (λ bs. add_names [] (declared_in bs)) (all-bound b)
 
 -- the faults of the declarations of a body
 pub late-is : (ps : List Text) (b : Stmts) (s : Seen) → s ≡ after (starting ps) (occurrences b) → s.late ≡ late_globals (distinct ps) (occurrences b)

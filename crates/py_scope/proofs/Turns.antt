@@ -1,5 +1,5 @@
 -- A turn over clauses and cases, where it counts whether another one follows.
-use Rattle.std.proofs.Common.{◌≡◌, ℕ, suc, lt-ltb, ◌+◌, ◌-◌, ◌<◌, Bool, true, false, nat_lt, ◌&&◌, List, [], ◌∷◌, length, drop, get_or, Option, Some, None, is_none, is_some, refl, ap, sym, ◌∙◌, length-drop, arith}
+use Rattle.std.proofs.Common.{◌≡◌, ℕ, suc, lt-ltb, ◌+◌, ◌<◌, nat_lt, ◌&&◌, List, [], ◌∷◌, length, drop, get_or, Option, Some, None, is_none, is_some, refl, ap, sym, ◌∙◌, length-drop, arith}
 use Rattle.py_syntax.specs.declared.stmt.Case.{Case, out-Case}
 use Rattle.py_syntax.specs.declared.stmt.Case as cases_
 use Rattle.py_syntax.specs.declared.stmt.Clause.{Clause, out-Clause}
@@ -9,7 +9,7 @@ use Rattle.py_syntax.specs.declared.stmt.StmtKind as kind_
 use Rattle.py_syntax.specs.declared.stmt.StmtKind.{StmtKind}
 use Rattle.py_syntax.specs.declared.stmt.Suite.{Suite, out-Suite}
 use Rattle.py_syntax.specs.declared.stmt.Suite as suites
-use Rattle.py_syntax.specs.Tree.{try, Expr, Pattern, Suite as PlainSuite, Clauses, no_clauses, clause, Cases, no_cases, case, suite, Text}
+use Rattle.py_syntax.specs.Tree.{try, Expr, Pattern, Suite as PlainSuite, Clauses, clause, Cases, case, suite, Text}
 use Rattle.py_syntax.specs.declared.expr.Expr.{Expr as Node}
 use Rattle.py_syntax.specs.View.{plain_expr, plain_pattern, plain_stmts, plain_kind, plain_suite, plain_opt_suite, plain_clauses, plain_cases}
 use Rattle.std.specs.Option.{option_map}

@@ -3,6 +3,7 @@ use Rattle.std.specs.Prelude.{◌≡◌, ◌⊎◌, ◌<◌, ℕ, List, All, Con
 use Rattle.py_scope.specs.declared.error.ScopeError.{ScopeError}
 use Rattle.py_scope.specs.declared.error.ScopeError.TheVariants.{BreakOutside, ReturnOutside, GlobalAfterUse, NestedFunction, EarlyIrrefutable, TwiceNamed, NoMemory}
 
+-- the line that is to blame
 abbrev pub line_of : ScopeError → ℕ
 line_of (BreakOutside l) = l
 line_of (ReturnOutside l) = l
@@ -12,6 +13,7 @@ line_of (EarlyIrrefutable l) = l
 line_of (TwiceNamed l) = l
 line_of NoMemory = 0
 
+-- the number of a fault
 abbrev pub number_of : ScopeError → ℕ
 number_of (BreakOutside l) = 1
 number_of (ReturnOutside l) = 2

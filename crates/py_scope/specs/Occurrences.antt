@@ -1,17 +1,26 @@
 -- The occurrences of names in a body of a module or a function, in the order of the text. The body of a function that it defines
 -- is none of it; the defaults of that function's parameters are.
+--     in_expr                    of an expression; in_exprs and the like for what stands in it
+--     in_target, in_pattern      of what is assigned to
+--     assigning, declaring       names as occurrences
+--     occurrences, in_kind       of statements; in_suite and the like for what stands in them
 use Rattle.std.specs.Prelude.{ℕ, List, [], ◌∷◌, ◌++◌, map, Option, Some, None}
 use Rattle.py_syntax.specs.Tree.{Text, Expr, name, int, str, fstr, none, bool, tuple, list, dict, paren, not', and, or, unary, binary, compare, cond, call, index, slice, attr, Exprs, no_exprs, exprs, Pairs, no_pairs, pair, Links, no_links, link, OptExpr, absent, present, Fragments, no_fragments, plain, format, Parts, no_parts, text, field}
-use Rattle.py_syntax.specs.Tree.{Pattern, literal, capture, wild, member, sequence, p_or, p_as, p_paren, Patterns, no_patterns, patterns, Alias}
+use Rattle.py_syntax.specs.Tree.{Pattern, literal, capture, wild, member, sequence, p_or, p_as, p_paren, Patterns, no_patterns, patterns}
 use Rattle.py_syntax.specs.Tree.{Stmts, no_stmts, stmt, Suite, suite, OptSuite, no_suite, has_suite, Arms, no_arms, arm, Clauses, no_clauses, clause, Cases, no_cases, case, StmtKind, expr, assign, aug_assign, pass, break, continue, return, raise, assert, global, import, from, if', while, for, try, def, match}
 use Rattle.py_syntax.specs.Names.{alias_name}
 use Rattle.py_scope.specs.declared.occurrence.Occurrence.{Occurrence}
 use Rattle.py_scope.specs.declared.occurrence.Occurrence.TheVariants.{Uses, Assigns, Declares}
 
 abbrev mutual
+  -- of an expression: each name in it is used
   pub in_expr : Expr → List Occurrence
   in_expr (name x) = Uses x ∷ []
+  in_expr (int n) = []
+  in_expr (str ps) = []
   in_expr (fstr fs) = in_fragments fs
+  in_expr none = []
+  in_expr (bool b) = []
   in_expr (tuple es c) = in_exprs es
   in_expr (list es c) = in_exprs es
   in_expr (dict ps c) = in_pairs ps
@@ -27,7 +36,6 @@ abbrev mutual
   in_expr (index a b) = in_expr a ++ in_expr b
   in_expr (slice a f t) = in_expr a ++ (in_optional f ++ in_optional t)
   in_expr (attr a x) = in_expr a
-  in_expr e = []
 
   pub in_exprs : Exprs → List Occurrence
   in_exprs no_exprs = []
@@ -55,6 +63,7 @@ abbrev mutual
   in_parts (text x ps) = in_parts ps
   in_parts (field e ps) = in_expr e ++ in_parts ps
 
+-- of an expression, where there is one
 abbrev pub in_option : Option Expr → List Occurrence
 in_option None = []
 in_option (Some e) = in_expr e
@@ -63,10 +72,26 @@ in_option (Some e) = in_expr e
 abbrev mutual
   pub in_target : Expr → List Occurrence
   in_target (name x) = Assigns x ∷ []
+  in_target (int n) = in_expr (int n)
+  in_target (str ps) = in_expr (str ps)
+  in_target (fstr fs) = in_expr (fstr fs)
+  in_target none = in_expr none
+  in_target (bool b) = in_expr (bool b)
   in_target (tuple es c) = in_targets es
   in_target (list es c) = in_targets es
+  in_target (dict ps c) = in_expr (dict ps c)
   in_target (paren e) = in_target e
-  in_target e = in_expr e
+  in_target (not' e) = in_expr (not' e)
+  in_target (and a b) = in_expr (and a b)
+  in_target (or a b) = in_expr (or a b)
+  in_target (unary s e) = in_expr (unary s e)
+  in_target (binary op a b) = in_expr (binary op a b)
+  in_target (compare a ls) = in_expr (compare a ls)
+  in_target (cond b t o) = in_expr (cond b t o)
+  in_target (call f es c) = in_expr (call f es c)
+  in_target (index a b) = in_expr (index a b)
+  in_target (slice a f t) = in_expr (slice a f t)
+  in_target (attr a x) = in_expr (attr a x)
 
   pub in_targets : Exprs → List Occurrence
   in_targets no_exprs = []
@@ -75,29 +100,34 @@ abbrev mutual
 -- of a pattern; `m.x` Uses m
 abbrev mutual
   pub in_pattern : Pattern → List Occurrence
+  in_pattern (literal minus c) = []
   in_pattern (capture x) = Assigns x ∷ []
+  in_pattern wild = []
   in_pattern (member m x) = Uses m ∷ []
   in_pattern (sequence b ps c) = in_patterns ps
   in_pattern (p_or ps) = in_patterns ps
   in_pattern (p_as p x) = in_pattern p ++ Assigns x ∷ []
   in_pattern (p_paren p) = in_pattern p
-  in_pattern p = []
 
   pub in_patterns : Patterns → List Occurrence
   in_patterns no_patterns = []
   in_patterns (patterns p ps) = in_pattern p ++ in_patterns ps
 
+-- names that are assigned
 abbrev pub assigning : List Text → List Occurrence
 assigning xs = map Assigns xs
 
+-- names that a statement on this line declares `global`
 abbrev pub declaring : ℕ → List Text → List Occurrence
 declaring line xs = map (λ x. Declares x line) xs
 
+-- of a name that a clause binds, where it does
 abbrev pub in_bound : Option Text → List Occurrence
 in_bound None = []
 in_bound (Some x) = Assigns x ∷ []
 
 abbrev mutual
+  -- of statements in a row
   pub occurrences : Stmts → List Occurrence
   occurrences no_stmts = []
   occurrences (stmt first last k e ss) = in_kind first k ++ occurrences ss

@@ -12,5 +12,6 @@ use Rattle.py_scope.specs.Faults.{Findings, ◌&◌, blame, blame_case, suite_fi
 abbrev pub clause_part : Place → Clause → Bool → Findings
 clause_part at c follows = blame (is_none (out-Clause c).kind && follows) (EarlyIrrefutable (out-Suite (out-Clause c).body).first) & suite_findings (in_clause at) (plain_suite (out-Clause c).body)
 
+-- the same of a case
 abbrev pub case_part : Place → Case → Bool → Findings
 case_part at c follows = blame_case (out-Suite (out-Case c).body).first (plain_pattern (out-Case c).pattern) (is_some (out-Case c).guard) follows & suite_findings at (plain_suite (out-Case c).body)

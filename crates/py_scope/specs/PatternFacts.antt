@@ -1,9 +1,10 @@
 -- What is told of patterns at one look.
-use Rattle.std.specs.Prelude.{Bool, true, false, ◌||◌}
+use Rattle.std.specs.Prelude.{◌||◌}
 use Rattle.py_syntax.specs.Tree.{Pattern, Patterns}
 use Rattle.py_scope.specs.declared.patterns.PatternFacts.{PatternFacts}
-use Rattle.py_scope.specs.Patterns.{is_irrefutable, has_irrefutable, is_early, has_early, some_early, binds, some_binds, alternative_binds, some_alternative_binds}
+use Rattle.py_scope.specs.Patterns.{is_irrefutable, has_irrefutable, has_early, some_early, binds, some_binds, alternative_binds, some_alternative_binds}
 
+-- of a pattern
 abbrev pub facts_of : Pattern → PatternFacts
 facts_of p = record { irrefutable = is_irrefutable p; early = has_early p; binds = binds p; alternative_binds = alternative_binds p }
 

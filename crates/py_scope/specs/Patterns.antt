@@ -1,4 +1,8 @@
 -- What a pattern may be blamed for.
+--     repeats_in, has_repeats         names that stand twice
+--     is_irrefutable, is_early, has_early     patterns that match everything, and those that stand before others
+--     binds, alternative_binds        patterns that bind a name, and those with an alternative that does
+--     is_twice_named                  patterns that bind a name twice
 use Rattle.std.specs.Prelude.{Bool, true, false, not, ◌&&◌, ◌||◌, List, [], ◌∷◌}
 use Rattle.py_syntax.specs.Tree.{Text, Pattern, literal, capture, wild, member, sequence, p_or, p_as, p_paren, Patterns, no_patterns, patterns}
 use Rattle.py_syntax.specs.Names.{is_among, add_name, pattern_names}
@@ -8,9 +12,11 @@ abbrev pub repeats_in : List Text → List Text → Bool
 repeats_in before [] = false
 repeats_in before (x ∷ xs) = is_among before x || repeats_in (add_name before x) xs
 
+-- some name stands twice in a list
 abbrev pub has_repeats : List Text → Bool
 has_repeats = repeats_in []
 
+-- no alternative follows
 abbrev pub is_last : Patterns → Bool
 is_last no_patterns = true
 is_last (patterns p ps) = false
@@ -18,12 +24,14 @@ is_last (patterns p ps) = false
 -- It matches everything: a name, `_`, one of these with `as` or in parentheses, or alternatives with an irrefutable one.
 abbrev mutual
   pub is_irrefutable : Pattern → Bool
+  is_irrefutable (literal minus c) = false
   is_irrefutable (capture x) = true
   is_irrefutable wild = true
+  is_irrefutable (member m x) = false
+  is_irrefutable (sequence b ps c) = false
   is_irrefutable (p_or ps) = has_irrefutable ps
   is_irrefutable (p_as p x) = is_irrefutable p
   is_irrefutable (p_paren p) = is_irrefutable p
-  is_irrefutable p = false
 
   pub has_irrefutable : Patterns → Bool
   has_irrefutable no_patterns = false
@@ -37,11 +45,14 @@ is_early (patterns p ps) = (is_irrefutable p && not (is_last ps)) || is_early ps
 -- Somewhere in it an irrefutable alternative stands before the last of its list.
 abbrev mutual
   pub has_early : Pattern → Bool
+  has_early (literal minus c) = false
+  has_early (capture x) = false
+  has_early wild = false
+  has_early (member m x) = false
   has_early (sequence b ps c) = some_early ps
   has_early (p_or ps) = is_early ps || some_early ps
   has_early (p_as p x) = has_early p
   has_early (p_paren p) = has_early p
-  has_early p = false
 
   pub some_early : Patterns → Bool
   some_early no_patterns = false
@@ -50,12 +61,14 @@ abbrev mutual
 -- It binds a name.
 abbrev mutual
   pub binds : Pattern → Bool
+  binds (literal minus c) = false
   binds (capture x) = true
+  binds wild = false
+  binds (member m x) = false
   binds (sequence b ps c) = some_binds ps
   binds (p_or ps) = some_binds ps
   binds (p_as p x) = true
   binds (p_paren p) = binds p
-  binds p = false
 
   pub some_binds : Patterns → Bool
   some_binds no_patterns = false
@@ -64,11 +77,14 @@ abbrev mutual
 -- Somewhere in it an alternative binds a name.
 abbrev mutual
   pub alternative_binds : Pattern → Bool
+  alternative_binds (literal minus c) = false
+  alternative_binds (capture x) = false
+  alternative_binds wild = false
+  alternative_binds (member m x) = false
   alternative_binds (sequence b ps c) = some_alternative_binds ps
   alternative_binds (p_or ps) = some_binds ps
   alternative_binds (p_as p x) = alternative_binds p
   alternative_binds (p_paren p) = alternative_binds p
-  alternative_binds p = false
 
   pub some_alternative_binds : Patterns → Bool
   some_alternative_binds no_patterns = false

@@ -8,8 +8,10 @@ pub record Names : Type 0 where
   pub assigned : List Text
   pub globals : List Text
 
+-- it assigns the name, and doesn't declare it `global`
 abbrev pub is_local : Names → Text → Bool
 is_local n x = is_among n.assigned x && not (is_among n.globals x)
 
+-- it declares the name `global`
 abbrev pub is_global : Names → Text → Bool
 is_global n x = is_among n.globals x

@@ -15,11 +15,13 @@ pub record Seen : Type 0 where
   pub declared : List Text
   pub late : List ScopeError
 
+-- with one occurrence more
 abbrev pub after_one : Seen → Occurrence → Seen
 after_one s (Uses x) = record s { used = add_name s.used x }
 after_one s (Assigns x) = record s { used = add_name s.used x; assigned = add_name s.assigned x }
 after_one s (Declares x line) = record s { declared = add_name s.declared x; late = s.late ++ fault_if (is_among s.used x) (GlobalAfterUse line) }
 
+-- with these occurrences more, in their order
 abbrev pub after : Seen → List Occurrence → Seen
 after s [] = s
 after s (o ∷ os) = after (after_one s o) os

@@ -118,8 +118,9 @@ fn fragments(out: &mut Vec<Occurrence>, items: &[Fragment]) -> Result<(), NoMemo
     ensures { OnOk result (out.new.items ≡ out.old.items ++ in_fragments (plain_fragments items.now)) }
 {
     for fragment in items {
-        if let Fragment::Format(pieces) = fragment {
-            parts(out, pieces)?;
+        match fragment {
+            Fragment::Plain(_) => (),
+            Fragment::Format(pieces) => parts(out, pieces)?,
         }
     }
     Ok(())
@@ -130,8 +131,9 @@ fn parts(out: &mut Vec<Occurrence>, items: &[FormatPart]) -> Result<(), NoMemory
     ensures { OnOk result (out.new.items ≡ out.old.items ++ in_parts (plain_parts items.now)) }
 {
     for part in items {
-        if let FormatPart::Field(e) = part {
-            expr(out, e)?;
+        match part {
+            FormatPart::Chars(_) => (),
+            FormatPart::Field(e) => expr(out, e)?,
         }
     }
     Ok(())

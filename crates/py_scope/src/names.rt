@@ -9,9 +9,16 @@ use std::alloc::Global;
 use std::marker::Model;
 
 /// Names without repeats, seen as their list in the order in which they came.
-#[derive(Drop)]
 pub struct NameSet {
     all: IndexSet<String>,
+}
+
+// Written out, and not derived, so that letting a set go is one call wherever that happens.
+impl Drop for NameSet {
+    fn drop(self) {
+        let NameSet { all } = self;
+        drop(all)
+    }
 }
 
 impl Model for NameSet {

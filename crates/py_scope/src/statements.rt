@@ -17,10 +17,34 @@ fn target(out: &mut Vec<Occurrence>, e: &Expr) -> Result<(), NoMemory>
 {
     match e {
         Expr::Name(x) => push_assigned(out, x),
+        Expr::Int(_) | Expr::Str(_) | Expr::FStr(_) | Expr::None | Expr::Bool(_) => expr(out, e),
         Expr::Tuple { items, comma: _ } => targets(out, items),
         Expr::List { items, comma: _ } => targets(out, items),
+        Expr::Dict { items: _, comma: _ } => expr(out, e),
         Expr::Paren(inner) => target(out, inner),
-        _ => expr(out, e),
+        Expr::Not(_)
+        | Expr::And(_, _)
+        | Expr::Or(_, _)
+        | Expr::Unary(_, _)
+        | Expr::Binary(_, _, _)
+        | Expr::Compare(_, _)
+        | Expr::Cond {
+            body: _,
+            test: _,
+            orelse: _,
+        }
+        | Expr::Call {
+            callee: _,
+            args: _,
+            comma: _,
+        }
+        | Expr::Index(_, _)
+        | Expr::Slice {
+            of: _,
+            from: _,
+            to: _,
+        }
+        | Expr::Attr(_, _) => expr(out, e),
     }
 }
 

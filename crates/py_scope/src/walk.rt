@@ -43,6 +43,17 @@ fn statement(
     ensures { OnOk result (report.new ≡ report.old & kind_findings at line (plain_kind kind.now)) }
 {
     match kind {
+        StmtKind::Expr(_)
+        | StmtKind::Assign {
+            targets: _,
+            value: _,
+        }
+        | StmtKind::AugAssign {
+            place: _,
+            op: _,
+            value: _,
+        }
+        | StmtKind::Pass => Ok(()),
         StmtKind::Break => report.blame(!at.looped, ScopeError::BreakOutside(line)),
         StmtKind::Continue => report.blame(!at.looped, ScopeError::BreakOutside(line)),
         StmtKind::Return(_) => report.blame(!at.function, ScopeError::ReturnOutside(line)),
@@ -50,6 +61,8 @@ fn statement(
             e.is_none() && !at.handled,
             ScopeError::ReturnOutside(line),
         ),
+        StmtKind::Assert(_, _) | StmtKind::Global(_) | StmtKind::Import(_) | StmtKind::From(_, _) =>
+            Ok(()),
         StmtKind::If {
             arms: tests,
             orelse,
@@ -100,7 +113,6 @@ fn statement(
             header_last: _,
             cases: list,
         } => cases(alloc, report, at, list),
-        _ => Ok(()),
     }
 }
 

@@ -14,6 +14,7 @@ abbrev pub put : List Kind → List Marked → List Marked
 put [] rest = rest
 put (k ∷ ks) rest = record { kind = k; header = false } ∷ put ks rest
 
+-- the tokens without the marks
 abbrev pub kinds_marked : List Marked → List Kind
 kinds_marked [] = []
 kinds_marked (m ∷ ms) = m.kind ∷ kinds_marked ms
@@ -22,15 +23,18 @@ kinds_marked (m ∷ ms) = m.kind ∷ kinds_marked ms
 abbrev pub match_name : Text
 match_name = 109 ∷ 97 ∷ 116 ∷ 99 ∷ 104 ∷ []
 
+-- whether two names are the same
 abbrev same_text : Text → Text → Bool
 same_text [] [] = true
 same_text (c ∷ cs) (d ∷ ds) = nat_eq c d && same_text cs ds
 same_text cs ds = false
 
+-- whether a token is the name `match`
 abbrev pub is_match : Kind → Bool
 is_match (Name x) = same_text x match_name
 is_match k = false
 
+-- whether a token is a colon
 abbrev pub is_colon : Kind → Bool
 is_colon (Sign mark.Colon) = true
 is_colon k = false
@@ -59,5 +63,6 @@ abbrev pub marked_from : Bool → List Kind → List Marked
 marked_from begins [] = []
 marked_from begins (k ∷ ks) = record { kind = k; header = begins && (is_match k && is_header ks) } ∷ marked_from (ends_line k) ks
 
+-- the tokens of a source, with the headers among its logical lines
 abbrev pub marked : List Kind → List Marked
 marked = marked_from true

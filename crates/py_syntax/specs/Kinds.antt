@@ -7,6 +7,7 @@ use Rattle.py_token.specs.Plain.{PKind, PToken, PTokens, PPiece, PPieces}
 use Rattle.py_syntax.specs.Tree.{Text}
 
 mutual
+  -- what a token is, with its spelling
   pub data Kind : Type 0 where
     Name : (x : Text) → Kind
     Word : (w : Keyword) → Kind
@@ -25,10 +26,12 @@ mutual
     chars_piece : (x : Text) (rest : Pieces) → Pieces
     field_piece : (ks : Kinds) (rest : Pieces) → Pieces
 
+  -- the tokens of a field
   pub data Kinds : Type 0 where
     no_kinds : Kinds
     kinds : (k : Kind) (ks : Kinds) → Kinds
 
+-- a list of kinds as those of a field
 abbrev pub kinds_of : List Kind → Kinds
 kinds_of [] = no_kinds
 kinds_of (k ∷ ks) = kinds k (kinds_of ks)

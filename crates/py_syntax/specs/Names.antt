@@ -1,11 +1,20 @@
 -- The names that a body of a module or a function assigns, and those that it declares `global`. The body of a function that it
 -- defines is none of it. (Python Language Reference, "Naming and binding")
-use Rattle.std.specs.Prelude.{ℕ, Bool, not, ◌&&◌, if◌then◌else◌, List, [], ◌∷◌, ◌++◌, map, filter, bytes_eq, unwrap_or, option_to_list}
+--     is_among, add_name, distinct           lists of names
+--     target_names, pattern_names            what a target and a pattern assign
+--     alias_name                             what an import assigns
+--     Binding, bindings, kind_bindings       what statements bind; suite_bindings and the like for what stands in them
+--     assigned_names, declared_names         what statements assign, and what they declare `global`
+--     local_names, global_names, is_local    the names of a function
+use Rattle.std.specs.Prelude.{Bool, not, ◌&&◌, if◌then◌else◌, List, [], ◌∷◌, ◌++◌, map, filter, bytes_eq, unwrap_or, option_to_list}
 use Rattle.std.specs.List.{list_any}
-use Rattle.py_syntax.specs.Tree.{Text, Expr, name, tuple, list, paren, Exprs, no_exprs, exprs, Alias, Pattern, capture, sequence, p_or, p_as, p_paren, Patterns, no_patterns, patterns, Stmts, no_stmts, stmt, Suite, suite, OptSuite, no_suite, has_suite, Arms, no_arms, arm, Clauses, no_clauses, clause, Cases, no_cases, case, StmtKind, assign, aug_assign, global, import, from, if', while, for, try, def, match}
+use Rattle.py_syntax.specs.Tree.{Text, Expr, name, int, str, fstr, none, bool, tuple, list, dict, paren, not', and, or, unary, binary, compare, cond, call, index, slice, attr, Exprs, no_exprs, exprs}
+use Rattle.py_syntax.specs.Tree.{Alias, Pattern, literal, capture, wild, member, sequence, p_or, p_as, p_paren, Patterns, no_patterns, patterns}
+use Rattle.py_syntax.specs.Tree.{Stmts, no_stmts, stmt, Suite, suite, OptSuite, no_suite, has_suite, Arms, no_arms, arm, Clauses, no_clauses, clause, Cases, no_cases, case, StmtKind, expr, assign, aug_assign, pass, break, continue, return, raise, assert, global, import, from, if', while, for, try, def, match}
 
 -- ---- names
 
+-- whether a name stands in a list
 abbrev pub is_among : List Text → Text → Bool
 is_among xs x = list_any (bytes_eq x) xs
 
@@ -13,10 +22,12 @@ is_among xs x = list_any (bytes_eq x) xs
 abbrev pub add_name : List Text → Text → List Text
 add_name xs x = if is_among xs x then xs else (xs ++ x ∷ [])
 
+-- names that are met already, and then those of a list
 abbrev pub add_names : List Text → List Text → List Text
 add_names xs [] = xs
 add_names xs (y ∷ ys) = add_names (add_name xs y) ys
 
+-- the names of a list, each once
 abbrev pub distinct : List Text → List Text
 distinct = add_names []
 
@@ -26,10 +37,26 @@ distinct = add_names []
 abbrev mutual
   pub target_names : Expr → List Text
   target_names (name x) = x ∷ []
+  target_names (int n) = []
+  target_names (str ps) = []
+  target_names (fstr fs) = []
+  target_names none = []
+  target_names (bool b) = []
   target_names (tuple es c) = targets_names es
   target_names (list es c) = targets_names es
+  target_names (dict ps c) = []
   target_names (paren e) = target_names e
-  target_names e = []
+  target_names (not' e) = []
+  target_names (and a b) = []
+  target_names (or a b) = []
+  target_names (unary s e) = []
+  target_names (binary op a b) = []
+  target_names (compare a ls) = []
+  target_names (cond b t o) = []
+  target_names (call f es c) = []
+  target_names (index f e) = []
+  target_names (slice f low high) = []
+  target_names (attr f x) = []
 
   pub targets_names : Exprs → List Text
   targets_names no_exprs = []
@@ -38,12 +65,14 @@ abbrev mutual
 -- a pattern
 abbrev mutual
   pub pattern_names : Pattern → List Text
+  pattern_names (literal minus c) = []
   pattern_names (capture x) = x ∷ []
+  pattern_names wild = []
+  pattern_names (member m x) = []
   pattern_names (sequence b ps c) = patterns_names ps
   pattern_names (p_or ps) = patterns_names ps
   pattern_names (p_as p x) = pattern_names p ++ x ∷ []
   pattern_names (p_paren p) = pattern_names p
-  pattern_names p = []
 
   pub patterns_names : Patterns → List Text
   patterns_names no_patterns = []
@@ -53,79 +82,86 @@ abbrev mutual
 abbrev pub alias_name : Alias → Text
 alias_name i = unwrap_or i.bound i.name
 
--- ---- the names that statements assign, in the order of the text, as often as they do
+-- ---- the names that statements bind, in the order of the text, as often as they do
+
+-- a name that is assigned, or declared `global`
+pub data Binding : Type 0 where
+  assigns : (x : Text) → Binding
+  declares : (x : Text) → Binding
+
+-- names that are assigned
+abbrev pub assigning_all : List Text → List Binding
+assigning_all = map assigns
+
+-- names that are declared `global`
+abbrev pub declaring_all : List Text → List Binding
+declaring_all = map declares
 
 abbrev mutual
-  pub assigned_names : Stmts → List Text
-  assigned_names no_stmts = []
-  assigned_names (stmt first last k e ss) = kind_assigned k ++ assigned_names ss
+  -- statements in a row
+  pub bindings : Stmts → List Binding
+  bindings no_stmts = []
+  bindings (stmt first last k e ss) = kind_bindings k ++ bindings ss
 
-  pub kind_assigned : StmtKind → List Text
-  kind_assigned (assign ts e) = targets_names ts
-  kind_assigned (aug_assign place op e) = target_names place
-  kind_assigned (import names) = map alias_name names
-  kind_assigned (from m names) = map alias_name names
-  kind_assigned (if' arms o) = arms_assigned arms ++ opt_assigned o
-  kind_assigned (while t b o) = suite_assigned b ++ opt_assigned o
-  kind_assigned (for t e b o) = target_names t ++ (suite_assigned b ++ opt_assigned o)
-  kind_assigned (try b cs o f) = suite_assigned b ++ (clauses_assigned cs ++ (opt_assigned o ++ opt_assigned f))
-  kind_assigned (def x ps ds c b) = x ∷ []
-  kind_assigned (match e last cs) = cases_assigned cs
-  kind_assigned k = []
+  -- a statement
+  pub kind_bindings : StmtKind → List Binding
+  kind_bindings (expr e) = []
+  kind_bindings (assign ts e) = assigning_all (targets_names ts)
+  kind_bindings (aug_assign place op e) = assigning_all (target_names place)
+  kind_bindings pass = []
+  kind_bindings break = []
+  kind_bindings continue = []
+  kind_bindings (return e) = []
+  kind_bindings (raise e) = []
+  kind_bindings (assert e w) = []
+  kind_bindings (global xs) = declaring_all xs
+  kind_bindings (import names) = assigning_all (map alias_name names)
+  kind_bindings (from m names) = assigning_all (map alias_name names)
+  kind_bindings (if' arms o) = arms_bindings arms ++ opt_bindings o
+  kind_bindings (while t b o) = suite_bindings b ++ opt_bindings o
+  kind_bindings (for t e b o) = assigning_all (target_names t) ++ (suite_bindings b ++ opt_bindings o)
+  kind_bindings (try b cs o f) = suite_bindings b ++ (clauses_bindings cs ++ (opt_bindings o ++ opt_bindings f))
+  kind_bindings (def x ps ds c b) = assigns x ∷ []
+  kind_bindings (match e last cs) = cases_bindings cs
 
-  pub suite_assigned : Suite → List Text
-  suite_assigned (suite first last inline b) = assigned_names b
+  pub suite_bindings : Suite → List Binding
+  suite_bindings (suite first last inline b) = bindings b
 
-  pub opt_assigned : OptSuite → List Text
-  opt_assigned no_suite = []
-  opt_assigned (has_suite s) = suite_assigned s
+  pub opt_bindings : OptSuite → List Binding
+  opt_bindings no_suite = []
+  opt_bindings (has_suite s) = suite_bindings s
 
-  pub arms_assigned : Arms → List Text
-  arms_assigned no_arms = []
-  arms_assigned (arm t b arms) = suite_assigned b ++ arms_assigned arms
+  pub arms_bindings : Arms → List Binding
+  arms_bindings no_arms = []
+  arms_bindings (arm t b arms) = suite_bindings b ++ arms_bindings arms
 
-  pub clauses_assigned : Clauses → List Text
-  clauses_assigned no_clauses = []
-  clauses_assigned (clause e x b cs) = option_to_list x ++ (suite_assigned b ++ clauses_assigned cs)
+  pub clauses_bindings : Clauses → List Binding
+  clauses_bindings no_clauses = []
+  clauses_bindings (clause e x b cs) = assigning_all (option_to_list x) ++ (suite_bindings b ++ clauses_bindings cs)
 
-  pub cases_assigned : Cases → List Text
-  cases_assigned no_cases = []
-  cases_assigned (case p g b cs) = pattern_names p ++ (suite_assigned b ++ cases_assigned cs)
+  pub cases_bindings : Cases → List Binding
+  cases_bindings no_cases = []
+  cases_bindings (case p g b cs) = assigning_all (pattern_names p) ++ (suite_bindings b ++ cases_bindings cs)
 
--- ---- the names that statements declare `global`, in the order of the text, as often as they do
+-- those that are assigned
+abbrev pub assigned_in : List Binding → List Text
+assigned_in [] = []
+assigned_in (assigns x ∷ bs) = x ∷ assigned_in bs
+assigned_in (declares x ∷ bs) = assigned_in bs
 
-abbrev mutual
-  pub declared_names : Stmts → List Text
-  declared_names no_stmts = []
-  declared_names (stmt first last k e ss) = kind_declared k ++ declared_names ss
+-- those that are declared `global`
+abbrev pub declared_in : List Binding → List Text
+declared_in [] = []
+declared_in (assigns x ∷ bs) = declared_in bs
+declared_in (declares x ∷ bs) = x ∷ declared_in bs
 
-  pub kind_declared : StmtKind → List Text
-  kind_declared (global xs) = xs
-  kind_declared (if' arms o) = arms_declared arms ++ opt_declared o
-  kind_declared (while t b o) = suite_declared b ++ opt_declared o
-  kind_declared (for t e b o) = suite_declared b ++ opt_declared o
-  kind_declared (try b cs o f) = suite_declared b ++ (clauses_declared cs ++ (opt_declared o ++ opt_declared f))
-  kind_declared (match e last cs) = cases_declared cs
-  kind_declared k = []
+-- the names that statements assign
+abbrev pub assigned_names : Stmts → List Text
+assigned_names b = assigned_in (bindings b)
 
-  pub suite_declared : Suite → List Text
-  suite_declared (suite first last inline b) = declared_names b
-
-  pub opt_declared : OptSuite → List Text
-  opt_declared no_suite = []
-  opt_declared (has_suite s) = suite_declared s
-
-  pub arms_declared : Arms → List Text
-  arms_declared no_arms = []
-  arms_declared (arm t b arms) = suite_declared b ++ arms_declared arms
-
-  pub clauses_declared : Clauses → List Text
-  clauses_declared no_clauses = []
-  clauses_declared (clause e x b cs) = suite_declared b ++ clauses_declared cs
-
-  pub cases_declared : Cases → List Text
-  cases_declared no_cases = []
-  cases_declared (case p g b cs) = suite_declared b ++ cases_declared cs
+-- the names that statements declare `global`
+abbrev pub declared_names : Stmts → List Text
+declared_names b = declared_in (bindings b)
 
 -- ---- the names of a function with these parameters and this body
 
@@ -138,5 +174,6 @@ local_names params b = filter (λ x. not (is_among (declared_names b) x)) (disti
 abbrev pub global_names : Stmts → List Text
 global_names b = distinct (declared_names b)
 
+-- whether a name is local in it
 abbrev pub is_local : List Text → Stmts → Text → Bool
 is_local params b x = is_among (params ++ assigned_names b) x && not (is_among (declared_names b) x)

@@ -1,4 +1,11 @@
 -- Normal expressions and patterns: the trees that the grammar spells, each in one way. And their heights.
+--     Level, rank, op_level, right_level, level     the levels of the grammar, and those of operators and expressions
+--     At, IsConstant, Compared, HasFormat           what may stand in a place
+--     Normal                                        an expression that the grammar spells; NormalItems and the like for what stands in it
+--     is_target, is_place                           the forms that can be assigned to
+--     height                                        how high an expression is
+--     pattern_rank, NormalConstant, NormalPattern   the same for patterns
+--     pattern_height                                how high a pattern is
 use Rattle.std.specs.Prelude.{◌≡◌, ◌≢◌, ℕ, suc, ◌≤◌, max, Bool, true, false, ◌&&◌, List, [], ◌∷◌}
 use Rattle.py_value.specs.declared.operator.BinOp.{BinOp}
 use Rattle.py_value.specs.declared.operator.BinOp.TheVariants as op_
@@ -6,7 +13,7 @@ use Rattle.py_syntax.specs.declared.expr.Comparison.{Comparison}
 use Rattle.py_syntax.specs.declared.expr.Comparison.TheVariants.{Op, Is, IsNot}
 use Rattle.py_syntax.specs.declared.pattern.Brackets.TheVariants.{Round, Square, Bare}
 use Rattle.py_syntax.specs.Tree.{Text, Expr, name, int, str, fstr, none, bool, tuple, list, dict, paren, not', and, or, unary, binary, compare, cond, call, index, slice, attr, Exprs, no_exprs, exprs, Pairs, no_pairs, pair, Links, no_links, link, OptExpr, absent, present, Fragments, no_fragments, plain, format, Parts, no_parts, text, field}
-use Rattle.py_syntax.specs.Tree.{Constant, c_int, c_str, Pattern, literal, capture, wild, member, sequence, p_or, p_as, p_paren, Patterns, no_patterns, patterns}
+use Rattle.py_syntax.specs.Tree.{Constant, c_int, c_str, c_none, c_bool, Pattern, literal, capture, wild, member, sequence, p_or, p_as, p_paren, Patterns, no_patterns, patterns}
 use Rattle.py_syntax.specs.Tokens.{underscore}
 
 -- The levels of the grammar, from the loosest. LEnd is that of a token that goes on with no expression.
@@ -23,6 +30,7 @@ pub data Level : Type 0 where
   LUnary : Level
   LPost : Level
 
+-- the levels in their order
 abbrev pub rank : Level → ℕ
 rank LEnd = 0
 rank LExprs = 1
@@ -36,6 +44,7 @@ rank LTerm = 8
 rank LUnary = 9
 rank LPost = 10
 
+-- the level of an operator, which is that of its left operand
 abbrev pub op_level : BinOp → Level
 op_level op_.Add = LSum
 op_level op_.Sub = LSum
@@ -51,16 +60,30 @@ right_level op_.Mul = LUnary
 right_level op_.Floor = LUnary
 right_level op_.Mod = LUnary
 
+-- the level of an expression; `()` is an atom
 abbrev pub level : Expr → Level
+level (name x) = LPost
+level (int n) = LPost
+level (str ps) = LPost
+level (fstr fs) = LPost
+level none = LPost
+level (bool b) = LPost
+level (tuple no_exprs c) = LPost
 level (tuple (exprs e es) c) = LExprs
-level (cond b t o) = LExpr
-level (or a b) = LOr
-level (and a b) = LAnd
+level (list es c) = LPost
+level (dict ps c) = LPost
+level (paren e) = LPost
 level (not' e) = LNot
-level (compare a ls) = LCmp
-level (binary op a b) = op_level op
+level (and a b) = LAnd
+level (or a b) = LOr
 level (unary s e) = LUnary
-level e = LPost
+level (binary op a b) = op_level op
+level (compare a ls) = LCmp
+level (cond b t o) = LExpr
+level (call f es c) = LPost
+level (index f e) = LPost
+level (slice f from to) = LPost
+level (attr f x) = LPost
 
 -- an expression stands in a place of the grammar that takes this level and tighter ones
 abbrev pub At : Level → Expr → Type 0
@@ -68,9 +91,27 @@ At l e = rank l ≤ rank (level e)
 
 -- what may stand behind `is`
 abbrev pub IsConstant : Expr → Type 0
+IsConstant (name x) = ⊥
+IsConstant (int n) = ⊥
+IsConstant (str ps) = ⊥
+IsConstant (fstr fs) = ⊥
 IsConstant none = Unit {0}
 IsConstant (bool b) = Unit {0}
-IsConstant e = ⊥
+IsConstant (tuple es c) = ⊥
+IsConstant (list es c) = ⊥
+IsConstant (dict ps c) = ⊥
+IsConstant (paren e) = ⊥
+IsConstant (not' e) = ⊥
+IsConstant (and a b) = ⊥
+IsConstant (or a b) = ⊥
+IsConstant (unary s e) = ⊥
+IsConstant (binary op a b) = ⊥
+IsConstant (compare a ls) = ⊥
+IsConstant (cond b t o) = ⊥
+IsConstant (call f es c) = ⊥
+IsConstant (index f e) = ⊥
+IsConstant (slice f from to) = ⊥
+IsConstant (attr f x) = ⊥
 
 -- the right operand of a comparison
 abbrev pub Compared : Comparison → Expr → Type 0
@@ -84,11 +125,13 @@ HasFormat no_fragments = ⊥
 HasFormat (plain x fs) = HasFormat fs
 HasFormat (format ps fs) = Unit {0}
 
+-- a list that isn't empty
 abbrev pub IsSomething : List Text → Type 0
 IsSomething [] = ⊥
 IsSomething (x ∷ xs) = Unit {0}
 
 abbrev mutual
+  -- an expression
   pub Normal : Expr → Type 0
   Normal (name x) = Unit {0}
   Normal (int n) = Unit {0}
@@ -115,6 +158,7 @@ abbrev mutual
   Normal (slice f from to) = At LPost f × Normal f × NormalBound from × NormalBound to
   Normal (attr f x) = At LPost f × Normal f
 
+  -- the comparisons behind the first
   pub NormalLinks : Links → Type 0
   NormalLinks no_links = Unit {0}
   NormalLinks (link op e ls) = Compared op e × Normal e × NormalLinks ls
@@ -124,22 +168,27 @@ abbrev mutual
   NormalItems no_exprs c = c ≡ false
   NormalItems (exprs e es) c = At LExpr e × Normal e × Each es
 
+  -- items, each a tight one
   pub Each : Exprs → Type 0
   Each no_exprs = Unit {0}
   Each (exprs e es) = At LExpr e × Normal e × Each es
 
+  -- entries of a dict display: no comma without an entry
   pub NormalEntries : Pairs → Bool → Type 0
   NormalEntries no_pairs c = c ≡ false
   NormalEntries (pair k v ps) c = At LExpr k × Normal k × At LExpr v × Normal v × EachEntry ps
 
+  -- keys and values, each a tight one
   pub EachEntry : Pairs → Type 0
   EachEntry no_pairs = Unit {0}
   EachEntry (pair k v ps) = At LExpr k × Normal k × At LExpr v × Normal v × EachEntry ps
 
+  -- a bound of a slice
   pub NormalBound : OptExpr → Type 0
   NormalBound absent = Unit {0}
   NormalBound (present e) = At LExpr e × Normal e
 
+  -- neighbouring strings
   pub NormalFragments : Fragments → Type 0
   NormalFragments no_fragments = Unit {0}
   NormalFragments (plain x fs) = NormalFragments fs
@@ -155,11 +204,26 @@ abbrev mutual
 abbrev mutual
   pub is_target : Expr → Bool
   is_target (name x) = true
-  is_target (index f e) = true
-  is_target (paren e) = is_target e
+  is_target (int n) = false
+  is_target (str ps) = false
+  is_target (fstr fs) = false
+  is_target none = false
+  is_target (bool b) = false
   is_target (tuple es c) = are_targets es
   is_target (list es c) = are_targets es
-  is_target e = false
+  is_target (dict ps c) = false
+  is_target (paren e) = is_target e
+  is_target (not' e) = false
+  is_target (and a b) = false
+  is_target (or a b) = false
+  is_target (unary s e) = false
+  is_target (binary op a b) = false
+  is_target (compare a ls) = false
+  is_target (cond b t o) = false
+  is_target (call f es c) = false
+  is_target (index f e) = true
+  is_target (slice f from to) = false
+  is_target (attr f x) = false
 
   pub are_targets : Exprs → Bool
   are_targets no_exprs = true
@@ -168,8 +232,26 @@ abbrev mutual
 -- whether it has the form of the place of an augmented assignment
 abbrev pub is_place : Expr → Bool
 is_place (name x) = true
+is_place (int n) = false
+is_place (str ps) = false
+is_place (fstr fs) = false
+is_place none = false
+is_place (bool b) = false
+is_place (tuple es c) = false
+is_place (list es c) = false
+is_place (dict ps c) = false
+is_place (paren e) = false
+is_place (not' e) = false
+is_place (and a b) = false
+is_place (or a b) = false
+is_place (unary s e) = false
+is_place (binary op a b) = false
+is_place (compare a ls) = false
+is_place (cond b t o) = false
+is_place (call f es c) = false
 is_place (index f e) = true
-is_place e = false
+is_place (slice f from to) = false
+is_place (attr f x) = false
 
 -- How many nodes the longest branch has.
 abbrev mutual
@@ -224,17 +306,26 @@ abbrev mutual
 
 -- The levels of patterns: a list with commas, one pattern with its `as`, alternatives, a closed pattern.
 abbrev pub pattern_rank : Pattern → ℕ
+pattern_rank (literal minus c) = 3
+pattern_rank (capture x) = 3
+pattern_rank wild = 3
+pattern_rank (member m x) = 3
+pattern_rank (sequence Round ps c) = 3
+pattern_rank (sequence Square ps c) = 3
 pattern_rank (sequence Bare ps c) = 0
-pattern_rank (p_as p x) = 1
 pattern_rank (p_or ps) = 2
-pattern_rank p = 3
+pattern_rank (p_as p x) = 1
+pattern_rank (p_paren p) = 3
 
+-- a literal; a minus stands before a number alone
 abbrev pub NormalConstant : Bool → Constant → Type 0
 NormalConstant minus (c_int n) = Unit {0}
 NormalConstant minus (c_str ps) = IsSomething ps × (minus ≡ false)
-NormalConstant minus c = minus ≡ false
+NormalConstant minus c_none = minus ≡ false
+NormalConstant minus (c_bool b) = minus ≡ false
 
 abbrev mutual
+  -- a pattern
   pub NormalPattern : Pattern → Type 0
   NormalPattern (literal minus c) = NormalConstant minus c
   NormalPattern (capture x) = x ≢ underscore
@@ -254,17 +345,21 @@ abbrev mutual
   NormalPattern (p_as p x) = (2 ≤ pattern_rank p) × NormalPattern p × (x ≢ underscore)
   NormalPattern (p_paren p) = (1 ≤ pattern_rank p) × NormalPattern p
 
+  -- patterns, each of this level or a tighter one
   pub EachPattern : ℕ → Patterns → Type 0
   EachPattern l no_patterns = Unit {0}
   EachPattern l (patterns p ps) = (l ≤ pattern_rank p) × NormalPattern p × EachPattern l ps
 
 abbrev mutual
   pub pattern_height : Pattern → ℕ
+  pattern_height (literal minus c) = 1
+  pattern_height (capture x) = 1
+  pattern_height wild = 1
+  pattern_height (member m x) = 1
   pattern_height (sequence b ps c) = suc (pattern_heights ps)
   pattern_height (p_or ps) = suc (pattern_heights ps)
   pattern_height (p_as p x) = suc (pattern_height p)
   pattern_height (p_paren p) = suc (pattern_height p)
-  pattern_height p = 1
 
   pub pattern_heights : Patterns → ℕ
   pattern_heights no_patterns = 0

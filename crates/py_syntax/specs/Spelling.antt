@@ -1,11 +1,17 @@
 -- Which tree a list of tokens spells, lines included, and which prefixes begin one.
+--     first_line, last_line                     the lines of tokens
+--     test_head .. behind                       headers, and what stands behind one
+--     KeepsLines, KindLines                     the lines that a tree keeps; SuiteLines and the like for what stands in it
+--     module_tokens, IsNormal, Spells           the tokens of a module, a normal one, and the tree that a list spells
+--     HEIGHT, NESTING                           the limits
+--     IsViable, IsViableWithin, StopsAt         the prefixes that begin a tree, and where a list stops
 use Rattle.std.specs.Prelude.{◌≡◌, ℕ, ◌+◌, ◌≤◌, ◌<◌, true, false, List, [], ◌∷◌, ◌++◌, length, take, drop}
 use Rattle.py_token.specs.declared.token.Keyword.{Keyword}
 use Rattle.py_token.specs.declared.token.Keyword.TheVariants as word
 use Rattle.py_token.specs.declared.token.Mark.TheVariants as mark
 use Rattle.py_token.specs.Plain.{PToken, first_of, last_of}
 use Rattle.py_syntax.specs.Tree.{Expr}
-use Rattle.py_syntax.specs.Tree.{Stmts, no_stmts, stmt, Suite, suite, OptSuite, no_suite, has_suite, Arms, no_arms, arm, Clauses, no_clauses, clause, Cases, no_cases, case, StmtKind, if', while, for, try, def, match}
+use Rattle.py_syntax.specs.Tree.{Stmts, no_stmts, stmt, Suite, suite, OptSuite, no_suite, has_suite, Arms, no_arms, arm, Clauses, no_clauses, clause, Cases, no_cases, case, StmtKind, expr, assign, aug_assign, pass, break, continue, return, raise, assert, global, import, from, if', while, for, try, def, match}
 use Rattle.py_syntax.specs.Kinds.{Kind, Name, Word, Sign, Newline, Indent, End, bare}
 use Rattle.py_syntax.specs.Tokens.{tokens, pattern_tokens}
 use Rattle.py_syntax.specs.Headers.{Marked, put, kinds_marked, marked, match_name}
@@ -22,12 +28,15 @@ last_line [] = 0
 last_line (t ∷ []) = last_of t
 last_line (t ∷ u ∷ ts) = last_line (u ∷ ts)
 
+-- a header of this word and a test
 abbrev pub test_head : Keyword → Expr → List Kind
 test_head w t = Word w ∷ tokens t (Sign mark.Colon ∷ [])
 
+-- the header of a `for`
 abbrev pub for_head : Expr → Expr → List Kind
 for_head t e = Word word.For ∷ tokens t (Word word.In ∷ tokens e (Sign mark.Colon ∷ []))
 
+-- a header of one word
 abbrev pub word_head : Keyword → List Kind
 word_head w = Word w ∷ Sign mark.Colon ∷ []
 
@@ -41,13 +50,27 @@ behind head s ts = drop (length head + length (suite_tokens s [])) ts
 
 -- The lines that the nodes keep are those of their first and last tokens in the list, which begins with theirs.
 abbrev mutual
+  -- statements in a row
   pub KeepsLines : Stmts → List PToken → Type 0
   KeepsLines no_stmts ts = Unit {0}
   KeepsLines (stmt first last k e ss) ts =
       (first ≡ first_line ts) × (last ≡ last_line (take (length (kind_tokens k [])) ts)) × KindLines k ts
       × KeepsLines ss (drop (length (kind_tokens k []) + length (end_tokens e)) ts)
 
+  -- a statement
   pub KindLines : StmtKind → List PToken → Type 0
+  KindLines (expr e) ts = Unit {0}
+  KindLines (assign targets e) ts = Unit {0}
+  KindLines (aug_assign t op e) ts = Unit {0}
+  KindLines pass ts = Unit {0}
+  KindLines break ts = Unit {0}
+  KindLines continue ts = Unit {0}
+  KindLines (return e) ts = Unit {0}
+  KindLines (raise e) ts = Unit {0}
+  KindLines (assert e w) ts = Unit {0}
+  KindLines (global xs) ts = Unit {0}
+  KindLines (import names) ts = Unit {0}
+  KindLines (from m names) ts = Unit {0}
   KindLines (if' no_arms o) ts = Unit {0}
   KindLines (if' (arm t b arms) o) ts =
       SuiteLines b (test_head word.If t) ts × ArmLines arms (behind (test_head word.If t) b ts)
@@ -62,7 +85,6 @@ abbrev mutual
   KindLines (match e last cs) ts =
       (last ≡ last_line (take (length (Name match_name ∷ tokens e (Sign mark.Colon ∷ []))) ts))
       × CaseLines cs (drop (length (Name match_name ∷ tokens e (Sign mark.Colon ∷ Newline ∷ Indent ∷ []))) ts)
-  KindLines k ts = Unit {0}
 
   -- a suite keeps the lines of the header in front of it
   pub SuiteLines : Suite → List Kind → List PToken → Type 0
@@ -100,9 +122,11 @@ IsNormal m = EndLines m × NormalStmts m × (marked (kinds_marked (module_tokens
 abbrev pub Spells : Stmts → List PToken → Type 0
 Spells m ts = IsNormal m × (bare ts ≡ kinds_marked (module_tokens m)) × KeepsLines m ts
 
+-- no expression or pattern is higher
 abbrev pub HEIGHT : ℕ
 HEIGHT = 200
 
+-- no more suites stand inside each other
 abbrev pub NESTING : ℕ
 NESTING = 64
 
@@ -110,6 +134,7 @@ NESTING = 64
 abbrev pub IsViable : List Marked → Type 0
 IsViable front = (m : Stmts) × (more : List Marked) × IsNormal m × (module_tokens m ≡ front ++ more)
 
+-- the same for a tree within the limits
 abbrev pub IsViableWithin : List Marked → Type 0
 IsViableWithin front = (m : Stmts) × (more : List Marked) × IsNormal m × (module_tokens m ≡ front ++ more) × (stmts_height m ≤ HEIGHT) × (stmts_nesting m ≤ NESTING)
 

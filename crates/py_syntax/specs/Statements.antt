@@ -1,4 +1,11 @@
 -- The tokens of statements, and then others, with the headers of `match` statements marked; and normal statements.
+--     in_place_mark .. end_tokens              the tokens of what isn't a statement
+--     stmts_tokens, kind_tokens                the tokens of statements; suite_tokens and the like for what stands in them
+--     is_simple, EndLines, ShareLine           where a statement may end, in a block and on one line
+--     IsOption .. AreSome                      what the parts of statements may be
+--     NormalStmts, NormalKind                  statements that the grammar spells; NormalSuite and the like for what stands in them
+--     stmts_height, kind_height                how high the highest expression or pattern is
+--     stmts_nesting, kind_nesting              how many suites stand inside each other
 use Rattle.std.specs.Prelude.{◌≡◌, ℕ, zero, suc, ◌-◌, ◌≤◌, max, Bool, true, false, List, [], ◌∷◌, length, Option, Some, None}
 use Rattle.py_value.specs.declared.operator.BinOp.{BinOp}
 use Rattle.py_value.specs.declared.operator.BinOp.TheVariants as op_
@@ -13,6 +20,7 @@ use Rattle.py_syntax.specs.Tokens.{tokens, comma_if, pattern_tokens}
 use Rattle.py_syntax.specs.Normal.{LExpr, At, Normal, Each, IsSomething, is_target, is_place, height, heights, NormalPattern, pattern_height}
 use Rattle.py_syntax.specs.Headers.{Marked, put, match_name}
 
+-- the mark of an augmented assignment
 abbrev pub in_place_mark : BinOp → Mark
 in_place_mark op_.Add = mark.PlusEqual
 in_place_mark op_.Sub = mark.MinusEqual
@@ -25,18 +33,22 @@ abbrev pub target_tokens : Exprs → List Kind → List Kind
 target_tokens no_exprs rest = rest
 target_tokens (exprs t ts) rest = tokens t (Sign mark.Equal ∷ target_tokens ts rest)
 
+-- an expression, where there is one
 abbrev pub option_tokens : Option Expr → List Kind
 option_tokens None = []
 option_tokens (Some e) = tokens e []
 
+-- the message of an `assert`, where there is one
 abbrev pub assert_tokens : Option Expr → List Kind
 assert_tokens None = []
 assert_tokens (Some e) = Sign mark.Comma ∷ tokens e []
 
+-- the names behind the first
 abbrev pub more_names : List Text → List Kind
 more_names [] = []
 more_names (x ∷ xs) = Sign mark.Comma ∷ Name x ∷ more_names xs
 
+-- names with commas between them
 abbrev pub name_list : List Text → List Kind
 name_list [] = []
 name_list (x ∷ xs) = Name x ∷ more_names xs
@@ -46,10 +58,12 @@ abbrev pub as_tokens : Option Text → List Kind → List Kind
 as_tokens None rest = rest
 as_tokens (Some x) rest = Word word.As ∷ Name x ∷ rest
 
+-- the imported names behind the first
 abbrev pub more_aliases : List Alias → List Kind
 more_aliases [] = []
 more_aliases (a ∷ rest) = Sign mark.Comma ∷ Name a.name ∷ as_tokens a.bound (more_aliases rest)
 
+-- imported names with commas between them
 abbrev pub alias_list : List Alias → List Kind
 alias_list [] = []
 alias_list (a ∷ rest) = Name a.name ∷ as_tokens a.bound (more_aliases rest)
@@ -61,19 +75,23 @@ more_params (suc n) (x ∷ xs) ds c rest = Sign mark.Comma ∷ Name x ∷ more_p
 more_params zero (x ∷ xs) no_exprs c rest = Sign mark.Comma ∷ Name x ∷ more_params zero xs no_exprs c rest
 more_params zero (x ∷ xs) (exprs d ds) c rest = Sign mark.Comma ∷ Name x ∷ Sign mark.Equal ∷ tokens d (more_params zero xs ds c rest)
 
+-- parameters, of which so many have no default
 abbrev pub params_from : ℕ → List Text → Exprs → Bool → List Kind → List Kind
 params_from n [] ds c rest = rest
 params_from (suc n) (x ∷ xs) ds c rest = Name x ∷ more_params n xs ds c rest
 params_from zero (x ∷ xs) no_exprs c rest = Name x ∷ more_params zero xs no_exprs c rest
 params_from zero (x ∷ xs) (exprs d ds) c rest = Name x ∷ Sign mark.Equal ∷ tokens d (more_params zero xs ds c rest)
 
+-- how many expressions stand in a row
 abbrev pub count : Exprs → ℕ
 count no_exprs = 0
 count (exprs e es) = suc (count es)
 
+-- parameters, with the defaults of the last ones, and whether a comma stands behind them
 abbrev pub param_tokens : List Text → Exprs → Bool → List Kind → List Kind
 param_tokens xs ds c rest = params_from (length xs - count ds) xs ds c rest
 
+-- the header of an `except` clause
 abbrev pub except_tokens : Option Expr → Option Text → List Kind
 except_tokens None x = Word word.Except ∷ Sign mark.Colon ∷ []
 except_tokens (Some e) x = Word word.Except ∷ tokens e (as_tokens x (Sign mark.Colon ∷ []))
@@ -82,6 +100,7 @@ except_tokens (Some e) x = Word word.Except ∷ tokens e (as_tokens x (Sign mark
 abbrev pub case_name : Text
 case_name = 99 ∷ 97 ∷ 115 ∷ 101 ∷ []
 
+-- the guard of a case, where there is one, and the colon
 abbrev pub guard_tokens : Option Expr → List Kind
 guard_tokens None = Sign mark.Colon ∷ []
 guard_tokens (Some e) = Word word.If ∷ tokens e (Sign mark.Colon ∷ [])
@@ -95,10 +114,12 @@ end_tokens e = elim (e.semicolon) [ true ↦ Sign mark.Semicolon ∷ newline_if 
     newline_if false = []
 
 abbrev mutual
+  -- statements in a row
   pub stmts_tokens : Stmts → List Marked → List Marked
   stmts_tokens no_stmts rest = rest
   stmts_tokens (stmt first last k e ss) rest = kind_tokens k (put (end_tokens e) (stmts_tokens ss rest))
 
+  -- a statement
   pub kind_tokens : StmtKind → List Marked → List Marked
   kind_tokens (expr e) rest = put (tokens e []) rest
   kind_tokens (assign ts e) rest = put (target_tokens ts (tokens e [])) rest
@@ -120,6 +141,7 @@ abbrev mutual
   kind_tokens (def x ps ds c b) rest = put (Word word.Def ∷ Name x ∷ Sign mark.LeftParen ∷ param_tokens ps ds c (Sign mark.RightParen ∷ Sign mark.Colon ∷ [])) (suite_tokens b rest)
   kind_tokens (match e last cs) rest = record { kind = Name match_name; header = true } ∷ put (tokens e (Sign mark.Colon ∷ Newline ∷ Indent ∷ [])) (case_tokens cs (put (Dedent ∷ []) rest))
 
+  -- a suite, on the line of its header or as a block
   pub suite_tokens : Suite → List Marked → List Marked
   suite_tokens (suite first last true b) rest = stmts_tokens b rest
   suite_tokens (suite first last false b) rest = put (Newline ∷ Indent ∷ []) (stmts_tokens b (put (Dedent ∷ []) rest))
@@ -146,15 +168,28 @@ abbrev mutual
 
 -- ---- normal statements
 
+-- whether a statement is a simple one
 abbrev pub is_simple : StmtKind → Bool
+is_simple (expr e) = true
+is_simple (assign ts e) = true
+is_simple (aug_assign t op e) = true
+is_simple pass = true
+is_simple break = true
+is_simple continue = true
+is_simple (return e) = true
+is_simple (raise e) = true
+is_simple (assert e w) = true
+is_simple (global xs) = true
+is_simple (import names) = true
+is_simple (from m names) = true
 is_simple (if' arms o) = false
 is_simple (while t b o) = false
 is_simple (for t e b o) = false
 is_simple (try b cs o f) = false
 is_simple (def x ps ds c b) = false
 is_simple (match e last cs) = false
-is_simple k = true
 
+-- whether the first of these is a simple one
 abbrev pub begins_simple : Stmts → Bool
 begins_simple no_stmts = false
 begins_simple (stmt first last k e ss) = is_simple k
@@ -175,21 +210,26 @@ ShareLine no_stmts = Unit {0}
 ShareLine (stmt first last k e no_stmts) = (is_simple k ≡ true) × (e.newline ≡ true)
 ShareLine (stmt first last k e (stmt first' last' k' e' ss)) = (is_simple k ≡ true) × (e.newline ≡ false) × (e.semicolon ≡ true) × ShareLine (stmt first' last' k' e' ss)
 
+-- what holds of an expression, where there is one
 abbrev pub IsOption : (Expr → Type 0) → Option Expr → Type 0
 IsOption P None = Unit {0}
 IsOption P (Some e) = P e
 
+-- one expression, and not several with commas
 abbrev pub NormalExpr : Expr → Type 0
 NormalExpr e = At LExpr e × Normal e
 
+-- each has the form of a target
 abbrev pub NormalTargets : Exprs → Type 0
 NormalTargets no_exprs = Unit {0}
 NormalTargets (exprs t ts) = Normal t × (is_target t ≡ true) × NormalTargets ts
 
+-- a clause without a kind binds no name
 abbrev pub NormalClauseHead : Option Expr → Option Text → Type 0
 NormalClauseHead None x = x ≡ None
 NormalClauseHead (Some e) x = NormalExpr e
 
+-- there is a suite
 abbrev pub IsSuite : OptSuite → Type 0
 IsSuite no_suite = ⊥
 IsSuite (has_suite s) = Unit {0}
@@ -199,19 +239,23 @@ abbrev pub NormalTry : Clauses → OptSuite → OptSuite → Type 0
 NormalTry no_clauses o f = (o ≡ no_suite) × IsSuite f
 NormalTry (clause e x b cs) o f = Unit {0}
 
+-- at most one default for each parameter, and no comma without a parameter
 abbrev pub NormalParams : List Text → Exprs → Bool → Type 0
 NormalParams [] ds c = (ds ≡ no_exprs) × (c ≡ false)
 NormalParams (x ∷ xs) ds c = (count ds ≤ suc (length xs)) × Each ds
 
+-- there is an imported name
 abbrev pub AreSome : List Alias → Type 0
 AreSome [] = ⊥
 AreSome (a ∷ rest) = Unit {0}
 
 abbrev mutual
+  -- statements in a row
   pub NormalStmts : Stmts → Type 0
   NormalStmts no_stmts = Unit {0}
   NormalStmts (stmt first last k e ss) = NormalKind k × NormalStmts ss
 
+  -- a statement
   pub NormalKind : StmtKind → Type 0
   NormalKind (expr e) = Normal e
   NormalKind (assign no_exprs e) = ⊥
@@ -235,6 +279,7 @@ abbrev mutual
   NormalKind (match e last no_cases) = ⊥
   NormalKind (match e last (case p g b cs)) = Normal e × NormalCases (case p g b cs)
 
+  -- a suite isn't empty
   pub NormalSuite : Suite → Type 0
   NormalSuite (suite first last inline no_stmts) = ⊥
   NormalSuite (suite first last true (stmt f l k e ss)) = ShareLine (stmt f l k e ss) × NormalStmts (stmt f l k e ss)
@@ -258,6 +303,7 @@ abbrev mutual
 
 -- ---- limits
 
+-- the height of an expression, where there is one
 abbrev pub option_height : Option Expr → ℕ
 option_height None = 0
 option_height (Some e) = height e
@@ -272,16 +318,21 @@ abbrev mutual
   kind_height (expr e) = height e
   kind_height (assign ts e) = max (heights ts) (height e)
   kind_height (aug_assign t op e) = max (height t) (height e)
+  kind_height pass = 0
+  kind_height break = 0
+  kind_height continue = 0
   kind_height (return e) = option_height e
   kind_height (raise e) = option_height e
   kind_height (assert e w) = max (height e) (option_height w)
+  kind_height (global xs) = 0
+  kind_height (import names) = 0
+  kind_height (from m names) = 0
   kind_height (if' arms o) = max (arms_height arms) (opt_height o)
   kind_height (while t b o) = max (height t) (max (suite_height b) (opt_height o))
   kind_height (for t e b o) = max (max (height t) (height e)) (max (suite_height b) (opt_height o))
   kind_height (try b cs o f) = max (max (suite_height b) (clauses_height cs)) (max (opt_height o) (opt_height f))
   kind_height (def x ps ds c b) = max (heights ds) (suite_height b)
   kind_height (match e last cs) = max (height e) (cases_height cs)
-  kind_height k = 0
 
   pub suite_height : Suite → ℕ
   suite_height (suite first last inline b) = stmts_height b
@@ -309,13 +360,24 @@ abbrev mutual
   stmts_nesting (stmt first last k e ss) = max (kind_nesting k) (stmts_nesting ss)
 
   pub kind_nesting : StmtKind → ℕ
+  kind_nesting (expr e) = 0
+  kind_nesting (assign ts e) = 0
+  kind_nesting (aug_assign t op e) = 0
+  kind_nesting pass = 0
+  kind_nesting break = 0
+  kind_nesting continue = 0
+  kind_nesting (return e) = 0
+  kind_nesting (raise e) = 0
+  kind_nesting (assert e w) = 0
+  kind_nesting (global xs) = 0
+  kind_nesting (import names) = 0
+  kind_nesting (from m names) = 0
   kind_nesting (if' arms o) = max (arms_nesting arms) (opt_nesting o)
   kind_nesting (while t b o) = max (suite_nesting b) (opt_nesting o)
   kind_nesting (for t e b o) = max (suite_nesting b) (opt_nesting o)
   kind_nesting (try b cs o f) = max (max (suite_nesting b) (clauses_nesting cs)) (max (opt_nesting o) (opt_nesting f))
   kind_nesting (def x ps ds c b) = suite_nesting b
   kind_nesting (match e last cs) = cases_nesting cs
-  kind_nesting k = 0
 
   pub suite_nesting : Suite → ℕ
   suite_nesting (suite first last inline b) = suc (stmts_nesting b)

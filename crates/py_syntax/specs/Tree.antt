@@ -1,5 +1,10 @@
 -- The plain view of the trees: lists in place of vectors, and nothing of memory. All definitions of the language
 -- stand on it.
+--     Text                                       the characters of a text
+--     Expr                                       expressions, with Exprs, Pairs, Links, OptExpr, Fragments and Parts for what stands in them
+--     Constant, Pattern, Patterns                the patterns of a `case`
+--     Alias                                      an imported name
+--     Stmts, StmtKind                            statements, with Suite, OptSuite, Arms, Clauses and Cases for what stands in them
 use Rattle.std.specs.Prelude.{ℕ, ℤ, Bool, List, Option}
 use Rattle.py_value.specs.declared.operator.BinOp.{BinOp}
 use Rattle.py_syntax.specs.declared.expr.Comparison.{Comparison}
@@ -12,6 +17,7 @@ abbrev pub Text : Type 0
 Text = List ℕ
 
 mutual
+  -- an expression, as it was written
   pub data Expr : Type 0 where
     name : (x : Text) → Expr
     int : (n : ℤ) → Expr
@@ -35,6 +41,7 @@ mutual
     slice : (of : Expr) (from to : OptExpr) → Expr
     attr : (of : Expr) (x : Text) → Expr
 
+  -- expressions in a row
   pub data Exprs : Type 0 where
     no_exprs : Exprs
     exprs : (e : Expr) (es : Exprs) → Exprs
@@ -49,6 +56,7 @@ mutual
     no_links : Links
     link : (op : Comparison) (right : Expr) (rest : Links) → Links
 
+  -- a bound of a slice
   pub data OptExpr : Type 0 where
     absent : OptExpr
     present : (e : Expr) → OptExpr
@@ -73,6 +81,7 @@ pub data Constant : Type 0 where
   c_bool : (b : Bool) → Constant
 
 mutual
+  -- a pattern, as it was written
   pub data Pattern : Type 0 where
     literal : (minus : Bool) (value : Constant) → Pattern
     capture : (x : Text) → Pattern
@@ -83,6 +92,7 @@ mutual
     p_as : (p : Pattern) (x : Text) → Pattern
     p_paren : (p : Pattern) → Pattern
 
+  -- patterns in a row
   pub data Patterns : Type 0 where
     no_patterns : Patterns
     patterns : (p : Pattern) (ps : Patterns) → Patterns
@@ -93,29 +103,36 @@ pub record Alias : Type 0 where
   pub bound : Option Text
 
 mutual
+  -- statements in a row, each with its first and last line and what ends it
   pub data Stmts : Type 0 where
     no_stmts : Stmts
     stmt : (first last : ℕ) (kind : StmtKind) (end : LineEnd) (rest : Stmts) → Stmts
 
+  -- statements, with the first and last line of the header in front of them
   pub data Suite : Type 0 where
     suite : (first last : ℕ) (inline : Bool) (body : Stmts) → Suite
 
+  -- the suite of an `else` or a `finally`
   pub data OptSuite : Type 0 where
     no_suite : OptSuite
     has_suite : (s : Suite) → OptSuite
 
+  -- tests with their suites: the `if` and each `elif`
   pub data Arms : Type 0 where
     no_arms : Arms
     arm : (test : Expr) (body : Suite) (rest : Arms) → Arms
 
+  -- `except` clauses: an exception's name, the name that it is bound to, the suite
   pub data Clauses : Type 0 where
     no_clauses : Clauses
     clause : (kind : Option Expr) (bound : Option Text) (body : Suite) (rest : Clauses) → Clauses
 
+  -- cases: a pattern, its guard, the suite
   pub data Cases : Type 0 where
     no_cases : Cases
     case : (p : Pattern) (guard : Option Expr) (body : Suite) (rest : Cases) → Cases
 
+  -- a statement (Python Language Reference, "Simple statements" and "Compound statements")
   pub data StmtKind : Type 0 where
     expr : (e : Expr) → StmtKind
     assign : (targets : Exprs) (value : Expr) → StmtKind

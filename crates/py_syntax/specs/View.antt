@@ -1,4 +1,11 @@
 -- From a tree to its plain view.
+--     PlainPair .. PlainPart, exprs_of .. opt_of     the parts of an expression, as plain lists
+--     plain_expr                                     an expression; plain_exprs and the like for its parts
+--     plain_constant, plain_pattern                  patterns
+--     plain_alias                                    imported names
+--     PlainStmt .. PlainCase, stmts_of .. cases_of   the parts of a statement, as plain lists
+--     plain_kind, plain_suite, plain_stmts           statements; plain_arms and the like for their parts
+--     plain_module                                   a module
 use Rattle.std.specs.Prelude.{ℕ, List, [], ◌∷◌, Option, Some, None, map, option_map}
 use Rattle.py_syntax.specs.declared.expr.Comparison.{Comparison}
 use Rattle.py_syntax.specs.declared.expr.Expr.{Expr as Node}
@@ -110,51 +117,65 @@ link_step l = record { op = l.op; right = l.right }
 abbrev pair_step : open_.Pair-F Expr PlainPart PlainFragment PlainLink PlainPair → PlainPair
 pair_step p = record { key = p.key; value = p.value }
 
+-- an expression
 abbrev pub plain_expr : Node → Expr
 plain_expr = fold-Expr Expr PlainPart PlainFragment PlainLink PlainPair expr_step part_step fragment_step link_step pair_step
 
+-- expressions in a row
 abbrev pub plain_exprs : List Node → Exprs
 plain_exprs es = exprs_of (map plain_expr es)
 
+-- a key with its value
 abbrev plain_pair : Pair → PlainPair
 plain_pair = fold-Pair Expr PlainPart PlainFragment PlainLink PlainPair expr_step part_step fragment_step link_step pair_step
 
+-- keys with their values
 abbrev pub plain_pairs : List Pair → Pairs
 plain_pairs ps = pairs_of (map plain_pair ps)
 
+-- one comparison of a chain
 abbrev plain_link : Link → PlainLink
 plain_link = fold-Link Expr PlainPart PlainFragment PlainLink PlainPair expr_step part_step fragment_step link_step pair_step
 
+-- the comparisons of a chain
 abbrev pub plain_links : List Link → Links
 plain_links ls = links_of (map plain_link ls)
 
+-- one of neighbouring strings
 abbrev plain_fragment : Fragment → PlainFragment
 plain_fragment = fold-Fragment Expr PlainPart PlainFragment PlainLink PlainPair expr_step part_step fragment_step link_step pair_step
 
+-- neighbouring strings
 abbrev pub plain_fragments : List Fragment → Fragments
 plain_fragments fs = fragments_of (map plain_fragment fs)
 
+-- a part of an f-string
 abbrev plain_part : FormatPart → PlainPart
 plain_part = fold-FormatPart Expr PlainPart PlainFragment PlainLink PlainPair expr_step part_step fragment_step link_step pair_step
 
+-- the parts of an f-string
 abbrev pub plain_parts : List FormatPart → Parts
 plain_parts ps = parts_of (map plain_part ps)
 
+-- a bound of a slice
 abbrev pub plain_opt : Option Node → OptExpr
 plain_opt o = opt_of (option_map plain_expr o)
 
 -- ---- patterns
 
+-- the value of a literal pattern
 abbrev pub plain_constant : ConstantNode → Constant
 plain_constant (constant_.Int n) = c_int n
 plain_constant (constant_.Str ps) = c_str ps.items
 plain_constant constant_.None = c_none
 plain_constant (constant_.Bool b) = c_bool b
 
+-- patterns in a row
 abbrev pub patterns_of : List Pattern → Patterns
 patterns_of [] = no_patterns
 patterns_of (p ∷ ps) = patterns p (patterns_of ps)
 
+-- one pattern, with the plain views of its parts in their places
 abbrev pattern_step : open_pattern.Pattern-F Pattern → Pattern
 pattern_step (open_pattern.Literal m c) = literal m (plain_constant c)
 pattern_step (open_pattern.Capture x) = capture x
@@ -165,20 +186,25 @@ pattern_step (open_pattern.Or ps) = p_or (patterns_of ps.items)
 pattern_step (open_pattern.As p x) = p_as p.value x
 pattern_step (open_pattern.Paren p) = p_paren p.value
 
+-- a pattern
 abbrev pub plain_pattern : PatternNode → Pattern
 plain_pattern = fold-Pattern Pattern pattern_step
 
+-- patterns in a row
 abbrev pub plain_patterns : List PatternNode → Patterns
 plain_patterns ps = patterns_of (map plain_pattern ps)
 
 -- ---- statements
 
+-- an imported name
 abbrev pub plain_alias : AliasNode → Alias
 plain_alias i = record { name = i.name; bound = i.bound }
 
+-- imported names
 abbrev pub plain_aliases : List AliasNode → List Alias
 plain_aliases = map plain_alias
 
+-- one element of each list of parts
 pub record PlainStmt : Type 0 where
   pub first : ℕ
   pub last : ℕ
@@ -199,6 +225,7 @@ pub record PlainCase : Type 0 where
   pub guard : Option Expr
   pub body : Suite
 
+-- the plain lists
 abbrev pub stmts_of : List PlainStmt → Stmts
 stmts_of [] = no_stmts
 stmts_of (s ∷ ss) = stmt s.first s.last s.kind s.end (stmts_of ss)
@@ -219,6 +246,7 @@ abbrev pub opt_suite_of : Option Suite → OptSuite
 opt_suite_of None = no_suite
 opt_suite_of (Some s) = has_suite s
 
+-- one statement, with the plain views of its parts in their places
 abbrev kind_step : open_stmt.StmtKind-F StmtKind PlainArm PlainCase PlainClause PlainStmt Suite → StmtKind
 kind_step (open_stmt.Expr e) = expr (plain_expr e)
 kind_step (open_stmt.Assign ts e) = assign (plain_exprs ts.items) (plain_expr e)
@@ -254,38 +282,50 @@ stmt_step s = record { first = s.first; last = s.last; kind = s.kind; end = s.en
 abbrev suite_step : open_stmt.Suite-F StmtKind PlainArm PlainCase PlainClause PlainStmt Suite → Suite
 suite_step s = suite s.first s.last s.inline (stmts_of s.body.items)
 
+-- a statement without its lines
 abbrev pub plain_kind : KindNode → StmtKind
 plain_kind = fold-StmtKind StmtKind PlainArm PlainCase PlainClause PlainStmt Suite kind_step arm_step case_step clause_step stmt_step suite_step
 
+-- a suite
 abbrev pub plain_suite : SuiteNode → Suite
 plain_suite = fold-Suite StmtKind PlainArm PlainCase PlainClause PlainStmt Suite kind_step arm_step case_step clause_step stmt_step suite_step
 
+-- the suite of an `else` or a `finally`
 abbrev pub plain_opt_suite : Option SuiteNode → OptSuite
 plain_opt_suite o = opt_suite_of (option_map plain_suite o)
 
+-- a statement with its lines
 abbrev plain_stmt : Stmt → PlainStmt
 plain_stmt = fold-Stmt StmtKind PlainArm PlainCase PlainClause PlainStmt Suite kind_step arm_step case_step clause_step stmt_step suite_step
 
+-- statements in a row
 abbrev pub plain_stmts : List Stmt → Stmts
 plain_stmts ss = stmts_of (map plain_stmt ss)
 
+-- a test with its suite
 abbrev plain_arm : Arm → PlainArm
 plain_arm = fold-Arm StmtKind PlainArm PlainCase PlainClause PlainStmt Suite kind_step arm_step case_step clause_step stmt_step suite_step
 
+-- tests with their suites
 abbrev pub plain_arms : List Arm → Arms
 plain_arms rest = arms_of (map plain_arm rest)
 
+-- an `except` clause
 abbrev plain_clause : Clause → PlainClause
 plain_clause = fold-Clause StmtKind PlainArm PlainCase PlainClause PlainStmt Suite kind_step arm_step case_step clause_step stmt_step suite_step
 
+-- `except` clauses
 abbrev pub plain_clauses : List Clause → Clauses
 plain_clauses cs = clauses_of (map plain_clause cs)
 
+-- a case
 abbrev plain_case : Case → PlainCase
 plain_case = fold-Case StmtKind PlainArm PlainCase PlainClause PlainStmt Suite kind_step arm_step case_step clause_step stmt_step suite_step
 
+-- cases
 abbrev pub plain_cases : List Case → Cases
 plain_cases cs = cases_of (map plain_case cs)
 
+-- a module
 abbrev pub plain_module : Module → Stmts
 plain_module m = plain_stmts m.body.items

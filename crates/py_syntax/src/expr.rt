@@ -151,7 +151,7 @@ pub enum FormatPart {
 }
 
 /// What one comparison of a chain asks.
-#[derive(Clone, Copy, Debug, PartialEq, Eq)]
+#[derive(Clone, Copy)]
 pub enum Comparison {
     Op(CmpOp),
     Is,
@@ -159,7 +159,7 @@ pub enum Comparison {
 }
 
 /// The operator of a `Unary`.
-#[derive(Clone, Copy, Debug, PartialEq, Eq)]
+#[derive(Clone, Copy)]
 pub enum Sign {
     Minus,
     Plus,

@@ -64,7 +64,7 @@ pub enum Constant {
 }
 
 /// The brackets in which a sequence pattern was written.
-#[derive(Clone, Copy, Debug, PartialEq, Eq)]
+#[derive(Clone, Copy, Debug)]
 pub enum Brackets {
     Round,
     Square,

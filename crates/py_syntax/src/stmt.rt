@@ -16,7 +16,7 @@ pub struct Stmt {
 }
 
 /// What was written behind a simple statement. Nothing stands behind a compound one.
-#[derive(Clone, Copy, Debug, PartialEq, Eq)]
+#[derive(Clone, Copy)]
 pub struct LineEnd {
     pub semicolon: bool,
     pub newline: bool,

@@ -1,27 +1,12 @@
 -- The table of keywords, row by row.
-use Rattle.std.proofs.Common.{◌≡◌, ℕ, Bool, true, false, cond, List, [], ◌∷◌, Option, Some, None, refl, sym, ap, ◌∙◌}
+use Rattle.std.proofs.Common.{◌≡◌, ℕ, Bool, true, false, cond, List, [], ◌∷◌, Option, Some, refl, sym, ap, ◌∙◌}
 use Rattle.std.proofs.lemmas.Slice.Eq.{bytes_eq-Decides}
 use Rattle.std.proofs.lemmas.Str.{encodes_same}
 use Rattle.std.specs.Prelude.{encode_utf8_all}
 use Rattle.py_token.specs.declared.token.Keyword.{Keyword}
 use Rattle.py_token.specs.Words.{same_text, keyword_in, keyword_table, keyword_of, kind_of_word, word_kind}
 
-pub differs : (xs ys : List ℕ) → (xs ≡ ys → ⊥) → same_text xs ys ≡ false
-differs xs ys other = go (same_text xs ys) refl
-  where
-    go : (b : Bool) → same_text xs ys ≡ b → b ≡ false
-    go true is = absurd (other ((bytes_eq-Decides xs ys).0 is))
-    go false is = refl
-
-abbrev pub NoRow : List (List ℕ × Keyword) → List ℕ → Type 0
-NoRow [] word = Unit {0}
-NoRow (row ∷ rows) word = (word ≡ row.0 → ⊥) × NoRow rows word
-
--- a word that stands in no row
-pub no_row : (rows : List (List ℕ × Keyword)) (word : List ℕ) → NoRow rows word → keyword_in rows word ≡ None
-no_row [] word none = refl
-no_row (row ∷ rows) word none = ap (λ b. cond b (Some row.1) (keyword_in rows word)) (differs word row.0 none.0) ∙ no_row rows word none.1
-
+-- each row is spelled by one byte a character
 abbrev pub ArePlain : List (List ℕ × Keyword) → Type 0
 ArePlain [] = Unit {0}
 ArePlain (row ∷ rows) = (encode_utf8_all row.0 ≡ row.0) × ArePlain rows

@@ -26,6 +26,7 @@ pub record Cut : Type 0 where
 abbrev pub in_comment : ℕ → Bool
 in_comment c = not ((c == 10) || (c == 13))
 
+-- a token that stands here, or the fault of the place
 abbrev pub token_cut : ℕ → Result Taken TokenError → Cut
 token_cut line (Ok t) = record { lexeme = spelled t.kind; behind = t.behind; next = t.next }
 token_cut line (Err e) = record { lexeme = stuck e; behind = 0; next = line }

@@ -1,4 +1,11 @@
 -- F-strings (The Python Language Reference, "Formatted string literals").
+--     is_blank, is_format_prefix                   characters
+--     may_stand, reach, limit_fault, field_fault   how far a field can go, and what is wrong where it meets that end
+--     Turn, turn_of, depth_after                   the brackets that are open in a field
+--     field_tokens                                 the tokens of a field
+--     field_bit, fstring_bit                       a place of an f-string
+--     fstring_body, normal, fstring_at             an f-string
+--     token_at                                     a token of a text
 use Rattle.std.specs.Prelude.{ℕ, zero, suc, ◌-◌, Bool, true, false, ◌||◌, ◌&&◌, not, ◌==◌, List, [], ◌∷◌, ◌++◌, length, take, drop, Result, Ok, Err, if◌then◌else◌}
 use Rattle.py_token.specs.declared.error.TokenError.{TokenError}
 use Rattle.py_token.specs.declared.error.TokenError.TheVariants.{BadCharacter, OpenString}
@@ -9,9 +16,11 @@ use Rattle.py_token.specs.Plain.{PKind, mark, fstring, PToken, token, token_row,
 use Rattle.py_token.specs.Strings.{◌>>=◌, Bit, holds, closing, fault, doubled, closes, text_bit, Body, more_of, body_of}
 use Rattle.py_token.specs.Rules.{Taken, begins_quote, plain_token, behind_prefix}
 
+-- a space or a tab
 abbrev pub is_blank : ℕ → Bool
 is_blank c = (c == 32) || (c == 9)
 
+-- `f` or `F`
 abbrev pub is_format_prefix : ℕ → Bool
 is_format_prefix c = (c == 102) || (c == 70)
 
@@ -34,11 +43,13 @@ abbrev pub field_fault : TokenError → TokenError → TokenError
 field_fault limit (OpenString line) = limit
 field_fault limit e = e
 
+-- a token opens a bracket, shuts one, or neither
 pub data Turn : Type 0 where
   opening : Turn
   shutting : Turn
   neither : Turn
 
+-- what a mark does to the brackets that are open
 abbrev pub turn_of_mark : Mark → Turn
 turn_of_mark marks.LeftParen = opening
 turn_of_mark marks.LeftBracket = opening
@@ -53,6 +64,7 @@ abbrev pub turn_of : PKind → Turn
 turn_of (mark m) = turn_of_mark m
 turn_of kind = neither
 
+-- how many brackets are open behind it
 abbrev pub depth_after : Turn → ℕ → ℕ
 depth_after opening depth = suc depth
 depth_after shutting depth = depth - 1
@@ -62,14 +74,17 @@ depth_after neither depth = depth
 abbrev pub field_token : ℕ → ℕ → List ℕ → Result Taken TokenError
 field_token line c cs = if is_format_prefix c && begins_quote cs then Err (BadCharacter line) else plain_token line c cs
 
+-- how many of its characters stand behind the first
 abbrev pub behind_taken : Result Taken TokenError → ℕ
 behind_taken (Ok t) = t.behind
 behind_taken (Err e) = 0
 
+-- what it does to the brackets that are open
 abbrev pub turn_taken : Result Taken TokenError → Turn
 turn_taken (Ok t) = turn_of t.kind
 turn_taken (Err e) = neither
 
+-- a token, and then the others of the field
 abbrev pub with_taken : TokenError → ℕ → Result Taken TokenError → Result (Body PToken) TokenError → Result (Body PToken) TokenError
 with_taken limit line (Ok t) body = more_of (token t.kind line line) body
 with_taken limit line (Err e) body = Err (field_fault limit e)
@@ -83,6 +98,7 @@ field_tokens limit line zero depth (c ∷ cs) =
     else (if is_blank c then field_tokens limit line 0 depth cs
     else with_taken limit line (field_token line c cs) (field_tokens limit line (behind_taken (field_token line c cs)) (depth_after (turn_taken (field_token line c cs)) depth) cs))
 
+-- a field is one bit of an f-string
 abbrev pub field_of : ℕ → List ℕ → Result (Body PToken) TokenError → Bit PPiece
 field_of line cs (Ok b) = holds (field (token_row b.values)) (length cs - length b.rest) line
 field_of line cs (Err e) = fault e
@@ -92,6 +108,7 @@ unfoldable pub field_bit : ℕ → Bool → ℕ → ℕ → List ℕ → Bit PPi
 field_bit quote triple first line cs =
     field_of line (take (reach quote triple cs) cs) (field_tokens (limit_fault triple first line (drop (reach quote triple cs) cs)) line 0 0 (take (reach quote triple cs) cs))
 
+-- the characters of a string as a piece
 abbrev pub chars_bit : Bit (List ℕ) → Bit PPiece
 chars_bit (holds xs behind next) = holds (chars xs) behind next
 chars_bit (closing behind) = closing behind
@@ -104,6 +121,7 @@ fstring_bit quote triple first line c cs =
     else (if c == 125 then (if begins 125 cs then holds (chars (125 ∷ [])) 1 line else fault (BadCharacter line))
     else chars_bit (text_bit false quote triple first line c cs))
 
+-- an f-string behind its opening marks
 unfoldable pub fstring_body : ℕ → Bool → ℕ → List ℕ → Result (Body PPiece) TokenError
 fstring_body quote triple first cs = body_of (fstring_bit quote triple first) first 0 first cs
 
@@ -120,6 +138,7 @@ normal [] = []
 normal (chars xs ∷ ps) = with_chars xs (normal ps)
 normal (field ts ∷ ps) = field ts ∷ normal ps
 
+-- an f-string is one token
 abbrev pub taken_pieces : List ℕ → Result (Body PPiece) TokenError → Result Taken TokenError
 taken_pieces cs body = body >>= λ b. Ok (record { kind = fstring (piece_row (normal b.values)); behind = length cs - length b.rest; next = b.next })
 

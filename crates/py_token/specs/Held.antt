@@ -12,25 +12,31 @@ use Rattle.py_token.specs.Strings.{◌>>=◌, Body}
 use Rattle.py_token.specs.Fields.{Turn, opening, shutting, neither, field_token}
 use Rattle.py_token.specs.View.{view_kind, view_tokens}
 
+-- a token that was taken
 abbrev pub view_taken : held.Taken → Taken
 view_taken t = record { kind = view_kind t.kind; behind = t.behind; next = t.next }
 
+-- the word at the front
 abbrev pub word_text : ℕ → List ℕ → Result Taken TokenError
 word_text line [] = Err (BadCharacter line)
 word_text line (c ∷ cs) = word_at line c cs
 
+-- the number at the front
 abbrev pub number_text_at : ℕ → List ℕ → Result Taken TokenError
 number_text_at line [] = Err (BadCharacter line)
 number_text_at line (c ∷ cs) = number_at line c cs
 
+-- the longest token at the front
 abbrev pub plain_token_of : ℕ → List ℕ → Result Taken TokenError
 plain_token_of line [] = Err (BadCharacter line)
 plain_token_of line (c ∷ cs) = plain_token line c cs
 
+-- the token at the front of a field
 abbrev pub field_token_of : ℕ → List ℕ → Result Taken TokenError
 field_token_of line [] = Err (BadCharacter line)
 field_token_of line (c ∷ cs) = field_token line c cs
 
+-- what a token does to the brackets
 abbrev pub view_turn : held_turn.Turn → Turn
 view_turn turns.Opening = opening
 view_turn turns.Shutting = shutting
@@ -40,5 +46,6 @@ view_turn turns.Neither = neither
 abbrev pub tokens_of : Result (Body PToken) TokenError → Result (List PToken × ℕ) TokenError
 tokens_of body = body >>= λ b. Ok (b.values, length b.rest)
 
+-- the same of what the code answers
 abbrev pub view_field : FieldBody → List PToken × ℕ
 view_field f = (view_tokens f.tokens.items, f.left)

@@ -8,9 +8,11 @@ use Rattle.py_token.specs.Plain.{PToken}
 use Rattle.py_token.specs.Strings.{◌>>=◌}
 use Rattle.py_token.specs.Layout.{State, ends}
 
+-- the open indentations, the innermost first
 abbrev pub stack_of : List (Vec ℕ) → List (List ℕ)
 stack_of indents = reverse (map (λ i. i.items) indents)
 
+-- where the reading stands
 abbrev pub view_state : held.State → State
 view_state s = record { indents = stack_of s.indents.items; brackets = reverse s.brackets.items; begun = s.begun; blanks = s.blanks.items; settled = s.settled }
 

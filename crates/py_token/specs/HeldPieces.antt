@@ -11,6 +11,7 @@ use Rattle.py_token.specs.Rules.{Taken}
 use Rattle.py_token.specs.View.{view_pieces}
 use Rattle.py_token.specs.Held.{tokens_of}
 
+-- whether a `{` opens a field here
 abbrev pub opens_field : ℕ → List ℕ → Bool
 opens_field c cs = (c == 123) && not (begins 123 cs)
 
@@ -33,9 +34,11 @@ PushesField (Err e) bit line held old new = bit ≡ fault e
 abbrev pub pieces_of : Result (Body PPiece) TokenError → Result (List PPiece × ℕ × ℕ) TokenError
 pieces_of body = body >>= λ b. Ok (normal b.values, length b.rest, b.next)
 
+-- the same of what the code answers
 abbrev pub view_fstring : FStringBody → List PPiece × ℕ × ℕ
 view_fstring b = (view_pieces b.pieces.items, b.left, b.next)
 
+-- the token at the front of a text
 abbrev pub token_at_of : ℕ → List ℕ → Result Taken TokenError
 token_at_of line [] = Err (BadCharacter line)
 token_at_of line (c ∷ cs) = token_at line c cs

@@ -1,4 +1,11 @@
 -- From pieces to tokens: logical lines, brackets and indentation (The Python Language Reference, "Line structure").
+--     State, outermost                    where the reading of a text stands, and where it begins
+--     current, dedents .. line_begins     the indentation before the first token of a line
+--     turned, spelled_at                  a token, and the brackets that are open
+--     line_ends                           the end of a line
+--     put                                 one piece
+--     closing_tokens, ends                the end of a text
+--     layout                              the tokens of all pieces
 use Rattle.std.specs.Prelude.{ℕ, zero, suc, Bool, true, false, ◌||◌, ◌&&◌, not, nat_eq, List, [], ◌∷◌, ◌++◌, length, Result, Ok, Err, if◌then◌else◌}
 use Rattle.std.specs.List.{starts_with}
 use Rattle.py_token.specs.declared.error.TokenError.{TokenError}
@@ -19,6 +26,7 @@ pub record State : Type 0 where
   pub blanks : List ℕ
   pub settled : Bool
 
+-- at the start of a text
 abbrev pub outermost : State
 outermost = record { indents = []; brackets = []; begun = false; blanks = []; settled = false }
 
@@ -44,15 +52,18 @@ block_tokens blanks line is = if is_within (current is) blanks then Ok (token in
 abbrev pub line_begins : State → ℕ → Result (List PToken × State) TokenError
 line_begins s line = if s.begun then Ok ([], s) else (block_tokens s.blanks line s.indents >>= λ x. Ok (x.0, record s { indents = x.1; begun = true }))
 
+-- without the last opened bracket
 abbrev pub pops : List ℕ → List ℕ
 pops [] = []
 pops (line ∷ lines) = lines
 
+-- the open brackets behind a token
 abbrev pub turned : Turn → ℕ → List ℕ → List ℕ
 turned opening line lines = line ∷ lines
 turned shutting line lines = pops lines
 turned neither line lines = lines
 
+-- a `Newline`, where the line has a token
 abbrev pub newline_if : Bool → ℕ → List PToken
 newline_if true line = token newline line line ∷ []
 newline_if false line = []
@@ -74,6 +85,7 @@ put s joined_end line next = Ok ([], record s { settled = true })
 put s line_end line next = line_ends s line
 put s (stuck error) line next = line_begins s line >>= λ x. Err error
 
+-- the dedents that are open at the end of a text, and its end
 abbrev pub closing_tokens : ℕ → ℕ → List PToken
 closing_tokens line zero = token end line line ∷ []
 closing_tokens line (suc count) = token dedent line line ∷ closing_tokens line count
@@ -83,9 +95,11 @@ abbrev pub ends_with : List ℕ → State → ℕ → Result (List PToken) Token
 ends_with [] s last = Ok (newline_if s.begun last ++ closing_tokens last (length s.indents))
 ends_with (line ∷ lines) s last = Err (OpenBracket line)
 
+-- the same from a state
 abbrev pub ends : State → ℕ → Result (List PToken) TokenError
 ends s last = ends_with s.brackets s last
 
+-- the tokens of pieces, from a state on
 unfoldable pub layout : State → ℕ → List Place → Result (List PToken) TokenError
 layout s last [] = ends s last
 layout s last (p ∷ ps) = put s p.lexeme p.line p.next >>= λ here. layout here.1 last ps >>= λ more. Ok (here.0 ++ more)

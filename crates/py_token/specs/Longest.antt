@@ -15,6 +15,7 @@ mark_of_text c (d ∷ []) = mark_of_two c d
 mark_of_text c (d ∷ e ∷ []) = mark_of_three c d e
 mark_of_text c (d ∷ e ∷ f ∷ cs) = None
 
+-- what a piece is cut by
 pub data Rule : Type 0 where
   word : Rule
   number : Rule
@@ -28,6 +29,7 @@ IsOf number c cs = (is_ascii_digit c ≡ true) × (list_all in_number cs ≡ tru
 IsOf operator c cs = (m : Mark) × (mark_of_text c cs ≡ Some m)
 IsOf note c cs = (c ≡ 35) × (list_all in_comment cs ≡ true)
 
+-- some rule takes the piece
 abbrev pub IsTaken : Lexeme → Type 0
 IsTaken (spelled kind) = Unit {0}
 IsTaken (blank c) = Unit {0}

@@ -3,6 +3,7 @@ use Rattle.std.specs.Prelude.{ℕ, ◌&&◌, ◌==◌, List, [], ◌∷◌, Opti
 use Rattle.py_token.specs.declared.token.Mark.{Mark}
 use Rattle.py_token.specs.declared.token.Mark.TheVariants as marks
 
+-- the mark that three characters spell
 abbrev pub mark_of_three : ℕ → ℕ → ℕ → Option Mark
 mark_of_three c d e = if (c == 47) && (d == 47) && (e == 61) then Some marks.DoubleSlashEqual else None
 
@@ -19,9 +20,11 @@ mark_with_equal c =
     else (if c == 37 then Some marks.PercentEqual
     else None)))))))
 
+-- the mark that two characters spell
 abbrev pub mark_of_two : ℕ → ℕ → Option Mark
 mark_of_two c d = if d == 61 then mark_with_equal c else (if (c == 47) && (d == 47) then Some marks.DoubleSlash else None)
 
+-- the mark that a character spells
 abbrev pub mark_of_one : ℕ → Option Mark
 mark_of_one c =
     if c == 43 then Some marks.Plus
@@ -49,6 +52,7 @@ abbrev pub sized : ℕ → Option Mark → Option (Mark × ℕ)
 sized n None = None
 sized n (Some m) = Some (m, n)
 
+-- the first of two, where it is there
 abbrev pub else_try : Option (Mark × ℕ) → Option (Mark × ℕ) → Option (Mark × ℕ)
 else_try None other = other
 else_try (Some m) other = Some m

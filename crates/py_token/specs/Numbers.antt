@@ -10,9 +10,11 @@ use Rattle.py_token.specs.Words.{in_name}
 abbrev pub in_number : ℕ → Bool
 in_number c = in_name c || (c == 46)
 
+-- whether a character is a digit of a base
 abbrev pub is_digit_of : ℕ → ℕ → Bool
 is_digit_of base c = nat_lt (digit_value c) base
 
+-- whether a digit stands in front
 abbrev pub begins_digit : ℕ → List ℕ → Bool
 begins_digit base [] = false
 begins_digit base (c ∷ cs) = is_digit_of base c
@@ -21,6 +23,7 @@ begins_digit base (c ∷ cs) = is_digit_of base c
 abbrev pub is_digit_here : ℕ → ℕ → List ℕ → Bool
 is_digit_here base c cs = if c == 95 then begins_digit base cs else is_digit_of base c
 
+-- whether all are digits, with single underscores between them
 unfoldable pub are_digits : ℕ → List ℕ → Bool
 are_digits base [] = true
 are_digits base (c ∷ cs) = is_digit_here base c cs && are_digits base cs
@@ -30,6 +33,7 @@ unfoldable pub digits_value : ℕ → ℕ → List ℕ → ℕ
 digits_value base n [] = n
 digits_value base n (c ∷ cs) = digits_value base (if c == 95 then n else n * base + digit_value c) cs
 
+-- whether there is nothing
 abbrev pub is_empty : List ℕ → Bool
 is_empty [] = true
 is_empty (c ∷ cs) = false
@@ -46,6 +50,7 @@ decimal c cs = if are_digits 10 (c ∷ cs) && (not (c == 48) || (digits_value 10
 abbrev pub base_named : ℕ → Option ℕ
 base_named c = if (c == 120) || (c == 88) then Some 16 else (if (c == 111) || (c == 79) then Some 8 else (if (c == 98) || (c == 66) then Some 2 else None))
 
+-- digits in the base that a letter names, or else decimal ones
 abbrev pub in_base : Option ℕ → ℕ → ℕ → List ℕ → Option ℕ
 in_base None c d cs = decimal c (d ∷ cs)
 in_base (Some base) c d cs = prefixed base cs
@@ -55,10 +60,12 @@ abbrev pub number_of : ℕ → List ℕ → Option ℕ
 number_of c [] = decimal c []
 number_of c (d ∷ cs) = in_base (if c == 48 then base_named d else None) c d cs
 
+-- the number that a word spells
 abbrev pub number_text : List ℕ → Option ℕ
 number_text [] = None
 number_text (c ∷ cs) = number_of c cs
 
+-- a number is a token, or the fault of its line
 abbrev pub kind_of_number : ℕ → Option ℕ → Result PKind TokenError
 kind_of_number line None = Err (BadCharacter line)
 kind_of_number line (Some n) = if nat_lt n (2 ^ 63) then Ok (int (pos n)) else Err (WideNumber line)

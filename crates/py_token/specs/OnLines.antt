@@ -5,17 +5,18 @@ use Rattle.py_token.specs.Plain.{PKind, name, keyword, int, str, fstring, mark, 
 abbrev mutual
   -- the tokens in the fields of an f-string keep lines too
   pub IsKindOnLines : PKind → Type 0
-  IsKindOnLines (fstring ps) = ArePiecesOnLines ps
   IsKindOnLines (name text) = Unit {0}
   IsKindOnLines (keyword k) = Unit {0}
   IsKindOnLines (int n) = Unit {0}
   IsKindOnLines (str text) = Unit {0}
+  IsKindOnLines (fstring ps) = ArePiecesOnLines ps
   IsKindOnLines (mark m) = Unit {0}
   IsKindOnLines newline = Unit {0}
   IsKindOnLines indent = Unit {0}
   IsKindOnLines dedent = Unit {0}
   IsKindOnLines end = Unit {0}
 
+  -- a token keeps lines from 1 to 65,535, its first no later than its last
   pub IsOnLines : PToken → Type 0
   IsOnLines (token kind first last) = (1 ≤ first) × (first ≤ last) × (last ≤ 65535) × IsKindOnLines kind
 

@@ -5,6 +5,7 @@ use Rattle.py_token.specs.declared.token.Keyword.{Keyword}
 use Rattle.py_token.specs.declared.token.Mark.{Mark}
 
 mutual
+  -- what a token is, with its spelling
   pub data PKind : Type 0 where
     name : (spelling : List ℕ) → PKind
     keyword : (word : Keyword) → PKind
@@ -21,6 +22,7 @@ mutual
   pub data PToken : Type 0 where
     token : (kind : PKind) (first last : ℕ) → PToken
 
+  -- the tokens of a field
   pub data PTokens : Type 0 where
     no_tokens : PTokens
     tokens : (t : PToken) (ts : PTokens) → PTokens
@@ -30,32 +32,29 @@ mutual
     chars : (characters : List ℕ) → PPiece
     field : (ts : PTokens) → PPiece
 
+  -- the pieces of an f-string
   pub data PPieces : Type 0 where
     no_pieces : PPieces
     pieces : (p : PPiece) (ps : PPieces) → PPieces
 
+-- what a token is
 abbrev pub kind_of : PToken → PKind
 kind_of (token kind first last) = kind
 
+-- the first line of a token
 abbrev pub first_of : PToken → ℕ
 first_of (token kind first last) = first
 
+-- the last line of a token
 abbrev pub last_of : PToken → ℕ
 last_of (token kind first last) = last
 
--- a list of tokens as the tokens of a field, and back
+-- a list of tokens as the tokens of a field
 abbrev pub token_row : List PToken → PTokens
 token_row [] = no_tokens
 token_row (t ∷ ts) = tokens t (token_row ts)
 
-abbrev pub token_list : PTokens → List PToken
-token_list no_tokens = []
-token_list (tokens t ts) = t ∷ token_list ts
-
+-- a list of pieces as those of an f-string
 abbrev pub piece_row : List PPiece → PPieces
 piece_row [] = no_pieces
 piece_row (p ∷ ps) = pieces p (piece_row ps)
-
-abbrev pub piece_list : PPieces → List PPiece
-piece_list no_pieces = []
-piece_list (pieces p ps) = p ∷ piece_list ps

@@ -17,20 +17,25 @@ pub record Taken : Type 0 where
   pub behind : ℕ
   pub next : ℕ
 
+-- `'` or `"`
 abbrev pub is_quote : ℕ → Bool
 is_quote c = (c == 39) || (c == 34)
 
+-- whether a quote stands in front
 abbrev pub begins_quote : List ℕ → Bool
 begins_quote [] = false
 begins_quote (c ∷ cs) = is_quote c
 
+-- `r` or `R`
 abbrev pub is_raw_prefix : ℕ → Bool
 is_raw_prefix c = (c == 114) || (c == 82)
 
+-- texts as one
 abbrev pub joined : List (List ℕ) → List ℕ
 joined [] = []
 joined (xs ∷ xss) = xs ++ joined xss
 
+-- a string is one token
 abbrev pub taken_text : List ℕ → Result (Body (List ℕ)) TokenError → Result Taken TokenError
 taken_text cs body = body >>= λ b. Ok (record { kind = str (joined b.values); behind = length cs - length b.rest; next = b.next })
 
@@ -38,6 +43,7 @@ taken_text cs body = body >>= λ b. Ok (record { kind = str (joined b.values); b
 abbrev pub string_at : Bool → ℕ → ℕ → List ℕ → Result Taken TokenError
 string_at raw line quote cs = if doubled quote cs then taken_text cs (text_body raw quote true line (drop 2 cs)) else taken_text cs (text_body raw quote false line cs)
 
+-- a token with one character more in front
 abbrev pub behind_prefix : Result Taken TokenError → Result Taken TokenError
 behind_prefix taken = taken >>= λ t. Ok (record t { behind = t.behind + 1 })
 
@@ -46,12 +52,15 @@ abbrev pub raw_string : ℕ → List ℕ → Result Taken TokenError
 raw_string line [] = Err (BadCharacter line)
 raw_string line (quote ∷ cs) = behind_prefix (string_at true line quote cs)
 
+-- the word at the front
 abbrev pub word_at : ℕ → ℕ → List ℕ → Result Taken TokenError
 word_at line c cs = Ok (record { kind = word_kind (c ∷ take_while in_name cs); behind = prefix_len in_name cs; next = line })
 
+-- the number at the front
 abbrev pub number_at : ℕ → ℕ → List ℕ → Result Taken TokenError
 number_at line c cs = kind_of_number line (number_of c (take_while in_number cs)) >>= λ k. Ok (record { kind = k; behind = prefix_len in_number cs; next = line })
 
+-- a mark, or a character that no rule takes
 abbrev pub marked : ℕ → Option (Mark × ℕ) → Result Taken TokenError
 marked line None = Err (BadCharacter line)
 marked line (Some m) = Ok (record { kind = mark m.0; behind = m.1; next = line })

@@ -1,6 +1,7 @@
 -- The characters that are cut, and the lines that they stand on.
 use Rattle.std.specs.Prelude.{ℕ, suc, Bool, false, ◌&&◌, ◌==◌, List, [], ◌∷◌, max, if◌then◌else◌}
 
+-- whether a character stands in front
 abbrev pub begins : ℕ → List ℕ → Bool
 begins c [] = false
 begins c (d ∷ ds) = d == c
@@ -15,6 +16,7 @@ unfoldable pub joined_ends : List ℕ → List ℕ
 joined_ends [] = []
 joined_ends (c ∷ cs) = if (c == 13) && begins 10 cs then joined_ends cs else c ∷ joined_ends cs
 
+-- the characters that are cut
 abbrev pub source_text : List ℕ → List ℕ
 source_text cs = joined_ends (without_mark cs)
 

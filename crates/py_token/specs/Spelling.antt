@@ -26,5 +26,6 @@ OneSpelling = (text : List ℕ) (a b : List PToken) → Spells text a → Spells
 abbrev pub OneFault : Type 0
 OneFault = (text : List ℕ) (e f : TokenError) → StuckAt text e → StuckAt text f → e ≡ f
 
+-- no text both spells tokens and is stuck
 abbrev pub NeverBoth : Type 0
 NeverBoth = (text : List ℕ) (ts : List PToken) (e : TokenError) → Spells text ts → StuckAt text e → ⊥

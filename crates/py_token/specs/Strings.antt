@@ -1,4 +1,10 @@
 -- Strings (The Python Language Reference, "String and Bytes literals").
+--     ◌>>=◌                                    what goes on where there is no fault
+--     Bit                                      what stands at a place in a string
+--     doubled, closes                          quotes
+--     escaped .. escape_bit                    escapes
+--     raw_bit, text_bit                        a place of a raw string and of any string
+--     Body, body_of, text_body                 a string behind its opening marks
 use Rattle.std.specs.Prelude.{ℕ, zero, suc, ◌+◌, Bool, false, ◌||◌, ◌&&◌, not, ◌==◌, nat_lt, List, [], ◌∷◌, length, take, drop, Option, Some, None, Result, Ok, Err, if◌then◌else◌}
 use Rattle.std.specs.List.{list_all, prefix_len}
 use Rattle.py_token.specs.declared.error.TokenError.{TokenError}
@@ -6,6 +12,7 @@ use Rattle.py_token.specs.declared.error.TokenError.TheVariants.{BadCharacter, O
 use Rattle.py_token.specs.Source.{begins}
 use Rattle.py_token.specs.Numbers.{digits_value, is_digit_of}
 
+-- goes on with a value, and stops at a fault
 infixl 10 ◌>>=◌
 abbrev pub ◌>>=◌ : {A B : Type 0} → Result A TokenError → (A → Result B TokenError) → Result B TokenError
 (Ok x) >>= f = f x
@@ -59,6 +66,7 @@ hex_bit line n cs =
 abbrev pub octal_len : List ℕ → ℕ
 octal_len cs = prefix_len (is_digit_of 8) (take 3 cs)
 
+-- so many octal digits are one character
 unfoldable pub octal_bit : ℕ → List ℕ → Bit (List ℕ)
 octal_bit line cs = holds (digits_value 8 0 (take (octal_len cs) cs) ∷ []) (octal_len cs) line
 
@@ -66,10 +74,12 @@ octal_bit line cs = holds (digits_value 8 0 (take (octal_len cs) cs) ∷ []) (oc
 abbrev pub other_bit : ℕ → ℕ → Bit (List ℕ)
 other_bit line d = if d == 78 then fault (BadCharacter line) else holds (92 ∷ []) 0 line
 
+-- hexadecimal digits where a letter asks for them
 abbrev pub hex_or : Option ℕ → ℕ → ℕ → List ℕ → Bit (List ℕ)
 hex_or (Some n) line d ds = hex_bit line n ds
 hex_or None line d ds = other_bit line d
 
+-- the character of an escape, or else digits
 abbrev pub escaped_or : Option ℕ → ℕ → ℕ → List ℕ → Bit (List ℕ)
 escaped_or (Some c) line d ds = holds (c ∷ []) 1 line
 escaped_or None line d ds = if is_digit_of 8 d then octal_bit line (d ∷ ds) else hex_or (digits_asked d) line d ds
@@ -102,19 +112,23 @@ pub record Body (A : Type 0) : Type 0 where
   pub rest : List ℕ
   pub next : ℕ
 
+-- a string with one value more in front
 abbrev pub more_of : {A : Type 0} → A → Result (Body A) TokenError → Result (Body A) TokenError
 more_of x body = body >>= λ b. Ok (record b { values = x ∷ b.values })
 
+-- how many of its characters stand behind the first
 abbrev pub behind_of : {A : Type 0} → Bit A → ℕ
 behind_of (holds x behind next) = behind
 behind_of (closing behind) = behind
 behind_of (fault e) = 0
 
+-- the line behind it
 abbrev pub next_of : {A : Type 0} → Bit A → ℕ → ℕ
 next_of (holds x behind next) line = next
 next_of (closing behind) line = line
 next_of (fault e) line = line
 
+-- a bit, and then the others of the string
 abbrev pub with_bit : {A : Type 0} → Bit A → ℕ → List ℕ → Result (Body A) TokenError → Result (Body A) TokenError
 with_bit (holds x behind next) line cs body = more_of x body
 with_bit (closing behind) line cs body = Ok (record { values = []; rest = drop behind cs; next = line })

@@ -1,20 +1,25 @@
 -- Names and keywords (The Python Language Reference, "Identifiers and keywords").
 use Rattle.std.specs.Prelude.{ℕ, Bool, ◌||◌, ◌==◌, nat_eq, List, [], ◌∷◌, Option, Some, None, codes, if◌then◌else◌}
+use Rattle.std.specs.Borrow.{Bor}
 use Rattle.std.specs.Char.{is_ascii_digit, is_ascii_alphabetic}
 use Rattle.std.specs.Cmp.Lexicographic.{pointwise}
 use Rattle.py_token.specs.declared.token.Keyword.{Keyword}
 use Rattle.py_token.specs.declared.token.Keyword.TheVariants as keywords
 use Rattle.py_token.specs.Plain.{PKind, name, keyword}
 
+-- a letter or an underscore
 abbrev pub begins_name : ℕ → Bool
 begins_name c = is_ascii_alphabetic c || (c == 95)
 
+-- or a digit
 abbrev pub in_name : ℕ → Bool
 in_name c = begins_name c || is_ascii_digit c
 
+-- whether two texts are the same
 abbrev pub same_text : List ℕ → List ℕ → Bool
 same_text = pointwise nat_eq
 
+-- the keywords with their spellings
 abbrev pub keyword_table : List (List ℕ × Keyword)
 keyword_table =
     (codes "False", keywords.False) ∷ (codes "None", keywords.None) ∷ (codes "True", keywords.True)
@@ -30,10 +35,16 @@ keyword_table =
     ∷ (codes "return", keywords.Return) ∷ (codes "try", keywords.Try) ∷ (codes "while", keywords.While)
     ∷ (codes "with", keywords.With) ∷ (codes "yield", keywords.Yield) ∷ []
 
+-- the keyword of the first of these rows that has this spelling
 abbrev pub keyword_in : List (List ℕ × Keyword) → List ℕ → Option Keyword
 keyword_in [] word = None
 keyword_in (row ∷ rows) word = if same_text word row.0 then Some row.1 else keyword_in rows word
 
+-- a row of the table as the code holds it
+abbrev pub view_row : Bor (List ℕ) × Keyword → List ℕ × Keyword
+view_row row = (row.0.now, row.1)
+
+-- the keyword that a word is, if it is one
 unfoldable pub keyword_of : List ℕ → Option Keyword
 keyword_of word = keyword_in keyword_table word
 
@@ -42,5 +53,6 @@ abbrev pub kind_of_word : Option Keyword → List ℕ → PKind
 kind_of_word None word = name word
 kind_of_word (Some k) word = keyword k
 
+-- what the token of a word is
 abbrev pub word_kind : List ℕ → PKind
 word_kind word = kind_of_word (keyword_of word) word

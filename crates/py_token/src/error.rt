@@ -7,7 +7,7 @@ use std::alloc::{AllocError, AllocFailed};
 use thiserror::Error;
 
 /// Why no list of tokens spells a text, with the line of the place that can't be read. Lines count from 1.
-#[derive(Debug, PartialEq, Eq, Drop, Error)]
+#[derive(Debug, Drop, Error)]
 pub enum TokenError {
     /// A character that no rule takes, a bad escape or a malformed number.
     #[error("line {0}: a character that can't stand here")]

@@ -18,13 +18,28 @@ use std::alloc::{AllocError, Global};
 /// Where the reading of a text stands: the indentations that are open and the lines of the open brackets, the
 /// innermost last; whether the logical line has a token; the blanks before its first one, and whether a backslash has
 /// ended them.
-#[derive(Drop)]
 pub struct State {
     pub indents: Vec<Vec<char>>,
     pub brackets: Vec<u32>,
     pub begun: bool,
     pub blanks: Vec<char>,
     pub settled: bool,
+}
+
+// Written out, and not derived, so that letting a state go is one call wherever that happens.
+impl Drop for State {
+    fn drop(self) {
+        let State {
+            indents,
+            brackets,
+            begun: _,
+            blanks,
+            settled: _,
+        } = self;
+        drop(indents);
+        drop(brackets);
+        drop(blanks)
+    }
 }
 
 fn same_text(a: &[char], b: &[char]) -> bool

@@ -4,7 +4,7 @@ ghost use Rattle.std.specs.Prelude.{◌≡◌, ◌≤◌, ◌<◌, ◌+◌, ◌^
 ghost use Rattle.std.specs.List.{prefix_len};
 ghost use Rattle.py_token.specs.Source.{line_count};
 ghost use Rattle.py_token.specs.Cuts.{in_comment};
-ghost use Rattle.py_token.specs.HeldCuts.{cut_of, view_cut};
+ghost use Rattle.py_token.specs.HeldCuts.{cut_of, token_cut_of, view_cut};
 ghost use Rattle.py_token.specs.Answers.{Gives};
 
 use crate::characters::{begins, behind};
@@ -40,6 +40,28 @@ fn comment_len(chars: &[char]) -> usize
         .iter()
         .take_while(|c| **c != '\n' && **c != '\r')
         .count()
+}
+
+/// The token at the front, or the fault of the place where no rule takes one.
+fn token_cut(alloc: Global, line: u32, chars: &[char]) -> Result<Cut, TokenError>
+    requires some { 0 < length chars.now }
+    requires lines { line + line_count chars.now ≤ 65536 }
+    requires few { length chars.now < 2 ^ 63 }
+    ensures { Gives view_cut result (token_cut_of line chars.now) }
+{
+    match token_at(alloc, line, chars) {
+        Ok(taken) => Ok(Cut {
+            lexeme: Lexeme::Spelled(taken.kind),
+            behind: taken.behind,
+            next: taken.next,
+        }),
+        Err(TokenError::NoMemory) => Err(TokenError::NoMemory),
+        Err(error) => Ok(Cut {
+            lexeme: Lexeme::Stuck(error),
+            behind: 0,
+            next: line,
+        }),
+    }
 }
 
 /// The longest piece at the front.
@@ -80,17 +102,5 @@ pub fn cut_front(alloc: Global, line: u32, chars: &[char]) -> Result<Cut, TokenE
             next: line + 1,
         });
     }
-    match token_at(alloc, line, chars) {
-        Ok(taken) => Ok(Cut {
-            lexeme: Lexeme::Spelled(taken.kind),
-            behind: taken.behind,
-            next: taken.next,
-        }),
-        Err(TokenError::NoMemory) => Err(TokenError::NoMemory),
-        Err(error) => Ok(Cut {
-            lexeme: Lexeme::Stuck(error),
-            behind: 0,
-            next: line,
-        }),
-    }
+    token_cut(alloc, line, chars)
 }

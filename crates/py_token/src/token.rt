@@ -13,7 +13,6 @@ pub struct Token {
 
 /// What a token is, with its spelling.
 #[cycle(token)]
-#[derive(Drop)]
 pub enum TokenKind {
     Name(Text),
     Keyword(Keyword),
@@ -27,6 +26,25 @@ pub enum TokenKind {
     End,
 }
 
+// Written out, and not derived, so that letting a kind go is one call wherever that happens.
+impl Drop for TokenKind {
+    #[cycle(token)]
+    fn drop(self) {
+        match self {
+            TokenKind::Name(text) => drop(text),
+            TokenKind::Keyword(_) => (),
+            TokenKind::Int(_) => (),
+            TokenKind::Str(text) => drop(text),
+            TokenKind::FString(pieces) => drop(pieces),
+            TokenKind::Mark(_) => (),
+            TokenKind::Newline => (),
+            TokenKind::Indent => (),
+            TokenKind::Dedent => (),
+            TokenKind::End => (),
+        }
+    }
+}
+
 /// A piece of an f-string: characters, or the tokens of a field.
 #[cycle(token)]
 #[derive(Drop)]
@@ -36,7 +54,7 @@ pub enum Piece {
 }
 
 /// A keyword.
-#[derive(Clone, Copy, Debug, PartialEq, Eq)]
+#[derive(Clone, Copy, Debug)]
 pub enum Keyword {
     False,
     None,
@@ -76,7 +94,7 @@ pub enum Keyword {
 }
 
 /// An operator or a delimiter.
-#[derive(Clone, Copy, Debug, PartialEq, Eq)]
+#[derive(Clone, Copy, Debug)]
 pub enum Mark {
     /// `//=`
     DoubleSlashEqual,

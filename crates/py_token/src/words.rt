@@ -1,8 +1,8 @@
 // Names and keywords.
 
-ghost use Rattle.std.specs.Prelude.{◌≡◌, Ok};
+ghost use Rattle.std.specs.Prelude.{◌≡◌, map, Ok};
 ghost use Rattle.std.specs.List.{prefix_len};
-ghost use Rattle.py_token.specs.Words.{begins_name, in_name, keyword_of, word_kind};
+ghost use Rattle.py_token.specs.Words.{begins_name, in_name, keyword_in, keyword_of, view_row, word_kind};
 ghost use Rattle.py_token.specs.View.{view_kind};
 ghost use Rattle.py_token.specs.Answers.{Gives};
 
@@ -30,47 +30,62 @@ pub fn name_len(chars: &[char]) -> usize
     chars.iter().take_while(|c| in_name(**c)).count()
 }
 
+/// The keywords with their spellings.
+const KEYWORDS: &[(&str, Keyword)] = &[
+    ("False", Keyword::False),
+    ("None", Keyword::None),
+    ("True", Keyword::True),
+    ("and", Keyword::And),
+    ("as", Keyword::As),
+    ("assert", Keyword::Assert),
+    ("async", Keyword::Async),
+    ("await", Keyword::Await),
+    ("break", Keyword::Break),
+    ("class", Keyword::Class),
+    ("continue", Keyword::Continue),
+    ("def", Keyword::Def),
+    ("del", Keyword::Del),
+    ("elif", Keyword::Elif),
+    ("else", Keyword::Else),
+    ("except", Keyword::Except),
+    ("finally", Keyword::Finally),
+    ("for", Keyword::For),
+    ("from", Keyword::From),
+    ("global", Keyword::Global),
+    ("if", Keyword::If),
+    ("import", Keyword::Import),
+    ("in", Keyword::In),
+    ("is", Keyword::Is),
+    ("lambda", Keyword::Lambda),
+    ("nonlocal", Keyword::Nonlocal),
+    ("not", Keyword::Not),
+    ("or", Keyword::Or),
+    ("pass", Keyword::Pass),
+    ("raise", Keyword::Raise),
+    ("return", Keyword::Return),
+    ("try", Keyword::Try),
+    ("while", Keyword::While),
+    ("with", Keyword::With),
+    ("yield", Keyword::Yield),
+];
+
+#[tactic(auto, unfolding(crate::specs::Words::keyword_of))]
 pub fn keyword_of(word: &str) -> Option<Keyword>
     ensures { result ≡ keyword_of word.now }
 {
-    match word {
-        "False" => Some(Keyword::False),
-        "None" => Some(Keyword::None),
-        "True" => Some(Keyword::True),
-        "and" => Some(Keyword::And),
-        "as" => Some(Keyword::As),
-        "assert" => Some(Keyword::Assert),
-        "async" => Some(Keyword::Async),
-        "await" => Some(Keyword::Await),
-        "break" => Some(Keyword::Break),
-        "class" => Some(Keyword::Class),
-        "continue" => Some(Keyword::Continue),
-        "def" => Some(Keyword::Def),
-        "del" => Some(Keyword::Del),
-        "elif" => Some(Keyword::Elif),
-        "else" => Some(Keyword::Else),
-        "except" => Some(Keyword::Except),
-        "finally" => Some(Keyword::Finally),
-        "for" => Some(Keyword::For),
-        "from" => Some(Keyword::From),
-        "global" => Some(Keyword::Global),
-        "if" => Some(Keyword::If),
-        "import" => Some(Keyword::Import),
-        "in" => Some(Keyword::In),
-        "is" => Some(Keyword::Is),
-        "lambda" => Some(Keyword::Lambda),
-        "nonlocal" => Some(Keyword::Nonlocal),
-        "not" => Some(Keyword::Not),
-        "or" => Some(Keyword::Or),
-        "pass" => Some(Keyword::Pass),
-        "raise" => Some(Keyword::Raise),
-        "return" => Some(Keyword::Return),
-        "try" => Some(Keyword::Try),
-        "while" => Some(Keyword::While),
-        "with" => Some(Keyword::With),
-        "yield" => Some(Keyword::Yield),
-        _ => None,
+    keyword_in(KEYWORDS, word)
+}
+
+/// The keyword of the first of these rows that has this spelling.
+fn keyword_in(rows: &[(&str, Keyword)], word: &str) -> Option<Keyword>
+    ensures { result ≡ keyword_in (map view_row rows.now) word.now }
+{
+    for (spelling, keyword) in rows {
+        if word == *spelling {
+            return Some(*keyword);
+        }
     }
+    None
 }
 
 /// The kind of a word's token.

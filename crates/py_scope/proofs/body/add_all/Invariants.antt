@@ -1,4 +1,4 @@
-use Rattle.std.proofs.Common.{◌≡◌, ◌++◌, drop}
+use Rattle.std.proofs.Common.{◌≡◌, drop}
 use Rattle.py_syntax.specs.Names.{add_names}
 use Rattle.py_scope.proofs.body.add_all.Given as goal
 

@@ -1,4 +1,4 @@
-use Rattle.std.proofs.Common.{◌≡◌, ◌++◌, drop}
+use Rattle.std.proofs.Common.{◌≡◌, drop}
 use Rattle.py_scope.specs.Patterns.{repeats_in, has_repeats}
 use Rattle.py_scope.proofs.lists.has_repeats.Given as goal
 

@@ -1,4 +1,4 @@
-use Rattle.std.proofs.Common.{◌≡◌, ◌<◌, ℕ, get_or}
+use Rattle.std.proofs.Common.{◌<◌, ℕ, get_or}
 use Rattle.std.specs.Prelude.{Contains}
 use Rattle.py_scope.specs.declared.error.ScopeError.{ScopeError}
 use Rattle.py_scope.specs.Answer.{ComesBefore}

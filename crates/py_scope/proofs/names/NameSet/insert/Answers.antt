@@ -1,4 +1,4 @@
-use Rattle.std.proofs.Common.{◌≡◌, ap, ◌∙◌, map, not, string_bytes}
+use Rattle.std.proofs.Common.{ap, ◌∙◌, map, not, string_bytes}
 use Rattle.std.specs.Str.{chars}
 use Rattle.std.proofs.lemmas.Str.{IsUtf8-string_bytes}
 use Rattle.py_syntax.specs.Names.{is_among, add_name}
