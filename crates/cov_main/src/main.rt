@@ -13,11 +13,11 @@ const NO_MEMORY: u8 = 70;
 const HELP: &str = "\
 usage: coverage COMMAND
 
-  arcs SCRIPT   run the Python program SCRIPT, print what it prints, and then the
-                jumps between its lines that it made, one line PATH FROM TO each,
-                where -1 stands for the outside of the program
+  arcs SCRIPT   run a Python program, and print its output and then its jumps
   --help        print this text
   --version     print the version
+
+A jump is a line SCRIPT FROM TO, where -1 stands for the outside of the program.
 
 example: coverage arcs examples/countdown.py
 ";
