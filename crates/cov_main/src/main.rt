@@ -11,11 +11,15 @@ use std::{env, io};
 const NO_MEMORY: u8 = 70;
 
 const HELP: &str = "\
-usage: cov_main arcs SCRIPT
+usage: coverage COMMAND
 
-Runs the Python program SCRIPT and prints what it prints, and then the jumps
-between its lines that it made, one line PATH FROM TO each. -1 stands for the
-outside of the program.
+  arcs SCRIPT   run a Python program, and print its output and then its jumps
+  --help        print this text
+  --version     print the version
+
+A jump is a line SCRIPT FROM TO, where -1 stands for the outside of the program.
+
+example: coverage arcs examples/countdown.py
 ";
 
 fn main(rt: HostRuntime) -> ExitCode {
@@ -32,7 +36,7 @@ fn run(rt: &HostRuntime) -> Result<u8, AllocError> {
         return Ok(shown(rt.print(HELP)));
     }
     if words.len() == 1 && words[0].as_str() == "--version" {
-        return Ok(shown(rt.println("cov_main 0.1")));
+        return Ok(shown(rt.println("coverage 0.1")));
     }
     let mut shelf = FolderShelf::new(rt.alloc(), rt, ".")?;
     let mut input = StdSource::new(rt)?;
