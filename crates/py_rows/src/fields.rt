@@ -1,6 +1,7 @@
 // Which fields of f-strings are expressions, row by row.
 
-use py_parse_expr::{ExprPart, ReadError, read_expr};
+use py_grammar::ReadError;
+use py_parse_expr::{ExprPart, read_expr};
 use py_token::{TokenKind, count_lines, tokens};
 use std::alloc::Global;
 use std::test::Fail;

@@ -1,6 +1,6 @@
 // What patterns are read from sources, row by row: the pattern with the place behind it, or the refusal with its place.
 
-use py_parse_expr::read_patterns;
+use py_parse_pattern::read_patterns;
 use py_syntax::{Brackets, Constant, Pattern};
 use py_token::{count_lines, tokens};
 use std::alloc::Global;
