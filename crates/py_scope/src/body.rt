@@ -1,6 +1,6 @@
 // The names that a body of a module or a function uses, assigns and declares.
 
-ghost use Rattle.std.specs.Prelude.{◌≡◌, [], OnOk, IfOk};
+ghost use Rattle.std.specs.Prelude.{◌≡◌, OnOk, IfOk};
 ghost use Rattle.py_syntax.specs.Names.{add_names};
 ghost use Rattle.py_scope.specs.Seen.{after, after_one, starting};
 
@@ -30,18 +30,7 @@ impl Model for Body {
 }
 
 impl Body {
-    pub(crate) fn empty(alloc: Global) -> Body
-        ensures { result ≡ starting [] }
-    {
-        Body {
-            used: NameSet::new(alloc),
-            assigned: NameSet::new(alloc),
-            declared: NameSet::new(alloc),
-            late: Vec::new(alloc),
-        }
-    }
-
-    /// The body of a function with these parameters.
+    /// The body of a function with these parameters, at its start.
     pub(crate) fn new(alloc: Global, params: &[Text]) -> Result<Body, NoMemory>
         ensures { IfOk result (λ b. b ≡ starting params.now) }
     {

@@ -59,7 +59,7 @@ impl Report {
             assigned: _,
             declared: _,
             mut late,
-        } = module_body(alloc, body)?;
+        } = body_of(alloc, &[], body)?;
         self.faults.append(&mut late)?;
         Ok(())
     }
@@ -88,18 +88,7 @@ impl Report {
     }
 }
 
-/// The names that occur in the body of a module.
-fn module_body(alloc: Global, body: &[Stmt]) -> Result<Body, NoMemory>
-    ensures { IfOk result (λ b. b ≡ after (starting []) (occurrences (plain_stmts body.now))) }
-{
-    let mut seen = Body::empty(alloc);
-    let mut occurrences = Vec::new(alloc);
-    statements(&mut occurrences, body)?;
-    seen.take_all(alloc, &occurrences)?;
-    Ok(seen)
-}
-
-/// The names that occur in the body of a function.
+/// The names that occur in the body of a function with these parameters, or of a module, which has none.
 fn body_of(alloc: Global, params: &[Text], body: &[Stmt]) -> Result<Body, NoMemory>
     ensures { IfOk result (λ b. b ≡ after (starting params.now) (occurrences (plain_stmts body.now))) }
 {
