@@ -89,25 +89,27 @@ fn equal_inside(levels: u32, left: &Value, right: &Value, heap: &Heap) -> Result
 fn equal_items(levels: u32, left: &[Value], right: &[Value], heap: &Heap) -> Result<bool, Cause>
     ensures { result ≡ are_equal (equal_within levels (plain_heap heap.now)) (plains left.now) (plains right.now) }
 {
-    let both = left.len().min(right.len());
-    for i in 0..both {
+    if left.len() != right.len() {
+        return Ok(false);
+    }
+    for i in 0..left.len() {
         match equal(levels, &left[i], &right[i], heap) {
             Ok(true) => {}
             Ok(false) => return Ok(false),
             Err(cause) => return Err(cause),
         }
     }
-    Ok(left.len() == right.len())
+    Ok(true)
 }
 
 #[cycle(equal)]
 fn equal_dicts(levels: u32, left: &[Pair], right: &[Pair], heap: &Heap) -> Result<bool, Cause>
     ensures { result ≡ are_equal_dicts (equal_within levels (plain_heap heap.now)) (map plain_pair left.now) (map plain_pair right.now) }
 {
-    match equal_pairs(levels, left, right, heap) {
-        Ok(true) => Ok(left.len() == right.len()),
-        Ok(false) => Ok(false),
-        Err(cause) => Err(cause),
+    if left.len() == right.len() {
+        equal_pairs(levels, left, right, heap)
+    } else {
+        Ok(false)
     }
 }
 
