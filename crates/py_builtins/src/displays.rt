@@ -1,7 +1,7 @@
 // Displays of values: a walk from left to right, which enters no list or dict again inside itself.
 
 ghost use Rattle.std.specs.Prelude.{◌≡◌, ◌++◌, ◌∷◌, [], OnOk, codes};
-ghost use Rattle.py_value.specs.View.{plain, plains, plain_argument};
+ghost use Rattle.py_value.specs.View.{plain, plains};
 ghost use Rattle.py_value.specs.HeapView.{plain_heap};
 ghost use Rattle.py_value.specs.Plain.{list_at};
 ghost use Rattle.py_builtins.specs.Displays.{has, separated, display_step, tuple_display, kind_name, builtin_name, exception_display, argument_display};
@@ -12,7 +12,7 @@ ghost use Rattle.py_builtins.specs.Written.{IsWritten};
 use crate::names::{builtin_name, kind_name};
 use crate::pairs::display_dict;
 use crate::writer::{Stop, Writer};
-use py_value::{Addr, Builtin, Cause, ExcKind, Heap, Value};
+use py_value::{Addr, Argument, Builtin, Cause, ExcKind, Heap, Value};
 
 /// Writes the display of a value that stands inside the lists and dicts at these places of the heap.
 #[cycle(display)]
@@ -49,7 +49,7 @@ fn display_inside(
         Value::Bool(false) => out.push_word("False"),
         Value::Int(n) => out.push_number(*n),
         Value::Str(text) => out.push_quoted(text),
-        Value::Tuple(items) => display_tuple(levels, items, heap, inside, out),
+        Value::Tuple(items) => display_tuple(levels, items.as_slice(), heap, inside, out),
         Value::List(addr) => display_list(levels, *addr, heap, inside, out),
         Value::Dict(addr) => display_dict(levels, *addr, heap, inside, out),
         Value::Func(_, _) => out.push_word("<function>"),
@@ -124,12 +124,12 @@ fn display_list(
 fn display_exception(
     levels: u32,
     kind: ExcKind,
-    arg: &Option<Box<Value>>,
+    arg: &Argument,
     heap: &Heap,
     inside: &mut Vec<usize>,
     out: &mut Writer,
 ) -> Result<(), Stop>
-    ensures written { IsWritten result out.old.text out.new.text (exception_display (display_within levels (plain_heap heap.now) inside.old.items) kind (plain_argument arg.now)) }
+    ensures written { IsWritten result out.old.text out.new.text (exception_display (display_within levels (plain_heap heap.now) inside.old.items) kind arg.now) }
     ensures inside { OnOk result (inside.new.items ≡ inside.old.items) }
 {
     out.push_word(kind_name(kind))?;
@@ -141,15 +141,15 @@ fn display_exception(
 #[cycle(display)]
 fn display_argument(
     levels: u32,
-    arg: &Option<Box<Value>>,
+    arg: &Argument,
     heap: &Heap,
     inside: &mut Vec<usize>,
     out: &mut Writer,
 ) -> Result<(), Stop>
-    ensures written { IsWritten result out.old.text out.new.text (argument_display (display_within levels (plain_heap heap.now) inside.old.items) (plain_argument arg.now)) }
+    ensures written { IsWritten result out.old.text out.new.text (argument_display (display_within levels (plain_heap heap.now) inside.old.items) arg.now) }
     ensures inside { OnOk result (inside.new.items ≡ inside.old.items) }
 {
-    match arg {
+    match arg.value() {
         None => Ok(()),
         Some(value) => display(levels, value, heap, inside, out),
     }

@@ -5,7 +5,7 @@ ghost use Rattle.py_value.specs.View.{plains, plain_raised, plain_value_answer};
 ghost use Rattle.py_builtins.specs.Builtins.{raised_with, exception_of};
 
 use crate::arguments::{are_none, only};
-use py_value::{Cause, ExcKind, NoMemory, Raised, Value};
+use py_value::{Argument, Cause, ExcKind, NoMemory, Raised, Value};
 use std::alloc::Global;
 
 /// A kind called with these arguments: an exception with the value as its argument, where it is given one.
@@ -17,7 +17,7 @@ pub fn exception_of(
     ensures { IfOk result (λ answer. plain_value_answer answer ≡ exception_of kind (plains args.now)) }
 {
     if are_none(args) {
-        return Ok(Ok(Value::Exc(kind, None)));
+        return Ok(Ok(Value::Exc(kind, Argument::none())));
     }
     match only(args) {
         None => Ok(Err(Raised::of(alloc, Cause::WrongArgumentCount)?)),
@@ -25,8 +25,8 @@ pub fn exception_of(
             if !value.may_nest() {
                 return Ok(Err(Raised::of(alloc, Cause::TooDeep)?));
             }
-            let arg = Box::new(alloc, value.copy(alloc)?)?;
-            Ok(Ok(Value::Exc(kind, Some(arg))))
+            let arg = Argument::of(alloc, value.copy(alloc)?)?;
+            Ok(Ok(Value::Exc(kind, arg)))
         }
     }
 }
@@ -36,7 +36,10 @@ pub(crate) fn raised_with(alloc: Global, kind: ExcKind, args: &[Value]) -> Resul
     ensures { IfOk result (λ raised. plain_raised raised ≡ raised_with kind (plains args.now)) }
 {
     if are_none(args) {
-        return Ok(Raised { kind, arg: None });
+        return Ok(Raised {
+            kind,
+            arg: Argument::none(),
+        });
     }
     match only(args) {
         None => Raised::of(alloc, Cause::WrongArgumentCount),
@@ -44,11 +47,8 @@ pub(crate) fn raised_with(alloc: Global, kind: ExcKind, args: &[Value]) -> Resul
             if !value.may_nest() {
                 return Raised::of(alloc, Cause::TooDeep);
             }
-            let arg = Box::new(alloc, value.copy(alloc)?)?;
-            Ok(Raised {
-                kind,
-                arg: Some(arg),
-            })
+            let arg = Argument::of(alloc, value.copy(alloc)?)?;
+            Ok(Raised { kind, arg })
         }
     }
 }

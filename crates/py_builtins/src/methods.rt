@@ -8,7 +8,7 @@ ghost use Rattle.py_builtins.specs.Methods.{method_name, absent_text, no_attribu
 use crate::dict_methods::{get_value, list_keys, pop_value};
 use crate::list_methods::{append, pop_item};
 use crate::text_methods::{join_list, split, test_start};
-use py_value::{Addr, ExcKind, Heap, Method, NoMemory, Raised, Text, Value};
+use py_value::{Addr, Argument, ExcKind, Heap, Method, NoMemory, Raised, Text, Value};
 use std::alloc::Global;
 
 /// A method of a value, called with these arguments. A value without the method raises `AttributeError`.
@@ -113,10 +113,10 @@ fn no_attribute(alloc: Global, which: Method) -> Result<Raised, NoMemory>
     ensures { IfOk result (λ raised. plain_raised raised ≡ no_attribute (method_name which)) }
 {
     let text = Text::from_str(alloc, absent_text(which))?;
-    let arg = Box::new(alloc, Value::Str(text))?;
+    let arg = Argument::of(alloc, Value::Str(text))?;
     Ok(Raised {
         kind: ExcKind::AttributeError,
-        arg: Some(arg),
+        arg,
     })
 }
 

@@ -71,7 +71,7 @@ fn join(
 {
     match list {
         Value::List(addr) => join_items(alloc, between, heap.items(*addr), heap),
-        Value::Tuple(items) => join_items(alloc, between, items, heap),
+        Value::Tuple(items) => join_items(alloc, between, items.as_slice(), heap),
         _ => Ok(Err(Raised::of(alloc, Cause::BadArgument)?)),
     }
 }

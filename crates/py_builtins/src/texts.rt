@@ -1,7 +1,7 @@
 // The texts of values, by `str` and by `repr`.
 
 ghost use Rattle.std.specs.Prelude.{◌≡◌, [], IfOk};
-ghost use Rattle.py_value.specs.View.{plain, plain_argument, plain_answer};
+ghost use Rattle.py_value.specs.View.{plain, plain_answer};
 ghost use Rattle.py_value.specs.HeapView.{plain_heap};
 ghost use Rattle.py_value.specs.Answers.{in_words};
 ghost use Rattle.py_value.specs.Causes.{raised_by};
@@ -11,7 +11,7 @@ ghost use Rattle.py_builtins.specs.Written.{IsWritten};
 
 use crate::displays::display;
 use crate::writer::{Stop, Writer};
-use py_value::{Cause, ExcKind, Heap, NoMemory, Raised, Text, Value};
+use py_value::{Argument, Cause, ExcKind, Heap, NoMemory, Raised, Text, Value};
 use std::alloc::{AllocError, Global};
 
 /// The most values inside each other that a text goes through, the innermost counted too.
@@ -62,14 +62,14 @@ fn exception_text(
     alloc: Global,
     levels: u32,
     kind: ExcKind,
-    arg: &Option<Box<Value>>,
+    arg: &Argument,
     heap: &Heap,
     out: &mut Writer,
 ) -> Result<(), Stop>
     ensures { IsWritten result out.old.text out.new.text
-        (exception_text (text_within levels (plain_heap heap.now)) (display_within levels (plain_heap heap.now) []) kind (plain_argument arg.now)) }
+        (exception_text (text_within levels (plain_heap heap.now)) (display_within levels (plain_heap heap.now) []) kind arg.now) }
 {
-    match arg {
+    match arg.value() {
         None => Ok(()),
         Some(value) => {
             if kind.is_same(ExcKind::KeyError) {

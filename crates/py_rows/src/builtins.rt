@@ -4,7 +4,7 @@
 use crate::methods::{Lit, make};
 use cov_outside::{MemSink, MemSource, Source};
 use py_builtins::{RunFault, call_builtin, call_method, exception_of, str_of};
-use py_value::{Builtin, ExcKind, Heap, Method, NoMemory, Raised, Text, Value};
+use py_value::{Builtin, ExcKind, Heap, Items, Method, NoMemory, Raised, Text, Value};
 use std::alloc::Global;
 
 mod rows;
@@ -135,7 +135,7 @@ fn print_values(alloc: Global) -> Result<Vec<u8>, RunFault> {
     alone.push(Value::Int(1))?;
     let mut args = Vec::new(alloc);
     args.push(Value::List(heap.make_list(items)?))?;
-    args.push(Value::Tuple(alone))?;
+    args.push(Value::Tuple(Items::new(alloc, alone)?))?;
     args.push(make(alloc, Lit::Dict(&[("k", 2)]), &mut heap)?)?;
     printed(alloc, &args, &mut heap)
 }

@@ -1,7 +1,7 @@
 // Rows of the table of methods. The expected values are those of the Python Standard Library Reference.
 
 use py_builtins::{call_method, has_method};
-use py_value::{ExcKind, Heap, Method, NoMemory, Raised, Text, Value, store};
+use py_value::{ExcKind, Heap, Items, Method, NoMemory, Raised, Text, Value, store};
 use std::alloc::Global;
 
 /// A value to be made in a heap.
@@ -54,7 +54,7 @@ pub(crate) fn make(alloc: Global, lit: Lit, heap: &mut Heap) -> Result<Value, No
         Lit::Int(n) => Ok(Value::Int(n)),
         Lit::Str(s) => text(alloc, s),
         Lit::Texts(items) => Ok(Value::List(heap.make_list(texts(alloc, items)?)?)),
-        Lit::Tuple(items) => Ok(Value::Tuple(texts(alloc, items)?)),
+        Lit::Tuple(items) => Ok(Value::Tuple(Items::new(alloc, texts(alloc, items)?)?)),
         Lit::Dict(pairs) => {
             let dict = Value::Dict(heap.make_dict()?);
             for (key, n) in pairs {
@@ -102,7 +102,7 @@ fn is_made(value: &Value, wanted: Lit, heap: &Heap) -> bool {
             _ => false,
         },
         Lit::Tuple(wanted) => match value {
-            Value::Tuple(items) => are_texts(items, wanted),
+            Value::Tuple(items) => are_texts(items.as_slice(), wanted),
             _ => false,
         },
         Lit::Dict(pairs) => match value {
@@ -116,7 +116,7 @@ fn is_raised(raised: &Raised, kind: ExcKind, said: &str) -> bool {
     if !raised.kind.is_same(kind) {
         return false;
     }
-    match &raised.arg {
+    match raised.arg.value() {
         None => said.is_empty(),
         Some(arg) => is_text(arg, said),
     }

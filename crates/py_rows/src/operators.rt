@@ -1,8 +1,8 @@
 // Rows of the table of operators. The expected values are those of the Python Language Reference.
 
 use py_value::{
-    BinOp, CmpOp, ExcKind, Heap, NoMemory, Raised, Text, Value, binary, compare, in_place, index,
-    slice, store, truth,
+    BinOp, CmpOp, ExcKind, Heap, Items, NoMemory, Raised, Text, Value, binary, compare, in_place,
+    index, slice, store, truth,
 };
 use std::alloc::Global;
 
@@ -47,7 +47,7 @@ fn make(alloc: Global, lit: Lit, heap: &mut Heap) -> Result<Value, NoMemory> {
         Lit::Bool(b) => Ok(Value::Bool(b)),
         Lit::Int(n) => Ok(Value::Int(n)),
         Lit::Str(s) => Ok(Value::Str(Text::from_str(alloc, s)?)),
-        Lit::Tuple(items) => Ok(Value::Tuple(numbers(alloc, items)?)),
+        Lit::Tuple(items) => Ok(Value::Tuple(Items::new(alloc, numbers(alloc, items)?)?)),
         Lit::List(items) => Ok(Value::List(heap.make_list(numbers(alloc, items)?)?)),
         Lit::Dict(pairs) => {
             let dict = Value::Dict(heap.make_dict()?);
@@ -93,7 +93,7 @@ fn is_made(value: &Value, wanted: Lit, heap: &Heap) -> bool {
             _ => false,
         },
         Lit::Tuple(wanted) => match value {
-            Value::Tuple(items) => are_numbers(items, wanted),
+            Value::Tuple(items) => are_numbers(items.as_slice(), wanted),
             _ => false,
         },
         Lit::List(wanted) => match value {
@@ -108,9 +108,9 @@ fn is_raised(raised: &Raised, kind: ExcKind, text: &str) -> bool {
     if !raised.kind.is_same(kind) {
         return false;
     }
-    match &raised.arg {
+    match raised.arg.value() {
         None => text.is_empty(),
-        Some(arg) => match &**arg {
+        Some(arg) => match arg {
             Value::Str(said) => said.as_str() == text,
             _ => false,
         },

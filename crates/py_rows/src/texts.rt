@@ -2,7 +2,10 @@
 // built-in functions, whose texts are the language's own.
 
 use py_builtins::{builtin_name, kind_name, repr_of, str_of};
-use py_value::{Addr, Builtin, ExcKind, FuncId, Heap, ModId, NoMemory, Raised, Text, Value, store};
+use py_value::{
+    Addr, Argument, Builtin, ExcKind, FuncId, Heap, Items, ModId, NoMemory, Raised, Text, Value,
+    store,
+};
 use std::alloc::Global;
 
 mod rows;
@@ -116,7 +119,8 @@ fn made_by(
         return text_value(alloc, text);
     }
     if let Some(count) = word.strip_prefix("(") {
-        return Ok(Value::Tuple(last(alloc, made, count)?));
+        let items = last(alloc, made, count)?;
+        return Ok(Value::Tuple(Items::new(alloc, items)?));
     }
     if let Some(count) = word.strip_prefix("[") {
         return Ok(Value::List(heap.make_list(last(alloc, made, count)?)?));
@@ -132,11 +136,11 @@ fn named(alloc: Global, word: &str, made: &mut Vec<Value>) -> Result<Value, NoMe
         return Ok(Value::Kind(kind_named(name)));
     }
     if let Some(name) = word.strip_prefix("!") {
-        return Ok(Value::Exc(kind_named(name), None));
+        return Ok(Value::Exc(kind_named(name), Argument::none()));
     }
     if let Some(name) = word.strip_prefix("?") {
         let arg = made.pop().unwrap_or(Value::None);
-        return Ok(Value::Exc(kind_named(name), Some(Box::new(alloc, arg)?)));
+        return Ok(Value::Exc(kind_named(name), Argument::of(alloc, arg)?));
     }
     if let Some(name) = word.strip_prefix("@") {
         return Ok(Value::Builtin(builtin_named(name)));
@@ -246,7 +250,8 @@ fn knot(alloc: Global, heap: &mut Heap) -> Result<(Addr, Addr), NoMemory> {
     let key = text_value(alloc, "l")?;
     let _ = store(alloc, &Value::Dict(dict), &key, Value::List(list), heap)?;
     heap.push(list, Value::Dict(dict))?;
-    heap.push(list, Value::Tuple(one(alloc, Value::List(list))?))?;
+    let alone = Items::new(alloc, one(alloc, Value::List(list))?)?;
+    heap.push(list, Value::Tuple(alone))?;
     let empty = heap.make_list(Vec::new(alloc))?;
     heap.push(list, Value::List(empty))?;
     heap.push(list, Value::List(empty))?;

@@ -1,15 +1,14 @@
 -- The steps of the walks that compare.
-use Rattle.std.proofs.Common.{◌≡◌, ◌≢◌, ℕ, zero, suc, ◌-◌, min, Bool, nat_eq, Result, Ok, Err, List, [], ◌∷◌, length, drop, refl, ap, ◌∙◌, arith}
+use Rattle.std.proofs.Common.{◌≡◌, ◌≢◌, ℕ, zero, suc, ◌-◌, min, Bool, Result, Ok, Err, List, [], ◌∷◌, length, drop, refl, ap, ◌∙◌, arith}
 use Rattle.std.specs.declared.cmp.Ordering.{Ordering}
 use Rattle.std.specs.Ordering.{nat_cmp}
-use Rattle.std.proofs.Math.Dec.{eqb-suc-zero, eqb-zero-suc}
 use Rattle.std.proofs.lemmas.Bool.Decides.{nat_tests}
 use Rattle.py_value.specs.declared.cause.Cause.{Cause}
 use Rattle.py_value.specs.declared.cause.Cause.TheVariants.{TooDeep}
 use Rattle.py_value.specs.declared.value.Value.{Value}
 use Rattle.py_value.specs.Plain.{PlainValue, listed, packed, PlainHeap}
 use Rattle.py_value.specs.View.{plains}
-use Rattle.py_value.specs.Comparison.{equal_step, equal_within, order_step, order_within, are_equal, order_of_items}
+use Rattle.py_value.specs.Comparison.{equal_step, equal_within, order_step, order_within, order_of_items}
 
 pub equal-none : (n : ℕ) (h : PlainHeap) (a b : PlainValue) → n ≡ 0 → Err TooDeep ≡ equal_within n h a b
 unfolding equal_within
@@ -39,20 +38,6 @@ listed-packed (v ∷ vs) = ap (λ ws. v ∷ ws) (listed-packed vs)
 -- a function of the items of two tuples
 pub tuples : {A : Type 0} (F : List PlainValue → List PlainValue → A) (vs ws : List PlainValue) → F (listed (packed vs)) (listed (packed ws)) ≡ F vs ws
 tuples F vs ws = ap (λ us. F us (listed (packed ws))) (listed-packed vs) ∙ ap (λ us. F vs us) (listed-packed ws)
-
-both_more : (a b : ℕ) → nat_eq (suc a) (suc b) ≡ nat_eq a b
-both_more a b = grind (arith, nat_tests)
-
--- where one of two sequences has ended
-pub equal_ended : (equal : PlainValue → PlainValue → Result Bool Cause) (xs ys : List Value) (i : ℕ) → i ≡ min (length xs) (length ys)
-    → Ok (nat_eq (length xs) (length ys)) ≡ are_equal equal (plains (drop i xs)) (plains (drop i ys))
-equal_ended equal [] [] zero e = refl
-equal_ended equal [] (y ∷ ys) zero e = ap Ok (eqb-zero-suc (length ys))
-equal_ended equal (x ∷ xs) [] zero e = ap Ok (eqb-suc-zero (length xs))
-equal_ended equal (x ∷ xs) (y ∷ ys) zero e = absurd (omega arith)
-equal_ended equal [] ys (suc i) e = absurd (omega arith)
-equal_ended equal (x ∷ xs) [] (suc i) e = absurd (omega arith)
-equal_ended equal (x ∷ xs) (y ∷ ys) (suc i) e = ap Ok (both_more (length xs) (length ys)) ∙ equal_ended equal xs ys i (omega arith)
 
 cmp-more : (a b : ℕ) → nat_cmp (suc a) (suc b) ≡ nat_cmp a b
 cmp-more a b = grind (arith, nat_tests)

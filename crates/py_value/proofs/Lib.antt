@@ -9,6 +9,7 @@ pub mod Lists
 pub mod PartLaws
 pub mod Parts
 pub mod Rows
+pub mod Sizes
 pub mod SoundHeaps
 pub mod TestLaws
 pub mod TupleSteps

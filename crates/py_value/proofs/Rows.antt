@@ -1,10 +1,10 @@
 -- Rows of the table, computed.
-use Rattle.std.proofs.Common.{◌≡◌, refl, pos, negsuc, Ok, Err, [], ◌∷◌, true, codes}
+use Rattle.std.proofs.Common.{◌≡◌, refl, pos, negsuc, Ok, Err, [], ◌∷◌, true, false, codes}
 use Rattle.py_value.specs.declared.operator.BinOp.TheVariants.{Add, Floor, Mod}
 use Rattle.py_value.specs.declared.operator.CmpOp.TheVariants.{Eq, Lt}
 use Rattle.py_value.specs.declared.cause.Cause.TheVariants.{IntegerTooLarge, TooDeep}
 use Rattle.py_value.specs.Causes.{raised_by}
-use Rattle.py_value.specs.Plain.{int_value, bool_value, str_value, list_at, list_object}
+use Rattle.py_value.specs.Plain.{int_value, bool_value, str_value, list_at, dict_at, list_object, dict_object}
 use Rattle.py_value.specs.Comparison.{equal_within, order_within}
 use Rattle.py_value.specs.Operators.{binary_of, in_place_of, compare_of}
 
@@ -30,6 +30,14 @@ one_is_true = refl
 list_in_itself : compare_of Eq (list_at 0) (list_at 0) (list_object (list_at 0 ∷ []) ∷ []) ≡ Err (raised_by TooDeep)
 unfolding equal_within
 list_in_itself = refl
+
+longer : compare_of Eq (list_at 0) (list_at 1) (list_object (list_at 0 ∷ []) ∷ list_object (list_at 0 ∷ list_at 0 ∷ []) ∷ []) ≡ Ok false
+unfolding equal_within
+longer = refl
+
+more_keys : compare_of Eq (dict_at 0) (dict_at 1) (dict_object ((int_value (pos 1), list_at 2) ∷ []) ∷ dict_object ((int_value (pos 1), list_at 2) ∷ (int_value (pos 2), list_at 2) ∷ []) ∷ list_object (list_at 2 ∷ []) ∷ []) ≡ Ok false
+unfolding equal_within
+more_keys = refl
 
 below : compare_of Lt (str_value (codes "ab")) (str_value (codes "abc")) [] ≡ Ok true
 unfolding order_within

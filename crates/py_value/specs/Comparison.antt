@@ -22,12 +22,15 @@ abbrev pub if_same : Bool → Result Bool Cause → Result Bool Cause
 if_same true rest = rest
 if_same false rest = Ok false
 
--- item by item; where one sequence ends first they differ
+-- item by item
+abbrev pub are_equal_items : (PlainValue → PlainValue → Result Bool Cause) → List PlainValue → List PlainValue → Result Bool Cause
+are_equal_items equal [] ys = Ok true
+are_equal_items equal (x ∷ xs) [] = Ok true
+are_equal_items equal (x ∷ xs) (y ∷ ys) = equal x y >>= λ same. if_same same (are_equal_items equal xs ys)
+
+-- sequences of unequal length differ before any item is compared
 abbrev pub are_equal : (PlainValue → PlainValue → Result Bool Cause) → List PlainValue → List PlainValue → Result Bool Cause
-are_equal equal [] [] = Ok true
-are_equal equal [] (y ∷ ys) = Ok false
-are_equal equal (x ∷ xs) [] = Ok false
-are_equal equal (x ∷ xs) (y ∷ ys) = equal x y >>= λ same. if_same same (are_equal equal xs ys)
+are_equal equal xs ys = if_same (length xs == length ys) (are_equal_items equal xs ys)
 
 -- a value and the one at the same key
 abbrev pub is_equal_at : (PlainValue → PlainValue → Result Bool Cause) → PlainValue → Option PlainValue → Result Bool Cause
@@ -39,8 +42,9 @@ abbrev pub are_equal_pairs : (PlainValue → PlainValue → Result Bool Cause) �
 are_equal_pairs equal [] qs = Ok true
 are_equal_pairs equal (p ∷ ps) qs = is_equal_at equal p.1 (value_at p.0 qs) >>= λ same. if_same same (are_equal_pairs equal ps qs)
 
+-- dicts of unequal length differ before any pair is compared
 abbrev pub are_equal_dicts : (PlainValue → PlainValue → Result Bool Cause) → List (PlainValue × PlainValue) → List (PlainValue × PlainValue) → Result Bool Cause
-are_equal_dicts equal ps qs = are_equal_pairs equal ps qs >>= λ same. if_same same (Ok (length ps == length qs))
+are_equal_dicts equal ps qs = if_same (length ps == length qs) (are_equal_pairs equal ps qs)
 
 abbrev pub are_equal_arguments : (PlainValue → PlainValue → Result Bool Cause) → PlainArgument → PlainArgument → Result Bool Cause
 are_equal_arguments equal no_argument no_argument = Ok true

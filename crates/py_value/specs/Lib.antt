@@ -10,5 +10,8 @@ pub mod Objects
 pub mod Operators
 pub mod Pairs
 pub mod Plain
+pub mod PlainCode
 pub mod Sequences
+pub mod Shared
+pub mod Smaller
 pub mod View

@@ -1,52 +1,15 @@
 -- The plain view of values.
-use Rattle.std.specs.Prelude.{◌≡◌, ℕ, ℤ, List, map, Option, Some, None, Box, Vec, Result, Ok, Err}
-use Rattle.std.specs.Option.{option_map}
+use Rattle.std.specs.Prelude.{◌≡◌, ℤ, List, Vec, Result, Ok, Err}
 use Rattle.std.specs.declared.alloc.Global.{Global}
-use Rattle.py_value.specs.declared.value.Value.{Value, None as NoneVariant, Bool, Int, Str, Tuple', List as ListVariant, Dict, Func, Module, Kind, Exc', Builtin, Row_of-Value, end_of-Value, more_of-Value, Held-Value-Exc-1, Value-Exc-1-None', Some'}
+use Rattle.py_value.specs.declared.value.Value.{Value}
 use Rattle.py_value.specs.declared.cause.Cause.{Cause}
-use Rattle.py_value.specs.declared.value.Addr.{Addr}
 use Rattle.py_value.specs.declared.value.Raised.{Raised}
-use Rattle.py_value.specs.Plain.{PlainValue, none_value, bool_value, int_value, str_value, tuple_value, list_at, dict_at, func_value, module_value, kind_value, exc_value, builtin_value, PlainValues, no_values, value_then, PlainArgument, no_argument, argument, PlainRaised, PlainHeap}
-
-abbrev pub place_of : Addr → ℕ
-place_of a = a.place
-
-abbrev mutual
-  -- a value
-  pub plain : Value → PlainValue
-  plain NoneVariant = none_value
-  plain (Bool b) = bool_value b
-  plain (Int n) = int_value n
-  plain (Str t) = str_value t
-  plain (Tuple' shape vs) = tuple_value (plain_row vs)
-  plain (ListVariant a) = list_at a.place
-  plain (Dict a) = dict_at a.place
-  plain (Func f a) = func_value f (option_map place_of a)
-  plain (Module m) = module_value m
-  plain (Kind k) = kind_value k
-  plain (Exc' k a) = exc_value k (plain_held a)
-  plain (Builtin b) = builtin_value b
-
-  pub plain_row : {n : _} → Row_of-Value n → PlainValues
-  plain_row end_of-Value = no_values
-  plain_row (more_of-Value v vs) = value_then (plain v) (plain_row vs)
-
-  pub plain_held : Held-Value-Exc-1 → PlainArgument
-  plain_held Value-Exc-1-None' = no_argument
-  plain_held (Some' p v) = argument (plain v)
-
--- a list of values
-abbrev pub plains : List Value → List PlainValue
-plains vs = map plain vs
-
--- an argument
-abbrev pub plain_argument : Option (Box Value Global) → PlainArgument
-plain_argument None = no_argument
-plain_argument (Some b) = argument (plain b.value)
+use Rattle.py_value.specs.Plain.{PlainValue, int_value, PlainRaised, PlainHeap}
+pub use Rattle.py_value.specs.Shared.{place_of, plain, plains}
 
 -- an exception
 abbrev pub plain_raised : Raised → PlainRaised
-plain_raised r = record { kind = r.kind; arg = plain_argument r.arg }
+plain_raised r = record { kind = r.kind; arg = r.arg }
 
 -- what an operation answers, and with the heap behind it
 abbrev pub plain_answer : {A : Type 0} → Result A Raised → Result A PlainRaised

@@ -12,6 +12,7 @@ use crate::heap::Heap;
 use crate::number::arithmetic;
 use crate::operator::BinOp;
 use crate::sequences::{join_items, join_texts, repeat_items, repeat_text};
+use crate::shared::Items;
 use crate::value::{Addr, Raised, Value};
 use std::alloc::Global;
 
@@ -88,8 +89,8 @@ fn add(
             _ => Ok(Err(Cause::UnsupportedOperand)),
         },
         Value::Tuple(items) => match right {
-            Value::Tuple(others) => match join_items(alloc, items, others)? {
-                Ok(joined) => Ok(Ok(Value::Tuple(joined))),
+            Value::Tuple(others) => match join_items(alloc, items.as_slice(), others.as_slice())? {
+                Ok(joined) => Ok(Ok(Value::Tuple(Items::new(alloc, joined)?))),
                 Err(cause) => Ok(Err(cause)),
             },
             _ => Ok(Err(Cause::UnsupportedOperand)),
@@ -145,8 +146,8 @@ fn repeat_sequence(
                 Ok(text) => Ok(Ok(Value::Str(text))),
                 Err(cause) => Ok(Err(cause)),
             },
-            Value::Tuple(items) => match repeat_items(alloc, items, n)? {
-                Ok(items) => Ok(Ok(Value::Tuple(items))),
+            Value::Tuple(items) => match repeat_items(alloc, items.as_slice(), n)? {
+                Ok(items) => Ok(Ok(Value::Tuple(Items::new(alloc, items)?))),
                 Err(cause) => Ok(Err(cause)),
             },
             Value::List(a) => match repeat_items(alloc, heap.items(*a), n)? {

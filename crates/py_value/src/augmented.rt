@@ -75,7 +75,7 @@ fn extend(
             append(list, copies, heap)
         }
         Value::Tuple(items) => {
-            let copies = copy_all(alloc, items)?;
+            let copies = copy_all(alloc, items.as_slice())?;
             append(list, copies, heap)
         }
         Value::Str(text) => {

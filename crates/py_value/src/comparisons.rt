@@ -71,7 +71,7 @@ fn contains(value: &Value, whole: &Value, heap: &Heap) -> Result<bool, Cause>
 {
     match whole {
         Value::List(addr) => is_item(value, heap.items(*addr), heap),
-        Value::Tuple(items) => is_item(value, items, heap),
+        Value::Tuple(items) => is_item(value, items.as_slice(), heap),
         Value::Str(text) => match value {
             Value::Str(part) => Ok(text.contains(part)),
             _ => Err(Cause::UnsupportedOperand),

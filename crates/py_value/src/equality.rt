@@ -1,7 +1,7 @@
 // Equality of values: a walk from left to right.
 
 ghost use Rattle.std.specs.Prelude.{◌≡◌, map, ◌&&◌};
-ghost use Rattle.py_value.specs.View.{plain, plains, plain_argument, place_of};
+ghost use Rattle.py_value.specs.View.{plain, plains, place_of};
 ghost use Rattle.std.specs.Option.{option_map};
 ghost use Rattle.py_value.specs.HeapView.{plain_heap};
 ghost use Rattle.py_value.specs.Pairs.{plain_pair};
@@ -11,6 +11,7 @@ use crate::builtin::Builtin;
 use crate::cause::Cause;
 use crate::heap::Heap;
 use crate::pairs::{Pair, value_among};
+use crate::shared::Argument;
 use crate::value::{Addr, FuncId, ModId, Value};
 
 /// Whether two values are equal, or `TooDeep` where more than `levels` stand inside each other.
@@ -38,7 +39,7 @@ fn equal_inside(levels: u32, left: &Value, right: &Value, heap: &Heap) -> Result
             _ => Ok(false),
         },
         Value::Tuple(items) => match right {
-            Value::Tuple(others) => equal_items(levels, items, others, heap),
+            Value::Tuple(others) => equal_items(levels, items.as_slice(), others.as_slice(), heap),
             _ => Ok(false),
         },
         Value::List(a) => match right {
@@ -89,25 +90,27 @@ fn equal_inside(levels: u32, left: &Value, right: &Value, heap: &Heap) -> Result
 fn equal_items(levels: u32, left: &[Value], right: &[Value], heap: &Heap) -> Result<bool, Cause>
     ensures { result ≡ are_equal (equal_within levels (plain_heap heap.now)) (plains left.now) (plains right.now) }
 {
-    let both = left.len().min(right.len());
-    for i in 0..both {
+    if left.len() != right.len() {
+        return Ok(false);
+    }
+    for i in 0..left.len() {
         match equal(levels, &left[i], &right[i], heap) {
             Ok(true) => {}
             Ok(false) => return Ok(false),
             Err(cause) => return Err(cause),
         }
     }
-    Ok(left.len() == right.len())
+    Ok(true)
 }
 
 #[cycle(equal)]
 fn equal_dicts(levels: u32, left: &[Pair], right: &[Pair], heap: &Heap) -> Result<bool, Cause>
     ensures { result ≡ are_equal_dicts (equal_within levels (plain_heap heap.now)) (map plain_pair left.now) (map plain_pair right.now) }
 {
-    match equal_pairs(levels, left, right, heap) {
-        Ok(true) => Ok(left.len() == right.len()),
-        Ok(false) => Ok(false),
-        Err(cause) => Err(cause),
+    if left.len() == right.len() {
+        equal_pairs(levels, left, right, heap)
+    } else {
+        Ok(false)
     }
 }
 
@@ -131,18 +134,18 @@ fn equal_pairs(levels: u32, left: &[Pair], right: &[Pair], heap: &Heap) -> Resul
 #[cycle(equal)]
 fn equal_arguments(
     levels: u32,
-    left: &Option<Box<Value>>,
-    right: &Option<Box<Value>>,
+    left: &Argument,
+    right: &Argument,
     heap: &Heap,
 ) -> Result<bool, Cause>
-    ensures { result ≡ are_equal_arguments (equal_within levels (plain_heap heap.now)) (plain_argument left.now) (plain_argument right.now) }
+    ensures { result ≡ are_equal_arguments (equal_within levels (plain_heap heap.now)) left.now right.now }
 {
-    match left {
-        None => match right {
+    match left.value() {
+        None => match right.value() {
             None => Ok(true),
             Some(_) => Ok(false),
         },
-        Some(a) => match right {
+        Some(a) => match right.value() {
             None => Ok(false),
             Some(b) => equal(levels, a, b, heap),
         },

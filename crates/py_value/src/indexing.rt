@@ -29,7 +29,7 @@ pub fn index(
 {
     match of {
         Value::List(addr) => item_among(alloc, heap.items(*addr), at, Cause::ListIndex),
-        Value::Tuple(items) => item_among(alloc, items, at, Cause::TupleIndex),
+        Value::Tuple(items) => item_among(alloc, items.as_slice(), at, Cause::TupleIndex),
         Value::Str(text) => character(alloc, text, at),
         Value::Dict(addr) => value_of_key(alloc, *addr, at, heap),
         _ => Ok(Err(Raised::of(alloc, Cause::NotSubscriptable)?)),

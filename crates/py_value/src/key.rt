@@ -16,7 +16,7 @@ pub fn is_key(value: &Value) -> bool
         Value::None => true,
         Value::Int(_) => true,
         Value::Str(_) => true,
-        Value::Tuple(items) => are_keys(items),
+        Value::Tuple(items) => are_keys(items.as_slice()),
         _ => false,
     }
 }
@@ -49,7 +49,7 @@ pub fn is_same_key(left: &Value, right: &Value) -> bool
             _ => false,
         },
         Value::Tuple(items) => match right {
-            Value::Tuple(others) => are_same_keys(items, others),
+            Value::Tuple(others) => are_same_keys(items.as_slice(), others.as_slice()),
             _ => false,
         },
         _ => false,

@@ -33,7 +33,7 @@ fn order_inside(levels: u32, left: &Value, right: &Value, heap: &Heap) -> Result
             _ => Err(Cause::UnsupportedOperand),
         },
         Value::Tuple(items) => match right {
-            Value::Tuple(others) => order_items(levels, items, others, heap),
+            Value::Tuple(others) => order_items(levels, items.as_slice(), others.as_slice(), heap),
             _ => Err(Cause::UnsupportedOperand),
         },
         Value::List(a) => match right {

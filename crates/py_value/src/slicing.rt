@@ -10,6 +10,7 @@ use crate::NoMemory;
 use crate::cause::Cause;
 use crate::heap::Heap;
 use crate::places::{first_bound, last_bound};
+use crate::shared::Items;
 use crate::text::Text;
 use crate::value::{Raised, Value, copy_all};
 use std::alloc::Global;
@@ -32,7 +33,10 @@ pub fn slice(
             let made = heap.make_list(items)?;
             Ok(Ok(Value::List(made)))
         }
-        Value::Tuple(items) => Ok(Ok(Value::Tuple(part_of(alloc, items, from, to)?))),
+        Value::Tuple(items) => {
+            let part = part_of(alloc, items.as_slice(), from, to)?;
+            Ok(Ok(Value::Tuple(Items::new(alloc, part)?)))
+        }
         Value::Str(text) => Ok(Ok(Value::Str(part_of_text(text, from, to)?))),
         _ => Ok(Err(Raised::of(alloc, Cause::NotSubscriptable)?)),
     }

@@ -1,11 +1,12 @@
 // Values of the language.
 
 ghost use Rattle.std.specs.Prelude.{◌≡◌, IfOk};
-ghost use Rattle.py_value.specs.View.{plain, plains, plain_argument};
+ghost use Rattle.py_value.specs.View.{plain, plains};
 
 use crate::NoMemory;
 use crate::builtin::Builtin;
 use crate::exception::ExcKind;
+use crate::shared::{Argument, Items};
 use crate::text::Text;
 use std::alloc::Global;
 
@@ -31,18 +32,19 @@ pub enum ModId {
 
 /// A value. Lists and dicts stand in the heap; a function with defaults names the list that holds them.
 #[derive(Drop)]
+#[cycle(value)]
 pub enum Value {
     None,
     Bool(bool),
     Int(i64),
     Str(Text),
-    Tuple(Vec<Value>),
+    Tuple(Items),
     List(Addr),
     Dict(Addr),
     Func(FuncId, Option<Addr>),
     Module(ModId),
     Kind(ExcKind),
-    Exc(ExcKind, Option<Box<Value>>),
+    Exc(ExcKind, Argument),
     Builtin(Builtin),
 }
 
@@ -50,13 +52,12 @@ pub enum Value {
 #[derive(Drop)]
 pub struct Raised {
     pub kind: ExcKind,
-    pub arg: Option<Box<Value>>,
+    pub arg: Argument,
 }
 
 impl Value {
-    /// An equal value.
-    #[cycle(copy)]
-    pub fn copy(&self, alloc: Global) -> Result<Value, NoMemory>
+    /// An equal value, which shares what this one holds.
+    pub fn copy(&self, _alloc: Global) -> Result<Value, NoMemory>
         ensures { IfOk result (λ copy. plain copy ≡ plain self.now) }
     {
         match self {
@@ -64,36 +65,26 @@ impl Value {
             Value::Bool(b) => Ok(Value::Bool(*b)),
             Value::Int(n) => Ok(Value::Int(*n)),
             Value::Str(text) => Ok(Value::Str(text.copy()?)),
-            Value::Tuple(items) => Ok(Value::Tuple(copy_all(alloc, items)?)),
+            Value::Tuple(items) => Ok(Value::Tuple(items.copy()?)),
             Value::List(addr) => Ok(Value::List(*addr)),
             Value::Dict(addr) => Ok(Value::Dict(*addr)),
             Value::Func(id, defaults) => Ok(Value::Func(*id, *defaults)),
             Value::Module(id) => Ok(Value::Module(*id)),
             Value::Kind(kind) => Ok(Value::Kind(*kind)),
-            Value::Exc(kind, arg) => Ok(Value::Exc(*kind, copy_argument(alloc, arg)?)),
+            Value::Exc(kind, arg) => Ok(Value::Exc(*kind, arg.copy()?)),
             Value::Builtin(which) => Ok(Value::Builtin(*which)),
         }
     }
 }
 
-#[cycle(copy)]
-fn copy_argument(alloc: Global, arg: &Option<Box<Value>>) -> Result<Option<Box<Value>>, NoMemory>
-    ensures { IfOk result (λ copy. plain_argument copy ≡ plain_argument arg.now) }
-{
-    match arg {
-        None => Ok(None),
-        Some(value) => Ok(Some(Box::new(alloc, value.copy(alloc)?)?)),
-    }
-}
-
 /// Equal values, in the same order.
-#[cycle(copy)]
 pub fn copy_all(alloc: Global, values: &[Value]) -> Result<Vec<Value>, NoMemory>
     ensures { IfOk result (λ copies. plains copies.items ≡ plains values.now) }
 {
     let mut copies = Vec::with_capacity(alloc, values.len())?;
     for value in values {
-        copies.push(value.copy(alloc)?)?;
+        let copy = value.copy(alloc)?;
+        copies.push(copy)?;
     }
     Ok(copies)
 }

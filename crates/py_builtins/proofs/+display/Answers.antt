@@ -4,14 +4,13 @@ use Rattle.py_value.specs.declared.cause.Cause.TheVariants.{TooDeep}
 use Rattle.py_value.specs.Heaps.{list_items, dict_pairs, object_at}
 use Rattle.py_value.specs.HeapView.{plain_heap}
 use Rattle.py_value.specs.Plain.{none_value}
-use Rattle.py_value.specs.View.{plain, plains, plain_argument}
-use Rattle.py_value.proofs.Views.{tuple_view}
+use Rattle.py_value.specs.View.{plain, plains}
 use Rattle.py_builtins.specs.declared.writer.Stop.TheVariants.{Raises}
 use Rattle.py_builtins.specs.Displays.{has, separated, display_step, tuple_end, pair_display, kind_name, argument_display}
 use Rattle.py_builtins.specs.Texts.{display_within}
 use Rattle.py_builtins.specs.Writing.{whole, ◌▸◌}
 use Rattle.py_builtins.proofs.Pieces.{written_same, settles_same, stopped, stopped_then, wrote_then, too_deep, item_written, stops_at_separator, stops_at_item}
-use Rattle.py_builtins.proofs.Values.{display_none, display_more, entered, tuple_items, item_at, some_item, key_of_pair, value_of_pair}
+use Rattle.py_builtins.proofs.Values.{display_none, display_more, entered, item_at, some_item, key_of_pair, value_of_pair}
 use Rattle.py_builtins.proofs.+display.Goals as goal
 
 pub displays::display-returns-then-levels-eq0-clause-written : goal.displays::display-returns-then-levels-eq0-clause-written
@@ -27,14 +26,14 @@ displays::display-returns-clause-written t c =
 pub displays::display_exception-returns-in_err-push_word-clause-written : goal.displays::display_exception-returns-in_err-push_word-clause-written
 displays::display_exception-returns-in_err-push_word-clause-written t c =
     let name = whole (kind_name c.args.kind) in
-    let inner = argument_display (display_within c.args.levels (plain_heap c.args.heap.now) c.args.inside.now.items) (plain_argument c.args.arg.now) in
+    let inner = argument_display (display_within c.args.levels (plain_heap c.args.heap.now) c.args.inside.now.items) c.args.arg.now in
     stopped_then c.from_residual.result c.in_err-push_word.field-0.0 c.args.out.now.text c.push_word.new.self.text name (whole (codes "(") ▸ (inner ▸ whole (codes ")"))) c.from_residual.ensures.1
     (settles_same c.in_err-push_word.field-0.0 _ _ (ap (λ s. whole c.args.out.now.text ▸ whole s) c.kind_name.ensures) c.in_err-push_word.ensures)
 
 pub displays::display_exception-returns-in_err-push_word-2-clause-written : goal.displays::display_exception-returns-in_err-push_word-2-clause-written
 displays::display_exception-returns-in_err-push_word-2-clause-written t c =
     let name = whole (kind_name c.args.kind) in
-    let inner = argument_display (display_within c.args.levels (plain_heap c.args.heap.now) c.args.inside.now.items) (plain_argument c.args.arg.now) in
+    let inner = argument_display (display_within c.args.levels (plain_heap c.args.heap.now) c.args.inside.now.items) c.args.arg.now in
     let r = c.from_residual-in_err-push_word-2.result in
     wrote_then r c.args.out.now.text c.push_word.new.self.text c.push_word-2.new.self.text name (whole (codes "(") ▸ (inner ▸ whole (codes ")")))
     (ap (λ s. whole c.args.out.now.text ▸ whole s) (sym c.kind_name.ensures) ∙ c.in_ok-push_word.ensures)
@@ -43,18 +42,12 @@ displays::display_exception-returns-in_err-push_word-2-clause-written t c =
 pub displays::display_exception-returns-in_err-display_argument-clause-written : goal.displays::display_exception-returns-in_err-display_argument-clause-written
 displays::display_exception-returns-in_err-display_argument-clause-written t c =
     let name = whole (kind_name c.args.kind) in
-    let inner = argument_display (display_within c.args.levels (plain_heap c.args.heap.now) c.args.inside.now.items) (plain_argument c.args.arg.now) in
+    let inner = argument_display (display_within c.args.levels (plain_heap c.args.heap.now) c.args.inside.now.items) c.args.arg.now in
     let r = c.from_residual-in_err-display_argument.result in
     wrote_then r c.args.out.now.text c.push_word.new.self.text c.display_argument.new.out.text name (whole (codes "(") ▸ (inner ▸ whole (codes ")")))
     (ap (λ s. whole c.args.out.now.text ▸ whole s) (sym c.kind_name.ensures) ∙ c.in_ok-push_word.ensures)
     (wrote_then r c.push_word.new.self.text c.push_word-2.new.self.text c.display_argument.new.out.text (whole (codes "(")) (inner ▸ whole (codes ")")) c.in_ok-push_word-2.ensures
     (stopped_then r c.in_err-display_argument.field-0.0 c.push_word-2.new.self.text c.display_argument.new.out.text inner (whole (codes ")")) c.from_residual-in_err-display_argument.ensures.1 c.in_err-display_argument.ensures.written))
-
-pub displays::display_inside-returns-in-Tuple-clause-written : goal.displays::display_inside-returns-in-Tuple-clause-written
-displays::display_inside-returns-in-Tuple-clause-written t c =
-    written_same c.display_tuple.result c.args.out.now.text c.display_tuple.new.out.text _ _
-    (tuple_items (display_within c.args.levels (plain_heap c.args.heap.now)) (plain_heap c.args.heap.now) c.args.inside.now.items (plain c.args.value.now) (plains c.deref.result.now)
-    (tuple_view c.args.value.now c.in-Tuple.items c.deref.result.now c.in-Tuple.is c.deref.ensures.value)) c.display_tuple.ensures.written
 
 pub displays::display_inside-returns-in-Func-clause-written : goal.displays::display_inside-returns-in-Func-clause-written
 displays::display_inside-returns-in-Func-clause-written t c =

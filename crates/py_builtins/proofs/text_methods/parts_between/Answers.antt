@@ -1,6 +1,6 @@
 use Rattle.std.proofs.Common.{◌≡◌, ◌+◌, ◌-◌, ◌++◌, ◌∷◌, [], true, length, take, drop, ap, ◌∙◌, arith, rules}
 use Rattle.std.proofs.lemmas.List.{map-append}
-use Rattle.py_value.specs.declared.value.Value.{Str}
+use Rattle.py_value.specs.declared.value.Value.TheVariants.{Str}
 use Rattle.py_value.specs.View.{plain, plains}
 use Rattle.py_value.specs.Sequences.{begins}
 use Rattle.py_builtins.specs.Methods.{parts_between, texts}

@@ -2,7 +2,6 @@ use Rattle.std.proofs.Common.{◌-◌, [], ap, sym, ◌∙◌}
 use Rattle.py_value.specs.declared.cause.Cause.TheVariants.{TooDeep}
 use Rattle.py_value.specs.HeapView.{plain_heap}
 use Rattle.py_value.specs.View.{plain}
-use Rattle.py_value.proofs.Views.{plain-Exc}
 use Rattle.py_builtins.specs.declared.writer.Stop.TheVariants.{Raises}
 use Rattle.py_builtins.specs.Texts.{display_within, text_within, text_step}
 use Rattle.py_builtins.specs.Writing.{whole, ◌▸◌}
@@ -28,7 +27,7 @@ text-returns-in-Exc t c =
     let h = plain_heap c.args.heap.now in
     let step = text_step (text_within (c.args.levels - 1) h) (display_within (c.args.levels - 1) h) h in
     written_same c.exception_text.result c.args.out.now.text c.exception_text.new.out.text _ _
-    (sym (ap step (ap plain c.in-Exc.is ∙ plain-Exc c.in-Exc.kind c.in-Exc.arg)) ∙ text_more c.args.levels h (plain c.args.value.now) c.if-levels-eq0.false) c.exception_text.ensures
+    (sym (ap (λ v. step (plain v)) c.in-Exc.is) ∙ text_more c.args.levels h (plain c.args.value.now) c.if-levels-eq0.false) c.exception_text.ensures
 
 pub text-returns-in_default : goal.text-returns-in_default
 text-returns-in_default t c =

@@ -2,7 +2,7 @@ use Rattle.std.proofs.Common.{◌≡◌, ◌+◌, ◌*◌, drop, map}
 use Rattle.py_value.specs.View.{plains}
 use Rattle.py_value.specs.HeapView.{plain_heap}
 use Rattle.py_value.specs.Pairs.{plain_pair}
-use Rattle.py_value.specs.Comparison.{equal_within, are_equal, are_equal_pairs}
+use Rattle.py_value.specs.Comparison.{equal_within, are_equal_items, are_equal_pairs}
 use Rattle.py_value.proofs.equality.+equal.Given as goal
 
 abbrev pub decreases-equal : goal.decreases-equal
@@ -25,8 +25,8 @@ decreases-equal_arguments l = 4 * l.levels + 1
 
 abbrev pub invariant-equal_items-loop-i : goal.invariant-equal_items-loop-i
 invariant-equal_items-loop-i l =
-    are_equal (equal_within l.levels (plain_heap l.heap)) (plains (drop l.i l.left)) (plains (drop l.i l.right))
-    ≡ are_equal (equal_within l.levels (plain_heap l.heap)) (plains l.left) (plains l.right)
+    are_equal_items (equal_within l.levels (plain_heap l.heap)) (plains (drop l.i l.left)) (plains (drop l.i l.right))
+    ≡ are_equal_items (equal_within l.levels (plain_heap l.heap)) (plains l.left) (plains l.right)
 
 abbrev pub invariant-equal_pairs-loop-i : goal.invariant-equal_pairs-loop-i
 invariant-equal_pairs-loop-i l =

@@ -1,7 +1,6 @@
-use Rattle.std.proofs.Common.{ap, sym, ◌∙◌}
-use Rattle.py_value.specs.Keys.{is_key}
-use Rattle.py_value.proofs.Views.{tuple_view}
+use Rattle.std.proofs.Common.{arith}
+use Rattle.py_value.proofs.Sizes.{smaller_item}
 use Rattle.py_value.proofs.key.+is_key.Goals as goal
 
-pub is_key-returns-in-Tuple : goal.is_key-returns-in-Tuple
-is_key-returns-in-Tuple t c = c.are_keys.ensures ∙ sym (ap is_key (tuple_view c.args.value.now c.in-Tuple.items _ c.in-Tuple.is c.deref.ensures.value))
+pub are_keys-is_key-requires : goal.are_keys-is_key-requires
+are_keys-is_key-requires t c = (omega (arith, smaller_item c.args.values.now c.loop-value.value-index c.value-item.result c.loop-value-test.true c.value-item.is), tt)

@@ -1,7 +1,8 @@
-use Rattle.std.proofs.Common.{ap, sym, ◌∙◌}
+use Rattle.std.proofs.Common.{ap, sym, ◌∙◌, arith}
 use Rattle.py_value.specs.View.{plain}
 use Rattle.py_value.specs.Keys.{is_same_key}
-use Rattle.py_value.proofs.Views.{tuple_view, in_both}
+use Rattle.py_value.proofs.Views.{in_both}
+use Rattle.py_value.proofs.Sizes.{smaller_item}
 use Rattle.py_value.proofs.KeyLaws.{text_test, other_length}
 use Rattle.py_value.proofs.key.+is_same_key.Goals as goal
 
@@ -13,9 +14,5 @@ is_same_key-returns-in-Str-right t c =
     text_test c.is_same.result c.in-Str.s c.in-Str-right.t c.is_same.ensures
     ∙ sym (in_both is_same_key _ _ _ _ (ap plain c.in-Str.is) (ap plain c.in-Str-right.is))
 
-pub is_same_key-returns-in-Tuple-right : goal.is_same_key-returns-in-Tuple-right
-is_same_key-returns-in-Tuple-right t c =
-    c.are_same_keys.ensures
-    ∙ sym (in_both is_same_key _ _ _ _
-    (tuple_view c.args.left.now c.in-Tuple.items _ c.in-Tuple.is c.deref.ensures.value)
-    (tuple_view c.args.right.now c.in-Tuple-right.others _ c.in-Tuple-right.is c.deref-in-Tuple-right.ensures.value))
+pub are_same_keys-is_same_key-requires : goal.are_same_keys-is_same_key-requires
+are_same_keys-is_same_key-requires t c = (omega (arith, smaller_item c.args.left.now c.loop-i.i c.index-left-i.result c.loop-i-test.true c.index-left-i.is), tt)

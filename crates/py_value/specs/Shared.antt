@@ -1,0 +1,81 @@
+-- The plain view of values, level by level: what a tuple and an exception hold is seen plainly already.
+use Rattle.std.specs.Prelude.{◌≡◌, ℕ, suc, ◌+◌, min, List, map, Option, Some, None}
+use Rattle.std.specs.Option.{option_map}
+use Rattle.py_value.specs.declared.value.Value.{Value}
+use Rattle.py_value.specs.declared.value.Value.TheVariants.{None as NoneVariant, Bool, Int, Str, Tuple, List as ListVariant, Dict, Func, Module, Kind, Exc, Builtin}
+use Rattle.std.specs.declared.rc.Rc.{Rc}
+use Rattle.std.specs.declared.alloc.Global.{Global}
+use Rattle.py_value.specs.declared.value.Addr.{Addr}
+use Rattle.py_value.specs.declared.shared.Held.{Held}
+use Rattle.py_value.specs.declared.shared.Items.TheInside.{Inside as ItemsInside}
+use Rattle.py_value.specs.declared.shared.Argument.TheInside.{Inside as ArgumentInside}
+use Rattle.py_value.specs.Plain.{PlainValue, none_value, bool_value, int_value, str_value, tuple_value, list_at, dict_at, func_value, module_value, kind_value, exc_value, builtin_value, PlainValues, no_values, value_then, packed, PlainArgument, no_argument, argument, nesting_of, nesting_of_items}
+
+abbrev pub place_of : Addr → ℕ
+place_of a = a.place
+
+-- a value
+abbrev pub plain : Value → PlainValue
+plain NoneVariant = none_value
+plain (Bool b) = bool_value b
+plain (Int n) = int_value n
+plain (Str t) = str_value t
+plain (Tuple vs) = tuple_value vs
+plain (ListVariant a) = list_at a.place
+plain (Dict a) = dict_at a.place
+plain (Func f a) = func_value f (option_map place_of a)
+plain (Module m) = module_value m
+plain (Kind k) = kind_value k
+plain (Exc k a) = exc_value k a
+plain (Builtin b) = builtin_value b
+
+-- a list of values
+abbrev pub plains : List Value → List PlainValue
+plains vs = map plain vs
+
+-- the argument of an exception
+abbrev pub plain_held : Option (Rc Held Global) → PlainArgument
+plain_held None = no_argument
+plain_held (Some rc) = argument (plain rc.value.value)
+
+-- what the items of a tuple and an argument are
+abbrev pub items_view : ItemsInside → PlainValues
+items_view a = packed (plains a.row.value.items.items)
+
+abbrev pub argument_view : ArgumentInside → PlainArgument
+argument_view a = plain_held a.held
+
+-- the deepest that tuples and arguments stand directly in each other
+abbrev pub most_nested : ℕ
+most_nested = 200
+
+-- how deep the argument of an exception makes it nest
+abbrev pub nesting_of_argument : PlainArgument → ℕ
+nesting_of_argument no_argument = 0
+nesting_of_argument (argument v) = suc (nesting_of v)
+
+-- that the depth kept is that of what is held
+abbrev pub ItemsAreSound : ItemsInside → Type 0
+ItemsAreSound a = a.row.value.depth ≡ min most_nested (nesting_of_items (items_view a))
+
+abbrev pub HeldIsSound : Option (Rc Held Global) → Type 0
+HeldIsSound None = Unit {0}
+HeldIsSound (Some rc) = rc.value.depth ≡ min most_nested (nesting_of (plain rc.value.value))
+
+abbrev pub ArgumentIsSound : ArgumentInside → Type 0
+ArgumentIsSound a = HeldIsSound a.held
+
+-- how much a value holds, each value inside it counted
+abbrev mutual
+  pub size_of_value : PlainValue → ℕ
+  size_of_value (tuple_value vs) = size_of_values vs
+  size_of_value (exc_value k a) = size_of_argument a
+  size_of_value _ = 0
+
+  pub size_of_values : PlainValues → ℕ
+  size_of_values no_values = 0
+  size_of_values (value_then v vs) = suc (size_of_value v + size_of_values vs)
+
+  pub size_of_argument : PlainArgument → ℕ
+  size_of_argument no_argument = 0
+  size_of_argument (argument v) = suc (size_of_value v)
