@@ -162,7 +162,10 @@ pub fn begin(alloc: Global, stack: &mut Stack, level: Level, role: Role) -> Resu
             stack.upto_term(level)?;
             Ok(Turn::Next(Progress::DictOpen))
         }
-        _ => Ok(Turn::Stuck),
+        other => {
+            drop(other);
+            Ok(Turn::Stuck)
+        }
     }
 }
 
@@ -247,6 +250,7 @@ pub fn after_target(
     ensures { Acts (step (view_at (Progress.AfterTarget items) (view_stack stack.old)) (view_role role)) stack.old.limit stack.new result }
 {
     if !role.begins() {
+        drop(role);
         return Ok(Turn::Left(tuple(items, true)));
     }
     *stack = Stack::new(alloc, stack.limit, Goal::Targets(items));
@@ -269,6 +273,7 @@ pub fn in_items(
     ensures { Acts (close_items (view_opener opener) (view_row items) comma (view_stack stack.old) (view_role role) (begin LExpr (on (in_items (view_opener opener) (view_row items)) (view_stack stack.old)) (view_role role))) stack.old.limit stack.new result }
 {
     if closes(&opener, &role) {
+        drop(role);
         stack.push(Frame::PostRest)?;
         let tall = made(alloc, opener, items, comma)?;
         return Ok(Turn::Next(Progress::Have(tall)));
@@ -350,7 +355,10 @@ pub fn after_dot(alloc: Global, stack: &mut Stack, of: Tall, role: Role) -> Resu
             let tall = attribute(alloc, of, text)?;
             Ok(Turn::Next(Progress::Have(tall)))
         }
-        _ => Ok(Turn::Stuck),
+        other => {
+            drop(other);
+            Ok(Turn::Stuck)
+        }
     }
 }
 
@@ -364,7 +372,10 @@ pub fn after_not(stack: &mut Stack, chain: Chain, role: Role) -> Result<Turn, No
             stack.push(Frame::CompareRest(chain, CmpOp::NotIn))?;
             Ok(Turn::Next(Progress::Want(Level::Sum)))
         }
-        _ => Ok(Turn::Stuck),
+        other => {
+            drop(other);
+            Ok(Turn::Stuck)
+        }
     }
 }
 
@@ -385,7 +396,10 @@ pub fn after_is(chain: Chain, role: Role) -> Result<Turn, NoMemory>
         Role::Not => Ok(Turn::Next(Progress::AfterIsNot(chain))),
         Role::NoneWord => constant(chain, Comparison::Is, Tall::low(Expr::None)),
         Role::Bool(truth) => constant(chain, Comparison::Is, Tall::low(Expr::Bool(truth))),
-        _ => Ok(Turn::Stuck),
+        other => {
+            drop(other);
+            Ok(Turn::Stuck)
+        }
     }
 }
 
@@ -396,7 +410,10 @@ pub fn after_is_not(chain: Chain, role: Role) -> Result<Turn, NoMemory>
     match role {
         Role::NoneWord => constant(chain, Comparison::IsNot, Tall::low(Expr::None)),
         Role::Bool(truth) => constant(chain, Comparison::IsNot, Tall::low(Expr::Bool(truth))),
-        _ => Ok(Turn::Stuck),
+        other => {
+            drop(other);
+            Ok(Turn::Stuck)
+        }
     }
 }
 
@@ -407,12 +424,19 @@ pub fn linked(alloc: Global, stack: &mut Stack, chain: Chain, role: Role) -> Res
     ensures { Acts (step (view_at (Progress.Linked chain) (view_stack stack.old)) (view_role role)) stack.old.limit stack.new result }
 {
     match link(alloc, chain, &role)? {
-        Met::Next(progress) => Ok(Turn::Next(progress)),
+        Met::Next(progress) => {
+            drop(role);
+            Ok(Turn::Next(progress))
+        }
         Met::Opens(frame, progress) => {
+            drop(role);
             stack.push(frame)?;
             Ok(Turn::Next(progress))
         }
-        Met::Stuck => Ok(Turn::Stuck),
+        Met::Stuck => {
+            drop(role);
+            Ok(Turn::Stuck)
+        }
         Met::Passes(tall) => give(alloc, stack, tall, &role),
     }
 }

@@ -20,17 +20,17 @@ turn-requires-clause-kept c = same_limit HEIGHT c.tokens.stack c.tokens.invarian
 pub turn-requires-clause-at : goal.turn-requires-clause-at
 turn-requires-clause-at c = c.tokens.invariant.going
 
-pub returns-in-Stuck-clause-follows : goal.returns-in-Stuck-clause-follows
-returns-in-Stuck-clause-follows c = turn_stuck (goal_of c.args.part) c.args.tokens.now c.args.at c.tokens.place c.tokens.progress c.tokens.stack c.turn.new.stack c.index-tokens-place.result c.in_ok-next.field-0 c.tokens.invariant c.tokens-test.true c.in_ok-next.ensures c.in-Stuck.is
+pub returns-in-Stuck : goal.returns-in-Stuck
+returns-in-Stuck c = turn_stuck (goal_of c.args.part) c.args.tokens.now c.args.at c.tokens.place c.tokens.progress c.tokens.stack c.turn.new.stack c.index-tokens-place.result c.in_ok-next.field-0 c.tokens.invariant c.tokens-test.true c.in_ok-next.ensures c.in-Stuck.is
 
-pub returns-in-Left-clause-follows : goal.returns-in-Left-clause-follows
-returns-in-Left-clause-follows c = turn_left (goal_of c.args.part) c.args.tokens.now c.args.at c.tokens.place c.tokens.progress c.tokens.stack c.turn.new.stack c.index-tokens-place.result c.in_ok-next.field-0 c.tokens.invariant c.tokens-test.true c.in_ok-next.ensures c.in-Left.tall c.in-Left.is
+pub returns-in-Left : goal.returns-in-Left
+returns-in-Left c = turn_left (goal_of c.args.part) c.args.tokens.now c.args.at c.tokens.place c.tokens.progress c.tokens.stack c.turn.new.stack c.index-tokens-place.result c.in_ok-next.field-0 c.tokens.invariant c.tokens-test.true c.in_ok-next.ensures c.in-Left.tall c.in-Left.is
 
-pub returns-then-branch-clause-follows : goal.returns-then-branch-clause-follows
-returns-then-branch-clause-follows c = turn_deep (goal_of c.args.part) c.args.tokens.now c.args.at c.tokens.place c.tokens.progress c.tokens.stack c.turn.new.stack c.index-tokens-place.result c.in_ok-next.field-0 c.tokens.invariant c.tokens-test.true c.in_ok-next.ensures c.in-Deep.is c.index-tokens-place-in-Deep.result (sym c.if-branch.true ∙ c.in_ok-has_spelled_fields-in-Deep.ensures)
+pub returns-then-branch : goal.returns-then-branch
+returns-then-branch c = turn_deep (goal_of c.args.part) c.args.tokens.now c.args.at c.tokens.place c.tokens.progress c.tokens.stack c.turn.new.stack c.index-tokens-place.result c.in_ok-next.field-0 c.tokens.invariant c.tokens-test.true c.in_ok-next.ensures c.in-Deep.is c.index-tokens-place-in-Deep.result (sym c.if-branch.true ∙ c.in_ok-has_spelled_fields-in-Deep.ensures)
 
-pub returns-in-Deep-clause-follows : goal.returns-in-Deep-clause-follows
-returns-in-Deep-clause-follows c = turn_bad (goal_of c.args.part) c.args.tokens.now c.args.at c.tokens.place c.tokens.progress c.tokens.stack c.turn.new.stack c.index-tokens-place.result c.in_ok-next.field-0 c.tokens.invariant c.tokens-test.true c.in_ok-next.ensures c.in-Deep.is c.index-tokens-place-in-Deep.result (sym c.if-branch.false ∙ c.in_ok-has_spelled_fields-in-Deep.ensures)
+pub returns-in-Deep : goal.returns-in-Deep
+returns-in-Deep c = turn_bad (goal_of c.args.part) c.args.tokens.now c.args.at c.tokens.place c.tokens.progress c.tokens.stack c.turn.new.stack c.index-tokens-place.result c.in_ok-next.field-0 c.tokens.invariant c.tokens-test.true c.in_ok-next.ensures c.in-Deep.is c.index-tokens-place-in-Deep.result (sym c.if-branch.false ∙ c.in_ok-has_spelled_fields-in-Deep.ensures)
 
-pub returns-clause-follows : goal.returns-clause-follows
-returns-clause-follows c = over_there (goal_of c.args.part) c.args.tokens.now c.args.at c.tokens.place c.tokens.progress c.tokens.stack c.tokens.invariant c.tokens-test.false
+pub returns : goal.returns
+returns c = over_there (goal_of c.args.part) c.args.tokens.now c.args.at c.tokens.place c.tokens.progress c.tokens.stack c.tokens.invariant c.tokens-test.false
