@@ -1,5 +1,5 @@
 -- Steps of the machine, as the code comes to them.
-use Rattle.std.proofs.Common.{◌≡◌, ℕ, ◌+◌, ◌-◌, Bool, true, false, cond, ◌&&◌, List, [], ◌∷◌, ◌++◌, reverse, Option, Some, None, option_map, Result, refl, sym, ap, subst, ◌∙◌}
+use Rattle.std.proofs.Common.{◌≡◌, ℕ, ◌+◌, ◌-◌, Bool, true, false, cond, ◌&&◌, List, [], ◌∷◌, ◌++◌, reverse, Option, Some, None, option_map, Result, Ok, Err, IfOk, refl, sym, ap, subst, ◌∙◌}
 use Rattle.std.specs.declared.alloc.AllocError.{AllocError}
 use Rattle.py_value.specs.declared.operator.BinOp.{BinOp}
 use Rattle.py_token.specs.declared.token.Mark.TheVariants as mark
@@ -12,17 +12,12 @@ use Rattle.py_syntax.specs.declared.stmt.LineEnd.{LineEnd}
 use Rattle.py_parse_expr.specs.Machine as expression
 use Rattle.py_parse_expr.specs.Machine.{snoc, start, role}
 use Rattle.py_parse_expr.specs.PatternMachine as pattern
-use Rattle.py_syntax.specs.declared.expr.Expr.{Expr as Node}
-use Rattle.py_syntax.specs.declared.pattern.Pattern.{Pattern as PatternNode}
-use Rattle.py_parse.specs.declared.owner.Choice.{Choice}
-use Rattle.py_parse.specs.declared.owner.Owner as held
-use Rattle.py_parse.specs.declared.owner.Owner.TheVariants as owner_
 use Rattle.py_parse.specs.declared.places.Place as held_place
 use Rattle.py_parse.specs.declared.places.State as held_state
 use Rattle.py_parse.specs.declared.block.Open.{Open}
 use Rattle.py_parse.specs.declared.places.Turn.{Turn}
-use Rattle.py_parse.specs.Open.{Owner, a_clause, a_def, a_case, closed, snoc_case, newline_end, semicolon_end, both_end, Block, top, inside, add}
-use Rattle.py_parse.specs.Machine.{Place, Line, Semicolon, Leaving, NameWanted, Behind, Choosing, Over, Matching, choose, close, over_line, begin_line, line, value, augmented, default, ParamWanted, ParamRead, BoundWanted, BoundRead, ClauseBound, ColonWanted, SuiteWanted, IndentWanted, Except, Lines, State, at, wanted, onward, goal, reads, leaving, left, Listed, listed, behind_name, with_name, is_some, in_place_op, assigned, end_simple, end_header, begin_simple, behind_value, behind_default, act}
+use Rattle.py_parse.specs.Open.{Owner, a_clause, a_def, a_case, newline_end, semicolon_end, both_end, Block, top, inside, add}
+use Rattle.py_parse.specs.Machine.{Place, Line, Semicolon, Leaving, NameWanted, Behind, Choosing, Over, Matching, choose, close, over_suite, over_line, begin_line, line, value, augmented, default, ParamWanted, ParamRead, BoundWanted, BoundRead, ClauseBound, ColonWanted, SuiteWanted, IndentWanted, Except, Lines, State, at, wanted, onward, goal, reads, leaving, left, Listed, listed, behind_name, with_name, is_some, in_place_op, assigned, end_simple, end_header, begin_simple, behind_value, behind_default, act}
 use Rattle.py_parse.specs.HeldLists.{some_exprs, some_cases, NoName, is_equal_sign, is_semicolon, ends_simple, is_comma, is_right_paren, is_dedent, is_end, is_case}
 use Rattle.py_parse.specs.HeldMarks.{is_newline}
 use Rattle.py_parse.specs.HeldStates.{view_state, view_place, blocks, Opens, SharesLine, is_closable, is_top, Makes, ActsAs}
@@ -243,27 +238,15 @@ own_line b c l h is = sym (h l ∙ ap (λ (x : Bool). cond x (close b l) (Line b
 pub close_top : (ss : Stmts) (old new : List Open) (l : ℕ) → Opens ss old new None → Line (blocks ss (reverse new)) ≡ close (blocks ss (reverse old)) l
 close_top ss old new l h = ap Line h.1 ∙ sym (ap (λ (b : Block). close b l) h.0)
 
-pub close_cases : (ss : Stmts) (old new : List Open) (l : ℕ) (o : Open) (e : Expr) (last : ℕ) (cs ds : Cases) (p : Pattern) (g : Option Expr) (s : Suite) → Opens ss old new (Some o) → view_owner o.owner ≡ a_case e last cs p g → s ≡ suite o.lines.first o.lines.last o.inline ss → ds ≡ snoc_case cs p g s → Choosing e last ds o.lines.begun (blocks (plain_stmts o.outer.items) (reverse new)) ≡ close (blocks ss (reverse old)) l
-close_cases ss old new l o e last cs ds p g s h is same more =
+pub close_inside : (ss : Stmts) (old new : List Open) (l : ℕ) (o : Open) (s : Suite) (w : State) → Opens ss old new (Some o) → s ≡ suite o.lines.first o.lines.last o.inline ss → w ≡ over_suite (view_owner o.owner) s o.lines.begun l (blocks (plain_stmts o.outer.items) (reverse new)) → w ≡ close (blocks ss (reverse old)) l
+close_inside ss old new l o s w h same is =
     let b = blocks (plain_stmts o.outer.items) (reverse new) in
-    ap (λ (x : Cases). Choosing e last x o.lines.begun b) (more ∙ ap (snoc_case cs p g) same)
-    ∙ sym (ap (λ (w : Block). close w l) h ∙ ap (λ (w : Owner). close (inside ss o.inline o.lines.first o.lines.last o.lines.begun w b) l) is)
-
--- an owner that is no `case`
-abbrev pub NoCase : Owner → Type 0
-NoCase (a_case e last cs p g) = ⊥
-NoCase o = Unit {0}
-
-pub no_case : (o : held.Owner) → ((c : Choice) (p : PatternNode) (g : Option Node) → o ≡ owner_.Case c p g → ⊥) → NoCase (view_owner o)
-no_case (owner_.Case c p g) other = other c p g refl
-no_case o other = tt
-
-pub close_other : (ss : Stmts) (old new : List Open) (l : ℕ) (o : Open) (k : StmtKind) (s : Suite) → Opens ss old new (Some o) → NoCase (view_owner o.owner) → s ≡ suite o.lines.first o.lines.last o.inline ss → k ≡ closed (view_owner o.owner) s → Behind k o.lines.begun l (blocks (plain_stmts o.outer.items) (reverse new)) ≡ close (blocks ss (reverse old)) l
-close_other ss old new l o k s h other same is =
-    let b = blocks (plain_stmts o.outer.items) (reverse new) in
-    ap (λ (x : StmtKind). Behind x o.lines.begun l b) (is ∙ ap (closed (view_owner o.owner)) same)
-    ∙ sym (ap (λ (w : Block). close w l) h ∙ go (view_owner o.owner) other)
+    is ∙ ap (λ (x : Suite). over_suite (view_owner o.owner) x o.lines.begun l b) same ∙ sym (ap (λ (x : Block). close x l) h ∙ go (view_owner o.owner) b)
   where
-    go : (w : Owner) → NoCase w → close (inside ss o.inline o.lines.first o.lines.last o.lines.begun w (blocks (plain_stmts o.outer.items) (reverse new))) l ≡ Behind (closed w (suite o.lines.first o.lines.last o.inline ss)) o.lines.begun l (blocks (plain_stmts o.outer.items) (reverse new))
-    go (a_case e last cs p g) other = absurd other
-    go w other = refl
+    go : (w : Owner) (b : Block) → close (inside ss o.inline o.lines.first o.lines.last o.lines.begun w b) l ≡ over_suite w (suite o.lines.first o.lines.last o.inline ss) o.lines.begun l b
+    go (a_case e last cs p g) b = refl
+    go w b = refl
+
+pub close_made : (ss : Stmts) (old new : List Open) (l : ℕ) (o : Open) (s : Suite) (r : Result held_state.State AllocError) → Opens ss old new (Some o) → s ≡ suite o.lines.first o.lines.last o.inline ss → IfOk r (λ w. view_state w ≡ over_suite (view_owner o.owner) s o.lines.begun l (blocks (plain_stmts o.outer.items) (reverse new))) → IfOk r (λ w. view_state w ≡ close (blocks ss (reverse old)) l)
+close_made ss old new l o s (Ok w) h same is = close_inside ss old new l o s (view_state w) h same is
+close_made ss old new l o s (Err e) h same is = tt

@@ -5,7 +5,7 @@ use Rattle.std.proofs.lemmas.List.{length-map}
 use Rattle.py_token.specs.declared.token.Token.{Token}
 use Rattle.py_token.specs.Plain.{PToken}
 use Rattle.py_token.specs.View.{view_token, view_tokens}
-use Rattle.py_syntax.specs.Tree.{Expr, Cases, Pattern}
+use Rattle.py_syntax.specs.Tree.{Expr, Cases, Pattern, Stmts}
 use Rattle.py_syntax.specs.Kinds.{Kind, bare}
 use Rattle.py_syntax.specs.Spelling.{HEIGHT}
 use Rattle.py_syntax.specs.View.{plain_stmts}
@@ -18,7 +18,6 @@ use Rattle.py_parse_expr.proofs.PatternTokens.{kinds_length}
 use Rattle.py_parse_expr.specs.PatternMachine as pattern
 use Rattle.py_parse_expr.specs.PatternReads as pattern_reads
 use Rattle.py_parse.specs.declared.places.State as held_state
-use Rattle.py_parse.specs.declared.places.State.TheVariants as state_
 use Rattle.py_parse.specs.declared.places.Turn.{Turn}
 use Rattle.py_parse.specs.declared.places.Turn.TheVariants as turn_
 use Rattle.py_parse_expr.specs.declared.exprs.ExprPart.{ExprPart}
@@ -26,13 +25,13 @@ use Rattle.py_parse.specs.declared.progress.Progress.{Progress}
 use Rattle.py_parse.specs.declared.error.SyntaxError.{SyntaxError}
 use Rattle.py_parse.specs.declared.error.SyntaxError.TheVariants as error_
 use Rattle.py_parse.specs.Open.{Block}
-use Rattle.py_parse.specs.Machine.{Resume, Lines, State, Over, goal, resume, resume_pattern, done, onward, step}
+use Rattle.py_parse.specs.Machine.{Resume, Lines, State, Line, at, Behind, Choosing, Over, goal, resume, resume_pattern, done, onward, step}
 use Rattle.py_parse.specs.Levels.{level}
-use Rattle.py_parse.specs.Refusal.{IsUnexpected, HasDeepSuites, HasDeepExpressions}
-use Rattle.py_parse.specs.HeldStates.{kind_at, first_at, last_at, view_state, ActsAs}
+use Rattle.py_parse.specs.Refusal.{IsUnexpected, HasDeepSuites, HasDeepExpressions, IsParsed, IsRefused}
+use Rattle.py_parse.specs.HeldStates.{kind_at, first_at, last_at, view_state, ActsAs, IsDone}
 use Rattle.py_parse_expr.specs.ExprReads.{goal_of, FollowsMachine}
 use Rattle.py_parse.specs.HeldMarks.{header_at}
-use Rattle.py_parse.specs.Progress.{StandsAt, Turns, ReadsFrom, MatchesFrom, Resumes, IsRefused, IsParsed, Advances}
+use Rattle.py_parse.specs.Progress.{StandsAt, Turns, ReadsFrom, MatchesFrom, Resumes, Advances}
 use Rattle.py_parse.proofs.Going.{taken, too_deep, stuck, expression_read, pattern_read, whole, too_short}
 use Rattle.py_parse.proofs.Going as going
 use Rattle.py_parse.proofs.Turning.{turning, resuming}
@@ -152,15 +151,16 @@ later_still ts place q (Err e) lt h = h
 
 -- ---- the end
 
-pub parsed : (tokens : List Token) (place : ℕ) (s : held_state.State) (body : _) → StandsAt (view_tokens tokens) place (view_state s) → length tokens ≤ place → s ≡ state_.Over body → IsParsed (view_tokens tokens) (Ok (record { body = body }))
-parsed tokens place s body h le is = let e = tokens_length tokens in whole (view_tokens tokens) place (view_state s) (plain_stmts body.items) h (omega arith) (ap view_state is)
+-- where the end was read, the machine stands behind it
+over_is : (s : State) (ss : Stmts) → done s ≡ Some ss → s ≡ Over ss
+over_is (Line b) ss h = absurd cc
+over_is (at p n b) ss h = absurd cc
+over_is (Behind k first last b) ss h = absurd cc
+over_is (Choosing e last cs first b) ss h = absurd cc
+over_is (Over body) ss h = let same : body ≡ ss = cc in ap Over same
 
-pub unparsed : (tokens : List Token) (place : ℕ) (s : held_state.State) → StandsAt (view_tokens tokens) place (view_state s) → length tokens ≤ place → done (view_state s) ≡ None → IsUnexpected (view_tokens tokens) place
-unparsed tokens place s h le is = let e = tokens_length tokens in too_short (view_tokens tokens) place (view_state s) h (omega arith) is
+pub parsed : (tokens : List Token) (place : ℕ) (s : State) (body : Vec Stmt Global) → StandsAt (view_tokens tokens) place s → length tokens ≤ place → IsDone s (Some body) → IsParsed (view_tokens tokens) (Ok (record { body = body }))
+parsed tokens place s body h le is = let e = tokens_length tokens in whole (view_tokens tokens) place s (plain_stmts body.items) h (omega arith) (over_is s (plain_stmts body.items) is)
 
-pub not_done : (s : held_state.State) → ((body : Vec Stmt Global) → s ≡ state_.Over body → ⊥) → done (view_state s) ≡ None
-not_done (state_.Line b) h = refl
-not_done (state_.At p n b) h = refl
-not_done (state_.Behind k first last b) h = refl
-not_done (state_.Choosing of first b) h = refl
-not_done (state_.Over body) h = absurd (h body refl)
+pub unparsed : (tokens : List Token) (place : ℕ) (s : State) → StandsAt (view_tokens tokens) place s → length tokens ≤ place → IsDone s None → IsUnexpected (view_tokens tokens) place
+unparsed tokens place s h le is = let e = tokens_length tokens in too_short (view_tokens tokens) place s h (omega arith) is

@@ -58,3 +58,4 @@ pub mod PatternWalk
 pub mod Going
 pub mod Turning
 pub mod Answering
+pub mod Blocks

@@ -15,7 +15,8 @@ use Rattle.py_parse.specs.Open.{Block}
 use Rattle.py_parse.specs.Machine.{Resume, Matching, Lines, State, goal, reads, act, step}
 use Rattle.py_parse.specs.HeldMarks.{header_at}
 use Rattle.py_parse.specs.HeldStates.{kind_at, first_at, last_at}
-use Rattle.py_parse.specs.Progress.{StandsAt, step_at, Turns, ReadsFrom, MatchesFrom, Resumes, last_there, line_before, line_of}
+use Rattle.py_parse.specs.Progress.{StandsAt, step_at, Turns, ReadsFrom, MatchesFrom, Resumes, last_there, line_before}
+use Rattle.py_parse.specs.Refusal.{line_of}
 
 tokens_there : (tokens : List Token) (place : ℕ) (d : Token) → place < length tokens → drop place (view_tokens tokens) ≡ view_token (get_or tokens place d) ∷ view_tokens (drop (suc place) tokens)
 tokens_there tokens place d lt = drop-map view_token place tokens ∙ ap view_tokens (drop-cons tokens place d lt)

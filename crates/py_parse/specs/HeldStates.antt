@@ -1,8 +1,10 @@
 -- Open suites and places as the code holds them, and what a step of the machine makes of them.
-use Rattle.std.specs.Prelude.{◌≡◌, ℕ, Bool, true, false, cond, List, [], ◌∷◌, reverse, Option, Some, None, option_map, Result, Ok, Err}
+use Rattle.std.specs.Prelude.{◌≡◌, ℕ, Bool, true, false, cond, List, [], ◌∷◌, reverse, Option, Some, None, option_map, Result, Ok, Err, Vec}
 use Rattle.std.specs.declared.alloc.AllocError.{AllocError}
+use Rattle.std.specs.Global.{Global}
 use Rattle.py_token.specs.View.{view_kind}
 use Rattle.py_token.specs.declared.token.Token.{Token, out-Token}
+use Rattle.py_syntax.specs.declared.stmt.Stmt.{Stmt}
 use Rattle.py_syntax.specs.Tree.{Stmts, stmt}
 use Rattle.py_syntax.specs.Kinds.{Kind, bare_kind}
 use Rattle.py_syntax.specs.View.{plain_expr, plain_exprs, plain_pattern, plain_kind, plain_suite, plain_stmts, plain_arms, plain_clauses, plain_cases, plain_aliases}
@@ -23,7 +25,7 @@ use Rattle.py_parse.specs.declared.places.State.TheVariants as state_
 use Rattle.py_parse.specs.declared.places.Turn.{Turn}
 use Rattle.py_parse.specs.declared.places.Turn.TheVariants as turn_
 use Rattle.py_parse.specs.Open.{Block, top, inside}
-use Rattle.py_parse.specs.Machine.{Resume, value, augmented, leaving, asserted, reason, arm_test, while_test, for_target, for_over, clause_kind, subject, guard, default, Listed, globals, imports, froms, Place, Matching, Simple, Semicolon, Leaving, NameWanted, NameRead, BoundWanted, BoundRead, ModuleWanted, ImportWanted, FunctionWanted, ParamsWanted, ParamWanted, ParamRead, Except, ClauseBound, ColonWanted, SuiteWanted, IndentWanted, MatchLine, MatchBlock, Lines, State, Line, at, Behind, Choosing, Over, goal, wanted, reads, act, close, over_line, at_line}
+use Rattle.py_parse.specs.Machine.{Resume, value, augmented, leaving, asserted, reason, arm_test, while_test, for_target, for_over, clause_kind, subject, guard, default, Listed, globals, imports, froms, Place, Matching, Simple, Semicolon, Leaving, NameWanted, NameRead, BoundWanted, BoundRead, ModuleWanted, ImportWanted, FunctionWanted, ParamsWanted, ParamWanted, ParamRead, Except, ClauseBound, ColonWanted, SuiteWanted, IndentWanted, MatchLine, MatchBlock, Lines, State, Line, at, Behind, Choosing, Over, goal, wanted, reads, act, close, over_line, at_line, done}
 use Rattle.py_parse.specs.HeldOwners.{view_owner}
 
 -- the kind of a token, and its lines
@@ -143,6 +145,10 @@ is_closable b = false
 abbrev pub is_top : Block → Bool
 is_top (top ss) = true
 is_top b = false
+
+-- The statements of the module, where its end was read.
+abbrev pub IsDone : State → Option (Vec Stmt Global) → Type 0
+IsDone s b = done s ≡ option_map (λ (ss : Vec Stmt Global). plain_stmts ss.items) b
 
 -- The open suites, where a statement may begin.
 abbrev pub Rests : State → Result (Option held_block.Block) AllocError → Type 0

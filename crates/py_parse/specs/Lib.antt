@@ -10,3 +10,4 @@ pub mod HeldMarks
 pub mod Levels
 pub mod Progress
 pub mod HeldLists
+pub mod HeldBlocks

@@ -106,6 +106,11 @@ close (top ss) l = Line (top ss)
 close (inside ss inline first last begun (a_case e header_last cs p g) b) l = Choosing e header_last (snoc_case cs p g (suite first last inline ss)) begun b
 close (inside ss inline first last begun o b) l = Behind (closed o (suite first last inline ss)) begun l b
 
+-- the suite of this owner, which has this first line, ends with a token whose last line is this
+abbrev pub over_suite : Owner → Suite → ℕ → ℕ → Block → State
+over_suite (a_case e header_last cs p g) s begun l b = Choosing e header_last (snoc_case cs p g s) begun b
+over_suite o s begun l b = Behind (closed o s) begun l b
+
 -- a line ends, and a suite that shares it
 abbrev pub over_line : Block → ℕ → State
 over_line (inside ss true first last begun o b) l = close (inside ss true first last begun o b) l

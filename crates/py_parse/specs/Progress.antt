@@ -1,24 +1,20 @@
--- The reading of a list of tokens by places, and what it answers.
+-- The reading of a list of tokens by places: where the machine stands (`StandsAt`), what a token makes of its state
+-- (`Turns`, `ReadsFrom`, `MatchesFrom`, `Resumes`), and a later place where it stands (`Advances`).
 use Rattle.std.specs.Prelude.{◌≡◌, ℕ, zero, suc, ◌≤◌, ◌<◌, List, [], ◌∷◌, length, drop, Option, Some, None, Result, Ok, Err}
 use Rattle.py_token.specs.Plain.{PToken, first_of, last_of}
 use Rattle.py_syntax.specs.Tree.{Expr, Cases}
 use Rattle.py_syntax.specs.Kinds.{Kind, bare_token, bare}
 use Rattle.py_syntax.specs.Headers.{Marked, marked}
-use Rattle.py_syntax.specs.Statements.{stmts_height, stmts_nesting}
-use Rattle.py_syntax.specs.Spelling.{Spells, HEIGHT, NESTING}
-use Rattle.py_syntax.specs.View.{plain_module}
-use Rattle.py_syntax.specs.declared.stmt.Module.{Module}
+use Rattle.py_syntax.specs.Spelling.{HEIGHT, NESTING}
 use Rattle.py_parse_expr.specs.Machine as expression
 use Rattle.py_parse_expr.specs.Machine.{start, role}
 use Rattle.py_parse_expr.specs.PatternMachine as pattern
-use Rattle.py_parse.specs.declared.error.DepthKind.TheVariants as depth_
 use Rattle.py_parse.specs.declared.error.SyntaxError.{SyntaxError}
-use Rattle.py_parse.specs.declared.error.SyntaxError.TheVariants as error_
 use Rattle.py_parse.specs.declared.progress.Progress.{Progress}
 use Rattle.py_parse.specs.Open.{Block}
 use Rattle.py_parse.specs.Machine.{Resume, Matching, Lines, State, begun, goal, reads, act, step}
 use Rattle.py_parse.specs.Least.{least_height, least_nesting}
-use Rattle.py_parse.specs.Refusal.{IsUnexpected, HasDeepSuites, HasDeepExpressions}
+use Rattle.py_parse.specs.Refusal.{IsRefused}
 use Rattle.py_parse.specs.HeldMarks.{header_at}
 use Rattle.py_parse.specs.HeldStates.{view_state}
 
@@ -71,25 +67,6 @@ pub record Resumes (ts : List PToken) (place later_place : ℕ) (o : Lines → K
   pub turns : Turns ts later_place (λ t w. w ≡ o (record { begun = n.begun; first = n.first; last = line_before ts later_place }) (bare_token t) (last_of t))
 
 -- ---- answers
-
--- the first line of the token at a place; behind the last one its last line, and 1 where there is none
-abbrev pub line_of : List PToken → ℕ → ℕ
-line_of [] place = 1
-line_of (t ∷ ts) zero = first_of t
-line_of (t ∷ []) (suc place) = last_of t
-line_of (t ∷ u ∷ ts) (suc place) = line_of (u ∷ ts) place
-
--- why a list is refused, with the line of its place
-abbrev pub IsRefused : List PToken → SyntaxError → Type 0
-IsRefused ts (error_.Unexpected line) = (place : ℕ) × IsUnexpected ts place × (line ≡ line_of ts place)
-IsRefused ts (error_.TooDeep depth_.Suites line) = (place : ℕ) × HasDeepSuites ts place × (line ≡ line_of ts place)
-IsRefused ts (error_.TooDeep depth_.Expressions line) = (place : ℕ) × HasDeepExpressions ts place × (line ≡ line_of ts place)
-IsRefused ts error_.NoMemory = Unit {0}
-
--- The tree that the list spells, within the limits, or why there is none.
-abbrev pub IsParsed : List PToken → Result Module SyntaxError → Type 0
-IsParsed ts (Ok m) = Spells (plain_module m) ts × (stmts_height (plain_module m) ≤ HEIGHT) × (stmts_nesting (plain_module m) ≤ NESTING)
-IsParsed ts (Err e) = IsRefused ts e
 
 -- A later place where the machine stands, or why there is none.
 abbrev pub Advances : List PToken → ℕ → Result Progress SyntaxError → Type 0

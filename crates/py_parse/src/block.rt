@@ -14,7 +14,7 @@ use py_value::NoMemory;
 use std::alloc::Global;
 
 /// The first lines of a statement and of the part of it that is read, and the last line of that part so far.
-#[derive(Clone, Copy, Debug, PartialEq, Eq)]
+#[derive(Clone, Copy)]
 pub struct Lines {
     pub begun: u32,
     pub first: u32,

@@ -1,11 +1,15 @@
 // What an open suite belongs to: a part of a compound statement, with what was read of the statement before it.
 
 ghost use Rattle.std.specs.Prelude.{◌≡◌, Some, None, IfOk, option_map};
-ghost use Rattle.py_syntax.specs.Tree.{no_suite, has_suite, match};
-ghost use Rattle.py_syntax.specs.View.{plain_expr, plain_pattern, plain_kind, plain_suite, plain_arms, plain_clauses, plain_cases};
+ghost use Rattle.py_syntax.specs.Tree.{no_suite, has_suite, try, def, match};
+ghost use Rattle.py_syntax.specs.View.{plain_expr, plain_exprs, plain_pattern, plain_kind, plain_suite, plain_arms, plain_clauses, plain_cases};
 ghost use Rattle.py_parse.specs.Open.{snoc_arm, snoc_clause, snoc_case, with_else, closed};
+ghost use Rattle.py_parse.specs.Machine.{Choosing, over_suite};
 ghost use Rattle.py_parse.specs.HeldOwners.{view_owner};
+ghost use Rattle.py_parse.specs.HeldStates.{view_block, view_state};
 
+use crate::block::Block;
+use crate::places::State;
 use py_syntax::{Arm, Case, Clause, Expr, Pattern, StmtKind, Suite};
 use py_value::{NoMemory, Text};
 use std::alloc::Global;
@@ -34,7 +38,6 @@ pub struct Signature {
 }
 
 /// What an open suite belongs to.
-#[derive(Drop)]
 pub enum Owner {
     Arm(Vec<Arm>, Expr),
     While(Expr),
@@ -46,6 +49,39 @@ pub enum Owner {
     Finally(Tried, Option<Suite>),
     Def(Signature, bool),
     Case(Choice, Pattern, Option<Expr>),
+}
+
+impl Drop for Owner {
+    fn drop(self) {
+        match self {
+            Owner::Arm(arms, test) => {
+                drop(arms);
+                drop(test)
+            }
+            Owner::While(test) => drop(test),
+            Owner::For(target, over) => {
+                drop(target);
+                drop(over)
+            }
+            Owner::Try => (),
+            Owner::Clause(tried, kind, bound) => {
+                drop(tried);
+                drop(kind);
+                drop(bound)
+            }
+            Owner::Else(kind) => drop(kind),
+            Owner::Finally(tried, orelse) => {
+                drop(tried);
+                drop(orelse)
+            }
+            Owner::Def(signature, _) => drop(signature),
+            Owner::Case(choice, pattern, guard) => {
+                drop(choice);
+                drop(pattern);
+                drop(guard)
+            }
+        }
+    }
 }
 
 #[tactic(auto, using(crate::proofs::Held::arms_snoc))]
@@ -73,7 +109,7 @@ fn add_clause(
 
 /// A case more.
 #[tactic(auto, using(crate::proofs::Held::cases_snoc))]
-pub fn add_case(
+fn add_case(
     cases: Vec<Case>,
     pattern: Pattern,
     guard: Option<Expr>,
@@ -130,11 +166,25 @@ fn with_else(kind: StmtKind, suite: Suite) -> StmtKind
             orelse: Some(suite),
             finally,
         },
-        other => other,
+        other @ (StmtKind::Expr(_)
+        | StmtKind::Assign { .. }
+        | StmtKind::AugAssign { .. }
+        | StmtKind::Pass
+        | StmtKind::Break
+        | StmtKind::Continue
+        | StmtKind::Return(_)
+        | StmtKind::Raise(_)
+        | StmtKind::Assert(_, _)
+        | StmtKind::Global(_)
+        | StmtKind::Import(_)
+        | StmtKind::From(_, _)
+        | StmtKind::Def { .. }
+        | StmtKind::Match { .. }) => other,
     }
 }
 
-fn matched(choice: Choice) -> StmtKind
+/// The `match` statement with its cases.
+pub fn matched(choice: Choice) -> StmtKind
     ensures { plain_kind result ≡ match (plain_expr choice.subject) choice.header_last (plain_cases choice.cases.items) }
 {
     StmtKind::Match {
@@ -144,62 +194,140 @@ fn matched(choice: Choice) -> StmtKind
     }
 }
 
-/// The statement so far, where the suite is closed.
-pub fn closed(alloc: Global, owner: Owner, suite: Suite) -> Result<StmtKind, NoMemory>
-    ensures { IfOk result (λ k. plain_kind k ≡ closed (view_owner owner) (plain_suite suite)) }
+/// A `try` with one clause more.
+fn handled(
+    tried: Tried,
+    kind: Option<Expr>,
+    bound: Option<Text>,
+    suite: Suite,
+) -> Result<StmtKind, NoMemory>
+    ensures { IfOk result (λ k. plain_kind k ≡ try (plain_suite tried.body) (snoc_clause (plain_clauses tried.clauses.items) (option_map plain_expr kind) bound (plain_suite suite)) no_suite no_suite) }
 {
-    match owner {
-        Owner::Arm(arms, test) => {
-            let arms = add_arm(arms, test, suite)?;
-            Ok(StmtKind::If { arms, orelse: None })
-        }
-        Owner::While(test) => Ok(StmtKind::While {
-            test,
-            body: suite,
-            orelse: None,
-        }),
-        Owner::For(target, over) => Ok(StmtKind::For {
-            target,
-            over,
-            body: suite,
-            orelse: None,
-        }),
-        Owner::Try => Ok(StmtKind::Try {
-            body: suite,
-            clauses: Vec::new(alloc),
-            orelse: None,
-            finally: None,
-        }),
-        Owner::Clause(tried, kind, bound) => {
-            let clauses = add_clause(tried.clauses, kind, bound, suite)?;
-            Ok(StmtKind::Try {
-                body: tried.body,
-                clauses,
+    let clauses = add_clause(tried.clauses, kind, bound, suite)?;
+    Ok(StmtKind::Try {
+        body: tried.body,
+        clauses,
+        orelse: None,
+        finally: None,
+    })
+}
+
+/// A `def` with its body.
+fn defined(signature: Signature, comma: bool, body: Suite) -> StmtKind
+    ensures { plain_kind result ≡ def signature.name signature.params.items (plain_exprs signature.defaults.items) comma (plain_suite body) }
+{
+    StmtKind::Def {
+        name: signature.name,
+        params: signature.params,
+        defaults: signature.defaults,
+        comma,
+        body,
+    }
+}
+
+/// A `match` with one case more.
+fn chosen(
+    choice: Choice,
+    pattern: Pattern,
+    guard: Option<Expr>,
+    suite: Suite,
+) -> Result<StmtKind, NoMemory>
+    ensures { IfOk result (λ k. plain_kind k ≡ match (plain_expr choice.subject) choice.header_last (snoc_case (plain_cases choice.cases.items) (plain_pattern pattern) (option_map plain_expr guard) (plain_suite suite))) }
+{
+    let cases = add_case(choice.cases, pattern, guard, suite)?;
+    Ok(StmtKind::Match {
+        subject: choice.subject,
+        header_last: choice.header_last,
+        cases,
+    })
+}
+
+/// Behind a case.
+fn choosing(
+    choice: Choice,
+    pattern: Pattern,
+    guard: Option<Expr>,
+    suite: Suite,
+    begun: u32,
+    outer: Block,
+) -> Result<State, NoMemory>
+    ensures { IfOk result (λ s. view_state s ≡ Choosing (plain_expr choice.subject) choice.header_last (snoc_case (plain_cases choice.cases.items) (plain_pattern pattern) (option_map plain_expr guard) (plain_suite suite)) begun (view_block outer)) }
+{
+    let cases = add_case(choice.cases, pattern, guard, suite)?;
+    let choice = Choice {
+        subject: choice.subject,
+        header_last: choice.header_last,
+        cases,
+    };
+    Ok(State::Choosing(choice, begun, outer))
+}
+
+impl Owner {
+    /// The statement so far, where the suite is closed.
+    fn closed(self, alloc: Global, suite: Suite) -> Result<StmtKind, NoMemory>
+        ensures { IfOk result (λ k. plain_kind k ≡ closed (view_owner self) (plain_suite suite)) }
+    {
+        match self {
+            Owner::Arm(arms, test) => Ok(StmtKind::If {
+                arms: add_arm(arms, test, suite)?,
+                orelse: None,
+            }),
+            Owner::While(test) => Ok(StmtKind::While {
+                test,
+                body: suite,
+                orelse: None,
+            }),
+            Owner::For(target, over) => Ok(StmtKind::For {
+                target,
+                over,
+                body: suite,
+                orelse: None,
+            }),
+            Owner::Try => Ok(StmtKind::Try {
+                body: suite,
+                clauses: Vec::new(alloc),
                 orelse: None,
                 finally: None,
-            })
+            }),
+            Owner::Clause(tried, kind, bound) => handled(tried, kind, bound, suite),
+            Owner::Else(kind) => Ok(with_else(kind, suite)),
+            Owner::Finally(tried, orelse) => Ok(StmtKind::Try {
+                body: tried.body,
+                clauses: tried.clauses,
+                orelse,
+                finally: Some(suite),
+            }),
+            Owner::Def(signature, comma) => Ok(defined(signature, comma, suite)),
+            Owner::Case(choice, pattern, guard) => chosen(choice, pattern, guard, suite),
         }
-        Owner::Else(kind) => Ok(with_else(kind, suite)),
-        Owner::Finally(tried, orelse) => Ok(StmtKind::Try {
-            body: tried.body,
-            clauses: tried.clauses,
-            orelse,
-            finally: Some(suite),
-        }),
-        Owner::Def(signature, comma) => Ok(StmtKind::Def {
-            name: signature.name,
-            params: signature.params,
-            defaults: signature.defaults,
-            comma,
-            body: suite,
-        }),
-        Owner::Case(choice, pattern, guard) => {
-            let cases = add_case(choice.cases, pattern, guard, suite)?;
-            Ok(matched(Choice {
-                subject: choice.subject,
-                header_last: choice.header_last,
-                cases,
-            }))
+    }
+
+    /// Its suite ends with a token whose last line is this.
+    pub fn over_suite(
+        self,
+        alloc: Global,
+        suite: Suite,
+        begun: u32,
+        last: u32,
+        outer: Block,
+    ) -> Result<State, NoMemory>
+        ensures { IfOk result (λ s. view_state s ≡ over_suite (view_owner self) (plain_suite suite) begun last (view_block outer)) }
+    {
+        match self {
+            owner @ (Owner::Arm(..)
+            | Owner::While(..)
+            | Owner::For(..)
+            | Owner::Try { .. }
+            | Owner::Clause(..)
+            | Owner::Else(..)
+            | Owner::Finally(..)
+            | Owner::Def(..)) => {
+                let kind = owner.closed(alloc, suite)?;
+                Ok(State::Behind(kind, begun, last, outer))
+            }
+            Owner::Case(choice, pattern, guard) => {
+                choosing(choice, pattern, guard, suite, begun, outer)
+            }
         }
     }
 }

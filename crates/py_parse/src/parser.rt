@@ -1,10 +1,9 @@
 // Modules.
 
 ghost use Rattle.py_token.specs.View.{view_tokens};
-ghost use Rattle.py_parse.specs.Progress.{IsParsed};
+ghost use Rattle.py_parse.specs.Refusal.{IsParsed};
 
 use crate::error::SyntaxError;
-use crate::places::State;
 use crate::progress::{advance, unexpected};
 use crate::steps::begun;
 use py_syntax::Module;
@@ -23,8 +22,8 @@ pub fn parse(alloc: Global, tokens: &[Token]) -> Result<Module, SyntaxError>
         state = progress.state;
         place = progress.next;
     }
-    match state {
-        State::Over(body) => Ok(Module { body }),
-        _ => Err(unexpected(tokens, place)),
+    match state.body() {
+        Some(body) => Ok(Module { body }),
+        None => Err(unexpected(tokens, place)),
     }
 }

@@ -16,7 +16,6 @@ use py_syntax::{Arm, Expr, StmtKind, Suite};
 use py_token::{Keyword, Token, TokenKind};
 
 /// What a token is to a compound statement: a further part begins with it, or the statement is whole.
-#[derive(Drop)]
 pub enum Part {
     Next(Place),
     Whole(StmtKind),
@@ -148,7 +147,24 @@ pub fn next_part(kind: StmtKind, token: &Token) -> Part
                 None => behind_try(tried, token),
             }
         }
-        other => Part::Whole(other),
+        whole @ (StmtKind::Expr(_)
+        | StmtKind::Assign { .. }
+        | StmtKind::AugAssign { .. }
+        | StmtKind::Pass
+        | StmtKind::Break
+        | StmtKind::Continue
+        | StmtKind::Return(_)
+        | StmtKind::Raise(_)
+        | StmtKind::Assert(_, _)
+        | StmtKind::Global(_)
+        | StmtKind::Import(_)
+        | StmtKind::From(_, _)
+        | StmtKind::If { .. }
+        | StmtKind::While { .. }
+        | StmtKind::For { .. }
+        | StmtKind::Try { .. }
+        | StmtKind::Def { .. }
+        | StmtKind::Match { .. }) => Part::Whole(whole),
     }
 }
 
@@ -158,11 +174,28 @@ pub fn is_whole(kind: &StmtKind) -> bool
     ensures { result ≡ is_whole (plain_kind kind.now) }
 {
     match kind {
+        StmtKind::Expr(_) => true,
+        StmtKind::Assign { .. } => true,
+        StmtKind::AugAssign { .. } => true,
+        StmtKind::Pass => true,
+        StmtKind::Break => true,
+        StmtKind::Continue => true,
+        StmtKind::Return(_) => true,
+        StmtKind::Raise(_) => true,
+        StmtKind::Assert(_, _) => true,
+        StmtKind::Global(_) => true,
+        StmtKind::Import(_) => true,
+        StmtKind::From(_, _) => true,
+        StmtKind::If { .. } => true,
+        StmtKind::While { .. } => true,
+        StmtKind::For { .. } => true,
         StmtKind::Try {
             clauses,
             finally: None,
             ..
         } => has_clauses(clauses),
-        _ => true,
+        StmtKind::Try { .. } => true,
+        StmtKind::Def { .. } => true,
+        StmtKind::Match { .. } => true,
     }
 }

@@ -3,12 +3,13 @@
 ghost use Rattle.std.specs.Prelude.{◌≡◌, ◌≤◌, ◌<◌, length, option_map};
 ghost use Rattle.py_token.specs.View.{view_tokens};
 ghost use Rattle.py_syntax.specs.View.{plain_expr, plain_cases, plain_pattern};
-ghost use Rattle.py_parse.specs.Machine.{goal, resume, resume_pattern};
+ghost use Rattle.py_parse.specs.Machine.{ColonWanted, goal, resume, resume_pattern, wanted};
 ghost use Rattle.py_parse.specs.Levels.{begins_at, level};
-ghost use Rattle.py_parse.specs.Refusal.{IsUnexpected, HasDeepSuites, HasDeepExpressions};
+ghost use Rattle.py_parse.specs.Refusal.{IsUnexpected, HasDeepSuites, HasDeepExpressions, IsRefused, line_of};
 ghost use Rattle.py_parse_expr.specs.ExprReads.{goal_of};
+ghost use Rattle.py_parse.specs.HeldOwners.{view_owner};
 ghost use Rattle.py_parse.specs.HeldStates.{view_block, view_lines, view_place, view_resume, view_state};
-ghost use Rattle.py_parse.specs.Progress.{StandsAt, Turns, ReadsFrom, MatchesFrom, Resumes, line_of, IsRefused, Advances};
+ghost use Rattle.py_parse.specs.Progress.{StandsAt, Turns, ReadsFrom, MatchesFrom, Resumes, Advances};
 
 use crate::block::{Block, Lines};
 use crate::error::{DepthKind, SyntaxError};
@@ -71,19 +72,76 @@ fn too_high(tokens: &[Token], place: usize) -> SyntaxError
     SyntaxError::TooDeep(DepthKind::Expressions, line_at(tokens, place))
 }
 
+impl Resume {
+    /// Whether a compound statement has just begun, where the expression begins.
+    #[tactic(auto, using(crate::proofs::HeldKinds::begins_arms))]
+    fn begins(&self) -> bool
+        ensures { result ≡ begins_at (wanted (view_resume self.now)) }
+    {
+        match self {
+            Resume::Value(_) => false,
+            Resume::Augmented(_, _) => false,
+            Resume::Leaving(_) => false,
+            Resume::Asserted => false,
+            Resume::Reason(_) => false,
+            Resume::ArmTest(arms) => !has_arms(arms),
+            Resume::WhileTest => true,
+            Resume::ForTarget => true,
+            Resume::ForOver(_) => false,
+            Resume::ClauseKind(_) => false,
+            Resume::Subject => true,
+            Resume::Guard(_, _) => false,
+            Resume::Default(_, _) => false,
+        }
+    }
+}
+
+impl Owner {
+    /// Whether it is a statement that has just begun.
+    fn begins(&self) -> bool
+        ensures { result ≡ begins_at (ColonWanted (view_owner self.now)) }
+    {
+        match self {
+            Owner::Arm(_, _) => false,
+            Owner::While(_) => false,
+            Owner::For(_, _) => false,
+            Owner::Try => true,
+            Owner::Clause(_, _, _) => false,
+            Owner::Else(_) => false,
+            Owner::Finally(_, _) => false,
+            Owner::Def(_, _) => false,
+            Owner::Case(_, _, _) => false,
+        }
+    }
+}
+
 /// Whether a compound statement has just begun.
-#[tactic(auto, using(crate::proofs::HeldKinds::begins_arms))]
 fn begins(place: &Place) -> bool
     ensures { result ≡ begins_at (view_place place.now) }
 {
     match place {
-        Place::Wanted(Resume::ArmTest(arms)) => !has_arms(arms),
-        Place::Wanted(Resume::WhileTest) => true,
-        Place::Wanted(Resume::ForTarget) => true,
-        Place::Wanted(Resume::Subject) => true,
-        Place::ColonWanted(Owner::Try) => true,
+        Place::Wanted(resume) => resume.begins(),
+        Place::PatternWanted(_) => false,
+        Place::Simple(_) => false,
+        Place::Semicolon(_) => false,
+        Place::Leaving(_) => false,
+        Place::NameWanted(_) => false,
+        Place::NameRead(_, _) => false,
+        Place::BoundWanted(_, _) => false,
+        Place::BoundRead(_) => false,
+        Place::ModuleWanted => false,
+        Place::ImportWanted(_) => false,
         Place::FunctionWanted => true,
-        _ => false,
+        Place::ParamsWanted(_) => false,
+        Place::ParamWanted(_) => false,
+        Place::ParamRead(_, _) => false,
+        Place::Except(_) => false,
+        Place::ClauseBound(_, _) => false,
+        Place::ColonWanted(owner) => owner.begins(),
+        Place::SuiteWanted(_) => false,
+        Place::IndentWanted(_) => false,
+        Place::MatchLine(_, _) => false,
+        Place::MatchBlock(_, _) => false,
     }
 }
 
@@ -93,6 +151,7 @@ fn level(state: &State) -> usize
     ensures { result ≡ level (view_state state.now) }
 {
     match state {
+        State::Line(_) => 0,
         State::At(place, _, block) => {
             if begins(place) {
                 block.open.len() + 1
@@ -100,7 +159,9 @@ fn level(state: &State) -> usize
                 0
             }
         }
-        _ => 0,
+        State::Behind(_, _, _, _) => 0,
+        State::Choosing(_, _, _) => 0,
+        State::Over(_) => 0,
     }
 }
 
@@ -114,6 +175,7 @@ fn moved(tokens: &[Token], place: usize, state: Option<State>) -> Result<Progres
         return Err(unexpected(tokens, place));
     };
     if level(&state) > NESTING_LIMIT {
+        drop(state);
         return Err(too_many_suites(tokens, place));
     }
     Ok(Progress {
@@ -135,10 +197,16 @@ fn part_of(resume: &Resume) -> ExprPart
                 ExprPart::Any
             }
         }
-        Resume::ForOver(_) => ExprPart::Any,
-        Resume::Subject => ExprPart::Any,
+        Resume::Asserted => ExprPart::One,
+        Resume::Reason(_) => ExprPart::One,
+        Resume::ArmTest(_) => ExprPart::One,
+        Resume::WhileTest => ExprPart::One,
         Resume::ForTarget => ExprPart::Target,
-        _ => ExprPart::One,
+        Resume::ForOver(_) => ExprPart::Any,
+        Resume::ClauseKind(_) => ExprPart::One,
+        Resume::Subject => ExprPart::Any,
+        Resume::Guard(_, _) => ExprPart::One,
+        Resume::Default(_, _) => ExprPart::One,
     }
 }
 
@@ -178,9 +246,18 @@ fn expression(
 {
     match read_expr(alloc, tokens, place, part_of(&purpose)) {
         Ok(read) => behind_expression(alloc, tokens, place, purpose, lines, block, read),
-        Err(ReadError::Unexpected(place)) => Err(unexpected(tokens, place)),
-        Err(ReadError::TooDeep(place)) => Err(too_high(tokens, place)),
-        Err(ReadError::NoMemory) => Err(SyntaxError::NoMemory),
+        Err(ReadError::Unexpected(place)) => {
+            drop(purpose);
+            Err(unexpected(tokens, place))
+        }
+        Err(ReadError::TooDeep(place)) => {
+            drop(purpose);
+            Err(too_high(tokens, place))
+        }
+        Err(ReadError::NoMemory) => {
+            drop(purpose);
+            Err(SyntaxError::NoMemory)
+        }
     }
 }
 

@@ -10,7 +10,7 @@ ghost use Rattle.py_parse.specs.HeldStates.{kind_at, first_at, last_at, view_blo
 
 use crate::block::{Block, Lines, Open, add, innermost, line_end};
 use crate::lists::is_newline;
-use crate::owner::{Choice, Owner, add_case, closed};
+use crate::owner::Owner;
 use crate::places::{Place, State};
 use py_syntax::{StmtKind, Suite};
 use py_token::{Mark, Token, TokenKind};
@@ -18,7 +18,7 @@ use py_value::NoMemory;
 use std::alloc::Global;
 
 /// A suite ends with a token whose last line is this.
-#[tactic(auto, using(crate::proofs::Acts::close_top, crate::proofs::Acts::close_cases, crate::proofs::Acts::close_other))]
+#[tactic(auto, using(crate::proofs::Acts::close_top, crate::proofs::Acts::close_inside))]
 pub fn close(alloc: Global, block: Block, last: u32) -> Result<State, NoMemory>
     ensures { IfOk result (λ s. view_state s ≡ close (view_block block) last) }
 {
@@ -39,22 +39,7 @@ pub fn close(alloc: Global, block: Block, last: u32) -> Result<State, NoMemory>
         inline,
         body,
     };
-    let outer = Block { body: outer, open };
-    match owner {
-        Owner::Case(choice, pattern, guard) => {
-            let cases = add_case(choice.cases, pattern, guard, suite)?;
-            let choice = Choice {
-                subject: choice.subject,
-                header_last: choice.header_last,
-                cases,
-            };
-            Ok(State::Choosing(choice, lines.begun, outer))
-        }
-        owner => {
-            let kind = closed(alloc, owner, suite)?;
-            Ok(State::Behind(kind, lines.begun, last, outer))
-        }
-    }
+    owner.over_suite(alloc, suite, lines.begun, last, Block { body: outer, open })
 }
 
 /// A line ends, and a suite that shares it.
@@ -127,6 +112,7 @@ pub fn end_simple(
     if is_newline(token) {
         return Ok(Some(end_line(alloc, kind, false, lines, block, token.last)?));
     }
+    drop(kind);
     Ok(None)
 }
 

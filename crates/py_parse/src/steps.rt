@@ -3,15 +3,13 @@
 ghost use Rattle.std.specs.Prelude.{◌≡◌, true, option_map};
 ghost use Rattle.py_syntax.specs.Headers.{is_match};
 ghost use Rattle.py_syntax.specs.View.{plain_expr, plain_kind, plain_cases};
-ghost use Rattle.py_syntax.specs.Tree.{match};
 ghost use Rattle.py_parse.specs.Machine.{Behind, begun, choose, at_line, header_step, plain_step, step};
 ghost use Rattle.py_parse.specs.HeldStates.{kind_at, first_at, last_at, view_block, view_state, Acts, Rests};
 
-use crate::act::{act, turn};
 use crate::begin::{begun_at, line};
 use crate::block::{Block, Lines, add, line_end};
 use crate::lists::{has_cases, is_case, is_dedent};
-use crate::owner::Choice;
+use crate::owner::{Choice, matched};
 use crate::parts::{Part, is_whole, next_part};
 use crate::places::{Place, Resume, State, Turn};
 use py_syntax::StmtKind;
@@ -29,27 +27,16 @@ pub fn begun(alloc: Global) -> State
     })
 }
 
-/// The `match` statement with its cases.
-fn chosen(choice: Choice) -> StmtKind
-    ensures { plain_kind result ≡ match (plain_expr choice.subject) choice.header_last (plain_cases choice.cases.items) }
-{
-    StmtKind::Match {
-        subject: choice.subject,
-        header_last: choice.header_last,
-        cases: choice.cases,
-    }
-}
-
 /// Between the cases of a `match`, in its block.
 #[tactic(auto, using(crate::proofs::Acts::choose_ends, crate::proofs::Acts::choose_empty, crate::proofs::Acts::choose_case, crate::proofs::Acts::choose_other))]
-fn choose(choice: Choice, first: u32, block: Block, token: &Token) -> Option<State>
+pub fn choose(choice: Choice, first: u32, block: Block, token: &Token) -> Option<State>
     ensures { choose (plain_expr choice.subject) choice.header_last (plain_cases choice.cases.items) first (view_block block) (kind_at token.now) (first_at token.now) (last_at token.now) ≡ option_map view_state result }
 {
     if is_dedent(token) {
         if !has_cases(&choice.cases) {
             return None;
         }
-        return Some(State::Behind(chosen(choice), first, token.last, block));
+        return Some(State::Behind(matched(choice), first, token.last, block));
     }
     if !is_case(token) {
         return None;
@@ -64,10 +51,11 @@ fn choose(choice: Choice, first: u32, block: Block, token: &Token) -> Option<Sta
 
 /// A compound statement is put into its block, where it has all that it needs.
 #[tactic(auto, using(crate::proofs::Stepping::whole_put, crate::proofs::Stepping::part_waits))]
-fn put(kind: StmtKind, first: u32, last: u32, block: Block) -> Result<Option<Block>, NoMemory>
+pub fn put(kind: StmtKind, first: u32, last: u32, block: Block) -> Result<Option<Block>, NoMemory>
     ensures { Rests (Behind (plain_kind kind) first last (view_block block)) result }
 {
     if !is_whole(&kind) {
+        drop(kind);
         return Ok(None);
     }
     Ok(Some(add(block, first, last, kind, line_end(false, false))?))
@@ -75,7 +63,7 @@ fn put(kind: StmtKind, first: u32, last: u32, block: Block) -> Result<Option<Blo
 
 /// The token behind a suite.
 #[tactic(auto, using(crate::proofs::Stepping::part_begins, crate::proofs::Stepping::part_over, crate::proofs::Stepping::part_stuck))]
-fn behind(
+pub fn behind(
     alloc: Global,
     kind: StmtKind,
     first: u32,
@@ -101,37 +89,13 @@ fn behind(
     }
 }
 
-/// A token at which no header of a `match` begins.
-fn plain_step(alloc: Global, state: State, token: &Token) -> Result<Turn, NoMemory>
-    ensures { Acts token.now (plain_step (view_state state) (kind_at token.now) (first_at token.now) (last_at token.now)) result }
-{
-    match state {
-        State::Line(block) => line(alloc, block, token),
-        State::At(place, lines, block) => act(alloc, place, lines, block, token),
-        State::Behind(kind, first, last, block) => behind(alloc, kind, first, last, block, token),
-        State::Choosing(choice, first, block) => Ok(turn(choose(choice, first, block, token))),
-        State::Over(_) => Ok(Turn::Stuck),
-    }
-}
-
-/// The open suites, where a statement may begin on a new line.
-fn at_line(state: State) -> Result<Option<Block>, NoMemory>
-    ensures { Rests (view_state state) result }
-{
-    match state {
-        State::Line(block) => Ok(Some(block)),
-        State::Behind(kind, first, last, block) => put(kind, first, last, block),
-        _ => Ok(None),
-    }
-}
-
 /// The header of a `match` begins with the token.
 #[tactic(auto, using(crate::proofs::Stepping::header_begins, crate::proofs::Stepping::header_stuck))]
 fn header_step(state: State, token: &Token) -> Result<Turn, NoMemory>
     requires { is_match (kind_at token.now) ≡ true }
     ensures { Acts token.now (header_step (at_line (view_state state)) (kind_at token.now) (first_at token.now) (last_at token.now)) result }
 {
-    match at_line(state)? {
+    match state.at_line()? {
         Some(block) => {
             let place = Place::Wanted(Resume::Subject);
             Ok(Turn::Next(State::At(place, begun_at(token), block)))
@@ -149,6 +113,6 @@ pub fn step(alloc: Global, state: State, token: &Token, header: bool) -> Result<
     if header {
         header_step(state, token)
     } else {
-        plain_step(alloc, state, token)
+        state.plain_step(alloc, token)
     }
 }
