@@ -55,8 +55,10 @@ pub fn join_items(
 fn extend(alloc: Global, items: &mut Vec<Value>, more: &[Value]) -> Result<(), NoMemory>
     ensures { OnOk result (plains items.new.items ≡ plains items.old.items ++ plains more.now) }
 {
-    let mut copies = copy_all(alloc, more)?;
-    items.append(&mut copies)?;
+    for value in more {
+        let copy = value.copy(alloc)?;
+        items.push(copy)?;
+    }
     Ok(())
 }
 
@@ -94,15 +96,21 @@ pub fn repeat_items(
         return Ok(Ok(Vec::new(alloc)));
     }
     match count.checked_mul(items.len()) {
-        Some(total) if total <= MOST_ITEMS => Ok(Ok(copies_of(alloc, items, count)?)),
+        Some(total) if total <= MOST_ITEMS => { Ok(Ok(copies_of(alloc, items, count, total)?)) }
         _ => Ok(Err(Cause::TooManyItems)),
     }
 }
 
-fn copies_of(alloc: Global, items: &[Value], count: usize) -> Result<Vec<Value>, NoMemory>
+/// The values so often, with room for so many of them.
+fn copies_of(
+    alloc: Global,
+    items: &[Value],
+    count: usize,
+    total: usize,
+) -> Result<Vec<Value>, NoMemory>
     ensures { IfOk result (λ copies. plains copies.items ≡ repeat count (plains items.now)) }
 {
-    let mut copies = Vec::new(alloc);
+    let mut copies = Vec::with_capacity(alloc, total)?;
     'turns: for _ in 0..count {
         extend(alloc, &mut copies, items)?;
     }
