@@ -9,9 +9,9 @@ use Rattle.py_syntax.specs.Kinds.{Kind, Name, Sign, Newline, Dedent, End}
 use Rattle.py_syntax.specs.Headers.{is_colon}
 use Rattle.py_syntax.specs.Normal.{is_target, is_place}
 use Rattle.py_syntax.specs.declared.stmt.LineEnd.{LineEnd}
-use Rattle.py_parse_expr.specs.Machine as expression
-use Rattle.py_parse_expr.specs.Machine.{snoc, start, role}
-use Rattle.py_parse_expr.specs.PatternMachine as pattern
+use Rattle.py_grammar.specs.Machine as expression
+use Rattle.py_grammar.specs.Machine.{snoc, start, role}
+use Rattle.py_parse_pattern.specs.Machine as pattern
 use Rattle.py_parse.specs.declared.places.Place as held_place
 use Rattle.py_parse.specs.declared.places.State as held_state
 use Rattle.py_parse.specs.declared.block.Open.{Open}

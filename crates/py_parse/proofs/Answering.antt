@@ -10,13 +10,13 @@ use Rattle.py_syntax.specs.Kinds.{Kind, bare}
 use Rattle.py_syntax.specs.Spelling.{HEIGHT}
 use Rattle.py_syntax.specs.View.{plain_stmts}
 use Rattle.py_syntax.specs.declared.stmt.Stmt.{Stmt}
-use Rattle.py_parse_expr.specs.declared.error.ReadError.{ReadError}
-use Rattle.py_parse_expr.specs.declared.error.ReadError.TheVariants as read_error_
-use Rattle.py_parse_expr.specs.Machine.{Goal, start}
-use Rattle.py_parse_expr.specs.Reading as reading_
-use Rattle.py_parse_expr.proofs.PatternTokens.{kinds_length}
-use Rattle.py_parse_expr.specs.PatternMachine as pattern
-use Rattle.py_parse_expr.specs.PatternReads as pattern_reads
+use Rattle.py_grammar.specs.declared.error.ReadError.{ReadError}
+use Rattle.py_grammar.specs.declared.error.ReadError.TheVariants as read_error_
+use Rattle.py_grammar.specs.Machine.{Goal, start}
+use Rattle.py_grammar.specs.Reading as reading_
+use Rattle.py_grammar.proofs.Places.{kinds_length}
+use Rattle.py_parse_pattern.specs.Machine as pattern
+use Rattle.py_parse_pattern.specs.Reads as pattern_reads
 use Rattle.py_parse.specs.declared.places.State as held_state
 use Rattle.py_parse.specs.declared.places.Turn.{Turn}
 use Rattle.py_parse.specs.declared.places.Turn.TheVariants as turn_

@@ -8,8 +8,8 @@ use Rattle.py_syntax.specs.Kinds.{Kind, Name, Word, Sign, Newline, Indent, End}
 use Rattle.py_syntax.specs.Tokens.{tokens, pattern_tokens}
 use Rattle.py_syntax.specs.Headers.{Marked, put, match_name}
 use Rattle.py_syntax.specs.Statements.{in_place_mark, target_tokens, as_tokens, param_tokens, case_name, stmts_tokens, kind_tokens, case_tokens}
-use Rattle.py_parse_expr.proofs.Sound as expression
-use Rattle.py_parse_expr.proofs.PatternSound as pattern
+use Rattle.py_grammar.proofs.Sound as expression
+use Rattle.py_parse_pattern.proofs.Sound as pattern
 use Rattle.py_parse.specs.Open.{Owner, an_arm, a_while, a_for, a_try, a_clause, an_else, a_finally, a_def, a_case, Block, top, inside}
 use Rattle.py_parse.specs.Machine.{Resume, value, augmented, leaving, asserted, reason, arm_test, while_test, for_target, for_over, clause_kind, subject, guard, default, Listed, globals, imports, froms, Place, Reading, Matching, Simple, Semicolon, Leaving, NameWanted, NameRead, BoundWanted, BoundRead, ModuleWanted, ImportWanted, FunctionWanted, ParamsWanted, ParamWanted, ParamRead, Except, ClauseBound, ColonWanted, SuiteWanted, IndentWanted, MatchLine, MatchBlock, State, Line, at, Behind, Choosing, Over, listed}
 

@@ -10,9 +10,9 @@ use Rattle.py_syntax.specs.Normal.{Normal, is_target, NormalPattern}
 use Rattle.py_syntax.specs.Headers.{Marked, put, match_name}
 use Rattle.py_syntax.specs.Statements.{except_tokens, guard_tokens, case_name, IsOption, NormalExpr, NormalClauseHead}
 use Rattle.py_syntax.specs.Spelling.{test_head, for_head}
-use Rattle.py_parse_expr.specs.Roles.{begins}
-use Rattle.py_parse_expr.specs.Machine as expression
-use Rattle.py_parse_expr.specs.Machine.{Goal, any, one, target, start, role}
+use Rattle.py_grammar.specs.Roles.{begins}
+use Rattle.py_grammar.specs.Machine as expression
+use Rattle.py_grammar.specs.Machine.{Goal, any, one, target, start, role}
 use Rattle.py_parse.specs.Open.{Owner, an_arm, a_while, a_for, a_clause, a_case, Block}
 use Rattle.py_parse.specs.Machine.{Resume, arm_test, while_test, for_target, for_over, clause_kind, subject, guard, wanted, reads, Place, Reading, Except, SuiteWanted, Lines, State, at, Choosing, begun_at, onward, compound_place, begin_simple, resume, act, step, header_step}
 use Rattle.py_parse.specs.Places.{Source, kinds_past, run}

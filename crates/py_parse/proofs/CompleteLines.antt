@@ -7,17 +7,17 @@ use Rattle.py_syntax.specs.Tokens.{tokens, pattern_tokens}
 use Rattle.py_syntax.specs.Normal.{Normal, NormalPattern, is_target}
 use Rattle.py_syntax.specs.Headers.{Marked, put}
 use Rattle.py_syntax.specs.Statements.{NormalExpr}
-use Rattle.py_parse_expr.specs.Roles.{Role, r_joint, j_op, begins}
-use Rattle.py_parse_expr.specs.Machine as expression
-use Rattle.py_parse_expr.specs.Machine.{Goal, any, one, target, start, role, Leaves}
-use Rattle.py_parse_expr.specs.PatternMachine as pattern
-use Rattle.py_parse_expr.proofs.Spelled.{outcome}
-use Rattle.py_parse_expr.proofs.Opens.{opens}
-use Rattle.py_parse_expr.proofs.Finish.{Closes}
-use Rattle.py_parse_expr.proofs.Targets.{reads_any, reads_one, reads_target}
-use Rattle.py_parse_expr.proofs.PatternComplete as pattern_
-use Rattle.py_parse_expr.proofs.PatternComplete.{IsOver, reads_all}
-use Rattle.py_parse_expr.proofs.PatternExact as pattern_exact
+use Rattle.py_grammar.specs.Roles.{Role, r_joint, j_op, begins}
+use Rattle.py_grammar.specs.Machine as expression
+use Rattle.py_grammar.specs.Machine.{Goal, any, one, target, start, role, Leaves}
+use Rattle.py_parse_pattern.specs.Machine as pattern
+use Rattle.py_grammar.proofs.Spelled.{outcome}
+use Rattle.py_grammar.proofs.Opens.{opens}
+use Rattle.py_grammar.proofs.Finish.{Closes}
+use Rattle.py_grammar.proofs.Targets.{reads_any, reads_one, reads_target}
+use Rattle.py_parse_pattern.proofs.Complete as pattern_
+use Rattle.py_parse_pattern.proofs.Complete.{IsOver, reads_all}
+use Rattle.py_parse_pattern.proofs.Exact as pattern_exact
 use Rattle.py_parse.specs.Open.{Block}
 use Rattle.py_parse.specs.Machine.{Resume, Reading, Matching, Lines, State, at, onward, reads, resume, resume_pattern, step}
 use Rattle.py_parse.specs.Places.{Source, kinds_past, last_before, run}

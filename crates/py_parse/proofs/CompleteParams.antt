@@ -9,8 +9,8 @@ use Rattle.py_syntax.specs.Tokens.{tokens, comma_if}
 use Rattle.py_syntax.specs.Normal.{Each}
 use Rattle.py_syntax.specs.Headers.{Marked, put}
 use Rattle.py_syntax.specs.Statements.{more_params, params_from, count, param_tokens, NormalExpr, NormalParams}
-use Rattle.py_parse_expr.specs.Machine.{one, snoc}
-use Rattle.py_parse_expr.proofs.Enclosed.{join_exprs, join_snoc, join_none, join_one}
+use Rattle.py_grammar.specs.Machine.{one, snoc}
+use Rattle.py_grammar.proofs.Enclosed.{join_exprs, join_snoc, join_none, join_one}
 use Rattle.py_parse.specs.Open.{Owner, a_def, Block}
 use Rattle.py_parse.specs.Machine.{default, wanted, FunctionWanted, ParamWanted, ParamRead, Lines, State, at, onward, behind_default, is_some, act}
 use Rattle.py_parse.specs.Places.{Source, kinds_past, def_head, run}

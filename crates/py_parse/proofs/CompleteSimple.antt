@@ -11,10 +11,10 @@ use Rattle.py_syntax.specs.Tokens.{tokens}
 use Rattle.py_syntax.specs.Normal.{Normal, is_target, is_place}
 use Rattle.py_syntax.specs.Headers.{Marked, put, kinds_marked}
 use Rattle.py_syntax.specs.Statements.{in_place_mark, target_tokens, option_tokens, assert_tokens, kind_tokens, IsOption, NormalExpr, NormalTargets}
-use Rattle.py_parse_expr.specs.Roles.{begins}
-use Rattle.py_parse_expr.specs.Machine as expression
-use Rattle.py_parse_expr.specs.Machine.{Goal, any, one, snoc, start, role}
-use Rattle.py_parse_expr.proofs.Enclosed.{join_exprs, join_snoc, join_none, join_one}
+use Rattle.py_grammar.specs.Roles.{begins}
+use Rattle.py_grammar.specs.Machine as expression
+use Rattle.py_grammar.specs.Machine.{Goal, any, one, snoc, start, role}
+use Rattle.py_grammar.proofs.Enclosed.{join_exprs, join_snoc, join_none, join_one}
 use Rattle.py_parse.specs.Open.{Block}
 use Rattle.py_parse.specs.Machine.{Resume, value, augmented, leaving, asserted, reason, goal, wanted, reads, Place, Reading, Leaving, Lines, State, at, begun_at, onward, simple_place, begin_simple, end_simple, assigned, left, behind_value, resume, act, step}
 use Rattle.py_parse.specs.Places.{Source, kinds_past, kind_past, run}

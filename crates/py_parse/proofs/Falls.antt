@@ -6,12 +6,12 @@ use Rattle.py_syntax.specs.declared.expr.Comparison.TheVariants.{Op}
 use Rattle.py_syntax.specs.Tree.{Expr, tuple, not', unary, compare, index, Exprs, no_exprs, exprs, no_pairs}
 use Rattle.py_syntax.specs.Tree as tree_
 use Rattle.py_syntax.specs.Normal.{Level, LExprs, LExpr, LNot, LUnary, LPost, is_target, are_targets, height}
-use Rattle.py_parse_expr.specs.Roles.{Role, j_op, r_name, r_int, r_none, r_bool, r_string, r_format, r_bad_format, r_not, r_is, r_if, r_else, r_compare, r_joint, r_comma, r_colon, r_dot, r_left_paren, r_right_paren, r_left_bracket, r_right_bracket, r_left_brace, r_right_brace, joint_level, joined, begins}
-use Rattle.py_parse_expr.specs.Machine.{at_most, same_level, snoc, snoc_link, strings_of, Goal, any, one, target, targets, Opener, a_call, a_list, exprs_first, exprs_rest, cond_first, cond_test, cond_else, first, right, not_of, compare_first, compare_rest, unary_of, post_rest, in_items, index_first, in_index, slice_to, in_paren, in_key, in_value, Ctx, Outside, on, State, Want, Have, Strings, AfterOpen, AfterComma, AfterTarget, ItemsOpen, ItemsComma, DictOpen, DictComma, IndexOpen, SliceColon, AfterDot, AfterNot, AfterIs, AfterIsNot, Linked, Out, Next, Stuck, Left, upto, begin, close_items, leave, give, step, start}
-use Rattle.py_parse_expr.specs.Least.{least_name, as_target, target_if, wants, fit, whole, least}
+use Rattle.py_grammar.specs.Roles.{Role, j_op, r_name, r_int, r_none, r_bool, r_string, r_format, r_bad_format, r_not, r_is, r_if, r_else, r_compare, r_joint, r_comma, r_colon, r_dot, r_left_paren, r_right_paren, r_left_bracket, r_right_bracket, r_left_brace, r_right_brace, joint_level, joined, begins}
+use Rattle.py_grammar.specs.Machine.{at_most, same_level, snoc, snoc_link, strings_of, Goal, any, one, target, targets, Opener, a_call, a_list, exprs_first, exprs_rest, cond_first, cond_test, cond_else, first, right, not_of, compare_first, compare_rest, unary_of, post_rest, in_items, index_first, in_index, slice_to, in_paren, in_key, in_value, Ctx, Outside, on, State, Want, Have, Strings, AfterOpen, AfterComma, AfterTarget, ItemsOpen, ItemsComma, DictOpen, DictComma, IndexOpen, SliceColon, AfterDot, AfterNot, AfterIs, AfterIsNot, Linked, Out, Next, Stuck, Left, upto, begin, close_items, leave, give, step, start}
+use Rattle.py_grammar.specs.Least.{least_name, as_target, target_if, wants, fit, whole, least}
 use Rattle.py_parse.specs.Machine.{Resume, value, augmented, leaving, asserted, reason, arm_test, while_test, for_target, for_over, clause_kind, subject, guard, default, goal}
 use Rattle.py_parse.specs.Levels.{is_start}
-use Rattle.py_parse_expr.proofs.Grows.{heights_snoc, tuple_snoc, and_right}
+use Rattle.py_grammar.proofs.Grows.{heights_snoc, tuple_snoc, and_right}
 
 -- What leaves is no higher than this, and a step leads to no beginning.
 abbrev pub Falls : ℕ → Out → Type 0

@@ -4,8 +4,8 @@ use Rattle.py_syntax.specs.Tree.{Text, Exprs}
 use Rattle.py_syntax.specs.Tree.{Stmts, no_suite, has_suite, clause, StmtKind, pass, if', while, for, try}
 use Rattle.py_syntax.specs.Normal.{Normal, Each, is_target, is_place, NormalPattern}
 use Rattle.py_syntax.specs.Statements.{count, is_simple, EndLines, ShareLine, IsOption, NormalExpr, NormalTargets, NormalClauseHead, NormalTry, NormalParams, NormalStmts, NormalKind, NormalSuite, NormalOpt, NormalArms, NormalClauses, NormalCases}
-use Rattle.py_parse_expr.proofs.Fine as expression
-use Rattle.py_parse_expr.proofs.PatternFine as pattern
+use Rattle.py_grammar.proofs.Fine as expression
+use Rattle.py_parse_pattern.proofs.Fine as pattern
 use Rattle.py_parse.specs.Open.{snoc_stmt, newline_end, Owner, an_arm, a_while, a_for, a_try, a_clause, an_else, a_finally, a_def, a_case, Block, top, inside}
 use Rattle.py_parse.specs.Machine.{Resume, value, augmented, leaving, asserted, reason, arm_test, while_test, for_target, for_over, clause_kind, subject, guard, default, goal, Place, Reading, Matching, Simple, Semicolon, Leaving, NameWanted, NameRead, BoundWanted, BoundRead, ModuleWanted, ImportWanted, FunctionWanted, ParamsWanted, ParamWanted, ParamRead, Except, ClauseBound, ColonWanted, SuiteWanted, IndentWanted, MatchLine, MatchBlock, State, Line, at, Behind, Choosing, Over, listed, may_bind}
 use Rattle.py_parse.specs.Least.{pass_suite, ended}

@@ -5,20 +5,20 @@ use Rattle.py_syntax.specs.Tree.{Text, Expr, no_exprs, exprs, c_int, c_str, Patt
 use Rattle.py_syntax.specs.Tree.{Cases, expr, assign, aug_assign, assert}
 use Rattle.py_syntax.specs.Kinds.{Kind, Sign}
 use Rattle.py_syntax.specs.Headers.{Marked, put}
-use Rattle.py_parse_expr.specs.Machine as expression
-use Rattle.py_parse_expr.specs.Machine.{snoc, role}
-use Rattle.py_parse_expr.specs.Least as expression_least
-use Rattle.py_parse_expr.specs.Least.{least_name}
-use Rattle.py_parse_expr.specs.declared.pattern_cues.Bracket.TheVariants.{Round, Square}
-use Rattle.py_parse_expr.specs.PatternMachine as pattern
-use Rattle.py_parse_expr.specs.PatternMachine.{Frame, frame, Stack, stack}
-use Rattle.py_parse_expr.proofs.Spelled as spelled
-use Rattle.py_parse_expr.proofs.PatternComplete as pattern_complete
-use Rattle.py_parse_expr.proofs.Fine as expression_fine
-use Rattle.py_parse_expr.proofs.Finish as expression_finish
-use Rattle.py_parse_expr.proofs.Finish.{Closes}
-use Rattle.py_parse_expr.proofs.Finishes as expression_finishes
-use Rattle.py_parse_expr.proofs.PatternFinish as pattern_finish
+use Rattle.py_grammar.specs.Machine as expression
+use Rattle.py_grammar.specs.Machine.{snoc, role}
+use Rattle.py_grammar.specs.Least as expression_least
+use Rattle.py_grammar.specs.Least.{least_name}
+use Rattle.py_parse_pattern.specs.declared.cues.Bracket.TheVariants.{Round, Square}
+use Rattle.py_parse_pattern.specs.Machine as pattern
+use Rattle.py_parse_pattern.specs.Machine.{Frame, frame, Stack, stack}
+use Rattle.py_grammar.proofs.Spelled as spelled
+use Rattle.py_parse_pattern.proofs.Complete as pattern_complete
+use Rattle.py_grammar.proofs.Fine as expression_fine
+use Rattle.py_grammar.proofs.Finish as expression_finish
+use Rattle.py_grammar.proofs.Finish.{Closes}
+use Rattle.py_grammar.proofs.Finishes as expression_finishes
+use Rattle.py_parse_pattern.proofs.Finish as pattern_finish
 use Rattle.py_parse.specs.Open.{an_arm, a_while, a_for, a_clause, a_def, a_case, newline_end, Block}
 use Rattle.py_parse.specs.Machine.{Resume, value, augmented, leaving, asserted, reason, arm_test, while_test, for_target, for_over, clause_kind, subject, guard, default, goal, Reading, Matching, Lines, State, at, Over, onward, left, resume, resume_pattern}
 use Rattle.py_parse.specs.Least.{form, complete, resumed}

@@ -1,8 +1,8 @@
 -- Every fine state has a completion that the machine reads to its least tree.
 use Rattle.std.proofs.Common.{◌≡◌, ℕ, false, [], ◌∷◌, ◌++◌, Some, None, refl, ◌∙◌}
 use Rattle.py_syntax.specs.Tree.{no_exprs, exprs}
-use Rattle.py_parse_expr.specs.Least.{least_name}
-use Rattle.py_parse_expr.specs.Machine.{snoc}
+use Rattle.py_grammar.specs.Least.{least_name}
+use Rattle.py_grammar.specs.Machine.{snoc}
 use Rattle.py_parse.specs.Open.{newline_end, both_end, a_clause, a_def, Block}
 use Rattle.py_parse.specs.Machine.{froms, Place, Reading, Matching, Simple, Semicolon, Leaving, NameWanted, NameRead, BoundWanted, BoundRead, ModuleWanted, ImportWanted, FunctionWanted, ParamsWanted, ParamWanted, ParamRead, Except, ClauseBound, ColonWanted, SuiteWanted, IndentWanted, MatchLine, MatchBlock, Lines, State, Line, at, Behind, Choosing, Over, left, listed, with_name, is_some}
 use Rattle.py_parse.specs.Least.{form, complete, finished}

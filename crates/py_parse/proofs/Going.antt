@@ -7,11 +7,11 @@ use Rattle.py_syntax.specs.Kinds.{bare_token, bare}
 use Rattle.py_syntax.specs.Headers.{Marked, marked}
 use Rattle.py_syntax.specs.Spelling.{HEIGHT, NESTING, Spells}
 use Rattle.py_syntax.specs.Statements.{stmts_height, stmts_nesting}
-use Rattle.py_parse_expr.specs.Machine as expression
-use Rattle.py_parse_expr.specs.Machine.{start}
-use Rattle.py_parse_expr.specs.Reading as reading_
-use Rattle.py_parse_expr.specs.PatternMachine as pattern
-use Rattle.py_parse_expr.specs.PatternReads as pattern_reads
+use Rattle.py_grammar.specs.Machine as expression
+use Rattle.py_grammar.specs.Machine.{start}
+use Rattle.py_grammar.specs.Reading as reading_
+use Rattle.py_parse_pattern.specs.Machine as pattern
+use Rattle.py_parse_pattern.specs.Reads as pattern_reads
 use Rattle.py_parse.specs.declared.places.Resume as held_resume
 use Rattle.py_parse.specs.declared.places.Resume.TheVariants as resume_
 use Rattle.py_parse.specs.declared.places.Place.TheVariants as place_

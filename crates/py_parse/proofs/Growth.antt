@@ -8,10 +8,10 @@ use Rattle.py_syntax.specs.Tree.{Text, Expr, Exprs, no_exprs, exprs, Pattern}
 use Rattle.py_syntax.specs.Tree.{Stmts, stmt, Suite, suite, Cases, no_cases, case, StmtKind, expr, assert, match}
 use Rattle.py_syntax.specs.Kinds.{Kind, Word, Sign, Newline, Dedent, End}
 use Rattle.py_syntax.specs.Normal.{is_target, is_place, height, pattern_height}
-use Rattle.py_parse_expr.specs.Machine as expression
-use Rattle.py_parse_expr.specs.Machine.{any, snoc, start, role}
-use Rattle.py_parse_expr.specs.Least.{least_name}
-use Rattle.py_parse_expr.specs.PatternMachine as pattern
+use Rattle.py_grammar.specs.Machine as expression
+use Rattle.py_grammar.specs.Machine.{any, snoc, start, role}
+use Rattle.py_grammar.specs.Least.{least_name}
+use Rattle.py_parse_pattern.specs.Machine as pattern
 use Rattle.py_parse.specs.Open.{snoc_stmt, snoc_case, no_end, newline_end, both_end, Owner, an_arm, a_while, a_for, a_clause, a_def, a_case, closed, Block, top, inside, add}
 use Rattle.py_parse.specs.Machine.{Resume, value, augmented, leaving, asserted, reason, arm_test, while_test, for_target, for_over, clause_kind, subject, guard, default, Place, Reading, Matching, NameWanted, ParamWanted, ClauseBound, ColonWanted, MatchLine, Lines, State, at, close, over_line, end_simple, end_header, begun_at, onward, reads, wanted, simple_place, compound_place, begin_simple, begin_line, line, in_place_op, assigned, left, behind_value, behind_default, resume, resume_pattern, Listed, globals, imports, froms, listed, with_name, behind_name}
 use Rattle.py_parse.specs.Least.{ended, chosen, ending, closing, Form, a_statement, a_header, a_match, resumed, form, complete, finished}

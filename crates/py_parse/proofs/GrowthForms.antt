@@ -7,9 +7,9 @@ use Rattle.py_syntax.specs.Tree.{Suite, suite, no_suite, Arms, Clauses, clause, 
 use Rattle.py_syntax.specs.Kinds.{Kind, Word}
 use Rattle.py_syntax.specs.Normal.{height, heights, pattern_height}
 use Rattle.py_syntax.specs.Statements.{option_height}
-use Rattle.py_parse_expr.specs.Machine.{snoc}
-use Rattle.py_parse_expr.specs.Least.{least_name}
-use Rattle.py_parse_expr.proofs.Grows.{heights_snoc}
+use Rattle.py_grammar.specs.Machine.{snoc}
+use Rattle.py_grammar.specs.Least.{least_name}
+use Rattle.py_grammar.proofs.Grows.{heights_snoc}
 use Rattle.py_parse.specs.Open.{no_end, Owner, an_arm, a_clause, a_def, a_case, closed, Block}
 use Rattle.py_parse.specs.Machine.{Resume, value, augmented, leaving, asserted, reason, arm_test, while_test, for_target, for_over, clause_kind, subject, guard, default, Place, Lines, next_part}
 use Rattle.py_parse.specs.Least.{pass_line, ended, chosen, ending, Form, a_statement, a_header, a_match, resumed, with_param, form, complete}

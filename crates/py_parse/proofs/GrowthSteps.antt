@@ -7,13 +7,13 @@ use Rattle.py_syntax.specs.Tree.{Stmts, no_stmts, suite, Cases, no_cases, case, 
 use Rattle.py_syntax.specs.Kinds.{Kind, Name, Word, Sign, Newline, Indent, Dedent}
 use Rattle.py_syntax.specs.Headers.{Marked, is_match}
 use Rattle.py_syntax.specs.Statements.{case_name}
-use Rattle.py_parse_expr.specs.Machine as expression
-use Rattle.py_parse_expr.specs.Machine.{one, start, role}
-use Rattle.py_parse_expr.specs.Least as expression_least
-use Rattle.py_parse_expr.specs.Least.{least_name}
-use Rattle.py_parse_expr.specs.PatternMachine as pattern
-use Rattle.py_parse_expr.proofs.Rising as rising
-use Rattle.py_parse_expr.proofs.PatternLeast as pattern_least
+use Rattle.py_grammar.specs.Machine as expression
+use Rattle.py_grammar.specs.Machine.{one, start, role}
+use Rattle.py_grammar.specs.Least as expression_least
+use Rattle.py_grammar.specs.Least.{least_name}
+use Rattle.py_parse_pattern.specs.Machine as pattern
+use Rattle.py_grammar.proofs.Rising as rising
+use Rattle.py_parse_pattern.proofs.Least as pattern_least
 use Rattle.py_parse.specs.Open.{no_end, newline_end, semicolon_end, both_end, Owner, a_clause, a_def, a_case, closed, Block, inside, add}
 use Rattle.py_parse.specs.Machine.{leaving, clause_kind, subject, default, Place, Reading, Matching, Simple, Semicolon, Leaving, NameWanted, NameRead, BoundWanted, BoundRead, ModuleWanted, ImportWanted, FunctionWanted, ParamsWanted, ParamWanted, ParamRead, Except, ClauseBound, ColonWanted, SuiteWanted, IndentWanted, MatchLine, MatchBlock, Lines, State, Line, at, Behind, Choosing, Over, begun_at, onward, goal, wanted, line, next_part, is_some, is_whole, left, resume, resume_pattern, froms, with_name, may_bind, act, choose, at_line, on_line, plain_step, header_step, step}
 use Rattle.py_parse.specs.Least.{pass_line, ended, chosen, ending, closing, a_statement, a_header, resumed, form, complete, finished, least_height, least_nesting}

@@ -12,9 +12,9 @@ use Rattle.py_syntax.specs.Normal.{Normal, NormalPattern}
 use Rattle.py_syntax.specs.Headers.{Marked, put, kinds_marked, match_name, is_match, is_colon, ends_in_colon, is_header, ends_line, marked_from, marked}
 use Rattle.py_syntax.specs.Statements.{param_tokens, except_tokens, case_name, guard_tokens, end_tokens, stmts_tokens, kind_tokens, suite_tokens, else_tokens, finally_tokens, elif_tokens, clause_tokens, case_tokens, is_simple, begins_simple, EndsLine, EndLines, ShareLine, IsOption, NormalExpr, NormalClauseHead, NormalParams, NormalStmts, NormalKind, NormalSuite, NormalOpt, NormalArms, NormalClauses, NormalCases}
 use Rattle.py_syntax.specs.Spelling.{module_tokens}
-use Rattle.py_parse_expr.specs.Roles.{begins}
-use Rattle.py_parse_expr.specs.Machine.{role}
-use Rattle.py_parse_expr.proofs.Opens.{opens}
+use Rattle.py_grammar.specs.Roles.{begins}
+use Rattle.py_grammar.specs.Machine.{role}
+use Rattle.py_grammar.proofs.Opens.{opens}
 use Rattle.py_parse.proofs.Parted.{parted, put_append}
 use Rattle.py_parse.proofs.CompleteLines.{plain}
 use Rattle.py_parse.proofs.LineTokens.{last_colon, expr_last, pattern_last, params_last, Flat, flat}

@@ -20,7 +20,7 @@ use Rattle.py_syntax.specs.declared.stmt.Alias.{Alias}
 use Rattle.py_syntax.specs.Tree as tree_
 use Rattle.py_syntax.specs.Tree.{Stmts, stmt, suite, StmtKind, exprs, Arms, arm, Clauses, clause, Cases, case}
 use Rattle.py_syntax.specs.View.{plain_expr, plain_exprs, plain_pattern, plain_kind, plain_suite, plain_stmts, plain_arms, plain_clauses, plain_cases, plain_alias, plain_aliases}
-use Rattle.py_parse_expr.specs.Machine.{snoc}
+use Rattle.py_grammar.specs.Machine.{snoc}
 use Rattle.py_parse.specs.declared.block.Open.{Open}
 use Rattle.py_parse.specs.Open.{snoc_stmt, snoc_arm, snoc_clause, snoc_case, Block, inside, add}
 use Rattle.py_parse.specs.Machine.{Line, close, over_line}

@@ -9,13 +9,13 @@ use Rattle.py_syntax.specs.Kinds.{Kind, Name, Word, Sign, Newline, Indent, Deden
 use Rattle.py_syntax.specs.Normal.{Normal, Each, is_target, is_place}
 use Rattle.py_syntax.specs.Headers.{Marked, is_match}
 use Rattle.py_syntax.specs.Statements.{count, case_name, NormalExpr, NormalTargets, NormalParams, NormalKind, is_simple}
-use Rattle.py_parse_expr.specs.Machine as expression
-use Rattle.py_parse_expr.specs.Machine.{any, one, snoc, start, role}
-use Rattle.py_parse_expr.specs.PatternMachine as pattern
-use Rattle.py_parse_expr.proofs.Fine.{Sound, Meets, Keeps, each_snoc}
-use Rattle.py_parse_expr.proofs.Keeps as kept_
-use Rattle.py_parse_expr.proofs.Spelled.{role_fine, start_any, start_one, start_target}
-use Rattle.py_parse_expr.proofs.PatternFine as pattern_
+use Rattle.py_grammar.specs.Machine as expression
+use Rattle.py_grammar.specs.Machine.{any, one, snoc, start, role}
+use Rattle.py_parse_pattern.specs.Machine as pattern
+use Rattle.py_grammar.proofs.Fine.{Sound, Meets, Keeps, each_snoc}
+use Rattle.py_grammar.proofs.Keeps as kept_
+use Rattle.py_grammar.proofs.Spelled.{role_fine, start_any, start_one, start_target}
+use Rattle.py_parse_pattern.proofs.Fine as pattern_
 use Rattle.py_parse.specs.Open.{an_arm, a_while, a_for, a_clause, a_case, Block, top, inside, add, no_end, semicolon_end}
 use Rattle.py_parse.specs.Machine.{Resume, value, augmented, leaving, asserted, reason, arm_test, while_test, for_target, for_over, clause_kind, subject, guard, default, goal, Listed, globals, imports, froms, Place, Reading, Matching, Simple, Semicolon, Leaving, NameWanted, NameRead, BoundWanted, BoundRead, ModuleWanted, ImportWanted, FunctionWanted, ParamsWanted, ParamWanted, ParamRead, Except, ClauseBound, ColonWanted, SuiteWanted, IndentWanted, MatchLine, MatchBlock, Lines, State, Line, at, Behind, Choosing, Over, begun, wanted, onward, begun_at, reads, simple_place, compound_place, begin_simple, begin_line, line, end_simple, behind_value, behind_default, in_place_op, assigned, left, resume, resume_pattern, listed, with_name, may_bind, behind_name, is_some, act, choose, next_part, is_whole, at_line, on_line, plain_step, header_step, step}
 use Rattle.py_parse.specs.Least.{ended}

@@ -9,11 +9,11 @@ use Rattle.py_syntax.specs.Kinds.{Kind, Name, Word, Sign, Newline, Indent, Deden
 use Rattle.py_syntax.specs.Headers.{Marked, is_match}
 use Rattle.py_syntax.specs.Normal.{is_target, is_place, height}
 use Rattle.py_syntax.specs.Statements.{case_name, kind_height, kind_nesting}
-use Rattle.py_parse_expr.specs.Machine as expression
-use Rattle.py_parse_expr.specs.Machine.{any, one, snoc, start, role}
-use Rattle.py_parse_expr.specs.Least as expression_least
-use Rattle.py_parse_expr.specs.Least.{least_name}
-use Rattle.py_parse_expr.specs.PatternMachine as pattern
+use Rattle.py_grammar.specs.Machine as expression
+use Rattle.py_grammar.specs.Machine.{any, one, snoc, start, role}
+use Rattle.py_grammar.specs.Least as expression_least
+use Rattle.py_grammar.specs.Least.{least_name}
+use Rattle.py_parse_pattern.specs.Machine as pattern
 use Rattle.py_parse.specs.Open.{no_end, newline_end, semicolon_end, both_end, Owner, an_arm, a_while, a_for, a_clause, a_def, a_case, Block, top, inside, add}
 use Rattle.py_parse.specs.Machine.{Resume, value, augmented, leaving, asserted, reason, arm_test, while_test, for_target, for_over, clause_kind, subject, guard, default, Place, Reading, Matching, Simple, Semicolon, Leaving, NameWanted, NameRead, BoundWanted, BoundRead, ModuleWanted, ImportWanted, FunctionWanted, ParamsWanted, ParamWanted, ParamRead, Except, ClauseBound, ColonWanted, SuiteWanted, IndentWanted, MatchLine, MatchBlock, Lines, State, Line, at, Behind, Choosing, Over, over_line, end_simple, end_header, begun_at, onward, goal, reads, wanted, simple_place, compound_place, begin_simple, begin_line, line, in_place_op, assigned, left, behind_value, behind_default, resume, resume_pattern, Listed, globals, imports, froms, listed, with_name, may_bind, behind_name, is_some, is_whole, next_part, act, choose, at_line, on_line, plain_step, header_step, step}
 use Rattle.py_parse.specs.Least.{chosen, Form, a_header, resumed, form}

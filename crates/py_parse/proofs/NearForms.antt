@@ -7,12 +7,12 @@ use Rattle.py_syntax.specs.Tree.{Suite, suite, no_suite, Arms, no_arms, arm, Cas
 use Rattle.py_syntax.specs.Kinds.{Kind, Word}
 use Rattle.py_syntax.specs.Normal.{height, pattern_height}
 use Rattle.py_syntax.specs.Statements.{NormalKind, kind_height, kind_nesting, suite_nesting, arms_nesting, option_height}
-use Rattle.py_parse_expr.specs.Machine as expression
-use Rattle.py_parse_expr.specs.Machine.{one, snoc}
-use Rattle.py_parse_expr.specs.Least as expression_least
-use Rattle.py_parse_expr.specs.Least.{least_name}
-use Rattle.py_parse_expr.specs.PatternMachine as pattern
-use Rattle.py_parse_expr.proofs.Grows.{heights_snoc, height_some}
+use Rattle.py_grammar.specs.Machine as expression
+use Rattle.py_grammar.specs.Machine.{one, snoc}
+use Rattle.py_grammar.specs.Least as expression_least
+use Rattle.py_grammar.specs.Least.{least_name}
+use Rattle.py_parse_pattern.specs.Machine as pattern
+use Rattle.py_grammar.proofs.Grows.{heights_snoc, height_some}
 use Rattle.py_parse.specs.Open.{a_try, a_def, a_case, Block}
 use Rattle.py_parse.specs.Machine.{Resume, value, augmented, leaving, asserted, reason, arm_test, while_test, for_target, for_over, clause_kind, subject, guard, default, Place, Reading, Matching, FunctionWanted, ColonWanted, Lines, State, at, next_part}
 use Rattle.py_parse.specs.Least.{ended, resumed, with_param, form}

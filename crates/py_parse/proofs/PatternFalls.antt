@@ -4,7 +4,7 @@ use Rattle.py_syntax.specs.Tree.{c_str, Pattern, literal, p_as, Patterns, no_pat
 use Rattle.py_syntax.specs.Kinds.{Kind, Newline, Indent, Dedent}
 use Rattle.py_syntax.specs.Headers.{ends_line}
 use Rattle.py_syntax.specs.Normal.{pattern_height}
-use Rattle.py_parse_expr.specs.PatternMachine.{Cue, a_name, a_number, a_string, a_none, a_bool, a_minus, opens, shuts, a_bar, an_as, a_comma, a_dot, other, cue, same_bracket, is_underscore, named, joined, enclosed, ended, Frame, frame, Stack, stack, State, Want, Minus, Named, Dotted, Strings, Have, Naming, Item, Out, Next, Stuck, Left, offer, give, shut, wanting, begin, act, step, start, put, whole, closed, settled, least}
+use Rattle.py_parse_pattern.specs.Machine.{Cue, a_name, a_number, a_string, a_none, a_bool, a_minus, opens, shuts, a_bar, an_as, a_comma, a_dot, other, cue, same_bracket, is_underscore, named, joined, enclosed, ended, Frame, frame, Stack, stack, State, Want, Minus, Named, Dotted, Strings, Have, Naming, Item, Out, Next, Stuck, Left, offer, give, shut, wanting, begin, act, step, start, put, whole, closed, settled, least}
 
 -- what leaves is no higher than this
 abbrev pub Falls : ℕ → Out → Type 0

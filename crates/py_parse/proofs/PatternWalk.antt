@@ -7,9 +7,9 @@ use Rattle.py_syntax.specs.Kinds.{Kind, bare_token, bare}
 use Rattle.py_syntax.specs.Headers.{ends_line}
 use Rattle.py_syntax.specs.Normal.{pattern_height}
 use Rattle.py_syntax.specs.Spelling.{HEIGHT}
-use Rattle.py_parse_expr.specs.PatternMachine as pattern
-use Rattle.py_parse_expr.specs.PatternMachine.{least, Ending, Unexpected, TooDeep, Reads, within}
-use Rattle.py_parse_expr.proofs.PatternLeast.{at_least_one}
+use Rattle.py_parse_pattern.specs.Machine as pattern
+use Rattle.py_parse_pattern.specs.Machine.{least, Ending, Unexpected, TooDeep, Reads, within}
+use Rattle.py_parse_pattern.proofs.Least.{at_least_one}
 use Rattle.py_parse.specs.Open.{Block}
 use Rattle.py_parse.specs.Machine.{Matching, Lines, State, at, onward, act, resume_pattern}
 use Rattle.py_parse.specs.Places.{last_before}

@@ -6,8 +6,8 @@ use Rattle.py_syntax.specs.declared.expr.Comparison.TheVariants.{Op}
 use Rattle.py_syntax.specs.Kinds.{Kind, Newline, Indent, Dedent}
 use Rattle.py_syntax.specs.Headers.{ends_line}
 use Rattle.py_syntax.specs.Normal.{is_target}
-use Rattle.py_parse_expr.specs.Roles.{r_other, joined}
-use Rattle.py_parse_expr.specs.Machine.{snoc, snoc_link, strings_of, any, one, target, targets, Opener, a_call, a_list, exprs_first, exprs_rest, cond_first, cond_test, cond_else, first, right, not_of, compare_first, compare_rest, unary_of, post_rest, in_items, index_first, in_index, slice_to, in_paren, in_key, in_value, Ctx, Outside, on, State, Want, Have, Strings, AfterOpen, AfterComma, AfterTarget, ItemsOpen, ItemsComma, DictOpen, DictComma, IndexOpen, SliceColon, AfterDot, AfterNot, AfterIs, AfterIsNot, Linked, Out, Next, Stuck, Left, close_items, give, step, role}
+use Rattle.py_grammar.specs.Roles.{r_other, joined}
+use Rattle.py_grammar.specs.Machine.{snoc, snoc_link, strings_of, any, one, target, targets, Opener, a_call, a_list, exprs_first, exprs_rest, cond_first, cond_test, cond_else, first, right, not_of, compare_first, compare_rest, unary_of, post_rest, in_items, index_first, in_index, slice_to, in_paren, in_key, in_value, Ctx, Outside, on, State, Want, Have, Strings, AfterOpen, AfterComma, AfterTarget, ItemsOpen, ItemsComma, DictOpen, DictComma, IndexOpen, SliceColon, AfterDot, AfterNot, AfterIs, AfterIsNot, Linked, Out, Next, Stuck, Left, close_items, give, step, role}
 
 -- nothing goes on
 abbrev pub Quits : Out → Type 0

@@ -10,12 +10,12 @@ use Rattle.py_syntax.specs.Tokens.{tokens, pattern_tokens}
 use Rattle.py_syntax.specs.Normal.{is_target, is_place}
 use Rattle.py_syntax.specs.Headers.{Marked, put}
 use Rattle.py_syntax.specs.Statements.{in_place_mark, case_name}
-use Rattle.py_parse_expr.specs.Machine as expression
-use Rattle.py_parse_expr.specs.Machine.{one, snoc, role}
-use Rattle.py_parse_expr.specs.PatternMachine as pattern
-use Rattle.py_parse_expr.proofs.Sound as read_
-use Rattle.py_parse_expr.proofs.PatternSound as pattern_read_
-use Rattle.py_parse_expr.proofs.PatternExact as pattern_
+use Rattle.py_grammar.specs.Machine as expression
+use Rattle.py_grammar.specs.Machine.{one, snoc, role}
+use Rattle.py_parse_pattern.specs.Machine as pattern
+use Rattle.py_grammar.proofs.Sound as read_
+use Rattle.py_parse_pattern.proofs.Sound as pattern_read_
+use Rattle.py_parse_pattern.proofs.Exact as pattern_
 use Rattle.py_parse.specs.Open.{a_clause, a_while, a_for, an_arm, a_case, Block}
 use Rattle.py_parse.specs.Machine.{Resume, value, augmented, leaving, asserted, reason, arm_test, while_test, for_target, for_over, clause_kind, subject, guard, default, Place, Reading, Matching, Lines, State, at, wanted, onward, end_simple, behind_value, behind_default, in_place_op, assigned, left, resume, resume_pattern}
 use Rattle.py_parse.proofs.Parted.{put_append, parted}

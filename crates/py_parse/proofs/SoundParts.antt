@@ -9,12 +9,12 @@ use Rattle.py_syntax.specs.Tree.{Stmts, stmt, suite, no_suite, no_arms, arm, cla
 use Rattle.py_syntax.specs.Kinds.{Kind, Name, Word, Sign, Newline, Indent, Dedent, End}
 use Rattle.py_syntax.specs.Headers.{Marked, put, match_name, is_match}
 use Rattle.py_syntax.specs.Statements.{end_tokens, stmts_tokens, kind_tokens, suite_tokens, NormalKind}
-use Rattle.py_parse_expr.specs.Machine as expression
-use Rattle.py_parse_expr.specs.Machine.{any, start, role}
-use Rattle.py_parse_expr.specs.Roles.{spelled}
-use Rattle.py_parse_expr.proofs.Sound as read_
-use Rattle.py_parse_expr.proofs.Spelled.{role_spells}
-use Rattle.py_parse_expr.proofs.Grows.{and_left, and_right}
+use Rattle.py_grammar.specs.Machine as expression
+use Rattle.py_grammar.specs.Machine.{any, start, role}
+use Rattle.py_grammar.specs.Roles.{spelled}
+use Rattle.py_grammar.proofs.Sound as read_
+use Rattle.py_grammar.proofs.Spelled.{role_spells}
+use Rattle.py_grammar.proofs.Grows.{and_left, and_right}
 use Rattle.py_parse.specs.Open.{Owner, an_arm, a_while, a_for, a_try, a_clause, an_else, a_finally, a_def, a_case, Block, top, inside, add, newline_end}
 use Rattle.py_parse.specs.Machine.{Resume, value, Place, Lines, State, at, close, over_line, end_simple, end_header, begun_at, reads, simple_place, compound_place, begin_simple, begin_line, line, next_part}
 use Rattle.py_parse.specs.Least.{ended}

@@ -8,11 +8,11 @@ use Rattle.py_syntax.specs.Tree.{no_stmts, Cases, case}
 use Rattle.py_syntax.specs.Kinds.{Kind, Name, Word, Sign, Newline, Indent, Dedent}
 use Rattle.py_syntax.specs.Headers.{Marked, put, is_match}
 use Rattle.py_syntax.specs.Statements.{as_tokens, more_names, more_aliases, case_name, kind_tokens, NormalKind}
-use Rattle.py_parse_expr.specs.Machine as expression
-use Rattle.py_parse_expr.specs.Machine.{any, one, start, role}
-use Rattle.py_parse_expr.specs.PatternMachine as pattern
-use Rattle.py_parse_expr.proofs.Sound as read_
-use Rattle.py_parse_expr.proofs.PatternSound as pattern_read_
+use Rattle.py_grammar.specs.Machine as expression
+use Rattle.py_grammar.specs.Machine.{any, one, start, role}
+use Rattle.py_parse_pattern.specs.Machine as pattern
+use Rattle.py_grammar.proofs.Sound as read_
+use Rattle.py_parse_pattern.proofs.Sound as pattern_read_
 use Rattle.py_parse.specs.Open.{Block, inside, add, no_end, both_end, semicolon_end}
 use Rattle.py_parse.specs.Machine.{leaving, clause_kind, subject, Listed, globals, imports, froms, Place, Reading, Matching, Simple, Semicolon, Leaving, NameWanted, NameRead, BoundWanted, BoundRead, ModuleWanted, ImportWanted, FunctionWanted, ParamsWanted, ParamWanted, ParamRead, Except, ClauseBound, ColonWanted, SuiteWanted, IndentWanted, MatchLine, MatchBlock, Lines, State, Line, at, Behind, Choosing, Over, wanted, onward, begun_at, begin_simple, left, listed, with_name, may_bind, behind_name, behind_default, act, choose, next_part, is_whole, at_line, on_line, plain_step, header_step, step, line}
 use Rattle.py_parse.proofs.Parted.{put_append}

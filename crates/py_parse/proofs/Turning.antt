@@ -8,9 +8,9 @@ use Rattle.py_token.specs.View.{view_token, view_tokens}
 use Rattle.py_token.proofs.Views.{plain-token}
 use Rattle.py_syntax.specs.Tree.{Expr, Cases}
 use Rattle.py_syntax.specs.Kinds.{Kind, bare_token, bare}
-use Rattle.py_parse_expr.specs.Machine as expression
-use Rattle.py_parse_expr.specs.Machine.{start, role}
-use Rattle.py_parse_expr.specs.PatternMachine as pattern
+use Rattle.py_grammar.specs.Machine as expression
+use Rattle.py_grammar.specs.Machine.{start, role}
+use Rattle.py_parse_pattern.specs.Machine as pattern
 use Rattle.py_parse.specs.Open.{Block}
 use Rattle.py_parse.specs.Machine.{Resume, Matching, Lines, State, goal, reads, act, step}
 use Rattle.py_parse.specs.HeldMarks.{header_at}

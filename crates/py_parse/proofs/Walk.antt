@@ -8,11 +8,11 @@ use Rattle.py_syntax.specs.Kinds.{Kind, bare_token, bare}
 use Rattle.py_syntax.specs.Headers.{ends_line}
 use Rattle.py_syntax.specs.Normal.{height}
 use Rattle.py_syntax.specs.Spelling.{HEIGHT}
-use Rattle.py_parse_expr.specs.Machine as expression
-use Rattle.py_parse_expr.specs.Machine.{start, role}
-use Rattle.py_parse_expr.specs.Least.{least}
-use Rattle.py_parse_expr.specs.Reading.{Ending, Unexpected, TooDeep, Reads, within}
-use Rattle.py_parse_expr.proofs.Grows.{height_some}
+use Rattle.py_grammar.specs.Machine as expression
+use Rattle.py_grammar.specs.Machine.{start, role}
+use Rattle.py_grammar.specs.Least.{least}
+use Rattle.py_grammar.specs.Reading.{Ending, Unexpected, TooDeep, Reads, within}
+use Rattle.py_grammar.proofs.Grows.{height_some}
 use Rattle.py_parse.specs.Open.{Block}
 use Rattle.py_parse.specs.Machine.{Resume, Reading, Lines, State, at, goal, reads, onward, act, resume}
 use Rattle.py_parse.specs.Places.{last_before}

@@ -4,9 +4,9 @@ use Rattle.py_syntax.specs.declared.stmt.LineEnd.{LineEnd}
 use Rattle.py_syntax.specs.Tree.{Expr, Suite, suite, no_arms, arm, Cases, no_cases, case, StmtKind, match, Pattern}
 use Rattle.py_syntax.specs.Normal.{height}
 use Rattle.py_syntax.specs.Statements.{stmts_height, kind_height, stmts_nesting, kind_nesting}
-use Rattle.py_parse_expr.specs.Machine as expression
-use Rattle.py_parse_expr.specs.Least as expression_least
-use Rattle.py_parse_expr.specs.PatternMachine as pattern
+use Rattle.py_grammar.specs.Machine as expression
+use Rattle.py_grammar.specs.Least as expression_least
+use Rattle.py_parse_pattern.specs.Machine as pattern
 use Rattle.py_parse.specs.Open.{snoc_case, no_end, a_case, Block, top, inside, add}
 use Rattle.py_parse.specs.Machine.{Resume, arm_test, while_test, for_target, subject, Reading, Matching, Lines, State, Line, at, Behind, Choosing, Over, close, over_line}
 use Rattle.py_parse.specs.Least.{ended, chosen, form, least_height, least_nesting}

@@ -4,7 +4,7 @@ use Rattle.py_syntax.specs.Tree.{Stmts}
 use Rattle.py_syntax.specs.Headers.{Marked}
 use Rattle.py_syntax.specs.Statements.{EndLines, NormalStmts, stmts_height, stmts_nesting}
 use Rattle.py_syntax.specs.Spelling.{module_tokens}
-use Rattle.py_parse_expr.proofs.Exact as exact
+use Rattle.py_grammar.proofs.Exact as exact
 use Rattle.py_parse.specs.Machine.{State, Line, at, Behind, Choosing, Over, begun, done}
 use Rattle.py_parse.specs.Least.{finished, least_nesting}
 use Rattle.py_parse.specs.Places.{run, relined}

@@ -1,7 +1,7 @@
 -- Tokens with their lines, and the machine over lists of them.
 use Rattle.std.proofs.Common.{◌≡◌, ℕ, zero, suc, List, [], ◌∷◌, ◌++◌, take, Option, Some, None, refl, sym, ap, ◌∙◌}
 use Rattle.py_syntax.specs.Headers.{Marked}
-use Rattle.py_parse_expr.proofs.Exact as exact
+use Rattle.py_grammar.proofs.Exact as exact
 use Rattle.py_parse.specs.Machine.{State, step}
 use Rattle.py_parse.specs.Places.{Source, run}
 use Rattle.py_parse.proofs.FinishSuites.{steady, goes}

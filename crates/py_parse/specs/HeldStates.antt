@@ -8,9 +8,9 @@ use Rattle.py_syntax.specs.declared.stmt.Stmt.{Stmt}
 use Rattle.py_syntax.specs.Tree.{Stmts, stmt}
 use Rattle.py_syntax.specs.Kinds.{Kind, bare_kind}
 use Rattle.py_syntax.specs.View.{plain_expr, plain_exprs, plain_pattern, plain_kind, plain_suite, plain_stmts, plain_arms, plain_clauses, plain_cases, plain_aliases}
-use Rattle.py_parse_expr.specs.Machine as expression
-use Rattle.py_parse_expr.specs.Machine.{start, role}
-use Rattle.py_parse_expr.specs.PatternMachine as pattern
+use Rattle.py_grammar.specs.Machine as expression
+use Rattle.py_grammar.specs.Machine.{start, role}
+use Rattle.py_parse_pattern.specs.Machine as pattern
 use Rattle.py_parse.specs.declared.block.Lines as held_lines
 use Rattle.py_parse.specs.declared.block.Open as held_open
 use Rattle.py_parse.specs.declared.block.Block as held_block

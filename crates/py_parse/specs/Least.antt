@@ -6,10 +6,10 @@ use Rattle.py_syntax.specs.declared.stmt.LineEnd.{LineEnd}
 use Rattle.py_syntax.specs.Tree.{Text, Expr, Exprs, no_exprs, exprs, wild}
 use Rattle.py_syntax.specs.Tree.{Stmts, no_stmts, stmt, Suite, suite, no_suite, has_suite, no_clauses, Cases, no_cases, case, StmtKind, aug_assign, pass, assert, try, match}
 use Rattle.py_syntax.specs.Statements.{stmts_height, stmts_nesting}
-use Rattle.py_parse_expr.specs.Machine.{snoc}
-use Rattle.py_parse_expr.specs.Least as expression
-use Rattle.py_parse_expr.specs.Least.{least_name}
-use Rattle.py_parse_expr.specs.PatternMachine as pattern
+use Rattle.py_grammar.specs.Machine.{snoc}
+use Rattle.py_grammar.specs.Least as expression
+use Rattle.py_grammar.specs.Least.{least_name}
+use Rattle.py_parse_pattern.specs.Machine as pattern
 use Rattle.py_parse.specs.Open.{snoc_stmt, no_end, newline_end, both_end, Owner, an_arm, a_while, a_for, a_clause, a_def, a_case, closed, Block, top, inside}
 use Rattle.py_parse.specs.Machine.{Resume, value, augmented, leaving, asserted, reason, arm_test, while_test, for_target, for_over, clause_kind, subject, guard, default, froms, Place, Reading, Matching, Simple, Semicolon, Leaving, NameWanted, NameRead, BoundWanted, BoundRead, ModuleWanted, ImportWanted, FunctionWanted, ParamsWanted, ParamWanted, ParamRead, Except, ClauseBound, ColonWanted, SuiteWanted, IndentWanted, MatchLine, MatchBlock, Lines, State, Line, at, Behind, Choosing, Over, assigned, left, listed, with_name, is_some}
 

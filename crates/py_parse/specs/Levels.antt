@@ -1,8 +1,8 @@
 -- How many suites are open, with the one that a compound statement opens where it has just begun.
 use Rattle.std.specs.Prelude.{ℕ, suc, Bool, true, false, cond}
 use Rattle.py_syntax.specs.Tree.{no_arms}
-use Rattle.py_parse_expr.specs.Machine as expression
-use Rattle.py_parse_expr.specs.Machine.{Want, Outside}
+use Rattle.py_grammar.specs.Machine as expression
+use Rattle.py_grammar.specs.Machine.{Want, Outside}
 use Rattle.py_parse.specs.Open.{Block, top, inside, a_try}
 use Rattle.py_parse.specs.Machine.{arm_test, while_test, for_target, subject, Place, Reading, FunctionWanted, ColonWanted, State, at}
 

@@ -17,9 +17,9 @@ use Rattle.py_syntax.specs.Kinds.{Kind, Name, Word, Sign, Newline, Indent, Deden
 use Rattle.py_syntax.specs.Normal.{is_target, is_place}
 use Rattle.py_syntax.specs.Headers.{Marked, is_match}
 use Rattle.py_syntax.specs.Statements.{case_name}
-use Rattle.py_parse_expr.specs.Machine as expression
-use Rattle.py_parse_expr.specs.Machine.{Goal, any, one, target, snoc, start, role}
-use Rattle.py_parse_expr.specs.PatternMachine as pattern
+use Rattle.py_grammar.specs.Machine as expression
+use Rattle.py_grammar.specs.Machine.{Goal, any, one, target, snoc, start, role}
+use Rattle.py_parse_pattern.specs.Machine as pattern
 use Rattle.py_parse.specs.Open.{snoc_case, no_end, newline_end, semicolon_end, both_end, Owner, an_arm, a_while, a_for, a_try, a_clause, an_else, a_finally, a_def, a_case, closed, Block, top, inside, add}
 
 -- ---- places

@@ -6,9 +6,9 @@ use Rattle.py_syntax.specs.Tree.{Expr, Cases}
 use Rattle.py_syntax.specs.Kinds.{Kind, bare_token, bare}
 use Rattle.py_syntax.specs.Headers.{Marked, marked}
 use Rattle.py_syntax.specs.Spelling.{HEIGHT, NESTING}
-use Rattle.py_parse_expr.specs.Machine as expression
-use Rattle.py_parse_expr.specs.Machine.{start, role}
-use Rattle.py_parse_expr.specs.PatternMachine as pattern
+use Rattle.py_grammar.specs.Machine as expression
+use Rattle.py_grammar.specs.Machine.{start, role}
+use Rattle.py_parse_pattern.specs.Machine as pattern
 use Rattle.py_parse.specs.declared.error.SyntaxError.{SyntaxError}
 use Rattle.py_parse.specs.declared.progress.Progress.{Progress}
 use Rattle.py_parse.specs.Open.{Block}

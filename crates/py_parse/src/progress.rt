@@ -19,7 +19,9 @@ use crate::owner::{Choice, Owner};
 use crate::places::{Place, Resume, State, Turn};
 use crate::steps::step;
 use crate::values::{resume, resume_pattern};
-use py_parse_expr::{ExprPart, ExprRead, PatternRead, ReadError, read_expr, read_patterns};
+use py_grammar::ReadError;
+use py_parse_expr::{ExprPart, ExprRead, read_expr};
+use py_parse_pattern::{PatternRead, read_patterns};
 use py_token::Token;
 use std::alloc::Global;
 

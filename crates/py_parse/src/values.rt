@@ -3,7 +3,7 @@
 ghost use Rattle.std.specs.Prelude.{◌≡◌, Some, None, false, cond, IfOk, option_map, ◌++◌, ◌∷◌, []};
 ghost use Rattle.py_syntax.specs.View.{plain_expr, plain_exprs, plain_kind, plain_pattern, plain_suite, plain_clauses, plain_cases};
 ghost use Rattle.py_syntax.specs.Normal.{is_target, is_place};
-ghost use Rattle.py_parse_expr.specs.Machine.{snoc};
+ghost use Rattle.py_grammar.specs.Machine.{snoc};
 ghost use Rattle.py_parse.specs.Machine.{value, asserted, for_target, clause_kind, subject, ParamRead, at, wanted, onward, act, in_place_op, assigned, left, behind_value, behind_default, resume, resume_pattern};
 ghost use Rattle.py_syntax.specs.Tree.{no_exprs};
 ghost use Rattle.py_parse.specs.HeldLists.{is_equal_sign};

@@ -147,3 +147,7 @@ refused ts error.NoMemory h = tt
 pub answer_refused : (ts : List Kind) (e : ReadError) (r : Result Node ReadError) → IsErrAnd r (λ y. y ≡ e) → FollowsMachine ts 0 part_.Any (Err e) → Parses ts r
 answer_refused ts e (Ok n) is h = absurd is
 answer_refused ts e (Err y) is h = subst (λ (x : ReadError). Parses ts (Err x)) (sym is) (refused ts e h)
+
+-- a token stands behind an expression that was read
+pub next_inside : (tokens : List Token) (place : ℕ) (e : Expr) → EndsAt HEIGHT (start any) (kinds_of_all tokens) 0 place (Reads e) → place < length tokens
+next_inside tokens place e h = let inside = read_some (kinds_of_all tokens) place e h in let same = kinds_length tokens in omega arith

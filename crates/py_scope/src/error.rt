@@ -9,7 +9,7 @@ use thiserror::Error;
 
 /// Why a module isn't well formed, with the first line of the statement, or of the header, that is to blame.
 /// Lines count from 1.
-#[derive(Clone, Copy, Debug, Drop, Error)]
+#[derive(Clone, Copy, Debug, PartialEq, Eq, Drop, Error)]
 pub enum ScopeError {
     /// A `break` or `continue` stands in no loop of its function.
     #[error("line {0}: a jump out of no loop")]

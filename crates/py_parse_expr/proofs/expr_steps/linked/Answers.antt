@@ -10,8 +10,8 @@ returns-in-Next c = let h = rw c.in-Next.is at (c.in_ok-progress.ensures (view_s
 pub push-requires-clause-frame : goal.push-requires-clause-frame
 push-requires-clause-frame c = let h = rw c.in-Opens.is at (c.in_ok-progress.ensures (view_stack c.args.stack.now)) in h.1
 
-pub returns-in-Opens : goal.returns-in-Opens
-returns-in-Opens c = let h = rw c.in-Opens.is at (c.in_ok-progress.ensures (view_stack c.args.stack.now)) in (h.0 ∙ ap (λ (k : Ctx). Next (view_at c.in-Opens.progress k)) (sym c.in_ok-push-in-Opens.ensures.view), h.2, c.in_ok-push-in-Opens.ensures.kept)
+pub returns-in_ok-push-in-Opens : goal.returns-in_ok-push-in-Opens
+returns-in_ok-push-in-Opens c = let h = rw c.in-Opens.is at (c.in_ok-progress.ensures (view_stack c.args.stack.now)) in (h.0 ∙ ap (λ (k : Ctx). Next (view_at c.in-Opens.progress k)) (sym c.in_ok-push-in-Opens.ensures.view), h.2, c.in_ok-push-in-Opens.ensures.kept)
 
 pub returns-in-Stuck : goal.returns-in-Stuck
 returns-in-Stuck c = rw c.in-Stuck.is at (c.in_ok-progress.ensures (view_stack c.args.stack.now))
@@ -19,5 +19,5 @@ returns-in-Stuck c = rw c.in-Stuck.is at (c.in_ok-progress.ensures (view_stack c
 pub give-requires-clause-tall : goal.give-requires-clause-tall
 give-requires-clause-tall c = let h = rw c.in-Passes.is at (c.in_ok-progress.ensures (view_stack c.args.stack.now)) in h.1
 
-pub returns : goal.returns
-returns c = let h = rw c.in-Passes.is at (c.in_ok-progress.ensures (view_stack c.args.stack.now)) in subst (λ (o : Out). Acts o c.args.stack.now.limit c.give.new.stack c.give.result) (sym h.0) c.give.ensures
+pub returns-in-Passes : goal.returns-in-Passes
+returns-in-Passes c = let h = rw c.in-Passes.is at (c.in_ok-progress.ensures (view_stack c.args.stack.now)) in subst (λ (o : Out). Acts o c.args.stack.now.limit c.give.new.stack c.give.result) (sym h.0) c.give.ensures
