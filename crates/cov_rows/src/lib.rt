@@ -1,11 +1,5 @@
-//! The worked rows of the documents, as tests over objects in memory, and rows of the crates of data.
+//! The worked rows of the documents, as tests of the command over objects in memory.
 #![tactic(auto)]
 
 #[cfg(test)]
-mod combining;
-#[cfg(test)]
 mod commands;
-#[cfg(test)]
-mod data;
-#[cfg(test)]
-mod outside;

@@ -1,140 +1,145 @@
 // What sources are read as, row by row: the kinds of the statements, or the refusal.
 
+use crate::writer::Writer;
 use py_parse::{SyntaxError, parse};
 use py_syntax::{Alias, Case, Clause, Module, Stmt, StmtKind, Suite};
 use py_token::{count_lines, tokens};
+use py_value::BinOp;
 use std::alloc::Global;
 use std::test::Fail;
 
+fn operator(op: BinOp) -> &'static str {
+    match op {
+        BinOp::Add => "Add",
+        BinOp::Sub => "Sub",
+        BinOp::Mul => "Mul",
+        BinOp::Floor => "Floor",
+        BinOp::Mod => "Mod",
+    }
+}
+
 /// Writes statements down, each with its lines.
 #[cycle(show)]
-fn show_all(alloc: Global, out: &mut String, statements: &[Stmt]) -> Result<(), Fail> {
+fn show_all(out: &mut Writer, statements: &[Stmt]) {
     for statement in statements {
         let first = statement.first;
         let last = statement.last;
-        show(alloc, out, &statement.kind)?;
-        out.push_str(format!(in alloc; "@{first}")?.as_str())?;
+        show(out, &statement.kind);
+        out.put("@");
+        out.number(i64::from(first));
         if last != first {
-            out.push_str(format!(in alloc; "-{last}")?.as_str())?;
+            out.put("-");
+            out.number(i64::from(last));
         }
-        out.push_str(if statement.end.semicolon { "; " } else { " " })?;
+        out.put(if statement.end.semicolon { "; " } else { " " });
     }
-    Ok(())
 }
 
 #[cycle(show)]
-fn show_suite(alloc: Global, out: &mut String, suite: &Suite) -> Result<(), Fail> {
-    let first = suite.first;
-    let last = suite.last;
-    out.push_str(format!(in alloc; "{first}-{last}")?.as_str())?;
-    out.push_str(if suite.inline { ":[ " } else { "[ " })?;
-    show_all(alloc, out, &suite.body)?;
-    out.push(']')?;
-    Ok(())
+fn show_suite(out: &mut Writer, suite: &Suite) {
+    out.number(i64::from(suite.first));
+    out.put("-");
+    out.number(i64::from(suite.last));
+    out.put(if suite.inline { ":[ " } else { "[ " });
+    show_all(out, &suite.body);
+    out.put("]");
 }
 
 #[cycle(show)]
-fn show_optional(alloc: Global, out: &mut String, suite: &Option<Suite>) -> Result<(), Fail> {
+fn show_optional(out: &mut Writer, suite: &Option<Suite>) {
     if let Some(suite) = suite {
-        out.push_str("else")?;
-        show_suite(alloc, out, suite)?;
+        out.put("else");
+        show_suite(out, suite);
     }
-    Ok(())
 }
 
 #[cycle(show)]
-fn show_clauses(alloc: Global, out: &mut String, clauses: &[Clause]) -> Result<(), Fail> {
+fn show_clauses(out: &mut Writer, clauses: &[Clause]) {
     for clause in clauses {
-        out.push_str(if clause.kind.is_some() {
+        out.put(if clause.kind.is_some() {
             "except"
         } else {
             "any"
-        })?;
+        });
         if let Some(name) = &clause.name {
-            out.push('=')?;
-            out.push_str(name.as_str())?;
+            out.put("=");
+            out.put(name.as_str());
         }
-        show_suite(alloc, out, &clause.body)?;
+        show_suite(out, &clause.body);
     }
-    Ok(())
 }
 
 #[cycle(show)]
-fn show_cases(alloc: Global, out: &mut String, cases: &[Case]) -> Result<(), Fail> {
+fn show_cases(out: &mut Writer, cases: &[Case]) {
     for case in cases {
-        out.push_str(if case.guard.is_some() {
+        out.put(if case.guard.is_some() {
             "guarded"
         } else {
             "case"
-        })?;
-        show_suite(alloc, out, &case.body)?;
+        });
+        show_suite(out, &case.body);
     }
-    Ok(())
 }
 
-fn show_names(out: &mut String, names: &[Alias]) -> Result<(), Fail> {
+fn show_names(out: &mut Writer, names: &[Alias]) {
     for alias in names {
-        out.push(' ')?;
-        out.push_str(alias.name.as_str())?;
+        out.put(" ");
+        out.put(alias.name.as_str());
         if let Some(bound) = &alias.bound {
-            out.push('=')?;
-            out.push_str(bound.as_str())?;
+            out.put("=");
+            out.put(bound.as_str());
         }
     }
-    Ok(())
 }
 
 /// Writes a kind of statement down, with its suites.
 #[cycle(show)]
-fn show(alloc: Global, out: &mut String, kind: &StmtKind) -> Result<(), Fail> {
+fn show(out: &mut Writer, kind: &StmtKind) {
     match kind {
-        StmtKind::Expr(_) => out.push_str("expr")?,
+        StmtKind::Expr(_) => out.put("expr"),
         StmtKind::Assign { targets, value: _ } => {
-            let count = targets.len();
-            out.push_str(format!(in alloc; "assign{count}")?.as_str())?;
+            out.put("assign");
+            out.number(targets.len() as i64);
         }
         StmtKind::AugAssign { op, .. } => {
-            out.push_str(format!(in alloc; "aug{op:?}")?.as_str())?
+            out.put("aug");
+            out.put(operator(*op))
         }
-        StmtKind::Pass => out.push_str("pass")?,
-        StmtKind::Break => out.push_str("break")?,
-        StmtKind::Continue => out.push_str("continue")?,
-        StmtKind::Return(value) => {
-            out.push_str(if value.is_some() { "return1" } else { "return" })?
-        }
-        StmtKind::Raise(value) => out.push_str(if value.is_some() { "raise1" } else { "raise" })?,
-        StmtKind::Assert(_, why) => {
-            out.push_str(if why.is_some() { "assert2" } else { "assert" })?
-        }
+        StmtKind::Pass => out.put("pass"),
+        StmtKind::Break => out.put("break"),
+        StmtKind::Continue => out.put("continue"),
+        StmtKind::Return(value) => { out.put(if value.is_some() { "return1" } else { "return" }) }
+        StmtKind::Raise(value) => out.put(if value.is_some() { "raise1" } else { "raise" }),
+        StmtKind::Assert(_, why) => { out.put(if why.is_some() { "assert2" } else { "assert" }) }
         StmtKind::Global(names) => {
-            let count = names.len();
-            out.push_str(format!(in alloc; "global{count}")?.as_str())?;
+            out.put("global");
+            out.number(names.len() as i64);
         }
         StmtKind::Import(names) => {
-            out.push_str("import")?;
-            show_names(out, names)?;
+            out.put("import");
+            show_names(out, names);
         }
         StmtKind::From(source, names) => {
-            out.push_str("from ")?;
-            out.push_str(source.as_str())?;
-            show_names(out, names)?;
+            out.put("from ");
+            out.put(source.as_str());
+            show_names(out, names);
         }
         StmtKind::If { arms, orelse } => {
             for arm in arms {
-                out.push_str("if")?;
-                show_suite(alloc, out, &arm.body)?;
+                out.put("if");
+                show_suite(out, &arm.body);
             }
-            show_optional(alloc, out, orelse)?;
+            show_optional(out, orelse);
         }
         StmtKind::While { body, orelse, .. } => {
-            out.push_str("while")?;
-            show_suite(alloc, out, body)?;
-            show_optional(alloc, out, orelse)?;
+            out.put("while");
+            show_suite(out, body);
+            show_optional(out, orelse);
         }
         StmtKind::For { body, orelse, .. } => {
-            out.push_str("for")?;
-            show_suite(alloc, out, body)?;
-            show_optional(alloc, out, orelse)?;
+            out.put("for");
+            show_suite(out, body);
+            show_optional(out, orelse);
         }
         StmtKind::Try {
             body,
@@ -142,14 +147,14 @@ fn show(alloc: Global, out: &mut String, kind: &StmtKind) -> Result<(), Fail> {
             orelse,
             finally,
         } => {
-            out.push_str("try")?;
-            show_suite(alloc, out, body)?;
-            show_clauses(alloc, out, clauses)?;
-            show_optional(alloc, out, orelse)?;
+            out.put("try");
+            show_suite(out, body);
+            show_clauses(out, clauses);
+            show_optional(out, orelse);
             if finally.is_some() {
-                out.push_str("finally ")?;
+                out.put("finally ");
             }
-            show_optional(alloc, out, finally)?;
+            show_optional(out, finally);
         }
         StmtKind::Def {
             name,
@@ -158,46 +163,47 @@ fn show(alloc: Global, out: &mut String, kind: &StmtKind) -> Result<(), Fail> {
             comma,
             body,
         } => {
-            let count = params.len();
-            let with_default = defaults.len();
-            out.push_str("def ")?;
-            out.push_str(name.as_str())?;
-            out.push_str(format!(in alloc; " {count}/{with_default}")?.as_str())?;
-            out.push_str(if *comma { "," } else { "" })?;
-            show_suite(alloc, out, body)?;
+            out.put("def ");
+            out.put(name.as_str());
+            out.put(" ");
+            out.number(params.len() as i64);
+            out.put("/");
+            out.number(defaults.len() as i64);
+            out.put(if *comma { "," } else { "" });
+            show_suite(out, body);
         }
         StmtKind::Match {
             header_last,
             cases,
             ..
         } => {
-            out.push_str(format!(in alloc; "match{header_last}")?.as_str())?;
-            show_cases(alloc, out, cases)?;
+            out.put("match");
+            out.number(i64::from(*header_last));
+            show_cases(out, cases);
         }
     }
-    Ok(())
 }
 
 /// What a source is read as.
-fn read(alloc: Global, source: &str) -> Result<Option<Result<Module, SyntaxError>>, Fail> {
+fn read(alloc: Global, source: &str) -> Option<Result<Module, SyntaxError>> {
     if count_lines(source) > 65535 {
-        return Ok(None);
+        return None;
     }
     match tokens(alloc, source) {
-        Ok(tokens) => Ok(Some(parse(alloc, &tokens))),
-        Err(_) => Ok(None),
+        Ok(tokens) => Some(parse(alloc, &tokens)),
+        Err(_) => None,
     }
 }
 
 /// The same, written down.
 fn shown(alloc: Global, source: &str) -> Result<String, Fail> {
-    let mut out = String::new(alloc);
-    match read(alloc, source)? {
-        None => out.push_str("no tokens")?,
-        Some(Ok(module)) => show_all(alloc, &mut out, &module.body)?,
-        Some(Err(error)) => out.push_str(format!(in alloc; "{error:?}")?.as_str())?,
+    let mut out = Writer::new(alloc);
+    match read(alloc, source) {
+        None => out.put("no tokens"),
+        Some(Ok(module)) => show_all(&mut out, &module.body),
+        Some(Err(error)) => out.made(format!(in alloc; "{error:?}")),
     }
-    Ok(out)
+    out.done()
 }
 
 // A row is a source and what it is read as, with `~` between them and `^` behind; `$` stands for a new line.
@@ -333,7 +339,7 @@ fn compound_rows() -> &'static str {
 
 /// The rows that are read otherwise.
 fn misread(alloc: Global, rows: &str) -> Result<String, Fail> {
-    let mut out = String::new(alloc);
+    let mut out = Writer::new(alloc);
     for row in rows.split('^') {
         if let Some((source, expected)) = row.split_once('~') {
             let mut text = String::new(alloc);
@@ -342,16 +348,16 @@ fn misread(alloc: Global, rows: &str) -> Result<String, Fail> {
             }
             let found = shown(alloc, text.as_str())?;
             if found.as_str() != expected {
-                out.push_str(source)?;
-                out.push_str(" ~ ")?;
-                out.push_str(found.as_str())?;
-                out.push('\n')?;
+                out.put(source);
+                out.put(" ~ ");
+                out.put(found.as_str());
+                out.put("\n");
             }
         } else {
-            out.push_str(row)?;
+            out.put(row);
         }
     }
-    Ok(out)
+    out.done()
 }
 
 #[test]
@@ -370,31 +376,19 @@ fn compound_statements(rt: HostRuntime) -> Result<(), Fail> {
 
 /// So many `if 1:` inside each other, with a `pass` in the innermost.
 fn deep_suites(alloc: Global, count: usize) -> Result<String, Fail> {
-    let mut source = String::new(alloc);
+    let mut source = Writer::new(alloc);
     for depth in 0..count {
-        for _ in 0..depth {
-            source.push(' ')?;
-        }
-        source.push_str("if 1:\n")?;
+        source.nest(" ", depth, "if 1:\n", "");
     }
-    for _ in 0..count {
-        source.push(' ')?;
-    }
-    source.push_str("pass")?;
-    Ok(source)
+    source.nest(" ", count, "pass", "");
+    source.done()
 }
 
 /// A `0` in so many parentheses.
 fn deep_parentheses(alloc: Global, count: usize) -> Result<String, Fail> {
-    let mut source = String::new(alloc);
-    for _ in 0..count {
-        source.push('(')?;
-    }
-    source.push('0')?;
-    for _ in 0..count {
-        source.push(')')?;
-    }
-    Ok(source)
+    let mut source = Writer::new(alloc);
+    source.nest("(", count, "0", ")");
+    source.done()
 }
 
 #[test]
@@ -402,11 +396,11 @@ fn limits(rt: HostRuntime) -> Result<(), Fail> {
     let alloc = rt.alloc();
     let suites = shown(alloc, deep_suites(alloc, 65)?.as_str())?;
     assert_eq!(rt; suites.as_str(), "TooDeep(Suites, 65)");
-    let fewer = read(alloc, deep_suites(alloc, 64)?.as_str())?;
+    let fewer = read(alloc, deep_suites(alloc, 64)?.as_str());
     assert!(rt; matches!(fewer, Some(Ok(_))));
     let expressions = shown(alloc, deep_parentheses(alloc, 200)?.as_str())?;
     assert_eq!(rt; expressions.as_str(), "TooDeep(Expressions, 1)");
-    let lower = read(alloc, deep_parentheses(alloc, 199)?.as_str())?;
+    let lower = read(alloc, deep_parentheses(alloc, 199)?.as_str());
     assert!(rt; matches!(lower, Some(Ok(_))));
     let many = shown(alloc, deep_parentheses(alloc, 500000)?.as_str())?;
     assert_eq!(rt; many.as_str(), "TooDeep(Expressions, 1)");

@@ -1,82 +1,79 @@
 // What sources spell, row by row: each token, with its lines where they aren't the first, or the fault.
 
+use crate::writer::Writer;
 use py_token::{Piece, Token, TokenKind, count_lines, tokens};
 use std::alloc::Global;
 use std::test::Fail;
 
 /// Writes tokens down, each with its lines where they aren't the first.
 #[cycle(show)]
-fn show_tokens(alloc: Global, out: &mut String, tokens: &[Token]) -> Result<(), Fail> {
+fn show_tokens(out: &mut Writer, tokens: &[Token]) {
     for token in tokens {
-        out.push(' ')?;
-        show_kind(alloc, out, &token.kind)?;
+        out.put(" ");
+        show_kind(out, &token.kind);
         if token.first != token.last {
-            let first = token.first;
-            let last = token.last;
-            out.push_str(format!(in alloc; "@{first}-{last}")?.as_str())?;
+            out.put("@");
+            out.number(i64::from(token.first));
+            out.put("-");
+            out.number(i64::from(token.last));
         } else if token.last != 1 {
-            let last = token.last;
-            out.push_str(format!(in alloc; "@{last}")?.as_str())?;
+            out.put("@");
+            out.number(i64::from(token.last));
         }
     }
-    Ok(())
 }
 
 #[cycle(show)]
-fn show_kind(alloc: Global, out: &mut String, kind: &TokenKind) -> Result<(), Fail> {
+fn show_kind(out: &mut Writer, kind: &TokenKind) {
     match kind {
-        TokenKind::Name(text) => out.push_str(text.as_str())?,
-        TokenKind::Keyword(keyword) => out.push_str(format!(in alloc; "{keyword:?}")?.as_str())?,
-        TokenKind::Int(value) => out.push_str(format!(in alloc; "{value}")?.as_str())?,
+        TokenKind::Name(text) => out.put(text.as_str()),
+        TokenKind::Keyword(keyword) => out.keyword(*keyword),
+        TokenKind::Int(value) => out.number(*value),
         TokenKind::Str(text) => {
-            out.push('\'')?;
-            out.push_str(text.as_str())?;
-            out.push('\'')?;
+            out.quoted(text.as_str());
         }
         TokenKind::FString(pieces) => {
-            out.push_str("f[")?;
-            show_pieces(alloc, out, pieces)?;
-            out.push(']')?;
+            out.put("f[");
+            show_pieces(out, pieces);
+            out.put("]");
         }
-        TokenKind::Mark(mark) => out.push_str(format!(in alloc; "{mark:?}")?.as_str())?,
-        TokenKind::Newline => out.push_str("NL")?,
-        TokenKind::Indent => out.push_str("IN")?,
-        TokenKind::Dedent => out.push_str("DE")?,
-        TokenKind::End => out.push_str("END")?,
+        TokenKind::Mark(mark) => out.mark(*mark),
+        TokenKind::Newline => out.put("NL"),
+        TokenKind::Indent => out.put("IN"),
+        TokenKind::Dedent => out.put("DE"),
+        TokenKind::End => out.put("END"),
     }
-    Ok(())
 }
 
 #[cycle(show)]
-fn show_pieces(alloc: Global, out: &mut String, pieces: &[Piece]) -> Result<(), Fail> {
+fn show_pieces(out: &mut Writer, pieces: &[Piece]) {
     for piece in pieces {
         match piece {
             Piece::Chars(text) => {
-                out.push('<')?;
-                out.push_str(text.as_str())?;
-                out.push('>')?;
+                out.put("<");
+                out.put(text.as_str());
+                out.put(">");
             }
             Piece::Field(tokens) => {
-                out.push('{')?;
-                show_tokens(alloc, out, tokens)?;
-                out.push_str(" }")?;
+                out.put("{");
+                show_tokens(out, tokens);
+                out.put(" }");
             }
         }
     }
-    Ok(())
 }
 
 /// The tokens of a source, or its fault, written down.
 fn shown(alloc: Global, source: &str) -> Result<String, Fail> {
-    let mut out = String::new(alloc);
+    let mut out = Writer::new(alloc);
     if count_lines(source) > 65535 {
-        return Ok(out);
+        return out.done();
     }
     match tokens(alloc, source) {
-        Ok(tokens) => show_tokens(alloc, &mut out, &tokens)?,
-        Err(error) => out.push_str(format!(in alloc; "{error:?}")?.as_str())?,
+        Ok(tokens) => show_tokens(&mut out, &tokens),
+        Err(error) => out.made(format!(in alloc; "{error:?}")),
     }
-    Ok(out)
+    out.done()
 }
 
 // A row is a source and what it spells, with `~` between them and `^` behind.
@@ -260,10 +257,9 @@ fn sources_and_what_they_spell(rt: HostRuntime) -> Result<(), Fail> {
 /// Lines without a token, as many as a source may have, and one more.
 #[test]
 fn many_lines(rt: HostRuntime) -> Result<(), Fail> {
-    let mut source = String::new(rt.alloc());
-    for _ in 0..65535 {
-        source.push('\n')?;
-    }
+    let mut source = Writer::new(rt.alloc());
+    source.nest("\n", 65535, "", "");
+    let mut source = source.done()?;
     assert_eq!(rt; count_lines(source.as_str()), 65535);
     assert_eq!(rt; shown(rt.alloc(), source.as_str())?.as_str(), " END@65535");
     source.push('\n')?;
@@ -274,19 +270,11 @@ fn many_lines(rt: HostRuntime) -> Result<(), Fail> {
 /// Three lines of a mebibyte: names, a string, and an f-string of many fields.
 #[test]
 fn long_lines(rt: HostRuntime) -> Result<(), Fail> {
-    let mut source = String::new(rt.alloc());
-    for _ in 0..40000 {
-        source.push_str("name , ")?;
-    }
-    source.push_str("\n'")?;
-    for _ in 0..100000 {
-        source.push_str("abc")?;
-    }
-    source.push_str("'\nf'")?;
-    for _ in 0..60000 {
-        source.push_str("{a}{ }")?;
-    }
-    source.push_str("'")?;
+    let mut source = Writer::new(rt.alloc());
+    source.nest("name , ", 40000, "\n'", "");
+    source.nest("abc", 100000, "'\nf'", "");
+    source.nest("{a}{ }", 60000, "'", "");
+    let source = source.done()?;
     if count_lines(source.as_str()) > 65535 {
         return Ok(());
     }

@@ -1,31 +1,22 @@
 // Where the reading of expressions ends at the limit on their height.
 
+use crate::writer::Writer;
 use py_parse_expr::{ExprPart, read_expr};
 use py_token::{Piece, Token, TokenKind, count_lines, tokens};
 use std::alloc::Global;
 use std::test::Fail;
 
-/// Writes so many openings, a middle and so many closings.
-fn nest(out: &mut String, open: &str, count: usize, middle: &str, close: &str) -> Result<(), Fail> {
-    for _ in 0..count {
-        out.push_str(open)?;
-    }
-    out.push_str(middle)?;
-    for _ in 0..count {
-        out.push_str(close)?;
-    }
-    Ok(())
-}
-
 /// Where the reading of tokens ends.
 fn outcome(alloc: Global, tokens: &[Token], part: ExprPart) -> Result<String, Fail> {
+    let mut out = Writer::new(alloc);
     match read_expr(alloc, tokens, 0, part) {
         Ok(read) => {
-            let next = read.next;
-            Ok(format!(in alloc; "@{next}")?)
+            out.put("@");
+            out.number(read.next as i64);
         }
-        Err(error) => Ok(format!(in alloc; "{error:?}")?),
+        Err(error) => out.made(format!(in alloc; "{error:?}")),
     }
+    out.done()
 }
 
 /// Where the reading of a source ends.
@@ -48,18 +39,18 @@ fn nested(
     close: &str,
     part: ExprPart,
 ) -> Result<String, Fail> {
-    let mut source = String::new(alloc);
-    nest(&mut source, open, count, middle, close)?;
-    ends(alloc, source.as_str(), part)
+    let mut source = Writer::new(alloc);
+    source.nest(open, count, middle, close);
+    ends(alloc, source.done()?.as_str(), part)
 }
 
 /// Where the reading of an f-string ends that has a field with so many round brackets.
 fn nested_field(alloc: Global, count: usize, middle: &str) -> Result<String, Fail> {
-    let mut source = String::new(alloc);
-    source.push_str("f'{")?;
-    nest(&mut source, "(", count, middle, ")")?;
-    source.push_str("}'")?;
-    ends(alloc, source.as_str(), ExprPart::Any)
+    let mut source = Writer::new(alloc);
+    source.put("f'{");
+    source.nest("(", count, middle, ")");
+    source.put("}'");
+    ends(alloc, source.done()?.as_str(), ExprPart::Any)
 }
 
 /// Where the reading of a source ends that stands in so many f-strings inside each other.

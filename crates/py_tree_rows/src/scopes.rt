@@ -1,5 +1,6 @@
 // Which modules are well formed, and the names of functions, row by row of their source.
 
+use crate::writer::Writer;
 use py_parse::parse;
 use py_scope::{ScopeError, Scopes, check};
 use py_syntax::Module;
@@ -135,15 +136,15 @@ fn names_of_a_function(rt: HostRuntime) -> Result<(), Fail> {
 
 /// What the names of the first function are, written down.
 fn names_in(alloc: Global, scopes: &Scopes) -> Result<String, Fail> {
-    let mut out = String::new(alloc);
+    let mut out = Writer::new(alloc);
     if let Some(names) = scopes.function(0) {
         for x in ["a", "b", "c", "d", "g"] {
             let name = Text::from_str(alloc, x)?;
-            out.push_str(x)?;
-            out.push_str(if names.is_local(&name) { " local" } else { " " })?;
-            out.push_str(if names.is_global(&name) { "global" } else { "" })?;
-            out.push_str(", ")?;
+            out.put(x);
+            out.put(if names.is_local(&name) { " local" } else { " " });
+            out.put(if names.is_global(&name) { "global" } else { "" });
+            out.put(", ");
         }
     }
-    Ok(out)
+    out.done()
 }

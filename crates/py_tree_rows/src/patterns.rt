@@ -1,109 +1,108 @@
 // What patterns are read from sources, row by row: the pattern with the place behind it, or the refusal with its place.
 
+use crate::writer::Writer;
 use py_parse_pattern::read_patterns;
 use py_syntax::{Brackets, Constant, Pattern};
 use py_token::{count_lines, tokens};
 use std::alloc::Global;
 use std::test::Fail;
 
-fn show_constant(alloc: Global, out: &mut String, value: &Constant) -> Result<(), Fail> {
+fn show_constant(out: &mut Writer, value: &Constant) {
     match value {
-        Constant::Int(number) => out.push_str(format!(in alloc; "{number}")?.as_str())?,
+        Constant::Int(number) => out.number(*number),
         Constant::Str(texts) => {
             for text in texts {
-                out.push('\'')?;
-                out.push_str(text.as_str())?;
-                out.push('\'')?;
+                out.quoted(text.as_str());
             }
         }
-        Constant::None => out.push_str("None")?,
-        Constant::Bool(is) => out.push_str(format!(in alloc; "{is}")?.as_str())?,
+        Constant::None => out.put("None"),
+        Constant::Bool(is) => out.put(if *is { "true" } else { "false" }),
     }
-    Ok(())
 }
 
-fn show_brackets(alloc: Global, out: &mut String, brackets: &Brackets) -> Result<(), Fail> {
-    out.push_str(format!(in alloc; "{brackets:?}")?.as_str())?;
-    Ok(())
+fn brackets(brackets: &Brackets) -> &'static str {
+    match brackets {
+        Brackets::Bare => "Bare",
+        Brackets::Round => "Round",
+        Brackets::Square => "Square",
+    }
 }
 
 /// Writes a pattern down.
 #[cycle(show)]
-fn show(alloc: Global, out: &mut String, pattern: &Pattern) -> Result<(), Fail> {
+fn show(out: &mut Writer, pattern: &Pattern) {
     match pattern {
         Pattern::Literal { minus, value } => {
             if *minus {
-                out.push('-')?;
+                out.put("-");
             }
-            show_constant(alloc, out, value)?;
+            show_constant(out, value);
         }
-        Pattern::Capture(name) => out.push_str(name.as_str())?,
-        Pattern::Wild => out.push('_')?,
+        Pattern::Capture(name) => out.put(name.as_str()),
+        Pattern::Wild => out.put("_"),
         Pattern::Member(of, name) => {
-            out.push_str(of.as_str())?;
-            out.push('.')?;
-            out.push_str(name.as_str())?;
+            out.put(of.as_str());
+            out.put(".");
+            out.put(name.as_str());
         }
         Pattern::Sequence {
-            brackets,
+            brackets: outer,
             items,
             comma,
         } => {
-            show_brackets(alloc, out, brackets)?;
-            show_all(alloc, out, items)?;
+            out.put(brackets(outer));
+            show_all(out, items);
             if *comma {
-                out.push(',')?;
+                out.put(",");
             }
         }
         Pattern::Or(patterns) => {
-            out.push_str("Or")?;
-            show_all(alloc, out, patterns)?;
+            out.put("Or");
+            show_all(out, patterns);
         }
         Pattern::As(pattern, name) => {
-            out.push_str("As[")?;
-            show(alloc, out, pattern)?;
-            out.push_str("]=")?;
-            out.push_str(name.as_str())?;
+            out.put("As[");
+            show(out, pattern);
+            out.put("]=");
+            out.put(name.as_str());
         }
         Pattern::Paren(pattern) => {
-            out.push('(')?;
-            show(alloc, out, pattern)?;
-            out.push(')')?;
+            out.put("(");
+            show(out, pattern);
+            out.put(")");
         }
     }
-    Ok(())
 }
 
 #[cycle(show)]
-fn show_all(alloc: Global, out: &mut String, patterns: &[Pattern]) -> Result<(), Fail> {
-    out.push('[')?;
+fn show_all(out: &mut Writer, patterns: &[Pattern]) {
+    out.put("[");
     for pattern in patterns {
-        show(alloc, out, pattern)?;
-        out.push(' ')?;
+        show(out, pattern);
+        out.put(" ");
     }
-    out.push(']')?;
-    Ok(())
+    out.put("]");
 }
 
 /// What is read from the beginning of a source, written down.
 fn shown(alloc: Global, source: &str) -> Result<String, Fail> {
-    let mut out = String::new(alloc);
+    let mut out = Writer::new(alloc);
     if count_lines(source) > 65535 {
-        return Ok(out);
+        return out.done();
     }
     let Ok(tokens) = tokens(alloc, source) else {
-        out.push_str("tokens")?;
-        return Ok(out);
+        out.put("tokens");
+        return out.done();
     };
     match read_patterns(alloc, &tokens, 0) {
         Ok(read) => {
-            show(alloc, &mut out, &read.pattern)?;
-            let next = read.next;
-            out.push_str(format!(in alloc; " @{next}")?.as_str())?;
+            show(&mut out, &read.pattern);
+            out.put(" @");
+            out.number(read.next as i64);
         }
-        Err(error) => out.push_str(format!(in alloc; "{error:?}")?.as_str())?,
+        Err(error) => out.made(format!(in alloc; "{error:?}")),
     }
-    Ok(out)
+    out.done()
 }
 
 // A row is a source and what is read from it, with `~` between them and `^` behind.
@@ -170,30 +169,25 @@ fn patterns_of_sources(rt: HostRuntime) -> Result<(), Fail> {
 
 /// Where the reading of a pattern in so many brackets ends.
 fn nested(alloc: Global, count: usize, middle: &str) -> Result<String, Fail> {
-    let mut source = String::new(alloc);
-    for _ in 0..count {
-        source.push('(')?;
-    }
-    source.push_str(middle)?;
-    for _ in 0..count {
-        source.push(')')?;
-    }
-    source.push(':')?;
-    let mut out = String::new(alloc);
+    let mut source = Writer::new(alloc);
+    source.nest("(", count, middle, ")");
+    source.put(":");
+    let source = source.done()?;
+    let mut out = Writer::new(alloc);
     if count_lines(source.as_str()) > 65535 {
-        return Ok(out);
+        return out.done();
     }
     let Ok(tokens) = tokens(alloc, source.as_str()) else {
-        return Ok(out);
+        return out.done();
     };
     match read_patterns(alloc, &tokens, 0) {
         Ok(read) => {
-            let next = read.next;
-            out.push_str(format!(in alloc; "@{next}")?.as_str())?;
+            out.put("@");
+            out.number(read.next as i64);
         }
-        Err(error) => out.push_str(format!(in alloc; "{error:?}")?.as_str())?,
+        Err(error) => out.made(format!(in alloc; "{error:?}")),
     }
-    Ok(out)
+    out.done()
 }
 
 #[test]

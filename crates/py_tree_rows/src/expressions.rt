@@ -1,19 +1,13 @@
 // What expressions are read from sources, row by row: the expression with the place behind it, or the refusal with its
 // place.
 
+use crate::writer::Writer;
 use py_parse_expr::{ExprPart, parse_expr, read_expr};
 use py_syntax::{Comparison, Expr, FormatPart, Fragment, Sign};
 use py_token::{Token, count_lines, tokens};
-use py_value::{BinOp, CmpOp, Text};
+use py_value::{BinOp, CmpOp};
 use std::alloc::Global;
 use std::test::Fail;
-
-fn show_text(out: &mut String, text: &Text) -> Result<(), Fail> {
-    out.push('\'')?;
-    out.push_str(text.as_str())?;
-    out.push('\'')?;
-    Ok(())
-}
 
 fn operator(op: BinOp) -> &'static str {
     match op {
@@ -42,203 +36,192 @@ fn comparison(op: Comparison) -> &'static str {
 
 /// Writes a part of a node down, behind the node's name.
 #[cycle(show)]
-fn single(alloc: Global, out: &mut String, head: &str, part: &Expr) -> Result<(), Fail> {
-    out.push_str(head)?;
-    out.push('[')?;
-    show(alloc, out, part)?;
-    out.push(']')?;
-    Ok(())
+fn single(out: &mut Writer, head: &str, part: &Expr) {
+    out.put(head);
+    out.put("[");
+    show(out, part);
+    out.put("]");
 }
 
 #[cycle(show)]
-fn items(
-    alloc: Global,
-    out: &mut String,
-    head: &str,
-    exprs: &[Expr],
-    comma: bool,
-) -> Result<(), Fail> {
-    out.push_str(head)?;
-    out.push('[')?;
+fn items(out: &mut Writer, head: &str, exprs: &[Expr], comma: bool) {
+    out.put(head);
+    out.put("[");
     let mut first = true;
     for part in exprs {
         if !first {
-            out.push(' ')?;
+            out.put(" ");
         }
         first = false;
-        show(alloc, out, part)?;
+        show(out, part);
     }
     if comma {
-        out.push(',')?;
+        out.put(",");
     }
-    out.push(']')?;
-    Ok(())
+    out.put("]");
 }
 
 #[cycle(show)]
-fn bound(alloc: Global, out: &mut String, expr: &Option<Box<Expr>>) -> Result<(), Fail> {
-    out.push(' ')?;
+fn bound(out: &mut Writer, expr: &Option<Box<Expr>>) {
+    out.put(" ");
     match expr {
-        None => out.push('~')?,
-        Some(expr) => show(alloc, out, expr)?,
+        None => out.put("~"),
+        Some(expr) => show(out, expr),
     }
-    Ok(())
 }
 
 #[cycle(show)]
-fn fragment(alloc: Global, out: &mut String, fragment: &Fragment) -> Result<(), Fail> {
+fn fragment(out: &mut Writer, fragment: &Fragment) {
     match fragment {
-        Fragment::Plain(text) => show_text(out, text)?,
+        Fragment::Plain(text) => out.quoted(text.as_str()),
         Fragment::Format(parts) => {
-            out.push_str("f[")?;
+            out.put("f[");
             for part in parts {
                 match part {
-                    FormatPart::Chars(text) => show_text(out, text)?,
+                    FormatPart::Chars(text) => out.quoted(text.as_str()),
                     FormatPart::Field(expr) => {
-                        out.push('{')?;
-                        show(alloc, out, expr)?;
-                        out.push('}')?;
+                        out.put("{");
+                        show(out, expr);
+                        out.put("}");
                     }
                 }
             }
-            out.push(']')?;
+            out.put("]");
         }
     }
-    Ok(())
 }
 
 /// Writes an expression down.
 #[cycle(show)]
-fn show(alloc: Global, out: &mut String, expr: &Expr) -> Result<(), Fail> {
+fn show(out: &mut Writer, expr: &Expr) {
     match expr {
-        Expr::Name(name) => out.push_str(name.as_str())?,
-        Expr::Int(number) => out.push_str(format!(in alloc; "{number}")?.as_str())?,
+        Expr::Name(name) => out.put(name.as_str()),
+        Expr::Int(number) => out.number(*number),
         Expr::Str(texts) => {
             for text in texts {
-                show_text(out, text)?;
+                out.quoted(text.as_str());
             }
         }
         Expr::FStr(fragments) => {
             for piece in fragments {
-                fragment(alloc, out, piece)?;
+                fragment(out, piece);
             }
         }
-        Expr::None => out.push_str("None")?,
-        Expr::Bool(is) => out.push_str(format!(in alloc; "{is}")?.as_str())?,
+        Expr::None => out.put("None"),
+        Expr::Bool(is) => out.put(if *is { "true" } else { "false" }),
         Expr::Tuple {
             items: exprs,
             comma,
-        } => items(alloc, out, "T", exprs, *comma)?,
+        } => items(out, "T", exprs, *comma),
         Expr::List {
             items: exprs,
             comma,
-        } => items(alloc, out, "L", exprs, *comma)?,
+        } => items(out, "L", exprs, *comma),
         Expr::Dict {
             items: pairs,
             comma,
         } => {
-            out.push_str("D[")?;
+            out.put("D[");
             for pair in pairs {
-                show(alloc, out, &pair.key)?;
-                out.push(':')?;
-                show(alloc, out, &pair.value)?;
-                out.push(' ')?;
+                show(out, &pair.key);
+                out.put(":");
+                show(out, &pair.value);
+                out.put(" ");
             }
             if *comma {
-                out.push(',')?;
+                out.put(",");
             }
-            out.push(']')?;
+            out.put("]");
         }
-        Expr::Paren(inner) => single(alloc, out, "", inner)?,
-        Expr::Not(operand) => single(alloc, out, "not", operand)?,
+        Expr::Paren(inner) => single(out, "", inner),
+        Expr::Not(operand) => single(out, "not", operand),
         Expr::And(left, right) => {
-            single(alloc, out, "and", left)?;
-            single(alloc, out, "", right)?;
+            single(out, "and", left);
+            single(out, "", right);
         }
         Expr::Or(left, right) => {
-            single(alloc, out, "or", left)?;
-            single(alloc, out, "", right)?;
+            single(out, "or", left);
+            single(out, "", right);
         }
-        Expr::Unary(Sign::Minus, operand) => single(alloc, out, "-", operand)?,
-        Expr::Unary(Sign::Plus, operand) => single(alloc, out, "+", operand)?,
+        Expr::Unary(Sign::Minus, operand) => single(out, "-", operand),
+        Expr::Unary(Sign::Plus, operand) => single(out, "+", operand),
         Expr::Binary(op, left, right) => {
-            single(alloc, out, operator(*op), left)?;
-            single(alloc, out, "", right)?;
+            single(out, operator(*op), left);
+            single(out, "", right);
         }
         Expr::Compare(first, links) => {
-            out.push_str("cmp[")?;
-            show(alloc, out, first)?;
+            out.put("cmp[");
+            show(out, first);
             for link in links {
-                out.push(' ')?;
-                out.push_str(comparison(link.op))?;
-                out.push(' ')?;
-                show(alloc, out, &link.right)?;
+                out.put(" ");
+                out.put(comparison(link.op));
+                out.put(" ");
+                show(out, &link.right);
             }
-            out.push(']')?;
+            out.put("]");
         }
         Expr::Cond { body, test, orelse } => {
-            single(alloc, out, "if", body)?;
-            single(alloc, out, "", test)?;
-            single(alloc, out, "else", orelse)?;
+            single(out, "if", body);
+            single(out, "", test);
+            single(out, "else", orelse);
         }
         Expr::Call {
             callee,
             args,
             comma,
         } => {
-            show(alloc, out, callee)?;
-            items(alloc, out, "call", args, *comma)?;
+            show(out, callee);
+            items(out, "call", args, *comma);
         }
         Expr::Index(of, at) => {
-            single(alloc, out, "at", of)?;
-            single(alloc, out, "", at)?;
+            single(out, "at", of);
+            single(out, "", at);
         }
         Expr::Slice { of, from, to } => {
-            out.push_str("slice[")?;
-            show(alloc, out, of)?;
-            bound(alloc, out, from)?;
-            bound(alloc, out, to)?;
-            out.push(']')?;
+            out.put("slice[");
+            show(out, of);
+            bound(out, from);
+            bound(out, to);
+            out.put("]");
         }
         Expr::Attr(of, name) => {
-            show(alloc, out, of)?;
-            out.push('.')?;
-            out.push_str(name.as_str())?;
+            show(out, of);
+            out.put(".");
+            out.put(name.as_str());
         }
     }
-    Ok(())
 }
 
 /// What is read from the beginning of a source, written down.
 fn shown(alloc: Global, source: &str, part: ExprPart) -> Result<String, Fail> {
-    let mut out = String::new(alloc);
+    let mut out = Writer::new(alloc);
     if count_lines(source) > 65535 {
-        return Ok(out);
+        return out.done();
     }
     let Ok(tokens) = tokens(alloc, source) else {
-        out.push_str("tokens")?;
-        return Ok(out);
+        out.put("tokens");
+        return out.done();
     };
     match read_expr(alloc, &tokens, 0, part) {
         Ok(read) => {
-            show(alloc, &mut out, &read.expr)?;
-            let next = read.next;
-            out.push_str(format!(in alloc; " @{next}")?.as_str())?;
+            show(&mut out, &read.expr);
+            out.put(" @");
+            out.number(read.next as i64);
         }
-        Err(error) => out.push_str(format!(in alloc; "{error:?}")?.as_str())?,
+        Err(error) => out.made(format!(in alloc; "{error:?}")),
     }
-    Ok(out)
+    out.done()
 }
 
 /// What is read from a source as a whole list without the end of its line, written down.
 fn shown_whole(alloc: Global, source: &str) -> Result<String, Fail> {
-    let mut out = String::new(alloc);
+    let mut out = Writer::new(alloc);
     if count_lines(source) > 65535 {
-        return Ok(out);
+        return out.done();
     }
     let Ok(mut tokens) = tokens(alloc, source) else {
-        out.push_str("tokens")?;
-        return Ok(out);
+        out.put("tokens");
+        return out.done();
     };
     let end = tokens.pop();
     tokens.pop();
@@ -246,16 +229,16 @@ fn shown_whole(alloc: Global, source: &str) -> Result<String, Fail> {
         tokens.push(end)?;
     }
     match parse_expr(alloc, &tokens) {
-        Ok(expr) => show(alloc, &mut out, &expr)?,
-        Err(error) => out.push_str(format!(in alloc; "{error:?}")?.as_str())?,
+        Ok(expr) => show(&mut out, &expr),
+        Err(error) => out.made(format!(in alloc; "{error:?}")),
     }
-    Ok(out)
+    out.done()
 }
 
 /// The rows that are read otherwise; without a part, as whole lists. Each row is a source and what is read from it, with
 /// `~~` between them and `^` behind.
 fn misread(alloc: Global, rows: &str, part: Option<ExprPart>) -> Result<String, Fail> {
-    let mut out = String::new(alloc);
+    let mut out = Writer::new(alloc);
     for row in rows.split('^') {
         if let Some((source, expected)) = row.split_once("~~") {
             let found = match part {
@@ -263,16 +246,16 @@ fn misread(alloc: Global, rows: &str, part: Option<ExprPart>) -> Result<String, 
                 None => shown_whole(alloc, source)?,
             };
             if found.as_str() != expected {
-                out.push_str(source)?;
-                out.push_str(" ~~ ")?;
-                out.push_str(found.as_str())?;
-                out.push('\n')?;
+                out.put(source);
+                out.put(" ~~ ");
+                out.put(found.as_str());
+                out.put("\n");
             }
         } else {
-            out.push_str(row)?;
+            out.put(row);
         }
     }
-    Ok(out)
+    out.done()
 }
 
 fn expressions() -> &'static str {

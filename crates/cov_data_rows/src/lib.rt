@@ -1,0 +1,10 @@
+//! Worked rows of the outside, of recorded data and of their combination, as tests. They stand in a crate of their own so
+//! that the libraries are proved once and not a second time with their tests.
+#![tactic(auto)]
+
+#[cfg(test)]
+mod combining;
+#[cfg(test)]
+mod data;
+#[cfg(test)]
+mod outside;
