@@ -7,6 +7,7 @@ pub mod Passes
 pub mod Opens
 pub mod Operators
 pub mod Complete
+pub mod SpelledFields
 pub mod Enclosed
 pub mod Finish
 pub mod Finishes

@@ -83,7 +83,7 @@ mutual
   role_spells (Sign m) r = mark_spells m r
   role_spells t r = refl
 
-  parts_spell : (ps : Pieces) (qs : Parts) → parts ps ≡ Some qs → pieces qs ≡ ps
+  pub parts_spell : (ps : Pieces) (qs : Parts) → parts ps ≡ Some qs → pieces qs ≡ ps
   parts_spell no_pieces qs h = let same : no_parts ≡ qs = cc in ap pieces (sym same)
   parts_spell (chars_piece x ps) qs h = text_spelled x ps qs (parts ps) (λ rs. parts_spell ps rs) h
   parts_spell (field_piece ks ps) qs h = field_spelled ks ps qs (field_expr (start any) ks) (parts ps) (λ e. field_spells (start any) ks e) (λ rs. parts_spell ps rs) h
@@ -133,7 +133,7 @@ mutual
   role_fine (Sign m) = mark_fine m
   role_fine t = tt
 
-  parts_fine : (ps : Pieces) (qs : Parts) → parts ps ≡ Some qs → NormalParts qs
+  pub parts_fine : (ps : Pieces) (qs : Parts) → parts ps ≡ Some qs → NormalParts qs
   parts_fine no_pieces qs h = let same : no_parts ≡ qs = cc in subst NormalParts same tt
   parts_fine (chars_piece x ps) qs h = text_normal x qs (parts ps) (λ rs. parts_fine ps rs) h
   parts_fine (field_piece ks ps) qs h = field_normal qs (field_expr (start any) ks) (parts ps) (λ e. field_fine (start any) ks e start_any) (λ rs. parts_fine ps rs) h

@@ -1,10 +1,11 @@
 // Whether the fields of an f-string are expressions.
 
-ghost use Rattle.std.specs.Prelude.{◌≡◌, ◌+◌, IfOk, is_some};
+ghost use Rattle.std.specs.Prelude.{◌≡◌, ◌+◌, ◌↔◌, IfOk, IsTrue, is_some};
 ghost use Rattle.py_token.specs.Plain.{token_row, piece_row};
 ghost use Rattle.py_token.specs.View.{view_kind, view_tokens, view_pieces};
 ghost use Rattle.py_syntax.specs.Kinds.{bare_kind, bare_tokens, bare_pieces};
 ghost use Rattle.py_grammar.specs.Machine.{any, start, parts, field_expr};
+ghost use Rattle.py_grammar.specs.Refusal.{AreSpelled};
 ghost use Rattle.py_parse_fields.specs.Reader.{view_turn, is_left};
 ghost use Rattle.py_parse_fields.specs.Order.{plain_pieces, waiting_of, Waits, Asks, weight, field_weight};
 
@@ -82,10 +83,9 @@ fn are_fields<'a>(
     Ok(true)
 }
 
-/// Whether the tokens of each field of an f-string are those of some `exprs`. Nothing is built, and brackets and
-/// f-strings may stand as deep as they like.
-pub fn is_spelled(alloc: Global, pieces: &[Piece]) -> Result<bool, NoMemory>
-    ensures { IfOk result (λ b. b ≡ is_some (parts (bare_pieces (piece_row (view_pieces pieces.now))))) }
+/// Whether the fields of an f-string are expressions, as the machine reads them.
+fn are_read(alloc: Global, pieces: &[Piece]) -> Result<bool, NoMemory>
+    ensures { IfOk result (λ b. b ≡ is_some (parts (plain_pieces pieces.now))) }
 {
     let mut waiting: Vec<&[Piece]> = Vec::new(alloc);
     waiting.push(pieces)?;
@@ -95,4 +95,12 @@ pub fn is_spelled(alloc: Global, pieces: &[Piece]) -> Result<bool, NoMemory>
         }
     }
     Ok(true)
+}
+
+/// Whether the tokens of each field of an f-string are those of some `exprs` (Language Reference, 2.4.3). Nothing is
+/// built, and brackets and f-strings may stand as deep as they like.
+pub fn is_spelled(alloc: Global, pieces: &[Piece]) -> Result<bool, NoMemory>
+    ensures { IfOk result (λ b. IsTrue b ↔ AreSpelled (bare_pieces (piece_row (view_pieces pieces.now)))) }
+{
+    are_read(alloc, pieces)
 }

@@ -1,14 +1,16 @@
-use Rattle.std.proofs.Common.{is_some, true, false, sym}
+use Rattle.std.specs.Prelude.{◌↔◌, Result, Ok, Err, IfOk, IsTrue}
+use Rattle.std.proofs.Common.{◌≡◌, Bool, is_some}
+use Rattle.std.specs.declared.alloc.AllocError.{AllocError}
+use Rattle.py_syntax.specs.Kinds.{Pieces}
 use Rattle.py_grammar.specs.Machine.{parts}
-use Rattle.py_parse_fields.specs.Order.{plain_pieces, waiting_of}
-use Rattle.py_parse_fields.proofs.Order.{next_told}
+use Rattle.py_grammar.specs.Refusal.{AreSpelled}
+use Rattle.py_grammar.proofs.SpelledFields.{told}
+use Rattle.py_parse_fields.specs.Order.{plain_pieces}
 use Rattle.py_parse_fields.proofs.fields.is_spelled.Goals as goal
 
-pub returns-then-not-branch : goal.returns-then-not-branch
-returns-then-not-branch c = sym (next_told (is_some (parts (plain_pieces c.args.pieces.now))) c.in_ok-are_fields.field-0 false c.waiting.waiting.items c.pop.new.self.items c.in-Some.next (waiting_of c.are_fields.new.waiting.items) c.in-Some.ensures.items c.if-not-branch.true c.in_ok-are_fields.ensures c.waiting.invariant).0
-
-pub waiting-smaller : goal.waiting-smaller
-waiting-smaller c = (next_told (is_some (parts (plain_pieces c.args.pieces.now))) c.in_ok-are_fields.field-0 true c.waiting.waiting.items c.pop.new.self.items c.in-Some.next (waiting_of c.are_fields.new.waiting.items) c.in-Some.ensures.items c.if-not-branch.false c.in_ok-are_fields.ensures c.waiting.invariant).1
-
-pub waiting-preserved : goal.waiting-preserved
-waiting-preserved c = (next_told (is_some (parts (plain_pieces c.args.pieces.now))) c.in_ok-are_fields.field-0 true c.waiting.waiting.items c.pop.new.self.items c.in-Some.next (waiting_of c.are_fields.new.waiting.items) c.in-Some.ensures.items c.if-not-branch.false c.in_ok-are_fields.ensures c.waiting.invariant).0
+pub returns : goal.returns
+returns c = go c.are_read.result c.are_read.ensures
+  where
+    go : (r : Result Bool AllocError) → IfOk r (λ b. b ≡ is_some (parts (plain_pieces c.args.pieces.now))) → IfOk r (λ b. IsTrue b ↔ AreSpelled (plain_pieces c.args.pieces.now))
+    go (Ok b) h = told b (plain_pieces c.args.pieces.now) h
+    go (Err e) h = tt
