@@ -180,7 +180,7 @@ module _ (g : Goal) (asked : IsAsked g) where
   within_from : (limit : ℕ) (front : List Kind) (s : State) → steps (start g) front ≡ Some s → least s ≤ limit → BeginsWithin g limit front
   within_from limit front s h low =
       let f = finished_begins front s h in
-      (finished s, f.0, finished_of s (steps_fine g (start g) s front (start_fine g asked) h), f.1, low)
+      (finished s, f.0, (finished_of s (steps_fine g (start g) s front (start_fine g asked) h), f.1), low)
 
   some_more : (s : State) (front more : List Kind) (e : Expr) → run s (front ++ (more ++ End ∷ [])) ≡ Leaves e (End ∷ []) → (n : State) × (steps s front ≡ Some n) × (least n ≤ height e)
   some_more s front [] e h = passes s front End [] e End h
@@ -193,7 +193,7 @@ module _ (g : Goal) (asked : IsAsked g) where
   begins_to front b = let x = passed front b.0 b.1 b.2 b.3 in (x.0, x.1)
 
   within_to : (limit : ℕ) (front : List Kind) → BeginsWithin g limit front → (s : State) × (steps (start g) front ≡ Some s) × (least s ≤ limit)
-  within_to limit front b = let x = passed front b.0 b.1 b.2 b.3 in let low = x.2 in let high = b.4 in (x.0, x.1, omega arith)
+  within_to limit front b = let x = passed front b.0 b.1 b.2.0 b.2.1 in let low = x.2 in let high = b.3 in (x.0, x.1, omega arith)
 
   -- Two trees of one list are one tree.
   pub one_tree_of : OneOf g
@@ -244,7 +244,7 @@ module _ (g : Goal) (asked : IsAsked g) where
   means_deep limit front s n t ts h low is high =
       let all : steps (start g) (front ++ t ∷ []) ≡ Some n = steps_snoc (start g) s front t h ∙ ap next is in
       let b = within_from (least n) (front ++ t ∷ []) n all (omega arith) in
-      (within_from limit front s h low, (b.0, b.1, b.2, b.3), too_high all)
+      (within_from limit front s h low, (b.0, b.1, b.2), too_high all)
     where
       too_high : steps (start g) (front ++ t ∷ []) ≡ Some n → BeginsWithin g limit (front ++ t ∷ []) → ⊥
       too_high all v =

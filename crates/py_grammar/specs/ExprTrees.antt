@@ -6,6 +6,9 @@ use Rattle.py_syntax.specs.Tree.{Expr}
 use Rattle.py_syntax.specs.Kinds.{Kind, Word, FString, Sign}
 use Rattle.py_syntax.specs.Tokens.{tokens}
 use Rattle.py_syntax.specs.Normal.{LExpr, At, Normal, is_target, height}
+use Rattle.py_syntax.specs.Refusals as any_tree
+use Rattle.py_syntax.specs.Refusals.{Begins, IsTooDeepAfter}
+use Rattle.py_grammar.specs.Refusal.{IsWithin}
 use Rattle.py_grammar.specs.Machine.{Goal, any, one, target, targets}
 
 -- what may be asked for: any `exprs`, one `expr`, or what a `for` assigns to
@@ -19,17 +22,21 @@ IsOf any e = Normal e
 IsOf one e = Normal e × At LExpr e
 IsOf g e = Normal e × (is_target e ≡ true)
 
+-- these are the tokens of that expression, which is of that form
+abbrev pub HasTokens : Goal → Expr → List Kind → Type 0
+HasTokens goal e ts = IsOf goal e × (tokens e [] ≡ ts)
+
 -- these tokens begin those of such an expression
 abbrev pub BeginsExpr : Goal → List Kind → Type 0
-BeginsExpr goal front = (e : Expr) × (more : List Kind) × IsOf goal e × (tokens e [] ≡ front ++ more)
+BeginsExpr goal front = Begins (HasTokens goal) front
 
 -- and of one that isn't higher than the limit
 abbrev pub BeginsWithin : Goal → ℕ → List Kind → Type 0
-BeginsWithin goal limit front = (e : Expr) × (more : List Kind) × IsOf goal e × (tokens e [] ≡ front ++ more) × (height e ≤ limit)
+BeginsWithin goal limit front = any_tree.BeginsWithin (HasTokens goal) (IsWithin limit) front
 
 -- they are those of such an expression
 abbrev pub IsTree : Goal → List Kind → Type 0
-IsTree goal front = (e : Expr) × IsOf goal e × (tokens e [] ≡ front)
+IsTree goal front = (e : Expr) × HasTokens goal e front
 
 -- The expression has the tokens in front, and the one behind them goes on with none.
 abbrev pub IsExpr : Goal → ℕ → Expr → List Kind → List Kind → Type 0
@@ -53,8 +60,7 @@ IsUnexpected goal limit front (t ∷ rest) = BeginsWithin goal limit front × (B
 
 -- With the token behind them, the tokens in front begin only expressions that are higher than the limit.
 abbrev pub IsTooDeep : Goal → ℕ → List Kind → List Kind → Type 0
-IsTooDeep goal limit front [] = ⊥
-IsTooDeep goal limit front (t ∷ rest) = BeginsWithin goal limit front × BeginsExpr goal (front ++ t ∷ []) × (BeginsWithin goal limit (front ++ t ∷ []) → ⊥)
+IsTooDeep goal limit front rest = IsTooDeepAfter (HasTokens goal) (IsWithin limit) front rest
 
 -- a list of tokens is that of one such expression at most
 abbrev pub OneOf : Goal → Type 0

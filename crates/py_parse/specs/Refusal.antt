@@ -5,7 +5,8 @@ use Rattle.py_token.specs.Plain.{PToken, first_of, last_of}
 use Rattle.py_syntax.specs.Tree.{Stmts}
 use Rattle.py_syntax.specs.Headers.{Marked}
 use Rattle.py_syntax.specs.Statements.{stmts_height, stmts_nesting}
-use Rattle.py_syntax.specs.Spelling.{module_tokens, IsNormal, Spells, HEIGHT, NESTING, IsViable, front, StopsAt}
+use Rattle.py_syntax.specs.Refusals as whole
+use Rattle.py_syntax.specs.Spelling.{module_tokens, IsNormal, Spells, HEIGHT, NESTING, HasTokens, IsWithin, front}
 use Rattle.py_syntax.specs.View.{plain_module}
 use Rattle.py_syntax.specs.declared.stmt.Module.{Module}
 use Rattle.py_parse.specs.declared.error.DepthKind.TheVariants as depth_
@@ -14,11 +15,11 @@ use Rattle.py_parse.specs.declared.error.SyntaxError.TheVariants as error_
 
 -- no tree at all begins with one token more, or the list ends too early
 abbrev pub IsUnexpected : List PToken → ℕ → Type 0
-IsUnexpected ts place = StopsAt ts place × (place < length ts → IsViable (front (place + 1) ts) → ⊥)
+IsUnexpected ts place = whole.IsUnexpected HasTokens IsWithin (λ m. Spells m ts) (λ n. front n ts) (length ts) place
 
 -- only trees that are past a limit begin with one token more
 abbrev pub IsTooDeep : List PToken → ℕ → Type 0
-IsTooDeep ts place = StopsAt ts place × (place < length ts) × IsViable (front (place + 1) ts)
+IsTooDeep ts place = whole.IsTooDeep HasTokens IsWithin (λ m. Spells m ts) (λ n. front n ts) (length ts) place
 
 -- each tree that begins so has too many suites inside each other
 abbrev pub NestsTooDeep : List Marked → Type 0

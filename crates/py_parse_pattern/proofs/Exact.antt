@@ -12,7 +12,8 @@ use Rattle.py_token.specs.declared.token.Mark.TheVariants as mark
 use Rattle.std.proofs.lemmas.List.{append-nil}
 use Rattle.py_syntax.specs.Kinds.{End}
 use Rattle.py_parse_pattern.specs.Machine as machine
-use Rattle.py_parse_pattern.specs.Trees.{BeginsPattern, BeginsWithin, NoPattern, IsPattern, IsUnexpected, IsTooDeep, OnePattern}
+use Rattle.py_syntax.specs.Refusals as any_tree
+use Rattle.py_parse_pattern.specs.Trees.{HasTokens, IsWithin, BeginsPattern, IsPattern, IsUnexpected, IsTooDeep, OnePattern}
 use Rattle.py_parse_pattern.proofs.Sound.{before, Reads, step_reads}
 use Rattle.py_parse_pattern.proofs.Fine.{Fine, Keeps, step_keeps, start_fine, finished_fine}
 use Rattle.py_parse_pattern.proofs.Finish.{finish, finish_tokens}
@@ -145,9 +146,12 @@ passes s (u ∷ us) b bs p e h = go (λ m. passes m us b bs p e) (step s u) h
 
 -- ---- viable prefixes
 
+abbrev BeginsWithin : ℕ → List Kind → Type 0
+BeginsWithin limit front = any_tree.BeginsWithin HasTokens (IsWithin limit) front
+
 pub within_from : (limit : ℕ) (front : List Kind) (s : State) → steps start front ≡ Some s → least s ≤ limit → BeginsWithin limit front
 within_from limit front s h low =
-    (finished s, finish s [], finished_fine s (steps_fine start s front start_fine h), sym (finish_tokens s []) ∙ sym (steps_before start s front (finish s []) h), low)
+    (finished s, finish s [], (finished_fine s (steps_fine start s front start_fine h), sym (finish_tokens s []) ∙ sym (steps_before start s front (finish s []) h)), low)
 
 -- the tokens of a pattern and an end
 ended_list : (p : Pattern) (front more : List Kind) → pattern_tokens p [] ≡ front ++ more → pattern_tokens p (End ∷ []) ≡ front ++ (more ++ End ∷ [])
@@ -164,7 +168,7 @@ pub begins_to : (front : List Kind) → BeginsPattern front → (s : State) × (
 begins_to front b = let x = passed front b.0 b.1 b.2 b.3 in (x.0, x.1)
 
 pub within_to : (limit : ℕ) (front : List Kind) → BeginsWithin limit front → (s : State) × (steps start front ≡ Some s) × (least s ≤ limit)
-within_to limit front b = let x = passed front b.0 b.1 b.2 b.3 in let low = x.2 in let high = b.4 in (x.0, x.1, omega arith)
+within_to limit front b = let x = passed front b.0 b.1 b.2.0 b.2.1 in let low = x.2 in let high = b.3 in (x.0, x.1, omega arith)
 
 -- Two patterns of one list are one pattern.
 pub one_pattern : OnePattern
@@ -338,8 +342,10 @@ no_next front s t h none b =
     let both = sym x.1 ∙ steps_snoc start s front t h ∙ none in
     absurd cc
 
-no_pattern : (front : List Kind) (s : State) (t : Kind) → steps start front ≡ Some s → step s t ≡ Stuck → NoPattern front
-no_pattern front s t h stuck p n is =
+no_pattern : (front : List Kind) (s : State) (t : Kind) → steps start front ≡ Some s → step s t ≡ Stuck → (p : Pattern) → HasTokens p front → ⊥
+no_pattern front s t h stuck p has =
+    let n = has.0 in
+    let is = has.1 in
     let all = ended_list p front [] (is ∙ sym (append-nil front)) in
     let left = sym (run_steps start s front (End ∷ []) h) ∙ ap (run start) (sym all) ∙ reads_all p End [] n refl in
     not_left (step s End) (stuck_end s (cue t) (ap sticks stuck)) left
@@ -361,7 +367,7 @@ means limit front s (TooDeep []) h low how = absurd how
 means limit front s (TooDeep (t ∷ ts)) h low how =
     let all : steps start (front ++ t ∷ []) ≡ Some how.0 = steps_snoc start s front t h ∙ ap one how.1 in
     let b = within_from (least how.0) (front ++ t ∷ []) how.0 all (omega arith) in
-    (within_from limit front s h low, (b.0, b.1, b.2, b.3), too_high how.0 all how.2)
+    (within_from limit front s h low, (b.0, b.1, b.2), too_high how.0 all how.2)
   where
     too_high : (n : State) → steps start (front ++ t ∷ []) ≡ Some n → limit < least n → BeginsWithin limit (front ++ t ∷ []) → ⊥
     too_high n all high v =

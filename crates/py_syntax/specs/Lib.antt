@@ -4,6 +4,7 @@ pub mod Kinds
 pub mod Tokens
 pub mod Normal
 pub mod Headers
+pub mod Refusals
 pub mod Statements
 pub mod Spelling
 pub mod Marks

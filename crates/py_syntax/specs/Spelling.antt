@@ -16,6 +16,7 @@ use Rattle.py_syntax.specs.Kinds.{Kind, Name, Word, Sign, Newline, Indent, End, 
 use Rattle.py_syntax.specs.Tokens.{tokens, pattern_tokens}
 use Rattle.py_syntax.specs.Headers.{Marked, put, kinds_marked, marked, match_name}
 use Rattle.py_syntax.specs.Statements.{stmts_tokens, kind_tokens, suite_tokens, else_tokens, elif_tokens, clause_tokens, end_tokens, param_tokens, except_tokens, guard_tokens, case_name, NormalStmts, EndLines, stmts_height, stmts_nesting}
+use Rattle.py_syntax.specs.Refusals.{Begins, BeginsWithin}
 
 -- the first line of the first token
 abbrev pub first_line : List PToken → ℕ
@@ -130,21 +131,22 @@ HEIGHT = 200
 abbrev pub NESTING : ℕ
 NESTING = 64
 
+-- the list, with the headers of logical lines marked, is that of this tree
+abbrev pub HasTokens : Stmts → List Marked → Type 0
+HasTokens m ts = IsNormal m × (module_tokens m ≡ ts)
+
+-- the tree is within both limits
+abbrev pub IsWithin : Stmts → Type 0
+IsWithin m = (stmts_height m ≤ HEIGHT) × (stmts_nesting m ≤ NESTING)
+
 -- A prefix, with the headers of the whole list marked, that begins the tokens of some normal tree.
 abbrev pub IsViable : List Marked → Type 0
-IsViable front = (m : Stmts) × (more : List Marked) × IsNormal m × (module_tokens m ≡ front ++ more)
+IsViable front = Begins HasTokens front
 
 -- the same for a tree within the limits
 abbrev pub IsViableWithin : List Marked → Type 0
-IsViableWithin front = (m : Stmts) × (more : List Marked) × IsNormal m × (module_tokens m ≡ front ++ more) × (stmts_height m ≤ HEIGHT) × (stmts_nesting m ≤ NESTING)
+IsViableWithin front = BeginsWithin HasTokens IsWithin front
 
 -- so many tokens of the list
 abbrev pub front : ℕ → List PToken → List Marked
 front n ts = take n (marked (bare ts))
-
--- A refusal stands behind the longest prefix that is viable within the limits.
-pub record StopsAt (ts : List PToken) (place : ℕ) : Type 0 where
-  pub inside : place ≤ length ts
-  pub viable : IsViableWithin (front place ts)
-  pub longest : place < length ts → IsViableWithin (front (place + 1) ts) → ⊥
-  pub no_tree : place ≡ length ts → (m : Stmts) → Spells m ts → ⊥
