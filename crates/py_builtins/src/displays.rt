@@ -109,10 +109,10 @@ fn display_list(
     ensures written { IsWritten result out.old.text out.new.text (display_step (display_within levels (plain_heap heap.now)) (plain_heap heap.now) inside.old.items (list_at list.place)) }
     ensures inside { OnOk result (inside.new.items ≡ inside.old.items) }
 {
-    if is_among(list.place, inside) {
+    if is_among(list.place as usize, inside) {
         return out.push_word("[...]");
     }
-    inside.push(list.place)?;
+    inside.push(list.place as usize)?;
     out.push_word("[")?;
     display_items(levels, heap.items(list), heap, inside, out)?;
     out.push_word("]")?;

@@ -23,10 +23,10 @@ pub(crate) fn display_dict(
     ensures written { IsWritten result out.old.text out.new.text (display_step (display_within levels (plain_heap heap.now)) (plain_heap heap.now) inside.old.items (dict_at dict.place)) }
     ensures inside { OnOk result (inside.new.items ≡ inside.old.items) }
 {
-    if is_among(dict.place, inside) {
+    if is_among(dict.place as usize, inside) {
         return out.push_word("{...}");
     }
-    inside.push(dict.place)?;
+    inside.push(dict.place as usize)?;
     out.push_word("{")?;
     display_pairs(levels, dict, heap, inside, out)?;
     out.push_word("}")?;

@@ -14,4 +14,5 @@ pub mod PlainCode
 pub mod Sequences
 pub mod Shared
 pub mod Smaller
+pub mod Texts
 pub mod View

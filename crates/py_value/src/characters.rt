@@ -1,13 +1,35 @@
 // Walks over the characters of UTF-8.
 
 ghost use Rattle.std.specs.Prelude.{◌≡◌, take, drop, slice_get, IfOk};
-ghost use Rattle.std.specs.Str.{chars};
+ghost use Rattle.std.specs.Str.{chars, IsAscii};
 ghost use Rattle.py_value.specs.Comparison.{order_of_texts};
 
 use crate::NoMemory;
 use crate::text::Text;
 use std::alloc::Global;
 use std::cmp::Ordering;
+
+/// So many characters of an ASCII text from a place on, or as many as there are.
+pub fn bytes_of(s: &str, first: usize, count: usize) -> &str
+    requires { IsAscii s.now }
+    ensures { chars result.now ≡ take count (drop first (chars s.now)) }
+{
+    let from = first.min(s.len());
+    let to = from + count.min(s.len() - from);
+    &s[from..to]
+}
+
+/// The character at a place of an ASCII text.
+pub fn byte_at(s: &str, at: usize) -> Option<char>
+    requires { IsAscii s.now }
+    ensures { result ≡ slice_get (chars s.now) at }
+{
+    if at < s.len() {
+        Some(s.as_bytes()[at] as char)
+    } else {
+        None
+    }
+}
 
 /// So many characters from a place on, or as many as there are.
 pub fn part(alloc: Global, s: &str, first: usize, count: usize) -> Result<Text, NoMemory>

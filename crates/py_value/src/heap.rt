@@ -11,7 +11,7 @@ ghost use Rattle.py_value.specs.Keys.{place_of_key, value_at, with_value, is_sou
 use crate::NoMemory;
 use crate::pairs::{Pair, Pairs, value_among};
 use crate::value::{Addr, Value, copy_all};
-use std::alloc::Global;
+use std::alloc::{AllocError, Global};
 
 /// A list, or a dict with its pairs in the order in which their keys came.
 #[derive(Drop)]
@@ -113,6 +113,16 @@ fn append_all(items: &mut Vec<Value>, mut values: Vec<Value>) -> Result<(), NoMe
     items.append(&mut values)
 }
 
+/// The place behind so many objects. An address has 32 bits, and more objects count as want of memory.
+fn place_after(count: usize) -> Result<u32, NoMemory>
+    ensures { IfOk result (λ place. place ≡ count) }
+{
+    match u32::try_from(count) {
+        Ok(place) => Ok(place),
+        Err(_) => Err(AllocError),
+    }
+}
+
 /// The lists and dicts of a program. Objects are never removed, so an address stays good.
 #[derive(Drop)]
 pub struct Heap {
@@ -151,7 +161,7 @@ impl Heap {
     pub fn is_list(&self, of: Addr) -> bool
         ensures { result ≡ is_list_object (object_at (plain_heap self.now) of.place) }
     {
-        match self.objects.get(of.place) {
+        match self.objects.get(of.place as usize) {
             Some(Object::Dict(_)) => false,
             _ => true,
         }
@@ -161,7 +171,7 @@ impl Heap {
     pub fn len(&self, of: Addr) -> usize
         ensures { result ≡ length_of (object_at (plain_heap self.now) of.place) }
     {
-        match self.objects.get(of.place) {
+        match self.objects.get(of.place as usize) {
             None => 0,
             Some(Object::List(items)) => items.len(),
             Some(Object::Dict(pairs)) => pairs.len(),
@@ -172,7 +182,7 @@ impl Heap {
     pub fn items(&self, of: Addr) -> &[Value]
         ensures { plains result.now ≡ list_items (plain_heap self.now) of.place }
     {
-        match self.objects.get(of.place) {
+        match self.objects.get(of.place as usize) {
             Some(Object::List(items)) => items.as_slice(),
             _ => &[],
         }
@@ -184,7 +194,7 @@ impl Heap {
         ensures ok { OnOk result (plain_heap self.new ≡ with_object (plain_heap self.old) (list_object (plains items.items))) }
         ensures err { OnErr result (plain_heap self.new ≡ plain_heap self.old) }
     {
-        let place = self.objects.len();
+        let place = place_after(self.objects.len())?;
         self.objects.push(Object::List(items))?;
         Ok(Addr { place })
     }
@@ -195,7 +205,7 @@ impl Heap {
         ensures ok { OnOk result (plain_heap self.new ≡ with_object (plain_heap self.old) (dict_object [])) }
         ensures err { OnErr result (plain_heap self.new ≡ plain_heap self.old) }
     {
-        let place = self.objects.len();
+        let place = place_after(self.objects.len())?;
         let pairs = Pairs::new(*self.objects.allocator());
         self.objects.push(Object::Dict(pairs))?;
         Ok(Addr { place })
@@ -205,7 +215,7 @@ impl Heap {
     pub(crate) fn pairs(&self, of: Addr) -> &[Pair]
         ensures { map plain_pair result.now ≡ dict_pairs (plain_heap self.now) of.place }
     {
-        match self.objects.get(of.place) {
+        match self.objects.get(of.place as usize) {
             Some(Object::Dict(pairs)) => pairs.as_slice(),
             _ => &[],
         }
@@ -215,7 +225,7 @@ impl Heap {
     pub fn place_of(&self, dict: Addr, key: &Value) -> Option<usize>
         ensures { result ≡ place_of_key (plain key.now) (dict_pairs (plain_heap self.now) dict.place) }
     {
-        match self.objects.get(dict.place) {
+        match self.objects.get(dict.place as usize) {
             Some(Object::Dict(pairs)) => pairs.place_of(key),
             _ => None,
         }
@@ -256,8 +266,8 @@ impl Heap {
         ensures ok { OnOk result (plain_heap self.new ≡ change_list (plain_heap self.old) list.place (λ vs. vs ++ plain value ∷ [])) }
         ensures err { OnErr result (plain_heap self.new ≡ plain_heap self.old) }
     {
-        if list.place < self.objects.len() {
-            self.objects[list.place].push(value)?;
+        if (list.place as usize) < self.objects.len() {
+            self.objects[list.place as usize].push(value)?;
         }
         Ok(())
     }
@@ -269,7 +279,7 @@ impl Heap {
         ensures value { slice_get (values_of (object_at (plain_heap self.old) of.place)) at ≡ Some (plain result) }
         ensures taken { plain_heap self.new ≡ change (plain_heap self.old) of.place (without at) }
     {
-        self.objects[of.place].take(at)
+        self.objects[of.place as usize].take(at)
     }
 
     /// Adds values at the end of a list.
@@ -277,8 +287,8 @@ impl Heap {
         ensures ok { OnOk result (plain_heap self.new ≡ change_list (plain_heap self.old) list.place (λ vs. vs ++ plains values.items)) }
         ensures err { OnErr result (plain_heap self.new ≡ plain_heap self.old) }
     {
-        if list.place < self.objects.len() {
-            self.objects[list.place].append(values)?;
+        if (list.place as usize) < self.objects.len() {
+            self.objects[list.place as usize].append(values)?;
         }
         Ok(())
     }
@@ -287,8 +297,8 @@ impl Heap {
     pub(crate) fn set_item(&mut self, list: Addr, at: usize, value: Value)
         ensures { plain_heap self.new ≡ change_list (plain_heap self.old) list.place (λ vs. slice_set vs at (plain value)) }
     {
-        if list.place < self.objects.len() {
-            self.objects[list.place].set_item(at, value);
+        if (list.place as usize) < self.objects.len() {
+            self.objects[list.place as usize].set_item(at, value);
         }
     }
 
@@ -296,8 +306,8 @@ impl Heap {
     pub(crate) fn set_items(&mut self, list: Addr, values: Vec<Value>)
         ensures { plain_heap self.new ≡ change_list (plain_heap self.old) list.place (λ _. plains values.items) }
     {
-        if list.place < self.objects.len() {
-            self.objects[list.place].set_items(values);
+        if (list.place as usize) < self.objects.len() {
+            self.objects[list.place as usize].set_items(values);
         }
     }
 
@@ -306,8 +316,8 @@ impl Heap {
         ensures ok { OnOk result (plain_heap self.new ≡ change_dict (plain_heap self.old) dict.place (with_value (plain key) (plain value))) }
         ensures err { OnErr result (plain_heap self.new ≡ plain_heap self.old) }
     {
-        if dict.place < self.objects.len() {
-            self.objects[dict.place].set_value(key, value)?;
+        if (dict.place as usize) < self.objects.len() {
+            self.objects[dict.place as usize].set_value(key, value)?;
         }
         Ok(())
     }

@@ -9,6 +9,7 @@
 mod answer;
 mod arithmetic;
 mod augmented;
+mod body;
 pub mod builtin;
 pub mod cause;
 mod characters;

@@ -1,30 +1,32 @@
 // Texts of the language: lists of characters.
 
 ghost use Rattle.std.specs.Prelude.{◌≡◌, ◌↔◌, ◌++◌, ◌∷◌, [], length, take, drop, slice_get, IsTrue, IfOk, OnOk, OnErr, encode_utf8_all};
-ghost use Rattle.std.specs.Str.{chars};
+ghost use Rattle.std.specs.Str.{chars, IsAscii};
 ghost use Rattle.py_value.specs.Sequences.{repeat, is_part};
 ghost use Rattle.py_value.specs.Comparison.{order_of_texts};
 
 use crate::NoMemory;
-use crate::characters::{char_at, order, part};
-use std::alloc::Global;
+use crate::body::Body;
+use crate::characters::{byte_at, bytes_of, char_at, order, part};
+use std::alloc::{AllocError, Global};
 use std::cmp::Ordering;
 use std::marker::Model;
+use std::rc::Rc;
 
-/// A text, seen as the list of its characters (Unicode scalar values).
+/// A text, seen as the list of its characters (Unicode scalar values). A copy shares them.
 #[derive(Drop)]
 pub struct Text {
-    body: String,
+    shared: Option<Rc<Body>>,
+    alloc: Global,
 }
 
 impl Model for Text {
     ghost use Rattle.std.specs.Prelude.{List, ℕ};
-    ghost use Rattle.std.specs.Str.{chars};
-    ghost use Rattle.std.specs.String.{string_bytes};
+    ghost use Rattle.py_value.specs.Texts.{shared_characters};
 
     ghost Value = { List ℕ };
 
-    ghost view = { λ t. chars (string_bytes t.body) };
+    ghost view = { λ t. shared_characters t.shared };
 }
 
 impl Text {
@@ -32,35 +34,47 @@ impl Text {
         ensures { result ≡ [] }
     {
         Text {
-            body: String::new(alloc),
+            shared: None,
+            alloc,
+        }
+    }
+
+    fn of_body(alloc: Global, body: Body) -> Result<Text, NoMemory>
+        ensures { IfOk result (λ t. t ≡ body) }
+    {
+        match Rc::new(alloc, body) {
+            Ok(shared) => Ok(Text {
+                shared: Some(shared),
+                alloc,
+            }),
+            Err(_) => Err(AllocError),
         }
     }
 
     pub fn from_str(alloc: Global, s: &str) -> Result<Text, NoMemory>
         ensures { IfOk result (λ t. t ≡ chars s.now) }
     {
-        Ok(Text {
-            body: String::from_str(alloc, s)?,
-        })
+        let body = Body::from_str(alloc, s)?;
+        Text::of_body(alloc, body)
     }
 
     pub fn from_chars(alloc: Global, characters: &[char]) -> Result<Text, NoMemory>
         ensures { IfOk result (λ t. t ≡ characters.now) }
     {
-        let mut text = Text::new(alloc);
+        let mut body = Body::with_capacity(alloc, characters.len())?;
         for c in characters {
-            text.push(*c)?;
+            body.push(*c)?;
         }
-        Ok(text)
+        Text::of_body(alloc, body)
     }
 
     /// The text of one character.
     pub fn of_char(alloc: Global, c: char) -> Result<Text, NoMemory>
         ensures { IfOk result (λ t. t ≡ c ∷ []) }
     {
-        let mut text = Text::new(alloc);
-        text.push(c)?;
-        Ok(text)
+        let mut body = Body::with_capacity(alloc, 1)?;
+        body.push(c)?;
+        Text::of_body(alloc, body)
     }
 
     /// The text as UTF-8.
@@ -68,33 +82,68 @@ impl Text {
         ensures bytes { result.now ≡ encode_utf8_all self.now }
         ensures characters { chars result.now ≡ self.now }
     {
-        self.body.as_str()
+        match &self.shared {
+            None => "",
+            Some(body) => body.as_str(),
+        }
     }
 
-    /// Adds a character at the end.
+    /// Adds a character at the end, in place where no copy shares the characters.
     pub fn push(&mut self, c: char) -> Result<(), NoMemory>
         ensures ok { OnOk result (self.new ≡ self.old ++ c ∷ []) }
         ensures err { OnErr result (self.new ≡ self.old) }
     {
-        self.body.push(c)?;
+        if let Some(shared) = &mut self.shared {
+            if let Some(body) = Rc::get_mut(shared) {
+                return body.push(c);
+            }
+        }
+        let mut body = self.body_with_room(4)?;
+        body.push(c)?;
+        let text = Text::of_body(self.alloc, body)?;
+        *self = text;
         Ok(())
     }
 
-    /// Adds the characters of another text at the end.
+    /// Adds the characters of another text at the end, in place where no copy shares those before.
     pub fn append(&mut self, other: &Text) -> Result<(), NoMemory>
         ensures ok { OnOk result (self.new ≡ self.old ++ other.now) }
         ensures err { OnErr result (self.new ≡ self.old) }
     {
-        self.body.push_str(other.as_str())?;
+        if let Some(shared) = &mut self.shared {
+            if let Some(body) = Rc::get_mut(shared) {
+                return body.append(other.as_str());
+            }
+        }
+        let mut body = self.body_with_room(other.as_str().len())?;
+        body.append(other.as_str())?;
+        let text = Text::of_body(self.alloc, body)?;
+        *self = text;
         Ok(())
     }
 
-    /// An equal text.
+    /// The same characters in a body of their own, with room for so many more bytes.
+    fn body_with_room(&self, more: usize) -> Result<Body, NoMemory>
+        ensures { IfOk result (λ body. body ≡ self.now) }
+    {
+        let bytes = self.as_str().len().saturating_add(more);
+        let mut body = Body::with_capacity(self.alloc, bytes)?;
+        body.append(self.as_str())?;
+        Ok(body)
+    }
+
+    /// An equal text, which shares the characters.
     pub fn copy(&self) -> Result<Text, NoMemory>
         ensures { IfOk result (λ t. t ≡ self.now) }
     {
-        let body = self.body.clone()?;
-        Ok(Text { body })
+        let shared = match &self.shared {
+            None => None,
+            Some(shared) => Some(shared.clone()?),
+        };
+        Ok(Text {
+            shared,
+            alloc: self.alloc,
+        })
     }
 
     pub fn is_same(&self, other: &Text) -> bool
@@ -113,7 +162,20 @@ impl Text {
     pub fn len(&self) -> usize
         ensures { result ≡ length self.now }
     {
-        self.as_str().chars().count()
+        match &self.shared {
+            None => 0,
+            Some(body) => body.len(),
+        }
+    }
+
+    /// Whether each character is known to take one byte.
+    fn is_ascii(&self) -> bool
+        ensures { IsTrue result → IsAscii (encode_utf8_all self.now) }
+    {
+        match &self.shared {
+            None => false,
+            Some(body) => body.is_ascii(),
+        }
     }
 
     /// The text and then another.
@@ -129,25 +191,33 @@ impl Text {
     pub fn repeat(&self, times: usize) -> Result<Text, NoMemory>
         ensures { IfOk result (λ t. t ≡ repeat times self.now) }
     {
-        let mut text = Text::new(self.alloc());
+        let once = self.as_str();
+        let mut body = Body::with_capacity(self.alloc, once.len().saturating_mul(times))?;
         'turns: for _ in 0..times {
-            text.append(self)?;
+            body.append(once)?;
         }
-        Ok(text)
+        Text::of_body(self.alloc, body)
     }
 
     /// So many characters from a place on, or as many as there are.
     pub fn part(&self, first: usize, count: usize) -> Result<Text, NoMemory>
         ensures { IfOk result (λ t. t ≡ take count (drop first self.now)) }
     {
-        part(self.alloc(), self.as_str(), first, count)
+        if self.is_ascii() {
+            return Text::from_str(self.alloc, bytes_of(self.as_str(), first, count));
+        }
+        part(self.alloc, self.as_str(), first, count)
     }
 
     /// The character at a place.
     pub fn char_at(&self, at: usize) -> Option<char>
         ensures { result ≡ slice_get self.now at }
     {
-        char_at(self.as_str(), at)
+        if self.is_ascii() {
+            byte_at(self.as_str(), at)
+        } else {
+            char_at(self.as_str(), at)
+        }
     }
 
     /// The order by characters.
@@ -162,9 +232,5 @@ impl Text {
         ensures { result ≡ is_part part.now self.now }
     {
         self.as_str().contains(part.as_str())
-    }
-
-    fn alloc(&self) -> Global {
-        *self.body.allocator()
     }
 }

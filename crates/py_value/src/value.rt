@@ -9,11 +9,12 @@ use crate::exception::ExcKind;
 use crate::shared::{Argument, Items};
 use crate::text::Text;
 use std::alloc::Global;
+use std::mem::size_of;
 
 /// A place in the heap's list of objects, counted from 0.
 #[derive(Clone, Copy, Debug)]
 pub struct Addr {
-    pub place: usize,
+    pub place: u32,
 }
 
 /// A function of a source: unit `unit` (counted from 1, in the order of the text) of a module.
@@ -31,7 +32,6 @@ pub enum ModId {
 }
 
 /// A value. Lists and dicts stand in the heap; a function with defaults names the list that holds them.
-#[derive(Drop)]
 #[cycle(value)]
 pub enum Value {
     None,
@@ -46,6 +46,30 @@ pub enum Value {
     Kind(ExcKind),
     Exc(ExcKind, Argument),
     Builtin(Builtin),
+}
+
+// Values are copied and moved at each step of a program.
+const _: () = prove!(size_of::<Value>() <= 24);
+
+// Written out, and not derived, so that letting a value go is one call wherever that happens.
+impl Drop for Value {
+    #[cycle(value)]
+    fn drop(self) {
+        match self {
+            Value::None => (),
+            Value::Bool(_) => (),
+            Value::Int(_) => (),
+            Value::Str(text) => drop(text),
+            Value::Tuple(items) => drop(items),
+            Value::List(_) => (),
+            Value::Dict(_) => (),
+            Value::Func(_, _) => (),
+            Value::Module(_) => (),
+            Value::Kind(_) => (),
+            Value::Exc(_, arg) => drop(arg),
+            Value::Builtin(_) => (),
+        }
+    }
 }
 
 /// An exception that an operation raises.

@@ -1,11 +1,7 @@
 use Rattle.std.proofs.Common.{ap, sym, ◌∙◌}
-use Rattle.std.specs.Str.{encode_utf8_all}
-use Rattle.std.specs.String.{string_bytes}
-use Rattle.std.proofs.lemmas.Str.{IsUtf8-string_bytes, encodes-chars}
+use Rattle.std.proofs.lemmas.Str.{chars-nil}
+use Rattle.py_value.specs.Texts.{shared_characters}
 use Rattle.py_value.proofs.text.Text.as_str.Goals as goal
 
-pub returns-clause-bytes : goal.returns-clause-bytes
-returns-clause-bytes c =
-    c.as_str.ensures.value
-    ∙ sym (encodes-chars (string_bytes c.self.inside.body) (IsUtf8-string_bytes c.self.inside.body))
-    ∙ ap encode_utf8_all c.self.view_is
+pub returns-in-None-clause-characters : goal.returns-in-None-clause-characters
+returns-in-None-clause-characters c = chars-nil ∙ ap shared_characters (sym c.in-None.is) ∙ c.self.view_is

@@ -1,4 +1,4 @@
-use Rattle.std.proofs.Common.{◌+◌, ◌-◌, ◌++◌, append_assoc, ap, sym, ◌∙◌, arith}
+use Rattle.std.proofs.Common.{◌≡◌, ◌+◌, ◌-◌, ◌++◌, append_assoc, ap, sym, ◌∙◌, arith}
 use Rattle.std.proofs.lemmas.List.{append-nil}
 use Rattle.py_value.specs.Sequences.{repeat}
 use Rattle.py_value.proofs.Lists.{repeat_more, repeat_none}
@@ -6,10 +6,7 @@ use Rattle.py_value.proofs.text.Text.repeat.Goals as goal
 
 pub turns-preserved : goal.turns-preserved
 turns-preserved c =
-    ap (λ t. t ++ repeat (c.args.times - (c.turns.counter + 1)) c.args.self.now) c.in_ok-append.ensures.ok
-    ∙ append_assoc c.turns.text c.args.self.now _
-    ∙ ap (λ t. c.turns.text ++ t) (repeat_more c.args.times c.turns.counter c.args.self.now (omega arith))
+    ap (λ t. t ++ repeat (c.args.times - (c.turns.counter + 1)) c.args.self.now) (c.in_ok-append.ensures.ok ∙ ap (λ t. c.turns.body ++ t) c.as_str-once.ensures.characters)
+    ∙ append_assoc c.turns.body c.args.self.now _
+    ∙ ap (λ t. c.turns.body ++ t) (repeat_more c.args.times c.turns.counter c.args.self.now (omega arith))
     ∙ c.turns.invariant
-
-pub returns : goal.returns
-returns c = sym (append-nil c.turns.text) ∙ ap (λ t. c.turns.text ++ t) (sym (repeat_none c.args.times c.turns.counter c.args.self.now c.turns-test.false)) ∙ c.turns.invariant

@@ -3,4 +3,4 @@ use Rattle.py_value.specs.Sequences.{repeat}
 use Rattle.py_value.proofs.text.Text.repeat.Given as goal
 
 abbrev pub invariant-turns : goal.invariant-turns
-invariant-turns l = l.text ++ repeat (l.times - l.counter) l.self ≡ repeat l.times l.self
+invariant-turns l = l.body ++ repeat (l.times - l.counter) l.self ≡ repeat l.times l.self

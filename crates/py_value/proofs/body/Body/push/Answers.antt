@@ -1,0 +1,20 @@
+use Rattle.std.proofs.Common.{◌+◌, ◌++◌, ◌∷◌, [], ap, sym, ◌∙◌, length}
+use Rattle.std.specs.Str.{chars}
+use Rattle.std.specs.String.{string_bytes}
+use Rattle.std.proofs.lemmas.Str.{IsUtf8-string_bytes}
+use Rattle.std.proofs.lemmas.List.{length_push}
+use Rattle.py_value.proofs.TextLaws.{chars-push}
+use Rattle.py_value.proofs.body.Body.push.Goals as goal
+
+pub returns-clause-ok : goal.returns-clause-ok
+returns-clause-ok c =
+    ap chars c.in_ok-push.ensures.bytes
+    ∙ chars-push (string_bytes c.self.inside.utf8) c.args.c (IsUtf8-string_bytes c.self.inside.utf8) c.ranges.c.0
+    ∙ ap (λ cs. cs ++ c.args.c ∷ []) c.self.view_is
+
+pub invariant_of-self-2 : goal.invariant_of-self-2
+invariant_of-self-2 c =
+    c.in_ok-count.ensures
+    ∙ ap (λ n. n + 1) c.self.invariant
+    ∙ sym (length_push (chars (string_bytes c.self.inside.utf8)) c.args.c)
+    ∙ sym (ap length (ap chars c.in_ok-push.ensures.bytes ∙ chars-push (string_bytes c.self.inside.utf8) c.args.c (IsUtf8-string_bytes c.self.inside.utf8) c.ranges.c.0))
