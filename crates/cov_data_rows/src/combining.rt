@@ -1,20 +1,25 @@
+use crate::sets::{data_of, shown};
 use cov_combine::{AliasRules, CombineError, combine};
 use cov_data::{Data, Row};
-use std::alloc::Global;
+use std::alloc::{AllocError, Global};
 use std::test::Fail;
 
 /// Rules as `name=place,pattern,pattern`, with `;` between them.
-fn rules_of(alloc: Global, text: &str) -> Result<AliasRules, Fail> {
+fn rules_of(alloc: Global, text: &str) -> Result<AliasRules, AllocError> {
     let mut given = Vec::new(alloc);
     for rule in text.split(';') {
-        let mut parts = rule.split('=');
-        let name = String::from_str(alloc, parts.next().ok_or("a name")?)?;
-        given.push((name, texts_of(alloc, parts.next().unwrap_or(""))?))?;
+        given.push(rule_of(alloc, rule)?)?;
     }
-    Ok(AliasRules::read(alloc, given.as_slice())?)
+    AliasRules::read(alloc, given.as_slice())
 }
 
-fn texts_of(alloc: Global, list: &str) -> Result<Vec<String>, Fail> {
+fn rule_of(alloc: Global, rule: &str) -> Result<(String, Vec<String>), AllocError> {
+    let (name, list) = rule.split_once('=').unwrap_or((rule, ""));
+    let patterns = texts_of(alloc, list)?;
+    Ok((String::from_str(alloc, name)?, patterns))
+}
+
+fn texts_of(alloc: Global, list: &str) -> Result<Vec<String>, AllocError> {
     let mut texts = Vec::new(alloc);
     if !list.is_empty() {
         for text in list.split(',') {
@@ -24,47 +29,9 @@ fn texts_of(alloc: Global, list: &str) -> Result<Vec<String>, Fail> {
     Ok(texts)
 }
 
-/// Rows of arc data as `path from to count`, with `;` between them.
-fn data_of(alloc: Global, arcs: bool, text: &str) -> Result<Data, Fail> {
-    let mut data = Data::new(alloc, arcs);
-    for entry in text.split(';') {
-        let mut words = entry.split(' ');
-        let path = words.next().ok_or("a path")?;
-        data.add_path(path)?;
-        let Some(from) = words.next() else {
-            continue;
-        };
-        let row = Row {
-            path: String::from_str(alloc, path)?,
-            context: String::new(alloc),
-            from: from.parse::<i32>()?,
-            to: words.next().ok_or("to")?.parse::<i32>()?,
-            count: words.next().ok_or("count")?.parse::<u32>()?,
-        };
-        if data.accepts(&row) {
-            data.add(row)?;
-        }
-    }
-    Ok(data)
-}
-
-fn shown(alloc: Global, data: &Data) -> Result<String, Fail> {
-    let mut text = String::new(alloc);
-    for path in &data.paths()? {
-        text.push_str(path.as_str())?;
-        text.push(';')?;
-    }
-    for row in &data.rows()? {
-        let path = row.path.as_str();
-        let numbers = format!(in alloc; " {} {} {};", row.from, row.to, row.count)?;
-        text.push_str(path)?;
-        text.push_str(numbers.as_str())?;
-    }
-    Ok(text)
-}
-
 /// The inputs, with `|` between them, combined.
-fn combined(alloc: Global, inputs: &str, rules: &str) -> Result<String, Fail> {
+fn combined(alloc: Global, inputs: &str, rules: &str) -> Result<String, AllocError> {
+    let rules = rules_of(alloc, rules)?;
     let mut all = Vec::new(alloc);
     for input in inputs.split('|') {
         all.push(data_of(alloc, true, input)?)?;
@@ -72,15 +39,15 @@ fn combined(alloc: Global, inputs: &str, rules: &str) -> Result<String, Fail> {
     if all.is_empty() {
         return Ok(String::new(alloc));
     }
-    let rules = rules_of(alloc, rules)?;
-    let data = combine(alloc, all.as_slice(), &rules)
-        .ok()
-        .ok_or("one kind")?;
-    shown(alloc, &data)
+    match combine(alloc, all.as_slice(), &rules) {
+        Ok(data) => shown(alloc, &data),
+        Err(_) => String::from_str(alloc, "refused"),
+    }
 }
 
-fn alias(alloc: Global, rules: &str, path: &str) -> Result<String, Fail> {
-    Ok(rules_of(alloc, rules)?.alias(path)?)
+fn alias(alloc: Global, rules: &str, path: &str) -> Result<String, AllocError> {
+    let rules = rules_of(alloc, rules)?;
+    rules.alias(path)
 }
 
 #[test]
@@ -117,12 +84,12 @@ fn combinations(rt: HostRuntime) -> Result<(), Fail> {
     let rules = "source=src,c:\\proj\\src,/home/*/src";
     let table = [
         (
-            "c:\\proj\\src\\a.py -1 1 1;c:\\proj\\src\\a.py 1 2 1|/home/u/src/a.py -1 1 1;/home/u/src/a.py 1 3 1|src/a.py -1 1 1",
-            "src/a.py;src/a.py -1 1 3;src/a.py 1 2 1;src/a.py 1 3 1;",
+            "c:\\proj\\src\\a.py . -1 1 1;c:\\proj\\src\\a.py . 1 2 1|/home/u/src/a.py . -1 1 1;/home/u/src/a.py . 1 3 1|src/a.py . -1 1 1",
+            "src/a.py . -1 1 3;src/a.py . 1 2 1;src/a.py . 1 3 1;",
         ),
         (
-            "src/a.py -1 1 1|/home/u/src/a.py -1 1 1;/home/u/src/a.py 1 3 1|c:\\proj\\src\\a.py 1 2 1|/home/u/src/a.py 1 3 1",
-            "src/a.py;src/a.py -1 1 2;src/a.py 1 2 1;src/a.py 1 3 2;",
+            "src/a.py . -1 1 1|/home/u/src/a.py . -1 1 1;/home/u/src/a.py . 1 3 1|c:\\proj\\src\\a.py . 1 2 1|/home/u/src/a.py . 1 3 1",
+            "src/a.py . -1 1 2;src/a.py . 1 2 1;src/a.py . 1 3 2;",
         ),
         ("/home/u/src/b.py", "src/b.py;"),
     ];
@@ -133,15 +100,11 @@ fn combinations(rt: HostRuntime) -> Result<(), Fail> {
     Ok(())
 }
 
-fn is_refused(alloc: Global) -> Result<bool, Fail> {
-    let mut inputs = Vec::new(alloc);
-    inputs.push(data_of(alloc, false, "a.py 1 1 1")?)?;
-    inputs.push(data_of(alloc, true, "a.py 1 2 1")?)?;
+fn is_refused(alloc: Global) -> Result<bool, AllocError> {
     let rules = rules_of(alloc, "")?;
-    if inputs.is_empty() {
-        return Ok(false);
-    }
-    let answer = combine(alloc, inputs.as_slice(), &rules);
+    let lines = data_of(alloc, false, "a.py . 1 1 1")?;
+    let arcs = data_of(alloc, true, "a.py . 1 2 1")?;
+    let answer = combine(alloc, &[lines, arcs], &rules);
     Ok(matches!(
         answer,
         Err(CombineError::Mixed {
@@ -159,43 +122,50 @@ fn arcs_and_lines_are_not_combined(rt: HostRuntime) -> Result<(), Fail> {
 }
 
 /// Arc data of 1,000 paths with 100 rows each, which come path by path in turn.
-fn large(alloc: Global, run: i32) -> Result<Data, Fail> {
+fn large(alloc: Global, run: i32) -> Result<Data, AllocError> {
     let mut data = Data::new(alloc, true);
     for line in 1..101 {
         for file in 0..1_000 {
-            let row = Row {
-                path: format!(in alloc; "/home/run{}/src/file{}.py", run, file)?,
-                context: String::new(alloc),
-                from: line,
-                to: run,
-                count: 1,
-            };
-            if data.accepts(&row) {
-                data.add(row)?;
-            }
+            add(alloc, &mut data, run, line, file)?;
         }
     }
     Ok(data)
 }
 
+/// Adds the row of one line and one file.
+fn add(alloc: Global, data: &mut Data, run: i32, line: i32, file: i32) -> Result<(), AllocError> {
+    let path = format!(in alloc; "/home/run{run}/src/file{file}.py")?;
+    let row = Row {
+        path,
+        context: String::new(alloc),
+        from: line,
+        to: run,
+        count: 1,
+    };
+    if data.accepts(&row) {
+        return data.add(row);
+    }
+    Ok(())
+}
+
 /// The number of paths, of rows and of executions of two large runs of the same files as one.
-fn large_combined(alloc: Global) -> Result<(usize, usize, u64), Fail> {
-    let mut inputs = Vec::new(alloc);
-    inputs.push(large(alloc, 1)?)?;
-    inputs.push(large(alloc, 2)?)?;
-    inputs.push(large(alloc, 2)?)?;
+fn large_combined(alloc: Global) -> Result<(usize, usize, u64), AllocError> {
     let rules = rules_of(alloc, "source=src,/home/*/src")?;
-    if inputs.is_empty() {
-        return Ok((0, 0, 0));
+    let inputs = [large(alloc, 1)?, large(alloc, 2)?, large(alloc, 2)?];
+    match combine(alloc, &inputs, &rules) {
+        Ok(data) => sizes(&data),
+        Err(_) => Ok((0, 0, 0)),
     }
-    let data = combine(alloc, inputs.as_slice(), &rules)
-        .ok()
-        .ok_or("one kind")?;
+}
+
+fn sizes(data: &Data) -> Result<(usize, usize, u64), AllocError> {
+    let paths = data.paths()?;
+    let rows = data.rows()?;
     let mut executions = 0u64;
-    for row in &data.rows()? {
-        executions = executions.saturating_add(row.count as u64);
+    for row in &rows {
+        executions = executions.saturating_add(u64::from(row.count));
     }
-    Ok((data.paths()?.len(), data.rows()?.len(), executions))
+    Ok((paths.len(), rows.len(), executions))
 }
 
 #[test]

@@ -1,70 +1,14 @@
-use cov_data::{Data, DataError, Row, has_line, lines_of_numbits, numbits_of};
-use std::alloc::Global;
+use crate::sets::{data_of, shown};
+use cov_data::{DataError, has_line, lines_of_numbits, numbits_of};
+use std::alloc::{AllocError, Global};
 use std::test::Fail;
 
-/// Reads rows as `path context from to count` and paths without a row as `path`, each with `;` behind
-/// it. A context `.` is the empty one. Rows that are out of range are left out.
-fn data_of(alloc: Global, arcs: bool, text: &str) -> Result<Data, Fail> {
-    let mut data = Data::new(alloc, arcs);
-    for entry in text.split(';') {
-        add_entry(alloc, &mut data, entry)?;
-    }
-    Ok(data)
-}
-
-fn add_entry(alloc: Global, data: &mut Data, entry: &str) -> Result<(), Fail> {
-    let mut words = entry.split(' ');
-    let path = words.next().ok_or("a path")?;
-    let Some(context) = words.next() else {
-        if !path.is_empty() {
-            data.add_path(path)?;
-        }
-        return Ok(());
-    };
-    let row = Row {
-        path: String::from_str(alloc, path)?,
-        context: String::from_str(alloc, if context == "." { "" } else { context })?,
-        from: words.next().ok_or("from")?.parse::<i32>()?,
-        to: words.next().ok_or("to")?.parse::<i32>()?,
-        count: words.next().ok_or("count")?.parse::<u32>()?,
-    };
-    if data.accepts(&row) {
-        data.add(row)?;
-    }
-    Ok(())
-}
-
-fn shown(alloc: Global, data: &Data) -> Result<String, Fail> {
-    let mut text = String::new(alloc);
-    for path in &data.paths()? {
-        if data.path_rows(path.as_str())?.is_empty() {
-            text.push_str(path.as_str())?;
-            text.push(';')?;
-        }
-    }
-    for row in &data.rows()? {
-        push_row(alloc, &mut text, row)?;
-    }
-    Ok(text)
-}
-
-fn push_row(alloc: Global, text: &mut String, row: &Row) -> Result<(), Fail> {
-    let path = row.path.as_str();
-    let context = row.context.as_str();
-    let numbers = format!(in alloc; "{} {} {};", row.from, row.to, row.count)?;
-    text.push_str(path)?;
-    text.push(' ')?;
-    text.push_str(if context.is_empty() { "." } else { context })?;
-    text.push(' ')?;
-    text.push_str(numbers.as_str())?;
-    Ok(())
-}
-
-fn united(alloc: Global, mine: &str, other: &str) -> Result<String, Fail> {
+fn united(alloc: Global, mine: &str, other: &str) -> Result<String, AllocError> {
     let mut all = data_of(alloc, true, mine)?;
-    all.union(&data_of(alloc, true, other)?)
-        .ok()
-        .ok_or("one kind")?;
+    let other = data_of(alloc, true, other)?;
+    if all.union(&other).is_err() {
+        return String::from_str(alloc, "refused");
+    }
     shown(alloc, &all)
 }
 
@@ -90,12 +34,11 @@ fn rows_add_up_in_order(rt: HostRuntime) -> Result<(), Fail> {
     Ok(())
 }
 
-fn lists(alloc: Global, arcs: bool, given: &str) -> Result<String, Fail> {
+fn lists(alloc: Global, arcs: bool, given: &str) -> Result<String, AllocError> {
     let data = data_of(alloc, arcs, given)?;
     let lines = data.lines("a")?;
     let pairs = data.arcs("a")?;
-    let text = format!(in alloc; "{:?} {:?}", lines.as_slice(), pairs.as_slice())?;
-    Ok(text)
+    format!(in alloc; "{:?} {:?}", lines.as_slice(), pairs.as_slice())
 }
 
 #[test]
@@ -117,9 +60,10 @@ fn lists_of_a_path(rt: HostRuntime) -> Result<(), Fail> {
 }
 
 /// What `mine` holds after line data were refused, with one path of other arc data added.
-fn refused(alloc: Global, mine: &str, other: &str) -> Result<String, Fail> {
+fn refused(alloc: Global, mine: &str, other: &str) -> Result<String, AllocError> {
     let mut arcs = data_of(alloc, true, mine)?;
-    let refusal = arcs.union(&data_of(alloc, false, other)?);
+    let other = data_of(alloc, false, other)?;
+    let refusal = arcs.union(&other);
     if refusal
         != Err(DataError::Mixed {
             mine: true,

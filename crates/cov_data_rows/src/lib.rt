@@ -8,3 +8,5 @@ mod combining;
 mod data;
 #[cfg(test)]
 mod outside;
+#[cfg(test)]
+mod sets;

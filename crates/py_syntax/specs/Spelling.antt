@@ -4,8 +4,9 @@
 --     KeepsLines, KindLines                     the lines that a tree keeps; SuiteLines and the like for what stands in it
 --     module_tokens, IsNormal, Spells           the tokens of a module, a normal one, and the tree that a list spells
 --     HEIGHT, NESTING                           the limits
---     IsViable, IsViableWithin, StopsAt         the prefixes that begin a tree, and where a list stops
-use Rattle.std.specs.Prelude.{◌≡◌, ℕ, ◌+◌, ◌≤◌, ◌<◌, true, false, List, [], ◌∷◌, ◌++◌, length, take, drop}
+--     HasTokens, IsWithin                       the tokens of a tree with its headers marked, and the limits of one
+--     IsViable, IsViableWithin                  the prefixes that begin a tree
+use Rattle.std.specs.Prelude.{◌≡◌, ℕ, ◌+◌, ◌≤◌, true, false, List, [], ◌∷◌, ◌++◌, length, take, drop}
 use Rattle.py_token.specs.declared.token.Keyword.{Keyword}
 use Rattle.py_token.specs.declared.token.Keyword.TheVariants as word
 use Rattle.py_token.specs.declared.token.Mark.TheVariants as mark
