@@ -190,7 +190,7 @@ module _ (g : Goal) (asked : IsAsked g) where
   passed front e more n h = some_more (start g) front more e (ap (run (start g)) (sym (ended_list e front more h)) ∙ reads_all g e asked n)
 
   begins_to : (front : List Kind) → BeginsExpr g front → (s : State) × (steps (start g) front ≡ Some s)
-  begins_to front b = let x = passed front b.0 b.1 b.2 b.3 in (x.0, x.1)
+  begins_to front b = let x = passed front b.0 b.1 b.2.0 b.2.1 in (x.0, x.1)
 
   within_to : (limit : ℕ) (front : List Kind) → BeginsWithin g limit front → (s : State) × (steps (start g) front ≡ Some s) × (least s ≤ limit)
   within_to limit front b = let x = passed front b.0 b.1 b.2.0 b.2.1 in let low = x.2 in let high = b.3 in (x.0, x.1, omega arith)
@@ -214,8 +214,8 @@ module _ (g : Goal) (asked : IsAsked g) where
   -- behind a tree the end leaves it
   tree_left : (front : List Kind) (s : State) → steps (start g) front ≡ Some s → IsTree g front → left (step s (role End)) ≡ true
   tree_left front s h tree =
-      let all = ended_list tree.0 front [] (tree.2 ∙ sym (append-nil front)) in
-      let runs = sym (run_steps (start g) s front (End ∷ []) h) ∙ ap (run (start g)) (sym all) ∙ reads_all g tree.0 asked tree.1 in
+      let all = ended_list tree.0 front [] (tree.1.1 ∙ sym (append-nil front)) in
+      let runs = sym (run_steps (start g) s front (End ∷ []) h) ∙ ap (run (start g)) (sym all) ∙ reads_all g tree.0 asked tree.1.0 in
       go (step s (role End)) runs
     where
       go : (o : Out) → outcome o End [] ≡ Leaves tree.0 (End ∷ []) → left o ≡ true

@@ -115,12 +115,12 @@ pub viable_within : (n : ℕ) (ts : List PToken) (s : State) → reached n ts �
 viable_within n ts s h low shallow =
     let v = within_from 200 (take n (with_lines ts)) s h (omega arith) in
     let is = v.2 in let small = v.3 in
-    (v.0, marks v.1, (normal v.0 is.0 is.1, split_marks v.0 n ts v.1 is.2), omega arith, omega arith)
+    (v.0, marks v.1, (normal v.0 is.0 is.1, split_marks v.0 n ts v.1 is.2), (omega arith, omega arith))
 
 pub within_viable : (n : ℕ) (ts : List PToken) → IsViableWithin (front n ts) → (s : State) × (reached n ts ≡ Some s) × (least_height s ≤ HEIGHT) × (least_nesting s ≤ NESTING)
 within_viable n ts v =
     let t = relined_tree n ts v.0 v.1 v.2.0 v.2.1 in
-    let low = v.3 in let shallow = v.4 in let as_high = t.3 in let as_deep = t.4 in
+    let low = v.3.0 in let shallow = v.3.1 in let as_high = t.3 in let as_deep = t.4 in
     let s = within_to 200 (take n (with_lines ts)) (t.0, t.1, t.2, omega arith) in
     let small = s.2 in
     (s.0, s.1, omega arith, omega arith)
@@ -130,11 +130,11 @@ pub viable_from : (n : ℕ) (ts : List PToken) (s : State) → reached n ts ≡ 
 viable_from n ts s h =
     let v = begins_from (take n (with_lines ts)) s h in
     let is = v.2 in
-    (v.0, marks v.1, normal v.0 is.0 is.1, split_marks v.0 n ts v.1 is.2)
+    (v.0, marks v.1, (normal v.0 is.0 is.1, split_marks v.0 n ts v.1 is.2))
 
 pub viable_to : (n : ℕ) (ts : List PToken) → IsViable (front n ts) → (s : State) × (reached n ts ≡ Some s)
 viable_to n ts v =
-    let t = relined_tree n ts v.0 v.1 v.2 v.3 in
+    let t = relined_tree n ts v.0 v.1 v.2.0 v.2.1 in
     begins_to (take n (with_lines ts)) (t.0, t.1, t.2)
 
 -- ---- suites alone

@@ -165,7 +165,7 @@ passed : (front : List Kind) (p : Pattern) (more : List Kind) → NormalPattern 
 passed front p more n h = some_more start front more p (ap (run start) (sym (ended_list p front more h)) ∙ reads_all p End [] n refl)
 
 pub begins_to : (front : List Kind) → BeginsPattern front → (s : State) × (steps start front ≡ Some s)
-begins_to front b = let x = passed front b.0 b.1 b.2 b.3 in (x.0, x.1)
+begins_to front b = let x = passed front b.0 b.1 b.2.0 b.2.1 in (x.0, x.1)
 
 pub within_to : (limit : ℕ) (front : List Kind) → BeginsWithin limit front → (s : State) × (steps start front ≡ Some s) × (least s ≤ limit)
 within_to limit front b = let x = passed front b.0 b.1 b.2.0 b.2.1 in let low = x.2 in let high = b.3 in (x.0, x.1, omega arith)

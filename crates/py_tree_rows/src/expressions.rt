@@ -206,7 +206,7 @@ fn shown(alloc: Global, source: &str, part: ExprPart) -> Result<String, Fail> {
         Ok(read) => {
             show(&mut out, &read.expr);
             out.put(" @");
-            out.number(read.next as i64);
+            out.count(read.next);
         }
         Err(error) => out.made(format!(in alloc; "{error:?}")),
     }

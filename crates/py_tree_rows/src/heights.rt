@@ -12,7 +12,7 @@ fn outcome(alloc: Global, tokens: &[Token], part: ExprPart) -> Result<String, Fa
     match read_expr(alloc, tokens, 0, part) {
         Ok(read) => {
             out.put("@");
-            out.number(read.next as i64);
+            out.count(read.next);
         }
         Err(error) => out.made(format!(in alloc; "{error:?}")),
     }

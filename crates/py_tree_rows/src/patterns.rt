@@ -98,7 +98,7 @@ fn shown(alloc: Global, source: &str) -> Result<String, Fail> {
         Ok(read) => {
             show(&mut out, &read.pattern);
             out.put(" @");
-            out.number(read.next as i64);
+            out.count(read.next);
         }
         Err(error) => out.made(format!(in alloc; "{error:?}")),
     }
@@ -183,7 +183,7 @@ fn nested(alloc: Global, count: usize, middle: &str) -> Result<String, Fail> {
     match read_patterns(alloc, &tokens, 0) {
         Ok(read) => {
             out.put("@");
-            out.number(read.next as i64);
+            out.count(read.next);
         }
         Err(error) => out.made(format!(in alloc; "{error:?}")),
     }

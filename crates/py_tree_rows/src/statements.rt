@@ -99,7 +99,7 @@ fn show(out: &mut Writer, kind: &StmtKind) {
         StmtKind::Expr(_) => out.put("expr"),
         StmtKind::Assign { targets, value: _ } => {
             out.put("assign");
-            out.number(targets.len() as i64);
+            out.count(targets.len());
         }
         StmtKind::AugAssign { op, .. } => {
             out.put("aug");
@@ -113,7 +113,7 @@ fn show(out: &mut Writer, kind: &StmtKind) {
         StmtKind::Assert(_, why) => { out.put(if why.is_some() { "assert2" } else { "assert" }) }
         StmtKind::Global(names) => {
             out.put("global");
-            out.number(names.len() as i64);
+            out.count(names.len());
         }
         StmtKind::Import(names) => {
             out.put("import");
@@ -166,9 +166,9 @@ fn show(out: &mut Writer, kind: &StmtKind) {
             out.put("def ");
             out.put(name.as_str());
             out.put(" ");
-            out.number(params.len() as i64);
+            out.count(params.len());
             out.put("/");
-            out.number(defaults.len() as i64);
+            out.count(defaults.len());
             out.put(if *comma { "," } else { "" });
             show_suite(out, body);
         }

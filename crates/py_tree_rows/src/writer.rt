@@ -52,6 +52,11 @@ impl Writer {
         self.made(text)
     }
 
+    pub fn count(&mut self, count: usize) {
+        let text = format!(in self.alloc; "{count}");
+        self.made(text)
+    }
+
     pub fn number(&mut self, number: i64) {
         let text = format!(in self.alloc; "{number}");
         self.made(text)
