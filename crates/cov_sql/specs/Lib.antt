@@ -1,0 +1,4 @@
+pub mod Tables
+pub mod Cells
+pub mod Told
+pub mod Shown

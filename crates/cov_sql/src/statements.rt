@@ -1,0 +1,128 @@
+//! The statements on a data file.
+ghost use Rattle.std.specs.Prelude.{◌≡◌, ℕ, ◌≤◌, false, IsErrOf};
+ghost use Rattle.cov_outside.specs.Counts.{Rose};
+ghost use Rattle.sqlite.specs.Held.{state};
+ghost use Rattle.cov_sql.specs.Tables.{coverage_schema, meta, file, context, line_bits, arc, tracer, hits};
+ghost use Rattle.cov_sql.specs.Told.{Reads, LeavesAll};
+
+use crate::values::Cell;
+use sqlite::{Alter, Connection};
+use std::alloc::Global;
+use thiserror::Error;
+
+/// Why a statement gave nothing.
+#[derive(Clone, Copy, Debug, PartialEq, Eq, Error)]
+pub enum StatementError {
+    #[error("a table or a column is missing")]
+    Missing,
+    #[error("the database refused a statement")]
+    Refused,
+    #[error("no memory")]
+    NoMemory,
+}
+
+/// Statements on the tables of a data file. Each reading one gives the rows of its table, each as the
+/// list of its cells in the order of the table's columns.
+pub trait Statements {
+    // How often a statement was refused.
+    ghost refusals: { Self → ℕ };
+
+    // Whether the statements tell the tables.
+    ghost tells: { Self → Type 0 };
+
+    fn read_coverage_schema<S: Alter>(
+        &mut self,
+        alloc: Global,
+        base: &mut Connection<S>,
+    ) -> Result<Vec<Vec<Cell>>, StatementError>
+        ensures told { tells self.old → Reads coverage_schema (state S.Store base.old) (state S.Store base.new) result }
+        ensures survives { tells self.old → LeavesAll coverage_schema (state S.Store base.old) (state S.Store base.new) }
+        ensures mode { base.old.in_transaction ≡ false → base.new.in_transaction ≡ false }
+        ensures tells { tells self.old → tells self.new }
+        ensures count { refusals self.old ≤ refusals self.new }
+        ensures refused { IsErrOf result StatementError.Refused → Rose (refusals self.old) (refusals self.new) };
+
+    fn read_meta<S: Alter>(
+        &mut self,
+        alloc: Global,
+        base: &mut Connection<S>,
+    ) -> Result<Vec<Vec<Cell>>, StatementError>
+        ensures told { tells self.old → Reads meta (state S.Store base.old) (state S.Store base.new) result }
+        ensures survives { tells self.old → LeavesAll meta (state S.Store base.old) (state S.Store base.new) }
+        ensures mode { base.old.in_transaction ≡ false → base.new.in_transaction ≡ false }
+        ensures tells { tells self.old → tells self.new }
+        ensures count { refusals self.old ≤ refusals self.new }
+        ensures refused { IsErrOf result StatementError.Refused → Rose (refusals self.old) (refusals self.new) };
+
+    fn read_file<S: Alter>(
+        &mut self,
+        alloc: Global,
+        base: &mut Connection<S>,
+    ) -> Result<Vec<Vec<Cell>>, StatementError>
+        ensures told { tells self.old → Reads file (state S.Store base.old) (state S.Store base.new) result }
+        ensures survives { tells self.old → LeavesAll file (state S.Store base.old) (state S.Store base.new) }
+        ensures mode { base.old.in_transaction ≡ false → base.new.in_transaction ≡ false }
+        ensures tells { tells self.old → tells self.new }
+        ensures count { refusals self.old ≤ refusals self.new }
+        ensures refused { IsErrOf result StatementError.Refused → Rose (refusals self.old) (refusals self.new) };
+
+    fn read_context<S: Alter>(
+        &mut self,
+        alloc: Global,
+        base: &mut Connection<S>,
+    ) -> Result<Vec<Vec<Cell>>, StatementError>
+        ensures told { tells self.old → Reads context (state S.Store base.old) (state S.Store base.new) result }
+        ensures survives { tells self.old → LeavesAll context (state S.Store base.old) (state S.Store base.new) }
+        ensures mode { base.old.in_transaction ≡ false → base.new.in_transaction ≡ false }
+        ensures tells { tells self.old → tells self.new }
+        ensures count { refusals self.old ≤ refusals self.new }
+        ensures refused { IsErrOf result StatementError.Refused → Rose (refusals self.old) (refusals self.new) };
+
+    fn read_line_bits<S: Alter>(
+        &mut self,
+        alloc: Global,
+        base: &mut Connection<S>,
+    ) -> Result<Vec<Vec<Cell>>, StatementError>
+        ensures told { tells self.old → Reads line_bits (state S.Store base.old) (state S.Store base.new) result }
+        ensures survives { tells self.old → LeavesAll line_bits (state S.Store base.old) (state S.Store base.new) }
+        ensures mode { base.old.in_transaction ≡ false → base.new.in_transaction ≡ false }
+        ensures tells { tells self.old → tells self.new }
+        ensures count { refusals self.old ≤ refusals self.new }
+        ensures refused { IsErrOf result StatementError.Refused → Rose (refusals self.old) (refusals self.new) };
+
+    fn read_arc<S: Alter>(
+        &mut self,
+        alloc: Global,
+        base: &mut Connection<S>,
+    ) -> Result<Vec<Vec<Cell>>, StatementError>
+        ensures told { tells self.old → Reads arc (state S.Store base.old) (state S.Store base.new) result }
+        ensures survives { tells self.old → LeavesAll arc (state S.Store base.old) (state S.Store base.new) }
+        ensures mode { base.old.in_transaction ≡ false → base.new.in_transaction ≡ false }
+        ensures tells { tells self.old → tells self.new }
+        ensures count { refusals self.old ≤ refusals self.new }
+        ensures refused { IsErrOf result StatementError.Refused → Rose (refusals self.old) (refusals self.new) };
+
+    fn read_tracer<S: Alter>(
+        &mut self,
+        alloc: Global,
+        base: &mut Connection<S>,
+    ) -> Result<Vec<Vec<Cell>>, StatementError>
+        ensures told { tells self.old → Reads tracer (state S.Store base.old) (state S.Store base.new) result }
+        ensures survives { tells self.old → LeavesAll tracer (state S.Store base.old) (state S.Store base.new) }
+        ensures mode { base.old.in_transaction ≡ false → base.new.in_transaction ≡ false }
+        ensures tells { tells self.old → tells self.new }
+        ensures count { refusals self.old ≤ refusals self.new }
+        ensures refused { IsErrOf result StatementError.Refused → Rose (refusals self.old) (refusals self.new) };
+
+    fn read_hits<S: Alter>(
+        &mut self,
+        alloc: Global,
+        base: &mut Connection<S>,
+    ) -> Result<Vec<Vec<Cell>>, StatementError>
+        ensures told { tells self.old → Reads hits (state S.Store base.old) (state S.Store base.new) result }
+        ensures survives { tells self.old → LeavesAll hits (state S.Store base.old) (state S.Store base.new) }
+        ensures mode { base.old.in_transaction ≡ false → base.new.in_transaction ≡ false }
+        ensures tells { tells self.old → tells self.new }
+        ensures count { refusals self.old ≤ refusals self.new }
+        ensures refused { IsErrOf result StatementError.Refused → Rose (refusals self.old) (refusals self.new) };
+}
