@@ -5,4 +5,7 @@ pub mod Found
 pub mod Reading
 pub mod Shows
 pub mod ReadTexts
+pub mod Deletes
+pub mod Empties
+pub mod DeleteTexts
 pub mod CellLemmas

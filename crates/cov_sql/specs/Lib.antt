@@ -2,3 +2,4 @@ pub mod Tables
 pub mod Cells
 pub mod Told
 pub mod Shown
+pub mod Written

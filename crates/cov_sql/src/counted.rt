@@ -1,17 +1,20 @@
 //! The statements over the database itself.
-ghost use Rattle.std.specs.Prelude.{◌≡◌, ◌≤◌, false, [], IfOk, IsErrOf};
+ghost use Rattle.std.specs.Prelude.{◌≡◌, ◌≤◌, false, [], IsTrue, IfOk, OnOk, IsErrOf};
 ghost use Rattle.cov_outside.specs.Counts.{Rose};
 ghost use Rattle.sqlite.specs.Held.{state};
 ghost use Rattle.sqlite.specs.State.{HasCleanDisk, Survives, CommitsShowing};
 ghost use Rattle.sqlite_resolve.specs.declared.error.CompileError.{CompileError};
 ghost use Rattle.sqlite.specs.declared.error.Error.TheVariants.{SqlInputError};
+ghost use Rattle.sqlite.specs.Values.{bound};
 ghost use Rattle.cov_sql.specs.Told.{IsAbsence};
+ghost use Rattle.cov_sql.specs.Written.{Ran};
 ghost use Rattle.cov_sql.specs.Shown.{ShowsCells, IsRefusedAsAbsent};
 
 use crate::statements::{StatementError, Statements};
 use crate::values::{Cell, lists_of};
-use sqlite::{Alter, Connection, Error, ErrorCode};
+use sqlite::{Alter, Connection, Error, ErrorCode, Transaction};
 use sqlite_resolve::CompileError;
+use sqlite_value::value::ValueRef;
 use std::alloc::Global;
 
 /// Statements over the database, which counts what it refuses.
@@ -64,6 +67,27 @@ impl Counted {
                 Ok(all) => Ok(all),
                 Err(_) => Err(StatementError::NoMemory),
             },
+            Err(error) => Err(self.count(error)),
+        }
+    }
+}
+
+impl Counted {
+    /// Runs a text in a transaction.
+    fn run<S: Alter>(
+        &mut self,
+        work: &mut Transaction<'_, S>,
+        sql: &str,
+        params: &[ValueRef<'_>],
+    ) -> Result<(), StatementError>
+        ensures ran { HasCleanDisk (state S.Store work.new.conn.now) → IsTrue (state S.Store work.old.conn.now).in_transaction → OnOk result (Ran sql.now (bound params.now) (state S.Store work.old.conn.now) (state S.Store work.new.conn.now)) }
+        ensures survives { Survives (state S.Store work.old.conn.now) (state S.Store work.new.conn.now) (λ _. ⊥) }
+        ensures same_reference { work.new.conn.ghost_name ≡ work.old.conn.ghost_name }
+        ensures count { self.old.refusals ≤ self.new.refusals }
+        ensures refused { IsErrOf result StatementError.Refused → Rose self.old.refusals self.new.refusals }
+    {
+        match work.execute(sql, params) {
+            Ok(_) => Ok(()),
             Err(error) => Err(self.count(error)),
         }
     }
@@ -148,5 +172,71 @@ impl Statements for Counted {
             base,
             "SELECT file_id, context_id, fromno, tono, count FROM hits",
         )
+    }
+
+    fn may_begin(&mut self) -> Result<(), StatementError> {
+        Ok(())
+    }
+
+    fn delete_meta<S: Alter>(
+        &mut self,
+        work: &mut Transaction<'_, S>,
+    ) -> Result<(), StatementError> {
+        self.run(work, "DELETE FROM meta", &[])
+    }
+
+    fn delete_file<S: Alter>(
+        &mut self,
+        work: &mut Transaction<'_, S>,
+    ) -> Result<(), StatementError> {
+        self.run(work, "DELETE FROM file", &[])
+    }
+
+    fn delete_context<S: Alter>(
+        &mut self,
+        work: &mut Transaction<'_, S>,
+    ) -> Result<(), StatementError> {
+        self.run(work, "DELETE FROM context", &[])
+    }
+
+    fn delete_line_bits<S: Alter>(
+        &mut self,
+        work: &mut Transaction<'_, S>,
+    ) -> Result<(), StatementError> {
+        self.run(work, "DELETE FROM line_bits", &[])
+    }
+
+    fn delete_arc<S: Alter>(
+        &mut self,
+        work: &mut Transaction<'_, S>,
+    ) -> Result<(), StatementError> {
+        self.run(work, "DELETE FROM arc", &[])
+    }
+
+    fn delete_tracer<S: Alter>(
+        &mut self,
+        work: &mut Transaction<'_, S>,
+    ) -> Result<(), StatementError> {
+        self.run(work, "DELETE FROM tracer", &[])
+    }
+
+    fn delete_hits<S: Alter>(
+        &mut self,
+        work: &mut Transaction<'_, S>,
+    ) -> Result<(), StatementError> {
+        self.run(work, "DELETE FROM hits", &[])
+    }
+
+    fn commit<S: Alter>(&mut self, work: Transaction<'_, S>) -> Result<(), StatementError>
+        ensures told { HasCleanDisk (state S.Store work.exit.0.now) → OnOk result ((state S.Store work.exit.0.now).committed ≡ (state S.Store work.entry.conn.now).now) }
+        ensures ended { work.exit.0.now.in_transaction ≡ false }
+        ensures survives { Survives (state S.Store work.entry.conn.now) (state S.Store work.exit.0.now) (λ db. db ≡ (state S.Store work.entry.conn.now).now.trees) }
+        ensures count { self.old.refusals ≤ self.new.refusals }
+        ensures refused { IsErrOf result StatementError.Refused → Rose self.old.refusals self.new.refusals }
+    {
+        match work.commit() {
+            Ok(()) => Ok(()),
+            Err(error) => Err(self.count(error)),
+        }
     }
 }

@@ -1,12 +1,14 @@
 //! The statements on a data file.
-ghost use Rattle.std.specs.Prelude.{◌≡◌, ℕ, ◌≤◌, false, IsErrOf};
+ghost use Rattle.std.specs.Prelude.{◌≡◌, ℕ, ◌≤◌, false, OnOk, IsErrOf};
 ghost use Rattle.cov_outside.specs.Counts.{Rose};
 ghost use Rattle.sqlite.specs.Held.{state};
 ghost use Rattle.cov_sql.specs.Tables.{coverage_schema, meta, file, context, line_bits, arc, tracer, hits};
+ghost use Rattle.sqlite.specs.State.{HasCleanDisk, Survives};
 ghost use Rattle.cov_sql.specs.Told.{Reads, LeavesAll};
+ghost use Rattle.cov_sql.specs.Written.{Deletes, GoesOn};
 
 use crate::values::Cell;
-use sqlite::{Alter, Connection};
+use sqlite::{Alter, Connection, Transaction};
 use std::alloc::Global;
 use thiserror::Error;
 
@@ -123,6 +125,92 @@ pub trait Statements {
         ensures survives { tells self.old → LeavesAll hits (state S.Store base.old) (state S.Store base.new) }
         ensures mode { base.old.in_transaction ≡ false → base.new.in_transaction ≡ false }
         ensures tells { tells self.old → tells self.new }
+        ensures count { refusals self.old ≤ refusals self.new }
+        ensures refused { IsErrOf result StatementError.Refused → Rose (refusals self.old) (refusals self.new) };
+
+    /// A statement in a test may refuse here, before a transaction begins.
+    fn may_begin(&mut self) -> Result<(), StatementError>
+        ensures tells { tells self.old → tells self.new }
+        ensures count { refusals self.old ≤ refusals self.new }
+        ensures refused { IsErrOf result StatementError.Refused → Rose (refusals self.old) (refusals self.new) };
+
+    fn delete_meta<S: Alter>(&mut self, work: &mut Transaction<'_, S>) -> Result<(), StatementError>
+        ensures told { tells self.old → Deletes meta (state S.Store work.old.conn.now) (state S.Store work.new.conn.now) result }
+        ensures goes_on { tells self.old → GoesOn (state S.Store work.old.conn.now) (state S.Store work.new.conn.now) result }
+        ensures survives { tells self.old → Survives (state S.Store work.old.conn.now) (state S.Store work.new.conn.now) (λ _. ⊥) }
+        ensures same_reference { work.new.conn.ghost_name ≡ work.old.conn.ghost_name }
+        ensures tells { tells self.old → tells self.new }
+        ensures count { refusals self.old ≤ refusals self.new }
+        ensures refused { IsErrOf result StatementError.Refused → Rose (refusals self.old) (refusals self.new) };
+
+    fn delete_file<S: Alter>(&mut self, work: &mut Transaction<'_, S>) -> Result<(), StatementError>
+        ensures told { tells self.old → Deletes file (state S.Store work.old.conn.now) (state S.Store work.new.conn.now) result }
+        ensures goes_on { tells self.old → GoesOn (state S.Store work.old.conn.now) (state S.Store work.new.conn.now) result }
+        ensures survives { tells self.old → Survives (state S.Store work.old.conn.now) (state S.Store work.new.conn.now) (λ _. ⊥) }
+        ensures same_reference { work.new.conn.ghost_name ≡ work.old.conn.ghost_name }
+        ensures tells { tells self.old → tells self.new }
+        ensures count { refusals self.old ≤ refusals self.new }
+        ensures refused { IsErrOf result StatementError.Refused → Rose (refusals self.old) (refusals self.new) };
+
+    fn delete_context<S: Alter>(
+        &mut self,
+        work: &mut Transaction<'_, S>,
+    ) -> Result<(), StatementError>
+        ensures told { tells self.old → Deletes context (state S.Store work.old.conn.now) (state S.Store work.new.conn.now) result }
+        ensures goes_on { tells self.old → GoesOn (state S.Store work.old.conn.now) (state S.Store work.new.conn.now) result }
+        ensures survives { tells self.old → Survives (state S.Store work.old.conn.now) (state S.Store work.new.conn.now) (λ _. ⊥) }
+        ensures same_reference { work.new.conn.ghost_name ≡ work.old.conn.ghost_name }
+        ensures tells { tells self.old → tells self.new }
+        ensures count { refusals self.old ≤ refusals self.new }
+        ensures refused { IsErrOf result StatementError.Refused → Rose (refusals self.old) (refusals self.new) };
+
+    fn delete_line_bits<S: Alter>(
+        &mut self,
+        work: &mut Transaction<'_, S>,
+    ) -> Result<(), StatementError>
+        ensures told { tells self.old → Deletes line_bits (state S.Store work.old.conn.now) (state S.Store work.new.conn.now) result }
+        ensures goes_on { tells self.old → GoesOn (state S.Store work.old.conn.now) (state S.Store work.new.conn.now) result }
+        ensures survives { tells self.old → Survives (state S.Store work.old.conn.now) (state S.Store work.new.conn.now) (λ _. ⊥) }
+        ensures same_reference { work.new.conn.ghost_name ≡ work.old.conn.ghost_name }
+        ensures tells { tells self.old → tells self.new }
+        ensures count { refusals self.old ≤ refusals self.new }
+        ensures refused { IsErrOf result StatementError.Refused → Rose (refusals self.old) (refusals self.new) };
+
+    fn delete_arc<S: Alter>(&mut self, work: &mut Transaction<'_, S>) -> Result<(), StatementError>
+        ensures told { tells self.old → Deletes arc (state S.Store work.old.conn.now) (state S.Store work.new.conn.now) result }
+        ensures goes_on { tells self.old → GoesOn (state S.Store work.old.conn.now) (state S.Store work.new.conn.now) result }
+        ensures survives { tells self.old → Survives (state S.Store work.old.conn.now) (state S.Store work.new.conn.now) (λ _. ⊥) }
+        ensures same_reference { work.new.conn.ghost_name ≡ work.old.conn.ghost_name }
+        ensures tells { tells self.old → tells self.new }
+        ensures count { refusals self.old ≤ refusals self.new }
+        ensures refused { IsErrOf result StatementError.Refused → Rose (refusals self.old) (refusals self.new) };
+
+    fn delete_tracer<S: Alter>(
+        &mut self,
+        work: &mut Transaction<'_, S>,
+    ) -> Result<(), StatementError>
+        ensures told { tells self.old → Deletes tracer (state S.Store work.old.conn.now) (state S.Store work.new.conn.now) result }
+        ensures goes_on { tells self.old → GoesOn (state S.Store work.old.conn.now) (state S.Store work.new.conn.now) result }
+        ensures survives { tells self.old → Survives (state S.Store work.old.conn.now) (state S.Store work.new.conn.now) (λ _. ⊥) }
+        ensures same_reference { work.new.conn.ghost_name ≡ work.old.conn.ghost_name }
+        ensures tells { tells self.old → tells self.new }
+        ensures count { refusals self.old ≤ refusals self.new }
+        ensures refused { IsErrOf result StatementError.Refused → Rose (refusals self.old) (refusals self.new) };
+
+    fn delete_hits<S: Alter>(&mut self, work: &mut Transaction<'_, S>) -> Result<(), StatementError>
+        ensures told { tells self.old → Deletes hits (state S.Store work.old.conn.now) (state S.Store work.new.conn.now) result }
+        ensures goes_on { tells self.old → GoesOn (state S.Store work.old.conn.now) (state S.Store work.new.conn.now) result }
+        ensures survives { tells self.old → Survives (state S.Store work.old.conn.now) (state S.Store work.new.conn.now) (λ _. ⊥) }
+        ensures same_reference { work.new.conn.ghost_name ≡ work.old.conn.ghost_name }
+        ensures tells { tells self.old → tells self.new }
+        ensures count { refusals self.old ≤ refusals self.new }
+        ensures refused { IsErrOf result StatementError.Refused → Rose (refusals self.old) (refusals self.new) };
+
+    /// Ends the transaction, whose tables become those of the base.
+    fn commit<S: Alter>(&mut self, work: Transaction<'_, S>) -> Result<(), StatementError>
+        ensures told { HasCleanDisk (state S.Store work.exit.0.now) → OnOk result ((state S.Store work.exit.0.now).committed ≡ (state S.Store work.entry.conn.now).now) }
+        ensures ended { work.exit.0.now.in_transaction ≡ false }
+        ensures survives { Survives (state S.Store work.entry.conn.now) (state S.Store work.exit.0.now) (λ db. db ≡ (state S.Store work.entry.conn.now).now.trees) }
         ensures count { refusals self.old ≤ refusals self.new }
         ensures refused { IsErrOf result StatementError.Refused → Rose (refusals self.old) (refusals self.new) };
 }
