@@ -8,4 +8,7 @@ pub mod ReadTexts
 pub mod Deletes
 pub mod Empties
 pub mod DeleteTexts
+pub mod Creates
+pub mod CreateTexts
+pub mod Inside
 pub mod CellLemmas

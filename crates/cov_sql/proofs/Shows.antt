@@ -112,7 +112,7 @@ refusal limit db p params e (inr (inl h)) = let one = h.0 in cc
 refusal limit db p params e (inr (inr h)) = let one = h.0 in cc
 
 -- a fault of the store is no fault of the text
-no_fault : {A : Type 0} (old new : State) (e : CompileError) → Fails old new ⊥ (SqlInputError e) → A
+pub no_fault : {A : Type 0} (old new : State) (e : CompileError) → Fails old new ⊥ (SqlInputError e) → A
 no_fault old new e (OutOfMemory, h, cause, undone, told) = absurd (let same = h in cc)
 no_fault old new e (Io, h, cause, undone, told) = absurd (let same = h in cc)
 no_fault old new e (Corrupt, h, cause, undone, told) = absurd (let same = h in cc)

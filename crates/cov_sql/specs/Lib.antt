@@ -1,4 +1,5 @@
 pub mod Tables
+pub mod Declarations
 pub mod Cells
 pub mod Told
 pub mod Shown

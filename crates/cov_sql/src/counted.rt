@@ -7,7 +7,7 @@ ghost use Rattle.sqlite_resolve.specs.declared.error.CompileError.{CompileError}
 ghost use Rattle.sqlite.specs.declared.error.Error.TheVariants.{SqlInputError};
 ghost use Rattle.sqlite.specs.Values.{bound};
 ghost use Rattle.cov_sql.specs.Told.{IsAbsence};
-ghost use Rattle.cov_sql.specs.Written.{Ran};
+ghost use Rattle.cov_sql.specs.Written.{Ran, WasAbsent};
 ghost use Rattle.cov_sql.specs.Shown.{ShowsCells, IsRefusedAsAbsent};
 
 use crate::statements::{StatementError, Statements};
@@ -81,6 +81,7 @@ impl Counted {
         params: &[ValueRef<'_>],
     ) -> Result<(), StatementError>
         ensures ran { HasCleanDisk (state S.Store work.new.conn.now) → IsTrue (state S.Store work.old.conn.now).in_transaction → OnOk result (Ran sql.now (bound params.now) (state S.Store work.old.conn.now) (state S.Store work.new.conn.now)) }
+        ensures missing { HasCleanDisk (state S.Store work.new.conn.now) → IsTrue (state S.Store work.old.conn.now).in_transaction → IsErrOf result StatementError.Missing → WasAbsent sql.now (bound params.now) (state S.Store work.old.conn.now) (state S.Store work.new.conn.now) }
         ensures survives { Survives (state S.Store work.old.conn.now) (state S.Store work.new.conn.now) (λ _. ⊥) }
         ensures same_reference { work.new.conn.ghost_name ≡ work.old.conn.ghost_name }
         ensures count { self.old.refusals ≤ self.new.refusals }
@@ -176,6 +177,78 @@ impl Statements for Counted {
 
     fn may_begin(&mut self) -> Result<(), StatementError> {
         Ok(())
+    }
+
+    fn make_coverage_schema<S: Alter>(
+        &mut self,
+        work: &mut Transaction<'_, S>,
+    ) -> Result<(), StatementError> {
+        self.run(work, "CREATE TABLE coverage_schema (version integer)", &[])
+    }
+
+    fn make_meta<S: Alter>(&mut self, work: &mut Transaction<'_, S>) -> Result<(), StatementError> {
+        self.run(
+            work,
+            "CREATE TABLE meta (key text, value text, unique (key))",
+            &[],
+        )
+    }
+
+    fn make_file<S: Alter>(&mut self, work: &mut Transaction<'_, S>) -> Result<(), StatementError> {
+        self.run(
+            work,
+            "CREATE TABLE file (id integer primary key, path text, unique (path))",
+            &[],
+        )
+    }
+
+    fn make_context<S: Alter>(
+        &mut self,
+        work: &mut Transaction<'_, S>,
+    ) -> Result<(), StatementError> {
+        self.run(
+            work,
+            "CREATE TABLE context (id integer primary key, context text, unique (context))",
+            &[],
+        )
+    }
+
+    fn make_line_bits<S: Alter>(
+        &mut self,
+        work: &mut Transaction<'_, S>,
+    ) -> Result<(), StatementError> {
+        self.run(
+            work,
+            "CREATE TABLE line_bits (file_id integer, context_id integer, numbits blob, foreign key (file_id) references file (id), foreign key (context_id) references context (id), unique (file_id, context_id))",
+            &[],
+        )
+    }
+
+    fn make_arc<S: Alter>(&mut self, work: &mut Transaction<'_, S>) -> Result<(), StatementError> {
+        self.run(
+            work,
+            "CREATE TABLE arc (file_id integer, context_id integer, fromno integer, tono integer, foreign key (file_id) references file (id), foreign key (context_id) references context (id), unique (file_id, context_id, fromno, tono))",
+            &[],
+        )
+    }
+
+    fn make_tracer<S: Alter>(
+        &mut self,
+        work: &mut Transaction<'_, S>,
+    ) -> Result<(), StatementError> {
+        self.run(
+            work,
+            "CREATE TABLE tracer (file_id integer primary key, tracer text, foreign key (file_id) references file (id))",
+            &[],
+        )
+    }
+
+    fn make_hits<S: Alter>(&mut self, work: &mut Transaction<'_, S>) -> Result<(), StatementError> {
+        self.run(
+            work,
+            "CREATE TABLE hits (file_id integer, context_id integer, fromno integer, tono integer, count integer, unique (file_id, context_id, fromno, tono))",
+            &[],
+        )
     }
 
     fn delete_meta<S: Alter>(
