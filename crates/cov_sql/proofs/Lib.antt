@@ -1,0 +1,14 @@
+pub mod Columns
+pub mod Selects
+pub mod Texts
+pub mod Found
+pub mod Reading
+pub mod Shows
+pub mod ReadTexts
+pub mod Deletes
+pub mod Empties
+pub mod DeleteTexts
+pub mod Creates
+pub mod CreateTexts
+pub mod Inside
+pub mod CellLemmas

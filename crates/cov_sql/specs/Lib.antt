@@ -1,0 +1,6 @@
+pub mod Tables
+pub mod Declarations
+pub mod Cells
+pub mod Told
+pub mod Shown
+pub mod Written

@@ -1,0 +1,19 @@
+-- What the text of a query answers, in cells.
+use Rattle.std.specs.Prelude.{◌≡◌, ℕ, List, [], Result, IfOk, IsErrOf}
+use Rattle.std.specs.List.{AllZip}
+use Rattle.sqlite_value.specs.Order.{Row}
+use Rattle.sqlite.specs.State.{State, HasCleanDisk, Shown, FailsToQuery}
+use Rattle.sqlite.specs.declared.error.Error.TheVariants.{SqlInputError}
+use Rattle.sqlite_resolve.specs.declared.error.CompileError.{CompileError}
+use Rattle.cov_sql.specs.declared.statements.StatementError.{StatementError}
+use Rattle.cov_sql.specs.declared.statements.StatementError.TheVariants.{Missing}
+use Rattle.cov_sql.specs.Cells.{AreCells}
+use Rattle.cov_sql.specs.Told.{Lists, IsAbsence}
+
+-- the rows that the text shows, as cells
+abbrev pub ShowsCells : List ℕ → State → State → Lists → Type 0
+ShowsCells text old new lists = (rows : List Row) × Shown text [] old new rows × AllZip AreCells rows lists.items
+
+-- the text was refused since a table or a column isn't there
+abbrev pub IsRefusedAsAbsent : List ℕ → State → State → Type 0
+IsRefusedAsAbsent text old new = (e : CompileError) × IsAbsence e × FailsToQuery text [] old new (SqlInputError e)

@@ -1,0 +1,32 @@
+-- What reading statements tell.
+--     Answers      a statement gave the rows of its table, or it is missing; and nothing changed
+--     Reads        so it is where the store is clean after the call and no view has the table's name
+--     LeavesAll    a crash may leave what it could leave before
+--     IsAbsence    the causes that say that a table or one of its columns isn't there
+use Rattle.std.specs.Prelude.{◌≡◌, ◌⊎◌, None, Vec, Result, IfOk, OnOk, IsErrOf}
+use Rattle.std.specs.declared.alloc.Global.{Global}
+use Rattle.sqlite.specs.State.{State, HasCleanDisk, IsUnchanged, Survives}
+use Rattle.sqlite_resolve.specs.declared.error.CompileError.{CompileError}
+use Rattle.sqlite_resolve.specs.declared.error.CompileError.TheVariants.{NoSuchTable, NoSuchColumn}
+use Rattle.cov_sql.specs.declared.values.Cell.{Cell}
+use Rattle.cov_sql.specs.declared.statements.StatementError.{StatementError}
+use Rattle.cov_sql.specs.declared.statements.StatementError.TheVariants.{Missing}
+use Rattle.cov_sql.specs.Tables.{Shape, rows_in, IsUnhidden}
+use Rattle.cov_sql.specs.Cells.{AreRowsIn}
+
+abbrev pub Lists : Type 0
+Lists = Vec (Vec Cell Global) Global
+
+pub record Answers (t : Shape) (old new : State) (r : Result Lists StatementError) : Type 0 where
+  pub rows : IfOk r (λ lists. AreRowsIn t old.now lists.items)
+  pub missing : IsErrOf r Missing → rows_in t old.now ≡ None
+  pub kept : OnOk r (IsUnchanged old new)
+
+abbrev pub Reads : Shape → State → State → Result Lists StatementError → Type 0
+Reads t old new r = HasCleanDisk new → IsUnhidden t old.now → Answers t old new r
+
+abbrev pub LeavesAll : Shape → State → State → Type 0
+LeavesAll t old new = IsUnhidden t old.now → Survives old new (λ _. ⊥)
+
+abbrev pub IsAbsence : CompileError → Type 0
+IsAbsence e = (e ≡ NoSuchTable) ⊎ (e ≡ NoSuchColumn)

@@ -1,0 +1,79 @@
+-- What writing statements tell.
+--     NothingActs, HasInteger      no foreign key acts where rows of a tree go; a row's rowid is an integer
+--     IsFree                       a table is there, its rows go alone, and their rowids are integers
+--     IsEmptied, Deletes           a table has no row left and every other is as before; so a call leaves it
+--     IsUnused, IsMade, IsMaking, Makes      a name is free; its table was made; what a call that makes it does
+--     WasAbsent                    a text was refused since a table or a column isn't there
+--     Ran, GoesOn                  a text ran, and the transaction goes on; so a call leaves it
+use Rattle.std.specs.Prelude.{◌≡◌, ◌≢◌, ◌⊎◌, ℕ, false, None, Err, ℤ, List, [], Some, Ok, Result, OnOk, IsTrue}
+use Rattle.std.specs.List.{AllByRecursion}
+use Rattle.sqlite_value.specs.Order.{Row}
+use Rattle.sqlite_value.specs.declared.value.Value.TheVariants.{Int}
+use Rattle.sqlite_trees.specs.Tree.{rowid}
+use Rattle.sqlite_schema.specs.declared.schema.Keys.TheVariants.{Enforced}
+use Rattle.sqlite_schema.specs.declared.schema.Schema.{Schema}
+use Rattle.sqlite_schema.specs.declared.schema.Table.{Table}
+use Rattle.sqlite_rules.specs.Action.{works}
+use Rattle.sqlite_schema.specs.Names.{table_named, view_named, index_named}
+use Rattle.sqlite_catalog.specs.Change.{KeepsRows}
+use Rattle.sqlite_resolve.specs.declared.error.CompileError.{CompileError}
+use Rattle.sqlite.specs.declared.error.Error.TheVariants.{SqlInputError}
+use Rattle.sqlite.specs.Change.{created, next_tree}
+use Rattle.sqlite.specs.Does.{lacks_sequence}
+use Rattle.sqlite.specs.Effect.{Database}
+use Rattle.sqlite.specs.State.{State, HasCleanDisk, Executes}
+use Rattle.cov_sql.specs.declared.statements.StatementError.{StatementError}
+use Rattle.cov_sql.specs.declared.statements.StatementError.TheVariants.{Refused, NoMemory}
+use Rattle.cov_sql.specs.Tables.{Shape, table_in, rows_in, IsUnhidden}
+use Rattle.cov_sql.specs.Told.{IsAbsence}
+
+abbrev pub NothingActs : Schema → ℕ → Type 0
+NothingActs schema tree = (olds : List Row) → works schema Enforced 0 tree olds [] ≡ []
+
+abbrev pub HasInteger : Row → Type 0
+HasInteger r = (n : ℤ) × (rowid r ≡ Int n)
+
+pub record IsFree (t : Shape) (db : Database) : Type 0 where
+  pub table : Table
+  pub there : table_in db.schema t.name ≡ Some table
+  pub acts : NothingActs db.schema table.tree
+  pub rowids : AllByRecursion HasInteger (db.trees table.tree)
+
+pub record IsEmptied (t : Shape) (old new : Database) : Type 0 where
+  pub schema : new.schema ≡ old.schema
+  pub rows : (all : List Row) → rows_in t old ≡ Some all → rows_in t new ≡ Some []
+  pub others : (u : Table) → table_in old.schema t.name ≡ Some u → AllByRecursion (λ v. v.tree ≢ u.tree → new.trees v.tree ≡ old.trees v.tree) old.schema.tables
+
+abbrev pub Deletes : Shape → State → State → Result (Unit {0}) StatementError → Type 0
+Deletes t old new r = HasCleanDisk new → IsTrue old.in_transaction → IsFree t old.now → OnOk r (IsEmptied t old.now new.now)
+
+pub record IsUnused (t : Shape) (table : ℕ → Table) (db : Database) : Type 0 where
+  pub no_table : table_named db.schema t.name ≡ None
+  pub no_view : view_named db.schema t.name ≡ None
+  pub no_index : index_named db.schema t.name ≡ None
+  -- no table counts its rowids without the table of such counts
+  pub sequenced : lacks_sequence (created db.schema (table 0)) ≡ false
+
+-- the base has the table, with no row, beside those that it had
+pub record IsMade (table : ℕ → Table) (old new : Database) : Type 0 where
+  pub schema : new.schema ≡ created old.schema (table 0)
+  pub empty : new.trees (next_tree old.schema) ≡ []
+  pub others : KeepsRows old.schema.tables old.trees new.trees
+
+pub record IsMaking (t : Shape) (table : ℕ → Table) (old new : State) (r : Result (Unit {0}) StatementError) : Type 0 where
+  pub made : IsUnused t table old.now → OnOk r (IsMade table old.now new.now)
+  -- a table that is there is not made again
+  pub once : (at : ℕ) → table_named old.now.schema t.name ≡ Some at → IsUnhidden t old.now → (r ≡ Err Refused) ⊎ (r ≡ Err NoMemory)
+
+abbrev pub Makes : Shape → (ℕ → Table) → State → State → Result (Unit {0}) StatementError → Type 0
+Makes t table old new r = HasCleanDisk new → IsTrue old.in_transaction → IsMaking t table old new r
+
+abbrev pub WasAbsent : List ℕ → Row → State → State → Type 0
+WasAbsent text params old new = (e : CompileError) × IsAbsence e × Executes text params old new (Err (SqlInputError e))
+
+abbrev pub Ran : List ℕ → Row → State → State → Type 0
+Ran text params old new = (count : ℕ) × Executes text params old new (Ok count) × IsTrue new.in_transaction
+
+-- the transaction goes on where the call was not refused
+abbrev pub GoesOn : State → State → Result (Unit {0}) StatementError → Type 0
+GoesOn old new r = HasCleanDisk new → IsTrue old.in_transaction → OnOk r (IsTrue new.in_transaction)

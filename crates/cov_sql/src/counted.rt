@@ -1,0 +1,315 @@
+//! The statements over the database itself.
+ghost use Rattle.std.specs.Prelude.{◌≡◌, ◌≤◌, false, [], IsTrue, IfOk, OnOk, IsErrOf};
+ghost use Rattle.cov_outside.specs.Counts.{Rose};
+ghost use Rattle.sqlite.specs.Held.{state};
+ghost use Rattle.sqlite.specs.State.{HasCleanDisk, Survives, CommitsShowing};
+ghost use Rattle.sqlite_resolve.specs.declared.error.CompileError.{CompileError};
+ghost use Rattle.sqlite.specs.declared.error.Error.TheVariants.{SqlInputError};
+ghost use Rattle.sqlite.specs.Values.{bound};
+ghost use Rattle.cov_sql.specs.Told.{IsAbsence};
+ghost use Rattle.cov_sql.specs.Written.{Ran, WasAbsent};
+ghost use Rattle.cov_sql.specs.Shown.{ShowsCells, IsRefusedAsAbsent};
+
+use crate::statements::{StatementError, Statements};
+use crate::values::{Cell, lists_of};
+use sqlite::{Alter, Connection, Error, ErrorCode, Transaction};
+use sqlite_resolve::CompileError;
+use sqlite_value::value::ValueRef;
+use std::alloc::Global;
+
+/// Statements over the database, which counts what it refuses.
+#[derive(Debug, Drop)]
+pub struct Counted {
+    refusals: u64,
+}
+
+impl Counted {
+    pub fn new() -> Counted
+        ensures { ⟦<Counted as Statements>⟧.refusals result ≡ 0 }
+    {
+        Counted { refusals: 0 }
+    }
+
+    /// What an error means, which counts unless a table, a column or memory is missing.
+    fn count(&mut self, error: Error) -> StatementError
+        ensures count { self.old.refusals ≤ self.new.refusals }
+        ensures refused { result ≡ StatementError.Refused → Rose self.old.refusals self.new.refusals }
+        ensures missing { result ≡ StatementError.Missing → (e : CompileError) × IsAbsence e × (error ≡ SqlInputError e) }
+    {
+        match error {
+            Error::SqliteFailure(ErrorCode::OutOfMemory) => StatementError::NoMemory,
+            Error::SqlInputError(CompileError::NoSuchTable | CompileError::NoSuchColumn) => {
+                StatementError::Missing
+            }
+            _ => {
+                self.refusals = self.refusals.saturating_add(1);
+                StatementError::Refused
+            }
+        }
+    }
+
+    /// The rows that a query shows.
+    fn read_rows<S: Alter>(
+        &mut self,
+        alloc: Global,
+        base: &mut Connection<S>,
+        sql: &str,
+    ) -> Result<Vec<Vec<Cell>>, StatementError>
+        ensures shown { HasCleanDisk (state S.Store base.new) → IfOk result (ShowsCells sql.now (state S.Store base.old) (state S.Store base.new)) }
+        ensures missing { HasCleanDisk (state S.Store base.new) → IsErrOf result StatementError.Missing → IsRefusedAsAbsent sql.now (state S.Store base.old) (state S.Store base.new) }
+        ensures survives { Survives (state S.Store base.old) (state S.Store base.new) (CommitsShowing sql.now [] (state S.Store base.old)) }
+        ensures mode { base.old.in_transaction ≡ false → base.new.in_transaction ≡ false }
+        ensures count { self.old.refusals ≤ self.new.refusals }
+        ensures refused { IsErrOf result StatementError.Refused → Rose self.old.refusals self.new.refusals }
+    {
+        match base.query_all(sql, &[]) {
+            Ok(rows) => match lists_of(alloc, &rows) {
+                Ok(all) => Ok(all),
+                Err(_) => Err(StatementError::NoMemory),
+            },
+            Err(error) => Err(self.count(error)),
+        }
+    }
+}
+
+impl Counted {
+    /// Runs a text in a transaction.
+    fn run<S: Alter>(
+        &mut self,
+        work: &mut Transaction<'_, S>,
+        sql: &str,
+        params: &[ValueRef<'_>],
+    ) -> Result<(), StatementError>
+        ensures ran { HasCleanDisk (state S.Store work.new.conn.now) → IsTrue (state S.Store work.old.conn.now).in_transaction → OnOk result (Ran sql.now (bound params.now) (state S.Store work.old.conn.now) (state S.Store work.new.conn.now)) }
+        ensures missing { HasCleanDisk (state S.Store work.new.conn.now) → IsTrue (state S.Store work.old.conn.now).in_transaction → IsErrOf result StatementError.Missing → WasAbsent sql.now (bound params.now) (state S.Store work.old.conn.now) (state S.Store work.new.conn.now) }
+        ensures survives { Survives (state S.Store work.old.conn.now) (state S.Store work.new.conn.now) (λ _. ⊥) }
+        ensures same_reference { work.new.conn.ghost_name ≡ work.old.conn.ghost_name }
+        ensures count { self.old.refusals ≤ self.new.refusals }
+        ensures refused { IsErrOf result StatementError.Refused → Rose self.old.refusals self.new.refusals }
+    {
+        match work.execute(sql, params) {
+            Ok(_) => Ok(()),
+            Err(error) => Err(self.count(error)),
+        }
+    }
+}
+
+impl Statements for Counted {
+    ghost refusals = { λ counted. counted.refusals };
+
+    ghost tells = { λ _. Unit {0} };
+
+    fn read_coverage_schema<S: Alter>(
+        &mut self,
+        alloc: Global,
+        base: &mut Connection<S>,
+    ) -> Result<Vec<Vec<Cell>>, StatementError> {
+        self.read_rows(alloc, base, "SELECT version FROM coverage_schema")
+    }
+
+    fn read_meta<S: Alter>(
+        &mut self,
+        alloc: Global,
+        base: &mut Connection<S>,
+    ) -> Result<Vec<Vec<Cell>>, StatementError> {
+        self.read_rows(alloc, base, "SELECT key, value FROM meta")
+    }
+
+    fn read_file<S: Alter>(
+        &mut self,
+        alloc: Global,
+        base: &mut Connection<S>,
+    ) -> Result<Vec<Vec<Cell>>, StatementError> {
+        self.read_rows(alloc, base, "SELECT id, path FROM file")
+    }
+
+    fn read_context<S: Alter>(
+        &mut self,
+        alloc: Global,
+        base: &mut Connection<S>,
+    ) -> Result<Vec<Vec<Cell>>, StatementError> {
+        self.read_rows(alloc, base, "SELECT id, context FROM context")
+    }
+
+    fn read_line_bits<S: Alter>(
+        &mut self,
+        alloc: Global,
+        base: &mut Connection<S>,
+    ) -> Result<Vec<Vec<Cell>>, StatementError> {
+        self.read_rows(
+            alloc,
+            base,
+            "SELECT file_id, context_id, numbits FROM line_bits",
+        )
+    }
+
+    fn read_arc<S: Alter>(
+        &mut self,
+        alloc: Global,
+        base: &mut Connection<S>,
+    ) -> Result<Vec<Vec<Cell>>, StatementError> {
+        self.read_rows(
+            alloc,
+            base,
+            "SELECT file_id, context_id, fromno, tono FROM arc",
+        )
+    }
+
+    fn read_tracer<S: Alter>(
+        &mut self,
+        alloc: Global,
+        base: &mut Connection<S>,
+    ) -> Result<Vec<Vec<Cell>>, StatementError> {
+        self.read_rows(alloc, base, "SELECT file_id, tracer FROM tracer")
+    }
+
+    fn read_hits<S: Alter>(
+        &mut self,
+        alloc: Global,
+        base: &mut Connection<S>,
+    ) -> Result<Vec<Vec<Cell>>, StatementError> {
+        self.read_rows(
+            alloc,
+            base,
+            "SELECT file_id, context_id, fromno, tono, count FROM hits",
+        )
+    }
+
+    fn may_begin(&mut self) -> Result<(), StatementError> {
+        Ok(())
+    }
+
+    fn make_coverage_schema<S: Alter>(
+        &mut self,
+        work: &mut Transaction<'_, S>,
+    ) -> Result<(), StatementError> {
+        self.run(work, "CREATE TABLE coverage_schema (version integer)", &[])
+    }
+
+    fn make_meta<S: Alter>(&mut self, work: &mut Transaction<'_, S>) -> Result<(), StatementError> {
+        self.run(
+            work,
+            "CREATE TABLE meta (key text, value text, unique (key))",
+            &[],
+        )
+    }
+
+    fn make_file<S: Alter>(&mut self, work: &mut Transaction<'_, S>) -> Result<(), StatementError> {
+        self.run(
+            work,
+            "CREATE TABLE file (id integer primary key, path text, unique (path))",
+            &[],
+        )
+    }
+
+    fn make_context<S: Alter>(
+        &mut self,
+        work: &mut Transaction<'_, S>,
+    ) -> Result<(), StatementError> {
+        self.run(
+            work,
+            "CREATE TABLE context (id integer primary key, context text, unique (context))",
+            &[],
+        )
+    }
+
+    fn make_line_bits<S: Alter>(
+        &mut self,
+        work: &mut Transaction<'_, S>,
+    ) -> Result<(), StatementError> {
+        self.run(
+            work,
+            "CREATE TABLE line_bits (file_id integer, context_id integer, numbits blob, foreign key (file_id) references file (id), foreign key (context_id) references context (id), unique (file_id, context_id))",
+            &[],
+        )
+    }
+
+    fn make_arc<S: Alter>(&mut self, work: &mut Transaction<'_, S>) -> Result<(), StatementError> {
+        self.run(
+            work,
+            "CREATE TABLE arc (file_id integer, context_id integer, fromno integer, tono integer, foreign key (file_id) references file (id), foreign key (context_id) references context (id), unique (file_id, context_id, fromno, tono))",
+            &[],
+        )
+    }
+
+    fn make_tracer<S: Alter>(
+        &mut self,
+        work: &mut Transaction<'_, S>,
+    ) -> Result<(), StatementError> {
+        self.run(
+            work,
+            "CREATE TABLE tracer (file_id integer primary key, tracer text, foreign key (file_id) references file (id))",
+            &[],
+        )
+    }
+
+    fn make_hits<S: Alter>(&mut self, work: &mut Transaction<'_, S>) -> Result<(), StatementError> {
+        self.run(
+            work,
+            "CREATE TABLE hits (file_id integer, context_id integer, fromno integer, tono integer, count integer, unique (file_id, context_id, fromno, tono))",
+            &[],
+        )
+    }
+
+    fn delete_meta<S: Alter>(
+        &mut self,
+        work: &mut Transaction<'_, S>,
+    ) -> Result<(), StatementError> {
+        self.run(work, "DELETE FROM meta", &[])
+    }
+
+    fn delete_file<S: Alter>(
+        &mut self,
+        work: &mut Transaction<'_, S>,
+    ) -> Result<(), StatementError> {
+        self.run(work, "DELETE FROM file", &[])
+    }
+
+    fn delete_context<S: Alter>(
+        &mut self,
+        work: &mut Transaction<'_, S>,
+    ) -> Result<(), StatementError> {
+        self.run(work, "DELETE FROM context", &[])
+    }
+
+    fn delete_line_bits<S: Alter>(
+        &mut self,
+        work: &mut Transaction<'_, S>,
+    ) -> Result<(), StatementError> {
+        self.run(work, "DELETE FROM line_bits", &[])
+    }
+
+    fn delete_arc<S: Alter>(
+        &mut self,
+        work: &mut Transaction<'_, S>,
+    ) -> Result<(), StatementError> {
+        self.run(work, "DELETE FROM arc", &[])
+    }
+
+    fn delete_tracer<S: Alter>(
+        &mut self,
+        work: &mut Transaction<'_, S>,
+    ) -> Result<(), StatementError> {
+        self.run(work, "DELETE FROM tracer", &[])
+    }
+
+    fn delete_hits<S: Alter>(
+        &mut self,
+        work: &mut Transaction<'_, S>,
+    ) -> Result<(), StatementError> {
+        self.run(work, "DELETE FROM hits", &[])
+    }
+
+    fn commit<S: Alter>(&mut self, work: Transaction<'_, S>) -> Result<(), StatementError>
+        ensures told { HasCleanDisk (state S.Store work.exit.0.now) → OnOk result ((state S.Store work.exit.0.now).committed ≡ (state S.Store work.entry.conn.now).now) }
+        ensures ended { work.exit.0.now.in_transaction ≡ false }
+        ensures survives { Survives (state S.Store work.entry.conn.now) (state S.Store work.exit.0.now) (λ db. db ≡ (state S.Store work.entry.conn.now).now.trees) }
+        ensures count { self.old.refusals ≤ self.new.refusals }
+        ensures refused { IsErrOf result StatementError.Refused → Rose self.old.refusals self.new.refusals }
+    {
+        match work.commit() {
+            Ok(()) => Ok(()),
+            Err(error) => Err(self.count(error)),
+        }
+    }
+}

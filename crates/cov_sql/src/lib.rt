@@ -1,0 +1,11 @@
+//! The statements on the tables of a data file of coverage.py's schema 7: `Statements` has a method for
+//! each, and `Counted` runs them and counts what the database refuses.
+#![tactic(auto)]
+
+mod counted;
+mod statements;
+mod values;
+
+pub use counted::Counted;
+pub use statements::{StatementError, Statements};
+pub use values::Cell;

@@ -1,0 +1,298 @@
+//! The statements on a data file.
+ghost use Rattle.std.specs.Prelude.{◌≡◌, ℕ, ◌≤◌, false, OnOk, IsErrOf};
+ghost use Rattle.cov_outside.specs.Counts.{Rose};
+ghost use Rattle.sqlite.specs.Held.{state};
+ghost use Rattle.cov_sql.specs.Tables.{coverage_schema, meta, file, context, line_bits, arc, tracer, hits};
+ghost use Rattle.sqlite.specs.State.{HasCleanDisk, Survives};
+ghost use Rattle.cov_sql.specs.Told.{Reads, LeavesAll};
+ghost use Rattle.cov_sql.specs.Written.{Deletes, Makes, GoesOn};
+ghost use Rattle.cov_sql.specs.Declarations.{declared_coverage_schema, declared_meta, declared_file, declared_context, declared_line_bits, declared_arc, declared_tracer, declared_hits};
+
+use crate::values::Cell;
+use sqlite::{Alter, Connection, Transaction};
+use std::alloc::Global;
+use thiserror::Error;
+
+/// Why a statement gave nothing.
+#[derive(Clone, Copy, Debug, PartialEq, Eq, Error)]
+pub enum StatementError {
+    #[error("a table or a column is missing")]
+    Missing,
+    #[error("the database refused a statement")]
+    Refused,
+    #[error("no memory")]
+    NoMemory,
+}
+
+/// Statements on the tables of a data file. Each reading one gives the rows of its table, each as the
+/// list of its cells in the order of the table's columns.
+pub trait Statements {
+    // How often a statement was refused.
+    ghost refusals: { Self → ℕ };
+
+    // Whether the statements tell the tables.
+    ghost tells: { Self → Type 0 };
+
+    fn read_coverage_schema<S: Alter>(
+        &mut self,
+        alloc: Global,
+        base: &mut Connection<S>,
+    ) -> Result<Vec<Vec<Cell>>, StatementError>
+        ensures told { tells self.old → Reads coverage_schema (state S.Store base.old) (state S.Store base.new) result }
+        ensures survives { tells self.old → LeavesAll coverage_schema (state S.Store base.old) (state S.Store base.new) }
+        ensures mode { base.old.in_transaction ≡ false → base.new.in_transaction ≡ false }
+        ensures tells { tells self.old → tells self.new }
+        ensures count { refusals self.old ≤ refusals self.new }
+        ensures refused { IsErrOf result StatementError.Refused → Rose (refusals self.old) (refusals self.new) };
+
+    fn read_meta<S: Alter>(
+        &mut self,
+        alloc: Global,
+        base: &mut Connection<S>,
+    ) -> Result<Vec<Vec<Cell>>, StatementError>
+        ensures told { tells self.old → Reads meta (state S.Store base.old) (state S.Store base.new) result }
+        ensures survives { tells self.old → LeavesAll meta (state S.Store base.old) (state S.Store base.new) }
+        ensures mode { base.old.in_transaction ≡ false → base.new.in_transaction ≡ false }
+        ensures tells { tells self.old → tells self.new }
+        ensures count { refusals self.old ≤ refusals self.new }
+        ensures refused { IsErrOf result StatementError.Refused → Rose (refusals self.old) (refusals self.new) };
+
+    fn read_file<S: Alter>(
+        &mut self,
+        alloc: Global,
+        base: &mut Connection<S>,
+    ) -> Result<Vec<Vec<Cell>>, StatementError>
+        ensures told { tells self.old → Reads file (state S.Store base.old) (state S.Store base.new) result }
+        ensures survives { tells self.old → LeavesAll file (state S.Store base.old) (state S.Store base.new) }
+        ensures mode { base.old.in_transaction ≡ false → base.new.in_transaction ≡ false }
+        ensures tells { tells self.old → tells self.new }
+        ensures count { refusals self.old ≤ refusals self.new }
+        ensures refused { IsErrOf result StatementError.Refused → Rose (refusals self.old) (refusals self.new) };
+
+    fn read_context<S: Alter>(
+        &mut self,
+        alloc: Global,
+        base: &mut Connection<S>,
+    ) -> Result<Vec<Vec<Cell>>, StatementError>
+        ensures told { tells self.old → Reads context (state S.Store base.old) (state S.Store base.new) result }
+        ensures survives { tells self.old → LeavesAll context (state S.Store base.old) (state S.Store base.new) }
+        ensures mode { base.old.in_transaction ≡ false → base.new.in_transaction ≡ false }
+        ensures tells { tells self.old → tells self.new }
+        ensures count { refusals self.old ≤ refusals self.new }
+        ensures refused { IsErrOf result StatementError.Refused → Rose (refusals self.old) (refusals self.new) };
+
+    fn read_line_bits<S: Alter>(
+        &mut self,
+        alloc: Global,
+        base: &mut Connection<S>,
+    ) -> Result<Vec<Vec<Cell>>, StatementError>
+        ensures told { tells self.old → Reads line_bits (state S.Store base.old) (state S.Store base.new) result }
+        ensures survives { tells self.old → LeavesAll line_bits (state S.Store base.old) (state S.Store base.new) }
+        ensures mode { base.old.in_transaction ≡ false → base.new.in_transaction ≡ false }
+        ensures tells { tells self.old → tells self.new }
+        ensures count { refusals self.old ≤ refusals self.new }
+        ensures refused { IsErrOf result StatementError.Refused → Rose (refusals self.old) (refusals self.new) };
+
+    fn read_arc<S: Alter>(
+        &mut self,
+        alloc: Global,
+        base: &mut Connection<S>,
+    ) -> Result<Vec<Vec<Cell>>, StatementError>
+        ensures told { tells self.old → Reads arc (state S.Store base.old) (state S.Store base.new) result }
+        ensures survives { tells self.old → LeavesAll arc (state S.Store base.old) (state S.Store base.new) }
+        ensures mode { base.old.in_transaction ≡ false → base.new.in_transaction ≡ false }
+        ensures tells { tells self.old → tells self.new }
+        ensures count { refusals self.old ≤ refusals self.new }
+        ensures refused { IsErrOf result StatementError.Refused → Rose (refusals self.old) (refusals self.new) };
+
+    fn read_tracer<S: Alter>(
+        &mut self,
+        alloc: Global,
+        base: &mut Connection<S>,
+    ) -> Result<Vec<Vec<Cell>>, StatementError>
+        ensures told { tells self.old → Reads tracer (state S.Store base.old) (state S.Store base.new) result }
+        ensures survives { tells self.old → LeavesAll tracer (state S.Store base.old) (state S.Store base.new) }
+        ensures mode { base.old.in_transaction ≡ false → base.new.in_transaction ≡ false }
+        ensures tells { tells self.old → tells self.new }
+        ensures count { refusals self.old ≤ refusals self.new }
+        ensures refused { IsErrOf result StatementError.Refused → Rose (refusals self.old) (refusals self.new) };
+
+    fn read_hits<S: Alter>(
+        &mut self,
+        alloc: Global,
+        base: &mut Connection<S>,
+    ) -> Result<Vec<Vec<Cell>>, StatementError>
+        ensures told { tells self.old → Reads hits (state S.Store base.old) (state S.Store base.new) result }
+        ensures survives { tells self.old → LeavesAll hits (state S.Store base.old) (state S.Store base.new) }
+        ensures mode { base.old.in_transaction ≡ false → base.new.in_transaction ≡ false }
+        ensures tells { tells self.old → tells self.new }
+        ensures count { refusals self.old ≤ refusals self.new }
+        ensures refused { IsErrOf result StatementError.Refused → Rose (refusals self.old) (refusals self.new) };
+
+    /// A statement in a test may refuse here, before a transaction begins.
+    fn may_begin(&mut self) -> Result<(), StatementError>
+        ensures tells { tells self.old → tells self.new }
+        ensures count { refusals self.old ≤ refusals self.new }
+        ensures refused { IsErrOf result StatementError.Refused → Rose (refusals self.old) (refusals self.new) };
+
+    fn make_coverage_schema<S: Alter>(
+        &mut self,
+        work: &mut Transaction<'_, S>,
+    ) -> Result<(), StatementError>
+        ensures told { tells self.old → Makes coverage_schema declared_coverage_schema (state S.Store work.old.conn.now) (state S.Store work.new.conn.now) result }
+        ensures goes_on { tells self.old → GoesOn (state S.Store work.old.conn.now) (state S.Store work.new.conn.now) result }
+        ensures survives { tells self.old → Survives (state S.Store work.old.conn.now) (state S.Store work.new.conn.now) (λ _. ⊥) }
+        ensures same_reference { work.new.conn.ghost_name ≡ work.old.conn.ghost_name }
+        ensures tells { tells self.old → tells self.new }
+        ensures count { refusals self.old ≤ refusals self.new }
+        ensures refused { IsErrOf result StatementError.Refused → Rose (refusals self.old) (refusals self.new) };
+
+    fn make_meta<S: Alter>(&mut self, work: &mut Transaction<'_, S>) -> Result<(), StatementError>
+        ensures told { tells self.old → Makes meta declared_meta (state S.Store work.old.conn.now) (state S.Store work.new.conn.now) result }
+        ensures goes_on { tells self.old → GoesOn (state S.Store work.old.conn.now) (state S.Store work.new.conn.now) result }
+        ensures survives { tells self.old → Survives (state S.Store work.old.conn.now) (state S.Store work.new.conn.now) (λ _. ⊥) }
+        ensures same_reference { work.new.conn.ghost_name ≡ work.old.conn.ghost_name }
+        ensures tells { tells self.old → tells self.new }
+        ensures count { refusals self.old ≤ refusals self.new }
+        ensures refused { IsErrOf result StatementError.Refused → Rose (refusals self.old) (refusals self.new) };
+
+    fn make_file<S: Alter>(&mut self, work: &mut Transaction<'_, S>) -> Result<(), StatementError>
+        ensures told { tells self.old → Makes file declared_file (state S.Store work.old.conn.now) (state S.Store work.new.conn.now) result }
+        ensures goes_on { tells self.old → GoesOn (state S.Store work.old.conn.now) (state S.Store work.new.conn.now) result }
+        ensures survives { tells self.old → Survives (state S.Store work.old.conn.now) (state S.Store work.new.conn.now) (λ _. ⊥) }
+        ensures same_reference { work.new.conn.ghost_name ≡ work.old.conn.ghost_name }
+        ensures tells { tells self.old → tells self.new }
+        ensures count { refusals self.old ≤ refusals self.new }
+        ensures refused { IsErrOf result StatementError.Refused → Rose (refusals self.old) (refusals self.new) };
+
+    fn make_context<S: Alter>(
+        &mut self,
+        work: &mut Transaction<'_, S>,
+    ) -> Result<(), StatementError>
+        ensures told { tells self.old → Makes context declared_context (state S.Store work.old.conn.now) (state S.Store work.new.conn.now) result }
+        ensures goes_on { tells self.old → GoesOn (state S.Store work.old.conn.now) (state S.Store work.new.conn.now) result }
+        ensures survives { tells self.old → Survives (state S.Store work.old.conn.now) (state S.Store work.new.conn.now) (λ _. ⊥) }
+        ensures same_reference { work.new.conn.ghost_name ≡ work.old.conn.ghost_name }
+        ensures tells { tells self.old → tells self.new }
+        ensures count { refusals self.old ≤ refusals self.new }
+        ensures refused { IsErrOf result StatementError.Refused → Rose (refusals self.old) (refusals self.new) };
+
+    fn make_line_bits<S: Alter>(
+        &mut self,
+        work: &mut Transaction<'_, S>,
+    ) -> Result<(), StatementError>
+        ensures told { tells self.old → Makes line_bits declared_line_bits (state S.Store work.old.conn.now) (state S.Store work.new.conn.now) result }
+        ensures goes_on { tells self.old → GoesOn (state S.Store work.old.conn.now) (state S.Store work.new.conn.now) result }
+        ensures survives { tells self.old → Survives (state S.Store work.old.conn.now) (state S.Store work.new.conn.now) (λ _. ⊥) }
+        ensures same_reference { work.new.conn.ghost_name ≡ work.old.conn.ghost_name }
+        ensures tells { tells self.old → tells self.new }
+        ensures count { refusals self.old ≤ refusals self.new }
+        ensures refused { IsErrOf result StatementError.Refused → Rose (refusals self.old) (refusals self.new) };
+
+    fn make_arc<S: Alter>(&mut self, work: &mut Transaction<'_, S>) -> Result<(), StatementError>
+        ensures told { tells self.old → Makes arc declared_arc (state S.Store work.old.conn.now) (state S.Store work.new.conn.now) result }
+        ensures goes_on { tells self.old → GoesOn (state S.Store work.old.conn.now) (state S.Store work.new.conn.now) result }
+        ensures survives { tells self.old → Survives (state S.Store work.old.conn.now) (state S.Store work.new.conn.now) (λ _. ⊥) }
+        ensures same_reference { work.new.conn.ghost_name ≡ work.old.conn.ghost_name }
+        ensures tells { tells self.old → tells self.new }
+        ensures count { refusals self.old ≤ refusals self.new }
+        ensures refused { IsErrOf result StatementError.Refused → Rose (refusals self.old) (refusals self.new) };
+
+    fn make_tracer<S: Alter>(&mut self, work: &mut Transaction<'_, S>) -> Result<(), StatementError>
+        ensures told { tells self.old → Makes tracer declared_tracer (state S.Store work.old.conn.now) (state S.Store work.new.conn.now) result }
+        ensures goes_on { tells self.old → GoesOn (state S.Store work.old.conn.now) (state S.Store work.new.conn.now) result }
+        ensures survives { tells self.old → Survives (state S.Store work.old.conn.now) (state S.Store work.new.conn.now) (λ _. ⊥) }
+        ensures same_reference { work.new.conn.ghost_name ≡ work.old.conn.ghost_name }
+        ensures tells { tells self.old → tells self.new }
+        ensures count { refusals self.old ≤ refusals self.new }
+        ensures refused { IsErrOf result StatementError.Refused → Rose (refusals self.old) (refusals self.new) };
+
+    fn make_hits<S: Alter>(&mut self, work: &mut Transaction<'_, S>) -> Result<(), StatementError>
+        ensures told { tells self.old → Makes hits declared_hits (state S.Store work.old.conn.now) (state S.Store work.new.conn.now) result }
+        ensures goes_on { tells self.old → GoesOn (state S.Store work.old.conn.now) (state S.Store work.new.conn.now) result }
+        ensures survives { tells self.old → Survives (state S.Store work.old.conn.now) (state S.Store work.new.conn.now) (λ _. ⊥) }
+        ensures same_reference { work.new.conn.ghost_name ≡ work.old.conn.ghost_name }
+        ensures tells { tells self.old → tells self.new }
+        ensures count { refusals self.old ≤ refusals self.new }
+        ensures refused { IsErrOf result StatementError.Refused → Rose (refusals self.old) (refusals self.new) };
+
+    fn delete_meta<S: Alter>(&mut self, work: &mut Transaction<'_, S>) -> Result<(), StatementError>
+        ensures told { tells self.old → Deletes meta (state S.Store work.old.conn.now) (state S.Store work.new.conn.now) result }
+        ensures goes_on { tells self.old → GoesOn (state S.Store work.old.conn.now) (state S.Store work.new.conn.now) result }
+        ensures survives { tells self.old → Survives (state S.Store work.old.conn.now) (state S.Store work.new.conn.now) (λ _. ⊥) }
+        ensures same_reference { work.new.conn.ghost_name ≡ work.old.conn.ghost_name }
+        ensures tells { tells self.old → tells self.new }
+        ensures count { refusals self.old ≤ refusals self.new }
+        ensures refused { IsErrOf result StatementError.Refused → Rose (refusals self.old) (refusals self.new) };
+
+    fn delete_file<S: Alter>(&mut self, work: &mut Transaction<'_, S>) -> Result<(), StatementError>
+        ensures told { tells self.old → Deletes file (state S.Store work.old.conn.now) (state S.Store work.new.conn.now) result }
+        ensures goes_on { tells self.old → GoesOn (state S.Store work.old.conn.now) (state S.Store work.new.conn.now) result }
+        ensures survives { tells self.old → Survives (state S.Store work.old.conn.now) (state S.Store work.new.conn.now) (λ _. ⊥) }
+        ensures same_reference { work.new.conn.ghost_name ≡ work.old.conn.ghost_name }
+        ensures tells { tells self.old → tells self.new }
+        ensures count { refusals self.old ≤ refusals self.new }
+        ensures refused { IsErrOf result StatementError.Refused → Rose (refusals self.old) (refusals self.new) };
+
+    fn delete_context<S: Alter>(
+        &mut self,
+        work: &mut Transaction<'_, S>,
+    ) -> Result<(), StatementError>
+        ensures told { tells self.old → Deletes context (state S.Store work.old.conn.now) (state S.Store work.new.conn.now) result }
+        ensures goes_on { tells self.old → GoesOn (state S.Store work.old.conn.now) (state S.Store work.new.conn.now) result }
+        ensures survives { tells self.old → Survives (state S.Store work.old.conn.now) (state S.Store work.new.conn.now) (λ _. ⊥) }
+        ensures same_reference { work.new.conn.ghost_name ≡ work.old.conn.ghost_name }
+        ensures tells { tells self.old → tells self.new }
+        ensures count { refusals self.old ≤ refusals self.new }
+        ensures refused { IsErrOf result StatementError.Refused → Rose (refusals self.old) (refusals self.new) };
+
+    fn delete_line_bits<S: Alter>(
+        &mut self,
+        work: &mut Transaction<'_, S>,
+    ) -> Result<(), StatementError>
+        ensures told { tells self.old → Deletes line_bits (state S.Store work.old.conn.now) (state S.Store work.new.conn.now) result }
+        ensures goes_on { tells self.old → GoesOn (state S.Store work.old.conn.now) (state S.Store work.new.conn.now) result }
+        ensures survives { tells self.old → Survives (state S.Store work.old.conn.now) (state S.Store work.new.conn.now) (λ _. ⊥) }
+        ensures same_reference { work.new.conn.ghost_name ≡ work.old.conn.ghost_name }
+        ensures tells { tells self.old → tells self.new }
+        ensures count { refusals self.old ≤ refusals self.new }
+        ensures refused { IsErrOf result StatementError.Refused → Rose (refusals self.old) (refusals self.new) };
+
+    fn delete_arc<S: Alter>(&mut self, work: &mut Transaction<'_, S>) -> Result<(), StatementError>
+        ensures told { tells self.old → Deletes arc (state S.Store work.old.conn.now) (state S.Store work.new.conn.now) result }
+        ensures goes_on { tells self.old → GoesOn (state S.Store work.old.conn.now) (state S.Store work.new.conn.now) result }
+        ensures survives { tells self.old → Survives (state S.Store work.old.conn.now) (state S.Store work.new.conn.now) (λ _. ⊥) }
+        ensures same_reference { work.new.conn.ghost_name ≡ work.old.conn.ghost_name }
+        ensures tells { tells self.old → tells self.new }
+        ensures count { refusals self.old ≤ refusals self.new }
+        ensures refused { IsErrOf result StatementError.Refused → Rose (refusals self.old) (refusals self.new) };
+
+    fn delete_tracer<S: Alter>(
+        &mut self,
+        work: &mut Transaction<'_, S>,
+    ) -> Result<(), StatementError>
+        ensures told { tells self.old → Deletes tracer (state S.Store work.old.conn.now) (state S.Store work.new.conn.now) result }
+        ensures goes_on { tells self.old → GoesOn (state S.Store work.old.conn.now) (state S.Store work.new.conn.now) result }
+        ensures survives { tells self.old → Survives (state S.Store work.old.conn.now) (state S.Store work.new.conn.now) (λ _. ⊥) }
+        ensures same_reference { work.new.conn.ghost_name ≡ work.old.conn.ghost_name }
+        ensures tells { tells self.old → tells self.new }
+        ensures count { refusals self.old ≤ refusals self.new }
+        ensures refused { IsErrOf result StatementError.Refused → Rose (refusals self.old) (refusals self.new) };
+
+    fn delete_hits<S: Alter>(&mut self, work: &mut Transaction<'_, S>) -> Result<(), StatementError>
+        ensures told { tells self.old → Deletes hits (state S.Store work.old.conn.now) (state S.Store work.new.conn.now) result }
+        ensures goes_on { tells self.old → GoesOn (state S.Store work.old.conn.now) (state S.Store work.new.conn.now) result }
+        ensures survives { tells self.old → Survives (state S.Store work.old.conn.now) (state S.Store work.new.conn.now) (λ _. ⊥) }
+        ensures same_reference { work.new.conn.ghost_name ≡ work.old.conn.ghost_name }
+        ensures tells { tells self.old → tells self.new }
+        ensures count { refusals self.old ≤ refusals self.new }
+        ensures refused { IsErrOf result StatementError.Refused → Rose (refusals self.old) (refusals self.new) };
+
+    /// Ends the transaction, whose tables become those of the base.
+    fn commit<S: Alter>(&mut self, work: Transaction<'_, S>) -> Result<(), StatementError>
+        ensures told { HasCleanDisk (state S.Store work.exit.0.now) → OnOk result ((state S.Store work.exit.0.now).committed ≡ (state S.Store work.entry.conn.now).now) }
+        ensures ended { work.exit.0.now.in_transaction ≡ false }
+        ensures survives { Survives (state S.Store work.entry.conn.now) (state S.Store work.exit.0.now) (λ db. db ≡ (state S.Store work.entry.conn.now).now.trees) }
+        ensures count { refusals self.old ≤ refusals self.new }
+        ensures refused { IsErrOf result StatementError.Refused → Rose (refusals self.old) (refusals self.new) };
+}
