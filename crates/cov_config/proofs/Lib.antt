@@ -1,0 +1,5 @@
+mod Colons
+mod TextLists
+mod Readings
+mod Rules
+mod Documents

@@ -1,0 +1,4 @@
+pub mod Forms
+pub mod Settings
+pub mod Plain
+pub mod Sections
