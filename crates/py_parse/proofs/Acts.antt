@@ -3,6 +3,7 @@ use Rattle.std.proofs.Common.{◌≡◌, ℕ, ◌+◌, ◌-◌, Bool, true, fals
 use Rattle.std.specs.declared.alloc.AllocError.{AllocError}
 use Rattle.py_value.specs.declared.operator.BinOp.{BinOp}
 use Rattle.py_token.specs.declared.token.Mark.TheVariants as mark
+use Rattle.py_token.specs.declared.token.Token.{Token}
 use Rattle.py_syntax.specs.Tree.{Text, Expr, Exprs, no_exprs, exprs, Stmts, no_stmts, stmt, Suite, suite, Clauses, expr, Cases, no_cases, case, Pattern, StmtKind, match}
 use Rattle.py_syntax.specs.View.{plain_stmts}
 use Rattle.py_syntax.specs.Kinds.{Kind, Name, Sign, Newline, Dedent, End}
@@ -15,12 +16,13 @@ use Rattle.py_parse_pattern.specs.Machine as pattern
 use Rattle.py_parse.specs.declared.places.Place as held_place
 use Rattle.py_parse.specs.declared.places.State as held_state
 use Rattle.py_parse.specs.declared.block.Open.{Open}
+use Rattle.py_parse.specs.declared.owner.Owner as held_owner
 use Rattle.py_parse.specs.declared.places.Turn.{Turn}
 use Rattle.py_parse.specs.Open.{Owner, a_clause, a_def, a_case, newline_end, semicolon_end, both_end, Block, top, inside, add}
 use Rattle.py_parse.specs.Machine.{Place, Line, Semicolon, Leaving, NameWanted, Behind, Choosing, Over, Matching, choose, close, over_suite, over_line, begin_line, line, value, augmented, default, ParamWanted, ParamRead, BoundWanted, BoundRead, ClauseBound, ColonWanted, SuiteWanted, IndentWanted, Except, Lines, State, at, wanted, onward, goal, reads, leaving, left, Listed, listed, behind_name, with_name, is_some, in_place_op, assigned, end_simple, end_header, begin_simple, behind_value, behind_default, act}
 use Rattle.py_parse.specs.HeldLists.{some_exprs, some_cases, NoName, is_equal_sign, is_semicolon, ends_simple, is_comma, is_right_paren, is_dedent, is_end, is_case}
 use Rattle.py_parse.specs.HeldMarks.{is_newline}
-use Rattle.py_parse.specs.HeldStates.{view_state, view_place, blocks, Opens, SharesLine, is_closable, is_top, Makes, ActsAs}
+use Rattle.py_parse.specs.HeldStates.{kind_at, first_at, last_at, Acts, view_state, view_place, blocks, Opens, SharesLine, is_closable, is_top, Makes, ActsAs}
 use Rattle.py_parse.specs.HeldOwners.{view_owner}
 
 -- ---- simple statements end
@@ -46,8 +48,10 @@ semicolon_begins : (k : StmtKind) (n : Lines) (b : Block) (t : Kind) (f l : ℕ)
 semicolon_begins k n b Newline f l h = absurd cc
 semicolon_begins k n b t f l h = refl
 
-pub semicolon_turn : (k : StmtKind) (n : Lines) (b c : Block) (t : Kind) (f l : ℕ) (e : LineEnd) (turn : Turn) → is_newline t ≡ false → e ≡ semicolon_end → c ≡ add b n.begun n.last k e → ActsAs t f l (begin_simple c t f l) turn → ActsAs t f l (act (Semicolon k) n b t f l) turn
-semicolon_turn k n b c t f l e turn h end is acts = subst (λ (w : Option State). ActsAs t f l w turn) (ap (λ (d : Block). begin_simple d t f l) (is ∙ ap (λ (x : LineEnd). add b n.begun n.last k x) end) ∙ semicolon_begins k n b t f l h) acts
+pub semicolon_turn : (k : StmtKind) (n : Lines) (b c : Block) (t : Token) (e : LineEnd) (r : Result Turn AllocError) → is_newline (kind_at t) ≡ false → e ≡ semicolon_end → c ≡ add b n.begun n.last k e → Acts t (begin_simple c (kind_at t) (first_at t) (last_at t)) r → Acts t (act (Semicolon k) n b (kind_at t) (first_at t) (last_at t)) r
+semicolon_turn k n b c t e r h end is acts =
+    let kind = kind_at t in let f = first_at t in let l = last_at t in
+    subst (λ (w : Option State). Acts t w r) (ap (λ (d : Block). begin_simple d kind f l) (is ∙ ap (λ (x : LineEnd). add b n.begun n.last k x) end) ∙ semicolon_begins k n b kind f l h) acts
 
 -- the state that a token leads to, where there is one, and what the code does then
 pub acts_so : (o : Option State) (t : Kind) (f l : ℕ) (s : Option held_state.State) (turn : Turn) → o ≡ option_map view_state s → ((t : Kind) (f l : ℕ) → ActsAs t f l (option_map view_state s) turn) → ActsAs t f l o turn
@@ -175,8 +179,10 @@ suite_begins : (o : Owner) (n : Lines) (b : Block) (k : Kind) (f l : ℕ) → is
 suite_begins o n b Newline f l h = absurd cc
 suite_begins o n b k f l h = refl
 
-pub suite_turn : (o : Owner) (n : Lines) (b c : Block) (k : Kind) (f l : ℕ) (t : Turn) → is_newline k ≡ false → c ≡ inside no_stmts true n.first n.last n.begun o b → ActsAs k f l (begin_simple c k f l) t → ActsAs k f l (act (SuiteWanted o) n b k f l) t
-suite_turn o n b c k f l t h is acts = subst (λ (w : Option State). ActsAs k f l w t) (ap (λ (d : Block). begin_simple d k f l) is ∙ suite_begins o n b k f l h) acts
+pub suite_turn : (o : Owner) (n : Lines) (b c : Block) (t : Token) (r : Result Turn AllocError) → is_newline (kind_at t) ≡ false → c ≡ inside no_stmts true n.first n.last n.begun o b → Acts t (begin_simple c (kind_at t) (first_at t) (last_at t)) r → Acts t (act (SuiteWanted o) n b (kind_at t) (first_at t) (last_at t)) r
+suite_turn o n b c t r h is acts =
+    let k = kind_at t in let f = first_at t in let l = last_at t in
+    subst (λ (w : Option State). Acts t w r) (ap (λ (d : Block). begin_simple d k f l) is ∙ suite_begins o n b k f l h) acts
 
 pub except_ends : (body : Suite) (cs : Clauses) (n : Lines) (b : Block) (k : Kind) (f l : ℕ) (o : Option State) → is_colon k ≡ true → end_header (a_clause body cs None None) n b k l ≡ o → act (Except body cs) n b k f l ≡ o
 except_ends body cs n b (Sign mark.Colon) f l o h is = is
@@ -216,16 +222,18 @@ line_closes (inside (stmt f' l' k' e ss) false x y begun o b) Dedent f l s h i j
 line_closes (inside (stmt f' l' k' e ss) false x y begun o b) k f l s h i j = absurd cc
 line_closes b k f l s h i j = absurd cc
 
-pub line_begins : (b : Block) (k : Kind) (f l : ℕ) (t : Turn) → (is_end k && is_top b) ≡ false → (is_dedent k && is_closable b) ≡ false → ActsAs k f l (begin_line b k f l) t → ActsAs k f l (line b k f l) t
-line_begins b k f l t h i acts = subst (λ (o : Option State). ActsAs k f l o t) (same b k h i) acts
+pub line_begins : (b : Block) (t : Token) (r : Result Turn AllocError) → (is_end (kind_at t) && is_top b) ≡ false → (is_dedent (kind_at t) && is_closable b) ≡ false → Acts t (begin_line b (kind_at t) (first_at t) (last_at t)) r → Acts t (line b (kind_at t) (first_at t) (last_at t)) r
+line_begins b t r h i acts =
+    let f = first_at t in let l = last_at t in
+    subst (λ (o : Option State). Acts t o r) (same b f l (kind_at t) h i) acts
   where
-    same : (b : Block) (k : Kind) → (is_end k && is_top b) ≡ false → (is_dedent k && is_closable b) ≡ false → begin_line b k f l ≡ line b k f l
-    same (top ss) End h i = absurd cc
-    same (top ss) k h i = refl
-    same (inside (stmt f' l' k' e ss) false x y begun o b) Dedent h i = absurd cc
-    same (inside (stmt f' l' k' e ss) false x y begun o b) k h i = refl
-    same (inside (stmt f' l' k' e ss) true x y begun o b) k h i = refl
-    same (inside no_stmts i' x y begun o b) k h i = refl
+    same : (b : Block) (f l : ℕ) (k : Kind) → (is_end k && is_top b) ≡ false → (is_dedent k && is_closable b) ≡ false → begin_line b k f l ≡ line b k f l
+    same (top ss) f l End h i = absurd cc
+    same (top ss) f l k h i = refl
+    same (inside (stmt f' l' k' e ss) false x y begun o b) f l Dedent h i = absurd cc
+    same (inside (stmt f' l' k' e ss) false x y begun o b) f l k h i = refl
+    same (inside (stmt f' l' k' e ss) true x y begun o b) f l k h i = refl
+    same (inside no_stmts i' x y begun o b) f l k h i = refl
 
 -- ---- suites end
 
@@ -238,15 +246,15 @@ own_line b c l h is = sym (h l ∙ ap (λ (x : Bool). cond x (close b l) (Line b
 pub close_top : (ss : Stmts) (old new : List Open) (l : ℕ) → Opens ss old new None → Line (blocks ss (reverse new)) ≡ close (blocks ss (reverse old)) l
 close_top ss old new l h = ap Line h.1 ∙ sym (ap (λ (b : Block). close b l) h.0)
 
-pub close_inside : (ss : Stmts) (old new : List Open) (l : ℕ) (o : Open) (s : Suite) (w : State) → Opens ss old new (Some o) → s ≡ suite o.lines.first o.lines.last o.inline ss → w ≡ over_suite (view_owner o.owner) s o.lines.begun l (blocks (plain_stmts o.outer.items) (reverse new)) → w ≡ close (blocks ss (reverse old)) l
+pub close_inside : (ss : Stmts) (old new : List Open) (l : ℕ) (o : Open) (s : Suite) (w : State) → Opens ss old new (Some o) → s ≡ suite o.lines.first o.lines.last o.inline ss → w ≡ over_suite (view_owner o.owner.value) s o.lines.begun l (blocks (plain_stmts o.outer.items) (reverse new)) → w ≡ close (blocks ss (reverse old)) l
 close_inside ss old new l o s w h same is =
     let b = blocks (plain_stmts o.outer.items) (reverse new) in
-    is ∙ ap (λ (x : Suite). over_suite (view_owner o.owner) x o.lines.begun l b) same ∙ sym (ap (λ (x : Block). close x l) h ∙ go (view_owner o.owner) b)
+    is ∙ ap (λ (x : Suite). over_suite (view_owner o.owner.value) x o.lines.begun l b) same ∙ sym (ap (λ (x : Block). close x l) h ∙ go (view_owner o.owner.value) b)
   where
     go : (w : Owner) (b : Block) → close (inside ss o.inline o.lines.first o.lines.last o.lines.begun w b) l ≡ over_suite w (suite o.lines.first o.lines.last o.inline ss) o.lines.begun l b
     go (a_case e last cs p g) b = refl
     go w b = refl
 
-pub close_made : (ss : Stmts) (old new : List Open) (l : ℕ) (o : Open) (s : Suite) (r : Result held_state.State AllocError) → Opens ss old new (Some o) → s ≡ suite o.lines.first o.lines.last o.inline ss → IfOk r (λ w. view_state w ≡ over_suite (view_owner o.owner) s o.lines.begun l (blocks (plain_stmts o.outer.items) (reverse new))) → IfOk r (λ w. view_state w ≡ close (blocks ss (reverse old)) l)
-close_made ss old new l o s (Ok w) h same is = close_inside ss old new l o s (view_state w) h same is
-close_made ss old new l o s (Err e) h same is = tt
+pub close_made : (ss : Stmts) (old new : List Open) (l : ℕ) (o : Open) (v : held_owner.Owner) (s : Suite) (r : Result held_state.State AllocError) → Opens ss old new (Some o) → v ≡ o.owner.value → s ≡ suite o.lines.first o.lines.last o.inline ss → IfOk r (λ w. view_state w ≡ over_suite (view_owner v) s o.lines.begun l (blocks (plain_stmts o.outer.items) (reverse new))) → IfOk r (λ w. view_state w ≡ close (blocks ss (reverse old)) l)
+close_made ss old new l o v s (Ok w) h own same is = close_inside ss old new l o s (view_state w) h same (is ∙ ap (λ (x : held_owner.Owner). over_suite (view_owner x) s o.lines.begun l (blocks (plain_stmts o.outer.items) (reverse new))) own)
+close_made ss old new l o v s (Err e) h own same is = tt

@@ -76,7 +76,7 @@ block_added ss (o ∷ os) first last k e = refl
 pub reverse_snoc : (os : List Open) (o : Open) → reverse (os ++ o ∷ []) ≡ o ∷ reverse os
 reverse_snoc os o = reverse-append os (o ∷ [])
 
-pub block_opened : (ss inner : Stmts) (os : List Open) (o : Open) → blocks inner (reverse (os ++ o ∷ [])) ≡ inside inner o.inline o.lines.first o.lines.last o.lines.begun (view_owner o.owner) (blocks (plain_stmts o.outer.items) (reverse os))
+pub block_opened : (ss inner : Stmts) (os : List Open) (o : Open) → blocks inner (reverse (os ++ o ∷ [])) ≡ inside inner o.inline o.lines.first o.lines.last o.lines.begun (view_owner o.owner.value) (blocks (plain_stmts o.outer.items) (reverse os))
 block_opened ss inner os o = ap (blocks inner) (reverse_snoc os o)
 
 -- the innermost suite is taken out
@@ -103,7 +103,7 @@ last_of_snoc init o =
     ap (slice_get (init ++ o ∷ [])) at ∙ get_last init o
 
 -- the blocks with the last one innermost
-pub block_last : (ss : Stmts) (os : List Open) (o : Open) → slice_get os (length os - 1) ≡ Some o → (b : Block) × (blocks ss (reverse os) ≡ inside ss o.inline o.lines.first o.lines.last o.lines.begun (view_owner o.owner) b)
+pub block_last : (ss : Stmts) (os : List Open) (o : Open) → slice_get os (length os - 1) ≡ Some o → (b : Block) × (blocks ss (reverse os) ≡ inside ss o.inline o.lines.first o.lines.last o.lines.begun (view_owner o.owner.value) b)
 block_last ss os o h = elim (ends os) [ inl none ↦ absurd (nothing none) | inr r ↦ (blocks (plain_stmts o.outer.items) (reverse r.0), ap (λ (xs : List Open). blocks ss (reverse xs)) r.2 ∙ ap (blocks ss) (reverse_snoc r.0 r.1 ∙ ap (λ (q : Open). q ∷ reverse r.0) (same r.0 r.1 r.2))) ]
   where
     nothing : os ≡ [] → ⊥
@@ -115,18 +115,18 @@ block_last ss os o h = elim (ends os) [ inl none ↦ absurd (nothing none) | inr
 pub line_shared : (ss : Stmts) (os : List Open) (o : Open) → slice_get os (length os - 1) ≡ Some o → SharesLine (blocks ss (reverse os)) o.inline
 line_shared ss os o h l = let b = block_last ss os o h in rw b.1 (go o.inline)
   where
-    go : (i : Bool) → over_line (inside ss i o.lines.first o.lines.last o.lines.begun (view_owner o.owner) (block_last ss os o h).0) l ≡ cond i (close (inside ss i o.lines.first o.lines.last o.lines.begun (view_owner o.owner) (block_last ss os o h).0) l) (Line (inside ss i o.lines.first o.lines.last o.lines.begun (view_owner o.owner) (block_last ss os o h).0))
+    go : (i : Bool) → over_line (inside ss i o.lines.first o.lines.last o.lines.begun (view_owner o.owner.value) (block_last ss os o h).0) l ≡ cond i (close (inside ss i o.lines.first o.lines.last o.lines.begun (view_owner o.owner.value) (block_last ss os o h).0) l) (Line (inside ss i o.lines.first o.lines.last o.lines.begun (view_owner o.owner.value) (block_last ss os o h).0))
     go true = refl
     go false = refl
 
 pub block_ends : (body : List Stmt) (os : List Open) (o : Open) → slice_get os (length os - 1) ≡ Some o → (not o.inline && not (length body == 0)) ≡ is_closable (blocks (plain_stmts body) (reverse os))
 block_ends body os o h = let b = block_last (plain_stmts body) os o h in go body o.inline b.0 ∙ sym (ap is_closable b.1)
   where
-    go : (body : List Stmt) (i : Bool) (b : Block) → (not i && not (length body == 0)) ≡ is_closable (inside (plain_stmts body) i o.lines.first o.lines.last o.lines.begun (view_owner o.owner) b)
+    go : (body : List Stmt) (i : Bool) (b : Block) → (not i && not (length body == 0)) ≡ is_closable (inside (plain_stmts body) i o.lines.first o.lines.last o.lines.begun (view_owner o.owner.value) b)
     go [] true b = refl
     go [] false b = refl
-    go (s ∷ rest) true b = sym (ap (λ (ss : Stmts). is_closable (inside ss true o.lines.first o.lines.last o.lines.begun (view_owner o.owner) b)) (plain-stmts s rest))
-    go (s ∷ rest) false b = ap not (ne_eqb (suc (length rest)) 0 (λ e. absurd (omega arith))) ∙ sym (ap (λ (ss : Stmts). is_closable (inside ss false o.lines.first o.lines.last o.lines.begun (view_owner o.owner) b)) (plain-stmts s rest))
+    go (s ∷ rest) true b = sym (ap (λ (ss : Stmts). is_closable (inside ss true o.lines.first o.lines.last o.lines.begun (view_owner o.owner.value) b)) (plain-stmts s rest))
+    go (s ∷ rest) false b = ap not (ne_eqb (suc (length rest)) 0 (λ e. absurd (omega arith))) ∙ sym (ap (λ (ss : Stmts). is_closable (inside ss false o.lines.first o.lines.last o.lines.begun (view_owner o.owner.value) b)) (plain-stmts s rest))
 
 pub block_top : (ss : Stmts) (os : List Open) → (length os == 0) ≡ is_top (blocks ss (reverse os))
 block_top ss os = elim (ends os) [ inl none ↦ ap (λ (xs : List Open). length xs == 0) none ∙ sym (ap (λ (xs : List Open). is_top (blocks ss (reverse xs))) none) | inr r ↦ long r.0 r.1 r.2 ]

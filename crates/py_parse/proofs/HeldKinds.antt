@@ -31,6 +31,9 @@ pub plain-For : (t e : Node) (b : SuiteNode) (o : Option SuiteNode) → plain_ki
 plain-For t e b None = search kind.the_lemmas
 plain-For t e b (Some s) = search kind.the_lemmas
 
+pub looped_is : (t e u v : Node) (b : SuiteNode) → t ≡ u → e ≡ v → plain_kind (kind.For t e b None) ≡ for (plain_expr u) (plain_expr v) (plain_suite b) no_suite
+looped_is t e u v b h i = plain-For t e b None ∙ ap (λ (x : Node). for (plain_expr x) (plain_expr e) (plain_suite b) no_suite) h ∙ ap (λ (x : Node). for (plain_expr u) (plain_expr x) (plain_suite b) no_suite) i
+
 pub plain-Try : (b : SuiteNode) (cs : Vec Clause Global) (o f : Option SuiteNode) → plain_kind (kind.Try b cs o f) ≡ try (plain_suite b) (plain_clauses cs.items) (plain_opt_suite o) (plain_opt_suite f)
 plain-Try b cs None None = search kind.the_lemmas
 plain-Try b cs None (Some s) = search kind.the_lemmas

@@ -43,7 +43,7 @@ last_at t = (out-Token t).last
 -- from the inside
 abbrev pub blocks : Stmts → List held_open.Open → Block
 blocks ss [] = top ss
-blocks ss (o ∷ os) = inside ss o.inline o.lines.first o.lines.last o.lines.begun (view_owner o.owner) (blocks (plain_stmts o.outer.items) os)
+blocks ss (o ∷ os) = inside ss o.inline o.lines.first o.lines.last o.lines.begun (view_owner o.owner.value) (blocks (plain_stmts o.outer.items) os)
 
 -- the innermost is the last in the code
 abbrev pub view_block : held_block.Block → Block
@@ -52,7 +52,7 @@ view_block b = blocks (plain_stmts b.body.items) (reverse b.open.items)
 -- the innermost suite, and those round it
 abbrev pub Opens : Stmts → List held_open.Open → List held_open.Open → Option held_open.Open → Type 0
 Opens ss old new None = (blocks ss (reverse old) ≡ top ss) × (blocks ss (reverse new) ≡ top ss)
-Opens ss old new (Some o) = blocks ss (reverse old) ≡ inside ss o.inline o.lines.first o.lines.last o.lines.begun (view_owner o.owner) (blocks (plain_stmts o.outer.items) (reverse new))
+Opens ss old new (Some o) = blocks ss (reverse old) ≡ inside ss o.inline o.lines.first o.lines.last o.lines.begun (view_owner o.owner.value) (blocks (plain_stmts o.outer.items) (reverse new))
 
 -- ---- places
 
@@ -61,17 +61,17 @@ view_lines n = record { begun = n.begun; first = n.first; last = n.last }
 
 abbrev pub view_resume : held_resume.Resume → Resume
 view_resume (resume_.Value ts) = value (plain_exprs ts.items)
-view_resume (resume_.Augmented p op) = augmented (plain_expr p) op
+view_resume (resume_.Augmented p op) = augmented (plain_expr p.value) op
 view_resume (resume_.Leaving raises) = leaving raises
 view_resume resume_.Asserted = asserted
-view_resume (resume_.Reason t) = reason (plain_expr t)
+view_resume (resume_.Reason t) = reason (plain_expr t.value)
 view_resume (resume_.ArmTest arms) = arm_test (plain_arms arms.items)
 view_resume resume_.WhileTest = while_test
 view_resume resume_.ForTarget = for_target
-view_resume (resume_.ForOver t) = for_over (plain_expr t)
+view_resume (resume_.ForOver t) = for_over (plain_expr t.value)
 view_resume (resume_.ClauseKind t) = clause_kind (plain_suite t.body) (plain_clauses t.clauses.items)
 view_resume resume_.Subject = subject
-view_resume (resume_.Guard c p) = guard (plain_expr c.subject) c.header_last (plain_cases c.cases.items) (plain_pattern p)
+view_resume (resume_.Guard c p) = guard (plain_expr c.value.subject) c.value.header_last (plain_cases c.value.cases.items) (plain_pattern p.value)
 view_resume (resume_.Default s y) = default s.name s.params.items (plain_exprs s.defaults.items) y
 
 abbrev pub view_listed : held_listed.Listed → Listed
@@ -81,9 +81,9 @@ view_listed (listed_.Froms m names) = froms m (plain_aliases names.items)
 
 abbrev pub view_place : held_place.Place → Place
 view_place (place_.Wanted r) = wanted (view_resume r)
-view_place (place_.PatternWanted c) = Matching (plain_expr c.subject) c.header_last (plain_cases c.cases.items) pattern.start
-view_place (place_.Simple k) = Simple (plain_kind k)
-view_place (place_.Semicolon k) = Semicolon (plain_kind k)
+view_place (place_.PatternWanted c) = Matching (plain_expr c.value.subject) c.value.header_last (plain_cases c.value.cases.items) pattern.start
+view_place (place_.Simple k) = Simple (plain_kind k.value)
+view_place (place_.Semicolon k) = Semicolon (plain_kind k.value)
 view_place (place_.Leaving raises) = Leaving raises
 view_place (place_.NameWanted l) = NameWanted (view_listed l)
 view_place (place_.NameRead l x) = NameRead (view_listed l) x
@@ -96,18 +96,18 @@ view_place (place_.ParamsWanted x) = ParamsWanted x
 view_place (place_.ParamWanted s) = ParamWanted s.name s.params.items (plain_exprs s.defaults.items)
 view_place (place_.ParamRead s y) = ParamRead s.name s.params.items (plain_exprs s.defaults.items) y
 view_place (place_.Except t) = Except (plain_suite t.body) (plain_clauses t.clauses.items)
-view_place (place_.ClauseBound t e) = ClauseBound (plain_suite t.body) (plain_clauses t.clauses.items) (plain_expr e)
-view_place (place_.ColonWanted o) = ColonWanted (view_owner o)
-view_place (place_.SuiteWanted o) = SuiteWanted (view_owner o)
-view_place (place_.IndentWanted o) = IndentWanted (view_owner o)
-view_place (place_.MatchLine e last) = MatchLine (plain_expr e) last
-view_place (place_.MatchBlock e last) = MatchBlock (plain_expr e) last
+view_place (place_.ClauseBound t e) = ClauseBound (plain_suite t.body) (plain_clauses t.clauses.items) (plain_expr e.value)
+view_place (place_.ColonWanted o) = ColonWanted (view_owner o.value)
+view_place (place_.SuiteWanted o) = SuiteWanted (view_owner o.value)
+view_place (place_.IndentWanted o) = IndentWanted (view_owner o.value)
+view_place (place_.MatchLine e last) = MatchLine (plain_expr e.value) last
+view_place (place_.MatchBlock e last) = MatchBlock (plain_expr e.value) last
 
 abbrev pub view_state : held_state.State → State
 view_state (state_.Line b) = Line (view_block b)
 view_state (state_.At p n b) = at (view_place p) (view_lines n) (view_block b)
-view_state (state_.Behind k first last b) = Behind (plain_kind k) first last (view_block b)
-view_state (state_.Choosing c first b) = Choosing (plain_expr c.subject) c.header_last (plain_cases c.cases.items) first (view_block b)
+view_state (state_.Behind k first last b) = Behind (plain_kind k.value) first last (view_block b)
+view_state (state_.Choosing c first b) = Choosing (plain_expr c.value.subject) c.value.header_last (plain_cases c.value.cases.items) first (view_block b)
 view_state (state_.Over ss) = Over (plain_stmts ss.items)
 
 -- ---- what a token does
@@ -118,7 +118,7 @@ abbrev pub ActsAs : Kind → ℕ → ℕ → Option State → Turn → Type 0
 ActsAs t f l o (turn_.Next s) = o ≡ Some (view_state s)
 ActsAs t f l o turn_.Stuck = o ≡ None
 ActsAs t f l o (turn_.Reads r n b) = (o ≡ reads (view_resume r) (view_lines n) (view_block b) (expression.step (start (goal (view_resume r))) (role t))) × (n.last ≡ l)
-ActsAs t f l o (turn_.Matches c n b) = o ≡ act (Matching (plain_expr c.subject) c.header_last (plain_cases c.cases.items) pattern.start) (view_lines n) (view_block b) t f l
+ActsAs t f l o (turn_.Matches c n b) = o ≡ act (Matching (plain_expr c.value.subject) c.value.header_last (plain_cases c.value.cases.items) pattern.start) (view_lines n) (view_block b) t f l
 
 abbrev pub Acts : Token → Option State → Result Turn AllocError → Type 0
 Acts t o (Ok turn) = ActsAs (kind_at t) (first_at t) (last_at t) o turn
@@ -130,8 +130,9 @@ Makes o (Ok s) = o ≡ option_map view_state s
 Makes o (Err e) = Unit {0}
 
 -- The place of an optional step.
-abbrev pub MakesPlace : Option Place → Option held_place.Place → Type 0
-MakesPlace o p = o ≡ option_map view_place p
+abbrev pub MakesPlace : Option Place → Result (Option held_place.Place) AllocError → Type 0
+MakesPlace o (Ok p) = o ≡ option_map view_place p
+MakesPlace o (Err e) = Unit {0}
 
 -- whether the innermost suite shares the line of its header
 abbrev pub SharesLine : Block → Bool → Type 0

@@ -12,7 +12,7 @@ use Rattle.py_value.specs.declared.operator.BinOp.TheVariants as op_
 use Rattle.py_token.specs.declared.token.Keyword.TheVariants as word
 use Rattle.py_token.specs.declared.token.Mark.TheVariants as mark
 use Rattle.py_syntax.specs.Tree.{Text, Expr, Exprs, no_exprs, exprs, Alias, Pattern}
-use Rattle.py_syntax.specs.Tree.{Stmts, no_stmts, stmt, Suite, suite, no_suite, Arms, no_arms, Clauses, no_clauses, clause, Cases, no_cases, case, StmtKind, expr, assign, aug_assign, pass, break, continue, return, raise, assert, global, import, from, if', while, for, try, match}
+use Rattle.py_syntax.specs.Tree.{Stmts, no_stmts, stmt, Suite, suite, no_suite, has_suite, Arms, no_arms, Clauses, no_clauses, clause, Cases, no_cases, case, StmtKind, expr, assign, aug_assign, pass, break, continue, return, raise, assert, global, import, from, if', while, for, try, def, match}
 use Rattle.py_syntax.specs.Kinds.{Kind, Name, Word, Sign, Newline, Indent, Dedent, End}
 use Rattle.py_syntax.specs.Normal.{is_target, is_place}
 use Rattle.py_syntax.specs.Headers.{Marked, is_match}
@@ -144,10 +144,16 @@ abbrev pub goal : Resume → Goal
 goal (value ts) = any
 goal (augmented t op) = any
 goal (leaving raises) = cond raises one any
-goal (for_over t) = any
-goal subject = any
+goal asserted = one
+goal (reason test) = one
+goal (arm_test arms) = one
+goal while_test = one
 goal for_target = target
-goal r = one
+goal (for_over t) = any
+goal (clause_kind body cs) = one
+goal subject = any
+goal (guard e last cs p) = one
+goal (default x ps ds y) = one
 
 -- a place where an expression begins
 abbrev pub wanted : Resume → Place
@@ -201,8 +207,26 @@ next_part k t = None
 
 -- a `try` needs a clause or a `finally`
 abbrev pub is_whole : StmtKind → Bool
+is_whole (expr e) = true
+is_whole (assign ts e) = true
+is_whole (aug_assign t op e) = true
+is_whole pass = true
+is_whole break = true
+is_whole continue = true
+is_whole (return e) = true
+is_whole (raise e) = true
+is_whole (assert t e) = true
+is_whole (global xs) = true
+is_whole (import names) = true
+is_whole (from m names) = true
+is_whole (if' arms o) = true
+is_whole (while t b o) = true
+is_whole (for t e b o) = true
 is_whole (try b no_clauses o no_suite) = false
-is_whole k = true
+is_whole (try b no_clauses o (has_suite f)) = true
+is_whole (try b (clause e x s cs) o f) = true
+is_whole (def x ps ds c b) = true
+is_whole (match e last cs) = true
 
 -- ---- parts of statements
 
@@ -273,7 +297,8 @@ with_name (froms m names) x y = froms m (names ++ alias x y ∷ [])
 
 abbrev pub may_bind : Listed → Bool
 may_bind (globals xs) = false
-may_bind l = true
+may_bind (imports names) = true
+may_bind (froms m names) = true
 
 -- behind a listed name and what it is bound to
 abbrev pub behind_name : Listed → Lines → Block → Kind → ℕ → Option State

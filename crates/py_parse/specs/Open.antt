@@ -2,7 +2,7 @@
 use Rattle.std.specs.Prelude.{ℕ, Bool, true, false, List, Option}
 use Rattle.py_syntax.specs.declared.stmt.LineEnd.{LineEnd}
 use Rattle.py_syntax.specs.Tree.{Text, Expr, Exprs, Pattern}
-use Rattle.py_syntax.specs.Tree.{Stmts, no_stmts, stmt, Suite, OptSuite, no_suite, has_suite, Arms, no_arms, arm, Clauses, no_clauses, clause, Cases, no_cases, case, StmtKind, if', while, for, try, def, match}
+use Rattle.py_syntax.specs.Tree.{Stmts, no_stmts, stmt, Suite, OptSuite, no_suite, has_suite, Arms, no_arms, arm, Clauses, no_clauses, clause, Cases, no_cases, case, StmtKind, expr, assign, aug_assign, pass, break, continue, return, raise, assert, global, import, from, if', while, for, try, def, match}
 
 -- ---- one more at the end
 
@@ -53,11 +53,24 @@ pub data Owner : Type 0 where
 
 -- a statement with an `else` suite
 abbrev pub with_else : StmtKind → Suite → StmtKind
+with_else (expr e) s = expr e
+with_else (assign ts e) s = assign ts e
+with_else (aug_assign t op e) s = aug_assign t op e
+with_else pass s = pass
+with_else break s = break
+with_else continue s = continue
+with_else (return e) s = return e
+with_else (raise e) s = raise e
+with_else (assert t e) s = assert t e
+with_else (global xs) s = global xs
+with_else (import names) s = import names
+with_else (from m names) s = from m names
 with_else (if' arms o) s = if' arms (has_suite s)
 with_else (while t b o) s = while t b (has_suite s)
 with_else (for t e b o) s = for t e b (has_suite s)
 with_else (try b cs o f) s = try b cs (has_suite s) f
-with_else k s = k
+with_else (def x ps ds c b) s = def x ps ds c b
+with_else (match e last cs) s = match e last cs
 
 -- The statement so far, where the suite is closed.
 abbrev pub closed : Owner → Suite → StmtKind

@@ -3,7 +3,7 @@ use Rattle.std.specs.Prelude.{ℕ, zero, suc, Bool, true, false, List, [], ◌�
 use Rattle.py_token.specs.declared.token.Keyword.TheVariants as word
 use Rattle.py_token.specs.declared.token.Mark.TheVariants as mark
 use Rattle.py_syntax.specs.Tree.{Text, Expr, Exprs}
-use Rattle.py_syntax.specs.Tree.{Stmts, no_stmts, stmt, Suite, suite, OptSuite, no_suite, has_suite, Arms, no_arms, arm, Clauses, no_clauses, clause, Cases, no_cases, case, StmtKind, if', while, for, try, def, match}
+use Rattle.py_syntax.specs.Tree.{Stmts, no_stmts, stmt, Suite, suite, OptSuite, no_suite, has_suite, Arms, no_arms, arm, Clauses, no_clauses, clause, Cases, no_cases, case, StmtKind, expr, assign, aug_assign, pass, break, continue, return, raise, assert, global, import, from, if', while, for, try, def, match}
 use Rattle.py_syntax.specs.Kinds.{Kind, Name, Word, Sign}
 use Rattle.py_syntax.specs.Tokens.{tokens, pattern_tokens}
 use Rattle.py_syntax.specs.Headers.{Marked, kinds_marked}
@@ -30,13 +30,24 @@ abbrev mutual
   stmts_past (stmt first last k e ss) p = stmts_past ss (kinds_past (end_tokens e) (kind_past k p))
 
   pub kind_past : StmtKind → ℕ → ℕ
+  kind_past (expr e) p = kinds_past (kinds_marked (kind_tokens (expr e) [])) p
+  kind_past (assign ts e) p = kinds_past (kinds_marked (kind_tokens (assign ts e) [])) p
+  kind_past (aug_assign t op e) p = kinds_past (kinds_marked (kind_tokens (aug_assign t op e) [])) p
+  kind_past pass p = kinds_past (kinds_marked (kind_tokens pass [])) p
+  kind_past break p = kinds_past (kinds_marked (kind_tokens break [])) p
+  kind_past continue p = kinds_past (kinds_marked (kind_tokens continue [])) p
+  kind_past (return e) p = kinds_past (kinds_marked (kind_tokens (return e) [])) p
+  kind_past (raise e) p = kinds_past (kinds_marked (kind_tokens (raise e) [])) p
+  kind_past (assert t e) p = kinds_past (kinds_marked (kind_tokens (assert t e) [])) p
+  kind_past (global xs) p = kinds_past (kinds_marked (kind_tokens (global xs) [])) p
+  kind_past (import names) p = kinds_past (kinds_marked (kind_tokens (import names) [])) p
+  kind_past (from m names) p = kinds_past (kinds_marked (kind_tokens (from m names) [])) p
   kind_past (if' arms o) p = opt_past o (arms_past arms p)
   kind_past (while t b o) p = opt_past o (suite_past b (kinds_past (test_head word.While t) p))
   kind_past (for t e b o) p = opt_past o (suite_past b (kinds_past (for_head t e) p))
   kind_past (try b cs o f) p = opt_past f (opt_past o (clauses_past cs (suite_past b (suc (suc p)))))
   kind_past (def x ps ds c b) p = suite_past b (kinds_past (def_head x ps ds c) p)
   kind_past (match e last cs) p = suc (cases_past cs (suc (suc (kinds_past (match_head e) (suc p)))))
-  kind_past k p = kinds_past (kinds_marked (kind_tokens k [])) p
 
   pub suite_past : Suite → ℕ → ℕ
   suite_past (suite first last true b) p = stmts_past b p
@@ -81,13 +92,24 @@ abbrev mutual
   relined src (stmt first last k e ss) p = stmt (src.first p) (last_before src (kind_past k p)) (relined_kind src k p) e (relined src ss (kinds_past (end_tokens e) (kind_past k p)))
 
   pub relined_kind : Source → StmtKind → ℕ → StmtKind
+  relined_kind src (expr e) p = expr e
+  relined_kind src (assign ts e) p = assign ts e
+  relined_kind src (aug_assign t op e) p = aug_assign t op e
+  relined_kind src pass p = pass
+  relined_kind src break p = break
+  relined_kind src continue p = continue
+  relined_kind src (return e) p = return e
+  relined_kind src (raise e) p = raise e
+  relined_kind src (assert t e) p = assert t e
+  relined_kind src (global xs) p = global xs
+  relined_kind src (import names) p = import names
+  relined_kind src (from m names) p = from m names
   relined_kind src (if' arms o) p = if' (relined_arms src arms p) (relined_opt src o (arms_past arms p))
   relined_kind src (while t b o) p = while t (relined_suite src b p (kinds_past (test_head word.While t) p)) (relined_opt src o (suite_past b (kinds_past (test_head word.While t) p)))
   relined_kind src (for t e b o) p = for t e (relined_suite src b p (kinds_past (for_head t e) p)) (relined_opt src o (suite_past b (kinds_past (for_head t e) p)))
   relined_kind src (try b cs o f) p = try (relined_suite src b p (suc (suc p))) (relined_clauses src cs (suite_past b (suc (suc p)))) (relined_opt src o (clauses_past cs (suite_past b (suc (suc p))))) (relined_opt src f (opt_past o (clauses_past cs (suite_past b (suc (suc p))))))
   relined_kind src (def x ps ds c b) p = def x ps ds c (relined_suite src b p (kinds_past (def_head x ps ds c) p))
   relined_kind src (match e last cs) p = match e (last_before src (kinds_past (match_head e) (suc p))) (relined_cases src cs (suc (suc (kinds_past (match_head e) (suc p)))))
-  relined_kind src k p = k
 
   -- a suite whose header begins at the first place, and whose tokens begin at the second
   pub relined_suite : Source → Suite → ℕ → ℕ → Suite

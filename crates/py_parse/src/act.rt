@@ -10,12 +10,12 @@ ghost use Rattle.py_parse.specs.HeldStates.{kind_at, first_at, last_at, view_blo
 
 use crate::begin::begin_simple;
 use crate::block::{Block, Lines, add, line_end, opened};
+use crate::kinds::{boxed_owner, left};
 use crate::lists::{has_names, is_colon, is_newline, is_right_paren, name_in};
 use crate::names::{behind_name, may_bind};
 use crate::owner::{Choice, Owner, Signature, Tried};
 use crate::places::{Listed, Place, Resume, State, Turn};
 use crate::simple::{end_header, end_line, end_simple, ends_simple};
-use crate::values::left;
 use py_syntax::{Expr, StmtKind};
 use py_token::{Keyword, Mark, Token, TokenKind};
 use py_value::{NoMemory, Text};
@@ -35,18 +35,18 @@ pub fn turn(state: Option<State>) -> Turn
 #[tactic(auto, using(crate::proofs::Acts::semicolon_line, crate::proofs::Acts::semicolon_turn))]
 pub fn behind_semicolon(
     alloc: Global,
-    kind: StmtKind,
+    kind: Box<StmtKind>,
     lines: Lines,
     block: Block,
     token: &Token,
 ) -> Result<Turn, NoMemory>
-    ensures { Acts token.now (act (Semicolon (plain_kind kind)) (view_lines lines) (view_block block) (kind_at token.now) (first_at token.now) (last_at token.now)) result }
+    ensures { Acts token.now (act (Semicolon (plain_kind kind.value)) (view_lines lines) (view_block block) (kind_at token.now) (first_at token.now) (last_at token.now)) result }
 {
     if is_newline(token) {
         return Ok(Turn::Next(end_line(alloc, kind, true, lines, block, token.last)?));
     }
     let block = add(block, lines.begun, lines.last, kind, line_end(true, false))?;
-    Ok(begin_simple(alloc, block, token))
+    begin_simple(alloc, block, token)
 }
 
 /// Behind `return` or `raise`.
@@ -61,7 +61,7 @@ pub fn behind_leaving(
     ensures { Acts token.now (act (Leaving raises) (view_lines lines) (view_block block) (kind_at token.now) (first_at token.now) (last_at token.now)) result }
 {
     if ends_simple(token) {
-        let kind = left(raises, None);
+        let kind = left(alloc, raises, None)?;
         let state = end_simple(alloc, kind, lines, block, token)?;
         return Ok(turn(state));
     }
@@ -195,6 +195,7 @@ pub fn at_params(alloc: Global, name: Text, lines: Lines, block: Block, token: &
 /// Where a parameter may come.
 #[tactic(auto, using(crate::proofs::Acts::param_some, crate::proofs::Acts::param_close, crate::proofs::Acts::param_none))]
 pub fn at_param(
+    alloc: Global,
     signature: Signature,
     lines: Lines,
     block: Block,
@@ -213,39 +214,43 @@ pub fn at_param(
         return Ok(Turn::Stuck);
     }
     let comma = has_names(&signature.params);
-    Ok(Turn::Next(State::At(
-        Place::ColonWanted(Owner::Def(signature, comma)),
-        lines.onward(token.last),
-        block,
-    )))
+    let owner = boxed_owner(alloc, Owner::Def(signature, comma))?;
+    Ok(Turn::Next(State::At(Place::ColonWanted(owner), lines.onward(token.last), block)))
 }
 
 /// Behind `except`.
-pub fn behind_except(tried: Tried, lines: Lines, block: Block, token: &Token) -> Turn
-    ensures { ActsAs (kind_at token.now) (first_at token.now) (last_at token.now) (act (Except (plain_suite tried.body) (plain_clauses tried.clauses.items)) (view_lines lines) (view_block block) (kind_at token.now) (first_at token.now) (last_at token.now)) result }
+pub fn behind_except(
+    alloc: Global,
+    tried: Tried,
+    lines: Lines,
+    block: Block,
+    token: &Token,
+) -> Result<Turn, NoMemory>
+    ensures { Acts token.now (act (Except (plain_suite tried.body) (plain_clauses tried.clauses.items)) (view_lines lines) (view_block block) (kind_at token.now) (first_at token.now) (last_at token.now)) result }
 {
     if is_colon(token) {
-        let owner = Owner::Clause(tried, None, None);
-        return turn(end_header(owner, lines, block, token));
+        let owner = boxed_owner(alloc, Owner::Clause(tried, None, None))?;
+        return Ok(turn(end_header(owner, lines, block, token)));
     }
-    Turn::Reads(Resume::ClauseKind(tried), lines.onward(token.last), block)
+    Ok(Turn::Reads(Resume::ClauseKind(tried), lines.onward(token.last), block))
 }
 
 /// Behind the `as` of a clause.
 #[tactic(auto, using(crate::proofs::Acts::clause_some, crate::proofs::Acts::clause_none))]
 pub fn at_clause_name(
+    alloc: Global,
     tried: Tried,
-    kind: Expr,
+    kind: Box<Expr>,
     lines: Lines,
     block: Block,
     token: &Token,
 ) -> Result<Turn, NoMemory>
-    ensures { Acts token.now (act (ClauseBound (plain_suite tried.body) (plain_clauses tried.clauses.items) (plain_expr kind)) (view_lines lines) (view_block block) (kind_at token.now) (first_at token.now) (last_at token.now)) result }
+    ensures { Acts token.now (act (ClauseBound (plain_suite tried.body) (plain_clauses tried.clauses.items) (plain_expr kind.value)) (view_lines lines) (view_block block) (kind_at token.now) (first_at token.now) (last_at token.now)) result }
 {
     let Some(name) = name_in(token)? else {
         return Ok(Turn::Stuck);
     };
-    let owner = Owner::Clause(tried, Some(kind), Some(name));
+    let owner = boxed_owner(alloc, Owner::Clause(tried, Some(kind), Some(name)))?;
     Ok(Turn::Next(State::At(Place::ColonWanted(owner), lines.onward(token.last), block)))
 }
 
@@ -253,18 +258,18 @@ pub fn at_clause_name(
 #[tactic(auto, using(crate::proofs::Acts::suite_line, crate::proofs::Acts::suite_turn))]
 pub fn at_suite(
     alloc: Global,
-    owner: Owner,
+    owner: Box<Owner>,
     lines: Lines,
     block: Block,
     token: &Token,
 ) -> Result<Turn, NoMemory>
-    ensures { Acts token.now (act (SuiteWanted (view_owner owner)) (view_lines lines) (view_block block) (kind_at token.now) (first_at token.now) (last_at token.now)) result }
+    ensures { Acts token.now (act (SuiteWanted (view_owner owner.value)) (view_lines lines) (view_block block) (kind_at token.now) (first_at token.now) (last_at token.now)) result }
 {
     if is_newline(token) {
         return Ok(Turn::Next(State::At(Place::IndentWanted(owner), lines, block)));
     }
     let block = opened(alloc, block, true, lines, owner)?;
-    Ok(begin_simple(alloc, block, token))
+    begin_simple(alloc, block, token)
 }
 
 fn is_indent(token: &Token) -> bool
@@ -280,12 +285,12 @@ fn is_indent(token: &Token) -> bool
 #[tactic(auto, using(crate::proofs::Blocks::block_opens, crate::proofs::Blocks::block_none))]
 pub fn at_block(
     alloc: Global,
-    owner: Owner,
+    owner: Box<Owner>,
     lines: Lines,
     block: Block,
     token: &Token,
 ) -> Result<Option<State>, NoMemory>
-    ensures { Makes (act (IndentWanted (view_owner owner)) (view_lines lines) (view_block block) (kind_at token.now) (first_at token.now) (last_at token.now)) result }
+    ensures { Makes (act (IndentWanted (view_owner owner.value)) (view_lines lines) (view_block block) (kind_at token.now) (first_at token.now) (last_at token.now)) result }
 {
     if !is_indent(token) {
         return Ok(None);
@@ -295,13 +300,13 @@ pub fn at_block(
 
 /// Behind the colon of a `match` header.
 pub fn at_match_line(
-    subject: Expr,
+    subject: Box<Expr>,
     header_last: u32,
     lines: Lines,
     block: Block,
     token: &Token,
 ) -> Turn
-    ensures { ActsAs (kind_at token.now) (first_at token.now) (last_at token.now) (act (MatchLine (plain_expr subject) header_last) (view_lines lines) (view_block block) (kind_at token.now) (first_at token.now) (last_at token.now)) result }
+    ensures { ActsAs (kind_at token.now) (first_at token.now) (last_at token.now) (act (MatchLine (plain_expr subject.value) header_last) (view_lines lines) (view_block block) (kind_at token.now) (first_at token.now) (last_at token.now)) result }
 {
     match &token.kind {
         TokenKind::Newline => Turn::Next(State::At(
@@ -316,23 +321,24 @@ pub fn at_match_line(
 /// Where the block of its cases is wanted.
 pub fn at_match_block(
     alloc: Global,
-    subject: Expr,
+    subject: Box<Expr>,
     header_last: u32,
     lines: Lines,
     block: Block,
     token: &Token,
-) -> Turn
-    ensures { ActsAs (kind_at token.now) (first_at token.now) (last_at token.now) (act (MatchBlock (plain_expr subject) header_last) (view_lines lines) (view_block block) (kind_at token.now) (first_at token.now) (last_at token.now)) result }
+) -> Result<Turn, NoMemory>
+    ensures { Acts token.now (act (MatchBlock (plain_expr subject.value) header_last) (view_lines lines) (view_block block) (kind_at token.now) (first_at token.now) (last_at token.now)) result }
 {
     match &token.kind {
         TokenKind::Indent => {
             let choice = Choice {
-                subject,
+                subject: Box::into_inner(subject),
                 header_last,
                 cases: Vec::new(alloc),
             };
-            Turn::Next(State::Choosing(choice, lines.begun, block))
+            let choice = Box::new(alloc, choice)?;
+            Ok(Turn::Next(State::Choosing(choice, lines.begun, block)))
         }
-        _ => Turn::Stuck,
+        _ => Ok(Turn::Stuck),
     }
 }

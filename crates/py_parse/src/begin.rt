@@ -2,9 +2,10 @@
 
 ghost use Rattle.std.specs.Prelude.{◌≡◌, Some, None, IfOk};
 ghost use Rattle.py_parse.specs.Machine.{simple_place, compound_place, begin_simple, begin_line, line};
-ghost use Rattle.py_parse.specs.HeldStates.{kind_at, first_at, last_at, view_block, view_place, view_lines, ActsAs, Acts, MakesPlace};
+ghost use Rattle.py_parse.specs.HeldStates.{kind_at, first_at, last_at, view_block, view_place, view_lines, Acts, MakesPlace};
 
 use crate::block::{Block, Lines};
+use crate::kinds::{boxed, boxed_owner};
 use crate::lists::{is_dedent, is_end};
 use crate::owner::Owner;
 use crate::places::{Listed, Place, Resume, State, Turn};
@@ -28,58 +29,68 @@ pub fn begun_at(token: &Token) -> Lines
 }
 
 /// The simple statements that begin with a keyword.
-fn simple_place(alloc: Global, token: &Token) -> Option<Place>
+fn simple_place(alloc: Global, token: &Token) -> Result<Option<Place>, NoMemory>
     ensures { MakesPlace (simple_place (kind_at token.now)) result }
 {
     match &token.kind {
-        TokenKind::Keyword(Keyword::Pass) => Some(Place::Simple(StmtKind::Pass)),
-        TokenKind::Keyword(Keyword::Break) => Some(Place::Simple(StmtKind::Break)),
-        TokenKind::Keyword(Keyword::Continue) => Some(Place::Simple(StmtKind::Continue)),
-        TokenKind::Keyword(Keyword::Return) => Some(Place::Leaving(false)),
-        TokenKind::Keyword(Keyword::Raise) => Some(Place::Leaving(true)),
-        TokenKind::Keyword(Keyword::Assert) => Some(Place::Wanted(Resume::Asserted)),
+        TokenKind::Keyword(Keyword::Pass) => {
+            Ok(Some(Place::Simple(boxed(alloc, StmtKind::Pass)?)))
+        }
+        TokenKind::Keyword(Keyword::Break) => {
+            Ok(Some(Place::Simple(boxed(alloc, StmtKind::Break)?)))
+        }
+        TokenKind::Keyword(Keyword::Continue) => {
+            Ok(Some(Place::Simple(boxed(alloc, StmtKind::Continue)?)))
+        }
+        TokenKind::Keyword(Keyword::Return) => Ok(Some(Place::Leaving(false))),
+        TokenKind::Keyword(Keyword::Raise) => Ok(Some(Place::Leaving(true))),
+        TokenKind::Keyword(Keyword::Assert) => Ok(Some(Place::Wanted(Resume::Asserted))),
         TokenKind::Keyword(Keyword::Global) => {
-            Some(Place::NameWanted(Listed::Globals(Vec::new(alloc))))
+            Ok(Some(Place::NameWanted(Listed::Globals(Vec::new(alloc)))))
         }
         TokenKind::Keyword(Keyword::Import) => {
-            Some(Place::NameWanted(Listed::Imports(Vec::new(alloc))))
+            Ok(Some(Place::NameWanted(Listed::Imports(Vec::new(alloc)))))
         }
-        TokenKind::Keyword(Keyword::From) => Some(Place::ModuleWanted),
-        _ => None,
+        TokenKind::Keyword(Keyword::From) => Ok(Some(Place::ModuleWanted)),
+        _ => Ok(None),
     }
 }
 
 /// And the compound ones.
-fn compound_place(alloc: Global, token: &Token) -> Option<Place>
+fn compound_place(alloc: Global, token: &Token) -> Result<Option<Place>, NoMemory>
     ensures { MakesPlace (compound_place (kind_at token.now)) result }
 {
     match &token.kind {
-        TokenKind::Keyword(Keyword::If) => Some(Place::Wanted(Resume::ArmTest(Vec::new(alloc)))),
-        TokenKind::Keyword(Keyword::While) => Some(Place::Wanted(Resume::WhileTest)),
-        TokenKind::Keyword(Keyword::For) => Some(Place::Wanted(Resume::ForTarget)),
-        TokenKind::Keyword(Keyword::Try) => Some(Place::ColonWanted(Owner::Try)),
-        TokenKind::Keyword(Keyword::Def) => Some(Place::FunctionWanted),
-        _ => None,
+        TokenKind::Keyword(Keyword::If) => {
+            Ok(Some(Place::Wanted(Resume::ArmTest(Vec::new(alloc)))))
+        }
+        TokenKind::Keyword(Keyword::While) => Ok(Some(Place::Wanted(Resume::WhileTest))),
+        TokenKind::Keyword(Keyword::For) => Ok(Some(Place::Wanted(Resume::ForTarget))),
+        TokenKind::Keyword(Keyword::Try) => {
+            Ok(Some(Place::ColonWanted(boxed_owner(alloc, Owner::Try)?)))
+        }
+        TokenKind::Keyword(Keyword::Def) => Ok(Some(Place::FunctionWanted)),
+        _ => Ok(None),
     }
 }
 
 /// A simple statement begins with the token.
-pub fn begin_simple(alloc: Global, block: Block, token: &Token) -> Turn
-    ensures { ActsAs (kind_at token.now) (first_at token.now) (last_at token.now) (begin_simple (view_block block) (kind_at token.now) (first_at token.now) (last_at token.now)) result }
+pub fn begin_simple(alloc: Global, block: Block, token: &Token) -> Result<Turn, NoMemory>
+    ensures { Acts token.now (begin_simple (view_block block) (kind_at token.now) (first_at token.now) (last_at token.now)) result }
 {
     let lines = begun_at(token);
-    match simple_place(alloc, token) {
-        Some(place) => Turn::Next(State::At(place, lines, block)),
-        None => Turn::Reads(Resume::Value(Vec::new(alloc)), lines, block),
+    match simple_place(alloc, token)? {
+        Some(place) => Ok(Turn::Next(State::At(place, lines, block))),
+        None => Ok(Turn::Reads(Resume::Value(Vec::new(alloc)), lines, block)),
     }
 }
 
 /// Any statement but a `match`.
-fn begin_line(alloc: Global, block: Block, token: &Token) -> Turn
-    ensures { ActsAs (kind_at token.now) (first_at token.now) (last_at token.now) (begin_line (view_block block) (kind_at token.now) (first_at token.now) (last_at token.now)) result }
+fn begin_line(alloc: Global, block: Block, token: &Token) -> Result<Turn, NoMemory>
+    ensures { Acts token.now (begin_line (view_block block) (kind_at token.now) (first_at token.now) (last_at token.now)) result }
 {
-    match compound_place(alloc, token) {
-        Some(place) => Turn::Next(State::At(place, begun_at(token), block)),
+    match compound_place(alloc, token)? {
+        Some(place) => Ok(Turn::Next(State::At(place, begun_at(token), block))),
         None => begin_simple(alloc, block, token),
     }
 }
@@ -95,5 +106,5 @@ pub fn line(alloc: Global, block: Block, token: &Token) -> Result<Turn, NoMemory
     if is_dedent(token) && block.ends() {
         return Ok(Turn::Next(close(alloc, block, token.last)?));
     }
-    Ok(begin_line(alloc, block, token))
+    begin_line(alloc, block, token)
 }

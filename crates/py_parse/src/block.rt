@@ -39,7 +39,7 @@ impl Lines {
 pub struct Open {
     pub inline: bool,
     pub lines: Lines,
-    pub owner: Owner,
+    pub owner: Box<Owner>,
     pub outer: Vec<Stmt>,
 }
 
@@ -63,13 +63,14 @@ pub fn add(
     block: Block,
     first: u32,
     last: u32,
-    kind: StmtKind,
+    kind: Box<StmtKind>,
     end: LineEnd,
 ) -> Result<Block, NoMemory>
-    ensures { IfOk result (λ b. view_block b ≡ add (view_block block) first last (plain_kind kind) end) }
+    ensures { IfOk result (λ b. view_block b ≡ add (view_block block) first last (plain_kind kind.value) end) }
 {
     let Block { body, open } = block;
     let mut body = body;
+    let kind = Box::into_inner(kind);
     body.push(Stmt {
         first,
         last,
@@ -86,9 +87,9 @@ pub fn opened(
     block: Block,
     inline: bool,
     lines: Lines,
-    owner: Owner,
+    owner: Box<Owner>,
 ) -> Result<Block, NoMemory>
-    ensures { IfOk result (λ b. view_block b ≡ inside no_stmts inline lines.first lines.last lines.begun (view_owner owner) (view_block block)) }
+    ensures { IfOk result (λ b. view_block b ≡ inside no_stmts inline lines.first lines.last lines.begun (view_owner owner.value) (view_block block)) }
 {
     let Block { body, open } = block;
     let mut open = open;

@@ -5,6 +5,7 @@ mod act;
 mod begin;
 mod block;
 mod error;
+mod kinds;
 mod laws;
 mod lists;
 mod match_headers;

@@ -45,5 +45,5 @@ pub fn behind_name(
     if is_comma(token) {
         return Ok(Some(State::At(Place::NameWanted(names), lines.onward(token.last), block)));
     }
-    end_simple(alloc, names.listed(), lines, block, token)
+    end_simple(alloc, names.listed(alloc)?, lines, block, token)
 }

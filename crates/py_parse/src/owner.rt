@@ -1,14 +1,15 @@
 // What an open suite belongs to: a part of a compound statement, with what was read of the statement before it.
 
 ghost use Rattle.std.specs.Prelude.{◌≡◌, Some, None, IfOk, option_map};
-ghost use Rattle.py_syntax.specs.Tree.{no_suite, has_suite, try, def, match};
+ghost use Rattle.py_syntax.specs.Tree.{no_suite, for, try, def, match};
 ghost use Rattle.py_syntax.specs.View.{plain_expr, plain_exprs, plain_pattern, plain_kind, plain_suite, plain_arms, plain_clauses, plain_cases};
 ghost use Rattle.py_parse.specs.Open.{snoc_arm, snoc_clause, snoc_case, with_else, closed};
 ghost use Rattle.py_parse.specs.Machine.{Choosing, over_suite};
-ghost use Rattle.py_parse.specs.HeldOwners.{view_owner};
+ghost use Rattle.py_parse.specs.HeldOwners.{boxed_expr, view_owner};
 ghost use Rattle.py_parse.specs.HeldStates.{view_block, view_state};
 
 use crate::block::Block;
+use crate::kinds::{boxed, unboxed};
 use crate::places::State;
 use py_syntax::{Arm, Case, Clause, Expr, Pattern, StmtKind, Suite};
 use py_value::{NoMemory, Text};
@@ -39,16 +40,16 @@ pub struct Signature {
 
 /// What an open suite belongs to.
 pub enum Owner {
-    Arm(Vec<Arm>, Expr),
-    While(Expr),
-    For(Expr, Expr),
+    Arm(Vec<Arm>, Box<Expr>),
+    While(Box<Expr>),
+    For(Box<Expr>, Box<Expr>),
     Try,
-    Clause(Tried, Option<Expr>, Option<Text>),
+    Clause(Tried, Option<Box<Expr>>, Option<Text>),
     /// The `else` of a statement that has none yet.
-    Else(StmtKind),
+    Else(Box<StmtKind>),
     Finally(Tried, Option<Suite>),
     Def(Signature, bool),
-    Case(Choice, Pattern, Option<Expr>),
+    Case(Box<Choice>, Box<Pattern>, Option<Box<Expr>>),
 }
 
 impl Drop for Owner {
@@ -131,15 +132,11 @@ fn with_else(kind: StmtKind, suite: Suite) -> StmtKind
     ensures { plain_kind result ≡ with_else (plain_kind kind) (plain_suite suite) }
 {
     match kind {
-        StmtKind::If { arms, orelse: _ } => StmtKind::If {
+        StmtKind::If { arms, .. } => StmtKind::If {
             arms,
             orelse: Some(suite),
         },
-        StmtKind::While {
-            test,
-            body,
-            orelse: _,
-        } => StmtKind::While {
+        StmtKind::While { test, body, .. } => StmtKind::While {
             test,
             body,
             orelse: Some(suite),
@@ -148,7 +145,7 @@ fn with_else(kind: StmtKind, suite: Suite) -> StmtKind
             target,
             over,
             body,
-            orelse: _,
+            ..
         } => StmtKind::For {
             target,
             over,
@@ -158,8 +155,8 @@ fn with_else(kind: StmtKind, suite: Suite) -> StmtKind
         StmtKind::Try {
             body,
             clauses,
-            orelse: _,
             finally,
+            ..
         } => StmtKind::Try {
             body,
             clauses,
@@ -183,14 +180,16 @@ fn with_else(kind: StmtKind, suite: Suite) -> StmtKind
     }
 }
 
-/// The `match` statement with its cases.
-pub fn matched(choice: Choice) -> StmtKind
-    ensures { plain_kind result ≡ match (plain_expr choice.subject) choice.header_last (plain_cases choice.cases.items) }
+/// A `for` with its suite.
+#[tactic(auto, using(crate::proofs::HeldKinds::looped_is))]
+fn looped(target: Box<Expr>, over: Box<Expr>, body: Suite) -> StmtKind
+    ensures { plain_kind result ≡ for (plain_expr target.value) (plain_expr over.value) (plain_suite body) no_suite }
 {
-    StmtKind::Match {
-        subject: choice.subject,
-        header_last: choice.header_last,
-        cases: choice.cases,
+    StmtKind::For {
+        target: Box::into_inner(target),
+        over: Box::into_inner(over),
+        body,
+        orelse: None,
     }
 }
 
@@ -227,39 +226,50 @@ fn defined(signature: Signature, comma: bool, body: Suite) -> StmtKind
 
 /// A `match` with one case more.
 fn chosen(
-    choice: Choice,
-    pattern: Pattern,
-    guard: Option<Expr>,
+    choice: Box<Choice>,
+    pattern: Box<Pattern>,
+    guard: Option<Box<Expr>>,
     suite: Suite,
 ) -> Result<StmtKind, NoMemory>
-    ensures { IfOk result (λ k. plain_kind k ≡ match (plain_expr choice.subject) choice.header_last (snoc_case (plain_cases choice.cases.items) (plain_pattern pattern) (option_map plain_expr guard) (plain_suite suite))) }
+    ensures { IfOk result (λ k. plain_kind k ≡ match (plain_expr choice.value.subject) choice.value.header_last (snoc_case (plain_cases choice.value.cases.items) (plain_pattern pattern.value) (option_map boxed_expr guard) (plain_suite suite))) }
 {
-    let cases = add_case(choice.cases, pattern, guard, suite)?;
+    let Choice {
+        subject,
+        header_last,
+        cases,
+    } = Box::into_inner(choice);
+    let cases = add_case(cases, Box::into_inner(pattern), unboxed(guard), suite)?;
     Ok(StmtKind::Match {
-        subject: choice.subject,
-        header_last: choice.header_last,
+        subject,
+        header_last,
         cases,
     })
 }
 
 /// Behind a case.
 fn choosing(
-    choice: Choice,
-    pattern: Pattern,
-    guard: Option<Expr>,
+    alloc: Global,
+    choice: Box<Choice>,
+    pattern: Box<Pattern>,
+    guard: Option<Box<Expr>>,
     suite: Suite,
     begun: u32,
     outer: Block,
 ) -> Result<State, NoMemory>
-    ensures { IfOk result (λ s. view_state s ≡ Choosing (plain_expr choice.subject) choice.header_last (snoc_case (plain_cases choice.cases.items) (plain_pattern pattern) (option_map plain_expr guard) (plain_suite suite)) begun (view_block outer)) }
+    ensures { IfOk result (λ s. view_state s ≡ Choosing (plain_expr choice.value.subject) choice.value.header_last (snoc_case (plain_cases choice.value.cases.items) (plain_pattern pattern.value) (option_map boxed_expr guard) (plain_suite suite)) begun (view_block outer)) }
 {
-    let cases = add_case(choice.cases, pattern, guard, suite)?;
+    let Choice {
+        subject,
+        header_last,
+        cases,
+    } = Box::into_inner(choice);
+    let cases = add_case(cases, Box::into_inner(pattern), unboxed(guard), suite)?;
     let choice = Choice {
-        subject: choice.subject,
-        header_last: choice.header_last,
+        subject,
+        header_last,
         cases,
     };
-    Ok(State::Choosing(choice, begun, outer))
+    Ok(State::Choosing(Box::new(alloc, choice)?, begun, outer))
 }
 
 impl Owner {
@@ -269,28 +279,23 @@ impl Owner {
     {
         match self {
             Owner::Arm(arms, test) => Ok(StmtKind::If {
-                arms: add_arm(arms, test, suite)?,
+                arms: add_arm(arms, Box::into_inner(test), suite)?,
                 orelse: None,
             }),
             Owner::While(test) => Ok(StmtKind::While {
-                test,
+                test: Box::into_inner(test),
                 body: suite,
                 orelse: None,
             }),
-            Owner::For(target, over) => Ok(StmtKind::For {
-                target,
-                over,
-                body: suite,
-                orelse: None,
-            }),
+            Owner::For(target, over) => Ok(looped(target, over, suite)),
             Owner::Try => Ok(StmtKind::Try {
                 body: suite,
                 clauses: Vec::new(alloc),
                 orelse: None,
                 finally: None,
             }),
-            Owner::Clause(tried, kind, bound) => handled(tried, kind, bound, suite),
-            Owner::Else(kind) => Ok(with_else(kind, suite)),
+            Owner::Clause(tried, kind, bound) => handled(tried, unboxed(kind), bound, suite),
+            Owner::Else(kind) => Ok(with_else(Box::into_inner(kind), suite)),
             Owner::Finally(tried, orelse) => Ok(StmtKind::Try {
                 body: tried.body,
                 clauses: tried.clauses,
@@ -323,10 +328,10 @@ impl Owner {
             | Owner::Finally(..)
             | Owner::Def(..)) => {
                 let kind = owner.closed(alloc, suite)?;
-                Ok(State::Behind(kind, begun, last, outer))
+                Ok(State::Behind(boxed(alloc, kind)?, begun, last, outer))
             }
             Owner::Case(choice, pattern, guard) => {
-                choosing(choice, pattern, guard, suite, begun, outer)
+                choosing(alloc, choice, pattern, guard, suite, begun, outer)
             }
         }
     }

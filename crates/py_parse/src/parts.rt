@@ -1,40 +1,60 @@
 // Statements go on behind a suite.
 
-ghost use Rattle.std.specs.Prelude.{◌≡◌, Some, None, option_map};
+ghost use Rattle.std.specs.Prelude.{◌≡◌, IfOk};
 ghost use Rattle.py_syntax.specs.Tree.{no_suite, has_suite, if', while, for, try};
 ghost use Rattle.py_syntax.specs.Kinds.{Word};
 ghost use Rattle.py_token.specs.declared.token.Keyword.TheVariants as word;
 ghost use Rattle.py_syntax.specs.View.{plain_expr, plain_kind, plain_suite, plain_opt_suite, plain_arms, plain_clauses};
-ghost use Rattle.py_parse.specs.Machine.{is_whole};
+ghost use Rattle.py_parse.specs.Open.{an_else, a_finally};
+ghost use Rattle.py_parse.specs.Machine.{ColonWanted, is_whole};
 ghost use Rattle.py_parse.specs.HeldStates.{kind_at, first_at, last_at, view_place};
 ghost use Rattle.py_parse.specs.HeldParts.{IsPart};
 
+use crate::kinds::{boxed, boxed_owner};
 use crate::lists::has_clauses;
 use crate::owner::{Owner, Tried};
 use crate::places::{Place, Resume};
 use py_syntax::{Arm, Expr, StmtKind, Suite};
 use py_token::{Keyword, Token, TokenKind};
+use py_value::NoMemory;
+use std::alloc::Global;
 
 /// What a token is to a compound statement: a further part begins with it, or the statement is whole.
 pub enum Part {
     Next(Place),
-    Whole(StmtKind),
+    Whole(Box<StmtKind>),
 }
 
-fn behind_if(arms: Vec<Arm>, token: &Token) -> Part
+/// The `else` suite of a statement is wanted.
+fn else_wanted(alloc: Global, kind: Box<StmtKind>) -> Result<Place, NoMemory>
+    ensures { IfOk result (λ p. view_place p ≡ ColonWanted (an_else (plain_kind kind.value))) }
+{
+    Ok(Place::ColonWanted(boxed_owner(alloc, Owner::Else(kind))?))
+}
+
+/// The `finally` suite of a `try` is wanted.
+fn finally_wanted(alloc: Global, tried: Tried, orelse: Option<Suite>) -> Result<Place, NoMemory>
+    ensures { IfOk result (λ p. view_place p ≡ ColonWanted (a_finally (plain_suite tried.body) (plain_clauses tried.clauses.items) (plain_opt_suite orelse))) }
+{
+    Ok(Place::ColonWanted(boxed_owner(alloc, Owner::Finally(tried, orelse))?))
+}
+
+fn behind_if(alloc: Global, arms: Vec<Arm>, token: &Token) -> Result<Part, NoMemory>
     ensures { IsPart (if' (plain_arms arms.items) no_suite) (kind_at token.now) result }
 {
     match &token.kind {
-        TokenKind::Keyword(Keyword::Elif) => Part::Next(Place::Wanted(Resume::ArmTest(arms))),
-        TokenKind::Keyword(Keyword::Else) => {
-            let kind = StmtKind::If { arms, orelse: None };
-            Part::Next(Place::ColonWanted(Owner::Else(kind)))
+        TokenKind::Keyword(Keyword::Elif) => {
+            Ok(Part::Next(Place::Wanted(Resume::ArmTest(arms))))
         }
-        _ => Part::Whole(StmtKind::If { arms, orelse: None }),
+        TokenKind::Keyword(Keyword::Else) => {
+            let kind = boxed(alloc, StmtKind::If { arms, orelse: None })?;
+            Ok(Part::Next(else_wanted(alloc, kind)?))
+        }
+        _ => Ok(Part::Whole(boxed(alloc, StmtKind::If { arms, orelse: None })?)),
     }
 }
 
-fn behind_while(test: Expr, body: Suite, token: &Token) -> Part
+fn behind_while(alloc: Global, test: Expr, body: Suite, token: &Token) -> Result<Part, NoMemory>
     ensures { IsPart (while (plain_expr test) (plain_suite body) no_suite) (kind_at token.now) result }
 {
     let kind = StmtKind::While {
@@ -42,13 +62,20 @@ fn behind_while(test: Expr, body: Suite, token: &Token) -> Part
         body,
         orelse: None,
     };
+    let kind = boxed(alloc, kind)?;
     match &token.kind {
-        TokenKind::Keyword(Keyword::Else) => Part::Next(Place::ColonWanted(Owner::Else(kind))),
-        _ => Part::Whole(kind),
+        TokenKind::Keyword(Keyword::Else) => Ok(Part::Next(else_wanted(alloc, kind)?)),
+        _ => Ok(Part::Whole(kind)),
     }
 }
 
-fn behind_for(target: Expr, over: Expr, body: Suite, token: &Token) -> Part
+fn behind_for(
+    alloc: Global,
+    target: Expr,
+    over: Expr,
+    body: Suite,
+    token: &Token,
+) -> Result<Part, NoMemory>
     ensures { IsPart (for (plain_expr target) (plain_expr over) (plain_suite body) no_suite) (kind_at token.now) result }
 {
     let kind = StmtKind::For {
@@ -57,32 +84,41 @@ fn behind_for(target: Expr, over: Expr, body: Suite, token: &Token) -> Part
         body,
         orelse: None,
     };
+    let kind = boxed(alloc, kind)?;
     match &token.kind {
-        TokenKind::Keyword(Keyword::Else) => Part::Next(Place::ColonWanted(Owner::Else(kind))),
-        _ => Part::Whole(kind),
+        TokenKind::Keyword(Keyword::Else) => Ok(Part::Next(else_wanted(alloc, kind)?)),
+        _ => Ok(Part::Whole(kind)),
     }
 }
 
 /// Behind the `else` suite of a `try`.
-fn behind_try_else(tried: Tried, orelse: Suite, token: &Token) -> Part
+fn behind_try_else(
+    alloc: Global,
+    tried: Tried,
+    orelse: Suite,
+    token: &Token,
+) -> Result<Part, NoMemory>
     ensures { IsPart (try (plain_suite tried.body) (plain_clauses tried.clauses.items) (has_suite (plain_suite orelse)) no_suite) (kind_at token.now) result }
 {
     match &token.kind {
         TokenKind::Keyword(Keyword::Finally) => {
-            Part::Next(Place::ColonWanted(Owner::Finally(tried, Some(orelse))))
+            Ok(Part::Next(finally_wanted(alloc, tried, Some(orelse))?))
         }
-        _ => Part::Whole(StmtKind::Try {
-            body: tried.body,
-            clauses: tried.clauses,
-            orelse: Some(orelse),
-            finally: None,
-        }),
+        _ => {
+            let kind = StmtKind::Try {
+                body: tried.body,
+                clauses: tried.clauses,
+                orelse: Some(orelse),
+                finally: None,
+            };
+            Ok(Part::Whole(boxed(alloc, kind)?))
+        }
     }
 }
 
 /// An `else` behind the clauses of a `try`, where it has any.
 #[tactic(auto, using(crate::proofs::HeldKinds::else_some, crate::proofs::HeldKinds::else_none))]
-fn try_else(tried: Tried) -> Part
+fn try_else(alloc: Global, tried: Tried) -> Result<Part, NoMemory>
     ensures { IsPart (try (plain_suite tried.body) (plain_clauses tried.clauses.items) no_suite no_suite) (Word word.Else) result }
 {
     let some = has_clauses(&tried.clauses);
@@ -92,49 +128,53 @@ fn try_else(tried: Tried) -> Part
         orelse: None,
         finally: None,
     };
+    let kind = boxed(alloc, kind)?;
     if some {
-        Part::Next(Place::ColonWanted(Owner::Else(kind)))
+        Ok(Part::Next(else_wanted(alloc, kind)?))
     } else {
-        Part::Whole(kind)
+        Ok(Part::Whole(kind))
     }
 }
 
 /// Behind the suite or a clause of a `try`.
-fn behind_try(tried: Tried, token: &Token) -> Part
+fn behind_try(alloc: Global, tried: Tried, token: &Token) -> Result<Part, NoMemory>
     ensures { IsPart (try (plain_suite tried.body) (plain_clauses tried.clauses.items) no_suite no_suite) (kind_at token.now) result }
 {
     match &token.kind {
-        TokenKind::Keyword(Keyword::Except) => Part::Next(Place::Except(tried)),
-        TokenKind::Keyword(Keyword::Else) => try_else(tried),
+        TokenKind::Keyword(Keyword::Except) => Ok(Part::Next(Place::Except(tried))),
+        TokenKind::Keyword(Keyword::Else) => try_else(alloc, tried),
         TokenKind::Keyword(Keyword::Finally) => {
-            Part::Next(Place::ColonWanted(Owner::Finally(tried, None)))
+            Ok(Part::Next(finally_wanted(alloc, tried, None)?))
         }
-        _ => Part::Whole(StmtKind::Try {
-            body: tried.body,
-            clauses: tried.clauses,
-            orelse: None,
-            finally: None,
-        }),
+        _ => {
+            let kind = StmtKind::Try {
+                body: tried.body,
+                clauses: tried.clauses,
+                orelse: None,
+                finally: None,
+            };
+            Ok(Part::Whole(boxed(alloc, kind)?))
+        }
     }
 }
 
 /// What the token behind a suite is to its statement.
-pub fn next_part(kind: StmtKind, token: &Token) -> Part
-    ensures { IsPart (plain_kind kind) (kind_at token.now) result }
+pub fn next_part(alloc: Global, kind: Box<StmtKind>, token: &Token) -> Result<Part, NoMemory>
+    ensures { IsPart (plain_kind kind.value) (kind_at token.now) result }
 {
-    match kind {
-        StmtKind::If { arms, orelse: None } => behind_if(arms, token),
+    match Box::into_inner(kind) {
+        StmtKind::If { arms, orelse: None } => behind_if(alloc, arms, token),
         StmtKind::While {
             test,
             body,
             orelse: None,
-        } => behind_while(test, body, token),
+        } => behind_while(alloc, test, body, token),
         StmtKind::For {
             target,
             over,
             body,
             orelse: None,
-        } => behind_for(target, over, body, token),
+        } => behind_for(alloc, target, over, body, token),
         StmtKind::Try {
             body,
             clauses,
@@ -143,8 +183,8 @@ pub fn next_part(kind: StmtKind, token: &Token) -> Part
         } => {
             let tried = Tried { body, clauses };
             match orelse {
-                Some(orelse) => behind_try_else(tried, orelse, token),
-                None => behind_try(tried, token),
+                Some(orelse) => behind_try_else(alloc, tried, orelse, token),
+                None => behind_try(alloc, tried, token),
             }
         }
         whole @ (StmtKind::Expr(_)
@@ -164,7 +204,7 @@ pub fn next_part(kind: StmtKind, token: &Token) -> Part
         | StmtKind::For { .. }
         | StmtKind::Try { .. }
         | StmtKind::Def { .. }
-        | StmtKind::Match { .. }) => Part::Whole(whole),
+        | StmtKind::Match { .. }) => Ok(Part::Whole(boxed(alloc, whole)?)),
     }
 }
 

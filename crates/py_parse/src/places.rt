@@ -12,6 +12,7 @@ use crate::act::{
 };
 use crate::begin::line;
 use crate::block::{Block, Lines};
+use crate::kinds::boxed;
 use crate::names::behind_name;
 use crate::owner::{Choice, Owner, Signature, Tried};
 use crate::simple::{end_header, end_simple};
@@ -27,17 +28,17 @@ use std::alloc::Global;
 pub enum Resume {
     /// An expression statement, or the value of an assignment with these targets; or one more target.
     Value(Vec<Expr>),
-    Augmented(Expr, BinOp),
+    Augmented(Box<Expr>, BinOp),
     Leaving(bool),
     Asserted,
-    Reason(Expr),
+    Reason(Box<Expr>),
     ArmTest(Vec<Arm>),
     WhileTest,
     ForTarget,
-    ForOver(Expr),
+    ForOver(Box<Expr>),
     ClauseKind(Tried),
     Subject,
-    Guard(Choice, Pattern),
+    Guard(Box<Choice>, Box<Pattern>),
     /// The default of a parameter, behind the others with theirs.
     Default(Signature, Text),
 }
@@ -67,11 +68,11 @@ pub enum Place {
     /// An expression begins.
     Wanted(Resume),
     /// The pattern of a `case` begins.
-    PatternWanted(Choice),
+    PatternWanted(Box<Choice>),
     /// Behind a simple statement that takes no more.
-    Simple(StmtKind),
+    Simple(Box<StmtKind>),
     /// Behind its semicolon.
-    Semicolon(StmtKind),
+    Semicolon(Box<StmtKind>),
     /// Behind `return` or `raise`.
     Leaving(bool),
     NameWanted(Listed),
@@ -90,13 +91,13 @@ pub enum Place {
     ParamRead(Signature, Text),
     Except(Tried),
     /// Behind the `as` of a clause.
-    ClauseBound(Tried, Expr),
-    ColonWanted(Owner),
-    SuiteWanted(Owner),
-    IndentWanted(Owner),
+    ClauseBound(Tried, Box<Expr>),
+    ColonWanted(Box<Owner>),
+    SuiteWanted(Box<Owner>),
+    IndentWanted(Box<Owner>),
     /// Behind the colon of a `match` header.
-    MatchLine(Expr, u32),
-    MatchBlock(Expr, u32),
+    MatchLine(Box<Expr>, u32),
+    MatchBlock(Box<Expr>, u32),
 }
 
 impl Drop for Place {
@@ -145,9 +146,9 @@ pub enum State {
     Line(Block),
     At(Place, Lines, Block),
     /// Behind a suite of a statement that may go on, which has these first and last lines.
-    Behind(StmtKind, u32, u32, Block),
+    Behind(Box<StmtKind>, u32, u32, Block),
     /// Between the cases of a `match`, which has this first line.
-    Choosing(Choice, u32, Block),
+    Choosing(Box<Choice>, u32, Block),
     /// Behind the end of the module.
     Over(Vec<Stmt>),
 }
@@ -180,18 +181,18 @@ pub enum Turn {
     /// An expression begins with the token, which isn't taken.
     Reads(Resume, Lines, Block),
     /// A pattern begins with it.
-    Matches(Choice, Lines, Block),
+    Matches(Box<Choice>, Lines, Block),
 }
 
 impl Listed {
     /// The statement with these names.
-    pub fn listed(self) -> StmtKind
-        ensures { plain_kind result ≡ listed (view_listed self) }
+    pub fn listed(self, alloc: Global) -> Result<Box<StmtKind>, NoMemory>
+        ensures { IfOk result (λ k. plain_kind k.value ≡ listed (view_listed self)) }
     {
         match self {
-            Listed::Globals(names) => StmtKind::Global(names),
-            Listed::Imports(names) => StmtKind::Import(names),
-            Listed::Froms(source, names) => StmtKind::From(source, names),
+            Listed::Globals(names) => boxed(alloc, StmtKind::Global(names)),
+            Listed::Imports(names) => boxed(alloc, StmtKind::Import(names)),
+            Listed::Froms(source, names) => boxed(alloc, StmtKind::From(source, names)),
         }
     }
 
@@ -247,21 +248,23 @@ impl Place {
             Place::ImportWanted(name) => Ok(behind_module(alloc, name, lines, block, token)),
             Place::FunctionWanted => at_function(lines, block, token),
             Place::ParamsWanted(name) => Ok(at_params(alloc, name, lines, block, token)),
-            Place::ParamWanted(signature) => at_param(signature, lines, block, token),
+            Place::ParamWanted(signature) => at_param(alloc, signature, lines, block, token),
             Place::ParamRead(signature, param) => Ok(turn(behind_param(
-                signature, param, lines, block, token,
+                alloc, signature, param, lines, block, token,
             )?)),
-            Place::Except(tried) => Ok(behind_except(tried, lines, block, token)),
-            Place::ClauseBound(tried, kind) => at_clause_name(tried, kind, lines, block, token),
+            Place::Except(tried) => behind_except(alloc, tried, lines, block, token),
+            Place::ClauseBound(tried, kind) => {
+                at_clause_name(alloc, tried, kind, lines, block, token)
+            }
             Place::ColonWanted(owner) => Ok(turn(end_header(owner, lines, block, token))),
             Place::SuiteWanted(owner) => at_suite(alloc, owner, lines, block, token),
             Place::IndentWanted(owner) => Ok(turn(at_block(alloc, owner, lines, block, token)?)),
             Place::MatchLine(subject, last) => {
                 Ok(at_match_line(subject, last, lines, block, token))
             }
-            Place::MatchBlock(subject, last) => Ok(at_match_block(
-                alloc, subject, last, lines, block, token,
-            )),
+            Place::MatchBlock(subject, last) => {
+                at_match_block(alloc, subject, last, lines, block, token)
+            }
         }
     }
 }
@@ -277,7 +280,9 @@ impl State {
             State::Behind(kind, first, last, block) => {
                 behind(alloc, kind, first, last, block, token)
             }
-            State::Choosing(choice, first, block) => Ok(turn(choose(choice, first, block, token))),
+            State::Choosing(choice, first, block) => {
+                Ok(turn(choose(alloc, choice, first, block, token)?))
+            }
             State::Over(body) => {
                 drop(body);
                 Ok(Turn::Stuck)

@@ -228,7 +228,11 @@ fn behind_expression(
 {
     let lines = lines.onward(tokens[read.next - 1].last);
     let token = &tokens[read.next];
-    let state = resume(alloc, purpose, read.expr, lines, block, token)?;
+    let Ok(expr) = Box::new(alloc, read.expr) else {
+        drop(purpose);
+        return Err(SyntaxError::NoMemory);
+    };
+    let state = resume(alloc, purpose, expr, lines, block, token)?;
     moved(tokens, read.next, state)
 }
 
@@ -266,19 +270,23 @@ fn expression(
 /// Behind the pattern of a `case`.
 #[tactic(auto, using(crate::proofs::Answering::later_still, crate::proofs::Answering::goes_later, crate::proofs::Answering::token_behind, crate::proofs::Answering::token_before, crate::proofs::Answering::not_first))]
 fn behind_pattern(
+    alloc: Global,
     tokens: &[Token],
     place: usize,
-    choice: Choice,
+    choice: Box<Choice>,
     lines: Lines,
     block: Block,
     read: PatternRead,
 ) -> Result<Progress, SyntaxError>
-    requires { Resumes (view_tokens tokens.now) place read.next (λ m k l. resume_pattern (plain_expr choice.subject) choice.header_last (plain_cases choice.cases.items) (plain_pattern read.pattern) m (view_block block) k l) (view_lines lines) }
+    requires { Resumes (view_tokens tokens.now) place read.next (λ m k l. resume_pattern (plain_expr choice.value.subject) choice.value.header_last (plain_cases choice.value.cases.items) (plain_pattern read.pattern) m (view_block block) k l) (view_lines lines) }
     ensures { Advances (view_tokens tokens.now) place result }
 {
     let lines = lines.onward(tokens[read.next - 1].last);
     let token = &tokens[read.next];
-    let state = resume_pattern(choice, read.pattern, lines, block, token);
+    let Ok(pattern) = Box::new(alloc, read.pattern) else {
+        return Err(SyntaxError::NoMemory);
+    };
+    let state = resume_pattern(alloc, choice, pattern, lines, block, token)?;
     moved(tokens, read.next, state)
 }
 
@@ -288,16 +296,16 @@ fn pattern(
     alloc: Global,
     tokens: &[Token],
     place: usize,
-    choice: Choice,
+    choice: Box<Choice>,
     lines: Lines,
     block: Block,
 ) -> Result<Progress, SyntaxError>
     requires inside { place < length tokens.now }
-    requires begins { MatchesFrom (view_tokens tokens.now) place (plain_expr choice.subject) choice.header_last (plain_cases choice.cases.items) (view_lines lines) (view_block block) }
+    requires begins { MatchesFrom (view_tokens tokens.now) place (plain_expr choice.value.subject) choice.value.header_last (plain_cases choice.value.cases.items) (view_lines lines) (view_block block) }
     ensures { Advances (view_tokens tokens.now) place result }
 {
     match read_patterns(alloc, tokens, place) {
-        Ok(read) => behind_pattern(tokens, place, choice, lines, block, read),
+        Ok(read) => behind_pattern(alloc, tokens, place, choice, lines, block, read),
         Err(ReadError::Unexpected(place)) => Err(unexpected(tokens, place)),
         Err(ReadError::TooDeep(place)) => Err(too_high(tokens, place)),
         Err(ReadError::NoMemory) => Err(SyntaxError::NoMemory),

@@ -39,7 +39,8 @@ pub fn close(alloc: Global, block: Block, last: u32) -> Result<State, NoMemory>
         inline,
         body,
     };
-    owner.over_suite(alloc, suite, lines.begun, last, Block { body: outer, open })
+    let outer = Block { body: outer, open };
+    Box::into_inner(owner).over_suite(alloc, suite, lines.begun, last, outer)
 }
 
 /// A line ends, and a suite that shares it.
@@ -57,13 +58,13 @@ fn over_line(alloc: Global, block: Block, last: u32) -> Result<State, NoMemory>
 /// A statement that ends its line.
 pub fn end_line(
     alloc: Global,
-    kind: StmtKind,
+    kind: Box<StmtKind>,
     semicolon: bool,
     lines: Lines,
     block: Block,
     last: u32,
 ) -> Result<State, NoMemory>
-    ensures { IfOk result (λ s. view_state s ≡ over_line (add (view_block block) lines.begun lines.last (plain_kind kind) (record { semicolon = semicolon; newline = true })) last) }
+    ensures { IfOk result (λ s. view_state s ≡ over_line (add (view_block block) lines.begun lines.last (plain_kind kind.value) (record { semicolon = semicolon; newline = true })) last) }
 {
     let block = add(
         block,
@@ -99,12 +100,12 @@ fn is_semicolon(token: &Token) -> bool
 #[tactic(auto, using(crate::proofs::Acts::simple_semicolon, crate::proofs::Acts::simple_newline, crate::proofs::Acts::simple_goes_on))]
 pub fn end_simple(
     alloc: Global,
-    kind: StmtKind,
+    kind: Box<StmtKind>,
     lines: Lines,
     block: Block,
     token: &Token,
 ) -> Result<Option<State>, NoMemory>
-    ensures { Makes (end_simple (plain_kind kind) (view_lines lines) (view_block block) (kind_at token.now) (last_at token.now)) result }
+    ensures { Makes (end_simple (plain_kind kind.value) (view_lines lines) (view_block block) (kind_at token.now) (last_at token.now)) result }
 {
     if is_semicolon(token) {
         return Ok(Some(State::At(Place::Semicolon(kind), lines, block)));
@@ -117,8 +118,8 @@ pub fn end_simple(
 }
 
 /// A header is whole.
-pub fn end_header(owner: Owner, lines: Lines, block: Block, token: &Token) -> Option<State>
-    ensures { end_header (view_owner owner) (view_lines lines) (view_block block) (kind_at token.now) (last_at token.now) ≡ option_map view_state result }
+pub fn end_header(owner: Box<Owner>, lines: Lines, block: Block, token: &Token) -> Option<State>
+    ensures { end_header (view_owner owner.value) (view_lines lines) (view_block block) (kind_at token.now) (last_at token.now) ≡ option_map view_state result }
 {
     match &token.kind {
         TokenKind::Mark(Mark::Colon) => {

@@ -4,12 +4,13 @@ ghost use Rattle.std.specs.Prelude.{◌≡◌, true, option_map};
 ghost use Rattle.py_syntax.specs.Headers.{is_match};
 ghost use Rattle.py_syntax.specs.View.{plain_expr, plain_kind, plain_cases};
 ghost use Rattle.py_parse.specs.Machine.{Behind, begun, choose, at_line, header_step, plain_step, step};
-ghost use Rattle.py_parse.specs.HeldStates.{kind_at, first_at, last_at, view_block, view_state, Acts, Rests};
+ghost use Rattle.py_parse.specs.HeldStates.{kind_at, first_at, last_at, view_block, view_state, Acts, Makes, Rests};
 
 use crate::begin::{begun_at, line};
 use crate::block::{Block, Lines, add, line_end};
+use crate::kinds::matched;
 use crate::lists::{has_cases, is_case, is_dedent};
-use crate::owner::{Choice, matched};
+use crate::owner::Choice;
 use crate::parts::{Part, is_whole, next_part};
 use crate::places::{Place, Resume, State, Turn};
 use py_syntax::StmtKind;
@@ -29,30 +30,42 @@ pub fn begun(alloc: Global) -> State
 
 /// Between the cases of a `match`, in its block.
 #[tactic(auto, using(crate::proofs::Acts::choose_ends, crate::proofs::Acts::choose_empty, crate::proofs::Acts::choose_case, crate::proofs::Acts::choose_other))]
-pub fn choose(choice: Choice, first: u32, block: Block, token: &Token) -> Option<State>
-    ensures { choose (plain_expr choice.subject) choice.header_last (plain_cases choice.cases.items) first (view_block block) (kind_at token.now) (first_at token.now) (last_at token.now) ≡ option_map view_state result }
+pub fn choose(
+    alloc: Global,
+    choice: Box<Choice>,
+    first: u32,
+    block: Block,
+    token: &Token,
+) -> Result<Option<State>, NoMemory>
+    ensures { Makes (choose (plain_expr choice.value.subject) choice.value.header_last (plain_cases choice.value.cases.items) first (view_block block) (kind_at token.now) (first_at token.now) (last_at token.now)) result }
 {
     if is_dedent(token) {
         if !has_cases(&choice.cases) {
-            return None;
+            return Ok(None);
         }
-        return Some(State::Behind(matched(choice), first, token.last, block));
+        let kind = matched(alloc, choice)?;
+        return Ok(Some(State::Behind(kind, first, token.last, block)));
     }
     if !is_case(token) {
-        return None;
+        return Ok(None);
     }
     let lines = Lines {
         begun: first,
         first: token.first,
         last: token.last,
     };
-    Some(State::At(Place::PatternWanted(choice), lines, block))
+    Ok(Some(State::At(Place::PatternWanted(choice), lines, block)))
 }
 
 /// A compound statement is put into its block, where it has all that it needs.
 #[tactic(auto, using(crate::proofs::Stepping::whole_put, crate::proofs::Stepping::part_waits))]
-pub fn put(kind: StmtKind, first: u32, last: u32, block: Block) -> Result<Option<Block>, NoMemory>
-    ensures { Rests (Behind (plain_kind kind) first last (view_block block)) result }
+pub fn put(
+    kind: Box<StmtKind>,
+    first: u32,
+    last: u32,
+    block: Block,
+) -> Result<Option<Block>, NoMemory>
+    ensures { Rests (Behind (plain_kind kind.value) first last (view_block block)) result }
 {
     if !is_whole(&kind) {
         drop(kind);
@@ -65,15 +78,15 @@ pub fn put(kind: StmtKind, first: u32, last: u32, block: Block) -> Result<Option
 #[tactic(auto, using(crate::proofs::Stepping::part_begins, crate::proofs::Stepping::part_over, crate::proofs::Stepping::part_stuck))]
 pub fn behind(
     alloc: Global,
-    kind: StmtKind,
+    kind: Box<StmtKind>,
     first: u32,
     last: u32,
     block: Block,
     token: &Token,
 ) -> Result<Turn, NoMemory>
-    ensures { Acts token.now (plain_step (Behind (plain_kind kind) first last (view_block block)) (kind_at token.now) (first_at token.now) (last_at token.now)) result }
+    ensures { Acts token.now (plain_step (Behind (plain_kind kind.value) first last (view_block block)) (kind_at token.now) (first_at token.now) (last_at token.now)) result }
 {
-    match next_part(kind, token) {
+    match next_part(alloc, kind, token)? {
         Part::Next(place) => {
             let lines = Lines {
                 begun: first,

@@ -13,11 +13,26 @@ pub fn is_target(expr: &Expr) -> bool
 {
     match expr {
         Expr::Name(_) => true,
-        Expr::Index(_, _) => true,
-        Expr::Paren(inner) => is_target(inner),
+        Expr::Int(_) => false,
+        Expr::Str(_) => false,
+        Expr::FStr(_) => false,
+        Expr::None => false,
+        Expr::Bool(_) => false,
         Expr::Tuple { items, comma: _ } => are_targets(items),
         Expr::List { items, comma: _ } => are_targets(items),
-        _ => false,
+        Expr::Dict { .. } => false,
+        Expr::Paren(inner) => is_target(inner),
+        Expr::Not(_) => false,
+        Expr::And(_, _) => false,
+        Expr::Or(_, _) => false,
+        Expr::Unary(_, _) => false,
+        Expr::Binary(_, _, _) => false,
+        Expr::Compare(_, _) => false,
+        Expr::Cond { .. } => false,
+        Expr::Call { .. } => false,
+        Expr::Index(_, _) => true,
+        Expr::Slice { .. } => false,
+        Expr::Attr(_, _) => false,
     }
 }
 
@@ -39,7 +54,25 @@ pub fn is_place(expr: &Expr) -> bool
 {
     match expr {
         Expr::Name(_) => true,
+        Expr::Int(_) => false,
+        Expr::Str(_) => false,
+        Expr::FStr(_) => false,
+        Expr::None => false,
+        Expr::Bool(_) => false,
+        Expr::Tuple { .. } => false,
+        Expr::List { .. } => false,
+        Expr::Dict { .. } => false,
+        Expr::Paren(_) => false,
+        Expr::Not(_) => false,
+        Expr::And(_, _) => false,
+        Expr::Or(_, _) => false,
+        Expr::Unary(_, _) => false,
+        Expr::Binary(_, _, _) => false,
+        Expr::Compare(_, _) => false,
+        Expr::Cond { .. } => false,
+        Expr::Call { .. } => false,
         Expr::Index(_, _) => true,
-        _ => false,
+        Expr::Slice { .. } => false,
+        Expr::Attr(_, _) => false,
     }
 }

@@ -10,6 +10,7 @@ ghost use Rattle.py_parse.specs.HeldLists.{is_equal_sign};
 ghost use Rattle.py_parse.specs.HeldStates.{kind_at, first_at, last_at, view_block, view_lines, view_resume, view_state, Makes};
 
 use crate::block::{Block, Lines};
+use crate::kinds::{asserted, assigned, augmented, boxed, boxed_owner, left};
 use crate::lists::{has_exprs, is_equal_sign};
 use crate::owner::{Choice, Owner, Signature, Tried};
 use crate::places::{Place, Resume, State};
@@ -43,43 +44,20 @@ fn add_expr(exprs: Vec<Expr>, expr: Expr) -> Result<Vec<Expr>, NoMemory>
     Ok(exprs)
 }
 
-/// An assignment, or an expression statement where it has no targets.
-#[tactic(auto, using(crate::proofs::HeldKinds::assigned_some, crate::proofs::HeldKinds::assigned_none))]
-fn assigned(targets: Vec<Expr>, value: Expr) -> StmtKind
-    ensures { plain_kind result ≡ assigned (plain_exprs targets.items) (plain_expr value) }
-{
-    if has_exprs(&targets) {
-        StmtKind::Assign { targets, value }
-    } else {
-        StmtKind::Expr(value)
-    }
-}
-
-/// A `raise` or a `return`.
-pub fn left(raises: bool, value: Option<Expr>) -> StmtKind
-    ensures { plain_kind result ≡ left raises (option_map plain_expr value) }
-{
-    if raises {
-        StmtKind::Raise(value)
-    } else {
-        StmtKind::Return(value)
-    }
-}
-
 /// Behind an expression that may be one more target.
 fn behind_target(
     targets: Vec<Expr>,
-    expr: Expr,
+    expr: Box<Expr>,
     lines: Lines,
     block: Block,
     token: &Token,
 ) -> Result<Option<State>, NoMemory>
-    ensures { Makes (cond (is_target (plain_expr expr)) (Some (at (wanted (value (snoc (plain_exprs targets.items) (plain_expr expr)))) (onward (view_lines lines) (last_at token.now)) (view_block block))) None) result }
+    ensures { Makes (cond (is_target (plain_expr expr.value)) (Some (at (wanted (value (snoc (plain_exprs targets.items) (plain_expr expr.value)))) (onward (view_lines lines) (last_at token.now)) (view_block block))) None) result }
 {
     if !is_target(&expr) {
         return Ok(None);
     }
-    let targets = add_expr(targets, expr)?;
+    let targets = add_expr(targets, Box::into_inner(expr))?;
     Ok(Some(State::At(
         Place::Wanted(Resume::Value(targets)),
         lines.onward(token.last),
@@ -91,16 +69,17 @@ fn behind_target(
 #[tactic(auto, using(crate::proofs::Acts::value_augments, crate::proofs::Acts::value_misplaced, crate::proofs::Acts::value_ends))]
 fn behind_last(
     alloc: Global,
-    expr: Expr,
+    expr: Box<Expr>,
     lines: Lines,
     block: Block,
     token: &Token,
 ) -> Result<Option<State>, NoMemory>
     requires { is_equal_sign (kind_at token.now) ≡ false }
-    ensures { Makes (behind_value no_exprs (plain_expr expr) (view_lines lines) (view_block block) (kind_at token.now) (last_at token.now)) result }
+    ensures { Makes (behind_value no_exprs (plain_expr expr.value) (view_lines lines) (view_block block) (kind_at token.now) (last_at token.now)) result }
 {
     let Some(op) = in_place_op(token) else {
-        return end_simple(alloc, StmtKind::Expr(expr), lines, block, token);
+        let kind = boxed(alloc, StmtKind::Expr(Box::into_inner(expr)))?;
+        return end_simple(alloc, kind, lines, block, token);
     };
     if !is_place(&expr) {
         return Ok(None);
@@ -117,17 +96,17 @@ fn behind_last(
 fn behind_value(
     alloc: Global,
     targets: Vec<Expr>,
-    expr: Expr,
+    expr: Box<Expr>,
     lines: Lines,
     block: Block,
     token: &Token,
 ) -> Result<Option<State>, NoMemory>
-    ensures { Makes (behind_value (plain_exprs targets.items) (plain_expr expr) (view_lines lines) (view_block block) (kind_at token.now) (last_at token.now)) result }
+    ensures { Makes (behind_value (plain_exprs targets.items) (plain_expr expr.value) (view_lines lines) (view_block block) (kind_at token.now) (last_at token.now)) result }
 {
     if is_equal_sign(token) {
         behind_target(targets, expr, lines, block, token)
     } else if has_exprs(&targets) {
-        end_simple(alloc, assigned(targets, expr), lines, block, token)
+        end_simple(alloc, assigned(alloc, targets, expr)?, lines, block, token)
     } else {
         behind_last(alloc, expr, lines, block, token)
     }
@@ -164,27 +143,34 @@ fn add_default(signature: Signature, default: Expr) -> Result<Signature, NoMemor
 }
 
 /// Behind a parameter that has a default, or behind others that have none.
-fn behind_default(signature: Signature, lines: Lines, block: Block, token: &Token) -> Option<State>
-    ensures { behind_default signature.name signature.params.items (plain_exprs signature.defaults.items) (view_lines lines) (view_block block) (kind_at token.now) (last_at token.now) ≡ option_map view_state result }
+fn behind_default(
+    alloc: Global,
+    signature: Signature,
+    lines: Lines,
+    block: Block,
+    token: &Token,
+) -> Result<Option<State>, NoMemory>
+    ensures { Makes (behind_default signature.name signature.params.items (plain_exprs signature.defaults.items) (view_lines lines) (view_block block) (kind_at token.now) (last_at token.now)) result }
 {
     match &token.kind {
-        TokenKind::Mark(Mark::Comma) => Some(State::At(
+        TokenKind::Mark(Mark::Comma) => Ok(Some(State::At(
             Place::ParamWanted(signature),
             lines.onward(token.last),
             block,
-        )),
-        TokenKind::Mark(Mark::RightParen) => Some(State::At(
-            Place::ColonWanted(Owner::Def(signature, false)),
+        ))),
+        TokenKind::Mark(Mark::RightParen) => Ok(Some(State::At(
+            Place::ColonWanted(boxed_owner(alloc, Owner::Def(signature, false))?),
             lines.onward(token.last),
             block,
-        )),
-        _ => None,
+        ))),
+        _ => Ok(None),
     }
 }
 
 /// Behind a parameter with no default.
 #[tactic(auto, using(crate::proofs::Acts::param_default, crate::proofs::Acts::param_late, crate::proofs::Acts::param_ends))]
 pub fn behind_param(
+    alloc: Global,
     signature: Signature,
     param: Text,
     lines: Lines,
@@ -204,18 +190,18 @@ pub fn behind_param(
         return Ok(None);
     }
     let signature = add_param(signature, param)?;
-    Ok(behind_default(signature, lines, block, token))
+    behind_default(alloc, signature, lines, block, token)
 }
 
 /// Behind the test of an `assert`.
 fn behind_test(
     alloc: Global,
-    test: Expr,
+    test: Box<Expr>,
     lines: Lines,
     block: Block,
     token: &Token,
 ) -> Result<Option<State>, NoMemory>
-    ensures { Makes (resume asserted (plain_expr test) (view_lines lines) (view_block block) (kind_at token.now) (last_at token.now)) result }
+    ensures { Makes (resume asserted (plain_expr test.value) (view_lines lines) (view_block block) (kind_at token.now) (last_at token.now)) result }
 {
     match &token.kind {
         TokenKind::Mark(Mark::Comma) => Ok(Some(State::At(
@@ -223,13 +209,13 @@ fn behind_test(
             lines.onward(token.last),
             block,
         ))),
-        _ => end_simple(alloc, StmtKind::Assert(test, None), lines, block, token),
+        _ => end_simple(alloc, asserted(alloc, test, None)?, lines, block, token),
     }
 }
 
 /// Behind the target of a `for`.
-fn behind_for_target(target: Expr, lines: Lines, block: Block, token: &Token) -> Option<State>
-    ensures { resume for_target (plain_expr target) (view_lines lines) (view_block block) (kind_at token.now) (last_at token.now) ≡ option_map view_state result }
+fn behind_for_target(target: Box<Expr>, lines: Lines, block: Block, token: &Token) -> Option<State>
+    ensures { resume for_target (plain_expr target.value) (view_lines lines) (view_block block) (kind_at token.now) (last_at token.now) ≡ option_map view_state result }
 {
     match &token.kind {
         TokenKind::Keyword(Keyword::In) => Some(State::At(
@@ -242,22 +228,32 @@ fn behind_for_target(target: Expr, lines: Lines, block: Block, token: &Token) ->
 }
 
 /// Behind the kind of an `except` clause.
-fn behind_kind(tried: Tried, kind: Expr, lines: Lines, block: Block, token: &Token) -> Option<State>
-    ensures { resume (clause_kind (plain_suite tried.body) (plain_clauses tried.clauses.items)) (plain_expr kind) (view_lines lines) (view_block block) (kind_at token.now) (last_at token.now) ≡ option_map view_state result }
+fn behind_kind(
+    alloc: Global,
+    tried: Tried,
+    kind: Box<Expr>,
+    lines: Lines,
+    block: Block,
+    token: &Token,
+) -> Result<Option<State>, NoMemory>
+    ensures { Makes (resume (clause_kind (plain_suite tried.body) (plain_clauses tried.clauses.items)) (plain_expr kind.value) (view_lines lines) (view_block block) (kind_at token.now) (last_at token.now)) result }
 {
     match &token.kind {
-        TokenKind::Keyword(Keyword::As) => Some(State::At(
+        TokenKind::Keyword(Keyword::As) => Ok(Some(State::At(
             Place::ClauseBound(tried, kind),
             lines.onward(token.last),
             block,
-        )),
-        _ => end_header(Owner::Clause(tried, Some(kind), None), lines, block, token),
+        ))),
+        _ => {
+            let owner = boxed_owner(alloc, Owner::Clause(tried, Some(kind), None))?;
+            Ok(end_header(owner, lines, block, token))
+        }
     }
 }
 
 /// Behind the subject of a `match`.
-fn behind_subject(of: Expr, lines: Lines, block: Block, token: &Token) -> Option<State>
-    ensures { resume subject (plain_expr of) (view_lines lines) (view_block block) (kind_at token.now) (last_at token.now) ≡ option_map view_state result }
+fn behind_subject(of: Box<Expr>, lines: Lines, block: Block, token: &Token) -> Option<State>
+    ensures { resume subject (plain_expr of.value) (view_lines lines) (view_block block) (kind_at token.now) (last_at token.now) ≡ option_map view_state result }
 {
     match &token.kind {
         TokenKind::Mark(Mark::Colon) => Some(State::At(
@@ -271,21 +267,25 @@ fn behind_subject(of: Expr, lines: Lines, block: Block, token: &Token) -> Option
 
 /// Behind the pattern of a `case`.
 pub fn resume_pattern(
-    choice: Choice,
-    pattern: Pattern,
+    alloc: Global,
+    choice: Box<Choice>,
+    pattern: Box<Pattern>,
     lines: Lines,
     block: Block,
     token: &Token,
-) -> Option<State>
-    ensures { resume_pattern (plain_expr choice.subject) choice.header_last (plain_cases choice.cases.items) (plain_pattern pattern) (view_lines lines) (view_block block) (kind_at token.now) (last_at token.now) ≡ option_map view_state result }
+) -> Result<Option<State>, NoMemory>
+    ensures { Makes (resume_pattern (plain_expr choice.value.subject) choice.value.header_last (plain_cases choice.value.cases.items) (plain_pattern pattern.value) (view_lines lines) (view_block block) (kind_at token.now) (last_at token.now)) result }
 {
     match &token.kind {
-        TokenKind::Keyword(Keyword::If) => Some(State::At(
+        TokenKind::Keyword(Keyword::If) => Ok(Some(State::At(
             Place::Wanted(Resume::Guard(choice, pattern)),
             lines.onward(token.last),
             block,
-        )),
-        _ => end_header(Owner::Case(choice, pattern, None), lines, block, token),
+        ))),
+        _ => {
+            let owner = boxed_owner(alloc, Owner::Case(choice, pattern, None))?;
+            Ok(end_header(owner, lines, block, token))
+        }
     }
 }
 
@@ -293,45 +293,51 @@ pub fn resume_pattern(
 pub fn resume(
     alloc: Global,
     purpose: Resume,
-    expr: Expr,
+    expr: Box<Expr>,
     lines: Lines,
     block: Block,
     token: &Token,
 ) -> Result<Option<State>, NoMemory>
-    ensures { Makes (resume (view_resume purpose) (plain_expr expr) (view_lines lines) (view_block block) (kind_at token.now) (last_at token.now)) result }
+    ensures { Makes (resume (view_resume purpose) (plain_expr expr.value) (view_lines lines) (view_block block) (kind_at token.now) (last_at token.now)) result }
 {
     match purpose {
         Resume::Value(targets) => behind_value(alloc, targets, expr, lines, block, token),
         Resume::Augmented(place, op) => {
-            let kind = StmtKind::AugAssign {
-                place,
-                op,
-                value: expr,
-            };
+            let kind = augmented(alloc, place, op, expr)?;
             end_simple(alloc, kind, lines, block, token)
         }
         Resume::Leaving(raises) => {
-            end_simple(alloc, left(raises, Some(expr)), lines, block, token)
+            let kind = left(alloc, raises, Some(expr))?;
+            end_simple(alloc, kind, lines, block, token)
         }
         Resume::Asserted => behind_test(alloc, expr, lines, block, token),
         Resume::Reason(test) => {
-            let kind = StmtKind::Assert(test, Some(expr));
+            let kind = asserted(alloc, test, Some(expr))?;
             end_simple(alloc, kind, lines, block, token)
         }
-        Resume::ArmTest(arms) => Ok(end_header(Owner::Arm(arms, expr), lines, block, token)),
-        Resume::WhileTest => Ok(end_header(Owner::While(expr), lines, block, token)),
+        Resume::ArmTest(arms) => {
+            let owner = boxed_owner(alloc, Owner::Arm(arms, expr))?;
+            Ok(end_header(owner, lines, block, token))
+        }
+        Resume::WhileTest => {
+            let owner = boxed_owner(alloc, Owner::While(expr))?;
+            Ok(end_header(owner, lines, block, token))
+        }
         Resume::ForTarget => Ok(behind_for_target(expr, lines, block, token)),
-        Resume::ForOver(target) => Ok(end_header(Owner::For(target, expr), lines, block, token)),
-        Resume::ClauseKind(tried) => Ok(behind_kind(tried, expr, lines, block, token)),
+        Resume::ForOver(target) => {
+            let owner = boxed_owner(alloc, Owner::For(target, expr))?;
+            Ok(end_header(owner, lines, block, token))
+        }
+        Resume::ClauseKind(tried) => behind_kind(alloc, tried, expr, lines, block, token),
         Resume::Subject => Ok(behind_subject(expr, lines, block, token)),
         Resume::Guard(choice, pattern) => {
-            let owner = Owner::Case(choice, pattern, Some(expr));
+            let owner = boxed_owner(alloc, Owner::Case(choice, pattern, Some(expr)))?;
             Ok(end_header(owner, lines, block, token))
         }
         Resume::Default(signature, param) => {
             let signature = add_param(signature, param)?;
-            let signature = add_default(signature, expr)?;
-            Ok(behind_default(signature, lines, block, token))
+            let signature = add_default(signature, Box::into_inner(expr))?;
+            behind_default(alloc, signature, lines, block, token)
         }
     }
 }

@@ -10,4 +10,4 @@ pub returns : goal.returns
 returns c =
     let o = c.in-Some.inner in
     let opens = subst (λ (ss : Stmts). Opens ss c.args.block.open.items c.innermost.new.others.items (Some o)) (ap plain_stmts c.deref.ensures.value) c.in-Some.ensures in
-    close_made (plain_stmts c.args.block.body.items) c.args.block.open.items c.innermost.new.others.items c.args.last o _ c.over_suite.result opens (plain-suite o.lines.first o.lines.last o.inline c.args.block.body) c.over_suite.ensures
+    close_made (plain_stmts c.args.block.body.items) c.args.block.open.items c.innermost.new.others.items c.args.last o c.into_inner.result _ c.over_suite.result opens c.into_inner.ensures (plain-suite o.lines.first o.lines.last o.inline c.args.block.body) c.over_suite.ensures

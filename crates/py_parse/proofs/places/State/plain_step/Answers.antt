@@ -5,7 +5,7 @@ use Rattle.py_parse.specs.HeldStates.{kind_at, first_at, last_at, view_state}
 use Rattle.py_parse.proofs.Stepping.{choosing}
 use Rattle.py_parse.proofs.places.State.plain_step.Goals as goal
 
-pub returns-in-Choosing : goal.returns-in-Choosing
-returns-in-Choosing c =
+pub returns-in_ok-choose-in-Choosing : goal.returns-in_ok-choose-in-Choosing
+returns-in_ok-choose-in-Choosing c =
     let t = c.args.token.now in
-    choosing (kind_at t) (first_at t) (last_at t) (view_state c.args.self) c.choose.result c.turn.result (ap (λ (s : State). plain_step (view_state s) (kind_at t) (first_at t) (last_at t)) c.in-Choosing.is ∙ c.choose.ensures) c.turn.ensures
+    choosing (kind_at t) (first_at t) (last_at t) (view_state c.args.self) c.in_ok-choose-in-Choosing.field-0 c.turn.result (ap (λ (s : State). plain_step (view_state s) (kind_at t) (first_at t) (last_at t)) c.in-Choosing.is ∙ c.in_ok-choose-in-Choosing.ensures) c.turn.ensures

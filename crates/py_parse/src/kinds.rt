@@ -1,0 +1,113 @@
+// Kinds of statements, in boxes, and what stands in boxes in them.
+
+ghost use Rattle.std.specs.Prelude.{◌≡◌, IfOk, option_map};
+ghost use Rattle.py_syntax.specs.View.{plain_expr, plain_exprs, plain_kind, plain_cases};
+ghost use Rattle.py_syntax.specs.Tree.{aug_assign, assert, match};
+ghost use Rattle.py_parse.specs.Machine.{assigned, left};
+ghost use Rattle.py_parse.specs.HeldOwners.{boxed_expr};
+
+use crate::lists::has_exprs;
+use crate::owner::{Choice, Owner};
+use py_syntax::{Expr, StmtKind};
+use py_value::{BinOp, NoMemory};
+use std::alloc::Global;
+
+/// A kind of statement in a box.
+pub fn boxed(alloc: Global, kind: StmtKind) -> Result<Box<StmtKind>, NoMemory>
+    ensures { IfOk result (λ b. b.value ≡ kind) }
+{
+    Ok(Box::new(alloc, kind)?)
+}
+
+/// An owner in a box.
+pub fn boxed_owner(alloc: Global, owner: Owner) -> Result<Box<Owner>, NoMemory>
+    ensures { IfOk result (λ b. b.value ≡ owner) }
+{
+    Ok(Box::new(alloc, owner)?)
+}
+
+/// An expression out of its box.
+pub fn unboxed(expr: Option<Box<Expr>>) -> Option<Expr>
+    ensures { option_map plain_expr result ≡ option_map boxed_expr expr }
+{
+    match expr {
+        None => None,
+        Some(expr) => Some(Box::into_inner(expr)),
+    }
+}
+
+/// An assignment, or an expression statement where it has no targets.
+#[tactic(auto, using(crate::proofs::HeldKinds::assigned_some, crate::proofs::HeldKinds::assigned_none))]
+pub fn assigned(
+    alloc: Global,
+    targets: Vec<Expr>,
+    value: Box<Expr>,
+) -> Result<Box<StmtKind>, NoMemory>
+    ensures { IfOk result (λ k. plain_kind k.value ≡ assigned (plain_exprs targets.items) (plain_expr value.value)) }
+{
+    let value = Box::into_inner(value);
+    if has_exprs(&targets) {
+        boxed(alloc, StmtKind::Assign { targets, value })
+    } else {
+        boxed(alloc, StmtKind::Expr(value))
+    }
+}
+
+/// An augmented assignment.
+pub fn augmented(
+    alloc: Global,
+    place: Box<Expr>,
+    op: BinOp,
+    value: Box<Expr>,
+) -> Result<Box<StmtKind>, NoMemory>
+    ensures { IfOk result (λ k. plain_kind k.value ≡ aug_assign (plain_expr place.value) op (plain_expr value.value)) }
+{
+    let place = Box::into_inner(place);
+    let value = Box::into_inner(value);
+    boxed(alloc, StmtKind::AugAssign { place, op, value })
+}
+
+/// A `raise` or a `return`.
+pub fn left(
+    alloc: Global,
+    raises: bool,
+    value: Option<Box<Expr>>,
+) -> Result<Box<StmtKind>, NoMemory>
+    ensures { IfOk result (λ k. plain_kind k.value ≡ left raises (option_map boxed_expr value)) }
+{
+    let value = unboxed(value);
+    if raises {
+        boxed(alloc, StmtKind::Raise(value))
+    } else {
+        boxed(alloc, StmtKind::Return(value))
+    }
+}
+
+/// An `assert`.
+pub fn asserted(
+    alloc: Global,
+    test: Box<Expr>,
+    reason: Option<Box<Expr>>,
+) -> Result<Box<StmtKind>, NoMemory>
+    ensures { IfOk result (λ k. plain_kind k.value ≡ assert (plain_expr test.value) (option_map boxed_expr reason)) }
+{
+    let test = Box::into_inner(test);
+    boxed(alloc, StmtKind::Assert(test, unboxed(reason)))
+}
+
+/// The `match` statement with its cases.
+pub fn matched(alloc: Global, choice: Box<Choice>) -> Result<Box<StmtKind>, NoMemory>
+    ensures { IfOk result (λ k. plain_kind k.value ≡ match (plain_expr choice.value.subject) choice.value.header_last (plain_cases choice.value.cases.items)) }
+{
+    let Choice {
+        subject,
+        header_last,
+        cases,
+    } = Box::into_inner(choice);
+    let kind = StmtKind::Match {
+        subject,
+        header_last,
+        cases,
+    };
+    boxed(alloc, kind)
+}
