@@ -3,12 +3,17 @@
 //! nothing, and stands for the law that its contract states.
 #![tactic(auto)]
 
-ghost use Rattle.py_meaning.specs.Laws.{ProgramBudgetLaw, CallBudgetLaw, ProgramPrefixLaw, CallPrefixLaw, StepsLaw, EventsLaw};
+ghost use Rattle.py_meaning.specs.Laws.{ProgramBudgetLaw, ModulesBudgetLaw, CallBudgetLaw, ProgramPrefixLaw, ModulesPrefixLaw, CallPrefixLaw, StepsLaw, EventsLaw};
 
 /// A larger budget changes nothing: where a program isn't cut, its run is the same with every budget of at least the
 /// steps that it took, and is cut with every smaller one.
 pub fn larger_budget()
     ensures { ProgramBudgetLaw }
+{}
+
+/// The same of a list of modules, whatever they were loaded from.
+pub fn larger_budget_of_modules()
+    ensures { ModulesBudgetLaw }
 {}
 
 /// The same of one call.
@@ -19,6 +24,11 @@ pub fn larger_budget_of_call()
 /// What a program writes and tells within a budget is the beginning of what it writes and tells within a larger one.
 pub fn smaller_budget()
     ensures { ProgramPrefixLaw }
+{}
+
+/// The same of a list of modules.
+pub fn smaller_budget_of_modules()
+    ensures { ModulesPrefixLaw }
 {}
 
 /// The same of one call.
