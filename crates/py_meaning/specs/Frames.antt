@@ -77,9 +77,13 @@ unfoldable pub in_unit : List LoadedModule → (m u : ℕ) → M (Ans PlainValue
 in_unit ms m zero body = write (begun ms m) (chain body (ended m))
 in_unit ms m (suc k) body = body
 
--- Calls of which at most the given number stand inside each other. Each takes a step, and what it begins it begins behind that.
+-- What a call of a unit does, by what the calls inside it do. It takes a step, and what it begins it begins behind that.
+abbrev pub unit_call : Calls → List LoadedModule → Calls
+unit_call c ms m u vs =
+    let code : CodeId = record { «module» = m; unit = u } in
+    tick (in_unit ms m u (framed code (parameters (unit_of ms code).params vs) (exec_unit c ms code)))
+
+-- calls of which at most the given number stand inside each other
 unfoldable pub calls : List LoadedModule → ℕ → Calls
 calls ms zero m u vs = stop
-calls ms (suc k) m u vs =
-    let code : CodeId = record { «module» = m; unit = u } in
-    tick (in_unit ms m u (framed code (parameters (unit_of ms code).params vs) (exec_unit (calls ms k) ms code)))
+calls ms (suc k) m u vs = unit_call (calls ms k) ms m u vs

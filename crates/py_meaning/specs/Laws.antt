@@ -2,25 +2,30 @@
 --     SettlesRun, SettlesAnswer                                what a run says of other budgets
 --     ProgramBudgetLaw, ModulesBudgetLaw, CallBudgetLaw        a larger budget changes nothing
 --     ProgramPrefixLaw, ModulesPrefixLaw, CallPrefixLaw        a smaller one gives a beginning
---     StepsLaw                                                 steps never rise
+--     StepsLaw, SteadyLaw                                      steps never rise
+--     UncutLaw                                                 only steps cut a run
 --     EventsLaw                                                events are those of items
-use Rattle.std.specs.Prelude.{◌≡◌, ◌≢◌, ℕ, suc, ◌<◌, ◌≤◌, Bool, List, ◌++◌}
+use Rattle.std.specs.Prelude.{◌≡◌, ◌≢◌, ℕ, suc, ◌<◌, ◌≤◌, Bool, List, ◌++◌, Option, Some}
 use Rattle.cov_event.specs.declared.event.CodeId.{CodeId}
 use Rattle.cov_event.specs.declared.event.Event.{Event}
 use Rattle.cov_outside.specs.Prefixes.{IsPrefix}
-use Rattle.py_syntax.specs.Tree.{Text, Stmts}
+use Rattle.py_value.specs.Plain.{PlainValue}
+use Rattle.py_syntax.specs.Tree.{Text, Expr, Stmts, OptSuite}
 use Rattle.py_builtins.specs.World.{World}
-use Rattle.py_meaning.specs.Activations.{Activation, activation, Items, no_items, more, sub}
-use Rattle.py_meaning.specs.Computations.{State, Res, done, cut}
+use Rattle.py_meaning.specs.Activations.{Activation, activation, Item, again, Items, no_items, more, sub}
+use Rattle.py_meaning.specs.Assignments.{assign_to}
+use Rattle.py_meaning.specs.Calls.{Calls}
+use Rattle.py_meaning.specs.Computations.{State, Res, done, cut, M}
 use Rattle.py_meaning.specs.Events.{told, told_of, events_of, events_in}
-use Rattle.py_meaning.specs.Frames.{calls}
+use Rattle.py_meaning.specs.Expressions.{eval}
+use Rattle.py_meaning.specs.Frames.{unit_call, calls}
 use Rattle.py_meaning.specs.Loading.{Program}
 use Rattle.py_meaning.specs.Modules.{LoadedModule}
 use Rattle.py_meaning.specs.Outcomes as outcomes
 use Rattle.py_meaning.specs.Places.{Place}
 use Rattle.py_meaning.specs.Program.{Run, run_modules, meaning, Request, Answer, called}
 use Rattle.py_meaning.specs.Returns as returns
-use Rattle.py_meaning.specs.Statements.{exec}
+use Rattle.py_meaning.specs.Statements.{Loop, one_turn, loop, while_loop, for_loop, exec, exec_opt}
 
 -- What a run that isn't cut says of another budget: the run is the same where that is at least the steps that it took, and is
 -- cut where it is less.
@@ -78,8 +83,30 @@ abbrev pub IsAtMost : {A : Type 0} → ℕ → Res A → Type 0
 IsAtMost n (done a s left) = left ≤ n
 IsAtMost n (cut s) = Unit {0}
 
+unfoldable pub IsSteady : {A : Type 0} → M A → Type 0
+IsSteady m = (s : State) (n : ℕ) → IsAtMost n (m s n)
+
+abbrev pub AreSteady : Calls → Type 0
+AreSteady c = (m u : ℕ) (vs : List PlainValue) → IsSteady (c m u vs)
+
 abbrev pub StepsLaw : Type 0
 StepsLaw = (ms : List LoadedModule) (depth : ℕ) (p : Place) (body : Stmts) (s : State) (n : ℕ) → IsAtMost n (exec (calls ms depth) p body s n)
+
+-- Nor do statements raise them, whatever the calls inside them do that never raise them.
+abbrev pub SteadyLaw : Type 0
+SteadyLaw = (c : Calls) → AreSteady c → (p : Place) (body : Stmts) → IsSteady (exec c p body)
+
+-- No number that bounds calls inside each other, or turns, cuts a run that has steps left: calls of any depth of at least the
+-- steps that are left are as if no depth were asked, and a loop is its next turn with the same loop behind it.
+abbrev pub IsTurning : {T : Type 0} → Loop T → Type 0
+IsTurning {T} l = (i : Item) (before : Option T) (s : State) (n : ℕ) → loop l i before s n ≡ one_turn l i before (λ t. loop l (again l.line) (Some t)) s n
+
+pub record UncutLaw : Type 0 where
+  pub of_calls : (ms : List LoadedModule) (depth m u : ℕ) (vs : List PlainValue) (s : State) (n : ℕ) → n ≤ depth → calls ms depth m u vs s n ≡ unit_call (calls ms depth) ms m u vs s n
+  pub of_depths : (ms : List LoadedModule) (depth other m u : ℕ) (vs : List PlainValue) (s : State) (n : ℕ) → n ≤ depth → n ≤ other → calls ms depth m u vs s n ≡ calls ms other m u vs s n
+  pub of_while : (c : Calls) → AreSteady c → (p : Place) (l : ℕ) (test : Expr) (body : Stmts) (orelse : OptSuite) → IsTurning (while_loop l (eval c p test) (exec c p body) (exec_opt c p orelse))
+  pub of_for : (c : Calls) → AreSteady c → (p : Place) (l : ℕ) (target over : Expr) (body : Stmts) (orelse : OptSuite)
+      → IsTurning (for_loop l (eval c p over) (assign_to c p target) (exec c p body) (exec_opt c p orelse))
 
 -- The events of a run are those of its items: what they tell comes behind what was told before, and is the same whatever that
 -- was. A run of at least one step has one item, the activation of the script's body, and tells what this one tells.

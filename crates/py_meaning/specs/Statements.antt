@@ -79,11 +79,14 @@ abbrev pub if_turn : {T : Type 0} → Option T → M Out → (T → M Out) → M
 if_turn None orelse f = orelse
 if_turn (Some t) orelse f = f t
 
--- at most the given number of turns, where the header marks the item; in front of each further turn it marks its line again
+-- the turn behind another one, where the header marks the item, and what follows it
+abbrev pub one_turn : {T : Type 0} → Loop T → Item → Option T → (T → M Out) → M Out
+one_turn l i before rest = step i (using (l.header before) (λ found. if_turn found l.orelse (λ t. chain (l.turn t) (λ o. looped o (rest t)))))
+
+-- at most the given number of turns; in front of each further one the header marks its line again
 unfoldable pub turns : {T : Type 0} → Loop T → ℕ → Item → Option T → M Out
 turns l zero i before = stop
-turns l (suc k) i before =
-    step i (using (l.header before) (λ found. if_turn found l.orelse (λ t. chain (l.turn t) (λ o. looped o (turns l k (again l.line) (Some t))))))
+turns l (suc k) i before = one_turn l i before (λ t. turns l k (again l.line) (Some t))
 
 -- as many turns as there are steps, since each takes one
 unfoldable pub loop : {T : Type 0} → Loop T → Item → Option T → M Out
@@ -92,6 +95,10 @@ loop l i before = within (λ n. turns l n i before)
 -- what a `while` asks: its test
 abbrev pub while_header : M (Ans PlainValue) → M (Ans (Option (Unit {0})))
 while_header test = value test (λ v. branch v (gives (Some tt)) (gives None))
+
+-- a `while` on a line, of what its test, its suite and its `else` do
+abbrev pub while_loop : ℕ → M (Ans PlainValue) → M Out → M Out → Loop (Unit {0})
+while_loop l test body orelse = record { line = l; header = λ before. while_header test; turn = λ t. body; orelse = orelse }
 
 -- how far a `for` has come: the value that it walks, its number of items at the start, the place of the next item, and this turn's
 pub record Walked : Type 0 where
@@ -112,6 +119,10 @@ at_item v n i = value (ask (λ w. item_of v n i w.world.heap)) (λ x. gives (wal
 abbrev pub for_header : M (Ans PlainValue) → Option Walked → M (Ans (Option Walked))
 for_header over None = value over (λ v. value (ask (λ w. walk_length v w.world.heap)) (λ n. at_item v n 0))
 for_header over (Some t) = at_item t.value t.length t.place
+
+-- a `for` on a line, of what its value, the binding of an item, its suite and its `else` do
+abbrev pub for_loop : ℕ → M (Ans PlainValue) → (PlainValue → M (Ans (Unit {0}))) → M Out → M Out → Loop Walked
+for_loop l over bind_item body orelse = record { line = l; header = for_header over; turn = λ t. using (bind_item t.item) (λ u. body); orelse = orelse }
 
 -- ---- exceptions (7.3, 7.8, 8.4)
 
@@ -227,9 +238,9 @@ unfoldable mutual
   exec_kind c p l (from m names) = step (mark l) (simply (value (module_of c p.modules m) (λ v. take_each p m v names)))
   exec_kind c p l (if' arms orelse) = exec_arms c p arms (exec_opt c p orelse)
   exec_kind c p l (while test (suite first last inline body) orelse) =
-      loop (record { line = l; header = λ before. while_header (eval c p test); turn = λ t. exec c p body; orelse = exec_opt c p orelse }) (mark l) None
+      loop (while_loop l (eval c p test) (exec c p body) (exec_opt c p orelse)) (mark l) None
   exec_kind c p l (for target over (suite first last inline body) orelse) =
-      loop (record { line = l; header = for_header (eval c p over); turn = λ t. using (assign_to c p target t.item) (λ u. exec c p body); orelse = exec_opt c p orelse }) (mark l) None
+      loop (for_loop l (eval c p over) (assign_to c p target) (exec c p body) (exec_opt c p orelse)) (mark l) None
   exec_kind c p l (try (suite first last inline body) clauses orelse finally) =
       step (mark l) (chain
       (chain (exec c p body) (λ o. handle (has_clauses clauses) o (exec_clauses c p clauses) (exec_opt c p orelse)))

@@ -3,7 +3,7 @@
 //! nothing, and stands for the law that its contract states.
 #![tactic(auto)]
 
-ghost use Rattle.py_meaning.specs.Laws.{ProgramBudgetLaw, ModulesBudgetLaw, CallBudgetLaw, ProgramPrefixLaw, ModulesPrefixLaw, CallPrefixLaw, StepsLaw, EventsLaw};
+ghost use Rattle.py_meaning.specs.Laws.{ProgramBudgetLaw, ModulesBudgetLaw, CallBudgetLaw, ProgramPrefixLaw, ModulesPrefixLaw, CallPrefixLaw, StepsLaw, SteadyLaw, UncutLaw, EventsLaw};
 
 /// A larger budget changes nothing: where a program isn't cut, its run is the same with every budget of at least the
 /// steps that it took, and is cut with every smaller one.
@@ -39,6 +39,16 @@ pub fn smaller_budget_of_call()
 /// Statements never raise the number of the steps that are left.
 pub fn steps_left()
     ensures { StepsLaw }
+{}
+
+/// Nor do they where the calls inside them are any that never raise it.
+pub fn steps_left_by_calls()
+    ensures { SteadyLaw }
+{}
+
+/// Only a want of steps cuts a run, and a loop goes on turn by turn.
+pub fn cut_by_steps()
+    ensures { UncutLaw }
 {}
 
 /// The events of a run are those of its items.
