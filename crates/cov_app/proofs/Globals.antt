@@ -7,7 +7,7 @@ use Rattle.py_value.specs.Plain.{PlainValue}
 use Rattle.py_value.proofs.KeyLaws.{same_text}
 use Rattle.py_syntax.specs.Tree.{Text}
 use Rattle.py_builtins.specs.World.{World, Names, value_of, with_name, names_at, with_names_at, global_of, with_global}
-use Rattle.py_meaning.specs.Predefined.{predefined}
+use Rattle.py_builtins.specs.Predefined.{predefined}
 use Rattle.cov_app.specs.Names.{is_taken}
 
 pub either : (b c : Bool) → (b || c) ≡ false → (b ≡ false) × (c ≡ false)

@@ -14,7 +14,7 @@ use Rattle.py_syntax.specs.Tree.{Expr, Stmts, StmtKind}
 use Rattle.py_meaning.specs.Events.{events_in}
 use Rattle.py_meaning.specs.Loading.{Program, loaded}
 use Rattle.py_meaning.specs.Program.{Answer, called, meaning}
-use Rattle.py_meaning.specs.Returns.{Returned, gave, raised, cut}
+use Rattle.py_builtins.specs.Returns.{Returned, gave, raised, cut}
 use Rattle.py_meaning.proofs.Sources.{runs, var, num, quote, items, attr, list, line, end, alone}
 
 -- Three tests

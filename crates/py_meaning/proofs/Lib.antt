@@ -1,4 +1,5 @@
 pub mod Before
+pub mod NameLaws
 pub mod Budget
 pub mod ExpressionLaws
 pub mod StatementLaws

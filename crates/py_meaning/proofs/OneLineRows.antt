@@ -2,6 +2,7 @@
 use Rattle.std.proofs.Common.{◌≡◌, ℕ, zero, suc, ◌+◌, Bool, true, false, if◌then◌else◌, List, [], ◌∷◌, ◌++◌, pos, negsuc, refl, ap, ◌∙◌, subst, arith}
 use Rattle.std.specs.Prelude.{codes, ◌==◌, ◌-◌}
 use Rattle.py_value.specs.Plain.{int_value, str_value, list_object}
+use Rattle.py_syntax.specs.Functions.{without_docstring}
 use Rattle.py_syntax.specs.Tree as T
 use Rattle.py_syntax.specs.Tree.{Stmts}
 use Rattle.py_meaning.specs.Activations.{Items, no_items, more, mark, sub, activation, kept_line, is_thrown, Arc, arc_to, arcs_so_far, arcs_of}
@@ -13,9 +14,9 @@ use Rattle.py_meaning.specs.Laws.{script_code}
 use Rattle.py_meaning.specs.Loading.{loaded, file_at, imported, imported_in, load_from, with_imports, folder_of}
 use Rattle.py_meaning.specs.Modules.{LoadedModule}
 use Rattle.py_meaning.specs.Places.{Place}
-use Rattle.py_meaning.specs.Outcomes.{status_of, err_of}
+use Rattle.py_builtins.specs.Outcomes.{status_of, err_of}
 use Rattle.py_meaning.specs.Program.{run_of, first_world, at_rest, script_body, run_modules, meaning}
-use Rattle.py_meaning.specs.Statements.{Out, normal, exec, without_docstring}
+use Rattle.py_meaning.specs.Statements.{Out, normal, exec}
 use Rattle.py_value.specs.Plain.{PlainValue}
 use Rattle.py_meaning.proofs.Sources.{runs, var, num, items, program, alone, Shown, row}
 

@@ -14,9 +14,9 @@ use Rattle.py_meaning.specs.Frames.{in_frame, back_in, left_by, framed, ended, i
 use Rattle.py_meaning.specs.Laws.{SettlesRun, SettlesAnswer, BeginsRun, BeginsAnswer, ProgramBudgetLaw, ModulesBudgetLaw, CallBudgetLaw, ProgramPrefixLaw, ModulesPrefixLaw, CallPrefixLaw, StepsLaw}
 use Rattle.py_meaning.specs.Loading.{loaded}
 use Rattle.py_meaning.specs.Modules.{LoadedModule}
-use Rattle.py_meaning.specs.Outcomes as outcomes
+use Rattle.py_builtins.specs.Outcomes as outcomes
 use Rattle.py_meaning.specs.Program.{run_of, first_world, at_rest, script_body, run_modules, meaning, Request, answer_in, call_global, called}
-use Rattle.py_meaning.specs.Returns as returns
+use Rattle.py_builtins.specs.Returns as returns
 use Rattle.py_meaning.specs.Statements.{Out}
 use Rattle.py_meaning.proofs.Before.{Before, begins-itself, begins-trans, told-more, return-grows}
 use Rattle.py_meaning.proofs.Budget.{Same, Agrees, left_at_most, agree-stop, agree-down, agree-tick, agree-zero, agree-give, agree-chain, agree-write, agree-value, agree-ask, same-left, same-right}

@@ -9,8 +9,8 @@ use Rattle.py_syntax.specs.Tree.{Expr, name, int, str, fstr, none, bool, tuple, 
 use Rattle.py_meaning.specs.Calls.{Calls}
 use Rattle.py_meaning.specs.Computations.{Ans, M, give, write, value, ask, work}
 use Rattle.py_meaning.specs.Expressions.{gives, eval}
-use Rattle.py_meaning.specs.Items.{unpacked}
-use Rattle.py_meaning.specs.Making.{stored}
+use Rattle.py_builtins.specs.Items.{unpacked}
+use Rattle.py_builtins.specs.Making.{stored}
 use Rattle.py_meaning.specs.Places.{Place, fetched, bound}
 
 abbrev pub no_target : M (Ans (Unit {0}))

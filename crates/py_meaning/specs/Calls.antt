@@ -16,10 +16,10 @@ use Rattle.py_value.specs.Plain.{PlainValue, none_value, bool_value, int_value, 
 use Rattle.py_syntax.specs.Tree.{Text}
 use Rattle.py_builtins.specs.Builtins.{Done, builtin_of, exception_of}
 use Rattle.py_builtins.specs.Methods.{no_attribute, method_of}
-use Rattle.py_meaning.specs.Attributes.{or_raise, module_global, method_named}
+use Rattle.py_builtins.specs.Attributes.{or_raise, module_global, method_named}
 use Rattle.py_meaning.specs.Computations.{Setting, Ans, M, give, read, write, say, worked, work}
 use Rattle.py_meaning.specs.Modules.{LoadedModule, unit_of}
-use Rattle.py_meaning.specs.Parameters.{most_frames, arguments, defaults_at}
+use Rattle.py_builtins.specs.Parameters.{most_frames, arguments, defaults_at}
 
 -- what a call of a unit does, by the numbers of its module and of the unit in it, with values for all its parameters
 abbrev pub Calls : Type 0

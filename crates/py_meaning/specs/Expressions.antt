@@ -6,14 +6,15 @@
 use Rattle.std.specs.Prelude.{true, false, if◌then◌else◌, List, [], ◌∷◌, Option, Some, None, Ok}
 use Rattle.py_value.specs.Operators.{binary_of, index_of}
 use Rattle.py_value.specs.Plain.{PlainValue, none_value, bool_value, int_value, str_value}
+use Rattle.py_syntax.specs.Asked.{asked}
 use Rattle.py_syntax.specs.Tree.{Text, Expr, name, int, str, fstr, none, bool, tuple, list, dict, paren, not', and, or, unary, binary, compare, cond, call, index, slice, attr, Exprs, no_exprs, exprs, Pairs, no_pairs, pair, Links, no_links, link, OptExpr, absent, present, Fragments, no_fragments, plain, format, Parts, no_parts, text, field}
 use Rattle.py_builtins.specs.Methods.{new_list}
 use Rattle.py_builtins.specs.Texts.{str_text}
-use Rattle.py_meaning.specs.Attributes.{attribute}
+use Rattle.py_builtins.specs.Attributes.{attribute}
 use Rattle.py_meaning.specs.Calls.{Calls, a_value, callee_of, call_of}
 use Rattle.py_meaning.specs.Computations.{Ans, M, give, value, ask, work, branch}
 use Rattle.py_meaning.specs.Literals.{run_together, signed}
-use Rattle.py_meaning.specs.Making.{extended, new_tuple, new_dict, stored, compared, sliced}
+use Rattle.py_builtins.specs.Making.{extended, new_tuple, new_dict, stored, compared, sliced}
 use Rattle.py_meaning.specs.Places.{Place, fetched}
 
 -- a value that is there already
@@ -67,7 +68,7 @@ unfoldable mutual
   pub eval_links : Calls → Place → Links → PlainValue → M (Ans PlainValue)
   eval_links c p no_links v = gives (bool_value true)
   eval_links c p (link op e rest) v =
-      value (eval c p e) (λ w. value (ask (λ s. compared op v w s.world.heap)) (λ b. if b then eval_links c p rest w else gives (bool_value false)))
+      value (eval c p e) (λ w. value (ask (λ s. compared (asked op) v w s.world.heap)) (λ b. if b then eval_links c p rest w else gives (bool_value false)))
 
   pub eval_opt : Calls → Place → OptExpr → M (Ans (Option PlainValue))
   eval_opt c p absent = gives None

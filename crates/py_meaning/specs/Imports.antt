@@ -6,7 +6,7 @@ use Rattle.py_value.specs.Plain.{PlainValue, module_value}
 use Rattle.py_syntax.specs.Names.{alias_name}
 use Rattle.py_syntax.specs.Tree.{Text, Alias}
 use Rattle.py_builtins.specs.World.{is_begun}
-use Rattle.py_meaning.specs.Attributes.{or_raise, module_global}
+use Rattle.py_builtins.specs.Attributes.{or_raise, module_global}
 use Rattle.py_meaning.specs.Calls.{Calls, enter}
 use Rattle.py_meaning.specs.Computations.{Setting, Ans, M, give, read, write, value, ask}
 use Rattle.py_meaning.specs.Expressions.{gives}

@@ -21,10 +21,10 @@ use Rattle.py_meaning.specs.Expressions.{eval}
 use Rattle.py_meaning.specs.Frames.{unit_call, calls}
 use Rattle.py_meaning.specs.Loading.{Program}
 use Rattle.py_meaning.specs.Modules.{LoadedModule}
-use Rattle.py_meaning.specs.Outcomes as outcomes
+use Rattle.py_builtins.specs.Outcomes as outcomes
 use Rattle.py_meaning.specs.Places.{Place}
 use Rattle.py_meaning.specs.Program.{Run, run_modules, meaning, Request, Answer, called}
-use Rattle.py_meaning.specs.Returns as returns
+use Rattle.py_builtins.specs.Returns as returns
 use Rattle.py_meaning.specs.Statements.{Loop, one_turn, loop, while_loop, for_loop, exec, exec_opt}
 
 -- What a run that isn't cut says of another budget: the run is the same where that is at least the steps that it took, and is

@@ -1,14 +1,6 @@
 pub mod Activations
 pub mod Events
 pub mod Computations
-pub mod Predefined
-pub mod Attributes
-pub mod Parameters
-pub mod Items
-pub mod Making
-pub mod Catching
-pub mod Outcomes
-pub mod Returns
 pub mod Modules
 pub mod Faults
 pub mod Places

@@ -11,7 +11,7 @@ use Rattle.py_value.specs.Operators.{compare_of, is_none_value, is_bool_value}
 use Rattle.py_value.specs.Plain.{PlainValue, int_value, str_value, tuple_value, list_at, listed, PlainHeap}
 use Rattle.py_syntax.specs.Tree.{Constant, c_int, c_str, c_none, c_bool, Pattern, literal, capture, wild, member, sequence, p_or, p_as, p_paren, Patterns, no_patterns, patterns}
 use Rattle.py_builtins.specs.World.{Names}
-use Rattle.py_meaning.specs.Attributes.{attribute}
+use Rattle.py_builtins.specs.Attributes.{attribute}
 use Rattle.py_meaning.specs.Computations.{Setting, Ans}
 use Rattle.py_meaning.specs.Literals.{run_together}
 use Rattle.py_meaning.specs.Places.{Scope, fetched, bound}

@@ -4,11 +4,11 @@ use Rattle.py_value.specs.Plain.{PlainValue, PlainRaised}
 use Rattle.py_syntax.specs.Tree.{Text}
 use Rattle.py_syntax.specs.Names.{is_among}
 use Rattle.py_builtins.specs.World.{value_of, with_name, without_name, global_of, with_global, without_global}
-use Rattle.py_meaning.specs.Attributes.{or_raise}
+use Rattle.py_builtins.specs.Attributes.{or_raise}
 use Rattle.py_meaning.specs.Computations.{Setting, Ans}
 use Rattle.py_meaning.specs.Faults.{name_unknown, local_unset}
 use Rattle.py_meaning.specs.Modules.{LoadedModule}
-use Rattle.py_meaning.specs.Predefined.{predefined}
+use Rattle.py_builtins.specs.Predefined.{predefined}
 
 -- What the text says of a place: the number of its module, and the local names of its body. The body of a module has none.
 pub record Scope : Type 0 where

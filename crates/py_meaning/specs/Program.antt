@@ -6,17 +6,17 @@ use Rattle.py_value.specs.Plain.{PlainValue, str_value, list_object}
 use Rattle.py_syntax.specs.Tree.{Text}
 use Rattle.py_builtins.specs.World.{World, Names, global_of}
 use Rattle.py_meaning.specs.Activations.{Items, no_items}
-use Rattle.py_meaning.specs.Attributes.{or_raise}
+use Rattle.py_builtins.specs.Attributes.{or_raise}
 use Rattle.py_meaning.specs.Calls.{call_value, enter}
 use Rattle.py_meaning.specs.Computations.{Setting, State, Res, done, cut, Ans, M, value, ask}
 use Rattle.py_meaning.specs.Faults.{name_unknown}
 use Rattle.py_meaning.specs.Frames.{calls}
 use Rattle.py_meaning.specs.Loading.{Program, loaded}
 use Rattle.py_meaning.specs.Modules.{LoadedModule}
-use Rattle.py_meaning.specs.Outcomes.{Outcome, outcome_of}
-use Rattle.py_meaning.specs.Outcomes as outcomes
-use Rattle.py_meaning.specs.Returns.{Returned, returned_of}
-use Rattle.py_meaning.specs.Returns as returns
+use Rattle.py_builtins.specs.Outcomes.{Outcome, outcome_of}
+use Rattle.py_builtins.specs.Outcomes as outcomes
+use Rattle.py_builtins.specs.Returns.{Returned, returned_of}
+use Rattle.py_builtins.specs.Returns as returns
 
 -- What a program does: how it ends, the bytes that it wrote, those of its input that are left, the steps that it took, what
 -- happened, and the world at the end.

@@ -11,18 +11,19 @@ use Rattle.py_value.specs.declared.exception.ExcKind.TheVariants.{AssertionError
 use Rattle.py_value.specs.declared.value.FuncId.{FuncId}
 use Rattle.py_value.specs.Causes.{raised_by}
 use Rattle.py_value.specs.Plain.{PlainValue, none_value, list_at, func_value, kind_value, exc_value, no_argument, PlainRaised}
-use Rattle.py_syntax.specs.Tree.{Text, Expr, str, Exprs, no_exprs, Stmts, no_stmts, stmt, suite, OptSuite, no_suite, has_suite, Arms, no_arms, arm, Clauses, no_clauses, clause, Cases, no_cases, case, StmtKind, expr, assign, aug_assign, pass, break, continue, return, raise, assert, global, import, from, if', while, for, try, def, match}
+use Rattle.py_syntax.specs.Functions.{functions}
+use Rattle.py_syntax.specs.Tree.{Text, Expr, Exprs, no_exprs, Stmts, no_stmts, stmt, suite, OptSuite, no_suite, has_suite, Arms, no_arms, arm, Clauses, no_clauses, clause, Cases, no_cases, case, StmtKind, expr, assign, aug_assign, pass, break, continue, return, raise, assert, global, import, from, if', while, for, try, def, match}
 use Rattle.py_builtins.specs.Methods.{new_list}
 use Rattle.py_builtins.specs.World.{Names}
 use Rattle.py_meaning.specs.Activations.{Item, mark, again, throw}
 use Rattle.py_meaning.specs.Assignments.{assign_to, assign_all, augment}
 use Rattle.py_meaning.specs.Calls.{Calls}
-use Rattle.py_meaning.specs.Catching.{catches, assertion_error}
+use Rattle.py_builtins.specs.Catching.{catches, assertion_error}
 use Rattle.py_meaning.specs.Computations.{Setting, Ans, M, give, chain, step, note, write, within, stop, value, ask, work, branch}
 use Rattle.py_meaning.specs.Expressions.{gives, eval, eval_each}
 use Rattle.py_meaning.specs.Imports.{module_of, import_each, take_each}
-use Rattle.py_meaning.specs.Items.{walk_length, item_of}
-use Rattle.py_meaning.specs.Modules.{functions, unit_at, body_of}
+use Rattle.py_builtins.specs.Items.{walk_length, item_of}
+use Rattle.py_meaning.specs.Modules.{unit_at, body_of}
 use Rattle.py_meaning.specs.Patterns.{Match, matched, bind_all}
 use Rattle.py_meaning.specs.Places.{Scope, Place, bound, unbound}
 
@@ -279,8 +280,3 @@ unfoldable mutual
       step (mark first) (using (ask (λ w. matched p.scope w q v)) (λ found. on_match found
       (λ names. write (bind_all p.scope names) (guarded c p guard (exec c p body) (exec_cases c p rest v)))
       (exec_cases c p rest v)))
-
--- A string that leads the body of a module or a function does nothing.
-abbrev pub without_docstring : Stmts → Stmts
-without_docstring (stmt first last (expr (str pieces)) end rest) = rest
-without_docstring b = b

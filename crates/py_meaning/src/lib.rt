@@ -3,6 +3,7 @@
 //! nothing, and stands for the law that its contract states.
 #![tactic(auto)]
 
+ghost use Rattle.py_builtins.specs.NameLaws.{NameLaw};
 ghost use Rattle.py_meaning.specs.Laws.{ProgramBudgetLaw, ModulesBudgetLaw, CallBudgetLaw, ProgramPrefixLaw, ModulesPrefixLaw, CallPrefixLaw, StepsLaw, SteadyLaw, UncutLaw, EventsLaw};
 
 /// A larger budget changes nothing: where a program isn't cut, its run is the same with every budget of at least the
@@ -54,4 +55,9 @@ pub fn cut_by_steps()
 /// The events of a run are those of its items.
 pub fn events_of_items()
     ensures { EventsLaw }
+{}
+
+/// A name that was set gives its value, and one that was unset gives none; no other name changes.
+pub fn names_set_and_unset()
+    ensures { NameLaw }
 {}

@@ -15,3 +15,4 @@ pub mod Sequences
 pub mod Shared
 pub mod Smaller
 pub mod View
+pub mod Comparisons

@@ -2,7 +2,7 @@
 use Rattle.std.specs.Prelude.{ℕ, List, Result, Ok, Err}
 use Rattle.py_value.specs.declared.exception.ExcKind.{ExcKind}
 use Rattle.py_value.specs.Plain.{PlainValue, PlainHeap, PlainRaised}
-use Rattle.py_meaning.specs.Outcomes.{shown_raised}
+use Rattle.py_builtins.specs.Outcomes.{shown_raised}
 
 -- what a call gave: a value, an exception with its text, or it was cut
 pub data Returned : Type 0 where

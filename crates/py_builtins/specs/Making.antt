@@ -9,13 +9,12 @@ use Rattle.py_value.specs.declared.cause.Cause.{Cause}
 use Rattle.py_value.specs.declared.cause.Cause.TheVariants.{UnsupportedOperand, NotSubscriptable, TooDeep}
 use Rattle.py_value.specs.Answers.{◌>>=◌, in_words}
 use Rattle.py_value.specs.Causes.{raised_by}
+use Rattle.py_value.specs.Comparisons.{Comparison, relates, is_it, is_not_it}
 use Rattle.py_value.specs.Heaps.{with_object}
 use Rattle.py_value.specs.Numbers.{number_of}
 use Rattle.py_value.specs.Operators.{compare_of, slice_of, store_of, is_none_value, is_bool_value}
 use Rattle.py_value.specs.Plain.{PlainValue, none_value, bool_value, dict_at, tuple_of, dict_object, may_nest, PlainHeap, PlainRaised}
 use Rattle.py_value.specs.Sequences.{joined, within_limit}
-use Rattle.py_syntax.specs.declared.expr.Comparison.{Comparison}
-use Rattle.py_syntax.specs.declared.expr.Comparison.TheVariants.{Op, Is, IsNot}
 
 -- a text with another behind it
 abbrev pub extended : List ℕ → List ℕ → Result (List ℕ) PlainRaised
@@ -47,9 +46,9 @@ is_answer v (bool_value b) = Ok (is_bool_value b v)
 is_answer v w = Err (raised_by UnsupportedOperand)
 
 abbrev pub compared : Comparison → PlainValue → PlainValue → PlainHeap → Result Bool PlainRaised
-compared (Op op) v w h = compare_of op v w h
-compared Is v w h = is_answer v w
-compared IsNot v w h = is_answer v w >>= λ b. Ok (not b)
+compared (relates op) v w h = compare_of op v w h
+compared is_it v w h = is_answer v w
+compared is_not_it v w h = is_answer v w >>= λ b. Ok (not b)
 
 -- a bound of a slice: a number, or left out
 abbrev pub number_or : Cause → Option ℤ → Result (Option ℤ) PlainRaised
