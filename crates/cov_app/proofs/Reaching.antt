@@ -157,7 +157,7 @@ unfolding Moves Tests branch read
 ask-given calls ms e m k w b r r-is is t = λ s st.
     let h = subst (λ q. IsTested q s w.steps (eval calls (script ms) e s w.steps)) r-is (t calls ms s w.steps is st.names) in
     let header : while_header (eval calls (script ms) e) s w.steps ≡ done (Ok (found_if b)) s w.steps =
-        given-then (eval calls (script ms) e) _ h.value s s w.steps w.steps h.is ∙ ap (λ b. (if b then gives (Some tt) else gives None) s w.steps) h.truth ∙ found-is b s w.steps in
+    given-then (eval calls (script ms) e) _ h.value s s w.steps w.steps h.is ∙ ap (λ b. (if b then gives (Some tt) else gives None) s w.steps) h.truth ∙ found-is b s w.steps in
     record {
       state = s;
       stands = st;

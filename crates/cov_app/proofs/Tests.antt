@@ -23,7 +23,7 @@ use Rattle.py_syntax.specs.declared.expr.Link.{Link}
 use Rattle.py_syntax.specs.declared.expr.Pair.{Pair}
 use Rattle.py_syntax.specs.declared.expr.Comparison.{Comparison}
 use Rattle.py_syntax.specs.declared.expr.Comparison.TheVariants.{Op}
-use Rattle.py_syntax.specs.Asked.{asked}
+use Rattle.py_meaning.specs.Asked.{asked}
 use Rattle.py_syntax.specs.Tree.{Expr, compare, link, no_links}
 use Rattle.py_syntax.specs.View.{plain_expr, plain_links}
 use Rattle.py_meaning.specs.Calls.{Calls}

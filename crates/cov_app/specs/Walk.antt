@@ -11,7 +11,7 @@ use Rattle.py_value.specs.Causes.{raised_by}
 use Rattle.py_value.specs.Operators.{binary_of, truth_of}
 use Rattle.py_value.specs.Plain.{PlainValue, int_value, PlainHeap, PlainRaised}
 use Rattle.py_syntax.specs.declared.expr.Comparison.{Comparison}
-use Rattle.py_syntax.specs.Asked.{asked}
+use Rattle.py_meaning.specs.Asked.{asked}
 use Rattle.py_syntax.specs.Tree.{Expr, Exprs}
 use Rattle.py_builtins.specs.World.{global_of}
 use Rattle.py_meaning.specs.Activations.{Item, mark, again as mark_again, Items, kept_line, arcs_so_far}

@@ -17,3 +17,4 @@ pub mod Predefined
 pub mod Outcomes
 pub mod Returns
 pub mod NameLaws
+pub mod Comparisons

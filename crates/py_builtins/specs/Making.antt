@@ -9,7 +9,7 @@ use Rattle.py_value.specs.declared.cause.Cause.{Cause}
 use Rattle.py_value.specs.declared.cause.Cause.TheVariants.{UnsupportedOperand, NotSubscriptable, TooDeep}
 use Rattle.py_value.specs.Answers.{◌>>=◌, in_words}
 use Rattle.py_value.specs.Causes.{raised_by}
-use Rattle.py_value.specs.Comparisons.{Comparison, relates, is_it, is_not_it}
+use Rattle.py_builtins.specs.Comparisons.{Comparison, relates, is_it, is_not_it}
 use Rattle.py_value.specs.Heaps.{with_object}
 use Rattle.py_value.specs.Numbers.{number_of}
 use Rattle.py_value.specs.Operators.{compare_of, slice_of, store_of, is_none_value, is_bool_value}

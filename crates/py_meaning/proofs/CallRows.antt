@@ -104,15 +104,21 @@ import_of_m = T.import (record { name = codes "m"; bound = None } ∷ [])
 
 abbrev cut_import : Program
 cut_import = record {
-  files = (codes "p.py", (
-  line 1 (T.def (codes "f") [] (items []) false (T.suite 1 1 false (
-  line 2 import_of_m (
-  line 3 (T.return (Some (attr (var "m") "x"))) (
-  end))))) (
-  line 4 import_of_m (
-  end)))) ∷ (codes "m.py", (
-  line 1 (T.assign (items ((var "x") ∷ [])) (num 7)) (
-  end))) ∷ [];
+  files = (
+    codes "p.py",
+    (
+        line 1 (T.def (codes "f") [] (items []) false (T.suite 1 1 false (
+        line 2 import_of_m (
+        line 3 (T.return (Some (attr (var "m") "x"))) (
+        end))))) (
+        line 4 import_of_m (
+        end))),
+  ) ∷ (
+    codes "m.py",
+    (
+        line 1 (T.assign (items ((var "x") ∷ [])) (num 7)) (
+        end)),
+  ) ∷ [];
   script = codes "p.py";
   name = codes "__main__";
 }

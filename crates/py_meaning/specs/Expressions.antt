@@ -6,7 +6,7 @@
 use Rattle.std.specs.Prelude.{true, false, if◌then◌else◌, List, [], ◌∷◌, Option, Some, None, Ok}
 use Rattle.py_value.specs.Operators.{binary_of, index_of}
 use Rattle.py_value.specs.Plain.{PlainValue, none_value, bool_value, int_value, str_value}
-use Rattle.py_syntax.specs.Asked.{asked}
+use Rattle.py_meaning.specs.Asked.{asked}
 use Rattle.py_syntax.specs.Tree.{Text, Expr, name, int, str, fstr, none, bool, tuple, list, dict, paren, not', and, or, unary, binary, compare, cond, call, index, slice, attr, Exprs, no_exprs, exprs, Pairs, no_pairs, pair, Links, no_links, link, OptExpr, absent, present, Fragments, no_fragments, plain, format, Parts, no_parts, text, field}
 use Rattle.py_builtins.specs.Methods.{new_list}
 use Rattle.py_builtins.specs.Texts.{str_text}

@@ -5,6 +5,7 @@ pub mod Modules
 pub mod Faults
 pub mod Places
 pub mod Calls
+pub mod Asked
 pub mod Literals
 pub mod Expressions
 pub mod Assignments

@@ -8,7 +8,6 @@ pub mod Statements
 pub mod Spelling
 pub mod Marks
 pub mod Names
-pub mod Asked
 pub mod Patterns
 pub mod Constants
 pub mod Functions

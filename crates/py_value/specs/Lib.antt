@@ -15,4 +15,3 @@ pub mod Sequences
 pub mod Shared
 pub mod Smaller
 pub mod View
-pub mod Comparisons
