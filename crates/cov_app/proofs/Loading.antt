@@ -3,7 +3,7 @@ use Rattle.std.proofs.Common.{◌≡◌, ℕ, List, [], ◌∷◌, ◌++◌, Som
 use Rattle.py_value.proofs.KeyLaws.{text_is_same}
 use Rattle.py_syntax.specs.Functions.{without_docstring}
 use Rattle.py_syntax.specs.Tree.{Text, str, Stmts, no_stmts, stmt, suite, OptSuite, no_suite, has_suite, Arms, no_arms, arm, StmtKind, expr, assign, if', while}
-use Rattle.py_meaning.specs.Loading.{file_at, imported, imported_in, arms_imported, opt_imported, folder_of, load_from, with_imports, put_module, Program, loaded}
+use Rattle.py_meaning.specs.Loading.{file_at, imported, imported_in, arms_imported, opt_imported, folder_of, load_from, with_imports, put_module, loaded}
 use Rattle.py_meaning.specs.Modules.{LoadedModule}
 use Rattle.cov_app.specs.Step.{main_name}
 use Rattle.cov_app.specs.Walked.{IsWalked, IsWalkedKind, AreWalkedArms, IsWalkedElse}

@@ -88,7 +88,7 @@ IsSimple (from m names) = ⊥
 IsSimple (if' arms orelse) = ⊥
 IsSimple (while test body orelse) = ⊥
 IsSimple (for target over body orelse) = ⊥
-IsSimple (try body clauses orelse finally) = ⊥
+IsSimple (try body handlers orelse finally) = ⊥
 IsSimple (def x params defaults comma body) = ⊥
 IsSimple (match subject header_last cases) = ⊥
 
@@ -113,7 +113,7 @@ abbrev mutual
   IsWalkedKind l (if' arms orelse) = AreWalkedArms arms × IsWalkedElse orelse
   IsWalkedKind l (while test body orelse) = IsTest test × IsWalkedLoop l body × IsWalkedElse orelse
   IsWalkedKind l (for target over body orelse) = ⊥
-  IsWalkedKind l (try body clauses orelse finally) = ⊥
+  IsWalkedKind l (try body handlers orelse finally) = ⊥
   IsWalkedKind l (def x params defaults comma body) = ⊥
   IsWalkedKind l (match subject header_last cases) = ⊥
 

@@ -1,5 +1,5 @@
 -- More steps change nothing of what an expression gives, of calls, assignments and imports.
-use Rattle.std.proofs.Common.{ℕ, List, [], ◌∷◌, Option, Some, None, Ok, Err}
+use Rattle.std.proofs.Common.{ℕ, List, [], ◌∷◌, Option, Some, None}
 use Rattle.py_value.specs.declared.builtin.Builtin.{Builtin}
 use Rattle.py_value.specs.declared.operator.BinOp.{BinOp}
 use Rattle.py_value.specs.declared.value.FuncId.{FuncId}
@@ -12,7 +12,7 @@ use Rattle.py_meaning.specs.Expressions.{eval, eval_each, eval_pairs, eval_links
 use Rattle.py_meaning.specs.Imports.{begin, module_of, import_each, take_each}
 use Rattle.py_meaning.specs.Modules.{LoadedModule}
 use Rattle.py_meaning.specs.Places.{Place}
-use Rattle.py_meaning.proofs.Budget.{Agrees, agree-give, agree-chain, agree-read, agree-write, agree-say, agree-value, agree-ask, agree-worked, agree-work, agree-if, agree-branch}
+use Rattle.py_meaning.proofs.Budget.{Agrees, agree-give, agree-read, agree-write, agree-say, agree-value, agree-ask, agree-worked, agree-work, agree-if, agree-branch}
 
 abbrev pub AgreeCalls : ℕ → Calls → Calls → Type 0
 AgreeCalls k c d = (m u : ℕ) (vs : List PlainValue) → Agrees k (c m u vs) (d m u vs)

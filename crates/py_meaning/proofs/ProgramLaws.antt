@@ -3,7 +3,6 @@ use Rattle.std.proofs.Common.{◌≡◌, ◌≢◌, ℕ, zero, suc, ◌+◌, ◌
 use Rattle.std.specs.Prelude.{◌++◌}
 use Rattle.cov_event.specs.declared.event.CodeId.{CodeId}
 use Rattle.cov_event.specs.declared.event.Event.TheVariants.{Call}
-use Rattle.cov_outside.specs.Prefixes.{IsPrefix}
 use Rattle.py_value.specs.Plain.{PlainValue}
 use Rattle.py_syntax.specs.Tree.{Text}
 use Rattle.py_builtins.specs.World.{World, Names}

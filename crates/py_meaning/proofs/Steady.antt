@@ -1,5 +1,5 @@
 -- How computations are put together that never raise the steps that are left.
-use Rattle.std.proofs.Common.{◌≡◌, ℕ, zero, suc, ◌≤◌, Bool, true, false, cond, List, Ok, Err, refl, sym, subst, arith}
+use Rattle.std.proofs.Common.{◌≡◌, ℕ, zero, suc, ◌≤◌, Bool, true, false, cond, List, Ok, Err, refl, arith}
 use Rattle.py_value.specs.Plain.{PlainValue, PlainHeap}
 use Rattle.py_meaning.specs.Activations.{Item}
 use Rattle.py_meaning.specs.Computations.{Setting, State, Res, done, cut, M, Ans, bind, give, chain, step, tick, note, read, write, say, within, stop, on_value, value, ask, worked, work, branch}

@@ -1,5 +1,5 @@
 -- Expressions, calls, assignments and imports never raise the steps that are left.
-use Rattle.std.proofs.Common.{ℕ, List, [], ◌∷◌, Option, Some, None, Ok, Err}
+use Rattle.std.proofs.Common.{ℕ, List, [], ◌∷◌, Option, Some, None}
 use Rattle.py_value.specs.declared.builtin.Builtin.{Builtin}
 use Rattle.py_value.specs.declared.operator.BinOp.{BinOp}
 use Rattle.py_value.specs.declared.value.FuncId.{FuncId}
@@ -13,7 +13,7 @@ use Rattle.py_meaning.specs.Imports.{begin, module_of, import_each, take_each}
 use Rattle.py_meaning.specs.Laws.{IsSteady, AreSteady}
 use Rattle.py_meaning.specs.Modules.{LoadedModule}
 use Rattle.py_meaning.specs.Places.{Place}
-use Rattle.py_meaning.proofs.Steady.{steady-give, steady-chain, steady-read, steady-write, steady-say, steady-value, steady-ask, steady-worked, steady-work, steady-if, steady-branch}
+use Rattle.py_meaning.proofs.Steady.{steady-give, steady-read, steady-write, steady-say, steady-value, steady-ask, steady-worked, steady-work, steady-if, steady-branch}
 
 pub steady-enter : (f : M (Ans PlainValue)) → IsSteady f → IsSteady (enter f)
 unfolding enter

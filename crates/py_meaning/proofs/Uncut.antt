@@ -1,5 +1,5 @@
 -- Only steps cut a run: calls of enough depth are as deep as any.
-use Rattle.std.proofs.Common.{◌≡◌, ℕ, zero, suc, ◌+◌, ◌≤◌, List, refl, ap, sym, ◌∙◌, arith}
+use Rattle.std.proofs.Common.{◌≡◌, ℕ, suc, ◌≤◌, List, refl, ap, ◌∙◌, arith}
 use Rattle.py_value.specs.Plain.{PlainValue}
 use Rattle.py_meaning.specs.Computations.{State, Res, done, cut}
 use Rattle.py_meaning.specs.Frames.{unit_call, calls}

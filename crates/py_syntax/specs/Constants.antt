@@ -1,7 +1,6 @@
 -- Tests of a `while` that always hold: `True`, and whole numbers other than 0, without parentheses.
-use Rattle.std.specs.Prelude.{Bool, true, false, not, ℤ}
+use Rattle.std.specs.Prelude.{Bool, false, not, pos}
 use Rattle.std.specs.Ordering.{int_eq}
-use Rattle.std.specs.Prelude.{pos}
 use Rattle.py_syntax.specs.Tree.{Expr, name, int, str, fstr, none, bool, tuple, list, dict, paren, not', and, or, unary, binary, compare, cond, call, index, slice, attr}
 
 abbrev pub is_constant : Expr → Bool
