@@ -6,7 +6,7 @@ use Rattle.cov_outside.specs.Prefixes.{GainsPrefix}
 use Rattle.cov_outside.specs.Files.{Files}
 use Rattle.cov_outside.proofs.PrefixLemmas.{gains_nothing, gains_whole}
 use Rattle.py_syntax.specs.Tree.{Stmts}
-use Rattle.py_meaning.specs.Program.{err_of}
+use Rattle.py_builtins.specs.Outcomes.{err_of}
 use Rattle.py_token.specs.declared.error.TokenError.TheVariants as token_error
 use Rattle.py_parse.specs.declared.error.SyntaxError.TheVariants as syntax_error
 use Rattle.py_scope.specs.declared.error.ScopeError.TheVariants as scope_error

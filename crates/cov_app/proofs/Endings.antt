@@ -9,20 +9,21 @@ use Rattle.std.specs.BTreeSet.{insert_key}
 use Rattle.std.specs.Result.{IsErr}
 use Rattle.cov_outside.specs.Prefixes.{GainsPrefix}
 use Rattle.py_value.specs.Keys.{is_same_text}
-use Rattle.py_value.specs.Plain.{str_value, int_value, PlainHeap}
+use Rattle.py_value.specs.Plain.{PlainValue, str_value, int_value, PlainHeap}
 use Rattle.py_syntax.specs.Tree.{Stmts}
 use Rattle.py_builtins.specs.Texts.{str_text, text_within}
-use Rattle.py_builtins.specs.World.{value_of, names_at}
+use Rattle.py_builtins.specs.World.{value_of, names_at, with_names_at}
 use Rattle.py_meaning.proofs.Before.{begins-append, begins-trans}
-use Rattle.py_meaning.specs.Activations.{activation, Items, entered, more, no_items, arcs_so_far, arcs_of}
-use Rattle.py_meaning.specs.Calls.{Calls}
-use Rattle.py_meaning.specs.Computations.{State, Res, done, cut, give, tick, stop}
+use Rattle.py_meaning.specs.Activations.{activation, Items, sub, more, no_items, arcs_so_far, arcs_of}
+use Rattle.py_meaning.specs.Calls.{Calls, enter}
+use Rattle.py_meaning.specs.Computations.{State, Res, done, cut, Ans, bind, put, give, chain, read, write, tick, stop}
 use Rattle.py_meaning.specs.Crossings.{crossing, ends, crossings, crossings_of, activations, activations_from, lines_crossed, ordered}
-use Rattle.py_meaning.specs.Frames.{in_frame, left_by, calls, framed}
+use Rattle.py_meaning.specs.Frames.{in_frame, left_by, begun, ended, in_unit, calls, framed}
 use Rattle.py_meaning.specs.Laws.{script_code}
 use Rattle.py_meaning.specs.Modules.{LoadedModule}
-use Rattle.py_meaning.specs.Program.{Run, outcome_of, err_of, run_of as run_from, first_world, at_rest, script_body, meaning}
-use Rattle.py_meaning.specs.Statements.{Out, exec}
+use Rattle.py_builtins.specs.Outcomes.{outcome_of, err_of}
+use Rattle.py_meaning.specs.Program.{Run, run_of as run_from, first_world, at_rest, script_body, run_modules, meaning}
+use Rattle.py_meaning.specs.Statements.{Out, normal, breaks, continues, returns, raises, exec}
 use Rattle.cov_app.specs.declared.walk.Raised.{Raised}
 use Rattle.cov_app.specs.declared.walk.Raised.TheVariants as raised_variant
 use Rattle.cov_app.specs.declared.walk.RunFault.{RunFault}
@@ -52,13 +53,13 @@ before path b input = at_rest (first_world (alone (chars path) b) (chars path �
 
 -- in the script's frame
 abbrev pub first : List ℕ → Stmts → List ℕ → State
-first path b input = record { now = in_frame [] (before path b input).now; out = []; items = no_items }
+first path b input = record { now = in_frame [] (begun (alone (chars path) b) 0 (before path b input).now); out = []; items = no_items }
 
 unset : (m : BTreeMap (String Global) ℤ) (bs : List ℕ) → m.entries ≡ [] → get_by_text m bs ≡ None
 unset m bs e = ap (λ es. Rattle.std.specs.Map.lookup (λ k. Rattle.std.specs.BTreeMap.is_at (λ q. Rattle.std.specs.Cmp.Lexicographic.slice_cmp Rattle.std.specs.Ordering.nat_cmp bs (Rattle.std.specs.String.string_bytes q)) k) es) e
 
 stands-first : (path : List ℕ) (b : Stmts) (input : List ℕ) (w : Walk) → Begins w → Stands w (first path b input)
-unfolding value_of names_at arcs_so_far activations ordered
+unfolding value_of names_at with_names_at arcs_so_far activations ordered
 stands-first path b input w h = record {
   names = λ bs u own. ap (λ b. if b then Some (str_value (codes "__main__")) else None) (either (is_same_text (chars bs) (codes "__name__")) _ own).0 ∙ sym (ap (option_map int_value) (unset w.globals bs h.globals));
   print = refl;
@@ -72,13 +73,17 @@ stands-first path b input w h = record {
 abbrev pub in_program : List ℕ → Stmts → List ℕ → ℕ → Res Out
 in_program path b input n = exec (calls (alone (chars path) b) budget_of_runs) (script (alone (chars path) b)) b (first path b input) n
 
-run-by : (path : List ℕ) (b : Stmts) (input : List ℕ) → IsWalked b → run_from budget_of_runs (script_body (alone (chars path) b) budget_of_runs (before path b input) budget_of_runs) ≡ run_from budget_of_runs (left_by script_code (before path b input) (in_program path b input 999999))
-unfolding calls tick framed
-run-by path b input walked = ap (λ t. run_from budget_of_runs (left_by script_code (before path b input) (exec (calls (alone (chars path) b) budget_of_runs) (script (alone (chars path) b)) t (first path b input) 999999))) (no-docstring b walked)
+-- behind the script's body
+abbrev at_end : List ℕ → Stmts → List ℕ → Res Out → Res (Ans PlainValue)
+at_end path b input r = bind (left_by script_code (put (begun (alone (chars path) b) 0) (before path b input)) r) (ended 0)
+
+run-by : (path : List ℕ) (b : Stmts) (input : List ℕ) → IsWalked b → run_from budget_of_runs (script_body (alone (chars path) b) budget_of_runs (before path b input) budget_of_runs) ≡ run_from budget_of_runs (at_end path b input (in_program path b input 999999))
+unfolding enter read write chain give calls tick in_unit framed
+run-by path b input walked = ap (λ t. run_from budget_of_runs (at_end path b input (exec (calls (alone (chars path) b) budget_of_runs) (script (alone (chars path) b)) t (first path b input) 999999))) (no-docstring b walked)
 
 -- the run of a script is that of its body
-run-is : (path : List ℕ) (b : Stmts) (input : List ℕ) → IsWalked b → run_of path b input ≡ run_from budget_of_runs (left_by script_code (before path b input) (in_program path b input 999999))
-unfolding meaning
+run-is : (path : List ℕ) (b : Stmts) (input : List ℕ) → IsWalked b → run_of path b input ≡ run_from budget_of_runs (at_end path b input (in_program path b input 999999))
+unfolding meaning run_modules
 run-is path b input walked =
     ap (λ ms. run_from budget_of_runs (script_body ms budget_of_runs (at_rest (first_world ms (chars path ∷ [])) input) budget_of_runs)) (loaded-alone (chars path) b walked) ∙ run-by path b input walked
 
@@ -102,7 +107,7 @@ ran path b input l a w T c d walked begins p =
 -- ---- arcs
 
 -- those of the script's activation, in which no other was entered
-arcs-told : (path : List ℕ) (b : Stmts) (is : Items) (ended : Bool) → activations is ≡ [] → lines_crossed (crossings (alone (chars path) b) 0 (more no_items (entered (activation script_code is ended)))) ≡ lines_crossed (map (crossing 1) (arcs_of (activation script_code is ended)))
+arcs-told : (path : List ℕ) (b : Stmts) (is : Items) (ended : Bool) → activations is ≡ [] → lines_crossed (crossings (alone (chars path) b) 0 (more no_items (sub (activation script_code is ended)))) ≡ lines_crossed (map (crossing 1) (arcs_of (activation script_code is ended)))
 unfolding activations activations_from crossings_of
 arcs-told path b is ended none =
     ap (λ rest. lines_crossed (crossings_of (alone (chars path) b) 0 (activation script_code is ended ∷ rest))) none
@@ -127,8 +132,8 @@ record IsLeft (path : List ℕ) (b : Stmts) (l : Left) (w : Walk) (s : State) (r
   pub out : r.out ≡ s.out
   pub arcs : lines_crossed (crossings (alone (chars path) b) 0 r.items) ≡ last_arcs l w
 
-is-left : (path : List ℕ) (b : Stmts) (input : List ℕ) (l : Left) (w : Walk) (s : State) → Stands w s → IsLeft path b l w s (run_from budget_of_runs (left_by script_code (before path b input) (leaves l s w.steps)))
-unfolding give stop arcs_of
+is-left : (path : List ℕ) (b : Stmts) (input : List ℕ) (l : Left) (w : Walk) (s : State) → Stands w s → IsLeft path b l w s (run_from budget_of_runs (at_end path b input (leaves l s w.steps)))
+unfolding give write stop arcs_of
 is-left path b input left.End w s st = record { outcome = refl; ending = refl; out = refl; arcs = arcs-told path b s.items true st.alone ∙ arcs-push w s 0 st }
 is-left path b input (left.Raised x) w s st = record {
   outcome = raised-ended s.now.world.heap x;
@@ -140,7 +145,7 @@ is-left path b input left.Cut w s st = record { outcome = refl; ending = refl; o
 
 left-so : (path : List ℕ) (b : Stmts) (input : List ℕ) (l : Left) (w : Walk) (T : Type 0) (c d : List ℕ) → IsWalked b → (r : Ran path b input l w T c d) → IsLeft path b l w r.state (run_of path b input)
 left-so path b input l w T c d walked r =
-    subst (IsLeft path b l w r.state) (sym (run-is path b input walked ∙ ap (λ q. run_from budget_of_runs (left_by script_code (before path b input) q)) r.is)) (is-left path b input l w r.state r.stands)
+    subst (IsLeft path b l w r.state) (sym (run-is path b input walked ∙ ap (λ q. run_from budget_of_runs (at_end path b input q)) r.is)) (is-left path b input l w r.state r.stands)
 
 -- what the run shows
 shown-is : (path : List ℕ) (b : Stmts) (input : List ℕ) (l : Left) (w : Walk) (T : Type 0) (c d : List ℕ) → IsWalked b → (r : Ran path b input l w T c d) → shown_by path b (run_of path b input) ≡ r.state.out ++ arc_lines path (last_arcs l w)
@@ -159,8 +164,13 @@ shows path b input l w T c d e as' text walked r arcs-is text-is gained =
 
 -- ---- faults
 
-printed-by : (path : List ℕ) (b : Stmts) (input : List ℕ) (q : Res Out) → (run_from budget_of_runs (left_by script_code (before path b input) q)).out ≡ (end_of q).out
-printed-by path b input (done o s n) = refl
+printed-by : (path : List ℕ) (b : Stmts) (input : List ℕ) (q : Res Out) → (run_from budget_of_runs (at_end path b input q)).out ≡ (end_of q).out
+unfolding give write
+printed-by path b input (done normal s n) = refl
+printed-by path b input (done breaks s n) = refl
+printed-by path b input (done continues s n) = refl
+printed-by path b input (done (returns v) s n) = refl
+printed-by path b input (done (raises e t) s n) = refl
 printed-by path b input (cut s) = refl
 
 pub fault-in-run : (path : List ℕ) (b : Stmts) (input : List ℕ) (a : Walk) (T : Type 0) (c d : List ℕ) (r : Result Left RunFault) → IsErr r → IsWalked b → Begins a → ((k : Calls) (ms : List LoadedModule) → IsWalked b → Prints_part (exec k (script ms) b) a T c d) → Shows path b (run_of path b input) r T c d

@@ -10,7 +10,7 @@ use Rattle.py_value.specs.declared.exception.ExcKind.TheVariants.{NameError}
 use Rattle.py_value.specs.Answers.{in_words}
 use Rattle.py_value.specs.Causes.{raised_by}
 use Rattle.py_builtins.specs.Texts.{str_text, text_within}
-use Rattle.py_meaning.specs.Program.{failed, err_of, text_or_empty}
+use Rattle.py_builtins.specs.Outcomes.{raised, err_of, text_or_empty}
 use Rattle.cov_app.specs.declared.walk.Raised.{Raised}
 use Rattle.cov_app.specs.declared.walk.Raised.TheVariants as raised
 use Rattle.cov_app.specs.Runs.{line_unset, raised_line}
@@ -48,7 +48,7 @@ text-length : (x : List ℕ) → length (codes "name '" ++ x ++ codes "' is not 
 text-length x = let e = length-append x (codes "' is not defined") in omega (arith, e)
 
 abbrev shown-if : Bool → List ℕ → List ℕ
-shown-if fits text = err_of (failed NameError (text_or_empty (in_words raised_by (if fits then Ok text else Err TooManyItems))))
+shown-if fits text = err_of (raised NameError (text_or_empty (in_words raised_by (if fits then Ok text else Err TooManyItems))))
 
 line-by : (x : List ℕ) → line_unset x ≡ shown-if (nat_le (length (codes "name '" ++ x ++ codes "' is not defined")) 1048576) (codes "name '" ++ x ++ codes "' is not defined")
 unfolding str_text text_within

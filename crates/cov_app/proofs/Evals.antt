@@ -16,11 +16,12 @@ use Rattle.py_syntax.specs.declared.expr.Link.{Link}
 use Rattle.py_syntax.specs.declared.expr.Pair.{Pair}
 use Rattle.py_syntax.specs.Tree.{Expr, name, int, binary}
 use Rattle.py_syntax.specs.View.{plain_expr}
+use Rattle.py_builtins.specs.Attributes.{or_raise}
 use Rattle.py_meaning.specs.Computations.{State, Res, done, Ans, M, bind, give, value, ask, read, write, work, worked, on_value}
 use Rattle.py_meaning.specs.Computations as computations
 use Rattle.py_meaning.specs.Expressions.{eval}
 use Rattle.py_meaning.specs.Faults.{name_unknown}
-use Rattle.py_meaning.specs.Places.{or_builtin, or_raise}
+use Rattle.py_meaning.specs.Places.{or_builtin}
 use Rattle.cov_app.specs.declared.walk.Raised.{Raised}
 use Rattle.cov_app.specs.Walked.{IsItem, IsSum, IsAdditive}
 use Rattle.cov_app.specs.Walk.{raised_of, number_of, script, Applies, Values}

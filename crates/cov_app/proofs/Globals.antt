@@ -1,5 +1,5 @@
 -- The globals of a script, and the built-in names.
-use Rattle.std.proofs.Common.{◌≡◌, Bool, true, false, List, [], ◌∷◌, Some, None, refl, sym, ap, ◌∙◌, codes, if◌then◌else◌}
+use Rattle.std.proofs.Common.{◌≡◌, Bool, true, false, List, [], ◌∷◌, Some, None, refl, ap, ◌∙◌, codes, if◌then◌else◌}
 use Rattle.std.specs.Prelude.{◌||◌, map}
 use Rattle.std.specs.List.{list_any}
 use Rattle.py_value.specs.Keys.{is_same_text}
@@ -7,7 +7,8 @@ use Rattle.py_value.specs.Plain.{PlainValue}
 use Rattle.py_value.proofs.KeyLaws.{same_text}
 use Rattle.py_syntax.specs.Tree.{Text}
 use Rattle.py_builtins.specs.World.{World, Names, value_of, with_name, names_at, with_names_at, global_of, with_global}
-use Rattle.py_meaning.specs.Predefined.{predefined}
+use Rattle.py_builtins.specs.Predefined.{predefined}
+use Rattle.py_meaning.proofs.NameLaws.{value-with}
 use Rattle.cov_app.specs.Names.{is_taken}
 
 pub either : (b c : Bool) → (b || c) ≡ false → (b ≡ false) × (c ≡ false)
@@ -35,34 +36,6 @@ not_print x h = go (is_same_text (codes "print") x) refl
         apart : true ≡ false → ⊥
         apart e = cc
     go false is = refl
-
-value-with : (x y : Text) (v : PlainValue) (ns : Names) → value_of y (with_name x v ns) ≡ (if is_same_text y x then Some v else value_of y ns)
-unfolding value_of with_name
-value-with x y v [] = refl
-value-with x y v (n ∷ ns) = go (is_same_text x n.0) refl (value-with x y v ns)
-  where
-    go : (b : Bool) → is_same_text x n.0 ≡ b → value_of y (with_name x v ns) ≡ (if is_same_text y x then Some v else value_of y ns)
-        → value_of y (if b then (x, v) ∷ ns else n ∷ with_name x v ns) ≡ (if is_same_text y x then Some v else (if is_same_text y n.0 then Some n.1 else value_of y ns))
-    go true e h = let q : x ≡ n.0 = same_text x n.0 e in here (is_same_text y x) (ap (is_same_text y) (sym q))
-      where
-        here : (b : Bool) → is_same_text y n.0 ≡ b → (if b then Some v else value_of y ns) ≡ (if b then Some v else (if is_same_text y n.0 then Some n.1 else value_of y ns))
-        here true r = refl
-        here false r = ap (λ b. if b then Some n.1 else value_of y ns) (sym r)
-    go false e h = there (is_same_text y n.0) refl
-      where
-        there : (b : Bool) → is_same_text y n.0 ≡ b → (if b then Some n.1 else value_of y (with_name x v ns)) ≡ (if is_same_text y x then Some v else (if b then Some n.1 else value_of y ns))
-        there true r = other (is_same_text y x) refl
-          where
-            other : (c : Bool) → is_same_text y x ≡ c → Some n.1 ≡ (if c then Some v else Some n.1)
-            other true w =
-                let a : y ≡ x = same_text y x w in
-                let b : y ≡ n.0 = same_text y n.0 r in
-                absurd (apart (sym e ∙ ap (λ z. is_same_text z n.0) (sym a) ∙ r))
-              where
-                apart : false ≡ true → ⊥
-                apart q = cc
-            other false w = refl
-        there false r = h
 
 -- a global behind an assignment
 pub global-with : (x y : Text) (v : PlainValue) (w : World) → global_of 0 y (with_global 0 x v w) ≡ (if is_same_text y x then Some v else global_of 0 y w)

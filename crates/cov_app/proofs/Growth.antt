@@ -1,5 +1,5 @@
 -- What is printed stays printed, and `print` stays the built-in function.
-use Rattle.std.proofs.Common.{◌≡◌, ℕ, zero, suc, Bool, true, false, List, ◌++◌, Some, Ok, Err, sym, ap, ◌∙◌, subst, codes, if◌then◌else◌}
+use Rattle.std.proofs.Common.{◌≡◌, ℕ, zero, suc, Bool, true, false, List, ◌++◌, Option, Some, None, Ok, Err, sym, ap, ◌∙◌, subst, codes, if◌then◌else◌}
 use Rattle.cov_outside.specs.Prefixes.{IsPrefix}
 use Rattle.py_meaning.proofs.Before.{begins-itself, begins-trans, begins-append}
 use Rattle.py_value.specs.declared.builtin.Builtin.TheVariants.{Print}
@@ -7,14 +7,14 @@ use Rattle.py_value.specs.Plain.{PlainValue, builtin_value, PlainHeap, PlainRais
 use Rattle.py_syntax.specs.Tree.{Text, Expr, name, int, binary, compare, call, no_exprs, exprs, no_links, link, Stmts, no_stmts, stmt, suite, OptSuite, no_suite, has_suite, Arms, no_arms, arm, StmtKind, expr, assign, if', while}
 use Rattle.py_builtins.specs.Builtins.{Done, builtin_of}
 use Rattle.py_builtins.specs.World.{global_of}
-use Rattle.py_meaning.specs.Activations.{Item, marked, marked_again}
+use Rattle.py_meaning.specs.Activations.{Item, mark, again}
 use Rattle.py_meaning.specs.Assignments.{assign_to, assign_all}
 use Rattle.py_meaning.specs.Calls.{Calls, a_value, call_of, call_value, use_builtin, as_done}
 use Rattle.py_meaning.specs.Computations.{Setting, State, Res, done, cut, Ans, M, bind, add, put, give, chain, step, note, read, write, say, within, stop, on_value, value, ask, worked, work, branch}
 use Rattle.py_meaning.specs.Expressions.{eval, eval_each, eval_links}
 use Rattle.py_meaning.specs.Modules.{LoadedModule}
 use Rattle.py_meaning.specs.Places.{bound}
-use Rattle.py_meaning.specs.Statements.{Out, normal, breaks, continues, throw, on_answer, using, simply, next, looped, turns, exec, exec_kind, exec_opt, exec_arms}
+use Rattle.py_meaning.specs.Statements.{Out, normal, breaks, continues, throwing, on_answer, using, simply, next, looped, Loop, if_turn, turns, loop, while_header, exec, exec_kind, exec_opt, exec_arms}
 use Rattle.cov_app.specs.Names.{is_taken}
 use Rattle.cov_app.specs.Walked.{IsItem, IsSum, IsTest, IsPrintCall, IsSimple, IsWalked, IsWalkedKind, AreWalkedArms, IsWalkedElse}
 use Rattle.cov_app.specs.Walk.{script, HasPrint, end_of}
@@ -152,7 +152,7 @@ call-grows calls ms e h = absurd h
 
 -- ---- statements
 
-grows-throw : (e : PlainRaised) → Grows (throw e)
+grows-throw : (e : PlainRaised) → Grows (throwing e)
 grows-throw e = grows-note _ _ (grows-give _)
 
 grows-using : {A : Type 0} (m : M (Ans A)) (f : A → M Out) → Grows m → ((a : A) → Grows (f a)) → Grows (using m f)
@@ -176,17 +176,34 @@ grows-looped m g continues = g
 grows-looped m g breaks = grows-give normal
 grows-looped m g o = grows-give o
 
-pub grows-turns : (test : M (Ans PlainValue)) (body orelse : M Out) → Grows test → Grows body → Grows orelse → (l k : ℕ) (mark : Item) → Grows (turns test body orelse l k mark)
+grows-if_turn : {T : Type 0} (x : Option T) (m : M Out) (f : T → M Out) → Grows m → ((t : T) → Grows (f t)) → Grows (if_turn x m f)
+grows-if_turn None m f g h = g
+grows-if_turn (Some t) m f g h = h t
+
+-- a loop whose parts print
+pub record GrowsInside {T : Type 0} (x : Loop T) : Type 0 where
+  pub header : (b : Option T) → Grows (x.header b)
+  pub turn : (t : T) → Grows (x.turn t)
+  pub orelse : Grows x.orelse
+
+pub grows-turns : {T : Type 0} (x : Loop T) → GrowsInside x → (k : ℕ) (i : Item) (b : Option T) → Grows (turns x k i b)
 unfolding turns
-grows-turns test body orelse t g h l zero mark = grows-stop Out
-grows-turns test body orelse t g h l (suc k) mark =
-    grows-step _ _ (grows-using test _ t (λ v. grows-branch v _ _ (grows-chain _ _ g (λ o. grows-looped _ (grows-turns test body orelse t g h l k (marked_again l)) o)) h))
+grows-turns x g zero i b = grows-stop Out
+grows-turns x g (suc k) i b =
+    grows-step _ _ (grows-using (x.header b) _ (g.header b) (λ found. grows-if_turn found _ _ g.orelse (λ t. grows-chain _ _ (g.turn t) (λ o. grows-looped _ (grows-turns x g k (again x.line) (Some t)) o))))
+
+grows-loop : {T : Type 0} (x : Loop T) → GrowsInside x → (i : Item) (b : Option T) → Grows (loop x i b)
+unfolding loop
+grows-loop x g i b = grows-within _ (λ n. grows-turns x g n i b)
+
+pub grows-while_header : (test : M (Ans PlainValue)) → Grows test → Grows (while_header test)
+grows-while_header test g = grows-value test _ g (λ v. grows-branch v _ _ (grows-give _) (grows-give _))
 
 pub grows-assign : (calls : Calls) (ms : List LoadedModule) (x : Text) (e : Expr) → is_taken x ≡ false → IsSum e → Grows (value (eval calls (script ms) e) (assign_all calls (script ms) (exprs (name x) no_exprs)))
 unfolding assign_all assign_to
 grows-assign calls ms x e own is = grows-value _ _ (sum-grows calls ms e is) (λ v. grows-value _ _ (grows-write _ _ (keeps v) (grows-give _)) (λ u. grows-give _))
   where
-    keeps : (v : PlainValue) (w : Setting) → HasPrint w → HasPrint (bound (script ms) x v w)
+    keeps : (v : PlainValue) (w : Setting) → HasPrint w → HasPrint (bound (script ms).scope x v w)
     keeps v w h = global-with x (codes "print") v w.world ∙ ap (λ b. if b then Some v else global_of 0 (codes "print") w.world) (not_print x own) ∙ h
 
 pub simple-grows : (calls : Calls) (ms : List LoadedModule) (l : ℕ) (kind : StmtKind) → IsSimple kind → Grows (exec_kind calls (script ms) l kind)
@@ -206,7 +223,7 @@ mutual
   pub kind-grows : (calls : Calls) (ms : List LoadedModule) (l : ℕ) (kind : StmtKind) → IsWalkedKind l kind → Grows (exec_kind calls (script ms) l kind)
   kind-grows calls ms l (if' arms orelse) h = arms-grow calls ms arms _ h.0 (else-grows calls ms orelse h.1)
   kind-grows calls ms l (while test (suite first last inline body) orelse) h =
-      grows-within _ (λ n. grows-turns _ _ _ (test-grows calls ms test h.0) (exec-grows calls ms body h.1.1) (else-grows calls ms orelse h.2) l n (marked l))
+      grows-loop _ (record { header = λ b. grows-while_header _ (test-grows calls ms test h.0); turn = λ t. exec-grows calls ms body h.1.1; orelse = else-grows calls ms orelse h.2 }) (mark l) None
   kind-grows calls ms l kind h = simple-grows calls ms l kind h
 
   pub arms-grow : (calls : Calls) (ms : List LoadedModule) (arms : Arms) (orelse : M Out) → AreWalkedArms arms → Grows orelse → Grows (exec_arms calls (script ms) arms orelse)

@@ -1,10 +1,10 @@
 -- The modules that a script of the walked forms loads: itself alone, since no such form imports.
 use Rattle.std.proofs.Common.{◌≡◌, ℕ, List, [], ◌∷◌, ◌++◌, Some, None, refl, ap, ◌∙◌, if◌then◌else◌}
 use Rattle.py_value.proofs.KeyLaws.{text_is_same}
+use Rattle.py_syntax.specs.Functions.{without_docstring}
 use Rattle.py_syntax.specs.Tree.{Text, str, Stmts, no_stmts, stmt, suite, OptSuite, no_suite, has_suite, Arms, no_arms, arm, StmtKind, expr, assign, if', while}
-use Rattle.py_meaning.specs.Loading.{file_at, imported, imported_in, arms_imported, opt_imported, folder_of, load_from, with_imports, script_of, loaded}
+use Rattle.py_meaning.specs.Loading.{file_at, imported, imported_in, arms_imported, opt_imported, folder_of, load_from, with_imports, put_module, loaded}
 use Rattle.py_meaning.specs.Modules.{LoadedModule}
-use Rattle.py_meaning.specs.Statements as S
 use Rattle.cov_app.specs.Step.{main_name}
 use Rattle.cov_app.specs.Walked.{IsWalked, IsWalkedKind, AreWalkedArms, IsWalkedElse}
 
@@ -31,15 +31,15 @@ mutual
   no-import_else (has_suite (suite first last inline body)) h = no-import body h
 
 -- nor does one lead with a string
-pub no-docstring : (b : Stmts) → IsWalked b → S.without_docstring b ≡ b
+pub no-docstring : (b : Stmts) → IsWalked b → without_docstring b ≡ b
 no-docstring (stmt first last (expr (str pieces)) end rest) h = absurd h.0
 no-docstring b h = refl
 
 abbrev pub alone : Text → Stmts → List LoadedModule
 alone x t = record { name = main_name; path = x; body = t } ∷ []
 
-pub loaded-alone : (x : Text) (t : Stmts) → IsWalked t → loaded ((x, t) ∷ []) x main_name ≡ alone x t
+pub loaded-alone : (x : Text) (t : Stmts) → IsWalked t → loaded (record { files = (x, t) ∷ []; script = x; name = main_name }) ≡ alone x t
 unfolding file_at load_from with_imports
 loaded-alone x t forms =
-    ap (λ b. load_from 2 ((x, t) ∷ []) (folder_of x) 0 (script_of x main_name (if b then Some t else None))) (text_is_same x)
+    ap (λ b. load_from 2 ((x, t) ∷ []) (folder_of x) 0 (put_module main_name x [] (if b then Some t else None))) (text_is_same x)
     ∙ ap (λ xs. load_from 1 ((x, t) ∷ []) (folder_of x) 1 (with_imports ((x, t) ∷ []) (folder_of x) (alone x t) xs)) (no-import t forms)

@@ -6,7 +6,7 @@ use Rattle.py_syntax.specs.declared.stmt.Arm.{Arm, out-Arm}
 use Rattle.py_syntax.specs.declared.stmt.Suite.{out-Suite}
 use Rattle.py_syntax.specs.Tree.{OptSuite, arm}
 use Rattle.py_syntax.specs.View.{plain_expr, plain_kind, plain_stmts, plain_arms}
-use Rattle.py_meaning.specs.Activations.{marked}
+use Rattle.py_meaning.specs.Activations.{mark}
 use Rattle.py_meaning.specs.Calls.{Calls}
 use Rattle.py_meaning.specs.Computations.{M, chain, step, stop}
 use Rattle.py_meaning.specs.Modules.{LoadedModule}
@@ -121,7 +121,7 @@ module _ (calls : Calls) (ms : List LoadedModule) where
   abbrev pub line_of : Arm → ℕ
   line_of a = (out-Suite (out-Arm a).body).first
 
-  arms-at : (arms : List Arm) (i : ℕ) (a : Arm) (orelse : M Out) → drop i arms ≡ a ∷ drop (suc i) arms → arms_from arms i orelse ≡ step (marked (line_of a)) (testing calls ms (plain_expr (out-Arm a).test) (body_of a) (arms_from arms (suc i) orelse))
+  arms-at : (arms : List Arm) (i : ℕ) (a : Arm) (orelse : M Out) → drop i arms ≡ a ∷ drop (suc i) arms → arms_from arms i orelse ≡ step (mark (line_of a)) (testing calls ms (plain_expr (out-Arm a).test) (body_of a) (arms_from arms (suc i) orelse))
   unfolding exec_arms
   arms-at arms i a orelse is =
       ap (λ l. exec_arms calls (script ms) (plain_arms l) orelse) is ∙ ap (λ l. exec_arms calls (script ms) l orelse) (plain-arms a (drop (suc i) arms))
@@ -136,7 +136,7 @@ module _ (calls : Calls) (ms : List LoadedModule) where
 
   pub arm-cut : (m : M Out) (arms : List Arm) (i : ℕ) (a : Arm) (orelse : M Out) (from to : Walk) (T : Type 0) (c d : List ℕ) → drop i arms ≡ a ∷ drop (suc i) arms → to.steps ≡ 0 → Reaches m (arms_from arms i orelse) from to T c d → Reaches m (leaves left.Cut) from to T c d
   arm-cut m arms i a orelse from to T c d is none p =
-      reaches-trans m (arms_from arms i orelse) stop from to to T c d d p (subst (λ k. Reaches k stop to to T d d) (sym (arms-at arms i a orelse is)) (reaches _ stop to to T d (no-step _ (marked (line_of a)) to none)))
+      reaches-trans m (arms_from arms i orelse) stop from to to T c d d p (subst (λ k. Reaches k stop to to T d d) (sym (arms-at arms i a orelse is)) (reaches _ stop to to T d (no-step _ (mark (line_of a)) to none)))
 
   -- behind the mark and the test
   pub arm-tested : (m : M Out) (arms : List Arm) (i : ℕ) (a : Arm) (orelse : M Out) (from mid to : Walk) (T : Type 0) (c d : List ℕ) (b : Bool) (r : Result Bool Raised) → drop i arms ≡ a ∷ drop (suc i) arms → AreWalkedArms (plain_arms arms) → Notes mid false (line_of a) to → to.steps + 1 ≡ mid.steps

@@ -1,5 +1,5 @@
 -- The plain view of the statements and expressions that the walk meets.
-use Rattle.std.proofs.Common.{◌≡◌, ℕ, Bool, false, List, [], ◌∷◌, Option, Some, None, Vec, refl, sym, ap, ◌∙◌, subst, length, codes}
+use Rattle.std.proofs.Common.{◌≡◌, Bool, false, List, [], ◌∷◌, Option, Some, None, Vec, refl, sym, ap, ◌∙◌, subst, length, codes}
 use Rattle.std.specs.Global.{Global}
 use Rattle.py_syntax.specs.declared.expr.Expr as node
 use Rattle.py_syntax.specs.declared.expr.Expr.{Expr as Node, roll-Expr, out-Expr, roll-out-Expr, fold-roll-Expr}
@@ -9,11 +9,7 @@ use Rattle.py_syntax.specs.declared.expr.Fragment.{Fragment}
 use Rattle.py_syntax.specs.declared.expr.Link.{Link}
 use Rattle.py_syntax.specs.declared.expr.Pair.{Pair}
 use Rattle.py_syntax.specs.declared.stmt.StmtKind as kind
-use Rattle.py_syntax.specs.declared.stmt.StmtKind.{StmtKind as KindNode, roll-StmtKind, out-StmtKind, roll-out-StmtKind, fold-roll-StmtKind}
-use Rattle.py_syntax.specs.declared.stmt.StmtKind.TheOpen as open_kind
 use Rattle.py_syntax.specs.declared.stmt.Arm.{Arm, out-Arm}
-use Rattle.py_syntax.specs.declared.stmt.Case.{Case}
-use Rattle.py_syntax.specs.declared.stmt.Clause.{Clause}
 use Rattle.py_syntax.specs.declared.stmt.Stmt.{Stmt}
 use Rattle.py_syntax.specs.declared.stmt.Suite.{Suite as SuiteNode, out-Suite}
 use Rattle.py_syntax.specs.declared.stmt.Suite as suites
@@ -22,7 +18,7 @@ use Rattle.py_syntax.specs.Tree.{Expr, exprs, no_exprs, name, call, expr, assign
 use Rattle.py_syntax.specs.View.{plain_expr, plain_exprs, plain_links, plain_kind, plain_stmts, plain_suite, plain_opt_suite, plain_arms}
 use Rattle.py_value.specs.Keys.{is_same_text}
 use Rattle.cov_app.specs.Forms.{is_print_name}
-use Rattle.cov_app.specs.Walked.{IsPrintCall, IsOneSum, IsOneName, IsSimple, IsWalkedKind}
+use Rattle.cov_app.specs.Walked.{IsPrintCall, IsOneSum, IsOneName}
 
 pub plain-If : (as' : Vec Arm Global) (o : Option SuiteNode) → plain_kind (kind.If as' o) ≡ if' (plain_arms as'.items) (plain_opt_suite o)
 plain-If as' None = search kind.the_lemmas
@@ -55,40 +51,6 @@ plain-Call f es comma = search node.the_lemmas
 
 pub plain-link : (l : Link) → plain_links (l ∷ []) ≡ link l.op (plain_expr l.right) no_links
 plain-link l = search node.the_lemmas
-
-abbrev One : Type 0
-One = open_kind.StmtKind-F KindNode Arm Case Clause Stmt SuiteNode
-
-abbrev NoIf : KindNode → Type 0
-NoIf n = (as' : Vec Arm Global) (o : Option SuiteNode) → n ≡ kind.If as' o → ⊥
-
-abbrev NoWhile : KindNode → Type 0
-NoWhile n = (t : Node) (b : SuiteNode) (o : Option SuiteNode) → n ≡ kind.While t b o → ⊥
-
-unrolled_kind : (x : One) (line : ℕ) → NoIf (roll-StmtKind x) → NoWhile (roll-StmtKind x) → IsWalkedKind line (plain_kind (roll-StmtKind x)) → IsSimple (plain_kind (roll-StmtKind x))
-unfolding roll-StmtKind denote.Hole.Carrier.roll
-unrolled_kind (open_kind.If as' o) line h k = absurd (h as' o refl)
-unrolled_kind (open_kind.While t b o) line h k = absurd (k t b o refl)
-unrolled_kind x line h k = λ w. subst IsSimple (sym (fold-roll-StmtKind _ _ _ _ _ _ _ _ _ _ _ _ x)) (subst (IsWalkedKind line) (fold-roll-StmtKind _ _ _ _ _ _ _ _ _ _ _ _ x) w)
-
--- a statement that marks its own line
-pub simple_kind : (n : KindNode) (line : ℕ) → NoIf n → NoWhile n → IsWalkedKind line (plain_kind n) → IsSimple (plain_kind n)
-simple_kind n line h k w =
-    let r = roll-out-StmtKind n in
-    subst (λ q. IsSimple (plain_kind q)) r
-    (unrolled_kind (out-StmtKind n) line (λ as' o q. h as' o (sym r ∙ q)) (λ t b o q. k t b o (sym r ∙ q)) (subst (λ q. IsWalkedKind line (plain_kind q)) (sym r) w))
-
-unrolled_simple : (x : One) → ((e : Node) → roll-StmtKind x ≡ kind.Expr e → ⊥) → ((ts : Vec Node Global) (e : Node) → roll-StmtKind x ≡ kind.Assign ts e → ⊥) → IsSimple (plain_kind (roll-StmtKind x)) → ⊥
-unfolding roll-StmtKind denote.Hole.Carrier.roll
-unrolled_simple (open_kind.Expr e) h k = absurd (h e refl)
-unrolled_simple (open_kind.Assign ts e) h k = absurd (k ts e refl)
-unrolled_simple x h k = subst IsSimple (fold-roll-StmtKind _ _ _ _ _ _ _ _ _ _ _ _ x)
-
--- no other kind is one
-pub other_kind : (n : KindNode) → ((e : Node) → n ≡ kind.Expr e → ⊥) → ((ts : Vec Node Global) (e : Node) → n ≡ kind.Assign ts e → ⊥) → IsSimple (plain_kind n) → ⊥
-other_kind n h k is =
-    let r = roll-out-StmtKind n in
-    unrolled_simple (out-StmtKind n) (λ e q. h e (sym r ∙ q)) (λ ts e q. k ts e (sym r ∙ q)) (subst (λ q. IsSimple (plain_kind q)) (sym r) is)
 
 -- ---- expressions
 

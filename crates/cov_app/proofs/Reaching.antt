@@ -1,15 +1,15 @@
 -- How what the walk does is put together as the meaning is.
-use Rattle.std.proofs.Common.{◌≡◌, ℕ, ◌+◌, Bool, true, List, ◌++◌, Result, Ok, Err, refl, sym, ap, ◌∙◌, subst, add-one, if◌then◌else◌}
+use Rattle.std.proofs.Common.{◌≡◌, ℕ, ◌+◌, Bool, true, false, List, ◌++◌, Option, Some, None, Result, Ok, Err, refl, sym, ap, ◌∙◌, subst, add-one, if◌then◌else◌}
 use Rattle.cov_outside.specs.Prefixes.{IsPrefix, GainsPrefix}
 use Rattle.py_value.specs.Plain.{PlainRaised}
 use Rattle.py_syntax.specs.Tree.{Expr}
 use Rattle.py_meaning.proofs.Before.{begins-trans}
-use Rattle.py_meaning.specs.Activations.{Item, thrown}
+use Rattle.py_meaning.specs.Activations.{Item, throw}
 use Rattle.py_meaning.specs.Calls.{Calls}
 use Rattle.py_meaning.specs.Computations.{State, done, Ans, M, bind, add, give, chain, step, note, read, stop, branch}
-use Rattle.py_meaning.specs.Expressions.{eval}
+use Rattle.py_meaning.specs.Expressions.{gives, eval}
 use Rattle.py_meaning.specs.Modules.{LoadedModule}
-use Rattle.py_meaning.specs.Statements.{Out, normal, raises, on_answer, using}
+use Rattle.py_meaning.specs.Statements.{Out, normal, raises, on_answer, using, if_turn, while_header}
 use Rattle.cov_app.specs.declared.walk.Raised.{Raised}
 use Rattle.cov_app.specs.declared.walk.RunFault.{RunFault}
 use Rattle.cov_app.specs.declared.walk.Left.{Left}
@@ -17,6 +17,7 @@ use Rattle.cov_app.specs.declared.walk.Left.TheVariants as left
 use Rattle.cov_app.specs.declared.walk.Walk.{Walk}
 use Rattle.cov_app.specs.Walked.{IsTest}
 use Rattle.cov_app.specs.Walk.{script, Stands, mark_of, Notes, Tests, IsTested, raised_of, end_of, Reaches, Prints_part, leaves, Does, Move, Moves}
+use Rattle.cov_app.proofs.Evals.{given-then, raised-then}
 use Rattle.cov_app.proofs.Growth.{Grows, grows-bind}
 use Rattle.cov_app.proofs.Standing.{throws}
 
@@ -131,9 +132,44 @@ given-on m f a s t n k h = ap (λ r. bind r (λ a. on_answer a f)) h
 -- the exception is thrown there
 pub raised-on : {A : Type 0} (m : M (Ans A)) (f : A → M Out) (x : Raised) (w : Walk) (s : State) → Stands w s → m s w.steps ≡ done (Err (raised_of x)) s w.steps → Move (using m f) (leaves (left.Raised x)) w w s
 unfolding using chain note
-raised-on m f x w s st h = record { state = add (thrown (raised_of x).kind) s; stands = throws (raised_of x) w s st; silent = refl; same = ap (λ r. bind r (λ a. on_answer a f)) h }
+raised-on m f x w s st h = record { state = add (throw (raised_of x).kind) s; stands = throws (raised_of x) w s st; silent = refl; same = ap (λ r. bind r (λ a. on_answer a f)) h }
 
 -- ---- tests
+
+-- what the test of a loop answers
+abbrev pub asking : Calls → List LoadedModule → Expr → M Out → M Out → M Out
+asking calls ms e m k = using (while_header (eval calls (script ms) e)) (λ found. if_turn found k (λ t. m))
+
+abbrev found_if : Bool → Option (Unit {0})
+found_if b = if b then Some tt else None
+
+found-is : (b : Bool) (s : State) (n : ℕ) → (if b then gives (Some tt) else gives None) s n ≡ done (Ok (found_if b)) s n
+unfolding give
+found-is true s n = refl
+found-is false s n = refl
+
+chosen : (b : Bool) (m k : M Out) (s : State) (n : ℕ) → if_turn (found_if b) k (λ t. m) s n ≡ (if b then m else k) s n
+chosen true m k s n = refl
+chosen false m k s n = refl
+
+pub ask-given : (calls : Calls) (ms : List LoadedModule) (e : Expr) (m k : M Out) (w : Walk) (b : Bool) (r : Result Bool Raised) → r ≡ Ok b → IsTest e → Tests w.globals e r → Moves (asking calls ms e m k) (if b then m else k) w w
+unfolding Moves Tests branch read
+ask-given calls ms e m k w b r r-is is t = λ s st.
+    let h = subst (λ q. IsTested q s w.steps (eval calls (script ms) e s w.steps)) r-is (t calls ms s w.steps is st.names) in
+    let header : while_header (eval calls (script ms) e) s w.steps ≡ done (Ok (found_if b)) s w.steps =
+    given-then (eval calls (script ms) e) _ h.value s s w.steps w.steps h.is ∙ ap (λ b. (if b then gives (Some tt) else gives None) s w.steps) h.truth ∙ found-is b s w.steps in
+    record {
+      state = s;
+      stands = st;
+      silent = refl;
+      same = given-on (while_header (eval calls (script ms) e)) (λ found. if_turn found k (λ t. m)) (found_if b) s s w.steps w.steps header ∙ chosen b m k s w.steps;
+    }
+
+pub ask-raised : (calls : Calls) (ms : List LoadedModule) (e : Expr) (m k : M Out) (w : Walk) (x : Raised) (r : Result Bool Raised) → r ≡ Err x → IsTest e → Tests w.globals e r → Moves (asking calls ms e m k) (leaves (left.Raised x)) w w
+unfolding Moves Tests
+ask-raised calls ms e m k w x r r-is is t = λ s st.
+    raised-on (while_header (eval calls (script ms) e)) (λ found. if_turn found k (λ t. m)) x w s st
+    (raised-then (eval calls (script ms) e) _ (raised_of x) s s w.steps w.steps (subst (λ q. IsTested q s w.steps (eval calls (script ms) e s w.steps)) r-is (t calls ms s w.steps is st.names)))
 
 abbrev pub testing : Calls → List LoadedModule → Expr → M Out → M Out → M Out
 testing calls ms e m k = using (eval calls (script ms) e) (λ v. branch v m k)

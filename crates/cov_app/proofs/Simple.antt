@@ -13,7 +13,7 @@ use Rattle.py_syntax.specs.declared.stmt.StmtKind as kind
 use Rattle.py_syntax.specs.declared.stmt.StmtKind.{StmtKind as KindNode}
 use Rattle.py_syntax.specs.Tree.{Expr, Exprs, exprs, no_exprs, name, call, StmtKind, expr, assign}
 use Rattle.py_syntax.specs.View.{plain_expr, plain_exprs, plain_kind}
-use Rattle.py_meaning.specs.Activations.{marked}
+use Rattle.py_meaning.specs.Activations.{mark}
 use Rattle.py_meaning.specs.Assignments.{assign_to, assign_all}
 use Rattle.py_meaning.specs.Calls.{Calls}
 use Rattle.py_meaning.specs.Computations.{State, done, M, Ans, put, give, step, stop, value, write}
@@ -132,7 +132,7 @@ call_refused f es comma r r-is (inr h) is = many_arguments es h is.1
 name_target : (ts : List Node) (t : Node) (x : _) → ts ≡ t ∷ [] → t ≡ node.Name x → plain_exprs ts ≡ exprs (name x) no_exprs
 name_target ts t x ts-is t-is = ap plain_exprs ts-is ∙ ap (λ e. exprs e no_exprs) (ap plain_expr t-is ∙ plain-Name x)
 
-stored : (calls : Calls) (ms : List LoadedModule) (x : List ℕ) (v : PlainValue) (s : State) (n : ℕ) → assign_all calls (script ms) (exprs (name x) no_exprs) v s n ≡ done (Ok tt) (put (bound (script ms) x v) s) n
+stored : (calls : Calls) (ms : List LoadedModule) (x : List ℕ) (v : PlainValue) (s : State) (n : ℕ) → assign_all calls (script ms) (exprs (name x) no_exprs) v s n ≡ done (Ok tt) (put (bound (script ms).scope x v) s) n
 unfolding assign_all assign_to value computations.chain write give
 stored calls ms x v s n = refl
 
@@ -141,14 +141,14 @@ pub stored-value : (calls : Calls) (ms : List LoadedModule) (ts : List Node) (t 
 unfolding Moves Stores Values give
 stored-value calls ms ts t x bs e a b z k r ts-is t-is own is x-is r-is k-is v h steps =
     subst (λ q. Moves (assigning calls ms q e) (leaves left.End) a b) (sym (name_target ts t x ts-is t-is)) (λ s st. record {
-      state = put (bound (script ms) x (int_value z)) s;
-      stands = subst (λ y. Stands b (put (bound (script ms) y (int_value z)) s)) x-is (subst (λ n. Stands b (put (bound (script ms) (chars bs) (int_value n)) s)) k-is (h ms s (subst Own (sym x-is) (subst IsOneName (name_target ts t x ts-is t-is) own)) st));
+      state = put (bound (script ms).scope x (int_value z)) s;
+      stands = subst (λ y. Stands b (put (bound (script ms).scope y (int_value z)) s)) x-is (subst (λ n. Stands b (put (bound (script ms).scope (chars bs) (int_value n)) s)) k-is (h ms s (subst Own (sym x-is) (subst IsOneName (name_target ts t x ts-is t-is) own)) st));
       silent = refl;
       same =
-          given-on (value (eval calls (script ms) e) (assign_all calls (script ms) (exprs (name x) no_exprs))) _ tt s (put (bound (script ms) x (int_value z)) s) a.steps a.steps
+          given-on (value (eval calls (script ms) e) (assign_all calls (script ms) (exprs (name x) no_exprs))) _ tt s (put (bound (script ms).scope x (int_value z)) s) a.steps a.steps
           (given-then (eval calls (script ms) e) (assign_all calls (script ms) (exprs (name x) no_exprs)) (int_value z) s s a.steps a.steps (subst (λ q. eval calls (script ms) e s a.steps ≡ done (number_of q) s a.steps) r-is (v calls ms s a.steps is st.names))
           ∙ stored calls ms x (int_value z) s a.steps)
-          ∙ ap (λ n. done normal (put (bound (script ms) x (int_value z)) s) n) (sym steps);
+          ∙ ap (λ n. done normal (put (bound (script ms).scope x (int_value z)) s) n) (sym steps);
     })
   where
     Own : List ℕ → Type 0
@@ -188,6 +188,6 @@ unfolding exec_kind
 cut-simple calls ms line n w T c none is = reaches _ (leaves left.Cut) w w T c (go (plain_kind n) is)
   where
     go : (k : StmtKind) → IsSimple k → Moves (exec_kind calls (script ms) line k) stop w w
-    go (expr e) h = no-step _ (marked line) w none
-    go (assign ts e) h = no-step _ (marked line) w none
+    go (expr e) h = no-step _ (mark line) w none
+    go (assign ts e) h = no-step _ (mark line) w none
     go k h = absurd h

@@ -11,7 +11,7 @@ use Rattle.std.specs.BTreeSet.{BTreeSet, insert_key}
 use Rattle.py_value.specs.Keys.{is_same_text}
 use Rattle.py_value.specs.Plain.{int_value, PlainRaised}
 use Rattle.py_builtins.specs.World.{global_of}
-use Rattle.py_meaning.specs.Activations.{marked, thrown, Items, more, kept_line, Arc, arc_to, arcs_so_far}
+use Rattle.py_meaning.specs.Activations.{mark, throw, Items, more, kept_line, Arc, arc_to, arcs_so_far}
 use Rattle.py_meaning.specs.Computations.{Setting, State, add}
 use Rattle.py_meaning.specs.Crossings.{activations, by_lines, crossing, ends, lines_crossed, ordered, shown_line}
 use Rattle.py_meaning.specs.Modules.{LoadedModule}
@@ -23,7 +23,7 @@ use Rattle.cov_app.proofs.Globals.{global-with, not_print}
 
 -- ---- names
 
-agree-store : (m n : BTreeMap (String Global) ℤ) (ms : List LoadedModule) (w : Setting) (name : List ℕ) (z : ℤ) → IsUtf8 name → ((cs : List ℕ) → get_by_text n cs ≡ update bytes_eq (get_by_text m) name (Some z) cs) → Agree m w → Agree n (bound (script ms) (chars name) (int_value z) w)
+agree-store : (m n : BTreeMap (String Global) ℤ) (ms : List LoadedModule) (w : Setting) (name : List ℕ) (z : ℤ) → IsUtf8 name → ((cs : List ℕ) → get_by_text n cs ≡ update bytes_eq (get_by_text m) name (Some z) cs) → Agree m w → Agree n (bound (script ms).scope (chars name) (int_value z) w)
 agree-store m n ms w name z u h a = λ bs v own.
     global-with (chars name) (chars bs) (int_value z) w.world ∙ both (is_same_text (chars bs) (chars name)) bs (a bs v own)
     ∙ sym (ap (option_map int_value) (h bs ∙ ap (λ b. cond b (Some z) (get_by_text m bs)) (same_name name bs u v)))
@@ -74,7 +74,7 @@ crossed false l is (inr apart) = ap (λ b. if b then arcs_so_far is else arcs_so
     same : (l == kept_line is) ≡ true → l ≡ kept_line is
     same e = grind arith
 
-uncrossed : (l : ℕ) (is : Items) → l ≡ kept_line is → arcs_so_far (more is (marked l)) ≡ arcs_so_far is
+uncrossed : (l : ℕ) (is : Items) → l ≡ kept_line is → arcs_so_far (more is (mark l)) ≡ arcs_so_far is
 unfolding arcs_so_far
 uncrossed l is e = ap (λ b. if b then arcs_so_far is else arcs_so_far is ++ arc_to is l ∷ []) (eq-eqb l (kept_line is) e)
 
@@ -102,7 +102,7 @@ stays w l n same = λ s st. record {
 }
 
 -- an exception is thrown there
-pub throws : (e : PlainRaised) (w : Walk) (s : State) → Stands w s → Stands w (add (thrown e.kind) s)
+pub throws : (e : PlainRaised) (w : Walk) (s : State) → Stands w s → Stands w (add (throw e.kind) s)
 unfolding arcs_so_far activations
 throws e w s st = record { names = st.names; print = st.print; line = st.line; known = st.known; alone = st.alone }
 

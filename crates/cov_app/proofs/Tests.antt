@@ -23,11 +23,12 @@ use Rattle.py_syntax.specs.declared.expr.Link.{Link}
 use Rattle.py_syntax.specs.declared.expr.Pair.{Pair}
 use Rattle.py_syntax.specs.declared.expr.Comparison.{Comparison}
 use Rattle.py_syntax.specs.declared.expr.Comparison.TheVariants.{Op}
+use Rattle.py_meaning.specs.Asked.{asked}
 use Rattle.py_syntax.specs.Tree.{Expr, compare, link, no_links}
 use Rattle.py_syntax.specs.View.{plain_expr, plain_links}
 use Rattle.py_meaning.specs.Calls.{Calls}
 use Rattle.py_meaning.specs.Computations.{State, done, give, value, ask, read, chain, on_value}
-use Rattle.py_meaning.specs.Displays.{compared}
+use Rattle.py_builtins.specs.Making.{compared}
 use Rattle.py_meaning.specs.Expressions.{eval, eval_links, gives}
 use Rattle.py_meaning.specs.Modules.{LoadedModule}
 use Rattle.cov_app.specs.declared.walk.Raised.{Raised}
@@ -68,7 +69,7 @@ compare_right m a b op z x h k = λ calls ms s n is g.
 
 -- the comparison of the two values, behind which nothing is left
 related : (calls : Calls) (ms : List LoadedModule) (op : Comparison) (z y : ℤ) (r : Result Bool Raised) (s : State) (n : ℕ) → IsRelation op → Compares op z y r
-    → IsTested r s n (value (ask (λ w. compared op (int_value z) (int_value y) w.world.heap)) (λ b. if b then eval_links calls (script ms) no_links (int_value y) else gives (bool_value false)) s n)
+    → IsTested r s n (value (ask (λ w. compared (asked op) (int_value z) (int_value y) w.world.heap)) (λ b. if b then eval_links calls (script ms) no_links (int_value y) else gives (bool_value false)) s n)
 unfolding value chain ask read give eval_links
 related calls ms op z y r s n is h =
     subst (λ a. IsTested r s n (on_value a (λ b. if b then eval_links calls (script ms) no_links (int_value y) else gives (bool_value false)) s n)) (sym (h is s.now.world.heap)) (go r)

@@ -1,5 +1,5 @@
 -- What the turns of a `while` keep.
-use Rattle.std.proofs.Common.{◌≡◌, ℕ, zero, suc, ◌+◌, ◌≤◌, ◌<◌, Bool, true, false, List, Result, Ok, Err, refl, sym, ap, subst, arith}
+use Rattle.std.proofs.Common.{◌≡◌, ℕ, zero, suc, ◌+◌, ◌≤◌, ◌<◌, Bool, true, false, List, Option, Some, None, Result, Ok, Err, refl, sym, ap, subst, arith}
 use Rattle.py_syntax.specs.declared.expr.Expr.{Expr as Node}
 use Rattle.py_syntax.specs.declared.stmt.Suite.{Suite as SuiteNode, out-Suite}
 use Rattle.py_syntax.specs.Tree.{suite, OptSuite, while}
@@ -8,15 +8,15 @@ use Rattle.py_meaning.specs.Calls.{Calls}
 use Rattle.py_meaning.specs.Computations.{M, chain, step, stop, within}
 use Rattle.py_meaning.specs.Expressions.{eval}
 use Rattle.py_meaning.specs.Modules.{LoadedModule}
-use Rattle.py_meaning.specs.Statements.{Out, looped, turns, exec, exec_kind, exec_opt}
+use Rattle.py_meaning.specs.Statements.{Out, looped, Loop, turns, loop, while_header, exec, exec_kind, exec_opt}
 use Rattle.cov_app.specs.declared.walk.Raised.{Raised}
 use Rattle.cov_app.specs.declared.walk.Left.{Left}
 use Rattle.cov_app.specs.declared.walk.Left.TheVariants as left
 use Rattle.cov_app.specs.declared.walk.Walk.{Walk}
 use Rattle.cov_app.specs.Walked.{IsTest, IsWalked, IsWalkedKind, IsWalkedLoop, IsWalkedElse}
 use Rattle.cov_app.specs.Walk.{script, Tests, Notes, mark_of, Moves, Reaches, Prints_part, leaves}
-use Rattle.cov_app.proofs.Growth.{Grows, exec-grows, else-grows, test-grows, grows-looped, grows-turns}
-use Rattle.cov_app.proofs.Reaching.{reaches, reaches-trans, moves-trans, part-after, fault-before, at_once, follows, Passes, chain-reaches, chain-left, fault-in-chain, marked-on, no-step, testing, test-given, test-raised}
+use Rattle.cov_app.proofs.Growth.{Grows, exec-grows, else-grows, test-grows, grows-looped, grows-turns, grows-while_header}
+use Rattle.cov_app.proofs.Reaching.{reaches, reaches-trans, moves-trans, part-after, fault-before, at_once, follows, Passes, chain-reaches, chain-left, fault-in-chain, marked-on, no-step, asking, ask-given, ask-raised}
 use Rattle.cov_app.proofs.Nodes.{plain-Suite}
 
 abbrev pub IsLoop : Node → SuiteNode → ℕ → OptSuite → Type 0
@@ -38,8 +38,16 @@ whole calls ms header body l o = exec_kind calls (script ms) l (while (plain_exp
 abbrev pub suite_of : Calls → List LoadedModule → SuiteNode → M Out
 suite_of calls ms body = exec calls (script ms) (plain_stmts (out-Suite body).body.items)
 
+abbrev pub while_of : Calls → List LoadedModule → Node → SuiteNode → ℕ → OptSuite → Loop (Unit {0})
+while_of calls ms header body l o = record { line = l; header = λ b. while_header (eval calls (script ms) (plain_expr header)); turn = λ t. suite_of calls ms body; orelse = exec_opt calls (script ms) o }
+
+-- the turn before
+abbrev pub before : Bool → Option (Unit {0})
+before false = None
+before true = Some tt
+
 abbrev pub turning : Calls → List LoadedModule → Node → SuiteNode → ℕ → OptSuite → ℕ → Bool → M Out
-turning calls ms header body l o k again = turns (eval calls (script ms) (plain_expr header)) (suite_of calls ms body) (exec_opt calls (script ms) o) l k (mark_of again l)
+turning calls ms header body l o k again = turns (while_of calls ms header body l o) k (mark_of again l) (before again)
 
 -- the loop has come to a turn
 pub record Turns (header : Node) (body : SuiteNode) (again : Bool) (from to : Walk) (T : Type 0) (c d : List ℕ) (f g : ℕ) : Type 0 where
@@ -58,14 +66,14 @@ pub record Turned (header : Node) (body : SuiteNode) (from to : Walk) (T : Type 
 
 module _ (calls : Calls) (ms : List LoadedModule) (header : Node) (body : SuiteNode) (l : ℕ) (o : OptSuite) where
   while-is : whole calls ms header body l o ≡ within (λ n. turning calls ms header body l o n false)
-  unfolding exec_kind
+  unfolding exec_kind loop
   while-is = ap (λ b. exec_kind calls (script ms) l (while (plain_expr header) b o)) (plain-Suite body)
 
   begun : (w : Walk) → Moves (within (λ n. turning calls ms header body l o n false)) (turning calls ms header body l o w.steps false) w w
   unfolding Moves within
   begun w = λ s st. record { state = s; stands = st; silent = refl; same = refl }
 
-  turn-is : (j : ℕ) (again : Bool) → turning calls ms header body l o (suc j) again ≡ step (mark_of again l) (testing calls ms (plain_expr header) (chain (suite_of calls ms body) (λ p. looped p (turning calls ms header body l o j true))) (exec_opt calls (script ms) o))
+  turn-is : (j : ℕ) (again : Bool) → turning calls ms header body l o (suc j) again ≡ step (mark_of again l) (asking calls ms (plain_expr header) (chain (suite_of calls ms body) (λ p. looped p (turning calls ms header body l o j true))) (exec_opt calls (script ms) o))
   unfolding turns
   turn-is j again = refl
 
@@ -75,11 +83,11 @@ module _ (calls : Calls) (ms : List LoadedModule) (header : Node) (body : SuiteN
   turning-grows : IsLoop header body l o → (k : ℕ) (again : Bool) → Grows (turning calls ms header body l o k again)
   turning-grows h k again =
       let p = parts header body l o h in
-      grows-turns _ _ _ (test-grows calls ms (plain_expr header) p.test) (exec-grows calls ms _ p.suite) (else-grows calls ms o p.orelse) l k (mark_of again l)
+      grows-turns _ (record { header = λ b. grows-while_header _ (test-grows calls ms (plain_expr header) p.test); turn = λ t. exec-grows calls ms _ p.suite; orelse = else-grows calls ms o p.orelse }) k (mark_of again l) (before again)
 
   -- what follows the mark and the test of a turn
   turns-on : (m n : M Out) (again : Bool) (from mid to : Walk) (T : Type 0) (c d : List ℕ) (k j : ℕ) → k ≡ suc j
-      → Moves (testing calls ms (plain_expr header) (chain (suite_of calls ms body) (λ p. looped p (turning calls ms header body l o j true))) (exec_opt calls (script ms) o)) n to to
+      → Moves (asking calls ms (plain_expr header) (chain (suite_of calls ms body) (λ p. looped p (turning calls ms header body l o j true))) (exec_opt calls (script ms) o)) n to to
       → (out-Suite body).first ≡ l → Notes mid again (out-Suite body).first to → to.steps + 1 ≡ mid.steps
       → Reaches m (turning calls ms header body l o k again) from mid T c d → Reaches m n from to T c d
   turns-on m n again from mid to T c d k j is h line notes steps p =
@@ -114,7 +122,7 @@ turn-held header body again from mid to T c d f g r some notes steps r-is t p =
       enough = let h = p.enough in let e = q.1 in omega arith;
       reached = λ calls ms l o h.
           let w = parts header body l o h in
-          turns-on calls ms header body l o _ _ again from mid to T c d p.left_of q.0 q.1 (test-given calls ms (plain_expr header) _ _ to true r r-is w.test t) w.line notes steps (p.reached calls ms l o h);
+          turns-on calls ms header body l o _ _ again from mid to T c d p.left_of q.0 q.1 (ask-given calls ms (plain_expr header) _ _ to true r r-is w.test t) w.line notes steps (p.reached calls ms l o h);
     }
 
 pub turn-failed : (header : Node) (body : SuiteNode) (again : Bool) (from mid to : Walk) (T : Type 0) (c d : List ℕ) (f g : ℕ) (r : Result Bool Raised) → 0 < mid.steps → Notes mid again (out-Suite body).first to → to.steps + 1 ≡ mid.steps
@@ -123,7 +131,7 @@ pub turn-failed : (header : Node) (body : SuiteNode) (again : Bool) (from mid to
 turn-failed header body again from mid to T c d f g r some notes steps r-is t p calls ms l o h =
     let q = pred p.left_of mid.steps some p.enough in
     let w = parts header body l o h in
-    turns-on calls ms header body l o _ _ again from mid to T c d p.left_of q.0 q.1 (test-given calls ms (plain_expr header) _ _ to false r r-is w.test t) w.line notes steps (p.reached calls ms l o h)
+    turns-on calls ms header body l o _ _ again from mid to T c d p.left_of q.0 q.1 (ask-given calls ms (plain_expr header) _ _ to false r r-is w.test t) w.line notes steps (p.reached calls ms l o h)
 
 pub turn-raised : (header : Node) (body : SuiteNode) (again : Bool) (from mid to : Walk) (T : Type 0) (c d : List ℕ) (f g : ℕ) (x : Raised) (r : Result Bool Raised) → 0 < mid.steps → Notes mid again (out-Suite body).first to → to.steps + 1 ≡ mid.steps
     → r ≡ Err x → Tests to.globals (plain_expr header) r → Turns header body again from mid T c d f g
@@ -131,7 +139,7 @@ pub turn-raised : (header : Node) (body : SuiteNode) (again : Bool) (from mid to
 turn-raised header body again from mid to T c d f g x r some notes steps r-is t p calls ms l o h =
     let q = pred p.left_of mid.steps some p.enough in
     let w = parts header body l o h in
-    turns-on calls ms header body l o _ _ again from mid to T c d p.left_of q.0 q.1 (test-raised calls ms (plain_expr header) _ _ to x r r-is w.test t) w.line notes steps (p.reached calls ms l o h)
+    turns-on calls ms header body l o _ _ again from mid to T c d p.left_of q.0 q.1 (ask-raised calls ms (plain_expr header) _ _ to x r r-is w.test t) w.line notes steps (p.reached calls ms l o h)
 
 -- what a suite does wherever it stands
 abbrev pub SuiteReaches : SuiteNode → Left → (mid to : Walk) (T : Type 0) (d e : List ℕ) → Type 0

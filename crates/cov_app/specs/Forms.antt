@@ -7,7 +7,7 @@ use Rattle.py_value.specs.Keys.{is_same_text}
 use Rattle.py_value.specs.Numbers.{fits_64_bits}
 use Rattle.py_syntax.specs.declared.expr.Comparison.{Comparison}
 use Rattle.py_syntax.specs.declared.expr.Comparison.TheVariants.{Op}
-use Rattle.py_syntax.specs.Tree.{Expr, name, int, binary, compare, call, Exprs, no_exprs, exprs, Links, no_links, link, Stmts, no_stmts, stmt, Suite, suite, OptSuite, no_suite, has_suite, Arms, no_arms, arm, Clauses, no_clauses, clause, Cases, no_cases, case, StmtKind, expr, assign, if', while, for, try, def, match}
+use Rattle.py_syntax.specs.Tree.{Expr, name, int, binary, compare, call, Exprs, no_exprs, exprs, Links, no_links, link, Stmts, no_stmts, stmt, Suite, suite, OptSuite, no_suite, has_suite, Arms, no_arms, arm, Clauses, no_clauses, clause, Cases, no_cases, case, StmtKind, expr, assign, aug_assign, pass, break, continue, return, raise, assert, global, import, from, if', while, for, try, def, match}
 use Rattle.cov_app.specs.Names.{is_taken}
 
 -- ---- expressions
@@ -82,13 +82,22 @@ abbrev mutual
   pub in_kind : ℕ → StmtKind → List ℕ
   in_kind line (expr e) = unless (is_print e) line
   in_kind line (assign targets value) = unless (is_one_name targets && is_sum value) line
+  in_kind line (aug_assign place op value) = line ∷ []
+  in_kind line pass = line ∷ []
+  in_kind line break = line ∷ []
+  in_kind line continue = line ∷ []
+  in_kind line (return e) = line ∷ []
+  in_kind line (raise e) = line ∷ []
+  in_kind line (assert test why) = line ∷ []
+  in_kind line (global xs) = line ∷ []
+  in_kind line (import names) = line ∷ []
+  in_kind line (from m names) = line ∷ []
   in_kind line (if' arms orelse) = in_arms true arms ++ in_opt true orelse
   in_kind line (while test body orelse) = in_suite (is_test test) body ++ in_opt false orelse
   in_kind line (for target over body orelse) = line ∷ (in_suite false body ++ in_opt false orelse)
   in_kind line (try body clauses orelse finally) = line ∷ ((in_suite false body ++ in_clauses clauses) ++ (in_opt false orelse ++ in_opt false finally))
   in_kind line (def x params defaults comma body) = line ∷ in_suite false body
   in_kind line (match subject header_last cases) = line ∷ in_cases cases
-  in_kind line kind = line ∷ []
 
   -- of a suite and the header in front of it, which is built or not
   pub in_suite : Bool → Suite → List ℕ

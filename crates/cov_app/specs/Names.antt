@@ -3,7 +3,7 @@ use Rattle.std.specs.Prelude.{Bool, List, ◌∷◌, map, codes}
 use Rattle.std.specs.List.{list_any}
 use Rattle.py_value.specs.Keys.{is_same_text}
 use Rattle.py_syntax.specs.Tree.{Text}
-use Rattle.py_meaning.specs.Predefined.{predefined}
+use Rattle.py_builtins.specs.Predefined.{predefined}
 
 abbrev pub taken : List Text
 taken = codes "__name__" ∷ map (λ n. n.0) predefined

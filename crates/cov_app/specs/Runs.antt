@@ -5,7 +5,8 @@ use Rattle.cov_outside.specs.Prefixes.{GainsPrefix}
 use Rattle.py_syntax.specs.Tree.{Text, Stmts}
 use Rattle.py_meaning.specs.Faults.{name_unknown}
 use Rattle.py_meaning.specs.Crossings.{by_lines, shown_line}
-use Rattle.py_meaning.specs.Program.{Run, outcome_of, err_of}
+use Rattle.py_builtins.specs.Outcomes.{outcome_of, err_of}
+use Rattle.py_meaning.specs.Program.{Run}
 use Rattle.cov_app.specs.declared.walk.Raised.{Raised}
 use Rattle.cov_app.specs.declared.walk.RunFault.{RunFault}
 use Rattle.cov_app.specs.declared.walk.Left.{Left}

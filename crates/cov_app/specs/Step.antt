@@ -8,7 +8,8 @@ use Rattle.py_syntax.specs.Tree.{Text, Stmts}
 use Rattle.py_meaning.specs.Crossings.{crossings, lines_crossed}
 use Rattle.py_meaning.specs.Loading as loading
 use Rattle.py_meaning.specs.Loading.{loaded}
-use Rattle.py_meaning.specs.Program.{Outcome, finished, exited, failed, spent, err_of, Run, meaning}
+use Rattle.py_builtins.specs.Outcomes.{Outcome, finished, exited, raised, cut, err_of}
+use Rattle.py_meaning.specs.Program.{Run, meaning}
 use Rattle.py_token.specs.declared.error.TokenError.{TokenError}
 use Rattle.py_token.specs.declared.error.TokenError.TheVariants as token_error
 use Rattle.py_parse.specs.declared.error.DepthKind.TheVariants as depth
@@ -59,24 +60,24 @@ refusal a = record { answer = a; ending = []; out = [] }
 abbrev pub ended_by : Outcome → Answer
 ended_by finished = program 0
 ended_by (exited status text) = program status
-ended_by (failed kind text) = program 1
-ended_by spent = budget budget_of_runs
-
--- the files of a script: no built form imports, so it is the only one
-abbrev pub files_of : List ℕ → Stmts → loading.Files
-files_of path t = (chars path, t) ∷ []
+ended_by (raised kind text) = program 1
+ended_by cut = budget budget_of_runs
 
 -- the name of a script's module
 abbrev pub main_name : Text
 main_name = codes "__main__"
 
+-- the program of a script: no built form imports, so its file is the only one
+abbrev pub program_of : List ℕ → Stmts → loading.Program
+program_of path t = record { files = (chars path, t) ∷ []; script = chars path; name = main_name }
+
 -- the run of a script by the meaning of the language; its own name is the first of its words
 abbrev pub run_of : List ℕ → Stmts → List ℕ → Run
-run_of path t input = meaning (files_of path t) (chars path) main_name (chars path ∷ []) input budget_of_runs
+run_of path t input = meaning (program_of path t) (chars path ∷ []) input budget_of_runs
 
 -- what a run prints, and then its arcs
 abbrev pub shown_by : List ℕ → Stmts → Run → List ℕ
-shown_by path t r = r.out ++ arc_lines path (lines_crossed (crossings (loaded (files_of path t) (chars path) main_name) 0 r.items))
+shown_by path t r = r.out ++ arc_lines path (lines_crossed (crossings (loaded (program_of path t)) 0 r.items))
 
 abbrev pub step_of : List ℕ → Stmts → List ℕ → Stepped
 step_of path t input =

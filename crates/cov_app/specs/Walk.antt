@@ -11,16 +11,17 @@ use Rattle.py_value.specs.Causes.{raised_by}
 use Rattle.py_value.specs.Operators.{binary_of, truth_of}
 use Rattle.py_value.specs.Plain.{PlainValue, int_value, PlainHeap, PlainRaised}
 use Rattle.py_syntax.specs.declared.expr.Comparison.{Comparison}
+use Rattle.py_meaning.specs.Asked.{asked}
 use Rattle.py_syntax.specs.Tree.{Expr, Exprs}
 use Rattle.py_builtins.specs.World.{global_of}
-use Rattle.py_meaning.specs.Activations.{Item, marked, marked_again, Items, kept_line, arcs_so_far}
+use Rattle.py_meaning.specs.Activations.{Item, mark, again as mark_again, Items, kept_line, arcs_so_far}
 use Rattle.py_meaning.specs.Assignments.{assign_all}
 use Rattle.py_meaning.specs.Calls.{Calls}
 use Rattle.py_meaning.specs.Computations.{Setting, State, Res, done, cut, Ans, M, add, put, give, stop, value}
 use Rattle.py_meaning.specs.Crossings.{activations, crossing, lines_crossed}
-use Rattle.py_meaning.specs.Displays.{compared}
 use Rattle.py_meaning.specs.Expressions.{eval}
 use Rattle.py_meaning.specs.Faults.{name_unknown}
+use Rattle.py_builtins.specs.Making.{compared}
 use Rattle.py_meaning.specs.Modules.{LoadedModule}
 use Rattle.py_meaning.specs.Places.{Place, bound}
 use Rattle.py_meaning.specs.Statements.{Out, normal, raises, simply}
@@ -62,11 +63,11 @@ Applies op x y r = IsAdditive op → (h : PlainHeap) → binary_of op (int_value
 
 -- the answer is that of the comparison
 abbrev pub Compares : Comparison → ℤ → ℤ → Result Bool Raised → Type 0
-Compares op x y r = IsRelation op → (h : PlainHeap) → compared op (int_value x) (int_value y) h ≡ answer_of r
+Compares op x y r = IsRelation op → (h : PlainHeap) → compared (asked op) (int_value x) (int_value y) h ≡ answer_of r
 
 -- the body of a script, which has no local names
 abbrev pub script : List LoadedModule → Place
-script ms = record { modules = ms; number = 0; own = []; handled = None }
+script ms = record { modules = ms; scope = record { number = 0; own = [] }; handled = None }
 
 -- the map holds the names that are set, all of them to numbers
 abbrev pub Agree : BTreeMap (String Global) ℤ → Setting → Type 0
@@ -114,8 +115,8 @@ pub record Stands (walk : Walk) (s : State) : Type 0 where
 
 -- a mark of the line; `true` stands for the header of a further turn
 abbrev pub mark_of : Bool → ℕ → Item
-mark_of false l = marked l
-mark_of true l = marked_again l
+mark_of false l = mark l
+mark_of true l = mark_again l
 
 -- a mark of the line was noted
 unfoldable pub Notes : Walk → Bool → ℕ → Walk → Type 0
@@ -123,7 +124,7 @@ Notes old again l new = (s : State) → Stands old s → Stands new (add (mark_o
 
 -- the name holds the value from now on
 unfoldable pub Stores : Walk → List ℕ → ℤ → Walk → Type 0
-Stores old x z new = (ms : List LoadedModule) (s : State) → is_taken x ≡ false → Stands old s → Stands new (put (bound (script ms) x (int_value z)) s)
+Stores old x z new = (ms : List LoadedModule) (s : State) → is_taken x ≡ false → Stands old s → Stands new (put (bound (script ms).scope x (int_value z)) s)
 
 -- ---- computations
 

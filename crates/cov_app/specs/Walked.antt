@@ -6,7 +6,7 @@ use Rattle.py_value.specs.declared.operator.CmpOp.TheVariants as comparisons
 use Rattle.py_value.specs.Numbers.{fits_64_bits}
 use Rattle.py_syntax.specs.declared.expr.Comparison.{Comparison}
 use Rattle.py_syntax.specs.declared.expr.Comparison.TheVariants.{Op}
-use Rattle.py_syntax.specs.Tree.{Text, Expr, name, int, binary, compare, call, Exprs, no_exprs, exprs, Links, no_links, link, Stmts, no_stmts, stmt, Suite, suite, OptSuite, no_suite, has_suite, Arms, no_arms, arm, StmtKind, expr, assign, if', while}
+use Rattle.py_syntax.specs.Tree.{Text, Expr, name, int, binary, compare, call, Exprs, no_exprs, exprs, Links, no_links, link, Stmts, no_stmts, stmt, Suite, suite, OptSuite, no_suite, has_suite, Arms, no_arms, arm, StmtKind, expr, assign, aug_assign, pass, break, continue, return, raise, assert, global, import, from, if', while, for, try, def, match}
 use Rattle.cov_app.specs.Names.{is_taken}
 
 -- ---- expressions
@@ -75,7 +75,22 @@ IsOneName es = ⊥
 abbrev pub IsSimple : StmtKind → Type 0
 IsSimple (expr e) = IsPrintCall e
 IsSimple (assign targets value) = IsOneName targets × IsSum value
-IsSimple kind = ⊥
+IsSimple (aug_assign place op value) = ⊥
+IsSimple pass = ⊥
+IsSimple break = ⊥
+IsSimple continue = ⊥
+IsSimple (return e) = ⊥
+IsSimple (raise e) = ⊥
+IsSimple (assert test why) = ⊥
+IsSimple (global xs) = ⊥
+IsSimple (import names) = ⊥
+IsSimple (from m names) = ⊥
+IsSimple (if' arms orelse) = ⊥
+IsSimple (while test body orelse) = ⊥
+IsSimple (for target over body orelse) = ⊥
+IsSimple (try body handlers orelse finally) = ⊥
+IsSimple (def x params defaults comma body) = ⊥
+IsSimple (match subject header_last cases) = ⊥
 
 abbrev mutual
   pub IsWalked : Stmts → Type 0
@@ -83,9 +98,24 @@ abbrev mutual
   IsWalked (stmt first last kind end more) = IsWalkedKind first kind × IsWalked more
 
   pub IsWalkedKind : ℕ → StmtKind → Type 0
+  IsWalkedKind l (expr e) = IsSimple (expr e)
+  IsWalkedKind l (assign targets value) = IsSimple (assign targets value)
+  IsWalkedKind l (aug_assign place op value) = ⊥
+  IsWalkedKind l pass = ⊥
+  IsWalkedKind l break = ⊥
+  IsWalkedKind l continue = ⊥
+  IsWalkedKind l (return e) = ⊥
+  IsWalkedKind l (raise e) = ⊥
+  IsWalkedKind l (assert test why) = ⊥
+  IsWalkedKind l (global xs) = ⊥
+  IsWalkedKind l (import names) = ⊥
+  IsWalkedKind l (from m names) = ⊥
   IsWalkedKind l (if' arms orelse) = AreWalkedArms arms × IsWalkedElse orelse
   IsWalkedKind l (while test body orelse) = IsTest test × IsWalkedLoop l body × IsWalkedElse orelse
-  IsWalkedKind l kind = IsSimple kind
+  IsWalkedKind l (for target over body orelse) = ⊥
+  IsWalkedKind l (try body handlers orelse finally) = ⊥
+  IsWalkedKind l (def x params defaults comma body) = ⊥
+  IsWalkedKind l (match subject header_last cases) = ⊥
 
   pub AreWalkedArms : Arms → Type 0
   AreWalkedArms no_arms = Unit {0}

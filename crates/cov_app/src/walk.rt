@@ -240,6 +240,17 @@ fn run_kind<O: Sink>(
     ensures fault { IsErrOf result RunFault.WriteFault → Rose (O.faults out.old) (O.faults out.new) }
 {
     match kind {
+        StmtKind::Expr(_) | StmtKind::Assign { .. } => run_simple(alloc, walk, out, line, kind),
+        StmtKind::AugAssign { .. }
+        | StmtKind::Pass
+        | StmtKind::Break
+        | StmtKind::Continue
+        | StmtKind::Return(_)
+        | StmtKind::Raise(_)
+        | StmtKind::Assert(_, _)
+        | StmtKind::Global(_)
+        | StmtKind::Import(_)
+        | StmtKind::From(_, _) => Ok(Left::Raised(Raised::Unbuilt)),
         StmtKind::If { arms, orelse } => match run_arms(alloc, walk, out, arms)? {
             Some(left) => Ok(left),
             None => run_else(alloc, walk, out, orelse),
@@ -248,7 +259,10 @@ fn run_kind<O: Sink>(
             Some(left) => Ok(left),
             None => run_else(alloc, walk, out, orelse),
         },
-        _ => run_simple(alloc, walk, out, line, kind),
+        StmtKind::For { .. }
+        | StmtKind::Try { .. }
+        | StmtKind::Def { .. }
+        | StmtKind::Match { .. } => Ok(Left::Raised(Raised::Unbuilt)),
     }
 }
 
@@ -351,7 +365,22 @@ fn run_simple<O: Sink>(
     match kind {
         StmtKind::Expr(e) => run_expression(alloc, walk, out, e),
         StmtKind::Assign { targets, value } => Ok(assign(alloc, walk, targets, value)?),
-        _ => Ok(Left::Raised(Raised::Unbuilt)),
+        StmtKind::AugAssign { .. }
+        | StmtKind::Pass
+        | StmtKind::Break
+        | StmtKind::Continue
+        | StmtKind::Return(_)
+        | StmtKind::Raise(_)
+        | StmtKind::Assert(_, _)
+        | StmtKind::Global(_)
+        | StmtKind::Import(_)
+        | StmtKind::From(_, _)
+        | StmtKind::If { .. }
+        | StmtKind::While { .. }
+        | StmtKind::For { .. }
+        | StmtKind::Try { .. }
+        | StmtKind::Def { .. }
+        | StmtKind::Match { .. } => Ok(Left::Raised(Raised::Unbuilt)),
     }
 }
 

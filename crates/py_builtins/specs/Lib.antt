@@ -8,3 +8,13 @@ pub mod Texts
 pub mod World
 pub mod Writing
 pub mod Written
+pub mod Items
+pub mod Making
+pub mod Catching
+pub mod Parameters
+pub mod Attributes
+pub mod Predefined
+pub mod Outcomes
+pub mod Returns
+pub mod NameLaws
+pub mod Comparisons

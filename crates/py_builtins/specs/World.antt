@@ -18,10 +18,10 @@ unfoldable pub with_name : List ℕ → PlainValue → Names → Names
 with_name name v [] = (name, v) ∷ []
 with_name name v (n ∷ ns) = if is_same_text name n.0 then (name, v) ∷ ns else n ∷ with_name name v ns
 
--- a name unset
+-- a name unset, wherever it stands
 unfoldable pub without_name : List ℕ → Names → Names
 without_name name [] = []
-without_name name (n ∷ ns) = if is_same_text name n.0 then ns else n ∷ without_name name ns
+without_name name (n ∷ ns) = if is_same_text name n.0 then without_name name ns else n ∷ without_name name ns
 
 -- Modules have numbers, from 0 for the script on, and the globals stand in the order of these. Begun modules stand in the
 -- order in which they began. `words` is the address of the list that is `sys.argv`.

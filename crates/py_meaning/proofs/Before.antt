@@ -4,7 +4,7 @@ use Rattle.std.proofs.lemmas.List.{append-nil}
 use Rattle.cov_event.specs.declared.event.Event.{Event}
 use Rattle.cov_event.specs.declared.event.Event.TheVariants.{Call}
 use Rattle.cov_outside.specs.Prefixes.{IsPrefix}
-use Rattle.py_meaning.specs.Activations.{Item, marked, marked_again, thrown, entered, Activation, activation, Items, no_items, more, is_kept}
+use Rattle.py_meaning.specs.Activations.{Item, mark, again, throw, sub, Activation, activation, Items, no_items, more, is_kept}
 use Rattle.py_meaning.specs.Computations.{State, add}
 use Rattle.py_meaning.specs.Events.{line_unless, return_if, told, told_of}
 
@@ -31,10 +31,10 @@ mutual
   -- what is told comes behind what came before
   pub told-behind : (es : List Event) (is : Items) → IsPrefix es (told es is)
   told-behind es no_items = begins-itself es
-  told-behind es (more is (marked l)) = begins-trans (told-behind es is) (line-grows (is_kept l is) l (told es is))
-  told-behind es (more is (marked_again l)) = begins-trans (told-behind es is) (begins-append (told es is) _)
-  told-behind es (more is (thrown kind)) = begins-trans (told-behind es is) (begins-append (told es is) _)
-  told-behind es (more is (entered a)) = begins-trans (told-behind es is) (told-behind-of (told es is) a)
+  told-behind es (more is (mark l)) = begins-trans (told-behind es is) (line-grows (is_kept l is) l (told es is))
+  told-behind es (more is (again l)) = begins-trans (told-behind es is) (begins-append (told es is) _)
+  told-behind es (more is (throw kind)) = begins-trans (told-behind es is) (begins-append (told es is) _)
+  told-behind es (more is (sub a)) = begins-trans (told-behind es is) (told-behind-of (told es is) a)
 
   told-behind-of : (es : List Event) (a : Activation) → IsPrefix es (told_of es a)
   told-behind-of es (activation code is ended) =
@@ -43,10 +43,10 @@ mutual
 -- an item tells more
 pub told-more : (es : List Event) (is : Items) (i : Item) → IsPrefix (told es is) (told es (more is i))
 unfolding told
-told-more es is (marked l) = line-grows (is_kept l is) l (told es is)
-told-more es is (marked_again l) = begins-append (told es is) _
-told-more es is (thrown kind) = begins-append (told es is) _
-told-more es is (entered a) = told-behind-of (told es is) a
+told-more es is (mark l) = line-grows (is_kept l is) l (told es is)
+told-more es is (again l) = begins-append (told es is) _
+told-more es is (throw kind) = begins-append (told es is) _
+told-more es is (sub a) = told-behind-of (told es is) a
 
 -- what was written and told up to a state is the beginning of that up to another
 abbrev pub Before : State → State → Type 0

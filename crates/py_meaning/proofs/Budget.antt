@@ -1,5 +1,5 @@
 -- More steps change nothing of a run that isn't cut, and go on where one that is cut ended.
-use Rattle.std.proofs.Common.{◌≡◌, ℕ, zero, suc, ◌+◌, ◌<◌, ◌≤◌, Bool, true, false, cond, List, ◌++◌, Ok, Err, refl, arith}
+use Rattle.std.proofs.Common.{◌≡◌, ℕ, zero, suc, ◌+◌, ◌<◌, ◌≤◌, Bool, true, false, cond, List, ◌++◌, Ok, Err, refl, ◌∙◌, arith}
 use Rattle.py_value.specs.Plain.{PlainValue, PlainHeap}
 use Rattle.py_meaning.specs.Activations.{Item}
 use Rattle.py_meaning.specs.Computations.{Setting, State, Res, done, cut, M, Ans, bind, add, put, give, chain, step, tick, note, read, write, say, within, stop, on_value, value, ask, worked, work, branch}
@@ -7,12 +7,12 @@ use Rattle.py_meaning.specs.Laws.{IsAtMost}
 use Rattle.py_meaning.proofs.Before.{Before, begins-append, begins-itself, before-itself, before-trans, before-add}
 
 -- Two runs of one computation from a state, with n and with m steps. They answer the same where they are done; the one with
--- fewer steps may be cut, and then stands where the other came by.
+-- fewer steps may be cut, and then stands where the other came by. With as many steps they are the same.
 abbrev pub Same : {A : Type 0} → State → ℕ → ℕ → Res A → Res A → Type 0
 Same s n m (done a u l) (done b t k) = (a ≡ b) × (u ≡ t) × (l ≤ n) × (n + k ≡ m + l) × Before s u
 Same s n m (done a u l) (cut t) = (l ≤ n) × (m + l < n) × Before s t × Before t u
 Same s n m (cut u) (done b t k) = (k ≤ m) × (n + k < m) × Before s u × Before u t
-Same s n m (cut u) (cut t) = Before s u × Before s t × (n ≤ m → Before u t) × (m ≤ n → Before t u)
+Same s n m (cut u) (cut t) = Before s u × Before s t × (n ≤ m → Before u t) × (m ≤ n → Before t u) × (n ≡ m → u ≡ t)
 
 -- the state at the end
 abbrev pub end_of : {A : Type 0} → Res A → State
@@ -29,7 +29,7 @@ agree-give k a s n m hn hm = (refl, refl, omega arith, omega arith, before-itsel
 
 -- two runs that are cut where they began
 pub same-cut : (A : Type 0) (s : State) (n m : ℕ) → Same {A = A} s n m (cut s) (cut s)
-same-cut A s n m = (before-itself s, before-itself s, λ h. before-itself s, λ h. before-itself s)
+same-cut A s n m = (before-itself s, before-itself s, λ h. before-itself s, λ h. before-itself s, λ h. refl)
 
 pub agree-stop : (A : Type 0) (k : ℕ) → Agrees {A = A} k stop stop
 unfolding Agrees stop
@@ -40,14 +40,14 @@ pub same-more : {A : Type 0} (s : State) (n m n' m' : ℕ) (r q : Res A) → Sam
 same-more s n m n' m' (done a u l) (done b t k) h hn hm e = (h.0, h.1, omega (arith, h.2), omega (arith, h.3), h.4)
 same-more s n m n' m' (done a u l) (cut t) h hn hm e = (omega (arith, h.0), omega (arith, h.1), h.2, h.3)
 same-more s n m n' m' (cut u) (done b t k) h hn hm e = (omega (arith, h.0), omega (arith, h.1), h.2, h.3)
-same-more s n m n' m' (cut u) (cut t) h hn hm e = (h.0, h.1, λ le. h.2 (omega arith), λ le. h.3 (omega arith))
+same-more s n m n' m' (cut u) (cut t) h hn hm e = (h.0, h.1, λ le. h.2 (omega arith), λ le. h.3 (omega arith), λ q. h.4 (omega arith))
 
 -- both from an earlier state
 pub same-from : {A : Type 0} (s v : State) (n m : ℕ) (r q : Res A) → Before s v → Same v n m r q → Same s n m r q
 same-from s v n m (done a u l) (done b t k) sv h = (h.0, h.1, h.2, h.3, before-trans s v u sv h.4)
 same-from s v n m (done a u l) (cut t) sv h = (h.0, h.1, before-trans s v t sv h.2, h.3)
 same-from s v n m (cut u) (done b t k) sv h = (h.0, h.1, before-trans s v u sv h.2, h.3)
-same-from s v n m (cut u) (cut t) sv h = (before-trans s v u sv h.0, before-trans s v t sv h.1, h.2, h.3)
+same-from s v n m (cut u) (cut t) sv h = (before-trans s v u sv h.0, before-trans s v t sv h.1, h.2, h.3, h.4)
 
 -- a run that is done doesn't have more steps than it began with
 pub left_at_most : {A : Type 0} (s : State) (n m : ℕ) (r q : Res A) → Same s n m r q → IsAtMost n r
@@ -77,11 +77,11 @@ before_right s n m (cut u) (cut t) h = h.1
 -- one run is cut, and the other goes on from a state with too many steps left
 pub cut-left : {A : Type 0} (s : State) (n m l : ℕ) (u : State) (q : Res A) → IsAtMost l q → l ≤ m → n + l < m → Before s u → Before u (end_of q) → Same s n m (cut u) q
 cut-left s n m l u (done b t k) h lm hl su ut = (omega (arith, h), omega (arith, h), su, ut)
-cut-left s n m l u (cut t) h lm hl su ut = (su, before-trans s u t su ut, λ le. ut, λ le. absurd (omega arith))
+cut-left s n m l u (cut t) h lm hl su ut = (su, before-trans s u t su ut, λ le. ut, λ le. absurd (omega arith), λ q. absurd (omega arith))
 
 pub cut-right : {A : Type 0} (s : State) (n m l : ℕ) (t : State) (r : Res A) → IsAtMost l r → l ≤ n → m + l < n → Before s t → Before t (end_of r) → Same s n m r (cut t)
 cut-right s n m l t (done a u k) h ln hl st tu = (omega (arith, h), omega (arith, h), st, tu)
-cut-right s n m l t (cut u) h ln hl st tu = (before-trans s t u st tu, st, λ le. absurd (omega arith), λ le. tu)
+cut-right s n m l t (cut u) h ln hl st tu = (before-trans s t u st tu, st, λ le. absurd (omega arith), λ le. tu, λ q. absurd (omega arith))
 
 pub agree-chain : {A B : Type 0} (k : ℕ) (f g : M A) (h j : A → M B) → Agrees k f g → ((a : A) → Agrees k (h a) (j a)) → Agrees k (chain f h) (chain g j)
 unfolding Agrees chain
@@ -163,7 +163,7 @@ same-left s n m (done a u l) (done b t i) (cut v) e h = rw (e.1) (omega (arith, 
 same-left s n m (done a u l) (cut t) p e h = absurd (omega (arith, e.1))
 same-left s n m (cut u) (done b t i) p e h = absurd (omega (arith, e.1))
 same-left s n m (cut u) (cut t) (done c v j) e h = (h.0, h.1, e.0, before-trans u t v (e.2 (omega arith)) h.3)
-same-left s n m (cut u) (cut t) (cut v) e h = (e.0, h.1, λ le. before-trans u t v (e.2 (omega arith)) (h.2 le), λ le. before-trans v t u (h.3 le) (e.3 (omega arith)))
+same-left s n m (cut u) (cut t) (cut v) e h = (e.0, h.1, λ le. before-trans u t v (e.2 (omega arith)) (h.2 le), λ le. before-trans v t u (h.3 le) (e.3 (omega arith)), λ q. e.4 refl ∙ h.4 q)
 
 pub same-right : {A : Type 0} (s : State) (n m : ℕ) (r q p : Res A) → Same s n m r q → Same s m m q p → Same s n m r p
 same-right s n m (done a u l) (done b t i) (done c v j) h e = rw (h.0, h.1) (e.0, e.1, h.2, omega (arith, e.3, h.3), e.4)
@@ -171,7 +171,7 @@ same-right s n m (cut u) (done b t i) (done c v j) h e = (omega (arith, e.3, h.0
 same-right s n m r (done b t i) (cut v) h e = absurd (omega (arith, e.1))
 same-right s n m r (cut t) (done c v j) h e = absurd (omega (arith, e.1))
 same-right s n m (done a u l) (cut t) (cut v) h e = (h.0, h.1, e.1, before-trans v t u (e.3 (omega arith)) h.3)
-same-right s n m (cut u) (cut t) (cut v) h e = (h.0, e.1, λ le. before-trans u t v (h.2 le) (e.2 (omega arith)), λ le. before-trans v t u (e.3 (omega arith)) (h.3 le))
+same-right s n m (cut u) (cut t) (cut v) h e = (h.0, e.1, λ le. before-trans u t v (h.2 le) (e.2 (omega arith)), λ le. before-trans v t u (e.3 (omega arith)) (h.3 le), λ q. h.4 q ∙ e.4 refl)
 
 -- where more fuel than steps changes nothing, the fuel may be the number of the steps
 pub agree-within : {A : Type 0} (k : ℕ) (f g : ℕ → M A) → ((j i b : ℕ) → b ≤ j → b ≤ i → b ≤ k → Agrees b (f j) (f i)) → ((j i b : ℕ) → b ≤ j → b ≤ i → b ≤ k → Agrees b (g j) (g i)) → ((j i b : ℕ) → b ≤ j → b ≤ i → b ≤ k → Agrees b (f j) (g i)) → Agrees k (within f) (within g)

@@ -1,16 +1,19 @@
 -- What items tell comes behind what was told before.
-use Rattle.std.proofs.Common.{◌≡◌, ℕ, suc, Bool, true, false, List, [], ◌∷◌, ◌++◌, refl, sym, ap, ◌∙◌, append_assoc}
+use Rattle.std.proofs.Common.{◌≡◌, ℕ, suc, Bool, true, false, List, [], ◌∷◌, ◌++◌, Ok, Err, refl, sym, ap, ◌∙◌, subst, append_assoc}
 use Rattle.std.proofs.lemmas.List.{append-nil}
 use Rattle.cov_event.specs.declared.event.Event.{Event}
 use Rattle.cov_event.specs.declared.event.Event.TheVariants.{Call, Line, Throw, Return}
+use Rattle.py_value.specs.Plain.{PlainValue}
 use Rattle.py_syntax.specs.Tree.{Text}
-use Rattle.py_meaning.specs.Activations.{marked, marked_again, thrown, entered, Activation, activation, Items, no_items, more, is_kept}
-use Rattle.py_meaning.specs.Computations.{State, Res, done, cut, tick}
+use Rattle.py_meaning.specs.Activations.{mark, again, throw, sub, Activation, activation, Items, no_items, more, is_kept}
+use Rattle.py_meaning.specs.Calls.{enter}
+use Rattle.py_meaning.specs.Computations.{Setting, State, Res, done, cut, Ans, bind, put, give, chain, read, write, tick}
 use Rattle.py_meaning.specs.Events.{line_unless, return_if, told, told_of}
-use Rattle.py_meaning.specs.Frames.{left_by, framed, calls}
+use Rattle.py_meaning.specs.Frames.{back_in, answer_of, left_by, framed, begun, ended, in_unit, calls}
 use Rattle.py_meaning.specs.Laws.{script_code, TellsItsItems, EventsLaw}
-use Rattle.py_meaning.specs.Loading.{Files, loaded}
-use Rattle.py_meaning.specs.Program.{meaning, run_of, first_world, at_rest}
+use Rattle.py_meaning.specs.Loading.{Program, loaded}
+use Rattle.py_meaning.specs.Modules.{LoadedModule}
+use Rattle.py_meaning.specs.Program.{run_modules, meaning, run_of, first_world, at_rest}
 use Rattle.py_meaning.specs.Statements.{Out}
 
 line-behind : (kept : Bool) (l : ℕ) (es fs gs : List Event) → fs ≡ es ++ gs → line_unless kept l fs ≡ es ++ line_unless kept l gs
@@ -26,10 +29,10 @@ mutual
 
   pub told-behind_it : (es : List Event) (is : Items) → told es is ≡ es ++ told [] is
   told-behind_it es no_items = sym (append-nil es)
-  told-behind_it es (more is (marked l)) = line-behind (is_kept l is) l es (told es is) (told [] is) (told-behind_it es is)
-  told-behind_it es (more is (marked_again l)) = line-behind false l es (told es is) (told [] is) (told-behind_it es is)
-  told-behind_it es (more is (thrown kind)) = ap (λ w. w ++ Throw kind ∷ []) (told-behind_it es is) ∙ append_assoc es (told [] is) (Throw kind ∷ [])
-  told-behind_it es (more is (entered a)) =
+  told-behind_it es (more is (mark l)) = line-behind (is_kept l is) l es (told es is) (told [] is) (told-behind_it es is)
+  told-behind_it es (more is (again l)) = line-behind false l es (told es is) (told [] is) (told-behind_it es is)
+  told-behind_it es (more is (throw kind)) = ap (λ w. w ++ Throw kind ∷ []) (told-behind_it es is) ∙ append_assoc es (told [] is) (Throw kind ∷ [])
+  told-behind_it es (more is (sub a)) =
       ap (λ w. told_of w a) (told-behind_it es is) ∙ told-behind_of (es ++ told [] is) a ∙ append_assoc es (told [] is) (told_of [] a)
       ∙ ap (λ w. es ++ w) (sym (told-behind_of (told [] is) a))
 
@@ -38,14 +41,27 @@ mutual
       return-behind ended es (told (es ++ Call code ∷ []) is) (told (Call code ∷ []) is)
       (told-behind_it (es ++ Call code ∷ []) is ∙ append_assoc es (Call code ∷ []) (told [] is) ∙ ap (λ w. es ++ w) (sym (told-behind_it (Call code ∷ []) is)))
 
-one_item : (budget : ℕ) (s : State) → s.items ≡ no_items → (r : Res Out) → TellsItsItems (run_of budget (left_by script_code s r)).items
-unfolding told
-one_item budget s none (done o t left) = record { inside = t.items; ended = true; is = ap (λ w. more w (entered (activation script_code t.items true))) none; told = ap (λ w. told [] (more w (entered (activation script_code t.items true)))) none }
-one_item budget s none (cut t) = record { inside = t.items; ended = false; is = ap (λ w. more w (entered (activation script_code t.items false))) none; told = ap (λ w. told [] (more w (entered (activation script_code t.items false)))) none }
+-- one item, the script's, behind what the end of the body does to the world
+one_item : (budget : ℕ) (s : State) (a : Ans PlainValue) (now : Setting) (out : List ℕ) (is : Items) (n : ℕ)
+    → TellsItsItems (run_of budget (ended 0 a (record { now = now; out = out; items = more no_items (sub (activation script_code is true)) }) n)).items
+unfolding told give write
+one_item budget s (Ok v) now out is n = record { inside = is; ended = true; is = refl; told = refl }
+one_item budget s (Err e) now out is n = record { inside = is; ended = true; is = refl; told = refl }
 
-run_tells : (files : Files) (script name : Text) (words : List Text) (input : List ℕ) (budget : ℕ) → TellsItsItems (meaning files script name words input (suc budget)).items
-unfolding meaning calls tick framed
-run_tells files script name words input budget = one_item (suc budget) (at_rest (first_world (loaded files script name) words) input) refl _
+left_items : (budget : ℕ) (s : State) → s.items ≡ no_items → (r : Res Out) → TellsItsItems (run_of budget (bind (left_by script_code s r) (ended 0))).items
+unfolding told
+left_items budget s none (done o t n) =
+    subst (λ is. TellsItsItems (run_of budget (ended 0 (answer_of o) (record { now = back_in s.now t.now; out = t.out; items = more is (sub (activation script_code t.items true)) }) n)).items) (sym none)
+    (one_item budget s (answer_of o) (back_in s.now t.now) t.out t.items n)
+left_items budget s none (cut t) = record { inside = t.items; ended = false; is = ap (λ w. more w (sub (activation script_code t.items false))) none; told = ap (λ w. told [] (more w (sub (activation script_code t.items false)))) none }
+
+modules_tell : (ms : List LoadedModule) (words : List Text) (input : List ℕ) (budget : ℕ) → TellsItsItems (run_modules ms words input (suc budget)).items
+unfolding run_modules enter read calls tick in_unit write chain framed
+modules_tell ms words input budget = left_items (suc budget) (put (begun ms 0) (at_rest (first_world ms words) input)) refl _
+
+run_tells : (program : Program) (words : List Text) (input : List ℕ) (budget : ℕ) → TellsItsItems (meaning program words input (suc budget)).items
+unfolding meaning
+run_tells program words input budget = modules_tell (loaded program) words input budget
 
 pub events_law : EventsLaw
-events_law = record { behind = told-behind_it; behind_of = told-behind_of; of_run = run_tells }
+events_law = record { behind = told-behind_it; behind_of = told-behind_of; of_run = run_tells; of_modules = modules_tell }

@@ -1,5 +1,5 @@
 -- More steps change nothing of what an expression gives, of calls, assignments and imports.
-use Rattle.std.proofs.Common.{ℕ, List, [], ◌∷◌, Option, Some, None, Ok, Err}
+use Rattle.std.proofs.Common.{ℕ, List, [], ◌∷◌, Option, Some, None}
 use Rattle.py_value.specs.declared.builtin.Builtin.{Builtin}
 use Rattle.py_value.specs.declared.operator.BinOp.{BinOp}
 use Rattle.py_value.specs.declared.value.FuncId.{FuncId}
@@ -9,20 +9,21 @@ use Rattle.py_meaning.specs.Assignments.{assign_to, assign_each, assign_all, aug
 use Rattle.py_meaning.specs.Calls.{Calls, Callee, a_value, a_method, enter, enter_with, use_builtin, call_value, call_of}
 use Rattle.py_meaning.specs.Computations.{Ans, M}
 use Rattle.py_meaning.specs.Expressions.{eval, eval_each, eval_pairs, eval_links, eval_opt, eval_fragments, eval_parts}
-use Rattle.py_meaning.specs.Imports.{ended, begin, module_of, import_each, take_each}
+use Rattle.py_meaning.specs.Imports.{begin, module_of, import_each, take_each}
 use Rattle.py_meaning.specs.Modules.{LoadedModule}
 use Rattle.py_meaning.specs.Places.{Place}
-use Rattle.py_meaning.proofs.Budget.{Agrees, agree-give, agree-chain, agree-read, agree-write, agree-say, agree-value, agree-ask, agree-worked, agree-work, agree-if, agree-branch}
+use Rattle.py_meaning.proofs.Budget.{Agrees, agree-give, agree-read, agree-write, agree-say, agree-value, agree-ask, agree-worked, agree-work, agree-if, agree-branch}
 
 abbrev pub AgreeCalls : ℕ → Calls → Calls → Type 0
 AgreeCalls k c d = (m u : ℕ) (vs : List PlainValue) → Agrees k (c m u vs) (d m u vs)
 
-pub agree-enter : (k frames : ℕ) (f g : M (Ans PlainValue)) → Agrees k f g → Agrees k (enter frames f) (enter frames g)
-agree-enter k frames f g fg = agree-if k _ _ _ _ _ fg (agree-give k _)
+pub agree-enter : (k : ℕ) (f g : M (Ans PlainValue)) → Agrees k f g → Agrees k (enter f) (enter g)
+unfolding enter
+agree-enter k f g fg = agree-read k _ _ (λ w. agree-if k _ _ _ _ _ fg (agree-give k _))
 
-agree-enter_with : (k : ℕ) (c d : Calls) → AgreeCalls k c d → (f : FuncId) (frames : ℕ) (vs : Option (List PlainValue)) → Agrees k (enter_with c f frames vs) (enter_with d f frames vs)
-agree-enter_with k c d h f frames None = agree-give k _
-agree-enter_with k c d h f frames (Some vs) = agree-enter k frames _ _ (h f.module f.unit vs)
+agree-enter_with : (k : ℕ) (c d : Calls) → AgreeCalls k c d → (f : FuncId) (vs : Option (List PlainValue)) → Agrees k (enter_with c f vs) (enter_with d f vs)
+agree-enter_with k c d h f None = agree-give k _
+agree-enter_with k c d h f (Some vs) = agree-enter k _ _ (h f.module f.unit vs)
 
 agree-builtin : (k : ℕ) (which : Builtin) (vs : List PlainValue) → Agrees k (use_builtin which vs) (use_builtin which vs)
 unfolding use_builtin
@@ -30,7 +31,7 @@ agree-builtin k which vs = agree-read k _ _ (λ w. agree-say k _ _ _ (agree-writ
 
 pub agree-call_value : (k : ℕ) (c d : Calls) → AgreeCalls k c d → (ms : List LoadedModule) (v : PlainValue) (vs : List PlainValue) → Agrees k (call_value c ms v vs) (call_value d ms v vs)
 unfolding call_value
-agree-call_value k c d h ms (func_value f a) vs = agree-read k _ _ (λ w. agree-enter_with k c d h f w.frames _)
+agree-call_value k c d h ms (func_value f a) vs = agree-read k _ _ (λ w. agree-enter_with k c d h f _)
 agree-call_value k c d h ms (kind_value kind) vs = agree-give k _
 agree-call_value k c d h ms (builtin_value which) vs = agree-builtin k which vs
 agree-call_value k c d h ms _ vs = agree-give k _
@@ -133,19 +134,14 @@ agree-augment k c d h p _ op e = agree-give k _
 
 -- ---- imports
 
-agree-ended : (k m : ℕ) (a : Ans PlainValue) → Agrees k (ended m a) (ended m a)
-agree-ended k m (Ok v) = agree-give k _
-agree-ended k m (Err e) = agree-write k _ _ _ (agree-give k _)
-
-agree-begin : (k : ℕ) (c d : Calls) → AgreeCalls k c d → (ms : List LoadedModule) (x : Text) (m : Option ℕ) → Agrees k (begin c ms x m) (begin d ms x m)
+agree-begin : (k : ℕ) (c d : Calls) → AgreeCalls k c d → (x : Text) (m : Option ℕ) → Agrees k (begin c x m) (begin d x m)
 unfolding begin
-agree-begin k c d h ms x None = agree-give k _
-agree-begin k c d h ms x (Some m) =
-    agree-read k _ _ (λ w. agree-if k _ _ _ _ _ (agree-give k _) (agree-enter k w.frames _ _ (agree-write k _ _ _ (agree-chain k _ _ _ _ (h m 0 []) (agree-ended k m)))))
+agree-begin k c d h x None = agree-give k _
+agree-begin k c d h x (Some m) = agree-read k _ _ (λ w. agree-if k _ _ _ _ _ (agree-give k _) (agree-value k _ _ _ _ (agree-enter k _ _ (h m 0 [])) (λ v. agree-give k _)))
 
 pub agree-module_of : (k : ℕ) (c d : Calls) → AgreeCalls k c d → (ms : List LoadedModule) (x : Text) → Agrees k (module_of c ms x) (module_of d ms x)
 unfolding module_of
-agree-module_of k c d h ms x = agree-if k _ _ _ _ _ (agree-give k _) (agree-begin k c d h ms x _)
+agree-module_of k c d h ms x = agree-if k _ _ _ _ _ (agree-give k _) (agree-begin k c d h x _)
 
 pub agree-import_each : (k : ℕ) (c d : Calls) → AgreeCalls k c d → (p : Place) (names : List Alias) → Agrees k (import_each c p names) (import_each d p names)
 unfolding import_each

@@ -1,8 +1,13 @@
 pub mod Before
+pub mod NameLaws
 pub mod Budget
 pub mod ExpressionLaws
 pub mod StatementLaws
 pub mod ProgramLaws
+pub mod Steady
+pub mod SteadyExpressions
+pub mod SteadyStatements
+pub mod Uncut
 pub mod Sources
 pub mod RunRows
 pub mod ExceptionRows

@@ -6,7 +6,7 @@ use Rattle.py_value.specs.declared.operator.CmpOp.TheVariants.{Eq}
 use Rattle.py_syntax.specs.declared.expr.Comparison.TheVariants.{Op}
 use Rattle.py_syntax.specs.Tree as T
 use Rattle.py_syntax.specs.Tree.{Stmts}
-use Rattle.py_meaning.proofs.Sources.{runs, var, num, quote, items, call, attr, line, end, printed, row, rows, and_module}
+use Rattle.py_meaning.proofs.Sources.{runs, var, num, quote, items, call, attr, line, end, printed, program, row, rows, and_module}
 use Rattle.std.specs.Prelude.{map}
 use Rattle.py_meaning.specs.Loading.{Files, loaded}
 
@@ -107,6 +107,6 @@ unfolding runs
 modules_in_a_circle = refl
 
 -- which modules that loads
-loads_in_a_circle : map (λ m. m.name) (loaded modules_in_a_circle_files (codes "a.py") (codes "__main__")) ≡ codes "__main__" ∷ codes "b" ∷ codes "a" ∷ []
+loads_in_a_circle : map (λ m. m.name) (loaded (program modules_in_a_circle_files)) ≡ codes "__main__" ∷ codes "b" ∷ codes "a" ∷ []
 unfolding runs
 loads_in_a_circle = refl

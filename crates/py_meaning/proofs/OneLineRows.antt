@@ -2,21 +2,23 @@
 use Rattle.std.proofs.Common.{◌≡◌, ℕ, zero, suc, ◌+◌, Bool, true, false, if◌then◌else◌, List, [], ◌∷◌, ◌++◌, pos, negsuc, refl, ap, ◌∙◌, subst, arith}
 use Rattle.std.specs.Prelude.{codes, ◌==◌, ◌-◌}
 use Rattle.py_value.specs.Plain.{int_value, str_value, list_object}
+use Rattle.py_syntax.specs.Functions.{without_docstring}
 use Rattle.py_syntax.specs.Tree as T
 use Rattle.py_syntax.specs.Tree.{Stmts}
-use Rattle.py_meaning.specs.Activations.{Items, no_items, more, marked, entered, activation, kept_line, is_thrown, Arc, arc_to, arcs_so_far, arcs_of}
-use Rattle.py_meaning.specs.Calls.{Calls}
-use Rattle.py_meaning.specs.Computations.{State, Res, done, Ans, tick}
+use Rattle.py_meaning.specs.Activations.{Items, no_items, more, mark, sub, activation, kept_line, is_thrown, Arc, arc_to, arcs_so_far, arcs_of}
+use Rattle.py_meaning.specs.Calls.{Calls, enter}
+use Rattle.py_meaning.specs.Computations.{State, Res, done, Ans, bind, put, give, chain, read, write, tick}
 use Rattle.py_meaning.specs.Crossings.{Crossing, crossing, activations, activations_from, crossings_of, crossings, lines_crossed, lines_thrown, ordered}
-use Rattle.py_meaning.specs.Frames.{left_by, framed, calls, in_frame}
+use Rattle.py_meaning.specs.Frames.{left_by, framed, begun, ended, in_unit, calls, in_frame}
 use Rattle.py_meaning.specs.Laws.{script_code}
 use Rattle.py_meaning.specs.Loading.{loaded, file_at, imported, imported_in, load_from, with_imports, folder_of}
 use Rattle.py_meaning.specs.Modules.{LoadedModule}
 use Rattle.py_meaning.specs.Places.{Place}
-use Rattle.py_meaning.specs.Program.{run_of, status_of, err_of, first_world, at_rest, script_body, meaning}
-use Rattle.py_meaning.specs.Statements.{normal, exec, without_docstring}
+use Rattle.py_builtins.specs.Outcomes.{status_of, err_of}
+use Rattle.py_meaning.specs.Program.{run_of, first_world, at_rest, script_body, run_modules, meaning}
+use Rattle.py_meaning.specs.Statements.{Out, normal, exec}
 use Rattle.py_value.specs.Plain.{PlainValue}
-use Rattle.py_meaning.proofs.Sources.{runs, var, num, items, alone, Shown, row}
+use Rattle.py_meaning.proofs.Sources.{runs, var, num, items, program, alone, Shown, row}
 
 -- `x=1`, and `;x=1` so many times behind it
 abbrev assigned : Bool → Stmts → Stmts
@@ -29,7 +31,7 @@ many (suc n) = assigned true (many n)
 -- items behind so many marks more
 unfoldable marks : ℕ → Items → Items
 marks zero is = is
-marks (suc n) is = marks n (more is (marked 1))
+marks (suc n) is = marks n (more is (mark 1))
 
 -- so many steps more
 unfoldable more_steps : ℕ → ℕ → ℕ
@@ -50,18 +52,18 @@ set is = record {
 }
 
 abbrev in_script : List LoadedModule → Place
-in_script ms = record { modules = ms; number = 0; own = []; handled = Rattle.std.specs.Prelude.None }
+in_script ms = record { modules = ms; scope = record { number = 0; own = [] }; handled = Rattle.std.specs.Prelude.None }
 
 -- each assignment takes a step and a mark
 runs_on : (c : Calls) (ms : List LoadedModule) (n k : ℕ) (is : Items) → exec c (in_script ms) (many n) (set is) (more_steps (suc n) k) ≡ done normal (set (marks (suc n) is)) k
 unfolding runs many marks more_steps
 runs_on c ms zero k is = refl
-runs_on c ms (suc n) k is = runs_on c ms n k (more is (marked 1))
+runs_on c ms (suc n) k is = runs_on c ms n k (more is (mark 1))
 
 kept-marks : (n : ℕ) (is : Items) → kept_line is ≡ 1 → kept_line (marks n is) ≡ 1
 unfolding marks
 kept-marks zero is h = h
-kept-marks (suc n) is h = kept-marks n (more is (marked 1)) refl
+kept-marks (suc n) is h = kept-marks n (more is (mark 1)) refl
 
 abbrev one : ℕ → Bool
 one k = 1 == k
@@ -69,17 +71,17 @@ one k = 1 == k
 thrown-marks : (n : ℕ) (is : Items) → kept_line is ≡ 1 → is_thrown is ≡ false → is_thrown (marks n is) ≡ false
 unfolding marks
 thrown-marks zero is h t = t
-thrown-marks (suc n) is h t = thrown-marks n (more is (marked 1)) refl (ap (λ k. if one k then is_thrown is else false) h ∙ t)
+thrown-marks (suc n) is h t = thrown-marks n (more is (mark 1)) refl (ap (λ k. if one k then is_thrown is else false) h ∙ t)
 
 arcs-marks : (n : ℕ) (is : Items) → kept_line is ≡ 1 → arcs_so_far (marks n is) ≡ arcs_so_far is
 unfolding arcs_so_far marks
 arcs-marks zero is h = refl
-arcs-marks (suc n) is h = arcs-marks n (more is (marked 1)) refl ∙ ap (λ k. if one k then arcs_so_far is else (arcs_so_far is ++ arc_to is 1 ∷ [])) h
+arcs-marks (suc n) is h = arcs-marks n (more is (mark 1)) refl ∙ ap (λ k. if one k then arcs_so_far is else (arcs_so_far is ++ arc_to is 1 ∷ [])) h
 
 activations-marks : (n : ℕ) (is : Items) → activations (marks n is) ≡ activations is
 unfolding activations marks
 activations-marks zero is = refl
-activations-marks (suc n) is = activations-marks n (more is (marked 1))
+activations-marks (suc n) is = activations-marks n (more is (mark 1))
 
 -- ---- the whole program
 
@@ -91,7 +93,7 @@ unfolding many imported imported_in
 no-import zero = refl
 no-import (suc n) = no-import n
 
-loaded-many : (n : ℕ) → loaded (alone (many n)) (codes "a.py") (codes "__main__") ≡ module_of n
+loaded-many : (n : ℕ) → loaded (program (alone (many n))) ≡ module_of n
 unfolding file_at load_from with_imports folder_of
 loaded-many n = ap (λ xs. load_from 1 (alone (many n)) [] 1 (with_imports (alone (many n)) [] (module_of n) xs)) (no-import n)
 
@@ -104,21 +106,25 @@ abbrev first : List LoadedModule → State
 first ms = at_rest (first_world ms (codes "a.py" ∷ [])) []
 
 abbrev inside : ℕ → State
-inside n = record { now = in_frame [] (first (module_of n)).now; out = []; items = no_items }
+inside n = record { now = in_frame [] (begun (module_of n) 0 (first (module_of n)).now); out = []; items = no_items }
 
-begins : (c : Calls) (m n k : ℕ) → exec c (in_script (module_of m)) (many n) (inside m) (more_steps (suc n) k) ≡ done normal (set (marks n (more no_items (marked 1)))) k
+begins : (c : Calls) (m n k : ℕ) → exec c (in_script (module_of m)) (many n) (inside m) (more_steps (suc n) k) ≡ done normal (set (marks n (more no_items (mark 1)))) k
 unfolding runs many marks more_steps
 begins c m zero k = refl
-begins c m (suc n) k = runs_on c (module_of m) n k (more no_items (marked 1))
+begins c m (suc n) k = runs_on c (module_of m) n k (more no_items (mark 1))
 
 abbrev all_items : ℕ → Items
-all_items n = marks n (more no_items (marked 1))
+all_items n = marks n (more no_items (mark 1))
+
+-- behind the body, which ended normally
+abbrev at_end : ℕ → Res Out → Res (Ans PlainValue)
+at_end n r = bind (left_by script_code (put (begun (module_of n) 0) (first (module_of n))) r) (ended 0)
 
 body-runs : (n k : ℕ) → script_body (module_of n) (suc (more_steps (suc n) k)) (first (module_of n)) (suc (more_steps (suc n) k)) ≡ left_by script_code (first (module_of n)) (done normal (set (all_items n)) k)
-unfolding calls tick framed
+unfolding enter read write chain give calls tick in_unit framed
 body-runs n k =
-    ap (λ b. left_by script_code (first (module_of n)) (exec (calls (module_of n) (suc (more_steps (suc n) k))) (in_script (module_of n)) b (inside n) (more_steps (suc n) k))) (no-docstring n)
-    ∙ ap (left_by script_code (first (module_of n))) (begins (calls (module_of n) (suc (more_steps (suc n) k))) n n k)
+    ap (λ b. at_end n (exec (calls (module_of n) (suc (more_steps (suc n) k))) (in_script (module_of n)) b (inside n) (more_steps (suc n) k))) (no-docstring n)
+    ∙ ap (at_end n) (begins (calls (module_of n) (suc (more_steps (suc n) k))) n n k)
 
 abbrev shown_of : ℕ → List LoadedModule → Res (Ans PlainValue) → Shown
 shown_of budget ms r =
@@ -131,17 +137,17 @@ two = record { from = negsuc 0; to = pos 1; thrown = false } ∷ record { from =
 abbrev from_arcs : List Arc → ℕ → Bool → List Crossing
 from_arcs as' l t = Rattle.std.specs.Prelude.map (crossing 1) (as' ++ record { from = l; to = 0; thrown = t } ∷ []) ++ []
 
-crossings-two : (n : ℕ) → crossings (module_of n) 0 (more no_items (entered (activation script_code (all_items n) true))) ≡ two
+crossings-two : (n : ℕ) → crossings (module_of n) 0 (more no_items (sub (activation script_code (all_items n) true))) ≡ two
 unfolding activations activations_from crossings_of arcs_of arcs_so_far
 crossings-two n =
-    let is : Items = more no_items (marked 1) in
+    let is : Items = more no_items (mark 1) in
     ap (λ rest. crossings_of (module_of n) 0 (activation script_code (all_items n) true ∷ rest)) (activations-marks n is)
     ∙ ap (λ as'. from_arcs as' (kept_line (all_items n)) (is_thrown (all_items n))) (arcs-marks n is refl)
     ∙ ap (λ l. from_arcs (arcs_so_far is) l (is_thrown (all_items n))) (kept-marks n is refl)
     ∙ ap (λ t. from_arcs (arcs_so_far is) 1 t) (thrown-marks n is refl refl)
 
 in_one_line : (n k : ℕ) → row (many n) (suc (more_steps (suc n) k)) ≡ record { out = []; err = []; status = 0; steps = suc (more_steps (suc n) k) - k; arcs = (negsuc 0, pos 1) ∷ (pos 1, negsuc 0) ∷ []; thrown = [] }
-unfolding meaning ordered
+unfolding meaning run_modules ordered
 in_one_line n k =
     let budget : ℕ = suc (more_steps (suc n) k) in
     ap (λ ms. shown_of budget ms (script_body ms budget (first ms) budget)) (loaded-many n)

@@ -1,18 +1,18 @@
 -- More steps change nothing of what a statement does.
-use Rattle.std.proofs.Common.{◌≡◌, ℕ, zero, suc, ◌<◌, ◌≤◌, Bool, true, Option, Some, None, Ok, Err, refl, arith}
+use Rattle.std.proofs.Common.{◌≡◌, ℕ, zero, suc, ◌≤◌, Bool, true, false, Option, Some, None, Ok, Err, refl, subst, arith}
 use Rattle.py_value.specs.Plain.{PlainValue, kind_value, exc_value, PlainRaised}
-use Rattle.py_syntax.specs.Tree.{Expr, Exprs, no_exprs, exprs, Stmts, no_stmts, stmt, suite, OptSuite, no_suite, has_suite, Arms, no_arms, arm, Clauses, no_clauses, clause, Cases, no_cases, case, StmtKind, expr, assign, aug_assign, pass, break, continue, return, raise, assert, global, import, from, if', while, for, try, def, match}
+use Rattle.py_syntax.specs.Tree.{Text, Expr, Exprs, no_exprs, exprs, Stmts, no_stmts, stmt, suite, OptSuite, no_suite, has_suite, Arms, no_arms, arm, Clauses, no_clauses, clause, Cases, no_cases, case, StmtKind, expr, assign, aug_assign, pass, break, continue, return, raise, assert, global, import, from, if', while, for, try, def, match}
 use Rattle.py_builtins.specs.World.{Names}
-use Rattle.py_meaning.specs.Activations.{Item, marked, marked_again}
+use Rattle.py_meaning.specs.Activations.{Item, mark, again}
 use Rattle.py_meaning.specs.Calls.{Calls}
-use Rattle.py_meaning.specs.Computations.{State, Ans, M, cut, step, stop, ask}
+use Rattle.py_meaning.specs.Computations.{State, Ans, M, cut, step, stop}
 use Rattle.py_meaning.specs.Patterns.{Match}
-use Rattle.py_meaning.specs.Places.{Place}
-use Rattle.py_meaning.specs.Statements.{Out, normal, continues, raises, throw, on_answer, using, next, looped, turns, walk_length, if_item, walk, raise_value, reraise, failed_assertion, has_clauses, handle, settle, on_match, guarded, default_list, returned, raised, exec, exec_kind, exec_opt, exec_arms, exec_clauses, exec_finally, exec_cases}
-use Rattle.py_meaning.proofs.Budget.{Agrees, agree-give, agree-chain, agree-down, agree-note, agree-step, agree-mark, agree-write, agree-within, agree-zero, step-zero, agree-value, agree-ask, agree-work, agree-if, agree-branch}
+use Rattle.py_meaning.specs.Places.{Scope, Place}
+use Rattle.py_meaning.specs.Statements.{Out, normal, continues, raises, throwing, on_answer, using, next, looped, turns, Loop, if_turn, loop, while_header, Walked, at_item, for_header, raise_value, reraise, failed_assertion, has_clauses, handle, settle, caught_by, handled, in_clause, on_match, guarded, default_list, returned, raised, exec, exec_kind, exec_opt, exec_arms, exec_clauses, exec_finally, exec_cases}
+use Rattle.py_meaning.proofs.Budget.{Agrees, agree-give, agree-chain, agree-down, agree-note, agree-step, agree-mark, agree-write, agree-within, agree-zero, agree-value, agree-ask, agree-work, agree-if, agree-branch}
 use Rattle.py_meaning.proofs.ExpressionLaws.{AgreeCalls, agree-eval, agree-each, agree-assign_to, agree-assign_all, agree-augment, agree-module_of, agree-import_each, agree-take_each}
 
-agree-throw : (k : ℕ) (e : PlainRaised) → Agrees k (throw e) (throw e)
+agree-throw : (k : ℕ) (e : PlainRaised) → Agrees k (throwing e) (throwing e)
 agree-throw k e = agree-note k _ _ _ (agree-give k _)
 
 agree-on_answer : {A : Type 0} (k : ℕ) (a : Ans A) (h j : A → M Out) → ((v : A) → Agrees k (h v) (j v)) → Agrees k (on_answer a h) (on_answer a j)
@@ -34,49 +34,54 @@ agree-looped k normal f g h = h
 agree-looped k continues f g h = h
 agree-looped k _ f g h = agree-give k _
 
-turns-zero : (j l : ℕ) (t : Item) (f : M (Ans PlainValue)) (b o : M Out) (s : State) → turns f b o l j t s 0 ≡ cut s
+agree-if_turn : {T : Type 0} (k : ℕ) (x : Option T) (o o' : M Out) (f g : T → M Out) → Agrees k o o' → ((t : T) → Agrees k (f t) (g t)) → Agrees k (if_turn x o f) (if_turn x o' g)
+agree-if_turn k None o o' f g oo fg = oo
+agree-if_turn k (Some t) o o' f g oo fg = fg t
+
+pub turns-zero : {T : Type 0} (x : Loop T) (j : ℕ) (i : Item) (b : Option T) (s : State) → turns x j i b s 0 ≡ cut s
 unfolding turns stop step
-turns-zero zero l t f b o s = refl
-turns-zero (suc j) l t f b o s = refl
+turns-zero x zero i b s = refl
+turns-zero x (suc j) i b s = refl
 
--- a `while` with enough turns
-agree-turns : (k j i l : ℕ) (t : Item) (f g : M (Ans PlainValue)) (b b' o o' : M Out) → k ≤ j → k ≤ i → Agrees k f g → Agrees k b b' → Agrees k o o' → Agrees k (turns f b o l j t) (turns g b' o' l i t)
+-- two loops that are the same for at most k steps
+record Loops {T : Type 0} (k : ℕ) (x y : Loop T) : Type 0 where
+  line : x.line ≡ y.line
+  header : (b : Option T) → Agrees k (x.header b) (y.header b)
+  turn : (t : T) → Agrees k (x.turn t) (y.turn t)
+  orelse : Agrees k x.orelse y.orelse
+
+loops-down : {T : Type 0} (d k : ℕ) (x y : Loop T) → d ≤ k → Loops k x y → Loops d x y
+loops-down d k x y dk h = record { line = h.line; header = λ b. agree-down d k _ _ dk (h.header b); turn = λ t. agree-down d k _ _ dk (h.turn t); orelse = agree-down d k _ _ dk h.orelse }
+
+-- with enough turns
+agree-turns : {T : Type 0} (k j i : ℕ) (x y : Loop T) (e : Item) (b : Option T) → k ≤ j → k ≤ i → Loops k x y → Agrees k (turns x j e b) (turns y i e b)
 unfolding turns
-agree-turns zero j i l t f g b b' o o' kj ki fg bb oo = agree-zero _ _ (turns-zero j l t f b o) (turns-zero i l t g b' o')
-agree-turns (suc k) zero i l t f g b b' o o' kj ki fg bb oo = absurd (omega arith)
-agree-turns (suc k) (suc j) zero l t f g b b' o o' kj ki fg bb oo = absurd (omega arith)
-agree-turns (suc k) (suc j) (suc i) l t f g b b' o o' kj ki fg bb oo =
-    agree-step k t _ _ (agree-using k _ _ _ _ (agree-down k (suc k) _ _ (omega arith) fg) (λ v. agree-branch k v _ _ _ _
-    (agree-chain k _ _ _ _ (agree-down k (suc k) _ _ (omega arith) bb) (λ q. agree-looped k q _ _ (agree-turns k j i l (marked_again l) f g b b' o o' (omega arith) (omega arith) (agree-down k (suc k) _ _ (omega arith) fg) (agree-down k (suc k) _ _ (omega arith) bb) (agree-down k (suc k) _ _ (omega arith) oo))))
-    (agree-down k (suc k) _ _ (omega arith) oo)))
+agree-turns zero j i x y e b kj ki h = agree-zero _ _ (turns-zero x j e b) (turns-zero y i e b)
+agree-turns (suc k) zero i x y e b kj ki h = absurd (omega arith)
+agree-turns (suc k) (suc j) zero x y e b kj ki h = absurd (omega arith)
+agree-turns {T} (suc k) (suc j) (suc i) x y e b kj ki h =
+    let l : Loops k x y = loops-down k (suc k) x y (omega arith) h in
+    agree-step k e _ _ (agree-using k _ _ _ _ (l.header b) (λ found. agree-if_turn k found _ _ _ _ l.orelse (λ t.
+    agree-chain k _ _ _ _ (l.turn t) (λ q. agree-looped k q _ _ (subst (λ n. Agrees k (turns x j (again x.line) (Some t)) (turns y i (again n) (Some t))) l.line (agree-turns k j i x y (again x.line) (Some t) (omega arith) (omega arith) l))))))
 
-agree-if_item : (k : ℕ) (x : Option PlainValue) (o o' : M Out) (f g : PlainValue → M Out) → Agrees k o o' → ((v : PlainValue) → Agrees k (f v) (g v)) → Agrees k (if_item x o f) (if_item x o' g)
-agree-if_item k None o o' f g oo fg = oo
-agree-if_item k (Some v) o o' f g oo fg = fg v
+-- a family of loops, each as good as the others for at most k steps
+agree-loop : {T : Type 0} (k : ℕ) (x y : Loop T) (e : Item) (b : Option T) → Loops k x x → Loops k y y → Loops k x y → Agrees k (loop x e b) (loop y e b)
+unfolding loop
+agree-loop k x y e b xx yy xy =
+    agree-within k _ _
+    (λ j i d dj di dk. agree-turns d j i x x e b dj di (loops-down d k x x dk xx))
+    (λ j i d dj di dk. agree-turns d j i y y e b dj di (loops-down d k y y dk yy))
+    (λ j i d dj di dk. agree-turns d j i x y e b dj di (loops-down d k x y dk xy))
 
-abbrev Binds : ℕ → (PlainValue → M (Ans (Unit {0}))) → (PlainValue → M (Ans (Unit {0}))) → Type 0
-Binds k f g = (v : PlainValue) → Agrees k (f v) (g v)
+agree-while_header : (k : ℕ) (f g : M (Ans PlainValue)) → Agrees k f g → Agrees k (while_header f) (while_header g)
+agree-while_header k f g fg = agree-value k _ _ _ _ fg (λ v. agree-branch k v _ _ _ _ (agree-give k _) (agree-give k _))
 
--- the turns of a `for`, with more turns than steps
-agree-walk : (k j i l n count : ℕ) (f g : PlainValue → M (Ans (Unit {0}))) (v : PlainValue) (b b' o o' : M Out) → k < j → k < i → Binds k f g → Agrees k b b' → Agrees k o o' → Agrees k (walk f v count b o l j n) (walk g v count b' o' l i n)
-unfolding walk
-agree-walk k zero i l n count f g v b b' o o' kj ki fg bb oo = absurd (omega arith)
-agree-walk k (suc j) zero l n count f g v b b' o o' kj ki fg bb oo = absurd (omega arith)
-agree-walk zero (suc j) (suc i) l n count f g v b b' o o' kj ki fg bb oo =
-    agree-using 0 _ _ _ _ (agree-ask 0 _) (λ x. agree-if_item 0 x _ _ _ _ oo (λ w. agree-using 0 _ _ _ _ (fg w) (λ u. agree-chain 0 _ _ _ _ bb (λ z. agree-looped 0 z _ _ (agree-zero _ _ (step-zero _ _) (step-zero _ _))))))
-agree-walk (suc k) (suc j) (suc i) l n count f g v b b' o o' kj ki fg bb oo =
-    agree-using (suc k) _ _ _ _ (agree-ask (suc k) _) (λ x. agree-if_item (suc k) x _ _ _ _ oo (λ w. agree-using (suc k) _ _ _ _ (fg w) (λ u. agree-chain (suc k) _ _ _ _ bb (λ z. agree-looped (suc k) z _ _
-    (agree-step k _ _ _ (agree-walk k j i l (suc n) count f g v b b' o o' (omega arith) (omega arith) (λ w'. agree-down k (suc k) _ _ (omega arith) (fg w')) (agree-down k (suc k) _ _ (omega arith) bb) (agree-down k (suc k) _ _ (omega arith) oo)))))))
+agree-at_item : (k : ℕ) (v : PlainValue) (n i : ℕ) → Agrees k (at_item v n i) (at_item v n i)
+agree-at_item k v n i = agree-value k _ _ _ _ (agree-ask k _) (λ x. agree-give k _)
 
--- a `for` whose header marks
-abbrev loop : M (Ans PlainValue) → (PlainValue → M (Ans (Unit {0}))) → M Out → M Out → ℕ → ℕ → M Out
-loop e f b o l n = step (marked l) (using e (λ v. using (ask (walk_length v)) (λ count. walk f v count b o l n 0)))
-
-agree-loop : (k j i l : ℕ) (e e' : M (Ans PlainValue)) (f g : PlainValue → M (Ans (Unit {0}))) (b b' o o' : M Out) → k ≤ j → k ≤ i → Agrees k e e' → Binds k f g → Agrees k b b' → Agrees k o o' → Agrees k (loop e f b o l j) (loop e' g b' o' l i)
-agree-loop zero j i l e e' f g b b' o o' kj ki ee fg bb oo = agree-zero _ _ (step-zero _ _) (step-zero _ _)
-agree-loop (suc k) j i l e e' f g b b' o o' kj ki ee fg bb oo =
-    agree-step k _ _ _ (agree-using k _ _ _ _ (agree-down k (suc k) _ _ (omega arith) ee) (λ v. agree-using k _ _ _ _ (agree-ask k _) (λ count.
-    agree-walk k j i l 0 count f g v b b' o o' (omega arith) (omega arith) (λ w. agree-down k (suc k) _ _ (omega arith) (fg w)) (agree-down k (suc k) _ _ (omega arith) bb) (agree-down k (suc k) _ _ (omega arith) oo))))
+agree-for_header : (k : ℕ) (f g : M (Ans PlainValue)) → Agrees k f g → (b : Option Walked) → Agrees k (for_header f b) (for_header g b)
+agree-for_header k f g fg None = agree-value k _ _ _ _ fg (λ v. agree-value k _ _ _ _ (agree-ask k _) (λ n. agree-at_item k v n 0))
+agree-for_header k f g fg (Some t) = agree-at_item k t.value t.length t.place
 
 -- ---- exceptions, cases and functions
 
@@ -96,11 +101,19 @@ agree-failed k c d h p (Some e) = agree-using k _ _ _ _ (agree-value k _ _ _ _ (
 agree-handle : (k : ℕ) (has : Bool) (o : Out) (h j : PlainRaised → M Out) (f g : M Out) → ((e : PlainRaised) → Agrees k (h e) (j e)) → Agrees k f g → Agrees k (handle has o h f) (handle has o j g)
 agree-handle k has normal h j f g hj fg = fg
 agree-handle k true (raises e t) h j f g hj fg = hj e
-agree-handle k has o h j f g hj fg = agree-give k _
+agree-handle k false (raises e t) h j f g hj fg = agree-give k _
+agree-handle k has _ h j f g hj fg = agree-give k _
 
 agree-settle : (k : ℕ) (o q : Out) → Agrees k (settle o q) (settle o q)
 agree-settle k normal (raises e true) = agree-throw k e
 agree-settle k _ q = agree-give k _
+
+agree-caught : (k : ℕ) (c d : Calls) → AgreeCalls k c d → (p : Place) (kind : Option Expr) (e : PlainRaised) → Agrees k (caught_by c p kind e) (caught_by d p kind e)
+agree-caught k c d h p None e = agree-give k _
+agree-caught k c d h p (Some t) e = agree-value k _ _ _ _ (agree-eval k c d h p t) (λ v. agree-give k _)
+
+agree-handled : (k : ℕ) (p : Scope) (x : Option Text) (e : PlainRaised) (f g : M Out) → Agrees k f g → Agrees k (handled p x e f) (handled p x e g)
+agree-handled k p x e f g fg = agree-write k _ _ _ (agree-chain k _ _ _ _ fg (λ o. agree-write k _ _ _ (agree-give k o)))
 
 agree-on_match : (k : ℕ) (found : Match) (f g : Names → M Out) (m m' : M Out) → ((names : Names) → Agrees k (f names) (g names)) → Agrees k m m' → Agrees k (on_match found f m) (on_match found g m')
 agree-on_match k None f g m m' fg mm = mm
@@ -150,15 +163,15 @@ mutual
   agree-kind k D h j i kj ki p l (from m names) = agree-mark k _ _ _ (agree-using k _ _ _ _ (agree-value k _ _ _ _ (agree-module_of k _ _ (h j i kj ki) p.modules m) (λ v. agree-take_each k p m v names)) (λ u. agree-give k _))
   agree-kind k D h j i kj ki p l (if' xs o) = agree-arms k D h j i kj ki p xs _ _ (agree-opt k D h j i kj ki p o)
   agree-kind k D h j i kj ki p l (while t (suite f g inline b) o) =
-      agree-within k _ _
-      (λ y z d dy dz dk. agree-turns d y z l (marked l) _ _ _ _ _ _ dy dz (agree-down d k _ _ dk (agree-eval k _ _ (h j j kj kj) p t)) (agree-down d k _ _ dk (agree-exec k D h j j kj kj p b)) (agree-down d k _ _ dk (agree-opt k D h j j kj kj p o)))
-      (λ y z d dy dz dk. agree-turns d y z l (marked l) _ _ _ _ _ _ dy dz (agree-down d k _ _ dk (agree-eval k _ _ (h i i ki ki) p t)) (agree-down d k _ _ dk (agree-exec k D h i i ki ki p b)) (agree-down d k _ _ dk (agree-opt k D h i i ki ki p o)))
-      (λ y z d dy dz dk. agree-turns d y z l (marked l) _ _ _ _ _ _ dy dz (agree-down d k _ _ dk (agree-eval k _ _ (h j i kj ki) p t)) (agree-down d k _ _ dk (agree-exec k D h j i kj ki p b)) (agree-down d k _ _ dk (agree-opt k D h j i kj ki p o)))
+      agree-loop k _ _ (mark l) None
+      (record { line = refl; header = λ v. agree-while_header k _ _ (agree-eval k _ _ (h j j kj kj) p t); turn = λ v. agree-exec k D h j j kj kj p b; orelse = agree-opt k D h j j kj kj p o })
+      (record { line = refl; header = λ v. agree-while_header k _ _ (agree-eval k _ _ (h i i ki ki) p t); turn = λ v. agree-exec k D h i i ki ki p b; orelse = agree-opt k D h i i ki ki p o })
+      (record { line = refl; header = λ v. agree-while_header k _ _ (agree-eval k _ _ (h j i kj ki) p t); turn = λ v. agree-exec k D h j i kj ki p b; orelse = agree-opt k D h j i kj ki p o })
   agree-kind k D h j i kj ki p l (for t e (suite f g inline b) o) =
-      agree-within k _ _
-      (λ y z d dy dz dk. agree-loop d y z l _ _ _ _ _ _ _ _ dy dz (agree-down d k _ _ dk (agree-eval k _ _ (h j j kj kj) p e)) (λ v. agree-down d k _ _ dk (agree-assign_to k _ _ (h j j kj kj) p t v)) (agree-down d k _ _ dk (agree-exec k D h j j kj kj p b)) (agree-down d k _ _ dk (agree-opt k D h j j kj kj p o)))
-      (λ y z d dy dz dk. agree-loop d y z l _ _ _ _ _ _ _ _ dy dz (agree-down d k _ _ dk (agree-eval k _ _ (h i i ki ki) p e)) (λ v. agree-down d k _ _ dk (agree-assign_to k _ _ (h i i ki ki) p t v)) (agree-down d k _ _ dk (agree-exec k D h i i ki ki p b)) (agree-down d k _ _ dk (agree-opt k D h i i ki ki p o)))
-      (λ y z d dy dz dk. agree-loop d y z l _ _ _ _ _ _ _ _ dy dz (agree-down d k _ _ dk (agree-eval k _ _ (h j i kj ki) p e)) (λ v. agree-down d k _ _ dk (agree-assign_to k _ _ (h j i kj ki) p t v)) (agree-down d k _ _ dk (agree-exec k D h j i kj ki p b)) (agree-down d k _ _ dk (agree-opt k D h j i kj ki p o)))
+      agree-loop k _ _ (mark l) None
+      (record { line = refl; header = agree-for_header k _ _ (agree-eval k _ _ (h j j kj kj) p e); turn = λ v. agree-using k _ _ _ _ (agree-assign_to k _ _ (h j j kj kj) p t _) (λ u. agree-exec k D h j j kj kj p b); orelse = agree-opt k D h j j kj kj p o })
+      (record { line = refl; header = agree-for_header k _ _ (agree-eval k _ _ (h i i ki ki) p e); turn = λ v. agree-using k _ _ _ _ (agree-assign_to k _ _ (h i i ki ki) p t _) (λ u. agree-exec k D h i i ki ki p b); orelse = agree-opt k D h i i ki ki p o })
+      (record { line = refl; header = agree-for_header k _ _ (agree-eval k _ _ (h j i kj ki) p e); turn = λ v. agree-using k _ _ _ _ (agree-assign_to k _ _ (h j i kj ki) p t _) (λ u. agree-exec k D h j i kj ki p b); orelse = agree-opt k D h j i kj ki p o })
   agree-kind k D h j i kj ki p l (try (suite f g inline b) cs o fin) =
       agree-mark k _ _ _ (agree-chain k _ _ _ _
       (agree-chain k _ _ _ _ (agree-exec k D h j i kj ki p b) (λ q. agree-handle k (has_clauses cs) q _ _ _ _ (λ e. agree-clauses k D h j i kj ki p cs e) (agree-opt k D h j i kj ki p o)))
@@ -177,11 +190,9 @@ mutual
 
   agree-clauses : (k : ℕ) (D : ℕ → Calls) → Alike k D → (j i : ℕ) → k ≤ j → k ≤ i → (p : Place) (cs : Clauses) (e : PlainRaised) → Agrees k (exec_clauses (D j) p cs e) (exec_clauses (D i) p cs e)
   agree-clauses k D h j i kj ki p no_clauses e = agree-throw k e
-  agree-clauses k D h j i kj ki p (clause None x (suite f l inline b) rest) e =
-      agree-mark k _ _ _ (agree-write k _ _ _ (agree-chain k _ _ _ _ (agree-exec k D h j i kj ki _ b) (λ o. agree-write k _ _ _ (agree-give k o))))
-  agree-clauses k D h j i kj ki p (clause (Some t) x (suite f l inline b) rest) e =
-      agree-mark k _ _ _ (agree-using k _ _ _ _ (agree-value k _ _ _ _ (agree-eval k _ _ (h j i kj ki) p t) (λ v. agree-give k _)) (λ caught. agree-if k caught _ _ _ _
-      (agree-write k _ _ _ (agree-chain k _ _ _ _ (agree-exec k D h j i kj ki _ b) (λ o. agree-write k _ _ _ (agree-give k o))))
+  agree-clauses k D h j i kj ki p (clause t x (suite f l inline b) rest) e =
+      agree-mark k _ _ _ (agree-using k _ _ _ _ (agree-caught k _ _ (h j i kj ki) p t e) (λ yes. agree-if k yes _ _ _ _
+      (agree-handled k p.scope x e (exec (D j) (in_clause p e) b) (exec (D i) (in_clause p e) b) (agree-exec k D h j i kj ki (in_clause p e) b))
       (agree-clauses k D h j i kj ki p rest e)))
 
   agree-finally : (k : ℕ) (D : ℕ → Calls) → Alike k D → (j i : ℕ) → k ≤ j → k ≤ i → (p : Place) (b : OptSuite) (o : Out) → Agrees k (exec_finally (D j) p b o) (exec_finally (D i) p b o)

@@ -7,7 +7,7 @@ use Rattle.py_syntax.specs.declared.expr.Comparison.TheVariants.{Op}
 use Rattle.py_syntax.specs.declared.expr.Sign.TheVariants.{Minus}
 use Rattle.py_syntax.specs.Tree as T
 use Rattle.py_syntax.specs.Tree.{Stmts}
-use Rattle.py_meaning.proofs.Sources.{runs, var, num, quote, items, call, attr, list, line, end, printed, written, run_in, alone}
+use Rattle.py_meaning.proofs.Sources.{runs, var, num, quote, items, call, attr, list, line, end, printed, written, run_in, fed, alone}
 
 -- Values of division
 --  1  print(-7 // 2, -7 % 2, 7 // -2, 7 % -2)
@@ -76,6 +76,23 @@ exit_by_a_text : written (run_in (alone (
     end)))) 1000) ≡ ([], printed ("x" ∷ []), 1)
 unfolding runs
 exit_by_a_text = refl
+
+-- Lines of input: the second one isn't asked for
+--  1  x = input(">")
+--  2  print(x + "!")
+abbrev reading_source : Stmts
+reading_source =
+    line 1 (T.assign (items ((var "x") ∷ [])) (call (var "input") ((quote ">") ∷ []))) (
+    line 2 (T.expr (call (var "print") ((T.binary Add (var "x") (quote "!")) ∷ []))) (
+    end))
+
+reading : written (fed reading_source [] (codes "ab\ncd\n") 1000) ≡ (codes ">ab!\n", [], 0)
+unfolding runs
+reading = refl
+
+left_unread : (fed reading_source [] (codes "ab\ncd\n") 1000).input ≡ codes "cd\n"
+unfolding runs
+left_unread = refl
 
 -- Statuses: no input
 --  1  input()

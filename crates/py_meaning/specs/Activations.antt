@@ -7,10 +7,10 @@ use Rattle.cov_event.specs.declared.event.CodeId.{CodeId}
 -- entered. An activation has its code, its items and whether it ended: only one that was cut hasn't.
 mutual
   pub data Item : Type 0 where
-    marked : (line : ℕ) → Item
-    marked_again : (line : ℕ) → Item
-    thrown : (kind : ExcKind) → Item
-    entered : (a : Activation) → Item
+    mark : (line : ℕ) → Item
+    again : (line : ℕ) → Item
+    throw : (kind : ExcKind) → Item
+    sub : (a : Activation) → Item
 
   pub data Activation : Type 0 where
     activation : (code : CodeId) (items : Items) (ended : Bool) → Activation
@@ -20,13 +20,13 @@ mutual
     no_items : Items
     more : (before : Items) (newest : Item) → Items
 
--- the line that is kept behind these items; 0 stands for the outside of the body
+-- the line that is kept behind these items. Lines are from 1 on, and 0 stands for the outside of the body
 abbrev pub kept_line : Items → ℕ
 kept_line no_items = 0
-kept_line (more before (marked l)) = l
-kept_line (more before (marked_again l)) = l
-kept_line (more before (thrown kind)) = kept_line before
-kept_line (more before (entered a)) = kept_line before
+kept_line (more before (mark l)) = l
+kept_line (more before (again l)) = l
+kept_line (more before (throw kind)) = kept_line before
+kept_line (more before (sub a)) = kept_line before
 
 -- a mark on the kept line is no line event
 abbrev pub is_kept : ℕ → Items → Bool
@@ -35,10 +35,10 @@ is_kept l before = l == kept_line before
 -- whether a throw came since the last line event
 abbrev pub is_thrown : Items → Bool
 is_thrown no_items = false
-is_thrown (more before (marked l)) = if is_kept l before then is_thrown before else false
-is_thrown (more before (marked_again l)) = false
-is_thrown (more before (thrown kind)) = true
-is_thrown (more before (entered a)) = is_thrown before
+is_thrown (more before (mark l)) = if is_kept l before then is_thrown before else false
+is_thrown (more before (again l)) = false
+is_thrown (more before (throw kind)) = true
+is_thrown (more before (sub a)) = is_thrown before
 
 -- Two neighbouring lines, where 0 stands for the outside of the body, and whether a throw stands between them.
 pub record Arc : Type 0 where
@@ -52,10 +52,10 @@ arc_to before l = record { from = kept_line before; to = l; thrown = is_thrown b
 -- the arcs of the line events
 unfoldable pub arcs_so_far : Items → List Arc
 arcs_so_far no_items = []
-arcs_so_far (more before (marked l)) = if is_kept l before then arcs_so_far before else arcs_so_far before ++ arc_to before l ∷ []
-arcs_so_far (more before (marked_again l)) = arcs_so_far before ++ arc_to before l ∷ []
-arcs_so_far (more before (thrown kind)) = arcs_so_far before
-arcs_so_far (more before (entered a)) = arcs_so_far before
+arcs_so_far (more before (mark l)) = if is_kept l before then arcs_so_far before else arcs_so_far before ++ arc_to before l ∷ []
+arcs_so_far (more before (again l)) = arcs_so_far before ++ arc_to before l ∷ []
+arcs_so_far (more before (throw kind)) = arcs_so_far before
+arcs_so_far (more before (sub a)) = arcs_so_far before
 
 -- the arcs of an activation; one that ended has left its body
 unfoldable pub arcs_of : Activation → List Arc

@@ -1,47 +1,37 @@
--- What a call does (Python Language Reference, "Calls").
-use Rattle.std.specs.Prelude.{ℕ, ◌+◌, ◌-◌, nat_le, nat_lt, ◌&&◌, if◌then◌else◌, List, [], ◌++◌, length, drop, Option, Some, None, Err}
+-- What a call does (Python Language Reference, 6.3.4, "Calls").
+--     Calls                  what a call of a unit does
+--     enter                  a unit is entered
+--     use_builtin            a built-in function is called
+--     call_value             a value is called
+--     Callee, callee_of      what stands in front of a call's arguments
+--     call_of                it is called
+use Rattle.std.specs.Prelude.{ℕ, nat_lt, if◌then◌else◌, List, Option, Some, None, Err}
 use Rattle.cov_event.specs.declared.event.CodeId.{CodeId}
 use Rattle.py_value.specs.declared.builtin.Builtin.{Builtin}
 use Rattle.py_value.specs.declared.builtin.Method.{Method}
 use Rattle.py_value.specs.declared.cause.Cause.TheVariants.{NotCallable, WrongArgumentCount, TooDeep}
 use Rattle.py_value.specs.declared.value.FuncId.{FuncId}
 use Rattle.py_value.specs.Causes.{raised_by}
-use Rattle.py_value.specs.Heaps.{list_items}
-use Rattle.py_value.specs.Plain.{PlainValue, func_value, module_value, kind_value, builtin_value, PlainHeap}
+use Rattle.py_value.specs.Plain.{PlainValue, none_value, bool_value, int_value, str_value, tuple_value, list_at, dict_at, func_value, module_value, kind_value, exc_value, builtin_value}
 use Rattle.py_syntax.specs.Tree.{Text}
 use Rattle.py_builtins.specs.Builtins.{Done, builtin_of, exception_of}
 use Rattle.py_builtins.specs.Methods.{no_attribute, method_of}
+use Rattle.py_builtins.specs.Attributes.{or_raise, module_global, method_named}
 use Rattle.py_meaning.specs.Computations.{Setting, Ans, M, give, read, write, say, worked, work}
 use Rattle.py_meaning.specs.Modules.{LoadedModule, unit_of}
-use Rattle.py_meaning.specs.Places.{or_raise, module_global}
-use Rattle.py_meaning.specs.Predefined.{method_named}
+use Rattle.py_builtins.specs.Parameters.{most_frames, arguments, defaults_at}
 
 -- what a call of a unit does, by the numbers of its module and of the unit in it, with values for all its parameters
 abbrev pub Calls : Type 0
 Calls = (m u : ℕ) → List PlainValue → M (Ans PlainValue)
 
--- at most so many frames stand on each other
-abbrev pub most_frames : ℕ
-most_frames = 1000
+-- a unit is entered, where there may be one more frame
+unfoldable pub enter : M (Ans PlainValue) → M (Ans PlainValue)
+enter unit = read (λ w. if nat_lt w.frames most_frames then unit else give (Err (raised_by TooDeep)))
 
--- the values of the parameters: those given, and for the last ones the defaults; none where they don't fit
-abbrev pub arguments : List Text → List PlainValue → List PlainValue → Option (List PlainValue)
-arguments params defaults vs =
-    if nat_le (length params) (length vs + length defaults) && nat_le (length vs) (length params)
-    then Some (vs ++ drop (length vs + length defaults - length params) defaults) else None
-
--- the defaults of a function, which stand in a list
-abbrev pub defaults_at : PlainHeap → Option ℕ → List PlainValue
-defaults_at h None = []
-defaults_at h (Some a) = list_items h a
-
--- a frame begins, where there may be one more
-abbrev pub enter : ℕ → M (Ans PlainValue) → M (Ans PlainValue)
-enter frames body = if nat_lt frames most_frames then body else give (Err (raised_by TooDeep))
-
-abbrev pub enter_with : Calls → FuncId → ℕ → Option (List PlainValue) → M (Ans PlainValue)
-enter_with c f frames None = give (Err (raised_by WrongArgumentCount))
-enter_with c f frames (Some vs) = enter frames (c f.module f.unit vs)
+abbrev pub enter_with : Calls → FuncId → Option (List PlainValue) → M (Ans PlainValue)
+enter_with c f None = give (Err (raised_by WrongArgumentCount))
+enter_with c f (Some vs) = enter (c f.module f.unit vs)
 
 abbrev pub set_input : List ℕ → Setting → Setting
 set_input bytes w = record w { input = bytes }
@@ -57,13 +47,23 @@ use_builtin which vs = read (λ w. as_done (builtin_of which vs w.world.heap w.i
 abbrev pub code_of : FuncId → CodeId
 code_of f = record { «module» = f.module; unit = f.unit }
 
+abbrev pub no_call : M (Ans PlainValue)
+no_call = give (Err (raised_by NotCallable))
+
 -- A value is called. First it is seen that it can be called with so many values, then that there may be one more frame.
 unfoldable pub call_value : Calls → List LoadedModule → PlainValue → List PlainValue → M (Ans PlainValue)
-call_value c ms (func_value f a) vs =
-    read (λ w. enter_with c f w.frames (arguments (unit_of ms (code_of f)).params (defaults_at w.world.heap a) vs))
+call_value c ms none_value vs = no_call
+call_value c ms (bool_value b) vs = no_call
+call_value c ms (int_value n) vs = no_call
+call_value c ms (str_value s) vs = no_call
+call_value c ms (tuple_value items) vs = no_call
+call_value c ms (list_at a) vs = no_call
+call_value c ms (dict_at a) vs = no_call
+call_value c ms (func_value f a) vs = read (λ w. enter_with c f (arguments (unit_of ms (code_of f)).params (defaults_at w.world.heap a) vs))
+call_value c ms (module_value m) vs = no_call
 call_value c ms (kind_value kind) vs = give (exception_of kind vs)
+call_value c ms (exc_value kind arg) vs = no_call
 call_value c ms (builtin_value which) vs = use_builtin which vs
-call_value c ms _ vs = give (Err (raised_by NotCallable))
 
 -- what stands in front of a call's arguments: a value, or a method of one
 pub data Callee : Type 0 where
@@ -80,7 +80,7 @@ as_value (Some v) = Some (a_value v)
 
 -- `v.x`, where it is called: a name of a module, or a method
 abbrev pub callee_of : PlainValue → Text → Setting → Ans Callee
-callee_of (module_value m) x w = or_raise (no_attribute x) (as_value (module_global m x w))
+callee_of (module_value m) x w = or_raise (no_attribute x) (as_value (module_global m x w.world))
 callee_of v x w = or_raise (no_attribute x) (as_method v (method_named v x))
 
 unfoldable pub call_of : Calls → List LoadedModule → Callee → List PlainValue → M (Ans PlainValue)

@@ -4,23 +4,23 @@ use Rattle.std.specs.declared.cmp.Ordering.{Ordering}
 use Rattle.std.specs.Ordering.{int_cmp, ordering_then}
 use Rattle.std.specs.BTreeSet.{insert_key}
 use Rattle.cov_event.specs.declared.event.CodeId.{CodeId}
-use Rattle.py_meaning.specs.Activations.{Activation, activation, Items, no_items, more, marked, marked_again, thrown, entered, Arc, arcs_of}
+use Rattle.py_meaning.specs.Activations.{Activation, activation, Items, no_items, more, mark, again, throw, sub, Arc, arcs_of}
 use Rattle.py_meaning.specs.Modules.{LoadedModule, unit_of}
 
 unfoldable mutual
   -- all activations that were entered, one behind the other, each in front of those that were entered in it
   pub activations : Items → List Activation
   activations no_items = []
-  activations (more before (marked l)) = activations before
-  activations (more before (marked_again l)) = activations before
-  activations (more before (thrown kind)) = activations before
-  activations (more before (entered a)) = activations before ++ activations_from a
+  activations (more before (mark l)) = activations before
+  activations (more before (again l)) = activations before
+  activations (more before (throw kind)) = activations before
+  activations (more before (sub a)) = activations before ++ activations_from a
 
   pub activations_from : Activation → List Activation
   activations_from (activation code items ended) = activation code items ended ∷ activations items
 
-abbrev pub code_of : Activation → CodeId
-code_of (activation code items ended) = code
+abbrev pub activation_code : Activation → CodeId
+activation_code (activation code items ended) = code
 
 -- a line of a body with this first line
 abbrev pub shown_line : ℕ → ℕ → ℤ
@@ -38,7 +38,7 @@ crossing first a = record { from = shown_line first a.from; to = shown_line firs
 unfoldable pub crossings_of : List LoadedModule → ℕ → List Activation → List Crossing
 crossings_of ms m [] = []
 crossings_of ms m (a ∷ rest) =
-    if nat_eq (code_of a).module m then map (crossing (unit_of ms (code_of a)).line) (arcs_of a) ++ crossings_of ms m rest
+    if nat_eq (activation_code a).module m then map (crossing (unit_of ms (activation_code a)).line) (arcs_of a) ++ crossings_of ms m rest
     else crossings_of ms m rest
 
 -- in a module, at all places

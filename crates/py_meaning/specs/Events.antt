@@ -2,7 +2,7 @@
 use Rattle.std.specs.Prelude.{ℕ, Bool, true, false, List, [], ◌∷◌, ◌++◌}
 use Rattle.cov_event.specs.declared.event.Event.{Event}
 use Rattle.cov_event.specs.declared.event.Event.TheVariants.{Call, Line, Throw, Return}
-use Rattle.py_meaning.specs.Activations.{Activation, activation, Items, no_items, more, marked, marked_again, thrown, entered, is_kept}
+use Rattle.py_meaning.specs.Activations.{Activation, activation, Items, no_items, more, mark, again, throw, sub, is_kept}
 
 -- Events come behind those that came before.
 abbrev pub line_unless : Bool → ℕ → List Event → List Event
@@ -17,10 +17,10 @@ unfoldable mutual
   -- the events of these items
   pub told : List Event → Items → List Event
   told events no_items = events
-  told events (more before (marked l)) = line_unless (is_kept l before) l (told events before)
-  told events (more before (marked_again l)) = told events before ++ Line l ∷ []
-  told events (more before (thrown kind)) = told events before ++ Throw kind ∷ []
-  told events (more before (entered a)) = told_of (told events before) a
+  told events (more before (mark l)) = line_unless (is_kept l before) l (told events before)
+  told events (more before (again l)) = told events before ++ Line l ∷ []
+  told events (more before (throw kind)) = told events before ++ Throw kind ∷ []
+  told events (more before (sub a)) = told_of (told events before) a
 
   -- those of an activation
   pub told_of : List Event → Activation → List Event

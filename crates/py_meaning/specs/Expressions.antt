@@ -1,14 +1,21 @@
 -- What an expression gives (Python Language Reference, "Expressions").
+--     eval                        an expression
+--     eval_each, eval_pairs       expressions in a row, and the pairs of a dict
+--     eval_links, eval_opt        a chain of comparisons, and a bound of a slice
+--     eval_fragments              an f-string
 use Rattle.std.specs.Prelude.{true, false, if◌then◌else◌, List, [], ◌∷◌, Option, Some, None, Ok}
 use Rattle.py_value.specs.Operators.{binary_of, index_of}
 use Rattle.py_value.specs.Plain.{PlainValue, none_value, bool_value, int_value, str_value}
+use Rattle.py_meaning.specs.Asked.{asked}
 use Rattle.py_syntax.specs.Tree.{Text, Expr, name, int, str, fstr, none, bool, tuple, list, dict, paren, not', and, or, unary, binary, compare, cond, call, index, slice, attr, Exprs, no_exprs, exprs, Pairs, no_pairs, pair, Links, no_links, link, OptExpr, absent, present, Fragments, no_fragments, plain, format, Parts, no_parts, text, field}
 use Rattle.py_builtins.specs.Methods.{new_list}
 use Rattle.py_builtins.specs.Texts.{str_text}
+use Rattle.py_builtins.specs.Attributes.{attribute}
 use Rattle.py_meaning.specs.Calls.{Calls, a_value, callee_of, call_of}
 use Rattle.py_meaning.specs.Computations.{Ans, M, give, value, ask, work, branch}
-use Rattle.py_meaning.specs.Displays.{run_together, extended, new_tuple, new_dict, stored, signed, compared, sliced}
-use Rattle.py_meaning.specs.Places.{Place, fetched, attribute}
+use Rattle.py_meaning.specs.Literals.{run_together, signed}
+use Rattle.py_builtins.specs.Making.{extended, new_tuple, new_dict, stored, compared, sliced}
+use Rattle.py_meaning.specs.Places.{Place, fetched}
 
 -- a value that is there already
 abbrev pub gives : {A : Type 0} → A → M (Ans A)
@@ -19,7 +26,7 @@ gives a = give (Ok a)
 unfoldable mutual
   pub eval : Calls → Place → Expr → M (Ans PlainValue)
   -- 6.2, atoms
-  eval c p (name x) = ask (fetched p x)
+  eval c p (name x) = ask (fetched p.scope x)
   eval c p (int n) = gives (int_value n)
   eval c p (str pieces) = gives (str_value (run_together pieces))
   eval c p (fstr pieces) = value (eval_fragments c p pieces []) (λ x. gives (str_value x))
@@ -33,7 +40,7 @@ unfoldable mutual
   eval c p (not' e) = value (eval c p e) (λ v. branch v (gives (bool_value false)) (gives (bool_value true)))
   eval c p (and a b) = value (eval c p a) (λ v. branch v (eval c p b) (gives v))
   eval c p (or a b) = value (eval c p a) (λ v. branch v (gives v) (eval c p b))
-  -- 6.6, 6.7, 6.10, 6.12: operators, comparisons, conditional expressions
+  -- 6.6, 6.7, 6.10, 6.13: operators, comparisons, conditional expressions
   eval c p (unary s e) = value (eval c p e) (λ v. work (signed s v))
   eval c p (binary op a b) = value (eval c p a) (λ v. value (eval c p b) (λ w. work (binary_of op v w)))
   eval c p (compare a links) = value (eval c p a) (λ v. eval_links c p links v)
@@ -44,7 +51,7 @@ unfoldable mutual
   eval c p (call e es comma) = value (eval c p e) (λ f. value (eval_each c p es) (λ vs. call_of c p.modules (a_value f) vs))
   eval c p (index of at) = value (eval c p of) (λ v. value (eval c p at) (λ i. ask (λ w. index_of v i w.world.heap)))
   eval c p (slice of from to) = value (eval c p of) (λ v. value (eval_opt c p from) (λ a. value (eval_opt c p to) (λ b. work (sliced v a b))))
-  eval c p (attr e x) = value (eval c p e) (λ v. ask (attribute v x))
+  eval c p (attr e x) = value (eval c p e) (λ v. ask (λ w. attribute v x w.world))
 
   -- the values in order
   pub eval_each : Calls → Place → Exprs → M (Ans (List PlainValue))
@@ -61,7 +68,7 @@ unfoldable mutual
   pub eval_links : Calls → Place → Links → PlainValue → M (Ans PlainValue)
   eval_links c p no_links v = gives (bool_value true)
   eval_links c p (link op e rest) v =
-      value (eval c p e) (λ w. value (ask (λ s. compared op v w s.world.heap)) (λ b. if b then eval_links c p rest w else gives (bool_value false)))
+      value (eval c p e) (λ w. value (ask (λ s. compared (asked op) v w s.world.heap)) (λ b. if b then eval_links c p rest w else gives (bool_value false)))
 
   pub eval_opt : Calls → Place → OptExpr → M (Ans (Option PlainValue))
   eval_opt c p absent = gives None

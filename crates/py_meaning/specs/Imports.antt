@@ -1,53 +1,41 @@
 -- What imports do (Python Language Reference, 5, "The import system", and 7.11).
-use Rattle.std.specs.Prelude.{ℕ, if◌then◌else◌, List, [], ◌∷◌, Option, Some, None, Ok, Err, codes}
+use Rattle.std.specs.Prelude.{ℕ, if◌then◌else◌, List, [], ◌∷◌, Option, Some, None, Err, codes}
 use Rattle.py_value.specs.declared.value.ModId.TheVariants.{Loaded, Sys}
 use Rattle.py_value.specs.Keys.{is_same_text}
-use Rattle.py_value.specs.Plain.{PlainValue, str_value, module_value}
+use Rattle.py_value.specs.Plain.{PlainValue, module_value}
 use Rattle.py_syntax.specs.Names.{alias_name}
 use Rattle.py_syntax.specs.Tree.{Text, Alias}
-use Rattle.py_builtins.specs.World.{Names, is_begun, with_begun, without_begun}
+use Rattle.py_builtins.specs.World.{is_begun}
+use Rattle.py_builtins.specs.Attributes.{or_raise, module_global}
 use Rattle.py_meaning.specs.Calls.{Calls, enter}
-use Rattle.py_meaning.specs.Computations.{Setting, Ans, M, give, chain, read, write, value, ask}
+use Rattle.py_meaning.specs.Computations.{Setting, Ans, M, give, read, write, value, ask}
 use Rattle.py_meaning.specs.Expressions.{gives}
 use Rattle.py_meaning.specs.Faults.{no_module, no_import}
-use Rattle.py_meaning.specs.Modules.{LoadedModule, name_of, imported_number}
-use Rattle.py_meaning.specs.Places.{Place, bound, or_raise, module_global}
+use Rattle.py_meaning.specs.Modules.{LoadedModule, imported_number}
+use Rattle.py_meaning.specs.Places.{Place, bound}
 
--- the globals of a module that begins
-abbrev pub first_names : Text → Names
-first_names x = (codes "__name__", str_value x) ∷ []
+abbrev pub loaded_module : ℕ → PlainValue
+loaded_module m = module_value (Loaded m)
 
-abbrev pub begun : List LoadedModule → ℕ → Setting → Setting
-begun ms m w = record w { world = with_begun m (first_names (name_of ms m)) w.world }
-
-abbrev pub not_begun : ℕ → Setting → Setting
-not_begun m w = record w { world = without_begun m w.world }
-
--- a module whose body raised counts as not begun
-abbrev pub ended : ℕ → Ans PlainValue → M (Ans PlainValue)
-ended m (Ok v) = gives (module_value (Loaded m))
-ended m (Err e) = write (not_begun m) (give (Err e))
-
--- A module begins where it isn't begun. One in progress is taken as it is.
-unfoldable pub begin : Calls → List LoadedModule → Text → Option ℕ → M (Ans PlainValue)
-begin c ms x None = give (Err (no_module x))
-begin c ms x (Some m) =
-    read (λ w. if is_begun m w.world then gives (module_value (Loaded m)) else enter w.frames (write (begun ms m) (chain (c m 0 []) (ended m))))
+-- The body of a module is entered where the module isn't begun. One in progress is taken as it is.
+unfoldable pub begin : Calls → Text → Option ℕ → M (Ans PlainValue)
+begin c x None = give (Err (no_module x))
+begin c x (Some m) = read (λ w. if is_begun m w.world then gives (loaded_module m) else value (enter (c m 0 [])) (λ v. gives (loaded_module m)))
 
 -- the module of a name; `sys` is built in
 unfoldable pub module_of : Calls → List LoadedModule → Text → M (Ans PlainValue)
-module_of c ms x = if is_same_text x (codes "sys") then gives (module_value Sys) else begin c ms x (imported_number ms x)
+module_of c ms x = if is_same_text x (codes "sys") then gives (module_value Sys) else begin c x (imported_number ms x)
 
 -- `import m as x, ..`
 unfoldable pub import_each : Calls → Place → List Alias → M (Ans (Unit {0}))
 import_each c p [] = gives tt
-import_each c p (a ∷ rest) = value (module_of c p.modules a.name) (λ v. write (bound p (alias_name a) v) (import_each c p rest))
+import_each c p (a ∷ rest) = value (module_of c p.modules a.name) (λ v. write (bound p.scope (alias_name a) v) (import_each c p rest))
 
 abbrev pub taken : Text → PlainValue → Text → Setting → Ans PlainValue
-taken m (module_value k) x w = or_raise (no_import m x) (module_global k x w)
+taken m (module_value k) x w = or_raise (no_import m x) (module_global k x w.world)
 taken m v x w = Err (no_import m x)
 
 -- `from m import x as y, ..`, of the module's value
 unfoldable pub take_each : Place → Text → PlainValue → List Alias → M (Ans (Unit {0}))
 take_each p m v [] = gives tt
-take_each p m v (a ∷ rest) = value (ask (taken m v a.name)) (λ u. write (bound p (alias_name a) u) (take_each p m v rest))
+take_each p m v (a ∷ rest) = value (ask (taken m v a.name)) (λ u. write (bound p.scope (alias_name a) u) (take_each p m v rest))

@@ -1,63 +1,112 @@
 -- Laws of programs.
-use Rattle.std.specs.Prelude.{◌≡◌, ◌≢◌, ℕ, suc, ◌<◌, ◌≤◌, Bool, List, ◌++◌}
+--     SettlesRun, SettlesAnswer                                what a run says of other budgets
+--     ProgramBudgetLaw, ModulesBudgetLaw, CallBudgetLaw        a larger budget changes nothing
+--     ProgramPrefixLaw, ModulesPrefixLaw, CallPrefixLaw        a smaller one gives a beginning
+--     StepsLaw, SteadyLaw                                      steps never rise
+--     UncutLaw                                                 only steps cut a run
+--     EventsLaw                                                events are those of items
+use Rattle.std.specs.Prelude.{◌≡◌, ◌≢◌, ℕ, suc, ◌<◌, ◌≤◌, Bool, List, ◌++◌, Option, Some}
 use Rattle.cov_event.specs.declared.event.CodeId.{CodeId}
 use Rattle.cov_event.specs.declared.event.Event.{Event}
 use Rattle.cov_outside.specs.Prefixes.{IsPrefix}
 use Rattle.py_value.specs.Plain.{PlainValue}
-use Rattle.py_syntax.specs.Tree.{Text, Stmts}
+use Rattle.py_syntax.specs.Tree.{Text, Expr, Stmts, OptSuite}
 use Rattle.py_builtins.specs.World.{World}
-use Rattle.py_meaning.specs.Activations.{Activation, activation, Items, no_items, more, entered}
-use Rattle.py_meaning.specs.Computations.{State, Res, done, cut}
+use Rattle.py_meaning.specs.Activations.{Activation, activation, Item, again, Items, no_items, more, sub}
+use Rattle.py_meaning.specs.Assignments.{assign_to}
+use Rattle.py_meaning.specs.Calls.{Calls}
+use Rattle.py_meaning.specs.Computations.{State, Res, done, cut, M}
 use Rattle.py_meaning.specs.Events.{told, told_of, events_of, events_in}
-use Rattle.py_meaning.specs.Frames.{calls}
-use Rattle.py_meaning.specs.Loading.{Files}
+use Rattle.py_meaning.specs.Expressions.{eval}
+use Rattle.py_meaning.specs.Frames.{unit_call, calls}
+use Rattle.py_meaning.specs.Loading.{Program}
 use Rattle.py_meaning.specs.Modules.{LoadedModule}
+use Rattle.py_builtins.specs.Outcomes as outcomes
 use Rattle.py_meaning.specs.Places.{Place}
-use Rattle.py_meaning.specs.Statements.{exec}
-use Rattle.py_meaning.specs.Program.{Run, spent, meaning, Answer, was_cut, called}
+use Rattle.py_meaning.specs.Program.{Run, run_modules, meaning, Request, Answer, called}
+use Rattle.py_builtins.specs.Returns as returns
+use Rattle.py_meaning.specs.Statements.{Loop, one_turn, loop, while_loop, for_loop, exec, exec_opt}
 
 -- What a run that isn't cut says of another budget: the run is the same where that is at least the steps that it took, and is
 -- cut where it is less.
 abbrev pub SettlesRun : Run → ℕ → Run → Type 0
-SettlesRun run budget other = (run.steps ≤ budget → other ≡ run) × (budget < run.steps → other.outcome ≡ spent)
+SettlesRun run budget other = (run.steps ≤ budget → other ≡ run) × (budget < run.steps → other.outcome ≡ outcomes.cut)
 
 abbrev pub SettlesAnswer : Answer → ℕ → Answer → Type 0
-SettlesAnswer answer budget other = (answer.steps ≤ budget → other ≡ answer) × (budget < answer.steps → other.returned ≡ was_cut)
+SettlesAnswer answer budget other = (answer.steps ≤ budget → other ≡ answer) × (budget < answer.steps → other.returned ≡ returns.cut)
+
+-- What a run gave within a budget is the beginning of what another one gave.
+abbrev pub BeginsRun : Run → Run → Type 0
+BeginsRun run other = IsPrefix run.out other.out × IsPrefix (events_in run.items) (events_in other.items)
+
+abbrev pub BeginsAnswer : Answer → Answer → Type 0
+BeginsAnswer answer other = IsPrefix answer.out other.out × IsPrefix (events_in answer.items) (events_in other.items)
 
 -- A larger budget changes nothing: of a program,
 abbrev pub ProgramBudgetLaw : Type 0
 ProgramBudgetLaw =
-    (files : Files) (script name : Text) (words : List Text) (input : List ℕ) (budget other : ℕ) →
-    (meaning files script name words input budget).outcome ≢ spent →
-    SettlesRun (meaning files script name words input budget) other (meaning files script name words input other)
+    (program : Program) (words : List Text) (input : List ℕ) (budget other : ℕ) → (meaning program words input budget).outcome ≢ outcomes.cut →
+    SettlesRun (meaning program words input budget) other (meaning program words input other)
+
+-- of a list of modules, whatever they were loaded from,
+abbrev pub ModulesBudgetLaw : Type 0
+ModulesBudgetLaw =
+    (ms : List LoadedModule) (words : List Text) (input : List ℕ) (budget other : ℕ) → (run_modules ms words input budget).outcome ≢ outcomes.cut →
+    SettlesRun (run_modules ms words input budget) other (run_modules ms words input other)
 
 -- and of one call.
 abbrev pub CallBudgetLaw : Type 0
 CallBudgetLaw =
-    (ms : List LoadedModule) (w : World) (input : List ℕ) (m : ℕ) (x : Text) (vs : List PlainValue) (budget other : ℕ) →
-    (called ms w input m x vs budget).returned ≢ was_cut →
-    SettlesAnswer (called ms w input m x vs budget) other (called ms w input m x vs other)
+    (ms : List LoadedModule) (w : World) (input : List ℕ) (r : Request) (budget other : ℕ) → (called ms w input r budget).returned ≢ returns.cut →
+    SettlesAnswer (called ms w input r budget) other (called ms w input r other)
 
--- What a run wrote and told within a budget is the beginning of what it writes and tells within a larger one.
+-- What is written and told within a budget is the beginning of what is written and told within a larger one: by a program,
 abbrev pub ProgramPrefixLaw : Type 0
 ProgramPrefixLaw =
-    (files : Files) (script name : Text) (words : List Text) (input : List ℕ) (budget larger : ℕ) → budget ≤ larger →
-    IsPrefix (meaning files script name words input budget).out (meaning files script name words input larger).out
-    × IsPrefix (events_in (meaning files script name words input budget).items) (events_in (meaning files script name words input larger).items)
+    (program : Program) (words : List Text) (input : List ℕ) (budget larger : ℕ) → budget ≤ larger →
+    BeginsRun (meaning program words input budget) (meaning program words input larger)
 
+-- by a list of modules,
+abbrev pub ModulesPrefixLaw : Type 0
+ModulesPrefixLaw =
+    (ms : List LoadedModule) (words : List Text) (input : List ℕ) (budget larger : ℕ) → budget ≤ larger →
+    BeginsRun (run_modules ms words input budget) (run_modules ms words input larger)
+
+-- and by one call.
 abbrev pub CallPrefixLaw : Type 0
 CallPrefixLaw =
-    (ms : List LoadedModule) (w : World) (input : List ℕ) (m : ℕ) (x : Text) (vs : List PlainValue) (budget larger : ℕ) → budget ≤ larger →
-    IsPrefix (called ms w input m x vs budget).out (called ms w input m x vs larger).out
-    × IsPrefix (events_in (called ms w input m x vs budget).items) (events_in (called ms w input m x vs larger).items)
+    (ms : List LoadedModule) (w : World) (input : List ℕ) (r : Request) (budget larger : ℕ) → budget ≤ larger →
+    BeginsAnswer (called ms w input r budget) (called ms w input r larger)
 
 -- The steps that are left never rise.
 abbrev pub IsAtMost : {A : Type 0} → ℕ → Res A → Type 0
 IsAtMost n (done a s left) = left ≤ n
 IsAtMost n (cut s) = Unit {0}
 
+unfoldable pub IsSteady : {A : Type 0} → M A → Type 0
+IsSteady m = (s : State) (n : ℕ) → IsAtMost n (m s n)
+
+abbrev pub AreSteady : Calls → Type 0
+AreSteady c = (m u : ℕ) (vs : List PlainValue) → IsSteady (c m u vs)
+
 abbrev pub StepsLaw : Type 0
 StepsLaw = (ms : List LoadedModule) (depth : ℕ) (p : Place) (body : Stmts) (s : State) (n : ℕ) → IsAtMost n (exec (calls ms depth) p body s n)
+
+-- Nor do statements raise them, whatever the calls inside them do that never raise them.
+abbrev pub SteadyLaw : Type 0
+SteadyLaw = (c : Calls) → AreSteady c → (p : Place) (body : Stmts) → IsSteady (exec c p body)
+
+-- No number that bounds calls inside each other, or turns, cuts a run that has steps left: calls of any depth of at least the
+-- steps that are left are as if no depth were asked, and a loop is its next turn with the same loop behind it.
+abbrev pub IsTurning : {T : Type 0} → Loop T → Type 0
+IsTurning {T} l = (i : Item) (before : Option T) (s : State) (n : ℕ) → loop l i before s n ≡ one_turn l i before (λ t. loop l (again l.line) (Some t)) s n
+
+pub record UncutLaw : Type 0 where
+  pub of_calls : (ms : List LoadedModule) (depth m u : ℕ) (vs : List PlainValue) (s : State) (n : ℕ) → n ≤ depth → calls ms depth m u vs s n ≡ unit_call (calls ms depth) ms m u vs s n
+  pub of_depths : (ms : List LoadedModule) (depth other m u : ℕ) (vs : List PlainValue) (s : State) (n : ℕ) → n ≤ depth → n ≤ other → calls ms depth m u vs s n ≡ calls ms other m u vs s n
+  pub of_while : (c : Calls) → AreSteady c → (p : Place) (l : ℕ) (test : Expr) (body : Stmts) (orelse : OptSuite) → IsTurning (while_loop l (eval c p test) (exec c p body) (exec_opt c p orelse))
+  pub of_for : (c : Calls) → AreSteady c → (p : Place) (l : ℕ) (target over : Expr) (body : Stmts) (orelse : OptSuite)
+      → IsTurning (for_loop l (eval c p over) (assign_to c p target) (exec c p body) (exec_opt c p orelse))
 
 -- The events of a run are those of its items: what they tell comes behind what was told before, and is the same whatever that
 -- was. A run of at least one step has one item, the activation of the script's body, and tells what this one tells.
@@ -67,11 +116,11 @@ script_code = record { «module» = 0; unit = 0 }
 pub record TellsItsItems (items : Items) : Type 0 where
   pub inside : Items
   pub ended : Bool
-  pub is : items ≡ more no_items (entered (activation script_code inside ended))
+  pub is : items ≡ more no_items (sub (activation script_code inside ended))
   pub told : events_in items ≡ events_of (activation script_code inside ended)
 
 pub record EventsLaw : Type 0 where
   pub behind : (events : List Event) (items : Items) → told events items ≡ events ++ events_in items
   pub behind_of : (events : List Event) (a : Activation) → told_of events a ≡ events ++ events_of a
-  pub of_run : (files : Files) (script name : Text) (words : List Text) (input : List ℕ) (budget : ℕ) →
-      TellsItsItems (meaning files script name words input (suc budget)).items
+  pub of_run : (program : Program) (words : List Text) (input : List ℕ) (budget : ℕ) → TellsItsItems (meaning program words input (suc budget)).items
+  pub of_modules : (ms : List LoadedModule) (words : List Text) (input : List ℕ) (budget : ℕ) → TellsItsItems (run_modules ms words input (suc budget)).items

@@ -1,12 +1,12 @@
 pub mod Activations
 pub mod Events
 pub mod Computations
-pub mod Predefined
 pub mod Modules
 pub mod Faults
 pub mod Places
 pub mod Calls
-pub mod Displays
+pub mod Asked
+pub mod Literals
 pub mod Expressions
 pub mod Assignments
 pub mod Imports

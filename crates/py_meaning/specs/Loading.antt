@@ -1,7 +1,11 @@
--- Which files a program consists of.
+-- Which files a program consists of (Python Language Reference, 5, "The import system").
+--     Files, file_at             trees by the names of their files
+--     imported                   the modules that statements import
+--     with_imports, load_from    the modules that they load
+--     Program, loaded            a program, and its modules
 use Rattle.std.specs.Prelude.{ℕ, zero, suc, nat_eq, Bool, true, false, ◌||◌, if◌then◌else◌, List, [], ◌∷◌, ◌++◌, length, slice_get, Option, Some, None, codes}
 use Rattle.py_value.specs.Keys.{is_same_text}
-use Rattle.py_syntax.specs.Tree.{Text, Alias, Stmts, no_stmts, stmt, suite, OptSuite, no_suite, has_suite, Arms, no_arms, arm, Clauses, no_clauses, clause, Cases, no_cases, case, StmtKind, import, from, if', while, for, try, def, match}
+use Rattle.py_syntax.specs.Tree.{Text, Alias, Stmts, no_stmts, stmt, suite, OptSuite, no_suite, has_suite, Arms, no_arms, arm, Clauses, no_clauses, clause, Cases, no_cases, case, StmtKind, expr, assign, aug_assign, pass, break, continue, return, raise, assert, global, import, from, if', while, for, try, def, match}
 use Rattle.py_meaning.specs.Modules.{LoadedModule, imported_number}
 
 -- the files by their names, each as the tree that it spells
@@ -23,6 +27,16 @@ unfoldable mutual
   imported (stmt first last k end rest) = imported_in k ++ imported rest
 
   pub imported_in : StmtKind → List Text
+  imported_in (expr e) = []
+  imported_in (assign ts e) = []
+  imported_in (aug_assign place op e) = []
+  imported_in pass = []
+  imported_in break = []
+  imported_in continue = []
+  imported_in (return e) = []
+  imported_in (raise e) = []
+  imported_in (assert e w) = []
+  imported_in (global xs) = []
   imported_in (import names) = alias_modules names
   imported_in (from m names) = m ∷ []
   imported_in (if' arms o) = arms_imported arms ++ opt_imported o
@@ -31,7 +45,6 @@ unfoldable mutual
   imported_in (try (suite f g inline b) cs o fin) = imported b ++ (clauses_imported cs ++ (opt_imported o ++ opt_imported fin))
   imported_in (def x ps ds comma (suite f g inline b)) = imported b
   imported_in (match e header cs) = cases_imported cs
-  imported_in _ = []
 
   pub opt_imported : OptSuite → List Text
   opt_imported no_suite = []
@@ -90,9 +103,16 @@ load_from zero files folder k ms = ms
 load_from (suc n) files folder k ms =
     on_module (slice_get ms k) ms (λ m. load_from n files folder (suc k) (with_imports files folder ms (imported m.body)))
 
--- the script under its name, and then the modules that are imported
-abbrev pub script_of : Text → Text → Option Stmts → List LoadedModule
-script_of script x found = put_module x script [] found
+-- the files of a program, which of them is its script, and the name of the script's module
+pub record Program : Type 0 where
+  pub files : Files
+  pub script : Text
+  pub name : Text
 
-abbrev pub loaded : Files → Text → Text → List LoadedModule
-loaded files script x = load_from (suc (length files)) files (folder_of script) 0 (script_of script x (file_at files script))
+-- the script under its name
+abbrev pub script_alone : Program → List LoadedModule
+script_alone p = put_module p.name p.script [] (file_at p.files p.script)
+
+-- the script, and then the modules that are imported
+abbrev pub loaded : Program → List LoadedModule
+loaded p = load_from (suc (length p.files)) p.files (folder_of p.script) 0 (script_alone p)

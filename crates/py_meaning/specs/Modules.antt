@@ -1,8 +1,13 @@
--- The loaded modules, and the functions in their text.
-use Rattle.std.specs.Prelude.{ℕ, zero, suc, nat_eq, if◌then◌else◌, List, [], ◌∷◌, ◌++◌, Option, Some, None, slice_get}
+-- The loaded modules, and the functions in their text (Python Language Reference, 8.7).
+--     LoadedModule                      what is loaded
+--     unit_at                           functions by the lines of their `def`s
+--     body_of, name_of, unit_of         parts of modules by numbers
+--     imported_number                   modules by names
+use Rattle.std.specs.Prelude.{ℕ, zero, suc, nat_eq, if◌then◌else◌, List, [], ◌∷◌, Option, Some, None, slice_get}
 use Rattle.cov_event.specs.declared.event.CodeId.{CodeId}
 use Rattle.py_value.specs.Keys.{is_same_text}
-use Rattle.py_syntax.specs.Tree.{Text, Stmts, no_stmts, stmt, suite, OptSuite, no_suite, has_suite, Arms, no_arms, arm, Clauses, no_clauses, clause, Cases, no_cases, case, StmtKind, if', while, for, try, def, match}
+use Rattle.py_syntax.specs.Functions.{Function, functions}
+use Rattle.py_syntax.specs.Tree.{Text, Stmts, no_stmts}
 
 -- A loaded module. Its number is its place among the loaded ones: the script has 0.
 pub record LoadedModule : Type 0 where
@@ -10,45 +15,7 @@ pub record LoadedModule : Type 0 where
   pub path : Text
   pub body : Stmts
 
--- a function, or the body of a module as one without parameters
-pub record Function : Type 0 where
-  pub line : ℕ
-  pub name : Text
-  pub params : List Text
-  pub body : Stmts
-
--- the `def`s in the order of the text; no `def` stands in a function
-unfoldable mutual
-  pub functions : Stmts → List Function
-  functions no_stmts = []
-  functions (stmt first last k end rest) = functions_in first k ++ functions rest
-
-  pub functions_in : ℕ → StmtKind → List Function
-  functions_in l (if' arms o) = arms_functions arms ++ opt_functions o
-  functions_in l (while t (suite f g inline b) o) = functions b ++ opt_functions o
-  functions_in l (for t e (suite f g inline b) o) = functions b ++ opt_functions o
-  functions_in l (try (suite f g inline b) cs o fin) = functions b ++ (clauses_functions cs ++ (opt_functions o ++ opt_functions fin))
-  functions_in l (def x ps ds comma (suite f g inline b)) = record { line = l; name = x; params = ps; body = b } ∷ []
-  functions_in l (match e header cs) = cases_functions cs
-  functions_in l _ = []
-
-  pub opt_functions : OptSuite → List Function
-  opt_functions no_suite = []
-  opt_functions (has_suite (suite f g inline b)) = functions b
-
-  pub arms_functions : Arms → List Function
-  arms_functions no_arms = []
-  arms_functions (arm t (suite f g inline b) rest) = functions b ++ arms_functions rest
-
-  pub clauses_functions : Clauses → List Function
-  clauses_functions no_clauses = []
-  clauses_functions (clause k x (suite f g inline b) rest) = functions b ++ clauses_functions rest
-
-  pub cases_functions : Cases → List Function
-  cases_functions no_cases = []
-  cases_functions (case p g (suite f l inline b) rest) = functions b ++ cases_functions rest
-
--- the number, from 1, of the function whose `def` begins at a line: a line begins at most one
+-- The number, from 1, of the function whose `def` begins at a line. Of two in one line, which no text spells, it is the first.
 unfoldable pub unit_at : ℕ → List Function → ℕ
 unit_at l [] = 0
 unit_at l (f ∷ fs) = if nat_eq f.line l then 1 else suc (unit_at l fs)

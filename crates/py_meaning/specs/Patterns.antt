@@ -1,4 +1,8 @@
 -- Which values a pattern matches, and what it binds (Python Language Reference, 8.6.4, "Patterns").
+--     Match                        what a match gives
+--     constant_matches             literals
+--     matched                      patterns
+--     bind_all                     the names of a match
 use Rattle.std.specs.Prelude.{ℕ, suc, Bool, true, false, if◌then◌else◌, List, [], ◌∷◌, ◌++◌, length, nat_eq, ℤ, neg_ℤ, Option, Some, None, Ok}
 use Rattle.py_value.specs.declared.operator.CmpOp.TheVariants.{Eq}
 use Rattle.py_value.specs.Answers.{◌>>=◌}
@@ -7,9 +11,10 @@ use Rattle.py_value.specs.Operators.{compare_of, is_none_value, is_bool_value}
 use Rattle.py_value.specs.Plain.{PlainValue, int_value, str_value, tuple_value, list_at, listed, PlainHeap}
 use Rattle.py_syntax.specs.Tree.{Constant, c_int, c_str, c_none, c_bool, Pattern, literal, capture, wild, member, sequence, p_or, p_as, p_paren, Patterns, no_patterns, patterns}
 use Rattle.py_builtins.specs.World.{Names}
+use Rattle.py_builtins.specs.Attributes.{attribute}
 use Rattle.py_meaning.specs.Computations.{Setting, Ans}
-use Rattle.py_meaning.specs.Displays.{run_together}
-use Rattle.py_meaning.specs.Places.{Place, fetched, attribute, bound}
+use Rattle.py_meaning.specs.Literals.{run_together}
+use Rattle.py_meaning.specs.Places.{Scope, fetched, bound}
 
 -- What a match gives: the names to be bound, in order, or none where there is no match.
 abbrev pub Match : Type 0
@@ -50,9 +55,9 @@ sequence_items (list_at a) h = Some (list_items h a)
 sequence_items (tuple_value vs) h = Some (listed vs)
 sequence_items v h = None
 
-abbrev pub count : Patterns → ℕ
-count no_patterns = 0
-count (patterns p ps) = suc (count ps)
+abbrev pub pattern_count : Patterns → ℕ
+pattern_count no_patterns = 0
+pattern_count (patterns p ps) = suc (pattern_count ps)
 
 -- of the length of the pattern
 abbrev pub of_length : ℕ → Option (List PlainValue) → Option (List PlainValue)
@@ -64,29 +69,29 @@ on_items None f = Ok None
 on_items (Some vs) f = f vs
 
 unfoldable mutual
-  pub matched : Place → Setting → Pattern → PlainValue → Ans Match
+  pub matched : Scope → Setting → Pattern → PlainValue → Ans Match
   matched p w (literal minus c) v = constant_matches minus c v w.world.heap >>= λ b. Ok (match_if b)
   matched p w (capture x) v = Ok (Some ((x, v) ∷ []))
   matched p w wild v = Ok (Some [])
   matched p w (member m x) v =
-      fetched p m w >>= λ of. attribute of x w >>= λ u. compare_of Eq v u w.world.heap >>= λ b. Ok (match_if b)
-  matched p w (sequence brackets qs comma) v = on_items (of_length (count qs) (sequence_items v w.world.heap)) (λ vs. matched_each p w qs vs)
+      fetched p m w >>= λ of. attribute of x w.world >>= λ u. compare_of Eq v u w.world.heap >>= λ b. Ok (match_if b)
+  matched p w (sequence brackets qs comma) v = on_items (of_length (pattern_count qs) (sequence_items v w.world.heap)) (λ vs. matched_each p w qs vs)
   matched p w (p_or qs) v = matched_one p w qs v
   matched p w (p_as q x) v = matched p w q v >>= λ found. and_then found (Ok (Some ((x, v) ∷ [])))
   matched p w (p_paren q) v = matched p w q v
 
   -- item by item
-  pub matched_each : Place → Setting → Patterns → List PlainValue → Ans Match
+  pub matched_each : Scope → Setting → Patterns → List PlainValue → Ans Match
   matched_each p w no_patterns vs = Ok (Some [])
   matched_each p w (patterns q qs) [] = Ok None
   matched_each p w (patterns q qs) (v ∷ vs) = matched p w q v >>= λ found. and_then found (matched_each p w qs vs)
 
   -- the first alternative that matches
-  pub matched_one : Place → Setting → Patterns → PlainValue → Ans Match
+  pub matched_one : Scope → Setting → Patterns → PlainValue → Ans Match
   matched_one p w no_patterns v = Ok None
   matched_one p w (patterns q qs) v = matched p w q v >>= λ found. or_else found (matched_one p w qs v)
 
 -- the names bound, in order
-abbrev pub bind_all : Place → Names → Setting → Setting
+abbrev pub bind_all : Scope → Names → Setting → Setting
 bind_all p [] w = w
 bind_all p (n ∷ ns) w = bind_all p ns (bound p n.0 n.1 w)

@@ -9,3 +9,6 @@ pub mod Statements
 pub mod Spelling
 pub mod Marks
 pub mod Names
+pub mod Patterns
+pub mod Constants
+pub mod Functions

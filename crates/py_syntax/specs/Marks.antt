@@ -1,56 +1,20 @@
 -- The lines of a module that its execution marks.
---     unless_docstring           what leads a body
+--     in_order                   lines in their order
 --     stmts_marks, kind_marks    the marks of statements; suite_marks and the like for what stands in them
 --     body_marks                 of the body of a module or a function
---     statement_lines            the lines of a module, as a set
-use Rattle.std.specs.Prelude.{ℕ, List, [], ◌∷◌, ◌++◌}
-use Rattle.py_syntax.specs.Tree.{Expr, name, int, str, fstr, none, bool, tuple, list, dict, paren, not', and, or, unary, binary, compare, cond, call, index, slice, attr}
+--     statement_lines            the lines of a module, in order
+use Rattle.std.specs.Prelude.{ℕ, nat_eq, nat_lt, if◌then◌else◌, List, [], ◌∷◌, ◌++◌}
+use Rattle.py_syntax.specs.Functions.{is_docstring}
 use Rattle.py_syntax.specs.Tree.{Stmts, no_stmts, stmt, Suite, suite, OptSuite, no_suite, has_suite, Arms, no_arms, arm, Clauses, no_clauses, clause, Cases, no_cases, case, StmtKind, expr, assign, aug_assign, pass, break, continue, return, raise, assert, global, import, from, if', while, for, try, def, match}
 
--- these marks, but none of a string
-abbrev pub unless_string : Expr → List ℕ → List ℕ
-unless_string (name x) marks = marks
-unless_string (int n) marks = marks
-unless_string (str ps) marks = []
-unless_string (fstr fs) marks = marks
-unless_string none marks = marks
-unless_string (bool b) marks = marks
-unless_string (tuple es c) marks = marks
-unless_string (list es c) marks = marks
-unless_string (dict ps c) marks = marks
-unless_string (paren e) marks = marks
-unless_string (not' e) marks = marks
-unless_string (and a b) marks = marks
-unless_string (or a b) marks = marks
-unless_string (unary s e) marks = marks
-unless_string (binary op a b) marks = marks
-unless_string (compare a ls) marks = marks
-unless_string (cond b t o) marks = marks
-unless_string (call f es c) marks = marks
-unless_string (index f e) marks = marks
-unless_string (slice f low high) marks = marks
-unless_string (attr f x) marks = marks
+-- lines put in their order, each once
+abbrev pub with_line : ℕ → List ℕ → List ℕ
+with_line l [] = l ∷ []
+with_line l (k ∷ ks) = if nat_lt l k then l ∷ k ∷ ks else (if nat_eq l k then k ∷ ks else k ∷ with_line l ks)
 
--- these marks, but none of a docstring, which a statement that leads a body may be
-abbrev pub unless_docstring : StmtKind → List ℕ → List ℕ
-unless_docstring (expr e) marks = unless_string e marks
-unless_docstring (assign ts e) marks = marks
-unless_docstring (aug_assign t op e) marks = marks
-unless_docstring pass marks = marks
-unless_docstring break marks = marks
-unless_docstring continue marks = marks
-unless_docstring (return e) marks = marks
-unless_docstring (raise e) marks = marks
-unless_docstring (assert e w) marks = marks
-unless_docstring (global xs) marks = marks
-unless_docstring (import names) marks = marks
-unless_docstring (from m names) marks = marks
-unless_docstring (if' arms o) marks = marks
-unless_docstring (while t b o) marks = marks
-unless_docstring (for t e b o) marks = marks
-unless_docstring (try b cs o f) marks = marks
-unless_docstring (def x ps ds c b) marks = marks
-unless_docstring (match e last cs) marks = marks
+abbrev pub in_order : List ℕ → List ℕ
+in_order [] = []
+in_order (l ∷ ls) = with_line l (in_order ls)
 
 -- The first lines of all that marks, in the order of the text: simple statements but `global`, each `def`, each `try`, the tests
 -- of `if`, `elif` and loops, `for` headers, clauses, subjects and cases. A string that leads a module or a function marks nothing.
@@ -105,8 +69,8 @@ abbrev mutual
   -- of the body of a module or a function
   pub body_marks : Stmts → List ℕ
   body_marks no_stmts = []
-  body_marks (stmt first last k e ss) = unless_docstring k (kind_marks first k) ++ stmts_marks ss
+  body_marks (stmt first last k e ss) = if is_docstring k then stmts_marks ss else kind_marks first k ++ stmts_marks ss
 
--- The statement lines of a module, as a set.
+-- the statement lines of a module, in order, each once
 abbrev pub statement_lines : Stmts → List ℕ
-statement_lines = body_marks
+statement_lines m = in_order (body_marks m)

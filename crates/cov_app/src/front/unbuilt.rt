@@ -51,6 +51,16 @@ fn statement(line: u32, kind: &StmtKind) -> Option<u32>
     match kind {
         StmtKind::Expr(e) => unless(is_print(e), line),
         StmtKind::Assign { targets, value } => unless(is_one_name(targets) && is_sum(value), line),
+        StmtKind::AugAssign { .. }
+        | StmtKind::Pass
+        | StmtKind::Break
+        | StmtKind::Continue
+        | StmtKind::Return(_)
+        | StmtKind::Raise(_)
+        | StmtKind::Assert(_, _)
+        | StmtKind::Global(_)
+        | StmtKind::Import(_)
+        | StmtKind::From(_, _) => Some(line),
         StmtKind::If {
             arms: tests,
             orelse,
@@ -74,7 +84,6 @@ fn statement(line: u32, kind: &StmtKind) -> Option<u32>
         }
         StmtKind::Def { body, .. } => earlier(Some(line), suite(false, body)),
         StmtKind::Match { cases: list, .. } => earlier(Some(line), cases(list)),
-        _ => Some(line),
     }
 }
 

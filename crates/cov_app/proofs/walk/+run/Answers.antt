@@ -5,7 +5,6 @@ use Rattle.cov_app.specs.declared.walk.Left.{Left}
 use Rattle.cov_app.specs.declared.walk.Raised.{Raised}
 use Rattle.cov_app.specs.declared.walk.RunFault.{RunFault}
 use Rattle.cov_app.specs.Walk.{script, leaves}
-use Rattle.cov_app.proofs.Nodes.{simple_kind}
 use Rattle.cov_app.proofs.Reaching.{reaches-trans, part-after}
 use Rattle.cov_app.proofs.Simple.{broke}
 use Rattle.cov_app.proofs.Loops.{item-at, suite-begins, suite-goes_on, suite-left, suite-broke, suite-ends, statement-walked, arms-begin, arm-walked, arm-cut, arm-tested, arm-raised, arms-end, arms-broke, body_of}
@@ -88,14 +87,6 @@ pub run_kind-returns-in-None-2-clause-does : goal.run_kind-returns-in-None-2-cla
 run_kind-returns-in-None-2-clause-does g t c = λ calls ms walked.
     does-while calls ms c.args.line c.args.kind.now c.in-While.test c.in-While.body c.in-While.orelse c.args.walk.now c.run_else-in-None-2.new.walk _ _ _ c.run_else-in-None-2.result c.in-While.is walked (λ loop.
     or-else _ (exec_opt calls (script ms) (plain_opt_suite c.in-While.orelse)) c.args.walk.now c.run_while.new.walk c.run_else-in-None-2.new.walk _ _ _ _ _ c.run_else-in-None-2.result c.in-None-2.is (c.in_ok-left-in-While.ensures.does calls ms c.args.line (plain_opt_suite c.in-While.orelse) loop) (c.run_else-in-None-2.ensures.does calls ms loop.2))
-
-pub run_kind-returns-in_default : goal.run_kind-returns-in_default
-run_kind-returns-in_default g t c = record {
-  does = λ calls ms walked. c.run_simple.ensures.does calls ms (simple_kind c.args.kind.now c.args.line c.in_default.not-If c.in_default.not-While walked);
-  fewer = c.run_simple.ensures.fewer;
-  count = c.run_simple.ensures.count;
-  fault = c.run_simple.ensures.fault;
-}
 
 -- ---- the tests of an `if`
 

@@ -1,7 +1,5 @@
-use Rattle.std.proofs.Common.{arith}
 use Rattle.py_syntax.specs.View.{plain_kind}
 use Rattle.cov_app.proofs.Growth.{simple-grows}
-use Rattle.cov_app.proofs.Nodes.{other_kind}
 use Rattle.cov_app.proofs.Simple.{no-memory, cut-simple, marked-expr, marked-assign}
 use Rattle.cov_app.proofs.walk.run_simple.Goals as goal
 
@@ -23,11 +21,3 @@ pub returns-in_ok-assign-in-Assign-clause-does : goal.returns-in_ok-assign-in-As
 returns-in_ok-assign-in-Assign-clause-does g c = λ calls ms is.
     marked-assign calls ms c.args.line c.args.kind.now c.in-Assign.targets c.in-Assign.value _ c.args.walk.now c.mark.new.self c.assign.new.walk _ _ c.in_ok-assign-in-Assign.field-0 c.in-Assign.is c.deref.ensures.value c.in_ok-mark.ensures.notes c.in_ok-mark.ensures.steps is
     (c.in_ok-assign-in-Assign.ensures.moves calls ms)
-
-pub returns-in_default : goal.returns-in_default
-returns-in_default g c = record {
-  does = λ calls ms is. absurd (other_kind c.args.kind.now c.in_default.not-Expr c.in_default.not-Assign is);
-  fewer = let e = c.in_ok-mark.ensures.steps in omega arith;
-  count = omega arith;
-  fault = λ w. absurd cc;
-}

@@ -1,0 +1,63 @@
+-- Values that expressions and statements make (Python Language Reference, 6.2.5 to 6.2.7, 6.3.3, 6.10, 2.4.3).
+--     extended                a text with another behind it
+--     new_tuple, new_dict     displays
+--     stored                  `of[at] = v`
+--     compared                comparisons, those with `is` too
+--     sliced                  slices
+use Rattle.std.specs.Prelude.{Bool, true, not, ◌&&◌, if◌then◌else◌, List, [], ◌∷◌, length, ℕ, ℤ, Option, Some, None, Result, Ok, Err}
+use Rattle.py_value.specs.declared.cause.Cause.{Cause}
+use Rattle.py_value.specs.declared.cause.Cause.TheVariants.{UnsupportedOperand, NotSubscriptable, TooDeep}
+use Rattle.py_value.specs.Answers.{◌>>=◌, in_words}
+use Rattle.py_value.specs.Causes.{raised_by}
+use Rattle.py_builtins.specs.Comparisons.{Comparison, relates, is_it, is_not_it}
+use Rattle.py_value.specs.Heaps.{with_object}
+use Rattle.py_value.specs.Numbers.{number_of}
+use Rattle.py_value.specs.Operators.{compare_of, slice_of, store_of, is_none_value, is_bool_value}
+use Rattle.py_value.specs.Plain.{PlainValue, none_value, bool_value, dict_at, tuple_of, dict_object, may_nest, PlainHeap, PlainRaised}
+use Rattle.py_value.specs.Sequences.{joined, within_limit}
+
+-- a text with another behind it
+abbrev pub extended : List ℕ → List ℕ → Result (List ℕ) PlainRaised
+extended x y = in_words raised_by (joined x y)
+
+abbrev pub may_all_nest : List PlainValue → Bool
+may_all_nest [] = true
+may_all_nest (v ∷ vs) = may_nest v && may_all_nest vs
+
+-- the tuple of these values
+abbrev pub new_tuple : List PlainValue → Result PlainValue PlainRaised
+new_tuple vs = if may_all_nest vs then in_words raised_by (within_limit vs >>= λ ws. Ok (tuple_of ws)) else Err (raised_by TooDeep)
+
+-- a new dict without keys
+abbrev pub new_dict : PlainHeap → Result (PlainValue × PlainHeap) PlainRaised
+new_dict h = Ok (dict_at (length h), with_object h (dict_object []))
+
+abbrev pub with_unit : PlainHeap → Unit {0} × PlainHeap
+with_unit h = (tt, h)
+
+-- `of[at] = v`
+abbrev pub stored : PlainValue → PlainValue → PlainValue → PlainHeap → Result (Unit {0} × PlainHeap) PlainRaised
+stored of at v h = store_of of at v h >>= λ k. Ok (with_unit k)
+
+-- `v is w`: only None, True and False stand on the right
+abbrev pub is_answer : PlainValue → PlainValue → Result Bool PlainRaised
+is_answer v none_value = Ok (is_none_value v)
+is_answer v (bool_value b) = Ok (is_bool_value b v)
+is_answer v w = Err (raised_by UnsupportedOperand)
+
+abbrev pub compared : Comparison → PlainValue → PlainValue → PlainHeap → Result Bool PlainRaised
+compared (relates op) v w h = compare_of op v w h
+compared is_it v w h = is_answer v w
+compared is_not_it v w h = is_answer v w >>= λ b. Ok (not b)
+
+-- a bound of a slice: a number, or left out
+abbrev pub number_or : Cause → Option ℤ → Result (Option ℤ) PlainRaised
+number_or cause None = Err (raised_by cause)
+number_or cause (Some n) = Ok (Some n)
+
+abbrev pub slice_bound : Option PlainValue → Result (Option ℤ) PlainRaised
+slice_bound None = Ok None
+slice_bound (Some v) = number_or NotSubscriptable (number_of v)
+
+abbrev pub sliced : PlainValue → Option PlainValue → Option PlainValue → PlainHeap → Result (PlainValue × PlainHeap) PlainRaised
+sliced v from to h = slice_bound from >>= λ a. slice_bound to >>= λ b. slice_of v a b h
