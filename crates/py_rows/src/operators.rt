@@ -240,11 +240,11 @@ fn dicts_keep_their_order(rt: HostRuntime) {
     let addr = heap.make_dict().expect(&rt, "memory");
     assert!(rt; heap.len(addr) == 0 && !heap.is_list(addr));
     let copy = heap.copy().expect(&rt, "memory");
-    if let Value::Dict(addr) = dict {
-        assert!(rt; copy.len(addr) == 2);
-        assert!(rt; copy.place_of(addr, &key) == Some(0));
-        if copy.len(addr) == 2 {
-            assert!(rt; is_made(copy.item(addr, 0), Int(9), &copy));
+    if let Value::Dict(addr) = &dict {
+        assert!(rt; copy.len(*addr) == 2);
+        assert!(rt; copy.place_of(*addr, &key) == Some(0));
+        if copy.len(*addr) == 2 {
+            assert!(rt; is_made(copy.item(*addr, 0), Int(9), &copy));
         }
     }
 }
