@@ -88,6 +88,9 @@ too_long s (broken t) h = ap (λ (r : Result (List ℕ) Cause). let q : Result (
 pub too_many : (a : List ℕ) (c : ℕ) → length a ≡ 1048576 → Settles (Raises TooManyItems) (whole a ▸ whole (c ∷ []))
 too_many a c e = λ rest. too_long (a ++ c ∷ []) rest (omega (arith, length-append a (c ∷ []), e))
 
+pub too_much : (a t : List ℕ) → 1048576 < length (a ++ t) → Settles (Raises TooManyItems) (whole a ▸ whole t)
+too_much a t h = λ rest. too_long (a ++ t) rest h
+
 -- the answer, once all is written or settled
 pub raised_answer : (r : Result (Unit {0}) Stop) (b : List ℕ) (w : Writing) (stop : Stop) (cause : Cause) (e : PlainRaised) → r ≡ Err stop → stop ≡ Raises cause → e ≡ raised_by cause → IsWritten r [] b w
     → Err e ≡ in_words raised_by (answer_of w)

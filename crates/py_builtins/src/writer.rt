@@ -87,7 +87,13 @@ impl Writer {
     pub(crate) fn push_text(&mut self, text: &Text) -> Result<(), Stop>
         ensures { IsWritten result self.old.text self.new.text (whole text.now) }
     {
-        self.push_str(text.as_str())
+        let count = self.count.saturating_add(text.len());
+        if count > MOST_CHARACTERS {
+            return Err(Stop::Raises(Cause::TooManyItems));
+        }
+        self.text.append(text)?;
+        self.count = count;
+        Ok(())
     }
 
     pub(crate) fn push_word(&mut self, word: &str) -> Result<(), Stop>

@@ -222,7 +222,8 @@ fn long(alloc: Global, count: usize, behind: &[u8]) -> Result<Vec<u8>, NoMemory>
 fn line_length(alloc: Global, input: &mut MemSource) -> Result<usize, RunFault> {
     let mut heap = Heap::new(alloc);
     let mut out = sink(alloc, Vec::new(alloc));
-    match &call_builtin(alloc, Builtin::Input, &[], &mut heap, input, &mut out)? {
+    let answer = call_builtin(alloc, Builtin::Input, &[], &mut heap, input, &mut out)?;
+    match &answer {
         Ok(Value::Str(text)) => Ok(text.len()),
         Ok(_) => Ok(1),
         Err(raised) => Ok(if raised.kind.is_same(ExcKind::MemoryError) {

@@ -3,6 +3,7 @@ pub mod Changes
 pub mod TextLaws
 pub mod Climb
 pub mod DistinctKeys
+pub mod Hashing
 pub mod KeyLaws
 pub mod Levels
 pub mod Lists

@@ -2,6 +2,7 @@ pub mod Answers
 pub mod Causes
 pub mod Comparison
 pub mod ExcKind
+pub mod Hashes
 pub mod HeapView
 pub mod Heaps
 pub mod Keys

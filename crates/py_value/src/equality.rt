@@ -5,12 +5,13 @@ ghost use Rattle.py_value.specs.View.{plain, plains, place_of};
 ghost use Rattle.std.specs.Option.{option_map};
 ghost use Rattle.py_value.specs.HeapView.{plain_heap};
 ghost use Rattle.py_value.specs.Pairs.{plain_pair};
+ghost use Rattle.py_value.specs.Heaps.{dict_pairs};
 ghost use Rattle.py_value.specs.Comparison.{equal_within, equal_step, are_equal, are_equal_dicts, are_equal_pairs, are_equal_arguments, is_same_function, is_same_place, is_same_module, is_same_builtin};
 
 use crate::builtin::Builtin;
 use crate::cause::Cause;
 use crate::heap::Heap;
-use crate::pairs::{Pair, value_among};
+use crate::pairs::Pair;
 use crate::shared::Argument;
 use crate::value::{Addr, FuncId, ModId, Value};
 
@@ -30,10 +31,7 @@ fn equal_inside(levels: u32, left: &Value, right: &Value, heap: &Heap) -> Result
     ensures { result ≡ equal_step (equal_within levels (plain_heap heap.now)) (plain_heap heap.now) (plain left.now) (plain right.now) }
 {
     match left {
-        Value::None => match right {
-            Value::None => Ok(true),
-            _ => Ok(false),
-        },
+        Value::None => Ok(matches!(right, Value::None)),
         Value::Str(s) => match right {
             Value::Str(t) => Ok(s.is_same(t)),
             _ => Ok(false),
@@ -47,7 +45,7 @@ fn equal_inside(levels: u32, left: &Value, right: &Value, heap: &Heap) -> Result
             _ => Ok(false),
         },
         Value::Dict(a) => match right {
-            Value::Dict(b) => equal_dicts(levels, heap.pairs(*a), heap.pairs(*b), heap),
+            Value::Dict(b) => equal_dicts(levels, heap.pairs(*a), *b, heap),
             _ => Ok(false),
         },
         Value::Func(f, a) => match right {
@@ -104,10 +102,10 @@ fn equal_items(levels: u32, left: &[Value], right: &[Value], heap: &Heap) -> Res
 }
 
 #[cycle(equal)]
-fn equal_dicts(levels: u32, left: &[Pair], right: &[Pair], heap: &Heap) -> Result<bool, Cause>
-    ensures { result ≡ are_equal_dicts (equal_within levels (plain_heap heap.now)) (map plain_pair left.now) (map plain_pair right.now) }
+fn equal_dicts(levels: u32, left: &[Pair], right: Addr, heap: &Heap) -> Result<bool, Cause>
+    ensures { result ≡ are_equal_dicts (equal_within levels (plain_heap heap.now)) (map plain_pair left.now) (dict_pairs (plain_heap heap.now) right.place) }
 {
-    if left.len() == right.len() {
+    if left.len() == heap.pairs(right).len() {
         equal_pairs(levels, left, right, heap)
     } else {
         Ok(false)
@@ -115,11 +113,11 @@ fn equal_dicts(levels: u32, left: &[Pair], right: &[Pair], heap: &Heap) -> Resul
 }
 
 #[cycle(equal)]
-fn equal_pairs(levels: u32, left: &[Pair], right: &[Pair], heap: &Heap) -> Result<bool, Cause>
-    ensures { result ≡ are_equal_pairs (equal_within levels (plain_heap heap.now)) (map plain_pair left.now) (map plain_pair right.now) }
+fn equal_pairs(levels: u32, left: &[Pair], right: Addr, heap: &Heap) -> Result<bool, Cause>
+    ensures { result ≡ are_equal_pairs (equal_within levels (plain_heap heap.now)) (map plain_pair left.now) (dict_pairs (plain_heap heap.now) right.place) }
 {
     for i in 0..left.len() {
-        match value_among(&left[i].key, right) {
+        match heap.value_of(right, &left[i].key) {
             None => return Ok(false),
             Some(other) => match equal(levels, &left[i].value, other, heap) {
                 Ok(true) => {}

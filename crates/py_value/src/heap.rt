@@ -9,7 +9,7 @@ ghost use Rattle.py_value.specs.Heaps.{object_at, list_items, dict_pairs, dict_k
 ghost use Rattle.py_value.specs.Keys.{place_of_key, value_at, with_value, is_sound_heap};
 
 use crate::NoMemory;
-use crate::pairs::{Pair, Pairs, value_among};
+use crate::pairs::{Pair, Pairs};
 use crate::value::{Addr, Value, copy_all};
 use std::alloc::{AllocError, Global};
 
@@ -236,7 +236,10 @@ impl Heap {
         ensures { MatchOption result (value_at (plain key.now) (dict_pairs (plain_heap self.now) dict.place) ≡ None)
             (λ v. value_at (plain key.now) (dict_pairs (plain_heap self.now) dict.place) ≡ Some (plain v.now)) }
     {
-        value_among(key, self.pairs(dict))
+        match self.objects.get(dict.place as usize) {
+            Some(Object::Dict(pairs)) => pairs.value_of(key),
+            _ => None,
+        }
     }
 
     /// A list's item, or the value of a dict's pair.

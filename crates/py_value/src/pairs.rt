@@ -4,9 +4,12 @@ ghost use Rattle.std.specs.Prelude.{◌≡◌, map, IsTrue, ◌<◌, length, IfO
 ghost use Rattle.py_value.specs.View.{plain};
 ghost use Rattle.py_value.specs.Pairs.{plain_pair};
 ghost use Rattle.py_value.specs.Keys.{has_distinct_keys, place_of_key, value_at, with_value};
+ghost use Rattle.py_value.specs.Hashes.{IsIndex, has_key, first_with};
 
 use crate::NoMemory;
+use crate::hash::hash_of;
 use crate::key::is_same_key;
+use crate::key_index::Index;
 use crate::value::Value;
 use std::alloc::Global;
 
@@ -17,10 +20,16 @@ pub struct Pair {
     pub value: Value,
 }
 
+/// The number of pairs from which on a new key asks for an index.
+const FEW: usize = 8;
+
+/// Pairs, and the places of their keys by their hashes. Without buckets each pair is looked at.
 #[derive(Drop)]
 pub struct Pairs {
     pairs: Vec<Pair>,
+    index: Index,
     ghost distinct_keys: { IsTrue (has_distinct_keys (map plain_pair pairs.items)) },
+    ghost indexed: { IsIndex index (map plain_pair pairs.items) },
 }
 
 impl Pairs {
@@ -31,6 +40,7 @@ impl Pairs {
     {
         Pairs {
             pairs: Vec::new(alloc),
+            index: Index::empty(alloc),
         }
     }
 
@@ -39,7 +49,8 @@ impl Pairs {
         ensures { IfOk result (λ copy. plain_pairs copy ≡ plain_pairs self.now) }
     {
         let pairs = copy_pairs(alloc, &self.pairs)?;
-        Ok(Pairs { pairs })
+        let index = index_of(alloc, &pairs)?;
+        Ok(Pairs { pairs, index })
     }
 
     pub fn len(&self) -> usize
@@ -58,7 +69,21 @@ impl Pairs {
     pub fn place_of(&self, key: &Value) -> Option<usize>
         ensures { result ≡ place_of_key (plain key.now) (plain_pairs self.now) }
     {
-        place_among(key, self.as_slice())
+        if self.index.len() == 0 {
+            place_among(key, self.as_slice())
+        } else {
+            place_in(key, self.as_slice(), self.index.places(hash_of(key)))
+        }
+    }
+
+    /// The value of a key.
+    pub fn value_of(&self, key: &Value) -> Option<&Value>
+        ensures { MatchOption result (value_at (plain key.now) (plain_pairs self.now) ≡ None) (λ v. value_at (plain key.now) (plain_pairs self.now) ≡ Some (plain v.now)) }
+    {
+        match self.place_of(key) {
+            None => None,
+            Some(i) => Some(&self.pairs[i].value),
+        }
     }
 
     /// Sets the value of a key: a present key keeps its place, and a new one goes last.
@@ -71,11 +96,33 @@ impl Pairs {
                 self.pairs[i].value = value;
                 Ok(())
             }
-            None => {
-                self.pairs.push(Pair { key, value })?;
-                Ok(())
-            }
+            None => self.add(key, value),
         }
+    }
+
+    /// Adds a pair with a new key at the end.
+    fn add(&mut self, key: Value, value: Value) -> Result<(), NoMemory>
+        requires { place_of_key (plain key) (plain_pairs self.old) ≡ None }
+        ensures ok { OnOk result (plain_pairs self.new ≡ with_value (plain key) (plain value) (plain_pairs self.old)) }
+        ensures err { OnErr result (plain_pairs self.new ≡ plain_pairs self.old) }
+    {
+        self.make_room()?;
+        let hash = hash_of(&key);
+        let place = self.pairs.len();
+        self.index.add(hash, place)?;
+        self.pairs.push(Pair { key, value })?;
+        Ok(())
+    }
+
+    /// Makes an index with more buckets, where one more pair would be too many for it.
+    fn make_room(&mut self) -> Result<(), NoMemory>
+        ensures { self.new.pairs ≡ self.old.pairs }
+    {
+        if self.index.len() <= self.pairs.len() {
+            let index = index_of(*self.pairs.allocator(), &self.pairs)?;
+            self.index = index;
+        }
+        Ok(())
     }
 
     /// Removes the pair at a place, and answers its value.
@@ -84,6 +131,7 @@ impl Pairs {
         ensures value { slice_get (map (λ p. p.1) (plain_pairs self.old)) at ≡ Some (plain result) }
         ensures removed { plain_pairs self.new ≡ remove (plain_pairs self.old) at }
     {
+        self.index = Index::empty(*self.pairs.allocator());
         let pair = self.pairs.remove(at);
         pair.value
     }
@@ -101,6 +149,44 @@ pub fn place_among(key: &Value, pairs: &[Pair]) -> Option<usize>
     None
 }
 
+/// The first of these places whose pair has the key.
+fn place_in(key: &Value, pairs: &[Pair], places: &[usize]) -> Option<usize>
+    ensures { result ≡ first_with (plain key.now) (map plain_pair pairs.now) places.now }
+{
+    for place in places {
+        if has_key(key, pairs, *place) {
+            return Some(*place);
+        }
+    }
+    None
+}
+
+fn has_key(key: &Value, pairs: &[Pair], place: usize) -> bool
+    ensures { result ≡ has_key (plain key.now) (slice_get (map plain_pair pairs.now) place) }
+{
+    if place < pairs.len() {
+        is_same_key(key, &pairs[place].key)
+    } else {
+        false
+    }
+}
+
+/// An index over pairs, where they are not few.
+fn index_of(alloc: Global, pairs: &[Pair]) -> Result<Index, NoMemory>
+    ensures { IfOk result (λ index. IsIndex index (map plain_pair pairs.now)) }
+{
+    if pairs.len() < FEW {
+        return Ok(Index::empty(alloc));
+    }
+    // an odd number of buckets, over which also multiples of a power of two spread
+    let count = pairs.len().saturating_mul(2).saturating_add(1);
+    let mut index = Index::with_buckets(alloc, count)?;
+    for i in 0..pairs.len() {
+        index.add(hash_of(&pairs[i].key), i)?;
+    }
+    Ok(index)
+}
+
 fn copy_pairs(alloc: Global, pairs: &[Pair]) -> Result<Vec<Pair>, NoMemory>
     ensures { IfOk result (λ copies. map plain_pair copies.items ≡ map plain_pair pairs.now) }
 {
@@ -111,16 +197,4 @@ fn copy_pairs(alloc: Global, pairs: &[Pair]) -> Result<Vec<Pair>, NoMemory>
         copies.push(Pair { key, value })?;
     }
     Ok(copies)
-}
-
-/// The value of a key.
-pub fn value_among<'a>(key: &Value, pairs: &'a [Pair]) -> Option<&'a Value>
-    ensures { MatchOption result (value_at (plain key.now) (map plain_pair pairs.now) ≡ None) (λ v. value_at (plain key.now) (map plain_pair pairs.now) ≡ Some (plain v.now)) }
-{
-    for pair in pairs {
-        if is_same_key(key, &pair.key) {
-            return Some(&pair.value);
-        }
-    }
-    None
 }

@@ -59,10 +59,18 @@ struct Held {
 }
 
 /// The argument of an exception, or that it has none. A copy shares it.
-#[derive(Drop)]
 #[cycle(value)]
 pub struct Argument {
     held: Option<Rc<Held>>,
+}
+
+// As of `Value`: letting an argument go is one call.
+impl Drop for Argument {
+    #[cycle(value)]
+    fn drop(self) {
+        let Argument { held } = self;
+        drop(held)
+    }
 }
 
 impl Model for Argument {

@@ -2,6 +2,7 @@ use Rattle.std.proofs.Common.{◌≡◌, ◌+◌, ◌*◌, drop, map}
 use Rattle.py_value.specs.View.{plains}
 use Rattle.py_value.specs.HeapView.{plain_heap}
 use Rattle.py_value.specs.Pairs.{plain_pair}
+use Rattle.py_value.specs.Heaps.{dict_pairs}
 use Rattle.py_value.specs.Comparison.{equal_within, are_equal_items, are_equal_pairs}
 use Rattle.py_value.proofs.equality.+equal.Given as goal
 
@@ -30,5 +31,5 @@ invariant-equal_items-loop-i l =
 
 abbrev pub invariant-equal_pairs-loop-i : goal.invariant-equal_pairs-loop-i
 invariant-equal_pairs-loop-i l =
-    are_equal_pairs (equal_within l.levels (plain_heap l.heap)) (map plain_pair (drop l.i l.left)) (map plain_pair l.right)
-    ≡ are_equal_pairs (equal_within l.levels (plain_heap l.heap)) (map plain_pair l.left) (map plain_pair l.right)
+    are_equal_pairs (equal_within l.levels (plain_heap l.heap)) (map plain_pair (drop l.i l.left)) (dict_pairs (plain_heap l.heap) l.right.place)
+    ≡ are_equal_pairs (equal_within l.levels (plain_heap l.heap)) (map plain_pair l.left) (dict_pairs (plain_heap l.heap) l.right.place)

@@ -1,0 +1,53 @@
+-- Hashes of keys, and an index that names the places of a dict's pairs by the hashes of their keys.
+use Rattle.std.specs.Prelude.{ℕ, ◌+◌, ◌*◌, ◌%◌, ◌^◌, ◌<◌, ◌≡◌, Bool, true, false, ◌||◌, nat_eq, IsTrue, List, [], ◌∷◌, ◌++◌, length, get_or, set, Option, Some, None, if◌then◌else◌, slice_get, encode_utf8_all, unsigned_abs}
+use Rattle.py_value.specs.Plain.{PlainValue, none_value, int_value, str_value, tuple_value, listed}
+use Rattle.py_value.specs.Keys.{is_same_key}
+
+-- a hash with one more number in it
+abbrev pub mixed : ℕ → ℕ → ℕ
+mixed hash n = (hash * 31 % 2 ^ 64 + n) % 2 ^ 64
+
+abbrev pub mixed_all : ℕ → List ℕ → ℕ
+mixed_all hash [] = hash
+mixed_all hash (n ∷ ns) = mixed_all (mixed hash n) ns
+
+-- the hash of an item of a key: of a tuple in it, only the length
+abbrev pub hash_of_item : PlainValue → ℕ
+hash_of_item (int_value n) = unsigned_abs n
+hash_of_item (str_value s) = mixed_all 7 (encode_utf8_all s)
+hash_of_item (tuple_value vs) = length (listed vs)
+hash_of_item _ = 0
+
+abbrev pub hash_of_items : ℕ → List PlainValue → ℕ
+hash_of_items hash [] = hash
+hash_of_items hash (v ∷ vs) = hash_of_items (mixed hash (hash_of_item v)) vs
+
+-- the hash of a key
+abbrev pub hash_of : PlainValue → ℕ
+hash_of (tuple_value vs) = hash_of_items 1 (listed vs)
+hash_of v = hash_of_item v
+
+-- whether a number is among others
+abbrev pub is_among : ℕ → List ℕ → Bool
+is_among i [] = false
+is_among i (k ∷ ks) = nat_eq i k || is_among i ks
+
+-- the places that an index names for a hash
+abbrev pub named : List (List ℕ) → ℕ → List ℕ
+named index hash = get_or index (hash % length index) []
+
+abbrev pub with_place : List (List ℕ) → ℕ → ℕ → List (List ℕ)
+with_place index hash place = set index (hash % length index) (named index hash ++ place ∷ [])
+
+-- that an index, unless it is empty, names each pair's place for its key's hash
+abbrev pub IsIndex : List (List ℕ) → List (PlainValue × PlainValue) → Type 0
+IsIndex index pairs = 0 < length index → (i : ℕ) (p : PlainValue × PlainValue) → slice_get pairs i ≡ Some p → IsTrue (is_among i (named index (hash_of p.0)))
+
+-- the first of these places whose pair has the key
+abbrev pub has_key : PlainValue → Option (PlainValue × PlainValue) → Bool
+has_key key None = false
+has_key key (Some p) = is_same_key key p.0
+
+abbrev pub first_with : PlainValue → List (PlainValue × PlainValue) → List ℕ → Option ℕ
+first_with key pairs [] = None
+first_with key pairs (i ∷ is) = if has_key key (slice_get pairs i) then Some i else first_with key pairs is
