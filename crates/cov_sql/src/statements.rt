@@ -1,11 +1,12 @@
 //! The statements on a data file.
-ghost use Rattle.std.specs.Prelude.{◌≡◌, ℕ, ◌≤◌, false, OnOk, IsErrOf};
+ghost use Rattle.std.specs.Prelude.{◌≡◌, [], ◌∷◌, ℕ, ◌≤◌, false, OnOk, IsErrOf};
 ghost use Rattle.cov_outside.specs.Counts.{Rose};
 ghost use Rattle.sqlite.specs.Held.{state};
 ghost use Rattle.cov_sql.specs.Tables.{coverage_schema, meta, file, context, line_bits, arc, tracer, hits};
 ghost use Rattle.sqlite.specs.State.{HasCleanDisk, Survives};
 ghost use Rattle.cov_sql.specs.Told.{Reads, LeavesAll};
-ghost use Rattle.cov_sql.specs.Written.{Deletes, Makes, GoesOn};
+ghost use Rattle.cov_sql.specs.Written.{Deletes, Inserts, Makes, GoesOn};
+ghost use Rattle.sqlite_value.specs.declared.value.Value.TheVariants.{Int, Text, Blob};
 ghost use Rattle.cov_sql.specs.Declarations.{declared_coverage_schema, declared_meta, declared_file, declared_context, declared_line_bits, declared_arc, declared_tracer, declared_hits};
 
 use crate::values::Cell;
@@ -209,6 +210,116 @@ pub trait Statements {
 
     fn make_hits<S: Alter>(&mut self, work: &mut Transaction<'_, S>) -> Result<(), StatementError>
         ensures told { tells self.old → Makes hits declared_hits (state S.Store work.old.conn.now) (state S.Store work.new.conn.now) result }
+        ensures goes_on { tells self.old → GoesOn (state S.Store work.old.conn.now) (state S.Store work.new.conn.now) result }
+        ensures survives { tells self.old → Survives (state S.Store work.old.conn.now) (state S.Store work.new.conn.now) (λ _. ⊥) }
+        ensures same_reference { work.new.conn.ghost_name ≡ work.old.conn.ghost_name }
+        ensures tells { tells self.old → tells self.new }
+        ensures count { refusals self.old ≤ refusals self.new }
+        ensures refused { IsErrOf result StatementError.Refused → Rose (refusals self.old) (refusals self.new) };
+
+    fn insert_coverage_schema<S: Alter>(
+        &mut self,
+        work: &mut Transaction<'_, S>,
+        version: i64,
+    ) -> Result<(), StatementError>
+        ensures told { tells self.old → Inserts coverage_schema declared_coverage_schema (Int version ∷ [])
+            (state S.Store work.old.conn.now) (state S.Store work.new.conn.now) result }
+        ensures goes_on { tells self.old → GoesOn (state S.Store work.old.conn.now) (state S.Store work.new.conn.now) result }
+        ensures survives { tells self.old → Survives (state S.Store work.old.conn.now) (state S.Store work.new.conn.now) (λ _. ⊥) }
+        ensures same_reference { work.new.conn.ghost_name ≡ work.old.conn.ghost_name }
+        ensures tells { tells self.old → tells self.new }
+        ensures count { refusals self.old ≤ refusals self.new }
+        ensures refused { IsErrOf result StatementError.Refused → Rose (refusals self.old) (refusals self.new) };
+
+    fn insert_meta<S: Alter>(
+        &mut self,
+        work: &mut Transaction<'_, S>,
+        key: &str,
+        value: &str,
+    ) -> Result<(), StatementError>
+        ensures told { tells self.old → Inserts meta declared_meta (Text key.now ∷ Text value.now ∷ [])
+            (state S.Store work.old.conn.now) (state S.Store work.new.conn.now) result }
+        ensures goes_on { tells self.old → GoesOn (state S.Store work.old.conn.now) (state S.Store work.new.conn.now) result }
+        ensures survives { tells self.old → Survives (state S.Store work.old.conn.now) (state S.Store work.new.conn.now) (λ _. ⊥) }
+        ensures same_reference { work.new.conn.ghost_name ≡ work.old.conn.ghost_name }
+        ensures tells { tells self.old → tells self.new }
+        ensures count { refusals self.old ≤ refusals self.new }
+        ensures refused { IsErrOf result StatementError.Refused → Rose (refusals self.old) (refusals self.new) };
+
+    fn insert_file<S: Alter>(
+        &mut self,
+        work: &mut Transaction<'_, S>,
+        id: i64,
+        path: &str,
+    ) -> Result<(), StatementError>
+        ensures told { tells self.old → Inserts file declared_file (Int id ∷ Text path.now ∷ [])
+            (state S.Store work.old.conn.now) (state S.Store work.new.conn.now) result }
+        ensures goes_on { tells self.old → GoesOn (state S.Store work.old.conn.now) (state S.Store work.new.conn.now) result }
+        ensures survives { tells self.old → Survives (state S.Store work.old.conn.now) (state S.Store work.new.conn.now) (λ _. ⊥) }
+        ensures same_reference { work.new.conn.ghost_name ≡ work.old.conn.ghost_name }
+        ensures tells { tells self.old → tells self.new }
+        ensures count { refusals self.old ≤ refusals self.new }
+        ensures refused { IsErrOf result StatementError.Refused → Rose (refusals self.old) (refusals self.new) };
+
+    fn insert_context<S: Alter>(
+        &mut self,
+        work: &mut Transaction<'_, S>,
+        id: i64,
+        text: &str,
+    ) -> Result<(), StatementError>
+        ensures told { tells self.old → Inserts context declared_context (Int id ∷ Text text.now ∷ [])
+            (state S.Store work.old.conn.now) (state S.Store work.new.conn.now) result }
+        ensures goes_on { tells self.old → GoesOn (state S.Store work.old.conn.now) (state S.Store work.new.conn.now) result }
+        ensures survives { tells self.old → Survives (state S.Store work.old.conn.now) (state S.Store work.new.conn.now) (λ _. ⊥) }
+        ensures same_reference { work.new.conn.ghost_name ≡ work.old.conn.ghost_name }
+        ensures tells { tells self.old → tells self.new }
+        ensures count { refusals self.old ≤ refusals self.new }
+        ensures refused { IsErrOf result StatementError.Refused → Rose (refusals self.old) (refusals self.new) };
+
+    fn insert_line_bits<S: Alter>(
+        &mut self,
+        work: &mut Transaction<'_, S>,
+        file_id: i64,
+        context_id: i64,
+        numbits: &[u8],
+    ) -> Result<(), StatementError>
+        ensures told { tells self.old → Inserts line_bits declared_line_bits (Int file_id ∷ Int context_id ∷ Blob numbits.now ∷ [])
+            (state S.Store work.old.conn.now) (state S.Store work.new.conn.now) result }
+        ensures goes_on { tells self.old → GoesOn (state S.Store work.old.conn.now) (state S.Store work.new.conn.now) result }
+        ensures survives { tells self.old → Survives (state S.Store work.old.conn.now) (state S.Store work.new.conn.now) (λ _. ⊥) }
+        ensures same_reference { work.new.conn.ghost_name ≡ work.old.conn.ghost_name }
+        ensures tells { tells self.old → tells self.new }
+        ensures count { refusals self.old ≤ refusals self.new }
+        ensures refused { IsErrOf result StatementError.Refused → Rose (refusals self.old) (refusals self.new) };
+
+    fn insert_arc<S: Alter>(
+        &mut self,
+        work: &mut Transaction<'_, S>,
+        file_id: i64,
+        context_id: i64,
+        fromno: i64,
+        tono: i64,
+    ) -> Result<(), StatementError>
+        ensures told { tells self.old → Inserts arc declared_arc (Int file_id ∷ Int context_id ∷ Int fromno ∷ Int tono ∷ [])
+            (state S.Store work.old.conn.now) (state S.Store work.new.conn.now) result }
+        ensures goes_on { tells self.old → GoesOn (state S.Store work.old.conn.now) (state S.Store work.new.conn.now) result }
+        ensures survives { tells self.old → Survives (state S.Store work.old.conn.now) (state S.Store work.new.conn.now) (λ _. ⊥) }
+        ensures same_reference { work.new.conn.ghost_name ≡ work.old.conn.ghost_name }
+        ensures tells { tells self.old → tells self.new }
+        ensures count { refusals self.old ≤ refusals self.new }
+        ensures refused { IsErrOf result StatementError.Refused → Rose (refusals self.old) (refusals self.new) };
+
+    fn insert_hits<S: Alter>(
+        &mut self,
+        work: &mut Transaction<'_, S>,
+        file_id: i64,
+        context_id: i64,
+        fromno: i64,
+        tono: i64,
+        count: i64,
+    ) -> Result<(), StatementError>
+        ensures told { tells self.old → Inserts hits declared_hits (Int file_id ∷ Int context_id ∷ Int fromno ∷ Int tono ∷ Int count ∷ [])
+            (state S.Store work.old.conn.now) (state S.Store work.new.conn.now) result }
         ensures goes_on { tells self.old → GoesOn (state S.Store work.old.conn.now) (state S.Store work.new.conn.now) result }
         ensures survives { tells self.old → Survives (state S.Store work.old.conn.now) (state S.Store work.new.conn.now) (λ _. ⊥) }
         ensures same_reference { work.new.conn.ghost_name ≡ work.old.conn.ghost_name }
