@@ -4,9 +4,9 @@
 --     IsEmptied, Deletes           a table has no row left and every other is as before; so a call leaves it
 --     IsUnused, IsMade, IsMaking, Makes      a name is free; its table was made; what a call that makes it does
 --     IsDeclared, IsAdded, Inserts      a table is there as data files declare it; it has one row more; so a call leaves it
---     WasAbsent                    a text was refused since a table or a column isn't there
+--     WasAbsent, Misses            a text was refused since a table or a column isn't there; so it is where a call answers so
 --     Ran, GoesOn                  a text ran, and the transaction goes on; so a call leaves it
-use Rattle.std.specs.Prelude.{slice_get, ◌∷◌, IsPermutation, ◌≡◌, ◌≢◌, ◌⊎◌, ℕ, false, None, Err, ℤ, List, [], Some, Ok, Result, OnOk, IsTrue}
+use Rattle.std.specs.Prelude.{slice_get, ◌∷◌, IsPermutation, ◌≡◌, ◌≢◌, ◌⊎◌, ℕ, false, None, Err, ℤ, List, [], Some, Ok, Result, OnOk, IsErrOf, IsTrue}
 use Rattle.std.specs.List.{AllByRecursion}
 use Rattle.sqlite_value.specs.Order.{Row}
 use Rattle.sqlite_value.specs.declared.value.Value.TheVariants.{Int}
@@ -24,7 +24,7 @@ use Rattle.sqlite.specs.Does.{lacks_sequence}
 use Rattle.sqlite.specs.Effect.{Database}
 use Rattle.sqlite.specs.State.{State, HasCleanDisk, Executes}
 use Rattle.cov_sql.specs.declared.statements.StatementError.{StatementError}
-use Rattle.cov_sql.specs.declared.statements.StatementError.TheVariants.{Refused, NoMemory}
+use Rattle.cov_sql.specs.declared.statements.StatementError.TheVariants.{Missing, Refused, NoMemory}
 use Rattle.cov_sql.specs.Tables.{Shape, table_in, rows_in, IsUnhidden}
 use Rattle.cov_sql.specs.Told.{IsAbsence}
 
@@ -87,6 +87,9 @@ Inserts t table row old new r = HasCleanDisk new → IsTrue old.in_transaction �
 
 abbrev pub WasAbsent : List ℕ → Row → State → State → Type 0
 WasAbsent text params old new = (e : CompileError) × IsAbsence e × Executes text params old new (Err (SqlInputError e))
+
+abbrev pub Misses : List ℕ → State → State → Result (Unit {0}) StatementError → Type 0
+Misses text old new r = HasCleanDisk new → IsTrue old.in_transaction → IsErrOf r Missing → (params : Row) × WasAbsent text params old new
 
 abbrev pub Ran : List ℕ → Row → State → State → Type 0
 Ran text params old new = (count : ℕ) × Executes text params old new (Ok count) × IsTrue new.in_transaction
