@@ -24,7 +24,7 @@ placed schema name u there = by (either (table_named schema name))
     by (inl has) = (has.0, has.1, rw has.1 at there)
     by (inr none) = absurd (let no : ◌≡◌ {A = Option Table} None (Some u) = rw none at there in cc)
 
-same_table : (a b : Table) → Some a ≡ Some b → a ≡ b
+pub same_table : (a b : Table) → Some a ≡ Some b → a ≡ b
 same_table a b e = cc
 
 none_shown : (t : Shape) (old new : Database) (u : Table) → table_in old.schema t.name ≡ Some u → new.schema ≡ old.schema → new.trees u.tree ≡ [] → (all : List Row) → rows_in t old ≡ Some all → rows_in t new ≡ Some []

@@ -12,3 +12,12 @@ pub mod Creates
 pub mod CreateTexts
 pub mod Inside
 pub mod CellLemmas
+pub mod Inserts
+pub mod Adds
+pub mod InsertIntoCoverageSchema
+pub mod InsertIntoMeta
+pub mod InsertIntoFile
+pub mod InsertIntoContext
+pub mod InsertIntoLineBits
+pub mod InsertIntoArc
+pub mod InsertIntoHits

@@ -4,3 +4,4 @@ pub mod Cells
 pub mod Told
 pub mod Shown
 pub mod Written
+pub mod SqlTexts

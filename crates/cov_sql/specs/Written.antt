@@ -3,9 +3,10 @@
 --     IsFree                       a table is there, its rows go alone, and their rowids are integers
 --     IsEmptied, Deletes           a table has no row left and every other is as before; so a call leaves it
 --     IsUnused, IsMade, IsMaking, Makes      a name is free; its table was made; what a call that makes it does
---     WasAbsent                    a text was refused since a table or a column isn't there
+--     IsDeclared, IsAdded, Inserts      a table is there as data files declare it; it has one row more; so a call leaves it
+--     WasAbsent, Misses            a text was refused since a table or a column isn't there; so it is where a call answers so
 --     Ran, GoesOn                  a text ran, and the transaction goes on; so a call leaves it
-use Rattle.std.specs.Prelude.{◌≡◌, ◌≢◌, ◌⊎◌, ℕ, false, None, Err, ℤ, List, [], Some, Ok, Result, OnOk, IsTrue}
+use Rattle.std.specs.Prelude.{slice_get, ◌∷◌, IsPermutation, ◌≡◌, ◌≢◌, ◌⊎◌, ℕ, false, None, Err, ℤ, List, [], Some, Ok, Result, OnOk, IsErrOf, IsTrue}
 use Rattle.std.specs.List.{AllByRecursion}
 use Rattle.sqlite_value.specs.Order.{Row}
 use Rattle.sqlite_value.specs.declared.value.Value.TheVariants.{Int}
@@ -23,7 +24,7 @@ use Rattle.sqlite.specs.Does.{lacks_sequence}
 use Rattle.sqlite.specs.Effect.{Database}
 use Rattle.sqlite.specs.State.{State, HasCleanDisk, Executes}
 use Rattle.cov_sql.specs.declared.statements.StatementError.{StatementError}
-use Rattle.cov_sql.specs.declared.statements.StatementError.TheVariants.{Refused, NoMemory}
+use Rattle.cov_sql.specs.declared.statements.StatementError.TheVariants.{Missing, Refused, NoMemory}
 use Rattle.cov_sql.specs.Tables.{Shape, table_in, rows_in, IsUnhidden}
 use Rattle.cov_sql.specs.Told.{IsAbsence}
 
@@ -68,8 +69,27 @@ pub record IsMaking (t : Shape) (table : ℕ → Table) (old new : State) (r : R
 abbrev pub Makes : Shape → (ℕ → Table) → State → State → Result (Unit {0}) StatementError → Type 0
 Makes t table old new r = HasCleanDisk new → IsTrue old.in_transaction → IsMaking t table old new r
 
+abbrev pub IsDeclared : Shape → (ℕ → Table) → Database → Type 0
+IsDeclared t table db = (at : ℕ) × (tree : ℕ) × (table_named db.schema t.name ≡ Some at) × (slice_get db.schema.tables at ≡ Some (table tree))
+
+-- and every other table is as before
+pub record IsAdded (t : Shape) (row : Row) (old new : Database) : Type 0 where
+  pub schema : new.schema ≡ old.schema
+  pub before : List Row
+  pub after : List Row
+  pub was : rows_in t old ≡ Some before
+  pub is : rows_in t new ≡ Some after
+  pub more : IsPermutation (row ∷ before) after
+  pub others : (u : Table) → table_in old.schema t.name ≡ Some u → AllByRecursion (λ v. v.tree ≢ u.tree → new.trees v.tree ≡ old.trees v.tree) old.schema.tables
+
+abbrev pub Inserts : Shape → (ℕ → Table) → Row → State → State → Result (Unit {0}) StatementError → Type 0
+Inserts t table row old new r = HasCleanDisk new → IsTrue old.in_transaction → IsDeclared t table old.now → OnOk r (IsAdded t row old.now new.now)
+
 abbrev pub WasAbsent : List ℕ → Row → State → State → Type 0
 WasAbsent text params old new = (e : CompileError) × IsAbsence e × Executes text params old new (Err (SqlInputError e))
+
+abbrev pub Misses : List ℕ → State → State → Result (Unit {0}) StatementError → Type 0
+Misses text old new r = HasCleanDisk new → IsTrue old.in_transaction → IsErrOf r Missing → (params : Row) × WasAbsent text params old new
 
 abbrev pub Ran : List ℕ → Row → State → State → Type 0
 Ran text params old new = (count : ℕ) × Executes text params old new (Ok count) × IsTrue new.in_transaction

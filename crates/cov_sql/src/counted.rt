@@ -251,6 +251,119 @@ impl Statements for Counted {
         )
     }
 
+    fn insert_coverage_schema<S: Alter>(
+        &mut self,
+        work: &mut Transaction<'_, S>,
+        version: i64,
+    ) -> Result<(), StatementError> {
+        let row = [ValueRef::Int(version)];
+        self.run(
+            work,
+            "INSERT INTO coverage_schema (version) VALUES (?1)",
+            &row,
+        )
+    }
+
+    fn insert_meta<S: Alter>(
+        &mut self,
+        work: &mut Transaction<'_, S>,
+        key: &str,
+        value: &str,
+    ) -> Result<(), StatementError> {
+        let row = [
+            ValueRef::Text(key.as_bytes()),
+            ValueRef::Text(value.as_bytes()),
+        ];
+        self.run(work, "INSERT INTO meta (key, value) VALUES (?1, ?2)", &row)
+    }
+
+    fn insert_file<S: Alter>(
+        &mut self,
+        work: &mut Transaction<'_, S>,
+        id: i64,
+        path: &str,
+    ) -> Result<(), StatementError> {
+        let row = [ValueRef::Int(id), ValueRef::Text(path.as_bytes())];
+        self.run(work, "INSERT INTO file (id, path) VALUES (?1, ?2)", &row)
+    }
+
+    fn insert_context<S: Alter>(
+        &mut self,
+        work: &mut Transaction<'_, S>,
+        id: i64,
+        text: &str,
+    ) -> Result<(), StatementError> {
+        let row = [ValueRef::Int(id), ValueRef::Text(text.as_bytes())];
+        self.run(
+            work,
+            "INSERT INTO context (id, context) VALUES (?1, ?2)",
+            &row,
+        )
+    }
+
+    fn insert_line_bits<S: Alter>(
+        &mut self,
+        work: &mut Transaction<'_, S>,
+        file_id: i64,
+        context_id: i64,
+        numbits: &[u8],
+    ) -> Result<(), StatementError> {
+        let row = [
+            ValueRef::Int(file_id),
+            ValueRef::Int(context_id),
+            ValueRef::Blob(numbits),
+        ];
+        self.run(
+            work,
+            "INSERT INTO line_bits (file_id, context_id, numbits) VALUES (?1, ?2, ?3)",
+            &row,
+        )
+    }
+
+    fn insert_arc<S: Alter>(
+        &mut self,
+        work: &mut Transaction<'_, S>,
+        file_id: i64,
+        context_id: i64,
+        fromno: i64,
+        tono: i64,
+    ) -> Result<(), StatementError> {
+        let row = [
+            ValueRef::Int(file_id),
+            ValueRef::Int(context_id),
+            ValueRef::Int(fromno),
+            ValueRef::Int(tono),
+        ];
+        self.run(
+            work,
+            "INSERT INTO arc (file_id, context_id, fromno, tono) VALUES (?1, ?2, ?3, ?4)",
+            &row,
+        )
+    }
+
+    fn insert_hits<S: Alter>(
+        &mut self,
+        work: &mut Transaction<'_, S>,
+        file_id: i64,
+        context_id: i64,
+        fromno: i64,
+        tono: i64,
+        count: i64,
+    ) -> Result<(), StatementError> {
+        let row = [
+            ValueRef::Int(file_id),
+            ValueRef::Int(context_id),
+            ValueRef::Int(fromno),
+            ValueRef::Int(tono),
+            ValueRef::Int(count),
+        ];
+        self.run(
+            work,
+            "INSERT INTO hits (file_id, context_id, fromno, tono, count) VALUES (?1, ?2, ?3, ?4, ?5)",
+            &row,
+        )
+    }
+
     fn delete_meta<S: Alter>(
         &mut self,
         work: &mut Transaction<'_, S>,

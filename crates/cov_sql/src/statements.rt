@@ -1,11 +1,13 @@
 //! The statements on a data file.
-ghost use Rattle.std.specs.Prelude.{◌≡◌, ℕ, ◌≤◌, false, OnOk, IsErrOf};
+ghost use Rattle.std.specs.Prelude.{◌≡◌, [], ◌∷◌, ℕ, ◌≤◌, false, OnOk, IsErrOf};
 ghost use Rattle.cov_outside.specs.Counts.{Rose};
 ghost use Rattle.sqlite.specs.Held.{state};
 ghost use Rattle.cov_sql.specs.Tables.{coverage_schema, meta, file, context, line_bits, arc, tracer, hits};
 ghost use Rattle.sqlite.specs.State.{HasCleanDisk, Survives};
 ghost use Rattle.cov_sql.specs.Told.{Reads, LeavesAll};
-ghost use Rattle.cov_sql.specs.Written.{Deletes, Makes, GoesOn};
+ghost use Rattle.cov_sql.specs.Written.{Deletes, Inserts, Makes, Misses, GoesOn};
+ghost use Rattle.cov_sql.specs.SqlTexts.{make_coverage_schema_text, make_meta_text, make_file_text, make_context_text, make_line_bits_text, make_arc_text, make_tracer_text, make_hits_text, insert_coverage_schema_text, insert_meta_text, insert_file_text, insert_context_text, insert_line_bits_text, insert_arc_text, insert_hits_text, delete_meta_text, delete_file_text, delete_context_text, delete_line_bits_text, delete_arc_text, delete_tracer_text, delete_hits_text};
+ghost use Rattle.sqlite_value.specs.declared.value.Value.TheVariants.{Int, Text, Blob};
 ghost use Rattle.cov_sql.specs.Declarations.{declared_coverage_schema, declared_meta, declared_file, declared_context, declared_line_bits, declared_arc, declared_tracer, declared_hits};
 
 use crate::values::Cell;
@@ -140,6 +142,7 @@ pub trait Statements {
         work: &mut Transaction<'_, S>,
     ) -> Result<(), StatementError>
         ensures told { tells self.old → Makes coverage_schema declared_coverage_schema (state S.Store work.old.conn.now) (state S.Store work.new.conn.now) result }
+        ensures missing { tells self.old → Misses make_coverage_schema_text (state S.Store work.old.conn.now) (state S.Store work.new.conn.now) result }
         ensures goes_on { tells self.old → GoesOn (state S.Store work.old.conn.now) (state S.Store work.new.conn.now) result }
         ensures survives { tells self.old → Survives (state S.Store work.old.conn.now) (state S.Store work.new.conn.now) (λ _. ⊥) }
         ensures same_reference { work.new.conn.ghost_name ≡ work.old.conn.ghost_name }
@@ -149,6 +152,7 @@ pub trait Statements {
 
     fn make_meta<S: Alter>(&mut self, work: &mut Transaction<'_, S>) -> Result<(), StatementError>
         ensures told { tells self.old → Makes meta declared_meta (state S.Store work.old.conn.now) (state S.Store work.new.conn.now) result }
+        ensures missing { tells self.old → Misses make_meta_text (state S.Store work.old.conn.now) (state S.Store work.new.conn.now) result }
         ensures goes_on { tells self.old → GoesOn (state S.Store work.old.conn.now) (state S.Store work.new.conn.now) result }
         ensures survives { tells self.old → Survives (state S.Store work.old.conn.now) (state S.Store work.new.conn.now) (λ _. ⊥) }
         ensures same_reference { work.new.conn.ghost_name ≡ work.old.conn.ghost_name }
@@ -158,6 +162,7 @@ pub trait Statements {
 
     fn make_file<S: Alter>(&mut self, work: &mut Transaction<'_, S>) -> Result<(), StatementError>
         ensures told { tells self.old → Makes file declared_file (state S.Store work.old.conn.now) (state S.Store work.new.conn.now) result }
+        ensures missing { tells self.old → Misses make_file_text (state S.Store work.old.conn.now) (state S.Store work.new.conn.now) result }
         ensures goes_on { tells self.old → GoesOn (state S.Store work.old.conn.now) (state S.Store work.new.conn.now) result }
         ensures survives { tells self.old → Survives (state S.Store work.old.conn.now) (state S.Store work.new.conn.now) (λ _. ⊥) }
         ensures same_reference { work.new.conn.ghost_name ≡ work.old.conn.ghost_name }
@@ -170,6 +175,7 @@ pub trait Statements {
         work: &mut Transaction<'_, S>,
     ) -> Result<(), StatementError>
         ensures told { tells self.old → Makes context declared_context (state S.Store work.old.conn.now) (state S.Store work.new.conn.now) result }
+        ensures missing { tells self.old → Misses make_context_text (state S.Store work.old.conn.now) (state S.Store work.new.conn.now) result }
         ensures goes_on { tells self.old → GoesOn (state S.Store work.old.conn.now) (state S.Store work.new.conn.now) result }
         ensures survives { tells self.old → Survives (state S.Store work.old.conn.now) (state S.Store work.new.conn.now) (λ _. ⊥) }
         ensures same_reference { work.new.conn.ghost_name ≡ work.old.conn.ghost_name }
@@ -182,6 +188,7 @@ pub trait Statements {
         work: &mut Transaction<'_, S>,
     ) -> Result<(), StatementError>
         ensures told { tells self.old → Makes line_bits declared_line_bits (state S.Store work.old.conn.now) (state S.Store work.new.conn.now) result }
+        ensures missing { tells self.old → Misses make_line_bits_text (state S.Store work.old.conn.now) (state S.Store work.new.conn.now) result }
         ensures goes_on { tells self.old → GoesOn (state S.Store work.old.conn.now) (state S.Store work.new.conn.now) result }
         ensures survives { tells self.old → Survives (state S.Store work.old.conn.now) (state S.Store work.new.conn.now) (λ _. ⊥) }
         ensures same_reference { work.new.conn.ghost_name ≡ work.old.conn.ghost_name }
@@ -191,6 +198,7 @@ pub trait Statements {
 
     fn make_arc<S: Alter>(&mut self, work: &mut Transaction<'_, S>) -> Result<(), StatementError>
         ensures told { tells self.old → Makes arc declared_arc (state S.Store work.old.conn.now) (state S.Store work.new.conn.now) result }
+        ensures missing { tells self.old → Misses make_arc_text (state S.Store work.old.conn.now) (state S.Store work.new.conn.now) result }
         ensures goes_on { tells self.old → GoesOn (state S.Store work.old.conn.now) (state S.Store work.new.conn.now) result }
         ensures survives { tells self.old → Survives (state S.Store work.old.conn.now) (state S.Store work.new.conn.now) (λ _. ⊥) }
         ensures same_reference { work.new.conn.ghost_name ≡ work.old.conn.ghost_name }
@@ -200,6 +208,7 @@ pub trait Statements {
 
     fn make_tracer<S: Alter>(&mut self, work: &mut Transaction<'_, S>) -> Result<(), StatementError>
         ensures told { tells self.old → Makes tracer declared_tracer (state S.Store work.old.conn.now) (state S.Store work.new.conn.now) result }
+        ensures missing { tells self.old → Misses make_tracer_text (state S.Store work.old.conn.now) (state S.Store work.new.conn.now) result }
         ensures goes_on { tells self.old → GoesOn (state S.Store work.old.conn.now) (state S.Store work.new.conn.now) result }
         ensures survives { tells self.old → Survives (state S.Store work.old.conn.now) (state S.Store work.new.conn.now) (λ _. ⊥) }
         ensures same_reference { work.new.conn.ghost_name ≡ work.old.conn.ghost_name }
@@ -209,6 +218,124 @@ pub trait Statements {
 
     fn make_hits<S: Alter>(&mut self, work: &mut Transaction<'_, S>) -> Result<(), StatementError>
         ensures told { tells self.old → Makes hits declared_hits (state S.Store work.old.conn.now) (state S.Store work.new.conn.now) result }
+        ensures missing { tells self.old → Misses make_hits_text (state S.Store work.old.conn.now) (state S.Store work.new.conn.now) result }
+        ensures goes_on { tells self.old → GoesOn (state S.Store work.old.conn.now) (state S.Store work.new.conn.now) result }
+        ensures survives { tells self.old → Survives (state S.Store work.old.conn.now) (state S.Store work.new.conn.now) (λ _. ⊥) }
+        ensures same_reference { work.new.conn.ghost_name ≡ work.old.conn.ghost_name }
+        ensures tells { tells self.old → tells self.new }
+        ensures count { refusals self.old ≤ refusals self.new }
+        ensures refused { IsErrOf result StatementError.Refused → Rose (refusals self.old) (refusals self.new) };
+
+    fn insert_coverage_schema<S: Alter>(
+        &mut self,
+        work: &mut Transaction<'_, S>,
+        version: i64,
+    ) -> Result<(), StatementError>
+        ensures told { tells self.old → Inserts coverage_schema declared_coverage_schema (Int version ∷ [])
+            (state S.Store work.old.conn.now) (state S.Store work.new.conn.now) result }
+        ensures missing { tells self.old → Misses insert_coverage_schema_text (state S.Store work.old.conn.now) (state S.Store work.new.conn.now) result }
+        ensures goes_on { tells self.old → GoesOn (state S.Store work.old.conn.now) (state S.Store work.new.conn.now) result }
+        ensures survives { tells self.old → Survives (state S.Store work.old.conn.now) (state S.Store work.new.conn.now) (λ _. ⊥) }
+        ensures same_reference { work.new.conn.ghost_name ≡ work.old.conn.ghost_name }
+        ensures tells { tells self.old → tells self.new }
+        ensures count { refusals self.old ≤ refusals self.new }
+        ensures refused { IsErrOf result StatementError.Refused → Rose (refusals self.old) (refusals self.new) };
+
+    fn insert_meta<S: Alter>(
+        &mut self,
+        work: &mut Transaction<'_, S>,
+        key: &str,
+        value: &str,
+    ) -> Result<(), StatementError>
+        ensures told { tells self.old → Inserts meta declared_meta (Text key.now ∷ Text value.now ∷ [])
+            (state S.Store work.old.conn.now) (state S.Store work.new.conn.now) result }
+        ensures missing { tells self.old → Misses insert_meta_text (state S.Store work.old.conn.now) (state S.Store work.new.conn.now) result }
+        ensures goes_on { tells self.old → GoesOn (state S.Store work.old.conn.now) (state S.Store work.new.conn.now) result }
+        ensures survives { tells self.old → Survives (state S.Store work.old.conn.now) (state S.Store work.new.conn.now) (λ _. ⊥) }
+        ensures same_reference { work.new.conn.ghost_name ≡ work.old.conn.ghost_name }
+        ensures tells { tells self.old → tells self.new }
+        ensures count { refusals self.old ≤ refusals self.new }
+        ensures refused { IsErrOf result StatementError.Refused → Rose (refusals self.old) (refusals self.new) };
+
+    fn insert_file<S: Alter>(
+        &mut self,
+        work: &mut Transaction<'_, S>,
+        id: i64,
+        path: &str,
+    ) -> Result<(), StatementError>
+        ensures told { tells self.old → Inserts file declared_file (Int id ∷ Text path.now ∷ [])
+            (state S.Store work.old.conn.now) (state S.Store work.new.conn.now) result }
+        ensures missing { tells self.old → Misses insert_file_text (state S.Store work.old.conn.now) (state S.Store work.new.conn.now) result }
+        ensures goes_on { tells self.old → GoesOn (state S.Store work.old.conn.now) (state S.Store work.new.conn.now) result }
+        ensures survives { tells self.old → Survives (state S.Store work.old.conn.now) (state S.Store work.new.conn.now) (λ _. ⊥) }
+        ensures same_reference { work.new.conn.ghost_name ≡ work.old.conn.ghost_name }
+        ensures tells { tells self.old → tells self.new }
+        ensures count { refusals self.old ≤ refusals self.new }
+        ensures refused { IsErrOf result StatementError.Refused → Rose (refusals self.old) (refusals self.new) };
+
+    fn insert_context<S: Alter>(
+        &mut self,
+        work: &mut Transaction<'_, S>,
+        id: i64,
+        text: &str,
+    ) -> Result<(), StatementError>
+        ensures told { tells self.old → Inserts context declared_context (Int id ∷ Text text.now ∷ [])
+            (state S.Store work.old.conn.now) (state S.Store work.new.conn.now) result }
+        ensures missing { tells self.old → Misses insert_context_text (state S.Store work.old.conn.now) (state S.Store work.new.conn.now) result }
+        ensures goes_on { tells self.old → GoesOn (state S.Store work.old.conn.now) (state S.Store work.new.conn.now) result }
+        ensures survives { tells self.old → Survives (state S.Store work.old.conn.now) (state S.Store work.new.conn.now) (λ _. ⊥) }
+        ensures same_reference { work.new.conn.ghost_name ≡ work.old.conn.ghost_name }
+        ensures tells { tells self.old → tells self.new }
+        ensures count { refusals self.old ≤ refusals self.new }
+        ensures refused { IsErrOf result StatementError.Refused → Rose (refusals self.old) (refusals self.new) };
+
+    fn insert_line_bits<S: Alter>(
+        &mut self,
+        work: &mut Transaction<'_, S>,
+        file_id: i64,
+        context_id: i64,
+        numbits: &[u8],
+    ) -> Result<(), StatementError>
+        ensures told { tells self.old → Inserts line_bits declared_line_bits (Int file_id ∷ Int context_id ∷ Blob numbits.now ∷ [])
+            (state S.Store work.old.conn.now) (state S.Store work.new.conn.now) result }
+        ensures missing { tells self.old → Misses insert_line_bits_text (state S.Store work.old.conn.now) (state S.Store work.new.conn.now) result }
+        ensures goes_on { tells self.old → GoesOn (state S.Store work.old.conn.now) (state S.Store work.new.conn.now) result }
+        ensures survives { tells self.old → Survives (state S.Store work.old.conn.now) (state S.Store work.new.conn.now) (λ _. ⊥) }
+        ensures same_reference { work.new.conn.ghost_name ≡ work.old.conn.ghost_name }
+        ensures tells { tells self.old → tells self.new }
+        ensures count { refusals self.old ≤ refusals self.new }
+        ensures refused { IsErrOf result StatementError.Refused → Rose (refusals self.old) (refusals self.new) };
+
+    fn insert_arc<S: Alter>(
+        &mut self,
+        work: &mut Transaction<'_, S>,
+        file_id: i64,
+        context_id: i64,
+        fromno: i64,
+        tono: i64,
+    ) -> Result<(), StatementError>
+        ensures told { tells self.old → Inserts arc declared_arc (Int file_id ∷ Int context_id ∷ Int fromno ∷ Int tono ∷ [])
+            (state S.Store work.old.conn.now) (state S.Store work.new.conn.now) result }
+        ensures missing { tells self.old → Misses insert_arc_text (state S.Store work.old.conn.now) (state S.Store work.new.conn.now) result }
+        ensures goes_on { tells self.old → GoesOn (state S.Store work.old.conn.now) (state S.Store work.new.conn.now) result }
+        ensures survives { tells self.old → Survives (state S.Store work.old.conn.now) (state S.Store work.new.conn.now) (λ _. ⊥) }
+        ensures same_reference { work.new.conn.ghost_name ≡ work.old.conn.ghost_name }
+        ensures tells { tells self.old → tells self.new }
+        ensures count { refusals self.old ≤ refusals self.new }
+        ensures refused { IsErrOf result StatementError.Refused → Rose (refusals self.old) (refusals self.new) };
+
+    fn insert_hits<S: Alter>(
+        &mut self,
+        work: &mut Transaction<'_, S>,
+        file_id: i64,
+        context_id: i64,
+        fromno: i64,
+        tono: i64,
+        count: i64,
+    ) -> Result<(), StatementError>
+        ensures told { tells self.old → Inserts hits declared_hits (Int file_id ∷ Int context_id ∷ Int fromno ∷ Int tono ∷ Int count ∷ [])
+            (state S.Store work.old.conn.now) (state S.Store work.new.conn.now) result }
+        ensures missing { tells self.old → Misses insert_hits_text (state S.Store work.old.conn.now) (state S.Store work.new.conn.now) result }
         ensures goes_on { tells self.old → GoesOn (state S.Store work.old.conn.now) (state S.Store work.new.conn.now) result }
         ensures survives { tells self.old → Survives (state S.Store work.old.conn.now) (state S.Store work.new.conn.now) (λ _. ⊥) }
         ensures same_reference { work.new.conn.ghost_name ≡ work.old.conn.ghost_name }
@@ -218,6 +345,7 @@ pub trait Statements {
 
     fn delete_meta<S: Alter>(&mut self, work: &mut Transaction<'_, S>) -> Result<(), StatementError>
         ensures told { tells self.old → Deletes meta (state S.Store work.old.conn.now) (state S.Store work.new.conn.now) result }
+        ensures missing { tells self.old → Misses delete_meta_text (state S.Store work.old.conn.now) (state S.Store work.new.conn.now) result }
         ensures goes_on { tells self.old → GoesOn (state S.Store work.old.conn.now) (state S.Store work.new.conn.now) result }
         ensures survives { tells self.old → Survives (state S.Store work.old.conn.now) (state S.Store work.new.conn.now) (λ _. ⊥) }
         ensures same_reference { work.new.conn.ghost_name ≡ work.old.conn.ghost_name }
@@ -227,6 +355,7 @@ pub trait Statements {
 
     fn delete_file<S: Alter>(&mut self, work: &mut Transaction<'_, S>) -> Result<(), StatementError>
         ensures told { tells self.old → Deletes file (state S.Store work.old.conn.now) (state S.Store work.new.conn.now) result }
+        ensures missing { tells self.old → Misses delete_file_text (state S.Store work.old.conn.now) (state S.Store work.new.conn.now) result }
         ensures goes_on { tells self.old → GoesOn (state S.Store work.old.conn.now) (state S.Store work.new.conn.now) result }
         ensures survives { tells self.old → Survives (state S.Store work.old.conn.now) (state S.Store work.new.conn.now) (λ _. ⊥) }
         ensures same_reference { work.new.conn.ghost_name ≡ work.old.conn.ghost_name }
@@ -239,6 +368,7 @@ pub trait Statements {
         work: &mut Transaction<'_, S>,
     ) -> Result<(), StatementError>
         ensures told { tells self.old → Deletes context (state S.Store work.old.conn.now) (state S.Store work.new.conn.now) result }
+        ensures missing { tells self.old → Misses delete_context_text (state S.Store work.old.conn.now) (state S.Store work.new.conn.now) result }
         ensures goes_on { tells self.old → GoesOn (state S.Store work.old.conn.now) (state S.Store work.new.conn.now) result }
         ensures survives { tells self.old → Survives (state S.Store work.old.conn.now) (state S.Store work.new.conn.now) (λ _. ⊥) }
         ensures same_reference { work.new.conn.ghost_name ≡ work.old.conn.ghost_name }
@@ -251,6 +381,7 @@ pub trait Statements {
         work: &mut Transaction<'_, S>,
     ) -> Result<(), StatementError>
         ensures told { tells self.old → Deletes line_bits (state S.Store work.old.conn.now) (state S.Store work.new.conn.now) result }
+        ensures missing { tells self.old → Misses delete_line_bits_text (state S.Store work.old.conn.now) (state S.Store work.new.conn.now) result }
         ensures goes_on { tells self.old → GoesOn (state S.Store work.old.conn.now) (state S.Store work.new.conn.now) result }
         ensures survives { tells self.old → Survives (state S.Store work.old.conn.now) (state S.Store work.new.conn.now) (λ _. ⊥) }
         ensures same_reference { work.new.conn.ghost_name ≡ work.old.conn.ghost_name }
@@ -260,6 +391,7 @@ pub trait Statements {
 
     fn delete_arc<S: Alter>(&mut self, work: &mut Transaction<'_, S>) -> Result<(), StatementError>
         ensures told { tells self.old → Deletes arc (state S.Store work.old.conn.now) (state S.Store work.new.conn.now) result }
+        ensures missing { tells self.old → Misses delete_arc_text (state S.Store work.old.conn.now) (state S.Store work.new.conn.now) result }
         ensures goes_on { tells self.old → GoesOn (state S.Store work.old.conn.now) (state S.Store work.new.conn.now) result }
         ensures survives { tells self.old → Survives (state S.Store work.old.conn.now) (state S.Store work.new.conn.now) (λ _. ⊥) }
         ensures same_reference { work.new.conn.ghost_name ≡ work.old.conn.ghost_name }
@@ -272,6 +404,7 @@ pub trait Statements {
         work: &mut Transaction<'_, S>,
     ) -> Result<(), StatementError>
         ensures told { tells self.old → Deletes tracer (state S.Store work.old.conn.now) (state S.Store work.new.conn.now) result }
+        ensures missing { tells self.old → Misses delete_tracer_text (state S.Store work.old.conn.now) (state S.Store work.new.conn.now) result }
         ensures goes_on { tells self.old → GoesOn (state S.Store work.old.conn.now) (state S.Store work.new.conn.now) result }
         ensures survives { tells self.old → Survives (state S.Store work.old.conn.now) (state S.Store work.new.conn.now) (λ _. ⊥) }
         ensures same_reference { work.new.conn.ghost_name ≡ work.old.conn.ghost_name }
@@ -281,6 +414,7 @@ pub trait Statements {
 
     fn delete_hits<S: Alter>(&mut self, work: &mut Transaction<'_, S>) -> Result<(), StatementError>
         ensures told { tells self.old → Deletes hits (state S.Store work.old.conn.now) (state S.Store work.new.conn.now) result }
+        ensures missing { tells self.old → Misses delete_hits_text (state S.Store work.old.conn.now) (state S.Store work.new.conn.now) result }
         ensures goes_on { tells self.old → GoesOn (state S.Store work.old.conn.now) (state S.Store work.new.conn.now) result }
         ensures survives { tells self.old → Survives (state S.Store work.old.conn.now) (state S.Store work.new.conn.now) (λ _. ⊥) }
         ensures same_reference { work.new.conn.ghost_name ≡ work.old.conn.ghost_name }

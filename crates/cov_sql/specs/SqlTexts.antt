@@ -1,0 +1,68 @@
+-- The texts of SQL that make, fill and empty the tables of coverage.py's schema 7 and the table of counts.
+use Rattle.std.specs.Prelude.{ℕ, List, codes}
+
+abbrev pub make_coverage_schema_text : List ℕ
+make_coverage_schema_text = codes "CREATE TABLE coverage_schema (version integer)"
+
+abbrev pub make_meta_text : List ℕ
+make_meta_text = codes "CREATE TABLE meta (key text, value text, unique (key))"
+
+abbrev pub make_file_text : List ℕ
+make_file_text = codes "CREATE TABLE file (id integer primary key, path text, unique (path))"
+
+abbrev pub make_context_text : List ℕ
+make_context_text = codes "CREATE TABLE context (id integer primary key, context text, unique (context))"
+
+abbrev pub make_line_bits_text : List ℕ
+make_line_bits_text = codes "CREATE TABLE line_bits (file_id integer, context_id integer, numbits blob, foreign key (file_id) references file (id), foreign key (context_id) references context (id), unique (file_id, context_id))"
+
+abbrev pub make_arc_text : List ℕ
+make_arc_text = codes "CREATE TABLE arc (file_id integer, context_id integer, fromno integer, tono integer, foreign key (file_id) references file (id), foreign key (context_id) references context (id), unique (file_id, context_id, fromno, tono))"
+
+abbrev pub make_tracer_text : List ℕ
+make_tracer_text = codes "CREATE TABLE tracer (file_id integer primary key, tracer text, foreign key (file_id) references file (id))"
+
+abbrev pub make_hits_text : List ℕ
+make_hits_text = codes "CREATE TABLE hits (file_id integer, context_id integer, fromno integer, tono integer, count integer, unique (file_id, context_id, fromno, tono))"
+
+abbrev pub insert_coverage_schema_text : List ℕ
+insert_coverage_schema_text = codes "INSERT INTO coverage_schema (version) VALUES (?1)"
+
+abbrev pub insert_meta_text : List ℕ
+insert_meta_text = codes "INSERT INTO meta (key, value) VALUES (?1, ?2)"
+
+abbrev pub insert_file_text : List ℕ
+insert_file_text = codes "INSERT INTO file (id, path) VALUES (?1, ?2)"
+
+abbrev pub insert_context_text : List ℕ
+insert_context_text = codes "INSERT INTO context (id, context) VALUES (?1, ?2)"
+
+abbrev pub insert_line_bits_text : List ℕ
+insert_line_bits_text = codes "INSERT INTO line_bits (file_id, context_id, numbits) VALUES (?1, ?2, ?3)"
+
+abbrev pub insert_arc_text : List ℕ
+insert_arc_text = codes "INSERT INTO arc (file_id, context_id, fromno, tono) VALUES (?1, ?2, ?3, ?4)"
+
+abbrev pub insert_hits_text : List ℕ
+insert_hits_text = codes "INSERT INTO hits (file_id, context_id, fromno, tono, count) VALUES (?1, ?2, ?3, ?4, ?5)"
+
+abbrev pub delete_meta_text : List ℕ
+delete_meta_text = codes "DELETE FROM meta"
+
+abbrev pub delete_file_text : List ℕ
+delete_file_text = codes "DELETE FROM file"
+
+abbrev pub delete_context_text : List ℕ
+delete_context_text = codes "DELETE FROM context"
+
+abbrev pub delete_line_bits_text : List ℕ
+delete_line_bits_text = codes "DELETE FROM line_bits"
+
+abbrev pub delete_arc_text : List ℕ
+delete_arc_text = codes "DELETE FROM arc"
+
+abbrev pub delete_tracer_text : List ℕ
+delete_tracer_text = codes "DELETE FROM tracer"
+
+abbrev pub delete_hits_text : List ℕ
+delete_hits_text = codes "DELETE FROM hits"
