@@ -8,7 +8,7 @@ use Rattle.std.specs.List.{slice_split, starts_with, ends_with}
 use Rattle.std.specs.Str.{bytes_eq, chars}
 use Rattle.cov_config.specs.Forms.{Text}
 
--- some end of the list passes: the list itself, what follows its first element, and so on to the empty list
+-- some end of the list passes: the list itself, what follows its first element, and so on to []
 abbrev pub some_end : {A : Type 0} → (List A → Bool) → List A → Bool
 some_end f [] = f []
 some_end f (x ∷ xs) = f (x ∷ xs) || some_end f xs
@@ -22,19 +22,22 @@ first_then one f (x ∷ xs) = one x && f xs
 abbrev pub fits : List ℕ → List ℕ → Bool
 fits [] [] = true
 fits [] (c ∷ cs) = false
-fits (p ∷ ps) cs = if p == 42 then some_end (fits ps) cs else first_then (λ c. p == 63 || p == c) (fits ps) cs
+fits (p ∷ ps) cs =
+    if p == 42 then some_end (fits ps) cs else first_then (λ c. p == 63 || p == c) (fits ps) cs
 
 -- `**` is any number of components
 abbrev pub covers : List Text → List Text → Bool
 covers [] [] = true
 covers [] (part ∷ parts) = false
 covers (p ∷ ps) parts =
-    if bytes_eq p (codes "**") then some_end (covers ps) parts else first_then (λ part. fits (chars p) (chars part)) (covers ps) parts
+    if bytes_eq p (codes "**") then some_end (covers ps) parts
+    else first_then (λ part. fits (chars p) (chars part)) (covers ps) parts
 
 -- a leading `*/` is read as `**/`, and a trailing `/*` as `/**`
 abbrev pub widened : Text → Text
 widened pattern =
-    (if starts_with nat_eq pattern (codes "*/") then codes "*" else []) ++ (pattern ++ (if ends_with nat_eq pattern (codes "/*") then codes "*" else []))
+    (if starts_with nat_eq pattern (codes "*/") then codes "*" else [])
+    ++ (pattern ++ (if ends_with nat_eq pattern (codes "/*") then codes "*" else []))
 
 abbrev pub components : Text → List Text
 components text = slice_split (λ b. b == 47) text

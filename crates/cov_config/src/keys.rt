@@ -81,7 +81,8 @@ pub(crate) fn names_tests(
     key: &str,
 ) -> Result<bool, ConfigError>
     ensures { Answers (λ b. b)
-        (reading (table_view table.now) in_section.now key.now (or_default false test_function)) result }
+        (reading (table_view table.now) in_section.now key.now
+        (or_default false test_function)) result }
 {
     let Some(value) = setting(table, in_section, key) else {
         return Ok(false);
@@ -92,6 +93,7 @@ pub(crate) fn names_tests(
     }
 }
 
+/// A whole number from 0 to `most`.
 pub(crate) fn number(
     alloc: Global,
     table: &Table,
@@ -103,7 +105,8 @@ pub(crate) fn number(
     requires least { default ≤ most }
     requires fits { most < 2 ^ 63 }
     ensures value { Answers (λ n. n)
-        (reading (table_view table.now) in_section.now key.now (or_default default (up_to most))) result }
+        (reading (table_view table.now) in_section.now key.now
+        (or_default default (up_to most))) result }
     ensures most { IfOk result (λ n. n ≤ most) }
 {
     let Some(value) = setting(table, in_section, key) else {
@@ -151,7 +154,8 @@ pub(crate) fn filled_text(
     default: &str,
 ) -> Result<String, ConfigError>
     ensures { Answers string_bytes
-        (reading (table_view table.now) in_section.now key.now (or_default default.now filled)) result }
+        (reading (table_view table.now) in_section.now key.now
+        (or_default default.now filled)) result }
 {
     let Some(value) = setting(table, in_section, key) else {
         return Ok(String::from_str(alloc, default)?);

@@ -64,10 +64,16 @@ fn patterns_and_paths(rt: HostRuntime) -> Result<(), Fail> {
 fn several_patterns(rt: HostRuntime) -> Result<(), Fail> {
     let alloc = rt.alloc();
     let mut patterns = Vec::new(alloc);
-    assert!(rt; !is_omitted(alloc, patterns.as_slice(), "a.py")?, "no pattern");
+    assert!(rt;
+        !is_omitted(alloc, patterns.as_slice(), "a.py")?,
+        "no pattern"
+    );
     patterns.push(String::from_str(alloc, "b.py")?)?;
     patterns.push(String::from_str(alloc, "*/a.py")?)?;
-    assert!(rt; is_omitted(alloc, patterns.as_slice(), "a.py")?, "the second");
+    assert!(rt;
+        is_omitted(alloc, patterns.as_slice(), "a.py")?,
+        "the second"
+    );
     assert!(rt; !is_omitted(alloc, patterns.as_slice(), "c.py")?, "neither");
     Ok(())
 }
