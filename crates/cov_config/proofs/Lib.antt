@@ -3,3 +3,6 @@ mod TextLists
 mod Readings
 mod Rules
 mod Documents
+mod Places
+mod Steps
+mod Wide

@@ -19,12 +19,27 @@ rules_view rules = map (λ r. (string_bytes r.0, texts_view r.1)) rules
 -- the settings that a `Config` holds
 abbrev pub settings_view : Config → Settings
 settings_view c = record {
-  run = record { branch = c.branch; context = string_bytes c.context; data_file = string_bytes c.data_file; dynamic_context = c.dynamic_context; budget = c.budget; hook = hook_view c.hook };
-  report = record { fail_under = c.fail_under; show_missing = c.show_missing; omit = texts_view c.omit; exclude_lines = texts_view c.exclude_lines; exclude_also = texts_view c.exclude_also; partial_branches = texts_view c.partial_branches };
+  run = record {
+    branch = c.branch;
+    context = string_bytes c.context;
+    data_file = string_bytes c.data_file;
+    dynamic_context = c.dynamic_context;
+    budget = c.budget;
+    hook = hook_view c.hook;
+  };
+  report = record {
+    fail_under = c.fail_under;
+    show_missing = c.show_missing;
+    omit = texts_view c.omit;
+    exclude_lines = texts_view c.exclude_lines;
+    exclude_also = texts_view c.exclude_also;
+    partial_branches = texts_view c.partial_branches;
+  };
   paths = rules_view c.paths.items;
 }
 
--- the answer is what is meant, seen by `view`: the value, or the whole name of the bad key. Only want of memory is free
+-- the answer is what is meant, seen by `view`: the value, or the whole name of the bad key. Only want
+-- of memory is free
 abbrev pub Answers : {T A : Type 0} → (T → A) → Result A Text → Result T ConfigError → Type 0
 Answers view meaning (Ok value) = meaning ≡ Ok (view value)
 Answers view meaning (Err (BadConfig key)) = meaning ≡ Err (string_bytes key)

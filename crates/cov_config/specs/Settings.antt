@@ -45,7 +45,14 @@ run_of ms =
     next (reading ms (codes "run") (codes "dynamic_context") (or_default false test_function)) (λ dynamic_context.
     next (reading ms (codes "run") (codes "budget") (or_default 1000000 (up_to 1000000000))) (λ budget.
     next (reading ms (codes "run") (codes "hook") (or_default None hook_text)) (λ hook.
-    Ok (record { branch = branch; context = context; data_file = data_file; dynamic_context = dynamic_context; budget = budget; hook = hook })))))))
+    Ok (record {
+      branch = branch;
+      context = context;
+      data_file = data_file;
+      dynamic_context = dynamic_context;
+      budget = budget;
+      hook = hook;
+    })))))))
 
 -- the patterns of `# pragma: no cover` and of `# pragma: no branch`
 abbrev pub no_cover : Text
@@ -70,7 +77,14 @@ report_of ms =
     next (reading ms (codes "report") (codes "exclude_lines") (or_default (no_cover ∷ []) texts)) (λ exclude_lines.
     next (reading ms (codes "report") (codes "exclude_also") (or_default [] texts)) (λ exclude_also.
     next (reading ms (codes "report") (codes "partial_branches") (or_default (no_branch ∷ []) texts)) (λ partial_branches.
-    Ok (record { fail_under = fail_under; show_missing = show_missing; omit = omit; exclude_lines = exclude_lines; exclude_also = exclude_also; partial_branches = partial_branches })))))))
+    Ok (record {
+      fail_under = fail_under;
+      show_missing = show_missing;
+      omit = omit;
+      exclude_lines = exclude_lines;
+      exclude_also = exclude_also;
+      partial_branches = partial_branches;
+    })))))))
 
 -- each key sets a rule. The members of a table stand in the byte order of their names
 abbrev pub rules_in : Members → Result (List (Text × List Text)) Text

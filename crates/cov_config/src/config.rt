@@ -9,8 +9,8 @@ use crate::sections::{read_report, read_run};
 use std::alloc::{AllocError, Global};
 use toml::Table;
 
-/// The settings under `tool.coverage`, each named by the last word of its key, with the default where
-/// the key is absent.
+/// The settings under `tool.coverage`, each named by the last word of its key, with the default
+/// where the key is absent.
 #[derive(Drop)]
 pub struct Config {
     pub branch: bool,

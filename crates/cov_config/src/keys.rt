@@ -27,7 +27,8 @@ pub(crate) fn section<'t>(table: &'t Table, name: &str) -> Option<&'t Value>
 }
 
 fn setting<'t>(table: &'t Table, in_section: &str, key: &str) -> Option<&'t Value>
-    ensures { option_map (λ v. view v.now) result ≡ setting in_section.now key.now (table_view table.now) }
+    ensures { option_map (λ v. view v.now) result
+        ≡ setting in_section.now key.now (table_view table.now) }
 {
     let found = section(table, in_section)?;
     found.get(key)
@@ -60,7 +61,8 @@ pub(crate) fn flag(
     in_section: &str,
     key: &str,
 ) -> Result<bool, ConfigError>
-    ensures { Answers (λ b. b) (reading (table_view table.now) in_section.now key.now (or_default false as_bool)) result }
+    ensures { Answers (λ b. b)
+        (reading (table_view table.now) in_section.now key.now (or_default false as_bool)) result }
 {
     let Some(value) = setting(table, in_section, key) else {
         return Ok(false);
@@ -78,7 +80,9 @@ pub(crate) fn names_tests(
     in_section: &str,
     key: &str,
 ) -> Result<bool, ConfigError>
-    ensures { Answers (λ b. b) (reading (table_view table.now) in_section.now key.now (or_default false test_function)) result }
+    ensures { Answers (λ b. b)
+        (reading (table_view table.now) in_section.now key.now
+        (or_default false test_function)) result }
 {
     let Some(value) = setting(table, in_section, key) else {
         return Ok(false);
@@ -89,6 +93,7 @@ pub(crate) fn names_tests(
     }
 }
 
+/// A whole number from 0 to `most`.
 pub(crate) fn number(
     alloc: Global,
     table: &Table,
@@ -99,7 +104,9 @@ pub(crate) fn number(
 ) -> Result<u64, ConfigError>
     requires least { default ≤ most }
     requires fits { most < 2 ^ 63 }
-    ensures value { Answers (λ n. n) (reading (table_view table.now) in_section.now key.now (or_default default (up_to most))) result }
+    ensures value { Answers (λ n. n)
+        (reading (table_view table.now) in_section.now key.now
+        (or_default default (up_to most))) result }
     ensures most { IfOk result (λ n. n ≤ most) }
 {
     let Some(value) = setting(table, in_section, key) else {
@@ -126,7 +133,8 @@ pub(crate) fn text(
     in_section: &str,
     key: &str,
 ) -> Result<String, ConfigError>
-    ensures { Answers string_bytes (reading (table_view table.now) in_section.now key.now (or_default [] as_str)) result }
+    ensures { Answers string_bytes
+        (reading (table_view table.now) in_section.now key.now (or_default [] as_str)) result }
 {
     let Some(value) = setting(table, in_section, key) else {
         return Ok(String::new(alloc));
@@ -145,7 +153,9 @@ pub(crate) fn filled_text(
     key: &str,
     default: &str,
 ) -> Result<String, ConfigError>
-    ensures { Answers string_bytes (reading (table_view table.now) in_section.now key.now (or_default default.now filled)) result }
+    ensures { Answers string_bytes
+        (reading (table_view table.now) in_section.now key.now
+        (or_default default.now filled)) result }
 {
     let Some(value) = setting(table, in_section, key) else {
         return Ok(String::from_str(alloc, default)?);
@@ -163,7 +173,8 @@ pub(crate) fn hook(
     in_section: &str,
     key: &str,
 ) -> Result<Option<(String, String)>, ConfigError>
-    ensures { Answers hook_view (reading (table_view table.now) in_section.now key.now (or_default None hook_text)) result }
+    ensures { Answers hook_view
+        (reading (table_view table.now) in_section.now key.now (or_default None hook_text)) result }
 {
     let Some(value) = setting(table, in_section, key) else {
         return Ok(None);
@@ -187,7 +198,9 @@ pub(crate) fn texts(
     key: &str,
     default: &[&str],
 ) -> Result<Vec<String>, ConfigError>
-    ensures { Answers texts_view (reading (table_view table.now) in_section.now key.now (or_default (map (λ t. t.now) default.now) texts)) result }
+    ensures { Answers texts_view
+        (reading (table_view table.now) in_section.now key.now
+        (or_default (map (λ t. t.now) default.now) texts)) result }
 {
     let Some(value) = setting(table, in_section, key) else {
         return Ok(owned_texts(alloc, default)?);

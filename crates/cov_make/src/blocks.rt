@@ -50,7 +50,8 @@ fn digit_of(q: u64) -> char
 
 /// Appends the block that is drawn with this number.
 pub(crate) fn push_block(text: &mut String, number: u64) -> Result<(), NoMemory>
-    ensures { let q = drawn number in OnOk result (string_bytes text.new ≡ string_bytes text.old ++ block (form_of q) (digit_of q)) }
+    ensures { let q = drawn number in OnOk result
+        (string_bytes text.new ≡ string_bytes text.old ++ block (form_of q) (digit_of q)) }
 {
     let q = drawn(number);
     let (front, back) = form_of(q).texts();

@@ -3,4 +3,6 @@
 #![tactic(auto)]
 
 #[cfg(test)]
+mod omits;
+#[cfg(test)]
 mod settings;
