@@ -2,6 +2,7 @@ mod Colons
 mod TextLists
 mod Readings
 mod Rules
+mod Orders
 mod Documents
 mod Places
 mod Steps

@@ -1,9 +1,12 @@
 -- The settings that a TOML document means, key by key: coverage.py, "Configuration reference".
 --     setting                the value of a key
+--     in_order               members in the byte order of their names
 --     run_of, report_of, paths_of   the three sections
 --     settings_of, meaning_of       the settings of a document, and of bytes
 use Rattle.std.specs.Prelude.{ℕ, Bool, false, if◌then◌else◌, List, [], ◌∷◌, ◌++◌, codes, Option, Some, None, option_and_then, Result, Ok, Err}
+use Rattle.std.specs.Cmp.Lexicographic.{slice_cmp}
 use Rattle.std.specs.Option.{ok_or}
+use Rattle.std.specs.Ordering.{nat_cmp, is_lt}
 use Rattle.std.specs.Str.{is_utf8}
 use Rattle.toml.specs.Data.{Data, Members, no_members, member, get, get_member, as_bool, as_str, as_table}
 use Rattle.toml.specs.Parse.{parse_document}
@@ -86,7 +89,17 @@ report_of ms =
       partial_branches = partial_branches;
     })))))))
 
--- each key sets a rule. The members of a table stand in the byte order of their names
+-- a member at its place by the byte order of names
+abbrev pub placed : Text → Data → Members → Members
+placed name d no_members = member name d no_members
+placed name d (member first e ms) = if is_lt (slice_cmp nat_cmp name first) then member name d (member first e ms) else member first e (placed name d ms)
+
+-- the members in the byte order of their names
+abbrev pub in_order : Members → Members
+in_order no_members = no_members
+in_order (member name d ms) = placed name d (in_order ms)
+
+-- each key sets a rule
 abbrev pub rules_in : Members → Result (List (Text × List Text)) Text
 rules_in no_members = Ok []
 rules_in (member name d ms) =
@@ -96,7 +109,7 @@ rules_in (member name d ms) =
 
 abbrev pub rules_of : Option Members → Result (List (Text × List Text)) Text
 rules_of None = Ok []
-rules_of (Some ms) = rules_in ms
+rules_of (Some ms) = rules_in (in_order ms)
 
 abbrev pub paths_of : Members → Result (List (Text × List Text)) Text
 paths_of ms = rules_of (option_and_then as_table (section (codes "paths") ms))

@@ -1,6 +1,6 @@
 //! The section `paths`.
 ghost use Rattle.toml.specs.View.{table_view};
-ghost use Rattle.cov_config.specs.Settings.{rules_in, paths_of};
+ghost use Rattle.cov_config.specs.Settings.{in_order, rules_in, paths_of};
 ghost use Rattle.cov_config.specs.Plain.{Answers, rules_view};
 
 use crate::ConfigError;
@@ -26,7 +26,7 @@ pub(crate) fn read_paths(
 }
 
 fn rules_in(alloc: Global, table: &Table) -> Result<Vec<(String, Vec<String>)>, ConfigError>
-    ensures { Answers (λ rules. rules_view rules.items) (rules_in (table_view table.now)) result }
+    ensures { Answers (λ rules. rules_view rules.items) (rules_in (in_order (table_view table.now))) result }
 {
     let mut rules = Vec::new(alloc);
     for (name, value) in table {

@@ -2,9 +2,10 @@ use Rattle.std.proofs.Common.{◌≡◌, ◌++◌, ◌∷◌, [], List, ap, sym,
 use Rattle.std.proofs.lemmas.List.{map_push}
 use Rattle.toml.specs.View.{view, members_view}
 use Rattle.cov_config.specs.Forms.{Text, rule_texts}
-use Rattle.cov_config.specs.Settings.{key_name, rules_in}
+use Rattle.cov_config.specs.Settings.{key_name, in_order, rules_in}
 use Rattle.cov_config.specs.Plain.{rules_view, texts_view}
 use Rattle.cov_config.proofs.Rules.{Rules, after, after-nil, after-rule, after-bad, after-all}
+use Rattle.cov_config.proofs.Orders.{as_they_stand}
 use Rattle.cov_config.proofs.Readings.{named}
 use Rattle.cov_config.proofs.paths.rules_in.Goals as goal
 
@@ -18,7 +19,7 @@ pub loop-name-init : goal.loop-name-init
 loop-name-init c =
     let given = c.into_iter-name-iterator.ensures.into_iter_gives in
     let meant = rules_in (members_view c.args.table.now.entries) in
-    after-nil meant ∙ ap (λ rules. after (rules_view rules) meant) (sym c.new-rules.ensures.items)
+    ap rules_in (as_they_stand c.args.table.now.entries given.5) ∙ after-nil meant ∙ ap (λ rules. after (rules_view rules) meant) (sym c.new-rules.ensures.items)
     ∙ ap (λ es. after (seen c.new-rules.result) (rules_in (members_view es))) (sym given.0)
 
 pub returns-in_default : goal.returns-in_default
@@ -28,7 +29,7 @@ returns-in_default c =
     let before = seen c.loop-name.rules in
     let bad : rule_texts (view c.in-Some.value.now) ≡ None = sym c.in_ok-texts.ensures ∙ ap (option_map texts_view) c.in_default.is in
     let named_so = ap (λ n. key_name (codes "paths") n) c.as_str.ensures.value in
-    let meant : rules_in (members_view c.args.table.now.entries) ≡ Err (key_name (codes "paths") c.as_str.result.now) =
+    let meant : rules_in (in_order (members_view c.args.table.now.entries)) ≡ Err (key_name (codes "paths") c.as_str.result.now) =
     c.loop-name.invariant ∙ ap (λ es. after before (rules_in (members_view es))) c.in-Some.ensures.steps
     ∙ after-bad before name (view c.in-Some.value.now) rest bad ∙ ap Err (sym named_so) in
     named seen _ _ c.bad_key.result c.bad_key.ensures meant
