@@ -1,4 +1,4 @@
-//! Worked rows of the outside, of recorded data and of their combination, as tests. They stand in a crate of their own so
+//! Worked rows of the outside, of recorded data, of their combination and of vaults, as tests. They stand in a crate of their own so
 //! that the libraries are proved once and not a second time with their tests.
 #![tactic(auto)]
 
@@ -10,3 +10,5 @@ mod data;
 mod outside;
 #[cfg(test)]
 mod sets;
+#[cfg(test)]
+mod vaults;

@@ -8,8 +8,6 @@
 mod entries;
 mod failing;
 mod memory;
-#[cfg(test)]
-mod tests;
 mod vault;
 
 pub use memory::{MemVault, SureVault};

@@ -1,39 +1,34 @@
-use crate::{Content, MemVault, SureVault, Vault, VaultError};
-use cov_data::{Data, Row};
+use crate::sets::data_of;
+use cov_vault::{Content, MemVault, SureVault, Vault, VaultError};
 use std::alloc::{AllocError, Global};
 use std::process::Abort;
 use std::test::Fail;
 
-/// Line data with one row.
-fn one_line(alloc: Global, line: i32) -> Result<Data, AllocError> {
-    let mut data = Data::new(alloc, false);
-    let row = Row {
-        path: String::from_str(alloc, "a.py")?,
-        context: String::new(alloc),
-        from: line,
-        to: line,
-        count: 1,
-    };
-    if data.accepts(&row) {
-        data.add(row)?;
+fn pair(alloc: Global, name: &str, content: Content) -> Result<(String, Content), AllocError> {
+    match String::from_str(alloc, name) {
+        Ok(name) => Ok((name, content)),
+        Err(error) => {
+            drop(content);
+            Err(error)
+        }
     }
-    Ok(data)
+}
+
+/// A name with line data.
+fn good(alloc: Global, name: &str, rows: &str) -> Result<(String, Content), AllocError> {
+    let name = String::from_str(alloc, name)?;
+    let data = data_of(alloc, false, rows)?;
+    Ok((name, Content::Good(data)))
 }
 
 /// Four names, one of them twice, of which the first counts.
 fn contents(alloc: Global) -> Result<Vec<(String, Content)>, AllocError> {
     let mut pairs = Vec::new(alloc);
-    pairs.push((String::from_str(alloc, "d")?, Content::NotSchema7))?;
-    pairs.push((
-        String::from_str(alloc, "b")?,
-        Content::Good(one_line(alloc, 3)?),
-    ))?;
-    pairs.push((String::from_str(alloc, "c")?, Content::BadRow(2)))?;
-    pairs.push((
-        String::from_str(alloc, "b")?,
-        Content::Good(one_line(alloc, 4)?),
-    ))?;
-    pairs.push((String::from_str(alloc, "é")?, Content::NotSchema7))?;
+    pairs.push(pair(alloc, "d", Content::NotSchema7)?)?;
+    pairs.push(good(alloc, "b", "a.py . 3 3 1")?)?;
+    pairs.push(pair(alloc, "c", Content::BadRow(2))?)?;
+    pairs.push(good(alloc, "b", "a.py . 4 4 1")?)?;
+    pairs.push(pair(alloc, "é", Content::NotSchema7)?)?;
     Ok(pairs)
 }
 
@@ -87,7 +82,7 @@ fn a_vault_keeps_contents_by_name(rt: HostRuntime) -> Result<(), Fail> {
     ] {
         assert_line(&rt, alloc, &mut vault, name, expected)?;
     }
-    let data = one_line(alloc, 5)?;
+    let data = data_of(alloc, false, "a.py . 5 5 1")?;
     for (name, answer, line) in [
         ("a", Ok(()), Ok(5)),
         ("b", Ok(()), Ok(5)),
@@ -117,7 +112,7 @@ fn the_named_calls_fail(rt: HostRuntime) -> Result<(), Fail> {
     assert_names(&rt, alloc, &mut vault, Ok("b c d é"))?;
     assert_line(&rt, alloc, &mut vault, "b", Err(VaultError::Failed))?;
     assert_line(&rt, alloc, &mut vault, "b", Ok(3))?;
-    let data = one_line(alloc, 5)?;
+    let data = data_of(alloc, false, "a.py . 5 5 1")?;
     assert_eq!(rt; vault.save(alloc, "a", &data), Err(VaultError::Failed));
     assert_eq!(rt; vault.save(alloc, "a", &data), Ok(()));
     assert_eq!(rt; vault.remove(alloc, "b"), Err(VaultError::Failed));
