@@ -1,0 +1,5 @@
+mod Steps
+mod Standing
+mod Forms
+mod Instructions
+mod Never

@@ -1,0 +1,9 @@
+pub mod Run
+pub mod Faults
+pub mod Configurations
+pub mod Units
+pub mod Callees
+pub mod Machine
+pub mod Programs
+pub mod Footprints
+pub mod Valid
