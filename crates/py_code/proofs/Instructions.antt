@@ -17,7 +17,8 @@ use Rattle.py_builtins.specs.Arguments.{Answer}
 use Rattle.py_builtins.specs.Builtins.{Done, builtin_of, exception_of}
 use Rattle.py_builtins.specs.Catching.{assertion_error}
 use Rattle.py_builtins.specs.Items.{items_in, unpacked, item_of}
-use Rattle.py_builtins.specs.Methods.{method_of}
+use Rattle.py_builtins.specs.Making.{new_tuple}
+use Rattle.py_builtins.specs.Methods.{new_list, method_of}
 use Rattle.py_builtins.specs.Parameters.{most_frames, arguments, defaults_at}
 use Rattle.py_builtins.specs.World.{is_begun}
 use Rattle.py_code.specs.declared.instr.Bounds.TheVariants.{Neither, From, To, Both}
@@ -30,7 +31,7 @@ use Rattle.py_code.specs.declared.unit.Handler.{Handler}
 use Rattle.py_code.specs.Callees.{Callee, a_value, a_method, sequence_items, of_length}
 use Rattle.py_code.specs.Configurations.{Way, on, by_break, by_continue, by_return, by_raise, Operand, of_value, of_walk, of_way, Locals, Frame, Effects, Configuration, Next}
 use Rattle.py_code.specs.Footprints.{footprint, is_mark}
-use Rattle.py_code.specs.Machine.{told, with_effects, with_operands, answers, pushes_answer, pushes_text, pushes_truth, makes, stores, falls, jumps, operand_of, walk_in, give, enter, calls, Reach, at_once, in_frame, code_of, to_function, with_arguments, by_answer, by_done, reach, reach_callee, runs_module, imports, looks_in, spreads, pushes, stepping, dropping, begins, turns, walks, raises, marks, puts_way, resumes, links, act, move, acts, move_in, heap_of, value_in, escapes, throw, callers_rank, halted}
+use Rattle.py_code.specs.Machine.{told, with_effects, with_operands, answers, pushes_answer, pushes_text, pushes_truth, makes, stores, falls, jumps, operand_of, walk_in, callee_in, one, give, enter, calls, Reach, at_once, in_frame, code_of, to_function, with_arguments, by_answer, by_done, reach, reach_callee, runs_module, imports, looks_in, spreads, pushes, stepping, dropping, begins, turns, walks, raises, marks, puts_way, resumes, links, act, move, acts, move_in, heap_of, value_in, escapes, throw, callers_rank, halted}
 use Rattle.py_code.specs.Run.{Move, Goes, Ticks, Ends}
 use Rattle.py_code.specs.Units.{Module, units_of, unit_at, places_in, places_of, handler_of, number_from, imported_number}
 use Rattle.py_code.specs.Valid.{Leads, LandsAt, FitsAt, IsValid, AreValid}
@@ -287,7 +288,7 @@ module _ {L : Type 0} (locals : Locals L) (ms : List Module) (depths : CodeId �
   fine (Copy n) units xs s f = on_number locals ms depths valid c xs n _ f.enough (λ x. let le = f.enough in go f.leads.0 (omega arith))
   fine (Sink n) units xs s f =
       on_one locals ms depths valid c xs _ (let le = f.enough in omega arith) (λ x ys e. let le = f.enough in
-      on_dropped locals ms depths valid c n ys _ (omega arith) (λ zs d.
+      on_dropped locals ms depths valid c n ys (λ zs. falls (take n ys ++ x ∷ zs) c) (omega arith) (λ zs d.
       let front = length-take-le n ys (omega arith) in let both = length-append (take n ys) (x ∷ zs) in go {xs = take n ys ++ x ∷ zs} f.leads.0 (omega arith)))
   fine (Roll n) units xs s f =
       on_number locals ms depths valid c xs n _ f.enough (λ x. let le = f.enough in let rest = length-remove xs n le in go f.leads.0 (omega arith))
@@ -300,8 +301,10 @@ module _ {L : Type 0} (locals : Locals L) (ms : List Module) (depths : CodeId �
   fine (UnsetGlobal n) units xs s f = on_number locals ms depths valid c u.names.items n _ f.numbers (λ name. go f.leads.0 (omega arith))
   fine Text units xs s f = on_one locals ms depths valid c xs _ f.enough (λ x ys e. texts _ ys (length xs - 1) f.lands (omega arith) (leads_as f.leads.0 (omega arith)))
   fine Extend units xs s f = on_two locals ms depths valid c xs _ f.enough (λ x y ys e. texts _ ys (length xs - 2) f.lands (omega arith) (leads_as f.leads.0 (omega arith)))
-  fine (Tuple n) units xs s f = on_many locals ms depths valid c n xs _ f.enough (λ vs ys e. values _ ys (length xs - n) f.lands (omega arith) (leads_as f.leads.0 (omega arith)))
-  fine (MakeList n) units xs s f = on_many locals ms depths valid c n xs _ f.enough (λ vs ys e. made _ ys (length xs - n) f.lands (omega arith) (leads_as f.leads.0 (omega arith)))
+  fine (Tuple n) units xs s f =
+      on_many locals ms depths valid c n xs (λ vs ys. pushes_answer locals ms (new_tuple vs) ys c) f.enough (λ vs ys e. values (new_tuple vs) ys (length xs - n) f.lands (omega arith) (leads_as f.leads.0 (omega arith)))
+  fine (MakeList n) units xs s f =
+      on_many locals ms depths valid c n xs (λ vs ys. makes locals ms (new_list vs (heap_of c)) ys c) f.enough (λ vs ys e. made (new_list vs (heap_of c)) ys (length xs - n) f.lands (omega arith) (leads_as f.leads.0 (omega arith)))
   fine Dict units xs s f = go f.leads.0 (omega arith)
   fine AddPair units xs s f = on_three locals ms depths valid c xs _ f.enough (λ d k v ys e. put _ ys (d ∷ ys) (length xs - 3) f.lands (omega arith) (leads_as f.leads.0 (omega arith)))
   fine Not units xs s f = on_one locals ms depths valid c xs _ f.enough (λ x ys e. on_truth locals ms depths valid c (value_in x) (pushes (bool_value false) ys c) (pushes (bool_value true) ys c) (go f.leads.0 (omega arith)) (go f.leads.0 (omega arith)))
@@ -349,9 +352,9 @@ module _ {L : Type 0} (locals : Locals L) (ms : List Module) (depths : CodeId �
       on_one locals ms depths valid c xs _ f.enough (λ x ys e. taken_on _ ys (length xs - 1) f.lands (omega arith) (leads_as f.leads.0 (omega arith))))
   fine (Call n) units xs s f =
       let le = f.enough in
-      on_many locals ms depths valid c n xs _ (omega arith) (λ vs ys e.
-      on_one locals ms depths valid c ys _ (omega arith) (λ x zs d.
-      called _ zs (callee_inside ms _ vs c.effects) (leads_as f.leads.0 (omega arith)) (lands_as (length xs - suc n) (length zs) (omega arith) f.lands)))
+      on_many locals ms depths valid c n xs (λ vs ys. one ys c (λ x zs. calls locals ms (reach_callee ms (callee_in x) vs c.effects) zs c)) (omega arith) (λ vs ys e.
+      on_one locals ms depths valid c ys (λ x zs. calls locals ms (reach_callee ms (callee_in x) vs c.effects) zs c) (omega arith) (λ x zs d.
+      called (reach_callee ms (callee_in x) vs c.effects) zs (callee_inside ms (callee_in x) vs c.effects) (leads_as f.leads.0 (omega arith)) (lands_as (length xs - suc n) (length zs) (omega arith) f.lands)))
   fine Return units xs s f = on_one locals ms depths valid c xs _ f.enough (λ x ys e. gives _ c.callers c.effects waiting (omega arith))
   fine (Function k) units xs s f = go f.leads.0 (omega arith)
   fine (FunctionWith k) units xs s f = on_one locals ms depths valid c xs _ f.enough (λ x ys e. go f.leads.0 (omega arith))
