@@ -11,11 +11,10 @@ use Rattle.py_value.specs.Operators.{truth_of}
 use Rattle.py_value.specs.Plain.{PlainValue, PlainRaised}
 use Rattle.py_builtins.specs.Parameters.{most_frames}
 use Rattle.py_code.specs.declared.unit.Handler.{Handler}
-use Rattle.py_code.specs.declared.unit.Unit.{Unit as Code}
 use Rattle.py_code.specs.Configurations.{Operand, of_value, Locals, Frame, Effects, Configuration, Ended, End, Next}
 use Rattle.py_code.specs.Machine.{told, with_effects, with_operands, dropping, one, two, three, many, where_found, numbered, stepping, value_in, throw, answers, chooses, heap_of}
 use Rattle.py_code.specs.Run.{Move, Goes, Ticks, Ends}
-use Rattle.py_code.specs.Units.{Module, unit_at, places_of, handler_of}
+use Rattle.py_code.specs.Units.{Code, Module, unit_at, places_of, handler_of}
 use Rattle.py_code.specs.Valid.{Leads, LandsAt, AreValid}
 use Rattle.py_code.proofs.Standing.{Fine, AllWait, rises}
 
@@ -73,7 +72,7 @@ module _ {L : Type 0} (locals : Locals L) (ms : List Module) (depths : CodeId �
   module _ (u : Code) (is : unit_at ms c.top.code ≡ Some u) (here : c.top.place < length (places_of ms c.top.code)) (waiting : AllWait locals ms depths valid c.callers) where
     -- an answer, or an exception
     pub on_answer : {A : Type 0} (r : Result A PlainRaised) (xs : List Operand) (l : L) (e : Effects) (k : A → Next L) (rest : ℕ)
-        → LandsAt (depths c.top.code) c.top.place rest (handler_of c.top.place u.handlers.items) → rest ≤ length xs → ((a : A) → Fine locals ms depths valid c (k a))
+        → LandsAt (depths c.top.code) c.top.place rest (handler_of c.top.place u.handlers) → rest ≤ length xs → ((a : A) → Fine locals ms depths valid c (k a))
         → Fine locals ms depths valid c (answers locals ms r xs (with_effects e c) k)
     on_answer (Ok a) xs l e k rest lands le h = h a
     on_answer (Err raised) xs l e k rest lands le h =

@@ -26,20 +26,19 @@ use Rattle.py_code.specs.declared.instr.Instr.{Instr}
 use Rattle.py_code.specs.declared.instr.Instr.TheVariants.{Constant, Pop, Copy, Sink, Roll, LoadLocal, StoreLocal, UnsetLocal, LoadGlobal, StoreGlobal, UnsetGlobal, Text, Extend, Tuple, List as MakeList, Dict, AddPair, Not, Binary, InPlace, Compare, Index, Slice, Attribute, StoreIndex, Unpack}
 use Rattle.py_code.specs.declared.instr.Instr.TheVariants.{Goto, IfFalse, IfTrue, And, Or, Link, Unless, Sequence, Mark, Again, Walk, Next as NextItem, Method, Call, Return, Function, FunctionWith, Import, Module as LoadModule, Take}
 use Rattle.py_code.specs.declared.instr.Instr.TheVariants.{Raise, Reraise, Assertion, AssertionWith, Catches, Caught, Uncaught, Leave, Ending, Breaking, Continuing, Returning, Settle, Release}
-use Rattle.py_code.specs.declared.unit.Unit.{Unit as Code}
 use Rattle.py_code.specs.declared.unit.Handler.{Handler}
 use Rattle.py_code.specs.Callees.{Callee, a_value, a_method, sequence_items, of_length}
 use Rattle.py_code.specs.Configurations.{Way, on, by_break, by_continue, by_return, by_raise, Operand, of_value, of_walk, of_way, Locals, Frame, Effects, Configuration, Next}
 use Rattle.py_code.specs.Footprints.{footprint, is_mark}
 use Rattle.py_code.specs.Machine.{told, with_effects, with_operands, answers, pushes_answer, pushes_text, pushes_truth, makes, stores, falls, jumps, operand_of, walk_in, callee_in, one, give, enter, calls, Reach, at_once, in_frame, code_of, to_function, with_arguments, by_answer, by_done, reach, reach_callee, runs_module, imports, looks_in, spreads, pushes, stepping, dropping, begins, turns, walks, raises, marks, puts_way, resumes, links, act, move, acts, move_in, heap_of, value_in, escapes, throw, callers_rank, halted}
 use Rattle.py_code.specs.Run.{Move, Goes, Ticks, Ends}
-use Rattle.py_code.specs.Units.{Module, units_of, unit_at, places_in, places_of, handler_of, number_from, imported_number}
+use Rattle.py_code.specs.Units.{Code, Module, units_of, unit_at, places_in, places_of, handler_of, number_from, imported_number}
 use Rattle.py_code.specs.Valid.{Leads, LandsAt, FitsAt, IsValid, AreValid}
 use Rattle.py_code.proofs.Standing.{Fine, Stands, StandsIn, Waits, AllWait, inside, goes_to, rises}
 use Rattle.py_code.proofs.Forms.{found_at, on_one, on_two, on_three, on_dropped, on_many, on_number, on_truth, on_step, on_answer}
 
 -- a frame that a call leads to has a unit
-abbrev Inside : List Module → Reach → Type 0
+abbrev pub Inside : List Module → Reach → Type 0
 Inside ms (at_once r e) = Unit {0}
 Inside ms (in_frame code vs) = (u : Code) × (unit_at ms code ≡ Some u)
 
@@ -49,13 +48,13 @@ arguments_inside ms f u is (Some vs) e = (u, is)
 
 function_inside : (ms : List Module) (o : Option Code) (f : FuncId) (a : Option ℕ) (vs : List PlainValue) (e : Effects) → unit_at ms (code_of f) ≡ o → Inside ms (to_function o f a vs e)
 function_inside ms None f a vs e is = tt
-function_inside ms (Some u) f a vs e is = arguments_inside ms f u is (arguments u.params.items (defaults_at e.world.heap a) vs) e
+function_inside ms (Some u) f a vs e is = arguments_inside ms f u is (arguments u.params (defaults_at e.world.heap a) vs) e
 
 answer_inside : (ms : List Module) (r : Answer) (e : Effects) → Inside ms (by_answer r e)
 answer_inside ms (Ok r) e = tt
 answer_inside ms (Err raised) e = tt
 
-reach_inside : (ms : List Module) (v : PlainValue) (vs : List PlainValue) (e : Effects) → Inside ms (reach ms v vs e)
+pub reach_inside : (ms : List Module) (v : PlainValue) (vs : List PlainValue) (e : Effects) → Inside ms (reach ms v vs e)
 reach_inside ms none_value vs e = tt
 reach_inside ms (bool_value b) vs e = tt
 reach_inside ms (int_value n) vs e = tt
@@ -94,7 +93,7 @@ module _ {L : Type 0} (locals : Locals L) (ms : List Module) (depths : CodeId �
   Goal n = Fine locals ms depths valid c n
 
   abbrev LandsWith : ℕ → Type 0
-  LandsWith rest = LandsAt (depths c.top.code) c.top.place rest (handler_of c.top.place u.handlers.items)
+  LandsWith rest = LandsAt (depths c.top.code) c.top.place rest (handler_of c.top.place u.handlers)
 
   lands_as : (m n : ℕ) → m ≡ n → LandsWith m → LandsWith n
   lands_as m n e k = subst LandsWith e k
@@ -283,7 +282,7 @@ module _ {L : Type 0} (locals : Locals L) (ms : List Module) (depths : CodeId �
 
   -- an instruction, on the operands that are there
   pub fine : (i : Instr) (units : ℕ) (xs : List Operand) → c.top.operands ≡ xs → FitsAt u units (depths c.top.code) c.top.place (length xs) i → Goal (act locals ms u i xs c)
-  fine (Constant n) units xs s f = on_number locals ms depths valid c u.constants.items n _ f.numbers (λ k. go f.leads.0 (omega arith))
+  fine (Constant n) units xs s f = on_number locals ms depths valid c u.constants n _ f.numbers (λ k. go f.leads.0 (omega arith))
   fine Pop units xs s f = on_one locals ms depths valid c xs _ f.enough (λ x ys e. go f.leads.0 (omega arith))
   fine (Copy n) units xs s f = on_number locals ms depths valid c xs n _ f.enough (λ x. let le = f.enough in go f.leads.0 (omega arith))
   fine (Sink n) units xs s f =
@@ -292,13 +291,13 @@ module _ {L : Type 0} (locals : Locals L) (ms : List Module) (depths : CodeId �
       let front = length-take-le n ys (omega arith) in let both = length-append (take n ys) (x ∷ zs) in go {xs = take n ys ++ x ∷ zs} f.leads.0 (omega arith)))
   fine (Roll n) units xs s f =
       on_number locals ms depths valid c xs n _ f.enough (λ x. let le = f.enough in let rest = length-remove xs n le in go f.leads.0 (omega arith))
-  fine (LoadLocal n) units xs s f = on_number locals ms depths valid c u.locals.items n _ f.numbers (λ x. values _ xs (length xs - 0) f.lands (omega arith) (leads_as f.leads.0 (omega arith)))
+  fine (LoadLocal n) units xs s f = on_number locals ms depths valid c u.locals n _ f.numbers (λ x. values _ xs (length xs - 0) f.lands (omega arith) (leads_as f.leads.0 (omega arith)))
   fine (StoreLocal n) units xs s f = on_one locals ms depths valid c xs _ f.enough (λ x ys e. go f.leads.0 (omega arith))
   fine (UnsetLocal n) units xs s f = go f.leads.0 (omega arith)
-  fine (LoadGlobal n) units xs s f = on_number locals ms depths valid c u.names.items n _ f.numbers (λ x. values _ xs (length xs - 0) f.lands (omega arith) (leads_as f.leads.0 (omega arith)))
+  fine (LoadGlobal n) units xs s f = on_number locals ms depths valid c u.names n _ f.numbers (λ x. values _ xs (length xs - 0) f.lands (omega arith) (leads_as f.leads.0 (omega arith)))
   fine (StoreGlobal n) units xs s f =
-      on_number locals ms depths valid c u.names.items n _ f.numbers (λ name. on_one locals ms depths valid c xs _ f.enough (λ x ys e. go f.leads.0 (omega arith)))
-  fine (UnsetGlobal n) units xs s f = on_number locals ms depths valid c u.names.items n _ f.numbers (λ name. go f.leads.0 (omega arith))
+      on_number locals ms depths valid c u.names n _ f.numbers (λ name. on_one locals ms depths valid c xs _ f.enough (λ x ys e. go f.leads.0 (omega arith)))
+  fine (UnsetGlobal n) units xs s f = on_number locals ms depths valid c u.names n _ f.numbers (λ name. go f.leads.0 (omega arith))
   fine Text units xs s f = on_one locals ms depths valid c xs _ f.enough (λ x ys e. texts _ ys (length xs - 1) f.lands (omega arith) (leads_as f.leads.0 (omega arith)))
   fine Extend units xs s f = on_two locals ms depths valid c xs _ f.enough (λ x y ys e. texts _ ys (length xs - 2) f.lands (omega arith) (leads_as f.leads.0 (omega arith)))
   fine (Tuple n) units xs s f =
@@ -317,7 +316,7 @@ module _ {L : Type 0} (locals : Locals L) (ms : List Module) (depths : CodeId �
   fine (Slice To) units xs s f = on_two locals ms depths valid c xs _ f.enough (λ x y ys e. made _ ys (length xs - 2) f.lands (omega arith) (leads_as f.leads.0 (omega arith)))
   fine (Slice Both) units xs s f = on_three locals ms depths valid c xs _ f.enough (λ x y z ys e. made _ ys (length xs - 3) f.lands (omega arith) (leads_as f.leads.0 (omega arith)))
   fine (Attribute n) units xs s f =
-      on_number locals ms depths valid c u.names.items n _ f.numbers (λ name.
+      on_number locals ms depths valid c u.names n _ f.numbers (λ name.
       on_one locals ms depths valid c xs _ f.enough (λ x ys e. values _ ys (length xs - 1) f.lands (omega arith) (leads_as f.leads.0 (omega arith))))
   fine StoreIndex units xs s f = on_three locals ms depths valid c xs _ f.enough (λ x y z ys e. put _ ys ys (length xs - 3) f.lands (omega arith) (leads_as f.leads.0 (omega arith)))
   fine (Unpack n) units xs s f = on_one locals ms depths valid c xs _ f.enough (λ x ys e. spread n (value_in x) ys (length xs - 1) f.lands (omega arith) (leads_as f.leads.0 (omega arith)))
@@ -340,15 +339,15 @@ module _ {L : Type 0} (locals : Locals L) (ms : List Module) (depths : CodeId �
       on_one locals ms depths valid c xs _ (let le = f.enough in omega arith) (λ x ys e. let le = f.enough in
       looked (sequence_items (value_in x) (heap_of c)) k n to ys (omega arith) (leads_as f.leads.0 (omega arith)) (leads_as f.leads.1.0 (omega arith)))
   fine (Mark n) units xs s f =
-      let long = ap length s in on_number locals ms depths valid c u.lines.items n _ f.numbers (λ l. marked l _ (leads_as f.leads.0 (omega arith)))
+      let long = ap length s in on_number locals ms depths valid c u.lines n _ f.numbers (λ l. marked l _ (leads_as f.leads.0 (omega arith)))
   fine (Again n) units xs s f =
-      let long = ap length s in on_number locals ms depths valid c u.lines.items n _ f.numbers (λ l. marked l _ (leads_as f.leads.0 (omega arith)))
+      let long = ap length s in on_number locals ms depths valid c u.lines n _ f.numbers (λ l. marked l _ (leads_as f.leads.0 (omega arith)))
   fine Walk units xs s f = on_one locals ms depths valid c xs _ f.enough (λ x ys e. begun _ _ ys (length xs - 1) f.lands (omega arith) (leads_as f.leads.0 (omega arith)))
   fine (NextItem to) units xs s f =
       on_one locals ms depths valid c xs _ f.enough (λ x ys e. next_turn _ (walk_in x) to ys (length xs - 1) f.lands (omega arith)
       (leads_as f.leads.0 (omega arith)) (leads_as f.leads.1.0 (omega arith)))
   fine (Method n) units xs s f =
-      on_number locals ms depths valid c u.names.items n _ f.numbers (λ name.
+      on_number locals ms depths valid c u.names n _ f.numbers (λ name.
       on_one locals ms depths valid c xs _ f.enough (λ x ys e. taken_on _ ys (length xs - 1) f.lands (omega arith) (leads_as f.leads.0 (omega arith))))
   fine (Call n) units xs s f =
       let le = f.enough in
@@ -360,12 +359,12 @@ module _ {L : Type 0} (locals : Locals L) (ms : List Module) (depths : CodeId �
   fine (FunctionWith k) units xs s f = on_one locals ms depths valid c xs _ f.enough (λ x ys e. go f.leads.0 (omega arith))
   fine (Import n) units xs s f =
       let long = ap length s in
-      on_number locals ms depths valid c u.names.items n _ f.numbers (λ name.
+      on_number locals ms depths valid c u.names n _ f.numbers (λ name.
       imported name (leads_as f.leads.0 (omega arith)) (lands_as (length xs - 0) (length c.top.operands) (omega arith) f.lands))
-  fine (LoadModule n) units xs s f = on_number locals ms depths valid c u.names.items n _ f.numbers (λ name. values _ xs (length xs - 0) f.lands (omega arith) (leads_as f.leads.0 (omega arith)))
+  fine (LoadModule n) units xs s f = on_number locals ms depths valid c u.names n _ f.numbers (λ name. values _ xs (length xs - 0) f.lands (omega arith) (leads_as f.leads.0 (omega arith)))
   fine (Take m n) units xs s f =
-      on_number locals ms depths valid c u.names.items m _ f.numbers.0 (λ from.
-      on_number locals ms depths valid c u.names.items n _ f.numbers.1 (λ name.
+      on_number locals ms depths valid c u.names m _ f.numbers.0 (λ from.
+      on_number locals ms depths valid c u.names n _ f.numbers.1 (λ name.
       on_one locals ms depths valid c xs _ f.enough (λ x ys e. values _ xs (length xs - 1) f.lands (omega arith) (leads_as f.leads.0 (omega arith)))))
   fine Raise units xs s f = on_one locals ms depths valid c xs _ f.enough (λ x ys e. raised (value_in x) ys (lands_as (length xs - 1) (length ys) (omega arith) f.lands))
   fine (Reraise n) units xs s f =

@@ -3,3 +3,4 @@ mod Standing
 mod Forms
 mod Instructions
 mod Never
+mod Codes

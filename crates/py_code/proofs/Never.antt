@@ -7,16 +7,16 @@ use Rattle.py_code.specs.declared.instr.Instr.{Instr}
 use Rattle.py_code.specs.declared.instr.Instr.TheVariants.{Constant, Pop, Copy, Sink, Roll, LoadLocal, StoreLocal, UnsetLocal, LoadGlobal, StoreGlobal, UnsetGlobal, Text, Extend, Tuple, List as MakeList, Dict, AddPair, Not, Binary, InPlace, Compare, Index, Slice, Attribute, StoreIndex, Unpack}
 use Rattle.py_code.specs.declared.instr.Instr.TheVariants.{Goto, IfFalse, IfTrue, And, Or, Link, Unless, Sequence, Mark, Again, Walk, Next as NextItem, Method, Call, Return, Function, FunctionWith, Import, Module as LoadModule, Take}
 use Rattle.py_code.specs.declared.instr.Instr.TheVariants.{Raise, Reraise, Assertion, AssertionWith, Catches, Caught, Uncaught, Leave, Ending, Breaking, Continuing, Returning, Settle, Release}
-use Rattle.py_code.specs.declared.unit.Unit.{Unit as Code}
 use Rattle.py_code.specs.Configurations.{Operand, Locals, Frame, Effects, Configuration, End, Next}
 use Rattle.py_code.specs.Footprints.{is_mark}
 use Rattle.py_code.specs.Machine.{where_found, stepping, move, move_in, acts, act, machine, rank}
 use Rattle.py_code.specs.Run.{Move, Goes, Ticks, Ends, Machine, lands, follow, walk, run, go}
-use Rattle.py_code.specs.Units.{Module, unit_at, places_in, places_of}
+use Rattle.py_code.specs.Units.{Code, Module, unit_at, places_in, places_of}
 use Rattle.py_code.specs.Valid.{marks_at, AreValid}
 use Rattle.py_code.proofs.Forms.{found_at}
 use Rattle.py_code.proofs.Instructions.{fine}
-use Rattle.py_code.proofs.Standing.{IsOver, Fine, Stands, StandsIn, AllWait, MarksIn, inside}
+use Rattle.py_code.specs.Laws.{IsOver}
+use Rattle.py_code.proofs.Standing.{Fine, Stands, StandsIn, AllWait, MarksIn, inside}
 
 not_true : false ≡ true → ⊥
 not_true e = absurd cc
@@ -26,8 +26,8 @@ module _ {L : Type 0} (locals : Locals L) (ms : List Module) (depths : CodeId �
   pub moves : (c : Configuration L) → Stands locals ms depths valid c → Fine locals ms depths valid c (move locals ms c)
   moves c s =
       let here = inside locals ms depths valid c.top.code s.top.unit s.top.is c.top.place (length c.top.operands) s.top.stands in
-      let long : length (places_of ms c.top.code) ≡ length s.top.unit.instrs.items = ap (λ o. length (places_in o)) s.top.is in
-      let found = found_at s.top.unit.instrs.items c.top.place (omega arith) in
+      let long : length (places_of ms c.top.code) ≡ length s.top.unit.instrs = ap (λ o. length (places_in o)) s.top.is in
+      let found = found_at s.top.unit.instrs c.top.place (omega arith) in
       subst (λ o. Fine locals ms depths valid c (move_in locals ms o c)) (sym s.top.is)
       (subst (λ o. Fine locals ms depths valid c (acts locals ms s.top.unit o c)) (sym found.1)
       (fine locals ms depths valid c s.top.unit s.top.is here s.callers found.0 _ c.top.operands refl
@@ -86,8 +86,8 @@ module _ {L : Type 0} (locals : Locals L) (ms : List Module) (depths : CodeId �
   mark_halts u (Link q to) c e = absurd (not_true e)
   mark_halts u (Unless n to) c e = absurd (not_true e)
   mark_halts u (Sequence k n to) c e = absurd (not_true e)
-  mark_halts u (Mark n) c e = number_halts (slice_get u.lines.items n) c _ (λ l. step_halts c.steps c _)
-  mark_halts u (Again n) c e = number_halts (slice_get u.lines.items n) c _ (λ l. step_halts c.steps c _)
+  mark_halts u (Mark n) c e = number_halts (slice_get u.lines n) c _ (λ l. step_halts c.steps c _)
+  mark_halts u (Again n) c e = number_halts (slice_get u.lines n) c _ (λ l. step_halts c.steps c _)
   mark_halts u Walk c e = absurd (not_true e)
   mark_halts u (NextItem to) c e = absurd (not_true e)
   mark_halts u (Method n) c e = absurd (not_true e)
@@ -119,7 +119,7 @@ module _ {L : Type 0} (locals : Locals L) (ms : List Module) (depths : CodeId �
 
   unit_halts : (o : Option Code) (c : Configuration L) → marks_at (slice_get (places_in o) c.top.place) ≡ true → Halts (move_in locals ms o c)
   unit_halts None c e = absurd (not_true e)
-  unit_halts (Some u) c e = place_halts u (slice_get u.instrs.items c.top.place) c e
+  unit_halts (Some u) c e = place_halts u (slice_get u.instrs c.top.place) c e
 
   move_halts : (c : Configuration L) → MarksIn locals ms depths valid c.top → Halts (move locals ms c)
   move_halts c e = unit_halts (unit_at ms c.top.code) c e

@@ -8,19 +8,12 @@ use Rattle.cov_event.specs.declared.event.CodeId.{CodeId}
 use Rattle.cov_event.specs.declared.event.Event.TheVariants.{Throw}
 use Rattle.py_value.specs.Plain.{PlainRaised}
 use Rattle.py_code.specs.declared.unit.Handler.{Handler}
-use Rattle.py_code.specs.declared.unit.Unit.{Unit as Code}
 use Rattle.py_code.specs.Configurations.{by_raise, Operand, of_way, Locals, Frame, Effects, Configuration, Ended, gave, failed, spent, stuck, End, Next}
+use Rattle.py_code.specs.Laws.{IsOver}
 use Rattle.py_code.specs.Machine.{told, escaped, land, leave, escapes, throw, callers_rank, rank}
 use Rattle.py_code.specs.Run.{Move, Goes, Ticks, Ends}
-use Rattle.py_code.specs.Units.{Module, unit_at, places_in, places_of, handlers_in, handler_of, handler_at}
+use Rattle.py_code.specs.Units.{Code, Module, unit_at, places_in, places_of, handlers_in, handler_of, handler_at}
 use Rattle.py_code.specs.Valid.{marks_at, Leads, Lands, LandsAt, IsValid, AreValid}
-
--- not by missing something
-abbrev pub IsOver : Ended → Type 0
-IsOver (gave v) = Unit {0}
-IsOver (failed e) = Unit {0}
-IsOver spent = Unit {0}
-IsOver stuck = ⊥
 
 module _ {L : Type 0} (locals : Locals L) (ms : List Module) (depths : CodeId → List ℕ) (valid : AreValid ms depths) where
   -- a frame at a place of its unit, with as many operands as stand there
@@ -34,7 +27,7 @@ module _ {L : Type 0} (locals : Locals L) (ms : List Module) (depths : CodeId �
     pub unit : Code
     pub is : unit_at ms f.code ≡ Some unit
     pub back : slice_get (depths f.code) (suc f.place) ≡ Some (suc (length f.operands))
-    pub lands : LandsAt (depths f.code) f.place (length f.operands) (handler_of f.place unit.handlers.items)
+    pub lands : LandsAt (depths f.code) f.place (length f.operands) (handler_of f.place unit.handlers)
 
   abbrev pub AllWait : List (Frame L) → Type 0
   AllWait [] = Unit {0}
@@ -62,7 +55,7 @@ module _ {L : Type 0} (locals : Locals L) (ms : List Module) (depths : CodeId �
   inside code u is p depth e =
       let here = slice_get_within (depths code) p depth e in
       let long = (valid.units code u is).long in
-      let same : length (places_of ms code) ≡ length u.instrs.items = ap (λ o. length (places_in o)) is in
+      let same : length (places_of ms code) ≡ length u.instrs = ap (λ o. length (places_in o)) is in
       omega arith
 
   module _ (c : Configuration L) (u : Code) (is : unit_at ms c.top.code ≡ Some u) (here : c.top.place < length (places_of ms c.top.code)) (waiting : AllWait c.callers) where
@@ -85,7 +78,7 @@ module _ {L : Type 0} (locals : Locals L) (ms : List Module) (depths : CodeId �
     goes_to to xs l e n leads same =
         record { holds = (record { top = record { unit = u; is = is; stands = leads.stands ∙ ap (λ k. Some k) same }; callers = waiting }, refl, onto leads.ahead) }
       where
-        onto : (c.top.place < to) ⊎ (marks_at (slice_get u.instrs.items to) ≡ true)
+        onto : (c.top.place < to) ⊎ (marks_at (slice_get u.instrs to) ≡ true)
             → (suc (length (places_of ms c.top.code) - to) + callers_rank locals ms c.callers < suc (length (places_of ms c.top.code) - c.top.place) + callers_rank locals ms c.callers)
               ⊎ (marks_at (slice_get (places_of ms c.top.code) to) ≡ true)
         onto (inl lt) = inl (omega arith)
@@ -112,15 +105,15 @@ module _ {L : Type 0} (locals : Locals L) (ms : List Module) (depths : CodeId �
         let w2 = told (Throw e.kind) (escaped code w) in
         subst (λ o. Fine c (land locals ms o (leave locals ms e f.code fs c.steps w2) e true (record { top = f; callers = fs; steps = c.steps; effects = w2 })))
         (sym (ap (λ o. handler_of f.place (handlers_in o)) all.0.is))
-        (lands_in e f fs w2 all (omega arith) (leaves e f.code fs w2 all.1 (omega arith)) (handler_of f.place all.0.unit.handlers.items) all.0.lands)
+        (lands_in e f fs w2 all (omega arith) (leaves e f.code fs w2 all.1 (omega arith)) (handler_of f.place all.0.unit.handlers) all.0.lands)
 
     -- an exception in the frame
     pub rises : (e : PlainRaised) (t : Bool) (xs : List Operand) (l : L) (w : Effects) (rest : ℕ)
-        → LandsAt (depths c.top.code) c.top.place rest (handler_of c.top.place u.handlers.items) → rest ≤ length xs → Fine c (escapes locals ms e t (At xs l w))
+        → LandsAt (depths c.top.code) c.top.place rest (handler_of c.top.place u.handlers) → rest ≤ length xs → Fine c (escapes locals ms e t (At xs l w))
     rises e t xs l w rest lands le =
         subst (λ o. Fine c (land locals ms o (leave locals ms e c.top.code c.callers c.steps w) e t (At xs l w)))
         (sym (ap (λ o. handler_of c.top.place (handlers_in o)) is))
-        (at (handler_of c.top.place u.handlers.items) lands)
+        (at (handler_of c.top.place u.handlers) lands)
       where
         at : (o : Option Handler) → LandsAt (depths c.top.code) c.top.place rest o → Fine c (land locals ms o (leave locals ms e c.top.code c.callers c.steps w) e t (At xs l w))
         at None k = leaves e c.top.code c.callers w waiting (omega arith)

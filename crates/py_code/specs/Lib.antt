@@ -7,3 +7,5 @@ pub mod Machine
 pub mod Programs
 pub mod Footprints
 pub mod Valid
+pub mod Slots
+pub mod Laws

@@ -37,12 +37,11 @@ use Rattle.py_code.specs.declared.instr.Instr.TheVariants.{Raise, Reraise, Asser
 use Rattle.py_code.specs.declared.instr.Question.{Question}
 use Rattle.py_code.specs.declared.instr.Question.TheVariants.{Eq, Ne, Lt, Le, Gt, Ge, In, NotIn, Is, IsNot}
 use Rattle.py_code.specs.declared.unit.Handler.{Handler}
-use Rattle.py_code.specs.declared.unit.Unit.{Unit as Code}
 use Rattle.py_code.specs.Callees.{Callee, a_value, a_method, callee_of, taken, or_builtin, sequence_items, of_length, address_of}
 use Rattle.py_code.specs.Configurations.{Way, on, by_break, by_continue, by_return, by_raise, Operand, of_value, of_method, of_walk, of_way, Locals, Frame, Effects, Configuration, Ended, gave, failed, spent, stuck, End, Next}
 use Rattle.py_code.specs.Faults.{local_unset, no_module}
 use Rattle.py_code.specs.Run.{Move, Goes, Ticks, Ends, Machine, go}
-use Rattle.py_code.specs.Units.{Module, unit_at, places_in, places_of, constant_value, handler_at, imported_number}
+use Rattle.py_code.specs.Units.{Code, Module, unit_at, places_in, places_of, constant_value, handler_at, imported_number}
 
 -- ---- operands as what they are taken for
 
@@ -227,7 +226,7 @@ with_arguments f (Some vs) e = in_frame (code_of f) vs
 -- a function that no module has can't be called
 abbrev pub to_function : Option Code → FuncId → Option ℕ → List PlainValue → Effects → Reach
 to_function None f a vs e = raises_at_once (raised_by NotCallable) e
-to_function (Some u) f a vs e = with_arguments f (arguments u.params.items (defaults_at e.world.heap a) vs) e
+to_function (Some u) f a vs e = with_arguments f (arguments u.params (defaults_at e.world.heap a) vs) e
 
 abbrev pub by_answer : Answer → Effects → Reach
 by_answer (Ok r) e = at_once (Ok r.0) (in_world (with_heap r.1) e)
@@ -408,17 +407,17 @@ module _ {L : Type 0} (locals : Locals L) (ms : List Module) where
   -- ---- instructions, of a unit, on these operands
 
   abbrev pub act : Code → Instr → List Operand → Configuration L → Next L
-  act u (Constant n) xs c = numbered u.constants.items n c (λ k. pushes (constant_value k) xs c)
+  act u (Constant n) xs c = numbered u.constants n c (λ k. pushes (constant_value k) xs c)
   act u Pop xs c = one xs c (λ x ys. falls ys c)
   act u (Copy n) xs c = numbered xs n c (λ x. falls (x ∷ xs) c)
   act u (Sink n) xs c = one xs c (λ x ys. dropping n ys c (λ zs. falls (take n ys ++ x ∷ zs) c))
   act u (Roll n) xs c = numbered xs n c (λ x. falls (x ∷ remove xs n) c)
-  act u (LoadLocal n) xs c = numbered u.locals.items n c (λ x. pushes_answer (or_raise (local_unset x) (locals.look c.top.code c.top.locals n)) xs c)
+  act u (LoadLocal n) xs c = numbered u.locals n c (λ x. pushes_answer (or_raise (local_unset x) (locals.look c.top.code c.top.locals n)) xs c)
   act u (StoreLocal n) xs c = one xs c (λ x ys. falls ys (with_locals (locals.set c.top.code c.top.locals n (value_in x)) c))
   act u (UnsetLocal n) xs c = falls xs (with_locals (locals.unset c.top.code c.top.locals n) c)
-  act u (LoadGlobal n) xs c = numbered u.names.items n c (λ x. pushes_answer (or_builtin x (global_of c.top.code.module x c.effects.world)) xs c)
-  act u (StoreGlobal n) xs c = numbered u.names.items n c (λ x. one xs c (λ y ys. falls ys (on_world (with_global c.top.code.module x (value_in y)) c)))
-  act u (UnsetGlobal n) xs c = numbered u.names.items n c (λ x. falls xs (on_world (without_global c.top.code.module x) c))
+  act u (LoadGlobal n) xs c = numbered u.names n c (λ x. pushes_answer (or_builtin x (global_of c.top.code.module x c.effects.world)) xs c)
+  act u (StoreGlobal n) xs c = numbered u.names n c (λ x. one xs c (λ y ys. falls ys (on_world (with_global c.top.code.module x (value_in y)) c)))
+  act u (UnsetGlobal n) xs c = numbered u.names n c (λ x. falls xs (on_world (without_global c.top.code.module x) c))
   act u Text xs c = one xs c (λ x ys. pushes_text (str_text (value_in x) (heap_of c)) ys c)
   act u Extend xs c = two xs c (λ x y ys. pushes_text (extended (text_in x) (text_in y)) ys c)
   act u (Tuple n) xs c = many n xs c (λ vs ys. pushes_answer (new_tuple vs) ys c)
@@ -434,7 +433,7 @@ module _ {L : Type 0} (locals : Locals L) (ms : List Module) where
   act u (Slice From) xs c = two xs c (λ x a ys. makes (sliced (value_in x) (Some (value_in a)) None (heap_of c)) ys c)
   act u (Slice To) xs c = two xs c (λ x b ys. makes (sliced (value_in x) None (Some (value_in b)) (heap_of c)) ys c)
   act u (Slice Both) xs c = three xs c (λ x a b ys. makes (sliced (value_in x) (Some (value_in a)) (Some (value_in b)) (heap_of c)) ys c)
-  act u (Attribute n) xs c = numbered u.names.items n c (λ name. one xs c (λ x ys. pushes_answer (attribute (value_in x) name c.effects.world) ys c))
+  act u (Attribute n) xs c = numbered u.names n c (λ name. one xs c (λ x ys. pushes_answer (attribute (value_in x) name c.effects.world) ys c))
   act u StoreIndex xs c = three xs c (λ v x i ys. stores (stored (value_in x) (value_in i) (value_in v) (heap_of c)) ys ys c)
   act u (Unpack n) xs c = one xs c (λ x ys. answers (unpacked n (value_in x) (heap_of c)) ys c (λ vs. spreads vs ys c))
   act u (Goto to) xs c = jumps to xs c
@@ -445,18 +444,18 @@ module _ {L : Type 0} (locals : Locals L) (ms : List Module) where
   act u (Link q to) xs c = two xs c (λ x y ys. answers (compared (asked q) (value_in x) (value_in y) (heap_of c)) ys c (λ b. links b y to ys c))
   act u (Unless n to) xs c = one xs c (λ x ys. chooses (value_in x) c (falls ys c) (dropping n ys c (λ zs. jumps to zs c)))
   act u (Sequence k n to) xs c = one xs c (λ x ys. looks_in (of_length k (sequence_items (value_in x) (heap_of c))) n to ys c)
-  act u (Mark n) xs c = numbered u.lines.items n c (λ l. marks l (told_line c.top.line l c.effects) c)
-  act u (Again n) xs c = numbered u.lines.items n c (λ l. marks l (told (Line l) c.effects) c)
+  act u (Mark n) xs c = numbered u.lines n c (λ l. marks l (told_line c.top.line l c.effects) c)
+  act u (Again n) xs c = numbered u.lines n c (λ l. marks l (told (Line l) c.effects) c)
   act u Walk xs c = one xs c (λ x ys. answers (walk_length (value_in x) (heap_of c)) ys c (λ n. falls (of_walk (value_in x) n 0 ∷ ys) c))
   act u (NextItem to) xs c = one xs c (λ x ys. walks (walk_in x) to ys c)
-  act u (Method n) xs c = numbered u.names.items n c (λ name. one xs c (λ x ys. answers (callee_of (value_in x) name c.effects.world) ys c (λ f. falls (operand_of f ∷ ys) c)))
+  act u (Method n) xs c = numbered u.names n c (λ name. one xs c (λ x ys. answers (callee_of (value_in x) name c.effects.world) ys c (λ f. falls (operand_of f ∷ ys) c)))
   act u (Call n) xs c = many n xs c (λ vs ys. one ys c (λ f zs. calls (reach_callee ms (callee_in f) vs c.effects) zs c))
   act u Return xs c = one xs c (λ x ys. give (value_in x) c.callers c.steps c.effects)
   act u (Function k) xs c = pushes (func_value (record { «module» = c.top.code.module; unit = k }) None) xs c
   act u (FunctionWith k) xs c = one xs c (λ x ys. pushes (func_value (record { «module» = c.top.code.module; unit = k }) (address_of (value_in x))) ys c)
-  act u (Import n) xs c = numbered u.names.items n c (λ name. imports name c)
-  act u (LoadModule n) xs c = numbered u.names.items n c (λ name. pushes_answer (imported ms name) xs c)
-  act u (Take m n) xs c = numbered u.names.items m c (λ from. numbered u.names.items n c (λ name. one xs c (λ x ys. pushes_answer (taken from (value_in x) name c.effects.world) xs c)))
+  act u (Import n) xs c = numbered u.names n c (λ name. imports name c)
+  act u (LoadModule n) xs c = numbered u.names n c (λ name. pushes_answer (imported ms name) xs c)
+  act u (Take m n) xs c = numbered u.names m c (λ from. numbered u.names n c (λ name. one xs c (λ x ys. pushes_answer (taken from (value_in x) name c.effects.world) xs c)))
   act u Raise xs c = one xs c (λ x ys. raises (value_in x) (with_operands ys c))
   act u (Reraise n) xs c = numbered xs n c (λ x. escapes (exception_in x) false c)
   act u Assertion xs c = throw (record { kind = AssertionError; arg = no_argument }) c
@@ -478,7 +477,7 @@ module _ {L : Type 0} (locals : Locals L) (ms : List Module) where
 
   abbrev pub move_in : Option Code → Configuration L → Next L
   move_in None c = halted stuck c
-  move_in (Some u) c = acts u (slice_get u.instrs.items c.top.place) c
+  move_in (Some u) c = acts u (slice_get u.instrs c.top.place) c
 
   -- one instruction
   abbrev pub move : Configuration L → Next L

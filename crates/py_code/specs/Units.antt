@@ -1,4 +1,5 @@
 -- Modules of units, and what stands in them.
+--     Code, plain_unit                units
 --     Module                          a program's module
 --     unit_at, places_of              its units, and their instructions
 --     constant_value                  constants
@@ -9,10 +10,39 @@ use Rattle.cov_event.specs.declared.event.CodeId.{CodeId}
 use Rattle.py_value.specs.Keys.{is_same_text}
 use Rattle.py_value.specs.Plain.{PlainValue, none_value, bool_value, int_value, str_value}
 use Rattle.py_code.specs.declared.instr.Instr.{Instr}
-use Rattle.py_code.specs.declared.unit.Unit.{Unit as Code}
+use Rattle.py_code.specs.declared.unit.Unit.{Unit as RawUnit}
 use Rattle.py_code.specs.declared.unit.Constant.{Constant}
 use Rattle.py_code.specs.declared.unit.Constant.TheVariants.{None as NoneConstant, Bool as BoolConstant, Int as IntConstant, Str as StrConstant}
 use Rattle.py_code.specs.declared.unit.Handler.{Handler}
+
+-- A unit: the name of the function, empty for the body of a module, its first line, its parameters, how many of the last of them have
+-- defaults, the names of its local slots, the parameters first, and its lists and tables.
+pub record Code : Type 0 where
+  pub name : List ℕ
+  pub first : ℕ
+  pub params : List (List ℕ)
+  pub defaults : ℕ
+  pub locals : List (List ℕ)
+  pub names : List (List ℕ)
+  pub constants : List Constant
+  pub instrs : List Instr
+  pub lines : List ℕ
+  pub handlers : List Handler
+
+-- a unit in memory as such
+abbrev pub plain_unit : RawUnit → Code
+plain_unit u = record {
+  name = u.name;
+  first = u.first;
+  params = u.params.items;
+  defaults = u.defaults;
+  locals = u.locals.items;
+  names = u.names.items;
+  constants = u.constants.items;
+  instrs = u.instrs.items;
+  lines = u.lines.items;
+  handlers = u.handlers.items;
+}
 
 -- a module: its name, and its units. Unit 0 is the body
 pub record Module : Type 0 where
@@ -28,7 +58,7 @@ unit_at ms code = slice_get (units_of (slice_get ms code.module)) code.unit
 
 abbrev pub places_in : Option Code → List Instr
 places_in None = []
-places_in (Some u) = u.instrs.items
+places_in (Some u) = u.instrs
 
 -- the instructions of a unit
 abbrev pub places_of : List Module → CodeId → List Instr
@@ -56,7 +86,7 @@ handler_of p (h ∷ hs) = if guards p h then Some (inner h (handler_of p hs)) el
 
 abbrev pub handlers_in : Option Code → List Handler
 handlers_in None = []
-handlers_in (Some u) = u.handlers.items
+handlers_in (Some u) = u.handlers
 
 abbrev pub handler_at : List Module → CodeId → ℕ → Option Handler
 handler_at ms code p = handler_of p (handlers_in (unit_at ms code))

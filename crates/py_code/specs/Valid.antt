@@ -2,30 +2,30 @@
 --     HasNumbers                      numbers of constants, names, slots, lines and units
 --     Leads, Lands                    jumps, and handlers
 --     IsValid, AreValid               a unit, and those of all modules
+--     IsCode, AreCodes                the units of a module, and of several
 use Rattle.std.specs.Prelude.{◌≡◌, ℕ, suc, ◌+◌, ◌-◌, ◌<◌, ◌≤◌, ◌⊎◌, Bool, true, false, List, [], ◌∷◌, length, Option, Some, None, slice_get}
 use Rattle.py_code.specs.declared.instr.Instr.{Instr}
 use Rattle.py_code.specs.declared.instr.Instr.TheVariants.{Constant, Pop, Copy, Sink, Roll, LoadLocal, StoreLocal, UnsetLocal, LoadGlobal, StoreGlobal, UnsetGlobal, Text, Extend, Tuple, List as MakeList, Dict, AddPair, Not, Binary, InPlace, Compare, Index, Slice, Attribute, StoreIndex, Unpack}
 use Rattle.py_code.specs.declared.instr.Instr.TheVariants.{Goto, IfFalse, IfTrue, And, Or, Link, Unless, Sequence, Mark, Again, Walk, Next as NextItem, Method, Call, Return, Function, FunctionWith, Import, Module as LoadModule, Take}
 use Rattle.py_code.specs.declared.instr.Instr.TheVariants.{Raise, Reraise, Assertion, AssertionWith, Catches, Caught, Uncaught, Leave, Ending, Breaking, Continuing, Returning, Settle, Release}
 use Rattle.py_code.specs.declared.unit.Handler.{Handler}
-use Rattle.py_code.specs.declared.unit.Unit.{Unit as Code}
 use Rattle.py_code.specs.Footprints.{Exit, Footprint, footprint, is_mark}
 use Rattle.cov_event.specs.declared.event.CodeId.{CodeId}
-use Rattle.py_code.specs.Units.{Module, units_of, unit_at, handler_of}
+use Rattle.py_code.specs.Units.{Code, Module, units_of, unit_at, handler_of}
 
 -- the numbers of an instruction lie in the lists of its unit, and units in those of its module
 abbrev pub HasNumbers : Code → ℕ → Instr → Type 0
-HasNumbers u units (Constant n) = n < length u.constants.items
+HasNumbers u units (Constant n) = n < length u.constants
 HasNumbers u units Pop = Unit {0}
 HasNumbers u units (Copy n) = Unit {0}
 HasNumbers u units (Sink n) = Unit {0}
 HasNumbers u units (Roll n) = Unit {0}
-HasNumbers u units (LoadLocal n) = n < length u.locals.items
-HasNumbers u units (StoreLocal n) = n < length u.locals.items
-HasNumbers u units (UnsetLocal n) = n < length u.locals.items
-HasNumbers u units (LoadGlobal n) = n < length u.names.items
-HasNumbers u units (StoreGlobal n) = n < length u.names.items
-HasNumbers u units (UnsetGlobal n) = n < length u.names.items
+HasNumbers u units (LoadLocal n) = n < length u.locals
+HasNumbers u units (StoreLocal n) = n < length u.locals
+HasNumbers u units (UnsetLocal n) = n < length u.locals
+HasNumbers u units (LoadGlobal n) = n < length u.names
+HasNumbers u units (StoreGlobal n) = n < length u.names
+HasNumbers u units (UnsetGlobal n) = n < length u.names
 HasNumbers u units Text = Unit {0}
 HasNumbers u units Extend = Unit {0}
 HasNumbers u units (Tuple n) = Unit {0}
@@ -38,7 +38,7 @@ HasNumbers u units (InPlace op) = Unit {0}
 HasNumbers u units (Compare q) = Unit {0}
 HasNumbers u units Index = Unit {0}
 HasNumbers u units (Slice bounds) = Unit {0}
-HasNumbers u units (Attribute n) = n < length u.names.items
+HasNumbers u units (Attribute n) = n < length u.names
 HasNumbers u units StoreIndex = Unit {0}
 HasNumbers u units (Unpack n) = Unit {0}
 HasNumbers u units (Goto to) = Unit {0}
@@ -49,18 +49,18 @@ HasNumbers u units (Or to) = Unit {0}
 HasNumbers u units (Link q to) = Unit {0}
 HasNumbers u units (Unless n to) = Unit {0}
 HasNumbers u units (Sequence k n to) = Unit {0}
-HasNumbers u units (Mark n) = n < length u.lines.items
-HasNumbers u units (Again n) = n < length u.lines.items
+HasNumbers u units (Mark n) = n < length u.lines
+HasNumbers u units (Again n) = n < length u.lines
 HasNumbers u units Walk = Unit {0}
 HasNumbers u units (NextItem to) = Unit {0}
-HasNumbers u units (Method n) = n < length u.names.items
+HasNumbers u units (Method n) = n < length u.names
 HasNumbers u units (Call n) = Unit {0}
 HasNumbers u units Return = Unit {0}
 HasNumbers u units (Function k) = (0 < k) × (k < units)
 HasNumbers u units (FunctionWith k) = (0 < k) × (k < units)
-HasNumbers u units (Import n) = n < length u.names.items
-HasNumbers u units (LoadModule n) = n < length u.names.items
-HasNumbers u units (Take m n) = (m < length u.names.items) × (n < length u.names.items)
+HasNumbers u units (Import n) = n < length u.names
+HasNumbers u units (LoadModule n) = n < length u.names
+HasNumbers u units (Take m n) = (m < length u.names) × (n < length u.names)
 HasNumbers u units Raise = Unit {0}
 HasNumbers u units (Reraise n) = Unit {0}
 HasNumbers u units Assertion = Unit {0}
@@ -83,7 +83,7 @@ marks_at (Some i) = is_mark i
 -- From a place to another one, where so many operands stand: ahead, or back to what marks a line.
 pub record Leads (u : Code) (depths : List ℕ) (p to depth : ℕ) : Type 0 where
   pub stands : slice_get depths to ≡ Some depth
-  pub ahead : (p < to) ⊎ (marks_at (slice_get u.instrs.items to) ≡ true)
+  pub ahead : (p < to) ⊎ (marks_at (slice_get u.instrs to) ≡ true)
 
 abbrev pub LeadAll : Code → List ℕ → ℕ → ℕ → List Exit → Type 0
 LeadAll u depths p rest [] = Unit {0}
@@ -101,7 +101,7 @@ LandsAt depths p rest (Some h) = Lands depths p rest h
 
 abbrev pub LandsIf : Bool → Code → List ℕ → ℕ → ℕ → Type 0
 LandsIf false u depths p rest = Unit {0}
-LandsIf true u depths p rest = LandsAt depths p rest (handler_of p u.handlers.items)
+LandsIf true u depths p rest = LandsAt depths p rest (handler_of p u.handlers)
 
 -- an instruction at a place where so many operands stand
 pub record FitsAt (u : Code) (units : ℕ) (depths : List ℕ) (p depth : ℕ) (i : Instr) : Type 0 where
@@ -113,11 +113,24 @@ pub record FitsAt (u : Code) (units : ℕ) (depths : List ℕ) (p depth : ℕ) (
 -- A unit in a module of so many units. Each place has one number of operands, which stand there whenever the machine comes to it.
 pub record IsValid (u : Code) (units : ℕ) (depths : List ℕ) : Type 0 where
   pub begins : slice_get depths 0 ≡ Some 0
-  pub long : length depths ≡ length u.instrs.items
-  pub fits : (p depth : ℕ) (i : Instr) → slice_get depths p ≡ Some depth → slice_get u.instrs.items p ≡ Some i → FitsAt u units depths p depth i
+  pub long : length depths ≡ length u.instrs
+  pub fits : (p depth : ℕ) (i : Instr) → slice_get depths p ≡ Some depth → slice_get u.instrs p ≡ Some i → FitsAt u units depths p depth i
 
 -- The units of all modules, each with its numbers of operands. There is a script, and each module has a body.
 pub record AreValid (ms : List Module) (depths : CodeId → List ℕ) : Type 0 where
   pub units : (code : CodeId) (u : Code) → unit_at ms code ≡ Some u → IsValid u (length (units_of (slice_get ms code.module))) (depths code)
   pub bodies : (n : ℕ) (m : Module) → slice_get ms n ≡ Some m → 0 < length m.units
   pub script : 0 < length ms
+
+-- The units of one module, by their numbers. There is a body.
+pub record UnitsAreValid (us : List Code) (depths : ℕ → List ℕ) : Type 0 where
+  pub units : (k : ℕ) (u : Code) → slice_get us k ≡ Some u → IsValid u (length us) (depths k)
+  pub body : 0 < length us
+
+-- with some numbers of operands at their places
+abbrev pub IsCode : List Code → Type 0
+IsCode us = (depths : ℕ → List ℕ) × UnitsAreValid us depths
+
+abbrev pub AreCodes : List Module → Type 0
+AreCodes [] = Unit {0}
+AreCodes (m ∷ ms) = IsCode m.units × AreCodes ms

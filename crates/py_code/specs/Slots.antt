@@ -1,0 +1,50 @@
+-- Local names of frames: by names, as programs mean them, and by slots, as a machine keeps them.
+use Rattle.std.specs.Prelude.{ℕ, ◌-◌, List, [], ◌∷◌, ◌++◌, length, map, replicate, Option, Some, None, slice_get, slice_set}
+use Rattle.cov_event.specs.declared.event.CodeId.{CodeId}
+use Rattle.py_value.specs.Plain.{PlainValue}
+use Rattle.py_builtins.specs.World.{Names, value_of, with_name, without_name}
+use Rattle.py_code.specs.Configurations.{Locals}
+use Rattle.py_code.specs.Units.{Code, Module, unit_at}
+
+abbrev pub locals_in : Option Code → List (List ℕ)
+locals_in None = []
+locals_in (Some u) = u.locals
+
+abbrev pub params_in : Option Code → List (List ℕ)
+params_in None = []
+params_in (Some u) = u.params
+
+-- the parameters with their values
+abbrev pub parameters : List (List ℕ) → List PlainValue → Names
+parameters [] vs = []
+parameters (x ∷ xs) [] = []
+parameters (x ∷ xs) (v ∷ vs) = (x, v) ∷ parameters xs vs
+
+abbrev pub name_or_none : Option (List ℕ) → List ℕ
+name_or_none None = []
+name_or_none (Some x) = x
+
+-- the name of a slot
+abbrev pub slot_name : List Module → CodeId → ℕ → List ℕ
+slot_name ms code n = name_or_none (slice_get (locals_in (unit_at ms code)) n)
+
+abbrev pub by_names : List Module → Locals Names
+by_names ms = record {
+  fresh = λ code vs. parameters (params_in (unit_at ms code)) vs;
+  look = λ code ns n. value_of (slot_name ms code n) ns;
+  set = λ code ns n v. with_name (slot_name ms code n) v ns;
+  unset = λ code ns n. without_name (slot_name ms code n) ns;
+}
+
+abbrev pub held : Option (Option PlainValue) → Option PlainValue
+held None = None
+held (Some v) = v
+
+-- the values of the parameters, and unset slots behind them
+abbrev pub by_slots : List Module → Locals (List (Option PlainValue))
+by_slots ms = record {
+  fresh = λ code vs. map Some vs ++ replicate (length (locals_in (unit_at ms code)) - length vs) None;
+  look = λ code slots n. held (slice_get slots n);
+  set = λ code slots n v. slice_set slots n (Some v);
+  unset = λ code slots n. slice_set slots n None;
+}
