@@ -4,3 +4,4 @@ mod Forms
 mod Instructions
 mod Never
 mod Codes
+mod Rows
