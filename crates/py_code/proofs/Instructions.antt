@@ -40,15 +40,31 @@ use Rattle.py_code.proofs.Forms.{found_at, on_one, on_two, on_three, on_dropped,
 -- a frame that a call leads to has a unit
 abbrev pub Inside : List Module → Reach → Type 0
 Inside ms (at_once r e) = Unit {0}
-Inside ms (in_frame code vs) = (u : Code) × (unit_at ms code ≡ Some u)
+Inside ms (in_frame code vs) = (u : Code) × (unit_at ms code ≡ Some u) × (length vs ≤ length u.params)
 
-arguments_inside : (ms : List Module) (f : FuncId) (u : Code) → unit_at ms (code_of f) ≡ Some u → (o : Option (List PlainValue)) (e : Effects) → Inside ms (with_arguments f o e)
-arguments_inside ms f u is None e = tt
-arguments_inside ms f u is (Some vs) e = (u, is)
+-- as many values as there are parameters
+arguments_fit : (params : List (List ℕ)) (defaults vs ws : List PlainValue) → arguments params defaults vs ≡ Some ws → length ws ≤ length params
+arguments_fit params defaults vs ws e = by_case (nat_le (length params) (length vs + length defaults)) (nat_le (length vs) (length params)) refl refl e
+  where
+    by_case : (a b : Bool) → nat_le (length params) (length vs + length defaults) ≡ a → nat_le (length vs) (length params) ≡ b
+        → (if a && b then Some (vs ++ drop (length vs + length defaults - length params) defaults) else None) ≡ Some ws → length ws ≤ length params
+    by_case true true f g h =
+        let both = length-append vs (drop (length vs + length defaults - length params) defaults) in
+        let cut = length-drop (length vs + length defaults - length params) defaults in
+        let same : length ws ≡ length (vs ++ drop (length vs + length defaults - length params) defaults) = cc in
+        grind (arith, nat_tests)
+    by_case true false f g h = absurd cc
+    by_case false b f g h = absurd cc
+
+arguments_inside : (ms : List Module) (f : FuncId) (u : Code) → unit_at ms (code_of f) ≡ Some u → (o : Option (List PlainValue)) (e : Effects)
+    → ((ws : List PlainValue) → o ≡ Some ws → length ws ≤ length u.params) → Inside ms (with_arguments f o e)
+arguments_inside ms f u is None e h = tt
+arguments_inside ms f u is (Some vs) e h = (u, is, h vs refl)
 
 function_inside : (ms : List Module) (o : Option Code) (f : FuncId) (a : Option ℕ) (vs : List PlainValue) (e : Effects) → unit_at ms (code_of f) ≡ o → Inside ms (to_function o f a vs e)
 function_inside ms None f a vs e is = tt
-function_inside ms (Some u) f a vs e is = arguments_inside ms f u is (arguments u.params (defaults_at e.world.heap a) vs) e
+function_inside ms (Some u) f a vs e is =
+    arguments_inside ms f u is (arguments u.params (defaults_at e.world.heap a) vs) e (λ ws h. arguments_fit u.params (defaults_at e.world.heap a) vs ws h)
 
 answer_inside : (ms : List Module) (r : Answer) (e : Effects) → Inside ms (by_answer r e)
 answer_inside ms (Ok r) e = tt
@@ -136,7 +152,7 @@ module _ {L : Type 0} (locals : Locals L) (ms : List Module) (depths : CodeId �
 
   called : (r : Reach) (xs : List Operand) → Inside ms r → Leads u (depths c.top.code) c.top.place (suc c.top.place) (suc (length xs)) → LandsWith (length xs) → Goal (calls locals ms r xs c)
   called (at_once r e) xs h leads lands = ans r xs e _ (length xs) lands (omega arith) (λ v. go leads refl)
-  called (in_frame code vs) xs h leads lands = enters code vs xs h leads.stands lands
+  called (in_frame code vs) xs h leads lands = enters code vs xs (h.0, h.1) leads.stands lands
 
   raised : (v : PlainValue) (xs : List Operand) → LandsWith (length xs) → Goal (raises locals ms v (with_operands xs c))
   raised none_value xs k = fling _ xs (length xs) k (omega arith)
@@ -292,8 +308,9 @@ module _ {L : Type 0} (locals : Locals L) (ms : List Module) (depths : CodeId �
   fine (Roll n) units xs s f =
       on_number locals ms depths valid c xs n _ f.enough (λ x. let le = f.enough in let rest = length-remove xs n le in go f.leads.0 (omega arith))
   fine (LoadLocal n) units xs s f = on_number locals ms depths valid c u.locals n _ f.numbers (λ x. values _ xs (length xs - 0) f.lands (omega arith) (leads_as f.leads.0 (omega arith)))
-  fine (StoreLocal n) units xs s f = on_one locals ms depths valid c xs _ f.enough (λ x ys e. go f.leads.0 (omega arith))
-  fine (UnsetLocal n) units xs s f = go f.leads.0 (omega arith)
+  fine (StoreLocal n) units xs s f =
+      on_number locals ms depths valid c u.locals n _ f.numbers (λ name. on_one locals ms depths valid c xs _ f.enough (λ x ys e. go f.leads.0 (omega arith)))
+  fine (UnsetLocal n) units xs s f = on_number locals ms depths valid c u.locals n _ f.numbers (λ name. go f.leads.0 (omega arith))
   fine (LoadGlobal n) units xs s f = on_number locals ms depths valid c u.names n _ f.numbers (λ x. values _ xs (length xs - 0) f.lands (omega arith) (leads_as f.leads.0 (omega arith)))
   fine (StoreGlobal n) units xs s f =
       on_number locals ms depths valid c u.names n _ f.numbers (λ name. on_one locals ms depths valid c xs _ f.enough (λ x ys e. go f.leads.0 (omega arith)))

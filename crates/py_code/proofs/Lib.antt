@@ -5,3 +5,5 @@ mod Instructions
 mod Never
 mod Codes
 mod Rows
+mod NameLaws
+mod SlotLaws

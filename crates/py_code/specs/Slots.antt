@@ -1,5 +1,7 @@
 -- Local names of frames: by names, as programs mean them, and by slots, as a machine keeps them.
-use Rattle.std.specs.Prelude.{ℕ, ◌-◌, List, [], ◌∷◌, ◌++◌, length, map, replicate, Option, Some, None, slice_get, slice_set}
+--     by_names, by_slots         both
+--     AreNamed                   where they are one
+use Rattle.std.specs.Prelude.{◌≡◌, ℕ, ◌-◌, List, [], ◌∷◌, ◌++◌, length, map, replicate, Option, Some, None, slice_get, slice_set}
 use Rattle.cov_event.specs.declared.event.CodeId.{CodeId}
 use Rattle.py_value.specs.Plain.{PlainValue}
 use Rattle.py_builtins.specs.World.{Names, value_of, with_name, without_name}
@@ -48,3 +50,17 @@ by_slots ms = record {
   set = λ code slots n v. slice_set slots n (Some v);
   unset = λ code slots n. slice_set slots n None;
 }
+
+abbrev pub IsApart : List ℕ → List (List ℕ) → Type 0
+IsApart x [] = Unit {0}
+IsApart x (y ∷ ys) = (x ≡ y → ⊥) × IsApart x ys
+
+-- no name stands twice
+abbrev pub IsDistinct : List (List ℕ) → Type 0
+IsDistinct [] = Unit {0}
+IsDistinct (x ∷ xs) = IsApart x xs × IsDistinct xs
+
+-- the slots of each unit have names of their own, the parameters first
+pub record AreNamed (ms : List Module) : Type 0 where
+  pub distinct : (code : CodeId) (u : Code) → unit_at ms code ≡ Some u → IsDistinct u.locals
+  pub first : (code : CodeId) (u : Code) → unit_at ms code ≡ Some u → (rest : List (List ℕ)) × (u.locals ≡ u.params ++ rest)
