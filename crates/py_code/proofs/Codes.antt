@@ -38,6 +38,10 @@ depths_of ms h code = chosen ms h code.module code.unit
 are_valid : (ms : List Module) → 0 < length ms → (h : AreCodes ms) → AreValid ms (depths_of ms h)
 are_valid ms some h = record { units = λ code u e. chosen_fits ms h code.module code.unit u e; bodies = has_body ms h; script = some }
 
+pub global_inside : (ms : List Module) (r : Result PlainValue PlainRaised) (vs : List PlainValue) (e : Effects) → Inside ms (reach_global ms r vs e)
+global_inside ms (Ok f) vs e = reach_inside ms f vs e
+global_inside ms (Err raised) vs e = tt
+
 module _ {L : Type 0} (locals : Locals L) (ms : List Module) (some : 0 < length ms) (h : AreCodes ms) where
   starts : (code : CodeId) (vs : List PlainValue) (u : Code) → unit_at ms code ≡ Some u → (budget : ℕ) (e : Effects) → IsOver (follows locals ms (outermost locals ms code vs budget e)).how
   starts code vs u is zero e = tt
@@ -60,16 +64,12 @@ module _ {L : Type 0} (locals : Locals L) (ms : List Module) (some : 0 < length 
   reached (at_once r e) i budget before = answered r
   reached (in_frame code vs) i budget before = starts code vs i.0 i.1 budget before
 
-  global_inside : (r : Result PlainValue PlainRaised) (vs : List PlainValue) (e : Effects) → Inside ms (reach_global ms r vs e)
-  global_inside (Ok f) vs e = reach_inside ms f vs e
-  global_inside (Err raised) vs e = tt
-
   calls_end : (w : World) (input : List ℕ) (r : Request) (budget : ℕ) → IsOver (end_of_call locals ms w input r budget).how
   unfolding end_of_call
   calls_end w input r budget =
       let first = at_rest w input in
       let found = or_raise (name_unknown r.name) (global_of r.number r.name w) in
-      reached (reach_global ms found r.values first) (global_inside found r.values first) budget first
+      reached (reach_global ms found r.values first) (global_inside ms found r.values first) budget first
 
 pub never_misses : {L : Type 0} → NeverMisses L
 never_misses = record { run = λ locals ms some h. runs locals ms some h; call = λ locals ms some h. calls_end locals ms some h }

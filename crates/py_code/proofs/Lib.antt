@@ -7,3 +7,4 @@ mod Codes
 mod Rows
 mod NameLaws
 mod SlotLaws
+mod OneMachine

@@ -45,7 +45,7 @@ with-again x v w (n ∷ ns) = go (is_same_text x n.0) refl (with-again x v w ns)
     go true e h = ap (λ b. if b then (x, w) ∷ ns else (x, v) ∷ with_name x w ns) (text_is_same x)
     go false e h = ap (λ b. if b then (x, w) ∷ with_name x v ns else n ∷ with_name x w (with_name x v ns)) e ∙ ap (λ t. n ∷ t) h
 
-value-without : (x y : List ℕ) (ns : Names) → value_of y (without_name x ns) ≡ (if is_same_text y x then None else value_of y ns)
+pub value-without : (x y : List ℕ) (ns : Names) → value_of y (without_name x ns) ≡ (if is_same_text y x then None else value_of y ns)
 unfolding value_of without_name
 value-without x y [] = both (is_same_text y x)
   where

@@ -8,5 +8,5 @@ mod unit;
 
 pub use code::{Code, Program, Programs};
 pub use instr::{Bounds, Instr, Question};
-pub use laws::never_misses;
+pub use laws::{never_misses, slots_are_names};
 pub use unit::{Constant, Handler, Unit};
