@@ -1,0 +1,2 @@
+//! The code of statements, and of modules.
+#![tactic(auto)]

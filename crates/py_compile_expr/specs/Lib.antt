@@ -1,0 +1,4 @@
+pub mod Cells
+pub mod Expressions
+pub mod Targets
+pub mod Patterns

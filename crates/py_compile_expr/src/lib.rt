@@ -1,0 +1,2 @@
+//! The code of expressions, targets and patterns.
+#![tactic(auto)]
