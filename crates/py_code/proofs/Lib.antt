@@ -4,7 +4,7 @@ mod Forms
 mod Instructions
 mod Never
 mod Codes
-mod Rows
+pub mod Rows
 mod NameLaws
 mod SlotLaws
 mod OneMachine

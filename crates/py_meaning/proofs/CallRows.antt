@@ -36,7 +36,7 @@ one_more l = line l (T.assign (items (first_number ∷ [])) (T.binary Add first_
 abbrev is_one : Expr
 is_one = T.compare first_number (T.link (Op Eq) (num 1) T.no_links)
 
-abbrev three_tests_source : Stmts
+abbrev pub three_tests_source : Stmts
 three_tests_source =
     line 1 (T.assign (items ((var "n") ∷ [])) (list ((num 0) ∷ []))) (
     line 2 (T.def (codes "test_a") [] (items []) false (T.suite 2 2 false (

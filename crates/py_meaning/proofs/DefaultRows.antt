@@ -10,7 +10,7 @@ use Rattle.py_meaning.proofs.Sources.{runs, var, num, items, call, attr, list, l
 --  1  x = 0
 --  2  def f(a=1 // x): return a
 --  3  print(9)
-abbrev default_that_raises_source : Stmts
+abbrev pub default_that_raises_source : Stmts
 default_that_raises_source =
     line 1 (T.assign (items ((var "x") ∷ [])) (num 0)) (
     line 2 (T.def (codes "f") (codes "a" ∷ []) (items ((T.binary Floor (num 1) (var "x")) ∷ [])) false (T.suite 2 2 true (
@@ -29,7 +29,7 @@ default_that_raises = refl
 --  3      a.append(1)
 --  4      return len(a)
 --  5  print(f(), f())
-abbrev one_list_of_defaults_source : Stmts
+abbrev pub one_list_of_defaults_source : Stmts
 one_list_of_defaults_source =
     line 1 (T.assign (items ((var "t") ∷ [])) (num 0)) (
     line 2 (T.def (codes "f") (codes "a" ∷ []) (items ((list []) ∷ [])) false (T.suite 2 2 false (
@@ -47,7 +47,7 @@ one_list_of_defaults = refl
 --  1  def f(a, b=2, c=3):
 --  2      return (a, b, c)
 --  3  print(f(1), f(1, 5), f(1, 5, 6))
-abbrev last_defaults_source : Stmts
+abbrev pub last_defaults_source : Stmts
 last_defaults_source =
     line 1 (T.def (codes "f") (codes "a" ∷ codes "b" ∷ codes "c" ∷ []) (items ((num 2) ∷ (num 3) ∷ [])) false (T.suite 1 1 false (
     line 2 (T.return (Some (T.paren (T.tuple (items ((var "a") ∷ (var "b") ∷ (var "c") ∷ [])) false)))) (
@@ -63,7 +63,7 @@ last_defaults = refl
 --  1  def f(a, b=1):
 --  2      return b
 --  3  f()
-abbrev too_few_values_source : Stmts
+abbrev pub too_few_values_source : Stmts
 too_few_values_source =
     line 1 (T.def (codes "f") (codes "a" ∷ codes "b" ∷ []) (items ((num 1) ∷ [])) false (T.suite 1 1 false (
     line 2 (T.return (Some (var "b"))) (

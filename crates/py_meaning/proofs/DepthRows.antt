@@ -10,7 +10,7 @@ use Rattle.py_meaning.proofs.Sources.{runs, var, num, items, call, line, end, pr
 --  1  def f(n):
 --  2      f(n + 1)
 --  3  f(0)
-abbrev endless_recursion_source : Stmts
+abbrev pub endless_recursion_source : Stmts
 endless_recursion_source =
     line 1 (T.def (codes "f") (codes "n" ∷ []) (items []) false (T.suite 1 1 false (
     line 2 (T.expr (call (var "f") ((T.binary Add (var "n") (num 1)) ∷ []))) (

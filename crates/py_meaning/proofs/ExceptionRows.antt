@@ -16,7 +16,7 @@ use Rattle.py_meaning.proofs.Sources.{runs, var, num, quote, items, call, list, 
 --  5      finally:
 --  6          return 2
 --  7  print(f())
-abbrev two_returns_source : Stmts
+abbrev pub two_returns_source : Stmts
 two_returns_source =
     line 1 (T.assign (items ((var "v") ∷ [])) (num 0)) (
     line 2 (T.def (codes "f") [] (items []) false (T.suite 2 2 false (
@@ -41,7 +41,7 @@ two_returns = refl
 --  5  except ZeroDivisionError:
 --  6      print(2)
 --  7  print(3)
-abbrev handlers_source : Stmts
+abbrev pub handlers_source : Stmts
 handlers_source =
     line 1 (T.try (T.suite 1 1 false (
     line 2 (T.assign (items ((var "x") ∷ [])) (T.binary Floor (num 1) (num 0))) (
@@ -63,7 +63,7 @@ handlers = refl
 --  3  def f():
 --  4      g()
 --  5  f()
-abbrev uncaught_source : Stmts
+abbrev pub uncaught_source : Stmts
 uncaught_source =
     line 1 (T.def (codes "g") [] (items []) false (T.suite 1 1 false (
     line 2 (T.raise (Some (call (var "ValueError") ((quote "no") ∷ [])))) (
@@ -84,7 +84,7 @@ uncaught = refl
 --  3  except KeyError as e:
 --  4      print(e)
 --  5  print(e)
-abbrev unset_name_of_a_clause_source : Stmts
+abbrev pub unset_name_of_a_clause_source : Stmts
 unset_name_of_a_clause_source =
     line 1 (T.try (T.suite 1 1 false (
     line 2 (T.raise (Some (call (var "KeyError") ((quote "k") ∷ [])))) (
@@ -112,7 +112,7 @@ unset_name_of_a_clause = refl
 -- 11          else:
 -- 12              return k
 -- 13  print(f())
-abbrev two_try_in_a_loop_source : Stmts
+abbrev pub two_try_in_a_loop_source : Stmts
 two_try_in_a_loop_source =
     line 1 (T.assign (items ((var "n") ∷ [])) (num 0)) (
     line 2 (T.def (codes "f") [] (items []) false (T.suite 2 2 false (
@@ -147,7 +147,7 @@ two_try_in_a_loop = refl
 --  7      print(e)
 --  8  else:
 --  9      print(0)
-abbrev raise_again_source : Stmts
+abbrev pub raise_again_source : Stmts
 raise_again_source =
     line 1 (T.try (T.suite 1 1 false (
     line 2 (T.try (T.suite 2 2 false (
@@ -173,7 +173,7 @@ raise_again = refl
 --  4      pass
 --  5  finally:
 --  6      print(5)
-abbrev no_clause_matches_source : Stmts
+abbrev pub no_clause_matches_source : Stmts
 no_clause_matches_source =
     line 1 (T.try (T.suite 1 1 false (
     line 2 (T.assert (T.compare (num 1) (T.link (Op Lt) (num 1) T.no_links)) (Some (quote "a"))) (
@@ -193,7 +193,7 @@ no_clause_matches = refl
 --  2      1 // 0
 --  3  except (KeyError, 5):
 --  4      pass
-abbrev no_kind_source : Stmts
+abbrev pub no_kind_source : Stmts
 no_kind_source =
     line 1 (T.try (T.suite 1 1 false (
     line 2 (T.expr (T.binary Floor (num 1) (num 0))) (

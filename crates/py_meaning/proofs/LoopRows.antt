@@ -17,7 +17,7 @@ use Rattle.py_meaning.specs.Loading.{Files}
 --  5      else:
 --  6          print(k)
 --  7  print(9)
-abbrev loop_else_source : Stmts
+abbrev pub loop_else_source : Stmts
 loop_else_source =
     line 1 (T.for (var "k") (call (var "range") ((num 3) ∷ [])) (T.suite 1 1 false (
     line 2 (T.for (var "j") (call (var "range") ((num 2) ∷ [])) (T.suite 2 2 false (
@@ -42,7 +42,7 @@ loop_else = refl
 --  4      finally:
 --  5          print(k)
 --  6  print(9)
-abbrev continue_through_finally_source : Stmts
+abbrev pub continue_through_finally_source : Stmts
 continue_through_finally_source =
     line 1 (T.for (var "k") (call (var "range") ((num 2) ∷ [])) (T.suite 1 1 false (
     line 2 (T.try (T.suite 2 2 false (
@@ -67,7 +67,7 @@ continue_through_finally = refl
 --  6  else:
 --  7      print(1)
 --  8  print(k)
-abbrev break_in_finally_source : Stmts
+abbrev pub break_in_finally_source : Stmts
 break_in_finally_source =
     line 1 (T.for (var "k") (list ((num 0) ∷ (num 1) ∷ (num 2) ∷ [])) (T.suite 1 1 false (
     line 2 (T.try (T.suite 2 2 false (
@@ -92,7 +92,7 @@ break_in_finally = refl
 --  4          return a + b
 --  5      fs.append(f)
 --  6  print(fs[0](10), fs[1](10), f(1, 2))
-abbrev defaults_in_a_loop_source : Stmts
+abbrev pub defaults_in_a_loop_source : Stmts
 defaults_in_a_loop_source =
     line 1 (T.assign (items ((var "fs") ∷ [])) (list [])) (
     line 2 (T.for (var "i") (call (var "range") ((num 2) ∷ [])) (T.suite 2 2 false (
@@ -118,7 +118,7 @@ defaults_in_a_loop = refl
 -- m.py:
 --  1  print("m", __name__)
 --  2  x = 1 // 0
-abbrev module_that_raises_files : Files
+abbrev pub module_that_raises_files : Files
 module_that_raises_files = and_module (codes "m.py") (
     line 1 (T.expr (call (var "print") ((quote "m") ∷ (var "__name__") ∷ []))) (
     line 2 (T.assign (items ((var "x") ∷ [])) (T.binary Floor (num 1) (num 0))) (

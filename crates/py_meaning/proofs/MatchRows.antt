@@ -19,7 +19,7 @@ use Rattle.py_meaning.proofs.Sources.{runs, var, num, quote, items, call, list, 
 --  8              return 3
 --  9  print(f(0), f([4, 2]), f("ab"))
 -- 10  f([1, 0])
-abbrev match_statement_source : Stmts
+abbrev pub match_statement_source : Stmts
 match_statement_source =
     line 1 (T.def (codes "f") (codes "v" ∷ []) (items []) false (T.suite 1 1 false (
     line 2 (T.match (var "v") 2 (T.case (T.literal false (T.c_int (pos 0))) None (T.suite 3 3 false (
@@ -51,7 +51,7 @@ match_statement = refl
 -- 10              print(y, z)
 -- 11          case w:
 -- 12              print(w)
-abbrev patterns_source : Stmts
+abbrev pub patterns_source : Stmts
 patterns_source =
     line 1 (T.for (var "v") (list ((T.bool true) ∷ (T.unary Minus (num 1)) ∷ (T.paren (T.tuple (items ((num 1) ∷ (quote "a") ∷ [])) false)) ∷ T.none ∷ (quote "b") ∷ (list ((list ((num 2) ∷ [])) ∷ [])) ∷ [])) (T.suite 1 1 false (
     line 2 (T.match (var "v") 2 (T.case (T.p_or (alternatives ((T.literal true (T.c_int (pos 1))) ∷ (T.literal false (T.c_str (codes "b" ∷ []))) ∷ []))) None (T.suite 3 3 false (

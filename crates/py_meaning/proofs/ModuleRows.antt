@@ -16,7 +16,7 @@ use Rattle.py_meaning.specs.Loading.{Files, loaded}
 --  3  except ImportError:
 --  4      nothere = None
 --  5  print(nothere)
-abbrev absent_module_source : Stmts
+abbrev pub absent_module_source : Stmts
 absent_module_source =
     line 1 (T.try (T.suite 1 1 false (
     line 2 (T.import (record { name = codes "nothere"; bound = None } ∷ [])) (
@@ -48,7 +48,7 @@ absent_module = refl
 --  5
 --  6  def unused(x):
 --  7      return x
-abbrev ordinary_use_files : Files
+abbrev pub ordinary_use_files : Files
 ordinary_use_files = and_module (codes "calc.py") (
     line 1 (T.def (codes "div") (codes "a" ∷ codes "b" ∷ []) (items []) false (T.suite 1 1 false (
     line 2 (T.if' (T.arm (T.compare (var "b") (T.link (Op Eq) (num 0) T.no_links)) (T.suite 2 2 false (
@@ -89,7 +89,7 @@ ordinary_use_inside = refl
 --  2  from a import x as y
 --  3  print(a.x, y, a.__name__)
 --  4  from a import z
-abbrev modules_in_a_circle_files : Files
+abbrev pub modules_in_a_circle_files : Files
 modules_in_a_circle_files = and_module (codes "b.py") (
     line 1 (T.import (record { name = codes "a"; bound = None } ∷ [])) (
     line 2 (T.from (codes "a") (record { name = codes "x"; bound = Some (codes "y") } ∷ [])) (

@@ -16,7 +16,7 @@ use Rattle.py_meaning.specs.Events.{events_in}
 --  3      print(x)
 --  4  else:
 --  5      print(0)
-abbrev first_run_source : Stmts
+abbrev pub first_run_source : Stmts
 first_run_source =
     line 1 (T.assign (items ((var "x") ∷ [])) (num 1)) (
     line 2 (T.if' (T.arm (var "x") (T.suite 2 2 false (
@@ -37,7 +37,7 @@ first_run_by_default = refl
 
 -- Empty file
 --  1
-abbrev empty_file_source : Stmts
+abbrev pub empty_file_source : Stmts
 empty_file_source =
     end
 
@@ -55,7 +55,7 @@ empty_file_cut = refl
 --  2  def f():
 --  3      """doc"""
 --  4  f()
-abbrev docstring_alone_source : Stmts
+abbrev pub docstring_alone_source : Stmts
 docstring_alone_source =
     line 1 (T.assign (items ((var "x") ∷ [])) (num 0)) (
     line 2 (T.def (codes "f") [] (items []) false (T.suite 2 2 false (
@@ -71,7 +71,7 @@ docstring_alone = refl
 -- One line loop
 --  1  n = 3
 --  2  while n: n = n - 1
-abbrev one_line_loop_source : Stmts
+abbrev pub one_line_loop_source : Stmts
 one_line_loop_source =
     line 1 (T.assign (items ((var "n") ∷ [])) (num 3)) (
     line 2 (T.while (var "n") (T.suite 2 2 true (
@@ -91,7 +91,7 @@ one_line_loop_cut = refl
 -- Endless loop
 --  1  while True:
 --  2      pass
-abbrev endless_loop_source : Stmts
+abbrev pub endless_loop_source : Stmts
 endless_loop_source =
     line 1 (T.while (T.bool true) (T.suite 1 1 false (
     line 2 T.pass (
@@ -107,7 +107,7 @@ endless_loop = refl
 --  2  while n:
 --  3      n = n - 1
 --  4  print(n)
-abbrev counting_loop_source : Stmts
+abbrev pub counting_loop_source : Stmts
 counting_loop_source =
     line 1 (T.assign (items ((var "n") ∷ [])) (num 2)) (
     line 2 (T.while (var "n") (T.suite 2 2 false (
@@ -122,7 +122,7 @@ counting_loop = refl
 
 -- Unset name
 --  1  x = 1 + y
-abbrev unset_name_source : Stmts
+abbrev pub unset_name_source : Stmts
 unset_name_source =
     line 1 (T.assign (items ((var "x") ∷ [])) (T.binary Add (num 1) (var "y"))) (
     end)
@@ -133,7 +133,7 @@ unset_name = refl
 
 -- A list alone
 --  1  x = [1]
-abbrev a_list_alone_source : Stmts
+abbrev pub a_list_alone_source : Stmts
 a_list_alone_source =
     line 1 (T.assign (items ((var "x") ∷ [])) (list ((num 1) ∷ []))) (
     end)
@@ -145,7 +145,7 @@ a_list_alone = refl
 -- Make, of size 0
 --  1  t = 0
 --  2  print(t)
-abbrev made_of_nothing_source : Stmts
+abbrev pub made_of_nothing_source : Stmts
 made_of_nothing_source =
     line 1 (T.assign (items ((var "t") ∷ [])) (num 0)) (
     line 2 (T.expr (call (var "print") ((var "t") ∷ []))) (
@@ -160,7 +160,7 @@ made_of_nothing = refl
 --  2  while t > 5 * 10:
 --  3      t = t - 7
 --  4  print(t)
-abbrev made_of_one_source : Stmts
+abbrev pub made_of_one_source : Stmts
 made_of_one_source =
     line 1 (T.assign (items ((var "t") ∷ [])) (num 0)) (
     line 2 (T.while (T.compare (var "t") (T.link (Op Gt) (T.binary Mul (num 5) (num 10)) T.no_links)) (T.suite 2 2 false (
@@ -181,7 +181,7 @@ made_of_one = refl
 --  5      print(2)
 --  6  while True:
 --  7      break
-abbrev pragma_source : Stmts
+abbrev pub pragma_source : Stmts
 pragma_source =
     line 1 (T.assign (items ((var "debug") ∷ [])) (T.bool false)) (
     line 2 (T.if' (T.arm (var "debug") (T.suite 2 2 false (
@@ -202,7 +202,7 @@ pragma = refl
 --  1  x = 0
 --  2  if x:
 --  3      print(x)
-abbrev numbers_source : Stmts
+abbrev pub numbers_source : Stmts
 numbers_source =
     line 1 (T.assign (items ((var "x") ∷ [])) (num 0)) (
     line 2 (T.if' (T.arm (var "x") (T.suite 2 2 false (
@@ -223,7 +223,7 @@ numbers = refl
 --  6  test_b()
 --  7  test_a()
 --  8  test_b()
-abbrev calls_of_tests_source : Stmts
+abbrev pub calls_of_tests_source : Stmts
 calls_of_tests_source =
     line 1 (T.def (codes "test_a") [] (items []) false (T.suite 1 1 false (
     line 2 T.pass (

@@ -80,7 +80,7 @@ exit_by_a_text = refl
 -- Lines of input: the second one isn't asked for
 --  1  x = input(">")
 --  2  print(x + "!")
-abbrev reading_source : Stmts
+abbrev pub reading_source : Stmts
 reading_source =
     line 1 (T.assign (items ((var "x") ∷ [])) (call (var "input") ((quote ">") ∷ []))) (
     line 2 (T.expr (call (var "print") ((T.binary Add (var "x") (quote "!")) ∷ []))) (
