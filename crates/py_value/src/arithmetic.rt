@@ -3,7 +3,7 @@
 ghost use Rattle.std.specs.Prelude.{◌≡◌, IfOk, OnErr, Some, None};
 ghost use Rattle.py_value.specs.View.{plain, plains, plain_outcome, after_step, IsNumberOf};
 ghost use Rattle.py_value.specs.HeapView.{plain_heap};
-ghost use Rattle.py_value.specs.Numbers.{number_of};
+ghost use Rattle.py_value.specs.Numbers.{number_of, arithmetic};
 ghost use Rattle.py_value.specs.Operators.{number_result, repeated_sequence, binary_answer, binary_of};
 
 use crate::NoMemory;
@@ -46,6 +46,11 @@ pub fn operation(
     ensures raised { IfOk result (λ step. OnErr step (plain_heap heap.new ≡ plain_heap heap.old)) }
     ensures err { OnErr result (plain_heap heap.new ≡ plain_heap heap.old) }
 {
+    if let Value::Int(x) = left
+        && let Value::Int(y) = right
+    {
+        return Ok(of_whole_numbers(op, *x, *y));
+    }
     match op {
         BinOp::Add => add(alloc, left, right, heap),
         BinOp::Sub => Ok(numbers(BinOp::Sub, left, right)),
@@ -62,11 +67,19 @@ fn numbers(op: BinOp, left: &Value, right: &Value) -> Result<Value, Cause>
         None => Err(Cause::UnsupportedOperand),
         Some(x) => match right.number() {
             None => Err(Cause::UnsupportedOperand),
-            Some(y) => match arithmetic(op, x, y) {
-                Ok(n) => Ok(Value::Int(n)),
-                Err(cause) => Err(cause),
-            },
+            Some(y) => of_whole_numbers(op, x, y),
         },
+    }
+}
+
+/// `left op right` of two whole numbers.
+#[inline]
+pub fn of_whole_numbers(op: BinOp, left: i64, right: i64) -> Result<Value, Cause>
+    ensures { IsNumberOf result (arithmetic op left right) }
+{
+    match arithmetic(op, left, right) {
+        Ok(n) => Ok(Value::Int(n)),
+        Err(cause) => Err(cause),
     }
 }
 

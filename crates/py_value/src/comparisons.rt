@@ -2,6 +2,7 @@
 
 ghost use Rattle.std.specs.Prelude.{◌≡◌, IfOk};
 ghost use Rattle.py_value.specs.View.{plain, plains, plain_answer};
+ghost use Rattle.py_value.specs.Plain.{PlainHeap, int_value};
 ghost use Rattle.py_value.specs.HeapView.{plain_heap};
 ghost use Rattle.py_value.specs.Comparison.{equal_within, is_item, most_levels};
 ghost use Rattle.py_value.specs.Operators.{contains_answer, compare_answer, compare_of, truth_of, is_none_value, is_bool_value};
@@ -36,6 +37,11 @@ pub fn compare(
 fn comparison(op: CmpOp, left: &Value, right: &Value, heap: &Heap) -> Result<bool, Cause>
     ensures { result ≡ compare_answer op (plain left.now) (plain right.now) (plain_heap heap.now) }
 {
+    if let Value::Int(x) = left
+        && let Value::Int(y) = right
+    {
+        return compare_whole_numbers(op, *x, *y);
+    }
     match op {
         CmpOp::Eq => equal(MOST_LEVELS, left, right, heap),
         CmpOp::Ne => match equal(MOST_LEVELS, left, right, heap) {
@@ -63,6 +69,23 @@ fn comparison(op: CmpOp, left: &Value, right: &Value, heap: &Heap) -> Result<boo
             Ok(found) => Ok(!found),
             Err(cause) => Err(cause),
         },
+    }
+}
+
+/// `left op right` of two whole numbers.
+#[inline]
+fn compare_whole_numbers(op: CmpOp, left: i64, right: i64) -> Result<bool, Cause>
+    ensures { (h : PlainHeap) → result ≡ compare_answer op (int_value left) (int_value right) h }
+{
+    let order = left.cmp(&right);
+    match op {
+        CmpOp::Eq => Ok(left == right),
+        CmpOp::Ne => Ok(left != right),
+        CmpOp::Lt => Ok(order.is_lt()),
+        CmpOp::Le => Ok(!order.is_gt()),
+        CmpOp::Gt => Ok(order.is_gt()),
+        CmpOp::Ge => Ok(!order.is_lt()),
+        CmpOp::In | CmpOp::NotIn => Err(Cause::UnsupportedOperand),
     }
 }
 

@@ -6,7 +6,7 @@ ghost use Rattle.std.specs.Option.{option_map};
 ghost use Rattle.py_value.specs.HeapView.{plain_heap};
 ghost use Rattle.py_value.specs.Pairs.{plain_pair};
 ghost use Rattle.py_value.specs.Heaps.{dict_pairs};
-ghost use Rattle.py_value.specs.Comparison.{equal_within, equal_step, are_equal, are_equal_dicts, are_equal_pairs, are_equal_arguments, is_same_function, is_same_place, is_same_module, is_same_builtin};
+ghost use Rattle.py_value.specs.Comparison.{equal_within, equal_step, are_equal, are_equal_dicts, are_equal_pairs, are_equal_arguments, is_same_atom, is_same_function, is_same_place, is_same_module, is_same_builtin};
 
 use crate::builtin::Builtin;
 use crate::cause::Cause;
@@ -31,7 +31,6 @@ fn equal_inside(levels: u32, left: &Value, right: &Value, heap: &Heap) -> Result
     ensures { result ≡ equal_step (equal_within levels (plain_heap heap.now)) (plain_heap heap.now) (plain left.now) (plain right.now) }
 {
     match left {
-        Value::None => Ok(matches!(right, Value::None)),
         Value::Str(s) => match right {
             Value::Str(t) => Ok(s.is_same(t)),
             _ => Ok(false),
@@ -48,39 +47,17 @@ fn equal_inside(levels: u32, left: &Value, right: &Value, heap: &Heap) -> Result
             Value::Dict(b) => equal_dicts(levels, heap.pairs(*a), *b, heap),
             _ => Ok(false),
         },
-        Value::Func(f, a) => match right {
-            Value::Func(g, b) => Ok(is_same_function(*f, *g) && is_same_place(*a, *b)),
-            _ => Ok(false),
-        },
-        Value::Module(m) => match right {
-            Value::Module(n) => Ok(is_same_module(*m, *n)),
-            _ => Ok(false),
-        },
-        Value::Kind(k) => match right {
-            Value::Kind(l) => Ok(k.is_same(*l)),
-            _ => Ok(false),
-        },
         Value::Exc(k, a) => match right {
-            Value::Exc(l, b) => {
-                if k.is_same(*l) {
-                    equal_arguments(levels, a, b, heap)
-                } else {
-                    Ok(false)
-                }
-            }
+            Value::Exc(l, b) if k.is_same(*l) => equal_arguments(levels, a, b, heap),
             _ => Ok(false),
         },
-        Value::Builtin(f) => match right {
-            Value::Builtin(g) => Ok(is_same_builtin(*f, *g)),
-            _ => Ok(false),
-        },
-        Value::Bool(_) | Value::Int(_) => match left.number() {
-            None => Ok(false),
-            Some(x) => match right.number() {
-                None => Ok(false),
-                Some(y) => Ok(x == y),
-            },
-        },
+        Value::None
+        | Value::Bool(_)
+        | Value::Int(_)
+        | Value::Func(_, _)
+        | Value::Module(_)
+        | Value::Kind(_)
+        | Value::Builtin(_) => Ok(is_same_atom(left, right)),
     }
 }
 
@@ -147,6 +124,41 @@ fn equal_arguments(
             None => Ok(false),
             Some(b) => equal(levels, a, b, heap),
         },
+    }
+}
+
+/// Whether two values are the same, of which the left one holds no others.
+fn is_same_atom(left: &Value, right: &Value) -> bool
+    ensures { result ≡ is_same_atom (plain left.now) (plain right.now) }
+{
+    match left {
+        Value::None => matches!(right, Value::None),
+        Value::Func(f, a) => match right {
+            Value::Func(g, b) => is_same_function(*f, *g) && is_same_place(*a, *b),
+            _ => false,
+        },
+        Value::Module(m) => match right {
+            Value::Module(n) => is_same_module(*m, *n),
+            _ => false,
+        },
+        Value::Kind(k) => match right {
+            Value::Kind(l) => k.is_same(*l),
+            _ => false,
+        },
+        Value::Builtin(f) => match right {
+            Value::Builtin(g) => is_same_builtin(*f, *g),
+            _ => false,
+        },
+        Value::Bool(_) | Value::Int(_) => match left.number() {
+            None => false,
+            Some(x) => match right.number() {
+                None => false,
+                Some(y) => x == y,
+            },
+        },
+        Value::Str(_) | Value::Tuple(_) | Value::List(_) | Value::Dict(_) | Value::Exc(_, _) => {
+            false
+        }
     }
 }
 

@@ -6,7 +6,7 @@ ghost use Rattle.py_value.specs.Pairs.{plain_pair};
 ghost use Rattle.py_value.specs.Objects.{plain_objects};
 ghost use Rattle.py_value.specs.Plain.{list_object, dict_object};
 ghost use Rattle.py_value.specs.Heaps.{object_at, list_items, dict_pairs, dict_keys, values_of, length_of, is_list_object, without, with_object, with_items, with_pairs, change, change_list, change_dict};
-ghost use Rattle.py_value.specs.Keys.{place_of_key, value_at, with_value, is_sound_heap};
+ghost use Rattle.py_value.specs.Keys.{is_key, place_of_key, value_at, with_value, is_sound_heap};
 
 use crate::NoMemory;
 use crate::pairs::{Pair, Pairs};
@@ -74,6 +74,7 @@ impl Object {
     }
 
     fn set_value(&mut self, key: Value, value: Value) -> Result<(), NoMemory>
+        requires { IsTrue (is_key (plain key)) }
         ensures ok { OnOk result (plain_object self.new ≡ with_pairs (with_value (plain key) (plain value)) (plain_object self.old)) }
         ensures err { OnErr result (plain_object self.new ≡ plain_object self.old) }
     {
@@ -316,6 +317,7 @@ impl Heap {
 
     /// Sets the value of a dict's key.
     pub(crate) fn set_value(&mut self, dict: Addr, key: Value, value: Value) -> Result<(), NoMemory>
+        requires { IsTrue (is_key (plain key)) }
         ensures ok { OnOk result (plain_heap self.new ≡ change_dict (plain_heap self.old) dict.place (with_value (plain key) (plain value))) }
         ensures err { OnErr result (plain_heap self.new ≡ plain_heap self.old) }
     {

@@ -2,7 +2,7 @@
 
 ghost use Rattle.std.specs.Prelude.{◌≡◌, ◌+◌, ◌++◌, map, nat_le, IfOk, OnOk, OnErr};
 ghost use Rattle.std.specs.Str.{chars};
-ghost use Rattle.py_value.specs.View.{plain, plains, plain_items};
+ghost use Rattle.py_value.specs.View.{plain, plains, plain_items, after_change};
 ghost use Rattle.py_value.specs.Pairs.{plain_pair};
 ghost use Rattle.py_value.specs.Sequences.{most_items, joined, times, repeat, repeated};
 ghost use Rattle.py_value.specs.Operators.{characters};
@@ -30,6 +30,20 @@ pub fn join_texts(left: &Text, right: &Text) -> Result<Result<Text, Cause>, NoMe
 {
     if fit_together(left.len(), right.len()) {
         Ok(Ok(left.concat(right)?))
+    } else {
+        Ok(Err(Cause::TooManyItems))
+    }
+}
+
+/// Adds the characters of another text at the end.
+pub fn extend_text(text: &mut Text, more: &Text) -> Result<Result<(), Cause>, NoMemory>
+    ensures answer { IfOk result (λ done. after_change done text.new ≡ joined text.old more.now) }
+    ensures raised { IfOk result (λ done. OnErr done (text.new ≡ text.old)) }
+    ensures err { OnErr result (text.new ≡ text.old) }
+{
+    if fit_together(text.len(), more.len()) {
+        text.append(more)?;
+        Ok(Ok(()))
     } else {
         Ok(Err(Cause::TooManyItems))
     }
