@@ -8,7 +8,6 @@ ghost use Rattle.py_value.specs.Comparison.{equal_within, is_item, most_levels};
 ghost use Rattle.py_value.specs.Operators.{contains_answer, compare_answer, compare_of, truth_of, is_none_value, is_bool_value};
 
 use crate::NoMemory;
-use crate::answer::told;
 use crate::cause::Cause;
 use crate::equality::equal;
 use crate::heap::Heap;
@@ -31,7 +30,10 @@ pub fn compare(
 ) -> Result<Result<bool, Raised>, NoMemory>
     ensures { IfOk result (λ answer. plain_answer answer ≡ compare_of op (plain left.now) (plain right.now) (plain_heap heap.now)) }
 {
-    told(alloc, comparison(op, left, right, heap))
+    match comparison(op, left, right, heap) {
+        Ok(holds) => Ok(Ok(holds)),
+        Err(cause) => Ok(Err(Raised::of(alloc, cause)?)),
+    }
 }
 
 fn comparison(op: CmpOp, left: &Value, right: &Value, heap: &Heap) -> Result<bool, Cause>

@@ -6,14 +6,13 @@ ghost use Rattle.std.specs.Option.{option_map};
 ghost use Rattle.py_value.specs.HeapView.{plain_heap};
 ghost use Rattle.py_value.specs.Pairs.{plain_pair};
 ghost use Rattle.py_value.specs.Heaps.{dict_pairs};
-ghost use Rattle.py_value.specs.Comparison.{equal_within, equal_step, are_equal, are_equal_dicts, are_equal_pairs, are_equal_arguments, is_same_atom, is_same_function, is_same_place, is_same_module, is_same_builtin};
+ghost use Rattle.py_value.specs.Comparison.{equal_within, equal_step, are_equal, are_equal_dicts, are_equal_pairs, are_equal_arguments, is_same_atom, is_same_place, is_same_module};
 
-use crate::builtin::Builtin;
 use crate::cause::Cause;
 use crate::heap::Heap;
 use crate::pairs::Pair;
 use crate::shared::Argument;
-use crate::value::{Addr, FuncId, ModId, Value};
+use crate::value::{Addr, ModId, Value};
 
 /// Whether two values are equal, or `TooDeep` where more than `levels` stand inside each other.
 #[cycle(equal)]
@@ -134,7 +133,9 @@ fn is_same_atom(left: &Value, right: &Value) -> bool
     match left {
         Value::None => matches!(right, Value::None),
         Value::Func(f, a) => match right {
-            Value::Func(g, b) => is_same_function(*f, *g) && is_same_place(*a, *b),
+            Value::Func(g, b) => {
+                f.module == g.module && f.unit == g.unit && is_same_place(*a, *b)
+            }
             _ => false,
         },
         Value::Module(m) => match right {
@@ -146,7 +147,7 @@ fn is_same_atom(left: &Value, right: &Value) -> bool
             _ => false,
         },
         Value::Builtin(f) => match right {
-            Value::Builtin(g) => is_same_builtin(*f, *g),
+            Value::Builtin(g) => *f as u8 == *g as u8,
             _ => false,
         },
         Value::Bool(_) | Value::Int(_) => match left.number() {
@@ -160,12 +161,6 @@ fn is_same_atom(left: &Value, right: &Value) -> bool
             false
         }
     }
-}
-
-fn is_same_function(left: FuncId, right: FuncId) -> bool
-    ensures { result ≡ is_same_function left right }
-{
-    left.module == right.module && left.unit == right.unit
 }
 
 fn is_same_place(left: Option<Addr>, right: Option<Addr>) -> bool
@@ -190,10 +185,4 @@ fn is_same_module(left: ModId, right: ModId) -> bool
             ModId::Loaded(n) => m == n,
         },
     }
-}
-
-fn is_same_builtin(left: Builtin, right: Builtin) -> bool
-    ensures { result ≡ is_same_builtin left right }
-{
-    left as u8 == right as u8
 }

@@ -45,12 +45,15 @@ impl Object {
         }
     }
 
-    fn append(&mut self, values: Vec<Value>) -> Result<(), NoMemory>
+    fn append(&mut self, mut values: Vec<Value>) -> Result<(), NoMemory>
         ensures ok { OnOk result (plain_object self.new ≡ with_items (λ vs. vs ++ plains values.items) (plain_object self.old)) }
         ensures err { OnErr result (plain_object self.new ≡ plain_object self.old) }
     {
         match self {
-            Object::List(items) => append_all(items, values),
+            Object::List(items) => {
+                items.append(&mut values)?;
+                Ok(())
+            }
             Object::Dict(_) => Ok(()),
         }
     }
@@ -104,14 +107,6 @@ fn copy_objects(alloc: Global, objects: &[Object]) -> Result<Vec<Object>, NoMemo
         copies.push(object.copy(alloc)?)?;
     }
     Ok(copies)
-}
-
-/// Adds values at the end of others, or leaves them as they are.
-fn append_all(items: &mut Vec<Value>, mut values: Vec<Value>) -> Result<(), NoMemory>
-    ensures ok { OnOk result (plains items.new.items ≡ plains items.old.items ++ plains values.items) }
-    ensures err { OnErr result (plains items.new.items ≡ plains items.old.items) }
-{
-    items.append(&mut values)
 }
 
 /// The place behind so many objects. An address has 32 bits, and more objects count as want of memory.

@@ -6,7 +6,6 @@
 //! `slice` and `store`. `Value::copy` and `Heap::copy` give equal ones, and `Heap`'s calls read and change its lists.
 #![tactic(auto)]
 
-mod answer;
 mod arithmetic;
 mod augmented;
 mod body;
