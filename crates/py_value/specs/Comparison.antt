@@ -1,4 +1,11 @@
--- Equality and order of values: walks from left to right, through at most 200 values inside each other.
+-- Equality and order of values (Python Language Reference, 6.10): walks from left to right, through at most
+-- 200 values inside each other.
+--     are_equal, are_equal_dicts, are_equal_arguments     what two values hold, part by part
+--     is_same_atom                                        two values that hold no others
+--     equal_step, equal_within                            `==`
+--     order_of_texts, order_of_items, order_of_numbers    the first unequal part decides
+--     order_step, order_within                            `<` and its kin
+--     is_item                                             `in`
 use Rattle.std.specs.Prelude.{ℕ, zero, suc, ◌==◌, nat_eq, ℤ, Bool, true, false, ◌&&◌, if◌then◌else◌, List, [], ◌∷◌, length, Option, Some, None, Result, Ok, Err}
 use Rattle.std.specs.Ordering.{int_eq, int_cmp, nat_cmp}
 use Rattle.std.specs.declared.cmp.Ordering.{Ordering}

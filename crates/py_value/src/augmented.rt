@@ -42,9 +42,12 @@ pub fn update(
     right: &Value,
     heap: &mut Heap,
 ) -> Result<Result<(), Raised>, NoMemory>
-    ensures answer { IfOk result (λ answer. plain_update answer (plain target.new) (plain_heap heap.new) ≡ in_place_of op (plain target.old) (plain right.now) (plain_heap heap.old)) }
+    ensures answer { IfOk result (λ answer.
+        plain_update answer (plain target.new) (plain_heap heap.new)
+        ≡ in_place_of op (plain target.old) (plain right.now) (plain_heap heap.old)) }
     ensures raised { IfOk result (λ answer. OnErr answer (plain target.new ≡ plain target.old)) }
-    ensures raised_heap { IfOk result (λ answer. OnErr answer (plain_heap heap.new ≡ plain_heap heap.old)) }
+    ensures raised_heap { IfOk result (λ answer.
+        OnErr answer (plain_heap heap.new ≡ plain_heap heap.old)) }
     ensures err { OnErr result (plain target.new ≡ plain target.old) }
     ensures err_heap { OnErr result (plain_heap heap.new ≡ plain_heap heap.old) }
 {

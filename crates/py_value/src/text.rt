@@ -72,9 +72,7 @@ impl Text {
     pub fn of_char(alloc: Global, c: char) -> Result<Text, NoMemory>
         ensures { IfOk result (λ t. t ≡ c ∷ []) }
     {
-        let mut body = Body::with_capacity(alloc, 1)?;
-        body.push(c)?;
-        Text::of_body(alloc, body)
+        Text::from_chars(alloc, &[c])
     }
 
     /// The text as UTF-8.
