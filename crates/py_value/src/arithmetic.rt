@@ -24,8 +24,11 @@ pub fn binary(
     right: &Value,
     heap: &mut Heap,
 ) -> Result<Result<Value, Raised>, NoMemory>
-    ensures answer { IfOk result (λ answer. plain_outcome answer (plain_heap heap.new) ≡ binary_of op (plain left.now) (plain right.now) (plain_heap heap.old)) }
-    ensures raised { IfOk result (λ answer. OnErr answer (plain_heap heap.new ≡ plain_heap heap.old)) }
+    ensures answer { IfOk result (λ answer.
+        plain_outcome answer (plain_heap heap.new)
+        ≡ binary_of op (plain left.now) (plain right.now) (plain_heap heap.old)) }
+    ensures raised { IfOk result (λ answer.
+        OnErr answer (plain_heap heap.new ≡ plain_heap heap.old)) }
     ensures err { OnErr result (plain_heap heap.new ≡ plain_heap heap.old) }
 {
     match operation(alloc, op, left, right, heap)? {
@@ -42,7 +45,9 @@ pub fn operation(
     right: &Value,
     heap: &mut Heap,
 ) -> Result<Result<Value, Cause>, NoMemory>
-    ensures answer { IfOk result (λ step. after_step step (plain_heap heap.new) ≡ binary_answer op (plain left.now) (plain right.now) (plain_heap heap.old)) }
+    ensures answer { IfOk result (λ step.
+        after_step step (plain_heap heap.new)
+        ≡ binary_answer op (plain left.now) (plain right.now) (plain_heap heap.old)) }
     ensures raised { IfOk result (λ step. OnErr step (plain_heap heap.new ≡ plain_heap heap.old)) }
     ensures err { OnErr result (plain_heap heap.new ≡ plain_heap heap.old) }
 {
@@ -61,7 +66,8 @@ pub fn operation(
 }
 
 fn numbers(op: BinOp, left: &Value, right: &Value) -> Result<Value, Cause>
-    ensures { IsNumberOf result (number_result op (number_of (plain left.now)) (number_of (plain right.now))) }
+    ensures { IsNumberOf result
+        (number_result op (number_of (plain left.now)) (number_of (plain right.now))) }
 {
     match left.number() {
         None => Err(Cause::UnsupportedOperand),
@@ -89,7 +95,9 @@ fn add(
     right: &Value,
     heap: &mut Heap,
 ) -> Result<Result<Value, Cause>, NoMemory>
-    ensures answer { IfOk result (λ step. after_step step (plain_heap heap.new) ≡ binary_answer BinOp.Add (plain left.now) (plain right.now) (plain_heap heap.old)) }
+    ensures answer { IfOk result (λ step.
+        after_step step (plain_heap heap.new)
+        ≡ binary_answer BinOp.Add (plain left.now) (plain right.now) (plain_heap heap.old)) }
     ensures raised { IfOk result (λ step. OnErr step (plain_heap heap.new ≡ plain_heap heap.old)) }
     ensures err { OnErr result (plain_heap heap.new ≡ plain_heap heap.old) }
 {
@@ -125,7 +133,9 @@ fn multiply(
     right: &Value,
     heap: &mut Heap,
 ) -> Result<Result<Value, Cause>, NoMemory>
-    ensures answer { IfOk result (λ step. after_step step (plain_heap heap.new) ≡ binary_answer BinOp.Mul (plain left.now) (plain right.now) (plain_heap heap.old)) }
+    ensures answer { IfOk result (λ step.
+        after_step step (plain_heap heap.new)
+        ≡ binary_answer BinOp.Mul (plain left.now) (plain right.now) (plain_heap heap.old)) }
     ensures raised { IfOk result (λ step. OnErr step (plain_heap heap.new ≡ plain_heap heap.old)) }
     ensures err { OnErr result (plain_heap heap.new ≡ plain_heap heap.old) }
 {
@@ -148,7 +158,10 @@ fn repeat_sequence(
     count: &Value,
     heap: &mut Heap,
 ) -> Result<Result<Value, Cause>, NoMemory>
-    ensures answer { IfOk result (λ step. after_step step (plain_heap heap.new) ≡ repeated_sequence (plain_heap heap.old) (plain sequence.now) (number_of (plain count.now))) }
+    ensures answer { IfOk result (λ step.
+        after_step step (plain_heap heap.new)
+        ≡ repeated_sequence (plain_heap heap.old) (plain sequence.now)
+        (number_of (plain count.now))) }
     ensures raised { IfOk result (λ step. OnErr step (plain_heap heap.new ≡ plain_heap heap.old)) }
     ensures err { OnErr result (plain_heap heap.new ≡ plain_heap heap.old) }
 {

@@ -23,8 +23,11 @@ pub fn in_place(
     right: &Value,
     heap: &mut Heap,
 ) -> Result<Result<Value, Raised>, NoMemory>
-    ensures answer { IfOk result (λ answer. plain_outcome answer (plain_heap heap.new) ≡ in_place_of op (plain left.now) (plain right.now) (plain_heap heap.old)) }
-    ensures raised { IfOk result (λ answer. OnErr answer (plain_heap heap.new ≡ plain_heap heap.old)) }
+    ensures answer { IfOk result (λ answer.
+        plain_outcome answer (plain_heap heap.new)
+        ≡ in_place_of op (plain left.now) (plain right.now) (plain_heap heap.old)) }
+    ensures raised { IfOk result (λ answer.
+        OnErr answer (plain_heap heap.new ≡ plain_heap heap.old)) }
     ensures err { OnErr result (plain_heap heap.new ≡ plain_heap heap.old) }
 {
     match augmented(alloc, op, left, right, heap)? {
@@ -76,7 +79,9 @@ fn augmented(
     right: &Value,
     heap: &mut Heap,
 ) -> Result<Result<Value, Cause>, NoMemory>
-    ensures answer { IfOk result (λ step. after_step step (plain_heap heap.new) ≡ in_place_answer op (plain left.now) (plain right.now) (plain_heap heap.old)) }
+    ensures answer { IfOk result (λ step.
+        after_step step (plain_heap heap.new)
+        ≡ in_place_answer op (plain left.now) (plain right.now) (plain_heap heap.old)) }
     ensures raised { IfOk result (λ step. OnErr step (plain_heap heap.new ≡ plain_heap heap.old)) }
     ensures err { OnErr result (plain_heap heap.new ≡ plain_heap heap.old) }
 {
@@ -106,7 +111,10 @@ fn extend(
     right: &Value,
     heap: &mut Heap,
 ) -> Result<Result<Value, Cause>, NoMemory>
-    ensures answer { IfOk result (λ step. after_step step (plain_heap heap.new) ≡ appended list.place (plain_heap heap.old) (items_to_append (plain_heap heap.old) (plain right.now))) }
+    ensures answer { IfOk result (λ step.
+        after_step step (plain_heap heap.new)
+        ≡ appended list.place (plain_heap heap.old)
+        (items_to_append (plain_heap heap.old) (plain right.now))) }
     ensures raised { IfOk result (λ step. OnErr step (plain_heap heap.new ≡ plain_heap heap.old)) }
     ensures err { OnErr result (plain_heap heap.new ≡ plain_heap heap.old) }
 {
@@ -132,7 +140,9 @@ fn extend(
 }
 
 fn append(list: Addr, items: Vec<Value>, heap: &mut Heap) -> Result<Result<Value, Cause>, NoMemory>
-    ensures answer { IfOk result (λ step. after_step step (plain_heap heap.new) ≡ appended list.place (plain_heap heap.old) (Some (plains items.items))) }
+    ensures answer { IfOk result (λ step.
+        after_step step (plain_heap heap.new)
+        ≡ appended list.place (plain_heap heap.old) (Some (plains items.items))) }
     ensures raised { IfOk result (λ step. OnErr step (plain_heap heap.new ≡ plain_heap heap.old)) }
     ensures err { OnErr result (plain_heap heap.new ≡ plain_heap heap.old) }
 {
@@ -150,7 +160,9 @@ fn repeat(
     right: &Value,
     heap: &mut Heap,
 ) -> Result<Result<Value, Cause>, NoMemory>
-    ensures answer { IfOk result (λ step. after_step step (plain_heap heap.new) ≡ repeated_in_place list.place (plain_heap heap.old) (number_of (plain right.now))) }
+    ensures answer { IfOk result (λ step.
+        after_step step (plain_heap heap.new)
+        ≡ repeated_in_place list.place (plain_heap heap.old) (number_of (plain right.now))) }
     ensures raised { IfOk result (λ step. OnErr step (plain_heap heap.new ≡ plain_heap heap.old)) }
     ensures err { OnErr result (plain_heap heap.new ≡ plain_heap heap.old) }
 {

@@ -28,7 +28,9 @@ pub fn compare(
     right: &Value,
     heap: &Heap,
 ) -> Result<Result<bool, Raised>, NoMemory>
-    ensures { IfOk result (λ answer. plain_answer answer ≡ compare_of op (plain left.now) (plain right.now) (plain_heap heap.now)) }
+    ensures { IfOk result (λ answer.
+        plain_answer answer
+        ≡ compare_of op (plain left.now) (plain right.now) (plain_heap heap.now)) }
 {
     match comparison(op, left, right, heap) {
         Ok(holds) => Ok(Ok(holds)),
@@ -113,7 +115,9 @@ fn contains(value: &Value, whole: &Value, heap: &Heap) -> Result<bool, Cause>
 }
 
 fn is_item(value: &Value, items: &[Value], heap: &Heap) -> Result<bool, Cause>
-    ensures { result ≡ is_item (equal_within most_levels (plain_heap heap.now)) (plain value.now) (plains items.now) }
+    ensures { result
+        ≡ is_item (equal_within most_levels (plain_heap heap.now)) (plain value.now)
+        (plains items.now) }
 {
     for item in items {
         match equal(MOST_LEVELS, value, item, heap) {

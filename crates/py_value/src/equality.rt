@@ -17,7 +17,8 @@ use crate::value::{Addr, ModId, Value};
 /// Whether two values are equal, or `TooDeep` where more than `levels` stand inside each other.
 #[cycle(equal)]
 pub fn equal(levels: u32, left: &Value, right: &Value, heap: &Heap) -> Result<bool, Cause>
-    ensures { result ≡ equal_within levels (plain_heap heap.now) (plain left.now) (plain right.now) }
+    ensures { result
+        ≡ equal_within levels (plain_heap heap.now) (plain left.now) (plain right.now) }
 {
     if levels == 0 {
         return Err(Cause::TooDeep);
@@ -27,7 +28,9 @@ pub fn equal(levels: u32, left: &Value, right: &Value, heap: &Heap) -> Result<bo
 
 #[cycle(equal)]
 fn equal_inside(levels: u32, left: &Value, right: &Value, heap: &Heap) -> Result<bool, Cause>
-    ensures { result ≡ equal_step (equal_within levels (plain_heap heap.now)) (plain_heap heap.now) (plain left.now) (plain right.now) }
+    ensures { result
+        ≡ equal_step (equal_within levels (plain_heap heap.now)) (plain_heap heap.now)
+        (plain left.now) (plain right.now) }
 {
     match left {
         Value::Str(s) => match right {
@@ -62,7 +65,9 @@ fn equal_inside(levels: u32, left: &Value, right: &Value, heap: &Heap) -> Result
 
 #[cycle(equal)]
 fn equal_items(levels: u32, left: &[Value], right: &[Value], heap: &Heap) -> Result<bool, Cause>
-    ensures { result ≡ are_equal (equal_within levels (plain_heap heap.now)) (plains left.now) (plains right.now) }
+    ensures { result
+        ≡ are_equal (equal_within levels (plain_heap heap.now)) (plains left.now)
+        (plains right.now) }
 {
     if left.len() != right.len() {
         return Ok(false);
@@ -79,7 +84,9 @@ fn equal_items(levels: u32, left: &[Value], right: &[Value], heap: &Heap) -> Res
 
 #[cycle(equal)]
 fn equal_dicts(levels: u32, left: &[Pair], right: Addr, heap: &Heap) -> Result<bool, Cause>
-    ensures { result ≡ are_equal_dicts (equal_within levels (plain_heap heap.now)) (map plain_pair left.now) (dict_pairs (plain_heap heap.now) right.place) }
+    ensures { result
+        ≡ are_equal_dicts (equal_within levels (plain_heap heap.now)) (map plain_pair left.now)
+        (dict_pairs (plain_heap heap.now) right.place) }
 {
     if left.len() == heap.pairs(right).len() {
         equal_pairs(levels, left, right, heap)
@@ -90,7 +97,9 @@ fn equal_dicts(levels: u32, left: &[Pair], right: Addr, heap: &Heap) -> Result<b
 
 #[cycle(equal)]
 fn equal_pairs(levels: u32, left: &[Pair], right: Addr, heap: &Heap) -> Result<bool, Cause>
-    ensures { result ≡ are_equal_pairs (equal_within levels (plain_heap heap.now)) (map plain_pair left.now) (dict_pairs (plain_heap heap.now) right.place) }
+    ensures { result
+        ≡ are_equal_pairs (equal_within levels (plain_heap heap.now)) (map plain_pair left.now)
+        (dict_pairs (plain_heap heap.now) right.place) }
 {
     for i in 0..left.len() {
         match heap.value_of(right, &left[i].key) {
@@ -112,7 +121,8 @@ fn equal_arguments(
     right: &Argument,
     heap: &Heap,
 ) -> Result<bool, Cause>
-    ensures { result ≡ are_equal_arguments (equal_within levels (plain_heap heap.now)) left.now right.now }
+    ensures { result
+        ≡ are_equal_arguments (equal_within levels (plain_heap heap.now)) left.now right.now }
 {
     match left.value() {
         None => match right.value() {

@@ -33,7 +33,8 @@ impl Object {
     }
 
     fn push(&mut self, value: Value) -> Result<(), NoMemory>
-        ensures ok { OnOk result (plain_object self.new ≡ with_items (λ vs. vs ++ plain value ∷ []) (plain_object self.old)) }
+        ensures ok { OnOk result (plain_object self.new
+            ≡ with_items (λ vs. vs ++ plain value ∷ []) (plain_object self.old)) }
         ensures err { OnErr result (plain_object self.new ≡ plain_object self.old) }
     {
         match self {
@@ -46,7 +47,8 @@ impl Object {
     }
 
     fn append(&mut self, mut values: Vec<Value>) -> Result<(), NoMemory>
-        ensures ok { OnOk result (plain_object self.new ≡ with_items (λ vs. vs ++ plains values.items) (plain_object self.old)) }
+        ensures ok { OnOk result (plain_object self.new
+            ≡ with_items (λ vs. vs ++ plains values.items) (plain_object self.old)) }
         ensures err { OnErr result (plain_object self.new ≡ plain_object self.old) }
     {
         match self {
@@ -59,7 +61,8 @@ impl Object {
     }
 
     fn set_item(&mut self, at: usize, value: Value)
-        ensures { plain_object self.new ≡ with_items (λ vs. slice_set vs at (plain value)) (plain_object self.old) }
+        ensures { plain_object self.new
+            ≡ with_items (λ vs. slice_set vs at (plain value)) (plain_object self.old) }
     {
         if let Object::List(items) = self
             && at < items.len()
@@ -69,7 +72,8 @@ impl Object {
     }
 
     fn set_items(&mut self, values: Vec<Value>)
-        ensures { plain_object self.new ≡ with_items (λ _. plains values.items) (plain_object self.old) }
+        ensures { plain_object self.new
+            ≡ with_items (λ _. plains values.items) (plain_object self.old) }
     {
         if let Object::List(items) = self {
             *items = values;
@@ -78,7 +82,8 @@ impl Object {
 
     fn set_value(&mut self, key: Value, value: Value) -> Result<(), NoMemory>
         requires { IsTrue (is_key (plain key)) }
-        ensures ok { OnOk result (plain_object self.new ≡ with_pairs (with_value (plain key) (plain value)) (plain_object self.old)) }
+        ensures ok { OnOk result (plain_object self.new
+            ≡ with_pairs (with_value (plain key) (plain value)) (plain_object self.old)) }
         ensures err { OnErr result (plain_object self.new ≡ plain_object self.old) }
     {
         match self {
@@ -187,7 +192,8 @@ impl Heap {
     /// Makes a list of these items at the end of the heap.
     pub fn make_list(&mut self, items: Vec<Value>) -> Result<Addr, NoMemory>
         ensures address { IfOk result (λ addr. addr.place ≡ length (plain_heap self.old)) }
-        ensures ok { OnOk result (plain_heap self.new ≡ with_object (plain_heap self.old) (list_object (plains items.items))) }
+        ensures ok { OnOk result (plain_heap self.new
+            ≡ with_object (plain_heap self.old) (list_object (plains items.items))) }
         ensures err { OnErr result (plain_heap self.new ≡ plain_heap self.old) }
     {
         let place = place_after(self.objects.len())?;
@@ -198,7 +204,8 @@ impl Heap {
     /// Makes an empty dict at the end of the heap.
     pub fn make_dict(&mut self) -> Result<Addr, NoMemory>
         ensures address { IfOk result (λ addr. addr.place ≡ length (plain_heap self.old)) }
-        ensures ok { OnOk result (plain_heap self.new ≡ with_object (plain_heap self.old) (dict_object [])) }
+        ensures ok { OnOk result (plain_heap self.new
+            ≡ with_object (plain_heap self.old) (dict_object [])) }
         ensures err { OnErr result (plain_heap self.new ≡ plain_heap self.old) }
     {
         let place = place_after(self.objects.len())?;
@@ -219,7 +226,8 @@ impl Heap {
 
     /// The place of a key among a dict's pairs.
     pub fn place_of(&self, dict: Addr, key: &Value) -> Option<usize>
-        ensures { result ≡ place_of_key (plain key.now) (dict_pairs (plain_heap self.now) dict.place) }
+        ensures { result
+            ≡ place_of_key (plain key.now) (dict_pairs (plain_heap self.now) dict.place) }
     {
         match self.objects.get(dict.place as usize) {
             Some(Object::Dict(pairs)) => pairs.place_of(key),
@@ -229,8 +237,10 @@ impl Heap {
 
     /// The value of a dict's key.
     pub fn value_of(&self, dict: Addr, key: &Value) -> Option<&Value>
-        ensures { MatchOption result (value_at (plain key.now) (dict_pairs (plain_heap self.now) dict.place) ≡ None)
-            (λ v. value_at (plain key.now) (dict_pairs (plain_heap self.now) dict.place) ≡ Some (plain v.now)) }
+        ensures { MatchOption result
+            (value_at (plain key.now) (dict_pairs (plain_heap self.now) dict.place) ≡ None)
+            (λ v. value_at (plain key.now) (dict_pairs (plain_heap self.now) dict.place)
+            ≡ Some (plain v.now)) }
     {
         match self.objects.get(dict.place as usize) {
             Some(Object::Dict(pairs)) => pairs.value_of(key),
@@ -241,7 +251,8 @@ impl Heap {
     /// A list's item, or the value of a dict's pair.
     pub fn item(&self, of: Addr, at: usize) -> &Value
         requires { at < length_of (object_at (plain_heap self.now) of.place) }
-        ensures { slice_get (values_of (object_at (plain_heap self.now) of.place)) at ≡ Some (plain result.now) }
+        ensures { slice_get (values_of (object_at (plain_heap self.now) of.place)) at
+            ≡ Some (plain result.now) }
     {
         if self.is_list(of) {
             &self.items(of)[at]
@@ -253,7 +264,8 @@ impl Heap {
     /// The key of a dict's pair.
     pub fn key(&self, of: Addr, at: usize) -> Result<Value, NoMemory>
         requires { at < length (dict_pairs (plain_heap self.now) of.place) }
-        ensures { IfOk result (λ key. slice_get (dict_keys (plain_heap self.now) of.place) at ≡ Some (plain key)) }
+        ensures { IfOk result (λ key.
+            slice_get (dict_keys (plain_heap self.now) of.place) at ≡ Some (plain key)) }
     {
         let alloc = *self.objects.allocator();
         let key = self.pairs(of)[at].key.copy(alloc)?;
@@ -262,7 +274,8 @@ impl Heap {
 
     /// Adds a value at the end of a list.
     pub fn push(&mut self, list: Addr, value: Value) -> Result<(), NoMemory>
-        ensures ok { OnOk result (plain_heap self.new ≡ change_list (plain_heap self.old) list.place (λ vs. vs ++ plain value ∷ [])) }
+        ensures ok { OnOk result (plain_heap self.new
+            ≡ change_list (plain_heap self.old) list.place (λ vs. vs ++ plain value ∷ [])) }
         ensures err { OnErr result (plain_heap self.new ≡ plain_heap self.old) }
     {
         if (list.place as usize) < self.objects.len() {
@@ -275,7 +288,8 @@ impl Heap {
     pub fn take(&mut self, of: Addr, at: usize) -> Value
         requires place { of.place < length (plain_heap self.old) }
         requires inside { at < length_of (object_at (plain_heap self.old) of.place) }
-        ensures value { slice_get (values_of (object_at (plain_heap self.old) of.place)) at ≡ Some (plain result) }
+        ensures value { slice_get (values_of (object_at (plain_heap self.old) of.place)) at
+            ≡ Some (plain result) }
         ensures taken { plain_heap self.new ≡ change (plain_heap self.old) of.place (without at) }
     {
         self.objects[of.place as usize].take(at)
@@ -283,7 +297,8 @@ impl Heap {
 
     /// Adds values at the end of a list.
     pub(crate) fn append(&mut self, list: Addr, values: Vec<Value>) -> Result<(), NoMemory>
-        ensures ok { OnOk result (plain_heap self.new ≡ change_list (plain_heap self.old) list.place (λ vs. vs ++ plains values.items)) }
+        ensures ok { OnOk result (plain_heap self.new
+            ≡ change_list (plain_heap self.old) list.place (λ vs. vs ++ plains values.items)) }
         ensures err { OnErr result (plain_heap self.new ≡ plain_heap self.old) }
     {
         if (list.place as usize) < self.objects.len() {
@@ -294,7 +309,8 @@ impl Heap {
 
     /// Replaces an item of a list.
     pub(crate) fn set_item(&mut self, list: Addr, at: usize, value: Value)
-        ensures { plain_heap self.new ≡ change_list (plain_heap self.old) list.place (λ vs. slice_set vs at (plain value)) }
+        ensures { plain_heap self.new
+            ≡ change_list (plain_heap self.old) list.place (λ vs. slice_set vs at (plain value)) }
     {
         if (list.place as usize) < self.objects.len() {
             self.objects[list.place as usize].set_item(at, value);
@@ -303,7 +319,8 @@ impl Heap {
 
     /// Replaces all items of a list.
     pub(crate) fn set_items(&mut self, list: Addr, values: Vec<Value>)
-        ensures { plain_heap self.new ≡ change_list (plain_heap self.old) list.place (λ _. plains values.items) }
+        ensures { plain_heap self.new
+            ≡ change_list (plain_heap self.old) list.place (λ _. plains values.items) }
     {
         if (list.place as usize) < self.objects.len() {
             self.objects[list.place as usize].set_items(values);
@@ -313,7 +330,8 @@ impl Heap {
     /// Sets the value of a dict's key.
     pub(crate) fn set_value(&mut self, dict: Addr, key: Value, value: Value) -> Result<(), NoMemory>
         requires { IsTrue (is_key (plain key)) }
-        ensures ok { OnOk result (plain_heap self.new ≡ change_dict (plain_heap self.old) dict.place (with_value (plain key) (plain value))) }
+        ensures ok { OnOk result (plain_heap self.new
+            ≡ change_dict (plain_heap self.old) dict.place (with_value (plain key) (plain value))) }
         ensures err { OnErr result (plain_heap self.new ≡ plain_heap self.old) }
     {
         if (dict.place as usize) < self.objects.len() {

@@ -79,7 +79,8 @@ impl Pairs {
 
     /// The value of a key.
     pub fn value_of(&self, key: &Value) -> Option<&Value>
-        ensures { MatchOption result (value_at (plain key.now) (plain_pairs self.now) ≡ None) (λ v. value_at (plain key.now) (plain_pairs self.now) ≡ Some (plain v.now)) }
+        ensures { MatchOption result (value_at (plain key.now) (plain_pairs self.now) ≡ None)
+            (λ v. value_at (plain key.now) (plain_pairs self.now) ≡ Some (plain v.now)) }
     {
         match self.place_of(key) {
             None => None,
@@ -90,7 +91,8 @@ impl Pairs {
     /// Sets the value of a key: a present key keeps its place, and a new one goes last.
     pub fn set(&mut self, key: Value, value: Value) -> Result<(), NoMemory>
         requires { IsTrue (is_key (plain key)) }
-        ensures ok { OnOk result (plain_pairs self.new ≡ with_value (plain key) (plain value) (plain_pairs self.old)) }
+        ensures ok { OnOk result (plain_pairs self.new
+            ≡ with_value (plain key) (plain value) (plain_pairs self.old)) }
         ensures err { OnErr result (plain_pairs self.new ≡ plain_pairs self.old) }
     {
         match self.place_of(&key) {
@@ -106,7 +108,8 @@ impl Pairs {
     fn add(&mut self, key: Value, value: Value) -> Result<(), NoMemory>
         requires key { IsTrue (is_key (plain key)) }
         requires absent { place_of_key (plain key) (plain_pairs self.old) ≡ None }
-        ensures ok { OnOk result (plain_pairs self.new ≡ with_value (plain key) (plain value) (plain_pairs self.old)) }
+        ensures ok { OnOk result (plain_pairs self.new
+            ≡ with_value (plain key) (plain value) (plain_pairs self.old)) }
         ensures err { OnErr result (plain_pairs self.new ≡ plain_pairs self.old) }
     {
         self.make_room()?;

@@ -55,7 +55,8 @@ pub fn join_items(
     left: &[Value],
     right: &[Value],
 ) -> Result<Result<Vec<Value>, Cause>, NoMemory>
-    ensures { IfOk result (λ items. plain_items items ≡ joined (plains left.now) (plains right.now)) }
+    ensures { IfOk result (λ items.
+        plain_items items ≡ joined (plains left.now) (plains right.now)) }
 {
     if fit_together(left.len(), right.len()) {
         let mut items = copy_all(alloc, left)?;
