@@ -33,6 +33,13 @@ fn equal_inside(levels: u32, left: &Value, right: &Value, heap: &Heap) -> Result
         (plain left.now) (plain right.now) }
 {
     match left {
+        Value::None
+        | Value::Bool(_)
+        | Value::Int(_)
+        | Value::Func(_, _)
+        | Value::Module(_)
+        | Value::Kind(_)
+        | Value::Builtin(_) => Ok(is_same_atom(left, right)),
         Value::Str(s) => match right {
             Value::Str(t) => Ok(s.is_same(t)),
             _ => Ok(false),
@@ -53,13 +60,6 @@ fn equal_inside(levels: u32, left: &Value, right: &Value, heap: &Heap) -> Result
             Value::Exc(l, b) if k.is_same(*l) => equal_arguments(levels, a, b, heap),
             _ => Ok(false),
         },
-        Value::None
-        | Value::Bool(_)
-        | Value::Int(_)
-        | Value::Func(_, _)
-        | Value::Module(_)
-        | Value::Kind(_)
-        | Value::Builtin(_) => Ok(is_same_atom(left, right)),
     }
 }
 
@@ -142,6 +142,16 @@ fn is_same_atom(left: &Value, right: &Value) -> bool
 {
     match left {
         Value::None => matches!(right, Value::None),
+        Value::Bool(_) | Value::Int(_) => match left.number() {
+            None => false,
+            Some(x) => match right.number() {
+                None => false,
+                Some(y) => x == y,
+            },
+        },
+        Value::Str(_) | Value::Tuple(_) | Value::List(_) | Value::Dict(_) | Value::Exc(_, _) => {
+            false
+        }
         Value::Func(f, a) => match right {
             Value::Func(g, b) => {
                 f.module == g.module && f.unit == g.unit && is_same_place(*a, *b)
@@ -160,16 +170,6 @@ fn is_same_atom(left: &Value, right: &Value) -> bool
             Value::Builtin(g) => *f as u8 == *g as u8,
             _ => false,
         },
-        Value::Bool(_) | Value::Int(_) => match left.number() {
-            None => false,
-            Some(x) => match right.number() {
-                None => false,
-                Some(y) => x == y,
-            },
-        },
-        Value::Str(_) | Value::Tuple(_) | Value::List(_) | Value::Dict(_) | Value::Exc(_, _) => {
-            false
-        }
     }
 }
 
