@@ -34,10 +34,6 @@ plain_update (Ok u) v h = Ok (v, h)
 plain_update (Err r) v h = Err (plain_raised r)
 
 -- the same with the cause in place of the exception
-abbrev pub after_store : Result (Unit {0}) Cause → PlainHeap → Result PlainHeap Cause
-after_store (Ok u) h = Ok h
-after_store (Err cause) h = Err cause
-
 abbrev pub after_change : {A : Type 0} → Result (Unit {0}) Cause → A → Result A Cause
 after_change (Ok u) x = Ok x
 after_change (Err cause) x = Err cause

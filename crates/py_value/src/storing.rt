@@ -1,10 +1,9 @@
 // Items and values replaced.
 
 ghost use Rattle.std.specs.Prelude.{◌≡◌, IfOk, OnErr};
-ghost use Rattle.py_value.specs.View.{plain, plain_stored};
+ghost use Rattle.py_value.specs.View.{plain, plain_stored, after_change};
 ghost use Rattle.py_value.specs.HeapView.{plain_heap};
 ghost use Rattle.py_value.specs.Operators.{store_of, store_answer, stored_item, stored_value};
-ghost use Rattle.py_value.specs.View.{after_store};
 ghost use Rattle.py_value.specs.Numbers.{number_of};
 
 use crate::NoMemory;
@@ -43,7 +42,7 @@ pub fn store(
 }
 
 fn store_item(list: Addr, at: &Value, value: Value, heap: &mut Heap) -> Result<(), Cause>
-    ensures answer { after_store result (plain_heap heap.new)
+    ensures answer { after_change result (plain_heap heap.new)
         ≡ stored_item list.place (plain value) (plain_heap heap.old) (number_of (plain at.now)) }
     ensures raised { OnErr result (plain_heap heap.new ≡ plain_heap heap.old) }
 {
@@ -67,7 +66,7 @@ fn store_value(
     heap: &mut Heap,
 ) -> Result<Result<(), Cause>, NoMemory>
     ensures answer { IfOk result (λ stored.
-        after_store stored (plain_heap heap.new)
+        after_change stored (plain_heap heap.new)
         ≡ stored_value dict.place (plain key.now) (plain value) (plain_heap heap.old)) }
     ensures raised { IfOk result (λ stored.
         OnErr stored (plain_heap heap.new ≡ plain_heap heap.old)) }
