@@ -1,11 +1,11 @@
 -- A heap with one object changed.
-use Rattle.std.proofs.Common.{◌≡◌, ℕ, zero, suc, ◌<◌, ◌≤◌, List, [], ◌∷◌, map, length, get_or, false, refl, ap, ◌∙◌, OnErr, Result, Ok, Err, arith}
+use Rattle.std.proofs.Common.{◌≡◌, ℕ, zero, suc, ◌<◌, ◌≤◌, List, [], ◌∷◌, length, get_or, refl, ap, ◌∙◌, OnErr, Result, Ok, Err, arith}
 use Rattle.std.proofs.Math.ListN.{set}
 use Rattle.std.proofs.lemmas.List.{map-set}
 use Rattle.py_value.specs.declared.heap.Object.{Object}
-use Rattle.py_value.specs.Plain.{PlainObject, PlainHeap, list_object, dict_object}
+use Rattle.py_value.specs.Plain.{PlainObject, PlainHeap}
 use Rattle.py_value.specs.Objects.{plain_object, plain_objects}
-use Rattle.py_value.specs.Heaps.{object_at, is_list_object, values_of, pairs_of, length_of}
+use Rattle.py_value.specs.Heaps.{object_at}
 
 -- the object at a place in the heap
 pub object_is : (os : List Object) (a : ℕ) (o : Object) → a < length os → o ≡ get_or os a o → plain_object o ≡ object_at (plain_objects os) a
@@ -33,12 +33,3 @@ beyond (x ∷ h) (suc a) o l = ap (λ ys. x ∷ ys) (beyond h a o (omega arith))
 pub on_err : {A E : Type 0} (r : Result A E) (P : Type 0) → P → OnErr r P
 on_err (Ok x) P p = tt
 on_err (Err e) P p = p
-
--- the values of a dict
-pub values-of_dict : (o : PlainObject) → is_list_object o ≡ false → values_of o ≡ map (λ p. p.1) (pairs_of o)
-values-of_dict (list_object vs) e = absurd (cc)
-values-of_dict (dict_object ps) e = refl
-
-pub length-of_dict : (o : PlainObject) → is_list_object o ≡ false → length_of o ≡ length (pairs_of o)
-length-of_dict (list_object vs) e = absurd (cc)
-length-of_dict (dict_object ps) e = refl

@@ -1,9 +1,8 @@
 -- Keys, their hashes and an index over them.
-use Rattle.std.proofs.Common.{◌≡◌, ◌≢◌, ℕ, zero, suc, ◌+◌, ◌<◌, ◌≤◌, ◌%◌, Vec, map, take, Bool, true, false, ◌&&◌, ◌||◌, not, nat_eq, cond, IsTrue, List, [], ◌∷◌, ◌++◌, length, get_or, Option, Some, None, ◌⊎◌, inl, inr, refl, ap, sym, ◌∙◌, arith, subst}
+use Rattle.std.proofs.Common.{◌≡◌, ◌≢◌, ℕ, zero, suc, ◌+◌, ◌<◌, ◌≤◌, ◌%◌, Vec, map, take, Bool, true, false, ◌||◌, not, nat_eq, cond, IsTrue, List, [], ◌∷◌, ◌++◌, length, get_or, Option, Some, None, ◌⊎◌, inl, inr, refl, ap, sym, ◌∙◌, arith, subst}
 use Rattle.std.proofs.Math.ListN.{set}
 use Rattle.std.specs.List.{slice_get}
 use Rattle.std.specs.Option.{option_map}
-use Rattle.std.specs.Ordering.{int_eq}
 use Rattle.std.proofs.lemmas.Bool.{eqb-true, eq-eqb}
 use Rattle.std.proofs.lemmas.Bool.Decides.{Decides-int_eq}
 use Rattle.std.proofs.lemmas.Nat.{mod_below}
@@ -16,11 +15,11 @@ use Rattle.py_value.specs.declared.value.Value.{Value}
 use Rattle.py_value.specs.View.{plain}
 use Rattle.py_value.specs.Pairs.{plain_pair}
 use Rattle.py_value.proofs.DistinctKeys.{revalued}
-use Rattle.py_value.specs.Plain.{PlainValue, none_value, bool_value, int_value, str_value, tuple_value, list_at, dict_at, func_value, module_value, kind_value, exc_value, builtin_value, PlainValues, no_values, value_then}
+use Rattle.py_value.specs.Plain.{PlainValue, none_value, int_value, str_value, tuple_value, PlainValues, no_values, value_then}
 use Rattle.py_value.specs.Keys.{is_same_key, are_same_keys, place_of_key, has_none_same, has_distinct_keys}
 use Rattle.py_value.specs.Hashes.{hash_of, is_among, named, with_place, IsIndex, has_key, first_with}
 use Rattle.py_value.proofs.KeyLaws.{same_text}
-use Rattle.py_value.proofs.TestLaws.{both_true, first_true, second_true, not_true}
+use Rattle.py_value.proofs.TestLaws.{first_true, second_true}
 
 -- the same keys are equal
 mutual
@@ -112,9 +111,6 @@ index-added bs ps q f l i p e = either (more-pairs ps q i p e)
     either : (slice_get ps i ≡ Some p) ⊎ ((i ≡ length ps) × (p ≡ q)) → IsTrue (is_among i (named (with_place bs (hash_of q.0) (length ps)) (hash_of p.0)))
     either (inl g) = named-kept bs (hash_of q.0) (hash_of p.0) (length ps) i k (f k i p g)
     either (inr w) = ap (λ j. is_among j (named (with_place bs (hash_of q.0) (length ps)) (hash_of p.0))) w.0 ∙ ap (λ (r : PlainValue × PlainValue). is_among (length ps) (named (with_place bs (hash_of q.0) (length ps)) (hash_of r.0))) w.1 ∙ last
-
-pub index-empty : (ps : List (PlainValue × PlainValue)) → IsIndex [] ps
-index-empty ps l i p e = absurd (omega (arith, l))
 
 -- the place of a key, where no two pairs have the same
 other_key : (k c : PlainValue) (ps : List (PlainValue × PlainValue)) (j : ℕ) (p : PlainValue × PlainValue) → IsTrue (has_none_same c ps) → slice_get ps j ≡ Some p → is_same_key k p.0 ≡ true → is_same_key k c ≡ false

@@ -7,12 +7,13 @@ pub mod Hashing
 pub mod KeyLaws
 pub mod Levels
 pub mod Lists
+pub mod OnlyKeys
+pub mod WholeNumbers
 pub mod PartLaws
 pub mod Parts
 pub mod Rows
 pub mod Sizes
 pub mod SoundHeaps
 pub mod TestLaws
-pub mod TupleSteps
 pub mod Views
 pub mod Walks

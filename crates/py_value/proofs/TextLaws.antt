@@ -6,7 +6,7 @@ use Rattle.std.proofs.Math.Dec.{ltb}
 use Rattle.std.proofs.lemmas.Str.Ascii.{IsAscii-nil}
 use Rattle.std.proofs.lemmas.Bool.{eqb-true, ltb-true}
 use Rattle.std.specs.Char.{encode_utf8, len_utf8}
-use Rattle.std.proofs.lemmas.Str.{chars-append, chars-encodes, chars-nil, encodes-chars, length-encode, len_utf8_bounds, length-le-encodes, encode_ascii, IsAscii-append, IsAscii-take, IsAscii-drop, chars-IsAscii}
+use Rattle.std.proofs.lemmas.Str.{chars-append, chars-encodes, chars-nil, length-encode, len_utf8_bounds, length-le-encodes, encode_ascii, IsAscii-append, IsAscii-take, IsAscii-drop, chars-IsAscii}
 use Rattle.std.proofs.lemmas.Option.{slice_get-get_or, slice_get_past}
 use Rattle.std.proofs.lemmas.List.{take_min, drop_min, length-drop}
 use lib.Utf8.{scalars, scalar}
@@ -19,10 +19,6 @@ pub chars-push : (bs : List ℕ) (c : ℕ) → IsUtf8 bs → scalar c ≡ true �
 chars-push bs c u s =
     chars-append bs (encode_utf8 c) u
     ∙ ap (λ cs. chars bs ++ cs) (ap chars (sym (append-nil (encode_utf8 c))) ∙ chars-encodes (c ∷ []) (one_scalar c s))
-
--- an empty text is one of no bytes
-pub no_chars : (bs : List ℕ) → IsUtf8 bs → chars bs ≡ [] → bs ≡ []
-no_chars bs u e = sym (encodes-chars bs u) ∙ ap encode_utf8_all e
 
 -- a text is empty where its bytes are
 pub empty_text : (bs cs : List ℕ) → bs ≡ encode_utf8_all cs → chars bs ≡ cs → (IsTrue (length bs == 0) → cs ≡ []) × (cs ≡ [] → IsTrue (length bs == 0))

@@ -1,4 +1,11 @@
--- Equality and order of values: walks from left to right, through at most 200 values inside each other.
+-- Equality and order of values (Python Language Reference, 6.10): walks from left to right, through at most
+-- 200 values inside each other.
+--     are_equal, are_equal_dicts, are_equal_arguments     what two values hold, part by part
+--     is_same_atom                                        two values that hold no others
+--     equal_step, equal_within                            `==`
+--     order_of_texts, order_of_items, order_of_numbers    the first unequal part decides
+--     order_step, order_within                            `<` and its kin
+--     is_item                                             `in`
 use Rattle.std.specs.Prelude.{ℕ, zero, suc, ◌==◌, nat_eq, ℤ, Bool, true, false, ◌&&◌, if◌then◌else◌, List, [], ◌∷◌, length, Option, Some, None, Result, Ok, Err}
 use Rattle.std.specs.Ordering.{int_eq, int_cmp, nat_cmp}
 use Rattle.std.specs.declared.cmp.Ordering.{Ordering}
@@ -81,20 +88,23 @@ abbrev pub is_same_number : Option ℤ → Option ℤ → Bool
 is_same_number (Some x) (Some y) = int_eq x y
 is_same_number _ _ = false
 
+-- whether two values that hold no others are the same: numbers by value, else none of unequal kinds
+abbrev pub is_same_atom : PlainValue → PlainValue → Bool
+is_same_atom none_value none_value = true
+is_same_atom (func_value f a) (func_value g b) = is_same_function f g && is_same_place a b
+is_same_atom (module_value m) (module_value k) = is_same_module m k
+is_same_atom (kind_value k) (kind_value l) = is_same_kind k l
+is_same_atom (builtin_value f) (builtin_value g) = is_same_builtin f g
+is_same_atom a b = is_same_number (number_of a) (number_of b)
+
 -- `==` of two values, where `equal` compares the values inside them
 abbrev pub equal_step : (PlainValue → PlainValue → Result Bool Cause) → PlainHeap → PlainValue → PlainValue → Result Bool Cause
 equal_step equal h (str_value s) (str_value t) = Ok (is_same_text s t)
 equal_step equal h (tuple_value vs) (tuple_value ws) = are_equal equal (listed vs) (listed ws)
 equal_step equal h (list_at a) (list_at b) = are_equal equal (list_items h a) (list_items h b)
 equal_step equal h (dict_at a) (dict_at b) = are_equal_dicts equal (dict_pairs h a) (dict_pairs h b)
-equal_step equal h none_value none_value = Ok true
-equal_step equal h (func_value f a) (func_value g b) = Ok (is_same_function f g && is_same_place a b)
-equal_step equal h (module_value m) (module_value k) = Ok (is_same_module m k)
-equal_step equal h (kind_value k) (kind_value l) = Ok (is_same_kind k l)
-equal_step equal h (builtin_value f) (builtin_value g) = Ok (is_same_builtin f g)
 equal_step equal h (exc_value k a) (exc_value l b) = if_same (is_same_kind k l) (are_equal_arguments equal a b)
--- numbers by value, else unequal
-equal_step equal h a b = Ok (is_same_number (number_of a) (number_of b))
+equal_step equal h a b = Ok (is_same_atom a b)
 
 -- `==`, going through at most so many values inside each other
 unfoldable pub equal_within : ℕ → PlainHeap → PlainValue → PlainValue → Result Bool Cause

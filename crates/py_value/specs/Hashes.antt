@@ -1,6 +1,6 @@
 -- Hashes of keys, and an index that names the places of a dict's pairs by the hashes of their keys.
-use Rattle.std.specs.Prelude.{ℕ, ◌+◌, ◌*◌, ◌%◌, ◌^◌, ◌<◌, ◌≡◌, Bool, true, false, ◌||◌, nat_eq, IsTrue, List, [], ◌∷◌, ◌++◌, length, get_or, set, Option, Some, None, if◌then◌else◌, slice_get, encode_utf8_all, unsigned_abs}
-use Rattle.py_value.specs.Plain.{PlainValue, none_value, int_value, str_value, tuple_value, listed}
+use Rattle.std.specs.Prelude.{ℕ, ◌+◌, ◌*◌, ◌%◌, ◌^◌, ◌<◌, ◌≡◌, Bool, false, ◌||◌, nat_eq, IsTrue, List, [], ◌∷◌, ◌++◌, length, get_or, set, Option, Some, None, if◌then◌else◌, slice_get, encode_utf8_all, unsigned_abs}
+use Rattle.py_value.specs.Plain.{PlainValue, int_value, str_value, tuple_value, listed}
 use Rattle.py_value.specs.Keys.{is_same_key}
 
 -- a hash with one more number in it

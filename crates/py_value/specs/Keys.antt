@@ -58,11 +58,16 @@ abbrev pub has_distinct_keys : List (PlainValue × PlainValue) → Bool
 has_distinct_keys [] = true
 has_distinct_keys (p ∷ ps) = has_none_same p.0 ps && has_distinct_keys ps
 
+-- whether each pair's key may be one
+abbrev pub has_only_keys : List (PlainValue × PlainValue) → Bool
+has_only_keys [] = true
+has_only_keys (p ∷ ps) = is_key p.0 && has_only_keys ps
+
 abbrev pub is_sound_object : PlainObject → Bool
 is_sound_object (list_object vs) = true
-is_sound_object (dict_object ps) = has_distinct_keys ps
+is_sound_object (dict_object ps) = has_only_keys ps && has_distinct_keys ps
 
--- whether the keys of each dict are distinct
+-- whether the keys of each dict may be keys, and are distinct
 abbrev pub is_sound_heap : PlainHeap → Bool
 is_sound_heap [] = true
 is_sound_heap (o ∷ os) = is_sound_object o && is_sound_heap os

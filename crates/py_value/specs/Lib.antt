@@ -1,5 +1,6 @@
 pub mod Answers
 pub mod Causes
+pub mod Compared
 pub mod Comparison
 pub mod ExcKind
 pub mod Hashes

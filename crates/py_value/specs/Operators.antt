@@ -1,5 +1,13 @@
 -- The table of operators (Python Language Reference, 6.7 to 6.10, 7.2.1 and 3.3), with bool counting as 0 or 1.
 -- Each operation gives a value and the heap behind it, or raises and leaves the heap as it was.
+--     binary_answer, in_place_answer      `left op right`, `left op= right`
+--     contains_answer, compare_answer     `in`, and the comparisons
+--     item_answer, value_answer           `of[at]` of a sequence and of a dict
+--     store_answer                        `of[at] = v`
+--     binary_of, in_place_of, compare_of, index_of, slice_of, store_of
+--                                         the same with the exception in place of its cause
+--     is_none_value, is_bool_value        `is`
+--     truth_of                            the truth of a value
 use Rattle.std.specs.Prelude.{ℕ, ◌+◌, nat_le, nat_lt, ℤ, Bool, true, false, not, ◌||◌, if◌then◌else◌, List, [], ◌∷◌, ◌++◌, length, map, is_some, slice_get, slice_set, Option, Some, None, Result, Ok, Err}
 use Rattle.std.specs.Ordering.{is_lt, is_gt}
 use Rattle.py_value.specs.declared.operator.BinOp.{BinOp}

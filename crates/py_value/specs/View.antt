@@ -28,10 +28,15 @@ abbrev pub plain_stored : Result (Unit {0}) Raised → PlainHeap → Result Plai
 plain_stored (Ok u) h = Ok h
 plain_stored (Err r) h = Err (plain_raised r)
 
+-- what an operation makes of its target, and the heap behind it
+abbrev pub plain_update : Result (Unit {0}) Raised → PlainValue → PlainHeap → Result (PlainValue × PlainHeap) PlainRaised
+plain_update (Ok u) v h = Ok (v, h)
+plain_update (Err r) v h = Err (plain_raised r)
+
 -- the same with the cause in place of the exception
-abbrev pub after_store : Result (Unit {0}) Cause → PlainHeap → Result PlainHeap Cause
-after_store (Ok u) h = Ok h
-after_store (Err cause) h = Err cause
+abbrev pub after_change : {A : Type 0} → Result (Unit {0}) Cause → A → Result A Cause
+after_change (Ok u) x = Ok x
+after_change (Err cause) x = Err cause
 
 abbrev pub after_step : Result Value Cause → PlainHeap → Result (PlainValue × PlainHeap) Cause
 after_step (Ok v) h = Ok (plain v, h)

@@ -3,7 +3,7 @@
 ghost use Rattle.std.specs.Prelude.{◌≡◌, IfOk, OnErr, Some, None};
 ghost use Rattle.py_value.specs.View.{plain, plains, plain_outcome, after_step, IsNumberOf};
 ghost use Rattle.py_value.specs.HeapView.{plain_heap};
-ghost use Rattle.py_value.specs.Numbers.{number_of};
+ghost use Rattle.py_value.specs.Numbers.{number_of, arithmetic};
 ghost use Rattle.py_value.specs.Operators.{number_result, repeated_sequence, binary_answer, binary_of};
 
 use crate::NoMemory;
@@ -24,8 +24,11 @@ pub fn binary(
     right: &Value,
     heap: &mut Heap,
 ) -> Result<Result<Value, Raised>, NoMemory>
-    ensures answer { IfOk result (λ answer. plain_outcome answer (plain_heap heap.new) ≡ binary_of op (plain left.now) (plain right.now) (plain_heap heap.old)) }
-    ensures raised { IfOk result (λ answer. OnErr answer (plain_heap heap.new ≡ plain_heap heap.old)) }
+    ensures answer { IfOk result (λ answer.
+        plain_outcome answer (plain_heap heap.new)
+        ≡ binary_of op (plain left.now) (plain right.now) (plain_heap heap.old)) }
+    ensures raised { IfOk result (λ answer.
+        OnErr answer (plain_heap heap.new ≡ plain_heap heap.old)) }
     ensures err { OnErr result (plain_heap heap.new ≡ plain_heap heap.old) }
 {
     match operation(alloc, op, left, right, heap)? {
@@ -42,10 +45,17 @@ pub fn operation(
     right: &Value,
     heap: &mut Heap,
 ) -> Result<Result<Value, Cause>, NoMemory>
-    ensures answer { IfOk result (λ step. after_step step (plain_heap heap.new) ≡ binary_answer op (plain left.now) (plain right.now) (plain_heap heap.old)) }
+    ensures answer { IfOk result (λ step.
+        after_step step (plain_heap heap.new)
+        ≡ binary_answer op (plain left.now) (plain right.now) (plain_heap heap.old)) }
     ensures raised { IfOk result (λ step. OnErr step (plain_heap heap.new ≡ plain_heap heap.old)) }
     ensures err { OnErr result (plain_heap heap.new ≡ plain_heap heap.old) }
 {
+    if let Value::Int(x) = left
+        && let Value::Int(y) = right
+    {
+        return Ok(of_whole_numbers(op, *x, *y));
+    }
     match op {
         BinOp::Add => add(alloc, left, right, heap),
         BinOp::Sub => Ok(numbers(BinOp::Sub, left, right)),
@@ -56,17 +66,26 @@ pub fn operation(
 }
 
 fn numbers(op: BinOp, left: &Value, right: &Value) -> Result<Value, Cause>
-    ensures { IsNumberOf result (number_result op (number_of (plain left.now)) (number_of (plain right.now))) }
+    ensures { IsNumberOf result
+        (number_result op (number_of (plain left.now)) (number_of (plain right.now))) }
 {
     match left.number() {
         None => Err(Cause::UnsupportedOperand),
         Some(x) => match right.number() {
             None => Err(Cause::UnsupportedOperand),
-            Some(y) => match arithmetic(op, x, y) {
-                Ok(n) => Ok(Value::Int(n)),
-                Err(cause) => Err(cause),
-            },
+            Some(y) => of_whole_numbers(op, x, y),
         },
+    }
+}
+
+/// `left op right` of two whole numbers.
+#[inline]
+pub fn of_whole_numbers(op: BinOp, left: i64, right: i64) -> Result<Value, Cause>
+    ensures { IsNumberOf result (arithmetic op left right) }
+{
+    match arithmetic(op, left, right) {
+        Ok(n) => Ok(Value::Int(n)),
+        Err(cause) => Err(cause),
     }
 }
 
@@ -76,7 +95,9 @@ fn add(
     right: &Value,
     heap: &mut Heap,
 ) -> Result<Result<Value, Cause>, NoMemory>
-    ensures answer { IfOk result (λ step. after_step step (plain_heap heap.new) ≡ binary_answer BinOp.Add (plain left.now) (plain right.now) (plain_heap heap.old)) }
+    ensures answer { IfOk result (λ step.
+        after_step step (plain_heap heap.new)
+        ≡ binary_answer BinOp.Add (plain left.now) (plain right.now) (plain_heap heap.old)) }
     ensures raised { IfOk result (λ step. OnErr step (plain_heap heap.new ≡ plain_heap heap.old)) }
     ensures err { OnErr result (plain_heap heap.new ≡ plain_heap heap.old) }
 {
@@ -112,7 +133,9 @@ fn multiply(
     right: &Value,
     heap: &mut Heap,
 ) -> Result<Result<Value, Cause>, NoMemory>
-    ensures answer { IfOk result (λ step. after_step step (plain_heap heap.new) ≡ binary_answer BinOp.Mul (plain left.now) (plain right.now) (plain_heap heap.old)) }
+    ensures answer { IfOk result (λ step.
+        after_step step (plain_heap heap.new)
+        ≡ binary_answer BinOp.Mul (plain left.now) (plain right.now) (plain_heap heap.old)) }
     ensures raised { IfOk result (λ step. OnErr step (plain_heap heap.new ≡ plain_heap heap.old)) }
     ensures err { OnErr result (plain_heap heap.new ≡ plain_heap heap.old) }
 {
@@ -135,7 +158,10 @@ fn repeat_sequence(
     count: &Value,
     heap: &mut Heap,
 ) -> Result<Result<Value, Cause>, NoMemory>
-    ensures answer { IfOk result (λ step. after_step step (plain_heap heap.new) ≡ repeated_sequence (plain_heap heap.old) (plain sequence.now) (number_of (plain count.now))) }
+    ensures answer { IfOk result (λ step.
+        after_step step (plain_heap heap.new)
+        ≡ repeated_sequence (plain_heap heap.old) (plain sequence.now)
+        (number_of (plain count.now))) }
     ensures raised { IfOk result (λ step. OnErr step (plain_heap heap.new ≡ plain_heap heap.old)) }
     ensures err { OnErr result (plain_heap heap.new ≡ plain_heap heap.old) }
 {

@@ -1,17 +1,17 @@
 // Augmented assignment: the operators that change a list where it stands.
 
 ghost use Rattle.std.specs.Prelude.{◌≡◌, IfOk, OnErr, Some};
-ghost use Rattle.py_value.specs.View.{plain, plains, plain_outcome, after_step};
+ghost use Rattle.py_value.specs.View.{plain, plains, plain_outcome, plain_update, after_step};
 ghost use Rattle.py_value.specs.HeapView.{plain_heap};
 ghost use Rattle.py_value.specs.Numbers.{number_of};
 ghost use Rattle.py_value.specs.Operators.{items_to_append, appended, repeated_in_place, in_place_answer, in_place_of};
 
 use crate::NoMemory;
-use crate::arithmetic::operation;
+use crate::arithmetic::{of_whole_numbers, operation};
 use crate::cause::Cause;
 use crate::heap::Heap;
 use crate::operator::BinOp;
-use crate::sequences::{characters_of, fit_together, keys_of, repeat_items};
+use crate::sequences::{characters_of, extend_text, fit_together, keys_of, repeat_items};
 use crate::value::{Addr, Raised, Value, copy_all};
 use std::alloc::Global;
 
@@ -23,13 +23,52 @@ pub fn in_place(
     right: &Value,
     heap: &mut Heap,
 ) -> Result<Result<Value, Raised>, NoMemory>
-    ensures answer { IfOk result (λ answer. plain_outcome answer (plain_heap heap.new) ≡ in_place_of op (plain left.now) (plain right.now) (plain_heap heap.old)) }
-    ensures raised { IfOk result (λ answer. OnErr answer (plain_heap heap.new ≡ plain_heap heap.old)) }
+    ensures answer { IfOk result (λ answer.
+        plain_outcome answer (plain_heap heap.new)
+        ≡ in_place_of op (plain left.now) (plain right.now) (plain_heap heap.old)) }
+    ensures raised { IfOk result (λ answer.
+        OnErr answer (plain_heap heap.new ≡ plain_heap heap.old)) }
     ensures err { OnErr result (plain_heap heap.new ≡ plain_heap heap.old) }
 {
     match augmented(alloc, op, left, right, heap)? {
         Ok(value) => Ok(Ok(value)),
         Err(cause) => Ok(Err(Raised::of(alloc, cause)?)),
+    }
+}
+
+/// `target op= right` where the target stands. A text that no copy shares grows in place, so that
+/// adding to it again and again takes time for what is added alone.
+pub fn update(
+    alloc: Global,
+    op: BinOp,
+    target: &mut Value,
+    right: &Value,
+    heap: &mut Heap,
+) -> Result<Result<(), Raised>, NoMemory>
+    ensures answer { IfOk result (λ answer.
+        plain_update answer (plain target.new) (plain_heap heap.new)
+        ≡ in_place_of op (plain target.old) (plain right.now) (plain_heap heap.old)) }
+    ensures raised { IfOk result (λ answer. OnErr answer (plain target.new ≡ plain target.old)) }
+    ensures raised_heap { IfOk result (λ answer.
+        OnErr answer (plain_heap heap.new ≡ plain_heap heap.old)) }
+    ensures err { OnErr result (plain target.new ≡ plain target.old) }
+    ensures err_heap { OnErr result (plain_heap heap.new ≡ plain_heap heap.old) }
+{
+    if let BinOp::Add = op
+        && let Value::Str(text) = target
+        && let Value::Str(more) = right
+    {
+        return match extend_text(text, more)? {
+            Ok(()) => Ok(Ok(())),
+            Err(cause) => Ok(Err(Raised::of(alloc, cause)?)),
+        };
+    }
+    match in_place(alloc, op, target, right, heap)? {
+        Ok(value) => {
+            *target = value;
+            Ok(Ok(()))
+        }
+        Err(raised) => Ok(Err(raised)),
     }
 }
 
@@ -40,10 +79,17 @@ fn augmented(
     right: &Value,
     heap: &mut Heap,
 ) -> Result<Result<Value, Cause>, NoMemory>
-    ensures answer { IfOk result (λ step. after_step step (plain_heap heap.new) ≡ in_place_answer op (plain left.now) (plain right.now) (plain_heap heap.old)) }
+    ensures answer { IfOk result (λ step.
+        after_step step (plain_heap heap.new)
+        ≡ in_place_answer op (plain left.now) (plain right.now) (plain_heap heap.old)) }
     ensures raised { IfOk result (λ step. OnErr step (plain_heap heap.new ≡ plain_heap heap.old)) }
     ensures err { OnErr result (plain_heap heap.new ≡ plain_heap heap.old) }
 {
+    if let Value::Int(x) = left
+        && let Value::Int(y) = right
+    {
+        return Ok(of_whole_numbers(op, *x, *y));
+    }
     match op {
         BinOp::Add => match left {
             Value::List(list) => extend(alloc, *list, right, heap),
@@ -65,7 +111,10 @@ fn extend(
     right: &Value,
     heap: &mut Heap,
 ) -> Result<Result<Value, Cause>, NoMemory>
-    ensures answer { IfOk result (λ step. after_step step (plain_heap heap.new) ≡ appended list.place (plain_heap heap.old) (items_to_append (plain_heap heap.old) (plain right.now))) }
+    ensures answer { IfOk result (λ step.
+        after_step step (plain_heap heap.new)
+        ≡ appended list.place (plain_heap heap.old)
+        (items_to_append (plain_heap heap.old) (plain right.now))) }
     ensures raised { IfOk result (λ step. OnErr step (plain_heap heap.new ≡ plain_heap heap.old)) }
     ensures err { OnErr result (plain_heap heap.new ≡ plain_heap heap.old) }
 {
@@ -91,7 +140,9 @@ fn extend(
 }
 
 fn append(list: Addr, items: Vec<Value>, heap: &mut Heap) -> Result<Result<Value, Cause>, NoMemory>
-    ensures answer { IfOk result (λ step. after_step step (plain_heap heap.new) ≡ appended list.place (plain_heap heap.old) (Some (plains items.items))) }
+    ensures answer { IfOk result (λ step.
+        after_step step (plain_heap heap.new)
+        ≡ appended list.place (plain_heap heap.old) (Some (plains items.items))) }
     ensures raised { IfOk result (λ step. OnErr step (plain_heap heap.new ≡ plain_heap heap.old)) }
     ensures err { OnErr result (plain_heap heap.new ≡ plain_heap heap.old) }
 {
@@ -109,7 +160,9 @@ fn repeat(
     right: &Value,
     heap: &mut Heap,
 ) -> Result<Result<Value, Cause>, NoMemory>
-    ensures answer { IfOk result (λ step. after_step step (plain_heap heap.new) ≡ repeated_in_place list.place (plain_heap heap.old) (number_of (plain right.now))) }
+    ensures answer { IfOk result (λ step.
+        after_step step (plain_heap heap.new)
+        ≡ repeated_in_place list.place (plain_heap heap.old) (number_of (plain right.now))) }
     ensures raised { IfOk result (λ step. OnErr step (plain_heap heap.new ≡ plain_heap heap.old)) }
     ensures err { OnErr result (plain_heap heap.new ≡ plain_heap heap.old) }
 {

@@ -74,11 +74,13 @@ impl Body {
         Ok(())
     }
 
-    pub fn append(&mut self, s: &str) -> Result<(), NoMemory>
+    /// Adds characters, of which there are so many.
+    pub fn append(&mut self, s: &str, count: usize) -> Result<(), NoMemory>
+        requires { count ≡ length (chars s.now) }
         ensures ok { OnOk result (self.new ≡ self.old ++ chars s.now) }
         ensures err { OnErr result (self.new ≡ self.old) }
     {
-        let count = sum(self.count, count_of(s))?;
+        let count = sum(self.count, count)?;
         self.utf8.push_str(s)?;
         self.count = count;
         Ok(())

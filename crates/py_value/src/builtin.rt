@@ -1,7 +1,7 @@
 // The built-in functions and methods.
 
 /// A built-in function. `Exit` is `sys.exit`.
-#[derive(Clone, Copy, Debug)]
+#[derive(Clone, Copy)]
 pub enum Builtin {
     Print,
     Len,
@@ -14,7 +14,7 @@ pub enum Builtin {
 }
 
 /// A method, by its name.
-#[derive(Clone, Copy, Debug)]
+#[derive(Clone, Copy)]
 pub enum Method {
     Append,
     Pop,

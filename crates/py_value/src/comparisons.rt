@@ -2,12 +2,12 @@
 
 ghost use Rattle.std.specs.Prelude.{◌≡◌, IfOk};
 ghost use Rattle.py_value.specs.View.{plain, plains, plain_answer};
+ghost use Rattle.py_value.specs.Plain.{PlainHeap, int_value};
 ghost use Rattle.py_value.specs.HeapView.{plain_heap};
 ghost use Rattle.py_value.specs.Comparison.{equal_within, is_item, most_levels};
 ghost use Rattle.py_value.specs.Operators.{contains_answer, compare_answer, compare_of, truth_of, is_none_value, is_bool_value};
 
 use crate::NoMemory;
-use crate::answer::told;
 use crate::cause::Cause;
 use crate::equality::equal;
 use crate::heap::Heap;
@@ -28,14 +28,24 @@ pub fn compare(
     right: &Value,
     heap: &Heap,
 ) -> Result<Result<bool, Raised>, NoMemory>
-    ensures { IfOk result (λ answer. plain_answer answer ≡ compare_of op (plain left.now) (plain right.now) (plain_heap heap.now)) }
+    ensures { IfOk result (λ answer.
+        plain_answer answer
+        ≡ compare_of op (plain left.now) (plain right.now) (plain_heap heap.now)) }
 {
-    told(alloc, comparison(op, left, right, heap))
+    match comparison(op, left, right, heap) {
+        Ok(holds) => Ok(Ok(holds)),
+        Err(cause) => Ok(Err(Raised::of(alloc, cause)?)),
+    }
 }
 
 fn comparison(op: CmpOp, left: &Value, right: &Value, heap: &Heap) -> Result<bool, Cause>
     ensures { result ≡ compare_answer op (plain left.now) (plain right.now) (plain_heap heap.now) }
 {
+    if let Value::Int(x) = left
+        && let Value::Int(y) = right
+    {
+        return compare_whole_numbers(op, *x, *y);
+    }
     match op {
         CmpOp::Eq => equal(MOST_LEVELS, left, right, heap),
         CmpOp::Ne => match equal(MOST_LEVELS, left, right, heap) {
@@ -66,6 +76,23 @@ fn comparison(op: CmpOp, left: &Value, right: &Value, heap: &Heap) -> Result<boo
     }
 }
 
+/// `left op right` of two whole numbers.
+#[inline]
+fn compare_whole_numbers(op: CmpOp, left: i64, right: i64) -> Result<bool, Cause>
+    ensures { (h : PlainHeap) → result ≡ compare_answer op (int_value left) (int_value right) h }
+{
+    let order = left.cmp(&right);
+    match op {
+        CmpOp::Eq => Ok(left == right),
+        CmpOp::Ne => Ok(left != right),
+        CmpOp::Lt => Ok(order.is_lt()),
+        CmpOp::Le => Ok(!order.is_gt()),
+        CmpOp::Gt => Ok(order.is_gt()),
+        CmpOp::Ge => Ok(!order.is_lt()),
+        CmpOp::In | CmpOp::NotIn => Err(Cause::UnsupportedOperand),
+    }
+}
+
 fn contains(value: &Value, whole: &Value, heap: &Heap) -> Result<bool, Cause>
     ensures { result ≡ contains_answer (plain value.now) (plain whole.now) (plain_heap heap.now) }
 {
@@ -88,7 +115,9 @@ fn contains(value: &Value, whole: &Value, heap: &Heap) -> Result<bool, Cause>
 }
 
 fn is_item(value: &Value, items: &[Value], heap: &Heap) -> Result<bool, Cause>
-    ensures { result ≡ is_item (equal_within most_levels (plain_heap heap.now)) (plain value.now) (plains items.now) }
+    ensures { result
+        ≡ is_item (equal_within most_levels (plain_heap heap.now)) (plain value.now)
+        (plains items.now) }
 {
     for item in items {
         match equal(MOST_LEVELS, value, item, heap) {

@@ -6,19 +6,19 @@ ghost use Rattle.std.specs.Option.{option_map};
 ghost use Rattle.py_value.specs.HeapView.{plain_heap};
 ghost use Rattle.py_value.specs.Pairs.{plain_pair};
 ghost use Rattle.py_value.specs.Heaps.{dict_pairs};
-ghost use Rattle.py_value.specs.Comparison.{equal_within, equal_step, are_equal, are_equal_dicts, are_equal_pairs, are_equal_arguments, is_same_function, is_same_place, is_same_module, is_same_builtin};
+ghost use Rattle.py_value.specs.Comparison.{equal_within, equal_step, are_equal, are_equal_dicts, are_equal_pairs, are_equal_arguments, is_same_atom, is_same_place, is_same_module};
 
-use crate::builtin::Builtin;
 use crate::cause::Cause;
 use crate::heap::Heap;
 use crate::pairs::Pair;
 use crate::shared::Argument;
-use crate::value::{Addr, FuncId, ModId, Value};
+use crate::value::{Addr, ModId, Value};
 
 /// Whether two values are equal, or `TooDeep` where more than `levels` stand inside each other.
 #[cycle(equal)]
 pub fn equal(levels: u32, left: &Value, right: &Value, heap: &Heap) -> Result<bool, Cause>
-    ensures { result ≡ equal_within levels (plain_heap heap.now) (plain left.now) (plain right.now) }
+    ensures { result
+        ≡ equal_within levels (plain_heap heap.now) (plain left.now) (plain right.now) }
 {
     if levels == 0 {
         return Err(Cause::TooDeep);
@@ -28,10 +28,18 @@ pub fn equal(levels: u32, left: &Value, right: &Value, heap: &Heap) -> Result<bo
 
 #[cycle(equal)]
 fn equal_inside(levels: u32, left: &Value, right: &Value, heap: &Heap) -> Result<bool, Cause>
-    ensures { result ≡ equal_step (equal_within levels (plain_heap heap.now)) (plain_heap heap.now) (plain left.now) (plain right.now) }
+    ensures { result
+        ≡ equal_step (equal_within levels (plain_heap heap.now)) (plain_heap heap.now)
+        (plain left.now) (plain right.now) }
 {
     match left {
-        Value::None => Ok(matches!(right, Value::None)),
+        Value::None
+        | Value::Bool(_)
+        | Value::Int(_)
+        | Value::Func(_, _)
+        | Value::Module(_)
+        | Value::Kind(_)
+        | Value::Builtin(_) => Ok(is_same_atom(left, right)),
         Value::Str(s) => match right {
             Value::Str(t) => Ok(s.is_same(t)),
             _ => Ok(false),
@@ -48,45 +56,18 @@ fn equal_inside(levels: u32, left: &Value, right: &Value, heap: &Heap) -> Result
             Value::Dict(b) => equal_dicts(levels, heap.pairs(*a), *b, heap),
             _ => Ok(false),
         },
-        Value::Func(f, a) => match right {
-            Value::Func(g, b) => Ok(is_same_function(*f, *g) && is_same_place(*a, *b)),
-            _ => Ok(false),
-        },
-        Value::Module(m) => match right {
-            Value::Module(n) => Ok(is_same_module(*m, *n)),
-            _ => Ok(false),
-        },
-        Value::Kind(k) => match right {
-            Value::Kind(l) => Ok(k.is_same(*l)),
-            _ => Ok(false),
-        },
         Value::Exc(k, a) => match right {
-            Value::Exc(l, b) => {
-                if k.is_same(*l) {
-                    equal_arguments(levels, a, b, heap)
-                } else {
-                    Ok(false)
-                }
-            }
+            Value::Exc(l, b) if k.is_same(*l) => equal_arguments(levels, a, b, heap),
             _ => Ok(false),
-        },
-        Value::Builtin(f) => match right {
-            Value::Builtin(g) => Ok(is_same_builtin(*f, *g)),
-            _ => Ok(false),
-        },
-        Value::Bool(_) | Value::Int(_) => match left.number() {
-            None => Ok(false),
-            Some(x) => match right.number() {
-                None => Ok(false),
-                Some(y) => Ok(x == y),
-            },
         },
     }
 }
 
 #[cycle(equal)]
 fn equal_items(levels: u32, left: &[Value], right: &[Value], heap: &Heap) -> Result<bool, Cause>
-    ensures { result ≡ are_equal (equal_within levels (plain_heap heap.now)) (plains left.now) (plains right.now) }
+    ensures { result
+        ≡ are_equal (equal_within levels (plain_heap heap.now)) (plains left.now)
+        (plains right.now) }
 {
     if left.len() != right.len() {
         return Ok(false);
@@ -103,7 +84,9 @@ fn equal_items(levels: u32, left: &[Value], right: &[Value], heap: &Heap) -> Res
 
 #[cycle(equal)]
 fn equal_dicts(levels: u32, left: &[Pair], right: Addr, heap: &Heap) -> Result<bool, Cause>
-    ensures { result ≡ are_equal_dicts (equal_within levels (plain_heap heap.now)) (map plain_pair left.now) (dict_pairs (plain_heap heap.now) right.place) }
+    ensures { result
+        ≡ are_equal_dicts (equal_within levels (plain_heap heap.now)) (map plain_pair left.now)
+        (dict_pairs (plain_heap heap.now) right.place) }
 {
     if left.len() == heap.pairs(right).len() {
         equal_pairs(levels, left, right, heap)
@@ -114,7 +97,9 @@ fn equal_dicts(levels: u32, left: &[Pair], right: Addr, heap: &Heap) -> Result<b
 
 #[cycle(equal)]
 fn equal_pairs(levels: u32, left: &[Pair], right: Addr, heap: &Heap) -> Result<bool, Cause>
-    ensures { result ≡ are_equal_pairs (equal_within levels (plain_heap heap.now)) (map plain_pair left.now) (dict_pairs (plain_heap heap.now) right.place) }
+    ensures { result
+        ≡ are_equal_pairs (equal_within levels (plain_heap heap.now)) (map plain_pair left.now)
+        (dict_pairs (plain_heap heap.now) right.place) }
 {
     for i in 0..left.len() {
         match heap.value_of(right, &left[i].key) {
@@ -136,7 +121,8 @@ fn equal_arguments(
     right: &Argument,
     heap: &Heap,
 ) -> Result<bool, Cause>
-    ensures { result ≡ are_equal_arguments (equal_within levels (plain_heap heap.now)) left.now right.now }
+    ensures { result
+        ≡ are_equal_arguments (equal_within levels (plain_heap heap.now)) left.now right.now }
 {
     match left.value() {
         None => match right.value() {
@@ -150,10 +136,41 @@ fn equal_arguments(
     }
 }
 
-fn is_same_function(left: FuncId, right: FuncId) -> bool
-    ensures { result ≡ is_same_function left right }
+/// Whether two values are the same, of which the left one holds no others.
+fn is_same_atom(left: &Value, right: &Value) -> bool
+    ensures { result ≡ is_same_atom (plain left.now) (plain right.now) }
 {
-    left.module == right.module && left.unit == right.unit
+    match left {
+        Value::None => matches!(right, Value::None),
+        Value::Bool(_) | Value::Int(_) => match left.number() {
+            None => false,
+            Some(x) => match right.number() {
+                None => false,
+                Some(y) => x == y,
+            },
+        },
+        Value::Str(_) | Value::Tuple(_) | Value::List(_) | Value::Dict(_) | Value::Exc(_, _) => {
+            false
+        }
+        Value::Func(f, a) => match right {
+            Value::Func(g, b) => {
+                f.module == g.module && f.unit == g.unit && is_same_place(*a, *b)
+            }
+            _ => false,
+        },
+        Value::Module(m) => match right {
+            Value::Module(n) => is_same_module(*m, *n),
+            _ => false,
+        },
+        Value::Kind(k) => match right {
+            Value::Kind(l) => k.is_same(*l),
+            _ => false,
+        },
+        Value::Builtin(f) => match right {
+            Value::Builtin(g) => *f as u8 == *g as u8,
+            _ => false,
+        },
+    }
 }
 
 fn is_same_place(left: Option<Addr>, right: Option<Addr>) -> bool
@@ -178,10 +195,4 @@ fn is_same_module(left: ModId, right: ModId) -> bool
             ModId::Loaded(n) => m == n,
         },
     }
-}
-
-fn is_same_builtin(left: Builtin, right: Builtin) -> bool
-    ensures { result ≡ is_same_builtin left right }
-{
-    left as u8 == right as u8
 }

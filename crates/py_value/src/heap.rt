@@ -6,7 +6,7 @@ ghost use Rattle.py_value.specs.Pairs.{plain_pair};
 ghost use Rattle.py_value.specs.Objects.{plain_objects};
 ghost use Rattle.py_value.specs.Plain.{list_object, dict_object};
 ghost use Rattle.py_value.specs.Heaps.{object_at, list_items, dict_pairs, dict_keys, values_of, length_of, is_list_object, without, with_object, with_items, with_pairs, change, change_list, change_dict};
-ghost use Rattle.py_value.specs.Keys.{place_of_key, value_at, with_value, is_sound_heap};
+ghost use Rattle.py_value.specs.Keys.{is_key, place_of_key, value_at, with_value, is_sound_heap};
 
 use crate::NoMemory;
 use crate::pairs::{Pair, Pairs};
@@ -33,7 +33,8 @@ impl Object {
     }
 
     fn push(&mut self, value: Value) -> Result<(), NoMemory>
-        ensures ok { OnOk result (plain_object self.new ≡ with_items (λ vs. vs ++ plain value ∷ []) (plain_object self.old)) }
+        ensures ok { OnOk result (plain_object self.new
+            ≡ with_items (λ vs. vs ++ plain value ∷ []) (plain_object self.old)) }
         ensures err { OnErr result (plain_object self.new ≡ plain_object self.old) }
     {
         match self {
@@ -45,18 +46,23 @@ impl Object {
         }
     }
 
-    fn append(&mut self, values: Vec<Value>) -> Result<(), NoMemory>
-        ensures ok { OnOk result (plain_object self.new ≡ with_items (λ vs. vs ++ plains values.items) (plain_object self.old)) }
+    fn append(&mut self, mut values: Vec<Value>) -> Result<(), NoMemory>
+        ensures ok { OnOk result (plain_object self.new
+            ≡ with_items (λ vs. vs ++ plains values.items) (plain_object self.old)) }
         ensures err { OnErr result (plain_object self.new ≡ plain_object self.old) }
     {
         match self {
-            Object::List(items) => append_all(items, values),
+            Object::List(items) => {
+                items.append(&mut values)?;
+                Ok(())
+            }
             Object::Dict(_) => Ok(()),
         }
     }
 
     fn set_item(&mut self, at: usize, value: Value)
-        ensures { plain_object self.new ≡ with_items (λ vs. slice_set vs at (plain value)) (plain_object self.old) }
+        ensures { plain_object self.new
+            ≡ with_items (λ vs. slice_set vs at (plain value)) (plain_object self.old) }
     {
         if let Object::List(items) = self
             && at < items.len()
@@ -66,7 +72,8 @@ impl Object {
     }
 
     fn set_items(&mut self, values: Vec<Value>)
-        ensures { plain_object self.new ≡ with_items (λ _. plains values.items) (plain_object self.old) }
+        ensures { plain_object self.new
+            ≡ with_items (λ _. plains values.items) (plain_object self.old) }
     {
         if let Object::List(items) = self {
             *items = values;
@@ -74,7 +81,9 @@ impl Object {
     }
 
     fn set_value(&mut self, key: Value, value: Value) -> Result<(), NoMemory>
-        ensures ok { OnOk result (plain_object self.new ≡ with_pairs (with_value (plain key) (plain value)) (plain_object self.old)) }
+        requires { IsTrue (is_key (plain key)) }
+        ensures ok { OnOk result (plain_object self.new
+            ≡ with_pairs (with_value (plain key) (plain value)) (plain_object self.old)) }
         ensures err { OnErr result (plain_object self.new ≡ plain_object self.old) }
     {
         match self {
@@ -103,14 +112,6 @@ fn copy_objects(alloc: Global, objects: &[Object]) -> Result<Vec<Object>, NoMemo
         copies.push(object.copy(alloc)?)?;
     }
     Ok(copies)
-}
-
-/// Adds values at the end of others, or leaves them as they are.
-fn append_all(items: &mut Vec<Value>, mut values: Vec<Value>) -> Result<(), NoMemory>
-    ensures ok { OnOk result (plains items.new.items ≡ plains items.old.items ++ plains values.items) }
-    ensures err { OnErr result (plains items.new.items ≡ plains items.old.items) }
-{
-    items.append(&mut values)
 }
 
 /// The place behind so many objects. An address has 32 bits, and more objects count as want of memory.
@@ -191,7 +192,8 @@ impl Heap {
     /// Makes a list of these items at the end of the heap.
     pub fn make_list(&mut self, items: Vec<Value>) -> Result<Addr, NoMemory>
         ensures address { IfOk result (λ addr. addr.place ≡ length (plain_heap self.old)) }
-        ensures ok { OnOk result (plain_heap self.new ≡ with_object (plain_heap self.old) (list_object (plains items.items))) }
+        ensures ok { OnOk result (plain_heap self.new
+            ≡ with_object (plain_heap self.old) (list_object (plains items.items))) }
         ensures err { OnErr result (plain_heap self.new ≡ plain_heap self.old) }
     {
         let place = place_after(self.objects.len())?;
@@ -202,7 +204,8 @@ impl Heap {
     /// Makes an empty dict at the end of the heap.
     pub fn make_dict(&mut self) -> Result<Addr, NoMemory>
         ensures address { IfOk result (λ addr. addr.place ≡ length (plain_heap self.old)) }
-        ensures ok { OnOk result (plain_heap self.new ≡ with_object (plain_heap self.old) (dict_object [])) }
+        ensures ok { OnOk result (plain_heap self.new
+            ≡ with_object (plain_heap self.old) (dict_object [])) }
         ensures err { OnErr result (plain_heap self.new ≡ plain_heap self.old) }
     {
         let place = place_after(self.objects.len())?;
@@ -223,7 +226,8 @@ impl Heap {
 
     /// The place of a key among a dict's pairs.
     pub fn place_of(&self, dict: Addr, key: &Value) -> Option<usize>
-        ensures { result ≡ place_of_key (plain key.now) (dict_pairs (plain_heap self.now) dict.place) }
+        ensures { result
+            ≡ place_of_key (plain key.now) (dict_pairs (plain_heap self.now) dict.place) }
     {
         match self.objects.get(dict.place as usize) {
             Some(Object::Dict(pairs)) => pairs.place_of(key),
@@ -233,8 +237,10 @@ impl Heap {
 
     /// The value of a dict's key.
     pub fn value_of(&self, dict: Addr, key: &Value) -> Option<&Value>
-        ensures { MatchOption result (value_at (plain key.now) (dict_pairs (plain_heap self.now) dict.place) ≡ None)
-            (λ v. value_at (plain key.now) (dict_pairs (plain_heap self.now) dict.place) ≡ Some (plain v.now)) }
+        ensures { MatchOption result
+            (value_at (plain key.now) (dict_pairs (plain_heap self.now) dict.place) ≡ None)
+            (λ v. value_at (plain key.now) (dict_pairs (plain_heap self.now) dict.place)
+            ≡ Some (plain v.now)) }
     {
         match self.objects.get(dict.place as usize) {
             Some(Object::Dict(pairs)) => pairs.value_of(key),
@@ -245,7 +251,8 @@ impl Heap {
     /// A list's item, or the value of a dict's pair.
     pub fn item(&self, of: Addr, at: usize) -> &Value
         requires { at < length_of (object_at (plain_heap self.now) of.place) }
-        ensures { slice_get (values_of (object_at (plain_heap self.now) of.place)) at ≡ Some (plain result.now) }
+        ensures { slice_get (values_of (object_at (plain_heap self.now) of.place)) at
+            ≡ Some (plain result.now) }
     {
         if self.is_list(of) {
             &self.items(of)[at]
@@ -257,7 +264,8 @@ impl Heap {
     /// The key of a dict's pair.
     pub fn key(&self, of: Addr, at: usize) -> Result<Value, NoMemory>
         requires { at < length (dict_pairs (plain_heap self.now) of.place) }
-        ensures { IfOk result (λ key. slice_get (dict_keys (plain_heap self.now) of.place) at ≡ Some (plain key)) }
+        ensures { IfOk result (λ key.
+            slice_get (dict_keys (plain_heap self.now) of.place) at ≡ Some (plain key)) }
     {
         let alloc = *self.objects.allocator();
         let key = self.pairs(of)[at].key.copy(alloc)?;
@@ -266,7 +274,8 @@ impl Heap {
 
     /// Adds a value at the end of a list.
     pub fn push(&mut self, list: Addr, value: Value) -> Result<(), NoMemory>
-        ensures ok { OnOk result (plain_heap self.new ≡ change_list (plain_heap self.old) list.place (λ vs. vs ++ plain value ∷ [])) }
+        ensures ok { OnOk result (plain_heap self.new
+            ≡ change_list (plain_heap self.old) list.place (λ vs. vs ++ plain value ∷ [])) }
         ensures err { OnErr result (plain_heap self.new ≡ plain_heap self.old) }
     {
         if (list.place as usize) < self.objects.len() {
@@ -279,7 +288,8 @@ impl Heap {
     pub fn take(&mut self, of: Addr, at: usize) -> Value
         requires place { of.place < length (plain_heap self.old) }
         requires inside { at < length_of (object_at (plain_heap self.old) of.place) }
-        ensures value { slice_get (values_of (object_at (plain_heap self.old) of.place)) at ≡ Some (plain result) }
+        ensures value { slice_get (values_of (object_at (plain_heap self.old) of.place)) at
+            ≡ Some (plain result) }
         ensures taken { plain_heap self.new ≡ change (plain_heap self.old) of.place (without at) }
     {
         self.objects[of.place as usize].take(at)
@@ -287,7 +297,8 @@ impl Heap {
 
     /// Adds values at the end of a list.
     pub(crate) fn append(&mut self, list: Addr, values: Vec<Value>) -> Result<(), NoMemory>
-        ensures ok { OnOk result (plain_heap self.new ≡ change_list (plain_heap self.old) list.place (λ vs. vs ++ plains values.items)) }
+        ensures ok { OnOk result (plain_heap self.new
+            ≡ change_list (plain_heap self.old) list.place (λ vs. vs ++ plains values.items)) }
         ensures err { OnErr result (plain_heap self.new ≡ plain_heap self.old) }
     {
         if (list.place as usize) < self.objects.len() {
@@ -298,7 +309,8 @@ impl Heap {
 
     /// Replaces an item of a list.
     pub(crate) fn set_item(&mut self, list: Addr, at: usize, value: Value)
-        ensures { plain_heap self.new ≡ change_list (plain_heap self.old) list.place (λ vs. slice_set vs at (plain value)) }
+        ensures { plain_heap self.new
+            ≡ change_list (plain_heap self.old) list.place (λ vs. slice_set vs at (plain value)) }
     {
         if (list.place as usize) < self.objects.len() {
             self.objects[list.place as usize].set_item(at, value);
@@ -307,7 +319,8 @@ impl Heap {
 
     /// Replaces all items of a list.
     pub(crate) fn set_items(&mut self, list: Addr, values: Vec<Value>)
-        ensures { plain_heap self.new ≡ change_list (plain_heap self.old) list.place (λ _. plains values.items) }
+        ensures { plain_heap self.new
+            ≡ change_list (plain_heap self.old) list.place (λ _. plains values.items) }
     {
         if (list.place as usize) < self.objects.len() {
             self.objects[list.place as usize].set_items(values);
@@ -316,7 +329,9 @@ impl Heap {
 
     /// Sets the value of a dict's key.
     pub(crate) fn set_value(&mut self, dict: Addr, key: Value, value: Value) -> Result<(), NoMemory>
-        ensures ok { OnOk result (plain_heap self.new ≡ change_dict (plain_heap self.old) dict.place (with_value (plain key) (plain value))) }
+        requires { IsTrue (is_key (plain key)) }
+        ensures ok { OnOk result (plain_heap self.new
+            ≡ change_dict (plain_heap self.old) dict.place (with_value (plain key) (plain value))) }
         ensures err { OnErr result (plain_heap self.new ≡ plain_heap self.old) }
     {
         if (dict.place as usize) < self.objects.len() {

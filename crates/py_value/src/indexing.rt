@@ -25,7 +25,8 @@ pub fn index(
     at: &Value,
     heap: &Heap,
 ) -> Result<Result<Value, Raised>, NoMemory>
-    ensures { IfOk result (λ answer. plain_value_answer answer ≡ index_of (plain of.now) (plain at.now) (plain_heap heap.now)) }
+    ensures { IfOk result (λ answer.
+        plain_value_answer answer ≡ index_of (plain of.now) (plain at.now) (plain_heap heap.now)) }
 {
     match of {
         Value::List(addr) => item_among(alloc, heap.items(*addr), at, Cause::ListIndex),
@@ -42,7 +43,9 @@ fn item_among(
     at: &Value,
     outside: Cause,
 ) -> Result<Result<Value, Raised>, NoMemory>
-    ensures { IfOk result (λ answer. plain_value_answer answer ≡ in_words raised_by (item_answer outside (plains items.now) (number_of (plain at.now)))) }
+    ensures { IfOk result (λ answer.
+        plain_value_answer answer
+        ≡ in_words raised_by (item_answer outside (plains items.now) (number_of (plain at.now)))) }
 {
     match at.number() {
         None => Ok(Err(Raised::of(alloc, Cause::NotSubscriptable)?)),
@@ -57,7 +60,9 @@ fn item_among(
 }
 
 fn character(alloc: Global, text: &Text, at: &Value) -> Result<Result<Value, Raised>, NoMemory>
-    ensures { IfOk result (λ answer. plain_value_answer answer ≡ in_words raised_by (character_answer text.now (number_of (plain at.now)))) }
+    ensures { IfOk result (λ answer.
+        plain_value_answer answer
+        ≡ in_words raised_by (character_answer text.now (number_of (plain at.now)))) }
 {
     match at.number() {
         None => Ok(Err(Raised::of(alloc, Cause::NotSubscriptable)?)),
@@ -77,7 +82,9 @@ fn value_of_key(
     key: &Value,
     heap: &Heap,
 ) -> Result<Result<Value, Raised>, NoMemory>
-    ensures { IfOk result (λ answer. plain_value_answer answer ≡ value_answer (plain key.now) (dict_pairs (plain_heap heap.now) dict.place)) }
+    ensures { IfOk result (λ answer.
+        plain_value_answer answer
+        ≡ value_answer (plain key.now) (dict_pairs (plain_heap heap.now) dict.place)) }
 {
     if !is_key(key) {
         return Ok(Err(Raised::of(alloc, Cause::UnhashableKey)?));

@@ -2,11 +2,10 @@
 //! the heap that Python's table of operators gives, or into the exception that it raises.
 //!
 //! A caller makes a `Heap` by `Heap::new` and values by `Text::from_str`, `Heap::make_list` and
-//! `Heap::make_dict`. The operators are `binary`, `in_place`, `compare`, `truth`, `index`, `slice` and
-//! `store`. `Value::copy` and `Heap::copy` give equal ones, and `Heap`'s calls read and change its lists.
+//! `Heap::make_dict`. The operators are `binary`, `in_place`, `update`, `compare`, `truth`, `index`,
+//! `slice` and `store`. `Value::copy` and `Heap::copy` give equal ones, and `Heap`'s calls read and change its lists.
 #![tactic(auto)]
 
-mod answer;
 mod arithmetic;
 mod augmented;
 mod body;
@@ -35,7 +34,7 @@ pub mod text;
 pub mod value;
 
 pub use arithmetic::binary;
-pub use augmented::in_place;
+pub use augmented::{in_place, update};
 pub use builtin::{Builtin, Method};
 pub use cause::Cause;
 pub use comparisons::{compare, truth};

@@ -1,7 +1,7 @@
 // The operators of the language.
 
 /// An arithmetic operator: `+`, `-`, `*`, `//`, `%`.
-#[derive(Clone, Copy, Debug, PartialEq, Eq)]
+#[derive(Clone, Copy)]
 pub enum BinOp {
     Add,
     Sub,
@@ -11,7 +11,7 @@ pub enum BinOp {
 }
 
 /// A comparison: `==`, `!=`, `<`, `<=`, `>`, `>=`, `in`, `not in`.
-#[derive(Clone, Copy, Debug, PartialEq, Eq)]
+#[derive(Clone, Copy)]
 pub enum CmpOp {
     Eq,
     Ne,

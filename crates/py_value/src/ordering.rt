@@ -15,7 +15,8 @@ use std::cmp::Ordering;
 /// The order of two values, or why they have none.
 #[cycle(order)]
 pub fn order(levels: u32, left: &Value, right: &Value, heap: &Heap) -> Result<Ordering, Cause>
-    ensures { result ≡ order_within levels (plain_heap heap.now) (plain left.now) (plain right.now) }
+    ensures { result
+        ≡ order_within levels (plain_heap heap.now) (plain left.now) (plain right.now) }
 {
     if levels == 0 {
         return Err(Cause::TooDeep);
@@ -25,7 +26,10 @@ pub fn order(levels: u32, left: &Value, right: &Value, heap: &Heap) -> Result<Or
 
 #[cycle(order)]
 fn order_inside(levels: u32, left: &Value, right: &Value, heap: &Heap) -> Result<Ordering, Cause>
-    ensures { result ≡ order_step (equal_within levels (plain_heap heap.now)) (order_within levels (plain_heap heap.now)) (plain_heap heap.now) (plain left.now) (plain right.now) }
+    ensures { result
+        ≡ order_step (equal_within levels (plain_heap heap.now))
+        (order_within levels (plain_heap heap.now)) (plain_heap heap.now) (plain left.now)
+        (plain right.now) }
 {
     match left {
         Value::Str(s) => match right {
@@ -46,7 +50,9 @@ fn order_inside(levels: u32, left: &Value, right: &Value, heap: &Heap) -> Result
 
 #[cycle(order)]
 fn order_items(levels: u32, left: &[Value], right: &[Value], heap: &Heap) -> Result<Ordering, Cause>
-    ensures { result ≡ order_of_items (equal_within levels (plain_heap heap.now)) (order_within levels (plain_heap heap.now)) (plains left.now) (plains right.now) }
+    ensures { result
+        ≡ order_of_items (equal_within levels (plain_heap heap.now))
+        (order_within levels (plain_heap heap.now)) (plains left.now) (plains right.now) }
 {
     let both = left.len().min(right.len());
     for i in 0..both {

@@ -3,7 +3,7 @@
 ghost use Rattle.std.specs.Prelude.{◌≡◌, map, IsTrue, ◌<◌, length, IfOk, OnOk, OnErr, MatchOption, Some, None, slice_get, remove, []};
 ghost use Rattle.py_value.specs.View.{plain};
 ghost use Rattle.py_value.specs.Pairs.{plain_pair};
-ghost use Rattle.py_value.specs.Keys.{has_distinct_keys, place_of_key, value_at, with_value};
+ghost use Rattle.py_value.specs.Keys.{is_key, has_only_keys, has_distinct_keys, place_of_key, value_at, with_value};
 ghost use Rattle.py_value.specs.Hashes.{IsIndex, has_key, first_with};
 
 use crate::NoMemory;
@@ -28,6 +28,7 @@ const FEW: usize = 8;
 pub struct Pairs {
     pairs: Vec<Pair>,
     index: Index,
+    ghost only_keys: { IsTrue (has_only_keys (map plain_pair pairs.items)) },
     ghost distinct_keys: { IsTrue (has_distinct_keys (map plain_pair pairs.items)) },
     ghost indexed: { IsIndex index (map plain_pair pairs.items) },
 }
@@ -78,7 +79,8 @@ impl Pairs {
 
     /// The value of a key.
     pub fn value_of(&self, key: &Value) -> Option<&Value>
-        ensures { MatchOption result (value_at (plain key.now) (plain_pairs self.now) ≡ None) (λ v. value_at (plain key.now) (plain_pairs self.now) ≡ Some (plain v.now)) }
+        ensures { MatchOption result (value_at (plain key.now) (plain_pairs self.now) ≡ None)
+            (λ v. value_at (plain key.now) (plain_pairs self.now) ≡ Some (plain v.now)) }
     {
         match self.place_of(key) {
             None => None,
@@ -88,7 +90,9 @@ impl Pairs {
 
     /// Sets the value of a key: a present key keeps its place, and a new one goes last.
     pub fn set(&mut self, key: Value, value: Value) -> Result<(), NoMemory>
-        ensures ok { OnOk result (plain_pairs self.new ≡ with_value (plain key) (plain value) (plain_pairs self.old)) }
+        requires { IsTrue (is_key (plain key)) }
+        ensures ok { OnOk result (plain_pairs self.new
+            ≡ with_value (plain key) (plain value) (plain_pairs self.old)) }
         ensures err { OnErr result (plain_pairs self.new ≡ plain_pairs self.old) }
     {
         match self.place_of(&key) {
@@ -102,8 +106,10 @@ impl Pairs {
 
     /// Adds a pair with a new key at the end.
     fn add(&mut self, key: Value, value: Value) -> Result<(), NoMemory>
-        requires { place_of_key (plain key) (plain_pairs self.old) ≡ None }
-        ensures ok { OnOk result (plain_pairs self.new ≡ with_value (plain key) (plain value) (plain_pairs self.old)) }
+        requires key { IsTrue (is_key (plain key)) }
+        requires absent { place_of_key (plain key) (plain_pairs self.old) ≡ None }
+        ensures ok { OnOk result (plain_pairs self.new
+            ≡ with_value (plain key) (plain value) (plain_pairs self.old)) }
         ensures err { OnErr result (plain_pairs self.new ≡ plain_pairs self.old) }
     {
         self.make_room()?;

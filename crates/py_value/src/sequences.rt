@@ -2,7 +2,7 @@
 
 ghost use Rattle.std.specs.Prelude.{◌≡◌, ◌+◌, ◌++◌, map, nat_le, IfOk, OnOk, OnErr};
 ghost use Rattle.std.specs.Str.{chars};
-ghost use Rattle.py_value.specs.View.{plain, plains, plain_items};
+ghost use Rattle.py_value.specs.View.{plain, plains, plain_items, after_change};
 ghost use Rattle.py_value.specs.Pairs.{plain_pair};
 ghost use Rattle.py_value.specs.Sequences.{most_items, joined, times, repeat, repeated};
 ghost use Rattle.py_value.specs.Operators.{characters};
@@ -35,13 +35,28 @@ pub fn join_texts(left: &Text, right: &Text) -> Result<Result<Text, Cause>, NoMe
     }
 }
 
+/// Adds the characters of another text at the end.
+pub fn extend_text(text: &mut Text, more: &Text) -> Result<Result<(), Cause>, NoMemory>
+    ensures answer { IfOk result (λ done. after_change done text.new ≡ joined text.old more.now) }
+    ensures raised { IfOk result (λ done. OnErr done (text.new ≡ text.old)) }
+    ensures err { OnErr result (text.new ≡ text.old) }
+{
+    if fit_together(text.len(), more.len()) {
+        text.append(more)?;
+        Ok(Ok(()))
+    } else {
+        Ok(Err(Cause::TooManyItems))
+    }
+}
+
 /// Equal values of one sequence and then of the other.
 pub fn join_items(
     alloc: Global,
     left: &[Value],
     right: &[Value],
 ) -> Result<Result<Vec<Value>, Cause>, NoMemory>
-    ensures { IfOk result (λ items. plain_items items ≡ joined (plains left.now) (plains right.now)) }
+    ensures { IfOk result (λ items.
+        plain_items items ≡ joined (plains left.now) (plains right.now)) }
 {
     if fit_together(left.len(), right.len()) {
         let mut items = copy_all(alloc, left)?;

@@ -169,7 +169,8 @@ impl Argument {
 
     /// The value that it is.
     pub fn value(&self) -> Option<&Value>
-        ensures { MatchOption result (self.now ≡ no_argument) (λ v. self.now ≡ argument (plain v.now)) }
+        ensures { MatchOption result (self.now ≡ no_argument)
+            (λ v. self.now ≡ argument (plain v.now)) }
     {
         match &self.held {
             None => None,

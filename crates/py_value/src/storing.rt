@@ -1,10 +1,9 @@
 // Items and values replaced.
 
 ghost use Rattle.std.specs.Prelude.{◌≡◌, IfOk, OnErr};
-ghost use Rattle.py_value.specs.View.{plain, plain_stored};
+ghost use Rattle.py_value.specs.View.{plain, plain_stored, after_change};
 ghost use Rattle.py_value.specs.HeapView.{plain_heap};
 ghost use Rattle.py_value.specs.Operators.{store_of, store_answer, stored_item, stored_value};
-ghost use Rattle.py_value.specs.View.{after_store};
 ghost use Rattle.py_value.specs.Numbers.{number_of};
 
 use crate::NoMemory;
@@ -24,8 +23,11 @@ pub fn store(
     value: Value,
     heap: &mut Heap,
 ) -> Result<Result<(), Raised>, NoMemory>
-    ensures answer { IfOk result (λ answer. plain_stored answer (plain_heap heap.new) ≡ store_of (plain of.now) (plain at.now) (plain value) (plain_heap heap.old)) }
-    ensures raised { IfOk result (λ answer. OnErr answer (plain_heap heap.new ≡ plain_heap heap.old)) }
+    ensures answer { IfOk result (λ answer.
+        plain_stored answer (plain_heap heap.new)
+        ≡ store_of (plain of.now) (plain at.now) (plain value) (plain_heap heap.old)) }
+    ensures raised { IfOk result (λ answer.
+        OnErr answer (plain_heap heap.new ≡ plain_heap heap.old)) }
     ensures err { OnErr result (plain_heap heap.new ≡ plain_heap heap.old) }
 {
     let stored = match of {
@@ -40,7 +42,8 @@ pub fn store(
 }
 
 fn store_item(list: Addr, at: &Value, value: Value, heap: &mut Heap) -> Result<(), Cause>
-    ensures answer { after_store result (plain_heap heap.new) ≡ stored_item list.place (plain value) (plain_heap heap.old) (number_of (plain at.now)) }
+    ensures answer { after_change result (plain_heap heap.new)
+        ≡ stored_item list.place (plain value) (plain_heap heap.old) (number_of (plain at.now)) }
     ensures raised { OnErr result (plain_heap heap.new ≡ plain_heap heap.old) }
 {
     match at.number() {
@@ -62,8 +65,11 @@ fn store_value(
     value: Value,
     heap: &mut Heap,
 ) -> Result<Result<(), Cause>, NoMemory>
-    ensures answer { IfOk result (λ stored. after_store stored (plain_heap heap.new) ≡ stored_value dict.place (plain key.now) (plain value) (plain_heap heap.old)) }
-    ensures raised { IfOk result (λ stored. OnErr stored (plain_heap heap.new ≡ plain_heap heap.old)) }
+    ensures answer { IfOk result (λ stored.
+        after_change stored (plain_heap heap.new)
+        ≡ stored_value dict.place (plain key.now) (plain value) (plain_heap heap.old)) }
+    ensures raised { IfOk result (λ stored.
+        OnErr stored (plain_heap heap.new ≡ plain_heap heap.old)) }
     ensures err { OnErr result (plain_heap heap.new ≡ plain_heap heap.old) }
 {
     if !is_key(key) {

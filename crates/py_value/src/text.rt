@@ -72,9 +72,7 @@ impl Text {
     pub fn of_char(alloc: Global, c: char) -> Result<Text, NoMemory>
         ensures { IfOk result (λ t. t ≡ c ∷ []) }
     {
-        let mut body = Body::with_capacity(alloc, 1)?;
-        body.push(c)?;
-        Text::of_body(alloc, body)
+        Text::from_chars(alloc, &[c])
     }
 
     /// The text as UTF-8.
@@ -110,13 +108,15 @@ impl Text {
         ensures ok { OnOk result (self.new ≡ self.old ++ other.now) }
         ensures err { OnErr result (self.new ≡ self.old) }
     {
+        let more = other.as_str();
+        let count = other.len();
         if let Some(shared) = &mut self.shared {
             if let Some(body) = Rc::get_mut(shared) {
-                return body.append(other.as_str());
+                return body.append(more, count);
             }
         }
-        let mut body = self.body_with_room(other.as_str().len())?;
-        body.append(other.as_str())?;
+        let mut body = self.body_with_room(more.len())?;
+        body.append(more, count)?;
         let text = Text::of_body(self.alloc, body)?;
         *self = text;
         Ok(())
@@ -128,7 +128,7 @@ impl Text {
     {
         let bytes = self.as_str().len().saturating_add(more);
         let mut body = Body::with_capacity(self.alloc, bytes)?;
-        body.append(self.as_str())?;
+        body.append(self.as_str(), self.len())?;
         Ok(body)
     }
 
@@ -192,9 +192,10 @@ impl Text {
         ensures { IfOk result (λ t. t ≡ repeat times self.now) }
     {
         let once = self.as_str();
+        let count = self.len();
         let mut body = Body::with_capacity(self.alloc, once.len().saturating_mul(times))?;
         'turns: for _ in 0..times {
-            body.append(once)?;
+            body.append(once, count)?;
         }
         Text::of_body(self.alloc, body)
     }

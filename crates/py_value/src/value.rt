@@ -12,20 +12,20 @@ use std::alloc::Global;
 use std::mem::size_of;
 
 /// A place in the heap's list of objects, counted from 0.
-#[derive(Clone, Copy, Debug)]
+#[derive(Clone, Copy)]
 pub struct Addr {
     pub place: u32,
 }
 
 /// A function of a source: unit `unit` (counted from 1, in the order of the text) of a module.
-#[derive(Clone, Copy, Debug)]
+#[derive(Clone, Copy)]
 pub struct FuncId {
     pub module: u32,
     pub unit: u32,
 }
 
 /// A module: a loaded one by its number, or the built-in `sys`.
-#[derive(Clone, Copy, Debug)]
+#[derive(Clone, Copy)]
 pub enum ModId {
     Loaded(u32),
     Sys,

@@ -13,7 +13,7 @@ returns-clause-ok c =
 pub invariant_of-self-2 : goal.invariant_of-self-2
 invariant_of-self-2 c =
     c.in_ok-count.ensures
-    ∙ ap (λ n. n + c.count_of.result) c.self.invariant
-    ∙ ap (λ n. length (chars (string_bytes c.self.inside.utf8)) + n) c.count_of.ensures
+    ∙ ap (λ n. n + c.args.count) c.self.invariant
+    ∙ ap (λ n. length (chars (string_bytes c.self.inside.utf8)) + n) c.requires
     ∙ sym (length-append (chars (string_bytes c.self.inside.utf8)) (chars c.args.s.now))
     ∙ sym (ap length (ap chars c.in_ok-push_str.ensures.bytes ∙ chars-append (string_bytes c.self.inside.utf8) c.args.s.now (IsUtf8-string_bytes c.self.inside.utf8)))

@@ -1,7 +1,6 @@
-use Rattle.std.proofs.Common.{◌≡◌, ap, ◌∙◌, arith, map}
+use Rattle.std.proofs.Common.{ap, ◌∙◌, arith}
 use Rattle.py_value.specs.View.{plain}
 use Rattle.py_value.specs.Objects.{plain_pairs}
-use Rattle.py_value.specs.Pairs.{plain_pair}
 use Rattle.py_value.specs.Hashes.{first_with, named}
 use Rattle.py_value.proofs.Hashing.{found_by_index}
 use Rattle.py_value.proofs.pairs.Pairs.place_of.Goals as goal

@@ -1,10 +1,8 @@
-use Rattle.std.proofs.Common.{is_ok, map, ap, sym, ◌∙◌, length, ◌<◌, arith}
-use Rattle.std.proofs.lemmas.List.{map-append}
+use Rattle.std.proofs.Common.{◌∙◌, length, ◌<◌, arith}
 use Rattle.py_value.specs.View.{plain}
-use Rattle.py_value.specs.Keys.{has_distinct_keys}
-use Rattle.py_value.specs.Pairs.{plain_pair}
 use Rattle.py_value.proofs.DistinctKeys.{distinct-set, with_value-present, place-inside}
 use Rattle.py_value.proofs.Hashing.{index-set}
+use Rattle.py_value.proofs.OnlyKeys.{only-set}
 use Rattle.py_value.proofs.pairs.Pairs.set.Goals as goal
 
 pub index_mut-requires : goal.index_mut-requires
@@ -14,6 +12,7 @@ index_mut-requires c =
 
 pub invariant_of-self : goal.invariant_of-self
 invariant_of-self c = record {
+  only_keys = only-set c.args.self.now.pairs.items c.in-Some.i c.index_mut.result.now c.args.value c.index_mut.ensures.value ∙ c.args.self.now.only_keys;
   distinct_keys = distinct-set c.args.self.now.pairs.items c.in-Some.i c.index_mut.result.now c.args.value c.index_mut.ensures.value ∙ c.args.self.now.distinct_keys;
   indexed = index-set c.args.self.now.index c.args.self.now.pairs.items c.in-Some.i c.index_mut.result.now c.args.value c.index_mut.ensures.value c.args.self.now.indexed;
 }

@@ -1,7 +1,6 @@
-use Rattle.std.proofs.Common.{◌≡◌, ◌+◌, ◌-◌, ◌++◌, append_assoc, ap, sym, ◌∙◌, arith}
-use Rattle.std.proofs.lemmas.List.{append-nil}
+use Rattle.std.proofs.Common.{◌+◌, ◌-◌, ◌++◌, append_assoc, ap, ◌∙◌, arith}
 use Rattle.py_value.specs.Sequences.{repeat}
-use Rattle.py_value.proofs.Lists.{repeat_more, repeat_none}
+use Rattle.py_value.proofs.Lists.{repeat_more}
 use Rattle.py_value.proofs.text.Text.repeat.Goals as goal
 
 pub turns-preserved : goal.turns-preserved
