@@ -3,6 +3,7 @@ pub mod Attributes
 pub mod CallRows
 pub mod Characters
 pub mod Digits
+pub mod Feeding
 pub mod Joins
 pub mod KeyPlaces
 pub mod Lists

@@ -6,7 +6,7 @@ ghost use Rattle.cov_outside.specs.Prefixes.{GainsPrefix, LosesPrefix};
 ghost use Rattle.py_value.specs.HeapView.{plain_heap};
 ghost use Rattle.py_value.specs.View.{plain, plains, plain_outcome};
 ghost use Rattle.py_builtins.specs.Builtins.{str_of, repr_of, builtin_of};
-ghost use Rattle.py_builtins.specs.Inputs.{OnInput};
+ghost use Rattle.py_builtins.specs.Inputs.{OnReads, Gives};
 
 use crate::arguments::only;
 use crate::exceptions::raised_with;
@@ -30,7 +30,8 @@ pub fn call_builtin<I: Source, O: Sink>(
     input: &mut I,
     out: &mut O,
 ) -> Result<Result<Value, Raised>, RunFault>
-    ensures answer { IfOk result (λ answer. OnInput I.tells (I.left input.old) (λ bytes. plain_outcome answer (plain_heap heap.new) ≡ (builtin_of which (plains args.now) (plain_heap heap.old) bytes).answer)) }
+    ensures answer { IfOk result (λ answer. OnReads I.tells (I.left input.old) (I.left input.new)
+        (λ all rest. Gives (builtin_of which (plains args.now) (plain_heap heap.old) all) (plain_outcome answer (plain_heap heap.new)) rest)) }
     ensures raised { IfOk result (λ answer. OnErr answer (plain_heap heap.new ≡ plain_heap heap.old)) }
     ensures written { O.tells → OnOk result (O.contents out.new ≡ O.contents out.old ++ (builtin_of which (plains args.now) (plain_heap heap.old) (I.left input.old)).written) }
     ensures left { I.tells → OnOk result (I.left input.new ≡ (builtin_of which (plains args.now) (plain_heap heap.old) (I.left input.old)).left) }

@@ -1,4 +1,4 @@
-use Rattle.std.proofs.Common.{Err, ap}
+use Rattle.std.proofs.Common.{Err, refl, ap}
 use Rattle.py_value.specs.declared.builtin.Builtin.TheVariants.{Len, Range, Str, Repr, Int, Exit}
 use Rattle.py_value.specs.HeapView.{plain_heap}
 use Rattle.py_value.specs.Plain.{PlainRaised}
@@ -12,24 +12,24 @@ returns-in-Print-clause-answer g c = for_print c.print.result _ (g.I.Source.left
 
 pub returns-in_ok-len-in-Len-clause-answer : goal.returns-in_ok-len-in-Len-clause-answer
 returns-in_ok-len-in-Len-clause-answer g c =
-    for_any _ (g.I.Source.left c.args.input.now) c.args.which Len (plains c.args.args.now) (plain_heap c.args.heap.now) _ c.in-Len.is c.in_ok-len-in-Len.ensures
+    for_any _ (g.I.Source.left c.args.input.now) c.args.which Len (plains c.args.args.now) (plain_heap c.args.heap.now) _ c.in-Len.is (λ all. (c.in_ok-len-in-Len.ensures, refl))
 
 pub returns-in_ok-range-in-Range-clause-answer : goal.returns-in_ok-range-in-Range-clause-answer
 returns-in_ok-range-in-Range-clause-answer g c =
-    for_any _ (g.I.Source.left c.args.input.now) c.args.which Range (plains c.args.args.now) (plain_heap c.args.heap.now) _ c.in-Range.is c.in_ok-range-in-Range.ensures.answer
+    for_any _ (g.I.Source.left c.args.input.now) c.args.which Range (plains c.args.args.now) (plain_heap c.args.heap.now) _ c.in-Range.is (λ all. (c.in_ok-range-in-Range.ensures.answer, refl))
 
 pub returns-in_ok-text-in-Str-clause-answer : goal.returns-in_ok-text-in-Str-clause-answer
 returns-in_ok-text-in-Str-clause-answer g c =
-    for_any _ (g.I.Source.left c.args.input.now) c.args.which Str (plains c.args.args.now) (plain_heap c.args.heap.now) _ c.in-Str.is c.in_ok-text-in-Str.ensures
+    for_any _ (g.I.Source.left c.args.input.now) c.args.which Str (plains c.args.args.now) (plain_heap c.args.heap.now) _ c.in-Str.is (λ all. (c.in_ok-text-in-Str.ensures, refl))
 
 pub returns-in_ok-display-in-Repr-clause-answer : goal.returns-in_ok-display-in-Repr-clause-answer
 returns-in_ok-display-in-Repr-clause-answer g c =
-    for_any _ (g.I.Source.left c.args.input.now) c.args.which Repr (plains c.args.args.now) (plain_heap c.args.heap.now) _ c.in-Repr.is c.in_ok-display-in-Repr.ensures
+    for_any _ (g.I.Source.left c.args.input.now) c.args.which Repr (plains c.args.args.now) (plain_heap c.args.heap.now) _ c.in-Repr.is (λ all. (c.in_ok-display-in-Repr.ensures, refl))
 
 pub returns-in_ok-int-in-Int-clause-answer : goal.returns-in_ok-int-in-Int-clause-answer
 returns-in_ok-int-in-Int-clause-answer g c =
-    for_any _ (g.I.Source.left c.args.input.now) c.args.which Int (plains c.args.args.now) (plain_heap c.args.heap.now) _ c.in-Int.is c.in_ok-int-in-Int.ensures
+    for_any _ (g.I.Source.left c.args.input.now) c.args.which Int (plains c.args.args.now) (plain_heap c.args.heap.now) _ c.in-Int.is (λ all. (c.in_ok-int-in-Int.ensures, refl))
 
 pub returns-in_ok-raised_with-in-Exit-clause-answer : goal.returns-in_ok-raised_with-in-Exit-clause-answer
 returns-in_ok-raised_with-in-Exit-clause-answer g c =
-    for_any _ (g.I.Source.left c.args.input.now) c.args.which Exit (plains c.args.args.now) (plain_heap c.args.heap.now) _ c.in-Exit.is (ap (λ (x : PlainRaised). let r : Answer = Err x in r) c.in_ok-raised_with-in-Exit.ensures)
+    for_any _ (g.I.Source.left c.args.input.now) c.args.which Exit (plains c.args.args.now) (plain_heap c.args.heap.now) _ c.in-Exit.is (λ all. (ap (λ (x : PlainRaised). let r : Answer = Err x in r) c.in_ok-raised_with-in-Exit.ensures, refl))

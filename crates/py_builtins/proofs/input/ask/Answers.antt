@@ -5,7 +5,7 @@ use Rattle.py_value.specs.View.{plains, plain_answer}
 use Rattle.py_builtins.specs.Builtins.{Done, input_of}
 use Rattle.py_builtins.specs.Calls.{prompt_of}
 use Rattle.py_builtins.proofs.Turns.{on_err}
-use Rattle.py_builtins.proofs.Asking.{asks_with, still_asked, on_same, on_any}
+use Rattle.py_builtins.proofs.Asking.{asks_with, still_asked, gives_same, reads_none}
 use Rattle.py_builtins.proofs.input.ask.Goals as goal
 
 pub returns-in_err-prompt-clause-no_further : goal.returns-in_err-prompt-clause-no_further
@@ -14,8 +14,8 @@ returns-in_err-prompt-clause-no_further g c = λ t. on_err c.from_residual.resul
 pub returns-in-Ok-clause-answer : goal.returns-in-Ok-clause-answer
 returns-in-Ok-clause-answer g c =
     let same : plain_answer {A = Text} (Ok c.in-Ok.prompt) ≡ prompt_of (plains c.args.args.now) (plain_heap c.args.heap.now) = ap plain_answer (sym c.in-Ok.is) ∙ c.in_ok-prompt.ensures in
-    on_same c.ask_with.result _ _ (plain_heap c.args.heap.now) _ (input_of (plains c.args.args.now) (plain_heap c.args.heap.now))
-    (λ bytes. asks_with (plains c.args.args.now) (plain_heap c.args.heap.now) _ bytes same) c.ask_with.ensures.answer
+    gives_same c.ask_with.result _ _ _ (plain_heap c.args.heap.now) _ (input_of (plains c.args.args.now) (plain_heap c.args.heap.now))
+    (λ all. asks_with (plains c.args.args.now) (plain_heap c.args.heap.now) _ all same) c.ask_with.ensures.answer
 
 pub returns-in-Ok-clause-written : goal.returns-in-Ok-clause-written
 returns-in-Ok-clause-written g c = λ t.
@@ -34,5 +34,5 @@ returns-in-Ok-clause-left g c = λ t.
 pub returns-in-Err-clause-answer : goal.returns-in-Err-clause-answer
 returns-in-Err-clause-answer g c =
     let same : plain_answer {A = Text} (Err c.in-Err.raised) ≡ prompt_of (plains c.args.args.now) (plain_heap c.args.heap.now) = ap plain_answer (sym c.in-Err.is) ∙ c.in_ok-prompt.ensures in
-    on_any _ _ _ (input_of (plains c.args.args.now) (plain_heap c.args.heap.now))
-    (ap (λ (d : Done). d.answer) (asks_with (plains c.args.args.now) (plain_heap c.args.heap.now) _ (g.I.Source.left c.args.input.now) same))
+    reads_none _ _ _ (input_of (plains c.args.args.now) (plain_heap c.args.heap.now))
+    (λ all. let e = asks_with (plains c.args.args.now) (plain_heap c.args.heap.now) _ all same in (ap (λ (d : Done). d.answer) e, ap (λ (d : Done). d.left) e))
