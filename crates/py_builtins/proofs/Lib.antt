@@ -13,6 +13,7 @@ pub mod Printing
 pub mod Reading
 pub mod Rests
 pub mod Rows
+pub mod Separators
 pub mod Splitting
 pub mod Starts
 pub mod Steps

@@ -21,7 +21,8 @@ use cov_outside::{Sink, Source};
 use py_value::{Builtin, Cause, ExcKind, Heap, NoMemory, Raised, Value};
 use std::alloc::Global;
 
-/// A built-in, called with these arguments. It writes and reads also where it raises.
+/// A built-in, called with these arguments. It writes and reads also where it raises. What `answer` says
+/// of two calls holds of both one behind the other: their reads are one list, the newest in front.
 pub fn call_builtin<I: Source, O: Sink>(
     alloc: Global,
     which: Builtin,
