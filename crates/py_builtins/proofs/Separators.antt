@@ -1,15 +1,15 @@
 -- A text that is cut at each place of a separator, by bytes and by characters.
-use Rattle.std.proofs.Common.{◌≡◌, ◌≢◌, ℕ, zero, suc, ◌+◌, ◌-◌, ◌<◌, ◌≤◌, nat_eq, ◌&&◌, Bool, true, false, cond, List, [], ◌∷◌, ◌++◌, length, get_or, take, drop, Some, None, refl, ap, sym, ◌∙◌, subst, arith, append_assoc, append-nil, length-append}
+use Rattle.std.proofs.Common.{◌≡◌, ◌≢◌, ℕ, zero, suc, ◌+◌, ◌-◌, ◌<◌, ◌≤◌, Bool, true, false, cond, List, [], ◌∷◌, ◌++◌, length, get_or, take, drop, Some, None, refl, ap, sym, ◌∙◌, subst, arith, append_assoc, append-nil, length-append}
 use Rattle.std.specs.Str.{chars, IsUtf8, IsCharBoundary, encode_utf8_all}
 use Rattle.std.specs.Str.Pattern.{FindsText, LacksTextAt}
 use Rattle.std.proofs.lemmas.Str.{encodes-append, encodes-chars, length-le-encodes, IsCharBoundary-start, IsUtf8-take, chars-nil}
 use Rattle.std.proofs.lemmas.List.{take-append-drop}
-use Rattle.std.proofs.lemmas.Bool.{eqb-true, eq-eqb}
 use Rattle.std.proofs.Math.Seq.{take-append_seam, drop-append_seam}
 use Rattle.py_value.specs.Plain.{PlainValue, str_value}
 use Rattle.py_value.proofs.Parts.{seam_byte, front_byte, chars-part}
 use Rattle.py_value.specs.Sequences.{begins}
 use Rattle.py_builtins.specs.Methods.{before_first, parts_between, texts}
+use Rattle.py_builtins.proofs.Starts.{begins_itself, begun, not_begun}
 
 -- no separator begins in the front of a text with this behind it
 abbrev pub Clear : List ℕ → List ℕ → List ℕ → Type 0
@@ -22,10 +22,6 @@ cut_at t cs c b e = ap (λ x. cond x ([] ∷ parts_between t (length t - 1) cs) 
 passed : (t xs post : List ℕ) → parts_between t (length xs) (xs ++ post) ≡ parts_between t zero post
 passed t [] post = refl
 passed t (x ∷ xs) post = passed t xs post
-
-begins_itself : (cs post : List ℕ) → begins cs (cs ++ post) ≡ true
-begins_itself [] post = refl
-begins_itself (c ∷ cs) post = ap (λ b. b && begins cs (cs ++ post)) (eq-eqb c c refl) ∙ begins_itself cs post
 
 -- the first part ends where the separator first stands
 pub cut_first : (t pre post : List ℕ) → 0 < length t → Clear t pre (t ++ post) → parts_between t zero (pre ++ (t ++ post)) ≡ pre ∷ parts_between t zero post
@@ -41,20 +37,6 @@ pub cut_nowhere : (t cs : List ℕ) → Clear t cs [] → parts_between t zero c
 cut_nowhere t [] h = refl
 cut_nowhere t (c ∷ cs) h =
     cut_at t cs c false (ap (λ xs. begins t (c ∷ xs)) (sym (append-nil cs)) ∙ h.0) ∙ ap (before_first c) (cut_nowhere t cs h.1)
-
--- what begins with a text has the rest behind it
-begun : (cs ds : List ℕ) → begins cs ds ≡ true → (post : List ℕ) × (ds ≡ cs ++ post)
-begun [] ds h = (ds, refl)
-begun (c ∷ cs) [] h = absurd (cc)
-begun (c ∷ cs) (d ∷ ds) h = go (nat_eq c d) refl h (λ k. begun cs ds k)
-  where
-    go : (b : Bool) → nat_eq c d ≡ b → (b && begins cs ds) ≡ true → (begins cs ds ≡ true → (post : List ℕ) × (ds ≡ cs ++ post)) → (post : List ℕ) × (d ∷ ds ≡ c ∷ cs ++ post)
-    go true e k more = let w : (post : List ℕ) × (ds ≡ cs ++ post) = more k in (w.0, ap (λ x. x ∷ ds) (sym (eqb-true c d e)) ∙ ap (λ xs. c ∷ xs) w.1)
-    go false e k more = absurd (cc)
-
-not_begun : (b : Bool) → (b ≡ true → ⊥) → b ≡ false
-not_begun true h = absurd (h refl)
-not_begun false h = refl
 
 -- bytes that don't stand in a text before a place, and the characters
 pub clear_before : (t done pre behind bs p : List ℕ) (n : ℕ) → ((i : ℕ) → i < n → LacksTextAt p bs i) → p ≡ encode_utf8_all t → bs ≡ encode_utf8_all (done ++ (pre ++ behind)) → length (encode_utf8_all (done ++ pre)) ≤ n → Clear t pre behind

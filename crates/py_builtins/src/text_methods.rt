@@ -8,7 +8,7 @@ ghost use Rattle.py_value.specs.Sequences.{most_items};
 ghost use Rattle.py_builtins.specs.Methods.{new_list, starts_with, starts_with_of, each_after, each_length, is_text, are_texts, characters_in, joined_texts, join_items, join, join_of, is_white, white_parts, nonempty, parts_between, texts, split_at, split_of};
 
 use crate::arguments::{are_none, only};
-use crate::char_lists::{MOST_ITEMS, begins, characters_of};
+use crate::char_lists::{MOST_ITEMS, characters_of};
 use py_value::{Cause, Heap, NoMemory, Raised, Text, Value};
 use std::alloc::Global;
 
@@ -27,7 +27,6 @@ pub(crate) fn test_start(
     }
 }
 
-#[tactic(auto, using(crate::proofs::Starts::begins_front))]
 fn starts_with(
     alloc: Global,
     text: &Text,
@@ -38,10 +37,8 @@ fn starts_with(
 {
     match front {
         Value::Str(front) => {
-            let length = front.len();
-            let front = characters_of(alloc, front)?;
-            let begun = characters_of(alloc, &text.part(0, length)?)?;
-            Ok(Ok(Value::Bool(begins(&front, &begun))))
+            let begun = text.part(0, front.len())?;
+            Ok(Ok(Value::Bool(begun.is_same(front))))
         }
         _ => Ok(Err(Raised::of(alloc, Cause::BadArgument)?)),
     }
