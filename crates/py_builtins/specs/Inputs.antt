@@ -1,8 +1,8 @@
--- What a call read, byte by byte, and what this says of the input.
+-- What a call read, byte by byte, and what this says of the input, its answer and its output.
 --     Fed, AsksOnce     what the answers of reads say of the input, and that its end is asked for once at most
 --     OnReads           what holds of every input that gives the answers which were read
---     Gives             what a call of the table gives, and what it leaves of the input
-use Rattle.std.specs.Prelude.{◌≡◌, ℕ, List, [], ◌∷◌, Option, Some, None}
+--     Gives, Wrote      what a call of the table gives and writes, and what it leaves of the input
+use Rattle.std.specs.Prelude.{◌≡◌, ℕ, List, [], ◌∷◌, ◌++◌, Option, Some, None}
 use Rattle.py_builtins.specs.Arguments.{Answer}
 use Rattle.py_builtins.specs.Builtins.{Done}
 
@@ -34,6 +34,10 @@ pub record OnReads (tells : Type 0) (before after : List ℕ) (P : List ℕ → 
   pub told : tells → (input ≡ before) × (rest ≡ after)
   pub holds : (all rest : List ℕ) → Fed heard all rest → P all rest
 
--- the call answers so, and leaves this rest
-abbrev pub Gives : Done → Answer → List ℕ → Type 0
-Gives done answer rest = (answer ≡ done.answer) × (rest ≡ done.left)
+-- these bytes were written, where the sink tells
+abbrev pub Wrote : Type 0 → List ℕ → List ℕ → List ℕ → Type 0
+Wrote tells before after bytes = tells → after ≡ before ++ bytes
+
+-- the call answers so, its bytes were written, and it leaves this rest
+abbrev pub Gives : Done → Answer → (List ℕ → Type 0) → List ℕ → Type 0
+Gives done answer wrote rest = (answer ≡ done.answer) × wrote done.written × (rest ≡ done.left)
