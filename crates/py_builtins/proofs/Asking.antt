@@ -1,18 +1,22 @@
 -- A prompt, and the line behind it.
-use Rattle.std.proofs.Common.{◌≡◌, ℕ, List, [], ◌∷◌, Result, Ok, Err, IfOk, refl, ap, sym, ◌∙◌, subst}
+use Rattle.std.proofs.Common.{◌≡◌, ℕ, List, [], ◌∷◌, ◌++◌, Result, Ok, Err, IfOk, OnOk, refl, ap, sym, ◌∙◌, subst, append-nil, encode_utf8_all}
 use Rattle.cov_outside.specs.Prefixes.{LosesPrefix}
 use Rattle.cov_outside.proofs.PrefixLemmas.{loses_nothing}
 use Rattle.py_value.specs.declared.builtin.Builtin.{Builtin}
-use Rattle.py_value.specs.declared.builtin.Builtin.TheVariants.{Print, Len, Range, Str, Repr, Int, Input, Exit}
+use Rattle.py_value.specs.declared.builtin.Builtin.TheVariants.{Print}
+use Rattle.py_value.specs.declared.cause.Cause.{Cause}
 use Rattle.py_value.specs.declared.value.Raised.{Raised}
 use Rattle.py_value.specs.declared.value.Value.{Value}
-use Rattle.py_value.specs.Plain.{PlainValue, PlainHeap, PlainRaised}
+use Rattle.py_value.specs.Answers.{◌>>=◌, in_words}
+use Rattle.py_value.specs.Causes.{raised_by}
+use Rattle.py_value.specs.Plain.{PlainValue, str_value, PlainHeap, PlainRaised}
 use Rattle.py_value.specs.View.{plain_outcome}
 use Rattle.py_builtins.specs.declared.fault.RunFault.{RunFault}
 use Rattle.py_builtins.specs.Arguments.{Answer}
-use Rattle.py_builtins.specs.Builtins.{Done, str_texts, printed, print_of, asked, input_of, builtin_of}
+use Rattle.py_builtins.specs.Builtins.{Done, quiet, str_texts, printed, print_of, line_read, asked, input_of, builtin_of}
 use Rattle.py_builtins.specs.Calls.{prompt_of}
-use Rattle.py_builtins.specs.Inputs.{OnInput}
+use Rattle.py_builtins.specs.Inputs.{OnReads, Gives, Wrote}
+use Rattle.py_builtins.proofs.Feeding.{on_reads}
 use Rattle.py_builtins.proofs.Turns.{still_line}
 
 -- `input` asks with its prompt
@@ -32,52 +36,51 @@ pub still_asked : (args : List PlainValue) (h : PlainHeap) (input : List ℕ) �
 still_asked args h input = subst (λ (d : Done). LosesPrefix input d.left) (sym (asks args h input)) (still_asked_by (prompt_of args h) h input)
 
 -- the same call in other words
-pub on_same : (r : Result (Result Value Raised) RunFault) (tells : Type 0) (left : List ℕ) (h : PlainHeap) (F G : List ℕ → Done) → ((bytes : List ℕ) → F bytes ≡ G bytes)
-    → IfOk r (λ answer. OnInput tells left (λ bytes. plain_outcome answer h ≡ (F bytes).answer)) → IfOk r (λ answer. OnInput tells left (λ bytes. plain_outcome answer h ≡ (G bytes).answer))
-on_same (Ok answer) tells left h F G e w = record { input = w.input; told = w.told; holds = w.holds ∙ ap (λ (d : Done). d.answer) (e w.input) }
-on_same (Err fault) tells left h F G e w = tt
+pub gives_same : (r : Result (Result Value Raised) RunFault) (tells : Type 0) (before after : List ℕ) (h : PlainHeap) (wrote : List ℕ → Type 0) (F G : List ℕ → Done) → ((all : List ℕ) → F all ≡ G all)
+    → IfOk r (λ answer. OnReads tells before after (λ all rest. Gives (F all) (plain_outcome answer h) wrote rest)) → IfOk r (λ answer. OnReads tells before after (λ all rest. Gives (G all) (plain_outcome answer h) wrote rest))
+gives_same (Ok answer) tells before after h wrote F G e w =
+    on_reads tells before after (λ all rest. Gives (F all) (plain_outcome answer h) wrote rest) (λ all rest. Gives (G all) (plain_outcome answer h) wrote rest)
+    (λ all rest g. subst (λ (d : Done). Gives d (plain_outcome answer h) wrote rest) (e all) g) w
+gives_same (Err fault) tells before after h wrote F G e w = tt
 
--- an answer that is the same for every input
-pub on_any : (tells : Type 0) (left : List ℕ) (answer : Answer) (F : List ℕ → Done) → answer ≡ (F left).answer → OnInput tells left (λ bytes. answer ≡ (F bytes).answer)
-on_any tells left answer F e = record { input = left; told = λ t. refl; holds = e }
+-- a call that reads nothing
+pub reads_none : (tells : Type 0) (left : List ℕ) (answer : Answer) (wrote : List ℕ → Type 0) (F : List ℕ → Done) → ((all : List ℕ) → Gives (F all) answer wrote all) → OnReads tells left left (λ all rest. Gives (F all) answer wrote rest)
+reads_none tells left answer wrote F e = record {
+  heard = [];
+  input = left;
+  rest = left;
+  once = tt;
+  fed = refl;
+  told = λ t. (refl, refl);
+  holds = λ all rest f. let g = e all in (g.0, g.1, sym f ∙ g.2);
+}
+
+-- the answer of a line that was read
+pub line_gives : (tells : Type 0) (before after prompt : List ℕ) (h : PlainHeap) (text : Result (List ℕ) Cause) (answer : Answer) (wrote : List ℕ → Type 0) → answer ≡ in_words raised_by (text >>= λ s. Ok (str_value s, h)) → wrote (encode_utf8_all prompt)
+    → OnReads tells before after (λ all rest. (text, rest) ≡ line_read all) → OnReads tells before after (λ all rest. Gives (asked (Ok prompt) h all) answer wrote rest)
+line_gives tells before after prompt h text answer wrote e o w =
+    on_reads tells before after (λ all rest. (text, rest) ≡ line_read all) (λ all rest. Gives (asked (Ok prompt) h all) answer wrote rest)
+    (λ all rest f. (e ∙ ap (λ p. in_words raised_by (p.0 >>= λ s. Ok (str_value s, h))) f, o, ap (λ p. p.1) f)) w
 
 -- ---- the other built-ins
 
-pub for_any : (tells : Type 0) (left : List ℕ) (which w : Builtin) (args : List PlainValue) (h : PlainHeap) (answer : Answer) → which ≡ w → answer ≡ (builtin_of w args h left).answer
-    → OnInput tells left (λ bytes. answer ≡ (builtin_of which args h bytes).answer)
-for_any tells left which w args h answer e f = on_any tells left answer (builtin_of which args h) (f ∙ ap (λ b. (builtin_of b args h left).answer) (sym e))
+for_any : (tells : Type 0) (left : List ℕ) (which w : Builtin) (args : List PlainValue) (h : PlainHeap) (answer : Answer) (wrote : List ℕ → Type 0) → which ≡ w → ((all : List ℕ) → Gives (builtin_of w args h all) answer wrote all)
+    → OnReads tells left left (λ all rest. Gives (builtin_of which args h all) answer wrote rest)
+for_any tells left which w args h answer wrote e f =
+    reads_none tells left answer wrote (builtin_of which args h) (λ all. subst (λ (b : Builtin). Gives (builtin_of b args h all) answer wrote all) (sym e) (f all))
 
-printed_any : (r : Result (List (List ℕ)) PlainRaised) (h : PlainHeap) (i j : List ℕ) → (printed r h i).answer ≡ (printed r h j).answer
-printed_any (Ok ts) h i j = refl
-printed_any (Err x) h i j = refl
+pub for_quiet : (tells sink : Type 0) (left out : List ℕ) (which w : Builtin) (args : List PlainValue) (h : PlainHeap) (answer : Answer) → which ≡ w → ((all : List ℕ) → quiet answer all ≡ builtin_of w args h all)
+    → OnReads tells left left (λ all rest. Gives (builtin_of which args h all) answer (Wrote sink out out) rest)
+for_quiet tells sink left out which w args h answer e f =
+    for_any tells left which w args h answer (Wrote sink out out) e (λ all. subst (λ (d : Done). Gives d answer (Wrote sink out out) all) (f all) (refl, (λ t. sym (append-nil out)), refl))
 
-pub for_print : (r : Result (Result Value Raised) RunFault) (tells : Type 0) (left : List ℕ) (which : Builtin) (args : List PlainValue) (h : PlainHeap) → which ≡ Print
-    → IfOk r (λ answer. plain_outcome answer h ≡ (print_of args h []).answer) → IfOk r (λ answer. OnInput tells left (λ bytes. plain_outcome answer h ≡ (builtin_of which args h bytes).answer))
-for_print (Ok answer) tells left which args h e w = for_any tells left which Print args h (plain_outcome answer h) e (w ∙ printed_any (str_texts args h) h [] left)
-for_print (Err fault) tells left which args h e w = tt
+printed_gives : (r : Result (List (List ℕ)) PlainRaised) (h : PlainHeap) (answer : Answer) (wrote : List ℕ → Type 0) (all : List ℕ) → answer ≡ (printed r h []).answer → wrote (printed r h []).written → Gives (printed r h all) answer wrote all
+printed_gives (Ok ts) h answer wrote all e o = (e, o, refl)
+printed_gives (Err x) h answer wrote all e o = (e, o, refl)
 
--- ---- for callers
-
--- of a source that tells its bytes
-pub at_told : (tells : Type 0) (left : List ℕ) (P : List ℕ → Type 0) → OnInput tells left P → tells → P left
-at_told tells left P h t = subst P (h.told t) h.holds
-
-printed_written : (r : Result (List (List ℕ)) PlainRaised) (h : PlainHeap) (i j : List ℕ) → (printed r h i).written ≡ (printed r h j).written
-printed_written (Ok ts) h i j = refl
-printed_written (Err x) h i j = refl
-
-asked_written : (r : Result (List ℕ) PlainRaised) (h : PlainHeap) (i j : List ℕ) → (asked r h i).written ≡ (asked r h j).written
-asked_written (Ok prompt) h i j = refl
-asked_written (Err x) h i j = refl
-
--- what is written doesn't depend on the input
-pub written_any : (which : Builtin) (args : List PlainValue) (h : PlainHeap) (i j : List ℕ) → (builtin_of which args h i).written ≡ (builtin_of which args h j).written
-written_any Print args h i j = printed_written (str_texts args h) h i j
-written_any Len args h i j = refl
-written_any Range args h i j = refl
-written_any Str args h i j = refl
-written_any Repr args h i j = refl
-written_any Int args h i j = refl
-written_any Input args h i j =
-    ap (λ (d : Done). d.written) (asks args h i) ∙ asked_written (prompt_of args h) h i j ∙ sym (ap (λ (d : Done). d.written) (asks args h j))
-written_any Exit args h i j = refl
+pub for_print : (r : Result (Result Value Raised) RunFault) (tells sink : Type 0) (left before after : List ℕ) (which : Builtin) (args : List PlainValue) (h : PlainHeap) → which ≡ Print
+    → IfOk r (λ answer. plain_outcome answer h ≡ (print_of args h []).answer) → (sink → OnOk r (after ≡ before ++ (print_of args h []).written))
+    → IfOk r (λ answer. OnReads tells left left (λ all rest. Gives (builtin_of which args h all) (plain_outcome answer h) (Wrote sink before after) rest))
+for_print (Ok answer) tells sink left before after which args h e w o =
+    for_any tells left which Print args h (plain_outcome answer h) (Wrote sink before after) e (λ all. printed_gives (str_texts args h) h (plain_outcome answer h) (Wrote sink before after) all w o)
+for_print (Err fault) tells sink left before after which args h e w o = tt

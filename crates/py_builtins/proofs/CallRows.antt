@@ -2,7 +2,7 @@
 use Rattle.std.proofs.Common.{◌≡◌, ℕ, refl, pos, negsuc, Ok, Err, [], ◌∷◌, List, true, false, codes}
 use Rattle.py_value.specs.declared.builtin.Builtin.TheVariants.{Len, Range, Input, Exit}
 use Rattle.py_value.specs.declared.builtin.Method.TheVariants.{Append, Pop, Get, StartsWith, Join, Split}
-use Rattle.py_value.specs.declared.cause.Cause.TheVariants.{BadArgument, InvalidLiteral, ZeroStep, IntegerTooLarge, NoInput, EmptySeparator, PopIndex, UnhashableKey}
+use Rattle.py_value.specs.declared.cause.Cause.TheVariants.{BadArgument, InvalidLiteral, ZeroStep, IntegerTooLarge, NoInput, TooManyItems, EmptySeparator, PopIndex, UnhashableKey}
 use Rattle.py_value.specs.declared.exception.ExcKind.TheVariants.{SystemExit, KeyError}
 use Rattle.py_value.specs.Causes.{raised_by}
 use Rattle.py_value.specs.Plain.{none_value, bool_value, int_value, str_value, tuple_of, list_at, dict_at, argument, list_object, dict_object, PlainHeap}
@@ -115,6 +115,9 @@ counts = refl
 
 zero_step : (builtin_of Range (int_value (pos 0) ∷ int_value (pos 4) ∷ int_value (pos 0) ∷ []) [] []).answer ≡ Err (raised_by ZeroStep)
 zero_step = refl
+
+range_too_long : (builtin_of Range (int_value (pos 1048577) ∷ []) [] []).answer ≡ Err (raised_by TooManyItems)
+range_too_long = refl
 
 exits : (builtin_of Exit (int_value (pos 258) ∷ []) [] []).answer ≡ Err (record { kind = SystemExit; arg = argument (int_value (pos 258)) })
 exits = refl

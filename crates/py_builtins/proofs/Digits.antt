@@ -1,18 +1,11 @@
 -- Numbers in texts, up to the greatest number of 64 bits.
-use Rattle.std.proofs.Common.{◌≡◌, ℕ, zero, suc, ◌+◌, ◌-◌, ◌*◌, ◌^◌, ◌<◌, ◌≤◌, min, nat_lt, Bool, true, false, List, [], ◌∷◌, length, get_or, drop, Option, Some, None, Result, Ok, Err, ℤ, pos, negsuc, refl, ap, sym, ◌∙◌, arith, if◌then◌else◌}
-use Rattle.std.proofs.lemmas.Bool.Decides.{nat_tests}
+use Rattle.std.proofs.Common.{◌≡◌, ℕ, ◌+◌, ◌-◌, ◌*◌, ◌<◌, ◌≤◌, min, Bool, true, false, List, [], ◌∷◌, length, get_or, drop, Option, Some, None, refl, ap, sym, ◌∙◌, arith, if◌then◌else◌}
 use Rattle.std.proofs.lemmas.List.{at_drop_more, at_drop_all}
-use Rattle.py_value.specs.declared.cause.Cause.{Cause}
-use Rattle.py_value.specs.declared.cause.Cause.TheVariants.{IntegerTooLarge}
-use Rattle.py_value.specs.Numbers.{exact}
-use Rattle.py_builtins.specs.Builtins.{is_digit, are_blanks, digits_then_blanks, negated, with_sign}
+use Rattle.py_builtins.specs.Builtins.{is_digit, are_blanks, digits_then_blanks}
 use Rattle.py_builtins.specs.Calls.{capped}
 
 some_capped : (m n : ℕ) → min m 18446744073709551615 ≡ min n 18446744073709551615 → capped (Some m) ≡ capped (Some n)
 some_capped m n e = ap (λ k. let o : Option ℕ = Some k in o) e
-
-cap_once : (n : ℕ) → min (min n 18446744073709551615) 18446744073709551615 ≡ min n 18446744073709551615
-cap_once n = omega arith
 
 cap_more : (m n d : ℕ) → min m 18446744073709551615 ≡ min n 18446744073709551615 → min (10 * m + d) 18446744073709551615 ≡ min (10 * n + d) 18446744073709551615
 cap_more m n d e = omega arith
@@ -54,36 +47,6 @@ digits_end cs i c n want l e d w =
     ∙ ap (λ b. capped (one_digit n c (drop (i + 1) cs) b)) (sym d)
     ∙ ap (λ x. capped (digits_then_blanks n (x ∷ drop (i + 1) cs))) e
     ∙ sym (at_drop_more (λ (xs : List ℕ). capped (digits_then_blanks n xs)) cs i c l) ∙ w
-
-fits_capped : (n : ℕ) → nat_lt (min n 18446744073709551615) (2 ^ 63) ≡ nat_lt n (2 ^ 63)
-fits_capped n = grind (arith, nat_tests)
-
-cap_fits : (n : ℕ) → n < 2 ^ 63 → min n 18446744073709551615 ≡ n
-cap_fits n l = omega arith
-
-exact_capped : (F : ℕ → ℤ) (n m : ℕ) (b : Bool) → (n < 2 ^ 63 → m ≡ n) → nat_lt n (2 ^ 63) ≡ b → (let r : Result ℤ Cause = (if b then Ok (F m) else Err IntegerTooLarge) in r) ≡ (if b then Ok (F n) else Err IntegerTooLarge)
-exact_capped F n m true e f = ap (λ k. let r : Result ℤ Cause = Ok (F k) in r) (e (grind (arith, nat_tests)))
-exact_capped F n m false e f = refl
-
-positive_capped : (n : ℕ) → exact (pos (min n 18446744073709551615)) ≡ exact (pos n)
-positive_capped n =
-    ap (λ (b : Bool). let r : Result ℤ Cause = (if b then Ok (pos (min n 18446744073709551615)) else Err IntegerTooLarge) in r) (fits_capped n)
-    ∙ exact_capped pos n (min n 18446744073709551615) (nat_lt n (2 ^ 63)) (cap_fits n) refl
-
-negated_capped : (n : ℕ) → exact (negated (min n 18446744073709551615)) ≡ exact (negated n)
-negated_capped zero = refl
-negated_capped (suc n) =
-    let one : min (suc n) 18446744073709551615 ≡ suc (min n 18446744073709551614) = omega arith in
-    let test : nat_lt (min n 18446744073709551614) (2 ^ 63) ≡ nat_lt n (2 ^ 63) = grind (arith, nat_tests) in
-    ap (λ k. exact (negated k)) one
-    ∙ ap (λ (b : Bool). let r : Result ℤ Cause = (if b then Ok (negsuc (min n 18446744073709551614)) else Err IntegerTooLarge) in r) test
-    ∙ exact_capped negsuc n (min n 18446744073709551614) (nat_lt n (2 ^ 63)) (λ l. omega arith) refl
-
--- the number with its sign is the same
-pub sign_capped : (negative : Bool) (o : Option ℕ) → with_sign negative (capped o) ≡ with_sign negative o
-sign_capped negative None = refl
-sign_capped true (Some n) = negated_capped n
-sign_capped false (Some n) = positive_capped n
 
 -- the end of the text
 pub digits_all : (cs : List ℕ) (i n : ℕ) (want : Option ℕ) → length cs ≤ i → capped (digits_then_blanks n (drop i cs)) ≡ want → capped (Some n) ≡ want

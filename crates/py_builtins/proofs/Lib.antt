@@ -3,6 +3,7 @@ pub mod Attributes
 pub mod CallRows
 pub mod Characters
 pub mod Digits
+pub mod Feeding
 pub mod Joins
 pub mod KeyPlaces
 pub mod Lists
@@ -12,6 +13,7 @@ pub mod Printing
 pub mod Reading
 pub mod Rests
 pub mod Rows
+pub mod Separators
 pub mod Splitting
 pub mod Starts
 pub mod Steps

@@ -1,10 +1,8 @@
 -- Pieces of writing, one behind the other.
-use Rattle.std.proofs.Common.{◌≡◌, ℕ, zero, suc, ◌+◌, ◌<◌, ◌≤◌, nat_le, Bool, false, IsTrue, IsErrAnd, List, [], ◌∷◌, ◌++◌, length, drop, add-one, Result, Ok, Err, Some, refl, ap, sym, ◌∙◌, subst, append_assoc, append-nil, length-append, arith, if◌then◌else◌}
+use Rattle.std.proofs.Common.{◌≡◌, ℕ, zero, suc, ◌+◌, nat_le, Bool, IsTrue, IsErrAnd, List, [], ◌∷◌, length, drop, add-one, Result, Ok, Err, Some, refl, ap, sym, ◌∙◌, subst, append_assoc, append-nil, if◌then◌else◌}
 use Rattle.std.specs.List.{slice_get}
-use Rattle.std.proofs.lemmas.Bool.Decides.{nat_tests}
 use Rattle.std.proofs.lemmas.Option.{slice_get_within, get_or_from_slice_get}
 use Rattle.std.proofs.Math.Seq.{drop-cons}
-use Rattle.std.proofs.Math.ListN.{drop_of_length-le}
 use Rattle.py_value.specs.declared.cause.Cause.{Cause}
 use Rattle.py_value.specs.declared.cause.Cause.TheVariants.{TooDeep, TooManyItems}
 use Rattle.py_value.specs.Sequences.{within_limit}
@@ -70,26 +68,9 @@ turns_end a rest all e i = sym i ∙ ap (λ x. whole a ▸ x) e ∙ then_nothing
 pub within : (s : List ℕ) → IsTrue (nat_le (length s) 1048576) → within_limit s ≡ Ok s
 within s h = ap (λ (b : Bool). let r : Result (List ℕ) Cause = (if b then Ok s else Err TooManyItems) in r) h
 
-beyond_test : (n : ℕ) → 1048576 < n → nat_le n 1048576 ≡ false
-beyond_test n h = grind (arith, nat_tests)
-
-beyond : (s : List ℕ) → 1048576 < length s → within_limit s ≡ Err TooManyItems
-beyond s h = ap (λ (b : Bool). let r : Result (List ℕ) Cause = (if b then Ok s else Err TooManyItems) in r) (beyond_test (length s) h)
-
 -- a value that is too deep
 pub too_deep : (a : List ℕ) → IsTrue (nat_le (length a) 1048576) → Settles (Raises TooDeep) (whole a ▸ broken [])
 too_deep a h = λ rest. ap (λ s. answer_of (broken s)) (append-nil a) ∙ ap (λ (r : Result (List ℕ) Cause). let q : Result (List ℕ) Cause = (r >>= λ t. Err TooDeep) in q) (within a h)
-
--- a character too many
-too_long : (s : List ℕ) (rest : Writing) → 1048576 < length s → answer_of (whole s ▸ rest) ≡ Err TooManyItems
-too_long s (whole t) h = beyond (s ++ t) (omega (arith, length-append s t))
-too_long s (broken t) h = ap (λ (r : Result (List ℕ) Cause). let q : Result (List ℕ) Cause = (r >>= λ u. Err TooDeep) in q) (beyond (s ++ t) (omega (arith, length-append s t)))
-
-pub too_many : (a : List ℕ) (c : ℕ) → length a ≡ 1048576 → Settles (Raises TooManyItems) (whole a ▸ whole (c ∷ []))
-too_many a c e = λ rest. too_long (a ++ c ∷ []) rest (omega (arith, length-append a (c ∷ []), e))
-
-pub too_much : (a t : List ℕ) → 1048576 < length (a ++ t) → Settles (Raises TooManyItems) (whole a ▸ whole t)
-too_much a t h = λ rest. too_long (a ++ t) rest h
 
 -- the answer, once all is written or settled
 pub raised_answer : (r : Result (Unit {0}) Stop) (b : List ℕ) (w : Writing) (stop : Stop) (cause : Cause) (e : PlainRaised) → r ≡ Err stop → stop ≡ Raises cause → e ≡ raised_by cause → IsWritten r [] b w
@@ -99,13 +80,6 @@ raised_answer r b w stop cause e i j k h =
     let settled : (rest : Writing) → answer_of ((whole [] ▸ w) ▸ rest) ≡ Err cause = subst P (i ∙ ap (λ (x : Stop). let q : Result (Unit {0}) Stop = Err x in q) j) h in
     ap (λ (x : PlainRaised). let q : Result (List ℕ) PlainRaised = Err x in q) k
     ∙ sym (ap (in_words raised_by) (ap answer_of (sym (then_nothing w) ∙ ap (λ x. x ▸ whole []) (sym (nothing_then w))) ∙ settled (whole [])))
-
-pub given_answer : (r : Result (Unit {0}) Stop) (b t : List ℕ) (w : Writing) (u : Unit {0}) → r ≡ Ok u → t ≡ b → IsTrue (nat_le (length t) 1048576) → IsWritten r [] b w
-    → Ok t ≡ in_words raised_by (answer_of w)
-given_answer r b t w u i j h k =
-    let P : Result (Unit {0}) Stop → Type 0 = λ x. IsWritten x [] b w in
-    let written : whole [] ▸ w ≡ whole b = subst P i k in
-    sym (ap (λ x. in_words raised_by (answer_of x)) (sym (nothing_then w) ∙ written ∙ ap whole (sym j)) ∙ ap (in_words raised_by) (within t h))
 
 -- ---- items with separators
 
@@ -121,11 +95,6 @@ pub one_more : {A : Type 0} (show : A → Writing) (xs : List A) (i : ℕ) (x : 
     → remaining i show xs ≡ whole (separator i) ▸ (show x ▸ remaining (suc i) show xs)
 one_more show xs zero x h = ap (separated show) (left_at xs zero x h) ∙ sym (nothing_then (show x ▸ further show (drop 1 xs)))
 one_more show xs (suc i) x h = ap (further show) (left_at xs (suc i) x h)
-
-pub none_left : {A : Type 0} (show : A → Writing) (xs : List A) (i : ℕ) → length xs ≤ i → remaining i show xs ≡ whole []
-none_left show [] zero h = refl
-none_left show (x ∷ xs) zero h = absurd (omega arith)
-none_left show xs (suc i) h = ap (further show) (drop_of_length-le xs h)
 
 -- a turn of a loop over the items
 pub item_written : {A : Type 0} (show : A → Writing) (xs : List A) (i : ℕ) (x : A) (all : Writing) (a b c : List ℕ) → slice_get xs i ≡ Some x → whole a ▸ remaining i show xs ≡ all

@@ -51,10 +51,6 @@ read_at line bs t = if t then (Err TooManyItems, drop (suc most_items) bs) else 
 abbrev pub short : List ℕ → Bool
 short line = nat_lt most_items (length line)
 
--- what is read of some bytes with one byte at the least
-read_some : (b : ℕ) (bs : List ℕ) → bytes_read (b ∷ bs) ≡ read_at (first_line (b ∷ bs)) (b ∷ bs) (short (first_line (b ∷ bs)))
-read_some b bs = refl
-
 fits : (line : List ℕ) → length line ≤ most_items → short line ≡ false
 fits line l = grind (arith, nat_tests)
 

@@ -1,9 +1,8 @@
--- Texts cut into parts, the last of which is still open.
-use Rattle.std.proofs.Common.{◌≡◌, ◌≢◌, ℕ, zero, suc, ◌+◌, ◌-◌, ◌<◌, ◌≤◌, Bool, true, false, cond, List, [], ◌∷◌, ◌++◌, length, drop, get_or, refl, ap, sym, ◌∙◌, arith, append_assoc}
+-- Texts cut at white space into parts, the last of which is still open.
+use Rattle.std.proofs.Common.{◌≡◌, ◌≢◌, ℕ, ◌+◌, ◌<◌, ◌≤◌, Bool, true, false, cond, List, [], ◌∷◌, ◌++◌, length, drop, get_or, refl, ap, sym, ◌∙◌, append_assoc}
 use Rattle.std.proofs.lemmas.List.{at_drop_more, at_drop_all, append-nil}
 use Rattle.py_value.specs.Plain.{PlainValue, str_value}
-use Rattle.py_value.specs.Sequences.{begins}
-use Rattle.py_builtins.specs.Methods.{is_white, before_first, white_parts, nonempty, parts_between, texts}
+use Rattle.py_builtins.specs.Methods.{is_white, before_first, white_parts, nonempty, texts}
 
 -- the open part put before the first one
 abbrev pub put_before : List ℕ → List (List ℕ) → List (List ℕ)
@@ -24,16 +23,6 @@ begun_white false c (p ∷ ps) = refl
 pub put_nothing : (cs : List ℕ) → put_before [] (white_parts cs) ≡ white_parts cs
 put_nothing [] = refl
 put_nothing (c ∷ cs) = begun_white (is_white c) c (white_parts cs)
-
-begun_between : (b : Bool) (c : ℕ) (ps qs : List (List ℕ)) → put_before [] (cond b ([] ∷ ps) (before_first c qs)) ≡ cond b ([] ∷ ps) (before_first c qs)
-begun_between true c ps qs = refl
-begun_between false c ps [] = refl
-begun_between false c ps (q ∷ qs) = refl
-
-pub put_nothing_between : (t : List ℕ) (k : ℕ) (cs : List ℕ) → put_before [] (parts_between t k cs) ≡ parts_between t k cs
-put_nothing_between t k [] = refl
-put_nothing_between t (suc k) (c ∷ cs) = put_nothing_between t k cs
-put_nothing_between t zero (c ∷ cs) = begun_between (begins t (c ∷ cs)) c (parts_between t (length t - 1) cs) (parts_between t zero cs)
 
 -- ---- at white space
 
@@ -84,49 +73,3 @@ white_ends cs i part now next want l ne n h =
 pub white_ended : (cs : List ℕ) (i : ℕ) (part : List ℕ) (now want : List PlainValue) → length cs ≤ i → part ≡ [] → now ++ open_parts part (drop i cs) ≡ want → now ≡ want
 white_ended cs i part now want l empty h =
     sym (append-nil now) ∙ ap (λ p. now ++ open_parts p []) (sym empty) ∙ ap (λ vs. now ++ vs) (sym (at_drop_all (open_parts part) cs i l)) ∙ h
-
--- ---- at a separator
-
-abbrev pub parts_left : List ℕ → List ℕ → ℕ → List ℕ → List PlainValue
-parts_left t part k rest = texts (put_before part (parts_between t k rest))
-
-passed_over : (t : List ℕ) (k c : ℕ) (rest : List ℕ) → k ≢ 0 → parts_between t k (c ∷ rest) ≡ parts_between t (k - 1) rest
-passed_over t zero c rest ne = absurd (ne refl)
-passed_over t (suc k) c rest ne = let e : k ≡ suc k - 1 = omega arith in ap (λ j. parts_between t j rest) e
-
-pub between_passes : (t cs : List ℕ) (i k : ℕ) (part : List ℕ) (now want : List PlainValue) → i < length cs → k ≢ 0 → now ++ parts_left t part k (drop i cs) ≡ want → now ++ parts_left t part (k - 1) (drop (i + 1) cs) ≡ want
-between_passes t cs i k part now want l ne h =
-    ap (λ ps. now ++ texts (put_before part ps)) (sym (passed_over t k (get_or cs i 0) (drop (i + 1) cs) ne))
-    ∙ ap (λ vs. now ++ vs) (sym (at_drop_more (parts_left t part k) cs i 0 l)) ∙ h
-
-abbrev begun_here : List ℕ → List ℕ → ℕ → List ℕ → Bool → List PlainValue
-begun_here t part c rest b = texts (put_before part (cond b ([] ∷ parts_between t (length t - 1) rest) (before_first c (parts_between t zero rest))))
-
-begun_at : (t cs : List ℕ) (i c : ℕ) (b : Bool) → i < length cs → b ≡ begins t (drop i cs) → b ≡ begins t (get_or cs i c ∷ drop (i + 1) cs)
-begun_at t cs i c b l e = e ∙ at_drop_more (begins t) cs i c l
-
-pub between_closes : (t cs : List ℕ) (i k left : ℕ) (part : List ℕ) (now next want : List PlainValue) → i < length cs → k ≡ 0 → left ≡ length t - 1 → true ≡ begins t (drop i cs) → next ≡ now ++ str_value part ∷ [] → now ++ parts_left t part k (drop i cs) ≡ want
-    → next ++ parts_left t [] left (drop (i + 1) cs) ≡ want
-between_closes t cs i k left part now next want l z m b n h =
-    ap (λ vs. vs ++ parts_left t [] left (drop (i + 1) cs)) n ∙ append_assoc now (str_value part ∷ []) (parts_left t [] left (drop (i + 1) cs))
-    ∙ ap (λ j. now ++ (str_value part ∷ parts_left t [] j (drop (i + 1) cs))) m
-    ∙ ap (λ ps. now ++ (str_value part ∷ texts ps)) (put_nothing_between t (length t - 1) (drop (i + 1) cs))
-    ∙ ap (λ p. now ++ (str_value p ∷ texts (parts_between t (length t - 1) (drop (i + 1) cs)))) (sym (append-nil part))
-    ∙ ap (λ q. now ++ begun_here t part (get_or cs i 0) (drop (i + 1) cs) q) (begun_at t cs i 0 true l b)
-    ∙ ap (λ vs. now ++ vs) (sym (at_drop_more (parts_left t part zero) cs i 0 l))
-    ∙ ap (λ j. now ++ parts_left t part j (drop i cs)) (sym z) ∙ h
-
-pub between_goes_on : (t cs : List ℕ) (i k c : ℕ) (part next : List ℕ) (now want : List PlainValue) → i < length cs → c ≡ get_or cs i c → k ≡ 0 → false ≡ begins t (drop i cs) → next ≡ part ++ c ∷ [] → now ++ parts_left t part k (drop i cs) ≡ want
-    → now ++ parts_left t next k (drop (i + 1) cs) ≡ want
-between_goes_on t cs i k c part next now want l e z b n h =
-    ap (λ j. now ++ parts_left t next j (drop (i + 1) cs)) z
-    ∙ ap (λ p. now ++ parts_left t p zero (drop (i + 1) cs)) n
-    ∙ ap (λ ps. now ++ texts ps) (sym (put_character part c (parts_between t zero (drop (i + 1) cs))))
-    ∙ ap (λ x. now ++ texts (put_before part (before_first x (parts_between t zero (drop (i + 1) cs))))) e
-    ∙ ap (λ q. now ++ begun_here t part (get_or cs i c) (drop (i + 1) cs) q) (begun_at t cs i c false l b)
-    ∙ ap (λ vs. now ++ vs) (sym (at_drop_more (parts_left t part zero) cs i c l))
-    ∙ ap (λ j. now ++ parts_left t part j (drop i cs)) (sym z) ∙ h
-
-pub between_ends : (t cs : List ℕ) (i k : ℕ) (part : List ℕ) (now next want : List PlainValue) → length cs ≤ i → next ≡ now ++ str_value part ∷ [] → now ++ parts_left t part k (drop i cs) ≡ want → next ≡ want
-between_ends t cs i k part now next want l n h =
-    n ∙ ap (λ p. now ++ (str_value p ∷ [])) (sym (append-nil part)) ∙ ap (λ vs. now ++ vs) (sym (at_drop_all (parts_left t part k) cs i l)) ∙ h

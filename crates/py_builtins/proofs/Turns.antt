@@ -1,5 +1,5 @@
 -- The turns of a reading: bytes of an open line, then what the source has left.
-use Rattle.std.proofs.Common.{◌≡◌, ℕ, suc, ◌≤◌, nat_eq, true, false, List, [], ◌∷◌, ◌++◌, length, MatchOption, Option, Some, None, Vec, Global, Result, Ok, Err, OnErr, refl, ap, sym, ◌∙◌, subst, append_assoc, append-nil, length-append, arith}
+use Rattle.std.proofs.Common.{◌≡◌, ℕ, suc, ◌≤◌, nat_eq, true, false, List, [], ◌∷◌, ◌++◌, length, MatchOption, Option, Some, None, Result, Ok, Err, OnErr, refl, ap, sym, ◌∙◌, subst, append_assoc, append-nil, length-append, arith}
 use Rattle.std.proofs.lemmas.Bool.Decides.{nat_tests}
 use Rattle.cov_outside.specs.Prefixes.{LosesPrefix}
 use Rattle.py_value.specs.declared.cause.Cause.{Cause}
@@ -7,9 +7,10 @@ use Rattle.py_value.specs.declared.cause.Cause.TheVariants.{TooManyItems}
 use Rattle.py_value.specs.Answers.{◌>>=◌}
 use Rattle.py_value.specs.Sequences.{most_items}
 use Rattle.py_builtins.specs.Builtins.{line_read}
-use Rattle.py_builtins.specs.Calls.{bytes_read, decoded, line_bytes}
-use Rattle.py_builtins.specs.Inputs.{OnInput}
-use Rattle.py_builtins.proofs.Reading.{IsOpen, open_more, read_ended, read_too_many, left_whole, still_read, text_read}
+use Rattle.py_builtins.specs.Calls.{bytes_read, decoded}
+use Rattle.py_builtins.specs.Inputs.{OnReads}
+use Rattle.py_builtins.proofs.Feeding.{after_bytes, fed_bytes, bytes_fed, all_bytes, asks_once, on_reads}
+use Rattle.py_builtins.proofs.Reading.{IsOpen, open_more, read_ended, read_too_many, still_read, made_text, text_read}
 
 -- after a refusal
 pub on_err : {T E P : Type 0} (r : Result T E) → P → OnErr r P
@@ -41,10 +42,21 @@ failed_further line before mid after h l w k =
     subst (λ xs. LosesPrefix xs (bytes_read before).1) (sym k) (subst (λ xs. LosesPrefix mid (bytes_read xs).1) w (still_read line mid h l))
 
 -- there was no byte
-pub none_left : (line before mid after : List ℕ) (o : Option ℕ) → IsOpen line → length line ≤ most_items → o ≡ None → NextByte mid after o → line ++ mid ≡ before → after ≡ (bytes_read before).1
-none_left line before mid after o h l e n w =
-    let both : (mid ≡ []) × (after ≡ []) = next_none mid after o e n in
-    both.1 ∙ left_whole line h l ∙ ap (λ xs. (bytes_read xs).1) (sym (append-nil line) ∙ ap (λ xs. line ++ xs) (sym both.0) ∙ w)
+pub none_line : (tells : Type 0) (line before mid after : List ℕ) (o : Option ℕ) (got : Result (List ℕ) Cause) → o ≡ None → got ≡ (bytes_read line).0 → [] ≡ (bytes_read line).1 → (tells → NextByte mid after o) → (tells → line ++ mid ≡ before)
+    → OnReads tells before after (λ all rest. (got, rest) ≡ bytes_read all)
+none_line tells line before mid after o got e f g n w = record {
+  heard = None ∷ after_bytes [] line;
+  input = line;
+  rest = [];
+  once = all_bytes [] line tt;
+  fed = (refl, fed_bytes [] line line [] (sym (append-nil line)));
+  told = λ t.
+      let both : (mid ≡ []) × (after ≡ []) = next_none mid after o e (n t) in
+      (sym (append-nil line) ∙ ap (λ xs. line ++ xs) (sym both.0) ∙ w t, sym both.1);
+  holds = λ all rest h.
+      let whole : line ≡ all = sym (append-nil line) ∙ ap (λ xs. line ++ xs) (sym h.0) ∙ sym (bytes_fed [] line all rest h.1) in
+      ap (λ r. (r, rest)) f ∙ ap (λ xs. ((bytes_read line).0, xs)) (h.0 ∙ g) ∙ ap bytes_read whole;
+}
 
 ends : (b : ℕ) → b ≡ 10 → nat_eq b 10 ≡ true
 ends b e = ap (λ x. nat_eq x 10) e
@@ -54,16 +66,16 @@ goes_on b e = grind (arith, nat_tests)
 
 -- the byte ended the line
 pub ended_line : (tells : Type 0) (line before mid after : List ℕ) (o : Option ℕ) (b : ℕ) → IsOpen line → length line ≤ most_items → o ≡ Some b → b ≡ 10 → (tells → NextByte mid after o) → (tells → line ++ mid ≡ before)
-    → OnInput tells before (λ bytes. Ok line ≡ (bytes_read bytes).0)
+    → OnReads tells before after (λ all rest. (Ok line, rest) ≡ bytes_read all)
 ended_line tells line before mid after o b h l e t n w = record {
+  heard = Some b ∷ after_bytes [] line;
   input = line ++ b ∷ after;
-  told = λ s. behind line before mid after o b e (n s) (w s);
-  holds = sym (ap (λ p. p.0) (read_ended line b after h l (ends b t)));
+  rest = after;
+  once = all_bytes [] line tt;
+  fed = fed_bytes [] line (line ++ b ∷ after) (b ∷ after) refl;
+  told = λ s. (behind line before mid after o b e (n s) (w s), refl);
+  holds = λ all rest f. sym (ap bytes_read (bytes_fed [] line all (b ∷ rest) f) ∙ read_ended line b rest h l (ends b t));
 }
-
-pub ended_left : (line before mid after : List ℕ) (o : Option ℕ) (b : ℕ) → IsOpen line → length line ≤ most_items → o ≡ Some b → b ≡ 10 → NextByte mid after o → line ++ mid ≡ before → after ≡ (bytes_read before).1
-ended_left line before mid after o b h l e t n w =
-    sym (ap (λ p. p.1) (read_ended line b after h l (ends b t))) ∙ ap (λ xs. (bytes_read xs).1) (behind line before mid after o b e n w)
 
 -- there was no memory for the byte
 pub dropped_lost : (line before mid after : List ℕ) (o : Option ℕ) (b : ℕ) → o ≡ Some b → NextByte mid after o → line ++ mid ≡ before → LosesPrefix before after
@@ -75,15 +87,16 @@ dropped_further line before mid after o b h l e t n w =
     subst (λ xs. LosesPrefix after (bytes_read xs).1) (behind_next line before mid after o b e n w) (still_read (line ++ b ∷ []) after (open_more line b h (goes_on b t)) one)
 
 -- too many bytes were read
-pub many_line : (tells : Type 0) (line before mid : List ℕ) → IsOpen line → length line ≡ suc most_items → (tells → line ++ mid ≡ before) → OnInput tells before (λ bytes. Err TooManyItems ≡ (bytes_read bytes).0)
+pub many_line : (tells : Type 0) (line before mid : List ℕ) → IsOpen line → length line ≡ suc most_items → (tells → line ++ mid ≡ before) → OnReads tells before mid (λ all rest. (Err TooManyItems, rest) ≡ bytes_read all)
 many_line tells line before mid h l w = record {
+  heard = after_bytes [] line;
   input = line ++ mid;
-  told = w;
-  holds = sym (ap (λ p. p.0) (read_too_many line mid h l));
+  rest = mid;
+  once = asks_once (after_bytes [] line) (all_bytes [] line tt);
+  fed = fed_bytes [] line (line ++ mid) mid refl;
+  told = λ t. (w t, refl);
+  holds = λ all rest f. sym (ap bytes_read (bytes_fed [] line all rest f) ∙ read_too_many line rest h l);
 }
-
-pub many_left : (line before mid : List ℕ) → IsOpen line → length line ≡ suc most_items → line ++ mid ≡ before → mid ≡ (bytes_read before).1
-many_left line before mid h l w = sym (ap (λ p. p.1) (read_too_many line mid h l)) ∙ ap (λ xs. (bytes_read xs).1) w
 
 -- ---- the text of the line
 
@@ -93,30 +106,22 @@ left_same bs = sym (ap (λ p. p.1) (text_read bs))
 pub still_line : (bs : List ℕ) → LosesPrefix bs (line_read bs).1
 still_line bs = subst (λ xs. LosesPrefix bs xs) (left_same bs) (still_read [] bs refl (omega arith))
 
--- nothing is read, and all of it is
-pub none_lost : (before after : List ℕ) → after ≡ before → LosesPrefix after (line_read before).1
-none_lost before after e = subst (λ xs. LosesPrefix xs (line_read before).1) (sym e) (still_line before)
-
+-- all of it is read
 pub all_lost : (before after : List ℕ) → after ≡ (line_read before).1 → LosesPrefix before after
 all_lost before after e = subst (λ xs. LosesPrefix before xs) (sym e) (still_line before)
 
 pub further_same : (before after : List ℕ) → LosesPrefix after (bytes_read before).1 → LosesPrefix after (line_read before).1
 further_same before after h = subst (λ xs. LosesPrefix after xs) (left_same before) h
 
-pub text_got : (tells : Type 0) (left line : List ℕ) (raw : Result (Vec ℕ Global) Cause) (bytes : Vec ℕ Global) (text : Result (List ℕ) Cause) → raw ≡ Ok bytes → line ≡ bytes.items → text ≡ decoded line
-    → OnInput tells left (λ bs. line_bytes raw ≡ (bytes_read bs).0) → OnInput tells left (λ bs. text ≡ (line_read bs).0)
-text_got tells left line raw bytes text e f g h = record {
-  input = h.input;
-  told = h.told;
-  holds =
-      g ∙ ap decoded f ∙ ap (λ (r : Result (Vec ℕ Global) Cause). line_bytes r >>= decoded) (sym e) ∙ ap (λ r. r >>= decoded) h.holds
-      ∙ sym (ap (λ p. p.0) (text_read h.input));
-}
+-- what is left behind the line
+pub line_kept : (tells : Type 0) (before after : List ℕ) (got : Result (List ℕ) Cause) → OnReads tells before after (λ all rest. (got, rest) ≡ bytes_read all) → tells → after ≡ (line_read before).1
+line_kept tells before after got h t =
+    let told = h.told t in
+    sym told.1 ∙ ap (λ p. p.1) (h.holds h.input h.rest h.fed) ∙ ap (λ xs. (bytes_read xs).1) told.0 ∙ left_same before
 
-pub no_text_got : (tells : Type 0) (left : List ℕ) (raw : Result (Vec ℕ Global) Cause) (cause : Cause) → raw ≡ Err cause → OnInput tells left (λ bs. line_bytes raw ≡ (bytes_read bs).0)
-    → OnInput tells left (λ bs. let r : Result (List ℕ) Cause = Err cause in r ≡ (line_read bs).0)
-no_text_got tells left raw cause e h = record {
-  input = h.input;
-  told = h.told;
-  holds = ap (λ (r : Result (Vec ℕ Global) Cause). line_bytes r >>= decoded) (sym e) ∙ ap (λ r. r >>= decoded) h.holds ∙ sym (ap (λ p. p.0) (text_read h.input));
-}
+-- the text of the bytes, where there are some
+pub text_got : (tells : Type 0) (before after : List ℕ) (got text : Result (List ℕ) Cause) → text ≡ (got >>= decoded) → OnReads tells before after (λ all rest. (got, rest) ≡ bytes_read all)
+    → OnReads tells before after (λ all rest. (text, rest) ≡ line_read all)
+text_got tells before after got text e h =
+    on_reads tells before after (λ all rest. (got, rest) ≡ bytes_read all) (λ all rest. (text, rest) ≡ line_read all)
+    (λ all rest f. ap (λ r. (r, rest)) e ∙ ap made_text f ∙ sym (text_read all)) h

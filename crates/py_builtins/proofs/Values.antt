@@ -6,11 +6,10 @@ use Rattle.std.proofs.lemmas.Option.{slice_get-map, slice_get-get_or, slice_get_
 use Rattle.std.proofs.lemmas.List.{length-map}
 use Rattle.py_value.specs.declared.value.Value.{Value}
 use Rattle.py_value.specs.Heaps.{pairs_of, values_of}
-use Rattle.py_value.specs.Plain.{PlainValue, none_value, PlainHeap, PlainObject, list_object, dict_object, tuple_of}
+use Rattle.py_value.specs.Plain.{PlainValue, none_value, PlainHeap, PlainObject, list_object, dict_object}
 use Rattle.py_value.specs.View.{plain, plains}
-use Rattle.py_value.proofs.Levels.{listed-packed}
 use Rattle.py_builtins.specs.declared.writer.Stop.{Stop}
-use Rattle.py_builtins.specs.Displays.{display_step, tuple_display}
+use Rattle.py_builtins.specs.Displays.{display_step}
 use Rattle.py_builtins.specs.Texts.{display_within, text_within, text_step}
 use Rattle.py_builtins.specs.Writing.{Writing, broken}
 use Rattle.py_builtins.specs.Written.{IsWritten}
@@ -29,10 +28,6 @@ display_more (suc n) h inside v e = let f : suc n - 1 ≡ n = omega arith in ap 
 -- a list or a dict that is entered
 pub entered : (r : Result (Unit {0}) Stop) (a b : List ℕ) (t : Bool) (w v : Writing) → t ≡ false → IsWritten r a b v → IsWritten r a b (if t then w else v)
 entered r a b t w v e h = written_same r a b v (if t then w else v) (sym (ap (λ (x : Bool). let y : Writing = (if x then w else v) in y) e)) h
-
--- the items of a tuple
-pub tuple_items : (D : List ℕ → PlainValue → Writing) (h : PlainHeap) (inside : List ℕ) (v : PlainValue) (vs : List PlainValue) → v ≡ tuple_of vs → tuple_display (D inside) vs ≡ display_step D h inside v
-tuple_items D h inside v vs e = ap (tuple_display (D inside)) (sym (listed-packed vs)) ∙ ap (display_step D h inside) (sym e)
 
 -- an item of a list, as the code reads it
 pub item_at : (vs : List Value) (i : ℕ) (v : Value) → i < length vs → v ≡ get_or vs i v → slice_get (plains vs) i ≡ Some (plain v)

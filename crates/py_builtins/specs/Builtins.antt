@@ -1,5 +1,5 @@
 -- What a built-in gives, writes and reads. In the order of the table of calls.
-use Rattle.std.specs.Prelude.{ℕ, zero, suc, ◌+◌, ◌*◌, ◌-◌, ◌||◌, ◌&&◌, nat_eq, nat_le, nat_lt, Bool, true, false, if◌then◌else◌, ℤ, pos, negsuc, ◌+ℤ◌, List, [], ◌∷◌, ◌++◌, length, drop, Option, Some, None, Result, Ok, Err, encode_utf8_all}
+use Rattle.std.specs.Prelude.{ℕ, zero, suc, ◌+◌, ◌*◌, ◌-◌, ◌||◌, ◌&&◌, nat_eq, nat_le, nat_lt, Bool, true, false, if◌then◌else◌, ℤ, pos, negsuc, ◌+ℤ◌, ◌*ℤ◌, List, [], ◌∷◌, ◌++◌, length, drop, Option, Some, None, Result, Ok, Err, encode_utf8_all}
 use Rattle.std.specs.Ordering.{int_cmp, is_lt}
 use Rattle.std.specs.Str.{chars, is_utf8}
 use Rattle.py_value.specs.declared.builtin.Builtin.{Builtin}
@@ -67,10 +67,15 @@ unfoldable pub numbers_before : ℕ → ℤ → ℤ → ℤ → List PlainValue
 numbers_before zero bound step n = []
 numbers_before (suc most) bound step n = elim (is_before step n bound) [ true ↦ int_value n ∷ numbers_before most bound step (n +ℤ step) | false ↦ [] ]
 
--- a new list of the numbers; a million and some more numbers are too many
+-- whether the numbers from one on are more than a list holds: the one behind so many still stands before the bound
+abbrev pub is_too_long : ℤ → ℤ → ℤ → Bool
+is_too_long step from to = is_before step (from +ℤ step *ℤ pos most_items) to
+
+-- a new list of the numbers, where they are not too many
 abbrev pub range_between : Option ℤ → Option ℤ → Option ℤ → PlainHeap → Answer
 range_between (Some from) (Some to) (Some step) h =
-    if is_zero step then raises ZeroStep else new_list (numbers_before (suc most_items) to step from) h
+    if is_zero step then raises ZeroStep else
+    (if is_too_long step from to then raises TooManyItems else new_list (numbers_before most_items to step from) h)
 range_between _ _ _ h = raises BadArgument
 
 -- where the numbers begin and end, and their step: a first bound of 0 and a step of 1 may be left out

@@ -6,7 +6,7 @@ ghost use Rattle.cov_outside.specs.Prefixes.{GainsPrefix, LosesPrefix};
 ghost use Rattle.py_value.specs.HeapView.{plain_heap};
 ghost use Rattle.py_value.specs.View.{plain, plains, plain_outcome};
 ghost use Rattle.py_builtins.specs.Builtins.{str_of, repr_of, builtin_of};
-ghost use Rattle.py_builtins.specs.Inputs.{OnInput};
+ghost use Rattle.py_builtins.specs.Inputs.{OnReads, Gives, Wrote};
 
 use crate::arguments::only;
 use crate::exceptions::raised_with;
@@ -21,7 +21,8 @@ use cov_outside::{Sink, Source};
 use py_value::{Builtin, Cause, ExcKind, Heap, NoMemory, Raised, Value};
 use std::alloc::Global;
 
-/// A built-in, called with these arguments. It writes and reads also where it raises.
+/// A built-in, called with these arguments. It writes and reads also where it raises. What `answer` says
+/// of two calls holds of both one behind the other: their reads are one list, the newest in front.
 pub fn call_builtin<I: Source, O: Sink>(
     alloc: Global,
     which: Builtin,
@@ -30,11 +31,13 @@ pub fn call_builtin<I: Source, O: Sink>(
     input: &mut I,
     out: &mut O,
 ) -> Result<Result<Value, Raised>, RunFault>
-    ensures answer { IfOk result (λ answer. OnInput I.tells (I.left input.old) (λ bytes. plain_outcome answer (plain_heap heap.new) ≡ (builtin_of which (plains args.now) (plain_heap heap.old) bytes).answer)) }
+    ensures answer { IfOk result (λ answer. OnReads I.tells (I.left input.old) (I.left input.new)
+        (λ all rest. Gives (builtin_of which (plains args.now) (plain_heap heap.old) all)
+        (plain_outcome answer (plain_heap heap.new))
+        (Wrote O.tells (O.contents out.old) (O.contents out.new)) rest)) }
     ensures raised { IfOk result (λ answer. OnErr answer (plain_heap heap.new ≡ plain_heap heap.old)) }
     ensures written { O.tells → OnOk result (O.contents out.new ≡ O.contents out.old ++ (builtin_of which (plains args.now) (plain_heap heap.old) (I.left input.old)).written) }
     ensures left { I.tells → OnOk result (I.left input.new ≡ (builtin_of which (plains args.now) (plain_heap heap.old) (I.left input.old)).left) }
-
     // After a fault a part of it is written, and no more is read than without the fault.
     ensures heap { OnErr result (plain_heap heap.new ≡ plain_heap heap.old) }
     ensures gained { O.tells → OnErr result (GainsPrefix (O.contents out.old) (O.contents out.new) (builtin_of which (plains args.now) (plain_heap heap.old) (I.left input.old)).written) }
@@ -45,7 +48,6 @@ pub fn call_builtin<I: Source, O: Sink>(
     ensures writes { O.faults out.old ≤ O.faults out.new }
     ensures read_fault { IsErrOf result RunFault.ReadFault → Rose (I.faults input.old) (I.faults input.new) }
     ensures write_fault { IsErrOf result RunFault.WriteFault → Rose (O.faults out.old) (O.faults out.new) }
-
     // The other built-ins touch neither the source nor the sink.
     ensures source { which ≢ Builtin.Input → input.new ≡ input.old }
     ensures sink { which ≢ Builtin.Print → which ≢ Builtin.Input → out.new ≡ out.old }

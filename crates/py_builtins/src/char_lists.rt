@@ -1,7 +1,6 @@
 // Texts as lists of characters.
 
 ghost use Rattle.std.specs.Prelude.{◌≡◌, IfOk};
-ghost use Rattle.py_value.specs.Sequences.{begins};
 
 use py_value::{NoMemory, Text};
 use std::alloc::Global;
@@ -18,20 +17,4 @@ pub(crate) fn characters_of(alloc: Global, text: &Text) -> Result<Vec<char>, NoM
         characters.push(c)?;
     }
     Ok(characters)
-}
-
-/// Whether a text begins with another.
-#[tactic(auto, using(crate::proofs::Starts::too_short))]
-pub(crate) fn begins(front: &[char], whole: &[char]) -> bool
-    ensures { result ≡ begins front.now whole.now }
-{
-    for i in 0..front.len() {
-        if i >= whole.len() {
-            return false;
-        }
-        if front[i] != whole[i] {
-            return false;
-        }
-    }
-    true
 }

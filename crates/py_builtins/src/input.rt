@@ -7,7 +7,7 @@ ghost use Rattle.py_value.specs.HeapView.{plain_heap};
 ghost use Rattle.py_value.specs.View.{plains, plain_answer, plain_outcome};
 ghost use Rattle.py_builtins.specs.Builtins.{line_read, input_of, asked};
 ghost use Rattle.py_builtins.specs.Calls.{prompt_of};
-ghost use Rattle.py_builtins.specs.Inputs.{OnInput};
+ghost use Rattle.py_builtins.specs.Inputs.{OnReads, Gives, Wrote};
 
 use crate::arguments::{are_none, only};
 use crate::fault::{RunFault, write};
@@ -25,7 +25,10 @@ pub(crate) fn ask<I: Source, O: Sink>(
     input: &mut I,
     out: &mut O,
 ) -> Result<Result<Value, Raised>, RunFault>
-    ensures answer { IfOk result (λ answer. OnInput I.tells (I.left input.old) (λ bytes. plain_outcome answer (plain_heap heap.now) ≡ (input_of (plains args.now) (plain_heap heap.now) bytes).answer)) }
+    ensures answer { IfOk result (λ answer. OnReads I.tells (I.left input.old) (I.left input.new)
+        (λ all rest. Gives (input_of (plains args.now) (plain_heap heap.now) all)
+        (plain_outcome answer (plain_heap heap.now))
+        (Wrote O.tells (O.contents out.old) (O.contents out.new)) rest)) }
     ensures written { O.tells → OnOk result (O.contents out.new ≡ O.contents out.old ++ (input_of (plains args.now) (plain_heap heap.now) (I.left input.old)).written) }
     ensures left { I.tells → OnOk result (I.left input.new ≡ (input_of (plains args.now) (plain_heap heap.now) (I.left input.old)).left) }
 
@@ -51,7 +54,10 @@ fn ask_with<I: Source, O: Sink>(
     input: &mut I,
     out: &mut O,
 ) -> Result<Result<Value, Raised>, RunFault>
-    ensures answer { IfOk result (λ answer. OnInput I.tells (I.left input.old) (λ bytes. plain_outcome answer (plain_heap heap.now) ≡ (asked (Ok prompt.now) (plain_heap heap.now) bytes).answer)) }
+    ensures answer { IfOk result (λ answer. OnReads I.tells (I.left input.old) (I.left input.new)
+        (λ all rest. Gives (asked (Ok prompt.now) (plain_heap heap.now) all)
+        (plain_outcome answer (plain_heap heap.now))
+        (Wrote O.tells (O.contents out.old) (O.contents out.new)) rest)) }
     ensures written { O.tells → OnOk result (O.contents out.new ≡ O.contents out.old ++ encode_utf8_all prompt.now) }
     ensures left { I.tells → OnOk result (I.left input.new ≡ (line_read (I.left input.old)).1) }
 

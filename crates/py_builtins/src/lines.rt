@@ -6,7 +6,7 @@ ghost use Rattle.cov_outside.specs.Prefixes.{LosesPrefix};
 ghost use Rattle.py_value.specs.Sequences.{most_items};
 ghost use Rattle.py_builtins.specs.Builtins.{first_line, line_read};
 ghost use Rattle.py_builtins.specs.Calls.{bytes_read, decoded, line_bytes};
-ghost use Rattle.py_builtins.specs.Inputs.{OnInput};
+ghost use Rattle.py_builtins.specs.Inputs.{OnReads};
 
 use crate::fault::RunFault;
 use cov_outside::{Failed, Source};
@@ -21,7 +21,7 @@ pub(crate) fn read_text<I: Source>(
     alloc: Global,
     input: &mut I,
 ) -> Result<Result<Text, Cause>, RunFault>
-    ensures text { IfOk result (λ text. OnInput I.tells (I.left input.old) (λ bytes. text ≡ (line_read bytes).0)) }
+    ensures text { IfOk result (λ text. OnReads I.tells (I.left input.old) (I.left input.new) (λ all rest. (text, rest) ≡ line_read all)) }
     ensures left { I.tells → OnOk result (I.left input.new ≡ (line_read (I.left input.old)).1) }
 
     ensures lost { I.tells → OnErr result (LosesPrefix (I.left input.old) (I.left input.new)) }
@@ -39,8 +39,7 @@ pub(crate) fn read_text<I: Source>(
 
 /// The bytes of a line without its end, or why there is none.
 fn read_line<I: Source>(alloc: Global, input: &mut I) -> Result<Result<Vec<u8>, Cause>, RunFault>
-    ensures line { IfOk result (λ line. OnInput I.tells (I.left input.old) (λ bytes. line_bytes line ≡ (bytes_read bytes).0)) }
-    ensures left { I.tells → OnOk result (I.left input.new ≡ (bytes_read (I.left input.old)).1) }
+    ensures line { IfOk result (λ line. OnReads I.tells (I.left input.old) (I.left input.new) (λ all rest. (line_bytes line, rest) ≡ bytes_read all)) }
 
     ensures lost { I.tells → OnErr result (LosesPrefix (I.left input.old) (I.left input.new)) }
     ensures no_further { I.tells → OnErr result (LosesPrefix (I.left input.new) (bytes_read (I.left input.old)).1) }

@@ -1,8 +1,8 @@
 // The marks and the escapes in the display of a text.
 
-ghost use Rattle.std.specs.Prelude.{◌≡◌, ◌<◌};
+ghost use Rattle.std.specs.Prelude.{◌≡◌, ◌<◌, IsTrue};
 ghost use Rattle.std.specs.Str.{chars};
-ghost use Rattle.py_builtins.specs.Displays.{has, mark_of, hex_digit};
+ghost use Rattle.py_builtins.specs.Displays.{has, mark_of, all_escaped, hex_digit};
 
 /// Whether a text has a character.
 fn has(text: &str, wanted: char) -> bool
@@ -14,6 +14,18 @@ fn has(text: &str, wanted: char) -> bool
         }
     }
     false
+}
+
+/// Whether each character of a text stands as it is between these marks.
+pub(crate) fn is_plain(mark: char, text: &str) -> bool
+    ensures { IsTrue result → all_escaped mark (chars text.now) ≡ chars text.now }
+{
+    for c in text.chars() {
+        if c == '\\' || c == mark || c < ' ' || c == '\u{7f}' {
+            return false;
+        }
+    }
+    true
 }
 
 /// The mark in which the display of a text stands.

@@ -6,7 +6,7 @@ ghost use Rattle.py_builtins.specs.Displays.{escaped, all_escaped, hex_digit, qu
 ghost use Rattle.py_builtins.specs.Writing.{whole};
 ghost use Rattle.py_builtins.specs.Written.{IsWritten};
 
-use crate::marks::{hex_digit, mark_of};
+use crate::marks::{hex_digit, is_plain, mark_of};
 use crate::writer::{Stop, Writer};
 use py_value::Text;
 
@@ -53,13 +53,24 @@ impl Writer {
         Ok(())
     }
 
+    /// A text between its marks, at once where no character of it is escaped.
+    fn push_between(&mut self, mark: char, text: &Text) -> Result<(), Stop>
+        ensures { IsWritten result self.old.text self.new.text (whole (all_escaped mark text.now)) }
+    {
+        if is_plain(mark, text.as_str()) {
+            self.push_text(text)
+        } else {
+            self.push_all_escaped(mark, text.as_str())
+        }
+    }
+
     /// The display of a text.
     pub(crate) fn push_quoted(&mut self, text: &Text) -> Result<(), Stop>
         ensures { IsWritten result self.old.text self.new.text (whole (quoted text.now)) }
     {
         let mark = mark_of(text.as_str());
         self.push(mark)?;
-        self.push_all_escaped(mark, text.as_str())?;
+        self.push_between(mark, text)?;
         self.push(mark)
     }
 }

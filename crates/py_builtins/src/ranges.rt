@@ -1,9 +1,10 @@
 // `range`.
 
-ghost use Rattle.std.specs.Prelude.{◌≡◌, ◌+ℤ◌, IfOk, OnErr, MatchOption, false};
+ghost use Rattle.std.specs.Prelude.{◌≡◌, ◌+ℤ◌, ◌*ℤ◌, pos, IfOk, OnErr, MatchOption, false};
 ghost use Rattle.py_value.specs.View.{plains, plain_outcome};
 ghost use Rattle.py_value.specs.HeapView.{plain_heap};
-ghost use Rattle.py_builtins.specs.Builtins.{is_before, numbers_before, range_between, bounds_of, range_of};
+ghost use Rattle.py_value.specs.Sequences.{most_items};
+ghost use Rattle.py_builtins.specs.Builtins.{is_before, is_too_long, numbers_before, range_between, bounds_of, range_of};
 
 use crate::char_lists::MOST_ITEMS;
 use crate::text_methods::new_list;
@@ -55,8 +56,31 @@ fn range_between(
     if step == 0 {
         return Ok(Err(Raised::of(alloc, Cause::ZeroStep)?));
     }
-    let numbers = numbers_before(alloc, MOST_ITEMS + 1, to, step, from)?;
+    if is_too_long(step, from, to) {
+        return Ok(Err(Raised::of(alloc, Cause::TooManyItems)?));
+    }
+    let numbers = numbers_before(alloc, MOST_ITEMS, to, step, from)?;
     new_list(alloc, numbers, heap)
+}
+
+/// Whether the numbers from one on are more than a list holds.
+fn is_too_long(step: i64, from: i64, to: i64) -> bool
+    ensures { result ≡ is_too_long step from to }
+{
+    let behind = number_behind(step, from);
+    if step >= 0 {
+        behind < i128::from(to)
+    } else {
+        i128::from(to) < behind
+    }
+}
+
+/// The number that stands behind as many as a list holds.
+fn number_behind(step: i64, from: i64) -> i128
+    ensures { result ≡ from +ℤ step *ℤ pos most_items }
+{
+    let steps = i128::from(step) * 1_048_576;
+    i128::from(from) + steps
 }
 
 /// The numbers from one on that stand before a bound, by steps; at most so many.

@@ -1,13 +1,14 @@
 // The methods of texts.
 
 ghost use Rattle.std.specs.Prelude.{◌≡◌, ◌≢◌, ◌+◌, ◌++◌, [], IfOk, OnOk, OnErr, length, map, nat_le};
+ghost use Rattle.std.specs.Str.{chars};
 ghost use Rattle.py_value.specs.View.{plain, plains, plain_outcome};
 ghost use Rattle.py_value.specs.HeapView.{plain_heap};
 ghost use Rattle.py_value.specs.Sequences.{most_items};
 ghost use Rattle.py_builtins.specs.Methods.{new_list, starts_with, starts_with_of, each_after, each_length, is_text, are_texts, characters_in, joined_texts, join_items, join, join_of, is_white, white_parts, nonempty, parts_between, texts, split_at, split_of};
 
 use crate::arguments::{are_none, only};
-use crate::char_lists::{MOST_ITEMS, begins, characters_of};
+use crate::char_lists::{MOST_ITEMS, characters_of};
 use py_value::{Cause, Heap, NoMemory, Raised, Text, Value};
 use std::alloc::Global;
 
@@ -26,7 +27,6 @@ pub(crate) fn test_start(
     }
 }
 
-#[tactic(auto, using(crate::proofs::Starts::begins_front))]
 fn starts_with(
     alloc: Global,
     text: &Text,
@@ -37,10 +37,8 @@ fn starts_with(
 {
     match front {
         Value::Str(front) => {
-            let length = front.len();
-            let front = characters_of(alloc, front)?;
-            let begun = characters_of(alloc, &text.part(0, length)?)?;
-            Ok(Ok(Value::Bool(begins(&front, &begun))))
+            let begun = text.part(0, front.len())?;
+            Ok(Ok(Value::Bool(begun.is_same(front))))
         }
         _ => Ok(Err(Raised::of(alloc, Cause::BadArgument)?)),
     }
@@ -221,9 +219,7 @@ fn split_at(
             if separator.is_empty() {
                 return Ok(Err(Raised::of(alloc, Cause::EmptySeparator)?));
             }
-            let separator = characters_of(alloc, separator)?;
-            let characters = characters_of(alloc, text)?;
-            let parts = parts_between(alloc, &separator, &characters)?;
+            let parts = parts_between(alloc, separator.as_str(), text.as_str())?;
             new_list(alloc, parts, heap)
         }
         _ => Ok(Err(Raised::of(alloc, Cause::BadArgument)?)),
@@ -273,30 +269,19 @@ fn nonempty_parts(alloc: Global, characters: &[char]) -> Result<Vec<Value>, NoMe
     Ok(parts)
 }
 
-#[tactic(auto, using(crate::proofs::Splitting::put_nothing_between, crate::proofs::Splitting::between_passes, crate::proofs::Splitting::between_closes, crate::proofs::Splitting::between_goes_on, crate::proofs::Splitting::between_ends))]
-fn parts_between(
-    alloc: Global,
-    separator: &[char],
-    characters: &[char],
-) -> Result<Vec<Value>, NoMemory>
-    ensures { IfOk result (λ parts. plains parts.items ≡ texts (parts_between separator.now 0 characters.now)) }
+/// The parts of a text between each place of a separator, the leftmost place first.
+fn parts_between(alloc: Global, separator: &str, text: &str) -> Result<Vec<Value>, NoMemory>
+    requires { chars separator.now ≢ [] }
+    ensures { IfOk result (λ parts. plains parts.items ≡ texts (parts_between (chars separator.now) 0 (chars text.now))) }
 {
     let mut parts = Vec::new(alloc);
-    let mut part = Text::new(alloc);
-    let mut passed = 0;
-    for i in 0..characters.len() {
-        if passed > 0 {
-            passed -= 1;
-            continue;
-        }
-        if begins(separator, &characters[i..]) {
-            parts.push(Value::Str(part))?;
-            part = Text::new(alloc);
-            passed = separator.len().saturating_sub(1);
-            continue;
-        }
-        part.push(characters[i])?;
+    let mut rest = text;
+    while let Some((part, behind)) = rest.split_once(separator) {
+        let part = Text::from_str(alloc, part)?;
+        parts.push(Value::Str(part))?;
+        rest = behind;
     }
-    parts.push(Value::Str(part))?;
+    let last = Text::from_str(alloc, rest)?;
+    parts.push(Value::Str(last))?;
     Ok(parts)
 }

@@ -270,3 +270,19 @@ names_of_built_ins : written (run_in (alone (
     end)))) 1000) ≡ (printed ("3 <built-in function str> <class 'ValueError'>" ∷ []), [], 0)
 unfolding runs
 names_of_built_ins = refl
+
+-- Ranges
+--  1  print(range(5), range(3, 0, -1))
+ranges : written (run_in (alone (
+    line 1 (T.expr (call (var "print") ((call (var "range") ((num 5) ∷ [])) ∷ (call (var "range") ((num 3) ∷ (num 0) ∷ (T.unary Minus (num 1)) ∷ [])) ∷ []))) (
+    end))) 1000) ≡ (printed ("[0, 1, 2, 3, 4] [3, 2, 1]" ∷ []), [], 0)
+unfolding runs
+ranges = refl
+
+-- A range of too many items
+--  1  print(range(1048577))
+range_of_too_many_items : written (run_in (alone (
+    line 1 (T.expr (call (var "print") ((call (var "range") ((num 1048577) ∷ [])) ∷ []))) (
+    end))) 1000) ≡ ([], printed ("MemoryError" ∷ []), 1)
+unfolding runs
+range_of_too_many_items = refl

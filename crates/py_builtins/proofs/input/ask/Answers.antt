@@ -1,11 +1,12 @@
-use Rattle.std.proofs.Common.{◌≡◌, ◌++◌, Ok, Err, OnOk, ap, sym, ◌∙◌, subst}
+use Rattle.std.proofs.Common.{◌≡◌, ◌++◌, Ok, Err, OnOk, ap, refl, sym, ◌∙◌, subst, append-nil}
 use Rattle.py_value.specs.declared.text.Text.{Text}
 use Rattle.py_value.specs.HeapView.{plain_heap}
-use Rattle.py_value.specs.View.{plains, plain_answer}
+use Rattle.py_value.specs.View.{plains, plain_answer, plain_raised}
 use Rattle.py_builtins.specs.Builtins.{Done, input_of}
 use Rattle.py_builtins.specs.Calls.{prompt_of}
+use Rattle.py_builtins.specs.Inputs.{Gives, Wrote}
 use Rattle.py_builtins.proofs.Turns.{on_err}
-use Rattle.py_builtins.proofs.Asking.{asks_with, still_asked, on_same, on_any}
+use Rattle.py_builtins.proofs.Asking.{asks_with, still_asked, gives_same, reads_none}
 use Rattle.py_builtins.proofs.input.ask.Goals as goal
 
 pub returns-in_err-prompt-clause-no_further : goal.returns-in_err-prompt-clause-no_further
@@ -14,8 +15,8 @@ returns-in_err-prompt-clause-no_further g c = λ t. on_err c.from_residual.resul
 pub returns-in-Ok-clause-answer : goal.returns-in-Ok-clause-answer
 returns-in-Ok-clause-answer g c =
     let same : plain_answer {A = Text} (Ok c.in-Ok.prompt) ≡ prompt_of (plains c.args.args.now) (plain_heap c.args.heap.now) = ap plain_answer (sym c.in-Ok.is) ∙ c.in_ok-prompt.ensures in
-    on_same c.ask_with.result _ _ (plain_heap c.args.heap.now) _ (input_of (plains c.args.args.now) (plain_heap c.args.heap.now))
-    (λ bytes. asks_with (plains c.args.args.now) (plain_heap c.args.heap.now) _ bytes same) c.ask_with.ensures.answer
+    gives_same c.ask_with.result _ _ _ (plain_heap c.args.heap.now) (Wrote g.O.Sink.tells (g.O.Sink.contents c.args.out.now) (g.O.Sink.contents c.ask_with.new.out)) _ (input_of (plains c.args.args.now) (plain_heap c.args.heap.now))
+    (λ all. asks_with (plains c.args.args.now) (plain_heap c.args.heap.now) _ all same) c.ask_with.ensures.answer
 
 pub returns-in-Ok-clause-written : goal.returns-in-Ok-clause-written
 returns-in-Ok-clause-written g c = λ t.
@@ -34,5 +35,6 @@ returns-in-Ok-clause-left g c = λ t.
 pub returns-in-Err-clause-answer : goal.returns-in-Err-clause-answer
 returns-in-Err-clause-answer g c =
     let same : plain_answer {A = Text} (Err c.in-Err.raised) ≡ prompt_of (plains c.args.args.now) (plain_heap c.args.heap.now) = ap plain_answer (sym c.in-Err.is) ∙ c.in_ok-prompt.ensures in
-    on_any _ _ _ (input_of (plains c.args.args.now) (plain_heap c.args.heap.now))
-    (ap (λ (d : Done). d.answer) (asks_with (plains c.args.args.now) (plain_heap c.args.heap.now) _ (g.I.Source.left c.args.input.now) same))
+    let out = g.O.Sink.contents c.args.out.now in
+    reads_none _ _ _ (Wrote g.O.Sink.tells out out) (input_of (plains c.args.args.now) (plain_heap c.args.heap.now))
+    (λ all. subst (λ (d : Done). Gives d (Err (plain_raised c.in-Err.raised)) (Wrote g.O.Sink.tells out out) all) (asks_with (plains c.args.args.now) (plain_heap c.args.heap.now) _ all same) (refl, (λ t. sym (append-nil out)), refl))

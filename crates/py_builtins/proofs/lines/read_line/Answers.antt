@@ -1,7 +1,8 @@
 use Rattle.std.proofs.Common.{◌≡◌, suc, ◌≤◌, [], ◌∷◌, ◌++◌, length, ap, ◌∙◌, length-append, arith, rules}
 use Rattle.py_value.specs.Sequences.{most_items}
-use Rattle.py_builtins.proofs.Reading.{open_more}
-use Rattle.py_builtins.proofs.Turns.{on_err, goes_on, behind_next, failed_further, none_left, ended_line, ended_left, dropped_lost, dropped_further, many_line, many_left}
+use Rattle.py_builtins.specs.Calls.{line_bytes}
+use Rattle.py_builtins.proofs.Reading.{open_more, left_whole}
+use Rattle.py_builtins.proofs.Turns.{on_err, goes_on, behind_next, failed_further, none_line, ended_line, dropped_lost, dropped_further, many_line}
 use Rattle.py_builtins.proofs.lines.read_line.Goals as goal
 
 pub returns-in_err-read_byte-clause-no_further : goal.returns-in_err-read_byte-clause-no_further
@@ -9,20 +10,16 @@ returns-in_err-read_byte-clause-no_further g c = λ t.
     let few : length c.loop-count.line.items ≤ suc most_items = omega (arith, c.loop-count.invariant.read) in
     on_err c.from_residual.result (failed_further c.loop-count.line.items _ _ _ c.loop-count.invariant.unended few (c.loop-count.invariant.told t) (c.in_err-read_byte.ensures.kept t))
 
-pub returns-in-None-clause-left : goal.returns-in-None-clause-left
-returns-in-None-clause-left g c = λ t.
+pub returns-in-None-clause-line : goal.returns-in-None-clause-line
+returns-in-None-clause-line g c =
     let few : length c.loop-count.line.items ≤ most_items = omega (arith, c.loop-count.invariant.read) in
-    none_left c.loop-count.line.items _ _ _ c.in_ok-read_byte.field-0 c.loop-count.invariant.unended few c.in-None.is (c.in_ok-read_byte.ensures.byte t) (c.loop-count.invariant.told t)
+    none_line _ c.loop-count.line.items _ _ (g.I.Source.left c.read_byte.new.input) c.in_ok-read_byte.field-0 (line_bytes c.at_end.result) c.in-None.is
+    (c.at_end.ensures c.loop-count.invariant.unended few) (left_whole c.loop-count.line.items c.loop-count.invariant.unended few) (λ t. c.in_ok-read_byte.ensures.byte t) c.loop-count.invariant.told
 
 pub returns-then-byte-eq10-clause-line : goal.returns-then-byte-eq10-clause-line
 returns-then-byte-eq10-clause-line g c =
     let few : length c.loop-count.line.items ≤ most_items = omega (arith, c.loop-count.invariant.read) in
     ended_line _ c.loop-count.line.items _ _ (g.I.Source.left c.read_byte.new.input) c.in_ok-read_byte.field-0 c.in-Some.byte c.loop-count.invariant.unended few c.in-Some.is c.if-byte-eq10.true (λ t. c.in_ok-read_byte.ensures.byte t) c.loop-count.invariant.told
-
-pub returns-then-byte-eq10-clause-left : goal.returns-then-byte-eq10-clause-left
-returns-then-byte-eq10-clause-left g c = λ t.
-    let few : length c.loop-count.line.items ≤ most_items = omega (arith, c.loop-count.invariant.read) in
-    ended_left c.loop-count.line.items _ _ _ c.in_ok-read_byte.field-0 c.in-Some.byte c.loop-count.invariant.unended few c.in-Some.is c.if-byte-eq10.true (c.in_ok-read_byte.ensures.byte t) (c.loop-count.invariant.told t)
 
 pub returns-in_err-push-in-Some-clause-lost : goal.returns-in_err-push-in-Some-clause-lost
 returns-in_err-push-in-Some-clause-lost g c = λ t.
@@ -51,8 +48,3 @@ pub returns-clause-line : goal.returns-clause-line
 returns-clause-line g c =
     let all : length c.loop-count.line.items ≡ suc most_items = omega (arith, c.loop-count.invariant.read) in
     many_line _ c.loop-count.line.items _ _ c.loop-count.invariant.unended all c.loop-count.invariant.told
-
-pub returns-clause-left : goal.returns-clause-left
-returns-clause-left g c = λ t.
-    let all : length c.loop-count.line.items ≡ suc most_items = omega (arith, c.loop-count.invariant.read) in
-    many_left c.loop-count.line.items _ _ c.loop-count.invariant.unended all (c.loop-count.invariant.told t)
