@@ -12,3 +12,7 @@ pub mod Names
 pub mod Patterns
 pub mod Constants
 pub mod Functions
+pub mod FirstMarks
+pub mod LastMarks
+pub mod Neighbours
+pub mod Prediction

@@ -1,0 +1,3 @@
+pub mod Gathering
+pub mod Turns
+pub mod Sets

@@ -1,0 +1,2 @@
+pub mod ArcSets
+pub mod Leading

@@ -1,0 +1,8 @@
+//! Rows of statement lines and of sets of arcs, as tests. They stand in a crate of their own so that the library is
+//! proved once and not a second time with its tests.
+#![tactic(auto)]
+
+#[cfg(test)]
+mod arcs;
+#[cfg(test)]
+mod lines;
