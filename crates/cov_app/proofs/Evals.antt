@@ -20,12 +20,12 @@ use Rattle.py_builtins.specs.Attributes.{or_raise}
 use Rattle.py_meaning.specs.Computations.{State, Res, done, Ans, M, bind, give, value, ask, read, write, work, worked, on_value}
 use Rattle.py_meaning.specs.Computations as computations
 use Rattle.py_meaning.specs.Expressions.{eval}
-use Rattle.py_meaning.specs.Faults.{name_unknown}
-use Rattle.py_meaning.specs.Places.{or_builtin}
 use Rattle.cov_app.specs.declared.walk.Raised.{Raised}
 use Rattle.cov_app.specs.Walked.{IsItem, IsSum, IsAdditive}
 use Rattle.cov_app.specs.Walk.{raised_of, number_of, script, Applies, Values}
 use Rattle.cov_app.proofs.Globals.{not_predefined}
+use Rattle.py_builtins.specs.Faults.{name_unknown}
+use Rattle.py_builtins.specs.Callees.{or_builtin}
 
 abbrev Map : Type 0
 Map = BTreeMap (String Global) ℤ

@@ -8,8 +8,8 @@ use Rattle.py_value.proofs.KeyLaws.{same_text}
 use Rattle.py_syntax.specs.Tree.{Text}
 use Rattle.py_builtins.specs.World.{World, Names, value_of, with_name, names_at, with_names_at, global_of, with_global}
 use Rattle.py_builtins.specs.Predefined.{predefined}
-use Rattle.py_meaning.proofs.NameLaws.{value-with}
 use Rattle.cov_app.specs.Names.{is_taken}
+use Rattle.py_builtins.proofs.NameLaws.{value-with}
 
 pub either : (b c : Bool) → (b || c) ≡ false → (b ≡ false) × (c ≡ false)
 either true c h = absurd cc

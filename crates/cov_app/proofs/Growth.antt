@@ -9,7 +9,7 @@ use Rattle.py_builtins.specs.Builtins.{Done, builtin_of}
 use Rattle.py_builtins.specs.World.{global_of}
 use Rattle.py_meaning.specs.Activations.{Item, mark, again}
 use Rattle.py_meaning.specs.Assignments.{assign_to, assign_all}
-use Rattle.py_meaning.specs.Calls.{Calls, a_value, call_of, call_value, use_builtin, as_done}
+use Rattle.py_meaning.specs.Calls.{Calls, call_of, call_value, use_builtin, as_done}
 use Rattle.py_meaning.specs.Computations.{Setting, State, Res, done, cut, Ans, M, bind, add, put, give, chain, step, note, read, write, say, within, stop, on_value, value, ask, worked, work, branch}
 use Rattle.py_meaning.specs.Expressions.{eval, eval_each, eval_links}
 use Rattle.py_meaning.specs.Modules.{LoadedModule}
@@ -21,6 +21,7 @@ use Rattle.cov_app.specs.Walk.{script, HasPrint, end_of}
 use Rattle.cov_app.proofs.Globals.{global-with, not_print}
 use Rattle.cov_app.proofs.Evals.{given-then}
 use Rattle.cov_app.proofs.Printing.{print-found}
+use Rattle.py_builtins.specs.Callees.{a_value}
 
 -- a state behind another
 pub record Behind (s t : State) : Type 0 where

@@ -13,12 +13,12 @@ use Rattle.py_value.specs.Plain.{PlainValue, none_value, int_value, builtin_valu
 use Rattle.py_syntax.specs.Tree.{Expr, name, call, no_exprs, exprs}
 use Rattle.py_builtins.specs.Builtins.{str_texts, printed}
 use Rattle.py_builtins.specs.Texts.{str_text, text_within}
-use Rattle.py_meaning.specs.Calls.{Calls, a_value, call_of, call_value, use_builtin, as_done}
+use Rattle.py_meaning.specs.Calls.{Calls, call_of, call_value, use_builtin, as_done}
 use Rattle.py_meaning.specs.Computations.{State, done, Ans, M, bind, give, value, ask, read, write, say, on_value, chain}
 use Rattle.py_meaning.specs.Expressions.{eval, eval_each, gives}
 use Rattle.py_meaning.specs.Modules.{LoadedModule}
-use Rattle.py_meaning.specs.Places.{or_builtin}
 use Rattle.cov_app.specs.Walk.{script, HasPrint}
+use Rattle.py_builtins.specs.Callees.{a_value, or_builtin}
 
 -- ---- the text of a number
 

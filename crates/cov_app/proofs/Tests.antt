@@ -28,7 +28,6 @@ use Rattle.py_syntax.specs.Tree.{Expr, compare, link, no_links}
 use Rattle.py_syntax.specs.View.{plain_expr, plain_links}
 use Rattle.py_meaning.specs.Calls.{Calls}
 use Rattle.py_meaning.specs.Computations.{State, done, give, value, ask, read, chain, on_value}
-use Rattle.py_builtins.specs.Making.{compared}
 use Rattle.py_meaning.specs.Expressions.{eval, eval_links, gives}
 use Rattle.py_meaning.specs.Modules.{LoadedModule}
 use Rattle.cov_app.specs.declared.walk.Raised.{Raised}
@@ -36,6 +35,7 @@ use Rattle.cov_app.specs.Walked.{IsSum, IsTest, IsRelation}
 use Rattle.cov_app.specs.Walk.{raised_of, answer_of, number_of, script, Compares, Values, Tests, IsTested}
 use Rattle.cov_app.proofs.Evals.{given-then, raised-then}
 use Rattle.cov_app.proofs.Nodes.{plain-link}
+use Rattle.py_value.specs.Compared.{compared}
 
 abbrev Map : Type 0
 Map = BTreeMap (String Global) ℤ

@@ -3,7 +3,6 @@ use Rattle.std.specs.Prelude.{◌≡◌, ℕ, List, [], ◌++◌, Option, Some, 
 use Rattle.std.specs.BTreeSet.{insert_key}
 use Rattle.cov_outside.specs.Prefixes.{GainsPrefix}
 use Rattle.py_syntax.specs.Tree.{Text, Stmts}
-use Rattle.py_meaning.specs.Faults.{name_unknown}
 use Rattle.py_meaning.specs.Crossings.{by_lines, shown_line}
 use Rattle.py_builtins.specs.Outcomes.{outcome_of, err_of}
 use Rattle.py_meaning.specs.Program.{Run}
@@ -15,6 +14,7 @@ use Rattle.cov_app.specs.declared.walk.Walk.{Walk}
 use Rattle.cov_app.specs.Walk.{raised_of}
 use Rattle.cov_app.specs.Answer.{Answer, program, budget}
 use Rattle.cov_app.specs.Step.{Arc, budget_of_runs, ended_by, shown_by}
+use Rattle.py_builtins.specs.Faults.{name_unknown}
 
 -- the answer to a module that was left so
 abbrev pub answer_left : Left → Answer

@@ -20,8 +20,6 @@ use Rattle.py_meaning.specs.Calls.{Calls}
 use Rattle.py_meaning.specs.Computations.{Setting, State, Res, done, cut, Ans, M, add, put, give, stop, value}
 use Rattle.py_meaning.specs.Crossings.{activations, crossing, lines_crossed}
 use Rattle.py_meaning.specs.Expressions.{eval}
-use Rattle.py_meaning.specs.Faults.{name_unknown}
-use Rattle.py_builtins.specs.Making.{compared}
 use Rattle.py_meaning.specs.Modules.{LoadedModule}
 use Rattle.py_meaning.specs.Places.{Place, bound}
 use Rattle.py_meaning.specs.Statements.{Out, normal, raises, simply}
@@ -33,6 +31,8 @@ use Rattle.cov_app.specs.declared.walk.RunFault.{RunFault}
 use Rattle.cov_app.specs.declared.walk.Left.{Left}
 use Rattle.cov_app.specs.declared.walk.Left.TheVariants as left
 use Rattle.cov_app.specs.declared.walk.Walk.{Walk}
+use Rattle.py_builtins.specs.Faults.{name_unknown}
+use Rattle.py_value.specs.Compared.{compared}
 
 -- ---- expressions
 

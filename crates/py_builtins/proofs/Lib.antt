@@ -19,3 +19,4 @@ pub mod Starts
 pub mod Steps
 pub mod Turns
 pub mod Values
+pub mod NameLaws

@@ -17,4 +17,5 @@ pub mod Predefined
 pub mod Outcomes
 pub mod Returns
 pub mod NameLaws
-pub mod Comparisons
+pub mod Faults
+pub mod Callees

@@ -2,18 +2,16 @@
 --     extended                a text with another behind it
 --     new_tuple, new_dict     displays
 --     stored                  `of[at] = v`
---     compared                comparisons, those with `is` too
 --     sliced                  slices
-use Rattle.std.specs.Prelude.{Bool, true, not, ◌&&◌, if◌then◌else◌, List, [], ◌∷◌, length, ℕ, ℤ, Option, Some, None, Result, Ok, Err}
+use Rattle.std.specs.Prelude.{Bool, true, ◌&&◌, if◌then◌else◌, List, [], ◌∷◌, length, ℕ, ℤ, Option, Some, None, Result, Ok, Err}
 use Rattle.py_value.specs.declared.cause.Cause.{Cause}
-use Rattle.py_value.specs.declared.cause.Cause.TheVariants.{UnsupportedOperand, NotSubscriptable, TooDeep}
+use Rattle.py_value.specs.declared.cause.Cause.TheVariants.{NotSubscriptable, TooDeep}
 use Rattle.py_value.specs.Answers.{◌>>=◌, in_words}
 use Rattle.py_value.specs.Causes.{raised_by}
-use Rattle.py_builtins.specs.Comparisons.{Comparison, relates, is_it, is_not_it}
 use Rattle.py_value.specs.Heaps.{with_object}
 use Rattle.py_value.specs.Numbers.{number_of}
-use Rattle.py_value.specs.Operators.{compare_of, slice_of, store_of, is_none_value, is_bool_value}
-use Rattle.py_value.specs.Plain.{PlainValue, none_value, bool_value, dict_at, tuple_of, dict_object, may_nest, PlainHeap, PlainRaised}
+use Rattle.py_value.specs.Operators.{slice_of, store_of}
+use Rattle.py_value.specs.Plain.{PlainValue, dict_at, tuple_of, dict_object, may_nest, PlainHeap, PlainRaised}
 use Rattle.py_value.specs.Sequences.{joined, within_limit}
 
 -- a text with another behind it
@@ -38,17 +36,6 @@ with_unit h = (tt, h)
 -- `of[at] = v`
 abbrev pub stored : PlainValue → PlainValue → PlainValue → PlainHeap → Result (Unit {0} × PlainHeap) PlainRaised
 stored of at v h = store_of of at v h >>= λ k. Ok (with_unit k)
-
--- `v is w`: only None, True and False stand on the right
-abbrev pub is_answer : PlainValue → PlainValue → Result Bool PlainRaised
-is_answer v none_value = Ok (is_none_value v)
-is_answer v (bool_value b) = Ok (is_bool_value b v)
-is_answer v w = Err (raised_by UnsupportedOperand)
-
-abbrev pub compared : Comparison → PlainValue → PlainValue → PlainHeap → Result Bool PlainRaised
-compared (relates op) v w h = compare_of op v w h
-compared is_it v w h = is_answer v w
-compared is_not_it v w h = is_answer v w >>= λ b. Ok (not b)
 
 -- a bound of a slice: a number, or left out
 abbrev pub number_or : Cause → Option ℤ → Result (Option ℤ) PlainRaised

@@ -1,7 +1,8 @@
 -- The values of a function's parameters in a call, and the frames on each other (Python Language Reference, 6.3.4 and 8.7).
-use Rattle.std.specs.Prelude.{ℕ, ◌+◌, ◌-◌, nat_le, ◌&&◌, if◌then◌else◌, List, [], ◌++◌, length, drop, Option, Some, None}
+use Rattle.std.specs.Prelude.{ℕ, ◌+◌, ◌-◌, nat_le, ◌&&◌, if◌then◌else◌, List, [], ◌++◌, length, drop, Option, Some, None, ◌∷◌}
 use Rattle.py_value.specs.Heaps.{list_items}
-use Rattle.py_value.specs.Plain.{PlainValue, PlainHeap}
+use Rattle.py_value.specs.Plain.{PlainValue, PlainHeap, list_at}
+use Rattle.py_builtins.specs.World.{Names}
 
 -- at most so many frames stand on each other
 abbrev pub most_frames : ℕ
@@ -17,3 +18,14 @@ arguments params defaults vs =
 abbrev pub defaults_at : PlainHeap → Option ℕ → List PlainValue
 defaults_at h None = []
 defaults_at h (Some a) = list_items h a
+
+-- the address of a list
+abbrev pub address_of : PlainValue → Option ℕ
+address_of (list_at a) = Some a
+address_of v = None
+
+-- the parameters with their values
+abbrev pub parameters : List (List ℕ) → List PlainValue → Names
+parameters [] vs = []
+parameters (x ∷ xs) [] = []
+parameters (x ∷ xs) (v ∷ vs) = (x, v) ∷ parameters xs vs

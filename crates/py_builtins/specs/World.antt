@@ -2,7 +2,7 @@
 use Rattle.std.specs.Prelude.{ℕ, zero, suc, nat_eq, Bool, false, ◌||◌, if◌then◌else◌, List, [], ◌∷◌, ◌++◌, Option, Some, None, codes}
 use Rattle.py_value.specs.declared.builtin.Builtin.TheVariants.{Exit}
 use Rattle.py_value.specs.Keys.{is_same_text}
-use Rattle.py_value.specs.Plain.{PlainValue, list_at, builtin_value, PlainHeap}
+use Rattle.py_value.specs.Plain.{PlainValue, list_at, builtin_value, PlainHeap, str_value}
 
 -- the names that are set, each once, with their values. A name is the list of its characters
 abbrev pub Names : Type 0
@@ -83,3 +83,7 @@ with_heap h w = record w { heap = h }
 abbrev pub sys_name : World → List ℕ → Option PlainValue
 sys_name w name = if is_same_text name (codes "argv") then Some (list_at w.words) else
     if is_same_text name (codes "exit") then Some (builtin_value Exit) else None
+
+-- the globals of a module that begins
+abbrev pub first_names : List ℕ → Names
+first_names x = (codes "__name__", str_value x) ∷ []

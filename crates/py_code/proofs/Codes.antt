@@ -6,7 +6,6 @@ use Rattle.py_value.specs.Plain.{PlainValue, PlainRaised}
 use Rattle.py_builtins.specs.Attributes.{or_raise}
 use Rattle.py_builtins.specs.World.{World, global_of}
 use Rattle.py_code.specs.Configurations.{Locals, Effects, Configuration, End}
-use Rattle.py_code.specs.Faults.{name_unknown}
 use Rattle.py_code.specs.Laws.{IsOver, NeverMisses}
 use Rattle.py_code.specs.Machine.{Reach, at_once, in_frame, reach, outermost, outer_call, follows, ended_by}
 use Rattle.py_code.specs.Programs.{Request, script, at_rest, reach_global, end_of_run, end_of_call}
@@ -15,6 +14,7 @@ use Rattle.py_code.specs.Valid.{IsValid, AreValid, UnitsAreValid, IsCode, AreCod
 use Rattle.py_code.proofs.Forms.{found_at}
 use Rattle.py_code.proofs.Instructions.{Inside, reach_inside}
 use Rattle.py_code.proofs.Never.{goes_over}
+use Rattle.py_builtins.specs.Faults.{name_unknown}
 
 -- the numbers of operands at the places of all units
 abbrev chosen : (ms : List Module) → AreCodes ms → ℕ → ℕ → List ℕ

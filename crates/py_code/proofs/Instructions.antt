@@ -16,7 +16,7 @@ use Rattle.py_value.specs.Plain.{PlainValue, none_value, bool_value, int_value, 
 use Rattle.py_builtins.specs.Arguments.{Answer}
 use Rattle.py_builtins.specs.Builtins.{Done, builtin_of, exception_of}
 use Rattle.py_builtins.specs.Catching.{assertion_error}
-use Rattle.py_builtins.specs.Items.{items_in, unpacked, item_of}
+use Rattle.py_builtins.specs.Items.{items_in, unpacked, item_of, sequence_items, of_length}
 use Rattle.py_builtins.specs.Making.{new_tuple}
 use Rattle.py_builtins.specs.Methods.{new_list, method_of}
 use Rattle.py_builtins.specs.Parameters.{most_frames, arguments, defaults_at}
@@ -27,7 +27,6 @@ use Rattle.py_code.specs.declared.instr.Instr.TheVariants.{Constant, Pop, Copy, 
 use Rattle.py_code.specs.declared.instr.Instr.TheVariants.{Goto, IfFalse, IfTrue, And, Or, Link, Unless, Sequence, Mark, Again, Walk, Next as NextItem, Method, Call, Return, Function, FunctionWith, Import, Module as LoadModule, Take}
 use Rattle.py_code.specs.declared.instr.Instr.TheVariants.{Raise, Reraise, Assertion, AssertionWith, Catches, Caught, Uncaught, Leave, Ending, Breaking, Continuing, Returning, Settle, Release}
 use Rattle.py_code.specs.declared.unit.Handler.{Handler}
-use Rattle.py_code.specs.Callees.{Callee, a_value, a_method, sequence_items, of_length}
 use Rattle.py_code.specs.Configurations.{Way, on, by_break, by_continue, by_return, by_raise, Operand, of_value, of_walk, of_way, Locals, Frame, Effects, Configuration, Next}
 use Rattle.py_code.specs.Footprints.{footprint, is_mark}
 use Rattle.py_code.specs.Machine.{told, with_effects, with_operands, answers, pushes_answer, pushes_text, pushes_truth, makes, stores, falls, jumps, operand_of, walk_in, callee_in, one, give, enter, calls, Reach, at_once, in_frame, code_of, to_function, with_arguments, by_answer, by_done, reach, reach_callee, runs_module, imports, looks_in, spreads, pushes, stepping, dropping, begins, turns, walks, raises, marks, puts_way, resumes, links, act, move, acts, move_in, heap_of, value_in, escapes, throw, callers_rank, halted}
@@ -36,6 +35,7 @@ use Rattle.py_code.specs.Units.{Code, Module, units_of, unit_at, places_in, plac
 use Rattle.py_code.specs.Valid.{Leads, LandsAt, FitsAt, IsValid, AreValid}
 use Rattle.py_code.proofs.Standing.{Fine, Stands, StandsIn, Waits, AllWait, inside, goes_to, rises}
 use Rattle.py_code.proofs.Forms.{found_at, on_one, on_two, on_three, on_dropped, on_many, on_number, on_truth, on_step, on_answer}
+use Rattle.py_builtins.specs.Callees.{Callee, a_value, a_method}
 
 -- a frame that a call leads to has a unit
 abbrev pub Inside : List Module → Reach → Type 0

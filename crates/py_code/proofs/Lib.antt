@@ -5,6 +5,5 @@ mod Instructions
 mod Never
 mod Codes
 pub mod Rows
-mod NameLaws
 mod SlotLaws
 mod OneMachine

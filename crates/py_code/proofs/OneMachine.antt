@@ -10,10 +10,10 @@ use Rattle.py_value.specs.Operators.{truth_of}
 use Rattle.py_value.specs.Plain.{PlainValue, none_value, bool_value, int_value, str_value, tuple_value, list_at, dict_at, func_value, module_value, kind_value, exc_value, builtin_value, no_argument, PlainHeap, PlainRaised}
 use Rattle.py_builtins.specs.Arguments.{Answer}
 use Rattle.py_builtins.specs.Attributes.{or_raise}
-use Rattle.py_builtins.specs.Items.{unpacked, walk_length}
+use Rattle.py_builtins.specs.Items.{unpacked, walk_length, sequence_items, of_length}
 use Rattle.py_builtins.specs.Making.{new_tuple}
 use Rattle.py_builtins.specs.Methods.{new_list}
-use Rattle.py_builtins.specs.Parameters.{most_frames}
+use Rattle.py_builtins.specs.Parameters.{most_frames, parameters}
 use Rattle.py_builtins.specs.World.{World, global_of, Names, value_of, with_name, without_name, is_begun}
 use Rattle.py_code.specs.declared.instr.Bounds.TheVariants.{Neither, From, To, Both}
 use Rattle.py_code.specs.declared.instr.Instr.{Instr}
@@ -22,18 +22,18 @@ use Rattle.py_code.specs.declared.instr.Instr.TheVariants.{Goto, IfFalse, IfTrue
 use Rattle.py_code.specs.declared.instr.Instr.TheVariants.{Raise, Reraise, Assertion, AssertionWith, Catches, Caught, Uncaught, Leave, Ending, Breaking, Continuing, Returning, Settle, Release}
 use Rattle.py_code.specs.declared.unit.Handler.{Handler}
 use Rattle.py_code.specs.Configurations.{Way, on, by_break, by_continue, by_return, by_raise, Operand, of_value, of_walk, of_way, Locals, Frame, Effects, Configuration, Ended, stuck, End, Next}
-use Rattle.py_code.specs.Callees.{callee_of, sequence_items, of_length}
-use Rattle.py_code.specs.Faults.{name_unknown, local_unset}
 use Rattle.py_code.specs.Laws.{OneMachine}
 use Rattle.py_code.specs.Programs.{Request, script, at_rest, reach_global, end_of_run, end_of_call}
 use Rattle.py_code.specs.Machine.{told, with_locals, escaped, entered, with_operands, with_effects, heap_of, halted, jumps, falls, pushes, dropping, one, two, three, many, where_found, numbered, stepping, Reach, at_once, in_frame, land, leave, escapes, throw, answers, pushes_answer, pushes_text, pushes_truth, makes, stores, chooses, give, begins, enter, calls, runs_module, imports, links, spreads, looks_in, turns, walks, raises, marks, puts_way, resumes, act, acts, move_in, move, callers_rank, rank, machine, new_frame, outermost, outer_call, follows, value_in, callee_in, operand_of, reach_callee}
 use Rattle.py_code.specs.Run.{Move, Goes, Ticks, Ends, Machine, lands, follow, walk, run, go}
-use Rattle.py_code.specs.Slots.{locals_in, params_in, slot_name, name_or_none, by_names, by_slots, AreNamed, IsDistinct, parameters}
+use Rattle.py_code.specs.Slots.{locals_in, params_in, slot_name, name_or_none, by_names, by_slots, AreNamed, IsDistinct}
 use Rattle.py_code.specs.Units.{Code, Module, unit_at, places_of, handler_at, imported_number}
 use Rattle.py_code.proofs.Codes.{global_inside}
 use Rattle.py_code.proofs.Instructions.{Inside, callee_inside}
-use Rattle.py_code.proofs.NameLaws.{value-with, value-without}
 use Rattle.py_code.proofs.SlotLaws.{slots, looked_up, changed, begun}
+use Rattle.py_builtins.specs.Callees.{callee_of}
+use Rattle.py_builtins.specs.Faults.{name_unknown, local_unset}
+use Rattle.py_builtins.proofs.NameLaws.{value-with, value-without}
 
 abbrev pub Slots : Type 0
 Slots = List (Option PlainValue)

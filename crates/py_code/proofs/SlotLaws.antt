@@ -5,7 +5,8 @@ use Rattle.py_value.specs.Keys.{is_same_text}
 use Rattle.py_value.specs.Plain.{PlainValue}
 use Rattle.py_value.proofs.KeyLaws.{same_text, text_is_same}
 use Rattle.py_builtins.specs.World.{Names, value_of}
-use Rattle.py_code.specs.Slots.{parameters, held, IsApart, IsDistinct}
+use Rattle.py_code.specs.Slots.{held, IsApart, IsDistinct}
+use Rattle.py_builtins.specs.Parameters.{parameters}
 
 -- the values of these names
 abbrev pub slots : List (List ℕ) → Names → List (Option PlainValue)

@@ -1,8 +1,6 @@
 pub mod Run
-pub mod Faults
 pub mod Configurations
 pub mod Units
-pub mod Callees
 pub mod Machine
 pub mod Programs
 pub mod Footprints

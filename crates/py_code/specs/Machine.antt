@@ -22,11 +22,10 @@ use Rattle.py_builtins.specs.Arguments.{Answer}
 use Rattle.py_builtins.specs.Attributes.{or_raise, attribute}
 use Rattle.py_builtins.specs.Builtins.{Done, builtin_of, exception_of}
 use Rattle.py_builtins.specs.Catching.{catches, assertion_error}
-use Rattle.py_builtins.specs.Comparisons.{Comparison, relates, is_it, is_not_it}
-use Rattle.py_builtins.specs.Items.{unpacked, walk_length, item_of}
-use Rattle.py_builtins.specs.Making.{extended, new_tuple, new_dict, stored, compared, sliced}
+use Rattle.py_builtins.specs.Items.{unpacked, walk_length, item_of, sequence_items, of_length}
+use Rattle.py_builtins.specs.Making.{extended, new_tuple, new_dict, stored, sliced}
 use Rattle.py_builtins.specs.Methods.{new_list, method_of}
-use Rattle.py_builtins.specs.Parameters.{most_frames, arguments, defaults_at}
+use Rattle.py_builtins.specs.Parameters.{most_frames, arguments, defaults_at, address_of}
 use Rattle.py_builtins.specs.Texts.{str_text}
 use Rattle.py_builtins.specs.World.{World, with_heap, with_global, without_global, global_of, with_begun, without_begun, is_begun}
 use Rattle.py_code.specs.declared.instr.Bounds.TheVariants.{Neither, From, To, Both}
@@ -37,11 +36,12 @@ use Rattle.py_code.specs.declared.instr.Instr.TheVariants.{Raise, Reraise, Asser
 use Rattle.py_code.specs.declared.instr.Question.{Question}
 use Rattle.py_code.specs.declared.instr.Question.TheVariants.{Eq, Ne, Lt, Le, Gt, Ge, In, NotIn, Is, IsNot}
 use Rattle.py_code.specs.declared.unit.Handler.{Handler}
-use Rattle.py_code.specs.Callees.{Callee, a_value, a_method, callee_of, taken, or_builtin, sequence_items, of_length, address_of}
 use Rattle.py_code.specs.Configurations.{Way, on, by_break, by_continue, by_return, by_raise, Operand, of_value, of_method, of_walk, of_way, Locals, Frame, Effects, Configuration, Ended, gave, failed, spent, stuck, End, Next}
-use Rattle.py_code.specs.Faults.{local_unset, no_module}
 use Rattle.py_code.specs.Run.{Move, Goes, Ticks, Ends, Machine, go}
 use Rattle.py_code.specs.Units.{Code, Module, unit_at, places_in, places_of, constant_value, handler_at, imported_number}
+use Rattle.py_value.specs.Compared.{Comparison, relates, is_it, is_not_it, compared}
+use Rattle.py_builtins.specs.Callees.{Callee, a_value, a_method, callee_of, taken, or_builtin}
+use Rattle.py_builtins.specs.Faults.{local_unset, no_module}
 
 -- ---- operands as what they are taken for
 
@@ -115,10 +115,6 @@ in_world f e = record e { world = f e.world }
 -- a line begins, unless it is kept
 abbrev pub told_line : ℕ → ℕ → Effects → Effects
 told_line kept l e = if l == kept then e else told (Line l) e
-
--- the names of a module that begins
-abbrev pub first_names : List ℕ → List (List ℕ × PlainValue)
-first_names x = (codes "__name__", str_value x) ∷ []
 
 abbrev pub name_at : Option Module → List ℕ
 name_at None = []

@@ -12,10 +12,10 @@ use Rattle.py_builtins.specs.Returns.{Returned, returned_of}
 use Rattle.py_builtins.specs.Returns as returns
 use Rattle.py_builtins.specs.World.{World, Names, global_of}
 use Rattle.py_code.specs.Configurations.{Locals, Effects, Configuration, Ended, gave, failed, spent, stuck, End, Next}
-use Rattle.py_code.specs.Faults.{name_unknown}
 use Rattle.py_code.specs.Machine.{Reach, at_once, raises_at_once, reach, outermost, outer_call, follows}
 use Rattle.py_code.specs.Run.{Ends}
 use Rattle.py_code.specs.Units.{Module}
+use Rattle.py_builtins.specs.Faults.{name_unknown}
 
 -- How a program ends, the bytes that it wrote, those of its input that are left, the steps that it took, its events, and the
 -- world at the end.

@@ -16,12 +16,6 @@ abbrev pub params_in : Option Code → List (List ℕ)
 params_in None = []
 params_in (Some u) = u.params
 
--- the parameters with their values
-abbrev pub parameters : List (List ℕ) → List PlainValue → Names
-parameters [] vs = []
-parameters (x ∷ xs) [] = []
-parameters (x ∷ xs) (v ∷ vs) = (x, v) ∷ parameters xs vs
-
 abbrev pub name_or_none : Option (List ℕ) → List ℕ
 name_or_none None = []
 name_or_none (Some x) = x

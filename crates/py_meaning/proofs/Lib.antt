@@ -1,5 +1,4 @@
 pub mod Before
-pub mod NameLaws
 pub mod Budget
 pub mod ExpressionLaws
 pub mod StatementLaws

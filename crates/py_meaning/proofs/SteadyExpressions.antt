@@ -6,7 +6,7 @@ use Rattle.py_value.specs.declared.value.FuncId.{FuncId}
 use Rattle.py_value.specs.Plain.{PlainValue, func_value, kind_value, builtin_value}
 use Rattle.py_syntax.specs.Tree.{Text, Alias, Expr, name, int, str, fstr, none, bool, tuple, list, dict, paren, not', and, or, unary, binary, compare, cond as cond', call, index, slice, attr, Exprs, no_exprs, exprs, Pairs, no_pairs, pair, Links, no_links, link, OptExpr, absent, present, Fragments, no_fragments, plain, format, Parts, no_parts, text, field}
 use Rattle.py_meaning.specs.Assignments.{assign_to, assign_each, assign_all, augment}
-use Rattle.py_meaning.specs.Calls.{Calls, Callee, a_value, a_method, enter, enter_with, use_builtin, call_value, call_of}
+use Rattle.py_meaning.specs.Calls.{Calls, enter, enter_with, use_builtin, call_value, call_of}
 use Rattle.py_meaning.specs.Computations.{Ans, M}
 use Rattle.py_meaning.specs.Expressions.{eval, eval_each, eval_pairs, eval_links, eval_opt, eval_fragments, eval_parts}
 use Rattle.py_meaning.specs.Imports.{begin, module_of, import_each, take_each}
@@ -14,6 +14,7 @@ use Rattle.py_meaning.specs.Laws.{IsSteady, AreSteady}
 use Rattle.py_meaning.specs.Modules.{LoadedModule}
 use Rattle.py_meaning.specs.Places.{Place}
 use Rattle.py_meaning.proofs.Steady.{steady-give, steady-read, steady-write, steady-say, steady-value, steady-ask, steady-worked, steady-work, steady-if, steady-branch}
+use Rattle.py_builtins.specs.Callees.{Callee, a_value, a_method}
 
 pub steady-enter : (f : M (Ans PlainValue)) → IsSteady f → IsSteady (enter f)
 unfolding enter

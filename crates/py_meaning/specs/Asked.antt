@@ -1,7 +1,7 @@
 -- The comparisons of a chain as questions about values (Python Language Reference, 6.10).
-use Rattle.py_builtins.specs.Comparisons.{Comparison as Question, relates, is_it, is_not_it}
 use Rattle.py_syntax.specs.declared.expr.Comparison.{Comparison}
 use Rattle.py_syntax.specs.declared.expr.Comparison.TheVariants.{Op, Is, IsNot}
+use Rattle.py_value.specs.Compared.{Comparison as Question, relates, is_it, is_not_it}
 
 abbrev pub asked : Comparison → Question
 asked (Op op) = relates op

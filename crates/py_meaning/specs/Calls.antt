@@ -3,7 +3,7 @@
 --     enter                  a unit is entered
 --     use_builtin            a built-in function is called
 --     call_value             a value is called
---     Callee, callee_of      what stands in front of a call's arguments
+--     callee_in              what stands in front of a call's arguments
 --     call_of                it is called
 use Rattle.std.specs.Prelude.{ℕ, nat_lt, if◌then◌else◌, List, Option, Some, None, Err}
 use Rattle.cov_event.specs.declared.event.CodeId.{CodeId}
@@ -65,23 +65,9 @@ call_value c ms (kind_value kind) vs = give (exception_of kind vs)
 call_value c ms (exc_value kind arg) vs = no_call
 call_value c ms (builtin_value which) vs = use_builtin which vs
 
--- what stands in front of a call's arguments: a value, or a method of one
-pub data Callee : Type 0 where
-  a_value : PlainValue → Callee
-  a_method : Method → PlainValue → Callee
-
-abbrev pub as_method : PlainValue → Option Method → Option Callee
-as_method v None = None
-as_method v (Some m) = Some (a_method m v)
-
-abbrev pub as_value : Option PlainValue → Option Callee
-as_value None = None
-as_value (Some v) = Some (a_value v)
-
--- `v.x`, where it is called: a name of a module, or a method
-abbrev pub callee_of : PlainValue → Text → Setting → Ans Callee
-callee_of (module_value m) x w = or_raise (no_attribute x) (as_value (module_global m x w.world))
-callee_of v x w = or_raise (no_attribute x) (as_method v (method_named v x))
+-- what stands in front of a call's arguments
+abbrev pub callee_in : PlainValue → Text → Setting → Ans Callee
+callee_in v x w = callee_of v x w.world
 
 unfoldable pub call_of : Calls → List LoadedModule → Callee → List PlainValue → M (Ans PlainValue)
 call_of c ms (a_value v) vs = call_value c ms v vs

@@ -11,11 +11,13 @@ use Rattle.py_syntax.specs.Tree.{Text, Expr, name, int, str, fstr, none, bool, t
 use Rattle.py_builtins.specs.Methods.{new_list}
 use Rattle.py_builtins.specs.Texts.{str_text}
 use Rattle.py_builtins.specs.Attributes.{attribute}
-use Rattle.py_meaning.specs.Calls.{Calls, a_value, callee_of, call_of}
+use Rattle.py_meaning.specs.Calls.{Calls, callee_in, call_of}
 use Rattle.py_meaning.specs.Computations.{Ans, M, give, value, ask, work, branch}
 use Rattle.py_meaning.specs.Literals.{run_together, signed}
-use Rattle.py_builtins.specs.Making.{extended, new_tuple, new_dict, stored, compared, sliced}
+use Rattle.py_builtins.specs.Making.{extended, new_tuple, new_dict, stored, sliced}
 use Rattle.py_meaning.specs.Places.{Place, fetched}
+use Rattle.py_builtins.specs.Callees.{a_value}
+use Rattle.py_value.specs.Compared.{compared}
 
 -- a value that is there already
 abbrev pub gives : {A : Type 0} → A → M (Ans A)
@@ -47,7 +49,7 @@ unfoldable mutual
   eval c p (cond body test orelse) = value (eval c p test) (λ v. branch v (eval c p body) (eval c p orelse))
   -- 6.3, primaries
   eval c p (call (attr e x) es comma) =
-      value (eval c p e) (λ v. value (ask (callee_of v x)) (λ f. value (eval_each c p es) (λ vs. call_of c p.modules f vs)))
+      value (eval c p e) (λ v. value (ask (callee_in v x)) (λ f. value (eval_each c p es) (λ vs. call_of c p.modules f vs)))
   eval c p (call e es comma) = value (eval c p e) (λ f. value (eval_each c p es) (λ vs. call_of c p.modules (a_value f) vs))
   eval c p (index of at) = value (eval c p of) (λ v. value (eval c p at) (λ i. ask (λ w. index_of v i w.world.heap)))
   eval c p (slice of from to) = value (eval c p of) (λ v. value (eval_opt c p from) (λ a. value (eval_opt c p to) (λ b. work (sliced v a b))))

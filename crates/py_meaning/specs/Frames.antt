@@ -40,12 +40,6 @@ left_by code s (cut t) = cut (record { now = t.now; out = t.out; items = more s.
 unfoldable pub framed : CodeId → Names → M Out → M (Ans PlainValue)
 framed code names body s n = left_by code s (body (record { now = in_frame names s.now; out = s.out; items = no_items }) n)
 
--- the parameters with their values
-abbrev pub parameters : List Text → List PlainValue → Names
-parameters [] vs = []
-parameters (x ∷ xs) [] = []
-parameters (x ∷ xs) (v ∷ vs) = (x, v) ∷ parameters xs vs
-
 -- the local names of a unit: unit 0 is the body of a module, which has none
 abbrev pub own_names : ℕ → Function → List Text
 own_names zero f = []
@@ -57,10 +51,6 @@ place_of ms code = record { modules = ms; scope = record { number = code.module;
 -- the body of a unit in its place
 abbrev pub exec_unit : Calls → List LoadedModule → CodeId → M Out
 exec_unit c ms code = exec c (place_of ms code) (without_docstring (unit_of ms code).body)
-
--- the globals of a module that begins
-abbrev pub first_names : Text → Names
-first_names x = (codes "__name__", str_value x) ∷ []
 
 abbrev pub begun : List LoadedModule → ℕ → Setting → Setting
 begun ms m w = record w { world = with_begun m (first_names (name_of ms m)) w.world }

@@ -10,9 +10,9 @@ use Rattle.py_builtins.specs.Attributes.{or_raise, module_global}
 use Rattle.py_meaning.specs.Calls.{Calls, enter}
 use Rattle.py_meaning.specs.Computations.{Setting, Ans, M, give, read, write, value, ask}
 use Rattle.py_meaning.specs.Expressions.{gives}
-use Rattle.py_meaning.specs.Faults.{no_module, no_import}
 use Rattle.py_meaning.specs.Modules.{LoadedModule, imported_number}
 use Rattle.py_meaning.specs.Places.{Place, bound}
+use Rattle.py_builtins.specs.Faults.{no_module, no_import}
 
 abbrev pub loaded_module : ℕ → PlainValue
 loaded_module m = module_value (Loaded m)
@@ -31,11 +31,10 @@ unfoldable pub import_each : Calls → Place → List Alias → M (Ans (Unit {0}
 import_each c p [] = gives tt
 import_each c p (a ∷ rest) = value (module_of c p.modules a.name) (λ v. write (bound p.scope (alias_name a) v) (import_each c p rest))
 
-abbrev pub taken : Text → PlainValue → Text → Setting → Ans PlainValue
-taken m (module_value k) x w = or_raise (no_import m x) (module_global k x w.world)
-taken m v x w = Err (no_import m x)
+abbrev pub taken_in : Text → PlainValue → Text → Setting → Ans PlainValue
+taken_in m v x w = taken m v x w.world
 
 -- `from m import x as y, ..`, of the module's value
 unfoldable pub take_each : Place → Text → PlainValue → List Alias → M (Ans (Unit {0}))
 take_each p m v [] = gives tt
-take_each p m v (a ∷ rest) = value (ask (taken m v a.name)) (λ u. write (bound p.scope (alias_name a) u) (take_each p m v rest))
+take_each p m v (a ∷ rest) = value (ask (taken_in m v a.name)) (λ u. write (bound p.scope (alias_name a) u) (take_each p m v rest))

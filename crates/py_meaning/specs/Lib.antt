@@ -2,7 +2,6 @@ pub mod Activations
 pub mod Events
 pub mod Computations
 pub mod Modules
-pub mod Faults
 pub mod Places
 pub mod Calls
 pub mod Asked

@@ -49,20 +49,9 @@ constant_matches minus (c_str pieces) v h = compare_of Eq v (str_value (run_toge
 constant_matches minus c_none v h = Ok (is_none_value v)
 constant_matches minus (c_bool b) v h = Ok (is_bool_value b v)
 
--- the items that a sequence pattern looks at: those of a List or Tuple
-abbrev pub sequence_items : PlainValue → PlainHeap → Option (List PlainValue)
-sequence_items (list_at a) h = Some (list_items h a)
-sequence_items (tuple_value vs) h = Some (listed vs)
-sequence_items v h = None
-
 abbrev pub pattern_count : Patterns → ℕ
 pattern_count no_patterns = 0
 pattern_count (patterns p ps) = suc (pattern_count ps)
-
--- of the length of the pattern
-abbrev pub of_length : ℕ → Option (List PlainValue) → Option (List PlainValue)
-of_length n None = None
-of_length n (Some vs) = if nat_eq (length vs) n then Some vs else None
 
 abbrev pub on_items : Option (List PlainValue) → (List PlainValue → Ans Match) → Ans Match
 on_items None f = Ok None

@@ -6,9 +6,9 @@ use Rattle.py_syntax.specs.Names.{is_among}
 use Rattle.py_builtins.specs.World.{value_of, with_name, without_name, global_of, with_global, without_global}
 use Rattle.py_builtins.specs.Attributes.{or_raise}
 use Rattle.py_meaning.specs.Computations.{Setting, Ans}
-use Rattle.py_meaning.specs.Faults.{name_unknown, local_unset}
 use Rattle.py_meaning.specs.Modules.{LoadedModule}
 use Rattle.py_builtins.specs.Predefined.{predefined}
+use Rattle.py_builtins.specs.Faults.{name_unknown, local_unset}
 
 -- What the text says of a place: the number of its module, and the local names of its body. The body of a module has none.
 pub record Scope : Type 0 where
@@ -20,10 +20,6 @@ pub record Place : Type 0 where
   pub modules : List LoadedModule
   pub scope : Scope
   pub handled : Option PlainRaised
-
-abbrev pub or_builtin : Text → Option PlainValue → Ans PlainValue
-or_builtin x None = or_raise (name_unknown x) (value_of x predefined)
-or_builtin x (Some v) = Ok v
 
 -- the value of a name: of a local name, else of a global of the module, else of a built-in
 abbrev pub fetched : Scope → Text → Setting → Ans PlainValue

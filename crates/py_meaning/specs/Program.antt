@@ -9,7 +9,6 @@ use Rattle.py_meaning.specs.Activations.{Items, no_items}
 use Rattle.py_builtins.specs.Attributes.{or_raise}
 use Rattle.py_meaning.specs.Calls.{call_value, enter}
 use Rattle.py_meaning.specs.Computations.{Setting, State, Res, done, cut, Ans, M, value, ask}
-use Rattle.py_meaning.specs.Faults.{name_unknown}
 use Rattle.py_meaning.specs.Frames.{calls}
 use Rattle.py_meaning.specs.Loading.{Program, loaded}
 use Rattle.py_meaning.specs.Modules.{LoadedModule}
@@ -17,6 +16,7 @@ use Rattle.py_builtins.specs.Outcomes.{Outcome, outcome_of}
 use Rattle.py_builtins.specs.Outcomes as outcomes
 use Rattle.py_builtins.specs.Returns.{Returned, returned_of}
 use Rattle.py_builtins.specs.Returns as returns
+use Rattle.py_builtins.specs.Faults.{name_unknown}
 
 -- What a program does: how it ends, the bytes that it wrote, those of its input that are left, the steps that it took, what
 -- happened, and the world at the end.

@@ -195,10 +195,6 @@ guarded c p (Some e) body rest = using (eval c p e) (λ v. branch v body rest)
 
 -- ---- functions (8.7)
 
-abbrev pub address_of : PlainValue → Option ℕ
-address_of (list_at a) = Some a
-address_of v = None
-
 -- the address of the defaults, which stand in a new list, where there are any
 abbrev pub default_list : Calls → Place → Exprs → M (Ans (Option ℕ))
 default_list c p no_exprs = gives None

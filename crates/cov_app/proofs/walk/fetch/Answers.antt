@@ -1,8 +1,8 @@
 use Rattle.std.proofs.Common.{arith, ◌≡◌, ap, sym, w64, to_z, of_z}
 use Rattle.std.proofs.lemmas.Int.{to_z-of_z}
-use Rattle.py_meaning.specs.Faults.{name_unknown}
 use Rattle.cov_app.proofs.Evals.{value_name, value_unset}
 use Rattle.cov_app.proofs.walk.fetch.Goals as goal
+use Rattle.py_builtins.specs.Faults.{name_unknown}
 
 pub returns-in-Some : goal.returns-in-Some
 returns-in-Some c =

@@ -1,13 +1,12 @@
 -- What stands in front of a call's arguments, and names of modules (Python Language Reference, 6.3.4 and 7.11).
-use Rattle.std.specs.Prelude.{ℕ, nat_eq, if◌then◌else◌, List, length, Option, Some, None, Result, Ok, Err}
+use Rattle.std.specs.Prelude.{ℕ, List, Option, Some, None, Result, Ok, Err}
 use Rattle.py_value.specs.declared.builtin.Method.{Method}
-use Rattle.py_value.specs.Heaps.{list_items}
-use Rattle.py_value.specs.Plain.{PlainValue, list_at, tuple_value, listed, module_value, PlainHeap, PlainRaised}
+use Rattle.py_value.specs.Plain.{PlainValue, module_value, PlainRaised}
 use Rattle.py_builtins.specs.Attributes.{or_raise, module_global, method_named}
 use Rattle.py_builtins.specs.Methods.{no_attribute}
 use Rattle.py_builtins.specs.Predefined.{predefined}
 use Rattle.py_builtins.specs.World.{World, value_of}
-use Rattle.py_code.specs.Faults.{name_unknown, no_import}
+use Rattle.py_builtins.specs.Faults.{name_unknown, no_import}
 
 -- a value, or a method of one
 pub data Callee : Type 0 where
@@ -36,19 +35,3 @@ taken m v x w = Err (no_import m x)
 abbrev pub or_builtin : List ℕ → Option PlainValue → Result PlainValue PlainRaised
 or_builtin x None = or_raise (name_unknown x) (value_of x predefined)
 or_builtin x (Some v) = Ok v
-
--- the items that a sequence pattern looks at: those of a List or Tuple
-abbrev pub sequence_items : PlainValue → PlainHeap → Option (List PlainValue)
-sequence_items (list_at a) h = Some (list_items h a)
-sequence_items (tuple_value vs) h = Some (listed vs)
-sequence_items v h = None
-
--- of the length of the pattern
-abbrev pub of_length : ℕ → Option (List PlainValue) → Option (List PlainValue)
-of_length n None = None
-of_length n (Some vs) = if nat_eq (length vs) n then Some vs else None
-
--- the address of a list
-abbrev pub address_of : PlainValue → Option ℕ
-address_of (list_at a) = Some a
-address_of v = None
