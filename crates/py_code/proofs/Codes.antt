@@ -1,16 +1,16 @@
 -- Runs and calls of modules whose units are code.
-use Rattle.std.proofs.Common.{◌≡◌, ℕ, zero, suc, ◌<◌, List, [], ◌∷◌, length, Option, Some, None, Bool, true, false, refl, ap, ◌∙◌, subst, arith}
+use Rattle.std.proofs.Common.{◌≡◌, ℕ, zero, suc, ◌<◌, List, [], ◌∷◌, length, Some, ap, ◌∙◌, subst}
 use Rattle.std.specs.Prelude.{slice_get, Result, Ok, Err}
 use Rattle.cov_event.specs.declared.event.CodeId.{CodeId}
 use Rattle.py_value.specs.Plain.{PlainValue, PlainRaised}
 use Rattle.py_builtins.specs.Attributes.{or_raise}
 use Rattle.py_builtins.specs.World.{World, global_of}
-use Rattle.py_code.specs.Configurations.{Locals, Effects, Configuration, End}
+use Rattle.py_code.specs.Configurations.{Locals, Effects}
 use Rattle.py_code.specs.Laws.{IsOver, NeverMisses}
-use Rattle.py_code.specs.Machine.{Reach, at_once, in_frame, reach, outermost, outer_call, follows, ended_by}
+use Rattle.py_code.specs.Machine.{Reach, at_once, in_frame, outermost, outer_call, follows, ended_by}
 use Rattle.py_code.specs.Programs.{Request, script, at_rest, reach_global, end_of_run, end_of_call}
 use Rattle.py_code.specs.Units.{Code, Module, units_of, unit_at}
-use Rattle.py_code.specs.Valid.{IsValid, AreValid, UnitsAreValid, IsCode, AreCodes}
+use Rattle.py_code.specs.Valid.{IsValid, AreValid, AreCodes}
 use Rattle.py_code.proofs.Forms.{found_at}
 use Rattle.py_code.proofs.Instructions.{Inside, reach_inside}
 use Rattle.py_code.proofs.Never.{goes_over}

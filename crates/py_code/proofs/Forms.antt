@@ -1,21 +1,17 @@
 -- What instructions find on the operands, and how they go on: each leads on where its parts do.
-use Rattle.std.proofs.Common.{◌≡◌, ℕ, zero, suc, ◌+◌, ◌-◌, ◌<◌, ◌≤◌, List, [], ◌∷◌, ◌++◌, length, map, take, drop, reverse, Option, Some, None, Bool, true, false, refl, sym, ap, ◌∙◌, subst, arith, inl, inr}
-use Rattle.std.specs.Prelude.{slice_get, nat_lt, nat_le, if◌then◌else◌, Result, Ok, Err}
+use Rattle.std.proofs.Common.{◌≡◌, ℕ, zero, suc, ◌+◌, ◌<◌, ◌≤◌, List, [], ◌∷◌, length, map, take, drop, reverse, Some, Bool, true, false, refl, sym, subst, arith}
+use Rattle.std.specs.Prelude.{slice_get, nat_le, if◌then◌else◌, Result, Ok, Err}
 use Rattle.std.proofs.lemmas.List.{length-drop}
 use Rattle.std.proofs.lemmas.Bool.Decides.{nat_tests}
 use Rattle.cov_event.specs.declared.event.CodeId.{CodeId}
 use Rattle.cov_event.specs.declared.event.Event.TheVariants.{Throw}
-use Rattle.py_value.specs.declared.cause.Cause.TheVariants.{TooDeep}
-use Rattle.py_value.specs.Causes.{raised_by}
 use Rattle.py_value.specs.Operators.{truth_of}
 use Rattle.py_value.specs.Plain.{PlainValue, PlainRaised}
-use Rattle.py_builtins.specs.Parameters.{most_frames}
-use Rattle.py_code.specs.declared.unit.Handler.{Handler}
-use Rattle.py_code.specs.Configurations.{Operand, of_value, Locals, Frame, Effects, Configuration, Ended, End, Next}
-use Rattle.py_code.specs.Machine.{told, with_effects, with_operands, dropping, one, two, three, many, where_found, numbered, stepping, value_in, throw, answers, chooses, heap_of}
-use Rattle.py_code.specs.Run.{Move, Goes, Ticks, Ends}
+use Rattle.py_code.specs.Configurations.{Operand, Locals, Effects, Configuration, Ended, Next}
+use Rattle.py_code.specs.Machine.{told, with_effects, dropping, one, two, three, many, where_found, numbered, stepping, value_in, answers, chooses, heap_of}
+use Rattle.py_code.specs.Run.{Ends}
 use Rattle.py_code.specs.Units.{Code, Module, unit_at, places_of, handler_of}
-use Rattle.py_code.specs.Valid.{Leads, LandsAt, AreValid}
+use Rattle.py_code.specs.Valid.{LandsAt, AreValid}
 use Rattle.py_code.proofs.Standing.{Fine, AllWait, rises}
 
 le_true : (a b : ℕ) → a ≤ b → nat_le a b ≡ true

@@ -1,22 +1,20 @@
 -- Each instruction of a valid unit leads on.
-use Rattle.std.proofs.Common.{◌≡◌, ℕ, zero, suc, ◌+◌, ◌-◌, ◌<◌, ◌≤◌, List, [], ◌∷◌, ◌++◌, length, map, take, drop, Option, Some, None, Bool, true, false, refl, sym, ap, ◌∙◌, subst, arith, inl, inr}
-use Rattle.std.specs.Prelude.{slice_get, remove, nat_eq, nat_lt, nat_le, ◌&&◌, if◌then◌else◌, Result, Ok, Err, codes}
+use Rattle.std.proofs.Common.{◌≡◌, ℕ, suc, ◌+◌, ◌-◌, ◌<◌, ◌≤◌, List, [], ◌∷◌, ◌++◌, length, map, take, drop, Option, Some, None, Bool, true, false, refl, ap, ◌∙◌, subst, arith, inl}
+use Rattle.std.specs.Prelude.{slice_get, nat_eq, nat_lt, nat_le, ◌&&◌, if◌then◌else◌, Result, Ok, Err, codes}
 use Rattle.std.proofs.lemmas.Bool.Decides.{nat_tests}
 use Rattle.std.proofs.lemmas.List.{length-drop, length-take-le, length-append, length-map}
 use Rattle.std.proofs.lemmas.List.Edits.{length-remove}
 use Rattle.cov_event.specs.declared.event.CodeId.{CodeId}
-use Rattle.cov_event.specs.declared.event.Event.TheVariants.{Line, Throw}
-use Rattle.py_value.specs.declared.cause.Cause.TheVariants.{NotException, TooDeep, WrongValueCount}
-use Rattle.py_value.specs.declared.exception.ExcKind.TheVariants.{AssertionError}
+use Rattle.cov_event.specs.declared.event.Event.TheVariants.{Throw}
+use Rattle.py_value.specs.declared.cause.Cause.TheVariants.{TooDeep, WrongValueCount}
 use Rattle.py_value.specs.declared.value.FuncId.{FuncId}
 use Rattle.py_value.specs.Answers.{◌>>=◌}
 use Rattle.py_value.specs.Causes.{raised_by}
 use Rattle.py_value.specs.Keys.{is_same_text}
-use Rattle.py_value.specs.Plain.{PlainValue, none_value, bool_value, int_value, str_value, tuple_value, list_at, dict_at, func_value, module_value, kind_value, exc_value, builtin_value, no_argument, PlainHeap, PlainRaised}
+use Rattle.py_value.specs.Plain.{PlainValue, none_value, bool_value, int_value, str_value, tuple_value, list_at, dict_at, func_value, module_value, kind_value, exc_value, builtin_value, PlainHeap, PlainRaised}
 use Rattle.py_builtins.specs.Arguments.{Answer}
-use Rattle.py_builtins.specs.Builtins.{Done, builtin_of, exception_of}
-use Rattle.py_builtins.specs.Catching.{assertion_error}
-use Rattle.py_builtins.specs.Items.{items_in, unpacked, item_of, sequence_items, of_length}
+use Rattle.py_builtins.specs.Builtins.{builtin_of}
+use Rattle.py_builtins.specs.Items.{items_in, unpacked, sequence_items, of_length}
 use Rattle.py_builtins.specs.Making.{new_tuple}
 use Rattle.py_builtins.specs.Methods.{new_list, method_of}
 use Rattle.py_builtins.specs.Parameters.{most_frames, arguments, defaults_at}
@@ -26,14 +24,12 @@ use Rattle.py_code.specs.declared.instr.Instr.{Instr}
 use Rattle.py_code.specs.declared.instr.Instr.TheVariants.{Constant, Pop, Copy, Sink, Roll, LoadLocal, StoreLocal, UnsetLocal, LoadGlobal, StoreGlobal, UnsetGlobal, Text, Extend, Tuple, List as MakeList, Dict, AddPair, Not, Binary, InPlace, Compare, Index, Slice, Attribute, StoreIndex, Unpack}
 use Rattle.py_code.specs.declared.instr.Instr.TheVariants.{Goto, IfFalse, IfTrue, And, Or, Link, Unless, Sequence, Mark, Again, Walk, Next as NextItem, Method, Call, Return, Function, FunctionWith, Import, Module as LoadModule, Take}
 use Rattle.py_code.specs.declared.instr.Instr.TheVariants.{Raise, Reraise, Assertion, AssertionWith, Catches, Caught, Uncaught, Leave, Ending, Breaking, Continuing, Returning, Settle, Release}
-use Rattle.py_code.specs.declared.unit.Handler.{Handler}
 use Rattle.py_code.specs.Configurations.{Way, on, by_break, by_continue, by_return, by_raise, Operand, of_value, of_walk, of_way, Locals, Frame, Effects, Configuration, Next}
-use Rattle.py_code.specs.Footprints.{footprint, is_mark}
-use Rattle.py_code.specs.Machine.{told, with_effects, with_operands, answers, pushes_answer, pushes_text, pushes_truth, makes, stores, falls, jumps, operand_of, walk_in, callee_in, one, give, enter, calls, Reach, at_once, in_frame, code_of, to_function, with_arguments, by_answer, by_done, reach, reach_callee, runs_module, imports, looks_in, spreads, pushes, stepping, dropping, begins, turns, walks, raises, marks, puts_way, resumes, links, act, move, acts, move_in, heap_of, value_in, escapes, throw, callers_rank, halted}
-use Rattle.py_code.specs.Run.{Move, Goes, Ticks, Ends}
-use Rattle.py_code.specs.Units.{Code, Module, units_of, unit_at, places_in, places_of, handler_of, number_from, imported_number}
-use Rattle.py_code.specs.Valid.{Leads, LandsAt, FitsAt, IsValid, AreValid}
-use Rattle.py_code.proofs.Standing.{Fine, Stands, StandsIn, Waits, AllWait, inside, goes_to, rises}
+use Rattle.py_code.specs.Machine.{told, with_effects, with_operands, answers, pushes_answer, pushes_text, pushes_truth, makes, stores, falls, jumps, operand_of, walk_in, callee_in, one, give, enter, calls, Reach, at_once, in_frame, code_of, to_function, with_arguments, by_answer, reach, reach_callee, runs_module, imports, looks_in, spreads, pushes, stepping, dropping, begins, turns, raises, marks, resumes, links, act, heap_of, value_in, escapes, throw, callers_rank}
+use Rattle.py_code.specs.Run.{Goes}
+use Rattle.py_code.specs.Units.{Code, Module, units_of, unit_at, places_of, handler_of, number_from, imported_number}
+use Rattle.py_code.specs.Valid.{Leads, LandsAt, FitsAt, AreValid}
+use Rattle.py_code.proofs.Standing.{Fine, AllWait, goes_to, rises}
 use Rattle.py_code.proofs.Forms.{found_at, on_one, on_two, on_three, on_dropped, on_many, on_number, on_truth, on_step, on_answer}
 use Rattle.py_builtins.specs.Callees.{Callee, a_value, a_method}
 

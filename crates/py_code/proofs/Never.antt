@@ -1,5 +1,5 @@
 -- A run of valid units never misses anything.
-use Rattle.std.proofs.Common.{◌≡◌, ℕ, zero, suc, ◌+◌, ◌-◌, ◌<◌, ◌≤◌, List, [], ◌∷◌, length, Option, Some, None, Bool, true, false, refl, sym, ap, ◌∙◌, subst, arith, inl, inr}
+use Rattle.std.proofs.Common.{◌≡◌, ℕ, zero, suc, ◌<◌, List, length, Option, Some, None, Bool, true, false, refl, sym, ap, ◌∙◌, subst, arith, inl, inr}
 use Rattle.std.specs.Prelude.{slice_get, nat_lt, if◌then◌else◌, ◌⊎◌}
 use Rattle.std.proofs.lemmas.Bool.Decides.{nat_tests}
 use Rattle.cov_event.specs.declared.event.CodeId.{CodeId}
@@ -7,16 +7,16 @@ use Rattle.py_code.specs.declared.instr.Instr.{Instr}
 use Rattle.py_code.specs.declared.instr.Instr.TheVariants.{Constant, Pop, Copy, Sink, Roll, LoadLocal, StoreLocal, UnsetLocal, LoadGlobal, StoreGlobal, UnsetGlobal, Text, Extend, Tuple, List as MakeList, Dict, AddPair, Not, Binary, InPlace, Compare, Index, Slice, Attribute, StoreIndex, Unpack}
 use Rattle.py_code.specs.declared.instr.Instr.TheVariants.{Goto, IfFalse, IfTrue, And, Or, Link, Unless, Sequence, Mark, Again, Walk, Next as NextItem, Method, Call, Return, Function, FunctionWith, Import, Module as LoadModule, Take}
 use Rattle.py_code.specs.declared.instr.Instr.TheVariants.{Raise, Reraise, Assertion, AssertionWith, Catches, Caught, Uncaught, Leave, Ending, Breaking, Continuing, Returning, Settle, Release}
-use Rattle.py_code.specs.Configurations.{Operand, Locals, Frame, Effects, Configuration, End, Next}
+use Rattle.py_code.specs.Configurations.{Locals, Configuration, End, Next}
 use Rattle.py_code.specs.Footprints.{is_mark}
 use Rattle.py_code.specs.Machine.{where_found, stepping, move, move_in, acts, act, machine, rank}
-use Rattle.py_code.specs.Run.{Move, Goes, Ticks, Ends, Machine, lands, follow, walk, run, go}
+use Rattle.py_code.specs.Run.{Goes, Ticks, Ends, lands, follow, walk, run, go}
 use Rattle.py_code.specs.Units.{Code, Module, unit_at, places_in, places_of}
 use Rattle.py_code.specs.Valid.{marks_at, AreValid}
 use Rattle.py_code.proofs.Forms.{found_at}
 use Rattle.py_code.proofs.Instructions.{fine}
 use Rattle.py_code.specs.Laws.{IsOver}
-use Rattle.py_code.proofs.Standing.{Fine, Stands, StandsIn, AllWait, MarksIn, inside}
+use Rattle.py_code.proofs.Standing.{Fine, Stands, MarksIn, inside}
 
 not_true : false ≡ true → ⊥
 not_true e = absurd cc

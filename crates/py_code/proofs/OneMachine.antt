@@ -1,33 +1,33 @@
 -- A machine that keeps local names by slots does what one does that keeps them by names.
-use Rattle.std.proofs.Common.{◌≡◌, ℕ, zero, suc, ◌+◌, ◌-◌, ◌<◌, ◌≤◌, List, [], ◌∷◌, ◌++◌, length, map, take, drop, Option, Some, None, Bool, true, false, refl, sym, ap, ◌∙◌, subst, arith}
-use Rattle.std.specs.Prelude.{slice_get, slice_set, remove, replicate, reverse, nat_le, nat_lt, ◌&&◌, if◌then◌else◌, Result, Ok, Err, codes}
+use Rattle.std.proofs.Common.{◌≡◌, ℕ, zero, suc, ◌-◌, ◌≤◌, List, [], ◌∷◌, ◌++◌, length, map, take, drop, Option, Some, None, Bool, true, false, refl, sym, ap, ◌∙◌, subst, arith}
+use Rattle.std.specs.Prelude.{slice_get, slice_set, replicate, reverse, nat_le, nat_lt, ◌&&◌, if◌then◌else◌, Result, Ok, Err, codes}
 use Rattle.cov_event.specs.declared.event.CodeId.{CodeId}
 use Rattle.cov_event.specs.declared.event.Event.TheVariants.{Throw}
-use Rattle.py_value.specs.declared.cause.Cause.TheVariants.{NotException, TooDeep}
+use Rattle.py_value.specs.declared.cause.Cause.TheVariants.{TooDeep}
 use Rattle.py_value.specs.Causes.{raised_by}
 use Rattle.py_value.specs.Keys.{is_same_text}
 use Rattle.py_value.specs.Operators.{truth_of}
-use Rattle.py_value.specs.Plain.{PlainValue, none_value, bool_value, int_value, str_value, tuple_value, list_at, dict_at, func_value, module_value, kind_value, exc_value, builtin_value, no_argument, PlainHeap, PlainRaised}
+use Rattle.py_value.specs.Plain.{PlainValue, none_value, bool_value, int_value, str_value, tuple_value, list_at, dict_at, func_value, module_value, kind_value, exc_value, builtin_value, PlainHeap, PlainRaised}
 use Rattle.py_builtins.specs.Arguments.{Answer}
 use Rattle.py_builtins.specs.Attributes.{or_raise}
 use Rattle.py_builtins.specs.Items.{unpacked, walk_length, sequence_items, of_length}
 use Rattle.py_builtins.specs.Making.{new_tuple}
 use Rattle.py_builtins.specs.Methods.{new_list}
 use Rattle.py_builtins.specs.Parameters.{most_frames, parameters}
-use Rattle.py_builtins.specs.World.{World, global_of, Names, value_of, with_name, without_name, is_begun}
+use Rattle.py_builtins.specs.World.{World, global_of, Names, value_of, is_begun}
 use Rattle.py_code.specs.declared.instr.Bounds.TheVariants.{Neither, From, To, Both}
 use Rattle.py_code.specs.declared.instr.Instr.{Instr}
 use Rattle.py_code.specs.declared.instr.Instr.TheVariants.{Constant, Pop, Copy, Sink, Roll, LoadLocal, StoreLocal, UnsetLocal, LoadGlobal, StoreGlobal, UnsetGlobal, Text, Extend, Tuple, List as MakeList, Dict, AddPair, Not, Binary, InPlace, Compare, Index, Slice, Attribute, StoreIndex, Unpack}
 use Rattle.py_code.specs.declared.instr.Instr.TheVariants.{Goto, IfFalse, IfTrue, And, Or, Link, Unless, Sequence, Mark, Again, Walk, Next as NextItem, Method, Call, Return, Function, FunctionWith, Import, Module as LoadModule, Take}
 use Rattle.py_code.specs.declared.instr.Instr.TheVariants.{Raise, Reraise, Assertion, AssertionWith, Catches, Caught, Uncaught, Leave, Ending, Breaking, Continuing, Returning, Settle, Release}
 use Rattle.py_code.specs.declared.unit.Handler.{Handler}
-use Rattle.py_code.specs.Configurations.{Way, on, by_break, by_continue, by_return, by_raise, Operand, of_value, of_walk, of_way, Locals, Frame, Effects, Configuration, Ended, stuck, End, Next}
+use Rattle.py_code.specs.Configurations.{Way, on, by_break, by_continue, by_return, by_raise, Operand, of_walk, of_way, Locals, Frame, Effects, Configuration, stuck, End, Next}
 use Rattle.py_code.specs.Laws.{OneMachine}
 use Rattle.py_code.specs.Programs.{Request, script, at_rest, reach_global, end_of_run, end_of_call}
-use Rattle.py_code.specs.Machine.{told, with_locals, escaped, entered, with_operands, with_effects, heap_of, halted, jumps, falls, pushes, dropping, one, two, three, many, where_found, numbered, stepping, Reach, at_once, in_frame, land, leave, escapes, throw, answers, pushes_answer, pushes_text, pushes_truth, makes, stores, chooses, give, begins, enter, calls, runs_module, imports, links, spreads, looks_in, turns, walks, raises, marks, puts_way, resumes, act, acts, move_in, move, callers_rank, rank, machine, new_frame, outermost, outer_call, follows, value_in, callee_in, operand_of, reach_callee}
-use Rattle.py_code.specs.Run.{Move, Goes, Ticks, Ends, Machine, lands, follow, walk, run, go}
+use Rattle.py_code.specs.Machine.{told, with_locals, escaped, entered, with_operands, with_effects, heap_of, halted, jumps, falls, pushes, dropping, one, two, three, many, where_found, stepping, Reach, at_once, in_frame, land, leave, escapes, throw, answers, pushes_answer, pushes_text, pushes_truth, makes, stores, give, begins, enter, calls, runs_module, imports, links, spreads, looks_in, turns, raises, marks, puts_way, resumes, act, acts, move_in, move, callers_rank, rank, machine, new_frame, outermost, outer_call, follows, value_in, callee_in, operand_of, reach_callee}
+use Rattle.py_code.specs.Run.{Goes, Ticks, Ends, lands, follow, walk, run, go}
 use Rattle.py_code.specs.Slots.{locals_in, params_in, slot_name, name_or_none, by_names, by_slots, AreNamed, IsDistinct}
-use Rattle.py_code.specs.Units.{Code, Module, unit_at, places_of, handler_at, imported_number}
+use Rattle.py_code.specs.Units.{Code, Module, unit_at, handler_at, imported_number}
 use Rattle.py_code.proofs.Codes.{global_inside}
 use Rattle.py_code.proofs.Instructions.{Inside, callee_inside}
 use Rattle.py_code.proofs.SlotLaws.{slots, looked_up, changed, begun}

@@ -1,6 +1,6 @@
 -- Codes written down, and their runs computed.
-use Rattle.std.proofs.Common.{◌≡◌, ℕ, Bool, true, false, List, [], ◌∷◌, ◌++◌, length, map, pos, refl, Option, Some, None}
-use Rattle.std.specs.Prelude.{codes, take, encode_utf8_all}
+use Rattle.std.proofs.Common.{◌≡◌, ℕ, List, [], ◌∷◌, map, pos, refl}
+use Rattle.std.specs.Prelude.{codes, take}
 use Rattle.std.specs.Fmt as F
 use Rattle.std.specs.Str as str_
 use Rattle.cov_event.specs.declared.event.CodeId.{CodeId}
@@ -14,10 +14,9 @@ use Rattle.py_builtins.specs.Outcomes.{Outcome, finished}
 use Rattle.py_builtins.specs.Outcomes as outcomes
 use Rattle.py_builtins.specs.Texts as texts_
 use Rattle.py_builtins.specs.World as world_
-use Rattle.py_code.specs.declared.instr.Instr.{Instr}
-use Rattle.py_code.specs.declared.instr.Instr.TheVariants.{Constant, Pop, Copy, Sink, Roll, LoadLocal, StoreLocal, UnsetLocal, LoadGlobal, StoreGlobal, UnsetGlobal, Text, Extend, Tuple, List as MakeList, Dict, AddPair, Not, Binary, InPlace, Compare, Index, Slice, Attribute, StoreIndex, Unpack}
-use Rattle.py_code.specs.declared.instr.Instr.TheVariants.{Goto, IfFalse, IfTrue, And, Or, Link, Unless, Sequence, Mark, Again, Walk, Next as NextItem, Method, Call, Return, Function, FunctionWith, Import, Module as LoadModule, Take}
-use Rattle.py_code.specs.declared.instr.Instr.TheVariants.{Raise, Reraise, Assertion, AssertionWith, Catches, Caught, Uncaught, Leave, Ending, Breaking, Continuing, Returning, Settle, Release}
+use Rattle.py_code.specs.declared.instr.Instr.TheVariants.{Constant, Pop, LoadLocal, StoreLocal, LoadGlobal, StoreGlobal, Tuple, Binary}
+use Rattle.py_code.specs.declared.instr.Instr.TheVariants.{Goto, IfFalse, Mark, Again, Walk, Next as NextItem, Call, Return, Function}
+use Rattle.py_code.specs.declared.instr.Instr.TheVariants.{Catches, Uncaught, Leave, Ending, Returning, Settle}
 use Rattle.py_code.specs.declared.unit.Constant.TheVariants.{None as NoneConstant, Int as IntConstant, Str as StrConstant}
 use Rattle.py_code.specs.Programs.{Run, run, first_world}
 use Rattle.py_code.specs.Programs as programs_

@@ -1,19 +1,18 @@
 -- Configurations whose frames stand at their numbers of operands, and moves that lead to such ones.
-use Rattle.std.proofs.Common.{◌≡◌, ℕ, zero, suc, ◌+◌, ◌-◌, ◌<◌, ◌≤◌, List, [], ◌∷◌, length, drop, Option, Some, None, Bool, true, false, refl, sym, ap, ◌∙◌, subst, arith, inl, inr}
-use Rattle.std.specs.Prelude.{slice_get, ◌⊎◌, nat_lt, nat_le, if◌then◌else◌}
+use Rattle.std.proofs.Common.{◌≡◌, ℕ, suc, ◌+◌, ◌-◌, ◌<◌, ◌≤◌, List, [], ◌∷◌, length, drop, Option, Some, None, Bool, true, refl, sym, ap, ◌∙◌, subst, arith, inl, inr}
+use Rattle.std.specs.Prelude.{slice_get, ◌⊎◌}
 use Rattle.std.proofs.lemmas.List.{length-drop}
 use Rattle.std.proofs.lemmas.Option.{slice_get_within}
-use Rattle.std.proofs.lemmas.Bool.Decides.{nat_tests}
 use Rattle.cov_event.specs.declared.event.CodeId.{CodeId}
 use Rattle.cov_event.specs.declared.event.Event.TheVariants.{Throw}
 use Rattle.py_value.specs.Plain.{PlainRaised}
 use Rattle.py_code.specs.declared.unit.Handler.{Handler}
-use Rattle.py_code.specs.Configurations.{by_raise, Operand, of_way, Locals, Frame, Effects, Configuration, Ended, gave, failed, spent, stuck, End, Next}
+use Rattle.py_code.specs.Configurations.{by_raise, Operand, of_way, Locals, Frame, Effects, Configuration, Next}
 use Rattle.py_code.specs.Laws.{IsOver}
-use Rattle.py_code.specs.Machine.{told, escaped, land, leave, escapes, throw, callers_rank, rank}
-use Rattle.py_code.specs.Run.{Move, Goes, Ticks, Ends}
-use Rattle.py_code.specs.Units.{Code, Module, unit_at, places_in, places_of, handlers_in, handler_of, handler_at}
-use Rattle.py_code.specs.Valid.{marks_at, Leads, Lands, LandsAt, IsValid, AreValid}
+use Rattle.py_code.specs.Machine.{told, escaped, land, leave, escapes, callers_rank, rank}
+use Rattle.py_code.specs.Run.{Goes, Ticks, Ends}
+use Rattle.py_code.specs.Units.{Code, Module, unit_at, places_in, places_of, handlers_in, handler_of}
+use Rattle.py_code.specs.Valid.{marks_at, Leads, LandsAt, AreValid}
 
 module _ {L : Type 0} (locals : Locals L) (ms : List Module) (depths : CodeId → List ℕ) (valid : AreValid ms depths) where
   -- a frame at a place of its unit, with as many operands as stand there

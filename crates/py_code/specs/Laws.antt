@@ -1,7 +1,7 @@
 -- What holds of every code.
 use Rattle.std.specs.Prelude.{◌≡◌, ℕ, ◌<◌, List, length}
 use Rattle.py_builtins.specs.World.{World}
-use Rattle.py_code.specs.Configurations.{Locals, Ended, gave, failed, spent, stuck, End}
+use Rattle.py_code.specs.Configurations.{Locals, Ended, gave, failed, spent, stuck}
 use Rattle.py_code.specs.Programs.{Request, end_of_run, end_of_call}
 use Rattle.py_code.specs.Slots.{by_names, by_slots, AreNamed}
 use Rattle.py_code.specs.Units.{Module}

@@ -4,11 +4,10 @@
 --     give, enter                    frames end and begin
 --     reach                          what a call leads to
 --     act, move, go_on               an instruction, and all that follow
-use Rattle.std.specs.Prelude.{ℕ, zero, suc, ◌+◌, ◌-◌, ◌==◌, nat_le, nat_lt, Bool, true, false, not, ◌&&◌, if◌then◌else◌, List, [], ◌∷◌, ◌++◌, length, map, take, drop, remove, reverse, Option, Some, None, Result, Ok, Err, slice_get, codes}
+use Rattle.std.specs.Prelude.{ℕ, zero, suc, ◌+◌, ◌-◌, ◌==◌, nat_le, nat_lt, Bool, true, false, ◌&&◌, if◌then◌else◌, List, [], ◌∷◌, ◌++◌, length, map, take, drop, remove, reverse, Option, Some, None, Result, Ok, Err, slice_get, codes}
 use Rattle.cov_event.specs.declared.event.CodeId.{CodeId}
 use Rattle.cov_event.specs.declared.event.Event.{Event}
 use Rattle.cov_event.specs.declared.event.Event.TheVariants.{Call as Called, Line, Throw, Return as Returned}
-use Rattle.py_value.specs.declared.builtin.Builtin.{Builtin}
 use Rattle.py_value.specs.declared.cause.Cause.TheVariants.{NotCallable, WrongArgumentCount, NotException, TooDeep}
 use Rattle.py_value.specs.declared.exception.ExcKind.TheVariants.{BaseException, AssertionError}
 use Rattle.py_value.specs.declared.operator.CmpOp.TheVariants.{Eq as OpEq, Ne as OpNe, Lt as OpLt, Le as OpLe, Gt as OpGt, Ge as OpGe, In as OpIn, NotIn as OpNotIn}
@@ -27,7 +26,7 @@ use Rattle.py_builtins.specs.Making.{extended, new_tuple, new_dict, stored, slic
 use Rattle.py_builtins.specs.Methods.{new_list, method_of}
 use Rattle.py_builtins.specs.Parameters.{most_frames, arguments, defaults_at, address_of}
 use Rattle.py_builtins.specs.Texts.{str_text}
-use Rattle.py_builtins.specs.World.{World, with_heap, with_global, without_global, global_of, with_begun, without_begun, is_begun}
+use Rattle.py_builtins.specs.World.{World, with_heap, with_global, without_global, global_of, with_begun, without_begun, is_begun, first_names}
 use Rattle.py_code.specs.declared.instr.Bounds.TheVariants.{Neither, From, To, Both}
 use Rattle.py_code.specs.declared.instr.Instr.{Instr}
 use Rattle.py_code.specs.declared.instr.Instr.TheVariants.{Constant, Pop, Copy, Sink, Roll, LoadLocal, StoreLocal, UnsetLocal, LoadGlobal, StoreGlobal, UnsetGlobal, Text, Extend, Tuple, List as MakeList, Dict, AddPair, Not, Binary, InPlace, Compare, Index, Slice, Attribute, StoreIndex, Unpack}
@@ -37,8 +36,8 @@ use Rattle.py_code.specs.declared.instr.Question.{Question}
 use Rattle.py_code.specs.declared.instr.Question.TheVariants.{Eq, Ne, Lt, Le, Gt, Ge, In, NotIn, Is, IsNot}
 use Rattle.py_code.specs.declared.unit.Handler.{Handler}
 use Rattle.py_code.specs.Configurations.{Way, on, by_break, by_continue, by_return, by_raise, Operand, of_value, of_method, of_walk, of_way, Locals, Frame, Effects, Configuration, Ended, gave, failed, spent, stuck, End, Next}
-use Rattle.py_code.specs.Run.{Move, Goes, Ticks, Ends, Machine, go}
-use Rattle.py_code.specs.Units.{Code, Module, unit_at, places_in, places_of, constant_value, handler_at, imported_number}
+use Rattle.py_code.specs.Run.{Goes, Ticks, Ends, Machine, go}
+use Rattle.py_code.specs.Units.{Code, Module, unit_at, places_of, constant_value, handler_at, imported_number}
 use Rattle.py_value.specs.Compared.{Comparison, relates, is_it, is_not_it, compared}
 use Rattle.py_builtins.specs.Callees.{Callee, a_value, a_method, callee_of, taken, or_builtin}
 use Rattle.py_builtins.specs.Faults.{local_unset, no_module}

@@ -11,9 +11,8 @@ use Rattle.py_builtins.specs.Outcomes as outcomes
 use Rattle.py_builtins.specs.Returns.{Returned, returned_of}
 use Rattle.py_builtins.specs.Returns as returns
 use Rattle.py_builtins.specs.World.{World, Names, global_of}
-use Rattle.py_code.specs.Configurations.{Locals, Effects, Configuration, Ended, gave, failed, spent, stuck, End, Next}
-use Rattle.py_code.specs.Machine.{Reach, at_once, raises_at_once, reach, outermost, outer_call, follows}
-use Rattle.py_code.specs.Run.{Ends}
+use Rattle.py_code.specs.Configurations.{Locals, Effects, Ended, gave, failed, spent, stuck, End}
+use Rattle.py_code.specs.Machine.{Reach, raises_at_once, reach, outermost, outer_call, follows}
 use Rattle.py_code.specs.Units.{Module}
 use Rattle.py_builtins.specs.Faults.{name_unknown}
 

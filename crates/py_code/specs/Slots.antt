@@ -7,6 +7,7 @@ use Rattle.py_value.specs.Plain.{PlainValue}
 use Rattle.py_builtins.specs.World.{Names, value_of, with_name, without_name}
 use Rattle.py_code.specs.Configurations.{Locals}
 use Rattle.py_code.specs.Units.{Code, Module, unit_at}
+use Rattle.py_builtins.specs.Parameters.{parameters}
 
 abbrev pub locals_in : Option Code → List (List ℕ)
 locals_in None = []

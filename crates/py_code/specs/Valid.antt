@@ -9,7 +9,7 @@ use Rattle.py_code.specs.declared.instr.Instr.TheVariants.{Constant, Pop, Copy, 
 use Rattle.py_code.specs.declared.instr.Instr.TheVariants.{Goto, IfFalse, IfTrue, And, Or, Link, Unless, Sequence, Mark, Again, Walk, Next as NextItem, Method, Call, Return, Function, FunctionWith, Import, Module as LoadModule, Take}
 use Rattle.py_code.specs.declared.instr.Instr.TheVariants.{Raise, Reraise, Assertion, AssertionWith, Catches, Caught, Uncaught, Leave, Ending, Breaking, Continuing, Returning, Settle, Release}
 use Rattle.py_code.specs.declared.unit.Handler.{Handler}
-use Rattle.py_code.specs.Footprints.{Exit, Footprint, footprint, is_mark}
+use Rattle.py_code.specs.Footprints.{Exit, footprint, is_mark}
 use Rattle.cov_event.specs.declared.event.CodeId.{CodeId}
 use Rattle.py_code.specs.Units.{Code, Module, units_of, unit_at, handler_of}
 

@@ -8,18 +8,17 @@
 use Rattle.std.specs.Prelude.{ℕ, nat_lt, if◌then◌else◌, List, Option, Some, None, Err}
 use Rattle.cov_event.specs.declared.event.CodeId.{CodeId}
 use Rattle.py_value.specs.declared.builtin.Builtin.{Builtin}
-use Rattle.py_value.specs.declared.builtin.Method.{Method}
 use Rattle.py_value.specs.declared.cause.Cause.TheVariants.{NotCallable, WrongArgumentCount, TooDeep}
 use Rattle.py_value.specs.declared.value.FuncId.{FuncId}
 use Rattle.py_value.specs.Causes.{raised_by}
 use Rattle.py_value.specs.Plain.{PlainValue, none_value, bool_value, int_value, str_value, tuple_value, list_at, dict_at, func_value, module_value, kind_value, exc_value, builtin_value}
 use Rattle.py_syntax.specs.Tree.{Text}
 use Rattle.py_builtins.specs.Builtins.{Done, builtin_of, exception_of}
-use Rattle.py_builtins.specs.Methods.{no_attribute, method_of}
-use Rattle.py_builtins.specs.Attributes.{or_raise, module_global, method_named}
+use Rattle.py_builtins.specs.Methods.{method_of}
 use Rattle.py_meaning.specs.Computations.{Setting, Ans, M, give, read, write, say, worked, work}
 use Rattle.py_meaning.specs.Modules.{LoadedModule, unit_of}
 use Rattle.py_builtins.specs.Parameters.{most_frames, arguments, defaults_at}
+use Rattle.py_builtins.specs.Callees.{Callee, a_value, a_method, callee_of}
 
 -- what a call of a unit does, by the numbers of its module and of the unit in it, with values for all its parameters
 abbrev pub Calls : Type 0

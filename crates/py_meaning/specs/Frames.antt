@@ -3,19 +3,20 @@
 --     begun, not_begun        a module begins, and counts as not begun
 --     in_unit                 what stands round the body of a unit
 --     calls                   calls inside each other
-use Rattle.std.specs.Prelude.{ℕ, zero, suc, true, false, List, [], ◌∷◌, None, Ok, Err, codes}
+use Rattle.std.specs.Prelude.{ℕ, zero, suc, true, false, List, [], None, Ok, Err}
 use Rattle.cov_event.specs.declared.event.CodeId.{CodeId}
-use Rattle.py_value.specs.Plain.{PlainValue, none_value, str_value}
+use Rattle.py_value.specs.Plain.{PlainValue, none_value}
 use Rattle.py_syntax.specs.Functions.{Function, without_docstring}
 use Rattle.py_syntax.specs.Names.{local_names}
 use Rattle.py_syntax.specs.Tree.{Text}
-use Rattle.py_builtins.specs.World.{Names, with_begun, without_begun}
+use Rattle.py_builtins.specs.World.{Names, with_begun, without_begun, first_names}
 use Rattle.py_meaning.specs.Activations.{activation, more, sub, no_items}
 use Rattle.py_meaning.specs.Calls.{Calls}
 use Rattle.py_meaning.specs.Computations.{Setting, State, Res, done, cut, Ans, M, give, chain, tick, write, stop}
 use Rattle.py_meaning.specs.Modules.{LoadedModule, unit_of, name_of}
 use Rattle.py_meaning.specs.Places.{Place}
 use Rattle.py_meaning.specs.Statements.{Out, normal, breaks, continues, returns, raises, exec}
+use Rattle.py_builtins.specs.Parameters.{parameters}
 
 -- the local names in a new frame, and those of the caller again
 abbrev pub in_frame : Names → Setting → Setting

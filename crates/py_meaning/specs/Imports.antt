@@ -6,13 +6,13 @@ use Rattle.py_value.specs.Plain.{PlainValue, module_value}
 use Rattle.py_syntax.specs.Names.{alias_name}
 use Rattle.py_syntax.specs.Tree.{Text, Alias}
 use Rattle.py_builtins.specs.World.{is_begun}
-use Rattle.py_builtins.specs.Attributes.{or_raise, module_global}
 use Rattle.py_meaning.specs.Calls.{Calls, enter}
 use Rattle.py_meaning.specs.Computations.{Setting, Ans, M, give, read, write, value, ask}
 use Rattle.py_meaning.specs.Expressions.{gives}
 use Rattle.py_meaning.specs.Modules.{LoadedModule, imported_number}
 use Rattle.py_meaning.specs.Places.{Place, bound}
-use Rattle.py_builtins.specs.Faults.{no_module, no_import}
+use Rattle.py_builtins.specs.Faults.{no_module}
+use Rattle.py_builtins.specs.Callees.{taken}
 
 abbrev pub loaded_module : ℕ → PlainValue
 loaded_module m = module_value (Loaded m)

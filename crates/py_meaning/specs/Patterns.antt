@@ -3,18 +3,18 @@
 --     constant_matches             literals
 --     matched                      patterns
 --     bind_all                     the names of a match
-use Rattle.std.specs.Prelude.{ℕ, suc, Bool, true, false, if◌then◌else◌, List, [], ◌∷◌, ◌++◌, length, nat_eq, ℤ, neg_ℤ, Option, Some, None, Ok}
+use Rattle.std.specs.Prelude.{ℕ, suc, Bool, true, false, List, [], ◌∷◌, ◌++◌, ℤ, neg_ℤ, Option, Some, None, Ok}
 use Rattle.py_value.specs.declared.operator.CmpOp.TheVariants.{Eq}
 use Rattle.py_value.specs.Answers.{◌>>=◌}
-use Rattle.py_value.specs.Heaps.{list_items}
 use Rattle.py_value.specs.Operators.{compare_of, is_none_value, is_bool_value}
-use Rattle.py_value.specs.Plain.{PlainValue, int_value, str_value, tuple_value, list_at, listed, PlainHeap}
+use Rattle.py_value.specs.Plain.{PlainValue, int_value, str_value, PlainHeap}
 use Rattle.py_syntax.specs.Tree.{Constant, c_int, c_str, c_none, c_bool, Pattern, literal, capture, wild, member, sequence, p_or, p_as, p_paren, Patterns, no_patterns, patterns}
 use Rattle.py_builtins.specs.World.{Names}
 use Rattle.py_builtins.specs.Attributes.{attribute}
 use Rattle.py_meaning.specs.Computations.{Setting, Ans}
 use Rattle.py_meaning.specs.Literals.{run_together}
 use Rattle.py_meaning.specs.Places.{Scope, fetched, bound}
+use Rattle.py_builtins.specs.Items.{sequence_items, of_length}
 
 -- What a match gives: the names to be bound, in order, or none where there is no match.
 abbrev pub Match : Type 0

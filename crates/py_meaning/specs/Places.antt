@@ -1,5 +1,5 @@
 -- Names where they stand (Python Language Reference, 4.2, "Naming and binding").
-use Rattle.std.specs.Prelude.{ℕ, if◌then◌else◌, List, Option, Some, None, Ok}
+use Rattle.std.specs.Prelude.{ℕ, if◌then◌else◌, List, Option}
 use Rattle.py_value.specs.Plain.{PlainValue, PlainRaised}
 use Rattle.py_syntax.specs.Tree.{Text}
 use Rattle.py_syntax.specs.Names.{is_among}
@@ -7,8 +7,8 @@ use Rattle.py_builtins.specs.World.{value_of, with_name, without_name, global_of
 use Rattle.py_builtins.specs.Attributes.{or_raise}
 use Rattle.py_meaning.specs.Computations.{Setting, Ans}
 use Rattle.py_meaning.specs.Modules.{LoadedModule}
-use Rattle.py_builtins.specs.Predefined.{predefined}
-use Rattle.py_builtins.specs.Faults.{name_unknown, local_unset}
+use Rattle.py_builtins.specs.Faults.{local_unset}
+use Rattle.py_builtins.specs.Callees.{or_builtin}
 
 -- What the text says of a place: the number of its module, and the local names of its body. The body of a module has none.
 pub record Scope : Type 0 where

@@ -10,7 +10,7 @@ use Rattle.py_value.specs.declared.cause.Cause.TheVariants.{NotException}
 use Rattle.py_value.specs.declared.exception.ExcKind.TheVariants.{AssertionError}
 use Rattle.py_value.specs.declared.value.FuncId.{FuncId}
 use Rattle.py_value.specs.Causes.{raised_by}
-use Rattle.py_value.specs.Plain.{PlainValue, none_value, list_at, func_value, kind_value, exc_value, no_argument, PlainRaised}
+use Rattle.py_value.specs.Plain.{PlainValue, none_value, func_value, kind_value, exc_value, no_argument, PlainRaised}
 use Rattle.py_syntax.specs.Functions.{functions}
 use Rattle.py_syntax.specs.Tree.{Text, Expr, Exprs, no_exprs, Stmts, no_stmts, stmt, suite, OptSuite, no_suite, has_suite, Arms, no_arms, arm, Clauses, no_clauses, clause, Cases, no_cases, case, StmtKind, expr, assign, aug_assign, pass, break, continue, return, raise, assert, global, import, from, if', while, for, try, def, match}
 use Rattle.py_builtins.specs.Methods.{new_list}
@@ -26,6 +26,7 @@ use Rattle.py_builtins.specs.Items.{walk_length, item_of}
 use Rattle.py_meaning.specs.Modules.{unit_at, body_of}
 use Rattle.py_meaning.specs.Patterns.{Match, matched, bind_all}
 use Rattle.py_meaning.specs.Places.{Scope, Place, bound, unbound}
+use Rattle.py_builtins.specs.Parameters.{address_of}
 
 -- how a statement is left; an exception with whether it was thrown there, and not raised by its own `raise`
 pub data Out : Type 0 where
