@@ -85,7 +85,7 @@ pub fn read_expr(
             }
             Turn::Left(tall) => {
                 return Ok(ExprRead {
-                    expr: tall.expr,
+                    expr: Box::into_inner(tall.expr),
                     next: place,
                 });
             }
