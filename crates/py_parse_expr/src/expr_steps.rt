@@ -1,9 +1,9 @@
 // Expressions, a token at a time, whatever their heights.
 
-ghost use Rattle.std.specs.Prelude.{◌≡◌, cond};
+ghost use Rattle.std.specs.Prelude.{◌≡◌, false, cond};
 ghost use Rattle.py_syntax.specs.View.{plain_expr};
-ghost use Rattle.py_syntax.specs.Normal.{LExpr, LPost};
-ghost use Rattle.py_grammar.specs.Machine.{at_most, snoc_link, target, on, in_items, AfterOpen, Strings as StringsState, Want, IndexOpen, SliceColon, AfterDot, Linked, Next, Stuck, upto, begin, close_items, leave, give, step};
+ghost use Rattle.py_syntax.specs.Normal.{LExpr, LPost, height, is_target};
+ghost use Rattle.py_grammar.specs.Machine.{at_most, snoc_link, target, on, in_items, AfterOpen, Strings as StringsState, Want, IndexOpen, SliceColon, AfterDot, Linked, Next, Stuck, Have, upto, begin, close_items, leave, give, step};
 ghost use Rattle.py_parse_expr.specs.ExprHeld.{view_level, view_role, view_tall, view_row, view_entries, view_links, view_bound, view_opener, view_strings, IsTall, AreTall, AreEntries, IsChain, KeptOpener, KeptBound, KeptRole, KeptStrings};
 ghost use Rattle.py_parse_expr.specs.ExprStacks.{opened, view_goal, view_frame, view_stack, KeptGoal, KeptItems, KeptFrame, Kept};
 ghost use Rattle.py_parse_expr.specs.ExprTurns.{view_at, KeptAt, close_dict, Stays, Acts};
@@ -99,6 +99,17 @@ fn atom(stack: &mut Stack, level: Level, progress: Progress) -> Result<Turn, NoM
     Ok(Turn::Next(progress))
 }
 
+/// A number or a word that is an expression.
+fn low(alloc: Global, stack: &mut Stack, level: Level, expr: Expr) -> Result<Turn, NoMemory>
+    requires kept { Kept stack.old.limit stack.old }
+    requires height { height (plain_expr expr) ≡ 1 }
+    requires target { is_target (plain_expr expr) ≡ false }
+    ensures { Acts (Next (Have (plain_expr expr) (upto (view_level level) LPost (view_stack stack.old)))) stack.old.limit stack.new result }
+{
+    let tall = Tall::low(alloc, expr)?;
+    atom(stack, level, Progress::Have(tall))
+}
+
 /// An operator stands in front of an operand, which has the level of its trees.
 fn prefixed(stack: &mut Stack, level: Level, frame: Frame, operand: Level) -> Result<Turn, NoMemory>
     requires kept { Kept stack.old.limit stack.old }
@@ -122,18 +133,9 @@ pub fn begin(alloc: Global, stack: &mut Stack, level: Level, role: Role) -> Resu
 {
     match role {
         Role::Name(text) => atom(stack, level, Progress::Have(Tall::name(alloc, text)?)),
-        Role::Int(number) => {
-            let tall = Tall::low(alloc, Expr::Int(number))?;
-            atom(stack, level, Progress::Have(tall))
-        }
-        Role::NoneWord => {
-            let tall = Tall::low(alloc, Expr::None)?;
-            atom(stack, level, Progress::Have(tall))
-        }
-        Role::Bool(truth) => {
-            let tall = Tall::low(alloc, Expr::Bool(truth))?;
-            atom(stack, level, Progress::Have(tall))
-        }
+        Role::Int(number) => low(alloc, stack, level, Expr::Int(number)),
+        Role::NoneWord => low(alloc, stack, level, Expr::None),
+        Role::Bool(truth) => low(alloc, stack, level, Expr::Bool(truth)),
         Role::Str(text) => atom(stack, level, Progress::Strings(Strings::text(alloc, text)?)),
         Role::Format(fields) => {
             let strings = Strings::format(alloc, fields)?;

@@ -31,7 +31,7 @@ pub enum ExprPart {
 /// An expression, and the place of the token behind it.
 #[derive(Drop)]
 pub struct ExprRead {
-    pub expr: Expr,
+    pub expr: Box<Expr>,
     pub next: usize,
 }
 
@@ -85,7 +85,7 @@ pub fn read_expr(
             }
             Turn::Left(tall) => {
                 return Ok(ExprRead {
-                    expr: Box::into_inner(tall.expr),
+                    expr: tall.expr,
                     next: place,
                 });
             }
@@ -127,5 +127,5 @@ pub fn parse_expr(alloc: Global, tokens: &[Token]) -> Result<Expr, ReadError>
         drop(read);
         return Err(ReadError::Unexpected(next + 1));
     }
-    Ok(read.expr)
+    Ok(Box::into_inner(read.expr))
 }

@@ -49,7 +49,7 @@ fields-pieces-preserved t c = elim c.match-piece.branch [
       let same : w.in_ok-copy-in-Chars.field-0 ≡ w.in-Chars.text = w.in_ok-copy-in-Chars.ensures in
       rw w.parts-is rw w.height-is (parts_chars c.args.pieces.now c.pieces.piece-index c.piece-item.result (parts (plain_pieces c.args.pieces.now)) c.pieces.parts.items c.pieces.height c.pieces-test.true c.piece-item.is c.pieces.invariant w.in-Chars.text w.push.new.self.items w.in-Chars.is (w.in_ok-push-in-Chars.ensures.items ∙ ap (λ x. c.pieces.parts.items ++ part_.Chars x ∷ []) same))
   | fields-in-Field+in_ok-tall-in-Field+in-Ok+in_ok-push-in-Ok w ↦
-      rw w.parts-is rw w.height-is (parts_field c.args.pieces.now c.pieces.piece-index c.piece-item.result (parts (plain_pieces c.args.pieces.now)) c.pieces.parts.items c.pieces.height c.pieces-test.true c.piece-item.is c.pieces.invariant (c.args.limit - 1) w.in-Field.tokens w.deref.result.now w.in-Ok.tall w.push-in-Ok.new.self.items w.higher-height.result w.in-Field.is w.deref.ensures.value (rw w.in-Ok.is at w.in_ok-tall-in-Field.ensures) (w.in_ok-push-in-Ok.ensures.items ∙ ap (λ n. c.pieces.parts.items ++ part_.Field n ∷ []) w.into_inner.ensures) w.higher-height.ensures)
+      rw w.parts-is rw w.height-is (parts_field c.args.pieces.now c.pieces.piece-index c.piece-item.result (parts (plain_pieces c.args.pieces.now)) c.pieces.parts.items c.pieces.height c.pieces-test.true c.piece-item.is c.pieces.invariant (c.args.limit - 1) w.in-Field.tokens w.deref.result.now w.in-Ok.tall w.into_inner.result w.push-in-Ok.new.self.items w.higher-height.result w.in-Field.is w.deref.ensures.value (rw w.in-Ok.is at w.in_ok-tall-in-Field.ensures) w.into_inner.ensures w.in_ok-push-in-Ok.ensures.items w.higher-height.ensures)
 ]
 
 pub fields-returns : goal.fields-returns

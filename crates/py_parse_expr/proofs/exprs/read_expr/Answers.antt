@@ -1,11 +1,7 @@
-use Rattle.std.proofs.Common.{sym, subst, ap, ◌∙◌}
-use Rattle.py_syntax.specs.declared.expr.Expr.{Expr as Node}
-use Rattle.py_syntax.specs.View.{plain_expr}
-use Rattle.py_grammar.specs.Machine.{Outside, start}
-use Rattle.py_grammar.specs.Reading.{Reads, EndsAt}
+use Rattle.std.proofs.Common.{sym, ap, ◌∙◌}
+use Rattle.py_grammar.specs.Machine.{Outside}
 use Rattle.py_parse_expr.specs.ExprReads.{goal_of}
 use Rattle.py_syntax.specs.Spelling.{HEIGHT}
-use Rattle.py_grammar.proofs.Places.{kinds_of_all}
 use Rattle.py_parse_expr.proofs.ExprFields.{same_limit}
 use Rattle.py_parse_expr.proofs.ExprReader.{starts, turn_next, turn_stuck, turn_left, turn_deep, turn_bad, over_there}
 use Rattle.py_parse_expr.proofs.exprs.read_expr.Goals as goal
@@ -26,7 +22,7 @@ pub returns-in-Stuck : goal.returns-in-Stuck
 returns-in-Stuck c = record { follows = turn_stuck (goal_of c.args.part) c.args.tokens.now c.args.at c.tokens.place c.tokens.progress c.tokens.stack c.turn.new.stack c.index-tokens-place.result c.in_ok-next.field-0 c.tokens.invariant c.tokens-test.true c.in_ok-next.ensures c.in-Stuck.is }
 
 pub returns-in-Left : goal.returns-in-Left
-returns-in-Left c = record { follows = subst (λ (n : Node). EndsAt HEIGHT (start (goal_of c.args.part)) (kinds_of_all c.args.tokens.now) c.args.at c.tokens.place (Reads (plain_expr n))) (sym c.into_inner.ensures) (turn_left (goal_of c.args.part) c.args.tokens.now c.args.at c.tokens.place c.tokens.progress c.tokens.stack c.turn.new.stack c.index-tokens-place.result c.in_ok-next.field-0 c.tokens.invariant c.tokens-test.true c.in_ok-next.ensures c.in-Left.tall c.in-Left.is) }
+returns-in-Left c = record { follows = turn_left (goal_of c.args.part) c.args.tokens.now c.args.at c.tokens.place c.tokens.progress c.tokens.stack c.turn.new.stack c.index-tokens-place.result c.in_ok-next.field-0 c.tokens.invariant c.tokens-test.true c.in_ok-next.ensures c.in-Left.tall c.in-Left.is }
 
 pub returns-then-branch : goal.returns-then-branch
 returns-then-branch c = record { follows = turn_deep (goal_of c.args.part) c.args.tokens.now c.args.at c.tokens.place c.tokens.progress c.tokens.stack c.turn.new.stack c.index-tokens-place.result c.in_ok-next.field-0 c.tokens.invariant c.tokens-test.true c.in_ok-next.ensures c.in-Deep.is c.index-tokens-place-in-Deep.result (sym c.if-branch.true ∙ c.in_ok-has_spelled_fields-in-Deep.ensures) }
