@@ -231,9 +231,9 @@ module _ (ps : List Piece) (i : ℕ) (p : Piece) (all : Option Parts) (fs : List
       ∙ ap (λ (y : List Token). with_field (field_expr (start any) (row y)) (parts (plain_pieces (drop (i + 1) ps)))) (sym items)
 
   -- a field with its tree
-  pub parts_field : (limit : ℕ) (v : Vec Token) (ts : List Token) (t : Tall) (new : List FormatPart) (more : ℕ) → p ≡ piece_.Field v → ts ≡ v.items → IsField limit (field_expr (start any) (row ts)) (Ok t) → new ≡ fs ++ part_.Field t.expr ∷ [] → more ≡ max high t.height → PartsSoFar all new more (plain_pieces (drop (i + 1) ps))
-  parts_field limit v ts t new more is items tree pushed most =
-      let views : plain_parts new ≡ behind (plain_parts fs) (field (view_tall t) no_parts) = ap plain_parts pushed ∙ parts_more fs (part_.Field t.expr) (field (view_tall t) no_parts) (field_is t.expr) in
+  pub parts_field : (limit : ℕ) (v : Vec Token) (ts : List Token) (t : Tall) (n : Node) (new : List FormatPart) (more : ℕ) → p ≡ piece_.Field v → ts ≡ v.items → IsField limit (field_expr (start any) (row ts)) (Ok t) → n ≡ t.expr.value → new ≡ fs ++ part_.Field n ∷ [] → more ≡ max high t.height → PartsSoFar all new more (plain_pieces (drop (i + 1) ps))
+  parts_field limit v ts t n new more is items tree one pushed most =
+      let views : plain_parts new ≡ behind (plain_parts fs) (field (view_tall t) no_parts) = ap plain_parts pushed ∙ parts_more fs (part_.Field n) (field (view_tall t) no_parts) (field_is n ∙ ap (λ (x : Node). field (plain_expr x) no_parts) one) in
       let high_is = behind_height (plain_parts fs) (field (view_tall t) no_parts) in
       let same = ap height_parts views in
       let before = h.height in

@@ -1,14 +1,16 @@
 -- What the machine does with a frame, in the forms in which the code does it.
-use Rattle.std.proofs.Common.{◌≡◌, false, refl}
+use Rattle.std.proofs.Common.{◌≡◌, false, refl, sym, ap, ◌∙◌}
 use Rattle.py_syntax.specs.declared.expr.Comparison.TheVariants.{Op}
 use Rattle.py_syntax.specs.Tree.{Expr, Exprs, Links}
 use Rattle.py_value.specs.declared.operator.CmpOp.{CmpOp}
 use Rattle.py_parse_expr.specs.declared.expr_roles.Role as held_role
 use Rattle.py_parse_expr.specs.declared.expr_roles.Role.TheVariants as role_
 use Rattle.py_grammar.specs.Roles.{Joint, Role, r_compare, r_joint, r_not, r_is, joint_level, joined}
-use Rattle.py_grammar.specs.Machine.{snoc_link, Opener, a_call, a_list, Ctx, on, first, right, compare_rest, in_items, Linked, Stuck, give, step}
-use Rattle.py_parse_expr.specs.ExprHeld.{view_role}
-use Rattle.py_parse_expr.specs.ExprTurns.{closes}
+use Rattle.py_grammar.specs.Machine.{snoc_link, Opener, a_call, a_list, Frame, Ctx, on, first, right, compare_rest, in_items, Linked, Stuck, give, step}
+use Rattle.py_parse_expr.specs.declared.expr_nodes.Tall.{Tall}
+use Rattle.py_parse_expr.specs.declared.expr_turns.Met.TheVariants as met_
+use Rattle.py_parse_expr.specs.ExprHeld.{view_role, Makes}
+use Rattle.py_parse_expr.specs.ExprTurns.{closes, MeetsAs}
 
 pub give_right : (e a : Expr) (i : Joint) (k : Ctx) (t : Role) → give e (on (right i a) k) t ≡ give (joined i a e) (on (first (joint_level i)) k) t
 give_right e a i k (r_joint j) = refl
@@ -26,3 +28,7 @@ give_unclosed e (a_call f) es k role_.RightParen h i = absurd cc
 give_unclosed e a_list es k role_.RightBracket h i = absurd cc
 give_unclosed e (a_call f) es k r h i = refl
 give_unclosed e a_list es k r h i = refl
+
+-- a frame that makes a tree for the next one
+pub passes : (f : Frame) (whole e : Expr) (t : Role) (n : Tall) → ((k : Ctx) → give e (on f k) t ≡ give whole k t) → Makes whole n → MeetsAs e f t (met_.Passes n)
+passes f whole e t n same makes = λ k. (same k ∙ ap (λ (x : Expr). give x k t) (sym makes.is), makes.kept)

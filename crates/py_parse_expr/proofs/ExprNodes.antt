@@ -1,6 +1,10 @@
 -- One more at the end of what the code holds.
-use Rattle.std.proofs.Common.{◌≡◌, ℕ, suc, max, Bool, true, false, cond, ◌&&◌, List, [], ◌∷◌, ◌++◌, refl, sym, ap, ◌∙◌, arith}
-use Rattle.std.specs.Global.{Vec}
+use Rattle.std.specs.Prelude.{Box, IfOk, option_map}
+use Rattle.std.proofs.Common.{◌≡◌, ℕ, suc, max, Bool, true, false, cond, ◌&&◌, List, [], ◌∷◌, ◌++◌, Option, Some, None, Result, Ok, Err, refl, sym, ap, ◌∙◌, arith}
+use Rattle.std.specs.declared.alloc.AllocError.{AllocError}
+use Rattle.std.specs.Global.{Global, Vec}
+use Rattle.py_value.specs.declared.operator.BinOp.{BinOp}
+use Rattle.py_syntax.specs.declared.expr.Sign.{Sign}
 use Rattle.py_syntax.specs.declared.expr.Comparison.{Comparison}
 use Rattle.py_syntax.specs.declared.expr.Expr.{Expr as Node}
 use Rattle.py_syntax.specs.declared.expr.Expr as node
@@ -13,9 +17,9 @@ use Rattle.py_syntax.specs.declared.expr.Fragment.{Fragment}
 use Rattle.py_syntax.specs.declared.expr.FormatPart.{FormatPart}
 use Rattle.py_syntax.specs.declared.expr.Fragment.TheVariants as fragment_
 use Rattle.py_syntax.specs.declared.expr.Expr.TheVariants as variant
-use Rattle.py_syntax.specs.Tree.{Text, Expr, none, bool, str, fstr, exprs, Pairs, pair, Links, link, Fragments, no_fragments, plain, format, Parts}
+use Rattle.py_syntax.specs.Tree.{Text, Expr, name, none, bool, str, fstr, tuple, list, dict, paren, not', and, or, unary, binary, compare, cond as if_else, call, index, slice, attr, OptExpr, exprs, Pairs, pair, Links, link, Fragments, no_fragments, plain, format, Parts}
 use Rattle.py_syntax.specs.Normal.{is_target, are_targets, height, heights, height_entries, height_links, height_fragments, height_parts}
-use Rattle.py_syntax.specs.View.{PlainFragment, a_plain, a_format, fragments_of, plain_expr, plain_exprs, plain_pairs, plain_links, plain_fragments, plain_parts}
+use Rattle.py_syntax.specs.View.{PlainFragment, a_plain, a_format, fragments_of, opt_of, plain_expr, plain_exprs, plain_pairs, plain_links, plain_fragments, plain_parts}
 use Rattle.py_grammar.specs.Machine.{snoc, snoc_pair, snoc_link, snoc_plain, snoc_format, has_format, texts, strings_of}
 use Rattle.py_parse_expr.specs.declared.expr_nodes.Tall.{Tall}
 use Rattle.py_parse_expr.specs.declared.expr_nodes.Row.{Row}
@@ -63,7 +67,7 @@ entries_more ps n k v are key value same height =
     let two = value.height in
     omega arith
 
-pub chain_more : (c n : Chain) (op : Comparison) (t : Tall) → IsChain c → IsTall t → plain_expr n.first ≡ plain_expr c.first → view_links n ≡ snoc_link (view_links c) op (view_tall t) → n.height ≡ max c.height t.height → IsChain n
+pub chain_more : (c n : Chain) (op : Comparison) (t : Tall) → IsChain c → IsTall t → plain_expr n.first.value ≡ plain_expr c.first.value → view_links n ≡ snoc_link (view_links c) op (view_tall t) → n.height ≡ max c.height t.height → IsChain n
 chain_more c n op t is tall first same height' =
     let h = links_snoc (view_links c) op (view_tall t) in
     let e = ap height_links same in
@@ -142,21 +146,23 @@ mixed_height fs h n kept is =
     let high = kept.1 in
     omega arith
 
-pub makes_plain : (xs : Vec Text) (h : ℕ) → h ≡ capped (height (strings_of (plains xs.items))) → Makes (strings_of (plains xs.items)) (record { expr = variant.Str xs; height = h; target = false })
-makes_plain xs h is =
-    let e : plain_expr (variant.Str xs) ≡ strings_of (plains xs.items) = str_is xs ∙ sym (strings_plain xs.items) in
-    record { is = e; kept = record { height = is ∙ ap (λ (x : Expr). capped (height x)) (sym e); target = ap is_target (sym (str_is xs)) } }
+pub str_is : (xs : Vec Text) → plain_expr (variant.Str xs) ≡ strings_of (plains xs.items)
+str_is xs = go xs ∙ sym (strings_plain xs.items)
   where
-    str_is : (xs : Vec Text) → plain_expr (variant.Str xs) ≡ str xs.items
-    str_is xs = search node.the_lemmas
+    go : (xs : Vec Text) → plain_expr (variant.Str xs) ≡ str xs.items
+    go xs = search node.the_lemmas
 
-pub makes_mixed : (fs : Vec Fragment) (h : ℕ) → has_format (plain_fragments fs.items) ≡ true → h ≡ capped (height (strings_of (plain_fragments fs.items))) → Makes (strings_of (plain_fragments fs.items)) (record { expr = variant.FStr fs; height = h; target = false })
-makes_mixed fs h some is =
-    let e : plain_expr (variant.FStr fs) ≡ strings_of (plain_fragments fs.items) = fstr_is fs ∙ sym (strings_mixed (plain_fragments fs.items) some) in
-    record { is = e; kept = record { height = is ∙ ap (λ (x : Expr). capped (height x)) (sym e); target = ap is_target (sym (fstr_is fs)) } }
+pub fstr_is : (fs : Vec Fragment) → has_format (plain_fragments fs.items) ≡ true → plain_expr (variant.FStr fs) ≡ strings_of (plain_fragments fs.items)
+fstr_is fs some = go fs ∙ sym (strings_mixed (plain_fragments fs.items) some)
   where
-    fstr_is : (fs : Vec Fragment) → plain_expr (variant.FStr fs) ≡ fstr (plain_fragments fs.items)
-    fstr_is fs = search (node.the_lemmas, node_fragment.the_lemmas)
+    go : (fs : Vec Fragment) → plain_expr (variant.FStr fs) ≡ fstr (plain_fragments fs.items)
+    go fs = search (node.the_lemmas, node_fragment.the_lemmas)
+
+pub plain_target : (xs : List Text) → false ≡ is_target (strings_of (plains xs))
+plain_target xs = ap is_target (sym (strings_plain xs))
+
+pub mixed_target : (fs : Fragments) → has_format fs ≡ true → false ≡ is_target (strings_of fs)
+mixed_target fs some = ap is_target (sym (strings_mixed fs some))
 
 -- ---- words
 
@@ -165,3 +171,66 @@ none_is = search node.the_lemmas
 
 pub bool_is : (b : Bool) → plain_expr (variant.Bool b) ≡ bool b
 bool_is b = search node.the_lemmas
+
+-- ---- trees in boxes
+
+pub name_is : (x : Text) → plain_expr (variant.Name x) ≡ name x
+name_is x = search node.the_lemmas
+
+pub tuple_is : (es : Vec Node) (c : Bool) → plain_expr (variant.Tuple es c) ≡ tuple (plain_exprs es.items) c
+tuple_is es c = search node.the_lemmas
+
+pub list_is : (es : Vec Node) (c : Bool) → plain_expr (variant.List es c) ≡ list (plain_exprs es.items) c
+list_is es c = search node.the_lemmas
+
+pub dict_is : (ps : Vec Pair) (c : Bool) → plain_expr (variant.Dict ps c) ≡ dict (plain_pairs ps.items) c
+dict_is ps c = search (node.the_lemmas, node_pair.the_lemmas)
+
+pub paren_is : (e : Box Node Global) → plain_expr (variant.Paren e) ≡ paren (plain_expr e.value)
+paren_is e = search node.the_lemmas
+
+pub not_is : (e : Box Node Global) → plain_expr (variant.Not e) ≡ not' (plain_expr e.value)
+not_is e = search node.the_lemmas
+
+pub and_is : (a b : Box Node Global) → plain_expr (variant.And a b) ≡ and (plain_expr a.value) (plain_expr b.value)
+and_is a b = search node.the_lemmas
+
+pub or_is : (a b : Box Node Global) → plain_expr (variant.Or a b) ≡ or (plain_expr a.value) (plain_expr b.value)
+or_is a b = search node.the_lemmas
+
+pub unary_is : (s : Sign) (e : Box Node Global) → plain_expr (variant.Unary s e) ≡ unary s (plain_expr e.value)
+unary_is s e = search node.the_lemmas
+
+pub binary_is : (op : BinOp) (a b : Box Node Global) → plain_expr (variant.Binary op a b) ≡ binary op (plain_expr a.value) (plain_expr b.value)
+binary_is op a b = search node.the_lemmas
+
+pub compare_is : (a : Box Node Global) (ls : Vec Link) → plain_expr (variant.Compare a ls) ≡ compare (plain_expr a.value) (plain_links ls.items)
+compare_is a ls = search (node.the_lemmas, node_link.the_lemmas)
+
+pub cond_is : (b t o : Box Node Global) → plain_expr (variant.Cond b t o) ≡ if_else (plain_expr b.value) (plain_expr t.value) (plain_expr o.value)
+cond_is b t o = search node.the_lemmas
+
+pub call_is : (f : Box Node Global) (es : Vec Node) (c : Bool) → plain_expr (variant.Call f es c) ≡ call (plain_expr f.value) (plain_exprs es.items) c
+call_is f es c = search node.the_lemmas
+
+pub index_is : (a b : Box Node Global) → plain_expr (variant.Index a b) ≡ index (plain_expr a.value) (plain_expr b.value)
+index_is a b = search node.the_lemmas
+
+abbrev pub bound_is : Option (Box Node Global) → OptExpr
+bound_is b = opt_of (option_map (λ (x : Box Node Global). plain_expr x.value) b)
+
+pub slice_is : (a : Box Node Global) (f t : Option (Box Node Global)) → plain_expr (variant.Slice a f t) ≡ slice (plain_expr a.value) (bound_is f) (bound_is t)
+slice_is a None None = search node.the_lemmas
+slice_is a None (Some t) = search node.the_lemmas
+slice_is a (Some f) None = search node.the_lemmas
+slice_is a (Some f) (Some t) = search node.the_lemmas
+
+pub attr_is : (a : Box Node Global) (x : Text) → plain_expr (variant.Attr a x) ≡ attr (plain_expr a.value) x
+attr_is a x = search node.the_lemmas
+
+-- a tree with what is kept beside it
+pub boxed_makes : (e : Expr) (n : Node) (h : ℕ) (b : Bool) (r : Result Tall AllocError) → IfOk r (λ t. t.expr.value ≡ n) → IfOk r (λ t. t.height ≡ h) → IfOk r (λ t. t.target ≡ b) → plain_expr n ≡ e → h ≡ capped (height e) → b ≡ is_target e → IfOk r (Makes e)
+boxed_makes e n h b (Ok t) is high form shows height' target' =
+    let same : plain_expr t.expr.value ≡ e = ap plain_expr is ∙ shows in
+    record { is = same; kept = record { height = high ∙ height' ∙ ap (λ (x : Expr). capped (height x)) (sym same); target = form ∙ target' ∙ ap is_target (sym same) } }
+boxed_makes e n h b (Err x) is high form shows height' target' = tt

@@ -1,5 +1,5 @@
 -- Steps of the machine, in the forms in which the code takes them.
-use Rattle.std.proofs.Common.{◌≡◌, ℕ, Bool, true, false, not, cond, Some, Result, Ok, Err, refl, sym, subst, ap, ◌∙◌}
+use Rattle.std.proofs.Common.{◌≡◌, ℕ, Bool, true, false, cond, Some, Result, Ok, Err, refl, sym, subst, ap, ◌∙◌}
 use Rattle.std.specs.declared.alloc.AllocError.{AllocError}
 use Rattle.py_syntax.specs.Tree.{Expr, tuple, Exprs, no_exprs, exprs, Pairs, no_pairs}
 use Rattle.py_syntax.specs.Normal.{is_target}
@@ -8,8 +8,6 @@ use Rattle.py_parse_expr.specs.declared.expr_roles.Role as held_role
 use Rattle.py_parse_expr.specs.declared.expr_roles.Role.TheVariants as role_
 use Rattle.py_parse_expr.specs.declared.expr_stack.Frame as held_frame
 use Rattle.py_parse_expr.specs.declared.expr_stack.Stack.{Stack}
-use Rattle.py_parse_expr.specs.declared.expr_turns.Progress as held_progress
-use Rattle.py_parse_expr.specs.declared.expr_turns.Met.TheVariants as met_
 use Rattle.py_parse_expr.specs.declared.expr_turns.Turn.{Turn}
 use Rattle.py_parse_expr.specs.declared.expr_turns.Turn.TheVariants as turn_
 use Rattle.py_grammar.specs.Roles.{Role, r_comma, r_right_brace}
@@ -64,7 +62,3 @@ Popped o limit t e old f new = (o ≡ give (view_tall e) (on (view_frame f) (vie
 
 pub popped : (o : Out) (limit : ℕ) (t : Role) (e : Tall) (old : Stack) (f : held_frame.Frame) (new : Stack) → Giving o limit t e old → Pops (Some f) old new → Kept old.limit new → Popped o limit t e old f new
 popped o limit t e old f new g pops kept = (g.same ∙ ap (λ (k : Ctx). give (view_tall e) k t) pops.0, subst (λ (n : ℕ). Kept n new) g.kept.same kept)
-
-pub not_false : (b : Bool) → not b ≡ false → b ≡ true
-not_false true h = refl
-not_false false h = absurd cc

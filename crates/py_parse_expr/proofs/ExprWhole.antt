@@ -128,16 +128,16 @@ read_whole ts place e t rest there h is le =
 
 module _ (tokens : List Token) (r : ExprRead) (t : Token) (h : FollowsMachine (kinds_of_all tokens) 0 part_.Any (Ok r)) where
   pub place_there : r.next < length tokens
-  place_there = let lt = read_some (kinds_of_all tokens) r.next (plain_expr r.expr) h in let same = kinds_length tokens in omega arith
+  place_there = let lt = read_some (kinds_of_all tokens) r.next (plain_expr r.expr.value) h in let same = kinds_length tokens in omega arith
 
   pub answer_other : false ≡ is_end (kind_at (get_or tokens r.next t)) → IsUnexpected HEIGHT (kinds_of_all tokens) r.next
-  answer_other is = read_other (kinds_of_all tokens) r.next (plain_expr r.expr) (kind_at (get_or tokens r.next t)) (drop (r.next + 1) (kinds_of_all tokens)) (kind_there tokens r.next t place_there) h (sym is)
+  answer_other is = read_other (kinds_of_all tokens) r.next (plain_expr r.expr.value) (kind_at (get_or tokens r.next t)) (drop (r.next + 1) (kinds_of_all tokens)) (kind_there tokens r.next t place_there) h (sym is)
 
   pub answer_more : true ≡ is_end (kind_at (get_or tokens r.next t)) → r.next + 1 < length tokens → IsUnexpected HEIGHT (kinds_of_all tokens) (r.next + 1)
-  answer_more is lt = let same = kinds_length tokens in read_more (kinds_of_all tokens) r.next (plain_expr r.expr) (kind_at (get_or tokens r.next t)) (drop (r.next + 1) (kinds_of_all tokens)) (kind_there tokens r.next t place_there) h (sym is) (omega arith)
+  answer_more is lt = let same = kinds_length tokens in read_more (kinds_of_all tokens) r.next (plain_expr r.expr.value) (kind_at (get_or tokens r.next t)) (drop (r.next + 1) (kinds_of_all tokens)) (kind_there tokens r.next t place_there) h (sym is) (omega arith)
 
-  pub answer_whole : true ≡ is_end (kind_at (get_or tokens r.next t)) → length tokens ≤ r.next + 1 → Spells (plain_expr r.expr) (kinds_of_all tokens) × (height (plain_expr r.expr) ≤ HEIGHT)
-  answer_whole is le = let same = kinds_length tokens in read_whole (kinds_of_all tokens) r.next (plain_expr r.expr) (kind_at (get_or tokens r.next t)) (drop (r.next + 1) (kinds_of_all tokens)) (kind_there tokens r.next t place_there) h (sym is) (omega arith)
+  pub answer_whole : (n : Node) → n ≡ r.expr.value → true ≡ is_end (kind_at (get_or tokens r.next t)) → length tokens ≤ r.next + 1 → Spells (plain_expr n) (kinds_of_all tokens) × (height (plain_expr n) ≤ HEIGHT)
+  answer_whole n one is le = let same = kinds_length tokens in subst (λ (x : Node). Spells (plain_expr x) (kinds_of_all tokens) × (height (plain_expr x) ≤ HEIGHT)) (sym one) (read_whole (kinds_of_all tokens) r.next (plain_expr r.expr.value) (kind_at (get_or tokens r.next t)) (drop (r.next + 1) (kinds_of_all tokens)) (kind_there tokens r.next t place_there) h (sym is) (omega arith))
 
 refused : (ts : List Kind) (e : ReadError) → FollowsMachine ts 0 part_.Any (Err e) → Parses ts (Err e)
 refused ts (error.Unexpected place) h = read_unexpected ts place h

@@ -1,5 +1,5 @@
 -- Roles of tokens and expressions as the code holds them.
-use Rattle.std.specs.Prelude.{◌≡◌, ℕ, min, max, Bool, true, List, [], ◌∷◌, Option, Some, None}
+use Rattle.std.specs.Prelude.{◌≡◌, ℕ, min, max, true, List, [], ◌∷◌, Option, Some, None}
 use Rattle.py_token.specs.declared.token.Keyword.{Keyword}
 use Rattle.py_token.specs.declared.token.Mark.{Mark}
 use Rattle.py_syntax.specs.Tree.{Text, Expr, Exprs, Pairs, Links, OptExpr, absent, present, Fragments, no_fragments, plain, Parts}
@@ -87,7 +87,7 @@ abbrev pub capped : ℕ → ℕ
 capped n = min n 201
 
 abbrev pub view_tall : Tall → Expr
-view_tall t = plain_expr t.expr
+view_tall t = plain_expr t.expr.value
 
 -- what is kept beside a tree is what it says
 pub record IsTall (t : Tall) : Type 0 where
@@ -111,7 +111,7 @@ abbrev pub view_links : Chain → Links
 view_links c = plain_links c.links.items
 
 abbrev pub IsChain : Chain → Type 0
-IsChain c = c.height ≡ capped (max (height (plain_expr c.first)) (height_links (view_links c)))
+IsChain c = c.height ≡ capped (max (height (plain_expr c.first.value)) (height_links (view_links c)))
 
 abbrev pub AreFields : Fields → Type 0
 AreFields fs = fs.height ≡ capped (height_parts (view_fields fs))

@@ -2,6 +2,7 @@
 use Rattle.std.specs.Prelude.{◌≡◌, ℕ, suc, ◌≤◌, true, false, List, [], ◌∷◌, length, reverse, Option, Some, None}
 use Rattle.py_syntax.specs.Spelling.{HEIGHT}
 use Rattle.py_syntax.specs.Tree.{Expr, none, Exprs, no_exprs, exprs}
+use Rattle.py_syntax.specs.Normal.{Level, LEnd, LExprs, LExpr, LOr, LAnd, LNot, LCmp, LSum, LTerm, LUnary, LPost}
 use Rattle.py_syntax.specs.View.{plain_expr}
 use Rattle.py_parse_expr.specs.declared.expr_nodes.Row.{Row}
 use Rattle.py_parse_expr.specs.declared.expr_stack.Goal as held_goal
@@ -11,7 +12,7 @@ use Rattle.py_parse_expr.specs.declared.expr_stack.Frame.TheVariants as frame_
 use Rattle.py_parse_expr.specs.declared.expr_stack.Room.{Room}
 use Rattle.py_parse_expr.specs.declared.expr_stack.Held.{Held}
 use Rattle.py_parse_expr.specs.declared.expr_stack.Stack.{Stack}
-use Rattle.py_grammar.specs.Machine.{Goal, any, one, target, targets, Frame, exprs_first, exprs_rest, cond_first, cond_test, cond_else, first, right, not_of, compare_first, compare_rest, unary_of, post_rest, in_items, index_first, in_index, slice_to, in_paren, in_key, in_value, Ctx, Outside, on}
+use Rattle.py_grammar.specs.Machine.{Goal, any, one, target, targets, Frame, exprs_first, exprs_rest, cond_first, cond_test, cond_else, first, right, not_of, compare_first, compare_rest, unary_of, post_rest, in_items, index_first, in_index, slice_to, in_paren, in_key, in_value, Ctx, Outside, on, upto_exprs, upto_cond, upto_or, upto_and, upto_compare, upto_sum, upto_term}
 use Rattle.py_grammar.specs.Least.{wants}
 use Rattle.py_grammar.specs.Rooms.{room}
 use Rattle.py_parse_expr.specs.ExprHeld.{view_level, view_joint, view_tall, view_row, view_entries, view_links, view_opener, view_bound, IsTall, AreTall, AreEntries, IsChain, KeptOpener, KeptBound}
@@ -54,7 +55,7 @@ view_frame (frame_.First l) = first (view_level l)
 view_frame (frame_.Right j a) = right (view_joint j) (view_tall a)
 view_frame frame_.NotOf = not_of
 view_frame frame_.CompareFirst = compare_first
-view_frame (frame_.CompareRest c op) = compare_rest (plain_expr c.first) (view_links c) op
+view_frame (frame_.CompareRest c op) = compare_rest (plain_expr c.first.value) (view_links c) op
 view_frame (frame_.UnaryOf s) = unary_of s
 view_frame frame_.PostRest = post_rest
 view_frame (frame_.InItems o r) = in_items (view_opener o) (view_row r)
@@ -104,6 +105,20 @@ pub record Kept (limit : ℕ) (s : Stack) : Type 0 where
   pub low : limit ≤ HEIGHT
   pub goal : KeptGoal s.goal
   pub frames : KeptFrames limit (view_goal s.goal) (reverse s.frames.items)
+
+-- What is open behind a tree of the second level, and what holds one: where a tree of the first level was to begin.
+abbrev pub opened : Level → Level → Ctx → Ctx
+opened lev LEnd k = k
+opened lev LExprs k = upto_exprs lev k
+opened lev LExpr k = upto_cond lev k
+opened lev LOr k = upto_or lev k
+opened lev LAnd k = upto_and lev k
+opened lev LNot k = upto_and lev k
+opened lev LCmp k = upto_compare lev k
+opened lev LSum k = upto_sum lev k
+opened lev LTerm k = upto_term lev k
+opened lev LUnary k = upto_term lev k
+opened lev LPost k = on post_rest (upto_term lev k)
 
 -- the innermost frame, and those round it
 abbrev pub Pops : Option held_frame.Frame → Stack → Stack → Type 0

@@ -1,9 +1,6 @@
 -- What a token makes of an expression that is read, as the code holds it.
 use Rattle.std.specs.Prelude.{◌≡◌, ℕ, ◌≤◌, ◌<◌, Bool, true, false, Result, Ok, Err}
 use Rattle.std.specs.declared.alloc.AllocError.{AllocError}
-use Rattle.py_value.specs.declared.operator.BinOp.TheVariants as op_
-use Rattle.py_syntax.specs.declared.expr.Sign.{Sign}
-use Rattle.py_syntax.specs.declared.expr.Sign.TheVariants as sign_
 use Rattle.py_syntax.specs.Tree.{Expr, dict, Pairs}
 use Rattle.py_syntax.specs.Normal.{LExpr}
 use Rattle.py_syntax.specs.View.{plain_expr}
@@ -14,7 +11,7 @@ use Rattle.py_parse_expr.specs.declared.expr_turns.Met.{Met}
 use Rattle.py_parse_expr.specs.declared.expr_turns.Met.TheVariants as met_
 use Rattle.py_parse_expr.specs.declared.expr_turns.Turn.{Turn}
 use Rattle.py_parse_expr.specs.declared.expr_turns.Turn.TheVariants as turn_
-use Rattle.py_grammar.specs.Roles.{j_op, Role, r_joint, r_right_paren, r_right_bracket, r_right_brace}
+use Rattle.py_grammar.specs.Roles.{Role, r_right_paren, r_right_bracket, r_right_brace}
 use Rattle.py_grammar.specs.Machine.{Opener, a_call, a_list, Frame, post_rest, in_key, Ctx, on, State, Want, Have, Strings, AfterOpen, AfterComma, AfterTarget, ItemsOpen, ItemsComma, DictOpen, DictComma, IndexOpen, SliceColon, AfterDot, AfterNot, AfterIs, AfterIsNot, Linked, Out, Next, Stuck, Left, begin, give}
 use Rattle.py_grammar.specs.Least.{least}
 use Rattle.py_parse_expr.specs.ExprHeld.{view_level, view_tall, view_row, view_entries, view_links, view_opener, view_bound, view_strings, IsTall, AreTall, AreEntries, IsChain, KeptOpener, KeptBound, KeptStrings}
@@ -34,10 +31,10 @@ view_at (progress_.DictComma ps) k = DictComma (view_entries ps) k
 view_at (progress_.IndexOpen f) k = IndexOpen (view_tall f) k
 view_at (progress_.SliceColon f from) k = SliceColon (view_tall f) (view_bound from) k
 view_at (progress_.AfterDot f) k = AfterDot (view_tall f) k
-view_at (progress_.AfterNot c) k = AfterNot (plain_expr c.first) (view_links c) k
-view_at (progress_.AfterIs c) k = AfterIs (plain_expr c.first) (view_links c) k
-view_at (progress_.AfterIsNot c) k = AfterIsNot (plain_expr c.first) (view_links c) k
-view_at (progress_.Linked c) k = Linked (plain_expr c.first) (view_links c) k
+view_at (progress_.AfterNot c) k = AfterNot (plain_expr c.first.value) (view_links c) k
+view_at (progress_.AfterIs c) k = AfterIs (plain_expr c.first.value) (view_links c) k
+view_at (progress_.AfterIsNot c) k = AfterIsNot (plain_expr c.first.value) (view_links c) k
+view_at (progress_.Linked c) k = Linked (plain_expr c.first.value) (view_links c) k
 
 -- what is kept beside the trees is so
 abbrev pub KeptAt : held_progress.Progress → Type 0
@@ -84,11 +81,6 @@ abbrev pub Meets : Expr → Frame → Role → Result Met AllocError → Type 0
 Meets e f t r = (k : Ctx) → Becomes (give e (on f k) t) k t r
 
 -- ---- a step
-
--- the role of a sign
-abbrev pub sign_role : Sign → Role
-sign_role sign_.Plus = r_joint (j_op op_.Add)
-sign_role sign_.Minus = r_joint (j_op op_.Sub)
 
 -- the token that closes a dict, or one that begins a key
 abbrev pub close_dict : Pairs → Bool → Ctx → Role → Out

@@ -131,7 +131,7 @@ fn fields(alloc: Global, pieces: &[Piece], limit: usize) -> Result<Result<Fields
             Piece::Field(tokens) => match field(alloc, tokens, limit - 1)? {
                 Ok(tall) => {
                     height = higher(height, tall.height);
-                    parts.push(FormatPart::Field(tall.expr))?;
+                    parts.push(FormatPart::Field(Box::into_inner(tall.expr)))?;
                 }
                 Err(unread) => return Ok(Err(unread)),
             },

@@ -2,20 +2,18 @@
 
 ghost use Rattle.std.specs.Prelude.{◌≡◌};
 ghost use Rattle.py_syntax.specs.View.{plain_expr};
-ghost use Rattle.py_grammar.specs.Roles.{Role as SpecRole};
-ghost use Rattle.py_grammar.specs.Machine.{on, Ctx, Next, Have, Linked, step, give, exprs_first, cond_first, cond_test, cond_else, first, right, not_of, compare_first, unary_of, post_rest, in_items, index_first, in_index, slice_to, in_paren, in_key, in_value};
+ghost use Rattle.py_grammar.specs.Machine.{Ctx, Next, Have, Linked, step, exprs_first, cond_first, cond_test, first, right, compare_first, post_rest, in_items, index_first, in_index, slice_to, in_paren, in_key, in_value};
 ghost use Rattle.py_parse_expr.specs.ExprHeld.{view_level, view_joint, view_role, view_tall, view_row, view_entries, view_links, view_opener, view_bound, IsTall, AreTall, AreEntries, IsChain, KeptOpener, KeptBound};
 ghost use Rattle.py_parse_expr.specs.ExprStacks.{view_frame, KeptFrame};
 ghost use Rattle.py_parse_expr.specs.ExprTurns.{closes, Becomes, MeetsAs, Meets};
 
 use crate::expr_nodes::{
-    Chain, Entries, Opener, Row, Tall, comparison, conditional, dict, index, joined, made,
-    negation, paren, slice, tuple, unary,
+    Chain, Entries, Opener, Row, Tall, comparison, dict, index, joined, made, paren, slice, tuple,
 };
 use crate::expr_roles::{Joint, Level, Role};
 use crate::expr_stack::Frame;
 use crate::expr_turns::{Met, Progress};
-use py_syntax::{Comparison, Sign};
+use py_syntax::Comparison;
 use py_value::{CmpOp, NoMemory};
 use std::alloc::Global;
 
@@ -29,7 +27,7 @@ pub fn exprs_first(alloc: Global, tall: Tall, role: &Role) -> Result<Met, NoMemo
     }
 }
 
-pub fn exprs_rest(items: Row, tall: Tall, role: &Role) -> Result<Met, NoMemory>
+pub fn exprs_rest(alloc: Global, items: Row, tall: Tall, role: &Role) -> Result<Met, NoMemory>
     requires frame { KeptFrame (Frame.ExprsRest items) }
     requires tall { IsTall tall }
     ensures { Meets (view_tall tall) (view_frame (Frame.ExprsRest items)) (view_role role.now) result }
@@ -37,7 +35,7 @@ pub fn exprs_rest(items: Row, tall: Tall, role: &Role) -> Result<Met, NoMemory>
     let items = items.with(tall)?;
     match role {
         Role::Comma => Ok(Met::Next(Progress::AfterComma(items))),
-        _ => Ok(Met::Passes(tuple(items, false))),
+        _ => Ok(Met::Passes(tuple(alloc, items, false)?)),
     }
 }
 
@@ -60,15 +58,6 @@ pub fn cond_test(body: Tall, tall: Tall, role: &Role) -> Met
         Role::Else => Met::Opens(Frame::CondElse(body, tall), Progress::Want(Level::Expr)),
         _ => Met::Stuck,
     }
-}
-
-pub fn cond_else(alloc: Global, body: Tall, test: Tall, tall: Tall) -> Result<Met, NoMemory>
-    requires body { IsTall body }
-    requires test { IsTall test }
-    requires tall { IsTall tall }
-    ensures { (t : SpecRole) → Meets (view_tall tall) (cond_else (view_tall body) (view_tall test)) t result }
-{
-    Ok(Met::Passes(conditional(alloc, body, test, tall)?))
 }
 
 /// An operand in front of a joint of its level, or not.
@@ -102,13 +91,6 @@ pub fn right(
     Ok(operand(joint.level(), tall, role))
 }
 
-pub fn not_of(alloc: Global, tall: Tall) -> Result<Met, NoMemory>
-    requires { IsTall tall }
-    ensures { (t : SpecRole) → Meets (view_tall tall) not_of t result }
-{
-    Ok(Met::Passes(negation(alloc, tall)?))
-}
-
 pub fn compare_first(alloc: Global, tall: Tall, role: &Role) -> Result<Met, NoMemory>
     requires { IsTall tall }
     ensures { Meets (view_tall tall) compare_first (view_role role.now) result }
@@ -127,7 +109,7 @@ pub fn compare_first(alloc: Global, tall: Tall, role: &Role) -> Result<Met, NoMe
 /// Behind a comparison.
 pub fn link(alloc: Global, chain: Chain, role: &Role) -> Result<Met, NoMemory>
     requires { IsChain chain }
-    ensures { (k : Ctx) → Becomes (step (Linked (plain_expr chain.first) (view_links chain) k) (view_role role.now)) k (view_role role.now) result }
+    ensures { (k : Ctx) → Becomes (step (Linked (plain_expr chain.first.value) (view_links chain) k) (view_role role.now)) k (view_role role.now) result }
 {
     match role {
         Role::Compare(op) => Ok(Met::Opens(
@@ -152,13 +134,6 @@ pub fn compare_rest(
     ensures { Meets (view_tall tall) (view_frame (Frame.CompareRest chain op)) (view_role role.now) result }
 {
     link(alloc, chain.with(Comparison::Op(op), tall)?, role)
-}
-
-pub fn unary_of(alloc: Global, sign: Sign, tall: Tall) -> Result<Met, NoMemory>
-    requires { IsTall tall }
-    ensures { (t : SpecRole) → Meets (view_tall tall) (unary_of sign) t result }
-{
-    Ok(Met::Passes(unary(alloc, sign, tall)?))
 }
 
 pub fn post_rest(tall: Tall, role: &Role) -> Met
@@ -286,7 +261,13 @@ pub fn in_key(entries: Entries, tall: Tall, role: &Role) -> Met
     }
 }
 
-pub fn in_value(entries: Entries, key: Tall, tall: Tall, role: &Role) -> Result<Met, NoMemory>
+pub fn in_value(
+    alloc: Global,
+    entries: Entries,
+    key: Tall,
+    tall: Tall,
+    role: &Role,
+) -> Result<Met, NoMemory>
     requires entries { AreEntries entries }
     requires key { IsTall key }
     requires tall { IsTall tall }
@@ -295,8 +276,8 @@ pub fn in_value(entries: Entries, key: Tall, tall: Tall, role: &Role) -> Result<
     match role {
         Role::Comma => Ok(Met::Next(Progress::DictComma(entries.with(key, tall)?))),
         Role::RightBrace => {
-            let entries = entries.with(key, tall)?;
-            Ok(Met::Opens(Frame::PostRest, Progress::Have(dict(entries, false))))
+            let whole = dict(alloc, entries.with(key, tall)?, false)?;
+            Ok(Met::Opens(Frame::PostRest, Progress::Have(whole)))
         }
         _ => Ok(Met::Stuck),
     }

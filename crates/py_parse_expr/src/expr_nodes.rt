@@ -1,13 +1,13 @@
 // Expressions with their heights.
 
-ghost use Rattle.std.specs.Prelude.{◌≡◌, suc, max, true, false, ◌&&◌, IfOk, OnOk};
+ghost use Rattle.std.specs.Prelude.{◌≡◌, suc, max, true, false, ◌&&◌, IfOk};
 ghost use Rattle.py_syntax.specs.Tree.{name, tuple, list, dict, paren, not', unary, compare, cond, index, slice, attr, no_exprs, no_pairs, no_links};
 ghost use Rattle.std.specs.Option.{option_map};
 ghost use Rattle.py_syntax.specs.Normal.{is_target, height, height_bound};
 ghost use Rattle.py_syntax.specs.View.{plain_expr, opt_of};
 ghost use Rattle.py_grammar.specs.Roles.{joined};
-ghost use Rattle.py_grammar.specs.Machine.{snoc, snoc_pair, snoc_link, made, strings_of};
-ghost use Rattle.py_parse_expr.specs.ExprHeld.{view_joint, view_tall, view_row, view_entries, view_links, view_opener, view_bound, capped, IsTall, AreTall, AreEntries, IsChain, KeptOpener, KeptBound, KeptStrings, Makes, view_strings};
+ghost use Rattle.py_grammar.specs.Machine.{snoc, snoc_pair, snoc_link, made};
+ghost use Rattle.py_parse_expr.specs.ExprHeld.{view_joint, view_tall, view_row, view_entries, view_links, view_opener, view_bound, capped, IsTall, AreTall, AreEntries, IsChain, KeptOpener, KeptBound, Makes};
 
 use crate::expr_roles::Joint;
 use py_syntax::{Comparison, Expr, FormatPart, Fragment, Link, Pair, Sign};
@@ -17,10 +17,10 @@ use std::alloc::Global;
 /// The greatest height that is told from greater ones.
 const CAP: usize = 201;
 
-/// An expression, its height, and whether it has the form of a target.
+/// An expression, its height, and whether it has the form of a target. It stands in a box, so that it moves at little cost.
 #[derive(Drop)]
 pub struct Tall {
-    pub expr: Expr,
+    pub expr: Box<Expr>,
     pub height: usize,
     pub target: bool,
 }
@@ -43,7 +43,7 @@ pub struct Entries {
 /// A chain of comparisons, and the greatest height of an operand.
 #[derive(Drop)]
 pub struct Chain {
-    pub first: Expr,
+    pub first: Box<Expr>,
     pub links: Vec<Link>,
     pub height: usize,
 }
@@ -90,27 +90,32 @@ pub fn over(height: usize) -> usize
 }
 
 impl Tall {
-    /// What has the height of a name and isn't one.
-    pub fn low(expr: Expr) -> Tall
-        requires height { height (plain_expr expr) ≡ 1 }
-        requires target { is_target (plain_expr expr) ≡ false }
-        ensures { Makes (plain_expr expr) result }
+    pub fn new(alloc: Global, expr: Expr, height: usize, target: bool) -> Result<Tall, NoMemory>
+        ensures expr { IfOk result (λ t. t.expr.value ≡ expr) }
+        ensures height { IfOk result (λ t. t.height ≡ height) }
+        ensures target { IfOk result (λ t. t.target ≡ target) }
     {
-        Tall {
+        let expr = Box::new(alloc, expr)?;
+        Ok(Tall {
             expr,
-            height: 1,
-            target: false,
-        }
+            height,
+            target,
+        })
     }
 
-    pub fn name(text: Text) -> Tall
-        ensures { Makes (name text) result }
+    /// What has the height of a name and isn't one.
+    pub fn low(alloc: Global, expr: Expr) -> Result<Tall, NoMemory>
+        requires height { height (plain_expr expr) ≡ 1 }
+        requires target { is_target (plain_expr expr) ≡ false }
+        ensures { IfOk result (Makes (plain_expr expr)) }
     {
-        Tall {
-            expr: Expr::Name(text),
-            height: 1,
-            target: true,
-        }
+        Tall::new(alloc, expr, 1, false)
+    }
+
+    pub fn name(alloc: Global, text: Text) -> Result<Tall, NoMemory>
+        ensures { IfOk result (Makes (name text)) }
+    {
+        Tall::new(alloc, Expr::Name(text), 1, true)
     }
 }
 
@@ -126,18 +131,6 @@ impl Row {
         }
     }
 
-    pub fn push(&mut self, tall: Tall) -> Result<(), NoMemory>
-        requires are { AreTall self.old }
-        requires is { IsTall tall }
-        ensures items { OnOk result (view_row self.new ≡ snoc (view_row self.old) (view_tall tall)) }
-        ensures are { OnOk result (AreTall self.new) }
-    {
-        self.items.push(tall.expr)?;
-        self.height = higher(self.height, tall.height);
-        self.targets = both(self.targets, tall.target);
-        Ok(())
-    }
-
     /// The same with one more at the end.
     pub fn with(self, tall: Tall) -> Result<Row, NoMemory>
         requires are { AreTall self }
@@ -146,7 +139,9 @@ impl Row {
         ensures are { IfOk result AreTall }
     {
         let mut row = self;
-        row.push(tall)?;
+        row.height = higher(row.height, tall.height);
+        row.targets = both(row.targets, tall.target);
+        row.items.push(Box::into_inner(tall.expr))?;
         Ok(row)
     }
 }
@@ -173,8 +168,8 @@ impl Entries {
         let mut entries = self;
         entries.height = higher(entries.height, higher(key.height, value.height));
         entries.pairs.push(Pair {
-            key: key.expr,
-            value: value.expr,
+            key: Box::into_inner(key.expr),
+            value: Box::into_inner(value.expr),
         })?;
         Ok(entries)
     }
@@ -184,7 +179,7 @@ impl Chain {
     /// A chain that begins with this operand.
     pub fn new(alloc: Global, first: Tall) -> Chain
         requires { IsTall first }
-        ensures first { plain_expr result.first ≡ view_tall first }
+        ensures first { plain_expr result.first.value ≡ view_tall first }
         ensures links { view_links result ≡ no_links }
         ensures is { IsChain result }
     {
@@ -199,7 +194,7 @@ impl Chain {
     pub fn with(self, op: Comparison, right: Tall) -> Result<Chain, NoMemory>
         requires is { IsChain self }
         requires right { IsTall right }
-        ensures first { IfOk result (λ r. plain_expr r.first ≡ plain_expr self.first) }
+        ensures first { IfOk result (λ r. plain_expr r.first.value ≡ plain_expr self.first.value) }
         ensures links { IfOk result (λ r. view_links r ≡ snoc_link (view_links self) op (view_tall right)) }
         ensures is { IfOk result IsChain }
     {
@@ -207,24 +202,21 @@ impl Chain {
         chain.height = higher(chain.height, right.height);
         chain.links.push(Link {
             op,
-            right: right.expr,
+            right: Box::into_inner(right.expr),
         })?;
         Ok(chain)
     }
 }
 
-pub fn tuple(items: Row, comma: bool) -> Tall
+pub fn tuple(alloc: Global, items: Row, comma: bool) -> Result<Tall, NoMemory>
     requires { AreTall items }
-    ensures { Makes (tuple (view_row items) comma) result }
+    ensures { IfOk result (Makes (tuple (view_row items) comma)) }
 {
-    Tall {
-        height: over(items.height),
-        target: items.targets,
-        expr: Expr::Tuple {
-            items: items.items,
-            comma,
-        },
-    }
+    let expr = Expr::Tuple {
+        items: items.items,
+        comma,
+    };
+    Tall::new(alloc, expr, over(items.height), items.targets)
 }
 
 /// A call, or a list.
@@ -236,65 +228,51 @@ pub fn made(alloc: Global, opener: Opener, items: Row, comma: bool) -> Result<Ta
     match opener {
         Opener::Call(callee) => {
             let height = over(higher(callee.height, items.height));
-            let callee = Box::new(alloc, callee.expr)?;
-            Ok(Tall {
-                expr: Expr::Call {
-                    callee,
-                    args: items.items,
-                    comma,
-                },
-                height,
-                target: false,
-            })
+            let expr = Expr::Call {
+                callee: callee.expr,
+                args: items.items,
+                comma,
+            };
+            Tall::new(alloc, expr, height, false)
         }
-        Opener::List => Ok(Tall {
-            height: over(items.height),
-            target: items.targets,
-            expr: Expr::List {
+        Opener::List => {
+            let expr = Expr::List {
                 items: items.items,
                 comma,
-            },
-        }),
+            };
+            Tall::new(alloc, expr, over(items.height), items.targets)
+        }
     }
 }
 
-pub fn dict(entries: Entries, comma: bool) -> Tall
+pub fn dict(alloc: Global, entries: Entries, comma: bool) -> Result<Tall, NoMemory>
     requires { AreEntries entries }
-    ensures { Makes (dict (view_entries entries) comma) result }
+    ensures { IfOk result (Makes (dict (view_entries entries) comma)) }
 {
-    Tall {
-        height: over(entries.height),
-        expr: Expr::Dict {
-            items: entries.pairs,
-            comma,
-        },
-        target: false,
-    }
+    let expr = Expr::Dict {
+        items: entries.pairs,
+        comma,
+    };
+    Tall::new(alloc, expr, over(entries.height), false)
 }
 
 pub fn paren(alloc: Global, inner: Tall) -> Result<Tall, NoMemory>
     requires { IsTall inner }
     ensures { IfOk result (Makes (paren (view_tall inner))) }
 {
-    let height = over(inner.height);
-    let target = inner.target;
-    Ok(Tall {
-        expr: Expr::Paren(Box::new(alloc, inner.expr)?),
-        height,
-        target,
-    })
+    Tall::new(
+        alloc,
+        Expr::Paren(inner.expr),
+        over(inner.height),
+        inner.target,
+    )
 }
 
 pub fn negation(alloc: Global, operand: Tall) -> Result<Tall, NoMemory>
     requires { IsTall operand }
     ensures { IfOk result (Makes (not' (view_tall operand))) }
 {
-    let height = over(operand.height);
-    Ok(Tall {
-        expr: Expr::Not(Box::new(alloc, operand.expr)?),
-        height,
-        target: false,
-    })
+    Tall::new(alloc, Expr::Not(operand.expr), over(operand.height), false)
 }
 
 pub fn unary(alloc: Global, sign: Sign, operand: Tall) -> Result<Tall, NoMemory>
@@ -302,11 +280,7 @@ pub fn unary(alloc: Global, sign: Sign, operand: Tall) -> Result<Tall, NoMemory>
     ensures { IfOk result (Makes (unary sign (view_tall operand))) }
 {
     let height = over(operand.height);
-    Ok(Tall {
-        expr: Expr::Unary(sign, Box::new(alloc, operand.expr)?),
-        height,
-        target: false,
-    })
+    Tall::new(alloc, Expr::Unary(sign, operand.expr), height, false)
 }
 
 pub fn joined(alloc: Global, joint: Joint, left: Tall, right: Tall) -> Result<Tall, NoMemory>
@@ -315,30 +289,29 @@ pub fn joined(alloc: Global, joint: Joint, left: Tall, right: Tall) -> Result<Ta
     ensures { IfOk result (Makes (joined (view_joint joint) (view_tall left) (view_tall right))) }
 {
     let height = over(higher(left.height, right.height));
-    let left = Box::new(alloc, left.expr)?;
-    let right = Box::new(alloc, right.expr)?;
-    let expr = match joint {
-        Joint::Or => Expr::Or(left, right),
-        Joint::And => Expr::And(left, right),
-        Joint::Op(op) => Expr::Binary(op, left, right),
-    };
-    Ok(Tall {
-        expr,
-        height,
-        target: false,
-    })
+    match joint {
+        Joint::Or => Tall::new(alloc, Expr::Or(left.expr, right.expr), height, false),
+        Joint::And => Tall::new(alloc, Expr::And(left.expr, right.expr), height, false),
+        Joint::Op(op) => Tall::new(
+            alloc,
+            Expr::Binary(op, left.expr, right.expr),
+            height,
+            false,
+        ),
+    }
 }
 
 pub fn comparison(alloc: Global, chain: Chain) -> Result<Tall, NoMemory>
     requires { IsChain chain }
-    ensures { IfOk result (Makes (compare (plain_expr chain.first) (view_links chain))) }
+    ensures { IfOk result (Makes (compare (plain_expr chain.first.value) (view_links chain))) }
 {
     let height = over(chain.height);
-    Ok(Tall {
-        expr: Expr::Compare(Box::new(alloc, chain.first)?, chain.links),
+    Tall::new(
+        alloc,
+        Expr::Compare(chain.first, chain.links),
         height,
-        target: false,
-    })
+        false,
+    )
 }
 
 pub fn conditional(alloc: Global, body: Tall, test: Tall, orelse: Tall) -> Result<Tall, NoMemory>
@@ -348,15 +321,12 @@ pub fn conditional(alloc: Global, body: Tall, test: Tall, orelse: Tall) -> Resul
     ensures { IfOk result (Makes (cond (view_tall body) (view_tall test) (view_tall orelse))) }
 {
     let height = over(higher(body.height, higher(test.height, orelse.height)));
-    Ok(Tall {
-        expr: Expr::Cond {
-            body: Box::new(alloc, body.expr)?,
-            test: Box::new(alloc, test.expr)?,
-            orelse: Box::new(alloc, orelse.expr)?,
-        },
-        height,
-        target: false,
-    })
+    let expr = Expr::Cond {
+        body: body.expr,
+        test: test.expr,
+        orelse: orelse.expr,
+    };
+    Tall::new(alloc, expr, height, false)
 }
 
 pub fn index(alloc: Global, of: Tall, at: Tall) -> Result<Tall, NoMemory>
@@ -365,11 +335,7 @@ pub fn index(alloc: Global, of: Tall, at: Tall) -> Result<Tall, NoMemory>
     ensures { IfOk result (Makes (index (view_tall of) (view_tall at))) }
 {
     let height = over(higher(of.height, at.height));
-    Ok(Tall {
-        expr: Expr::Index(Box::new(alloc, of.expr)?, Box::new(alloc, at.expr)?),
-        height,
-        target: true,
-    })
+    Tall::new(alloc, Expr::Index(of.expr, at.expr), height, true)
 }
 
 /// The height of a bound of a slice.
@@ -383,12 +349,12 @@ pub fn bound_height(bound: &Option<Tall>) -> usize
     }
 }
 
-fn boxed(alloc: Global, bound: Option<Tall>) -> Result<Option<Box<Expr>>, NoMemory>
-    ensures { IfOk result (λ b. opt_of (option_map (λ x. plain_expr x.value) b) ≡ view_bound bound) }
+fn boxed(bound: Option<Tall>) -> Option<Box<Expr>>
+    ensures { opt_of (option_map (λ x. plain_expr x.value) result) ≡ view_bound bound }
 {
     match bound {
-        None => Ok(None),
-        Some(tall) => Ok(Some(Box::new(alloc, tall.expr)?)),
+        None => None,
+        Some(tall) => Some(tall.expr),
     }
 }
 
@@ -404,16 +370,12 @@ pub fn slice(
     ensures { IfOk result (Makes (slice (view_tall of) (view_bound from) (view_bound to))) }
 {
     let height = over(higher(of.height, higher(bound_height(&from), bound_height(&to))));
-    let of = Box::new(alloc, of.expr)?;
-    Ok(Tall {
-        expr: Expr::Slice {
-            of,
-            from: boxed(alloc, from)?,
-            to: boxed(alloc, to)?,
-        },
-        height,
-        target: false,
-    })
+    let expr = Expr::Slice {
+        of: of.expr,
+        from: boxed(from),
+        to: boxed(to),
+    };
+    Tall::new(alloc, expr, height, false)
 }
 
 pub fn attribute(alloc: Global, of: Tall, name: Text) -> Result<Tall, NoMemory>
@@ -421,9 +383,5 @@ pub fn attribute(alloc: Global, of: Tall, name: Text) -> Result<Tall, NoMemory>
     ensures { IfOk result (Makes (attr (view_tall of) name)) }
 {
     let height = over(of.height);
-    Ok(Tall {
-        expr: Expr::Attr(Box::new(alloc, of.expr)?, name),
-        height,
-        target: false,
-    })
+    Tall::new(alloc, Expr::Attr(of.expr, name), height, false)
 }

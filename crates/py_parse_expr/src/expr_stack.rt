@@ -1,20 +1,20 @@
 // What is open round a place of an expression, with the room that is left there.
 
-ghost use Rattle.std.specs.Prelude.{◌≡◌, ℕ, ◌≤◌, cond, true, false, IfOk, OnOk, nat_le};
+ghost use Rattle.std.specs.Prelude.{◌≡◌, ℕ, ◌≤◌, cond, true, false, OnOk};
 ghost use Rattle.py_syntax.specs.Spelling.{HEIGHT};
-ghost use Rattle.py_syntax.specs.Normal.{LPost};
-ghost use Rattle.py_grammar.specs.Machine.{on, Ctx, Outside, in_items, upto_exprs, upto_cond, upto_or, upto_and, upto_compare, upto_sum, upto_term, upto};
+ghost use Rattle.py_grammar.specs.Machine.{at_most, on, Ctx, Outside, in_items};
 ghost use Rattle.py_grammar.specs.Rooms.{under, room, postfix};
-ghost use Rattle.py_parse_expr.specs.ExprHeld.{view_tall, view_role, IsTall, capped, view_level, view_row, view_opener, AreTall, KeptOpener};
-ghost use Rattle.py_parse_expr.specs.ExprStacks.{view_goal, view_frame, view_stack, KeptGoal, KeptFrame, IsRoom, Kept, Pops};
+ghost use Rattle.py_parse_expr.specs.ExprHeld.{view_tall, view_role, IsTall, view_level, view_row, view_opener, AreTall, KeptOpener};
+ghost use Rattle.py_parse_expr.specs.ExprStacks.{opened, view_goal, view_frame, view_stack, KeptGoal, KeptFrame, IsRoom, Kept, Pops};
 ghost use Rattle.py_parse_expr.specs.ExprTurns.{Meets};
 
 use crate::expr_frames::{
-    compare_first, compare_rest, cond_else, cond_first, cond_test, exprs_first, exprs_rest,
-    in_index, in_items, in_key, in_paren, in_value, index_first, not_of, operand, post_rest, right,
-    slice_to, unary_of,
+    compare_first, compare_rest, cond_first, cond_test, exprs_first, exprs_rest, in_index,
+    in_items, in_key, in_paren, in_value, index_first, operand, post_rest, right, slice_to,
 };
-use crate::expr_nodes::{Chain, Entries, Opener, Row, Tall, both, bound_height, higher};
+use crate::expr_nodes::{
+    Chain, Entries, Opener, Row, Tall, both, bound_height, conditional, higher, negation, unary,
+};
 use crate::expr_roles::{Joint, Level, Role};
 use crate::expr_turns::Met;
 use py_syntax::Sign;
@@ -90,16 +90,18 @@ impl Frame {
     {
         match self {
             Frame::ExprsFirst => exprs_first(alloc, tall, role),
-            Frame::ExprsRest(items) => exprs_rest(items, tall, role),
+            Frame::ExprsRest(items) => exprs_rest(alloc, items, tall, role),
             Frame::CondFirst => Ok(cond_first(tall, role)),
             Frame::CondTest(body) => Ok(cond_test(body, tall, role)),
-            Frame::CondElse(body, test) => cond_else(alloc, body, test, tall),
+            Frame::CondElse(body, test) => {
+                Ok(Met::Passes(conditional(alloc, body, test, tall)?))
+            }
             Frame::First(level) => Ok(operand(level, tall, role)),
             Frame::Right(joint, left) => right(alloc, joint, left, tall, role),
-            Frame::NotOf => not_of(alloc, tall),
+            Frame::NotOf => Ok(Met::Passes(negation(alloc, tall)?)),
             Frame::CompareFirst => compare_first(alloc, tall, role),
             Frame::CompareRest(chain, op) => compare_rest(alloc, chain, op, tall, role),
-            Frame::UnaryOf(sign) => unary_of(alloc, sign, tall),
+            Frame::UnaryOf(sign) => Ok(Met::Passes(unary(alloc, sign, tall)?)),
             Frame::PostRest => Ok(post_rest(tall, role)),
             Frame::InItems(opener, items) => in_items(alloc, opener, items, tall, role),
             Frame::IndexFirst(of) => index_first(alloc, of, tall, role),
@@ -107,7 +109,7 @@ impl Frame {
             Frame::SliceTo(of, from) => slice_to(alloc, of, from, tall, role),
             Frame::InParen => in_paren(alloc, tall, role),
             Frame::InKey(entries) => Ok(in_key(entries, tall, role)),
-            Frame::InValue(entries, key) => in_value(entries, key, tall, role),
+            Frame::InValue(entries, key) => in_value(alloc, entries, key, tall, role),
         }
     }
 }
@@ -317,96 +319,54 @@ impl Stack {
 
     // ---- the frames from one level up to another
 
-    fn upto_exprs(&mut self, from: Level) -> Result<(), NoMemory>
-        requires { Kept self.old.limit self.old }
-        ensures view { OnOk result (view_stack self.new ≡ upto_exprs (view_level from) (view_stack self.old)) }
+    /// A frame that opens where one of its level, or of a looser one, was to begin, in those of the looser levels.
+    #[cycle(opened)]
+    fn opened_with(
+        &mut self,
+        from: Level,
+        looser: Level,
+        level: Level,
+        frame: Frame,
+    ) -> Result<(), NoMemory>
+        requires kept { Kept self.old.limit self.old }
+        requires frame { KeptFrame frame }
+        ensures view { OnOk result (view_stack self.new ≡ cond (at_most (view_level from) (view_level level)) (on (view_frame frame) (opened (view_level from) (view_level looser) (view_stack self.old))) (view_stack self.old)) }
         ensures kept { OnOk result (Kept self.old.limit self.new) }
     {
-        if from.at_most(Level::Exprs) {
-            self.push(Frame::ExprsFirst)?;
+        if !from.at_most(level) {
+            drop(frame);
+            return Ok(());
         }
-        Ok(())
+        self.opened(from, looser)?;
+        self.push(frame)
     }
 
-    fn upto_cond(&mut self, from: Level) -> Result<(), NoMemory>
+    /// The frames from one level up to another.
+    #[cycle(opened)]
+    pub fn opened(&mut self, from: Level, to: Level) -> Result<(), NoMemory>
         requires { Kept self.old.limit self.old }
-        ensures view { OnOk result (view_stack self.new ≡ upto_cond (view_level from) (view_stack self.old)) }
+        ensures view { OnOk result (view_stack self.new ≡ opened (view_level from) (view_level to) (view_stack self.old)) }
         ensures kept { OnOk result (Kept self.old.limit self.new) }
     {
-        if from.at_most(Level::Expr) {
-            self.upto_exprs(from)?;
-            self.push(Frame::CondFirst)?;
+        match to {
+            Level::Exprs => {
+                if !from.at_most(Level::Exprs) {
+                    return Ok(());
+                }
+                self.push(Frame::ExprsFirst)
+            }
+            Level::Expr => self.opened_with(from, Level::Exprs, to, Frame::CondFirst),
+            Level::Or => self.opened_with(from, Level::Expr, to, Frame::First(to)),
+            Level::And => self.opened_with(from, Level::Or, to, Frame::First(to)),
+            Level::Not => self.opened(from, Level::And),
+            Level::Compare => self.opened_with(from, Level::And, to, Frame::CompareFirst),
+            Level::Sum => self.opened_with(from, Level::Compare, to, Frame::First(to)),
+            Level::Term => self.opened_with(from, Level::Sum, to, Frame::First(to)),
+            Level::Unary => self.opened(from, Level::Term),
+            Level::Post => {
+                self.opened(from, Level::Term)?;
+                self.push(Frame::PostRest)
+            }
         }
-        Ok(())
-    }
-
-    fn upto_or(&mut self, from: Level) -> Result<(), NoMemory>
-        requires { Kept self.old.limit self.old }
-        ensures view { OnOk result (view_stack self.new ≡ upto_or (view_level from) (view_stack self.old)) }
-        ensures kept { OnOk result (Kept self.old.limit self.new) }
-    {
-        if from.at_most(Level::Or) {
-            self.upto_cond(from)?;
-            self.push(Frame::First(Level::Or))?;
-        }
-        Ok(())
-    }
-
-    pub fn upto_and(&mut self, from: Level) -> Result<(), NoMemory>
-        requires { Kept self.old.limit self.old }
-        ensures view { OnOk result (view_stack self.new ≡ upto_and (view_level from) (view_stack self.old)) }
-        ensures kept { OnOk result (Kept self.old.limit self.new) }
-    {
-        if from.at_most(Level::And) {
-            self.upto_or(from)?;
-            self.push(Frame::First(Level::And))?;
-        }
-        Ok(())
-    }
-
-    fn upto_compare(&mut self, from: Level) -> Result<(), NoMemory>
-        requires { Kept self.old.limit self.old }
-        ensures view { OnOk result (view_stack self.new ≡ upto_compare (view_level from) (view_stack self.old)) }
-        ensures kept { OnOk result (Kept self.old.limit self.new) }
-    {
-        if from.at_most(Level::Compare) {
-            self.upto_and(from)?;
-            self.push(Frame::CompareFirst)?;
-        }
-        Ok(())
-    }
-
-    fn upto_sum(&mut self, from: Level) -> Result<(), NoMemory>
-        requires { Kept self.old.limit self.old }
-        ensures view { OnOk result (view_stack self.new ≡ upto_sum (view_level from) (view_stack self.old)) }
-        ensures kept { OnOk result (Kept self.old.limit self.new) }
-    {
-        if from.at_most(Level::Sum) {
-            self.upto_compare(from)?;
-            self.push(Frame::First(Level::Sum))?;
-        }
-        Ok(())
-    }
-
-    pub fn upto_term(&mut self, from: Level) -> Result<(), NoMemory>
-        requires { Kept self.old.limit self.old }
-        ensures view { OnOk result (view_stack self.new ≡ upto_term (view_level from) (view_stack self.old)) }
-        ensures kept { OnOk result (Kept self.old.limit self.new) }
-    {
-        if from.at_most(Level::Term) {
-            self.upto_sum(from)?;
-            self.push(Frame::First(Level::Term))?;
-        }
-        Ok(())
-    }
-
-    /// The frames above a name, a number or a string.
-    pub fn upto_post(&mut self, from: Level) -> Result<(), NoMemory>
-        requires { Kept self.old.limit self.old }
-        ensures view { OnOk result (view_stack self.new ≡ upto (view_level from) LPost (view_stack self.old)) }
-        ensures kept { OnOk result (Kept self.old.limit self.new) }
-    {
-        self.upto_term(from)?;
-        self.push(Frame::PostRest)
     }
 }

@@ -1,13 +1,12 @@
 // Expressions, a token at a time, whatever their heights.
 
-ghost use Rattle.std.specs.Prelude.{◌≡◌};
+ghost use Rattle.std.specs.Prelude.{◌≡◌, false, cond};
 ghost use Rattle.py_syntax.specs.View.{plain_expr};
-ghost use Rattle.py_syntax.specs.Normal.{LExpr, LPost};
-ghost use Rattle.py_grammar.specs.Roles.{r_not};
-ghost use Rattle.py_grammar.specs.Machine.{snoc_link, target, on, in_items, post_rest, AfterOpen, Strings as StringsState, IndexOpen, SliceColon, AfterDot, Linked, Next, Have, upto, upto_term, begin, close_items, leave, give, step};
+ghost use Rattle.py_syntax.specs.Normal.{LExpr, LPost, height, is_target};
+ghost use Rattle.py_grammar.specs.Machine.{at_most, snoc_link, target, on, in_items, AfterOpen, Strings as StringsState, Want, IndexOpen, SliceColon, AfterDot, Linked, Next, Stuck, Have, upto, begin, close_items, leave, give, step};
 ghost use Rattle.py_parse_expr.specs.ExprHeld.{view_level, view_role, view_tall, view_row, view_entries, view_links, view_bound, view_opener, view_strings, IsTall, AreTall, AreEntries, IsChain, KeptOpener, KeptBound, KeptRole, KeptStrings};
-ghost use Rattle.py_parse_expr.specs.ExprStacks.{view_goal, view_frame, view_stack, KeptGoal, KeptItems, KeptFrame, Kept};
-ghost use Rattle.py_parse_expr.specs.ExprTurns.{view_at, KeptAt, sign_role, close_dict, Stays, Acts};
+ghost use Rattle.py_parse_expr.specs.ExprStacks.{opened, view_goal, view_frame, view_stack, KeptGoal, KeptItems, KeptFrame, Kept};
+ghost use Rattle.py_parse_expr.specs.ExprTurns.{view_at, KeptAt, close_dict, Stays, Acts};
 
 use crate::expr_frames::{closes, link};
 use crate::expr_nodes::{
@@ -38,7 +37,7 @@ fn leave_first(alloc: Global, tall: Tall, role: &Role) -> Result<Turn, NoMemory>
 }
 
 /// The outermost expression is whole, and is to be a further item of the target of a `for`.
-fn leave_next(items: Row, tall: Tall, role: &Role) -> Result<Turn, NoMemory>
+fn leave_next(alloc: Global, items: Row, tall: Tall, role: &Role) -> Result<Turn, NoMemory>
     requires items { KeptItems items }
     requires tall { IsTall tall }
     ensures { Stays (λ k. leave (view_tall tall) (view_goal (Goal.Targets items)) (view_role role.now)) result }
@@ -49,7 +48,7 @@ fn leave_next(items: Row, tall: Tall, role: &Role) -> Result<Turn, NoMemory>
     let items = items.with(tall)?;
     match role {
         Role::Comma => Ok(Turn::Next(Progress::AfterTarget(items))),
-        _ => Ok(Turn::Left(tuple(items, false))),
+        _ => Ok(Turn::Left(tuple(alloc, items, false)?)),
     }
 }
 
@@ -63,7 +62,7 @@ fn leave(alloc: Global, goal: Goal, tall: Tall, role: &Role) -> Result<Turn, NoM
         Goal::Any => Ok(Turn::Left(tall)),
         Goal::One => Ok(Turn::Left(tall)),
         Goal::Target => leave_first(alloc, tall, role),
-        Goal::Targets(items) => leave_next(items, tall, role),
+        Goal::Targets(items) => leave_next(alloc, items, tall, role),
     }
 }
 
@@ -90,48 +89,40 @@ pub fn give(alloc: Global, stack: &mut Stack, tall: Tall, role: &Role) -> Result
     leave(alloc, goal, tall, role)
 }
 
-/// A name, a number or a word that is an expression.
-fn atom(stack: &mut Stack, level: Level, tall: Tall) -> Result<Turn, NoMemory>
+/// A token is an expression, or begins strings.
+fn atom(stack: &mut Stack, level: Level, progress: Progress) -> Result<Turn, NoMemory>
     requires kept { Kept stack.old.limit stack.old }
-    requires tall { IsTall tall }
-    ensures { Acts (Next (Have (view_tall tall) (upto (view_level level) LPost (view_stack stack.old)))) stack.old.limit stack.new result }
+    requires at { KeptAt progress }
+    ensures { Acts (Next (view_at progress (upto (view_level level) LPost (view_stack stack.old)))) stack.old.limit stack.new result }
 {
-    stack.upto_post(level)?;
-    Ok(Turn::Next(Progress::Have(tall)))
+    stack.opened(level, Level::Post)?;
+    Ok(Turn::Next(progress))
 }
 
-/// Strings begin.
-fn strings(stack: &mut Stack, level: Level, strings: Strings) -> Result<Turn, NoMemory>
+/// A number or a word that is an expression.
+fn low(alloc: Global, stack: &mut Stack, level: Level, expr: Expr) -> Result<Turn, NoMemory>
     requires kept { Kept stack.old.limit stack.old }
-    requires strings { KeptStrings strings }
-    ensures { Acts (Next (StringsState (view_strings strings) (upto (view_level level) LPost (view_stack stack.old)))) stack.old.limit stack.new result }
+    requires height { height (plain_expr expr) ≡ 1 }
+    requires target { is_target (plain_expr expr) ≡ false }
+    ensures { Acts (Next (Have (plain_expr expr) (upto (view_level level) LPost (view_stack stack.old)))) stack.old.limit stack.new result }
 {
-    stack.upto_post(level)?;
-    Ok(Turn::Next(Progress::Strings(strings)))
+    let tall = Tall::low(alloc, expr)?;
+    atom(stack, level, Progress::Have(tall))
 }
 
-fn negation(stack: &mut Stack, level: Level) -> Result<Turn, NoMemory>
-    requires { Kept stack.old.limit stack.old }
-    ensures { Acts (begin (view_level level) (view_stack stack.old) r_not) stack.old.limit stack.new result }
+/// An operator stands in front of an operand, which has the level of its trees.
+fn prefixed(stack: &mut Stack, level: Level, frame: Frame, operand: Level) -> Result<Turn, NoMemory>
+    requires kept { Kept stack.old.limit stack.old }
+    requires frame { KeptFrame frame }
+    ensures { Acts (cond (at_most (view_level level) (view_level operand)) (Next (Want (view_level operand) (on (view_frame frame) (opened (view_level level) (view_level operand) (view_stack stack.old))))) Stuck) stack.old.limit stack.new result }
 {
-    if !level.at_most(Level::Not) {
+    if !level.at_most(operand) {
+        drop(frame);
         return Ok(Turn::Stuck);
     }
-    stack.upto_and(level)?;
-    stack.push(Frame::NotOf)?;
-    Ok(Turn::Next(Progress::Want(Level::Not)))
-}
-
-fn unary(stack: &mut Stack, level: Level, sign: Sign) -> Result<Turn, NoMemory>
-    requires { Kept stack.old.limit stack.old }
-    ensures { Acts (begin (view_level level) (view_stack stack.old) (sign_role sign)) stack.old.limit stack.new result }
-{
-    if !level.at_most(Level::Unary) {
-        return Ok(Turn::Stuck);
-    }
-    stack.upto_term(level)?;
-    stack.push(Frame::UnaryOf(sign))?;
-    Ok(Turn::Next(Progress::Want(Level::Unary)))
+    stack.opened(level, operand)?;
+    stack.push(frame)?;
+    Ok(Turn::Next(Progress::Want(operand)))
 }
 
 /// An expression of that level begins.
@@ -141,25 +132,32 @@ pub fn begin(alloc: Global, stack: &mut Stack, level: Level, role: Role) -> Resu
     ensures { Acts (begin (view_level level) (view_stack stack.old) (view_role role)) stack.old.limit stack.new result }
 {
     match role {
-        Role::Name(text) => atom(stack, level, Tall::name(text)),
-        Role::Int(number) => atom(stack, level, Tall::low(Expr::Int(number))),
-        Role::NoneWord => atom(stack, level, Tall::low(Expr::None)),
-        Role::Bool(truth) => atom(stack, level, Tall::low(Expr::Bool(truth))),
-        Role::Str(text) => strings(stack, level, Strings::text(alloc, text)?),
-        Role::Format(fields) => strings(stack, level, Strings::format(alloc, fields)?),
-        Role::Not => negation(stack, level),
-        Role::Joint(Joint::Op(BinOp::Add)) => unary(stack, level, Sign::Plus),
-        Role::Joint(Joint::Op(BinOp::Sub)) => unary(stack, level, Sign::Minus),
+        Role::Name(text) => atom(stack, level, Progress::Have(Tall::name(alloc, text)?)),
+        Role::Int(number) => low(alloc, stack, level, Expr::Int(number)),
+        Role::NoneWord => low(alloc, stack, level, Expr::None),
+        Role::Bool(truth) => low(alloc, stack, level, Expr::Bool(truth)),
+        Role::Str(text) => atom(stack, level, Progress::Strings(Strings::text(alloc, text)?)),
+        Role::Format(fields) => {
+            let strings = Strings::format(alloc, fields)?;
+            atom(stack, level, Progress::Strings(strings))
+        }
+        Role::Not => prefixed(stack, level, Frame::NotOf, Level::Not),
+        Role::Joint(Joint::Op(BinOp::Add)) => {
+            prefixed(stack, level, Frame::UnaryOf(Sign::Plus), Level::Unary)
+        }
+        Role::Joint(Joint::Op(BinOp::Sub)) => {
+            prefixed(stack, level, Frame::UnaryOf(Sign::Minus), Level::Unary)
+        }
         Role::LeftParen => {
-            stack.upto_term(level)?;
+            stack.opened(level, Level::Term)?;
             Ok(Turn::Next(Progress::AfterOpen))
         }
         Role::LeftBracket => {
-            stack.upto_term(level)?;
+            stack.opened(level, Level::Term)?;
             Ok(Turn::Next(Progress::ItemsOpen(Opener::List)))
         }
         Role::LeftBrace => {
-            stack.upto_term(level)?;
+            stack.opened(level, Level::Term)?;
             Ok(Turn::Next(Progress::DictOpen))
         }
         other => {
@@ -203,7 +201,7 @@ pub fn in_strings(
             let strings = strings.with_format(alloc, fields)?;
             Ok(Turn::Next(Progress::Strings(strings)))
         }
-        rest => give(alloc, stack, strings.tall(), &rest),
+        rest => give(alloc, stack, strings.tall(alloc)?, &rest),
     }
 }
 
@@ -215,7 +213,8 @@ pub fn after_open(alloc: Global, stack: &mut Stack, role: Role) -> Result<Turn, 
     match role {
         Role::RightParen => {
             stack.push(Frame::PostRest)?;
-            Ok(Turn::Next(Progress::Have(tuple(Row::new(alloc), false))))
+            let tall = tuple(alloc, Row::new(alloc), false)?;
+            Ok(Turn::Next(Progress::Have(tall)))
         }
         rest => begin_in(alloc, stack, Frame::InParen, Level::Exprs, rest),
     }
@@ -235,7 +234,7 @@ pub fn after_comma(
     if role.begins() {
         return begin_in(alloc, stack, Frame::ExprsRest(items), Level::Expr, role);
     }
-    give(alloc, stack, tuple(items, true), &role)
+    give(alloc, stack, tuple(alloc, items, true)?, &role)
 }
 
 pub fn after_target(
@@ -251,7 +250,7 @@ pub fn after_target(
 {
     if !role.begins() {
         drop(role);
-        return Ok(Turn::Left(tuple(items, true)));
+        return Ok(Turn::Left(tuple(alloc, items, true)?));
     }
     *stack = Stack::new(alloc, stack.limit, Goal::Targets(items));
     begin(alloc, stack, Level::Post, role)
@@ -303,7 +302,8 @@ pub fn in_dict(
     match role {
         Role::RightBrace => {
             stack.push(Frame::PostRest)?;
-            Ok(Turn::Next(Progress::Have(dict(entries, comma))))
+            let tall = dict(alloc, entries, comma)?;
+            Ok(Turn::Next(Progress::Have(tall)))
         }
         rest => begin_in(alloc, stack, Frame::InKey(entries), Level::Expr, rest),
     }
@@ -383,19 +383,25 @@ pub fn after_not(stack: &mut Stack, chain: Chain, role: Role) -> Result<Turn, No
 fn constant(chain: Chain, op: Comparison, tall: Tall) -> Result<Turn, NoMemory>
     requires chain { IsChain chain }
     requires tall { IsTall tall }
-    ensures { Stays (λ k. Next (Linked (plain_expr chain.first) (snoc_link (view_links chain) op (view_tall tall)) k)) result }
+    ensures { Stays (λ k. Next (Linked (plain_expr chain.first.value) (snoc_link (view_links chain) op (view_tall tall)) k)) result }
 {
     Ok(Turn::Next(Progress::Linked(chain.with(op, tall)?)))
 }
 
-pub fn after_is(chain: Chain, role: Role) -> Result<Turn, NoMemory>
+pub fn after_is(alloc: Global, chain: Chain, role: Role) -> Result<Turn, NoMemory>
     requires { IsChain chain }
     ensures { Stays (λ k. step (view_at (Progress.AfterIs chain) k) (view_role role)) result }
 {
     match role {
         Role::Not => Ok(Turn::Next(Progress::AfterIsNot(chain))),
-        Role::NoneWord => constant(chain, Comparison::Is, Tall::low(Expr::None)),
-        Role::Bool(truth) => constant(chain, Comparison::Is, Tall::low(Expr::Bool(truth))),
+        Role::NoneWord => {
+            let tall = Tall::low(alloc, Expr::None)?;
+            constant(chain, Comparison::Is, tall)
+        }
+        Role::Bool(truth) => {
+            let tall = Tall::low(alloc, Expr::Bool(truth))?;
+            constant(chain, Comparison::Is, tall)
+        }
         other => {
             drop(other);
             Ok(Turn::Stuck)
@@ -403,13 +409,19 @@ pub fn after_is(chain: Chain, role: Role) -> Result<Turn, NoMemory>
     }
 }
 
-pub fn after_is_not(chain: Chain, role: Role) -> Result<Turn, NoMemory>
+pub fn after_is_not(alloc: Global, chain: Chain, role: Role) -> Result<Turn, NoMemory>
     requires { IsChain chain }
     ensures { Stays (λ k. step (view_at (Progress.AfterIsNot chain) k) (view_role role)) result }
 {
     match role {
-        Role::NoneWord => constant(chain, Comparison::IsNot, Tall::low(Expr::None)),
-        Role::Bool(truth) => constant(chain, Comparison::IsNot, Tall::low(Expr::Bool(truth))),
+        Role::NoneWord => {
+            let tall = Tall::low(alloc, Expr::None)?;
+            constant(chain, Comparison::IsNot, tall)
+        }
+        Role::Bool(truth) => {
+            let tall = Tall::low(alloc, Expr::Bool(truth))?;
+            constant(chain, Comparison::IsNot, tall)
+        }
         other => {
             drop(other);
             Ok(Turn::Stuck)

@@ -96,22 +96,16 @@ impl Strings {
     }
 
     /// The expression.
-    pub fn tall(self) -> Tall
+    pub fn tall(self, alloc: Global) -> Result<Tall, NoMemory>
         requires { KeptStrings self }
-        ensures { Makes (strings_of (view_strings self)) result }
+        ensures { IfOk result (Makes (strings_of (view_strings self))) }
     {
         let height = self.height();
         match self {
-            Strings::Plain(texts) => Tall {
-                expr: Expr::Str(texts),
-                height,
-                target: false,
-            },
-            Strings::Mixed(fragments, _) => Tall {
-                expr: Expr::FStr(fragments),
-                height,
-                target: false,
-            },
+            Strings::Plain(texts) => Tall::new(alloc, Expr::Str(texts), height, false),
+            Strings::Mixed(fragments, _) => {
+                Tall::new(alloc, Expr::FStr(fragments), height, false)
+            }
         }
     }
 }

@@ -109,8 +109,8 @@ impl Progress {
             Progress::SliceColon(of, from) => slice_colon(alloc, stack, of, from, role),
             Progress::AfterDot(of) => after_dot(alloc, stack, of, role),
             Progress::AfterNot(chain) => after_not(stack, chain, role),
-            Progress::AfterIs(chain) => after_is(chain, role),
-            Progress::AfterIsNot(chain) => after_is_not(chain, role),
+            Progress::AfterIs(chain) => after_is(alloc, chain, role),
+            Progress::AfterIsNot(chain) => after_is_not(alloc, chain, role),
             Progress::Linked(chain) => linked(alloc, stack, chain, role),
         }
     }

@@ -31,7 +31,7 @@ pub enum ExprPart {
 /// An expression, and the place of the token behind it.
 #[derive(Drop)]
 pub struct ExprRead {
-    pub expr: Expr,
+    pub expr: Box<Expr>,
     pub next: usize,
 }
 
@@ -127,5 +127,5 @@ pub fn parse_expr(alloc: Global, tokens: &[Token]) -> Result<Expr, ReadError>
         drop(read);
         return Err(ReadError::Unexpected(next + 1));
     }
-    Ok(read.expr)
+    Ok(Box::into_inner(read.expr))
 }

@@ -1,9 +1,7 @@
-use Rattle.std.proofs.Common.{◌≡◌, ◌+◌, ◌-◌, ◌++◌, ◌∷◌, [], Err, sym, ap, subst, ◌∙◌, arith}
+use Rattle.std.proofs.Common.{◌≡◌, ◌-◌, ◌++◌, ◌∷◌, [], Err, sym, ap, subst, ◌∙◌, arith}
 use Rattle.py_token.specs.View.{view_kind}
 use Rattle.py_syntax.specs.Kinds.{bare_kind}
 use Rattle.py_syntax.specs.declared.expr.FormatPart.TheVariants as part_
-use Rattle.py_parse_expr.specs.declared.expr_fields.Unread.TheVariants as unread_
-use Rattle.py_parse_expr.specs.declared.expr_turns.Turn.TheVariants as turn_
 use Rattle.py_grammar.specs.Machine.{any, start, parts, field_expr}
 use Rattle.py_parse_expr.specs.ExprHeld.{view_role}
 use Rattle.py_parse_expr.specs.ExprStacks.{view_stack}
@@ -51,7 +49,7 @@ fields-pieces-preserved t c = elim c.match-piece.branch [
       let same : w.in_ok-copy-in-Chars.field-0 ≡ w.in-Chars.text = w.in_ok-copy-in-Chars.ensures in
       rw w.parts-is rw w.height-is (parts_chars c.args.pieces.now c.pieces.piece-index c.piece-item.result (parts (plain_pieces c.args.pieces.now)) c.pieces.parts.items c.pieces.height c.pieces-test.true c.piece-item.is c.pieces.invariant w.in-Chars.text w.push.new.self.items w.in-Chars.is (w.in_ok-push-in-Chars.ensures.items ∙ ap (λ x. c.pieces.parts.items ++ part_.Chars x ∷ []) same))
   | fields-in-Field+in_ok-tall-in-Field+in-Ok+in_ok-push-in-Ok w ↦
-      rw w.parts-is rw w.height-is (parts_field c.args.pieces.now c.pieces.piece-index c.piece-item.result (parts (plain_pieces c.args.pieces.now)) c.pieces.parts.items c.pieces.height c.pieces-test.true c.piece-item.is c.pieces.invariant (c.args.limit - 1) w.in-Field.tokens w.deref.result.now w.in-Ok.tall w.push-in-Ok.new.self.items w.higher-height.result w.in-Field.is w.deref.ensures.value (rw w.in-Ok.is at w.in_ok-tall-in-Field.ensures) w.in_ok-push-in-Ok.ensures.items w.higher-height.ensures)
+      rw w.parts-is rw w.height-is (parts_field c.args.pieces.now c.pieces.piece-index c.piece-item.result (parts (plain_pieces c.args.pieces.now)) c.pieces.parts.items c.pieces.height c.pieces-test.true c.piece-item.is c.pieces.invariant (c.args.limit - 1) w.in-Field.tokens w.deref.result.now w.in-Ok.tall w.into_inner.result w.push-in-Ok.new.self.items w.higher-height.result w.in-Field.is w.deref.ensures.value (rw w.in-Ok.is at w.in_ok-tall-in-Field.ensures) w.into_inner.ensures w.in_ok-push-in-Ok.ensures.items w.higher-height.ensures)
 ]
 
 pub fields-returns : goal.fields-returns

@@ -11,5 +11,5 @@ pub returns : goal.returns
 returns c = λ k.
     let t = view_role c.args.role.now in
     subst (λ (o : Out). Becomes o k t c.link.result)
-    (ap (λ (e : Expr). step (Linked e (view_links c.in_ok-with.field-0) k) t) c.in_ok-with.ensures.first ∙ ap (λ (ls : Links). step (Linked (plain_expr c.args.chain.first) ls k) t) c.in_ok-with.ensures.links ∙ sym (give_link (plain_expr c.args.chain.first) (view_links c.args.chain) c.args.op (view_tall c.args.tall) k t))
+    (ap (λ (e : Expr). step (Linked e (view_links c.in_ok-with.field-0) k) t) c.in_ok-with.ensures.first ∙ ap (λ (ls : Links). step (Linked (plain_expr c.args.chain.first.value) ls k) t) c.in_ok-with.ensures.links ∙ sym (give_link (plain_expr c.args.chain.first.value) (view_links c.args.chain) c.args.op (view_tall c.args.tall) k t))
     (c.link.ensures k)

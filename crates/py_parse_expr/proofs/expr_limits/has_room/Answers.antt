@@ -64,21 +64,21 @@ pub returns-in-AfterNot : goal.returns-in-AfterNot
 returns-in-AfterNot c =
     let kept = rw c.in-AfterNot.is at c.requires.at in
     let ls = view_links c.in-AfterNot.chain in
-    rw c.in-AfterNot.is (has_tall c.args.stack.now.limit (view_stack c.args.stack.now) (compare (plain_expr c.in-AfterNot.chain.first) (snoc_link ls (Op NotIn) least_name)) c.over-in-AfterNot.result c.room-room.result.other false (omega (arith, kept, links_snoc ls (Op NotIn) least_name, c.higher-in-AfterNot.ensures, c.over-in-AfterNot.ensures)) refl c.room-room.ensures.other c.requires.kept.low)
+    rw c.in-AfterNot.is (has_tall c.args.stack.now.limit (view_stack c.args.stack.now) (compare (plain_expr c.in-AfterNot.chain.first.value) (snoc_link ls (Op NotIn) least_name)) c.over-in-AfterNot.result c.room-room.result.other false (omega (arith, kept, links_snoc ls (Op NotIn) least_name, c.higher-in-AfterNot.ensures, c.over-in-AfterNot.ensures)) refl c.room-room.ensures.other c.requires.kept.low)
 
 pub returns-in-AfterIs : goal.returns-in-AfterIs
 returns-in-AfterIs c =
     let kept = rw c.in-AfterIs.is at c.requires.at in
     let ls = view_links c.in-AfterIs.chain in
-    rw c.in-AfterIs.is (has_tall c.args.stack.now.limit (view_stack c.args.stack.now) (compare (plain_expr c.in-AfterIs.chain.first) (snoc_link ls Is none)) c.over-in-AfterIs.result c.room-room.result.other false (omega (arith, kept, links_snoc ls Is none, c.higher-in-AfterIs.ensures, c.over-in-AfterIs.ensures)) refl c.room-room.ensures.other c.requires.kept.low)
+    rw c.in-AfterIs.is (has_tall c.args.stack.now.limit (view_stack c.args.stack.now) (compare (plain_expr c.in-AfterIs.chain.first.value) (snoc_link ls Is none)) c.over-in-AfterIs.result c.room-room.result.other false (omega (arith, kept, links_snoc ls Is none, c.higher-in-AfterIs.ensures, c.over-in-AfterIs.ensures)) refl c.room-room.ensures.other c.requires.kept.low)
 
 pub returns-in-AfterIsNot : goal.returns-in-AfterIsNot
 returns-in-AfterIsNot c =
     let kept = rw c.in-AfterIsNot.is at c.requires.at in
     let ls = view_links c.in-AfterIsNot.chain in
-    rw c.in-AfterIsNot.is (has_tall c.args.stack.now.limit (view_stack c.args.stack.now) (compare (plain_expr c.in-AfterIsNot.chain.first) (snoc_link ls IsNot none)) c.over-in-AfterIsNot.result c.room-room.result.other false (omega (arith, kept, links_snoc ls IsNot none, c.higher-in-AfterIsNot.ensures, c.over-in-AfterIsNot.ensures)) refl c.room-room.ensures.other c.requires.kept.low)
+    rw c.in-AfterIsNot.is (has_tall c.args.stack.now.limit (view_stack c.args.stack.now) (compare (plain_expr c.in-AfterIsNot.chain.first.value) (snoc_link ls IsNot none)) c.over-in-AfterIsNot.result c.room-room.result.other false (omega (arith, kept, links_snoc ls IsNot none, c.higher-in-AfterIsNot.ensures, c.over-in-AfterIsNot.ensures)) refl c.room-room.ensures.other c.requires.kept.low)
 
 pub returns-in-Linked : goal.returns-in-Linked
 returns-in-Linked c =
     let kept = rw c.in-Linked.is at c.requires.at in
-    rw c.in-Linked.is (has_tall c.args.stack.now.limit (view_stack c.args.stack.now) (compare (plain_expr c.in-Linked.chain.first) (view_links c.in-Linked.chain)) c.over-in-Linked.result c.room-room.result.other false (omega (arith, kept, c.over-in-Linked.ensures)) refl c.room-room.ensures.other c.requires.kept.low)
+    rw c.in-Linked.is (has_tall c.args.stack.now.limit (view_stack c.args.stack.now) (compare (plain_expr c.in-Linked.chain.first.value) (view_links c.in-Linked.chain)) c.over-in-Linked.result c.room-room.result.other false (omega (arith, kept, c.over-in-Linked.ensures)) refl c.room-room.ensures.other c.requires.kept.low)

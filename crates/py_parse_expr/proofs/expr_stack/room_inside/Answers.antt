@@ -25,7 +25,7 @@ returns-in-Right c =
 pub returns-in-CompareRest : goal.returns-in-CompareRest
 returns-in-CompareRest c =
     let kept = rw c.in-CompareRest.is at c.requires in
-    rw c.in-CompareRest.is (λ limit k low is. same_room limit (on (compare_rest (plain_expr c.in-CompareRest.chain.first) (view_links c.in-CompareRest.chain) c.in-CompareRest.field-1) k) c.same-in-CompareRest.result c.in-CompareRest.chain.height (max (height (plain_expr c.in-CompareRest.chain.first)) (height_links (view_links c.in-CompareRest.chain))) c.args.outer.other (room limit k false) c.under-in-CompareRest.result c.same-in-CompareRest.ensures.target c.same-in-CompareRest.ensures.other c.same-in-CompareRest.ensures.wants c.under-in-CompareRest.ensures (kept) (is.other) (room_low limit k false) low refl refl refl)
+    rw c.in-CompareRest.is (λ limit k low is. same_room limit (on (compare_rest (plain_expr c.in-CompareRest.chain.first.value) (view_links c.in-CompareRest.chain) c.in-CompareRest.field-1) k) c.same-in-CompareRest.result c.in-CompareRest.chain.height (max (height (plain_expr c.in-CompareRest.chain.first.value)) (height_links (view_links c.in-CompareRest.chain))) c.args.outer.other (room limit k false) c.under-in-CompareRest.result c.same-in-CompareRest.ensures.target c.same-in-CompareRest.ensures.other c.same-in-CompareRest.ensures.wants c.under-in-CompareRest.ensures (kept) (is.other) (room_low limit k false) low refl refl refl)
 
 pub returns-in-IndexFirst : goal.returns-in-IndexFirst
 returns-in-IndexFirst c =

@@ -1,9 +1,7 @@
-use Rattle.std.proofs.Common.{Ok, Err, sym, ap, ◌∙◌}
-use Rattle.py_grammar.specs.declared.error.ReadError.TheVariants as error
+use Rattle.std.proofs.Common.{sym, ap, ◌∙◌}
 use Rattle.py_grammar.specs.Machine.{Outside}
 use Rattle.py_parse_expr.specs.ExprReads.{goal_of}
 use Rattle.py_syntax.specs.Spelling.{HEIGHT}
-use Rattle.py_grammar.proofs.Places.{kinds_of_all}
 use Rattle.py_parse_expr.proofs.ExprFields.{same_limit}
 use Rattle.py_parse_expr.proofs.ExprReader.{starts, turn_next, turn_stuck, turn_left, turn_deep, turn_bad, over_there}
 use Rattle.py_parse_expr.proofs.exprs.read_expr.Goals as goal

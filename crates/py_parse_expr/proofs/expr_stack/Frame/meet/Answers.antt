@@ -1,4 +1,8 @@
-use Rattle.py_parse_expr.specs.ExprHeld.{view_role}
+use Rattle.std.proofs.Common.{refl}
+use Rattle.py_syntax.specs.Tree.{not', unary, cond}
+use Rattle.py_grammar.specs.Machine.{cond_else, not_of, unary_of}
+use Rattle.py_parse_expr.specs.ExprHeld.{view_role, view_tall}
+use Rattle.py_parse_expr.proofs.ExprFrames.{passes}
 use Rattle.py_parse_expr.proofs.expr_stack.Frame.meet.Goals as goal
 
 pub returns-in-ExprsFirst : goal.returns-in-ExprsFirst
@@ -13,8 +17,8 @@ returns-in-CondFirst c = rw c.in-CondFirst.is c.cond_first.ensures
 pub returns-in-CondTest : goal.returns-in-CondTest
 returns-in-CondTest c = rw c.in-CondTest.is c.cond_test.ensures
 
-pub returns-in-CondElse : goal.returns-in-CondElse
-returns-in-CondElse c = rw c.in-CondElse.is (c.cond_else.ensures (view_role c.args.role.now))
+pub returns-in_ok-conditional-in-CondElse : goal.returns-in_ok-conditional-in-CondElse
+returns-in_ok-conditional-in-CondElse c = rw c.in-CondElse.is (passes (cond_else (view_tall c.in-CondElse.body) (view_tall c.in-CondElse.test)) (cond (view_tall c.in-CondElse.body) (view_tall c.in-CondElse.test) (view_tall c.args.tall)) (view_tall c.args.tall) (view_role c.args.role.now) c.in_ok-conditional-in-CondElse.field-0 (λ k. refl) c.in_ok-conditional-in-CondElse.ensures)
 
 pub returns-in-First : goal.returns-in-First
 returns-in-First c = rw c.in-First.is c.operand.ensures
@@ -22,8 +26,8 @@ returns-in-First c = rw c.in-First.is c.operand.ensures
 pub returns-in-Right : goal.returns-in-Right
 returns-in-Right c = rw c.in-Right.is c.right.ensures
 
-pub returns-in-NotOf : goal.returns-in-NotOf
-returns-in-NotOf c = rw c.in-NotOf.is (c.not_of.ensures (view_role c.args.role.now))
+pub returns-in_ok-negation-in-NotOf : goal.returns-in_ok-negation-in-NotOf
+returns-in_ok-negation-in-NotOf c = rw c.in-NotOf.is (passes not_of (not' (view_tall c.args.tall)) (view_tall c.args.tall) (view_role c.args.role.now) c.in_ok-negation-in-NotOf.field-0 (λ k. refl) c.in_ok-negation-in-NotOf.ensures)
 
 pub returns-in-CompareFirst : goal.returns-in-CompareFirst
 returns-in-CompareFirst c = rw c.in-CompareFirst.is c.compare_first.ensures
@@ -31,8 +35,8 @@ returns-in-CompareFirst c = rw c.in-CompareFirst.is c.compare_first.ensures
 pub returns-in-CompareRest : goal.returns-in-CompareRest
 returns-in-CompareRest c = rw c.in-CompareRest.is c.compare_rest.ensures
 
-pub returns-in-UnaryOf : goal.returns-in-UnaryOf
-returns-in-UnaryOf c = rw c.in-UnaryOf.is (c.unary_of.ensures (view_role c.args.role.now))
+pub returns-in_ok-unary-in-UnaryOf : goal.returns-in_ok-unary-in-UnaryOf
+returns-in_ok-unary-in-UnaryOf c = rw c.in-UnaryOf.is (passes (unary_of c.in-UnaryOf.sign) (unary c.in-UnaryOf.sign (view_tall c.args.tall)) (view_tall c.args.tall) (view_role c.args.role.now) c.in_ok-unary-in-UnaryOf.field-0 (λ k. refl) c.in_ok-unary-in-UnaryOf.ensures)
 
 pub returns-in-PostRest : goal.returns-in-PostRest
 returns-in-PostRest c = rw c.in-PostRest.is c.post_rest.ensures
