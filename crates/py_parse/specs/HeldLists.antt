@@ -5,6 +5,11 @@ use Rattle.py_token.specs.declared.token.Mark.TheVariants as mark
 use Rattle.py_syntax.specs.Tree.{Text, Exprs, no_exprs, exprs, Arms, no_arms, arm, Clauses, no_clauses, clause, Cases, no_cases, case}
 use Rattle.py_syntax.specs.Kinds.{Kind, Name, Sign, Newline, Dedent, End}
 use Rattle.py_syntax.specs.Statements.{case_name}
+use Rattle.py_syntax.specs.Headers.{is_colon, ends_line}
+use Rattle.py_parse.specs.declared.lists.Class.{Class}
+use Rattle.py_parse.specs.declared.lists.Class.TheVariants as class_
+use Rattle.py_parse.specs.HeldMarks.{is_newline}
+use Rattle.py_parse.specs.HeldBlocks.{is_indent}
 
 abbrev pub some_exprs : Exprs → Bool
 some_exprs no_exprs = false
@@ -67,3 +72,17 @@ is_end k = false
 abbrev pub is_case : Kind → Bool
 is_case (Name x) = bytes_eq x case_name
 is_case k = false
+
+-- the token is of that class
+abbrev pub is_a : Class → Kind → Bool
+is_a class_.Comma k = is_comma k
+is_a class_.Colon k = is_colon k
+is_a class_.Semicolon k = is_semicolon k
+is_a class_.EqualSign k = is_equal_sign k
+is_a class_.RightParen k = is_right_paren k
+is_a class_.Newline k = is_newline k
+is_a class_.Indent k = is_indent k
+is_a class_.Dedent k = is_dedent k
+is_a class_.End k = is_end k
+is_a class_.SimpleEnd k = ends_simple k
+is_a class_.LineEnd k = ends_line k

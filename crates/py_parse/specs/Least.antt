@@ -4,7 +4,7 @@
 use Rattle.std.specs.Prelude.{ℕ, Bool, true, false, List, [], ◌∷◌, ◌++◌, Some, None}
 use Rattle.py_syntax.specs.declared.stmt.LineEnd.{LineEnd}
 use Rattle.py_syntax.specs.Tree.{Text, Expr, Exprs, no_exprs, exprs, wild}
-use Rattle.py_syntax.specs.Tree.{Stmts, no_stmts, stmt, Suite, suite, no_suite, has_suite, no_clauses, Cases, no_cases, case, StmtKind, aug_assign, pass, assert, try, match}
+use Rattle.py_syntax.specs.Tree.{Stmts, no_stmts, stmt, Suite, suite, no_suite, has_suite, no_clauses, Cases, no_cases, case, StmtKind, expr, assign, aug_assign, pass, break, continue, return, raise, assert, global, import, from, if', while, for, try, def, match}
 use Rattle.py_syntax.specs.Statements.{stmts_height, stmts_nesting}
 use Rattle.py_grammar.specs.Machine.{snoc}
 use Rattle.py_grammar.specs.Least as expression
@@ -22,8 +22,25 @@ pass_suite l = suite l l true (pass_line l)
 
 -- a statement that has all that it needs
 abbrev pub ended : ℕ → StmtKind → StmtKind
+ended l (expr e) = expr e
+ended l (assign ts e) = assign ts e
+ended l (aug_assign p op e) = aug_assign p op e
+ended l pass = pass
+ended l break = break
+ended l continue = continue
+ended l (return e) = return e
+ended l (raise e) = raise e
+ended l (assert t e) = assert t e
+ended l (global xs) = global xs
+ended l (import names) = import names
+ended l (from m names) = from m names
+ended l (if' arms o) = if' arms o
+ended l (while t b o) = while t b o
+ended l (for t e b o) = for t e b o
 ended l (try b no_clauses o no_suite) = try b no_clauses o (has_suite (pass_suite l))
-ended l k = k
+ended l (try b cs o f) = try b cs o f
+ended l (def x ps ds c b) = def x ps ds c b
+ended l (match e last cs) = match e last cs
 
 -- a `match` with a case
 abbrev pub chosen : ℕ → Expr → ℕ → Cases → StmtKind

@@ -196,14 +196,31 @@ line b t f l = begin_line b t f l
 -- ---- statements go on behind a suite
 
 abbrev pub next_part : StmtKind → Kind → Option Place
+next_part (expr e) t = None
+next_part (assign ts e) t = None
+next_part (aug_assign p op e) t = None
+next_part pass t = None
+next_part break t = None
+next_part continue t = None
+next_part (return e) t = None
+next_part (raise e) t = None
+next_part (assert e e') t = None
+next_part (global xs) t = None
+next_part (import names) t = None
+next_part (from m names) t = None
 next_part (if' arms no_suite) (Word word.Elif) = Some (wanted (arm_test arms))
 next_part (if' arms no_suite) (Word word.Else) = Some (ColonWanted (an_else (if' arms no_suite)))
+next_part (if' arms o) t = None
 next_part (while t b no_suite) (Word word.Else) = Some (ColonWanted (an_else (while t b no_suite)))
+next_part (while e b o) t = None
 next_part (for t e b no_suite) (Word word.Else) = Some (ColonWanted (an_else (for t e b no_suite)))
+next_part (for p e b o) t = None
 next_part (try b cs no_suite no_suite) (Word word.Except) = Some (Except b cs)
 next_part (try b (clause e x s cs) no_suite no_suite) (Word word.Else) = Some (ColonWanted (an_else (try b (clause e x s cs) no_suite no_suite)))
 next_part (try b cs o no_suite) (Word word.Finally) = Some (ColonWanted (a_finally b cs o))
-next_part k t = None
+next_part (try b cs o f) t = None
+next_part (def x ps ds c b) t = None
+next_part (match e last cs) t = None
 
 -- a `try` needs a clause or a `finally`
 abbrev pub is_whole : StmtKind → Bool

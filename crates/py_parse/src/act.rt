@@ -4,19 +4,18 @@ ghost use Rattle.std.specs.Prelude.{◌≡◌, ℕ, Some, IfOk, option_map};
 ghost use Rattle.py_syntax.specs.Kinds.{Kind};
 ghost use Rattle.py_syntax.specs.View.{plain_expr, plain_exprs, plain_kind, plain_suite, plain_clauses};
 ghost use Rattle.py_parse.specs.Machine.{Semicolon, Leaving, NameWanted, NameRead, BoundWanted, ModuleWanted, ImportWanted, FunctionWanted, ParamsWanted, ParamWanted, Except, ClauseBound, SuiteWanted, IndentWanted, MatchLine, MatchBlock, act};
-ghost use Rattle.py_parse.specs.HeldBlocks.{is_indent};
 ghost use Rattle.py_parse.specs.HeldOwners.{view_owner};
 ghost use Rattle.py_parse.specs.HeldStates.{kind_at, first_at, last_at, view_block, view_lines, view_listed, view_state, ActsAs, Acts, Makes};
 
 use crate::begin::begin_simple;
-use crate::block::{Block, Lines, add, line_end, opened};
+use crate::block::{Block, Lines, add, opened};
 use crate::kinds::{boxed_owner, left};
-use crate::lists::{has_names, is_colon, is_newline, is_right_paren, name_in};
+use crate::lists::{Class, has_names, is_a, name_in};
 use crate::names::{behind_name, may_bind};
 use crate::owner::{Choice, Owner, Signature, Tried};
 use crate::places::{Listed, Place, Resume, State, Turn};
-use crate::simple::{end_header, end_line, end_simple, ends_simple};
-use py_syntax::{Expr, StmtKind};
+use crate::simple::{end_header, end_line, end_simple};
+use py_syntax::{Expr, LineEnd, StmtKind};
 use py_token::{Keyword, Mark, Token, TokenKind};
 use py_value::{NoMemory, Text};
 use std::alloc::Global;
@@ -42,10 +41,19 @@ pub fn behind_semicolon(
 ) -> Result<Turn, NoMemory>
     ensures { Acts token.now (act (Semicolon (plain_kind kind.value)) (view_lines lines) (view_block block) (kind_at token.now) (first_at token.now) (last_at token.now)) result }
 {
-    if is_newline(token) {
+    if is_a(token, Class::Newline) {
         return Ok(Turn::Next(end_line(alloc, kind, true, lines, block, token.last)?));
     }
-    let block = add(block, lines.begun, lines.last, kind, line_end(true, false))?;
+    let block = add(
+        block,
+        lines.begun,
+        lines.last,
+        kind,
+        LineEnd {
+            semicolon: true,
+            newline: false,
+        },
+    )?;
     begin_simple(alloc, block, token)
 }
 
@@ -60,7 +68,7 @@ pub fn behind_leaving(
 ) -> Result<Turn, NoMemory>
     ensures { Acts token.now (act (Leaving raises) (view_lines lines) (view_block block) (kind_at token.now) (first_at token.now) (last_at token.now)) result }
 {
-    if ends_simple(token) {
+    if is_a(token, Class::SimpleEnd) {
         let kind = left(alloc, raises, None)?;
         let state = end_simple(alloc, kind, lines, block, token)?;
         return Ok(turn(state));
@@ -210,7 +218,7 @@ pub fn at_param(
             block,
         )));
     }
-    if !is_right_paren(token) {
+    if !is_a(token, Class::RightParen) {
         return Ok(Turn::Stuck);
     }
     let comma = has_names(&signature.params);
@@ -228,7 +236,7 @@ pub fn behind_except(
 ) -> Result<Turn, NoMemory>
     ensures { Acts token.now (act (Except (plain_suite tried.body) (plain_clauses tried.clauses.items)) (view_lines lines) (view_block block) (kind_at token.now) (first_at token.now) (last_at token.now)) result }
 {
-    if is_colon(token) {
+    if is_a(token, Class::Colon) {
         let owner = boxed_owner(alloc, Owner::Clause(tried, None, None))?;
         return Ok(turn(end_header(owner, lines, block, token)));
     }
@@ -265,20 +273,11 @@ pub fn at_suite(
 ) -> Result<Turn, NoMemory>
     ensures { Acts token.now (act (SuiteWanted (view_owner owner.value)) (view_lines lines) (view_block block) (kind_at token.now) (first_at token.now) (last_at token.now)) result }
 {
-    if is_newline(token) {
+    if is_a(token, Class::Newline) {
         return Ok(Turn::Next(State::At(Place::IndentWanted(owner), lines, block)));
     }
     let block = opened(alloc, block, true, lines, owner)?;
     begin_simple(alloc, block, token)
-}
-
-fn is_indent(token: &Token) -> bool
-    ensures { result ≡ is_indent (kind_at token.now) }
-{
-    match &token.kind {
-        TokenKind::Indent => true,
-        _ => false,
-    }
 }
 
 /// Where a block is wanted.
@@ -292,7 +291,7 @@ pub fn at_block(
 ) -> Result<Option<State>, NoMemory>
     ensures { Makes (act (IndentWanted (view_owner owner.value)) (view_lines lines) (view_block block) (kind_at token.now) (first_at token.now) (last_at token.now)) result }
 {
-    if !is_indent(token) {
+    if !is_a(token, Class::Indent) {
         return Ok(None);
     }
     Ok(Some(State::Line(opened(alloc, block, false, lines, owner)?)))

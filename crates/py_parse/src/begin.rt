@@ -6,7 +6,7 @@ ghost use Rattle.py_parse.specs.HeldStates.{kind_at, first_at, last_at, view_blo
 
 use crate::block::{Block, Lines};
 use crate::kinds::{boxed, boxed_owner};
-use crate::lists::{is_dedent, is_end};
+use crate::lists::{Class, is_a};
 use crate::owner::Owner;
 use crate::places::{Listed, Place, Resume, State, Turn};
 use crate::simple::close;
@@ -100,10 +100,10 @@ fn begin_line(alloc: Global, block: Block, token: &Token) -> Result<Turn, NoMemo
 pub fn line(alloc: Global, block: Block, token: &Token) -> Result<Turn, NoMemory>
     ensures { Acts token.now (line (view_block block) (kind_at token.now) (first_at token.now) (last_at token.now)) result }
 {
-    if is_end(token) && block.is_top() {
+    if is_a(token, Class::End) && block.is_top() {
         return Ok(Turn::Next(State::Over(block.body)));
     }
-    if is_dedent(token) && block.ends() {
+    if is_a(token, Class::Dedent) && block.ends() {
         return Ok(Turn::Next(close(alloc, block, token.last)?));
     }
     begin_line(alloc, block, token)

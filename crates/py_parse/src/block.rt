@@ -50,13 +50,6 @@ pub struct Block {
     pub open: Vec<Open>,
 }
 
-/// How a statement ends that has a semicolon behind it, a new line, or neither.
-pub fn line_end(semicolon: bool, newline: bool) -> LineEnd
-    ensures { result ≡ record { semicolon = semicolon; newline = newline } }
-{
-    LineEnd { semicolon, newline }
-}
-
 /// A statement more in the innermost suite.
 #[tactic(auto, using(crate::proofs::Held::stmts_snoc, crate::proofs::Held::block_added))]
 pub fn add(

@@ -7,7 +7,7 @@ use std::alloc::AllocError;
 use thiserror::Error;
 
 /// What stands too deep in a tree.
-#[derive(Clone, Copy, Debug, PartialEq, Eq)]
+#[derive(Clone, Copy, Debug)]
 pub enum DepthKind {
     /// More than 200 nodes of expressions or patterns above each other.
     Expressions,
@@ -16,7 +16,7 @@ pub enum DepthKind {
 }
 
 /// Why a list of tokens is that of no module, with the line of the first token that can't be taken. Lines count from 1.
-#[derive(Debug, PartialEq, Eq, Drop, Error)]
+#[derive(Debug, Drop, Error)]
 pub enum SyntaxError {
     /// No module goes on with the token, or the list ends there.
     #[error("line {0}: a token that can't stand here")]

@@ -1,11 +1,11 @@
 // Whether lists are empty, and what single tokens are.
 
 ghost use Rattle.std.specs.Prelude.{◌≡◌};
-ghost use Rattle.py_syntax.specs.Headers.{is_colon};
+ghost use Rattle.py_token.specs.View.{view_kind};
+ghost use Rattle.py_syntax.specs.Kinds.{bare_kind};
 ghost use Rattle.py_syntax.specs.View.{plain_exprs, plain_arms, plain_clauses, plain_cases};
 ghost use Rattle.py_parse.specs.Machine.{is_some};
-ghost use Rattle.py_parse.specs.HeldLists.{some_exprs, some_arms, some_clauses, some_cases, IsNameIn, is_equal_sign, is_right_paren, is_dedent, is_end, is_case};
-ghost use Rattle.py_parse.specs.HeldMarks.{is_newline};
+ghost use Rattle.py_parse.specs.HeldLists.{some_exprs, some_arms, some_clauses, some_cases, IsNameIn, is_a, is_case};
 ghost use Rattle.py_parse.specs.HeldStates.{kind_at};
 
 use crate::match_headers::is_case_name;
@@ -53,65 +53,57 @@ pub fn name_in(token: &Token) -> Result<Option<Text>, NoMemory>
     }
 }
 
-pub fn is_newline(token: &Token) -> bool
-    ensures { result ≡ is_newline (kind_at token.now) }
+/// What a token may be.
+#[derive(Clone, Copy)]
+pub enum Class {
+    Comma,
+    Colon,
+    Semicolon,
+    EqualSign,
+    RightParen,
+    Newline,
+    Indent,
+    Dedent,
+    End,
+    /// What ends a simple statement.
+    SimpleEnd,
+    /// What a logical line may begin behind.
+    LineEnd,
+}
+
+pub fn is_a(token: &Token, class: Class) -> bool
+    ensures { result ≡ is_a class (kind_at token.now) }
 {
-    match &token.kind {
-        TokenKind::Newline => true,
-        _ => false,
+    match class {
+        Class::Comma => matches!(&token.kind, TokenKind::Mark(Mark::Comma)),
+        Class::Colon => matches!(&token.kind, TokenKind::Mark(Mark::Colon)),
+        Class::Semicolon => matches!(&token.kind, TokenKind::Mark(Mark::Semicolon)),
+        Class::EqualSign => matches!(&token.kind, TokenKind::Mark(Mark::Equal)),
+        Class::RightParen => matches!(&token.kind, TokenKind::Mark(Mark::RightParen)),
+        Class::Newline => matches!(&token.kind, TokenKind::Newline),
+        Class::Indent => matches!(&token.kind, TokenKind::Indent),
+        Class::Dedent => matches!(&token.kind, TokenKind::Dedent),
+        Class::End => matches!(&token.kind, TokenKind::End),
+        Class::SimpleEnd => {
+            matches!(
+                &token.kind,
+                TokenKind::Mark(Mark::Semicolon) | TokenKind::Newline
+            )
+        }
+        Class::LineEnd => {
+            matches!(
+                &token.kind,
+                TokenKind::Newline | TokenKind::Indent | TokenKind::Dedent
+            )
+        }
     }
 }
 
-pub fn is_colon(token: &Token) -> bool
-    ensures { result ≡ is_colon (kind_at token.now) }
+/// Whether it is the name `case`.
+pub fn is_case(kind: &TokenKind) -> bool
+    ensures { result ≡ is_case (bare_kind (view_kind kind.now)) }
 {
-    match &token.kind {
-        TokenKind::Mark(Mark::Colon) => true,
-        _ => false,
-    }
-}
-
-pub fn is_equal_sign(token: &Token) -> bool
-    ensures { result ≡ is_equal_sign (kind_at token.now) }
-{
-    match &token.kind {
-        TokenKind::Mark(Mark::Equal) => true,
-        _ => false,
-    }
-}
-
-pub fn is_right_paren(token: &Token) -> bool
-    ensures { result ≡ is_right_paren (kind_at token.now) }
-{
-    match &token.kind {
-        TokenKind::Mark(Mark::RightParen) => true,
-        _ => false,
-    }
-}
-
-pub fn is_dedent(token: &Token) -> bool
-    ensures { result ≡ is_dedent (kind_at token.now) }
-{
-    match &token.kind {
-        TokenKind::Dedent => true,
-        _ => false,
-    }
-}
-
-pub fn is_end(token: &Token) -> bool
-    ensures { result ≡ is_end (kind_at token.now) }
-{
-    match &token.kind {
-        TokenKind::End => true,
-        _ => false,
-    }
-}
-
-/// Whether the token is the name `case`.
-pub fn is_case(token: &Token) -> bool
-    ensures { result ≡ is_case (kind_at token.now) }
-{
-    match &token.kind {
+    match kind {
         TokenKind::Name(name) => is_case_name(name),
         _ => false,
     }

@@ -5,11 +5,12 @@ ghost use Rattle.py_token.specs.declared.token.Token.{Token};
 ghost use Rattle.py_parse.specs.HeldStates.{kind_at};
 ghost use Rattle.py_token.specs.View.{view_kind};
 ghost use Rattle.py_syntax.specs.Kinds.{Name, bare_kind};
-ghost use Rattle.py_syntax.specs.Headers.{is_match, is_colon, ends_in_colon, ends_line};
+ghost use Rattle.py_syntax.specs.Headers.{is_match, ends_in_colon};
 ghost use Rattle.py_syntax.specs.Statements.{case_name};
-ghost use Rattle.py_parse.specs.HeldMarks.{kinds_of, is_newline, begins_from, header_at};
+ghost use Rattle.py_parse.specs.HeldMarks.{kinds_of, begins_from, header_at};
 
-use py_token::{Mark, Token, TokenKind};
+use crate::lists::{Class, is_a};
+use py_token::{Token, TokenKind};
 use py_value::Text;
 
 /// Whether a name is `case`.
@@ -34,36 +35,6 @@ fn is_match(kind: &TokenKind) -> bool
     }
 }
 
-fn is_colon(kind: &TokenKind) -> bool
-    ensures { result ≡ is_colon (bare_kind (view_kind kind.now)) }
-{
-    match kind {
-        TokenKind::Mark(Mark::Colon) => true,
-        _ => false,
-    }
-}
-
-fn is_newline(kind: &TokenKind) -> bool
-    ensures { result ≡ is_newline (bare_kind (view_kind kind.now)) }
-{
-    match kind {
-        TokenKind::Newline => true,
-        _ => false,
-    }
-}
-
-/// Whether a logical line may begin behind the token.
-fn ends_line(kind: &TokenKind) -> bool
-    ensures { result ≡ ends_line (bare_kind (view_kind kind.now)) }
-{
-    match kind {
-        TokenKind::Newline => true,
-        TokenKind::Indent => true,
-        TokenKind::Dedent => true,
-        _ => false,
-    }
-}
-
 /// Whether the last token before the end of the line is a colon, in the tokens from a place on.
 #[tactic(auto, using(crate::proofs::HeaderPlaces::at_newline, crate::proofs::HeaderPlaces::at_other, crate::proofs::HeaderPlaces::at_end))]
 fn ends_in_colon(tokens: &[Token], from: usize) -> bool
@@ -72,11 +43,11 @@ fn ends_in_colon(tokens: &[Token], from: usize) -> bool
     let mut colon = false;
     let mut at = from;
     'tokens: while at < tokens.len() {
-        let kind = &tokens[at].kind;
-        if is_newline(kind) {
+        let token = &tokens[at];
+        if is_a(token, Class::Newline) {
             return colon;
         }
-        colon = is_colon(kind);
+        colon = is_a(token, Class::Colon);
         at += 1;
     }
     false
@@ -91,7 +62,7 @@ fn begins_line(tokens: &[Token], at: usize) -> bool
     if at == 0 {
         true
     } else {
-        ends_line(&tokens[at - 1].kind)
+        is_a(&tokens[at - 1], Class::LineEnd)
     }
 }
 
@@ -105,7 +76,7 @@ fn heads_line(tokens: &[Token], at: usize) -> bool
     if at + 1 == tokens.len() {
         return false;
     }
-    !is_newline(&tokens[at + 1].kind) && ends_in_colon(tokens, at + 2)
+    !is_a(&tokens[at + 1], Class::Newline) && ends_in_colon(tokens, at + 2)
 }
 
 /// Whether the header of a `match` statement begins at the place.

@@ -2,13 +2,13 @@
 
 ghost use Rattle.std.specs.Prelude.{◌≡◌};
 ghost use Rattle.py_parse.specs.Machine.{may_bind, behind_name};
-ghost use Rattle.py_parse.specs.HeldLists.{is_comma};
 ghost use Rattle.py_parse.specs.HeldStates.{kind_at, first_at, last_at, view_block, view_lines, view_listed, view_state, Makes};
 
 use crate::block::{Block, Lines};
+use crate::lists::{Class, is_a};
 use crate::places::{Listed, Place, State};
 use crate::simple::end_simple;
-use py_token::{Mark, Token, TokenKind};
+use py_token::Token;
 use py_value::NoMemory;
 use std::alloc::Global;
 
@@ -19,15 +19,6 @@ pub fn may_bind(names: &Listed) -> bool
         Listed::Globals(_) => false,
         Listed::Imports(_) => true,
         Listed::Froms(_, _) => true,
-    }
-}
-
-fn is_comma(token: &Token) -> bool
-    ensures { result ≡ is_comma (kind_at token.now) }
-{
-    match &token.kind {
-        TokenKind::Mark(Mark::Comma) => true,
-        _ => false,
     }
 }
 
@@ -42,7 +33,7 @@ pub fn behind_name(
 ) -> Result<Option<State>, NoMemory>
     ensures { Makes (behind_name (view_listed names) (view_lines lines) (view_block block) (kind_at token.now) (last_at token.now)) result }
 {
-    if is_comma(token) {
+    if is_a(token, Class::Comma) {
         return Ok(Some(State::At(Place::NameWanted(names), lines.onward(token.last), block)));
     }
     end_simple(alloc, names.listed(alloc)?, lines, block, token)

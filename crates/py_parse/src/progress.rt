@@ -223,16 +223,12 @@ fn behind_expression(
     block: Block,
     read: ExprRead,
 ) -> Result<Progress, SyntaxError>
-    requires { Resumes (view_tokens tokens.now) place read.next (λ m k l. resume (view_resume purpose) (plain_expr read.expr) m (view_block block) k l) (view_lines lines) }
+    requires { Resumes (view_tokens tokens.now) place read.next (λ m k l. resume (view_resume purpose) (plain_expr read.expr.value) m (view_block block) k l) (view_lines lines) }
     ensures { Advances (view_tokens tokens.now) place result }
 {
     let lines = lines.onward(tokens[read.next - 1].last);
     let token = &tokens[read.next];
-    let Ok(expr) = Box::new(alloc, read.expr) else {
-        drop(purpose);
-        return Err(SyntaxError::NoMemory);
-    };
-    let state = resume(alloc, purpose, expr, lines, block, token)?;
+    let state = resume(alloc, purpose, read.expr, lines, block, token)?;
     moved(tokens, read.next, state)
 }
 

@@ -4,15 +4,14 @@ ghost use Rattle.std.specs.Prelude.{◌≡◌, IfOk, option_map, true};
 ghost use Rattle.py_syntax.specs.View.{plain_kind};
 ghost use Rattle.py_parse.specs.Machine.{close, over_line, end_simple, end_header};
 ghost use Rattle.py_parse.specs.Open.{add};
-ghost use Rattle.py_parse.specs.HeldLists.{is_semicolon, ends_simple};
 ghost use Rattle.py_parse.specs.HeldOwners.{view_owner};
 ghost use Rattle.py_parse.specs.HeldStates.{kind_at, first_at, last_at, view_block, view_lines, view_state, Makes};
 
-use crate::block::{Block, Lines, Open, add, innermost, line_end};
-use crate::lists::is_newline;
+use crate::block::{Block, Lines, Open, add, innermost};
+use crate::lists::{Class, is_a};
 use crate::owner::Owner;
 use crate::places::{Place, State};
-use py_syntax::{StmtKind, Suite};
+use py_syntax::{LineEnd, StmtKind, Suite};
 use py_token::{Mark, Token, TokenKind};
 use py_value::NoMemory;
 use std::alloc::Global;
@@ -71,29 +70,12 @@ pub fn end_line(
         lines.begun,
         lines.last,
         kind,
-        line_end(semicolon, true),
+        LineEnd {
+            semicolon,
+            newline: true,
+        },
     )?;
     over_line(alloc, block, last)
-}
-
-/// Whether the token ends a simple statement.
-pub fn ends_simple(token: &Token) -> bool
-    ensures { result ≡ ends_simple (kind_at token.now) }
-{
-    match &token.kind {
-        TokenKind::Mark(Mark::Semicolon) => true,
-        TokenKind::Newline => true,
-        _ => false,
-    }
-}
-
-fn is_semicolon(token: &Token) -> bool
-    ensures { result ≡ is_semicolon (kind_at token.now) }
-{
-    match &token.kind {
-        TokenKind::Mark(Mark::Semicolon) => true,
-        _ => false,
-    }
 }
 
 /// A simple statement is whole.
@@ -107,10 +89,10 @@ pub fn end_simple(
 ) -> Result<Option<State>, NoMemory>
     ensures { Makes (end_simple (plain_kind kind.value) (view_lines lines) (view_block block) (kind_at token.now) (last_at token.now)) result }
 {
-    if is_semicolon(token) {
+    if is_a(token, Class::Semicolon) {
         return Ok(Some(State::At(Place::Semicolon(kind), lines, block)));
     }
-    if is_newline(token) {
+    if is_a(token, Class::Newline) {
         return Ok(Some(end_line(alloc, kind, false, lines, block, token.last)?));
     }
     drop(kind);

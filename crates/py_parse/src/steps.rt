@@ -7,13 +7,13 @@ ghost use Rattle.py_parse.specs.Machine.{Behind, begun, choose, at_line, header_
 ghost use Rattle.py_parse.specs.HeldStates.{kind_at, first_at, last_at, view_block, view_state, Acts, Makes, Rests};
 
 use crate::begin::{begun_at, line};
-use crate::block::{Block, Lines, add, line_end};
+use crate::block::{Block, Lines, add};
 use crate::kinds::matched;
-use crate::lists::{has_cases, is_case, is_dedent};
+use crate::lists::{Class, has_cases, is_a, is_case};
 use crate::owner::Choice;
 use crate::parts::{Part, is_whole, next_part};
 use crate::places::{Place, Resume, State, Turn};
-use py_syntax::StmtKind;
+use py_syntax::{LineEnd, StmtKind};
 use py_token::Token;
 use py_value::NoMemory;
 use std::alloc::Global;
@@ -39,14 +39,14 @@ pub fn choose(
 ) -> Result<Option<State>, NoMemory>
     ensures { Makes (choose (plain_expr choice.value.subject) choice.value.header_last (plain_cases choice.value.cases.items) first (view_block block) (kind_at token.now) (first_at token.now) (last_at token.now)) result }
 {
-    if is_dedent(token) {
+    if is_a(token, Class::Dedent) {
         if !has_cases(&choice.cases) {
             return Ok(None);
         }
         let kind = matched(alloc, choice)?;
         return Ok(Some(State::Behind(kind, first, token.last, block)));
     }
-    if !is_case(token) {
+    if !is_case(&token.kind) {
         return Ok(None);
     }
     let lines = Lines {
@@ -71,7 +71,16 @@ pub fn put(
         drop(kind);
         return Ok(None);
     }
-    Ok(Some(add(block, first, last, kind, line_end(false, false))?))
+    Ok(Some(add(
+        block,
+        first,
+        last,
+        kind,
+        LineEnd {
+            semicolon: false,
+            newline: false,
+        },
+    )?))
 }
 
 /// The token behind a suite.

@@ -11,7 +11,7 @@ ghost use Rattle.py_parse.specs.HeldStates.{kind_at, first_at, last_at, view_blo
 
 use crate::block::{Block, Lines};
 use crate::kinds::{asserted, assigned, augmented, boxed, boxed_owner, left};
-use crate::lists::{has_exprs, is_equal_sign};
+use crate::lists::{Class, has_exprs, is_a};
 use crate::owner::{Choice, Owner, Signature, Tried};
 use crate::places::{Place, Resume, State};
 use crate::simple::{end_header, end_simple};
@@ -103,7 +103,7 @@ fn behind_value(
 ) -> Result<Option<State>, NoMemory>
     ensures { Makes (behind_value (plain_exprs targets.items) (plain_expr expr.value) (view_lines lines) (view_block block) (kind_at token.now) (last_at token.now)) result }
 {
-    if is_equal_sign(token) {
+    if is_a(token, Class::EqualSign) {
         behind_target(targets, expr, lines, block, token)
     } else if has_exprs(&targets) {
         end_simple(alloc, assigned(alloc, targets, expr)?, lines, block, token)
@@ -179,7 +179,7 @@ pub fn behind_param(
 ) -> Result<Option<State>, NoMemory>
     ensures { Makes (act (ParamRead signature.name signature.params.items (plain_exprs signature.defaults.items) param) (view_lines lines) (view_block block) (kind_at token.now) (first_at token.now) (last_at token.now)) result }
 {
-    if is_equal_sign(token) {
+    if is_a(token, Class::EqualSign) {
         return Ok(Some(State::At(
             Place::Wanted(Resume::Default(signature, param)),
             lines.onward(token.last),

@@ -5,10 +5,10 @@ use Rattle.py_parse.specs.HeldStates.{kind_at, first_at, last_at, view_lines, vi
 use Rattle.py_parse.proofs.Acts.{acts_so, leaving_ends}
 use Rattle.py_parse.proofs.act.behind_leaving.Goals as goal
 
-pub returns-then-ends_simple : goal.returns-then-ends_simple
-returns-then-ends_simple c =
+pub returns-then-is_a : goal.returns-then-is_a
+returns-then-is_a c =
     let a = c.args in
     let t = a.token.now in
     acts_so (act (Leaving a.raises) (view_lines a.lines) (view_block a.block) (kind_at t) (first_at t) (last_at t)) (kind_at t) (first_at t) (last_at t) c.in_ok-state.state c.turn.result
-    (leaving_ends a.raises (plain_kind c.in_ok-kind.kind.value) (view_lines a.lines) (view_block a.block) (kind_at t) (first_at t) (last_at t) (option_map view_state c.in_ok-state.state) (sym c.ends_simple.ensures ∙ c.if-ends_simple.true) c.in_ok-kind.ensures c.in_ok-state.ensures)
+    (leaving_ends a.raises (plain_kind c.in_ok-kind.kind.value) (view_lines a.lines) (view_block a.block) (kind_at t) (first_at t) (last_at t) (option_map view_state c.in_ok-state.state) (sym c.is_a.ensures ∙ c.if-is_a.true) c.in_ok-kind.ensures c.in_ok-state.ensures)
     c.turn.ensures

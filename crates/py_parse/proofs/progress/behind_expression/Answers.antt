@@ -9,5 +9,4 @@ use Rattle.py_parse.proofs.progress.behind_expression.Goals as goal
 pub moved-requires-clause-turns : goal.moved-requires-clause-turns
 moved-requires-clause-turns c =
     let t = c.index-tokens-read-2.result in
-    let made = subst (λ (e : Expr). resume (view_resume c.args.purpose) (plain_expr e) (view_lines c.onward-lines.result) (view_block c.args.block) (kind_at t) (last_at t) ≡ option_map view_state c.in_ok-state.state) c.in-Ok.ensures.ok c.in_ok-state.ensures in
-    expression_turns c.args.tokens.now c.args.place c.args.read.next t c.index-tokens-read.result (view_resume c.args.purpose) (plain_expr c.args.read.expr) (view_lines c.args.lines) (view_lines c.onward-lines.result) (view_block c.args.block) c.in_ok-state.state c.index-tokens-read-2.is c.requires c.onward-lines.ensures made
+    expression_turns c.args.tokens.now c.args.place c.args.read.next t c.index-tokens-read.result (view_resume c.args.purpose) (plain_expr c.args.read.expr.value) (view_lines c.args.lines) (view_lines c.onward-lines.result) (view_block c.args.block) c.in_ok-state.state c.index-tokens-read-2.is c.requires c.onward-lines.ensures c.in_ok-state.ensures

@@ -8,7 +8,7 @@ use Rattle.py_parse.proofs.Answering.{behind_expression, expression_unexpected, 
 use Rattle.py_parse.proofs.progress.expression.Goals as goal
 
 pub behind_expression-requires : goal.behind_expression-requires
-behind_expression-requires c = behind_expression c.args.tokens.now c.args.place c.in-Ok.read.next (goal_of c.part_of.result) (view_resume c.args.purpose) (view_lines c.args.lines) (view_block c.args.block) (plain_expr c.in-Ok.read.expr) c.requires.inside c.part_of.ensures c.requires.begins c.in-Ok.ensures.follows
+behind_expression-requires c = behind_expression c.args.tokens.now c.args.place c.in-Ok.read.next (goal_of c.part_of.result) (view_resume c.args.purpose) (view_lines c.args.lines) (view_block c.args.block) (plain_expr c.in-Ok.read.expr.value) c.requires.inside c.part_of.ensures c.requires.begins c.in-Ok.ensures.follows
 
 pub unexpected-requires-clause-is : goal.unexpected-requires-clause-is
 unexpected-requires-clause-is c = subst (IsUnexpected (view_tokens c.args.tokens.now)) (sym c.in-Err-Unexpected.place-is) (expression_unexpected c.args.tokens.now c.args.place c.in-Err-Unexpected.place c.part_of.result c.in-Err-Unexpected.field-0 (view_resume c.args.purpose) (view_lines c.args.lines) (view_block c.args.block) c.requires.inside c.part_of.ensures c.requires.begins c.in-Err-Unexpected.ensures.follows c.in-Err-Unexpected.field-0-is)
