@@ -2,7 +2,8 @@
 use Rattle.std.proofs.Common.{◌≡◌, Bool, true, false, not, ◌&&◌, ◌||◌, refl, sym, ap, ◌∙◌}
 use Rattle.py_syntax.specs.Tree.{Pattern, Patterns, patterns}
 use Rattle.py_scope.specs.declared.patterns.PatternFacts.{PatternFacts}
-use Rattle.py_scope.specs.Patterns.{is_irrefutable, is_last, is_early, has_early, some_early, has_irrefutable, binds, some_binds}
+use Rattle.py_scope.specs.Patterns.{is_last, is_early, has_early, some_early, binds, some_binds}
+use Rattle.py_syntax.specs.Patterns.{is_irrefutable, has_irrefutable}
 use Rattle.py_scope.specs.PatternFacts.{facts_of, either}
 use Rattle.py_scope.proofs.Gathering.{or_next}
 

@@ -13,7 +13,8 @@ use Rattle.py_syntax.specs.Names.{is_among, add_name, distinct, assigned_names, 
 use Rattle.py_scope.specs.declared.error.ScopeError.{ScopeError}
 use Rattle.py_scope.specs.declared.error.ScopeError.TheVariants.{BreakOutside, ReturnOutside, GlobalAfterUse, NestedFunction, EarlyIrrefutable, TwiceNamed}
 use Rattle.py_scope.specs.declared.place.Place.{Place}
-use Rattle.py_scope.specs.Patterns.{has_repeats, is_irrefutable, has_early, is_twice_named}
+use Rattle.py_scope.specs.Patterns.{has_repeats, has_early, is_twice_named}
+use Rattle.py_syntax.specs.Patterns.{is_irrefutable}
 use Rattle.py_scope.specs.Occurrences.{occurrences}
 use Rattle.py_scope.specs.declared.occurrence.Occurrence.{Occurrence}
 use Rattle.py_scope.specs.declared.occurrence.Occurrence.TheVariants.{Uses, Assigns, Declares}

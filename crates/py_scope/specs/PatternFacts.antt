@@ -2,7 +2,8 @@
 use Rattle.std.specs.Prelude.{◌||◌}
 use Rattle.py_syntax.specs.Tree.{Pattern, Patterns}
 use Rattle.py_scope.specs.declared.patterns.PatternFacts.{PatternFacts}
-use Rattle.py_scope.specs.Patterns.{is_irrefutable, has_irrefutable, has_early, some_early, binds, some_binds, alternative_binds, some_alternative_binds}
+use Rattle.py_scope.specs.Patterns.{has_early, some_early, binds, some_binds, alternative_binds, some_alternative_binds}
+use Rattle.py_syntax.specs.Patterns.{is_irrefutable, has_irrefutable}
 
 -- of a pattern
 abbrev pub facts_of : Pattern → PatternFacts

@@ -1,10 +1,11 @@
 -- What a pattern may be blamed for.
 --     repeats_in, has_repeats         names that stand twice
---     is_irrefutable, is_early, has_early     patterns that match everything, and those that stand before others
+--     is_early, has_early             patterns that match everything and stand before others
 --     binds, alternative_binds        patterns that bind a name, and those with an alternative that does
 --     is_twice_named                  patterns that bind a name twice
 use Rattle.std.specs.Prelude.{Bool, true, false, not, ◌&&◌, ◌||◌, List, [], ◌∷◌}
 use Rattle.py_syntax.specs.Tree.{Text, Pattern, literal, capture, wild, member, sequence, p_or, p_as, p_paren, Patterns, no_patterns, patterns}
+use Rattle.py_syntax.specs.Patterns.{is_irrefutable}
 use Rattle.py_syntax.specs.Names.{is_among, add_name, pattern_names}
 
 -- some name stands twice in a list, or in it and among the given ones
@@ -20,22 +21,6 @@ has_repeats = repeats_in []
 abbrev pub is_last : Patterns → Bool
 is_last no_patterns = true
 is_last (patterns p ps) = false
-
--- It matches everything: a name, `_`, one of these with `as` or in parentheses, or alternatives with an irrefutable one.
-abbrev mutual
-  pub is_irrefutable : Pattern → Bool
-  is_irrefutable (literal minus c) = false
-  is_irrefutable (capture x) = true
-  is_irrefutable wild = true
-  is_irrefutable (member m x) = false
-  is_irrefutable (sequence b ps c) = false
-  is_irrefutable (p_or ps) = has_irrefutable ps
-  is_irrefutable (p_as p x) = is_irrefutable p
-  is_irrefutable (p_paren p) = is_irrefutable p
-
-  pub has_irrefutable : Patterns → Bool
-  has_irrefutable no_patterns = false
-  has_irrefutable (patterns p ps) = is_irrefutable p || has_irrefutable ps
 
 -- an irrefutable one stands before the last of these alternatives
 abbrev pub is_early : Patterns → Bool

@@ -1,6 +1,7 @@
 use Rattle.std.proofs.Common.{◌≡◌, ◌||◌, ◌&&◌, not, drop}
 use Rattle.py_syntax.specs.View.{plain_patterns}
-use Rattle.py_scope.specs.Patterns.{is_last, is_early, some_early, has_irrefutable, some_binds}
+use Rattle.py_scope.specs.Patterns.{is_last, is_early, some_early, some_binds}
+use Rattle.py_syntax.specs.Patterns.{has_irrefutable}
 use Rattle.py_scope.specs.PatternFacts.{items_facts, either}
 use Rattle.py_scope.proofs.patterns.+facts.Given as goal
 
