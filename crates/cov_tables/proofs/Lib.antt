@@ -1,0 +1,4 @@
+pub mod InOrder
+pub mod Columns
+pub mod Counting
+pub mod Whole
