@@ -2,3 +2,4 @@ pub mod InOrder
 pub mod Columns
 pub mod Counting
 pub mod Whole
+pub mod Worked
