@@ -1,12 +1,12 @@
 //! The rows of entries, added to data.
-ghost use Rattle.std.specs.Prelude.{◌≡◌, ◌<◌, true, false, nat_eq, take, drop, map, IfOk, OnOk};
+ghost use Rattle.std.specs.Prelude.{◌≡◌, ◌<◌, true, false, nat_eq, take, drop, IfOk, OnOk};
 ghost use Rattle.std.specs.List.{fold, flat_map, list_all};
 ghost use Rattle.cov_data.specs.DataSet.{IsInRange};
 ghost use Rattle.cov_data.specs.Rows.{with_row};
 ghost use Rattle.cov_tables.specs.Content.{is_number, is_set, is_bad_arc, is_bad_bits, row_with, line_row, arc_rows, bits_rows, unless_bad, read_entries};
 ghost use Rattle.cov_tables.specs.Entries.{column_view, entry_view};
 ghost use Rattle.cov_tables.specs.Hits.{Spot as Spots};
-ghost use Rattle.cov_tables.specs.Kept.{count_at};
+ghost use Rattle.cov_tables.specs.Kept.{count_at, seen};
 
 use crate::entries::{Column, Entry};
 use crate::hits::{Hits, Spot};
@@ -185,7 +185,8 @@ pub(crate) fn add_arcs(
 ) -> Result<Option<u64>, AllocError>
     requires arcs { data.old.arcs ≡ true }
     requires counted { (spot : Spots) → 0 < count_at hits.now spot }
-    ensures { IfOk result (λ bad. unless_bad bad data.new ≡ read_entries is_bad_arc (arc_rows (count_at hits.now)) (map entry_view entries.now) data.old) }
+    ensures { IfOk result (λ bad. unless_bad bad data.new
+        ≡ read_entries is_bad_arc (arc_rows (count_at hits.now)) (seen entries.now) data.old) }
 {
     let mut at: u64 = 0;
     for entry in entries {
@@ -207,7 +208,8 @@ pub(crate) fn add_bits(
 ) -> Result<Option<u64>, AllocError>
     requires lines { data.old.arcs ≡ false }
     requires counted { (spot : Spots) → 0 < count_at hits.now spot }
-    ensures { IfOk result (λ bad. unless_bad bad data.new ≡ read_entries is_bad_bits (bits_rows (count_at hits.now)) (map entry_view entries.now) data.old) }
+    ensures { IfOk result (λ bad. unless_bad bad data.new
+        ≡ read_entries is_bad_bits (bits_rows (count_at hits.now)) (seen entries.now) data.old) }
 {
     let mut at: u64 = 0;
     for entry in entries {

@@ -1,11 +1,10 @@
 //! Rows of `arc` and `line_bits` with their file and context.
 ghost use Rattle.std.specs.Prelude.{◌≡◌, ◌++◌, option_map, map, string_bytes, IfOk, OnOk};
-ghost use Rattle.std.specs.List.{flat_map};
 ghost use Rattle.cov_tables.specs.Entries.{column_view, entry_view, entry_cmp, number_at, blob_at};
 ghost use Rattle.cov_tables.specs.Fields.{row, rows};
 ghost use Rattle.cov_tables.specs.Order.{in_order};
 ghost use Rattle.cov_tables.specs.Joins.{arc_key, bits_key, entry, joined, joined_if};
-ghost use Rattle.cov_tables.specs.Kept.{key_view, texts_at};
+ghost use Rattle.cov_tables.specs.Kept.{key_view, texts_at, seen, texts, arcs_named, bits_named};
 
 use crate::cells::{Cell, bits_at, whole_at};
 use crate::names::Names;
@@ -118,7 +117,8 @@ impl Key {
         contexts: &[String],
         entries: &mut Vec<Entry>,
     ) -> Result<(), AllocError>
-        ensures { OnOk result (map entry_view entries.new.items ≡ map entry_view entries.old.items ++ map (entry (key_view self.now) (string_bytes path.now)) (map string_bytes contexts.now)) }
+        ensures { OnOk result (seen entries.new.items ≡ seen entries.old.items
+            ++ map (entry (key_view self.now) (string_bytes path.now)) (texts contexts.now)) }
     {
         for context in contexts {
             entries.push(self.entry(alloc, path, context)?)?;
@@ -134,7 +134,8 @@ impl Key {
         contexts: &[String],
         entries: &mut Vec<Entry>,
     ) -> Result<(), AllocError>
-        ensures { OnOk result (map entry_view entries.new.items ≡ map entry_view entries.old.items ++ joined (key_view self.now) (map string_bytes paths.now) (map string_bytes contexts.now)) }
+        ensures { OnOk result (seen entries.new.items ≡ seen entries.old.items
+            ++ joined (key_view self.now) (texts paths.now) (texts contexts.now)) }
     {
         for path in paths {
             self.push_path(alloc, path, contexts, entries)?;
@@ -151,7 +152,8 @@ fn push_row(
     contexts: &Names,
     entries: &mut Vec<Entry>,
 ) -> Result<(), AllocError>
-    ensures { OnOk result (map entry_view entries.new.items ≡ map entry_view entries.old.items ++ joined_if (option_map key_view key.now) (texts_at files.now) (texts_at contexts.now)) }
+    ensures { OnOk result (seen entries.new.items ≡ seen entries.old.items
+        ++ joined_if (option_map key_view key.now) (texts_at files.now) (texts_at contexts.now)) }
 {
     match key {
         Some(key) => {
@@ -170,7 +172,7 @@ pub(crate) fn arc_entries(
     contexts: &Names,
     lists: &[Vec<Cell>],
 ) -> Result<Vec<Entry>, AllocError>
-    ensures { IfOk result (λ entries. map entry_view entries.items ≡ in_order entry_cmp (flat_map (λ r. joined_if (arc_key r) (texts_at files.now) (texts_at contexts.now)) (rows lists.now))) }
+    ensures { IfOk result (λ entries. seen entries.items ≡ arcs_named files.now contexts.now (rows lists.now)) }
 {
     let mut entries = Vec::new(alloc);
     for cells in lists {
@@ -187,7 +189,7 @@ pub(crate) fn bits_entries(
     contexts: &Names,
     lists: &[Vec<Cell>],
 ) -> Result<Vec<Entry>, AllocError>
-    ensures { IfOk result (λ entries. map entry_view entries.items ≡ in_order entry_cmp (flat_map (λ r. joined_if (bits_key r) (texts_at files.now) (texts_at contexts.now)) (rows lists.now))) }
+    ensures { IfOk result (λ entries. seen entries.items ≡ bits_named files.now contexts.now (rows lists.now)) }
 {
     let mut entries = Vec::new(alloc);
     for cells in lists {
@@ -199,7 +201,7 @@ pub(crate) fn bits_entries(
 }
 
 fn sort(entries: &mut Vec<Entry>) -> Result<(), AllocError>
-    ensures { OnOk result (map entry_view entries.new.items ≡ in_order entry_cmp (map entry_view entries.old.items)) }
+    ensures { OnOk result (seen entries.new.items ≡ in_order entry_cmp (seen entries.old.items)) }
 {
     entries.sort()
 }

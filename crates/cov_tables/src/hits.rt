@@ -1,9 +1,8 @@
 //! The counts of rows.
-ghost use Rattle.std.specs.Prelude.{◌≡◌, cond, Some, IfOk, OnOk};
-ghost use Rattle.std.specs.Ordering.{is_eq};
+ghost use Rattle.std.specs.Prelude.{◌≡◌, IfOk, OnOk};
 ghost use Rattle.cov_tables.specs.Fields.{row, rows};
-ghost use Rattle.cov_tables.specs.Hits.{Spot as Spots, spot_cmp, spot_at, counts_with, counted, count_of};
-ghost use Rattle.cov_tables.specs.Kept.{kept_at, with_count, with_counts, count_at};
+ghost use Rattle.cov_tables.specs.Hits.{Spot as Spots, spot_at, counts_with, counted, count_of};
+ghost use Rattle.cov_tables.specs.Kept.{kept_at, kept_after, with_count, with_counts, count_at};
 
 use crate::cells::{Cell, whole_at};
 use std::alloc::{AllocError, Global};
@@ -68,7 +67,7 @@ impl Hits {
     }
 
     fn add(&mut self, spot: Spot, count: u32) -> Result<(), AllocError>
-        ensures { OnOk result ((other : Spots) → kept_at self.new other ≡ cond (is_eq (spot_cmp other spot)) (Some (with_count (kept_at self.old spot) count)) (kept_at self.old other)) }
+        ensures { OnOk result ((other : Spots) → kept_at self.new other ≡ kept_after self.old spot count other) }
     {
         let count = self.counted_with(&spot, count);
         self.counts.insert(spot, count)?;
