@@ -1,5 +1,5 @@
 -- The statements that make the tables of data files.
-use Rattle.std.proofs.Common.{◌≡◌, ◌⊎◌, inl, inr, ℕ, List, [], codes, None, Some, Ok, Err, Result, OnOk, IsErrOf, IsTrue, refl, sym, ◌∙◌}
+use Rattle.std.proofs.Common.{◌≡◌, ◌⊎◌, inl, inr, ℕ, List, [], codes, Some, Ok, Err, Result, OnOk, IsErrOf, IsTrue, refl}
 use Rattle.sqlite_schema.specs.declared.schema.Table.{Table}
 use Rattle.sqlite_tied.specs.Compute.{everything}
 use Rattle.sqlite.specs.State.{State, HasCleanDisk}

@@ -1,5 +1,5 @@
 -- What CREATE TABLE is, under any schema.
-use Rattle.std.proofs.Common.{◌≡◌, ◌⊎◌, inl, inr, ℕ, ◌+◌, ◌==◌, List, [], ◌∷◌, ◌++◌, length, map, codes, slice_get, Bool, true, false, not, ◌&&◌, is_some, Option, Some, None, Ok, Err, Result, if◌then◌else◌, refl, sym, ap, subst, ◌∙◌}
+use Rattle.std.proofs.Common.{◌≡◌, ◌⊎◌, inl, inr, ℕ, ◌==◌, List, [], length, true, false, is_some, Some, None, Ok, Err, Result, refl, sym, ap, subst, ◌∙◌}
 use Rattle.std.proofs.lemmas.Bool.{cases_Bool}
 use Rattle.sqlite_ast.specs.declared.CreateTable.{CreateTable}
 use Rattle.sqlite_ast.specs.declared.Statement.TheVariants as written
@@ -7,17 +7,14 @@ use Rattle.sqlite_syntax.specs.declared.statement.Parsed.{Parsed}
 use Rattle.sqlite_schema.specs.Names.{table_named, view_named, index_named}
 use Rattle.sqlite_schema.specs.declared.schema.Schema.{Schema}
 use Rattle.sqlite_schema.specs.declared.schema.Table.{Table}
-use Rattle.sqlite_schema.specs.declared.command.Command.{Command}
 use Rattle.sqlite_schema.specs.declared.command.Command.TheVariants as command
 use Rattle.sqlite_resolve.specs.declared.compiled.Compiled.{Compiled}
 use Rattle.sqlite_resolve.specs.declared.error.CompileError.{CompileError}
-use Rattle.sqlite_resolve.specs.declared.error.CompileError.TheVariants.{Exists, Unsupported}
+use Rattle.sqlite_resolve.specs.declared.error.CompileError.TheVariants.{Exists}
 use Rattle.sqlite_resolve.specs.Scope.{Name}
 use Rattle.sqlite_resolve.specs.Compile.{first, returning, timed, meaning, planned, compiled, create_table, creates, is_attached, is_reserved}
 use Rattle.sqlite_resolve.specs.Compile as compile
 use Rattle.sqlite_resolve.specs.Define as define
-use Rattle.sqlite_tied.specs.Compute.{everything}
-use Rattle.sqlite.specs.declared.error.Error.{Error}
 use Rattle.sqlite.specs.Listing.{understood}
 use Rattle.std.specs.Prelude.{slice_range}
 use Rattle.sqlite.specs.Compile.{table_defined_by}
@@ -29,7 +26,7 @@ use Rattle.cov_sql.specs.Written.{IsMade, WasAbsent}
 use Rattle.cov_sql.proofs.Shows.{understood_as, never, no_fault}
 use Rattle.sqlite.specs.Change.{created, next_tree}
 use Rattle.sqlite_catalog.specs.Change.{KeepsRows}
-use Rattle.sqlite.specs.Does.{Tally, Does, lacks_sequence}
+use Rattle.sqlite.specs.Does.{Tally, lacks_sequence}
 use Rattle.sqlite.proofs.Callers.{IsPlain, command_of, runs_as, statement_of}
 
 pub record IsCreate (text : List ℕ) (name : Name) (table : ℕ → Table) : Type 0 where

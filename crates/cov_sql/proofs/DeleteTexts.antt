@@ -1,5 +1,5 @@
 -- The statements that delete the rows of the tables of data files.
-use Rattle.std.proofs.Common.{◌≡◌, ◌≢◌, ◌⊎◌, inl, inr, ℕ, List, [], ◌∷◌, codes, slice_get, Option, Some, None, Ok, Err, Result, OnOk, IsTrue, refl, sym, ap, subst, ◌∙◌}
+use Rattle.std.proofs.Common.{◌≡◌, ◌≢◌, ◌⊎◌, inl, inr, ℕ, List, [], codes, slice_get, Option, Some, None, Ok, Err, Result, OnOk, IsTrue, refl, sym, subst, ◌∙◌}
 use Rattle.std.specs.List.{AllByRecursion}
 use Rattle.sqlite_value.specs.Order.{Row}
 use Rattle.sqlite_typing.specs.Types.{accepts_program}
@@ -13,7 +13,7 @@ use Rattle.cov_sql.specs.declared.statements.StatementError.{StatementError}
 use Rattle.cov_sql.specs.Tables.{Shape, table_in, places_in, rows_in}
 use Rattle.cov_sql.specs.Written.{IsFree, IsEmptied, Deletes, Ran, GoesOn}
 use Rattle.cov_sql.proofs.Found.{either}
-use Rattle.cov_sql.proofs.Deletes.{IsDelete, rowids, delete_is, Removes, removed_by}
+use Rattle.cov_sql.proofs.Deletes.{IsDelete, rowids, delete_is, removed_by}
 use Rattle.cov_sql.proofs.Empties.{emptied}
 
 -- where a table of a schema stands

@@ -1,14 +1,12 @@
 -- A table has all the columns, or lacks one.
-use Rattle.std.proofs.Common.{◌≡◌, ◌⊎◌, inl, inr, ℕ, suc, ◌+◌, arith, cond, List, [], ◌∷◌, map, slice_get, Bool, true, false, Option, Some, None, option_map, option_and_then, refl, sym, ap, subst, ◌∙◌}
+use Rattle.std.proofs.Common.{◌≡◌, ◌⊎◌, inl, inr, ℕ, suc, ◌+◌, arith, cond, List, [], ◌∷◌, map, slice_get, Bool, true, false, Option, Some, None, option_map, option_and_then, refl, ap, ◌∙◌}
 use Rattle.std.specs.List.{position_from}
-use Rattle.std.proofs.lemmas.Bool.{cases_Bool}
 use Rattle.std.proofs.lemmas.Option.{same_Some}
-use Rattle.sqlite_schema.specs.Names.{column_named, table_named, place_of, same_name}
-use Rattle.sqlite_schema.specs.declared.schema.Schema.{Schema}
+use Rattle.sqlite_schema.specs.Names.{column_named, place_of}
 use Rattle.sqlite_schema.specs.declared.schema.Table.{Table}
 use Rattle.sqlite_schema.specs.declared.schema.Column.{Column}
 use Rattle.sqlite_resolve.specs.Scope.{Name, is_rowid}
-use Rattle.cov_sql.specs.Tables.{table_in, places_in, rows_of}
+use Rattle.cov_sql.specs.Tables.{places_in}
 use Rattle.cov_sql.proofs.Selects.{AreFound, IsLacking}
 
 abbrev pub AreOrdinary : List Name → Type 0

@@ -1,11 +1,10 @@
 -- What a row that is inserted into `meta` does to the base, whatever else it has.
-use Rattle.std.proofs.Common.{◌≡◌, ◌≢◌, ◌⊎◌, inl, inr, ℕ, ℤ, List, [], ◌∷◌, map, codes, slice_get, Bool, true, false, Some, None, Ok, Err, Result, OnOk, IsTrue, refl, sym, ap, subst, ◌∙◌}
+use Rattle.std.proofs.Common.{◌≡◌, ◌≢◌, ℕ, List, [], ◌∷◌, map, codes, slice_get, Some, Ok, Err, Result, OnOk, IsTrue, refl, sym, ap, subst, ◌∙◌}
 use Rattle.std.specs.List.{AllByRecursion}
-use Rattle.std.specs.List.Sorted.{IsPermutation}
 use Rattle.std.proofs.lemmas.List.Sorted.{IsPermutation-map}
 use Rattle.sqlite_value.specs.Order.{Row, column}
 use Rattle.sqlite_tied.specs.Compute.{everything}
-use Rattle.sqlite.specs.declared.types.Value.TheVariants.{Null, Int, Text, Blob}
+use Rattle.sqlite.specs.declared.types.Value.TheVariants.{Null, Int, Text}
 use Rattle.sqlite.specs.Term.{Term, lit, col}
 use Rattle.sqlite.specs.Table.{Table}
 use Rattle.sqlite.specs.Source.TheVariants.{Values}
@@ -27,7 +26,7 @@ use Rattle.sqlite.proofs.Callers.{IsPlain, command_of, runs_as, one_step}
 use Rattle.cov_sql.specs.declared.statements.StatementError.{StatementError}
 use Rattle.cov_sql.proofs.Shows.{understood_as}
 use Rattle.cov_sql.proofs.Inserts.{IsInsert, insert_is}
-use Rattle.cov_sql.proofs.Adds.{cast_null, cast_int, went, same_value, Adds, free, put_new}
+use Rattle.cov_sql.proofs.Adds.{cast_null, went, same_value, Adds, free, put_new}
 use Rattle.cov_sql.specs.Tables.{table_in, rows_in}
 use Rattle.cov_sql.specs.Tables as tables
 use Rattle.cov_sql.proofs.DeleteTexts.{same_table}

@@ -1,5 +1,5 @@
 -- What a text that is refused in a transaction says.
-use Rattle.std.proofs.Common.{◌≡◌, ◌⊎◌, inl, inr, ℕ, List, Err, subst}
+use Rattle.std.proofs.Common.{◌≡◌, inl, inr, ℕ, List, Err, subst}
 use Rattle.sqlite_value.specs.Order.{Row}
 use Rattle.sqlite_resolve.specs.declared.error.CompileError.{CompileError}
 use Rattle.sqlite.specs.declared.error.Error.{Error}

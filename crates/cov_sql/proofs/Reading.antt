@@ -1,21 +1,18 @@
 -- What a statement that reads a table gives.
-use Rattle.std.proofs.Common.{◌≡◌, ◌⊎◌, inl, inr, ℕ, pos, negsuc, ◌-◌, ◌^◌, nat_le, List, [], ◌∷◌, ◌++◌, map, codes, slice_get, Bool, true, false, Option, Some, None, Ok, Err, option_map, option_and_then, if◌then◌else◌, refl, sym, ap, subst, ◌∙◌, unwrap_or}
+use Rattle.std.proofs.Common.{◌≡◌, ℕ, negsuc, ◌-◌, ◌^◌, nat_le, List, [], ◌∷◌, map, slice_get, Bool, true, false, None, if◌then◌else◌, refl, sym, ap, subst, ◌∙◌, unwrap_or}
 use Rattle.std.specs.List.{flat_map}
 use Rattle.std.specs.List.Sorted.{IsPermutation}
 use Rattle.std.proofs.lemmas.List.Sorted.{IsPermutation-map}
-use Rattle.std.proofs.lemmas.Bool.{cases_Bool}
 use Rattle.sqlite_value.specs.declared.value.Value.TheVariants.{Null, Int}
 use Rattle.sqlite_value.specs.Order.{Row, column}
 use Rattle.sqlite_trees.specs.Tree.{Trees}
-use Rattle.sqlite_sql.specs.Term.{Term, Env, col, lit, eval_all}
+use Rattle.sqlite_sql.specs.Term.{Env, col, lit, eval_all}
 use Rattle.sqlite_resolve.specs.Terms.{number}
-use Rattle.sqlite_sql.specs.Query.{Query, inner, end, IsAnswer, IsSureAnswer, matches, output, Output, page}
-use Rattle.sqlite_sql.specs.Program.{overlay, given_at}
-use Rattle.sqlite_schema.specs.Names.{table_named, view_named, place_of}
-use Rattle.sqlite_schema.specs.declared.schema.Schema.{Schema}
+use Rattle.sqlite_sql.specs.Query.{Query, inner, end, IsAnswer, IsSureAnswer, matches, output, Output}
+use Rattle.sqlite_sql.specs.Program.{overlay}
+use Rattle.sqlite_schema.specs.Names.{place_of}
 use Rattle.sqlite_schema.specs.declared.schema.Table.{Table}
 use Rattle.sqlite_schema.specs.declared.schema.Column.{Column}
-use Rattle.cov_sql.proofs.Selects.{AreFound}
 
 -- no table is computed first
 pub plain_tree : (db : Trees) (t : ℕ) → overlay db [] t ≡ db t

@@ -1,13 +1,12 @@
 -- What SELECT of some columns of one table is, under any schema.
-use Rattle.std.proofs.Common.{◌≡◌, ◌⊎◌, inl, inr, ℕ, ◌-◌, negsuc, pos, List, [], ◌∷◌, ◌++◌, map, slice_get, Bool, true, false, Option, Some, None, Ok, Err, Result, nat_lt, option_map, refl, sym, ap, subst, ◌∙◌, append_assoc, append-nil}
+use Rattle.std.proofs.Common.{◌≡◌, ◌⊎◌, inl, inr, ℕ, ◌-◌, negsuc, List, [], ◌∷◌, ◌++◌, map, slice_get, true, false, Some, None, Ok, Err, nat_lt, refl, ap, ◌∙◌, append_assoc, append-nil}
 use Rattle.sqlite_ast.specs.declared.Expr.{Expr, out-Expr}
 use Rattle.sqlite_ast.specs.declared.Expr.TheOpen.{Expr-F, Shown-F}
 use Rattle.sqlite_ast.specs.declared.Shown.{Shown, out-Shown}
 use Rattle.sqlite_ast.specs.declared.Origin.TheVariants as origin
 use Rattle.sqlite_ast.specs.declared.Source.{Source, out-Source}
 use Rattle.sqlite_ast.specs.declared.Core.{Core, out-Core}
-use Rattle.sqlite_ast.specs.declared.Select.{Select, out-Select}
-use Rattle.sqlite_sql.specs.Term.{Term, col, lit}
+use Rattle.sqlite_sql.specs.Term.{col, lit}
 use Rattle.sqlite_value.specs.declared.value.Value.TheVariants.{Int}
 use Rattle.sqlite_schema.specs.Names.{column_named, table_named, view_named, place_of}
 use Rattle.sqlite_schema.specs.declared.schema.Schema.{Schema}
@@ -18,15 +17,14 @@ use Rattle.sqlite_draft.specs.declared.query.Draft.{Draft}
 use Rattle.sqlite_sql.specs.Query.{inner, end}
 use Rattle.sqlite_resolve.specs.declared.state.State.{State}
 use Rattle.sqlite_resolve.specs.declared.state.Carried.{Carried}
-use Rattle.sqlite_resolve.specs.declared.scope.Bound.{Bound}
 use Rattle.sqlite_resolve.specs.declared.scope.Level.{Level}
 use Rattle.sqlite_resolve.specs.declared.scope.Output.{Output}
 use Rattle.sqlite_resolve.specs.declared.error.CompileError.TheVariants.{NoSuchTable, NoSuchColumn}
 use Rattle.sqlite_resolve.specs.Lowering.{take_slot, fresh, max_budget, nothing}
-use Rattle.sqlite_resolve.specs.Scope.{Name, Context, declared, is_rowid}
+use Rattle.sqlite_resolve.specs.Scope.{Name, declared, is_rowid}
 use Rattle.sqlite_resolve.specs.Expr.{lower}
 use Rattle.sqlite_resolve.specs.Terms.{number}
-use Rattle.sqlite_resolve.specs.Body.{begins_with_on, table_in, bound, bounds, outputs, outputs_from, shown, heading, is_column, declared as declared_name, result, within, tests, joins, join, shared, inner_join, matching, body}
+use Rattle.sqlite_resolve.specs.Body.{table_in, bound, bounds, outputs, outputs_from, shown, heading, is_column, declared as declared_name, result, tests, joins, join, shared, inner_join, matching, body}
 use Rattle.sqlite_resolve.specs.Order.{keys, sorts}
 use Rattle.sqlite_resolve.specs.Select.{outermost, having, parts, ungrouped, assembled, named}
 use Rattle.cov_sql.proofs.Columns.{the_bound, state_at, context_of, found_is, lowered, not_lowered}

@@ -1,7 +1,6 @@
 -- What a statement that reads a table answers, whatever else the base has.
-use Rattle.std.proofs.Common.{◌≡◌, ◌⊎◌, inl, inr, ℕ, List, [], ◌∷◌, map, slice_get, Bool, true, false, Option, Some, None, Ok, Err, Result, option_map, option_and_then, if◌then◌else◌, refl, sym, ap, subst, ◌∙◌}
+use Rattle.std.proofs.Common.{◌≡◌, ◌⊎◌, inl, inr, ℕ, List, [], ◌∷◌, map, slice_get, Bool, true, false, Option, Some, None, Ok, Err, Result, if◌then◌else◌, refl, sym, ap, ◌∙◌}
 use Rattle.std.specs.List.Sorted.{IsPermutation}
-use Rattle.std.proofs.lemmas.Bool.{cases_Bool}
 use Rattle.sqlite_value.specs.Order.{Row, column}
 use Rattle.sqlite_typing.specs.Types.{accepts_program}
 use Rattle.sqlite_schema.specs.Names.{table_named, view_named, place_of}
@@ -12,7 +11,7 @@ use Rattle.sqlite_schema.specs.declared.command.Command.TheVariants as command
 use Rattle.sqlite_resolve.specs.declared.compiled.Compiled.{Compiled}
 use Rattle.sqlite_resolve.specs.declared.error.CompileError.{CompileError}
 use Rattle.sqlite_resolve.specs.declared.error.CompileError.TheVariants.{NoSuchTable, NoSuchColumn, Mismatch}
-use Rattle.sqlite_resolve.specs.Lowering.{Checked, max_budget}
+use Rattle.sqlite_resolve.specs.Lowering.{max_budget}
 use Rattle.sqlite_resolve.specs.Scope.{Name}
 use Rattle.sqlite_resolve.specs.Compile.{compiled}
 use Rattle.sqlite_schema.specs.declared.program.Program.{Program}
@@ -24,7 +23,7 @@ use Rattle.sqlite.specs.State.{State, IsUnchanged, Shown, Fails, FailsToQuery, I
 use Rattle.sqlite.proofs.Callers.{IsPlain, command_of, reads_as}
 use Rattle.cov_sql.specs.Tables.{rows_of, places_in}
 use Rattle.cov_sql.proofs.Selects.{AreFound, IsLacking, Affords, Spends}
-use Rattle.cov_sql.proofs.Texts.{IsPlainText, made, body, select_is, no_table_is, no_column_is}
+use Rattle.cov_sql.proofs.Texts.{IsPlainText, made, select_is, no_table_is, no_column_is}
 use Rattle.cov_sql.proofs.Found.{AreOrdinary, either, found_at, splits}
 use Rattle.cov_sql.proofs.Reading.{query, answer_rows}
 

@@ -1,14 +1,12 @@
 -- What the text of such a SELECT is, under any schema.
-use Rattle.std.proofs.Common.{◌≡◌, ℕ, ◌+◌, negsuc, pos, List, [], ◌∷◌, ◌++◌, length, map, slice_get, Bool, true, false, Option, Some, None, Ok, Err, Result, if◌then◌else◌, refl, sym, ap, subst, ◌∙◌}
-use Rattle.sqlite_ast.specs.declared.Core.{Core, out-Core}
+use Rattle.std.proofs.Common.{◌≡◌, ℕ, negsuc, List, [], map, slice_get, Bool, true, false, Option, Some, None, Ok, Err, if◌then◌else◌, refl, ◌∙◌}
+use Rattle.sqlite_ast.specs.declared.Core.{Core}
 use Rattle.sqlite_ast.specs.declared.Select.{Select, out-Select}
-use Rattle.sqlite_ast.specs.declared.Origin.TheVariants as origin
 use Rattle.sqlite_ast.specs.declared.Statement.TheVariants as written
 use Rattle.sqlite_syntax.specs.declared.statement.Parsed.{Parsed}
-use Rattle.sqlite_sql.specs.Term.{Term, col, lit}
+use Rattle.sqlite_sql.specs.Term.{Term, lit}
 use Rattle.sqlite_value.specs.declared.value.Value.TheVariants.{Int}
 use Rattle.sqlite_schema.specs.Names.{table_named, view_named}
-use Rattle.sqlite_schema.specs.Program.{let_in}
 use Rattle.sqlite_schema.specs.declared.schema.Schema.{Schema}
 use Rattle.sqlite_schema.specs.declared.schema.Table.{Table}
 use Rattle.sqlite_schema.specs.declared.schema.Column.{Column}
@@ -20,10 +18,9 @@ use Rattle.sqlite_draft.specs.Query.{query_of}
 use Rattle.sqlite_sql.specs.Query.{Query}
 use Rattle.sqlite_typing.specs.Types.{accepts_program}
 use Rattle.sqlite_resolve.specs.declared.compiled.Compiled.{Compiled}
-use Rattle.sqlite_resolve.specs.declared.error.CompileError.{CompileError}
 use Rattle.sqlite_resolve.specs.declared.error.CompileError.TheVariants.{NoSuchTable, NoSuchColumn, Mismatch}
 use Rattle.sqlite_resolve.specs.Lowering.{Checked, and_then, max_budget}
-use Rattle.sqlite_resolve.specs.Scope.{Name, declared}
+use Rattle.sqlite_resolve.specs.Scope.{Name}
 use Rattle.sqlite_resolve.specs.Select.{named, paging, constant_or}
 use Rattle.sqlite_resolve.specs.Terms.{number}
 use Rattle.sqlite_resolve.specs.Program.{Shown, sources, source, viewing, single, alone, whole, with, level, query_to, query, program}

@@ -6,8 +6,8 @@ use Rattle.sqlite_value.specs.declared.value.Value.{Value}
 use Rattle.sqlite_value.specs.declared.value.Value.TheVariants as value
 use Rattle.sqlite_value.specs.Order.{Row}
 use Rattle.sqlite.specs.Effect.{Database}
-use Rattle.cov_sql.specs.declared.values.Cell.{Cell}
-use Rattle.cov_sql.specs.declared.values.Cell.TheVariants.{Int, Text, Blob, Other}
+use Rattle.cov_tables.specs.declared.cells.Cell.{Cell}
+use Rattle.cov_tables.specs.declared.cells.Cell.TheVariants.{Int, Text, Blob, Other}
 use Rattle.cov_sql.specs.Tables.{Shape, rows_in}
 
 -- a text, where its bytes are UTF-8

@@ -5,3 +5,4 @@ pub mod Told
 pub mod Shown
 pub mod Written
 pub mod SqlTexts
+pub mod Refusals

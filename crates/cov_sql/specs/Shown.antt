@@ -1,12 +1,10 @@
 -- What the text of a query answers, in cells.
-use Rattle.std.specs.Prelude.{◌≡◌, ℕ, List, [], Result, IfOk, IsErrOf}
+use Rattle.std.specs.Prelude.{ℕ, List, []}
 use Rattle.std.specs.List.{AllZip}
 use Rattle.sqlite_value.specs.Order.{Row}
-use Rattle.sqlite.specs.State.{State, HasCleanDisk, Shown, FailsToQuery}
+use Rattle.sqlite.specs.State.{State, Shown, FailsToQuery}
 use Rattle.sqlite.specs.declared.error.Error.TheVariants.{SqlInputError}
 use Rattle.sqlite_resolve.specs.declared.error.CompileError.{CompileError}
-use Rattle.cov_sql.specs.declared.statements.StatementError.{StatementError}
-use Rattle.cov_sql.specs.declared.statements.StatementError.TheVariants.{Missing}
 use Rattle.cov_sql.specs.Cells.{AreCells}
 use Rattle.cov_sql.specs.Told.{Lists, IsAbsence}
 

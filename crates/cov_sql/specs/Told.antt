@@ -8,7 +8,7 @@ use Rattle.std.specs.declared.alloc.Global.{Global}
 use Rattle.sqlite.specs.State.{State, HasCleanDisk, IsUnchanged, Survives}
 use Rattle.sqlite_resolve.specs.declared.error.CompileError.{CompileError}
 use Rattle.sqlite_resolve.specs.declared.error.CompileError.TheVariants.{NoSuchTable, NoSuchColumn}
-use Rattle.cov_sql.specs.declared.values.Cell.{Cell}
+use Rattle.cov_tables.specs.declared.cells.Cell.{Cell}
 use Rattle.cov_sql.specs.declared.statements.StatementError.{StatementError}
 use Rattle.cov_sql.specs.declared.statements.StatementError.TheVariants.{Missing}
 use Rattle.cov_sql.specs.Tables.{Shape, rows_in, IsUnhidden}

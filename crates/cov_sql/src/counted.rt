@@ -11,7 +11,8 @@ ghost use Rattle.cov_sql.specs.Written.{Ran, WasAbsent};
 ghost use Rattle.cov_sql.specs.Shown.{ShowsCells, IsRefusedAsAbsent};
 
 use crate::statements::{StatementError, Statements};
-use crate::values::{Cell, lists_of};
+use crate::values::lists_of;
+use cov_tables::Cell;
 use sqlite::{Alter, Connection, Error, ErrorCode, Transaction};
 use sqlite_resolve::CompileError;
 use sqlite_value::value::ValueRef;

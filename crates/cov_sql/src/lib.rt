@@ -3,9 +3,11 @@
 #![tactic(auto)]
 
 mod counted;
+mod errors;
 mod statements;
 mod values;
 
 pub use counted::Counted;
+pub use cov_tables::Cell;
+pub use errors::SqlError;
 pub use statements::{StatementError, Statements};
-pub use values::Cell;

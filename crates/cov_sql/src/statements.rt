@@ -10,7 +10,7 @@ ghost use Rattle.cov_sql.specs.SqlTexts.{make_coverage_schema_text, make_meta_te
 ghost use Rattle.sqlite_value.specs.declared.value.Value.TheVariants.{Int, Text, Blob};
 ghost use Rattle.cov_sql.specs.Declarations.{declared_coverage_schema, declared_meta, declared_file, declared_context, declared_line_bits, declared_arc, declared_tracer, declared_hits};
 
-use crate::values::Cell;
+use cov_tables::Cell;
 use sqlite::{Alter, Connection, Transaction};
 use std::alloc::Global;
 use thiserror::Error;
@@ -42,6 +42,7 @@ pub trait Statements {
     ) -> Result<Vec<Vec<Cell>>, StatementError>
         ensures told { tells self.old → Reads coverage_schema (state S.Store base.old) (state S.Store base.new) result }
         ensures survives { tells self.old → LeavesAll coverage_schema (state S.Store base.old) (state S.Store base.new) }
+        ensures clean { HasCleanDisk (state S.Store base.new) → HasCleanDisk (state S.Store base.old) }
         ensures mode { base.old.in_transaction ≡ false → base.new.in_transaction ≡ false }
         ensures tells { tells self.old → tells self.new }
         ensures count { refusals self.old ≤ refusals self.new }
@@ -54,6 +55,7 @@ pub trait Statements {
     ) -> Result<Vec<Vec<Cell>>, StatementError>
         ensures told { tells self.old → Reads meta (state S.Store base.old) (state S.Store base.new) result }
         ensures survives { tells self.old → LeavesAll meta (state S.Store base.old) (state S.Store base.new) }
+        ensures clean { HasCleanDisk (state S.Store base.new) → HasCleanDisk (state S.Store base.old) }
         ensures mode { base.old.in_transaction ≡ false → base.new.in_transaction ≡ false }
         ensures tells { tells self.old → tells self.new }
         ensures count { refusals self.old ≤ refusals self.new }
@@ -66,6 +68,7 @@ pub trait Statements {
     ) -> Result<Vec<Vec<Cell>>, StatementError>
         ensures told { tells self.old → Reads file (state S.Store base.old) (state S.Store base.new) result }
         ensures survives { tells self.old → LeavesAll file (state S.Store base.old) (state S.Store base.new) }
+        ensures clean { HasCleanDisk (state S.Store base.new) → HasCleanDisk (state S.Store base.old) }
         ensures mode { base.old.in_transaction ≡ false → base.new.in_transaction ≡ false }
         ensures tells { tells self.old → tells self.new }
         ensures count { refusals self.old ≤ refusals self.new }
@@ -78,6 +81,7 @@ pub trait Statements {
     ) -> Result<Vec<Vec<Cell>>, StatementError>
         ensures told { tells self.old → Reads context (state S.Store base.old) (state S.Store base.new) result }
         ensures survives { tells self.old → LeavesAll context (state S.Store base.old) (state S.Store base.new) }
+        ensures clean { HasCleanDisk (state S.Store base.new) → HasCleanDisk (state S.Store base.old) }
         ensures mode { base.old.in_transaction ≡ false → base.new.in_transaction ≡ false }
         ensures tells { tells self.old → tells self.new }
         ensures count { refusals self.old ≤ refusals self.new }
@@ -90,6 +94,7 @@ pub trait Statements {
     ) -> Result<Vec<Vec<Cell>>, StatementError>
         ensures told { tells self.old → Reads line_bits (state S.Store base.old) (state S.Store base.new) result }
         ensures survives { tells self.old → LeavesAll line_bits (state S.Store base.old) (state S.Store base.new) }
+        ensures clean { HasCleanDisk (state S.Store base.new) → HasCleanDisk (state S.Store base.old) }
         ensures mode { base.old.in_transaction ≡ false → base.new.in_transaction ≡ false }
         ensures tells { tells self.old → tells self.new }
         ensures count { refusals self.old ≤ refusals self.new }
@@ -102,6 +107,7 @@ pub trait Statements {
     ) -> Result<Vec<Vec<Cell>>, StatementError>
         ensures told { tells self.old → Reads arc (state S.Store base.old) (state S.Store base.new) result }
         ensures survives { tells self.old → LeavesAll arc (state S.Store base.old) (state S.Store base.new) }
+        ensures clean { HasCleanDisk (state S.Store base.new) → HasCleanDisk (state S.Store base.old) }
         ensures mode { base.old.in_transaction ≡ false → base.new.in_transaction ≡ false }
         ensures tells { tells self.old → tells self.new }
         ensures count { refusals self.old ≤ refusals self.new }
@@ -114,6 +120,7 @@ pub trait Statements {
     ) -> Result<Vec<Vec<Cell>>, StatementError>
         ensures told { tells self.old → Reads tracer (state S.Store base.old) (state S.Store base.new) result }
         ensures survives { tells self.old → LeavesAll tracer (state S.Store base.old) (state S.Store base.new) }
+        ensures clean { HasCleanDisk (state S.Store base.new) → HasCleanDisk (state S.Store base.old) }
         ensures mode { base.old.in_transaction ≡ false → base.new.in_transaction ≡ false }
         ensures tells { tells self.old → tells self.new }
         ensures count { refusals self.old ≤ refusals self.new }
@@ -126,6 +133,7 @@ pub trait Statements {
     ) -> Result<Vec<Vec<Cell>>, StatementError>
         ensures told { tells self.old → Reads hits (state S.Store base.old) (state S.Store base.new) result }
         ensures survives { tells self.old → LeavesAll hits (state S.Store base.old) (state S.Store base.new) }
+        ensures clean { HasCleanDisk (state S.Store base.new) → HasCleanDisk (state S.Store base.old) }
         ensures mode { base.old.in_transaction ≡ false → base.new.in_transaction ≡ false }
         ensures tells { tells self.old → tells self.new }
         ensures count { refusals self.old ≤ refusals self.new }

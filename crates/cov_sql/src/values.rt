@@ -4,20 +4,11 @@ ghost use Rattle.std.specs.List.{AllZip};
 ghost use Rattle.sqlite_value.specs.Value.{owned};
 ghost use Rattle.cov_sql.specs.Cells.{IsCell, IsTextCell, AreCells};
 
+use cov_tables::Cell;
 use sqlite::Row;
 use sqlite_value::value::ValueRef;
 use std::alloc::{AllocError, Global};
 use std::str;
-
-/// A value of a row.
-#[derive(Debug, PartialEq, Drop)]
-pub enum Cell {
-    Int(i64),
-    Text(String),
-    Blob(Vec<u8>),
-    /// Every other value: none, a float, or a text that is not UTF-8.
-    Other,
-}
 
 /// A value as a cell.
 pub(crate) fn cell_of(alloc: Global, value: ValueRef<'_>) -> Result<Cell, AllocError>

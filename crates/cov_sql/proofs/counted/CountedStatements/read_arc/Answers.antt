@@ -1,3 +1,4 @@
+use Rattle.std.proofs.Common.{arith}
 use Rattle.sqlite.specs.Held.{state}
 use Rattle.cov_sql.specs.Tables.{arc}
 use Rattle.cov_sql.proofs.ReadTexts.{tells, leaves, reads_arc}
@@ -8,3 +9,6 @@ returns-clause-told g c _ = tells _ arc reads_arc (state g.S.Store c.args.base.n
 
 pub returns-clause-survives : goal.returns-clause-survives
 returns-clause-survives g c _ = leaves _ arc reads_arc (state g.S.Store c.args.base.now) (state g.S.Store c.read_rows.new.base) c.read_rows.ensures.survives
+
+pub returns-clause-clean : goal.returns-clause-clean
+returns-clause-clean g c clean = omega (arith, clean, c.read_rows.ensures.survives.clean)

@@ -1,3 +1,4 @@
+use Rattle.std.proofs.Common.{arith}
 use Rattle.sqlite.specs.Held.{state}
 use Rattle.cov_sql.specs.Tables.{coverage_schema}
 use Rattle.cov_sql.proofs.ReadTexts.{tells, leaves, reads_coverage_schema}
@@ -8,3 +9,6 @@ returns-clause-told g c _ = tells _ coverage_schema reads_coverage_schema (state
 
 pub returns-clause-survives : goal.returns-clause-survives
 returns-clause-survives g c _ = leaves _ coverage_schema reads_coverage_schema (state g.S.Store c.args.base.now) (state g.S.Store c.read_rows.new.base) c.read_rows.ensures.survives
+
+pub returns-clause-clean : goal.returns-clause-clean
+returns-clause-clean g c clean = omega (arith, clean, c.read_rows.ensures.survives.clean)

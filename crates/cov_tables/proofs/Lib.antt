@@ -1,0 +1,5 @@
+pub mod InOrder
+pub mod Columns
+pub mod Counting
+pub mod Whole
+pub mod Worked

@@ -1,0 +1,33 @@
+use Rattle.std.proofs.Common.{◌<◌, ℕ, false, map, ap, sym, subst, ◌∙◌}
+use Rattle.std.specs.List.{flat_map}
+use Rattle.cov_data.specs.DataSet.{no_data}
+use Rattle.cov_tables.specs.Fields.{rows}
+use Rattle.cov_tables.specs.Entries.{entry_view, entry_cmp}
+use Rattle.cov_tables.specs.Hits.{counts_at, count_of}
+use Rattle.cov_tables.specs.Joins.{texts_of, bits_key, joined_if}
+use Rattle.cov_tables.specs.Order.{in_order}
+use Rattle.cov_tables.specs.Content.{paths_in, paths_only}
+use Rattle.cov_tables.specs.Kept.{texts_at, count_at}
+use Rattle.cov_tables.proofs.Whole.{paths_kind, counts_any, bits_whole}
+use Rattle.cov_tables.proofs.content.bits_content.Goals as goal
+
+pub add_bits-requires-clause-lines : goal.add_bits-requires-clause-lines
+add_bits-requires-clause-lines c = ap (λ d. d.arcs) c.in_ok-whole.ensures ∙ paths_kind (no_data false) (paths_in (rows c.deref-5.result.now))
+
+pub add_bits-requires-clause-counted : goal.add_bits-requires-clause-counted
+add_bits-requires-clause-counted c = λ s. subst (λ (n : ℕ). 0 < n) (sym (c.in_ok-hits.ensures s)) (counts_any (counts_at (rows c.deref-3.result.now) s))
+
+pub returns : goal.returns
+returns c =
+    let given = c.args.given.now in
+    let files = texts_at c.in_ok-files.files in
+    let contexts = texts_at c.in_ok-contexts.contexts in
+    let counts = count_at c.in_ok-hits.hits in
+    c.unless_bad.ensures ∙ c.in_ok-bad.ensures
+    ∙ bits_whole (rows given.file.items) (rows given.context.items) (rows given.line_bits.items) (rows given.hits.items) files contexts counts
+    (λ id. c.in_ok-files.ensures id ∙ ap (λ vs. texts_of (rows vs) id) c.deref.ensures.value)
+    (λ id. c.in_ok-contexts.ensures id ∙ ap (λ vs. texts_of (rows vs) id) c.deref-2.ensures.value)
+    (λ s. c.in_ok-hits.ensures s ∙ ap (λ vs. count_of (rows vs) s) c.deref-3.ensures.value)
+    (map entry_view c.deref-6.result.now) c.in_ok-whole.whole
+    (ap (map entry_view) c.deref-6.ensures.value ∙ c.in_ok-entries.ensures ∙ ap (λ vs. in_order entry_cmp (flat_map (λ r. joined_if (bits_key r) files contexts) (rows vs))) c.deref-4.ensures.value)
+    (c.in_ok-whole.ensures ∙ ap (λ vs. paths_only false (rows vs)) c.deref-5.ensures.value)

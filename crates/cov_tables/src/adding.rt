@@ -1,0 +1,223 @@
+//! The rows of entries, added to data.
+ghost use Rattle.std.specs.Prelude.{◌≡◌, ◌<◌, true, false, nat_eq, take, drop, IfOk, OnOk};
+ghost use Rattle.std.specs.List.{fold, flat_map, list_all};
+ghost use Rattle.cov_data.specs.DataSet.{IsInRange};
+ghost use Rattle.cov_data.specs.Rows.{with_row};
+ghost use Rattle.cov_tables.specs.Content.{is_number, is_set, is_bad_arc, is_bad_bits, row_with, line_row, arc_rows, bits_rows, unless_bad, read_entries};
+ghost use Rattle.cov_tables.specs.Entries.{column_view, entry_view};
+ghost use Rattle.cov_tables.specs.Hits.{Spot as Spots};
+ghost use Rattle.cov_tables.specs.Kept.{count_at, seen};
+
+use crate::entries::{Column, Entry};
+use crate::hits::{Hits, Spot};
+use cov_data::{Data, Row, lines_of_numbits};
+use std::alloc::{AllocError, Global};
+
+impl Column {
+    fn is_number(&self) -> bool
+        ensures { result ≡ is_number (column_view self.now) }
+    {
+        match self {
+            Column::Int(number) => -65_535 <= *number && *number <= 65_535,
+            Column::Blob(_) => false,
+            Column::Other => false,
+        }
+    }
+
+    /// Whether it is a blob without a line beyond 65,535.
+    fn is_set(&self) -> bool
+        ensures { result ≡ is_set (column_view self.now) }
+    {
+        match self {
+            Column::Int(_) => false,
+            Column::Blob(bits) => are_zero(last_bytes(bits)),
+            Column::Other => false,
+        }
+    }
+}
+
+impl Entry {
+    fn spot(&self, from: i32, to: i32) -> Spot
+        ensures { result ≡ record { file_id = self.now.file_id; context_id = self.now.context_id; from = from; to = to } }
+    {
+        Spot {
+            file_id: self.file_id,
+            context_id: self.context_id,
+            from: from as i64,
+            to: to as i64,
+        }
+    }
+
+    fn add_row(
+        &self,
+        alloc: Global,
+        from: i32,
+        to: i32,
+        hits: &Hits,
+        data: &mut Data,
+    ) -> Result<(), AllocError>
+        requires { IsInRange data.old.arcs from to (row_with (count_at hits.now) (entry_view self.now) from to).count }
+        ensures { OnOk result (data.new ≡ with_row data.old (row_with (count_at hits.now) (entry_view self.now) from to)) }
+    {
+        let spot = self.spot(from, to);
+        let count = hits.count(spot);
+        data.add(Row {
+            path: self.path.clone()?,
+            context: self.context.clone()?,
+            from,
+            to,
+            count,
+        })
+    }
+
+    /// Adds the arc, unless it has a 0.
+    fn add_arc(&self, alloc: Global, hits: &Hits, data: &mut Data) -> Result<(), AllocError>
+        requires arcs { data.old.arcs ≡ true }
+        requires good { is_bad_arc (entry_view self.now) ≡ false }
+        requires counted { (spot : Spots) → 0 < count_at hits.now spot }
+        ensures { OnOk result (data.new ≡ fold with_row data.old (arc_rows (count_at hits.now) (entry_view self.now))) }
+    {
+        match (&self.first, &self.second) {
+            (Column::Int(from), Column::Int(to)) if *from != 0 && *to != 0 => {
+                self.add_row(alloc, *from as i32, *to as i32, hits, data)
+            }
+            _ => Ok(()),
+        }
+    }
+
+    /// Adds a line, unless it is 0.
+    fn add_line(
+        &self,
+        alloc: Global,
+        line: u32,
+        hits: &Hits,
+        data: &mut Data,
+    ) -> Result<(), AllocError>
+        requires lines { data.old.arcs ≡ false }
+        requires counted { (spot : Spots) → 0 < count_at hits.now spot }
+        ensures { OnOk result (data.new ≡ fold with_row data.old (line_row (count_at hits.now) (entry_view self.now) line)) }
+    {
+        if 0 < line && line <= 65_535 {
+            self.add_row(alloc, line as i32, line as i32, hits, data)
+        } else {
+            Ok(())
+        }
+    }
+
+    fn add_lines(
+        &self,
+        alloc: Global,
+        lines: &[u32],
+        hits: &Hits,
+        data: &mut Data,
+    ) -> Result<(), AllocError>
+        requires lines { data.old.arcs ≡ false }
+        requires counted { (spot : Spots) → 0 < count_at hits.now spot }
+        ensures { OnOk result (data.new ≡ fold with_row data.old (flat_map (line_row (count_at hits.now) (entry_view self.now)) lines.now)) }
+    {
+        for line in lines {
+            self.add_line(alloc, *line, hits, data)?;
+        }
+        Ok(())
+    }
+
+    /// Adds the lines of the blob.
+    fn add_bits(&self, alloc: Global, hits: &Hits, data: &mut Data) -> Result<(), AllocError>
+        requires lines { data.old.arcs ≡ false }
+        requires counted { (spot : Spots) → 0 < count_at hits.now spot }
+        ensures { OnOk result (data.new ≡ fold with_row data.old (bits_rows (count_at hits.now) (entry_view self.now))) }
+    {
+        match &self.first {
+            Column::Int(_) => Ok(()),
+            Column::Blob(bits) => {
+                let lines = lines_of_numbits(alloc, first_bytes(bits))?;
+                self.add_lines(alloc, &lines, hits, data)
+            }
+            Column::Other => Ok(()),
+        }
+    }
+
+    fn is_bad_arc(&self) -> bool
+        ensures { result ≡ is_bad_arc (entry_view self.now) }
+    {
+        !(self.first.is_number() && self.second.is_number())
+    }
+
+    fn is_bad_bits(&self) -> bool
+        ensures { result ≡ is_bad_bits (entry_view self.now) }
+    {
+        !self.first.is_set()
+    }
+}
+
+fn first_bytes(bits: &[u8]) -> &[u8]
+    ensures { result.now ≡ take 8192 bits.now }
+{
+    if bits.len() <= 8192 {
+        bits
+    } else {
+        &bits[..8192]
+    }
+}
+
+fn last_bytes(bits: &[u8]) -> &[u8]
+    ensures { result.now ≡ drop 8192 bits.now }
+{
+    if bits.len() <= 8192 {
+        &[]
+    } else {
+        &bits[8192..]
+    }
+}
+
+fn are_zero(bytes: &[u8]) -> bool
+    ensures { result ≡ list_all (λ byte. nat_eq byte 0) bytes.now }
+{
+    bytes.iter().all(|byte| *byte == 0)
+}
+
+/// Adds the rows of arcs up to the first bad one, whose number it gives.
+pub(crate) fn add_arcs(
+    alloc: Global,
+    entries: &[Entry],
+    hits: &Hits,
+    data: &mut Data,
+) -> Result<Option<u64>, AllocError>
+    requires arcs { data.old.arcs ≡ true }
+    requires counted { (spot : Spots) → 0 < count_at hits.now spot }
+    ensures { IfOk result (λ bad. unless_bad bad data.new
+        ≡ read_entries is_bad_arc (arc_rows (count_at hits.now)) (seen entries.now) data.old) }
+{
+    let mut at: u64 = 0;
+    for entry in entries {
+        if entry.is_bad_arc() {
+            return Ok(Some(at));
+        }
+        entry.add_arc(alloc, hits, data)?;
+        at += 1;
+    }
+    Ok(None)
+}
+
+/// The same of lines.
+pub(crate) fn add_bits(
+    alloc: Global,
+    entries: &[Entry],
+    hits: &Hits,
+    data: &mut Data,
+) -> Result<Option<u64>, AllocError>
+    requires lines { data.old.arcs ≡ false }
+    requires counted { (spot : Spots) → 0 < count_at hits.now spot }
+    ensures { IfOk result (λ bad. unless_bad bad data.new
+        ≡ read_entries is_bad_bits (bits_rows (count_at hits.now)) (seen entries.now) data.old) }
+{
+    let mut at: u64 = 0;
+    for entry in entries {
+        if entry.is_bad_bits() {
+            return Ok(Some(at));
+        }
+        entry.add_bits(alloc, hits, data)?;
+        at += 1;
+    }
+    Ok(None)
+}

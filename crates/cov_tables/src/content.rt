@@ -1,0 +1,143 @@
+//! The content of a data file.
+ghost use Rattle.std.specs.Prelude.{◌≡◌, IfOk, OnOk};
+ghost use Rattle.std.specs.List.{fold, list_any};
+ghost use Rattle.std.specs.Option.{option_to_list};
+ghost use Rattle.cov_data.specs.DataSet.{with_path};
+ghost use Rattle.cov_tables.specs.Fields.{row, rows, text_at};
+ghost use Rattle.cov_tables.specs.Content.{is_schema_7, names_arcs, says_arcs, is_arcs, paths_in, paths_only, unless_bad, arc_content, bits_content, content};
+ghost use Rattle.cov_tables.specs.Given.{tables};
+
+use crate::adding::{add_arcs, add_bits};
+use crate::cells::{Cell, holds, text_at, whole_at};
+use crate::entries::{arc_entries, bits_entries};
+use crate::hits::Hits;
+use crate::names::Names;
+use cov_data::Data;
+use cov_vault::Content;
+use std::alloc::{AllocError, Global};
+
+/// What was read of a data file: the rows of each table, as lists of cells in the order of its columns.
+#[derive(Drop)]
+pub struct Tables {
+    pub coverage_schema: Vec<Vec<Cell>>,
+    pub meta: Vec<Vec<Cell>>,
+    pub file: Vec<Vec<Cell>>,
+    pub context: Vec<Vec<Cell>>,
+    pub line_bits: Vec<Vec<Cell>>,
+    pub arc: Vec<Vec<Cell>>,
+    /// No row where the table isn't there.
+    pub hits: Vec<Vec<Cell>>,
+}
+
+/// Whether the table holds exactly one row with the number 7.
+pub fn is_schema_7(lists: &[Vec<Cell>]) -> bool
+    ensures { result ≡ is_schema_7 (rows lists.now) }
+{
+    match lists {
+        [cells] => whole_at(cells, 0) == Some(7),
+        _ => false,
+    }
+}
+
+fn names_arcs(cells: &[Cell]) -> bool
+    ensures { result ≡ names_arcs (row cells.now) }
+{
+    holds(cells, 0, "has_arcs")
+}
+
+fn says_arcs(cells: &[Cell]) -> bool
+    ensures { result ≡ says_arcs (row cells.now) }
+{
+    names_arcs(cells) && holds(cells, 1, "1")
+}
+
+fn any_names(lists: &[Vec<Cell>]) -> bool
+    ensures { result ≡ list_any (λ cells. names_arcs (row cells.items)) lists.now }
+{
+    lists.iter().any(|cells| names_arcs(cells))
+}
+
+fn any_says(lists: &[Vec<Cell>]) -> bool
+    ensures { result ≡ list_any (λ cells. says_arcs (row cells.items)) lists.now }
+{
+    lists.iter().any(|cells| says_arcs(cells))
+}
+
+fn is_arcs(meta: &[Vec<Cell>], arcs: &[Vec<Cell>]) -> bool
+    ensures { result ≡ is_arcs (rows meta.now) (rows arcs.now) }
+{
+    if any_names(meta) {
+        any_says(meta)
+    } else {
+        !arcs.is_empty()
+    }
+}
+
+/// Adds the path of a row of `file`.
+fn add_path(data: &mut Data, cells: &[Cell]) -> Result<(), AllocError>
+    ensures { OnOk result (data.new ≡ fold with_path data.old (option_to_list (text_at (row cells.now) 1))) }
+{
+    match text_at(cells, 1) {
+        Some(path) => data.add_path(path),
+        None => Ok(()),
+    }
+}
+
+/// Data of the paths of these rows.
+fn paths_only(alloc: Global, arcs: bool, lists: &[Vec<Cell>]) -> Result<Data, AllocError>
+    ensures { IfOk result (λ made. made ≡ paths_only arcs (rows lists.now)) }
+{
+    let mut data = Data::new(alloc, arcs);
+    for cells in lists {
+        add_path(&mut data, cells)?;
+    }
+    Ok(data)
+}
+
+fn arc_content(alloc: Global, given: &Tables) -> Result<Content, AllocError>
+    ensures { IfOk result (λ held. held ≡ arc_content (tables given.now)) }
+{
+    let files = Names::of(alloc, &given.file)?;
+    let contexts = Names::of(alloc, &given.context)?;
+    let hits = Hits::of(alloc, &given.hits)?;
+    let entries = arc_entries(alloc, &files, &contexts, &given.arc)?;
+    let mut whole = paths_only(alloc, true, &given.file)?;
+    let bad = add_arcs(alloc, &entries, &hits, &mut whole)?;
+    Ok(unless_bad(bad, whole))
+}
+
+fn bits_content(alloc: Global, given: &Tables) -> Result<Content, AllocError>
+    ensures { IfOk result (λ held. held ≡ bits_content (tables given.now)) }
+{
+    let files = Names::of(alloc, &given.file)?;
+    let contexts = Names::of(alloc, &given.context)?;
+    let hits = Hits::of(alloc, &given.hits)?;
+    let entries = bits_entries(alloc, &files, &contexts, &given.line_bits)?;
+    let mut whole = paths_only(alloc, false, &given.file)?;
+    let bad = add_bits(alloc, &entries, &hits, &mut whole)?;
+    Ok(unless_bad(bad, whole))
+}
+
+fn unless_bad(bad: Option<u64>, whole: Data) -> Content
+    ensures { result ≡ unless_bad bad whole }
+{
+    match bad {
+        Some(row) => Content::BadRow(row),
+        None => Content::Good(whole),
+    }
+}
+
+/// What a data file with these tables holds: its data, or why it holds none. Rows are joined with their
+/// file and context, counted from 0 in the order of their ids and numbers.
+pub fn content_of(alloc: Global, given: &Tables) -> Result<Content, AllocError>
+    ensures { IfOk result (λ held. held ≡ content (tables given.now)) }
+{
+    if !is_schema_7(&given.coverage_schema) {
+        return Ok(Content::NotSchema7);
+    }
+    if is_arcs(&given.meta, &given.arc) {
+        arc_content(alloc, given)
+    } else {
+        bits_content(alloc, given)
+    }
+}
