@@ -140,10 +140,15 @@ module _ {L : Type 0} (locals : Locals L) (ms : List Module) (depths : CodeId �
       by_case : (b : Bool)
           → Goal (if b then stepping c.steps c (λ n. begins locals ms code vs (record c.top { operands = xs }) c n) else throw locals ms (raised_by TooDeep) (with_operands xs c))
       by_case true =
-          on_step locals ms depths valid c c.steps _ refl (λ m e. record { holds = (record {
-            top = record { unit = found.0; is = found.1; stands = (valid.units code found.0 found.1).begins };
-            callers = (record { unit = u; is = is; back = back; lands = lands }, waiting);
-          }, e) })
+          on_step locals ms depths valid c c.steps _ refl (λ m e. record {
+            holds = (
+              record {
+                top = record { unit = found.0; is = found.1; stands = (valid.units code found.0 found.1).begins };
+                callers = (record { unit = u; is = is; back = back; lands = lands }, waiting);
+              },
+              e,
+            );
+          })
       by_case false = fling (raised_by TooDeep) xs (length xs) lands (omega arith)
 
   called : (r : Reach) (xs : List Operand) → Inside ms r → Leads u (depths c.top.code) c.top.place (suc c.top.place) (suc (length xs)) → LandsWith (length xs) → Goal (calls locals ms r xs c)

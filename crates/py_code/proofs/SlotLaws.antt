@@ -42,12 +42,12 @@ changed ns ms w (y ∷ ys) zero x d e h =
     let same : y ≡ x = cc in
     let head : value_of y ms ≡ w = h y ∙ ap (λ b. if b then w else value_of y ns) (ap (λ z. is_same_text y z) (sym same) ∙ text_is_same y) in
     let rest : map (λ z. value_of z ms) ys ≡ map (λ z. value_of z ns) ys =
-        apart_same (λ z. value_of z ms) (λ z. value_of z ns) y ys d.0
-        (λ z k. h z ∙ ap (λ b. if b then w else value_of z ns) (ap (λ v. is_same_text z v) (sym same) ∙ differs y z k)) in
+    apart_same (λ z. value_of z ms) (λ z. value_of z ns) y ys d.0
+    (λ z k. h z ∙ ap (λ b. if b then w else value_of z ns) (ap (λ v. is_same_text z v) (sym same) ∙ differs y z k)) in
     cc
 changed ns ms w (y ∷ ys) (suc n) x d e h =
     let head : value_of y ms ≡ value_of y ns =
-        h y ∙ ap (λ b. if b then w else value_of y ns) (differs x y (λ k. apart_at y ys n x d.0 e (sym k))) in
+    h y ∙ ap (λ b. if b then w else value_of y ns) (differs x y (λ k. apart_at y ys n x d.0 e (sym k))) in
     let rest = changed ns ms w ys n x d.1 e h in
     cc
 
@@ -70,7 +70,7 @@ begun (p ∷ ps) rest (v ∷ vs) d le =
     let count : suc (length (ps ++ rest)) - suc (length vs) ≡ length (ps ++ rest) - length vs = omega arith in
     let head : (if is_same_text p p then Some v else value_of p (parameters ps vs)) ≡ Some v = ap (λ b. if b then Some v else value_of p (parameters ps vs)) (text_is_same p) in
     let others : map (λ y. value_of y (parameters ps vs)) (ps ++ rest) ≡ map (λ y. if is_same_text y p then Some v else value_of y (parameters ps vs)) (ps ++ rest) =
-        apart_same (λ y. value_of y (parameters ps vs)) (λ y. if is_same_text y p then Some v else value_of y (parameters ps vs)) p (ps ++ rest) d.0
-        (λ y k. ap (λ b. if b then Some v else value_of y (parameters ps vs)) (sym (differs p y k))) in
+    apart_same (λ y. value_of y (parameters ps vs)) (λ y. if is_same_text y p then Some v else value_of y (parameters ps vs)) p (ps ++ rest) d.0
+    (λ y k. ap (λ b. if b then Some v else value_of y (parameters ps vs)) (sym (differs p y k))) in
     ap (λ n. Some v ∷ (map Some vs ++ replicate n None)) count
     ∙ (ap (λ zs. Some v ∷ zs) (tail ∙ others) ∙ ap (λ z. z ∷ map (λ y. if is_same_text y p then Some v else value_of y (parameters ps vs)) (ps ++ rest)) (sym head))

@@ -79,7 +79,7 @@ module _ {L : Type 0} (locals : Locals L) (ms : List Module) (depths : CodeId �
       where
         onto : (c.top.place < to) ⊎ (marks_at (slice_get u.instrs to) ≡ true)
             → (suc (length (places_of ms c.top.code) - to) + callers_rank locals ms c.callers < suc (length (places_of ms c.top.code) - c.top.place) + callers_rank locals ms c.callers)
-              ⊎ (marks_at (slice_get (places_of ms c.top.code) to) ≡ true)
+            ⊎ (marks_at (slice_get (places_of ms c.top.code) to) ≡ true)
         onto (inl lt) = inl (omega arith)
         onto (inr m) = inr (ap (λ o. marks_at (slice_get (places_in o) to)) is ∙ m)
 
@@ -91,11 +91,13 @@ module _ {L : Type 0} (locals : Locals L) (ms : List Module) (depths : CodeId �
     lands_in e f fs w all le out (Some h) k =
         let cut = length-drop (length f.operands - h.depth) f.operands in
         let kept = k.enough in
-        record { holds = (
-          record { top = record { unit = all.0.unit; is = all.0.is; stands = k.stands ∙ ap (λ n. Some n) (omega arith) }; callers = all.1 },
-          refl,
-          inl (omega arith),
-        ) }
+        record {
+          holds = (
+            record { top = record { unit = all.0.unit; is = all.0.is; stands = k.stands ∙ ap (λ n. Some n) (omega arith) }; callers = all.1 },
+            refl,
+            inl (omega arith),
+          );
+        }
 
     -- an exception leaves the frames above these
     pub leaves : (e : PlainRaised) (code : CodeId) (fs : List (Frame L)) (w : Effects) → AllWait fs → callers_rank locals ms fs ≤ callers_rank locals ms c.callers → Fine c (leave locals ms e code fs c.steps w)

@@ -41,8 +41,8 @@ module _ {C R : Type 0} (m : Machine C R) where
   unfolds n c =
       run_walks n c
       ∙ follow_same (ticking n) (walk m (ticking n) (m.rank c)) (run m n) (m.rank c)
-        (λ d lt. enough (ticking n) (m.rank c) (suc (m.rank d)) d lt (omega arith) ∙ sym (run_walks n d))
-        (m.move c)
+      (λ d lt. enough (ticking n) (m.rank c) (suc (m.rank d)) d lt (omega arith) ∙ sym (run_walks n d))
+      (m.move c)
 
   pub goes : (c d : C) → m.move c ≡ Goes d → m.rank d < m.rank c → m.left c ≡ m.left d → go m c ≡ go m d
   goes c d e lt same =
