@@ -2,7 +2,7 @@
 
 use py_value::{
     BinOp, CmpOp, ExcKind, Heap, Items, NoMemory, Raised, Text, Value, binary, compare, in_place,
-    index, slice, store, truth,
+    index, slice, store, truth, update,
 };
 use std::alloc::Global;
 
@@ -151,6 +151,22 @@ fn augmented_operators(rt: HostRuntime) {
         let left = make(alloc, row.1, &mut heap).expect(&rt, "memory");
         let right = make(alloc, row.2, &mut heap).expect(&rt, "memory");
         let answer = in_place(alloc, row.0, &left, &right, &mut heap).expect(&rt, "memory");
+        assert!(rt; is_wanted(&answer, row.3, &heap), "row {i}");
+    }
+}
+
+#[test]
+fn updated_values(rt: HostRuntime) {
+    for (i, row) in AUGMENTED.iter().enumerate() {
+        let alloc = rt.alloc();
+        let mut heap = Heap::new(alloc);
+        let mut target = make(alloc, row.1, &mut heap).expect(&rt, "memory");
+        let right = make(alloc, row.2, &mut heap).expect(&rt, "memory");
+        let answer = update(alloc, row.0, &mut target, &right, &mut heap).expect(&rt, "memory");
+        let answer = match answer {
+            Ok(()) => Ok(target),
+            Err(raised) => Err(raised),
+        };
         assert!(rt; is_wanted(&answer, row.3, &heap), "row {i}");
     }
 }
