@@ -1,10 +1,10 @@
 -- Steps of the machine, as the code comes to them.
-use Rattle.std.proofs.Common.{◌≡◌, ℕ, ◌+◌, ◌-◌, Bool, true, false, cond, ◌&&◌, List, [], ◌∷◌, ◌++◌, reverse, Option, Some, None, option_map, Result, Ok, Err, IfOk, refl, sym, ap, subst, ◌∙◌}
+use Rattle.std.proofs.Common.{◌≡◌, ℕ, Bool, true, false, cond, ◌&&◌, List, [], ◌∷◌, ◌++◌, reverse, Option, Some, None, option_map, Result, Ok, Err, IfOk, refl, sym, ap, subst, ◌∙◌}
 use Rattle.std.specs.declared.alloc.AllocError.{AllocError}
 use Rattle.py_value.specs.declared.operator.BinOp.{BinOp}
 use Rattle.py_token.specs.declared.token.Mark.TheVariants as mark
 use Rattle.py_token.specs.declared.token.Token.{Token}
-use Rattle.py_syntax.specs.Tree.{Text, Expr, Exprs, no_exprs, exprs, Stmts, no_stmts, stmt, Suite, suite, Clauses, expr, Cases, no_cases, case, Pattern, StmtKind, match}
+use Rattle.py_syntax.specs.Tree.{Text, Expr, Exprs, no_exprs, exprs, Stmts, no_stmts, stmt, Suite, suite, Clauses, expr, Cases, no_cases, case, StmtKind, match}
 use Rattle.py_syntax.specs.View.{plain_stmts}
 use Rattle.py_syntax.specs.Kinds.{Kind, Name, Sign, Newline, Dedent, End}
 use Rattle.py_syntax.specs.Headers.{is_colon}
@@ -19,7 +19,7 @@ use Rattle.py_parse.specs.declared.block.Open.{Open}
 use Rattle.py_parse.specs.declared.owner.Owner as held_owner
 use Rattle.py_parse.specs.declared.places.Turn.{Turn}
 use Rattle.py_parse.specs.Open.{Owner, a_clause, a_def, a_case, newline_end, semicolon_end, both_end, Block, top, inside, add}
-use Rattle.py_parse.specs.Machine.{Place, Line, Semicolon, Leaving, NameWanted, Behind, Choosing, Over, Matching, choose, close, over_suite, over_line, begin_line, line, value, augmented, default, ParamWanted, ParamRead, BoundWanted, BoundRead, ClauseBound, ColonWanted, SuiteWanted, IndentWanted, Except, Lines, State, at, wanted, onward, goal, reads, leaving, left, Listed, listed, behind_name, with_name, is_some, in_place_op, assigned, end_simple, end_header, begin_simple, behind_value, behind_default, act}
+use Rattle.py_parse.specs.Machine.{Place, Line, Semicolon, Leaving, NameWanted, Behind, Over, Matching, choose, close, over_suite, over_line, begin_line, line, value, augmented, default, ParamWanted, ParamRead, BoundWanted, BoundRead, ClauseBound, ColonWanted, SuiteWanted, IndentWanted, Except, Lines, State, at, wanted, onward, goal, reads, leaving, left, Listed, listed, behind_name, with_name, is_some, in_place_op, assigned, end_simple, end_header, begin_simple, behind_value, behind_default, act}
 use Rattle.py_parse.specs.HeldLists.{some_exprs, some_cases, NoName, is_equal_sign, is_semicolon, ends_simple, is_comma, is_right_paren, is_dedent, is_end, is_case}
 use Rattle.py_parse.specs.HeldMarks.{is_newline}
 use Rattle.py_parse.specs.HeldStates.{kind_at, first_at, last_at, Acts, view_state, view_place, blocks, Opens, SharesLine, is_closable, is_top, Makes, ActsAs}

@@ -1,5 +1,5 @@
 -- What the reading of a list does from a place to a later one.
-use Rattle.std.proofs.Common.{◌≡◌, ℕ, zero, suc, ◌+◌, ◌-◌, ◌≤◌, ◌<◌, true, false, List, [], ◌∷◌, length, take, drop, Option, Some, None, refl, sym, ap, subst, ◌∙◌, arith}
+use Rattle.std.proofs.Common.{◌≡◌, ℕ, zero, suc, ◌+◌, ◌≤◌, ◌<◌, true, false, List, [], ◌∷◌, length, take, drop, Option, Some, None, refl, sym, ap, subst, ◌∙◌, arith}
 use Rattle.std.proofs.lemmas.List.{length-drop}
 use Rattle.py_token.specs.Plain.{PToken, first_of, last_of}
 use Rattle.py_syntax.specs.Tree.{Expr, Cases, Pattern, Stmts}
@@ -7,7 +7,6 @@ use Rattle.py_syntax.specs.Kinds.{bare_token, bare}
 use Rattle.py_syntax.specs.Headers.{Marked, marked}
 use Rattle.py_syntax.specs.Spelling.{HEIGHT, NESTING, Spells}
 use Rattle.py_syntax.specs.Statements.{stmts_height, stmts_nesting}
-use Rattle.py_grammar.specs.Machine as expression
 use Rattle.py_grammar.specs.Machine.{start}
 use Rattle.py_grammar.specs.Reading as reading_
 use Rattle.py_parse_pattern.specs.Machine as pattern

@@ -1,14 +1,12 @@
 -- The height and the depth of a statement that a place is completed to, behind an expression or a part more.
 use Rattle.std.proofs.Common.{ℕ, suc, ◌+◌, ◌≤◌, max, Bool, true, false, cond, List, [], ◌∷◌, ◌++◌, Option, Some, None, arith}
 use Rattle.py_token.specs.declared.token.Keyword.TheVariants as word
-use Rattle.py_token.specs.declared.token.Mark.TheVariants as mark
 use Rattle.py_syntax.specs.Tree.{Text, Expr, Exprs, no_exprs, exprs, Pattern}
 use Rattle.py_syntax.specs.Tree.{Suite, suite, no_suite, Arms, no_arms, arm, Cases, clause, StmtKind, if', while, for, try}
 use Rattle.py_syntax.specs.Kinds.{Kind, Word}
 use Rattle.py_syntax.specs.Normal.{height, pattern_height}
 use Rattle.py_syntax.specs.Statements.{NormalKind, kind_height, kind_nesting, suite_nesting, arms_nesting, option_height}
-use Rattle.py_grammar.specs.Machine as expression
-use Rattle.py_grammar.specs.Machine.{one, snoc}
+use Rattle.py_grammar.specs.Machine.{snoc}
 use Rattle.py_grammar.specs.Least as expression_least
 use Rattle.py_grammar.specs.Least.{least_name}
 use Rattle.py_parse_pattern.specs.Machine as pattern

@@ -3,7 +3,7 @@ use Rattle.std.proofs.Common.{◌≡◌, ℕ, zero, suc, ◌-◌, ◌≤◌, ◌
 use Rattle.std.proofs.lemmas.List.{drop-map}
 use Rattle.std.proofs.Math.Seq.{drop-cons}
 use Rattle.py_token.specs.declared.token.Token.{Token}
-use Rattle.py_token.specs.Plain.{PToken, first_of, last_of, token}
+use Rattle.py_token.specs.Plain.{PToken, first_of, last_of}
 use Rattle.py_token.specs.View.{view_token, view_tokens}
 use Rattle.py_token.proofs.Views.{plain-token}
 use Rattle.py_syntax.specs.Tree.{Expr, Cases}

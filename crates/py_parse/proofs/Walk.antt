@@ -25,7 +25,7 @@ use Rattle.py_parse.proofs.WholeStands.{Stands, count, unexpected}
 use Rattle.py_parse.specs.Levels.{is_start}
 use Rattle.py_parse.proofs.Falls.{Falls, step_falls, start_falls}
 use Rattle.py_parse.proofs.Quits.{Quits, step_quits}
-use Rattle.py_parse.proofs.Weights.{inner, level, begun_level}
+use Rattle.py_parse.proofs.Weights.{level, begun_level}
 use Rattle.py_parse.proofs.Marks.{lexeme, there, no_header, plainly, drop_more}
 use Rattle.py_parse.proofs.Moves.{moves, too_high}
 

@@ -1,8 +1,5 @@
-use Rattle.std.proofs.Common.{subst, option_map, ◌≡◌}
-use Rattle.py_syntax.specs.declared.expr.Expr.{Expr}
 use Rattle.py_syntax.specs.View.{plain_expr}
-use Rattle.py_parse.specs.Machine.{resume}
-use Rattle.py_parse.specs.HeldStates.{kind_at, last_at, view_block, view_lines, view_resume, view_state}
+use Rattle.py_parse.specs.HeldStates.{view_block, view_lines, view_resume}
 use Rattle.py_parse.proofs.Answering.{expression_turns}
 use Rattle.py_parse.proofs.progress.behind_expression.Goals as goal
 
