@@ -84,8 +84,18 @@ abbrev pub exception_in : Operand → PlainRaised
 exception_in x = exception_of_way (way_in x)
 
 abbrev pub text_in_value : PlainValue → List ℕ
+text_in_value none_value = []
+text_in_value (bool_value b) = []
+text_in_value (int_value n) = []
 text_in_value (str_value x) = x
-text_in_value _ = []
+text_in_value (tuple_value items) = []
+text_in_value (list_at a) = []
+text_in_value (dict_at a) = []
+text_in_value (func_value f a) = []
+text_in_value (module_value m) = []
+text_in_value (kind_value kind) = []
+text_in_value (exc_value kind arg) = []
+text_in_value (builtin_value which) = []
 
 abbrev pub text_in : Operand → List ℕ
 text_in x = text_in_value (value_in x)

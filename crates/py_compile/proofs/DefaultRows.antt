@@ -1,10 +1,6 @@
 -- Rows of compiled code: the machine does what the source means.
-use Rattle.std.proofs.Common.{◌≡◌, true, false, [], ◌∷◌, Some, pos, negsuc, refl}
-use Rattle.std.specs.Prelude.{codes}
-use Rattle.py_value.specs.declared.operator.BinOp.TheVariants.{Floor}
-use Rattle.py_syntax.specs.Tree as T
-use Rattle.py_syntax.specs.Tree.{Stmts}
-use Rattle.py_meaning.proofs.Sources.{runs, var, num, items, call, attr, list, line, end, printed, row, alone}
+use Rattle.std.proofs.Common.{[], ◌∷◌, refl}
+use Rattle.py_meaning.proofs.Sources.{runs, alone}
 use Rattle.py_meaning.proofs.DefaultRows.{default_that_raises_source, one_list_of_defaults_source, last_defaults_source, too_few_values_source}
 use Rattle.py_code.proofs.Rows.{runs as machine_runs}
 use Rattle.py_compile.proofs.Agreement.{Agrees}

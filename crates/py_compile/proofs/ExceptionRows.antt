@@ -1,12 +1,6 @@
 -- Rows of compiled code: the machine does what the source means.
-use Rattle.std.proofs.Common.{◌≡◌, false, [], ◌∷◌, Some, None, pos, negsuc, refl}
-use Rattle.std.specs.Prelude.{codes}
-use Rattle.py_value.specs.declared.operator.BinOp.TheVariants.{Floor}
-use Rattle.py_value.specs.declared.operator.CmpOp.TheVariants.{Lt}
-use Rattle.py_syntax.specs.declared.expr.Comparison.TheVariants.{Op}
-use Rattle.py_syntax.specs.Tree as T
-use Rattle.py_syntax.specs.Tree.{Stmts}
-use Rattle.py_meaning.proofs.Sources.{runs, var, num, quote, items, call, list, line, end, printed, row, alone}
+use Rattle.std.proofs.Common.{[], ◌∷◌, refl}
+use Rattle.py_meaning.proofs.Sources.{runs, alone}
 use Rattle.py_meaning.proofs.ExceptionRows.{two_returns_source, handlers_source, uncaught_source, unset_name_of_a_clause_source, two_try_in_a_loop_source, raise_again_source, no_clause_matches_source, no_kind_source}
 use Rattle.py_code.proofs.Rows.{runs as machine_runs}
 use Rattle.py_compile.proofs.Agreement.{Agrees}

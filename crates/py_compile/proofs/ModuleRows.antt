@@ -1,14 +1,6 @@
 -- Rows of compiled code: the machine does what the source means.
-use Rattle.std.proofs.Common.{◌≡◌, false, [], ◌∷◌, Some, None, pos, negsuc, refl}
-use Rattle.std.specs.Prelude.{codes}
-use Rattle.py_value.specs.declared.operator.BinOp.TheVariants.{Floor}
-use Rattle.py_value.specs.declared.operator.CmpOp.TheVariants.{Eq}
-use Rattle.py_syntax.specs.declared.expr.Comparison.TheVariants.{Op}
-use Rattle.py_syntax.specs.Tree as T
-use Rattle.py_syntax.specs.Tree.{Stmts}
-use Rattle.py_meaning.proofs.Sources.{runs, var, num, quote, items, call, attr, line, end, printed, program, row, rows, and_module, alone}
-use Rattle.std.specs.Prelude.{map}
-use Rattle.py_meaning.specs.Loading.{Files, loaded}
+use Rattle.std.proofs.Common.{[], ◌∷◌, refl}
+use Rattle.py_meaning.proofs.Sources.{runs, alone}
 use Rattle.py_meaning.proofs.ModuleRows.{absent_module_source, ordinary_use_files, modules_in_a_circle_files}
 use Rattle.py_code.proofs.Rows.{runs as machine_runs}
 use Rattle.py_compile.proofs.Agreement.{Agrees}

@@ -1,12 +1,6 @@
 -- Rows of compiled code: the machine does what the source means.
-use Rattle.std.proofs.Common.{◌≡◌, true, false, [], ◌∷◌, pos, negsuc, refl}
-use Rattle.std.specs.Prelude.{codes}
-use Rattle.py_value.specs.declared.operator.BinOp.TheVariants.{Add, Sub, Mul}
-use Rattle.py_value.specs.declared.operator.CmpOp.TheVariants.{Gt}
-use Rattle.py_syntax.specs.declared.expr.Comparison.TheVariants.{Op}
-use Rattle.py_syntax.specs.Tree as T
-use Rattle.py_syntax.specs.Tree.{Stmts}
-use Rattle.py_meaning.proofs.Sources.{runs, var, num, quote, items, call, list, line, end, printed, row, run_in, alone}
+use Rattle.std.proofs.Common.{[], ◌∷◌, refl}
+use Rattle.py_meaning.proofs.Sources.{runs, alone}
 use Rattle.py_meaning.proofs.RunRows.{first_run_source, empty_file_source, docstring_alone_source, one_line_loop_source, endless_loop_source, counting_loop_source, unset_name_source, a_list_alone_source, made_of_nothing_source, made_of_one_source, pragma_source, numbers_source, calls_of_tests_source}
 use Rattle.py_code.proofs.Rows.{runs as machine_runs}
 use Rattle.py_compile.proofs.Agreement.{Agrees}

@@ -1,5 +1,5 @@
 -- Rows of compiled code: the machine does what the source means.
-use Rattle.std.proofs.Common.{◌≡◌, true, false, [], ◌∷◌, Some, None, refl}
+use Rattle.std.proofs.Common.{true, false, [], ◌∷◌, Some, None, refl}
 use Rattle.std.specs.Prelude.{codes}
 use Rattle.py_value.specs.declared.operator.BinOp.TheVariants.{Add, Mul, Floor, Mod}
 use Rattle.py_value.specs.declared.operator.CmpOp.TheVariants.{Eq, Lt}
@@ -7,7 +7,7 @@ use Rattle.py_syntax.specs.declared.expr.Comparison.TheVariants.{Op}
 use Rattle.py_syntax.specs.declared.expr.Sign.TheVariants.{Minus}
 use Rattle.py_syntax.specs.Tree as T
 use Rattle.py_syntax.specs.Tree.{Stmts}
-use Rattle.py_meaning.proofs.Sources.{runs, var, num, quote, items, call, attr, list, line, end, printed, written, run_in, fed, alone}
+use Rattle.py_meaning.proofs.Sources.{runs, var, num, quote, items, call, attr, list, line, end, alone}
 use Rattle.py_meaning.proofs.ValueRows.{reading_source}
 use Rattle.py_code.proofs.Rows.{runs as machine_runs}
 use Rattle.py_compile.proofs.Agreement.{Agrees}

@@ -1,17 +1,17 @@
 -- The code of statements (Python Language Reference, "Simple statements" and "Compound statements").
 --     stmts_size, kind_size          how many instructions statements take
 --     stmts_code, kind_code          these instructions, from a place on
-use Rattle.std.specs.Prelude.{ℕ, zero, suc, ◌+◌, ◌-◌, Bool, true, false, List, [], ◌∷◌, ◌++◌, length, Option, Some, None}
+use Rattle.std.specs.Prelude.{ℕ, ◌+◌, ◌-◌, Bool, true, false, List, [], ◌∷◌, ◌++◌, Option, Some, None}
 use Rattle.py_value.specs.declared.operator.BinOp.{BinOp}
 use Rattle.py_syntax.specs.Functions.{Function}
 use Rattle.py_syntax.specs.Names.{alias_name}
 use Rattle.py_syntax.specs.Tree.{Text, Alias, Expr, name, int, str, fstr, none, bool, tuple, list, dict, paren, not', and, or, unary, binary, compare, cond, call, index, slice, attr, Exprs, no_exprs, exprs}
-use Rattle.py_syntax.specs.Tree.{Stmts, no_stmts, stmt, Suite, suite, OptSuite, no_suite, has_suite, Arms, no_arms, arm, Clauses, no_clauses, clause, Cases, no_cases, case, StmtKind, expr, assign, aug_assign, pass, break, continue, return, raise, assert, global, import, from, if', while, for, try, def, match}
+use Rattle.py_syntax.specs.Tree.{Stmts, no_stmts, stmt, suite, OptSuite, no_suite, has_suite, Arms, no_arms, arm, Clauses, no_clauses, clause, Cases, no_cases, case, StmtKind, expr, assign, aug_assign, pass, break, continue, return, raise, assert, global, import, from, if', while, for, try, def, match}
 use Rattle.py_meaning.specs.Modules.{unit_at}
 use Rattle.py_meaning.specs.Statements.{has_clauses}
 use Rattle.py_code.specs.declared.instr.Instr.TheVariants.{Pop, Copy, Sink, List as MakeList, InPlace, Index, StoreIndex, Goto, IfFalse, IfTrue, Walk, Next, Function as MakeFunction, FunctionWith, Raise, Reraise, Assertion, AssertionWith, Catches, Caught, Uncaught, Ending, Settle, Release}
 use Rattle.py_code.specs.declared.unit.Constant.TheVariants.{None as NoneConstant}
-use Rattle.py_compile_expr.specs.Cells.{Op, constant, load, store, unset, imports, module_named, takes, marks, marks_again, plain, Guard, Cell, put}
+use Rattle.py_compile_expr.specs.Cells.{constant, load, store, unset, imports, module_named, takes, marks, marks_again, plain, Guard, Cell, put}
 use Rattle.py_compile_expr.specs.Expressions.{count, expr_size, expr_code, each_size, each_code}
 use Rattle.py_compile_expr.specs.Patterns.{captured, pattern_size, pattern_code, names_size, names_code}
 use Rattle.py_compile_expr.specs.Targets.{target_size, target_code, all_size, all_code}
@@ -48,20 +48,60 @@ abbrev pub take_code : Option Guard → Text → List Alias → List Cell
 take_code g m [] = put g (plain Pop) []
 take_code g m (a ∷ rest) = put g (takes m a.name) (put g (store (alias_name a)) (take_code g m rest))
 
+-- what is no place to assign to raises as None has no items
+abbrev pub no_place_code : Option Guard → List Cell
+no_place_code g = put g (constant NoneConstant) (put g (constant NoneConstant) (put g (plain Index) (put g (plain Pop) [])))
+
 -- `place op= e`
 abbrev pub augment_size : Expr → Expr → ℕ
+augment_size (name x) e = 1 + expr_size e + 2
+augment_size (int n) e = 4
+augment_size (str pieces) e = 4
+augment_size (fstr pieces) e = 4
+augment_size none e = 4
+augment_size (bool b) e = 4
+augment_size (tuple es comma) e = 4
+augment_size (list es comma) e = 4
+augment_size (dict ps comma) e = 4
+augment_size (paren t) e = 4
+augment_size (not' a) e = 4
+augment_size (and a b) e = 4
+augment_size (or a b) e = 4
+augment_size (unary s a) e = 4
+augment_size (binary o a b) e = 4
+augment_size (compare a links) e = 4
+augment_size (cond body test orelse) e = 4
+augment_size (call f es comma) e = 4
 augment_size (index of at) e = expr_size of + expr_size at + 3 + expr_size e + 3
-augment_size place e = 1 + expr_size e + 2
+augment_size (slice of low high) e = 4
+augment_size (attr of x) e = 4
 
--- what is no place to assign to raises as None has no items
 abbrev pub augment_code : Option Guard → ℕ → Expr → BinOp → Expr → List Cell
+augment_code g p (name x) op e = put g (load x) (expr_code g (p + 1) e ++ put g (plain (InPlace op)) (put g (store x) []))
+augment_code g p (int n) op e = no_place_code g
+augment_code g p (str pieces) op e = no_place_code g
+augment_code g p (fstr pieces) op e = no_place_code g
+augment_code g p none op e = no_place_code g
+augment_code g p (bool b) op e = no_place_code g
+augment_code g p (tuple es comma) op e = no_place_code g
+augment_code g p (list es comma) op e = no_place_code g
+augment_code g p (dict ps comma) op e = no_place_code g
+augment_code g p (paren t) op e = no_place_code g
+augment_code g p (not' a) op e = no_place_code g
+augment_code g p (and a b) op e = no_place_code g
+augment_code g p (or a b) op e = no_place_code g
+augment_code g p (unary s a) op e = no_place_code g
+augment_code g p (binary o a b) op e = no_place_code g
+augment_code g p (compare a links) op e = no_place_code g
+augment_code g p (cond body test orelse) op e = no_place_code g
+augment_code g p (call f es comma) op e = no_place_code g
 augment_code g p (index of at) op e =
     let read = p + expr_size of + expr_size at + 3 in
     expr_code g p of ++ (expr_code g (p + expr_size of) at
     ++ put g (plain (Copy 1)) (put g (plain (Copy 1)) (put g (plain Index)
     (expr_code g read e ++ put g (plain (InPlace op)) (put g (plain (Sink 2)) (put g (plain StoreIndex) []))))))
-augment_code g p (name x) op e = put g (load x) (expr_code g (p + 1) e ++ put g (plain (InPlace op)) (put g (store x) []))
-augment_code g p place op e = put g (constant NoneConstant) (put g (constant NoneConstant) (put g (plain Index) (put g (plain Pop) [])))
+augment_code g p (slice of low high) op e = no_place_code g
+augment_code g p (attr of x) op e = no_place_code g
 
 abbrev pub raise_code : Option ℕ → Ways → ℕ → Option Expr → List Cell
 raise_code handled w p (Some e) = expr_code w.guard p e ++ put w.guard (plain Raise) []
@@ -107,11 +147,6 @@ abbrev pub guard_code : Option Guard → ℕ → (next : ℕ) → Option Expr �
 guard_code g p next None = []
 guard_code g p next (Some e) = expr_code g p e ++ put g (plain (IfFalse next)) []
 
--- how often a name is bound, and how it is let go again
-abbrev pub bound_size : Option Text → ℕ
-bound_size None = 1
-bound_size (Some x) = 10
-
 -- the four ways behind a suite that each way out goes through: on, `break`, `continue` and `return`
 abbrev pub exits_code : Ways → ℕ → List Cell
 exits_code w p =
@@ -138,9 +173,7 @@ abbrev mutual
   pub kind_size : Ways → StmtKind → ℕ
   kind_size w (expr e) = 1 + expr_size e + 1
   kind_size w (assign targets e) = 1 + expr_size e + all_size targets
-  kind_size w (aug_assign (name x) op e) = 1 + (1 + expr_size e + 2)
-  kind_size w (aug_assign (index of at) op e) = 1 + (expr_size of + expr_size at + 3 + expr_size e + 3)
-  kind_size w (aug_assign place op e) = 5
+  kind_size w (aug_assign place op e) = 1 + augment_size place e
   kind_size w pass = 1
   kind_size w break = 2
   kind_size w continue = 2

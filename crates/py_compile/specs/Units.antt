@@ -2,7 +2,7 @@
 --     handlers_of                    the handler table of cells
 --     unit_code, units_code          the body of a module, and its functions
 --     compiled                       all modules
-use Rattle.std.specs.Prelude.{ℕ, zero, suc, ◌+◌, ◌==◌, ◌&&◌, Bool, true, false, if◌then◌else◌, List, [], ◌∷◌, ◌++◌, map, Option, Some, None}
+use Rattle.std.specs.Prelude.{ℕ, ◌+◌, ◌==◌, ◌&&◌, Bool, true, false, if◌then◌else◌, List, [], ◌∷◌, ◌++◌, map, Option, Some, None}
 use Rattle.py_syntax.specs.Functions.{Function, functions, without_docstring}
 use Rattle.py_syntax.specs.Names.{local_names}
 use Rattle.py_syntax.specs.Tree.{Text, Stmts}
@@ -11,8 +11,8 @@ use Rattle.py_code.specs.declared.instr.Instr.TheVariants.{Return}
 use Rattle.py_code.specs.declared.unit.Constant.TheVariants.{None as NoneConstant}
 use Rattle.py_code.specs.declared.unit.Handler.{Handler}
 use Rattle.py_code.specs.Units.{Code, Module}
-use Rattle.py_compile_expr.specs.Cells.{Op, constant, plain, Guard, Cell, cell, put, Tables, instr_of, tables_of}
-use Rattle.py_compile.specs.Statements.{stmts_size, stmts_code}
+use Rattle.py_compile_expr.specs.Cells.{Op, constant, plain, Guard, Cell, put, instr_of, tables_of}
+use Rattle.py_compile.specs.Statements.{stmts_code}
 use Rattle.py_compile.specs.Ways.{outermost}
 
 abbrev pub is_same_guard : Guard → Guard → Bool

@@ -53,10 +53,21 @@ place_in same (y ∷ ys) x = if same x y then 0 else suc (place_in same ys x)
 
 abbrev pub is_same_constant : Constant → Constant → Bool
 is_same_constant NoneConstant NoneConstant = true
+is_same_constant NoneConstant (BoolConstant b) = false
+is_same_constant NoneConstant (IntConstant n) = false
+is_same_constant NoneConstant (StrConstant y) = false
+is_same_constant (BoolConstant a) NoneConstant = false
 is_same_constant (BoolConstant a) (BoolConstant b) = if a then b else (if b then false else true)
+is_same_constant (BoolConstant a) (IntConstant n) = false
+is_same_constant (BoolConstant a) (StrConstant y) = false
+is_same_constant (IntConstant m) NoneConstant = false
+is_same_constant (IntConstant m) (BoolConstant b) = false
 is_same_constant (IntConstant m) (IntConstant n) = int_eq m n
+is_same_constant (IntConstant m) (StrConstant y) = false
+is_same_constant (StrConstant x) NoneConstant = false
+is_same_constant (StrConstant x) (BoolConstant b) = false
+is_same_constant (StrConstant x) (IntConstant n) = false
 is_same_constant (StrConstant x) (StrConstant y) = is_same_text x y
-is_same_constant _ _ = false
 
 -- each once, where it first stands
 abbrev pub add_new : {A : Type 0} → (A → A → Bool) → List A → A → List A
