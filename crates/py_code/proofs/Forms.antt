@@ -8,7 +8,8 @@ use Rattle.cov_event.specs.declared.event.Event.TheVariants.{Throw}
 use Rattle.py_value.specs.Operators.{truth_of}
 use Rattle.py_value.specs.Plain.{PlainValue, PlainRaised}
 use Rattle.py_code.specs.Configurations.{Operand, Locals, Effects, Configuration, Ended, Next}
-use Rattle.py_code.specs.Machine.{told, with_effects, dropping, one, two, three, many, where_found, numbered, stepping, value_in, answers, chooses, heap_of}
+use Rattle.py_code.specs.Machine.{told, with_effects, dropping, one, two, three, many, where_found, numbered, stepping, answers, chooses, heap_of}
+use Rattle.py_code.specs.Operands.{value_in}
 use Rattle.py_code.specs.Run.{Ends}
 use Rattle.py_code.specs.Units.{Code, Module, unit_at, places_of, handler_of}
 use Rattle.py_code.specs.Valid.{LandsAt, AreValid}

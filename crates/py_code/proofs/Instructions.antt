@@ -25,7 +25,8 @@ use Rattle.py_code.specs.declared.instr.Instr.TheVariants.{Constant, Pop, Copy, 
 use Rattle.py_code.specs.declared.instr.Instr.TheVariants.{Goto, IfFalse, IfTrue, And, Or, Link, Unless, Sequence, Mark, Again, Walk, Next as NextItem, Method, Call, Return, Function, FunctionWith, Import, Module as LoadModule, Take}
 use Rattle.py_code.specs.declared.instr.Instr.TheVariants.{Raise, Reraise, Assertion, AssertionWith, Catches, Caught, Uncaught, Leave, Ending, Breaking, Continuing, Returning, Settle, Release}
 use Rattle.py_code.specs.Configurations.{Way, on, by_break, by_continue, by_return, by_raise, Operand, of_value, of_walk, of_way, Locals, Frame, Effects, Configuration, Next}
-use Rattle.py_code.specs.Machine.{told, with_effects, with_operands, answers, pushes_answer, pushes_text, pushes_truth, makes, stores, falls, jumps, operand_of, walk_in, callee_in, one, give, enter, calls, Reach, at_once, in_frame, code_of, to_function, with_arguments, by_answer, reach, reach_callee, runs_module, imports, looks_in, spreads, pushes, stepping, dropping, begins, turns, raises, marks, resumes, links, act, heap_of, value_in, escapes, throw, callers_rank}
+use Rattle.py_code.specs.Machine.{told, with_effects, with_operands, answers, pushes_answer, pushes_text, pushes_truth, makes, stores, falls, jumps, one, give, enter, calls, Reach, at_once, in_frame, code_of, to_function, with_arguments, by_answer, reach, reach_callee, runs_module, imports, looks_in, spreads, pushes, stepping, dropping, begins, turns, raises, marks, resumes, links, act, heap_of, escapes, throw, callers_rank}
+use Rattle.py_code.specs.Operands.{operand_of, walk_in, callee_in, value_in}
 use Rattle.py_code.specs.Run.{Goes}
 use Rattle.py_code.specs.Units.{Code, Module, units_of, unit_at, places_of, handler_of, number_from, imported_number}
 use Rattle.py_code.specs.Valid.{Leads, LandsAt, FitsAt, AreValid}

@@ -1,4 +1,4 @@
-mod Steps
+pub mod Steps
 mod Standing
 mod Forms
 mod Instructions

@@ -24,7 +24,8 @@ use Rattle.py_code.specs.declared.unit.Handler.{Handler}
 use Rattle.py_code.specs.Configurations.{Way, on, by_break, by_continue, by_return, by_raise, Operand, of_walk, of_way, Locals, Frame, Effects, Configuration, stuck, End, Next}
 use Rattle.py_code.specs.Laws.{OneMachine}
 use Rattle.py_code.specs.Programs.{Request, script, at_rest, reach_global, end_of_run, end_of_call}
-use Rattle.py_code.specs.Machine.{told, with_locals, escaped, entered, with_operands, with_effects, heap_of, halted, jumps, falls, pushes, dropping, one, two, three, many, where_found, stepping, Reach, at_once, in_frame, land, leave, escapes, throw, answers, pushes_answer, pushes_text, pushes_truth, makes, stores, give, begins, enter, calls, runs_module, imports, links, spreads, looks_in, turns, raises, marks, puts_way, resumes, act, acts, move_in, move, callers_rank, rank, machine, new_frame, outermost, outer_call, follows, value_in, callee_in, operand_of, reach_callee}
+use Rattle.py_code.specs.Machine.{told, with_locals, escaped, entered, with_operands, with_effects, heap_of, halted, jumps, falls, pushes, dropping, one, two, three, many, where_found, stepping, Reach, at_once, in_frame, land, leave, escapes, throw, answers, pushes_answer, pushes_text, pushes_truth, makes, stores, give, begins, enter, calls, runs_module, imports, links, spreads, looks_in, turns, raises, marks, puts_way, resumes, act, acts, move_in, move, callers_rank, rank, machine, new_frame, outermost, outer_call, follows, reach_callee}
+use Rattle.py_code.specs.Operands.{value_in, callee_in, operand_of}
 use Rattle.py_code.specs.Run.{Goes, Ticks, Ends, lands, follow, walk, run, go}
 use Rattle.py_code.specs.Slots.{locals_in, params_in, slot_name, name_or_none, by_names, by_slots, AreNamed, IsDistinct}
 use Rattle.py_code.specs.Units.{Code, Module, unit_at, handler_at, imported_number}

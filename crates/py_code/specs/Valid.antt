@@ -1,6 +1,7 @@
 -- Which units a machine runs without missing an operand, a slot or a place.
 --     HasNumbers                      numbers of constants, names, slots, lines and units
 --     Leads, Lands                    jumps, and handlers
+--     IsTable                         the handler table
 --     IsValid, AreValid               a unit, and those of all modules
 --     IsCode, AreCodes                the units of a module, and of several
 use Rattle.std.specs.Prelude.{◌≡◌, ℕ, suc, ◌+◌, ◌-◌, ◌<◌, ◌≤◌, ◌⊎◌, Bool, true, false, List, [], ◌∷◌, length, Option, Some, None, slice_get}
@@ -110,8 +111,26 @@ pub record FitsAt (u : Code) (units : ℕ) (depths : List ℕ) (p depth : ℕ) (
   pub leads : LeadAll u depths p (depth - (footprint p i).takes) (footprint p i).exits
   pub lands : LandsIf (footprint p i).raises u depths p (depth - (footprint p i).takes)
 
+-- an entry of the handler table: its range lies inside, and its target behind that, where one operand more than its depth stands
+pub record IsHandler (u : Code) (depths : List ℕ) (h : Handler) : Type 0 where
+  pub inside : h.to ≤ length u.instrs
+  pub behind : h.to ≤ h.target
+  pub stands : slice_get depths h.target ≡ Some (suc h.depth)
+
+abbrev pub IsWithin : Handler → Handler → Type 0
+IsWithin h k = (k.from ≤ h.from) × (h.to ≤ k.to)
+
+-- of two ranges one contains the other, or they have no place in common
+abbrev pub AreNested : Handler → Handler → Type 0
+AreNested h k = (h.to ≤ k.from) ⊎ ((k.to ≤ h.from) ⊎ (IsWithin h k ⊎ IsWithin k h))
+
+pub record IsTable (u : Code) (depths : List ℕ) : Type 0 where
+  pub each : (n : ℕ) (h : Handler) → slice_get u.handlers n ≡ Some h → IsHandler u depths h
+  pub nested : (m n : ℕ) (h k : Handler) → slice_get u.handlers m ≡ Some h → slice_get u.handlers n ≡ Some k → AreNested h k
+
 -- A unit in a module of so many units. Each place has one number of operands, which stand there whenever the machine comes to it.
 pub record IsValid (u : Code) (units : ℕ) (depths : List ℕ) : Type 0 where
+  pub table : IsTable u depths
   pub begins : slice_get depths 0 ≡ Some 0
   pub long : length depths ≡ length u.instrs
   pub fits : (p depth : ℕ) (i : Instr) → slice_get depths p ≡ Some depth → slice_get u.instrs p ≡ Some i → FitsAt u units depths p depth i

@@ -1,3 +1,7 @@
+mod Sizes
+mod Numbering
+mod Ranges
+mod Standing
 mod Agreement
 mod RunRows
 mod ExceptionRows

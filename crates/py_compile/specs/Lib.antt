@@ -1,3 +1,5 @@
 pub mod Ways
 pub mod Statements
 pub mod Units
+pub mod Faithful
+pub mod Laws

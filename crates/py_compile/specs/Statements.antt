@@ -15,7 +15,7 @@ use Rattle.py_compile_expr.specs.Cells.{constant, load, store, unset, imports, m
 use Rattle.py_compile_expr.specs.Expressions.{count, expr_size, expr_code, each_size, each_code}
 use Rattle.py_compile_expr.specs.Patterns.{captured, pattern_size, pattern_code, names_size, names_code}
 use Rattle.py_compile_expr.specs.Targets.{target_size, target_code, all_size, all_code}
-use Rattle.py_compile.specs.Ways.{Ways, under, in_finally, in_try, in_loop, in_clause, break_exit, continue_exit, return_exit}
+use Rattle.py_compile.specs.Ways.{Ways, under, in_finally, in_try, in_loop, in_clause, in_hand, break_exit, continue_exit, return_exit}
 
 -- ---- parts
 
@@ -108,10 +108,10 @@ raise_code handled w p (Some e) = expr_code w.guard p e ++ put w.guard (plain Ra
 raise_code (Some below) w p None = put w.guard (plain (Reraise (w.depth - below - 1))) []
 raise_code None w p None = put w.guard (constant NoneConstant) (put w.guard (plain Raise) [])
 
-abbrev pub raise_size : Option ℕ → Option Expr → ℕ
+abbrev pub raise_size : Bool → Option Expr → ℕ
 raise_size handled (Some e) = expr_size e + 1
-raise_size (Some below) None = 1
-raise_size None None = 2
+raise_size true None = 1
+raise_size false None = 2
 
 abbrev pub assert_size : Option Expr → ℕ
 assert_size None = 1
@@ -163,62 +163,62 @@ tried_code false w p body orelse clauses f g h = f w p ++ g (p + body)
 tried_code true w p body orelse clauses f g h =
     let begin = p + body + orelse + 1 in f (in_try w begin) p ++ (g (p + body) ++ put w.guard (plain (Goto (begin + clauses))) (h begin (begin + clauses)))
 
--- ---- sizes
+-- ---- sizes, in the suite of a clause or not
 
 abbrev mutual
-  pub stmts_size : Ways → Stmts → ℕ
-  stmts_size w no_stmts = 0
-  stmts_size w (stmt first last kind end rest) = kind_size w kind + stmts_size w rest
+  pub stmts_size : Bool → Stmts → ℕ
+  stmts_size h no_stmts = 0
+  stmts_size h (stmt first last kind end rest) = kind_size h kind + stmts_size h rest
 
-  pub kind_size : Ways → StmtKind → ℕ
-  kind_size w (expr e) = 1 + expr_size e + 1
-  kind_size w (assign targets e) = 1 + expr_size e + all_size targets
-  kind_size w (aug_assign place op e) = 1 + augment_size place e
-  kind_size w pass = 1
-  kind_size w break = 2
-  kind_size w continue = 2
-  kind_size w (return e) = 1 + option_size e + 1
-  kind_size w (raise e) = 1 + raise_size w.handled e
-  kind_size w (assert test why) = 1 + expr_size test + 1 + assert_size why
-  kind_size w (global xs) = 0
-  kind_size w (import names) = 1 + import_size names
-  kind_size w (from m names) = 4 + take_size names
-  kind_size w (if' arms orelse) = arms_size w arms + opt_size w orelse
-  kind_size w (while test (suite first last inline body) orelse) = 3 + expr_size test + 1 + stmts_size w body + 1 + opt_size w orelse
-  kind_size w (for target over (suite first last inline body) orelse) =
-      1 + expr_size over + 3 + 1 + target_size target + stmts_size (under w) body + 1 + opt_size w orelse
-  kind_size w (try (suite first last inline body) clauses orelse no_suite) =
-      1 + tried_size (has_clauses clauses) (stmts_size w body) (opt_size w orelse) (clauses_size w clauses)
-  kind_size w (try (suite first last inline body) clauses orelse (has_suite (suite f l i finally))) =
-      1 + tried_size (has_clauses clauses) (stmts_size w body) (opt_size w orelse) (clauses_size w clauses) + 1 + stmts_size (under w) finally + 4
-  kind_size w (def x params defaults comma body) = 1 + function_size defaults + 1
-  kind_size w (match subject header cases) = 1 + expr_size subject + cases_size w cases
+  pub kind_size : Bool → StmtKind → ℕ
+  kind_size h (expr e) = 1 + expr_size e + 1
+  kind_size h (assign targets e) = 1 + expr_size e + all_size targets
+  kind_size h (aug_assign place op e) = 1 + augment_size place e
+  kind_size h pass = 1
+  kind_size h break = 2
+  kind_size h continue = 2
+  kind_size h (return e) = 1 + option_size e + 1
+  kind_size h (raise e) = 1 + raise_size h e
+  kind_size h (assert test why) = 1 + expr_size test + 1 + assert_size why
+  kind_size h (global xs) = 0
+  kind_size h (import names) = 1 + import_size names
+  kind_size h (from m names) = 4 + take_size names
+  kind_size h (if' arms orelse) = arms_size h arms + opt_size h orelse
+  kind_size h (while test (suite first last inline body) orelse) = 3 + expr_size test + 1 + stmts_size h body + 1 + opt_size h orelse
+  kind_size h (for target over (suite first last inline body) orelse) =
+      1 + expr_size over + 3 + 1 + target_size target + stmts_size h body + 1 + opt_size h orelse
+  kind_size h (try (suite first last inline body) clauses orelse no_suite) =
+      1 + tried_size (has_clauses clauses) (stmts_size h body) (opt_size h orelse) (clauses_size h clauses)
+  kind_size h (try (suite first last inline body) clauses orelse (has_suite (suite f l i finally))) =
+      1 + tried_size (has_clauses clauses) (stmts_size h body) (opt_size h orelse) (clauses_size h clauses) + 1 + stmts_size h finally + 4
+  kind_size h (def x params defaults comma body) = 1 + function_size defaults + 1
+  kind_size h (match subject header cases) = 1 + expr_size subject + cases_size h cases
 
-  pub opt_size : Ways → OptSuite → ℕ
-  opt_size w no_suite = 0
-  opt_size w (has_suite (suite first last inline body)) = stmts_size w body
+  pub opt_size : Bool → OptSuite → ℕ
+  opt_size h no_suite = 0
+  opt_size h (has_suite (suite first last inline body)) = stmts_size h body
 
-  pub arms_size : Ways → Arms → ℕ
-  arms_size w no_arms = 0
-  arms_size w (arm test (suite first last inline body) rest) = 1 + expr_size test + 1 + stmts_size w body + 1 + arms_size w rest
+  pub arms_size : Bool → Arms → ℕ
+  arms_size h no_arms = 0
+  arms_size h (arm test (suite first last inline body) rest) = 1 + expr_size test + 1 + stmts_size h body + 1 + arms_size h rest
 
-  pub clauses_size : Ways → Clauses → ℕ
-  clauses_size w no_clauses = 1
-  clauses_size w (clause kind None (suite first last inline body) rest) = 1 + caught_size kind + stmts_size (in_clause w) body + 2 + clauses_size w rest
-  clauses_size w (clause kind (Some x) (suite first last inline body) rest) =
-      1 + caught_size kind + 2 + stmts_size (in_clause w) body + 1 + 1 + 1 + 3 + 2 + clauses_size w rest
+  pub clauses_size : Bool → Clauses → ℕ
+  clauses_size h no_clauses = 1
+  clauses_size h (clause kind None (suite first last inline body) rest) = 1 + caught_size kind + stmts_size true body + 2 + clauses_size h rest
+  clauses_size h (clause kind (Some x) (suite first last inline body) rest) =
+      1 + caught_size kind + 2 + stmts_size true body + 1 + 1 + 1 + 3 + 2 + clauses_size h rest
 
-  pub cases_size : Ways → Cases → ℕ
-  cases_size w no_cases = 1
-  cases_size w (case q guard (suite first last inline body) rest) =
-      2 + pattern_size q + names_size (captured q) + guard_size guard + 1 + stmts_size w body + 1 + cases_size w rest
+  pub cases_size : Bool → Cases → ℕ
+  cases_size h no_cases = 1
+  cases_size h (case q guard (suite first last inline body) rest) =
+      2 + pattern_size q + names_size (captured q) + guard_size guard + 1 + stmts_size h body + 1 + cases_size h rest
 
 -- ---- code. The functions of the module are those whose units a `def` names.
 
 abbrev mutual
   pub stmts_code : List Function → Ways → ℕ → Stmts → List Cell
   stmts_code fs w p no_stmts = []
-  stmts_code fs w p (stmt first last kind end rest) = kind_code fs w p first kind ++ stmts_code fs w (p + kind_size w kind) rest
+  stmts_code fs w p (stmt first last kind end rest) = kind_code fs w p first kind ++ stmts_code fs w (p + kind_size (in_hand w) kind) rest
 
   pub kind_code : List Function → Ways → ℕ → ℕ → StmtKind → List Cell
   kind_code fs w p l (expr e) = put w.guard (marks l) (expr_code w.guard (p + 1) e ++ put w.guard (plain Pop) [])
@@ -236,39 +236,39 @@ abbrev mutual
   kind_code fs w p l (import names) = put w.guard (marks l) (import_code w.guard names)
   kind_code fs w p l (from m names) = put w.guard (marks l) (module_code w.guard m ++ take_code w.guard m names)
   kind_code fs w p l (if' arms orelse) =
-      let rest = p + arms_size w arms in arms_code fs w p (rest + opt_size w orelse) arms ++ opt_code fs w rest orelse
+      let rest = p + arms_size (in_hand w) arms in arms_code fs w p (rest + opt_size (in_hand w) orelse) arms ++ opt_code fs w rest orelse
   -- the test, behind the mark of the first turn or of a further one
   kind_code fs w p l (while test (suite first last inline body) orelse) =
       let begin = p + 3 + expr_size test + 1 in
-      let back = begin + stmts_size w body in
+      let back = begin + stmts_size (in_hand w) body in
       let rest = back + 1 in
       put w.guard (marks l) (put w.guard (plain (Goto (p + 3))) (put w.guard (marks_again l)
       (expr_code w.guard (p + 3) test ++ put w.guard (plain (IfFalse rest))
-      (stmts_code fs (in_loop w 0 (rest + opt_size w orelse) back) begin body ++ put w.guard (plain (Goto (p + 2))) (opt_code fs w rest orelse)))))
+      (stmts_code fs (in_loop w 0 (rest + opt_size (in_hand w) orelse) back) begin body ++ put w.guard (plain (Goto (p + 2))) (opt_code fs w rest orelse)))))
   -- the walk stands below the suite
   kind_code fs w p l (for target over (suite first last inline body) orelse) =
       let again = p + 1 + expr_size over + 2 in
       let begin = again + 2 + target_size target in
-      let back = begin + stmts_size (under w) body in
+      let back = begin + stmts_size (in_hand w) body in
       let rest = back + 1 in
       put w.guard (marks l) (expr_code w.guard (p + 1) over ++ put w.guard (plain Walk) (put w.guard (plain (Goto (again + 1))) (put w.guard (marks_again l)
       (put w.guard (plain (Next rest)) (target_code w.guard (again + 2) target
-      ++ (stmts_code fs (in_loop (under w) 1 (rest + opt_size w orelse) back) begin body ++ put w.guard (plain (Goto again)) (opt_code fs w rest orelse)))))))
+      ++ (stmts_code fs (in_loop (under w) 1 (rest + opt_size (in_hand w) orelse) back) begin body ++ put w.guard (plain (Goto again)) (opt_code fs w rest orelse)))))))
   kind_code fs w p l (try (suite first last inline body) clauses orelse no_suite) =
-      put w.guard (marks l) (tried_code (has_clauses clauses) w (p + 1) (stmts_size w body) (opt_size w orelse) (clauses_size w clauses)
+      put w.guard (marks l) (tried_code (has_clauses clauses) w (p + 1) (stmts_size (in_hand w) body) (opt_size (in_hand w) orelse) (clauses_size (in_hand w) clauses)
       (λ v q. stmts_code fs v q body) (λ q. opt_code fs w q orelse) (λ q end. clauses_code fs w q end clauses))
   kind_code fs w p l (try (suite first last inline body) clauses orelse (has_suite (suite f g i finally))) =
-      let normal = p + 1 + tried_size (has_clauses clauses) (stmts_size w body) (opt_size w orelse) (clauses_size w clauses) in
+      let normal = p + 1 + tried_size (has_clauses clauses) (stmts_size (in_hand w) body) (opt_size (in_hand w) orelse) (clauses_size (in_hand w) clauses) in
       let inner = in_finally w (normal + 1) in
-      let settle = normal + 1 + stmts_size (under w) finally in
-      put w.guard (marks l) (tried_code (has_clauses clauses) inner (p + 1) (stmts_size w body) (opt_size w orelse) (clauses_size w clauses)
+      let settle = normal + 1 + stmts_size (in_hand w) finally in
+      put w.guard (marks l) (tried_code (has_clauses clauses) inner (p + 1) (stmts_size (in_hand w) body) (opt_size (in_hand w) orelse) (clauses_size (in_hand w) clauses)
       (λ v q. stmts_code fs v q body) (λ q. opt_code fs inner q orelse) (λ q end. clauses_code fs inner q end clauses)
       ++ put w.guard (plain Ending) (stmts_code fs (under w) (normal + 1) finally ++ put w.guard (plain Settle) (exits_code w (settle + 1))))
   kind_code fs w p l (def x params defaults comma body) =
       put w.guard (marks l) (function_code w.guard (p + 1) (unit_at l fs) defaults ++ put w.guard (store x) [])
   kind_code fs w p l (match subject header cases) =
       let first = p + 1 + expr_size subject in
-      put w.guard (marks l) (expr_code w.guard (p + 1) subject ++ cases_code fs w first (first + cases_size w cases) cases)
+      put w.guard (marks l) (expr_code w.guard (p + 1) subject ++ cases_code fs w first (first + cases_size (in_hand w) cases) cases)
 
   pub opt_code : List Function → Ways → ℕ → OptSuite → List Cell
   opt_code fs w p no_suite = []
@@ -278,7 +278,7 @@ abbrev mutual
   arms_code fs w p end no_arms = []
   arms_code fs w p end (arm test (suite first last inline body) rest) =
       let begin = p + 1 + expr_size test + 1 in
-      let next = begin + stmts_size w body + 1 in
+      let next = begin + stmts_size (in_hand w) body + 1 in
       put w.guard (marks first) (expr_code w.guard (p + 1) test ++ put w.guard (plain (IfFalse next))
       (stmts_code fs w begin body ++ put w.guard (plain (Goto end)) (arms_code fs w next end rest)))
 
@@ -287,12 +287,12 @@ abbrev mutual
   clauses_code fs w p end no_clauses = put w.guard (plain Uncaught) []
   clauses_code fs w p end (clause kind None (suite first last inline body) rest) =
       let begin = p + 1 + caught_size kind in
-      let next = begin + stmts_size (in_clause w) body + 2 in
+      let next = begin + stmts_size true body + 2 in
       put w.guard (marks first) (caught_code w.guard (p + 1) next kind
       ++ (stmts_code fs (in_clause w) begin body ++ put w.guard (plain Pop) (put w.guard (plain (Goto end)) (clauses_code fs w next end rest))))
   clauses_code fs w p end (clause kind (Some x) (suite first last inline body) rest) =
       let begin = p + 1 + caught_size kind + 2 in
-      let release = begin + stmts_size (in_clause w) body + 1 in
+      let release = begin + stmts_size true body + 1 in
       let next = release + 7 in
       put w.guard (marks first) (caught_code w.guard (p + 1) next kind ++ put w.guard (plain Caught) (put w.guard (store x)
       (stmts_code fs (in_finally (in_clause w) release) begin body ++ put w.guard (plain Ending)
@@ -306,7 +306,7 @@ abbrev mutual
       let bind = p + 2 + pattern_size q in
       let chosen = bind + names_size (captured q) + guard_size guard in
       let begin = chosen + 1 in
-      let next = begin + stmts_size w body + 1 in
+      let next = begin + stmts_size (in_hand w) body + 1 in
       put w.guard (marks first) (put w.guard (plain (Copy 0)) (pattern_code (record { guard = w.guard; waiting = 0; fail = next; extra = 0 }) (p + 2) q
       ++ (names_code w.guard (captured q) ++ (guard_code w.guard (bind + names_size (captured q)) next guard ++ put w.guard (plain Pop)
       (stmts_code fs w begin body ++ put w.guard (plain (Goto end)) (cases_code fs w next end rest))))))

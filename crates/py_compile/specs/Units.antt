@@ -52,7 +52,7 @@ unit_of_cells f defaults own cells =
       first = f.line;
       params = f.params;
       defaults = defaults;
-      locals = own;
+      locals = tables.own;
       names = tables.names;
       constants = tables.constants;
       instrs = map (λ c. instr_of tables c.op) cells;
@@ -60,9 +60,12 @@ unit_of_cells f defaults own cells =
       handlers = handlers_of cells;
     }
 
--- the body of a module has no names of its own
+-- the body of a module as a function, which has no names of its own
+abbrev pub body_function : Stmts → Function
+body_function body = record { line = 1; name = []; params = []; body = body }
+
 abbrev pub module_code : Stmts → Code
-module_code body = unit_of_cells (record { line = 1; name = []; params = []; body = body }) 0 [] (body_cells (functions body) (without_docstring body))
+module_code body = unit_of_cells (body_function body) 0 [] (body_cells (functions body) (without_docstring body))
 
 abbrev pub function_code : List Function → Function → Code
 function_code fs f = unit_of_cells f 0 (local_names f.params f.body) (body_cells fs (without_docstring f.body))

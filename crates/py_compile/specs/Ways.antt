@@ -1,6 +1,7 @@
 -- How the code of a suite goes on where it is left.
 --     Route                          where one way out leads
 --     Ways, under, in_finally        all of them
+--     in_hand                        whether a bare `raise` has an exception
 --     break_exit and the like        the instructions that take them
 use Rattle.std.specs.Prelude.{ℕ, suc, Option, Some, None}
 use Rattle.py_code.specs.declared.instr.Instr.{Instr}
@@ -51,6 +52,14 @@ in_loop w drops end back = record w { on_break = straight drops end; on_continue
 -- in the suite of a clause: the exception stands on top of what stood there
 abbrev pub in_clause : Ways → Ways
 in_clause w = record (under w) { handled = Some w.depth }
+
+-- whether an exception is handled
+abbrev pub is_there : Option ℕ → Bool
+is_there None = false
+is_there (Some n) = true
+
+abbrev pub in_hand : Ways → Bool
+in_hand w = is_there w.handled
 
 -- outside of a loop there is no `break`, and the next place is as good as any
 abbrev pub break_exit : Route → ℕ → Instr

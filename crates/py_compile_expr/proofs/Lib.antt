@@ -1,0 +1,5 @@
+pub mod Sizes
+pub mod Places
+pub mod Pushed
+pub mod Simulation
+pub mod ExpressionRuns

@@ -6,11 +6,12 @@ use Rattle.py_value.specs.declared.value.FuncId.{FuncId}
 use Rattle.py_value.specs.Plain.{PlainValue, func_value, kind_value, builtin_value}
 use Rattle.py_syntax.specs.Tree.{Text, Alias, Expr, name, int, str, fstr, none, bool, tuple, list, dict, paren, not', and, or, unary, binary, compare, cond as cond', call, index, slice, attr, Exprs, no_exprs, exprs, Pairs, no_pairs, pair, Links, no_links, link, OptExpr, absent, present, Fragments, no_fragments, plain, format, Parts, no_parts, text, field}
 use Rattle.py_meaning.specs.Assignments.{assign_to, assign_each, assign_all, augment}
-use Rattle.py_meaning.specs.Calls.{Calls, enter, enter_with, use_builtin, call_value, call_of}
-use Rattle.py_meaning.specs.Computations.{Ans, M}
+use Rattle.py_meaning.specs.Calls.{Calls, enter, enter_with, use_builtin, call_function, call_value, call_of, code_of}
+use Rattle.py_meaning.specs.Computations.{Setting, Ans, M}
 use Rattle.py_meaning.specs.Expressions.{eval, eval_each, eval_pairs, eval_links, eval_opt, eval_fragments, eval_parts}
 use Rattle.py_meaning.specs.Imports.{begin, module_of, import_each, take_each}
-use Rattle.py_meaning.specs.Modules.{LoadedModule}
+use Rattle.py_meaning.specs.Modules.{LoadedModule, function_found}
+use Rattle.py_syntax.specs.Functions.{Function}
 use Rattle.py_meaning.specs.Places.{Place}
 use Rattle.py_meaning.proofs.Budget.{Agrees, agree-give, agree-read, agree-write, agree-say, agree-value, agree-ask, agree-worked, agree-work, agree-if, agree-branch}
 use Rattle.py_builtins.specs.Callees.{Callee, a_value, a_method}
@@ -30,9 +31,14 @@ agree-builtin : (k : ℕ) (which : Builtin) (vs : List PlainValue) → Agrees k 
 unfolding use_builtin
 agree-builtin k which vs = agree-read k _ _ (λ w. agree-say k _ _ _ (agree-write k _ _ _ (agree-worked k _)))
 
+agree-call_function : (k : ℕ) (c d : Calls) → AgreeCalls k c d → (o : Option Function) (f : FuncId) (a : Option ℕ) (vs : List PlainValue) (w : Setting)
+    → Agrees k (call_function c o f a vs w) (call_function d o f a vs w)
+agree-call_function k c d h None f a vs w = agree-give k _
+agree-call_function k c d h (Some g) f a vs w = agree-enter_with k c d h f _
+
 pub agree-call_value : (k : ℕ) (c d : Calls) → AgreeCalls k c d → (ms : List LoadedModule) (v : PlainValue) (vs : List PlainValue) → Agrees k (call_value c ms v vs) (call_value d ms v vs)
 unfolding call_value
-agree-call_value k c d h ms (func_value f a) vs = agree-read k _ _ (λ w. agree-enter_with k c d h f _)
+agree-call_value k c d h ms (func_value f a) vs = agree-read k _ _ (λ w. agree-call_function k c d h (function_found ms (code_of f)) f a vs w)
 agree-call_value k c d h ms (kind_value kind) vs = agree-give k _
 agree-call_value k c d h ms (builtin_value which) vs = agree-builtin k which vs
 agree-call_value k c d h ms _ vs = agree-give k _

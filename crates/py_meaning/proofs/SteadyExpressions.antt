@@ -6,12 +6,13 @@ use Rattle.py_value.specs.declared.value.FuncId.{FuncId}
 use Rattle.py_value.specs.Plain.{PlainValue, func_value, kind_value, builtin_value}
 use Rattle.py_syntax.specs.Tree.{Text, Alias, Expr, name, int, str, fstr, none, bool, tuple, list, dict, paren, not', and, or, unary, binary, compare, cond as cond', call, index, slice, attr, Exprs, no_exprs, exprs, Pairs, no_pairs, pair, Links, no_links, link, OptExpr, absent, present, Fragments, no_fragments, plain, format, Parts, no_parts, text, field}
 use Rattle.py_meaning.specs.Assignments.{assign_to, assign_each, assign_all, augment}
-use Rattle.py_meaning.specs.Calls.{Calls, enter, enter_with, use_builtin, call_value, call_of}
-use Rattle.py_meaning.specs.Computations.{Ans, M}
+use Rattle.py_meaning.specs.Calls.{Calls, enter, enter_with, use_builtin, call_function, call_value, call_of, code_of}
+use Rattle.py_meaning.specs.Computations.{Setting, Ans, M}
 use Rattle.py_meaning.specs.Expressions.{eval, eval_each, eval_pairs, eval_links, eval_opt, eval_fragments, eval_parts}
 use Rattle.py_meaning.specs.Imports.{begin, module_of, import_each, take_each}
 use Rattle.py_meaning.specs.Laws.{IsSteady, AreSteady}
-use Rattle.py_meaning.specs.Modules.{LoadedModule}
+use Rattle.py_meaning.specs.Modules.{LoadedModule, function_found}
+use Rattle.py_syntax.specs.Functions.{Function}
 use Rattle.py_meaning.specs.Places.{Place}
 use Rattle.py_meaning.proofs.Steady.{steady-give, steady-read, steady-write, steady-say, steady-value, steady-ask, steady-worked, steady-work, steady-if, steady-branch}
 use Rattle.py_builtins.specs.Callees.{Callee, a_value, a_method}
@@ -28,9 +29,13 @@ steady-builtin : (which : Builtin) (vs : List PlainValue) → IsSteady (use_buil
 unfolding use_builtin
 steady-builtin which vs = steady-read _ (λ w. steady-say _ _ (steady-write _ _ (steady-worked _)))
 
+steady-call_function : (c : Calls) → AreSteady c → (o : Option Function) (f : FuncId) (a : Option ℕ) (vs : List PlainValue) (w : Setting) → IsSteady (call_function c o f a vs w)
+steady-call_function c h None f a vs w = steady-give _
+steady-call_function c h (Some g) f a vs w = steady-enter_with c h f _
+
 pub steady-call_value : (c : Calls) → AreSteady c → (ms : List LoadedModule) (v : PlainValue) (vs : List PlainValue) → IsSteady (call_value c ms v vs)
 unfolding call_value
-steady-call_value c h ms (func_value f a) vs = steady-read _ (λ w. steady-enter_with c h f _)
+steady-call_value c h ms (func_value f a) vs = steady-read _ (λ w. steady-call_function c h (function_found ms (code_of f)) f a vs w)
 steady-call_value c h ms (kind_value kind) vs = steady-give _
 steady-call_value c h ms (builtin_value which) vs = steady-builtin which vs
 steady-call_value c h ms _ vs = steady-give _
@@ -74,26 +79,26 @@ mutual
   steady-each c h p no_exprs = steady-give _
   steady-each c h p (exprs e es) = steady-value _ _ (steady-eval c h p e) (λ v. steady-value _ _ (steady-each c h p es) (λ vs. steady-give _))
 
-  steady-pairs : (c : Calls) → AreSteady c → (p : Place) (ps : Pairs) (v : PlainValue) → IsSteady (eval_pairs c p ps v)
+  pub steady-pairs : (c : Calls) → AreSteady c → (p : Place) (ps : Pairs) (v : PlainValue) → IsSteady (eval_pairs c p ps v)
   steady-pairs c h p no_pairs v = steady-give _
   steady-pairs c h p (pair key e rest) v =
       steady-value _ _ (steady-eval c h p key) (λ i. steady-value _ _ (steady-eval c h p e) (λ w. steady-value _ _ (steady-work _) (λ u. steady-pairs c h p rest v)))
 
-  steady-links : (c : Calls) → AreSteady c → (p : Place) (ls : Links) (v : PlainValue) → IsSteady (eval_links c p ls v)
+  pub steady-links : (c : Calls) → AreSteady c → (p : Place) (ls : Links) (v : PlainValue) → IsSteady (eval_links c p ls v)
   steady-links c h p no_links v = steady-give _
   steady-links c h p (link op e rest) v =
       steady-value _ _ (steady-eval c h p e) (λ w. steady-value _ _ (steady-ask _) (λ b. steady-if b _ _ (steady-links c h p rest w) (steady-give _)))
 
-  steady-opt : (c : Calls) → AreSteady c → (p : Place) (o : OptExpr) → IsSteady (eval_opt c p o)
+  pub steady-opt : (c : Calls) → AreSteady c → (p : Place) (o : OptExpr) → IsSteady (eval_opt c p o)
   steady-opt c h p absent = steady-give _
   steady-opt c h p (present e) = steady-value _ _ (steady-eval c h p e) (λ v. steady-give _)
 
-  steady-fragments : (c : Calls) → AreSteady c → (p : Place) (fs : Fragments) (x : Text) → IsSteady (eval_fragments c p fs x)
+  pub steady-fragments : (c : Calls) → AreSteady c → (p : Place) (fs : Fragments) (x : Text) → IsSteady (eval_fragments c p fs x)
   steady-fragments c h p no_fragments x = steady-give _
   steady-fragments c h p (plain y rest) x = steady-value _ _ (steady-give _) (λ z. steady-fragments c h p rest z)
   steady-fragments c h p (format parts rest) x = steady-value _ _ (steady-parts c h p parts x) (λ z. steady-fragments c h p rest z)
 
-  steady-parts : (c : Calls) → AreSteady c → (p : Place) (parts : Parts) (x : Text) → IsSteady (eval_parts c p parts x)
+  pub steady-parts : (c : Calls) → AreSteady c → (p : Place) (parts : Parts) (x : Text) → IsSteady (eval_parts c p parts x)
   steady-parts c h p no_parts x = steady-give _
   steady-parts c h p (text y rest) x = steady-value _ _ (steady-give _) (λ z. steady-parts c h p rest z)
   steady-parts c h p (field e rest) x =

@@ -16,7 +16,8 @@ use Rattle.py_syntax.specs.Tree.{Text}
 use Rattle.py_builtins.specs.Builtins.{Done, builtin_of, exception_of}
 use Rattle.py_builtins.specs.Methods.{method_of}
 use Rattle.py_meaning.specs.Computations.{Setting, Ans, M, give, read, write, say, worked, work}
-use Rattle.py_meaning.specs.Modules.{LoadedModule, unit_of}
+use Rattle.py_syntax.specs.Functions.{Function}
+use Rattle.py_meaning.specs.Modules.{LoadedModule, function_found}
 use Rattle.py_builtins.specs.Parameters.{most_frames, arguments, defaults_at}
 use Rattle.py_builtins.specs.Callees.{Callee, a_value, a_method, callee_of}
 
@@ -49,6 +50,11 @@ code_of f = record { «module» = f.module; unit = f.unit }
 abbrev pub no_call : M (Ans PlainValue)
 no_call = give (Err (raised_by NotCallable))
 
+-- a function that no module has can't be called
+abbrev pub call_function : Calls → Option Function → FuncId → Option ℕ → List PlainValue → Setting → M (Ans PlainValue)
+call_function c None f a vs w = no_call
+call_function c (Some g) f a vs w = enter_with c f (arguments g.params (defaults_at w.world.heap a) vs)
+
 -- A value is called. First it is seen that it can be called with so many values, then that there may be one more frame.
 unfoldable pub call_value : Calls → List LoadedModule → PlainValue → List PlainValue → M (Ans PlainValue)
 call_value c ms none_value vs = no_call
@@ -58,7 +64,7 @@ call_value c ms (str_value s) vs = no_call
 call_value c ms (tuple_value items) vs = no_call
 call_value c ms (list_at a) vs = no_call
 call_value c ms (dict_at a) vs = no_call
-call_value c ms (func_value f a) vs = read (λ w. enter_with c f (arguments (unit_of ms (code_of f)).params (defaults_at w.world.heap a) vs))
+call_value c ms (func_value f a) vs = read (λ w. call_function c (function_found ms (code_of f)) f a vs w)
 call_value c ms (module_value m) vs = no_call
 call_value c ms (kind_value kind) vs = give (exception_of kind vs)
 call_value c ms (exc_value kind arg) vs = no_call

@@ -2,6 +2,7 @@
 --     LoadedModule                      what is loaded
 --     unit_at                           functions by the lines of their `def`s
 --     body_of, name_of, unit_of         parts of modules by numbers
+--     function_found                    a unit, where there is one
 --     imported_number                   modules by names
 use Rattle.std.specs.Prelude.{ℕ, zero, suc, nat_eq, if◌then◌else◌, List, [], ◌∷◌, Option, Some, None, slice_get}
 use Rattle.cov_event.specs.declared.event.CodeId.{CodeId}
@@ -46,6 +47,15 @@ unit_in b (suc k) = function_or b (slice_get (functions b) k)
 -- Unit 0 of a module is its body, which begins in line 1, and unit k its k-th `def`.
 abbrev pub unit_of : List LoadedModule → CodeId → Function
 unit_of ms code = unit_in (body_of ms code.module) code.unit
+
+abbrev pub function_in : Option LoadedModule → ℕ → Option Function
+function_in None k = None
+function_in (Some m) zero = Some (function_or m.body None)
+function_in (Some m) (suc k) = slice_get (functions m.body) k
+
+-- the unit of that number, where there is one
+abbrev pub function_found : List LoadedModule → CodeId → Option Function
+function_found ms code = function_in (slice_get ms code.module) code.unit
 
 -- the number of the first module that has the name, from a number on
 unfoldable pub number_from : ℕ → List LoadedModule → Text → Option ℕ
