@@ -1,5 +1,5 @@
 -- What is put into the lists of a unit is found there, also behind more that is put in.
-use Rattle.std.proofs.Common.{◌≡◌, ℕ, zero, suc, ◌==◌, Bool, true, false, List, [], ◌∷◌, ◌++◌, Option, Some, None, refl, sym, ap, ◌∙◌, subst, arith}
+use Rattle.std.proofs.Common.{◌≡◌, ℕ, suc, ◌==◌, Bool, true, false, List, [], ◌∷◌, Some, refl, sym, ap, ◌∙◌, subst}
 use Rattle.std.specs.Prelude.{slice_get, if◌then◌else◌, ◌||◌, bytes_eq}
 use Rattle.std.specs.List.{list_any}
 use Rattle.std.proofs.lemmas.Bool.Decides.{Decides-eqb, Decides-int_eq}
@@ -10,7 +10,7 @@ use Rattle.py_syntax.specs.Names.{is_among}
 use Rattle.py_syntax.specs.Tree.{Text}
 use Rattle.py_code.specs.declared.unit.Constant.{Constant}
 use Rattle.py_code.specs.declared.unit.Constant.TheVariants.{None as NoneConstant, Bool as BoolConstant, Int as IntConstant, Str as StrConstant}
-use Rattle.py_compile_expr.specs.Cells.{Op, constant, load, store, unset, attribute, method, imports, module_named, takes, marks, marks_again, plain, Guard, Cell, place_in, is_same_constant, add_new, Tables, with_global_name, with_name, tables_with, tables_of}
+use Rattle.py_compile_expr.specs.Cells.{Op, constant, load, store, unset, attribute, method, imports, module_named, takes, marks, marks_again, plain, Cell, place_in, is_same_constant, add_new, Tables, with_global_name, with_name, tables_with, tables_of}
 use Rattle.py_compile_expr.specs.Stands.{Finds, HasVariable, IsKnown}
 
 -- a test that tells what is one

@@ -1,12 +1,12 @@
 -- The handler table of cells: each place has the handler of its cell.
-use Rattle.std.proofs.Common.{◌≡◌, ℕ, zero, suc, ◌+◌, ◌-◌, ◌<◌, ◌≤◌, ◌==◌, Bool, true, false, List, [], ◌∷◌, ◌++◌, length, Option, Some, None, refl, sym, ap, ◌∙◌, subst, arith}
+use Rattle.std.proofs.Common.{◌≡◌, ℕ, ◌+◌, ◌<◌, ◌≤◌, ◌==◌, Bool, true, false, List, [], ◌∷◌, ◌++◌, length, Option, Some, None, refl, sym, ap, ◌∙◌, subst, arith}
 use Rattle.std.specs.Prelude.{nat_lt, nat_le, ◌&&◌, if◌then◌else◌}
 use Rattle.std.proofs.lemmas.Bool.Decides.{Decides-eqb, nat_tests}
 use Rattle.py_code.specs.declared.unit.Handler.{Handler}
 use Rattle.py_code.specs.Units.{guards, inner, handler_of}
 use Rattle.py_compile_expr.specs.Cells.{Guard, Cell}
 use Rattle.py_compile_expr.specs.Stands.{Guards}
-use Rattle.py_compile.specs.Units.{is_same_guard, is_same, closed, ranges, handlers_of}
+use Rattle.py_compile.specs.Units.{is_same_guard, is_same, closed, ranges}
 
 -- the handler at a place, where one is open in front of a place p and these cells come from p on
 abbrev pub column : Option Guard → ℕ → List Cell → ℕ → Option Guard

@@ -1,17 +1,17 @@
 -- The code of statements is as long as its size says, wherever it stands.
-use Rattle.std.proofs.Common.{◌≡◌, ℕ, zero, suc, ◌+◌, Bool, true, false, List, [], ◌∷◌, ◌++◌, length, Option, Some, None, refl, sym, ap, ◌∙◌, arith}
+use Rattle.std.proofs.Common.{◌≡◌, ℕ, suc, ◌+◌, Bool, true, false, List, [], ◌∷◌, length, Option, Some, None, refl, ap, ◌∙◌, arith}
 use Rattle.py_value.specs.declared.operator.BinOp.{BinOp}
 use Rattle.py_syntax.specs.Functions.{Function}
 use Rattle.py_syntax.specs.Tree.{Text, Alias, Expr, name, int, str, fstr, none, bool, tuple, list, dict, paren, not', and, or, unary, binary, compare, cond, call, index, slice, attr, Exprs, no_exprs, exprs}
-use Rattle.py_syntax.specs.Tree.{Stmts, no_stmts, stmt, Suite, suite, OptSuite, no_suite, has_suite, Arms, no_arms, arm, Clauses, no_clauses, clause, Cases, no_cases, case, StmtKind, expr, assign, aug_assign, pass, break, continue, return, raise, assert, global, import, from, if', while, for, try, def, match}
+use Rattle.py_syntax.specs.Tree.{Stmts, no_stmts, stmt, suite, OptSuite, no_suite, has_suite, Arms, no_arms, arm, Clauses, no_clauses, clause, Cases, no_cases, case, StmtKind, expr, assign, aug_assign, pass, break, continue, return, raise, assert, global, import, from, if', while, for, try, def, match}
 use Rattle.py_meaning.specs.Modules.{unit_at}
 use Rattle.py_meaning.specs.Statements.{has_clauses}
-use Rattle.py_compile_expr.specs.Cells.{Guard, Cell, put}
+use Rattle.py_compile_expr.specs.Cells.{Guard, Cell}
 use Rattle.py_compile_expr.specs.Expressions.{expr_size, expr_code, each_size, each_code}
-use Rattle.py_compile_expr.specs.Patterns.{captured, pattern_size, pattern_code, names_size, names_code}
-use Rattle.py_compile_expr.specs.Targets.{target_size, target_code, all_size, all_code}
+use Rattle.py_compile_expr.specs.Patterns.{Site, captured, pattern_size, pattern_code, names_size, names_code}
+use Rattle.py_compile_expr.specs.Targets.{target_size, target_code, all_size}
 use Rattle.py_compile_expr.proofs.Sizes.{both, expr_length, each_length, target_length, all_length, pattern_length, names_length}
-use Rattle.py_compile.specs.Statements.{option_size, option_code, import_size, import_code, take_size, take_code, augment_size, augment_code, raise_size, raise_code, assert_size, assert_code, function_size, function_code, caught_size, caught_code, guard_size, guard_code, exits_code, tried_size, tried_code, module_code, stmts_size, kind_size, opt_size, arms_size, clauses_size, cases_size, stmts_code, kind_code, opt_code, arms_code, clauses_code, cases_code}
+use Rattle.py_compile.specs.Statements.{option_size, option_code, import_size, import_code, take_size, take_code, augment_size, augment_code, raise_size, raise_code, assert_size, assert_code, function_size, function_code, caught_size, caught_code, guard_size, guard_code, tried_size, tried_code, module_code, stmts_size, kind_size, opt_size, arms_size, clauses_size, cases_size, stmts_code, kind_code, opt_code, arms_code, clauses_code, cases_code}
 use Rattle.py_compile.specs.Ways.{Ways, under, in_finally, in_try, in_loop, in_clause, is_there, in_hand}
 
 -- ---- parts
@@ -50,7 +50,7 @@ augment_length g p (cond body test orelse) op e = refl
 augment_length g p (call f es comma) op e = refl
 augment_length g p (index of at) op e =
     let read = p + expr_size of + expr_size at + 3 in
-    both (expr_code g p of) _ (expr_size of) (expr_size at + (3 + (expr_size e + 3))) (expr_length g p of) (both (expr_code g (p + expr_size of) at) _ (expr_size at) (3 + (expr_size e + 3)) (expr_length g (p + expr_size of) at) (ap (λ n. suc (suc (suc n))) (both (expr_code g read e) _ (expr_size e) 3 (expr_length g read e) refl))) ∙ omega arith
+    both (expr_code g p of) _ (expr_size of) (expr_size at + (suc (suc (suc (expr_size e + 3))))) (expr_length g p of) (both (expr_code g (p + expr_size of) at) _ (expr_size at) (suc (suc (suc (expr_size e + 3)))) (expr_length g (p + expr_size of) at) (ap (λ n. suc (suc (suc n))) (both (expr_code g read e) _ (expr_size e) 3 (expr_length g read e) refl))) ∙ omega arith
 augment_length g p (slice of low high) op e = refl
 augment_length g p (attr of x) op e = refl
 
@@ -92,10 +92,6 @@ mutual
   stmts_length fs w p (stmt first last kind end rest) =
       both (kind_code fs w p first kind) _ (kind_size (in_hand w) kind) (stmts_size (in_hand w) rest) (kind_length fs w p first kind) (stmts_length fs w (p + kind_size (in_hand w) kind) rest)
 
-  -- with the same exception in hand or none
-  suite_length : (fs : List Function) (v w : Ways) (p : ℕ) (ss : Stmts) → in_hand v ≡ in_hand w → length (stmts_code fs v p ss) ≡ stmts_size (in_hand w) ss
-  suite_length fs v w p ss e = stmts_length fs v p ss ∙ ap (λ h. stmts_size h ss) e
-
   pub kind_length : (fs : List Function) (w : Ways) (p l : ℕ) (k : StmtKind) → length (kind_code fs w p l k) ≡ kind_size (in_hand w) k
   kind_length fs w p l (expr e) =
       ap suc (both (expr_code w.guard (p + 1) e) _ (expr_size e) 1 (expr_length w.guard (p + 1) e) refl) ∙ omega arith
@@ -124,21 +120,21 @@ mutual
       let back = begin + stmts_size (in_hand w) body in
       let rest = back + 1 in
       let inner = in_loop w 0 (rest + opt_size (in_hand w) orelse) back in
-      ap (λ n. suc (suc (suc n))) (both (expr_code w.guard (p + 3) test) _ (expr_size test) (suc (stmts_size (in_hand w) body + suc (opt_size (in_hand w) orelse))) (expr_length w.guard (p + 3) test) (ap suc (both (stmts_code fs inner begin body) _ (stmts_size (in_hand w) body) (suc (opt_size (in_hand w) orelse)) (suite_length fs inner w begin body refl) (ap suc (opt_length fs w rest orelse))))) ∙ omega arith
+      ap (λ n. suc (suc (suc n))) (both (expr_code w.guard (p + 3) test) _ (expr_size test) (suc (stmts_size (in_hand w) body + suc (opt_size (in_hand w) orelse))) (expr_length w.guard (p + 3) test) (ap suc (both (stmts_code fs inner begin body) _ (stmts_size (in_hand w) body) (suc (opt_size (in_hand w) orelse)) (stmts_length fs inner begin body) (ap suc (opt_length fs w rest orelse))))) ∙ omega arith
   kind_length fs w p l (for target over (suite first last inline body) orelse) =
       let again = p + 1 + expr_size over + 2 in
       let begin = again + 2 + target_size target in
       let back = begin + stmts_size (in_hand w) body in
       let rest = back + 1 in
       let inner = in_loop (under w) 1 (rest + opt_size (in_hand w) orelse) back in
-      ap suc (both (expr_code w.guard (p + 1) over) _ (expr_size over) (4 + (target_size target + (stmts_size (in_hand w) body + suc (opt_size (in_hand w) orelse)))) (expr_length w.guard (p + 1) over) (ap (λ n. suc (suc (suc (suc n)))) (both (target_code w.guard (again + 2) target) _ (target_size target) (stmts_size (in_hand w) body + suc (opt_size (in_hand w) orelse)) (target_length w.guard (again + 2) target) (both (stmts_code fs inner begin body) _ (stmts_size (in_hand w) body) (suc (opt_size (in_hand w) orelse)) (suite_length fs inner w begin body refl) (ap suc (opt_length fs w rest orelse)))))) ∙ omega arith
+      ap suc (both (expr_code w.guard (p + 1) over) _ (expr_size over) (suc (suc (suc (suc (target_size target + (stmts_size (in_hand w) body + suc (opt_size (in_hand w) orelse))))))) (expr_length w.guard (p + 1) over) (ap (λ n. suc (suc (suc (suc n)))) (both (target_code w.guard (again + 2) target) _ (target_size target) (stmts_size (in_hand w) body + suc (opt_size (in_hand w) orelse)) (target_length w.guard (again + 2) target) (both (stmts_code fs inner begin body) _ (stmts_size (in_hand w) body) (suc (opt_size (in_hand w) orelse)) (stmts_length fs inner begin body) (ap suc (opt_length fs w rest orelse)))))) ∙ omega arith
   kind_length fs w p l (try (suite first last inline body) clauses orelse no_suite) =
-      ap suc (tried_length (has_clauses clauses) w (p + 1) (stmts_size (in_hand w) body) (opt_size (in_hand w) orelse) (clauses_size (in_hand w) clauses) (λ v q. stmts_code fs v q body) (λ q. opt_code fs w q orelse) (λ q end. clauses_code fs w q end clauses) (λ v q e. suite_length fs v w q body e) (λ q. opt_length fs w q orelse) (λ q end. clauses_length fs w q end clauses)) ∙ omega arith
+      ap suc (tried_length (has_clauses clauses) w (p + 1) (stmts_size (in_hand w) body) (opt_size (in_hand w) orelse) (clauses_size (in_hand w) clauses) (λ v q. stmts_code fs v q body) (λ q. opt_code fs w q orelse) (λ q end. clauses_code fs w q end clauses) (λ v q e. stmts_length fs v q body ∙ ap (λ h. stmts_size h body) e) (λ q. opt_length fs w q orelse) (λ q end. clauses_length fs w q end clauses)) ∙ omega arith
   kind_length fs w p l (try (suite first last inline body) clauses orelse (has_suite (suite f g i finally))) =
       let normal = p + 1 + tried_size (has_clauses clauses) (stmts_size (in_hand w) body) (opt_size (in_hand w) orelse) (clauses_size (in_hand w) clauses) in
       let inner = in_finally w (normal + 1) in
       let settle = normal + 1 + stmts_size (in_hand w) finally in
-      ap suc (both (tried_code (has_clauses clauses) inner (p + 1) (stmts_size (in_hand w) body) (opt_size (in_hand w) orelse) (clauses_size (in_hand w) clauses) (λ v q. stmts_code fs v q body) (λ q. opt_code fs inner q orelse) (λ q end. clauses_code fs inner q end clauses)) _ (tried_size (has_clauses clauses) (stmts_size (in_hand w) body) (opt_size (in_hand w) orelse) (clauses_size (in_hand w) clauses)) (suc (stmts_size (in_hand w) finally + 4)) (tried_length (has_clauses clauses) inner (p + 1) (stmts_size (in_hand w) body) (opt_size (in_hand w) orelse) (clauses_size (in_hand w) clauses) (λ v q. stmts_code fs v q body) (λ q. opt_code fs inner q orelse) (λ q end. clauses_code fs inner q end clauses) (λ v q e. suite_length fs v w q body e) (λ q. opt_length fs inner q orelse) (λ q end. clauses_length fs inner q end clauses)) (ap suc (both (stmts_code fs (under w) (normal + 1) finally) _ (stmts_size (in_hand w) finally) 4 (suite_length fs (under w) w (normal + 1) finally refl) refl))) ∙ omega arith
+      ap suc (both (tried_code (has_clauses clauses) inner (p + 1) (stmts_size (in_hand w) body) (opt_size (in_hand w) orelse) (clauses_size (in_hand w) clauses) (λ v q. stmts_code fs v q body) (λ q. opt_code fs inner q orelse) (λ q end. clauses_code fs inner q end clauses)) _ (tried_size (has_clauses clauses) (stmts_size (in_hand w) body) (opt_size (in_hand w) orelse) (clauses_size (in_hand w) clauses)) (suc (stmts_size (in_hand w) finally + 4)) (tried_length (has_clauses clauses) inner (p + 1) (stmts_size (in_hand w) body) (opt_size (in_hand w) orelse) (clauses_size (in_hand w) clauses) (λ v q. stmts_code fs v q body) (λ q. opt_code fs inner q orelse) (λ q end. clauses_code fs inner q end clauses) (λ v q e. stmts_length fs v q body ∙ ap (λ h. stmts_size h body) e) (λ q. opt_length fs inner q orelse) (λ q end. clauses_length fs inner q end clauses)) (ap suc (both (stmts_code fs (under w) (normal + 1) finally) _ (stmts_size (in_hand w) finally) 4 (stmts_length fs (under w) (normal + 1) finally) refl))) ∙ omega arith
   kind_length fs w p l (def x params defaults comma body) =
       ap suc (both (function_code w.guard (p + 1) (unit_at l fs) defaults) _ (function_size defaults) 1 (function_length w.guard (p + 1) (unit_at l fs) defaults) refl) ∙ omega arith
   kind_length fs w p l (match subject header cases) =
@@ -149,7 +145,7 @@ mutual
   opt_length fs w p no_suite = refl
   opt_length fs w p (has_suite (suite first last inline body)) = stmts_length fs w p body
 
-  pub arms_length : (fs : List Function) (w : Ways) (p end : ℕ) (as : Arms) → length (arms_code fs w p end as) ≡ arms_size (in_hand w) as
+  pub arms_length : (fs : List Function) (w : Ways) (p end : ℕ) (xs : Arms) → length (arms_code fs w p end xs) ≡ arms_size (in_hand w) xs
   arms_length fs w p end no_arms = refl
   arms_length fs w p end (arm test (suite first last inline body) rest) =
       let begin = p + 1 + expr_size test + 1 in
@@ -161,13 +157,13 @@ mutual
   clauses_length fs w p end (clause kind None (suite first last inline body) rest) =
       let begin = p + 1 + caught_size kind in
       let next = begin + stmts_size true body + 2 in
-      ap suc (both (caught_code w.guard (p + 1) next kind) _ (caught_size kind) (stmts_size true body + (2 + clauses_size (in_hand w) rest)) (caught_length w.guard (p + 1) next kind) (both (stmts_code fs (in_clause w) begin body) _ (stmts_size true body) (2 + clauses_size (in_hand w) rest) (stmts_length fs (in_clause w) begin body) (ap (λ n. suc (suc n)) (clauses_length fs w next end rest)))) ∙ omega arith
+      ap suc (both (caught_code w.guard (p + 1) next kind) _ (caught_size kind) (stmts_size true body + (suc (suc (clauses_size (in_hand w) rest)))) (caught_length w.guard (p + 1) next kind) (both (stmts_code fs (in_clause w) begin body) _ (stmts_size true body) (suc (suc (clauses_size (in_hand w) rest))) (stmts_length fs (in_clause w) begin body) (ap (λ n. suc (suc n)) (clauses_length fs w next end rest)))) ∙ omega arith
   clauses_length fs w p end (clause kind (Some x) (suite first last inline body) rest) =
       let begin = p + 1 + caught_size kind + 2 in
       let release = begin + stmts_size true body + 1 in
       let next = release + 7 in
       let inner = in_finally (in_clause w) release in
-      ap suc (both (caught_code w.guard (p + 1) next kind) _ (caught_size kind) (2 + (stmts_size true body + (8 + clauses_size (in_hand w) rest))) (caught_length w.guard (p + 1) next kind) (ap (λ n. suc (suc n)) (both (stmts_code fs inner begin body) _ (stmts_size true body) (8 + clauses_size (in_hand w) rest) (stmts_length fs inner begin body) (ap (λ n. suc (suc (suc (suc (suc (suc (suc (suc n)))))))) (clauses_length fs w next end rest))))) ∙ omega arith
+      ap suc (both (caught_code w.guard (p + 1) next kind) _ (caught_size kind) (suc (suc (stmts_size true body + (suc (suc (suc (suc (suc (suc (suc (suc (clauses_size (in_hand w) rest)))))))))))) (caught_length w.guard (p + 1) next kind) (ap (λ n. suc (suc n)) (both (stmts_code fs inner begin body) _ (stmts_size true body) (suc (suc (suc (suc (suc (suc (suc (suc (clauses_size (in_hand w) rest))))))))) (stmts_length fs inner begin body) (ap (λ n. suc (suc (suc (suc (suc (suc (suc (suc n)))))))) (clauses_length fs w next end rest))))) ∙ omega arith
 
   pub cases_length : (fs : List Function) (w : Ways) (p end : ℕ) (cs : Cases) → length (cases_code fs w p end cs) ≡ cases_size (in_hand w) cs
   cases_length fs w p end no_cases = refl
@@ -176,5 +172,5 @@ mutual
       let chosen = bind + names_size (captured q) + guard_size guard in
       let begin = chosen + 1 in
       let next = begin + stmts_size (in_hand w) body + 1 in
-      let site = record { guard = w.guard; waiting = 0; fail = next; extra = 0 } in
+      let site : Site = record { guard = w.guard; waiting = 0; fail = next; extra = 0 } in
       ap (λ n. suc (suc n)) (both (pattern_code site (p + 2) q) _ (pattern_size q) (names_size (captured q) + (guard_size guard + suc (stmts_size (in_hand w) body + suc (cases_size (in_hand w) rest)))) (pattern_length site (p + 2) q) (both (names_code w.guard (captured q)) _ (names_size (captured q)) (guard_size guard + suc (stmts_size (in_hand w) body + suc (cases_size (in_hand w) rest))) (names_length w.guard (captured q)) (both (guard_code w.guard (bind + names_size (captured q)) next guard) _ (guard_size guard) (suc (stmts_size (in_hand w) body + suc (cases_size (in_hand w) rest))) (guard_length w.guard (bind + names_size (captured q)) next guard) (ap suc (both (stmts_code fs w begin body) _ (stmts_size (in_hand w) body) (suc (cases_size (in_hand w) rest)) (stmts_length fs w begin body) (ap suc (cases_length fs w next end rest))))))) ∙ omega arith

@@ -1,22 +1,21 @@
 -- The units of cells have them.
-use Rattle.std.proofs.Common.{◌≡◌, ℕ, zero, suc, ◌+◌, ◌<◌, ◌≤◌, Bool, true, false, List, [], ◌∷◌, ◌++◌, length, map, drop, Option, Some, None, refl, sym, ap, ◌∙◌, subst, arith}
+use Rattle.std.proofs.Common.{◌≡◌, ℕ, zero, suc, ◌+◌, ◌<◌, ◌≤◌, true, false, List, [], ◌∷◌, length, map, drop, Option, Some, None, refl, sym, ap, ◌∙◌, subst, arith}
 use Rattle.std.specs.Prelude.{slice_get, nat_lt, if◌then◌else◌}
 use Rattle.std.proofs.lemmas.List.{length-map}
 use Rattle.std.proofs.lemmas.Bool.Decides.{nat_tests}
 use Rattle.py_syntax.specs.Functions.{Function, functions, without_docstring}
 use Rattle.py_syntax.specs.Names.{local_names}
-use Rattle.py_syntax.specs.Tree.{Text, Stmts}
-use Rattle.py_code.specs.declared.instr.Instr.{Instr}
+use Rattle.py_syntax.specs.Tree.{Text}
 use Rattle.py_code.specs.Units.{Code, handler_of}
-use Rattle.py_compile_expr.specs.Cells.{Op, Guard, Cell, Tables, instr_of, tables_of}
-use Rattle.py_compile_expr.specs.Stands.{tables_in, Guards, StandsAt, HasAt}
+use Rattle.py_compile_expr.specs.Cells.{Guard, Cell, Tables, instr_of, tables_of}
+use Rattle.py_compile_expr.specs.Stands.{tables_in, Guards, HasAt}
 use Rattle.py_compile.specs.Faithful.{IsFaithful}
 use Rattle.py_compile.specs.Laws.{UnitsAreFaithful}
-use Rattle.py_compile.specs.Units.{handlers_of, unit_of_cells, body_cells, body_function, module_code, function_code}
+use Rattle.py_compile.specs.Units.{unit_of_cells, body_cells, body_function}
 use Rattle.py_compile.proofs.Numbering.{AllKnown, grows_all, all_known_here}
 use Rattle.py_compile.proofs.Ranges.{column, columns}
 
-first_of : {A : Type 0} (xs : List A) (p : ℕ) (y : A) (ys : List A) → drop p xs ≡ y ∷ ys → (slice_get xs p ≡ Some y) × (drop (p + 1) xs ≡ ys)
+first_of : {A : Type 0} (xs : List A) (p : ℕ) (y : A) (ys : List A) → drop p xs ≡ y ∷ ys → (slice_get xs p ≡ Some y) × (drop (suc p) xs ≡ ys)
 first_of [] zero y ys e = absurd cc
 first_of [] (suc p) y ys e = absurd cc
 first_of (x ∷ xs) zero y ys e = (cc, cc)
@@ -38,8 +37,10 @@ stand : (u : Code) (p : ℕ) (g : Option Guard) (cs : List Cell) → drop p u.in
 stand u p g [] e k h = tt
 stand u p g (c ∷ cs) e k h =
     let here = first_of u.instrs p (instr_of (tables_in u) c.op) (map (λ d. instr_of (tables_in u) d.op) cs) e in
-    (record { instr = here.0; knows = k.0; guard = subst (λ o. Guards o (handler_of p u.handlers)) (at_itself g p c cs) (h p (omega arith) (omega arith)) },
-    stand u (p + 1) c.guard cs here.1 k.1 (λ q lo hi. subst (λ o. Guards o (handler_of q u.handlers)) (further g p c cs q lo) (h q (omega arith) (omega arith))))
+    let next : p + 1 ≡ suc p = omega arith in (
+      record { instr = here.0; knows = k.0; guard = subst (λ o. Guards o (handler_of p u.handlers)) (at_itself g p c cs) (h p (omega arith) (omega arith)) },
+      stand u (p + 1) c.guard cs (ap (λ q. drop q u.instrs) next ∙ here.1) k.1 (λ q lo hi. subst (λ o. Guards o (handler_of q u.handlers)) (further g p c cs q lo) (h q (omega arith) (omega arith))),
+    )
 
 cells_stand : (f : Function) (defaults : ℕ) (own : List Text) (cs : List Cell) → HasAt (unit_of_cells f defaults own cs) 0 cs
 cells_stand f defaults own cs =

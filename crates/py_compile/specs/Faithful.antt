@@ -1,8 +1,7 @@
 -- Which unit is the code of a function or of a module's body.
-use Rattle.std.specs.Prelude.{◌≡◌, List, length, map}
-use Rattle.py_syntax.specs.Functions.{Function, functions, without_docstring}
-use Rattle.py_syntax.specs.Names.{local_names}
-use Rattle.py_syntax.specs.Tree.{Text, Stmts}
+use Rattle.std.specs.Prelude.{◌≡◌, List, length}
+use Rattle.py_syntax.specs.Functions.{Function, without_docstring}
+use Rattle.py_syntax.specs.Tree.{Text}
 use Rattle.py_code.specs.Units.{Code}
 use Rattle.py_compile_expr.specs.Stands.{HasAt}
 use Rattle.py_compile.specs.Units.{body_cells}

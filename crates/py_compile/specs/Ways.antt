@@ -3,7 +3,7 @@
 --     Ways, under, in_finally        all of them
 --     in_hand                        whether a bare `raise` has an exception
 --     break_exit and the like        the instructions that take them
-use Rattle.std.specs.Prelude.{ℕ, suc, Option, Some, None}
+use Rattle.std.specs.Prelude.{Bool, true, false, ℕ, suc, Option, Some, None}
 use Rattle.py_code.specs.declared.instr.Instr.{Instr}
 use Rattle.py_code.specs.declared.instr.Instr.TheVariants.{Goto, Return, Leave, Breaking, Continuing, Returning}
 use Rattle.py_compile_expr.specs.Cells.{Guard}

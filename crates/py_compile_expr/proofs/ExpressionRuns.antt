@@ -1,6 +1,6 @@
 -- What the code of an expression does is what the expression means.
-use Rattle.std.proofs.Common.{◌≡◌, ℕ, zero, suc, ◌+◌, ◌-◌, ◌<◌, ◌≤◌, List, [], ◌∷◌, ◌++◌, length, map, Option, Some, None, Bool, true, false, refl, sym, ap, ◌∙◌, subst, arith}
-use Rattle.std.specs.Prelude.{slice_get, if◌then◌else◌, nat_lt, pos, Result, Ok, Err}
+use Rattle.std.proofs.Common.{◌≡◌, ℕ, zero, suc, ◌+◌, ◌<◌, ◌≤◌, List, [], ◌∷◌, ◌++◌, length, Option, Some, None, Bool, true, false, refl, sym, ap, ◌∙◌, subst, arith}
+use Rattle.std.specs.Prelude.{slice_get, if◌then◌else◌, nat_lt, pos, Ok, Err}
 use Rattle.std.proofs.lemmas.Option.{slice_get_within}
 use Rattle.cov_event.specs.declared.event.CodeId.{CodeId}
 use Rattle.py_value.specs.declared.builtin.Builtin.{Builtin}
@@ -26,12 +26,11 @@ use Rattle.py_builtins.specs.Making.{extended, new_tuple, new_dict, stored, slic
 use Rattle.py_builtins.specs.Methods.{new_list, method_of}
 use Rattle.py_builtins.specs.Parameters.{most_frames, arguments, defaults_at}
 use Rattle.py_builtins.specs.Texts.{str_text}
-use Rattle.py_builtins.specs.World.{World, Names, value_of, global_of, with_heap}
+use Rattle.py_builtins.specs.World.{Names, value_of, global_of}
 use Rattle.py_meaning.specs.Asked.{asked as meant}
-use Rattle.py_meaning.specs.Calls.{Calls, callee_in, call_of, call_value, call_function, enter, enter_with, use_builtin, as_done, set_input, code_of}
-use Rattle.py_meaning.specs.Computations.{Setting, State, Res, done, cut, M, Ans, bind, add, put, set_heap, give, chain, read, write, say, on_value, value, ask, worked, work, branch}
+use Rattle.py_meaning.specs.Calls.{Calls, callee_in, call_of, call_value, call_function, enter, enter_with, use_builtin, set_input, code_of}
+use Rattle.py_meaning.specs.Computations.{Setting, State, Res, done, cut, M, Ans, bind, put, set_heap, give, chain, read, write, say, on_value, value, ask, worked, work, branch}
 use Rattle.py_meaning.specs.Expressions.{gives, eval, eval_each, eval_pairs, eval_links, eval_opt, eval_fragments, eval_parts}
-use Rattle.py_meaning.specs.Laws.{IsAtMost, IsSteady}
 use Rattle.py_meaning.specs.Literals.{run_together, sign_operator, signed}
 use Rattle.py_meaning.specs.Modules.{LoadedModule, function_found}
 use Rattle.py_meaning.specs.Places.{Place, fetched}
@@ -39,23 +38,23 @@ use Rattle.py_meaning.proofs.Steady.{steady-give, steady-ask, steady-work}
 use Rattle.py_meaning.proofs.SteadyExpressions.{steady-eval, steady-each, steady-fragments, steady-parts}
 use Rattle.py_code.specs.declared.instr.Bounds.TheVariants.{Neither, From, To, Both}
 use Rattle.py_code.specs.declared.instr.Instr.{Instr}
-use Rattle.py_code.specs.declared.instr.Instr.TheVariants.{Constant as ConstantAt, Pop, LoadLocal, LoadGlobal, Text as TextOf, Extend, Tuple, List as MakeList, Dict, AddPair, Not, Binary, Compare, Index, Slice, Attribute, Goto, IfFalse, And, Or, Link, Method, Call}
+use Rattle.py_code.specs.declared.instr.Instr.TheVariants.{Pop, LoadLocal, LoadGlobal, Text as TextOf, Extend, Tuple, List as MakeList, Dict, AddPair, Not, Binary, Compare, Index, Slice, Goto, IfFalse, And, Or, Link, Call}
 use Rattle.py_code.specs.declared.unit.Constant.{Constant}
 use Rattle.py_code.specs.declared.unit.Constant.TheVariants.{None as NoneConstant, Bool as BoolConstant, Int as IntConstant, Str as StrConstant}
-use Rattle.py_code.specs.Configurations.{Operand, of_value, of_method, Locals, Configuration, End, Next}
-use Rattle.py_code.specs.Machine.{act, answers, falls, jumps, pushes, on_heap, where_found, stepping, begins, enter as entering, calls as calling, throw, follows, machine, reach, reach_callee, makes, links, Reach, at_once, in_frame, to_function, with_arguments, raises_at_once, by_answer, by_done, one}
-use Rattle.py_code.specs.Operands.{value_in, callee_in as called_in, operand_of, asked}
-use Rattle.py_code.specs.Run.{Goes, Ticks, Ends, go}
+use Rattle.py_code.specs.Configurations.{Operand, of_value, Locals, Configuration, End}
+use Rattle.py_code.specs.Machine.{act, answers, falls, jumps, pushes, on_heap, where_found, stepping, begins, enter as entering, calls as calling, throw, follows, reach, reach_callee, makes, links, to_function, with_arguments, by_answer, by_done, one}
+use Rattle.py_code.specs.Operands.{callee_in as called_in, operand_of, asked}
+use Rattle.py_code.specs.Run.{Goes, go}
 use Rattle.py_code.specs.Slots.{by_names, slot_name, name_or_none, locals_in}
 use Rattle.py_code.specs.Units.{Code, Module, unit_at, constant_value, handler_of}
-use Rattle.py_compile_expr.specs.Cells.{Op, constant, load, attribute as attribute_op, method, plain, Guard, Cell, cell, put as put_cell, instr_of, place_in, name_at}
-use Rattle.py_compile_expr.specs.Expressions.{question, count, bounds, expr_size, each_size, pairs_size, links_size, opt_size, fragments_size, parts_size, expr_code, each_code, pairs_code, links_code, opt_code, fragments_code, parts_code}
+use Rattle.py_compile_expr.specs.Cells.{constant, load, plain, Guard, Cell, cell, put as put_cell, place_in, name_at}
+use Rattle.py_compile_expr.specs.Expressions.{question, count, expr_size, each_size, pairs_size, links_size, fragments_size, parts_size, expr_code, each_code, pairs_code, links_code, fragments_code, parts_code}
 use Rattle.py_compile_expr.specs.Runs.{Spot, conf, from, thrown, after, on_top, Fits, IsLike, Matches, part_of, CallsRun, ExpressionsRun}
 use Rattle.py_compile_expr.specs.Stands.{tables_in, HasVariable, StandsAt, HasAt, Guards}
 use Rattle.py_compile_expr.proofs.Places.{has_front, has_behind}
-use Rattle.py_compile_expr.proofs.Pushed.{pushed, many_pushed, length_pushed}
+use Rattle.py_compile_expr.proofs.Pushed.{pushed, many_pushed}
 use Rattle.py_compile_expr.proofs.Simulation.{fits_less, fits_more, Holds, Any, holds_any, at_most, text_on_top, truth_on_top, thrown_over, runs_on, moves, led, threw, goes_on, answered, asks, works}
-use Rattle.py_compile_expr.proofs.Sizes.{expr_length, each_length, pairs_length, links_length, opt_length, fragments_length, parts_length}
+use Rattle.py_compile_expr.proofs.Sizes.{expr_length, each_length, parts_length}
 
 -- a comparison asks the same in code
 question_same : (op : Comparison) → asked (question op) ≡ meant op
@@ -310,7 +309,7 @@ module _ (cs : List Module) (ms : List LoadedModule) (matches : Matches cs ms) (
       to b = refl
 
       by_case : (b : Bool) → act N cs u Not (of_value v ∷ st) (conf w p (of_value v ∷ st) s n)
-              ≡ (if b then pushes (bool_value false) st (conf w p (of_value v ∷ st) s n) else pushes (bool_value true) st (conf w p (of_value v ∷ st) s n))
+          ≡ (if b then pushes (bool_value false) st (conf w p (of_value v ∷ st) s n) else pushes (bool_value true) st (conf w p (of_value v ∷ st) s n))
           → from cs w p (of_value v ∷ st) s n ≡ after cs w on_top g (p + 1) st (if b then done (Ok (bool_value false)) s n else done (Ok (bool_value true)) s n)
       by_case true e =
           let next : suc p ≡ p + 1 = omega arith in
@@ -404,8 +403,8 @@ module _ (cs : List Module) (ms : List LoadedModule) (matches : Matches cs ms) (
       let zero_more : q + 0 + 0 ≡ q = omega arith in
       then_value on_top g q end st st of _ (from cs w p st s n) s n (runs g p front st (fits_less g (q + 1) q (length st) (omega arith) here) s n lt) (unchanged g st)
       (λ v t j le. ends_at on_top g (q + 1) end st (work (sliced v None None) t j) _ (omega arith)
-        (works cs w u is on_top g q (Slice Neither) (of_value v ∷ st) st (sliced v None None) t j at.0.instr at.0.guard here refl)
-        ∙ ap (after cs w on_top g end st) (sym (absent_is (λ a. value (eval_opt c pl absent) (λ b. work (sliced v a b))) t j ∙ absent_is (λ b. work (sliced v None b)) t j)))
+      (works cs w u is on_top g q (Slice Neither) (of_value v ∷ st) st (sliced v None None) t j at.0.instr at.0.guard here refl)
+      ∙ ap (after cs w on_top g end st) (sym (absent_is (λ a. value (eval_opt c pl absent) (λ b. work (sliced v a b))) t j ∙ absent_is (λ b. work (sliced v None b)) t j)))
   slice_runs of absent (present e) runs ra rb g p has st fits s n lt =
       let q = p + expr_size of in
       let r = q + expr_size e in
@@ -418,11 +417,11 @@ module _ (cs : List Module) (ms : List LoadedModule) (matches : Matches cs ms) (
       let at = part_at q (expr_size e) (expr_code g q e) _ (expr_length g q e) there in
       then_value on_top g q end st st of _ (from cs w p st s n) s n (runs g p front st (fits_less g (r + 1) q (length st) (omega arith) here) s n lt) (unchanged g st)
       (λ v t j le. then_value on_top g r end (of_value v ∷ st) st e _ (from cs w q (of_value v ∷ st) t j) t j
-        (rb g q second (of_value v ∷ st) (fits_more g r (length st) (suc (length st)) (omega arith) (fits_less g (r + 1) r (length st) (omega arith) here)) t j (omega arith))
-        (thrown_over cs w g (r + 1) (of_value v) st here)
-        (λ y t' j' le'. ends_at on_top g (r + 1) end st (work (sliced v None (Some y)) t' j') _ (omega arith)
-        (works cs w u is on_top g r (Slice To) (of_value y ∷ of_value v ∷ st) st (sliced v None (Some y)) t' j' at.0.instr at.0.guard here refl))
-        ∙ ap (after cs w on_top g end st) (sym (absent_is (λ a. value (eval_opt c pl (present e)) (λ b. work (sliced v a b))) t j ∙ present_is e (λ b. work (sliced v None b)) t j)))
+      (rb g q second (of_value v ∷ st) (fits_more g r (length st) (suc (length st)) (omega arith) (fits_less g (r + 1) r (length st) (omega arith) here)) t j (omega arith))
+      (thrown_over cs w g (r + 1) (of_value v) st here)
+      (λ y t' j' le'. ends_at on_top g (r + 1) end st (work (sliced v None (Some y)) t' j') _ (omega arith)
+      (works cs w u is on_top g r (Slice To) (of_value y ∷ of_value v ∷ st) st (sliced v None (Some y)) t' j' at.0.instr at.0.guard here refl))
+      ∙ ap (after cs w on_top g end st) (sym (absent_is (λ a. value (eval_opt c pl (present e)) (λ b. work (sliced v a b))) t j ∙ present_is e (λ b. work (sliced v None b)) t j)))
   slice_runs of (present e) absent runs ra rb g p has st fits s n lt =
       let q = p + expr_size of in
       let r = q + expr_size e in
@@ -434,12 +433,12 @@ module _ (cs : List Module) (ms : List LoadedModule) (matches : Matches cs ms) (
       let at = part_at q (expr_size e) (expr_code g q e) _ (expr_length g q e) back in
       then_value on_top g q end st st of _ (from cs w p st s n) s n (runs g p front st (fits_less g (r + 1) q (length st) (omega arith) here) s n lt) (unchanged g st)
       (λ v t j le. then_value on_top g r end (of_value v ∷ st) st e (λ x. value (eval_opt c pl absent) (λ b. work (sliced v (Some x) b))) (from cs w q (of_value v ∷ st) t j) t j
-        (ra g q second (of_value v ∷ st) (fits_more g r (length st) (suc (length st)) (omega arith) (fits_less g (r + 1) r (length st) (omega arith) here)) t j (omega arith))
-        (thrown_over cs w g (r + 1) (of_value v) st here)
-        (λ x t' j' le'. ends_at on_top g (r + 1) end st (work (sliced v (Some x) None) t' j') _ (omega arith)
-        (works cs w u is on_top g r (Slice From) (of_value x ∷ of_value v ∷ st) st (sliced v (Some x) None) t' j' at.0.instr at.0.guard here refl)
-        ∙ ap (after cs w on_top g end st) (sym (absent_is (λ b. work (sliced v (Some x) b)) t' j')))
-        ∙ ap (after cs w on_top g end st) (sym (present_is e (λ a. value (eval_opt c pl absent) (λ b. work (sliced v a b))) t j)))
+      (ra g q second (of_value v ∷ st) (fits_more g r (length st) (suc (length st)) (omega arith) (fits_less g (r + 1) r (length st) (omega arith) here)) t j (omega arith))
+      (thrown_over cs w g (r + 1) (of_value v) st here)
+      (λ x t' j' le'. ends_at on_top g (r + 1) end st (work (sliced v (Some x) None) t' j') _ (omega arith)
+      (works cs w u is on_top g r (Slice From) (of_value x ∷ of_value v ∷ st) st (sliced v (Some x) None) t' j' at.0.instr at.0.guard here refl)
+      ∙ ap (after cs w on_top g end st) (sym (absent_is (λ b. work (sliced v (Some x) b)) t' j')))
+      ∙ ap (after cs w on_top g end st) (sym (present_is e (λ a. value (eval_opt c pl absent) (λ b. work (sliced v a b))) t j)))
   slice_runs of (present d) (present e) runs ra rb g p has st fits s n lt =
       let q = p + expr_size of in
       let m = q + expr_size d in
@@ -454,18 +453,18 @@ module _ (cs : List Module) (ms : List LoadedModule) (matches : Matches cs ms) (
       let at = part_at m (expr_size e) (expr_code g m e) _ (expr_length g m e) behind in
       then_value on_top g q end st st of _ (from cs w p st s n) s n (runs g p front st (fits_less g (r + 1) q (length st) (omega arith) here) s n lt) (unchanged g st)
       (λ v t j le.
-        let one_on : List Operand = of_value v ∷ st in
-        let more : Fits g (r + 1) (suc (length st)) = fits_more g (r + 1) (length st) (suc (length st)) (omega arith) here in
-        then_value on_top g m end one_on st d (λ x. value (eval_opt c pl (present e)) (λ b. work (sliced v (Some x) b))) (from cs w q one_on t j) t j
-        (ra g q second one_on (fits_less g (r + 1) m (suc (length st)) (omega arith) more) t j (omega arith))
-        (thrown_over cs w g (r + 1) (of_value v) st here)
-        (λ x t' j' le'. then_value on_top g r end (of_value x ∷ one_on) st e (λ y. work (sliced v (Some x) (Some y))) (from cs w m (of_value x ∷ one_on) t' j') t' j'
-          (rb g m third (of_value x ∷ one_on) (fits_more g r (suc (length st)) (suc (suc (length st))) (omega arith) (fits_less g (r + 1) r (suc (length st)) (omega arith) more)) t' j' (omega arith))
-          (λ z a b. thrown_over cs w g (r + 1) (of_value x) one_on more z a b ∙ thrown_over cs w g (r + 1) (of_value v) st here z a b)
-          (λ y t'' j'' le''. ends_at on_top g (r + 1) end st (work (sliced v (Some x) (Some y)) t'' j'') _ (omega arith)
-          (works cs w u is on_top g r (Slice Both) (of_value y ∷ of_value x ∷ one_on) st (sliced v (Some x) (Some y)) t'' j'' at.0.instr at.0.guard here refl))
-          ∙ ap (after cs w on_top g end st) (sym (present_is e (λ b. work (sliced v (Some x) b)) t' j')))
-        ∙ ap (after cs w on_top g end st) (sym (present_is d (λ a. value (eval_opt c pl (present e)) (λ b. work (sliced v a b))) t j)))
+      let one_on : List Operand = of_value v ∷ st in
+      let more : Fits g (r + 1) (suc (length st)) = fits_more g (r + 1) (length st) (suc (length st)) (omega arith) here in
+      then_value on_top g m end one_on st d (λ x. value (eval_opt c pl (present e)) (λ b. work (sliced v (Some x) b))) (from cs w q one_on t j) t j
+      (ra g q second one_on (fits_less g (r + 1) m (suc (length st)) (omega arith) more) t j (omega arith))
+      (thrown_over cs w g (r + 1) (of_value v) st here)
+      (λ x t' j' le'. then_value on_top g r end (of_value x ∷ one_on) st e (λ y. work (sliced v (Some x) (Some y))) (from cs w m (of_value x ∷ one_on) t' j') t' j'
+      (rb g m third (of_value x ∷ one_on) (fits_more g r (suc (length st)) (suc (suc (length st))) (omega arith) (fits_less g (r + 1) r (suc (length st)) (omega arith) more)) t' j' (omega arith))
+      (λ z a b. thrown_over cs w g (r + 1) (of_value x) one_on more z a b ∙ thrown_over cs w g (r + 1) (of_value v) st here z a b)
+      (λ y t'' j'' le''. ends_at on_top g (r + 1) end st (work (sliced v (Some x) (Some y)) t'' j'') _ (omega arith)
+      (works cs w u is on_top g r (Slice Both) (of_value y ∷ of_value x ∷ one_on) st (sliced v (Some x) (Some y)) t'' j'' at.0.instr at.0.guard here refl))
+      ∙ ap (after cs w on_top g end st) (sym (present_is e (λ b. work (sliced v (Some x) b)) t' j')))
+      ∙ ap (after cs w on_top g end st) (sym (present_is d (λ a. value (eval_opt c pl (present e)) (λ b. work (sliced v a b))) t j)))
 
   abbrev EachRuns : Exprs → Type 0
   EachRuns es = (g : Option Guard) (p : ℕ) → HasAt u p (each_code g p es) → (st : List Operand) → Fits g (p + each_size es) (length st) → (s : State) (n : ℕ) → n < k
@@ -496,9 +495,9 @@ module _ (cs : List Module) (ms : List LoadedModule) (matches : Matches cs ms) (
         let mid = p + 1 + fragments_size pieces in
         constant_runs (StrConstant []) g p st s n has.0
         ∙ runs_on cs w text_on_top on_top Any g mid (p + (1 + fragments_size pieces)) st st (eval_fragments c pl pieces []) _ (from cs w (p + 1) (of_value (str_value []) ∷ st) s n) s n
-          (fragments_run pieces [] g (p + 1) has.1 st (fits_less g (p + (1 + fragments_size pieces)) mid (length st) (omega arith) fits) s n lt)
-          (at_most _ (steady-fragments c calls.steady pl pieces []) s n) (holds_any _) (unchanged g st)
-          (λ x t j le q. ap (λ m. from cs w m (of_value (str_value x) ∷ st) t j) (omega arith))
+        (fragments_run pieces [] g (p + 1) has.1 st (fits_less g (p + (1 + fragments_size pieces)) mid (length st) (omega arith) fits) s n lt)
+        (at_most _ (steady-fragments c calls.steady pl pieces []) s n) (holds_any _) (unchanged g st)
+        (λ x t j le q. ap (λ m. from cs w m (of_value (str_value x) ∷ st) t j) (omega arith))
     eval_runs none g p has st fits s n lt = constant_runs NoneConstant g p st s n has.0
     eval_runs (bool b) g p has st fits s n lt = constant_runs (BoolConstant b) g p st s n has.0
     eval_runs (tuple es comma) g p has st fits s n lt =
@@ -565,10 +564,10 @@ module _ (cs : List Module) (ms : List LoadedModule) (matches : Matches cs ms) (
         let at = part_at (p + 1) (expr_size e) (expr_code g (p + 1) e) _ (expr_length g (p + 1) e) has.1 in
         constant_runs (IntConstant (pos 0)) g p st s n has.0
         ∙ then_value on_top g q end zero_on st e _ (from cs w (p + 1) zero_on s n) s n
-          (eval_runs e g (p + 1) front zero_on (fits_more g q (length st) (suc (length st)) (omega arith) (fits_less g (q + 1) q (length st) (omega arith) here)) s n lt)
-          (thrown_over cs w g (q + 1) (of_value (int_value (pos 0))) st here)
-          (λ v t j le. ends_at on_top g (q + 1) end st (work (signed sign v) t j) _ (omega arith)
-          (works cs w u is on_top g q (Binary (sign_operator sign)) (of_value v ∷ zero_on) st (signed sign v) t j at.0.instr at.0.guard here refl))
+        (eval_runs e g (p + 1) front zero_on (fits_more g q (length st) (suc (length st)) (omega arith) (fits_less g (q + 1) q (length st) (omega arith) here)) s n lt)
+        (thrown_over cs w g (q + 1) (of_value (int_value (pos 0))) st here)
+        (λ v t j le. ends_at on_top g (q + 1) end st (work (signed sign v) t j) _ (omega arith)
+        (works cs w u is on_top g q (Binary (sign_operator sign)) (of_value v ∷ zero_on) st (signed sign v) t j at.0.instr at.0.guard here refl))
     eval_runs (binary op a b) g p has st fits s n lt =
         let q = p + expr_size a in
         let r = q + expr_size b in
@@ -580,10 +579,10 @@ module _ (cs : List Module) (ms : List LoadedModule) (matches : Matches cs ms) (
         let at = part_at q (expr_size b) (expr_code g q b) _ (expr_length g q b) back in
         then_value on_top g q end st st a _ (from cs w p st s n) s n (eval_runs a g p front st (fits_less g (r + 1) q (length st) (omega arith) here) s n lt) (unchanged g st)
         (λ x t j le. then_value on_top g r end (of_value x ∷ st) st b _ (from cs w q (of_value x ∷ st) t j) t j
-          (eval_runs b g q second (of_value x ∷ st) (fits_more g r (length st) (suc (length st)) (omega arith) (fits_less g (r + 1) r (length st) (omega arith) here)) t j (omega arith))
-          (thrown_over cs w g (r + 1) (of_value x) st here)
-          (λ y t' j' le'. ends_at on_top g (r + 1) end st (work (binary_of op x y) t' j') _ (omega arith)
-          (works cs w u is on_top g r (Binary op) (of_value y ∷ of_value x ∷ st) st (binary_of op x y) t' j' at.0.instr at.0.guard here refl)))
+        (eval_runs b g q second (of_value x ∷ st) (fits_more g r (length st) (suc (length st)) (omega arith) (fits_less g (r + 1) r (length st) (omega arith) here)) t j (omega arith))
+        (thrown_over cs w g (r + 1) (of_value x) st here)
+        (λ y t' j' le'. ends_at on_top g (r + 1) end st (work (binary_of op x y) t' j') _ (omega arith)
+        (works cs w u is on_top g r (Binary op) (of_value y ∷ of_value x ∷ st) st (binary_of op x y) t' j' at.0.instr at.0.guard here refl)))
     eval_runs (compare a ls) g p has st fits s n lt =
         let q = p + expr_size a in
         let end = p + (expr_size a + links_size ls) in
@@ -619,10 +618,10 @@ module _ (cs : List Module) (ms : List LoadedModule) (matches : Matches cs ms) (
         let back = part_at p (expr_size e) (expr_code g p e) _ (expr_length g p e) has in
         then_value on_top g q end st st e _ (from cs w p st s n) s n (eval_runs e g p front st (fits_less g (r + 1) q (length st) (omega arith) here) s n lt) (unchanged g st)
         (λ v t j le. then_asks (λ f ys. operand_of f ∷ ys) on_top g (q + 1) end st st (callee_in v x) _ (from cs w q (of_value v ∷ st) t j) t j
-          (asks cs w u is (λ f ys. operand_of f ∷ ys) g q _ (of_value v ∷ st) st (callee_in v x) t j back.0.instr back.0.guard (fits_less g (r + 1) (q + 1) (length st) (omega arith) here)
-          (ap (λ o. where_found o (conf w q (of_value v ∷ st) t j) (λ y. answers N cs (callee_of v y t.now.world) st (conf w q (of_value v ∷ st) t j) (λ f. falls (operand_of f ∷ st) (conf w q (of_value v ∷ st) t j)))) back.0.knows))
-          (unchanged g st)
-          (λ f t' j' le'. arguments_run_on es (each_runs es) f g (q + 1) end st here back.1 t' j' (omega arith) (omega arith)))
+        (asks cs w u is (λ f ys. operand_of f ∷ ys) g q _ (of_value v ∷ st) st (callee_in v x) t j back.0.instr back.0.guard (fits_less g (r + 1) (q + 1) (length st) (omega arith) here)
+        (ap (λ o. where_found o (conf w q (of_value v ∷ st) t j) (λ y. answers N cs (callee_of v y t.now.world) st (conf w q (of_value v ∷ st) t j) (λ f. falls (operand_of f ∷ st) (conf w q (of_value v ∷ st) t j)))) back.0.knows))
+        (unchanged g st)
+        (λ f t' j' le'. arguments_run_on es (each_runs es) f g (q + 1) end st here back.1 t' j' (omega arith) (omega arith)))
     eval_runs (call f es comma) g p has st fits s n lt =
         let q = p + expr_size f in
         let r = q + each_size es in
@@ -643,10 +642,10 @@ module _ (cs : List Module) (ms : List LoadedModule) (matches : Matches cs ms) (
         let here_at = part_at q (expr_size at) (expr_code g q at) _ (expr_length g q at) back in
         then_value on_top g q end st st of _ (from cs w p st s n) s n (eval_runs of g p front st (fits_less g (r + 1) q (length st) (omega arith) here) s n lt) (unchanged g st)
         (λ x t j le. then_value on_top g r end (of_value x ∷ st) st at _ (from cs w q (of_value x ∷ st) t j) t j
-          (eval_runs at g q second (of_value x ∷ st) (fits_more g r (length st) (suc (length st)) (omega arith) (fits_less g (r + 1) r (length st) (omega arith) here)) t j (omega arith))
-          (thrown_over cs w g (r + 1) (of_value x) st here)
-          (λ y t' j' le'. ends_at on_top g (r + 1) end st (ask (λ z. index_of x y z.world.heap) t' j') _ (omega arith)
-          (asks cs w u is on_top g r Index (of_value y ∷ of_value x ∷ st) st (λ z. index_of x y z.world.heap) t' j' here_at.0.instr here_at.0.guard here refl)))
+        (eval_runs at g q second (of_value x ∷ st) (fits_more g r (length st) (suc (length st)) (omega arith) (fits_less g (r + 1) r (length st) (omega arith) here)) t j (omega arith))
+        (thrown_over cs w g (r + 1) (of_value x) st here)
+        (λ y t' j' le'. ends_at on_top g (r + 1) end st (ask (λ z. index_of x y z.world.heap) t' j') _ (omega arith)
+        (asks cs w u is on_top g r Index (of_value y ∷ of_value x ∷ st) st (λ z. index_of x y z.world.heap) t' j' here_at.0.instr here_at.0.guard here refl)))
     eval_runs (slice of from' to') g p has st fits s n lt = slice_runs of from' to' (eval_runs of) (opt_runs from') (opt_runs to') g p has st fits s n lt
     eval_runs (attr e x) g p has st fits s n lt =
         let q = p + expr_size e in
@@ -670,9 +669,9 @@ module _ (cs : List Module) (ms : List LoadedModule) (matches : Matches cs ms) (
         let back = part_at p (expr_size e) (expr_code g p e) _ (expr_length g p e) has in
         then_value pushed g q end st st e _ (from cs w p st s n) s n (eval_runs e g p front st (fits_less g end q (length st) (omega arith) fits) s n lt) (unchanged g st)
         (λ v t j le. runs_on cs w pushed pushed Any g r end (of_value v ∷ st) st (eval_each c pl es) _ (from cs w q (of_value v ∷ st) t j) t j
-          (each_runs es g q back (of_value v ∷ st) (fits_more g r (length st) (suc (length st)) (omega arith) (fits_less g end r (length st) (omega arith) fits)) t j (omega arith))
-          (at_most _ (steady-each c calls.steady pl es) t j) (holds_any _) (thrown_over cs w g end (of_value v) st fits)
-          (λ vs t' j' le' any. ap (λ m. from cs w m (pushed vs (of_value v ∷ st)) t' j') (omega arith)))
+        (each_runs es g q back (of_value v ∷ st) (fits_more g r (length st) (suc (length st)) (omega arith) (fits_less g end r (length st) (omega arith) fits)) t j (omega arith))
+        (at_most _ (steady-each c calls.steady pl es) t j) (holds_any _) (thrown_over cs w g end (of_value v) st fits)
+        (λ vs t' j' le' any. ap (λ m. from cs w m (pushed vs (of_value v ∷ st)) t' j') (omega arith)))
 
     pairs_run : (ps : Pairs) (d : PlainValue) (g : Option Guard) (p : ℕ) → HasAt u p (pairs_code g p ps) → (st : List Operand) → Fits g (p + pairs_size ps) (length st) → (s : State) (n : ℕ) → n < k
         → from cs w p (of_value d ∷ st) s n ≡ after cs w on_top g (p + pairs_size ps) st (eval_pairs c pl ps d s n)
@@ -692,12 +691,12 @@ module _ (cs : List Module) (ms : List LoadedModule) (matches : Matches cs ms) (
         let below : (x : PlainRaised) (t : State) (j : ℕ) → thrown cs w g one_on x t j ≡ thrown cs w g st x t j = thrown_over cs w g last (of_value d) st here in
         then_value on_top g q end one_on st key _ (from cs w p one_on s n) s n (eval_runs key g p front one_on (fits_less g last q (suc (length st)) (omega arith) more) s n lt) below
         (λ i t j le. then_value on_top g r end (of_value i ∷ one_on) st e _ (from cs w q (of_value i ∷ one_on) t j) t j
-          (eval_runs e g q second (of_value i ∷ one_on) (fits_more g r (suc (length st)) (suc (suc (length st))) (omega arith) (fits_less g last r (suc (length st)) (omega arith) more)) t j (omega arith))
-          (λ x a b. thrown_over cs w g last (of_value i) one_on more x a b ∙ below x a b)
-          (λ v t' j' le'. then_works (λ nothing ys. of_value d ∷ ys) on_top g (r + 1) end st st (stored d i v) _ (from cs w r (of_value v ∷ of_value i ∷ one_on) t' j') t' j'
-            (works cs w u is (λ nothing ys. of_value d ∷ ys) g r AddPair (of_value v ∷ of_value i ∷ one_on) st (stored d i v) t' j' at.0.instr at.0.guard (fits_less g last (r + 1) (length st) (omega arith) here) refl)
-            (unchanged g st)
-            (λ nothing t'' j'' le''. ends_at on_top g last end st (eval_pairs c pl rest d t'' j'') _ (omega arith) (pairs_run rest d g (r + 1) at.1 st here t'' j'' (omega arith)))))
+        (eval_runs e g q second (of_value i ∷ one_on) (fits_more g r (suc (length st)) (suc (suc (length st))) (omega arith) (fits_less g last r (suc (length st)) (omega arith) more)) t j (omega arith))
+        (λ x a b. thrown_over cs w g last (of_value i) one_on more x a b ∙ below x a b)
+        (λ v t' j' le'. then_works (λ nothing ys. of_value d ∷ ys) on_top g (r + 1) end st st (stored d i v) _ (from cs w r (of_value v ∷ of_value i ∷ one_on) t' j') t' j'
+        (works cs w u is (λ nothing ys. of_value d ∷ ys) g r AddPair (of_value v ∷ of_value i ∷ one_on) st (stored d i v) t' j' at.0.instr at.0.guard (fits_less g last (r + 1) (length st) (omega arith) here) refl)
+        (unchanged g st)
+        (λ nothing t'' j'' le''. ends_at on_top g last end st (eval_pairs c pl rest d t'' j'') _ (omega arith) (pairs_run rest d g (r + 1) at.1 st here t'' j'' (omega arith)))))
 
     links_run : (ls : Links) (v : PlainValue) (g : Option Guard) (p end : ℕ) → p + links_size ls ≡ end → HasAt u p (links_code g p end ls) → (st : List Operand) → Fits g end (length st) → (s : State) (n : ℕ) → n < k
         → from cs w p (of_value v ∷ st) s n ≡ after cs w on_top g end st (eval_links c pl ls v s n)
@@ -716,10 +715,10 @@ module _ (cs : List Module) (ms : List LoadedModule) (matches : Matches cs ms) (
         then_value on_top g q end base st e _ (from cs w p base s n) s n (eval_runs e g p front base (fits_more g q (length st) (suc (length st)) (omega arith) (fits_less g end q (length st) (omega arith) fits)) s n lt)
         (thrown_over cs w g end (of_value v) st fits)
         (λ y t j le. then_asks truth_on_top on_top g (q + 1) end st st (λ z. compared (meant op) v y z.world.heap) _ (from cs w q (of_value y ∷ base) t j) t j
-          (asks cs w u is truth_on_top g q (Compare (question op)) (of_value y ∷ base) st (λ z. compared (meant op) v y z.world.heap) t j at.0.instr at.0.guard here
-          (ap (λ m. answers N cs (compared m v y t.now.world.heap) st (conf w q (of_value y ∷ base) t j) (λ b. pushes (bool_value b) st (conf w q (of_value y ∷ base) t j))) (question_same op)))
-          (unchanged g st)
-          (λ b t' j' le'. ap (λ m. from cs w m (of_value (bool_value b) ∷ st) t' j') (omega arith) ∙ ap (after cs w on_top g end st) (truth_is b t' j')))
+        (asks cs w u is truth_on_top g q (Compare (question op)) (of_value y ∷ base) st (λ z. compared (meant op) v y z.world.heap) t j at.0.instr at.0.guard here
+        (ap (λ m. answers N cs (compared m v y t.now.world.heap) st (conf w q (of_value y ∷ base) t j) (λ b. pushes (bool_value b) st (conf w q (of_value y ∷ base) t j))) (question_same op)))
+        (unchanged g st)
+        (λ b t' j' le'. ap (λ m. from cs w m (of_value (bool_value b) ∷ st) t' j') (omega arith) ∙ ap (after cs w on_top g end st) (truth_is b t' j')))
     links_run (link op e (link op2 e2 rest)) v g p end same has st fits s n lt =
         let q = p + expr_size e in
         let base : List Operand = of_value v ∷ st in
@@ -732,9 +731,9 @@ module _ (cs : List Module) (ms : List LoadedModule) (matches : Matches cs ms) (
         then_value on_top g q end base st e _ (from cs w p base s n) s n (eval_runs e g p front base (fits_more g q (length st) (suc (length st)) (omega arith) (fits_less g end q (length st) (omega arith) fits)) s n lt)
         (thrown_over cs w g end (of_value v) st fits)
         (λ y t j le. link_runs (compared (meant op) v y t.now.world.heap) (Link (question op) end) g q end (of_value y ∷ base) st y (eval_links c pl (link op2 e2 rest) y) t j at.0.instr at.0.guard here (omega arith)
-          (ap (λ m. answers N cs (compared m v y t.now.world.heap) st (conf w q (of_value y ∷ base) t j) (λ b. links N cs b (of_value y) end st (conf w q (of_value y ∷ base) t j))) (question_same op))
-          (links_run (link op2 e2 rest) y g (q + 1) end ahead at.1 st fits t j (omega arith))
-          ∙ ap (after cs w on_top g end st) (sym (asks_is (λ z. compared (meant op) v y z.world.heap) (λ b. if b then eval_links c pl (link op2 e2 rest) y else gives (bool_value false)) t j)))
+        (ap (λ m. answers N cs (compared m v y t.now.world.heap) st (conf w q (of_value y ∷ base) t j) (λ b. links N cs b (of_value y) end st (conf w q (of_value y ∷ base) t j))) (question_same op))
+        (links_run (link op2 e2 rest) y g (q + 1) end ahead at.1 st fits t j (omega arith))
+        ∙ ap (after cs w on_top g end st) (sym (asks_is (λ z. compared (meant op) v y z.world.heap) (λ b. if b then eval_links c pl (link op2 e2 rest) y else gives (bool_value false)) t j)))
 
     opt_runs : (o : OptExpr) → OptRuns o
     opt_runs absent = tt
@@ -749,8 +748,8 @@ module _ (cs : List Module) (ms : List LoadedModule) (matches : Matches cs ms) (
         let here : Fits g last (length st) = fits_less g end last (length st) (omega arith) fits in
         constant_runs (StrConstant y) g p (of_value (str_value x) ∷ st) s n has.0
         ∙ then_gives text_on_top text_on_top g (p + 1 + 1) end st st (extended x y) _ (from cs w (p + 1) (of_value (str_value y) ∷ of_value (str_value x) ∷ st) s n) s n
-          (extend_runs x y g (p + 1) st s n has.1.0 (fits_less g last (p + 1 + 1) (length st) (omega arith) here)) (unchanged g st)
-          (λ z t j le. ends_at text_on_top g last end st (eval_fragments c pl rest z t j) _ (omega arith) (fragments_run rest z g (p + 1 + 1) (at_two g p (λ q. fragments_code g q rest) has.1.1) st here t j (omega arith)))
+        (extend_runs x y g (p + 1) st s n has.1.0 (fits_less g last (p + 1 + 1) (length st) (omega arith) here)) (unchanged g st)
+        (λ z t j le. ends_at text_on_top g last end st (eval_fragments c pl rest z t j) _ (omega arith) (fragments_run rest z g (p + 1 + 1) (at_two g p (λ q. fragments_code g q rest) has.1.1) st here t j (omega arith)))
     fragments_run (format parts rest) x g p has st fits s n lt =
         let q = p + parts_size parts in
         let end = p + (parts_size parts + fragments_size rest) in
@@ -770,8 +769,8 @@ module _ (cs : List Module) (ms : List LoadedModule) (matches : Matches cs ms) (
         let here : Fits g last (length st) = fits_less g end last (length st) (omega arith) fits in
         constant_runs (StrConstant y) g p (of_value (str_value x) ∷ st) s n has.0
         ∙ then_gives text_on_top text_on_top g (p + 1 + 1) end st st (extended x y) _ (from cs w (p + 1) (of_value (str_value y) ∷ of_value (str_value x) ∷ st) s n) s n
-          (extend_runs x y g (p + 1) st s n has.1.0 (fits_less g last (p + 1 + 1) (length st) (omega arith) here)) (unchanged g st)
-          (λ z t j le. ends_at text_on_top g last end st (eval_parts c pl rest z t j) _ (omega arith) (parts_run rest z g (p + 1 + 1) (at_two g p (λ q. parts_code g q rest) has.1.1) st here t j (omega arith)))
+        (extend_runs x y g (p + 1) st s n has.1.0 (fits_less g last (p + 1 + 1) (length st) (omega arith) here)) (unchanged g st)
+        (λ z t j le. ends_at text_on_top g last end st (eval_parts c pl rest z t j) _ (omega arith) (parts_run rest z g (p + 1 + 1) (at_two g p (λ q. parts_code g q rest) has.1.1) st here t j (omega arith)))
     parts_run (field e rest) x g p has st fits s n lt =
         let q = p + expr_size e in
         let end = p + (expr_size e + 2 + parts_size rest) in
@@ -784,11 +783,11 @@ module _ (cs : List Module) (ms : List LoadedModule) (matches : Matches cs ms) (
         let at = part_at p (expr_size e) (expr_code g p e) _ (expr_length g p e) has in
         then_value text_on_top g q end base st e _ (from cs w p base s n) s n (eval_runs e g p front base (fits_less g last q (suc (length st)) (omega arith) more) s n lt) below
         (λ v t j le. then_asks text_on_top text_on_top g (q + 1) end base st (λ z. str_text v z.world.heap) _ (from cs w q (of_value v ∷ base) t j) t j
-          (asks cs w u is text_on_top g q TextOf (of_value v ∷ base) base (λ z. str_text v z.world.heap) t j at.0.instr at.0.guard (fits_less g last (q + 1) (suc (length st)) (omega arith) more) refl) below
-          (λ y t' j' le'. then_gives text_on_top text_on_top g (q + 1 + 1) end st st (extended x y) _ (from cs w (q + 1) (of_value (str_value y) ∷ base) t' j') t' j'
-            (extend_runs x y g (q + 1) st t' j' at.1.0 (fits_less g last (q + 1 + 1) (length st) (omega arith) here)) (unchanged g st)
-            (λ z t'' j'' le''. ends_at text_on_top g last end st (eval_parts c pl rest z t'' j'') _ (omega arith)
-            (parts_run rest z g (q + 1 + 1) (at_two' g p (expr_size e) (λ m. parts_code g m rest) at.1.1) st here t'' j'' (omega arith)))))
+        (asks cs w u is text_on_top g q TextOf (of_value v ∷ base) base (λ z. str_text v z.world.heap) t j at.0.instr at.0.guard (fits_less g last (q + 1) (suc (length st)) (omega arith) more) refl) below
+        (λ y t' j' le'. then_gives text_on_top text_on_top g (q + 1 + 1) end st st (extended x y) _ (from cs w (q + 1) (of_value (str_value y) ∷ base) t' j') t' j'
+        (extend_runs x y g (q + 1) st t' j' at.1.0 (fits_less g last (q + 1 + 1) (length st) (omega arith) here)) (unchanged g st)
+        (λ z t'' j'' le''. ends_at text_on_top g last end st (eval_parts c pl rest z t'' j'') _ (omega arith)
+        (parts_run rest z g (q + 1 + 1) (at_two' g p (expr_size e) (λ m. parts_code g m rest) at.1.1) st here t'' j'' (omega arith)))))
 
 pub expressions_run : ExpressionsRun
 expressions_run cs ms matches c k calls w u is handled e g p has st fits s n lt = eval_runs cs ms matches c k calls w u is handled e g p has st fits s n lt

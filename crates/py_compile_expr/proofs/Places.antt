@@ -1,8 +1,8 @@
 -- Parts of code, where they stand.
-use Rattle.std.proofs.Common.{◌≡◌, ℕ, zero, suc, ◌+◌, ◌-◌, ◌<◌, ◌≤◌, List, [], ◌∷◌, ◌++◌, length, drop, Option, Some, None, refl, sym, ap, ◌∙◌, subst, arith}
+use Rattle.std.proofs.Common.{◌≡◌, ℕ, ◌+◌, List, [], ◌∷◌, ◌++◌, length, ap, subst, arith}
 use Rattle.py_code.specs.Units.{Code}
-use Rattle.py_compile_expr.specs.Cells.{Op, Guard, Cell}
-use Rattle.py_compile_expr.specs.Stands.{StandsAt, HasAt}
+use Rattle.py_compile_expr.specs.Cells.{Cell}
+use Rattle.py_compile_expr.specs.Stands.{HasAt}
 
 pub has_front : (u : Code) (p : ℕ) (xs ys : List Cell) → HasAt u p (xs ++ ys) → HasAt u p xs
 has_front u p [] ys h = tt

@@ -1,12 +1,12 @@
 -- Values on the operands, one on the other.
-use Rattle.std.proofs.Common.{◌≡◌, ℕ, zero, suc, ◌+◌, ◌-◌, ◌≤◌, List, [], ◌∷◌, ◌++◌, length, map, take, drop, Bool, true, false, refl, sym, ap, ◌∙◌, subst, arith}
+use Rattle.std.proofs.Common.{◌≡◌, ℕ, suc, ◌+◌, List, [], ◌∷◌, ◌++◌, length, map, take, drop, true, refl, sym, ap, ◌∙◌, arith}
 use Rattle.std.specs.Prelude.{reverse, nat_le, if◌then◌else◌}
-use Rattle.std.proofs.lemmas.List.{reverse-append, length-append, length-map, length-reverse}
+use Rattle.std.proofs.lemmas.List.{reverse-append}
 use Rattle.std.proofs.lemmas.Bool.Decides.{nat_tests}
 use Rattle.py_value.specs.Plain.{PlainValue}
 use Rattle.py_builtins.specs.World.{Names}
 use Rattle.py_code.specs.Configurations.{Operand, of_value, Configuration, stuck, Next}
-use Rattle.py_code.specs.Machine.{many, dropping, halted}
+use Rattle.py_code.specs.Machine.{many, halted}
 use Rattle.py_code.specs.Operands.{value_in}
 
 -- the last value is on top

@@ -2,15 +2,14 @@
 --     runs_on                        one computation behind another
 --     led, threw                     an instruction that goes on, and one that throws
 --     answered, asks, works          an instruction that answers
-use Rattle.std.proofs.Common.{◌≡◌, ℕ, zero, suc, ◌+◌, ◌-◌, ◌<◌, ◌≤◌, List, [], ◌∷◌, ◌++◌, length, map, drop, Option, Some, None, Bool, true, false, refl, sym, ap, ◌∙◌, subst, arith, inl, inr}
-use Rattle.std.specs.Prelude.{slice_get, if◌then◌else◌, Result, Ok, Err}
+use Rattle.std.proofs.Common.{◌≡◌, ℕ, suc, ◌+◌, ◌-◌, ◌<◌, ◌≤◌, List, [], ◌∷◌, length, drop, Option, Some, None, Bool, true, refl, ap, ◌∙◌, arith}
+use Rattle.std.specs.Prelude.{slice_get, Ok, Err}
 use Rattle.std.proofs.lemmas.Option.{slice_get_within}
 use Rattle.cov_event.specs.declared.event.CodeId.{CodeId}
 use Rattle.cov_event.specs.declared.event.Event.TheVariants.{Throw}
-use Rattle.py_value.specs.Operators.{truth_of}
-use Rattle.py_value.specs.Plain.{PlainValue, str_value, bool_value, PlainHeap, PlainRaised}
+use Rattle.py_value.specs.Plain.{str_value, bool_value, PlainHeap, PlainRaised}
 use Rattle.py_builtins.specs.World.{Names}
-use Rattle.py_meaning.specs.Activations.{Items, more, throw as throw_item}
+use Rattle.py_meaning.specs.Activations.{throw as throw_item}
 use Rattle.py_meaning.specs.Computations.{Setting, State, Res, done, cut, M, Ans, bind, add, put, set_heap, give, chain, read, write, on_value, value, ask, worked, work}
 use Rattle.py_meaning.specs.Events.{told}
 use Rattle.py_meaning.specs.Laws.{IsAtMost, IsSteady}
@@ -18,12 +17,12 @@ use Rattle.py_code.specs.declared.instr.Instr.{Instr}
 use Rattle.py_code.specs.declared.unit.Handler.{Handler}
 use Rattle.py_code.specs.Configurations.{Operand, of_value, of_way, by_raise, Locals, Frame, Effects, Configuration, End, Next}
 use Rattle.py_code.specs.Machine.{told as tells, escaped, land, leave, throw, answers, falls, on_heap, act, acts, move, move_in, callers_rank, rank, machine, follows}
-use Rattle.py_code.specs.Run.{Move, Goes, Ticks, Ends, Machine, go}
+use Rattle.py_code.specs.Run.{Goes, Ticks, Ends, go}
 use Rattle.py_code.specs.Slots.{by_names}
 use Rattle.py_code.specs.Units.{Code, Module, unit_at, places_in, places_of, handlers_in, handler_of, handler_at}
 use Rattle.py_code.proofs.Steps.{goes, ticks, ends}
 use Rattle.py_compile_expr.specs.Cells.{Guard}
-use Rattle.py_compile_expr.specs.Runs.{Spot, effects_of, conf, from, thrown, after, on_top, Fits}
+use Rattle.py_compile_expr.specs.Runs.{Spot, effects_of, conf, from, thrown, after, Fits}
 use Rattle.py_compile_expr.specs.Stands.{Guards}
 
 pub fits_less : (g : Option Guard) (end last depth : ℕ) → last ≤ end → Fits g end depth → Fits g last depth

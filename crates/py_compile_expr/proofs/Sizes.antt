@@ -1,11 +1,11 @@
 -- Code is as long as its size says, wherever it stands.
-use Rattle.std.proofs.Common.{◌≡◌, ℕ, zero, suc, ◌+◌, List, [], ◌∷◌, ◌++◌, length, Option, refl, sym, ap, ◌∙◌, arith}
+use Rattle.std.proofs.Common.{◌≡◌, ℕ, suc, ◌+◌, List, [], ◌∷◌, ◌++◌, length, Option, refl, ap, ◌∙◌, arith}
 use Rattle.std.proofs.lemmas.List.{length-append}
 use Rattle.py_syntax.specs.Tree.{Text, Expr, name, int, str, fstr, none, bool, tuple, list, dict, paren, not', and, or, unary, binary, compare, cond, call, index, slice, attr, Exprs, no_exprs, exprs, Pairs, no_pairs, pair, Links, no_links, link, OptExpr, absent, present, Fragments, no_fragments, plain as plain_piece, format, Parts, no_parts, text, field}
-use Rattle.py_syntax.specs.Tree.{Constant, Pattern, literal, capture, wild, member, sequence, p_or, p_as, p_paren, Patterns, no_patterns, patterns}
-use Rattle.py_compile_expr.specs.Cells.{Op, Guard, Cell, cell, put}
+use Rattle.py_syntax.specs.Tree.{Pattern, literal, capture, wild, member, sequence, p_or, p_as, p_paren, Patterns, no_patterns, patterns}
+use Rattle.py_compile_expr.specs.Cells.{Guard, Cell}
 use Rattle.py_compile_expr.specs.Expressions.{expr_size, each_size, pairs_size, links_size, opt_size, fragments_size, parts_size, expr_code, each_code, pairs_code, links_code, opt_code, fragments_code, parts_code}
-use Rattle.py_compile_expr.specs.Patterns.{Site, behind, with_captured, pattern_size, items_size, one_size, names_size, pattern_code, items_code, one_code, names_code}
+use Rattle.py_compile_expr.specs.Patterns.{Site, behind, pattern_size, items_size, one_size, names_size, pattern_code, items_code, one_code, names_code}
 use Rattle.py_compile_expr.specs.Targets.{target_size, targets_size, all_size, target_code, targets_code, all_code}
 
 -- one behind the other

@@ -2,7 +2,7 @@
 --     Op, ops                a symbolic instruction
 --     Tables, instr_of       the instruction that it is, by the lists of a unit
 --     Guard, Cell            an instruction with the handler of its place
-use Rattle.std.specs.Prelude.{ℕ, zero, suc, ◌==◌, Bool, true, false, ◌&&◌, if◌then◌else◌, List, [], ◌∷◌, ◌++◌, map, ℤ, Option, Some, None}
+use Rattle.std.specs.Prelude.{ℕ, suc, ◌==◌, Bool, true, false, if◌then◌else◌, List, [], ◌∷◌, Option}
 use Rattle.std.specs.Ordering.{int_eq}
 use Rattle.py_value.specs.Keys.{is_same_text}
 use Rattle.py_syntax.specs.Names.{is_among}

@@ -1,12 +1,11 @@
 -- The code of expressions (Python Language Reference, "Expressions"). Each leaves its value on top.
 --     expr_size                  how many instructions an expression takes
 --     expr_code                  these instructions, from a place on
-use Rattle.std.specs.Prelude.{ℕ, suc, ◌+◌, Bool, true, false, List, [], ◌∷◌, ◌++◌, length, pos, Option, Some, None}
-use Rattle.py_value.specs.declared.operator.BinOp.TheVariants.{Add, Sub}
+use Rattle.std.specs.Prelude.{ℕ, suc, ◌+◌, true, List, [], ◌++◌, pos, Option}
 use Rattle.py_value.specs.declared.operator.CmpOp.TheVariants.{Eq as OpEq, Ne as OpNe, Lt as OpLt, Le as OpLe, Gt as OpGt, Ge as OpGe, In as OpIn, NotIn as OpNotIn}
 use Rattle.py_syntax.specs.declared.expr.Comparison.{Comparison}
 use Rattle.py_syntax.specs.declared.expr.Comparison.TheVariants.{Op as ByOp, Is as ByIs, IsNot as ByIsNot}
-use Rattle.py_syntax.specs.Tree.{Text, Expr, name, int, str, fstr, none, bool, tuple, list, dict, paren, not', and, or, unary, binary, compare, cond, call, index, slice, attr, Exprs, no_exprs, exprs, Pairs, no_pairs, pair, Links, no_links, link, OptExpr, absent, present, Fragments, no_fragments, plain as plain_piece, format, Parts, no_parts, text, field}
+use Rattle.py_syntax.specs.Tree.{Expr, name, int, str, fstr, none, bool, tuple, list, dict, paren, not', and, or, unary, binary, compare, cond, call, index, slice, attr, Exprs, no_exprs, exprs, Pairs, no_pairs, pair, Links, no_links, link, OptExpr, absent, present, Fragments, no_fragments, plain as plain_piece, format, Parts, no_parts, text, field}
 use Rattle.py_meaning.specs.Literals.{run_together, sign_operator}
 use Rattle.py_code.specs.declared.instr.Bounds.{Bounds}
 use Rattle.py_code.specs.declared.instr.Bounds.TheVariants.{Neither, From, To, Both}
@@ -14,7 +13,7 @@ use Rattle.py_code.specs.declared.instr.Instr.TheVariants.{Pop, Text as TextOf, 
 use Rattle.py_code.specs.declared.instr.Question.{Question}
 use Rattle.py_code.specs.declared.instr.Question.TheVariants.{Eq, Ne, Lt, Le, Gt, Ge, In, NotIn, Is, IsNot}
 use Rattle.py_code.specs.declared.unit.Constant.TheVariants.{None as NoneConstant, Bool as BoolConstant, Int as IntConstant, Str as StrConstant}
-use Rattle.py_compile_expr.specs.Cells.{Op, constant, load, attribute, method, plain, Guard, Cell, cell, put}
+use Rattle.py_compile_expr.specs.Cells.{constant, load, attribute, method, plain, Guard, Cell, put}
 
 -- what a comparison of a chain asks
 abbrev pub question : Comparison → Question

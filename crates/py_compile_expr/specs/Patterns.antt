@@ -3,7 +3,7 @@
 --     captures                        how many names a pattern captures
 --     pattern_size, pattern_code      patterns
 --     names_code                      the names of a match bound
-use Rattle.std.specs.Prelude.{ℕ, zero, suc, ◌+◌, ◌-◌, Bool, true, false, List, [], ◌∷◌, ◌++◌, length, Option, ℤ}
+use Rattle.std.specs.Prelude.{ℕ, ◌+◌, Bool, false, List, [], ◌∷◌, ◌++◌, length, Option}
 use Rattle.py_syntax.specs.Tree.{Text, Constant, c_int, c_str, c_none, c_bool, Pattern, literal, capture, wild, member, sequence, p_or, p_as, p_paren, Patterns, no_patterns, patterns}
 use Rattle.py_meaning.specs.Literals.{run_together}
 use Rattle.py_meaning.specs.Patterns.{with_sign, pattern_count}

@@ -3,7 +3,7 @@
 --     thrown, after                  what follows an exception, and an answer
 --     Fits, Matches                  handlers that lead ahead; units of the code beside functions of the text
 --     CallsRun, ExpressionsRun       the law of calls, and of expressions
-use Rattle.std.specs.Prelude.{◌≡◌, ℕ, suc, ◌+◌, ◌-◌, ◌<◌, ◌≤◌, true, List, [], ◌∷◌, length, drop, Option, Some, None, Result, Ok, Err}
+use Rattle.std.specs.Prelude.{◌≡◌, ℕ, ◌+◌, ◌-◌, ◌<◌, ◌≤◌, true, List, ◌∷◌, length, drop, Option, Some, None, Ok, Err}
 use Rattle.cov_event.specs.declared.event.CodeId.{CodeId}
 use Rattle.cov_event.specs.declared.event.Event.{Event}
 use Rattle.py_value.specs.Plain.{PlainValue, PlainRaised}
@@ -87,7 +87,7 @@ pub record CallsRun (cs : List Module) (c : Calls) (k : ℕ) : Type 0 where
   pub runs : (w : Spot) (u : Code) → unit_at cs w.code ≡ Some u → (g : Option Guard) (p : ℕ) → p < length u.instrs → Guards g (handler_of p u.handlers)
       → (st : List Operand) → Fits g (p + 1) (length st) → (f : CodeId) (v : Code) → unit_at cs f ≡ Some v → (vs : List PlainValue) (s : State) (n : ℕ) → n < k
       → follows (by_names cs) cs (stepping n (conf w p st s n) (λ m. begins (by_names cs) cs f vs (conf w p st s n).top (conf w p st s n) m))
-        ≡ after cs w on_top g (p + 1) st (c f.module f.unit vs s n)
+      ≡ after cs w on_top g (p + 1) st (c f.module f.unit vs s n)
 
 -- Where the code of an expression stands, and calls run, a machine gives its value, throws its exception or is cut as it means, with the
 -- state and the steps that it leaves.

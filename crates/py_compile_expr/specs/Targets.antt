@@ -1,6 +1,6 @@
 -- The code of targets, which take the value on top (Python Language Reference, 7.2, "Assignment statements").
-use Rattle.std.specs.Prelude.{ℕ, suc, ◌+◌, List, [], ◌∷◌, ◌++◌, Option}
-use Rattle.py_syntax.specs.Tree.{Text, Expr, name, int, str, fstr, none, bool, tuple, list, dict, paren, not', and, or, unary, binary, compare, cond, call, index, slice, attr, Exprs, no_exprs, exprs}
+use Rattle.std.specs.Prelude.{ℕ, ◌+◌, List, [], ◌++◌, Option}
+use Rattle.py_syntax.specs.Tree.{Expr, name, int, str, fstr, none, bool, tuple, list, dict, paren, not', and, or, unary, binary, compare, cond, call, index, slice, attr, Exprs, no_exprs, exprs}
 use Rattle.py_code.specs.declared.instr.Instr.TheVariants.{Pop, Copy, Index, StoreIndex, Unpack}
 use Rattle.py_code.specs.declared.unit.Constant.TheVariants.{None as NoneConstant}
 use Rattle.py_compile_expr.specs.Cells.{constant, store, plain, Guard, Cell, put}
