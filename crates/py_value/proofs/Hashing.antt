@@ -41,6 +41,14 @@ mutual
 pub same_hash : (p q : PlainValue) → is_same_key p q ≡ true → hash_of p ≡ hash_of q
 same_hash p q h = ap hash_of (same_key p q h)
 
+-- keys of other hashes aren't the same
+pub other_hash : (p q : PlainValue) → hash_of p ≢ hash_of q → is_same_key p q ≡ false
+other_hash p q d = either (is_same_key p q) refl
+  where
+    either : (b : Bool) → is_same_key p q ≡ b → b ≡ false
+    either true e = absurd (d (same_hash p q e))
+    either false e = refl
+
 -- one more place
 among-more : (i : ℕ) (xs ys : List ℕ) → IsTrue (is_among i xs) → IsTrue (is_among i (xs ++ ys))
 among-more i [] ys h = absurd (cc)

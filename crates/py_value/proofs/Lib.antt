@@ -7,6 +7,7 @@ pub mod Hashing
 pub mod KeyLaws
 pub mod Levels
 pub mod Lists
+pub mod Mixing
 pub mod OnlyKeys
 pub mod WholeNumbers
 pub mod PartLaws

@@ -1,6 +1,6 @@
 -- Hashes of keys, and an index that names the places of a dict's pairs by the hashes of their keys.
-use Rattle.std.specs.Prelude.{ℕ, ◌+◌, ◌*◌, ◌%◌, ◌^◌, ◌<◌, ◌≡◌, Bool, false, ◌||◌, nat_eq, IsTrue, List, [], ◌∷◌, ◌++◌, length, get_or, set, Option, Some, None, if◌then◌else◌, slice_get, encode_utf8_all, unsigned_abs}
-use Rattle.py_value.specs.Plain.{PlainValue, int_value, str_value, tuple_value, listed}
+use Rattle.std.specs.Prelude.{ℕ, ◌+◌, ◌*◌, ◌%◌, ◌^◌, ◌<◌, ◌≡◌, Bool, false, ◌||◌, nat_eq, IsTrue, List, [], ◌∷◌, ◌++◌, length, get_or, set, Option, Some, None, if◌then◌else◌, slice_get, unsigned_abs}
+use Rattle.py_value.specs.Plain.{PlainValue, int_value, str_value, tuple_value, PlainValues, no_values, value_then}
 use Rattle.py_value.specs.Keys.{is_same_key}
 
 -- a hash with one more number in it
@@ -11,21 +11,25 @@ abbrev pub mixed_all : ℕ → List ℕ → ℕ
 mixed_all hash [] = hash
 mixed_all hash (n ∷ ns) = mixed_all (mixed hash n) ns
 
--- the hash of an item of a key: of a tuple in it, only the length
-abbrev pub hash_of_item : PlainValue → ℕ
-hash_of_item (int_value n) = unsigned_abs n
-hash_of_item (str_value s) = mixed_all 7 (encode_utf8_all s)
-hash_of_item (tuple_value vs) = length (listed vs)
-hash_of_item _ = 0
+-- the hash of a text, from its characters
+abbrev pub hash_of_text : List ℕ → ℕ
+hash_of_text s = mixed_all 7 s
 
-abbrev pub hash_of_items : ℕ → List PlainValue → ℕ
-hash_of_items hash [] = hash
-hash_of_items hash (v ∷ vs) = hash_of_items (mixed hash (hash_of_item v)) vs
+-- that a number and a hash kept with a text are its own
+abbrev pub CountAndHash : List ℕ → ℕ → ℕ → Type 0
+CountAndHash s count hash = (count ≡ length s) × (hash ≡ hash_of_text s)
 
--- the hash of a key
-abbrev pub hash_of : PlainValue → ℕ
-hash_of (tuple_value vs) = hash_of_items 1 (listed vs)
-hash_of v = hash_of_item v
+-- the hash of a key, and a hash with those of a tuple's items in it
+abbrev mutual
+  pub hash_of : PlainValue → ℕ
+  hash_of (int_value n) = unsigned_abs n
+  hash_of (str_value s) = hash_of_text s
+  hash_of (tuple_value vs) = hash_of_items 1 vs
+  hash_of _ = 0
+
+  pub hash_of_items : ℕ → PlainValues → ℕ
+  hash_of_items hash no_values = hash
+  hash_of_items hash (value_then v vs) = hash_of_items (mixed hash (hash_of v)) vs
 
 -- whether a number is among others
 abbrev pub is_among : ℕ → List ℕ → Bool

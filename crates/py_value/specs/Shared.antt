@@ -9,6 +9,8 @@ use Rattle.py_value.specs.declared.value.Addr.{Addr}
 use Rattle.py_value.specs.declared.shared.Held.{Held}
 use Rattle.py_value.specs.declared.shared.Items.TheInside.{Inside as ItemsInside}
 use Rattle.py_value.specs.declared.shared.Argument.TheInside.{Inside as ArgumentInside}
+use Rattle.py_value.specs.Keys.{are_keys}
+use Rattle.py_value.specs.Hashes.{hash_of_items}
 use Rattle.py_value.specs.Plain.{PlainValue, none_value, bool_value, int_value, str_value, tuple_value, list_at, dict_at, func_value, module_value, kind_value, exc_value, builtin_value, PlainValues, no_values, value_then, packed, PlainArgument, no_argument, argument, nesting_of, nesting_of_items}
 
 abbrev pub place_of : Addr → ℕ
@@ -54,9 +56,12 @@ abbrev pub nesting_of_argument : PlainArgument → ℕ
 nesting_of_argument no_argument = 0
 nesting_of_argument (argument v) = suc (nesting_of v)
 
--- that the depth kept is that of what is held
+-- that the depth kept is that of what is held, and so the rest that is kept with it
 abbrev pub ItemsAreSound : ItemsInside → Type 0
-ItemsAreSound a = a.row.value.depth ≡ min most_nested (nesting_of_items (items_view a))
+ItemsAreSound a =
+    (a.row.value.depth ≡ min most_nested (nesting_of_items (items_view a)))
+    × (a.row.value.are_keys ≡ are_keys (items_view a))
+    × (a.row.value.hash ≡ hash_of_items 1 (items_view a))
 
 abbrev pub HeldIsSound : Option (Rc Held Global) → Type 0
 HeldIsSound None = Unit {0}

@@ -2,28 +2,33 @@
 
 ghost use Rattle.std.specs.Prelude.{◌≡◌, ◌+◌, ◌++◌, ◌∷◌, [], length, IsTrue, IfOk, OnOk, OnErr, encode_utf8_all};
 ghost use Rattle.std.specs.Str.{chars, IsAscii};
+ghost use Rattle.py_value.specs.Hashes.{hash_of_text};
 
 use crate::NoMemory;
+use crate::hash::{OF_NO_CHARACTERS, mixed, mixed_all};
+use crate::text::count_of;
 use std::alloc::{AllocError, Global};
 use std::marker::Model;
 
-/// Characters in UTF-8, and their number.
+/// Characters in UTF-8, their number and their hash.
 #[derive(Drop)]
 pub struct Body {
     utf8: String,
     count: usize,
+    hash: usize,
 }
 
 impl Model for Body {
-    ghost use Rattle.std.specs.Prelude.{◌≡◌, List, ℕ, length};
+    ghost use Rattle.std.specs.Prelude.{List, ℕ};
     ghost use Rattle.std.specs.Str.{chars};
     ghost use Rattle.std.specs.String.{string_bytes};
+    ghost use Rattle.py_value.specs.Hashes.{CountAndHash};
 
     ghost Value = { List ℕ };
 
     ghost view = { λ b. chars (string_bytes b.utf8) };
 
-    ghost invariant = { λ b. b.count ≡ length (chars (string_bytes b.utf8)) };
+    ghost invariant = { λ b. CountAndHash (chars (string_bytes b.utf8)) b.count b.hash };
 }
 
 impl Body {
@@ -32,7 +37,11 @@ impl Body {
         ensures { IfOk result (λ made. made ≡ []) }
     {
         let utf8 = String::with_capacity(alloc, bytes)?;
-        Ok(Body { utf8, count: 0 })
+        Ok(Body {
+            utf8,
+            count: 0,
+            hash: OF_NO_CHARACTERS,
+        })
     }
 
     pub fn from_str(alloc: Global, s: &str) -> Result<Body, NoMemory>
@@ -40,7 +49,8 @@ impl Body {
     {
         let utf8 = String::from_str(alloc, s)?;
         let count = count_of(s);
-        Ok(Body { utf8, count })
+        let hash = mixed_all(OF_NO_CHARACTERS, s);
+        Ok(Body { utf8, count, hash })
     }
 
     pub fn as_str(&self) -> &str
@@ -57,6 +67,13 @@ impl Body {
         self.count
     }
 
+    /// The hash of the characters.
+    pub fn hash(&self) -> usize
+        ensures { result ≡ hash_of_text self.now }
+    {
+        self.hash
+    }
+
     /// Whether each character takes one byte.
     pub fn is_ascii(&self) -> bool
         ensures { IsTrue result → IsAscii (encode_utf8_all self.now) }
@@ -71,6 +88,7 @@ impl Body {
         let count = sum(self.count, 1)?;
         self.utf8.push(c)?;
         self.count = count;
+        self.hash = mixed(self.hash, c as usize);
         Ok(())
     }
 
@@ -83,14 +101,9 @@ impl Body {
         let count = sum(self.count, count)?;
         self.utf8.push_str(s)?;
         self.count = count;
+        self.hash = mixed_all(self.hash, s);
         Ok(())
     }
-}
-
-fn count_of(s: &str) -> usize
-    ensures { result ≡ length (chars s.now) }
-{
-    s.chars().count()
 }
 
 fn sum(count: usize, more: usize) -> Result<usize, NoMemory>

@@ -97,12 +97,16 @@ fn contains(value: &Value, whole: &Value, heap: &Heap) -> Result<bool, Cause>
     ensures { result ≡ contains_answer (plain value.now) (plain whole.now) (plain_heap heap.now) }
 {
     match whole {
-        Value::List(addr) => is_item(value, heap.items(*addr), heap),
+        Value::None | Value::Bool(_) | Value::Int(_) => Err(Cause::UnsupportedOperand),
+        Value::Str(text) => {
+            if let Value::Str(part) = value {
+                Ok(text.contains(part))
+            } else {
+                Err(Cause::UnsupportedOperand)
+            }
+        }
         Value::Tuple(items) => is_item(value, items.as_slice(), heap),
-        Value::Str(text) => match value {
-            Value::Str(part) => Ok(text.contains(part)),
-            _ => Err(Cause::UnsupportedOperand),
-        },
+        Value::List(addr) => is_item(value, heap.items(*addr), heap),
         Value::Dict(addr) => {
             if is_key(value) {
                 Ok(heap.value_of(*addr, value).is_some())
@@ -110,7 +114,11 @@ fn contains(value: &Value, whole: &Value, heap: &Heap) -> Result<bool, Cause>
                 Err(Cause::UnhashableKey)
             }
         }
-        _ => Err(Cause::UnsupportedOperand),
+        Value::Func(_, _)
+        | Value::Module(_)
+        | Value::Kind(_)
+        | Value::Exc(_, _)
+        | Value::Builtin(_) => Err(Cause::UnsupportedOperand),
     }
 }
 
@@ -141,7 +149,11 @@ pub fn truth(value: &Value, heap: &Heap) -> bool
         Value::Tuple(items) => !items.as_slice().is_empty(),
         Value::List(addr) => !heap.items(*addr).is_empty(),
         Value::Dict(addr) => !heap.pairs(*addr).is_empty(),
-        _ => true,
+        Value::Func(_, _)
+        | Value::Module(_)
+        | Value::Kind(_)
+        | Value::Exc(_, _)
+        | Value::Builtin(_) => true,
     }
 }
 
@@ -157,9 +169,10 @@ impl Value {
     pub fn is_bool(&self, wanted: bool) -> bool
         ensures { result ≡ is_bool_value wanted (plain self.now) }
     {
-        match self {
-            Value::Bool(b) => *b == wanted,
-            _ => false,
+        if let Value::Bool(b) = self {
+            *b == wanted
+        } else {
+            false
         }
     }
 }

@@ -40,26 +40,43 @@ fn equal_inside(levels: u32, left: &Value, right: &Value, heap: &Heap) -> Result
         | Value::Module(_)
         | Value::Kind(_)
         | Value::Builtin(_) => Ok(is_same_atom(left, right)),
-        Value::Str(s) => match right {
-            Value::Str(t) => Ok(s.is_same(t)),
-            _ => Ok(false),
-        },
-        Value::Tuple(items) => match right {
-            Value::Tuple(others) => equal_items(levels, items.as_slice(), others.as_slice(), heap),
-            _ => Ok(false),
-        },
-        Value::List(a) => match right {
-            Value::List(b) => equal_items(levels, heap.items(*a), heap.items(*b), heap),
-            _ => Ok(false),
-        },
-        Value::Dict(a) => match right {
-            Value::Dict(b) => equal_dicts(levels, heap.pairs(*a), *b, heap),
-            _ => Ok(false),
-        },
-        Value::Exc(k, a) => match right {
-            Value::Exc(l, b) if k.is_same(*l) => equal_arguments(levels, a, b, heap),
-            _ => Ok(false),
-        },
+        Value::Str(s) => {
+            if let Value::Str(t) = right {
+                Ok(s.is_same(t))
+            } else {
+                Ok(false)
+            }
+        }
+        Value::Tuple(items) => {
+            if let Value::Tuple(others) = right {
+                equal_items(levels, items.as_slice(), others.as_slice(), heap)
+            } else {
+                Ok(false)
+            }
+        }
+        Value::List(a) => {
+            if let Value::List(b) = right {
+                equal_items(levels, heap.items(*a), heap.items(*b), heap)
+            } else {
+                Ok(false)
+            }
+        }
+        Value::Dict(a) => {
+            if let Value::Dict(b) = right {
+                equal_dicts(levels, heap.pairs(*a), *b, heap)
+            } else {
+                Ok(false)
+            }
+        }
+        Value::Exc(k, a) => {
+            if let Value::Exc(l, b) = right
+                && k.is_same(*l)
+            {
+                equal_arguments(levels, a, b, heap)
+            } else {
+                Ok(false)
+            }
+        }
     }
 }
 
@@ -152,24 +169,22 @@ fn is_same_atom(left: &Value, right: &Value) -> bool
         Value::Str(_) | Value::Tuple(_) | Value::List(_) | Value::Dict(_) | Value::Exc(_, _) => {
             false
         }
-        Value::Func(f, a) => match right {
-            Value::Func(g, b) => {
+        Value::Func(f, a) => {
+            if let Value::Func(g, b) = right {
                 f.module == g.module && f.unit == g.unit && is_same_place(*a, *b)
+            } else {
+                false
             }
-            _ => false,
-        },
-        Value::Module(m) => match right {
-            Value::Module(n) => is_same_module(*m, *n),
-            _ => false,
-        },
-        Value::Kind(k) => match right {
-            Value::Kind(l) => k.is_same(*l),
-            _ => false,
-        },
-        Value::Builtin(f) => match right {
-            Value::Builtin(g) => *f as u8 == *g as u8,
-            _ => false,
-        },
+        }
+        Value::Module(m) => {
+            if let Value::Module(n) = right {
+                is_same_module(*m, *n)
+            } else {
+                false
+            }
+        }
+        Value::Kind(k) => matches!(right, Value::Kind(l) if k.is_same(*l)),
+        Value::Builtin(f) => matches!(right, Value::Builtin(g) if *f as u8 == *g as u8),
     }
 }
 

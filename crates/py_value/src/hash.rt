@@ -1,53 +1,60 @@
 // The hashes of keys.
 
 ghost use Rattle.std.specs.Prelude.{◌≡◌};
+ghost use Rattle.std.specs.Str.{chars};
 ghost use Rattle.py_value.specs.View.{plain, plains};
-ghost use Rattle.py_value.specs.Hashes.{mixed, mixed_all, hash_of_item, hash_of_items, hash_of};
+ghost use Rattle.py_value.specs.Plain.{packed};
+ghost use Rattle.py_value.specs.Hashes.{mixed, mixed_all, hash_of, hash_of_items};
 
 use crate::value::Value;
 
-/// The hash of a key. Equal keys have equal hashes. Of a tuple inside a tuple only the length counts.
+/// The hash of a text without characters.
+pub const OF_NO_CHARACTERS: usize = 7;
+
+/// The hash of a key, which texts and tuples keep. Equal keys have equal hashes.
 pub fn hash_of(key: &Value) -> usize
     ensures { result ≡ hash_of (plain key.now) }
 {
     match key {
-        Value::Tuple(items) => hash_of_items(items.as_slice()),
-        _ => hash_of_item(key),
+        Value::Int(n) => n.unsigned_abs() as usize,
+        Value::Str(text) => text.hash(),
+        Value::Tuple(items) => items.hash(),
+        Value::None
+        | Value::Bool(_)
+        | Value::List(_)
+        | Value::Dict(_)
+        | Value::Func(_, _)
+        | Value::Module(_)
+        | Value::Kind(_)
+        | Value::Exc(_, _)
+        | Value::Builtin(_) => 0,
     }
 }
 
-fn hash_of_items(items: &[Value]) -> usize
-    ensures { result ≡ hash_of_items 1 (plains items.now) }
+/// The hash of a tuple of these items, in one step for each.
+pub fn hash_of_items(items: &[Value]) -> usize
+    ensures { result ≡ hash_of_items 1 (packed (plains items.now)) }
 {
     let mut hash: usize = 1;
     for item in items {
-        hash = mixed(hash, hash_of_item(item));
+        hash = mixed(hash, hash_of(item));
     }
     hash
 }
 
-fn hash_of_item(item: &Value) -> usize
-    ensures { result ≡ hash_of_item (plain item.now) }
+/// A hash with each character of a text in it.
+pub fn mixed_all(start: usize, s: &str) -> usize
+    ensures { result ≡ mixed_all start (chars s.now) }
 {
-    match item {
-        Value::Int(n) => n.unsigned_abs() as usize,
-        Value::Str(text) => hash_of_bytes(text.as_str().as_bytes()),
-        Value::Tuple(items) => items.len(),
-        _ => 0,
-    }
-}
-
-fn hash_of_bytes(bytes: &[u8]) -> usize
-    ensures { result ≡ mixed_all 7 bytes.now }
-{
-    let mut hash: usize = 7;
-    for byte in bytes {
-        hash = mixed(hash, *byte as usize);
+    let mut hash = start;
+    for c in s.chars() {
+        hash = mixed(hash, c as usize);
     }
     hash
 }
 
-fn mixed(hash: usize, n: usize) -> usize
+/// A hash with one more number in it.
+pub fn mixed(hash: usize, n: usize) -> usize
     ensures { result ≡ mixed hash n }
 {
     hash.wrapping_mul(31).wrapping_add(n)

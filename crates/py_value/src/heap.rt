@@ -164,7 +164,7 @@ impl Heap {
     {
         match self.objects.get(of.place as usize) {
             Some(Object::Dict(_)) => false,
-            _ => true,
+            Some(Object::List(_)) | None => true,
         }
     }
 
@@ -185,7 +185,7 @@ impl Heap {
     {
         match self.objects.get(of.place as usize) {
             Some(Object::List(items)) => items.as_slice(),
-            _ => &[],
+            Some(Object::Dict(_)) | None => &[],
         }
     }
 
@@ -220,7 +220,7 @@ impl Heap {
     {
         match self.objects.get(of.place as usize) {
             Some(Object::Dict(pairs)) => pairs.as_slice(),
-            _ => &[],
+            Some(Object::List(_)) | None => &[],
         }
     }
 
@@ -231,7 +231,7 @@ impl Heap {
     {
         match self.objects.get(dict.place as usize) {
             Some(Object::Dict(pairs)) => pairs.place_of(key),
-            _ => None,
+            Some(Object::List(_)) | None => None,
         }
     }
 
@@ -244,7 +244,7 @@ impl Heap {
     {
         match self.objects.get(dict.place as usize) {
             Some(Object::Dict(pairs)) => pairs.value_of(key),
-            _ => None,
+            Some(Object::List(_)) | None => None,
         }
     }
 

@@ -8,21 +8,25 @@ ghost use Rattle.py_value.specs.Keys.{is_key, are_keys, is_same_key, are_same_ke
 use crate::value::Value;
 
 /// Whether a value may be a key: a text, a whole number, `None` or a tuple of such.
-#[cycle(is_key)]
 pub fn is_key(value: &Value) -> bool
     ensures { result ≡ is_key (plain value.now) }
 {
     match value {
-        Value::None => true,
-        Value::Int(_) => true,
-        Value::Str(_) => true,
-        Value::Tuple(items) => are_keys(items.as_slice()),
-        _ => false,
+        Value::None | Value::Int(_) | Value::Str(_) => true,
+        Value::Tuple(items) => items.are_keys(),
+        Value::Bool(_)
+        | Value::List(_)
+        | Value::Dict(_)
+        | Value::Func(_, _)
+        | Value::Module(_)
+        | Value::Kind(_)
+        | Value::Exc(_, _)
+        | Value::Builtin(_) => false,
     }
 }
 
-#[cycle(is_key)]
-fn are_keys(values: &[Value]) -> bool
+/// Whether each of these may be a key, in one step for each.
+pub(crate) fn are_keys(values: &[Value]) -> bool
     ensures { result ≡ are_keys (packed (plains values.now)) }
 {
     for value in values {
@@ -49,10 +53,23 @@ pub fn is_same_key(left: &Value, right: &Value) -> bool
             _ => false,
         },
         Value::Tuple(items) => match right {
-            Value::Tuple(others) => are_same_keys(items.as_slice(), others.as_slice()),
+            Value::Tuple(others) => {
+                if items.hash() == others.hash() {
+                    are_same_keys(items.as_slice(), others.as_slice())
+                } else {
+                    false
+                }
+            }
             _ => false,
         },
-        _ => false,
+        Value::Bool(_)
+        | Value::List(_)
+        | Value::Dict(_)
+        | Value::Func(_, _)
+        | Value::Module(_)
+        | Value::Kind(_)
+        | Value::Exc(_, _)
+        | Value::Builtin(_) => false,
     }
 }
 

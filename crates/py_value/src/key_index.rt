@@ -1,6 +1,6 @@
 // An index of a dict: the places of its pairs by the hashes of their keys.
 
-ghost use Rattle.std.specs.Prelude.{◌≡◌, ◌<◌, [], length, IfOk, OnOk, OnErr, MatchOption};
+ghost use Rattle.std.specs.Prelude.{◌≡◌, ◌<◌, [], length, replicate, IfOk, OnOk, OnErr, MatchOption};
 ghost use Rattle.py_value.specs.Hashes.{named, with_place};
 
 use crate::NoMemory;
@@ -31,10 +31,13 @@ impl Index {
         }
     }
 
-    /// With so many buckets.
-    pub fn with_buckets(alloc: Global, count: usize) -> Result<Index, NoMemory> {
+    /// With so many buckets, all empty.
+    #[tactic(auto, using(crate::proofs::Lists::one_more_empty))]
+    pub fn with_buckets(alloc: Global, count: usize) -> Result<Index, NoMemory>
+        ensures { IfOk result (λ index. index ≡ replicate count []) }
+    {
         let mut buckets = Vec::with_capacity(alloc, count)?;
-        for _ in 0..count {
+        'turns: for _ in 0..count {
             buckets.push(Vec::new(alloc))?;
         }
         Ok(Index { buckets })

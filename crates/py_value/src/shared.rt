@@ -3,8 +3,12 @@
 ghost use Rattle.std.specs.Prelude.{◌≡◌, IfOk, MatchOption, length, min, suc};
 ghost use Rattle.py_value.specs.Plain.{listed, packed, nesting_of, nesting_of_items, no_argument, argument};
 ghost use Rattle.py_value.specs.Shared.{plain, plains, nesting_of_argument, most_nested};
+ghost use Rattle.py_value.specs.Keys.{are_keys};
+ghost use Rattle.py_value.specs.Hashes.{hash_of_items};
 
 use crate::NoMemory;
+use crate::hash::hash_of_items;
+use crate::key::are_keys;
 use crate::value::Value;
 use std::alloc::{AllocError, Global};
 use std::marker::Model;
@@ -13,12 +17,15 @@ use std::rc::Rc;
 /// The deepest that tuples and arguments of exceptions stand directly in each other.
 pub const MOST_NESTED: u8 = 200;
 
-/// The items of a tuple, and how deep they nest, counted up to the deepest that is let be.
+/// The items of a tuple. It keeps how deep they nest, counted up to the deepest that is let be,
+/// whether each of them may be a key, and the hash of the tuple.
 #[derive(Drop)]
 #[cycle(value)]
 struct Row {
     items: Vec<Value>,
     depth: u8,
+    are_keys: bool,
+    hash: usize,
 }
 
 /// The items of a tuple. A copy shares them.
@@ -99,8 +106,13 @@ impl Items {
     pub fn new(alloc: Global, items: Vec<Value>) -> Result<Items, NoMemory>
         ensures { IfOk result (λ made. made ≡ packed (plains items.items)) }
     {
-        let depth = depth_of(&items);
-        match Rc::new(alloc, Row { items, depth }) {
+        let row = Row {
+            depth: depth_of(&items),
+            are_keys: are_keys(&items),
+            hash: hash_of_items(&items),
+            items,
+        };
+        match Rc::new(alloc, row) {
             Ok(row) => Ok(Items { row }),
             Err(_) => Err(AllocError),
         }
@@ -126,6 +138,20 @@ impl Items {
         ensures { result ≡ length (listed self.now) }
     {
         self.as_slice().len()
+    }
+
+    /// Whether each item may be a key.
+    pub(crate) fn are_keys(&self) -> bool
+        ensures { result ≡ are_keys self.now }
+    {
+        self.row.are_keys
+    }
+
+    /// The hash of the tuple.
+    pub(crate) fn hash(&self) -> usize
+        ensures { result ≡ hash_of_items 1 self.now }
+    {
+        self.row.hash
     }
 
     fn depth(&self) -> u8

@@ -4,10 +4,12 @@ ghost use Rattle.std.specs.Prelude.{◌≡◌, ◌↔◌, ◌++◌, ◌∷◌, [
 ghost use Rattle.std.specs.Str.{chars, IsAscii};
 ghost use Rattle.py_value.specs.Sequences.{repeat, is_part};
 ghost use Rattle.py_value.specs.Comparison.{order_of_texts};
+ghost use Rattle.py_value.specs.Hashes.{hash_of_text};
 
 use crate::NoMemory;
 use crate::body::Body;
 use crate::characters::{byte_at, bytes_of, char_at, order, part};
+use crate::hash::OF_NO_CHARACTERS;
 use std::alloc::{AllocError, Global};
 use std::cmp::Ordering;
 use std::marker::Model;
@@ -108,8 +110,23 @@ impl Text {
         ensures ok { OnOk result (self.new ≡ self.old ++ other.now) }
         ensures err { OnErr result (self.new ≡ self.old) }
     {
-        let more = other.as_str();
-        let count = other.len();
+        self.extend(other.as_str(), other.len())
+    }
+
+    /// Adds characters at the end, in place where no copy shares those before.
+    pub fn push_str(&mut self, s: &str) -> Result<(), NoMemory>
+        ensures ok { OnOk result (self.new ≡ self.old ++ chars s.now) }
+        ensures err { OnErr result (self.new ≡ self.old) }
+    {
+        self.extend(s, count_of(s))
+    }
+
+    /// Adds characters at the end, of which there are so many.
+    fn extend(&mut self, more: &str, count: usize) -> Result<(), NoMemory>
+        requires { count ≡ length (chars more.now) }
+        ensures ok { OnOk result (self.new ≡ self.old ++ chars more.now) }
+        ensures err { OnErr result (self.new ≡ self.old) }
+    {
         if let Some(shared) = &mut self.shared {
             if let Some(body) = Rc::get_mut(shared) {
                 return body.append(more, count);
@@ -165,6 +182,16 @@ impl Text {
         match &self.shared {
             None => 0,
             Some(body) => body.len(),
+        }
+    }
+
+    /// The hash of the characters.
+    pub(crate) fn hash(&self) -> usize
+        ensures { result ≡ hash_of_text self.now }
+    {
+        match &self.shared {
+            None => OF_NO_CHARACTERS,
+            Some(body) => body.hash(),
         }
     }
 
@@ -234,4 +261,11 @@ impl Text {
     {
         self.as_str().contains(part.as_str())
     }
+}
+
+/// The number of characters.
+pub fn count_of(s: &str) -> usize
+    ensures { result ≡ length (chars s.now) }
+{
+    s.chars().count()
 }

@@ -12,4 +12,4 @@ returns c = λ same.
     let read = ap length c.as_str.ensures.value in
     let seen = ap length c.self.view_is in
     let equal = eqb-true c.self.inside.count (length c.as_str.result.now) same in
-    ascii_by_length c.args.self.now (omega (arith, bytes, read, seen, equal, c.self.invariant))
+    ascii_by_length c.args.self.now (omega (arith, bytes, read, seen, equal, c.self.invariant.0))

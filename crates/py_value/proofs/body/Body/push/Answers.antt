@@ -4,6 +4,8 @@ use Rattle.std.specs.String.{string_bytes}
 use Rattle.std.proofs.lemmas.Str.{IsUtf8-string_bytes}
 use Rattle.std.proofs.lemmas.List.{length_push}
 use Rattle.py_value.proofs.TextLaws.{chars-push}
+use Rattle.py_value.specs.Hashes.{mixed, hash_of_text}
+use Rattle.py_value.proofs.Mixing.{mixed-append}
 use Rattle.py_value.proofs.body.Body.push.Goals as goal
 
 pub returns-clause-ok : goal.returns-clause-ok
@@ -14,7 +16,8 @@ returns-clause-ok c =
 
 pub invariant_of-self-2 : goal.invariant_of-self-2
 invariant_of-self-2 c =
-    c.in_ok-count.ensures
-    ∙ ap (λ n. n + 1) c.self.invariant
-    ∙ sym (length_push (chars (string_bytes c.self.inside.utf8)) c.args.c)
-    ∙ sym (ap length (ap chars c.in_ok-push.ensures.bytes ∙ chars-push (string_bytes c.self.inside.utf8) c.args.c (IsUtf8-string_bytes c.self.inside.utf8) c.ranges.c.0))
+    let was = chars (string_bytes c.self.inside.utf8) in
+    let both = ap chars c.in_ok-push.ensures.bytes ∙ chars-push (string_bytes c.self.inside.utf8) c.args.c (IsUtf8-string_bytes c.self.inside.utf8) c.ranges.c.0 in (
+      c.in_ok-count.ensures ∙ ap (λ n. n + 1) c.self.invariant.0 ∙ sym (length_push was c.args.c) ∙ sym (ap length both),
+      c.mixed-self-inside.ensures ∙ ap (λ h. mixed h c.args.c) c.self.invariant.1 ∙ sym (mixed-append 7 was (c.args.c ∷ [])) ∙ sym (ap hash_of_text both),
+    )
