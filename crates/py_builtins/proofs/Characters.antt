@@ -33,17 +33,10 @@ passed w x cs ys all t e h =
 pub not_found : (w : ℕ) (cs : List ℕ) (n : ℕ) (all : Bool) → length cs ≤ n → has w (drop n cs) ≡ all → false ≡ all
 not_found w cs n all l h = sym (at_drop_all (has w) cs n l) ∙ h
 
--- the rest of a text, as it stands and escaped
-pub rest_as_is : (cs ys : List ℕ) (x : ℕ) → (length ys < length cs) × (x ≡ get_or cs (length ys) x)
-    → whole (drop (length ys) cs) ≡ whole (x ∷ []) ▸ whole (drop (length (ys ++ x ∷ [])) cs)
-rest_as_is cs ys x t = ap whole (chars_left cs ys x t)
-
+-- the rest of a text, escaped
 pub rest_escaped : (mark : ℕ) (cs ys : List ℕ) (x : ℕ) → (length ys < length cs) × (x ≡ get_or cs (length ys) x)
     → whole (all_escaped mark (drop (length ys) cs)) ≡ whole (escaped mark x) ▸ whole (all_escaped mark (drop (length (ys ++ x ∷ [])) cs))
 rest_escaped mark cs ys x t = ap (λ ds. whole (all_escaped mark ds)) (chars_left cs ys x t)
-
-pub no_rest : (cs : List ℕ) (n : ℕ) → length cs ≤ n → whole (drop n cs) ≡ whole []
-no_rest cs n l = at_drop_all (λ ds. whole ds) cs n l
 
 pub no_rest_escaped : (mark : ℕ) (cs : List ℕ) (n : ℕ) → length cs ≤ n → whole (all_escaped mark (drop n cs)) ≡ whole []
 no_rest_escaped mark cs n l = at_drop_all (λ ds. whole (all_escaped mark ds)) cs n l

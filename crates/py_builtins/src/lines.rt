@@ -21,14 +21,18 @@ pub(crate) fn read_text<I: Source>(
     alloc: Global,
     input: &mut I,
 ) -> Result<Result<Text, Cause>, RunFault>
-    ensures text { IfOk result (λ text. OnReads I.tells (I.left input.old) (I.left input.new) (λ all rest. (text, rest) ≡ line_read all)) }
+    ensures text { IfOk result (λ text.
+        OnReads I.tells (I.left input.old) (I.left input.new)
+        (λ all rest. (text, rest) ≡ line_read all)) }
     ensures left { I.tells → OnOk result (I.left input.new ≡ (line_read (I.left input.old)).1) }
 
     ensures lost { I.tells → OnErr result (LosesPrefix (I.left input.old) (I.left input.new)) }
-    ensures no_further { I.tells → OnErr result (LosesPrefix (I.left input.new) (line_read (I.left input.old)).1) }
+    ensures no_further { I.tells
+        → OnErr result (LosesPrefix (I.left input.new) (line_read (I.left input.old)).1) }
 
     ensures count { I.faults input.old ≤ I.faults input.new }
-    ensures read_fault { IsErrOf result RunFault.ReadFault → Rose (I.faults input.old) (I.faults input.new) }
+    ensures read_fault { IsErrOf result RunFault.ReadFault
+        → Rose (I.faults input.old) (I.faults input.new) }
     ensures no_write_fault { IsErrOf result RunFault.WriteFault → ⊥ }
 {
     match read_line(alloc, input)? {
@@ -39,13 +43,17 @@ pub(crate) fn read_text<I: Source>(
 
 /// The bytes of a line without its end, or why there is none.
 fn read_line<I: Source>(alloc: Global, input: &mut I) -> Result<Result<Vec<u8>, Cause>, RunFault>
-    ensures line { IfOk result (λ line. OnReads I.tells (I.left input.old) (I.left input.new) (λ all rest. (line_bytes line, rest) ≡ bytes_read all)) }
+    ensures line { IfOk result (λ line.
+        OnReads I.tells (I.left input.old) (I.left input.new)
+        (λ all rest. (line_bytes line, rest) ≡ bytes_read all)) }
 
     ensures lost { I.tells → OnErr result (LosesPrefix (I.left input.old) (I.left input.new)) }
-    ensures no_further { I.tells → OnErr result (LosesPrefix (I.left input.new) (bytes_read (I.left input.old)).1) }
+    ensures no_further { I.tells
+        → OnErr result (LosesPrefix (I.left input.new) (bytes_read (I.left input.old)).1) }
 
     ensures count { I.faults input.old ≤ I.faults input.new }
-    ensures read_fault { IsErrOf result RunFault.ReadFault → Rose (I.faults input.old) (I.faults input.new) }
+    ensures read_fault { IsErrOf result RunFault.ReadFault
+        → Rose (I.faults input.old) (I.faults input.new) }
     ensures no_write_fault { IsErrOf result RunFault.WriteFault → ⊥ }
 {
     let mut line = Vec::new(alloc);
@@ -65,7 +73,8 @@ fn read_line<I: Source>(alloc: Global, input: &mut I) -> Result<Result<Vec<u8>, 
 
 /// The line that the end of the input ends, or none where no byte was left.
 fn at_end(line: Vec<u8>) -> Result<Vec<u8>, Cause>
-    ensures { (line.items ≡ first_line line.items) → length line.items ≤ most_items → line_bytes result ≡ (bytes_read line.items).0 }
+    ensures { (line.items ≡ first_line line.items) → length line.items ≤ most_items
+        → line_bytes result ≡ (bytes_read line.items).0 }
 {
     if line.is_empty() {
         Err(Cause::NoInput)
@@ -76,7 +85,10 @@ fn at_end(line: Vec<u8>) -> Result<Vec<u8>, Cause>
 
 /// The next byte; none at the end of the input.
 fn read_byte<I: Source>(input: &mut I) -> Result<Option<u8>, RunFault>
-    ensures byte { I.tells → IfOk result (λ byte. MatchOption byte ((I.left input.old ≡ []) × (I.left input.new ≡ [])) (λ b. I.left input.old ≡ b ∷ I.left input.new)) }
+    ensures byte { I.tells
+        → IfOk result (λ byte.
+        MatchOption byte ((I.left input.old ≡ []) × (I.left input.new ≡ []))
+        (λ b. I.left input.old ≡ b ∷ I.left input.new)) }
     ensures kept { I.tells → OnErr result (I.left input.new ≡ I.left input.old) }
 
     ensures count { I.faults input.old ≤ I.faults input.new }

@@ -17,8 +17,11 @@ pub(crate) fn range(
     args: &[Value],
     heap: &mut Heap,
 ) -> Result<Result<Value, Raised>, NoMemory>
-    ensures answer { IfOk result (λ answer. plain_outcome answer (plain_heap heap.new) ≡ range_of (plains args.now) (plain_heap heap.old)) }
-    ensures raised { IfOk result (λ answer. OnErr answer (plain_heap heap.new ≡ plain_heap heap.old)) }
+    ensures answer { IfOk result (λ answer.
+        plain_outcome answer (plain_heap heap.new)
+        ≡ range_of (plains args.now) (plain_heap heap.old)) }
+    ensures raised { IfOk result (λ answer.
+        OnErr answer (plain_heap heap.new ≡ plain_heap heap.old)) }
     ensures err { OnErr result (plain_heap heap.new ≡ plain_heap heap.old) }
 {
     match bounds_of(args) {
@@ -46,8 +49,11 @@ fn range_between(
     step: Option<i64>,
     heap: &mut Heap,
 ) -> Result<Result<Value, Raised>, NoMemory>
-    ensures answer { IfOk result (λ answer. plain_outcome answer (plain_heap heap.new) ≡ range_between from to step (plain_heap heap.old)) }
-    ensures raised { IfOk result (λ answer. OnErr answer (plain_heap heap.new ≡ plain_heap heap.old)) }
+    ensures answer { IfOk result (λ answer.
+        plain_outcome answer (plain_heap heap.new)
+        ≡ range_between from to step (plain_heap heap.old)) }
+    ensures raised { IfOk result (λ answer.
+        OnErr answer (plain_heap heap.new ≡ plain_heap heap.old)) }
     ensures err { OnErr result (plain_heap heap.new ≡ plain_heap heap.old) }
 {
     let (Some(from), Some(to), Some(step)) = (from, to, step) else {
@@ -91,7 +97,8 @@ fn numbers_before(
     step: i64,
     from: i64,
 ) -> Result<Vec<Value>, NoMemory>
-    ensures { IfOk result (λ numbers. plains numbers.items ≡ numbers_before most bound step from) }
+    ensures { IfOk result (λ numbers.
+        plains numbers.items ≡ numbers_before most bound step from) }
 {
     let mut numbers = Vec::new(alloc);
     let mut n = from;
@@ -110,7 +117,8 @@ fn numbers_before(
 
 /// The next number; none where 64 bits don't hold it, since it stands behind the bound then.
 fn next_number(n: i64, step: i64, bound: i64) -> Option<i64>
-    ensures { MatchOption result (is_before step (n +ℤ step) bound ≡ false) (λ next. next ≡ n +ℤ step) }
+    ensures { MatchOption result (is_before step (n +ℤ step) bound ≡ false)
+        (λ next. next ≡ n +ℤ step) }
 {
     n.checked_add(step)
 }

@@ -7,6 +7,7 @@ ghost use Rattle.py_builtins.specs.declared.writer.Stop.TheVariants.{NoMemory};
 ghost use Rattle.py_builtins.specs.Writing.{whole};
 ghost use Rattle.py_builtins.specs.Written.{IsWritten, separator, are_ascii};
 
+use py_value::text::count_of;
 use py_value::{Cause, Text};
 use std::alloc::{AllocError, AllocFailed, Global};
 
@@ -78,9 +79,12 @@ impl Writer {
     pub(crate) fn push_str(&mut self, s: &str) -> Result<(), Stop>
         ensures { IsWritten result self.old.text self.new.text (whole (chars s.now)) }
     {
-        for c in s.chars() {
-            self.push(c)?;
+        let count = self.count.saturating_add(count_of(s));
+        if count > MOST_CHARACTERS {
+            return Err(Stop::Raises(Cause::TooManyItems));
         }
+        self.text.push_str(s)?;
+        self.count = count;
         Ok(())
     }
 
