@@ -10,7 +10,7 @@ use std::alloc::Global;
 use toml::Value;
 
 /// What is before the last `:` and what is after it, where neither is empty.
-pub(crate) fn file_and_name(text: &str) -> Option<(&str, &str)>
+pub fn file_and_name(text: &str) -> Option<(&str, &str)>
     ensures { option_map (λ p. (p.0.now, p.1.now)) result ≡ file_and_name text.now }
 {
     let (file, name) = text.rsplit_once(':')?;

@@ -1,4 +1,4 @@
-//! Worked rows of settings and omit patterns, as tests. They stand in a crate of their own so that
+//! Worked rows of settings, omit patterns and words, as tests. They stand in a crate of their own so that
 //! the library is proved once and not a second time with its tests.
 #![tactic(auto)]
 
@@ -6,3 +6,5 @@
 mod omits;
 #[cfg(test)]
 mod settings;
+#[cfg(test)]
+mod words;

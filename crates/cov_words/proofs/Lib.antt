@@ -1,0 +1,11 @@
+mod Choices
+mod Tables
+mod OperandLists
+mod Numbers
+mod FoundOptions
+mod Cutting
+mod Complete
+mod Sound
+mod SameCommand
+mod Prefixes
+mod Usage

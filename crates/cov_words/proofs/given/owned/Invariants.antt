@@ -1,0 +1,5 @@
+use Rattle.std.proofs.Common.{◌≡◌, ◌++◌, map, drop, string_bytes}
+use Rattle.cov_words.proofs.given.owned.Given as goal
+
+abbrev pub invariant-loop-word : goal.invariant-loop-word
+invariant-loop-word l = map string_bytes l.texts.items ++ map (λ t. t.now) (drop l.word-index l.words) ≡ map (λ t. t.now) l.words
