@@ -1,3 +1,9 @@
 pub mod Gathering
 pub mod Turns
 pub mod Sets
+pub mod Hits
+pub mod ByWay
+pub mod Forms
+pub mod Finally
+pub mod Law
+pub mod Modules

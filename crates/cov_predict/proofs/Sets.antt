@@ -123,6 +123,14 @@ module _ {K : Type 0} (R : K → K → Ordering) where
         (λ q. find-marked q xs ∙ ap (λ b. present b None) (alike q) ∙ sym (find-ordered q ks)))
         ∙ unmarked (ordered R ks)
 
+    -- lists with the same elements are one list in order
+    pub ordered-same : IsAntisymmetric R → (xs ks : List K) → ((q : K) → list_any (eq_by_cmp R q) xs ≡ list_any (eq_by_cmp R q) ks) → ordered R xs ≡ ordered R ks
+    ordered-same same xs ks alike =
+        sym (unmarked (ordered R xs))
+        ∙ ap (λ es. map (λ e. e.0) es) (same_entries R o same (marked (ordered R xs)) (marked (ordered R ks)) (ordered-Rises xs) (ordered-Rises ks)
+        (λ q. find-ordered q xs ∙ ap (λ b. present b None) (alike q) ∙ sym (find-ordered q ks)))
+        ∙ unmarked (ordered R ks)
+
     any-dedup_from : IsAntisymmetric R → (E : K → K → Bool) → ((x y : K) → E x y ≡ eq_by_cmp R x y) → (q k : K) (xs : List K) → list_any (eq_by_cmp R q) (dedup_from E k xs) ≡ (eq_by_cmp R q k || list_any (eq_by_cmp R q) xs)
     any-dedup_from same E ties q k [] = refl
     any-dedup_from same E ties q k (x ∷ xs) =

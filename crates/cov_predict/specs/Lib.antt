@@ -1,2 +1,4 @@
 pub mod ArcSets
 pub mod Leading
+pub mod Walk
+pub mod WalkLaw

@@ -11,15 +11,8 @@ pub(crate) fn is_docstring(kind: &StmtKind) -> bool
 {
     match kind {
         StmtKind::Expr(e) => is_string(e),
-        StmtKind::Assign {
-            targets: _,
-            value: _,
-        }
-        | StmtKind::AugAssign {
-            place: _,
-            op: _,
-            value: _,
-        }
+        StmtKind::Assign { .. }
+        | StmtKind::AugAssign { .. }
         | StmtKind::Pass
         | StmtKind::Break
         | StmtKind::Continue
@@ -29,36 +22,12 @@ pub(crate) fn is_docstring(kind: &StmtKind) -> bool
         | StmtKind::Global(_)
         | StmtKind::Import(_)
         | StmtKind::From(_, _)
-        | StmtKind::If { arms: _, orelse: _ }
-        | StmtKind::While {
-            test: _,
-            body: _,
-            orelse: _,
-        }
-        | StmtKind::For {
-            target: _,
-            over: _,
-            body: _,
-            orelse: _,
-        }
-        | StmtKind::Try {
-            body: _,
-            clauses: _,
-            orelse: _,
-            finally: _,
-        }
-        | StmtKind::Def {
-            name: _,
-            params: _,
-            defaults: _,
-            comma: _,
-            body: _,
-        }
-        | StmtKind::Match {
-            subject: _,
-            header_last: _,
-            cases: _,
-        } => false,
+        | StmtKind::If { .. }
+        | StmtKind::While { .. }
+        | StmtKind::For { .. }
+        | StmtKind::Try { .. }
+        | StmtKind::Def { .. }
+        | StmtKind::Match { .. } => false,
     }
 }
 
@@ -73,9 +42,9 @@ fn is_string(e: &Expr) -> bool
         | Expr::FStr(_)
         | Expr::None
         | Expr::Bool(_)
-        | Expr::Tuple { items: _, comma: _ }
-        | Expr::List { items: _, comma: _ }
-        | Expr::Dict { items: _, comma: _ }
+        | Expr::Tuple { .. }
+        | Expr::List { .. }
+        | Expr::Dict { .. }
         | Expr::Paren(_)
         | Expr::Not(_)
         | Expr::And(_, _)
@@ -83,22 +52,10 @@ fn is_string(e: &Expr) -> bool
         | Expr::Unary(_, _)
         | Expr::Binary(_, _, _)
         | Expr::Compare(_, _)
-        | Expr::Cond {
-            body: _,
-            test: _,
-            orelse: _,
-        }
-        | Expr::Call {
-            callee: _,
-            args: _,
-            comma: _,
-        }
+        | Expr::Cond { .. }
+        | Expr::Call { .. }
         | Expr::Index(_, _)
-        | Expr::Slice {
-            of: _,
-            from: _,
-            to: _,
-        }
+        | Expr::Slice { .. }
         | Expr::Attr(_, _) => false,
     }
 }

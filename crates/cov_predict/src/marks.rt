@@ -37,15 +37,8 @@ fn statement(out: &mut Vec<u32>, line: u32, kind: &StmtKind) -> Result<(), NoMem
 {
     match kind {
         StmtKind::Expr(_)
-        | StmtKind::Assign {
-            targets: _,
-            value: _,
-        }
-        | StmtKind::AugAssign {
-            place: _,
-            op: _,
-            value: _,
-        }
+        | StmtKind::Assign { .. }
+        | StmtKind::AugAssign { .. }
         | StmtKind::Pass
         | StmtKind::Break
         | StmtKind::Continue
@@ -62,19 +55,18 @@ fn statement(out: &mut Vec<u32>, line: u32, kind: &StmtKind) -> Result<(), NoMem
             opt(out, orelse)
         }
         StmtKind::While {
-            test: _,
             body: turn,
             orelse,
+            ..
         } => {
             mark(out, line)?;
             suite(out, turn)?;
             opt(out, orelse)
         }
         StmtKind::For {
-            target: _,
-            over: _,
             body: turn,
             orelse,
+            ..
         } => {
             mark(out, line)?;
             suite(out, turn)?;
@@ -92,21 +84,11 @@ fn statement(out: &mut Vec<u32>, line: u32, kind: &StmtKind) -> Result<(), NoMem
             opt(out, orelse)?;
             opt(out, finally)
         }
-        StmtKind::Def {
-            name: _,
-            params: _,
-            defaults: _,
-            comma: _,
-            body: of,
-        } => {
+        StmtKind::Def { body: of, .. } => {
             mark(out, line)?;
             function(out, of)
         }
-        StmtKind::Match {
-            subject: _,
-            header_last: _,
-            cases: list,
-        } => {
+        StmtKind::Match { cases: list, .. } => {
             mark(out, line)?;
             cases(out, list)
         }
