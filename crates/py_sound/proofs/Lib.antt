@@ -1,0 +1,14 @@
+pub mod Members
+pub mod Tracks
+pub mod Quiet
+pub mod Posts
+pub mod Loops
+pub mod Tries
+pub mod Matching
+pub mod Soundness
+pub mod Escapes
+pub mod Units
+pub mod Framing
+pub mod Crossed
+pub mod Laws
+pub mod Rows
