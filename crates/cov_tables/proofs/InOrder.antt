@@ -131,10 +131,13 @@ module _ {K : Type 0} (R : K → K → Ordering) where
     pub in_order-is : (xs ys : List K) → IsPermutation xs ys → Ascends ys → ys ≡ in_order R xs
     in_order-is xs ys h up = one_order ys (in_order R xs) up (folded-ascends o xs [] tt) (λ f. sum_by-IsPermutation f xs ys h ∙ sym (in_order-alike f xs))
 
-    -- the order of a list's elements doesn't matter
+    -- only the elements matter
+    pub in_order-of_alike : (xs ys : List K) → Alike xs ys → in_order R xs ≡ in_order R ys
+    in_order-of_alike xs ys h = one_order (in_order R xs) (in_order R ys) (folded-ascends o xs [] tt) (folded-ascends o ys [] tt) (λ f. in_order-alike f xs ∙ h f ∙ sym (in_order-alike f ys))
+
+    -- so their order doesn't
     pub in_order-IsPermutation : (xs ys : List K) → IsPermutation xs ys → in_order R xs ≡ in_order R ys
-    in_order-IsPermutation xs ys h = one_order (in_order R xs) (in_order R ys) (folded-ascends o xs [] tt) (folded-ascends o ys [] tt)
-        (λ f. in_order-alike f xs ∙ sym (sum_by-IsPermutation f xs ys h) ∙ sym (in_order-alike f ys))
+    in_order-IsPermutation xs ys h = in_order-of_alike xs ys (λ f. sym (sum_by-IsPermutation f xs ys h))
 
 -- a list that ascends by what f reads
 pub ascends-read : {K X : Type 0} (R : K → K → Ordering) (f : X → K) (xs : List X) → Ascends (λ x y. R (f x) (f y)) xs → Ascends R (map f xs)

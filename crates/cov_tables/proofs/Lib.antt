@@ -2,4 +2,5 @@ pub mod InOrder
 pub mod Columns
 pub mod Counting
 pub mod Whole
+pub mod Permuted
 pub mod Worked
