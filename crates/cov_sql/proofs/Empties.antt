@@ -17,7 +17,7 @@ use Rattle.sqlite_sql.specs.Query.{inner, end, matches, output, Output, IsAnswer
 use Rattle.sqlite_sql.specs.Program.{overlay}
 use Rattle.sqlite.specs.Effect.{Database}
 use Rattle.cov_sql.specs.Written.{HasInteger}
-use Rattle.cov_sql.proofs.Reading.{plain_tree, singles, mapped}
+use Rattle.cov_sql.proofs.Queried.{plain_tree, singles, mapped}
 use Rattle.cov_sql.proofs.Deletes.{rowids, Removes}
 use Rattle.sqlite_rules.specs.Lists.{Has}
 use Rattle.sqlite_rules.specs.Calls.{ids_of}

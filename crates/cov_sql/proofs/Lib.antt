@@ -2,7 +2,7 @@ pub mod Columns
 pub mod Selects
 pub mod Texts
 pub mod Found
-pub mod Reading
+pub mod Queried
 pub mod Shows
 pub mod ReadTexts
 pub mod Deletes
@@ -21,3 +21,5 @@ pub mod InsertIntoContext
 pub mod InsertIntoLineBits
 pub mod InsertIntoArc
 pub mod InsertIntoHits
+pub mod CellFields
+pub mod Seeking

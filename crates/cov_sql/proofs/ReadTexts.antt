@@ -1,5 +1,5 @@
 -- The statements that read the tables of data files.
-use Rattle.std.proofs.Common.{◌≡◌, ◌⊎◌, ℕ, List, [], codes, refl, None, Some, Err, Ok, Result, IfOk, IsErrOf}
+use Rattle.std.proofs.Common.{◌≡◌, ◌⊎◌, inl, inr, ℕ, List, [], codes, refl, sym, ◌∙◌, None, Some, Err, Ok, Result, IfOk, IsErrOf}
 use Rattle.std.specs.List.Sorted.{IsPermutation}
 use Rattle.sqlite_value.specs.Order.{Row}
 use Rattle.sqlite_trees.specs.Tree.{Trees}
@@ -8,9 +8,10 @@ use Rattle.sqlite_resolve.specs.declared.error.CompileError.TheVariants.{NoSuchT
 use Rattle.sqlite_resolve.specs.Lowering.{max_budget}
 use Rattle.sqlite_resolve.specs.Compile.{compiled}
 use Rattle.sqlite_tied.specs.Compute.{everything}
+use Rattle.sqlite.specs.declared.error.Error.{Error}
 use Rattle.sqlite.specs.declared.error.Error.TheVariants.{SqlInputError}
 use Rattle.sqlite.specs.Listing.{listing_schema}
-use Rattle.sqlite.specs.State.{State, HasCleanDisk, IsUnchanged, Shown, FailsToQuery, Survives, CommitsShowing}
+use Rattle.sqlite.specs.State.{State, HasCleanDisk, IsUnchanged, IsRolledBack, IsNotRun, Shown, FailsToQuery, Survives, CommitsShowing}
 use Rattle.sqlite.specs.Listing.{understood}
 use Rattle.sqlite.proofs.Callers.{IsPlain, never_commits}
 use Rattle.sqlite.proofs.StateLemmas.{survives_weaker}
@@ -18,11 +19,11 @@ use Rattle.cov_sql.specs.Tables.{Shape, rows_in, IsUnhidden, coverage_schema, me
 use Rattle.cov_sql.proofs.Texts.{IsPlainText}
 use Rattle.cov_sql.proofs.Selects.{Spends}
 use Rattle.cov_sql.proofs.Found.{AreOrdinary}
-use Rattle.cov_sql.proofs.Shows.{Verdict, no_table, no_column, mistyped, reads, verdict, never, gives_rows, misses}
+use Rattle.cov_sql.proofs.Shows.{Verdict, no_table, no_column, mistyped, reads, verdict, never, no_fault, gives_rows, misses, Reading}
 use Rattle.cov_sql.specs.declared.statements.StatementError.{StatementError}
 use Rattle.cov_sql.specs.declared.statements.StatementError.TheVariants.{Missing}
 use Rattle.cov_sql.specs.Told.{Lists, Reads, LeavesAll}
-use Rattle.cov_sql.specs.Shown.{ShowsCells, IsRefusedAsAbsent}
+use Rattle.cov_sql.specs.Shown.{ShowsCells, IsRefusedAsAbsent, IsAsked}
 
 -- the text reads the table, whatever else a base has
 pub record IsReading (text : List ℕ) (t : Shape) : Type 0 where
@@ -48,20 +49,60 @@ module _ (text : List ℕ) (t : Shape) (is : IsReading text t) (old new : State)
       by (mistyped at named u there refused) = never old.now.schema text _ may.0 refused may.1.is
       by (reads at named u there ps places c found returning formats command listed) = let plain : IsPlain (understood old.now.schema text) = rw found (returning, formats) in never_commits text [] old db plain may
 
+  -- a refused query changes nothing, or the store failed and a transaction was undone
+  pub refused_ends : (e : Error) → FailsToQuery text [] old new e → IsUnchanged old new ⊎ IsRolledBack old new
+  unfolding FailsToQuery IsNotRun
+  refused_ends e h = by (verdict text t.name t.columns is.plain is.ordinary is.cheap is.unlisted old.now.schema no_view) h
+    where
+      by : Verdict text t.name t.columns is.plain is.ordinary is.cheap is.unlisted old.now.schema no_view → FailsToQuery text [] old new e → IsUnchanged old new ⊎ IsRolledBack old new
+      by v (inl (inl unrun)) = inl unrun.1
+      by v (inl (inr failed)) = inr failed.3
+      by (no_table none refused) (inr f) = never old.now.schema text _ f.0 refused f.1.is
+      by (no_column at named u there none refused) (inr f) = never old.now.schema text _ f.0 refused f.1.is
+      by (mistyped at named u there refused) (inr f) = never old.now.schema text _ f.0 refused f.1.is
+      by (reads at named u there ps places c found returning formats command listed) (inr f) =
+          let same : f.0 ≡ c = (let both : ◌≡◌ {A = Reading} (Ok f.0) (Ok c) = sym f.1.is ∙ found in cc) in
+          inl (rw (same, returning) at f.2).3
+
+  -- and one that names what is missing changes nothing
+  pub unfound : (e : CompileError) → FailsToQuery text [] old new (SqlInputError e) → IsUnchanged old new
+  unfolding FailsToQuery IsNotRun
+  unfound e h = by (verdict text t.name t.columns is.plain is.ordinary is.cheap is.unlisted old.now.schema no_view) h
+    where
+      by : Verdict text t.name t.columns is.plain is.ordinary is.cheap is.unlisted old.now.schema no_view → FailsToQuery text [] old new (SqlInputError e) → IsUnchanged old new
+      by v (inl (inl unrun)) = unrun.1
+      by v (inl (inr fault)) = no_fault old new e fault
+      by (no_table none refused) (inr f) = never old.now.schema text _ f.0 refused f.1.is
+      by (no_column at named u there none refused) (inr f) = never old.now.schema text _ f.0 refused f.1.is
+      by (mistyped at named u there refused) (inr f) = never old.now.schema text _ f.0 refused f.1.is
+      by (reads at named u there ps places c found returning formats command listed) (inr f) =
+          let same : f.0 ≡ c = (let both : ◌≡◌ {A = Reading} (Ok f.0) (Ok c) = sym f.1.is ∙ found in cc) in
+          (rw (same, returning) at f.2).3
+
+  pub ends : IsAsked text old new → IsUnchanged old new ⊎ IsRolledBack old new
+  ends (inl shown) = inl (gives shown.0 shown.1).1
+  ends (inr failed) = refused_ends failed.0 failed.1
+
 -- a statement that shows such a text as cells tells its table
 pub tells : (text : List ℕ) (t : Shape) → IsReading text t → (old new : State) (r : Result Lists StatementError)
-    → (HasCleanDisk new → IfOk r (ShowsCells text old new)) → (HasCleanDisk new → IsErrOf r Missing → IsRefusedAsAbsent text old new) → Reads t old new r
-tells text t it old new (Ok lists) shown missing clean no_view =
+    → (HasCleanDisk new → IfOk r (ShowsCells text old new)) → (HasCleanDisk new → IsErrOf r Missing → IsRefusedAsAbsent text old new) → (HasCleanDisk new → IsAsked text old new) → Reads t old new r
+tells text t it old new (Ok lists) shown missing asked clean no_view =
     let s = shown clean in
     let all = gives text t it old new no_view s.0 s.1 in
-    record { rows = (all.0.0, s.0, all.0.1, all.0.2, s.2); missing = λ no. absurd cc; kept = all.1 }
-tells text t it old new (Err e) shown missing clean no_view =
-    record { rows = tt; missing = λ is. let m = missing clean is in is_missing text t it old new no_view m.0 m.1 m.2; kept = tt }
+    record { rows = (all.0.0, s.0, all.0.1, all.0.2, s.2); missing = λ no. absurd cc; kept = all.1; unfound = λ no. absurd cc; ends = inl all.1 }
+tells text t it old new (Err e) shown missing asked clean no_view =
+    record {
+      rows = tt;
+      missing = λ is. let m = missing clean is in is_missing text t it old new no_view m.0 m.1 m.2;
+      kept = tt;
+      unfound = λ is. let m = missing clean is in unfound text t it old new no_view m.0 m.2;
+      ends = ends text t it old new no_view (asked clean);
+    }
 
 -- and commits nothing
 pub leaves : (text : List ℕ) (t : Shape) → IsReading text t → (old new : State) → Survives old new (CommitsShowing text [] old) → LeavesAll t old new
-leaves text t it old new s no_view =
-    survives_weaker old new (CommitsShowing text [] old) (λ _. ⊥) (λ _ db may. absurd (commits_nothing text t it old new no_view db may)) s
+leaves text t it old new s =
+    survives_weaker old new (CommitsShowing text [] old) (λ _. ¬ IsUnhidden t old.now) (λ _ db may no_view. commits_nothing text t it old new no_view db may) s
 
 pub reads_coverage_schema : IsReading (codes "SELECT version FROM coverage_schema") coverage_schema
 unfolding everything listing_schema

@@ -25,7 +25,7 @@ use Rattle.cov_sql.specs.Tables.{rows_of, places_in}
 use Rattle.cov_sql.proofs.Selects.{AreFound, IsLacking, Affords, Spends}
 use Rattle.cov_sql.proofs.Texts.{IsPlainText, made, select_is, no_table_is, no_column_is}
 use Rattle.cov_sql.proofs.Found.{AreOrdinary, either, found_at, splits}
-use Rattle.cov_sql.proofs.Reading.{query, answer_rows}
+use Rattle.cov_sql.proofs.Queried.{query, answer_rows}
 
 abbrev pub Reading : Type 0
 Reading = Result Compiled CompileError

@@ -6,3 +6,5 @@ pub mod Shown
 pub mod Written
 pub mod SqlTexts
 pub mod Refusals
+pub mod Content
+pub mod Finds

@@ -1,8 +1,9 @@
 -- What the text of a query answers, in cells.
-use Rattle.std.specs.Prelude.{ℕ, List, []}
+use Rattle.std.specs.Prelude.{◌⊎◌, ℕ, List, []}
 use Rattle.std.specs.List.{AllZip}
 use Rattle.sqlite_value.specs.Order.{Row}
 use Rattle.sqlite.specs.State.{State, Shown, FailsToQuery}
+use Rattle.sqlite.specs.declared.error.Error.{Error}
 use Rattle.sqlite.specs.declared.error.Error.TheVariants.{SqlInputError}
 use Rattle.sqlite_resolve.specs.declared.error.CompileError.{CompileError}
 use Rattle.cov_sql.specs.Cells.{AreCells}
@@ -15,3 +16,7 @@ ShowsCells text old new lists = (rows : List Row) × Shown text [] old new rows 
 -- the text was refused since a table or a column isn't there
 abbrev pub IsRefusedAsAbsent : List ℕ → State → State → Type 0
 IsRefusedAsAbsent text old new = (e : CompileError) × IsAbsence e × FailsToQuery text [] old new (SqlInputError e)
+
+-- the text was asked, with or without an answer
+abbrev pub IsAsked : List ℕ → State → State → Type 0
+IsAsked text old new = ((rows : List Row) × Shown text [] old new rows) ⊎ ((e : Error) × FailsToQuery text [] old new e)

@@ -1,11 +1,11 @@
 -- What reading statements tell.
---     Answers      a statement gave the rows of its table, or it is missing; and nothing changed
+--     Answers      a statement gave the rows of its table, or it is missing, and nothing changed; else a transaction may have been undone
 --     Reads        so it is where the store is clean after the call and no view has the table's name
---     LeavesAll    a crash may leave what it could leave before
+--     LeavesAll    a crash may leave what it could leave before, unless a view has the table's name
 --     IsAbsence    the causes that say that a table or one of its columns isn't there
 use Rattle.std.specs.Prelude.{◌≡◌, ◌⊎◌, None, Vec, Result, IfOk, OnOk, IsErrOf}
 use Rattle.std.specs.declared.alloc.Global.{Global}
-use Rattle.sqlite.specs.State.{State, HasCleanDisk, IsUnchanged, Survives}
+use Rattle.sqlite.specs.State.{State, HasCleanDisk, IsUnchanged, IsRolledBack, Survives}
 use Rattle.sqlite_resolve.specs.declared.error.CompileError.{CompileError}
 use Rattle.sqlite_resolve.specs.declared.error.CompileError.TheVariants.{NoSuchTable, NoSuchColumn}
 use Rattle.cov_tables.specs.declared.cells.Cell.{Cell}
@@ -21,12 +21,14 @@ pub record Answers (t : Shape) (old new : State) (r : Result Lists StatementErro
   pub rows : IfOk r (λ lists. AreRowsIn t old.now lists.items)
   pub missing : IsErrOf r Missing → rows_in t old.now ≡ None
   pub kept : OnOk r (IsUnchanged old new)
+  pub unfound : IsErrOf r Missing → IsUnchanged old new
+  pub ends : IsUnchanged old new ⊎ IsRolledBack old new
 
 abbrev pub Reads : Shape → State → State → Result Lists StatementError → Type 0
 Reads t old new r = HasCleanDisk new → IsUnhidden t old.now → Answers t old new r
 
 abbrev pub LeavesAll : Shape → State → State → Type 0
-LeavesAll t old new = IsUnhidden t old.now → Survives old new (λ _. ⊥)
+LeavesAll t old new = Survives old new (λ _. ¬ IsUnhidden t old.now)
 
 abbrev pub IsAbsence : CompileError → Type 0
 IsAbsence e = (e ≡ NoSuchTable) ⊎ (e ≡ NoSuchColumn)

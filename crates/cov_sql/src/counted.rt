@@ -1,6 +1,6 @@
 //! The statements over the database itself.
 ghost use Rattle.std.specs.Prelude.{◌≡◌, ◌≤◌, false, [], IsTrue, IfOk, OnOk, IsErrOf};
-ghost use Rattle.cov_outside.specs.Counts.{Rose};
+ghost use Rattle.cov_outside.specs.Counts.{greatest, Rose};
 ghost use Rattle.sqlite.specs.Held.{state};
 ghost use Rattle.sqlite.specs.State.{HasCleanDisk, Survives, CommitsShowing};
 ghost use Rattle.sqlite_resolve.specs.declared.error.CompileError.{CompileError};
@@ -8,7 +8,7 @@ ghost use Rattle.sqlite.specs.declared.error.Error.TheVariants.{SqlInputError};
 ghost use Rattle.sqlite.specs.Values.{bound};
 ghost use Rattle.cov_sql.specs.Told.{IsAbsence};
 ghost use Rattle.cov_sql.specs.Written.{Ran, WasAbsent};
-ghost use Rattle.cov_sql.specs.Shown.{ShowsCells, IsRefusedAsAbsent};
+ghost use Rattle.cov_sql.specs.Shown.{ShowsCells, IsRefusedAsAbsent, IsAsked};
 
 use crate::statements::{StatementError, Statements};
 use crate::values::lists_of;
@@ -22,6 +22,7 @@ use std::alloc::Global;
 #[derive(Debug, Drop)]
 pub struct Counted {
     refusals: u64,
+    ghost bounded: { refusals ≤ greatest },
 }
 
 impl Counted {
@@ -43,7 +44,29 @@ impl Counted {
                 StatementError::Missing
             }
             _ => {
-                self.refusals = self.refusals.saturating_add(1);
+                self.refuse();
+                StatementError::Refused
+            }
+        }
+    }
+
+    /// Counts a refusal.
+    pub(crate) fn refuse(&mut self)
+        ensures { Rose self.old.refusals self.new.refusals }
+    {
+        self.refusals = self.refusals.saturating_add(1);
+    }
+
+    /// What an error at the end of a transaction means, which counts unless memory is missing.
+    fn count_end(&mut self, error: Error) -> StatementError
+        ensures count { self.old.refusals ≤ self.new.refusals }
+        ensures refused { result ≡ StatementError.Refused → Rose self.old.refusals self.new.refusals }
+        ensures not_missing { result ≡ StatementError.Missing → ⊥ }
+    {
+        match error {
+            Error::SqliteFailure(ErrorCode::OutOfMemory) => StatementError::NoMemory,
+            _ => {
+                self.refuse();
                 StatementError::Refused
             }
         }
@@ -58,6 +81,7 @@ impl Counted {
     ) -> Result<Vec<Vec<Cell>>, StatementError>
         ensures shown { HasCleanDisk (state S.Store base.new) → IfOk result (ShowsCells sql.now (state S.Store base.old) (state S.Store base.new)) }
         ensures missing { HasCleanDisk (state S.Store base.new) → IsErrOf result StatementError.Missing → IsRefusedAsAbsent sql.now (state S.Store base.old) (state S.Store base.new) }
+        ensures asked { HasCleanDisk (state S.Store base.new) → IsAsked sql.now (state S.Store base.old) (state S.Store base.new) }
         ensures survives { Survives (state S.Store base.old) (state S.Store base.new) (CommitsShowing sql.now [] (state S.Store base.old)) }
         ensures mode { base.old.in_transaction ≡ false → base.new.in_transaction ≡ false }
         ensures count { self.old.refusals ≤ self.new.refusals }
@@ -420,10 +444,12 @@ impl Statements for Counted {
         ensures survives { Survives (state S.Store work.entry.conn.now) (state S.Store work.exit.0.now) (λ db. db ≡ (state S.Store work.entry.conn.now).now.trees) }
         ensures count { self.old.refusals ≤ self.new.refusals }
         ensures refused { IsErrOf result StatementError.Refused → Rose self.old.refusals self.new.refusals }
+        ensures not_missing { IsErrOf result StatementError.Missing → ⊥ }
+        ensures tells { ⟦<Counted as Statements>⟧.tells self.new }
     {
         match work.commit() {
             Ok(()) => Ok(()),
-            Err(error) => Err(self.count(error)),
+            Err(error) => Err(self.count_end(error)),
         }
     }
 }

@@ -4,10 +4,12 @@
 
 mod counted;
 mod errors;
+mod reading;
 mod statements;
 mod values;
 
 pub use counted::Counted;
 pub use cov_tables::Cell;
 pub use errors::SqlError;
+pub use reading::read_data;
 pub use statements::{StatementError, Statements};

@@ -141,6 +141,7 @@ pub trait Statements {
 
     /// A statement in a test may refuse here, before a transaction begins.
     fn may_begin(&mut self) -> Result<(), StatementError>
+        ensures not_missing { IsErrOf result StatementError.Missing → ⊥ }
         ensures tells { tells self.old → tells self.new }
         ensures count { refusals self.old ≤ refusals self.new }
         ensures refused { IsErrOf result StatementError.Refused → Rose (refusals self.old) (refusals self.new) };
@@ -435,6 +436,8 @@ pub trait Statements {
         ensures told { HasCleanDisk (state S.Store work.exit.0.now) → OnOk result ((state S.Store work.exit.0.now).committed ≡ (state S.Store work.entry.conn.now).now) }
         ensures ended { work.exit.0.now.in_transaction ≡ false }
         ensures survives { Survives (state S.Store work.entry.conn.now) (state S.Store work.exit.0.now) (λ db. db ≡ (state S.Store work.entry.conn.now).now.trees) }
+        ensures not_missing { IsErrOf result StatementError.Missing → ⊥ }
+        ensures tells { tells self.old → tells self.new }
         ensures count { refusals self.old ≤ refusals self.new }
         ensures refused { IsErrOf result StatementError.Refused → Rose (refusals self.old) (refusals self.new) };
 }

@@ -5,7 +5,7 @@ use Rattle.cov_sql.proofs.ReadTexts.{tells, leaves, reads_coverage_schema}
 use Rattle.cov_sql.proofs.counted.CountedStatements.read_coverage_schema.Goals as goal
 
 pub returns-clause-told : goal.returns-clause-told
-returns-clause-told g c _ = tells _ coverage_schema reads_coverage_schema (state g.S.Store c.args.base.now) (state g.S.Store c.read_rows.new.base) c.read_rows.result c.read_rows.ensures.shown c.read_rows.ensures.missing
+returns-clause-told g c _ = tells _ coverage_schema reads_coverage_schema (state g.S.Store c.args.base.now) (state g.S.Store c.read_rows.new.base) c.read_rows.result c.read_rows.ensures.shown c.read_rows.ensures.missing c.read_rows.ensures.asked
 
 pub returns-clause-survives : goal.returns-clause-survives
 returns-clause-survives g c _ = leaves _ coverage_schema reads_coverage_schema (state g.S.Store c.args.base.now) (state g.S.Store c.read_rows.new.base) c.read_rows.ensures.survives

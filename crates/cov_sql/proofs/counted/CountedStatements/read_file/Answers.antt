@@ -5,7 +5,7 @@ use Rattle.cov_sql.proofs.ReadTexts.{tells, leaves, reads_file}
 use Rattle.cov_sql.proofs.counted.CountedStatements.read_file.Goals as goal
 
 pub returns-clause-told : goal.returns-clause-told
-returns-clause-told g c _ = tells _ file reads_file (state g.S.Store c.args.base.now) (state g.S.Store c.read_rows.new.base) c.read_rows.result c.read_rows.ensures.shown c.read_rows.ensures.missing
+returns-clause-told g c _ = tells _ file reads_file (state g.S.Store c.args.base.now) (state g.S.Store c.read_rows.new.base) c.read_rows.result c.read_rows.ensures.shown c.read_rows.ensures.missing c.read_rows.ensures.asked
 
 pub returns-clause-survives : goal.returns-clause-survives
 returns-clause-survives g c _ = leaves _ file reads_file (state g.S.Store c.args.base.now) (state g.S.Store c.read_rows.new.base) c.read_rows.ensures.survives

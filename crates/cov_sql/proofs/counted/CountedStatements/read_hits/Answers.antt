@@ -5,7 +5,7 @@ use Rattle.cov_sql.proofs.ReadTexts.{tells, leaves, reads_hits}
 use Rattle.cov_sql.proofs.counted.CountedStatements.read_hits.Goals as goal
 
 pub returns-clause-told : goal.returns-clause-told
-returns-clause-told g c _ = tells _ hits reads_hits (state g.S.Store c.args.base.now) (state g.S.Store c.read_rows.new.base) c.read_rows.result c.read_rows.ensures.shown c.read_rows.ensures.missing
+returns-clause-told g c _ = tells _ hits reads_hits (state g.S.Store c.args.base.now) (state g.S.Store c.read_rows.new.base) c.read_rows.result c.read_rows.ensures.shown c.read_rows.ensures.missing c.read_rows.ensures.asked
 
 pub returns-clause-survives : goal.returns-clause-survives
 returns-clause-survives g c _ = leaves _ hits reads_hits (state g.S.Store c.args.base.now) (state g.S.Store c.read_rows.new.base) c.read_rows.ensures.survives

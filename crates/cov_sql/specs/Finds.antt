@@ -1,0 +1,72 @@
+-- What the steps of reading a data file give.
+--     Finds, EndsAs             what was sought, or it is missing; the base is as it was, or a transaction was undone
+--     Seeks, SeeksCounts        so a step finds a table; the table of counts, which may be missing
+--     FindsNamed, FindsMeasured, FindsAll      the first four tables; the others; all of them
+--     LeavesFile                a crash may leave what it could leave before, unless a view has the name of a table
+use Rattle.std.specs.Prelude.{◌≡◌, ◌≢◌, ◌⊎◌, None, Some, Vec, Option, Result, IfOk, OnOk, IsErrOf}
+use Rattle.std.specs.declared.alloc.Global.{Global}
+use Rattle.sqlite.specs.Effect.{Database}
+use Rattle.sqlite.specs.State.{State, HasCleanDisk, IsUnchanged, IsRolledBack, Survives}
+use Rattle.cov_sql.specs.declared.errors.SqlError.{SqlError}
+use Rattle.cov_sql.specs.declared.errors.SqlError.TheVariants.{NotSchema7}
+use Rattle.cov_sql.specs.declared.reading.Found.{Found}
+use Rattle.cov_sql.specs.declared.reading.Named.{Named}
+use Rattle.cov_sql.specs.declared.reading.Measured.{Measured}
+use Rattle.cov_sql.specs.Tables.{Shape, rows_in, IsUnhidden, coverage_schema, meta, file, context, line_bits, arc, tracer, hits}
+use Rattle.cov_sql.specs.Cells.{AreRowsIn}
+use Rattle.cov_sql.specs.Told.{Lists}
+use Rattle.cov_sql.specs.Content.{tables_in, AreUnhidden, IsFound}
+
+abbrev pub EndsAs : State → State → Type 0
+EndsAs old new = IsUnchanged old new ⊎ IsRolledBack old new
+
+pub record Finds {X : Type 0} (Holds : Database → X → Type 0) (Lacks : Database → Type 0) (old new : State) (r : Result X SqlError) : Type 0 where
+  pub rows : IfOk r (Holds old.now)
+  pub missing : IsErrOf r NotSchema7 → Lacks old.now × IsUnchanged old new
+  pub kept : OnOk r (IsUnchanged old new)
+  pub ends : EndsAs old new
+
+abbrev pub HoldsRows : Shape → Database → Lists → Type 0
+HoldsRows t db lists = AreRowsIn t db lists.items
+
+abbrev pub LacksTable : Shape → Database → Type 0
+LacksTable t db = rows_in t db ≡ None
+
+-- where the store is clean after the step and no view has the table's name
+abbrev pub Seeks : Shape → State → State → Result Lists SqlError → Type 0
+Seeks t old new r = HasCleanDisk new → IsUnhidden t old.now → Finds (HoldsRows t) (LacksTable t) old new r
+
+abbrev pub HoldsCounts : Database → Option Lists → Type 0
+HoldsCounts db None = LacksTable hits db
+HoldsCounts db (Some lists) = HoldsRows hits db lists
+
+abbrev pub SeeksCounts : State → State → Result (Option Lists) SqlError → Type 0
+SeeksCounts old new r = HasCleanDisk new → IsUnhidden hits old.now → Finds HoldsCounts (λ db. ⊥) old new r
+
+pub record IsNamed (db : Database) (n : Named) : Type 0 where
+  pub coverage_schema : HoldsRows coverage_schema db n.coverage_schema
+  pub meta : HoldsRows meta db n.meta
+  pub file : HoldsRows file db n.file
+  pub context : HoldsRows context db n.context
+
+pub record IsMeasured (db : Database) (m : Measured) : Type 0 where
+  pub line_bits : HoldsRows line_bits db m.line_bits
+  pub arc : HoldsRows arc db m.arc
+  pub tracer : rows_in tracer db ≢ None
+  pub hits : HoldsCounts db m.hits
+
+-- one of the tables of schema 7 is missing
+abbrev pub LacksOne : Database → Type 0
+LacksOne db = tables_in db ≡ None
+
+abbrev pub FindsNamed : State → State → Result Named SqlError → Type 0
+FindsNamed old new r = HasCleanDisk new → AreUnhidden old.now → Finds IsNamed LacksOne old new r
+
+abbrev pub FindsMeasured : State → State → Result Measured SqlError → Type 0
+FindsMeasured old new r = HasCleanDisk new → AreUnhidden old.now → Finds IsMeasured LacksOne old new r
+
+abbrev pub FindsAll : State → State → Result Found SqlError → Type 0
+FindsAll old new r = HasCleanDisk new → AreUnhidden old.now → Finds IsFound LacksOne old new r
+
+abbrev pub LeavesFile : State → State → Type 0
+LeavesFile old new = Survives old new (λ _. ¬ AreUnhidden old.now)
