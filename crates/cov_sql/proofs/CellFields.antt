@@ -1,6 +1,6 @@
 -- The cells that were read are the fields of the base, and so is what they mean.
-use Rattle.std.proofs.Common.{◌≡◌, ◌≢◌, inl, inr, ℕ, Bool, true, false, cond, List, [], ◌∷◌, map, Option, Some, None, String, Vec, refl, ap, sym, subst, ◌∙◌}
-use Rattle.std.specs.Prelude.{IsUtf8, string_bytes, option_map}
+use Rattle.std.proofs.Common.{◌≡◌, ◌≢◌, inl, inr, ℕ, Bool, true, false, cond, List, [], ◌∷◌, map, Option, Some, None, Vec, refl, ap, sym, subst, ◌∙◌}
+use Rattle.std.specs.Prelude.{IsUtf8, option_map}
 use Rattle.std.specs.declared.alloc.Global.{Global}
 use Rattle.std.specs.Option.{unwrap_or}
 use Rattle.std.specs.Str.{is_utf8}
@@ -12,9 +12,8 @@ use Rattle.sqlite_value.specs.declared.value.Value.{Value}
 use Rattle.sqlite_value.specs.declared.value.Value.TheVariants as value
 use Rattle.sqlite_value.specs.Order as order
 use Rattle.sqlite.specs.Effect.{Database}
-use Rattle.cov_vault.specs.declared.vault.Content.TheVariants.{NotSchema7}
 use Rattle.cov_tables.specs.declared.cells.Cell.{Cell}
-use Rattle.cov_tables.specs.Fields.{Field, whole, text, blob, other, field, Row, row, rows}
+use Rattle.cov_tables.specs.Fields.{text, blob, other, field, Row, row, rows}
 use Rattle.cov_tables.specs.Content.{Tables, content}
 use Rattle.cov_tables.specs.Given.{tables}
 use Rattle.cov_tables.proofs.Permuted.{ArePermuted, content-permuted}

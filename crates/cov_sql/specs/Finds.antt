@@ -3,8 +3,7 @@
 --     Seeks, SeeksCounts        so a step finds a table; the table of counts, which may be missing
 --     FindsNamed, FindsMeasured, FindsAll      the first four tables; the others; all of them
 --     LeavesFile                a crash may leave what it could leave before, unless a view has the name of a table
-use Rattle.std.specs.Prelude.{◌≡◌, ◌≢◌, ◌⊎◌, None, Some, Vec, Option, Result, IfOk, OnOk, IsErrOf}
-use Rattle.std.specs.declared.alloc.Global.{Global}
+use Rattle.std.specs.Prelude.{◌≡◌, ◌≢◌, ◌⊎◌, None, Some, Option, Result, IfOk, OnOk, IsErrOf}
 use Rattle.sqlite.specs.Effect.{Database}
 use Rattle.sqlite.specs.State.{State, HasCleanDisk, IsUnchanged, IsRolledBack, Survives}
 use Rattle.cov_sql.specs.declared.errors.SqlError.{SqlError}

@@ -1,6 +1,6 @@
 use Rattle.std.proofs.Common.{rules, ◌≡◌, Err, sym, subst}
 use Rattle.sqlite.specs.Held.{state}
-use Rattle.cov_sql.specs.Tables.{line_bits, arc, tracer}
+use Rattle.cov_sql.specs.Tables.{arc, tracer}
 use Rattle.cov_sql.specs.Finds.{Finds, HoldsRows, HoldsCounts, LacksTable, IsMeasured, LacksOne}
 use Rattle.cov_sql.proofs.CellFields.{lacks_arc}
 use Rattle.cov_sql.proofs.Seeking.{later, stopped, went, still_hidden, holds_table}

@@ -1,6 +1,6 @@
 use Rattle.std.proofs.Common.{rules, ◌≡◌, Err, sym, subst}
 use Rattle.sqlite.specs.Held.{state}
-use Rattle.cov_sql.specs.Tables.{coverage_schema, meta, file, context}
+use Rattle.cov_sql.specs.Tables.{meta, file, context}
 use Rattle.cov_sql.specs.Finds.{Finds, HoldsRows, LacksTable, IsNamed, LacksOne}
 use Rattle.cov_sql.proofs.CellFields.{lacks_meta, lacks_file, lacks_context}
 use Rattle.cov_sql.proofs.Seeking.{later, stopped, went, still_hidden}

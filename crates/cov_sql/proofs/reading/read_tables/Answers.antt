@@ -1,7 +1,7 @@
 use Rattle.std.proofs.Common.{rules, ◌≡◌, Err, sym, subst}
 use Rattle.sqlite.specs.Held.{state}
 use Rattle.cov_sql.specs.Content.{IsFound}
-use Rattle.cov_sql.specs.Finds.{Finds, IsNamed, IsMeasured, LacksOne}
+use Rattle.cov_sql.specs.Finds.{Finds, IsMeasured, LacksOne}
 use Rattle.cov_sql.proofs.Seeking.{later, stopped, went, still_hidden}
 use Rattle.cov_sql.proofs.reading.read_tables.Goals as goal
 
