@@ -17,7 +17,7 @@ use Rattle.py_code.proofs.Never.{goes_over}
 use Rattle.py_builtins.specs.Faults.{name_unknown}
 
 -- the numbers of operands at the places of all units
-abbrev chosen : (ms : List Module) → AreCodes ms → ℕ → ℕ → List ℕ
+abbrev pub chosen : (ms : List Module) → AreCodes ms → ℕ → ℕ → List ℕ
 chosen [] h m k = []
 chosen (x ∷ xs) h zero k = h.0.0 k
 chosen (x ∷ xs) h (suc m) k = chosen xs h.1 m k
@@ -32,10 +32,10 @@ has_body [] h n m e = cc
 has_body (x ∷ xs) h zero m e = let same : x ≡ m = cc in subst (λ k. 0 < length k.units) same h.0.1.body
 has_body (x ∷ xs) h (suc n) m e = has_body xs h.1 n m e
 
-abbrev depths_of : (ms : List Module) → AreCodes ms → CodeId → List ℕ
+abbrev pub depths_of : (ms : List Module) → AreCodes ms → CodeId → List ℕ
 depths_of ms h code = chosen ms h code.module code.unit
 
-are_valid : (ms : List Module) → 0 < length ms → (h : AreCodes ms) → AreValid ms (depths_of ms h)
+pub are_valid : (ms : List Module) → 0 < length ms → (h : AreCodes ms) → AreValid ms (depths_of ms h)
 are_valid ms some h = record { units = λ code u e. chosen_fits ms h code.module code.unit u e; bodies = has_body ms h; script = some }
 
 pub global_inside : (ms : List Module) (r : Result PlainValue PlainRaised) (vs : List PlainValue) (e : Effects) → Inside ms (reach_global ms r vs e)

@@ -148,6 +148,7 @@ module _ {L : Type 0} (locals : Locals L) (ms : List Module) (depths : CodeId �
                 callers = (record { unit = u; is = is; back = back; lands = lands }, waiting);
               },
               e,
+              omega arith,
             );
           })
       by_case false = fling (raised_by TooDeep) xs (length xs) lands (omega arith)
@@ -228,7 +229,7 @@ module _ {L : Type 0} (locals : Locals L) (ms : List Module) (depths : CodeId �
 
   marked : (l : ℕ) (e : Effects) → Leads u (depths c.top.code) c.top.place (suc c.top.place) (length c.top.operands) → Goal (marks locals ms l e c)
   marked l e leads =
-      on_step locals ms depths valid c c.steps _ refl (λ m s. record { holds = (record { top = record { unit = u; is = is; stands = leads.stands }; callers = waiting }, s) })
+      on_step locals ms depths valid c c.steps _ refl (λ m s. record { holds = (record { top = record { unit = u; is = is; stands = leads.stands }; callers = waiting }, s, omega arith) })
 
   leads_as : {to m n : ℕ} → Leads u (depths c.top.code) c.top.place to m → m ≡ n → Leads u (depths c.top.code) c.top.place to n
   leads_as {to} {m} {n} k e = subst (λ d. Leads u (depths c.top.code) c.top.place to d) e k

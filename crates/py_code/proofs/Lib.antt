@@ -1,9 +1,10 @@
 pub mod Steps
-mod Standing
+pub mod Standing
 mod Forms
 mod Instructions
-mod Never
-mod Codes
+pub mod Never
+pub mod Codes
+pub mod Ahead
 pub mod Rows
 mod SlotLaws
 mod OneMachine

@@ -9,7 +9,7 @@ use Rattle.py_code.specs.declared.instr.Instr.TheVariants.{Goto, IfFalse, IfTrue
 use Rattle.py_code.specs.declared.instr.Instr.TheVariants.{Raise, Reraise, Assertion, AssertionWith, Catches, Caught, Uncaught, Leave, Ending, Breaking, Continuing, Returning, Settle, Release}
 use Rattle.py_code.specs.Configurations.{Locals, Configuration, End, Next}
 use Rattle.py_code.specs.Footprints.{is_mark}
-use Rattle.py_code.specs.Machine.{where_found, stepping, move, move_in, acts, act, machine, rank}
+use Rattle.py_code.specs.Machine.{where_found, stepping, move, move_in, acts, act, machine, rank, callers_rank}
 use Rattle.py_code.specs.Run.{Goes, Ticks, Ends, lands, follow, walk, run, go}
 use Rattle.py_code.specs.Units.{Code, Module, unit_at, places_in, places_of}
 use Rattle.py_code.specs.Valid.{marks_at, AreValid}
@@ -34,7 +34,7 @@ module _ {L : Type 0} (locals : Locals L) (ms : List Module) (depths : CodeId �
       ((valid.units c.top.code s.top.unit s.top.is).fits c.top.place (length c.top.operands) found.0 s.top.stands found.1)))
 
   -- ends, or takes a step
-  abbrev Halts : Next L → Type 0
+  abbrev pub Halts : Next L → Type 0
   Halts (Goes d) = ⊥
   Halts (Ticks d) = Unit {0}
   Halts (Ends r) = Unit {0}
@@ -121,7 +121,7 @@ module _ {L : Type 0} (locals : Locals L) (ms : List Module) (depths : CodeId �
   unit_halts None c e = absurd (not_true e)
   unit_halts (Some u) c e = place_halts u (slice_get u.instrs c.top.place) c e
 
-  move_halts : (c : Configuration L) → MarksIn locals ms depths valid c.top → Halts (move locals ms c)
+  pub move_halts : (c : Configuration L) → MarksIn locals ms depths valid c.top → Halts (move locals ms c)
   move_halts c e = unit_halts (unit_at ms c.top.code) c e
 
   module _ (tick : Configuration L → End) (n : ℕ) (ticks : (d : Configuration L) → Stands locals ms depths valid d → n ≡ suc d.steps → Ended (tick d)) where
@@ -136,9 +136,9 @@ module _ {L : Type 0} (locals : Locals L) (ms : List Module) (depths : CodeId �
         → Ended (follow (machine locals ms) tick next (rank locals ms c) v)
     follows_over next c (Goes d) f e h = by_case (nat_lt (rank locals ms d) (rank locals ms c)) refl
       where
-        back : (rank locals ms d < rank locals ms c) ⊎ MarksIn locals ms depths valid d.top → nat_lt (rank locals ms d) (rank locals ms c) ≡ false → Halts (move locals ms d)
+        back : (rank locals ms d < rank locals ms c) ⊎ (MarksIn locals ms depths valid d.top × (callers_rank locals ms d.callers ≡ callers_rank locals ms c.callers)) → nat_lt (rank locals ms d) (rank locals ms c) ≡ false → Halts (move locals ms d)
         back (inl lt) e = absurd (grind (arith, nat_tests))
-        back (inr m) e = move_halts d m
+        back (inr m) e = move_halts d m.0
 
         by_case : (b : Bool) → nat_lt (rank locals ms d) (rank locals ms c) ≡ b → Ended (if b then next d else lands (machine locals ms) tick d (move locals ms d))
         by_case true w = h d f.holds.0 (grind (arith, nat_tests)) (e ∙ f.holds.1)

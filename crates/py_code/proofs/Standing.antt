@@ -39,10 +39,10 @@ module _ {L : Type 0} (locals : Locals L) (ms : List Module) (depths : CodeId �
   abbrev pub MarksIn : Frame L → Type 0
   MarksIn f = marks_at (slice_get (places_of ms f.code) f.place) ≡ true
 
-  -- a move ahead, or back to a mark; a step; or an end
+  -- a move ahead, or back to a mark; a step, with one more frame at most; or an end
   abbrev pub Onward : Configuration L → Next L → Type 0
-  Onward c (Goes d) = Stands d × (c.steps ≡ d.steps) × ((rank locals ms d < rank locals ms c) ⊎ MarksIn d.top)
-  Onward c (Ticks d) = Stands d × (c.steps ≡ suc d.steps)
+  Onward c (Goes d) = Stands d × (c.steps ≡ d.steps) × ((rank locals ms d < rank locals ms c) ⊎ (MarksIn d.top × (callers_rank locals ms d.callers ≡ callers_rank locals ms c.callers)))
+  Onward c (Ticks d) = Stands d × (c.steps ≡ suc d.steps) × (callers_rank locals ms d.callers ≤ callers_rank locals ms c.callers + suc (length (places_of ms c.top.code)))
   Onward c (Ends r) = IsOver r.how
 
   -- the same, so that the move can be found from it
@@ -79,9 +79,9 @@ module _ {L : Type 0} (locals : Locals L) (ms : List Module) (depths : CodeId �
       where
         onto : (c.top.place < to) ⊎ (marks_at (slice_get u.instrs to) ≡ true)
             → (suc (length (places_of ms c.top.code) - to) + callers_rank locals ms c.callers < suc (length (places_of ms c.top.code) - c.top.place) + callers_rank locals ms c.callers)
-            ⊎ (marks_at (slice_get (places_of ms c.top.code) to) ≡ true)
+            ⊎ ((marks_at (slice_get (places_of ms c.top.code) to) ≡ true) × (callers_rank locals ms c.callers ≡ callers_rank locals ms c.callers))
         onto (inl lt) = inl (omega arith)
-        onto (inr m) = inr (ap (λ o. marks_at (slice_get (places_in o) to)) is ∙ m)
+        onto (inr m) = inr (ap (λ o. marks_at (slice_get (places_in o) to)) is ∙ m, refl)
 
     -- an exception in a frame that waits
     lands_in : (e : PlainRaised) (f : Frame L) (fs : List (Frame L)) (w : Effects) (all : AllWait (f ∷ fs)) → suc (length (places_of ms f.code)) + callers_rank locals ms fs ≤ callers_rank locals ms c.callers

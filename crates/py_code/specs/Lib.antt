@@ -1,6 +1,7 @@
 pub mod Run
 pub mod Configurations
 pub mod Units
+pub mod Loaded
 pub mod Operands
 pub mod Machine
 pub mod Programs

@@ -1,7 +1,8 @@
 // Code, and programs of it.
 ghost use Rattle.std.specs.Prelude.{◌≡◌, map};
 ghost use Rattle.py_code.specs.Units.{plain_unit};
-ghost use Rattle.py_code.specs.Valid.{IsCode};
+ghost use Rattle.py_code.specs.Loaded.{modules_of};
+ghost use Rattle.py_code.specs.Valid.{IsCode, AreCodes};
 
 use crate::unit::Unit;
 use std::marker::Model;
@@ -35,7 +36,8 @@ impl Code {
 
     /// The units, in order.
     pub fn units(&self) -> &[Unit]
-        ensures { map plain_unit result.now ≡ self.now }
+        ensures units { map plain_unit result.now ≡ self.now }
+        ensures valid { IsCode self.now }
     {
         &self.units
     }
@@ -53,4 +55,15 @@ pub struct Program {
 #[derive(Drop)]
 pub struct Programs {
     pub modules: Vec<Program>,
+}
+
+impl Programs {
+    /// Each of their codes is one that a machine runs without missing anything. Whoever runs them asks for that.
+    pub fn are_valid(&self)
+        ensures { AreCodes (modules_of self.now) }
+    {
+        for program in &self.modules {
+            program.code.units();
+        }
+    }
 }

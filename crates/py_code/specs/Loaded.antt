@@ -1,0 +1,14 @@
+-- Programs in memory, as the modules that they are.
+use Rattle.std.specs.Prelude.{List, map}
+use Rattle.std.specs.Str.{chars}
+use Rattle.std.specs.String.{string_bytes}
+use Rattle.py_code.specs.declared.code.Program.{Program}
+use Rattle.py_code.specs.declared.code.Programs.{Programs}
+use Rattle.py_code.specs.Units.{Module}
+
+abbrev pub module_of : Program → Module
+module_of p = record { name = chars (string_bytes p.name); units = p.code }
+
+-- the script first
+abbrev pub modules_of : Programs → List Module
+modules_of ps = map module_of ps.modules.items
