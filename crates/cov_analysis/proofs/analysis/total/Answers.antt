@@ -1,0 +1,11 @@
+use Rattle.std.proofs.Common.{map, sym, ap, ◌∙◌}
+use Rattle.std.proofs.lemmas.List.{drop_all}
+use Rattle.cov_analysis.proofs.Sums.{going_on, ended}
+use Rattle.cov_analysis.specs.Counts.{numbers_of}
+use Rattle.cov_analysis.proofs.analysis.total.Goals as goal
+
+pub returns : goal.returns
+returns c =
+    sym (ended c.loop-analysis.sums c.loop-analysis.invariant.1)
+    ∙ ap (λ xs. going_on c.loop-analysis.sums (map numbers_of xs)) (sym (drop_all c.loop-analysis.analysis-index c.args.all.now c.loop-analysis-test.false))
+    ∙ c.loop-analysis.invariant.0

@@ -1,0 +1,8 @@
+//! What a report counts of a source, the sums of several, and the percentage.
+#![tactic(auto)]
+
+mod analysis;
+mod numbers;
+
+pub use analysis::{Analysis, total};
+pub use numbers::Numbers;
