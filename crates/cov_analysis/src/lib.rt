@@ -6,3 +6,6 @@ mod numbers;
 
 pub use analysis::{Analysis, total};
 pub use numbers::Numbers;
+
+#[cfg(test)]
+mod tests;
