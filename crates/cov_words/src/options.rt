@@ -87,14 +87,7 @@ impl CommandName {
                     | OptionName::DataFile
                     | OptionName::Rcfile
             ),
-            CommandName::Json => matches!(
-                option,
-                OptionName::Output
-                    | OptionName::FailUnder
-                    | OptionName::DataFile
-                    | OptionName::Rcfile
-            ),
-            CommandName::Lcov => matches!(
+            CommandName::Json | CommandName::Lcov => matches!(
                 option,
                 OptionName::Output
                     | OptionName::FailUnder
