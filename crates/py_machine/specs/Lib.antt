@@ -1,0 +1,4 @@
+pub mod Operands
+pub mod Locals
+pub mod Globals
+pub mod View
