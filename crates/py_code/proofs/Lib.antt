@@ -7,4 +7,4 @@ pub mod Codes
 pub mod Ahead
 pub mod Rows
 mod SlotLaws
-mod OneMachine
+pub mod OneMachine

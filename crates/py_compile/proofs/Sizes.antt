@@ -20,11 +20,11 @@ option_length : (g : Option Guard) (p : ℕ) (e : Option Expr) → length (optio
 option_length g p None = refl
 option_length g p (Some e) = expr_length g p e
 
-import_length : (g : Option Guard) (names : List Alias) → length (import_code g names) ≡ import_size names
+pub import_length : (g : Option Guard) (names : List Alias) → length (import_code g names) ≡ import_size names
 import_length g [] = refl
 import_length g (a ∷ rest) = let h = import_length g rest in omega arith
 
-take_length : (g : Option Guard) (m : Text) (names : List Alias) → length (take_code g m names) ≡ take_size names
+pub take_length : (g : Option Guard) (m : Text) (names : List Alias) → length (take_code g m names) ≡ take_size names
 take_length g m [] = refl
 take_length g m (a ∷ rest) = let h = take_length g m rest in omega arith
 
@@ -64,19 +64,19 @@ assert_length : (g : Option Guard) (p : ℕ) (e : Option Expr) → length (asser
 assert_length g p None = refl
 assert_length g p (Some e) = both (expr_code g p e) _ (expr_size e) 1 (expr_length g p e) refl
 
-function_length : (g : Option Guard) (p u : ℕ) (es : Exprs) → length (function_code g p u es) ≡ function_size es
+pub function_length : (g : Option Guard) (p u : ℕ) (es : Exprs) → length (function_code g p u es) ≡ function_size es
 function_length g p u no_exprs = refl
 function_length g p u (exprs e es) = both (each_code g p (exprs e es)) _ (each_size (exprs e es)) 2 (each_length g p (exprs e es)) refl
 
-caught_length : (g : Option Guard) (p next : ℕ) (e : Option Expr) → length (caught_code g p next e) ≡ caught_size e
+pub caught_length : (g : Option Guard) (p next : ℕ) (e : Option Expr) → length (caught_code g p next e) ≡ caught_size e
 caught_length g p next None = refl
 caught_length g p next (Some e) = both (expr_code g p e) _ (expr_size e) 2 (expr_length g p e) refl
 
-guard_length : (g : Option Guard) (p next : ℕ) (e : Option Expr) → length (guard_code g p next e) ≡ guard_size e
+pub guard_length : (g : Option Guard) (p next : ℕ) (e : Option Expr) → length (guard_code g p next e) ≡ guard_size e
 guard_length g p next None = refl
 guard_length g p next (Some e) = both (expr_code g p e) _ (expr_size e) 1 (expr_length g p e) refl
 
-tried_length : (has : Bool) (w : Ways) (p b o c : ℕ) (f : Ways → ℕ → List Cell) (g : ℕ → List Cell) (h : ℕ → ℕ → List Cell)
+pub tried_length : (has : Bool) (w : Ways) (p b o c : ℕ) (f : Ways → ℕ → List Cell) (g : ℕ → List Cell) (h : ℕ → ℕ → List Cell)
     → ((v : Ways) (q : ℕ) → in_hand v ≡ in_hand w → length (f v q) ≡ b) → ((q : ℕ) → length (g q) ≡ o) → ((q end : ℕ) → length (h q end) ≡ c)
     → length (tried_code has w p b o c f g h) ≡ tried_size has b o c
 tried_length false w p b o c f g h hf hg hh = both (f w p) (g (p + b)) b o (hf w p refl) (hg (p + b))

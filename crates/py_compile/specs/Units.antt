@@ -12,7 +12,7 @@ use Rattle.py_code.specs.declared.unit.Constant.TheVariants.{None as NoneConstan
 use Rattle.py_code.specs.declared.unit.Handler.{Handler}
 use Rattle.py_code.specs.Units.{Code, Module}
 use Rattle.py_compile_expr.specs.Cells.{Op, constant, plain, Guard, Cell, put, instr_of, tables_of}
-use Rattle.py_compile.specs.Statements.{stmts_code}
+use Rattle.py_compile.specs.Statements.{stmts_size, stmts_code}
 use Rattle.py_compile.specs.Ways.{outermost}
 
 abbrev pub is_same_guard : Guard → Guard → Bool
@@ -39,7 +39,7 @@ handlers_of cs = ranges 0 None 0 cs
 
 -- the cells of a body, which gives None at its end
 abbrev pub body_cells : List Function → Stmts → List Cell
-body_cells fs body = stmts_code fs outermost 0 body ++ put None (constant NoneConstant) (put None (plain Return) [])
+body_cells fs body = stmts_code fs (outermost (stmts_size false body)) 0 body ++ put None (constant NoneConstant) (put None (plain Return) [])
 
 abbrev pub ops_of : Cell → Op
 ops_of c = c.op

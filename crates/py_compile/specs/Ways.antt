@@ -24,9 +24,9 @@ pub record Ways : Type 0 where
   pub depth : ℕ
   pub handled : Option ℕ
 
--- the body of a module or a function
-abbrev pub outermost : Ways
-outermost = record { on_break = out; on_continue = out; on_return = out; guard = None; depth = 0; handled = None }
+-- the body of a module or a function, whose statements end at a place. Outside of a loop `break` and `continue` lead there too
+abbrev pub outermost : (end : ℕ) → Ways
+outermost end = record { on_break = straight 0 end; on_continue = straight 0 end; on_return = out; guard = None; depth = 0; handled = None }
 
 abbrev pub lower : Route → Route
 lower out = out
@@ -61,7 +61,7 @@ is_there (Some n) = true
 abbrev pub in_hand : Ways → Bool
 in_hand w = is_there w.handled
 
--- outside of a loop there is no `break`, and the next place is as good as any
+-- `break` and `continue` lead somewhere in every body; where they led nowhere, the next place would be as good as any
 abbrev pub break_exit : Route → ℕ → Instr
 break_exit out next = Goto next
 break_exit (straight drops to) next = Leave drops to

@@ -2,6 +2,8 @@
 #![tactic(auto)]
 
 ghost use Rattle.py_compile.specs.Laws.{SizesHold, UnitsAreFaithful};
+ghost use Rattle.py_compile.specs.ProgramRuns.{ProgramsRun};
+ghost use Rattle.py_compile.specs.StatementRuns.{StatementsRun};
 
 /// Code is as long as its size says.
 pub fn sizes_hold()
@@ -11,4 +13,14 @@ pub fn sizes_hold()
 /// The units of a module are the code of its tree.
 pub fn units_are_faithful()
     ensures { UnitsAreFaithful }
+{}
+
+/// A machine that runs the code of statements does what they mean.
+pub fn statements_run()
+    ensures { StatementsRun }
+{}
+
+/// A machine that runs faithful code of modules does what these mean.
+pub fn programs_run()
+    ensures { ProgramsRun }
 {}

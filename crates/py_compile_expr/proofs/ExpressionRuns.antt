@@ -88,7 +88,7 @@ holds_value {A} {B} R Q m k s n h next = by_result (m s n) h
     by_result (done a t j) q = by_answer a t j q
     by_result (cut t) q = tt
 
-each_counts : (c : Calls) (p : Place) (es : Exprs) (s : State) (n : ℕ) → Holds (λ vs. length vs ≡ count es) (eval_each c p es s n)
+pub each_counts : (c : Calls) (p : Place) (es : Exprs) (s : State) (n : ℕ) → Holds (λ vs. length vs ≡ count es) (eval_each c p es s n)
 unfolding eval_each give
 each_counts c p no_exprs s n = refl
 each_counts c p (exprs e es) s n =
@@ -104,34 +104,34 @@ module _ (cs : List Module) (ms : List LoadedModule) (matches : Matches cs ms) (
   N = by_names cs
 
   -- an end that is another number
-  ends_at : {A : Type 0} (leaves : A → List Operand → List Operand) (g : Option Guard) (m n : ℕ) (st : List Operand) (r : Res (Ans A)) (x : End) → m ≡ n
+  pub ends_at : {A : Type 0} (leaves : A → List Operand → List Operand) (g : Option Guard) (m n : ℕ) (st : List Operand) (r : Res (Ans A)) (x : End) → m ≡ n
       → x ≡ after cs w leaves g m st r → x ≡ after cs w leaves g n st r
   ends_at leaves g m n st r x e h = h ∙ ap (λ q. after cs w leaves g q st r) e
 
   -- the value of an expression, and what goes on with it
-  then_value : {B : Type 0} (leaves : B → List Operand → List Operand) (g : Option Guard) (mid end : ℕ) (ys st : List Operand) (e : Expr) (next : PlainValue → M (Ans B)) (first : End) (s : State) (n : ℕ)
+  pub then_value : {B : Type 0} (leaves : B → List Operand → List Operand) (g : Option Guard) (mid end : ℕ) (ys st : List Operand) (e : Expr) (next : PlainValue → M (Ans B)) (first : End) (s : State) (n : ℕ)
       → first ≡ after cs w on_top g mid ys (eval c pl e s n) → ((x : PlainRaised) (t : State) (j : ℕ) → thrown cs w g ys x t j ≡ thrown cs w g st x t j)
       → ((v : PlainValue) (t : State) (j : ℕ) → j ≤ n → from cs w mid (of_value v ∷ ys) t j ≡ after cs w leaves g end st (next v t j)) → first ≡ after cs w leaves g end st (value (eval c pl e) next s n)
   then_value leaves g mid end ys st e next first s n h same go =
       runs_on cs w on_top leaves Any g mid end ys st (eval c pl e) next first s n h (at_most (eval c pl e) (steady-eval c calls.steady pl e) s n) (holds_any (eval c pl e s n)) same (λ v t j le q. go v t j le)
 
-  unchanged : (g : Option Guard) (st : List Operand) (x : PlainRaised) (t : State) (j : ℕ) → thrown cs w g st x t j ≡ thrown cs w g st x t j
+  pub unchanged : (g : Option Guard) (st : List Operand) (x : PlainRaised) (t : State) (j : ℕ) → thrown cs w g st x t j ≡ thrown cs w g st x t j
   unchanged g st x t j = refl
 
   -- what the setting answers, and what goes on with it
-  then_asks : {A B : Type 0} (f : A → List Operand → List Operand) (leaves : B → List Operand → List Operand) (g : Option Guard) (mid end : ℕ) (ys st : List Operand) (q : Setting → Ans A) (next : A → M (Ans B))
+  pub then_asks : {A B : Type 0} (f : A → List Operand → List Operand) (leaves : B → List Operand → List Operand) (g : Option Guard) (mid end : ℕ) (ys st : List Operand) (q : Setting → Ans A) (next : A → M (Ans B))
       (first : End) (s : State) (n : ℕ) → first ≡ after cs w f g mid ys (ask q s n) → ((x : PlainRaised) (t : State) (j : ℕ) → thrown cs w g ys x t j ≡ thrown cs w g st x t j)
       → ((a : A) (t : State) (j : ℕ) → j ≤ n → from cs w mid (f a ys) t j ≡ after cs w leaves g end st (next a t j)) → first ≡ after cs w leaves g end st (value (ask q) next s n)
   then_asks f leaves g mid end ys st q next first s n h same go =
       runs_on cs w f leaves Any g mid end ys st (ask q) next first s n h (at_most (ask q) (steady-ask q) s n) (holds_any (ask q s n)) same (λ a t j le x. go a t j le)
 
-  then_works : {A B : Type 0} (f : A → List Operand → List Operand) (leaves : B → List Operand → List Operand) (g : Option Guard) (mid end : ℕ) (ys st : List Operand) (q : PlainHeap → Ans (A × PlainHeap))
+  pub then_works : {A B : Type 0} (f : A → List Operand → List Operand) (leaves : B → List Operand → List Operand) (g : Option Guard) (mid end : ℕ) (ys st : List Operand) (q : PlainHeap → Ans (A × PlainHeap))
       (next : A → M (Ans B)) (first : End) (s : State) (n : ℕ) → first ≡ after cs w f g mid ys (work q s n) → ((x : PlainRaised) (t : State) (j : ℕ) → thrown cs w g ys x t j ≡ thrown cs w g st x t j)
       → ((a : A) (t : State) (j : ℕ) → j ≤ n → from cs w mid (f a ys) t j ≡ after cs w leaves g end st (next a t j)) → first ≡ after cs w leaves g end st (value (work q) next s n)
   then_works f leaves g mid end ys st q next first s n h same go =
       runs_on cs w f leaves Any g mid end ys st (work q) next first s n h (at_most (work q) (steady-work q) s n) (holds_any (work q s n)) same (λ a t j le x. go a t j le)
 
-  then_gives : {A B : Type 0} (f : A → List Operand → List Operand) (leaves : B → List Operand → List Operand) (g : Option Guard) (mid end : ℕ) (ys st : List Operand) (a : Ans A) (next : A → M (Ans B))
+  pub then_gives : {A B : Type 0} (f : A → List Operand → List Operand) (leaves : B → List Operand → List Operand) (g : Option Guard) (mid end : ℕ) (ys st : List Operand) (a : Ans A) (next : A → M (Ans B))
       (first : End) (s : State) (n : ℕ) → first ≡ after cs w f g mid ys (done a s n) → ((x : PlainRaised) (t : State) (j : ℕ) → thrown cs w g ys x t j ≡ thrown cs w g st x t j)
       → ((v : A) (t : State) (j : ℕ) → j ≤ n → from cs w mid (f v ys) t j ≡ after cs w leaves g end st (next v t j)) → first ≡ after cs w leaves g end st (value (give a) next s n)
   unfolding give
@@ -140,13 +140,13 @@ module _ (cs : List Module) (ms : List LoadedModule) (matches : Matches cs ms) (
 
   -- ---- single instructions
 
-  constant_runs : (kk : Constant) (g : Option Guard) (p : ℕ) (st : List Operand) (s : State) (n : ℕ) → StandsAt u p (cell g (constant kk)) → from cs w p st s n ≡ from cs w (p + 1) (of_value (constant_value kk) ∷ st) s n
+  pub constant_runs : (kk : Constant) (g : Option Guard) (p : ℕ) (st : List Operand) (s : State) (n : ℕ) → StandsAt u p (cell g (constant kk)) → from cs w p st s n ≡ from cs w (p + 1) (of_value (constant_value kk) ∷ st) s n
   constant_runs kk g p st s n at =
       let next : suc p ≡ p + 1 = omega arith in
       led cs w u is p (p + 1) _ st (of_value (constant_value kk) ∷ st) s s n at.instr (omega arith)
       (ap (λ o. where_found o (conf w p st s n) (λ x. pushes (constant_value x) st (conf w p st s n))) at.knows ∙ ap (λ q. Goes (conf w q (of_value (constant_value kk) ∷ st) s n)) next)
 
-  name_runs : (x : Text) (g : Option Guard) (p : ℕ) (st : List Operand) (s : State) (n : ℕ) → StandsAt u p (cell g (load x)) → Fits g (p + 1) (length st)
+  pub name_runs : (x : Text) (g : Option Guard) (p : ℕ) (st : List Operand) (s : State) (n : ℕ) → StandsAt u p (cell g (load x)) → Fits g (p + 1) (length st)
       → from cs w p st s n ≡ after cs w on_top g (p + 1) st (ask (fetched pl.scope x) s n)
   unfolding ask read give
   name_runs x g p st s n at fits = by_scope (is_among u.locals x) at.instr at.knows
@@ -181,7 +181,7 @@ module _ (cs : List Module) (ms : List LoadedModule) (matches : Matches cs ms) (
     steps_run f vs zero h = goes_on cs w u is (conf w p xs s zero) _ (moves cs w u is p i xs s zero at ∙ h) tt
     steps_run f vs (suc m) h = goes_on cs w u is (conf w p xs s (suc m)) _ (moves cs w u is p i xs s (suc m) at ∙ h) refl
 
-    frame_runs : (f : CodeId) (v : Code) → unit_at cs f ≡ Some v → (vs : List PlainValue) → act N cs u i xs (conf w p xs s n) ≡ entering N cs f vs st (conf w p xs s n)
+    pub frame_runs : (f : CodeId) (v : Code) → unit_at cs f ≡ Some v → (vs : List PlainValue) → act N cs u i xs (conf w p xs s n) ≡ entering N cs f vs st (conf w p xs s n)
         → from cs w p xs s n ≡ after cs w on_top g (p + 1) st (enter (c f.module f.unit vs) s n)
     unfolding enter read give
     frame_runs f v found vs e = by_depth (nat_lt s.now.frames most_frames) e
@@ -269,7 +269,7 @@ module _ (cs : List Module) (ms : List LoadedModule) (matches : Matches cs ms) (
 
   -- ---- by the truth of a value
 
-  branch_is : {A : Type 0} (v : PlainValue) (m l : M A) (s : State) (n : ℕ) → branch v m l s n ≡ (if truth_of v s.now.world.heap then m s n else l s n)
+  pub branch_is : {A : Type 0} (v : PlainValue) (m l : M A) (s : State) (n : ℕ) → branch v m l s n ≡ (if truth_of v s.now.world.heap then m s n else l s n)
   unfolding branch read
   branch_is v m l s n = by_case (truth_of v s.now.world.heap)
     where
@@ -280,13 +280,13 @@ module _ (cs : List Module) (ms : List LoadedModule) (matches : Matches cs ms) (
   -- ---- expressions
 
   -- behind values, a handler finds what it found
-  over_values : (g : Option Guard) (end : ℕ) (vs : List PlainValue) (st : List Operand) → Fits g end (length st) → (x : PlainRaised) (t : State) (j : ℕ) → thrown cs w g (pushed vs st) x t j ≡ thrown cs w g st x t j
+  pub over_values : (g : Option Guard) (end : ℕ) (vs : List PlainValue) (st : List Operand) → Fits g end (length st) → (x : PlainRaised) (t : State) (j : ℕ) → thrown cs w g (pushed vs st) x t j ≡ thrown cs w g st x t j
   over_values g end [] st f x t j = refl
   over_values g end (v ∷ vs) st f x t j =
       over_values g end vs (of_value v ∷ st) (fits_more g end (length st) (suc (length st)) (omega arith) f) x t j ∙ thrown_over cs w g end (of_value v) st f x t j
 
   -- the parts of code that follow each other
-  part_at : (p m : ℕ) (xs ys : List Cell) → length xs ≡ m → HasAt u p (xs ++ ys) → HasAt u (p + m) ys
+  pub part_at : (p m : ℕ) (xs ys : List Cell) → length xs ≡ m → HasAt u p (xs ++ ys) → HasAt u (p + m) ys
   part_at p m xs ys e h = has_behind u p m xs ys e h
 
   abbrev Runs : Expr → Type 0

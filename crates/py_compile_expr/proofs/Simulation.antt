@@ -110,7 +110,7 @@ module _ (cs : List Module) (w : Spot) where
     lower_land c None out e f gs v h le = h
     lower_land c (Some k) out e f gs v h le = (omega arith, refl)
 
-    lower_leave : (c : Configuration Names) (e : PlainRaised) (k : CodeId) (gs : List (Frame Names)) (v : Effects) → callers_rank N cs gs ≤ callers_rank N cs c.callers → Lower c (leave N cs e k gs c.steps v)
+    pub lower_leave : (c : Configuration Names) (e : PlainRaised) (k : CodeId) (gs : List (Frame Names)) (v : Effects) → callers_rank N cs gs ≤ callers_rank N cs c.callers → Lower c (leave N cs e k gs c.steps v)
     lower_leave c e k [] v le = tt
     lower_leave c e k (f ∷ gs) v le =
         let x = tells (Throw e.kind) (escaped k v) in

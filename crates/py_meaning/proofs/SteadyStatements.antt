@@ -16,14 +16,14 @@ use Rattle.py_meaning.proofs.StatementLaws.{turns-zero}
 use Rattle.py_meaning.proofs.Steady.{steady-give, steady-stop, steady-chain, steady-step, steady-note, steady-write, steady-within, steady-value, steady-ask, steady-work, steady-if, steady-branch, chain-same}
 use Rattle.py_meaning.proofs.SteadyExpressions.{steady-eval, steady-each, steady-assign_to, steady-assign_all, steady-augment, steady-module_of, steady-import_each, steady-take_each}
 
-steady-throw : (e : PlainRaised) → IsSteady (throwing e)
+pub steady-throw : (e : PlainRaised) → IsSteady (throwing e)
 steady-throw e = steady-note _ _ (steady-give _)
 
 steady-on_answer : {A : Type 0} (a : Ans A) (h : A → M Out) → ((v : A) → IsSteady (h v)) → IsSteady (on_answer a h)
 steady-on_answer (Ok v) h g = g v
 steady-on_answer (Err e) h g = steady-throw e
 
-steady-using : {A : Type 0} (f : M (Ans A)) (h : A → M Out) → IsSteady f → ((v : A) → IsSteady (h v)) → IsSteady (using f h)
+pub steady-using : {A : Type 0} (f : M (Ans A)) (h : A → M Out) → IsSteady f → ((v : A) → IsSteady (h v)) → IsSteady (using f h)
 unfolding using
 steady-using f h g k = steady-chain f _ g (λ a. steady-on_answer a h k)
 
@@ -130,21 +130,21 @@ steady-failed : (c : Calls) → AreSteady c → (p : Place) (why : Option Expr) 
 steady-failed c h p None = steady-throw _
 steady-failed c h p (Some e) = steady-using _ _ (steady-value _ _ (steady-eval c h p e) (λ v. steady-give _)) (λ x. steady-throw x)
 
-steady-handle : (has : Bool) (o : Out) (h : PlainRaised → M Out) (f : M Out) → ((e : PlainRaised) → IsSteady (h e)) → IsSteady f → IsSteady (handle has o h f)
+pub steady-handle : (has : Bool) (o : Out) (h : PlainRaised → M Out) (f : M Out) → ((e : PlainRaised) → IsSteady (h e)) → IsSteady f → IsSteady (handle has o h f)
 steady-handle has normal h f g k = k
 steady-handle true (raises e t) h f g k = g e
 steady-handle false (raises e t) h f g k = steady-give _
 steady-handle has _ h f g k = steady-give _
 
-steady-settle : (o q : Out) → IsSteady (settle o q)
+pub steady-settle : (o q : Out) → IsSteady (settle o q)
 steady-settle normal (raises e true) = steady-throw e
 steady-settle _ q = steady-give _
 
-steady-caught : (c : Calls) → AreSteady c → (p : Place) (kind : Option Expr) (e : PlainRaised) → IsSteady (caught_by c p kind e)
+pub steady-caught : (c : Calls) → AreSteady c → (p : Place) (kind : Option Expr) (e : PlainRaised) → IsSteady (caught_by c p kind e)
 steady-caught c h p None e = steady-give _
 steady-caught c h p (Some t) e = steady-value _ _ (steady-eval c h p t) (λ v. steady-give _)
 
-steady-handled : (p : Scope) (x : Option Text) (e : PlainRaised) (f : M Out) → IsSteady f → IsSteady (handled p x e f)
+pub steady-handled : (p : Scope) (x : Option Text) (e : PlainRaised) (f : M Out) → IsSteady f → IsSteady (handled p x e f)
 steady-handled p x e f h = steady-write _ _ (steady-chain _ _ h (λ o. steady-write _ _ (steady-give o)))
 
 steady-on_match : (found : Match) (f : Names → M Out) (m : M Out) → ((names : Names) → IsSteady (f names)) → IsSteady m → IsSteady (on_match found f m)
@@ -176,7 +176,7 @@ mutual
   steady-exec c h p no_stmts = steady-give _
   steady-exec c h p (stmt f l x e rest) = steady-chain _ _ (steady-kind c h p f x) (λ o. steady-next o _ (steady-exec c h p rest))
 
-  steady-kind : (c : Calls) → AreSteady c → (p : Place) (l : ℕ) (x : StmtKind) → IsSteady (exec_kind c p l x)
+  pub steady-kind : (c : Calls) → AreSteady c → (p : Place) (l : ℕ) (x : StmtKind) → IsSteady (exec_kind c p l x)
   steady-kind c h p l (expr e) = steady-step _ _ (steady-using _ _ (steady-eval c h p e) (λ v. steady-give _))
   steady-kind c h p l (assign ts e) = steady-step _ _ (steady-using _ _ (steady-value _ _ (steady-eval c h p e) (λ v. steady-assign_all c h p ts v)) (λ u. steady-give _))
   steady-kind c h p l (aug_assign t op e) = steady-step _ _ (steady-using _ _ (steady-augment c h p t op e) (λ u. steady-give _))
@@ -200,27 +200,27 @@ mutual
   steady-kind c h p l (def x ps ds comma b) = steady-step _ _ (steady-using _ _ (steady-defaults c h p ds) (λ a. steady-write _ _ (steady-give _)))
   steady-kind c h p l (match e header cs) = steady-step _ _ (steady-using _ _ (steady-eval c h p e) (λ v. steady-cases c h p cs v))
 
-  steady-opt : (c : Calls) → AreSteady c → (p : Place) (b : OptSuite) → IsSteady (exec_opt c p b)
+  pub steady-opt : (c : Calls) → AreSteady c → (p : Place) (b : OptSuite) → IsSteady (exec_opt c p b)
   steady-opt c h p no_suite = steady-give _
   steady-opt c h p (has_suite (suite f l inline b)) = steady-exec c h p b
 
-  steady-arms : (c : Calls) → AreSteady c → (p : Place) (xs : Arms) (o : M Out) → IsSteady o → IsSteady (exec_arms c p xs o)
+  pub steady-arms : (c : Calls) → AreSteady c → (p : Place) (xs : Arms) (o : M Out) → IsSteady o → IsSteady (exec_arms c p xs o)
   steady-arms c h p no_arms o k = k
   steady-arms c h p (arm t (suite f l inline b) rest) o k =
       steady-step _ _ (steady-using _ _ (steady-eval c h p t) (λ v. steady-branch v _ _ (steady-exec c h p b) (steady-arms c h p rest o k)))
 
-  steady-clauses : (c : Calls) → AreSteady c → (p : Place) (cs : Clauses) (e : PlainRaised) → IsSteady (exec_clauses c p cs e)
+  pub steady-clauses : (c : Calls) → AreSteady c → (p : Place) (cs : Clauses) (e : PlainRaised) → IsSteady (exec_clauses c p cs e)
   steady-clauses c h p no_clauses e = steady-throw e
   steady-clauses c h p (clause t x (suite f l inline b) rest) e =
       steady-step _ _ (steady-using _ _ (steady-caught c h p t e) (λ yes. steady-if yes _ _
       (steady-handled p.scope x e (exec c (in_clause p e) b) (steady-exec c h (in_clause p e) b))
       (steady-clauses c h p rest e)))
 
-  steady-finally : (c : Calls) → AreSteady c → (p : Place) (b : OptSuite) (o : Out) → IsSteady (exec_finally c p b o)
+  pub steady-finally : (c : Calls) → AreSteady c → (p : Place) (b : OptSuite) (o : Out) → IsSteady (exec_finally c p b o)
   steady-finally c h p no_suite o = steady-give _
   steady-finally c h p (has_suite (suite f l inline b)) o = steady-chain _ _ (steady-exec c h p b) (λ q. steady-settle q o)
 
-  steady-cases : (c : Calls) → AreSteady c → (p : Place) (cs : Cases) (v : PlainValue) → IsSteady (exec_cases c p cs v)
+  pub steady-cases : (c : Calls) → AreSteady c → (p : Place) (cs : Cases) (v : PlainValue) → IsSteady (exec_cases c p cs v)
   steady-cases c h p no_cases v = steady-give _
   steady-cases c h p (case q g (suite f l inline b) rest) v =
       steady-step _ _ (steady-using _ _ (steady-ask _) (λ found. steady-on_match found _ _
