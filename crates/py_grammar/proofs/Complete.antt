@@ -6,11 +6,11 @@ use Rattle.py_syntax.specs.Tree as tree_
 use Rattle.py_syntax.specs.Kinds.{Kind, Str, FString, End, kinds_of}
 use Rattle.py_syntax.specs.Tokens.{strings, tokens, fragments, pieces}
 use Rattle.py_syntax.specs.Normal.{Level, LExpr, LPost, At, HasFormat, IsSomething, Normal, NormalLinks, Each, EachEntry, NormalBound, NormalFragments, NormalParts}
-use Rattle.py_grammar.specs.Roles.{Role, r_string, r_format, r_bad_format}
-use Rattle.py_grammar.specs.Machine.{snoc_plain, snoc_format, has_format, texts, strings_of, any, Ctx, Outside, Want, Have, Strings, Out, upto, begin, give, step, start, format_role, role, parts, field_expr, run}
-use Rattle.py_grammar.proofs.Fine.{SomeStrings}
+use Rattle.py_grammar.specs.TokenClasses.{TokenClass, t_string, t_format, t_bad_format}
+use Rattle.py_grammar.specs.Machine.{snoc_plain, snoc_format, has_format, texts, strings_of, any, Ctx, Outside, Want, Have, Strings, Out, upto, begin, give, step, start, format_class, class, parts, field_expr, run}
+use Rattle.py_grammar.proofs.Valid.{SomeStrings}
 use Rattle.py_grammar.proofs.Spelled.{outcome, with_field}
-use Rattle.py_grammar.proofs.Passes.{Behind, behind, is_string}
+use Rattle.py_grammar.proofs.Passes.{After, after, is_string}
 use Rattle.py_grammar.proofs.Opens.{tokens_append, field_of_run}
 use Rattle.py_grammar.proofs.Operators.{Back, AllBackLinks, back_not, back_unary, back_or, back_and, back_binary, back_compare, back_cond}
 use Rattle.py_grammar.proofs.Enclosed.{AllBack, AllBackPairs, BackBound, read_all, back_one, back_many, back_paren, back_list, back_call, back_attr, back_index, back_index_one, back_index_many, back_slice, back_dict}
@@ -46,30 +46,30 @@ AllFormats no_fragments = Unit {0}
 AllFormats (plain x fs) = AllFormats fs
 AllFormats (format ps fs) = (parts (pieces ps) ≡ Some ps) × AllFormats fs
 
-pub give_strings : (fs : Fragments) (k : Ctx) (t : Role) → is_string t ≡ false → step (Strings fs k) t ≡ give (strings_of fs) k t
-give_strings fs k (r_string x) q = absurd cc
-give_strings fs k (r_format ps) q = absurd cc
-give_strings fs k (r_bad_format ps) q = absurd cc
+pub give_strings : (fs : Fragments) (k : Ctx) (t : TokenClass) → is_string t ≡ false → step (Strings fs k) t ≡ give (strings_of fs) k t
+give_strings fs k (t_string x) q = absurd cc
+give_strings fs k (t_format ps) q = absurd cc
+give_strings fs k (t_bad_format ps) q = absurd cc
 give_strings fs k t q = refl
 
-have_strings : (fs : Fragments) (k : Ctx) (rest : List Kind) → Behind 10 rest → run (Strings fs k) rest ≡ run (Have (strings_of fs) k) rest
+have_strings : (fs : Fragments) (k : Ctx) (rest : List Kind) → After 10 rest → run (Strings fs k) rest ≡ run (Have (strings_of fs) k) rest
 have_strings fs k [] b = refl
-have_strings fs k (t ∷ ts) b = ap (λ (o : Out). outcome o t ts) (give_strings fs k (role t) b.1)
+have_strings fs k (t ∷ ts) b = ap (λ (o : Out). outcome o t ts) (give_strings fs k (class t) b.1)
 
 read_fragments : (gs : Fragments) → AllFormats gs → (fs : Fragments) (k : Ctx) (rest : List Kind) → run (Strings fs k) (fragments gs rest) ≡ run (Strings (join_fragments fs gs) k) rest
 read_fragments no_fragments all fs k rest = ap (λ (x : Fragments). run (Strings x k) rest) (sym (join_no_more fs))
 read_fragments (plain x gs) all fs k rest = read_fragments gs all (snoc_plain fs x) k rest ∙ ap (λ (x : Fragments). run (Strings x k) rest) (join_plain fs x gs)
 read_fragments (format ps gs) all fs k rest =
-    ap (λ (o : Option Parts). outcome (step (Strings fs k) (format_role (pieces ps) o)) (FString (pieces ps)) (fragments gs rest)) all.0
+    ap (λ (o : Option Parts). outcome (step (Strings fs k) (format_class (pieces ps) o)) (FString (pieces ps)) (fragments gs rest)) all.0
     ∙ read_fragments gs all.1 (snoc_format fs ps) k rest
     ∙ ap (λ (x : Fragments). run (Strings x k) rest) (join_format fs ps gs)
 
-read_strings : (fs : Fragments) → SomeStrings fs → AllFormats fs → (lev : Level) (k : Ctx) (rest : List Kind) → Behind 10 rest → run (Want lev k) (fragments fs rest) ≡ run (Have (strings_of fs) (upto lev LPost k)) rest
+read_strings : (fs : Fragments) → SomeStrings fs → AllFormats fs → (lev : Level) (k : Ctx) (rest : List Kind) → After 10 rest → run (Want lev k) (fragments fs rest) ≡ run (Have (strings_of fs) (upto lev LPost k)) rest
 unfolding join_fragments
 read_strings no_fragments some all lev k rest b = absurd some
 read_strings (plain x fs) some all lev k rest b = read_fragments fs all (plain x no_fragments) (upto lev LPost k) rest ∙ have_strings (plain x fs) (upto lev LPost k) rest b
 read_strings (format ps fs) some all lev k rest b =
-    ap (λ (o : Option Parts). outcome (begin lev k (format_role (pieces ps) o)) (FString (pieces ps)) (fragments fs rest)) all.0
+    ap (λ (o : Option Parts). outcome (begin lev k (format_class (pieces ps) o)) (FString (pieces ps)) (fragments fs rest)) all.0
     ∙ read_fragments fs all.1 (format ps no_fragments) (upto lev LPost k) rest
     ∙ have_strings (format ps fs) (upto lev LPost k) rest b
 
@@ -97,7 +97,7 @@ back_str xs some lev k rest low h f =
     let all = plains_plain xs in
     let is : strings_of (plains xs) ≡ str xs = ap (λ (b : Bool). cond b (fstr (plains xs)) (str (texts (plains xs)))) all.0 ∙ ap (λ (z : List Text). str z) all.1 in
     ap (run (Want lev k)) (plains_spelled xs rest)
-    ∙ read_strings (plains xs) (some_plains xs some) all.2 lev k rest (behind LPost 10 rest (omega arith) (omega arith) f)
+    ∙ read_strings (plains xs) (some_plains xs some) all.2 lev k rest (after LPost 10 rest (omega arith) (omega arith) f)
     ∙ ap (λ (e : Expr). run (Have e (upto lev LPost k)) rest) is
 
 format_some : (fs : Fragments) → HasFormat fs → SomeStrings fs × (has_format fs ≡ true)
@@ -110,7 +110,7 @@ format_some (format ps fs) h = (tt, refl)
 back_fstr : (fs : Fragments) → HasFormat fs → AllFormats fs → Back (fstr fs)
 back_fstr fs some all lev k rest low h f =
     let is = format_some fs some in
-    read_strings fs is.0 all lev k rest (behind LPost 10 rest (omega arith) (omega arith) f)
+    read_strings fs is.0 all lev k rest (after LPost 10 rest (omega arith) (omega arith) f)
     ∙ ap (λ (b : Bool). run (Have (cond b (fstr fs) (str (texts fs))) (upto lev LPost k)) rest) is.1
 
 -- a field is what its tokens spell

@@ -5,11 +5,11 @@ use Rattle.py_syntax.specs.Tree.{Text, Expr, tuple, list, dict, paren, call, ind
 use Rattle.py_syntax.specs.Kinds.{Kind, Name, Sign}
 use Rattle.py_syntax.specs.Tokens.{tokens, items, more, more_entries, bound}
 use Rattle.py_syntax.specs.Normal.{Level, LEnd, LExprs, LExpr, LPost, rank, level, At, Normal, NormalItems, Each, NormalEntries, EachEntry, NormalBound}
-use Rattle.py_grammar.specs.Roles.{binds}
-use Rattle.py_grammar.specs.Machine.{snoc, snoc_pair, Opener, a_call, a_list, made, exprs_first, exprs_rest, post_rest, in_items, index_first, in_index, slice_to, in_paren, in_key, in_value, Ctx, on, Want, Have, AfterOpen, AfterComma, ItemsOpen, ItemsComma, DictOpen, DictComma, IndexOpen, SliceColon, Out, upto_exprs, upto_term, upto, begin, give, role, run}
-use Rattle.py_grammar.proofs.Fine.{highest}
+use Rattle.py_grammar.specs.TokenClasses.{binds}
+use Rattle.py_grammar.specs.Machine.{snoc, snoc_pair, Opener, a_call, a_list, made, exprs_first, exprs_rest, post_rest, in_items, index_first, in_index, slice_to, in_paren, in_key, in_value, Ctx, on, Want, Have, AfterOpen, AfterComma, ItemsOpen, ItemsComma, DictOpen, DictComma, IndexOpen, SliceColon, Out, upto_exprs, upto_term, upto, begin, give, class, run}
+use Rattle.py_grammar.proofs.Valid.{highest}
 use Rattle.py_grammar.proofs.Spelled.{outcome}
-use Rattle.py_grammar.proofs.Passes.{pass_exprs, pass_rest, Behind, Ends, stops, behind_binds, behind_more, ends_behind, follows, follows_end, ends, stops_expr, settles, is_string}
+use Rattle.py_grammar.proofs.Passes.{pass_exprs, pass_rest, After, Ends, stops, after_binds, after_more, ends_after, follows, follows_end, ends, stops_expr, settles, is_string}
 use Rattle.py_grammar.proofs.Opens.{begin_alike, after_open, after_comma, items_open, items_comma, dict_open, dict_comma, index_open, slice_colon}
 use Rattle.py_grammar.proofs.Operators.{Back, level_low, read_part}
 
@@ -59,41 +59,41 @@ abbrev pub BackBound : OptExpr → Type 0
 BackBound absent = Unit {0}
 BackBound (present e) = Back e
 
-more_behind : (es : Exprs) (c : Bool) (rest : List Kind) → Ends rest → Behind 1 (more es c rest)
-more_behind no_exprs true rest b = (omega arith, refl)
-more_behind no_exprs false rest b = behind_more 0 1 rest (omega arith) (ends_behind rest b)
-more_behind (exprs e es) c rest b = (omega arith, refl)
+more_after : (es : Exprs) (c : Bool) (rest : List Kind) → Ends rest → After 1 (more es c rest)
+more_after no_exprs true rest b = (omega arith, refl)
+more_after no_exprs false rest b = after_more 0 1 rest (omega arith) (ends_after rest b)
+more_after (exprs e es) c rest b = (omega arith, refl)
 
--- an item, from its begin to the place behind it, in a stack that asks for items
-pub read_item : (e : Expr) → At LExpr e → Back e → (k : Ctx) (rest : List Kind) → Behind 1 rest → run (Want LExpr k) (tokens e rest) ≡ run (Have e k) rest
+-- an item, from its begin to the place after it, in a stack that asks for items
+pub read_item : (e : Expr) → At LExpr e → Back e → (k : Ctx) (rest : List Kind) → After 1 rest → run (Want LExpr k) (tokens e rest) ≡ run (Have e k) rest
 read_item e a ih k rest b = read_part e ih LExpr (omega arith) a k rest 1 b (stops_expr (level e) a) LExpr a (omega arith)
 
 -- what stands up to a token that ends everything
 pub read_all : (e : Expr) → Back e → (k : Ctx) (rest : List Kind) → Ends rest → run (Want LExprs k) (tokens e rest) ≡ run (Have e k) rest
 read_all e ih k rest b =
     ih LExprs k rest (omega arith) (level_low e) (follows_end (level e) rest b)
-    ∙ settles LExprs LEnd (level e) e k rest (omega arith) (behind_binds 0 0 rest (omega arith) (ends_behind rest b))
+    ∙ settles LExprs LEnd (level e) e k rest (omega arith) (after_binds 0 0 rest (omega arith) (ends_after rest b))
 
 -- ---- tuples
 
 have_tuple : (f e : Expr) (es : Exprs) (k : Ctx) (rest : List Kind) → Ends rest → run (Have e (on (exprs_rest f es) k)) rest ≡ run (Have (tuple (exprs f (snoc es e)) false) k) rest
 have_tuple f e es k [] b = refl
-have_tuple f e es k (t ∷ ts) b = ap (λ (o : Out). outcome o t ts) (pass_rest f es e k (role t) b.0)
+have_tuple f e es k (t ∷ ts) b = ap (λ (o : Out). outcome o t ts) (pass_rest f es e k (class t) b.0)
 
 have_comma : (f : Expr) (es : Exprs) (k : Ctx) (rest : List Kind) → Ends rest → run (AfterComma f es k) rest ≡ run (Have (tuple (exprs f es) true) k) rest
 have_comma f es k [] b = refl
-have_comma f es k (t ∷ ts) b = ap (λ (c : Bool). outcome (cond c (begin LExpr (on (exprs_rest f es) k) (role t)) (give (tuple (exprs f es) true) k (role t))) t ts) b.1
+have_comma f es k (t ∷ ts) b = ap (λ (c : Bool). outcome (cond c (begin LExpr (on (exprs_rest f es) k) (class t)) (give (tuple (exprs f es) true) k (class t))) t ts) b.1
 
 read_more : (es : Exprs) → Each es → AllBack es → (c : Bool) (g f : Expr) (ds : Exprs) (k : Ctx) (rest : List Kind) → Ends rest → run (Have g (on (exprs_rest f ds) k)) (more es c rest) ≡ run (Have (tuple (exprs f (join_exprs (snoc ds g) es)) c) k) rest
 read_more no_exprs each ih true g f ds k rest b = have_comma f (snoc ds g) k rest b ∙ ap (λ (x : Exprs). run (Have (tuple (exprs f x) true) k) rest) (sym (join_none (snoc ds g)))
 read_more no_exprs each ih false g f ds k rest b = have_tuple f g ds k rest b ∙ ap (λ (x : Exprs). run (Have (tuple (exprs f x) false) k) rest) (sym (join_none (snoc ds g)))
 read_more (exprs e es) each ih c g f ds k rest b =
     begin_alike (AfterComma f (snoc ds g) k) (Want LExpr (on (exprs_rest f (snoc ds g)) k)) e (more es c rest) each.1 (after_comma f (snoc ds g) k)
-    ∙ read_item e each.0 ih.0 (on (exprs_rest f (snoc ds g)) k) (more es c rest) (more_behind es c rest b)
+    ∙ read_item e each.0 ih.0 (on (exprs_rest f (snoc ds g)) k) (more es c rest) (more_after es c rest b)
     ∙ read_more es each.2 ih.1 c e f (snoc ds g) k rest b
     ∙ ap (λ (x : Exprs). run (Have (tuple (exprs f x) c) k) rest) (join_snoc (snoc ds g) e es)
 
--- behind the first comma
+-- after the first comma
 one_more : (f : Expr) (c : Bool) → c ≡ true → (k : Ctx) (rest : List Kind) → Ends rest → run (AfterComma f no_exprs k) rest ≡ run (Have (tuple (exprs f no_exprs) c) k) rest
 one_more f c is k rest b = have_comma f no_exprs k rest b ∙ ap (λ (x : Bool). run (Have (tuple (exprs f no_exprs) x) k) rest) (sym is)
 
@@ -101,7 +101,7 @@ many_more : (f g : Expr) (es : Exprs) (c : Bool) → At LExpr g → Normal g →
 unfolding join_exprs
 many_more f g es c ag ng each ihg ihs k rest b =
     begin_alike (AfterComma f no_exprs k) (Want LExpr (on (exprs_rest f no_exprs) k)) g (more es c rest) ng (after_comma f no_exprs k)
-    ∙ read_item g ag ihg (on (exprs_rest f no_exprs) k) (more es c rest) (more_behind es c rest b)
+    ∙ read_item g ag ihg (on (exprs_rest f no_exprs) k) (more es c rest) (more_after es c rest b)
     ∙ read_more es each ihs c g f no_exprs k rest b
 
 exprs_first_open : (lev : Level) (k : Ctx) → 1 ≤ rank lev → rank lev ≤ 1 → upto_exprs lev k ≡ on exprs_first k
@@ -110,7 +110,7 @@ exprs_first_open lev k low h = absurd (omega arith)
 
 past_first : (e : Expr) (k : Ctx) (rest : List Kind) → Ends rest → run (Have e k) rest ≡ run (Have e (on exprs_first k)) rest
 past_first e k [] b = refl
-past_first e k (t ∷ ts) b = ap (λ (o : Out). outcome o t ts) (sym (pass_exprs e k (role t) b.0))
+past_first e k (t ∷ ts) b = ap (λ (o : Out). outcome o t ts) (sym (pass_exprs e k (class t) b.0))
 
 -- the first item of several, and the comma
 first_item : (e : Expr) → At LExpr e → Back e → (lev : Level) (k : Ctx) (ts : List Kind) → 1 ≤ rank lev → rank lev ≤ 1 → run (Want lev k) (tokens e (Sign mark.Comma ∷ ts)) ≡ run (AfterComma e no_exprs k) ts
@@ -170,7 +170,7 @@ more_items o no_exprs each ih true g ds k rest = items_closed o (snoc ds g) k re
 more_items o no_exprs each ih false g ds k rest = item_closed o ds g k rest ∙ ap (λ (x : Exprs). run (Have (made o x false) (on post_rest k)) rest) (sym (join_none (snoc ds g)))
 more_items o (exprs e es) each ih c g ds k rest =
     begin_alike (ItemsComma o (snoc ds g) k) (Want LExpr (on (in_items o (snoc ds g)) k)) e (more es c (closer o ∷ rest)) each.1 (items_comma o (snoc ds g) k)
-    ∙ read_item e each.0 ih.0 (on (in_items o (snoc ds g)) k) (more es c (closer o ∷ rest)) (more_behind es c (closer o ∷ rest) (closer_ends o rest))
+    ∙ read_item e each.0 ih.0 (on (in_items o (snoc ds g)) k) (more es c (closer o ∷ rest)) (more_after es c (closer o ∷ rest) (closer_ends o rest))
     ∙ more_items o es each.2 ih.1 c e (snoc ds g) k rest
     ∙ ap (λ (x : Exprs). run (Have (made o x c) (on post_rest k)) rest) (join_snoc (snoc ds g) e es)
 
@@ -179,22 +179,22 @@ unfolding join_exprs
 read_items o no_exprs c n ih k rest = none_closed o c k rest n
 read_items o (exprs e es) c n ih k rest =
     begin_alike (ItemsOpen o k) (Want LExpr (on (in_items o no_exprs) k)) e (more es c (closer o ∷ rest)) n.1 (items_open o k)
-    ∙ read_item e n.0 ih.0 (on (in_items o no_exprs) k) (more es c (closer o ∷ rest)) (more_behind es c (closer o ∷ rest) (closer_ends o rest))
+    ∙ read_item e n.0 ih.0 (on (in_items o no_exprs) k) (more es c (closer o ∷ rest)) (more_after es c (closer o ∷ rest) (closer_ends o rest))
     ∙ more_items o es n.2 ih.1 c e no_exprs k rest
 
 pub back_list : (es : Exprs) (c : Bool) → NormalItems es c → AllBack es → Back (list es c)
 back_list es c n ih lev k rest low h f = read_items a_list es c n ih (upto_term lev k) rest
 
--- what is called, indexed or asked for a name, up to the token behind it
+-- what is called, indexed or asked for a name, up to the token after it
 is_post : (l : Level) → 10 ≤ rank l → l ≡ LPost
 is_post LPost h = refl
 is_post l h = absurd (omega arith)
 
-read_head : (f : Expr) → At LPost f → Back f → (lev : Level) (k : Ctx) (t : Kind) (ts : List Kind) → 1 ≤ rank lev → is_string (role t) ≡ false → run (Want lev k) (tokens f (t ∷ ts)) ≡ run (Have f (on post_rest (upto_term lev k))) (t ∷ ts)
+read_head : (f : Expr) → At LPost f → Back f → (lev : Level) (k : Ctx) (t : Kind) (ts : List Kind) → 1 ≤ rank lev → is_string (class t) ≡ false → run (Want lev k) (tokens f (t ∷ ts)) ≡ run (Have f (on post_rest (upto_term lev k))) (t ∷ ts)
 read_head f a ih lev k t ts low q =
     let post : level f ≡ LPost = is_post (level f) a in
     let any : rank lev ≤ 10 = highest lev in
-    let tight : rank (binds (role t)) ≤ 10 = highest (binds (role t)) in
+    let tight : rank (binds (class t)) ≤ 10 = highest (binds (class t)) in
     ih lev k (t ∷ ts) low (omega arith) (follows (level f) 10 (t ∷ ts) (omega arith) (ten (level f) a) (tight, q))
     ∙ ap (λ (l : Level). run (Have f (upto lev l k)) (t ∷ ts)) post
   where
@@ -236,7 +236,7 @@ back_index_many f e g es c a ae ne ag ng each ihf ihe ihg ihs lev k rest low h b
     first_index f e a ae ne ihf ihe lev k (tokens g (more es c (Sign mark.RightBracket ∷ rest))) low
     ∙ many_more e g es c ag ng each ihg ihs (on (in_index f) (upto_term lev k)) (Sign mark.RightBracket ∷ rest) (omega arith, refl)
 
--- from behind the bracket to behind the colon
+-- from after the bracket to after the colon
 slice_from : (f : Expr) (from : OptExpr) → NormalBound from → BackBound from → (k : Ctx) (ts : List Kind) → run (IndexOpen f k) (bound from (Sign mark.Colon ∷ ts)) ≡ run (SliceColon f from k) ts
 slice_from f absent n ih k ts = refl
 slice_from f (present e) n ih k ts =
@@ -260,10 +260,10 @@ back_slice f from to a nf nt ihf ihfrom ihto lev k rest low h b =
 read_key : (k : Expr) → At LExpr k → Back k → (ds : Pairs) (c : Ctx) (ts : List Kind) → run (Want LExpr (on (in_key ds) c)) (tokens k (Sign mark.Colon ∷ ts)) ≡ run (Want LExpr (on (in_value ds k) c)) ts
 read_key k a ih ds c ts = read_item k a ih (on (in_key ds) c) (Sign mark.Colon ∷ ts) (omega arith, refl)
 
-entries_behind : (ps : Pairs) (c : Bool) (rest : List Kind) → Behind 1 (more_entries ps c (Sign mark.RightBrace ∷ rest))
-entries_behind no_pairs true rest = (omega arith, refl)
-entries_behind no_pairs false rest = (omega arith, refl)
-entries_behind (pair k v ps) c rest = (omega arith, refl)
+entries_after : (ps : Pairs) (c : Bool) (rest : List Kind) → After 1 (more_entries ps c (Sign mark.RightBrace ∷ rest))
+entries_after no_pairs true rest = (omega arith, refl)
+entries_after no_pairs false rest = (omega arith, refl)
+entries_after (pair k v ps) c rest = (omega arith, refl)
 
 more_pairs : (ps : Pairs) → EachEntry ps → AllBackPairs ps → (c : Bool) (key value : Expr) (ds : Pairs) (k : Ctx) (rest : List Kind) → run (Have value (on (in_value ds key) k)) (more_entries ps c (Sign mark.RightBrace ∷ rest)) ≡ run (Have (dict (join_pairs (snoc_pair ds key value) ps) c) (on post_rest k)) rest
 more_pairs no_pairs each ih true key value ds k rest = ap (λ (x : Pairs). run (Have (dict x true) (on post_rest k)) rest) (sym (join_pairs_none (snoc_pair ds key value)))
@@ -271,7 +271,7 @@ more_pairs no_pairs each ih false key value ds k rest = ap (λ (x : Pairs). run 
 more_pairs (pair k' v' ps) each ih c key value ds k rest =
     begin_alike (DictComma (snoc_pair ds key value) k) (Want LExpr (on (in_key (snoc_pair ds key value)) k)) k' (Sign mark.Colon ∷ tokens v' (more_entries ps c (Sign mark.RightBrace ∷ rest))) each.1 (dict_comma (snoc_pair ds key value) k)
     ∙ read_key k' each.0 ih.0 (snoc_pair ds key value) k (tokens v' (more_entries ps c (Sign mark.RightBrace ∷ rest)))
-    ∙ read_item v' each.2 ih.1 (on (in_value (snoc_pair ds key value) k') k) (more_entries ps c (Sign mark.RightBrace ∷ rest)) (entries_behind ps c rest)
+    ∙ read_item v' each.2 ih.1 (on (in_value (snoc_pair ds key value) k') k) (more_entries ps c (Sign mark.RightBrace ∷ rest)) (entries_after ps c rest)
     ∙ more_pairs ps each.4 ih.2 c k' v' (snoc_pair ds key value) k rest
     ∙ ap (λ (x : Pairs). run (Have (dict x c) (on post_rest k)) rest) (join_pairs_snoc (snoc_pair ds key value) k' v' ps)
 
@@ -282,5 +282,5 @@ back_dict (pair key value ps) c n ih lev k rest low h f =
     let K = upto_term lev k in
     begin_alike (DictOpen K) (Want LExpr (on (in_key no_pairs) K)) key (Sign mark.Colon ∷ tokens value (more_entries ps c (Sign mark.RightBrace ∷ rest))) n.1 (dict_open K)
     ∙ read_key key n.0 ih.0 no_pairs K (tokens value (more_entries ps c (Sign mark.RightBrace ∷ rest)))
-    ∙ read_item value n.2 ih.1 (on (in_value no_pairs key) K) (more_entries ps c (Sign mark.RightBrace ∷ rest)) (entries_behind ps c rest)
+    ∙ read_item value n.2 ih.1 (on (in_value no_pairs key) K) (more_entries ps c (Sign mark.RightBrace ∷ rest)) (entries_after ps c rest)
     ∙ more_pairs ps n.4 ih.2 c key value no_pairs K rest

@@ -12,14 +12,14 @@ Viable {Tree = Tree} {Tok = Tok} Spells height limit front = (m : Tree) × (more
 abbrev pub Begins : {Tree Tok : Type 0} → (Tree → List Tok → Type 0) → List Tok → Type 0
 Begins {Tree = Tree} {Tok = Tok} Spells front = (m : Tree) × (more : List Tok) × Spells m (front ++ more)
 
-module _ {S Tree Tok : Type 0} (Spells : Tree → List Tok → Type 0) (height : Tree → ℕ) (start : S) (step : S → Tok → Option S) (done : S → Option Tree) (least : S → ℕ) (Fine : S → Type 0)
-    (fine_start : Fine start)
-    (fine_step : (s : S) (t : Tok) (next : S) → Fine s → step s t ≡ Some next → Fine next)
+module _ {S Tree Tok : Type 0} (Spells : Tree → List Tok → Type 0) (height : Tree → ℕ) (start : S) (step : S → Tok → Option S) (done : S → Option Tree) (least : S → ℕ) (Valid : S → Type 0)
+    (valid_start : Valid start)
+    (valid_step : (s : S) (t : Tok) (next : S) → Valid s → step s t ≡ Some next → Valid next)
     (grows : (s : S) (t : Tok) (next : S) → step s t ≡ Some next → least s ≤ least next)
     (done_least : (s : S) (m : Tree) → done s ≡ Some m → least s ≡ height m)
     (complete : (m : Tree) (ts : List Tok) → Spells m ts → (s : S) × (run step start ts ≡ Some s) × (done s ≡ Some m))
     (sound : (ts : List Tok) (s : S) (m : Tree) → run step start ts ≡ Some s → done s ≡ Some m → Spells m ts)
-    (finish : (s : S) → Fine s → (more : List Tok) × (last : S) × (m : Tree) × (run step s more ≡ Some last) × (done last ≡ Some m) × (height m ≡ least s))
+    (finish : (s : S) → Valid s → (more : List Tok) × (last : S) × (m : Tree) × (run step s more ≡ Some last) × (done last ≡ Some m) × (height m ≡ least s))
   where
     pub run_append : (s : S) (front back : List Tok) → run step s (front ++ back) ≡ elim (run step s front) as (λ (w : Option S). Option S) [ None ↦ None | Some next ↦ run step next back ]
     run_append s [] back = refl
@@ -37,13 +37,13 @@ module _ {S Tree Tok : Type 0} (Spells : Tree → List Tok → Type 0) (height :
         go None is = let both = sym h ∙ run_append s front back ∙ ap (λ (o : Option S). elim o as (λ (w : Option S). Option S) [ None ↦ None | Some next ↦ run step next back ]) is in absurd cc
         go (Some mid) is = (mid, is, sym (ap (λ (o : Option S). elim o as (λ (w : Option S). Option S) [ None ↦ None | Some next ↦ run step next back ]) is) ∙ sym (run_append s front back) ∙ h)
 
-    fine_run : (s : S) (ts : List Tok) (last : S) → Fine s → run step s ts ≡ Some last → Fine last
-    fine_run s [] last fine h = let same : s ≡ last = cc in subst Fine same fine
-    fine_run s (t ∷ ts) last fine h = go (λ next. fine_run next ts last) (step s t) refl h
+    valid_run : (s : S) (ts : List Tok) (last : S) → Valid s → run step s ts ≡ Some last → Valid last
+    valid_run s [] last valid h = let same : s ≡ last = cc in subst Valid same valid
+    valid_run s (t ∷ ts) last valid h = go (λ next. valid_run next ts last) (step s t) refl h
       where
-        go : ((next : S) → Fine next → run step next ts ≡ Some last → Fine last) → (o : Option S) → step s t ≡ o → (elim o as (λ (w : Option S). Option S) [ None ↦ None | Some next ↦ run step next ts ]) ≡ Some last → Fine last
+        go : ((next : S) → Valid next → run step next ts ≡ Some last → Valid last) → (o : Option S) → step s t ≡ o → (elim o as (λ (w : Option S). Option S) [ None ↦ None | Some next ↦ run step next ts ]) ≡ Some last → Valid last
         go rec None is h = absurd cc
-        go rec (Some next) is h = rec next (fine_step s t next fine is) h
+        go rec (Some next) is h = rec next (valid_step s t next valid is) h
 
     least_run : (s : S) (ts : List Tok) (last : S) → run step s ts ≡ Some last → least s ≤ least last
     least_run s [] last h = let same : s ≡ last = cc in subst (λ (x : S). least s ≤ least x) same (omega arith)
@@ -56,7 +56,7 @@ module _ {S Tree Tok : Type 0} (Spells : Tree → List Tok → Type 0) (height :
     -- A prefix is viable under a limit exactly where the machine passes it at no greater least height.
     pub viable_from : (limit : ℕ) (front : List Tok) (s : S) → run step start front ≡ Some s → least s ≤ limit → Viable Spells height limit front
     viable_from limit front s h low =
-        let f = finish s (fine_run start front s fine_start h) in
+        let f = finish s (valid_run start front s valid_start h) in
         let all : run step start (front ++ f.0) ≡ Some f.1 = run_append start front f.0 ∙ ap (λ (o : Option S). elim o as (λ (w : Option S). Option S) [ None ↦ None | Some next ↦ run step next f.0 ]) h ∙ f.3 in
         let is = f.5 in
         (f.2, f.0, sound (front ++ f.0) f.1 f.2 all f.4, omega arith)

@@ -5,7 +5,7 @@ use Rattle.py_syntax.specs.declared.expr.Comparison.TheVariants.{Op}
 use Rattle.py_syntax.specs.Tree.{Expr, tuple, list, dict, paren, not', or, unary, compare, call, index, slice, Exprs, no_exprs, exprs, Pairs, no_pairs, pair, Links, no_links, link, present}
 use Rattle.py_syntax.specs.Tree as tree_
 use Rattle.py_syntax.specs.Normal.{is_target, are_targets, height, heights, height_entries, height_links}
-use Rattle.py_grammar.specs.Roles.{Joint, j_or, j_and, j_op, joined}
+use Rattle.py_grammar.specs.TokenClasses.{BinaryOperator, b_or, b_and, b_op, joined}
 use Rattle.py_grammar.specs.Machine.{snoc, snoc_pair, snoc_link, any, one, target, targets, a_call, a_list, exprs_first, exprs_rest, cond_first, cond_test, cond_else, first, right, not_of, compare_first, compare_rest, unary_of, post_rest, in_items, index_first, in_index, slice_to, in_paren, in_key, in_value, Ctx, Outside, on}
 use Rattle.py_grammar.specs.Least.{least_name, as_target, target_if, wants, fit, whole}
 use Rattle.py_grammar.proofs.Finish.{as_target_is, as_target_same}
@@ -28,15 +28,15 @@ pub links_snoc : (ls : Links) (op : Comparison) (e : Expr) → height_links (sno
 links_snoc no_links op e = omega arith
 links_snoc (link op' e' ls) op e = let h = links_snoc ls op e in omega arith
 
-pub joined_height : (j : Joint) (a b : Expr) → height (joined j a b) ≡ suc (max (height a) (height b))
-joined_height j_or a b = refl
-joined_height j_and a b = refl
-joined_height (j_op op) a b = refl
+pub joined_height : (j : BinaryOperator) (a b : Expr) → height (joined j a b) ≡ suc (max (height a) (height b))
+joined_height b_or a b = refl
+joined_height b_and a b = refl
+joined_height (b_op op) a b = refl
 
-pub joined_target : (j : Joint) (a b : Expr) → is_target (joined j a b) ≡ false
-joined_target j_or a b = refl
-joined_target j_and a b = refl
-joined_target (j_op op) a b = refl
+pub joined_target : (j : BinaryOperator) (a b : Expr) → is_target (joined j a b) ≡ false
+joined_target b_or a b = refl
+joined_target b_and a b = refl
+joined_target (b_op op) a b = refl
 
 -- ---- targets
 
@@ -87,7 +87,7 @@ less true e f h imp = (imp, go (is_target e) (is_target f) imp)
     go false true i = let no_way = i refl in absurd cc
     go false false i = omega arith
 
--- behind what is no target
+-- after what is no target
 pub less_none : (w : Bool) (e f : Expr) → height e ≤ height f → is_target f ≡ false → Less w e f
 less_none w e f h is = less w e f h (λ yes_it. let no_way = sym is ∙ yes_it in absurd cc)
 

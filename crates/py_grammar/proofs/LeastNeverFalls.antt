@@ -8,7 +8,7 @@ use Rattle.py_syntax.specs.declared.expr.Sign.TheVariants as sign_
 use Rattle.py_syntax.specs.Tree.{Text, Expr, name, int, str, fstr, none, bool, tuple, list, dict, paren, not', unary, compare, call, index, slice, attr, Exprs, no_exprs, exprs, no_pairs, pair, Links, no_links, link, absent, present, Fragments, no_fragments, plain, format, Parts}
 use Rattle.py_syntax.specs.Tree as tree_
 use Rattle.py_syntax.specs.Normal.{Level, LExprs, LExpr, LOr, LNot, LSum, LUnary, LPost, is_target, are_targets, height, height_fragments, height_parts}
-use Rattle.py_grammar.specs.Roles.{j_op, Role, r_name, r_int, r_none, r_bool, r_string, r_format, r_bad_format, r_not, r_is, r_if, r_else, r_compare, r_joint, r_comma, r_colon, r_dot, r_left_paren, r_right_paren, r_left_bracket, r_right_bracket, r_left_brace, r_right_brace, joint_level, joint_right, joined, begins}
+use Rattle.py_grammar.specs.TokenClasses.{b_op, TokenClass, t_name, t_int, t_none, t_bool, t_string, t_format, t_bad_format, t_not, t_is, t_if, t_else, t_compare, t_operator, t_comma, t_colon, t_dot, t_left_paren, t_right_paren, t_left_bracket, t_right_bracket, t_left_brace, t_right_brace, operator_level, operator_right, joined, begins}
 use Rattle.py_grammar.specs.Machine.{at_most, same_level, snoc, snoc_pair, snoc_link, snoc_plain, snoc_format, has_format, texts, strings_of, Goal, any, one, target, targets, Opener, a_call, a_list, made, Frame, exprs_first, exprs_rest, cond_first, cond_test, cond_else, first, right, not_of, compare_first, compare_rest, unary_of, post_rest, in_items, index_first, in_index, slice_to, in_paren, in_key, in_value, Ctx, Outside, on, State, Want, Have, Strings, AfterOpen, AfterComma, AfterTarget, ItemsOpen, ItemsComma, DictOpen, DictComma, IndexOpen, SliceColon, AfterDot, AfterNot, AfterIs, AfterIsNot, Linked, Out, Next, Stuck, Left, upto_and, upto_term, upto, begin, close_items, leave, give, step}
 use Rattle.py_grammar.specs.Least.{least_name, as_target, wants, fit, whole, least}
 use Rattle.py_grammar.proofs.Finish.{as_target_same, fit_index}
@@ -39,10 +39,10 @@ not_both : (b : Bool) → b ≡ false → b ≡ true → ⊥
 not_both true h i = cc
 not_both false h i = cc
 
-leave_rises : (e : Expr) (g : Goal) (t : Role) → Rises e (Outside g) (leave e g t)
+leave_rises : (e : Expr) (g : Goal) (t : TokenClass) → Rises e (Outside g) (leave e g t)
 leave_rises e any t = (omega arith, λ h w. absurd cc)
 leave_rises e one t = (omega arith, λ h w. absurd cc)
-leave_rises e target r_comma = go (is_target e) refl
+leave_rises e target t_comma = go (is_target e) refl
   where
     go : (b : Bool) → is_target e ≡ b → Grows (height (as_target e)) (cond b (Next (AfterTarget e no_exprs)) Stuck) × (b ≡ false → true ≡ true → Grows (height (as_target (index e least_name))) (cond b (Next (AfterTarget e no_exprs)) Stuck))
     go true is = (let x = alike (as_target e) e (as_target_same e is) in omega arith, λ h w. absurd cc)
@@ -52,7 +52,7 @@ leave_rises e target t = go (is_target e) refl
     go : (b : Bool) → is_target e ≡ b → Grows (height (as_target e)) (cond b (Left e) Stuck) × (b ≡ false → true ≡ true → Grows (height (as_target (index e least_name))) (cond b (Left e) Stuck))
     go true is = (alike (as_target e) e (as_target_same e is), λ h w. absurd cc)
     go false is = (tt, λ h w. tt)
-leave_rises e (targets f es) r_comma = go (is_target e) refl
+leave_rises e (targets f es) t_comma = go (is_target e) refl
   where
     go : (b : Bool) → is_target e ≡ b → Grows (height (tuple (exprs f (snoc es (as_target e))) false)) (cond b (Next (AfterTarget f (snoc es e))) Stuck) × (b ≡ false → true ≡ true → Grows (height (tuple (exprs f (snoc es (as_target (index e least_name)))) false)) (cond b (Next (AfterTarget f (snoc es e))) Stuck))
     go true is = (alike (tuple (exprs f (snoc es (as_target e))) false) (tuple (exprs f (snoc es e)) false) (ap (λ (x : Expr). tuple (exprs f (snoc es x)) false) (as_target_same e is)), λ h w. absurd cc)
@@ -63,9 +63,9 @@ leave_rises e (targets f es) t = go (is_target e) refl
     go true is = (alike (tuple (exprs f (snoc es (as_target e))) false) (tuple (exprs f (snoc es e)) false) (ap (λ (x : Expr). tuple (exprs f (snoc es x)) false) (as_target_same e is)), λ h w. absurd cc)
     go false is = (tt, λ h w. tt)
 
-close_grows : (o : Opener) (es : Exprs) (c : Bool) (k : Ctx) (t : Role) (other : Out) (n : ℕ) → n ≤ height (whole k (fit k (made o es c))) → Grows n other → Grows n (close_items o es c k t other)
-close_grows (a_call f) es c k r_right_paren other n le h = le
-close_grows a_list es c k r_right_bracket other n le h = le
+close_grows : (o : Opener) (es : Exprs) (c : Bool) (k : Ctx) (t : TokenClass) (other : Out) (n : ℕ) → n ≤ height (whole k (fit k (made o es c))) → Grows n other → Grows n (close_items o es c k t other)
+close_grows (a_call f) es c k t_right_paren other n le h = le
+close_grows a_list es c k t_right_bracket other n le h = le
 close_grows o es c k t other n le h = h
 
 -- a step to where something higher stands that is no target
@@ -76,7 +76,7 @@ up k e U o le is h =
       λ no_target w. grows_less (height (whole k (index e least_name))) (height (whole k U)) o (whole_grows k (index e least_name) U (less (wants k) (index e least_name) U (omega arith) (λ x. refl))) h,
     )
 
--- the same behind a postfix
+-- the same after a postfix
 up_fit : (k : Ctx) (e U : Expr) (o : Out) → suc (height e) ≤ height U → is_target U ≡ false → Grows (height (whole k (fit k U))) o → Rises e (on post_rest k) o
 up_fit k e U o le is h =
     let some = height_some e in (
@@ -118,14 +118,14 @@ past_post e k o rec = (go (wants k) refl (is_target e) refl, λ h w. subst (λ (
     go true w false b = rec.1 b w
     go false w b is = rec.0
 
-pub give_rises : (e : Expr) (k : Ctx) (t : Role) → Rises e k (give e k t)
+pub give_rises : (e : Expr) (k : Ctx) (t : TokenClass) → Rises e k (give e k t)
 give_rises e (Outside g) t = leave_rises e g t
-give_rises e (on exprs_first k) r_comma =
+give_rises e (on exprs_first k) t_comma =
     let T = tuple (exprs e no_exprs) true in
     let some = height_some e in
     (whole_grows k e T (less (wants k) e T (omega arith) (λ x. and_true (is_target e) x)), λ h w. whole_grows k (index e least_name) T (less (wants k) (index e least_name) T (omega arith) (λ x. refl)))
 give_rises e (on exprs_first k) t = give_rises e k t
-give_rises e (on (exprs_rest f es) k) r_comma =
+give_rises e (on (exprs_rest f es) k) t_comma =
     let T = tuple (exprs f (snoc es e)) false in
     let U = tuple (exprs f (snoc es e)) true in
     (whole_grows k T U (less (wants k) T U (omega arith) (λ x. x)), λ h w. whole_grows k (tuple (exprs f (snoc es (index e least_name))) false) U (rest_item f es e true (wants k) h w))
@@ -133,55 +133,55 @@ give_rises e (on (exprs_rest f es) k) t =
     let T = tuple (exprs f (snoc es e)) false in
     let rec = give_rises T k t in
     (rec.0, λ h w. grows_less (height (whole k (tuple (exprs f (snoc es (index e least_name))) false))) (height (whole k T)) (give T k t) (whole_grows k (tuple (exprs f (snoc es (index e least_name))) false) T (rest_item f es e false (wants k) h w)) rec.0)
-give_rises e (on cond_first k) r_if = up k e (tree_.cond e least_name least_name) (Next (Want LOr (on (cond_test e) k))) (omega arith) refl (omega arith)
+give_rises e (on cond_first k) t_if = up k e (tree_.cond e least_name least_name) (Next (Want LOr (on (cond_test e) k))) (omega arith) refl (omega arith)
 give_rises e (on cond_first k) t = give_rises e k t
-give_rises e (on (cond_test b) k) r_else = flat k e (cond_test b) (Next (Want LExpr (on (cond_else b e) k))) refl (omega arith)
+give_rises e (on (cond_test b) k) t_else = flat k e (cond_test b) (Next (Want LExpr (on (cond_else b e) k))) refl (omega arith)
 give_rises e (on (cond_test b) k) t = (tt, λ h w. tt)
 give_rises e (on (cond_else b c) k) t = flat k e (cond_else b c) (give (tree_.cond b c e) k t) refl (give_rises (tree_.cond b c e) k t).0
-give_rises e (on (first l) k) (r_joint j) = go (same_level l (joint_level j)) (give_rises e k (r_joint j))
+give_rises e (on (first l) k) (t_operator j) = go (same_level l (operator_level j)) (give_rises e k (t_operator j))
   where
-    go : (b : Bool) → Rises e k (give e k (r_joint j)) → Rises e k (cond b (Next (Want (joint_right j) (on (right j e) k))) (give e k (r_joint j)))
-    go true rec = up k e (joined j e least_name) (Next (Want (joint_right j) (on (right j e) k))) (omega (arith, joined_height j e least_name)) (joined_target j e least_name) (omega arith)
+    go : (b : Bool) → Rises e k (give e k (t_operator j)) → Rises e k (cond b (Next (Want (operator_right j) (on (right j e) k))) (give e k (t_operator j)))
+    go true rec = up k e (joined j e least_name) (Next (Want (operator_right j) (on (right j e) k))) (omega (arith, joined_height j e least_name)) (joined_target j e least_name) (omega arith)
     go false rec = rec
 give_rises e (on (first l) k) t = give_rises e k t
-give_rises e (on (right i a) k) (r_joint j) = flat k e (right i a) (give e (on (right i a) k) (r_joint j)) refl (go (same_level (joint_level i) (joint_level j)) (give_rises (joined i a e) k (r_joint j)))
+give_rises e (on (right i a) k) (t_operator j) = flat k e (right i a) (give e (on (right i a) k) (t_operator j)) refl (go (same_level (operator_level i) (operator_level j)) (give_rises (joined i a e) k (t_operator j)))
   where
-    go : (b : Bool) → Rises (joined i a e) k (give (joined i a e) k (r_joint j)) → Grows (height (whole k (joined i a e))) (cond b (Next (Want (joint_right j) (on (right j (joined i a e)) k))) (give (joined i a e) k (r_joint j)))
+    go : (b : Bool) → Rises (joined i a e) k (give (joined i a e) k (t_operator j)) → Grows (height (whole k (joined i a e))) (cond b (Next (Want (operator_right j) (on (right j (joined i a e)) k))) (give (joined i a e) k (t_operator j)))
     go true rec = let U = joined j (joined i a e) least_name in whole_grows k (joined i a e) U (less_none (wants k) (joined i a e) U (omega (arith, joined_height j (joined i a e) least_name)) (joined_target j (joined i a e) least_name))
     go false rec = rec.0
 give_rises e (on (right i a) k) t = flat k e (right i a) (give (joined i a e) k t) refl (give_rises (joined i a e) k t).0
 give_rises e (on not_of k) t = flat k e not_of (give (not' e) k t) refl (give_rises (not' e) k t).0
-give_rises e (on compare_first k) (r_compare op) = up k e (compare e (link (Op op) least_name no_links)) (Next (Want LSum (on (compare_rest e no_links op) k))) (omega arith) refl (omega arith)
-give_rises e (on compare_first k) r_not = up k e (compare e (link (Op cmp_.NotIn) least_name no_links)) (Next (AfterNot e no_links k)) (omega arith) refl (omega arith)
-give_rises e (on compare_first k) r_is = up k e (compare e (link Is none no_links)) (Next (AfterIs e no_links k)) (omega arith) refl (omega arith)
+give_rises e (on compare_first k) (t_compare op) = up k e (compare e (link (Op op) least_name no_links)) (Next (Want LSum (on (compare_rest e no_links op) k))) (omega arith) refl (omega arith)
+give_rises e (on compare_first k) t_not = up k e (compare e (link (Op cmp_.NotIn) least_name no_links)) (Next (AfterNot e no_links k)) (omega arith) refl (omega arith)
+give_rises e (on compare_first k) t_is = up k e (compare e (link Is none no_links)) (Next (AfterIs e no_links k)) (omega arith) refl (omega arith)
 give_rises e (on compare_first k) t = give_rises e k t
-give_rises e (on (compare_rest a ls p) k) (r_compare op) = flat k e (compare_rest a ls p) (Next (Want LSum (on (compare_rest a (snoc_link ls (Op p) e) op) k))) refl (let ms = snoc_link ls (Op p) e in whole_grows k (compare a ms) (compare a (snoc_link ms (Op op) least_name)) (less_none (wants k) (compare a ms) (compare a (snoc_link ms (Op op) least_name)) (omega (arith, links_snoc ms (Op op) least_name)) refl))
-give_rises e (on (compare_rest a ls p) k) r_not = flat k e (compare_rest a ls p) (Next (AfterNot a (snoc_link ls (Op p) e) k)) refl (let ms = snoc_link ls (Op p) e in whole_grows k (compare a ms) (compare a (snoc_link ms (Op cmp_.NotIn) least_name)) (less_none (wants k) (compare a ms) (compare a (snoc_link ms (Op cmp_.NotIn) least_name)) (omega (arith, links_snoc ms (Op cmp_.NotIn) least_name)) refl))
-give_rises e (on (compare_rest a ls p) k) r_is = flat k e (compare_rest a ls p) (Next (AfterIs a (snoc_link ls (Op p) e) k)) refl (let ms = snoc_link ls (Op p) e in whole_grows k (compare a ms) (compare a (snoc_link ms Is none)) (less_none (wants k) (compare a ms) (compare a (snoc_link ms Is none)) (omega (arith, links_snoc ms Is none)) refl))
+give_rises e (on (compare_rest a ls p) k) (t_compare op) = flat k e (compare_rest a ls p) (Next (Want LSum (on (compare_rest a (snoc_link ls (Op p) e) op) k))) refl (let ms = snoc_link ls (Op p) e in whole_grows k (compare a ms) (compare a (snoc_link ms (Op op) least_name)) (less_none (wants k) (compare a ms) (compare a (snoc_link ms (Op op) least_name)) (omega (arith, links_snoc ms (Op op) least_name)) refl))
+give_rises e (on (compare_rest a ls p) k) t_not = flat k e (compare_rest a ls p) (Next (AfterNot a (snoc_link ls (Op p) e) k)) refl (let ms = snoc_link ls (Op p) e in whole_grows k (compare a ms) (compare a (snoc_link ms (Op cmp_.NotIn) least_name)) (less_none (wants k) (compare a ms) (compare a (snoc_link ms (Op cmp_.NotIn) least_name)) (omega (arith, links_snoc ms (Op cmp_.NotIn) least_name)) refl))
+give_rises e (on (compare_rest a ls p) k) t_is = flat k e (compare_rest a ls p) (Next (AfterIs a (snoc_link ls (Op p) e) k)) refl (let ms = snoc_link ls (Op p) e in whole_grows k (compare a ms) (compare a (snoc_link ms Is none)) (less_none (wants k) (compare a ms) (compare a (snoc_link ms Is none)) (omega (arith, links_snoc ms Is none)) refl))
 give_rises e (on (compare_rest a ls p) k) t = flat k e (compare_rest a ls p) (give (compare a (snoc_link ls (Op p) e)) k t) refl (give_rises (compare a (snoc_link ls (Op p) e)) k t).0
 give_rises e (on (unary_of s) k) t = flat k e (unary_of s) (give (unary s e) k t) refl (give_rises (unary s e) k t).0
-give_rises e (on post_rest k) r_left_paren = up_fit k e (call e no_exprs false) (Next (ItemsOpen (a_call e) k)) (omega arith) refl (omega arith)
-give_rises e (on post_rest k) r_left_bracket = (whole_grows k (fit k e) (index e least_name) (less_index (wants k) e), λ h w. alike (whole k (fit k (index e least_name))) (whole k (index e least_name)) (ap (whole k) (fit_index k e least_name)))
-give_rises e (on post_rest k) r_dot = up_fit k e (attr e []) (Next (AfterDot e k)) (omega arith) refl (omega arith)
+give_rises e (on post_rest k) t_left_paren = up_fit k e (call e no_exprs false) (Next (ItemsOpen (a_call e) k)) (omega arith) refl (omega arith)
+give_rises e (on post_rest k) t_left_bracket = (whole_grows k (fit k e) (index e least_name) (less_index (wants k) e), λ h w. alike (whole k (fit k (index e least_name))) (whole k (index e least_name)) (ap (whole k) (fit_index k e least_name)))
+give_rises e (on post_rest k) t_dot = up_fit k e (attr e []) (Next (AfterDot e k)) (omega arith) refl (omega arith)
 give_rises e (on post_rest k) t = past_post e k (give e k t) (give_rises e k t)
-give_rises e (on (in_items (a_call f) es) k) r_comma = flat k e (in_items (a_call f) es) (Next (ItemsComma (a_call f) (snoc es e) k)) refl (fit_grows k (call f (snoc es e) false) (call f (snoc es e) true) (less (wants k) (call f (snoc es e) false) (call f (snoc es e) true) (omega arith) (λ x. x)))
-give_rises e (on (in_items a_list es) k) r_comma = (fit_grows k (list (snoc es e) false) (list (snoc es e) true) (less (wants k) (list (snoc es e) false) (list (snoc es e) true) (omega arith) (λ x. x)), λ h w. fit_grows k (list (snoc es (index e least_name)) false) (list (snoc es e) true) (list_item es e true (wants k) h w))
+give_rises e (on (in_items (a_call f) es) k) t_comma = flat k e (in_items (a_call f) es) (Next (ItemsComma (a_call f) (snoc es e) k)) refl (fit_grows k (call f (snoc es e) false) (call f (snoc es e) true) (less (wants k) (call f (snoc es e) false) (call f (snoc es e) true) (omega arith) (λ x. x)))
+give_rises e (on (in_items a_list es) k) t_comma = (fit_grows k (list (snoc es e) false) (list (snoc es e) true) (less (wants k) (list (snoc es e) false) (list (snoc es e) true) (omega arith) (λ x. x)), λ h w. fit_grows k (list (snoc es (index e least_name)) false) (list (snoc es e) true) (list_item es e true (wants k) h w))
 give_rises e (on (in_items (a_call f) es) k) t = flat k e (in_items (a_call f) es) (close_items (a_call f) (snoc es e) false k t Stuck) refl (close_grows (a_call f) (snoc es e) false k t Stuck (height (whole k (fit k (call f (snoc es e) false)))) (omega arith) tt)
 give_rises e (on (in_items a_list es) k) t = (close_grows a_list (snoc es e) false k t Stuck (height (whole k (fit k (list (snoc es e) false)))) (omega arith) tt, λ h w. close_grows a_list (snoc es e) false k t Stuck (height (whole k (fit k (list (snoc es (index e least_name)) false)))) (fit_grows k (list (snoc es (index e least_name)) false) (list (snoc es e) false) (list_item es e false (wants k) h w)) tt)
-give_rises e (on (index_first f) k) r_comma = flat k e (index_first f) (Next (AfterComma e no_exprs (on (in_index f) k))) refl (let T = index f (tuple (exprs e no_exprs) true) in whole_grows k (index f e) T (less (wants k) (index f e) T (omega arith) (λ x. refl)))
-give_rises e (on (index_first f) k) r_colon = flat k e (index_first f) (Next (SliceColon f (present e) k)) refl (whole_grows k (index f e) (fit k (slice f (present e) absent)) (less_fit (wants k) (index f e) (slice f (present e) absent) refl (omega arith)))
-give_rises e (on (index_first f) k) r_right_bracket = flat k e (index_first f) (Next (Have (index f e) (on post_rest k))) refl (alike (whole k (index f e)) (whole k (fit k (index f e))) (ap (whole k) (sym (fit_index k f e))))
+give_rises e (on (index_first f) k) t_comma = flat k e (index_first f) (Next (AfterComma e no_exprs (on (in_index f) k))) refl (let T = index f (tuple (exprs e no_exprs) true) in whole_grows k (index f e) T (less (wants k) (index f e) T (omega arith) (λ x. refl)))
+give_rises e (on (index_first f) k) t_colon = flat k e (index_first f) (Next (SliceColon f (present e) k)) refl (whole_grows k (index f e) (fit k (slice f (present e) absent)) (less_fit (wants k) (index f e) (slice f (present e) absent) refl (omega arith)))
+give_rises e (on (index_first f) k) t_right_bracket = flat k e (index_first f) (Next (Have (index f e) (on post_rest k))) refl (alike (whole k (index f e)) (whole k (fit k (index f e))) (ap (whole k) (sym (fit_index k f e))))
 give_rises e (on (index_first f) k) t = (tt, λ h w. tt)
-give_rises e (on (in_index f) k) r_right_bracket = flat k e (in_index f) (Next (Have (index f e) (on post_rest k))) refl (alike (whole k (index f e)) (whole k (fit k (index f e))) (ap (whole k) (sym (fit_index k f e))))
+give_rises e (on (in_index f) k) t_right_bracket = flat k e (in_index f) (Next (Have (index f e) (on post_rest k))) refl (alike (whole k (index f e)) (whole k (fit k (index f e))) (ap (whole k) (sym (fit_index k f e))))
 give_rises e (on (in_index f) k) t = (tt, λ h w. tt)
-give_rises e (on (slice_to f from) k) r_right_bracket = flat k e (slice_to f from) (Next (Have (slice f from (present e)) (on post_rest k))) refl (omega arith)
+give_rises e (on (slice_to f from) k) t_right_bracket = flat k e (slice_to f from) (Next (Have (slice f from (present e)) (on post_rest k))) refl (omega arith)
 give_rises e (on (slice_to f from) k) t = (tt, λ h w. tt)
-give_rises e (on in_paren k) r_right_paren = (omega arith, λ h w. let some = height_some e in fit_grows k (paren (index e least_name)) (paren e) (less_item (wants k) (paren (index e least_name)) (paren e) w refl h (omega arith)))
+give_rises e (on in_paren k) t_right_paren = (omega arith, λ h w. let some = height_some e in fit_grows k (paren (index e least_name)) (paren e) (less_item (wants k) (paren (index e least_name)) (paren e) w refl h (omega arith)))
 give_rises e (on in_paren k) t = (tt, λ h w. tt)
-give_rises e (on (in_key ps) k) r_colon = flat k e (in_key ps) (Next (Want LExpr (on (in_value ps e) k))) refl (omega arith)
+give_rises e (on (in_key ps) k) t_colon = flat k e (in_key ps) (Next (Want LExpr (on (in_value ps e) k))) refl (omega arith)
 give_rises e (on (in_key ps) k) t = (tt, λ h w. tt)
-give_rises e (on (in_value ps key) k) r_comma = flat k e (in_value ps key) (Next (DictComma (snoc_pair ps key e) k)) refl (fit_grows k (dict (snoc_pair ps key e) false) (dict (snoc_pair ps key e) true) (less (wants k) (dict (snoc_pair ps key e) false) (dict (snoc_pair ps key e) true) (omega arith) (λ x. x)))
-give_rises e (on (in_value ps key) k) r_right_brace = flat k e (in_value ps key) (Next (Have (dict (snoc_pair ps key e) false) (on post_rest k))) refl (omega arith)
+give_rises e (on (in_value ps key) k) t_comma = flat k e (in_value ps key) (Next (DictComma (snoc_pair ps key e) k)) refl (fit_grows k (dict (snoc_pair ps key e) false) (dict (snoc_pair ps key e) true) (less (wants k) (dict (snoc_pair ps key e) false) (dict (snoc_pair ps key e) true) (omega arith) (λ x. x)))
+give_rises e (on (in_value ps key) k) t_right_brace = flat k e (in_value ps key) (Next (Have (dict (snoc_pair ps key e) false) (on post_rest k))) refl (omega arith)
 give_rises e (on (in_value ps key) k) t = (tt, λ h w. tt)
 
 -- ---- an expression begins
@@ -192,31 +192,31 @@ atom_grows e lev k n h =
     let more = whole_grows k least_name (fit k e) (less_fit (wants k) least_name e refl (omega arith)) in
     rw (post_whole lev k e) (omega arith)
 
-begin_grows : (lev : Level) (k : Ctx) (t : Role) (n : ℕ) → n ≤ height (whole k least_name) → Grows n (begin lev k t)
-begin_grows lev k (r_name x) n h = atom_grows (name x) lev k n h
-begin_grows lev k (r_int x) n h = atom_grows (int x) lev k n h
-begin_grows lev k r_none n h = atom_grows none lev k n h
-begin_grows lev k (r_bool x) n h = atom_grows (bool x) lev k n h
-begin_grows lev k (r_string x) n h = atom_grows (str (x ∷ [])) lev k n h
-begin_grows lev k (r_format ps) n h = atom_grows (fstr (format ps no_fragments)) lev k n h
-begin_grows lev k r_not n h = go (at_most lev LNot)
+begin_grows : (lev : Level) (k : Ctx) (t : TokenClass) (n : ℕ) → n ≤ height (whole k least_name) → Grows n (begin lev k t)
+begin_grows lev k (t_name x) n h = atom_grows (name x) lev k n h
+begin_grows lev k (t_int x) n h = atom_grows (int x) lev k n h
+begin_grows lev k t_none n h = atom_grows none lev k n h
+begin_grows lev k (t_bool x) n h = atom_grows (bool x) lev k n h
+begin_grows lev k (t_string x) n h = atom_grows (str (x ∷ [])) lev k n h
+begin_grows lev k (t_format ps) n h = atom_grows (fstr (format ps no_fragments)) lev k n h
+begin_grows lev k t_not n h = go (at_most lev LNot)
   where
     go : (b : Bool) → Grows n (cond b (Next (Want LNot (on not_of (upto_and lev k)))) Stuck)
     go true = let more = whole_grows k least_name (not' least_name) (less_none (wants k) least_name (not' least_name) (omega arith) refl) in rw (and_whole lev k (not' least_name)) (omega arith)
     go false = tt
-begin_grows lev k (r_joint (j_op op_.Add)) n h = go (at_most lev LUnary)
+begin_grows lev k (t_operator (b_op op_.Add)) n h = go (at_most lev LUnary)
   where
     go : (b : Bool) → Grows n (cond b (Next (Want LUnary (on (unary_of sign_.Plus) (upto_term lev k)))) Stuck)
     go true = let U = unary sign_.Plus least_name in let more = whole_grows k least_name U (less_none (wants k) least_name U (omega arith) refl) in rw (term_whole lev k U) (omega arith)
     go false = tt
-begin_grows lev k (r_joint (j_op op_.Sub)) n h = go (at_most lev LUnary)
+begin_grows lev k (t_operator (b_op op_.Sub)) n h = go (at_most lev LUnary)
   where
     go : (b : Bool) → Grows n (cond b (Next (Want LUnary (on (unary_of sign_.Minus) (upto_term lev k)))) Stuck)
     go true = let U = unary sign_.Minus least_name in let more = whole_grows k least_name U (less_none (wants k) least_name U (omega arith) refl) in rw (term_whole lev k U) (omega arith)
     go false = tt
-begin_grows lev k r_left_paren n h = atom_grows (tuple no_exprs false) lev k n h
-begin_grows lev k r_left_bracket n h = atom_grows (list no_exprs false) lev k n h
-begin_grows lev k r_left_brace n h = atom_grows (dict no_pairs false) lev k n h
+begin_grows lev k t_left_paren n h = atom_grows (tuple no_exprs false) lev k n h
+begin_grows lev k t_left_bracket n h = atom_grows (list no_exprs false) lev k n h
+begin_grows lev k t_left_brace n h = atom_grows (dict no_pairs false) lev k n h
 begin_grows lev k t n h = tt
 
 -- ---- strings
@@ -263,14 +263,14 @@ linked_rises a ls op e k = whole_grows k (compare a ls) (compare a (snoc_link ls
 constant_rises : (a : Expr) (ls : Links) (op p : Comparison) (e f : Expr) (k : Ctx) → height e ≤ height f → height (whole k (compare a (snoc_link ls op e))) ≤ height (whole k (compare a (snoc_link ls p f)))
 constant_rises a ls op p e f k h = whole_grows k (compare a (snoc_link ls op e)) (compare a (snoc_link ls p f)) (less_none (wants k) (compare a (snoc_link ls op e)) (compare a (snoc_link ls p f)) (omega (arith, links_snoc ls op e, links_snoc ls p f)) refl)
 
-pub step_grows : (s : State) (t : Role) → Grows (least s) (step s t)
+pub step_grows : (s : State) (t : TokenClass) → Grows (least s) (step s t)
 step_grows (Want lev k) t = begin_grows lev k t (height (whole k least_name)) (omega arith)
 step_grows (Have e k) t = (give_rises e k t).0
-step_grows (Strings fs k) (r_string x) = whole_grows k (strings_of fs) (strings_of (snoc_plain fs x)) (less_none (wants k) (strings_of fs) (strings_of (snoc_plain fs x)) (plain_rises fs x) (strings_target (snoc_plain fs x)))
-step_grows (Strings fs k) (r_format ps) = whole_grows k (strings_of fs) (strings_of (snoc_format fs ps)) (less_none (wants k) (strings_of fs) (strings_of (snoc_format fs ps)) (format_rises fs ps) (strings_target (snoc_format fs ps)))
-step_grows (Strings fs k) (r_bad_format ps) = tt
+step_grows (Strings fs k) (t_string x) = whole_grows k (strings_of fs) (strings_of (snoc_plain fs x)) (less_none (wants k) (strings_of fs) (strings_of (snoc_plain fs x)) (plain_rises fs x) (strings_target (snoc_plain fs x)))
+step_grows (Strings fs k) (t_format ps) = whole_grows k (strings_of fs) (strings_of (snoc_format fs ps)) (less_none (wants k) (strings_of fs) (strings_of (snoc_format fs ps)) (format_rises fs ps) (strings_target (snoc_format fs ps)))
+step_grows (Strings fs k) (t_bad_format ps) = tt
 step_grows (Strings fs k) t = (give_rises (strings_of fs) k t).0
-step_grows (AfterOpen k) r_right_paren = omega arith
+step_grows (AfterOpen k) t_right_paren = omega arith
 step_grows (AfterOpen k) t = begin_grows LExprs (on in_paren k) t (height (whole k (fit k (tuple no_exprs false)))) (fit_grows k (tuple no_exprs false) (paren least_name) (less (wants k) (tuple no_exprs false) (paren least_name) (omega arith) (λ x. refl)))
 step_grows (AfterComma f es k) t = go (begins t)
   where
@@ -287,26 +287,26 @@ step_grows (AfterTarget f es) t = go (begins t)
     go false = omega arith
 step_grows (ItemsOpen o k) t = close_grows o no_exprs false k t (begin LExpr (on (in_items o no_exprs) k) t) (height (whole k (fit k (made o no_exprs false)))) (omega arith) (begin_grows LExpr (on (in_items o no_exprs) k) t (height (whole k (fit k (made o no_exprs false)))) (fit_grows k (made o no_exprs false) (made o (snoc no_exprs least_name) false) (made_rises o no_exprs false false (wants k))))
 step_grows (ItemsComma o es k) t = close_grows o es true k t (begin LExpr (on (in_items o es) k) t) (height (whole k (fit k (made o es true)))) (omega arith) (begin_grows LExpr (on (in_items o es) k) t (height (whole k (fit k (made o es true)))) (fit_grows k (made o es true) (made o (snoc es least_name) false) (made_rises o es true false (wants k))))
-step_grows (DictOpen k) r_right_brace = omega arith
+step_grows (DictOpen k) t_right_brace = omega arith
 step_grows (DictOpen k) t = begin_grows LExpr (on (in_key no_pairs) k) t (height (whole k (fit k (dict no_pairs false)))) (let D = dict (pair least_name least_name no_pairs) false in fit_grows k (dict no_pairs false) D (less_none (wants k) (dict no_pairs false) D (omega arith) refl))
-step_grows (DictComma ps k) r_right_brace = omega arith
+step_grows (DictComma ps k) t_right_brace = omega arith
 step_grows (DictComma ps k) t = begin_grows LExpr (on (in_key ps) k) t (height (whole k (fit k (dict ps true)))) (let D = dict (snoc_pair ps least_name least_name) false in fit_grows k (dict ps true) D (less_none (wants k) (dict ps true) D (omega (arith, entries_snoc ps least_name least_name)) refl))
-step_grows (IndexOpen f k) r_colon = let some = height_some f in whole_grows k (index f least_name) (fit k (slice f absent absent)) (less_fit (wants k) (index f least_name) (slice f absent absent) refl (omega arith))
+step_grows (IndexOpen f k) t_colon = let some = height_some f in whole_grows k (index f least_name) (fit k (slice f absent absent)) (less_fit (wants k) (index f least_name) (slice f absent absent) refl (omega arith))
 step_grows (IndexOpen f k) t = begin_grows LExpr (on (index_first f) k) t (height (whole k (index f least_name))) (omega arith)
-step_grows (SliceColon f from k) r_right_bracket = omega arith
+step_grows (SliceColon f from k) t_right_bracket = omega arith
 step_grows (SliceColon f from k) t = begin_grows LExpr (on (slice_to f from) k) t (height (whole k (fit k (slice f from absent)))) (fit_grows k (slice f from absent) (slice f from (present least_name)) (less_none (wants k) (slice f from absent) (slice f from (present least_name)) (omega arith) refl))
-step_grows (AfterDot f k) (r_name x) = fit_grows k (attr f []) (attr f x) (less_none (wants k) (attr f []) (attr f x) (omega arith) refl)
+step_grows (AfterDot f k) (t_name x) = fit_grows k (attr f []) (attr f x) (less_none (wants k) (attr f []) (attr f x) (omega arith) refl)
 step_grows (AfterDot f k) t = tt
-step_grows (AfterNot a ls k) (r_compare cmp_.In) = omega arith
+step_grows (AfterNot a ls k) (t_compare cmp_.In) = omega arith
 step_grows (AfterNot a ls k) t = tt
-step_grows (AfterIs a ls k) r_not = constant_rises a ls Is IsNot none none k (omega arith)
-step_grows (AfterIs a ls k) r_none = omega arith
-step_grows (AfterIs a ls k) (r_bool b) = constant_rises a ls Is Is none (bool b) k (omega arith)
+step_grows (AfterIs a ls k) t_not = constant_rises a ls Is IsNot none none k (omega arith)
+step_grows (AfterIs a ls k) t_none = omega arith
+step_grows (AfterIs a ls k) (t_bool b) = constant_rises a ls Is Is none (bool b) k (omega arith)
 step_grows (AfterIs a ls k) t = tt
-step_grows (AfterIsNot a ls k) r_none = omega arith
-step_grows (AfterIsNot a ls k) (r_bool b) = constant_rises a ls IsNot IsNot none (bool b) k (omega arith)
+step_grows (AfterIsNot a ls k) t_none = omega arith
+step_grows (AfterIsNot a ls k) (t_bool b) = constant_rises a ls IsNot IsNot none (bool b) k (omega arith)
 step_grows (AfterIsNot a ls k) t = tt
-step_grows (Linked a ls k) (r_compare op) = linked_rises a ls (Op op) least_name k
-step_grows (Linked a ls k) r_not = linked_rises a ls (Op cmp_.NotIn) least_name k
-step_grows (Linked a ls k) r_is = linked_rises a ls Is none k
+step_grows (Linked a ls k) (t_compare op) = linked_rises a ls (Op op) least_name k
+step_grows (Linked a ls k) t_not = linked_rises a ls (Op cmp_.NotIn) least_name k
+step_grows (Linked a ls k) t_is = linked_rises a ls Is none k
 step_grows (Linked a ls k) t = (give_rises (compare a ls) k t).0

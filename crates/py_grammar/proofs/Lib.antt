@@ -1,6 +1,6 @@
 mod Rows
 pub mod Sound
-pub mod Fine
+pub mod Valid
 pub mod Keeps
 pub mod Spelled
 pub mod Passes
@@ -12,7 +12,7 @@ pub mod Enclosed
 pub mod Finish
 pub mod Finishes
 pub mod Grows
-pub mod Rising
+pub mod LeastNeverFalls
 pub mod Exact
 pub mod Whole
 pub mod Stands

@@ -12,16 +12,16 @@ use Rattle.py_syntax.specs.Tree as tree_
 use Rattle.py_syntax.specs.Kinds.{Kind, Name, Word, Int, Str, FString, Sign, End, Pieces, kinds_of}
 use Rattle.py_syntax.specs.Tokens.{comma_if, strings, bool_word, operator, sign_mark, comparison, tokens, items, more, entries, more_entries, links, bound, fragments, pieces}
 use Rattle.py_syntax.specs.Normal.{LExprs, LExpr, LPost, HasFormat, IsSomething, Normal}
-use Rattle.py_grammar.specs.Roles.{Role, r_colon, r_right_paren, r_right_bracket, r_right_brace, r_other, begins}
-use Rattle.py_grammar.specs.Machine.{targets, Opener, a_call, a_list, exprs_rest, in_items, index_first, slice_to, in_paren, in_key, Ctx, Outside, on, State, Want, AfterOpen, AfterComma, AfterTarget, ItemsOpen, ItemsComma, DictOpen, DictComma, IndexOpen, SliceColon, Out, Next, Stuck, Left, begin, close_items, give, step, format_role, role, parts, field_expr, Leaves, run}
+use Rattle.py_grammar.specs.TokenClasses.{TokenClass, t_colon, t_right_paren, t_right_bracket, t_right_brace, t_other, begins}
+use Rattle.py_grammar.specs.Machine.{targets, Opener, a_call, a_list, exprs_rest, in_items, index_first, slice_to, in_paren, in_key, Ctx, Outside, on, State, Want, AfterOpen, AfterComma, AfterTarget, ItemsOpen, ItemsComma, DictOpen, DictComma, IndexOpen, SliceColon, Out, Next, Stuck, Left, begin, close_items, give, step, format_class, class, parts, field_expr, Leaves, run}
 use Rattle.py_grammar.proofs.Spelled.{outcome, field_after, ended_by}
 use Rattle.py_grammar.proofs.Passes.{alike}
 
 -- the first token of a list, and whether it may begin an expression
 abbrev pub Opens : List Kind → Type 0
-Opens ts = (h : Kind) × (rest : List Kind) × (ts ≡ h ∷ rest) × (begins (role h) ≡ true)
+Opens ts = (h : Kind) × (rest : List Kind) × (ts ≡ h ∷ rest) × (begins (class h) ≡ true)
 
-format_begins : (ps : Pieces) (o : Option Parts) → begins (format_role ps o) ≡ true
+format_begins : (ps : Pieces) (o : Option Parts) → begins (format_class ps o) ≡ true
 format_begins ps None = refl
 format_begins ps (Some qs) = refl
 
@@ -69,46 +69,46 @@ opens (slice f from to) r n = opens f (Sign mark.LeftBracket ∷ bound from (Sig
 opens (attr f x) r n = opens f (Sign mark.Dot ∷ Name x ∷ r) n.1
 
 -- states that step alike where an expression begins
-pub begin_alike : (s u : State) (e : Expr) (r : List Kind) → Normal e → ((t : Role) → begins t ≡ true → step s t ≡ step u t) → run s (tokens e r) ≡ run u (tokens e r)
+pub begin_alike : (s u : State) (e : Expr) (r : List Kind) → Normal e → ((t : TokenClass) → begins t ≡ true → step s t ≡ step u t) → run s (tokens e r) ≡ run u (tokens e r)
 begin_alike s u e r n same =
     let o = opens e r n in
-    alike s u (tokens e r) (λ t ts is. let head : o.0 ≡ t = cc in same (role t) (sym (ap (λ (x : Kind). begins (role x)) head) ∙ o.3))
+    alike s u (tokens e r) (λ t ts is. let head : o.0 ≡ t = cc in same (class t) (sym (ap (λ (x : Kind). begins (class x)) head) ∙ o.3))
 
-pub after_open : (k : Ctx) (t : Role) → begins t ≡ true → step (AfterOpen k) t ≡ step (Want LExprs (on in_paren k)) t
-after_open k r_right_paren b = absurd cc
+pub after_open : (k : Ctx) (t : TokenClass) → begins t ≡ true → step (AfterOpen k) t ≡ step (Want LExprs (on in_paren k)) t
+after_open k t_right_paren b = absurd cc
 after_open k t b = refl
 
-pub after_comma : (f : Expr) (es : Exprs) (k : Ctx) (t : Role) → begins t ≡ true → step (AfterComma f es k) t ≡ step (Want LExpr (on (exprs_rest f es) k)) t
+pub after_comma : (f : Expr) (es : Exprs) (k : Ctx) (t : TokenClass) → begins t ≡ true → step (AfterComma f es k) t ≡ step (Want LExpr (on (exprs_rest f es) k)) t
 after_comma f es k t b = ap (λ (c : Bool). cond c (begin LExpr (on (exprs_rest f es) k) t) (give (tuple (exprs f es) true) k t)) b
 
-pub after_target : (f : Expr) (es : Exprs) (t : Role) → begins t ≡ true → step (AfterTarget f es) t ≡ step (Want LPost (Outside (targets f es))) t
+pub after_target : (f : Expr) (es : Exprs) (t : TokenClass) → begins t ≡ true → step (AfterTarget f es) t ≡ step (Want LPost (Outside (targets f es))) t
 after_target f es t b = ap (λ (c : Bool). cond c (begin LPost (Outside (targets f es)) t) (Left (tuple (exprs f es) true))) b
 
-not_closed : (o : Opener) (es : Exprs) (c : Bool) (k : Ctx) (t : Role) (other : Out) → begins t ≡ true → close_items o es c k t other ≡ other
-not_closed (a_call f) es c k r_right_paren other b = absurd cc
-not_closed a_list es c k r_right_bracket other b = absurd cc
+not_closed : (o : Opener) (es : Exprs) (c : Bool) (k : Ctx) (t : TokenClass) (other : Out) → begins t ≡ true → close_items o es c k t other ≡ other
+not_closed (a_call f) es c k t_right_paren other b = absurd cc
+not_closed a_list es c k t_right_bracket other b = absurd cc
 not_closed o es c k t other b = refl
 
-pub items_open : (o : Opener) (k : Ctx) (t : Role) → begins t ≡ true → step (ItemsOpen o k) t ≡ step (Want LExpr (on (in_items o no_exprs) k)) t
+pub items_open : (o : Opener) (k : Ctx) (t : TokenClass) → begins t ≡ true → step (ItemsOpen o k) t ≡ step (Want LExpr (on (in_items o no_exprs) k)) t
 items_open o k t b = not_closed o no_exprs false k t (begin LExpr (on (in_items o no_exprs) k) t) b
 
-pub items_comma : (o : Opener) (es : Exprs) (k : Ctx) (t : Role) → begins t ≡ true → step (ItemsComma o es k) t ≡ step (Want LExpr (on (in_items o es) k)) t
+pub items_comma : (o : Opener) (es : Exprs) (k : Ctx) (t : TokenClass) → begins t ≡ true → step (ItemsComma o es k) t ≡ step (Want LExpr (on (in_items o es) k)) t
 items_comma o es k t b = not_closed o es true k t (begin LExpr (on (in_items o es) k) t) b
 
-pub dict_open : (k : Ctx) (t : Role) → begins t ≡ true → step (DictOpen k) t ≡ step (Want LExpr (on (in_key no_pairs) k)) t
-dict_open k r_right_brace b = absurd cc
+pub dict_open : (k : Ctx) (t : TokenClass) → begins t ≡ true → step (DictOpen k) t ≡ step (Want LExpr (on (in_key no_pairs) k)) t
+dict_open k t_right_brace b = absurd cc
 dict_open k t b = refl
 
-pub dict_comma : (ps : Pairs) (k : Ctx) (t : Role) → begins t ≡ true → step (DictComma ps k) t ≡ step (Want LExpr (on (in_key ps) k)) t
-dict_comma ps k r_right_brace b = absurd cc
+pub dict_comma : (ps : Pairs) (k : Ctx) (t : TokenClass) → begins t ≡ true → step (DictComma ps k) t ≡ step (Want LExpr (on (in_key ps) k)) t
+dict_comma ps k t_right_brace b = absurd cc
 dict_comma ps k t b = refl
 
-pub index_open : (f : Expr) (k : Ctx) (t : Role) → begins t ≡ true → step (IndexOpen f k) t ≡ step (Want LExpr (on (index_first f) k)) t
-index_open f k r_colon b = absurd cc
+pub index_open : (f : Expr) (k : Ctx) (t : TokenClass) → begins t ≡ true → step (IndexOpen f k) t ≡ step (Want LExpr (on (index_first f) k)) t
+index_open f k t_colon b = absurd cc
 index_open f k t b = refl
 
-pub slice_colon : (f : Expr) (from : OptExpr) (k : Ctx) (t : Role) → begins t ≡ true → step (SliceColon f from k) t ≡ step (Want LExpr (on (slice_to f from) k)) t
-slice_colon f from k r_right_bracket b = absurd cc
+pub slice_colon : (f : Expr) (from : OptExpr) (k : Ctx) (t : TokenClass) → begins t ≡ true → step (SliceColon f from k) t ≡ step (Want LExpr (on (slice_to f from) k)) t
+slice_colon f from k t_right_bracket b = absurd cc
 slice_colon f from k t b = refl
 
 -- ---- appending
@@ -190,13 +190,13 @@ long m (n ∷ ms) h = cc
 
 -- What a run leaves before the end, a field with these tokens is.
 pub field_of_run : (s : State) (ts : List Kind) (e : Expr) → run s (ts ++ End ∷ []) ≡ Leaves e (End ∷ []) → field_expr s (kinds_of ts) ≡ Some e
-field_of_run s [] e h = go (step s (r_other End)) h
+field_of_run s [] e h = go (step s (t_other End)) h
   where
     go : (o : Out) → outcome o End [] ≡ Leaves e (End ∷ []) → ended_by o ≡ Some e
     go (Next n) h = absurd cc
     go Stuck h = absurd cc
     go (Left m) h = let same : m ≡ e = cc in ap (λ (x : Expr). Some x) same
-field_of_run s (t ∷ ts) e h = go (λ n. field_of_run n ts e) (step s (role t)) h
+field_of_run s (t ∷ ts) e h = go (λ n. field_of_run n ts e) (step s (class t)) h
   where
     go : ((n : State) → run n (ts ++ End ∷ []) ≡ Leaves e (End ∷ []) → field_expr n (kinds_of ts) ≡ Some e) → (o : Out) → outcome o t (ts ++ End ∷ []) ≡ Leaves e (End ∷ []) → field_after o (kinds_of ts) ≡ Some e
     go rec (Next n) h = rec n h

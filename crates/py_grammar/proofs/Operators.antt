@@ -15,12 +15,12 @@ use Rattle.py_syntax.specs.Tree as tree_
 use Rattle.py_syntax.specs.Kinds.{Kind, Word, Sign}
 use Rattle.py_syntax.specs.Tokens.{sign_mark, comparison, tokens, links}
 use Rattle.py_syntax.specs.Normal.{Level, LEnd, LExprs, LExpr, LOr, LAnd, LNot, LCmp, LSum, LTerm, LUnary, rank, op_level, right_level, level, At, Compared, NormalLinks}
-use Rattle.py_grammar.specs.Roles.{Joint, j_or, j_and, j_op, Role, r_joint, joint_level, joint_right, joined, joint_kind, binds}
-use Rattle.py_grammar.specs.Machine.{at_most, snoc_link, cond_test, cond_else, first, right, not_of, compare_first, compare_rest, unary_of, Ctx, on, Want, Have, Linked, Out, Next, Stuck, upto_exprs, upto_cond, upto_or, upto_and, upto_compare, upto_sum, upto_term, upto, give, role, run}
+use Rattle.py_grammar.specs.TokenClasses.{BinaryOperator, b_or, b_and, b_op, TokenClass, t_operator, operator_level, operator_right, joined, operator_kind, binds}
+use Rattle.py_grammar.specs.Machine.{at_most, snoc_link, cond_test, cond_else, first, right, not_of, compare_first, compare_rest, unary_of, Ctx, on, Want, Have, Linked, Out, Next, Stuck, upto_exprs, upto_cond, upto_or, upto_and, upto_compare, upto_sum, upto_term, upto, give, class, run}
 use Rattle.std.proofs.lemmas.Bool.{le-leb, eq-eqb}
-use Rattle.py_grammar.proofs.Fine.{joint_rank}
+use Rattle.py_grammar.proofs.Valid.{operator_rank}
 use Rattle.py_grammar.proofs.Spelled.{outcome}
-use Rattle.py_grammar.proofs.Passes.{pass_compare, pass_linked, give_right, give_compared, room, Behind, Follows, stops, behind_binds, behind_more, follows, behind, stops_at, stops_high, stops_expr, settles, is_string}
+use Rattle.py_grammar.proofs.Passes.{pass_compare, pass_linked, give_right, give_compared, budget, After, Follows, stops, after_binds, after_more, follows, after, stops_at, stops_high, stops_expr, settles, is_string}
 
 -- From a place where a tree is to begin, over its tokens, to the place where it is read.
 abbrev pub Back : Expr → Type 0
@@ -37,10 +37,10 @@ level_low (binary op_.Mod a b) = omega arith
 level_low e = omega arith
 
 -- an operand that stands where this level is asked for, in front of a token that goes down to it
-pub read_part : (e : Expr) → Back e → (l : Level) → 2 ≤ rank l → At l e → (k : Ctx) (rest : List Kind) (n : ℕ) → Behind n rest → n ≤ stops (level e) → (m : Level) → rank m ≤ rank (level e) → n ≤ room m → run (Want l k) (tokens e rest) ≡ run (Have e (upto l m k)) rest
+pub read_part : (e : Expr) → Back e → (l : Level) → 2 ≤ rank l → At l e → (k : Ctx) (rest : List Kind) (n : ℕ) → After n rest → n ≤ stops (level e) → (m : Level) → rank m ≤ rank (level e) → n ≤ budget m → run (Want l k) (tokens e rest) ≡ run (Have e (upto l m k)) rest
 read_part e ih l two a k rest n b small m le r =
     ih l k rest (omega arith) a (follows (level e) n rest (omega arith) small b)
-    ∙ settles l m (level e) e k rest le (behind_binds n (room m) rest r b)
+    ∙ settles l m (level e) e k rest le (after_binds n (budget m) rest r b)
 
 -- ---- signs and `not`
 
@@ -52,7 +52,7 @@ pub back_not : (e : Expr) → At LNot e → Back e → Back (not' e)
 back_not e a ih lev k rest low h f =
     let at : at_most lev LNot ≡ true = le-leb _ _ h in
     let shift : run (Want lev k) (Word word.Not ∷ tokens e rest) ≡ run (Want LNot (on not_of (upto_and lev k))) (tokens e rest) = ap (λ (c : Bool). outcome (cond c (Next (Want LNot (on not_of (upto_and lev k)))) Stuck) (Word word.Not) (tokens e rest)) at in
-    let b = behind LNot 5 rest (omega arith) (omega arith) f in
+    let b = after LNot 5 rest (omega arith) (omega arith) f in
     shift
     ∙ read_part e ih LNot (omega arith) a (on not_of (upto_and lev k)) rest 5 b (stops_at (level e) 5 a (omega arith) (omega arith)) LNot a (omega arith)
     ∙ have_not e (upto_and lev k) rest
@@ -67,112 +67,112 @@ sign_shift sign_.Plus lev k ts h = let at : at_most lev LUnary ≡ true = le-leb
 
 pub back_unary : (s : UnarySign) (e : Expr) → At LUnary e → Back e → Back (unary s e)
 back_unary s e a ih lev k rest low h f =
-    let b = behind LUnary 9 rest (omega arith) (omega arith) f in
+    let b = after LUnary 9 rest (omega arith) (omega arith) f in
     let high = stops_high (level e) (omega arith) in
     sign_shift s lev k (tokens e rest) h
     ∙ read_part e ih LUnary (omega arith) a (on (unary_of s) (upto_term lev k)) rest 9 b (omega arith) LUnary a (omega arith)
     ∙ have_unary s e (upto_term lev k) rest
 
--- ---- joints
+-- ---- operators
 
-joint_role : (j : Joint) → role (joint_kind j) ≡ r_joint j
-joint_role j_or = refl
-joint_role j_and = refl
-joint_role (j_op op_.Add) = refl
-joint_role (j_op op_.Sub) = refl
-joint_role (j_op op_.Mul) = refl
-joint_role (j_op op_.Floor) = refl
-joint_role (j_op op_.Mod) = refl
+operator_class : (j : BinaryOperator) → class (operator_kind j) ≡ t_operator j
+operator_class b_or = refl
+operator_class b_and = refl
+operator_class (b_op op_.Add) = refl
+operator_class (b_op op_.Sub) = refl
+operator_class (b_op op_.Mul) = refl
+operator_class (b_op op_.Floor) = refl
+operator_class (b_op op_.Mod) = refl
 
-joint_room : (j : Joint) → room (joint_level j) ≡ rank (joint_level j)
-joint_room j_or = refl
-joint_room j_and = refl
-joint_room (j_op op_.Add) = refl
-joint_room (j_op op_.Sub) = refl
-joint_room (j_op op_.Mul) = refl
-joint_room (j_op op_.Floor) = refl
-joint_room (j_op op_.Mod) = refl
+operator_budget : (j : BinaryOperator) → budget (operator_level j) ≡ rank (operator_level j)
+operator_budget b_or = refl
+operator_budget b_and = refl
+operator_budget (b_op op_.Add) = refl
+operator_budget (b_op op_.Sub) = refl
+operator_budget (b_op op_.Mul) = refl
+operator_budget (b_op op_.Floor) = refl
+operator_budget (b_op op_.Mod) = refl
 
-joint_sides : (j : Joint) → (rank (joint_level j) < rank (joint_right j)) × ((k : Ctx) → upto (joint_right j) (joint_level j) k ≡ k)
-joint_sides j_or = (omega arith, λ k. refl)
-joint_sides j_and = (omega arith, λ k. refl)
-joint_sides (j_op op_.Add) = (omega arith, λ k. refl)
-joint_sides (j_op op_.Sub) = (omega arith, λ k. refl)
-joint_sides (j_op op_.Mul) = (omega arith, λ k. refl)
-joint_sides (j_op op_.Floor) = (omega arith, λ k. refl)
-joint_sides (j_op op_.Mod) = (omega arith, λ k. refl)
+operator_sides : (j : BinaryOperator) → (rank (operator_level j) < rank (operator_right j)) × ((k : Ctx) → upto (operator_right j) (operator_level j) k ≡ k)
+operator_sides b_or = (omega arith, λ k. refl)
+operator_sides b_and = (omega arith, λ k. refl)
+operator_sides (b_op op_.Add) = (omega arith, λ k. refl)
+operator_sides (b_op op_.Sub) = (omega arith, λ k. refl)
+operator_sides (b_op op_.Mul) = (omega arith, λ k. refl)
+operator_sides (b_op op_.Floor) = (omega arith, λ k. refl)
+operator_sides (b_op op_.Mod) = (omega arith, λ k. refl)
 
--- what stands under the frame of a joint's left operand
-abbrev pub under_joint : Joint → Level → Ctx → Ctx
-under_joint j_or lev k = upto_cond lev k
-under_joint j_and lev k = upto_or lev k
-under_joint (j_op op_.Add) lev k = upto_compare lev k
-under_joint (j_op op_.Sub) lev k = upto_compare lev k
-under_joint (j_op op_.Mul) lev k = upto_sum lev k
-under_joint (j_op op_.Floor) lev k = upto_sum lev k
-under_joint (j_op op_.Mod) lev k = upto_sum lev k
+-- what stands under the frame of an operator's left operand
+abbrev pub under_operator : BinaryOperator → Level → Ctx → Ctx
+under_operator b_or lev k = upto_cond lev k
+under_operator b_and lev k = upto_or lev k
+under_operator (b_op op_.Add) lev k = upto_compare lev k
+under_operator (b_op op_.Sub) lev k = upto_compare lev k
+under_operator (b_op op_.Mul) lev k = upto_sum lev k
+under_operator (b_op op_.Floor) lev k = upto_sum lev k
+under_operator (b_op op_.Mod) lev k = upto_sum lev k
 
-joint_open : (j : Joint) (lev : Level) (k : Ctx) → rank lev ≤ rank (joint_level j) → upto lev (joint_level j) k ≡ on (first (joint_level j)) (under_joint j lev k)
-joint_open j_or lev k h = let at : at_most lev LOr ≡ true = le-leb _ _ h in ap (λ (c : Bool). cond c (on (first LOr) (upto_cond lev k)) k) at
-joint_open j_and lev k h = let at : at_most lev LAnd ≡ true = le-leb _ _ h in ap (λ (c : Bool). cond c (on (first LAnd) (upto_or lev k)) k) at
-joint_open (j_op op_.Add) lev k h = let at : at_most lev LSum ≡ true = le-leb _ _ h in ap (λ (c : Bool). cond c (on (first LSum) (upto_compare lev k)) k) at
-joint_open (j_op op_.Sub) lev k h = let at : at_most lev LSum ≡ true = le-leb _ _ h in ap (λ (c : Bool). cond c (on (first LSum) (upto_compare lev k)) k) at
-joint_open (j_op op_.Mul) lev k h = let at : at_most lev LTerm ≡ true = le-leb _ _ h in ap (λ (c : Bool). cond c (on (first LTerm) (upto_sum lev k)) k) at
-joint_open (j_op op_.Floor) lev k h = let at : at_most lev LTerm ≡ true = le-leb _ _ h in ap (λ (c : Bool). cond c (on (first LTerm) (upto_sum lev k)) k) at
-joint_open (j_op op_.Mod) lev k h = let at : at_most lev LTerm ≡ true = le-leb _ _ h in ap (λ (c : Bool). cond c (on (first LTerm) (upto_sum lev k)) k) at
+operator_open : (j : BinaryOperator) (lev : Level) (k : Ctx) → rank lev ≤ rank (operator_level j) → upto lev (operator_level j) k ≡ on (first (operator_level j)) (under_operator j lev k)
+operator_open b_or lev k h = let at : at_most lev LOr ≡ true = le-leb _ _ h in ap (λ (c : Bool). cond c (on (first LOr) (upto_cond lev k)) k) at
+operator_open b_and lev k h = let at : at_most lev LAnd ≡ true = le-leb _ _ h in ap (λ (c : Bool). cond c (on (first LAnd) (upto_or lev k)) k) at
+operator_open (b_op op_.Add) lev k h = let at : at_most lev LSum ≡ true = le-leb _ _ h in ap (λ (c : Bool). cond c (on (first LSum) (upto_compare lev k)) k) at
+operator_open (b_op op_.Sub) lev k h = let at : at_most lev LSum ≡ true = le-leb _ _ h in ap (λ (c : Bool). cond c (on (first LSum) (upto_compare lev k)) k) at
+operator_open (b_op op_.Mul) lev k h = let at : at_most lev LTerm ≡ true = le-leb _ _ h in ap (λ (c : Bool). cond c (on (first LTerm) (upto_sum lev k)) k) at
+operator_open (b_op op_.Floor) lev k h = let at : at_most lev LTerm ≡ true = le-leb _ _ h in ap (λ (c : Bool). cond c (on (first LTerm) (upto_sum lev k)) k) at
+operator_open (b_op op_.Mod) lev k h = let at : at_most lev LTerm ≡ true = le-leb _ _ h in ap (λ (c : Bool). cond c (on (first LTerm) (upto_sum lev k)) k) at
 
-joint_taken : (j : Joint) (a : Expr) (k : Ctx) → give a (on (first (joint_level j)) k) (role (joint_kind j)) ≡ Next (Want (joint_right j) (on (right j a) k))
-joint_taken j a k = ap (give a (on (first (joint_level j)) k)) (joint_role j) ∙ ap (λ (c : Bool). cond c (Next (Want (joint_right j) (on (right j a) k))) (give a k (r_joint j))) (eq-eqb (rank (joint_level j)) (rank (joint_level j)) refl)
+operator_taken : (j : BinaryOperator) (a : Expr) (k : Ctx) → give a (on (first (operator_level j)) k) (class (operator_kind j)) ≡ Next (Want (operator_right j) (on (right j a) k))
+operator_taken j a k = ap (give a (on (first (operator_level j)) k)) (operator_class j) ∙ ap (λ (c : Bool). cond c (Next (Want (operator_right j) (on (right j a) k))) (give a k (t_operator j))) (eq-eqb (rank (operator_level j)) (rank (operator_level j)) refl)
 
-joint_stops : (j : Joint) (l : Level) → rank (joint_level j) ≤ rank l → rank (joint_level j) ≤ stops l
-joint_stops j_or l h = stops_at l 3 h (omega arith) (omega arith)
-joint_stops j_and l h = stops_at l 4 h (omega arith) (omega arith)
-joint_stops (j_op op_.Add) l h = let x = stops_high l h in omega arith
-joint_stops (j_op op_.Sub) l h = let x = stops_high l h in omega arith
-joint_stops (j_op op_.Mul) l h = let x = stops_high l (omega arith) in omega arith
-joint_stops (j_op op_.Floor) l h = let x = stops_high l (omega arith) in omega arith
-joint_stops (j_op op_.Mod) l h = let x = stops_high l (omega arith) in omega arith
+operator_stops : (j : BinaryOperator) (l : Level) → rank (operator_level j) ≤ rank l → rank (operator_level j) ≤ stops l
+operator_stops b_or l h = stops_at l 3 h (omega arith) (omega arith)
+operator_stops b_and l h = stops_at l 4 h (omega arith) (omega arith)
+operator_stops (b_op op_.Add) l h = let x = stops_high l h in omega arith
+operator_stops (b_op op_.Sub) l h = let x = stops_high l h in omega arith
+operator_stops (b_op op_.Mul) l h = let x = stops_high l (omega arith) in omega arith
+operator_stops (b_op op_.Floor) l h = let x = stops_high l (omega arith) in omega arith
+operator_stops (b_op op_.Mod) l h = let x = stops_high l (omega arith) in omega arith
 
-joint_behind : (j : Joint) (ts : List Kind) → Behind (rank (joint_level j)) (joint_kind j ∷ ts)
-joint_behind j ts = let is = joint_role j in (let x : rank (binds (role (joint_kind j))) ≡ rank (joint_level j) = ap (λ (r : Role). rank (binds r)) is in omega arith, ap is_string is)
+operator_after : (j : BinaryOperator) (ts : List Kind) → After (rank (operator_level j)) (operator_kind j ∷ ts)
+operator_after j ts = let is = operator_class j in (let x : rank (binds (class (operator_kind j))) ≡ rank (operator_level j) = ap (λ (r : TokenClass). rank (binds r)) is in omega arith, ap is_string is)
 
-have_right : (j : Joint) (a e : Expr) (k : Ctx) (rest : List Kind) → run (Have e (on (right j a) k)) rest ≡ run (Have (joined j a e) (on (first (joint_level j)) k)) rest
+have_right : (j : BinaryOperator) (a e : Expr) (k : Ctx) (rest : List Kind) → run (Have e (on (right j a) k)) rest ≡ run (Have (joined j a e) (on (first (operator_level j)) k)) rest
 have_right j a e k [] = refl
-have_right j a e k (t ∷ ts) = ap (λ (o : Out). outcome o t ts) (give_right j a e k (role t))
+have_right j a e k (t ∷ ts) = ap (λ (o : Out). outcome o t ts) (give_right j a e k (class t))
 
-pub read_joined : (j : Joint) (a b : Expr) → At (joint_level j) a → At (joint_right j) b → Back a → Back b → (lev : Level) (k : Ctx) (rest : List Kind) → 1 ≤ rank lev → rank lev ≤ rank (joint_level j) → Behind (rank (joint_level j)) rest → run (Want lev k) (tokens a (joint_kind j ∷ tokens b rest)) ≡ run (Have (joined j a b) (upto lev (joint_level j) k)) rest
+pub read_joined : (j : BinaryOperator) (a b : Expr) → At (operator_level j) a → At (operator_right j) b → Back a → Back b → (lev : Level) (k : Ctx) (rest : List Kind) → 1 ≤ rank lev → rank lev ≤ rank (operator_level j) → After (rank (operator_level j)) rest → run (Want lev k) (tokens a (operator_kind j ∷ tokens b rest)) ≡ run (Have (joined j a b) (upto lev (operator_level j) k)) rest
 read_joined j a b al bl iha ihb lev k rest low h f =
-    let J = joint_level j in
-    let K = under_joint j lev k in
+    let J = operator_level j in
+    let K = under_operator j lev k in
     let ts = tokens b rest in
-    let ranks = joint_rank j in
+    let ranks = operator_rank j in
     let three : 3 ≤ rank J = ranks.0 in
-    let is_room = joint_room j in
-    let sides = joint_sides j in
-    let less : rank J < rank (joint_right j) = sides.0 in
-    let open-is = joint_open j lev k h in
-    let front = joint_behind j ts in
-    let left = iha lev k (joint_kind j ∷ ts) low (omega arith) (follows (level a) (rank J) (joint_kind j ∷ ts) (omega arith) (joint_stops j (level a) al) front) in
-    let down = settles lev J (level a) a k (joint_kind j ∷ ts) al (behind_binds (rank J) (room J) (joint_kind j ∷ ts) (omega arith) front) in
-    let taken : run (Have a (upto lev J k)) (joint_kind j ∷ ts) ≡ run (Want (joint_right j) (on (right j a) K)) ts = ap (λ (c : Ctx). run (Have a c) (joint_kind j ∷ ts)) open-is ∙ ap (λ (o : Out). outcome o (joint_kind j) ts) (joint_taken j a K) in
-    let other = read_part b ihb (joint_right j) (omega arith) bl (on (right j a) K) rest (rank J) f (joint_stops j (level b) (omega arith)) J (omega arith) (omega arith) in
+    let is_budget = operator_budget j in
+    let sides = operator_sides j in
+    let less : rank J < rank (operator_right j) = sides.0 in
+    let open-is = operator_open j lev k h in
+    let front = operator_after j ts in
+    let left = iha lev k (operator_kind j ∷ ts) low (omega arith) (follows (level a) (rank J) (operator_kind j ∷ ts) (omega arith) (operator_stops j (level a) al) front) in
+    let down = settles lev J (level a) a k (operator_kind j ∷ ts) al (after_binds (rank J) (budget J) (operator_kind j ∷ ts) (omega arith) front) in
+    let taken : run (Have a (upto lev J k)) (operator_kind j ∷ ts) ≡ run (Want (operator_right j) (on (right j a) K)) ts = ap (λ (c : Ctx). run (Have a c) (operator_kind j ∷ ts)) open-is ∙ ap (λ (o : Out). outcome o (operator_kind j) ts) (operator_taken j a K) in
+    let other = read_part b ihb (operator_right j) (omega arith) bl (on (right j a) K) rest (rank J) f (operator_stops j (level b) (omega arith)) J (omega arith) (omega arith) in
     left ∙ down ∙ taken ∙ other ∙ ap (λ (c : Ctx). run (Have b c) rest) (sides.1 (on (right j a) K)) ∙ have_right j a b K rest ∙ ap (λ (c : Ctx). run (Have (joined j a b) c) rest) (sym open-is)
 
 pub back_or : (a b : Expr) → At LOr a → At LAnd b → Back a → Back b → Back (or a b)
-back_or a b al bl iha ihb lev k rest low h f = read_joined j_or a b al bl iha ihb lev k rest low h (behind LOr 3 rest (omega arith) (omega arith) f)
+back_or a b al bl iha ihb lev k rest low h f = read_joined b_or a b al bl iha ihb lev k rest low h (after LOr 3 rest (omega arith) (omega arith) f)
 
 pub back_and : (a b : Expr) → At LAnd a → At LNot b → Back a → Back b → Back (and a b)
-back_and a b al bl iha ihb lev k rest low h f = read_joined j_and a b al bl iha ihb lev k rest low h (behind LAnd 4 rest (omega arith) (omega arith) f)
+back_and a b al bl iha ihb lev k rest low h f = read_joined b_and a b al bl iha ihb lev k rest low h (after LAnd 4 rest (omega arith) (omega arith) f)
 
-op_behind : (op : BinOp) (rest : List Kind) → Follows (op_level op) rest → Behind (rank (op_level op)) rest
-op_behind op_.Add rest f = behind LSum 7 rest (omega arith) (omega arith) f
-op_behind op_.Sub rest f = behind LSum 7 rest (omega arith) (omega arith) f
-op_behind op_.Mul rest f = behind LTerm 8 rest (omega arith) (omega arith) f
-op_behind op_.Floor rest f = behind LTerm 8 rest (omega arith) (omega arith) f
-op_behind op_.Mod rest f = behind LTerm 8 rest (omega arith) (omega arith) f
+op_after : (op : BinOp) (rest : List Kind) → Follows (op_level op) rest → After (rank (op_level op)) rest
+op_after op_.Add rest f = after LSum 7 rest (omega arith) (omega arith) f
+op_after op_.Sub rest f = after LSum 7 rest (omega arith) (omega arith) f
+op_after op_.Mul rest f = after LTerm 8 rest (omega arith) (omega arith) f
+op_after op_.Floor rest f = after LTerm 8 rest (omega arith) (omega arith) f
+op_after op_.Mod rest f = after LTerm 8 rest (omega arith) (omega arith) f
 
 pub back_binary : (op : BinOp) (a b : Expr) → At (op_level op) a → At (right_level op) b → Back a → Back b → Back (binary op a b)
-back_binary op a b al bl iha ihb lev k rest low h f = read_joined (j_op op) a b al bl iha ihb lev k rest low h (op_behind op rest f)
+back_binary op a b al bl iha ihb lev k rest low h f = read_joined (b_op op) a b al bl iha ihb lev k rest low h (op_after op rest f)
 
 -- ---- comparisons
 
@@ -196,28 +196,28 @@ AllBackLinks (link op e ls) = Back e × AllBackLinks ls
 
 have_compared : (a : Expr) (ls : Links) (op : CmpOp) (e : Expr) (k : Ctx) (rest : List Kind) → run (Have e (on (compare_rest a ls op) k)) rest ≡ run (Linked a (snoc_link ls (Op op) e) k) rest
 have_compared a ls op e k [] = refl
-have_compared a ls op e k (t ∷ ts) = ap (λ (o : Out). outcome o t ts) (give_compared a ls op e k (role t))
+have_compared a ls op e k (t ∷ ts) = ap (λ (o : Out). outcome o t ts) (give_compared a ls op e k (class t))
 
-have_linked : (a : Expr) (ls : Links) (k : Ctx) (rest : List Kind) → Behind 5 rest → run (Linked a ls k) rest ≡ run (Have (compare a ls) k) rest
+have_linked : (a : Expr) (ls : Links) (k : Ctx) (rest : List Kind) → After 5 rest → run (Linked a ls k) rest ≡ run (Have (compare a ls) k) rest
 have_linked a ls k [] b = refl
-have_linked a ls k (t ∷ ts) b = ap (λ (o : Out). outcome o t ts) (pass_linked a ls k (role t) b.0)
+have_linked a ls k (t ∷ ts) b = ap (λ (o : Out). outcome o t ts) (pass_linked a ls k (class t) b.0)
 
-links_behind : (ls : Links) (rest : List Kind) → Behind 5 rest → Behind 6 (links ls rest)
-links_behind no_links rest b = behind_more 5 6 rest (omega arith) b
-links_behind (link (Op cmp_.Eq) e ls) rest b = (omega arith, refl)
-links_behind (link (Op op) e ls) rest b = (omega arith, refl)
-links_behind (link Is e ls) rest b = (omega arith, refl)
-links_behind (link IsNot e ls) rest b = (omega arith, refl)
+links_after : (ls : Links) (rest : List Kind) → After 5 rest → After 6 (links ls rest)
+links_after no_links rest b = after_more 5 6 rest (omega arith) b
+links_after (link (Op cmp_.Eq) e ls) rest b = (omega arith, refl)
+links_after (link (Op op) e ls) rest b = (omega arith, refl)
+links_after (link Is e ls) rest b = (omega arith, refl)
+links_after (link IsNot e ls) rest b = (omega arith, refl)
 
 stops_sum : (l : Level) → 7 ≤ rank l → 6 ≤ stops l
 stops_sum l h = let x = stops_high l h in omega arith
 
--- an operand of a comparison, from its begin to the place behind it
-read_operand : (e : Expr) → At LSum e → Back e → (a : Expr) (ds : Links) (op : CmpOp) (k : Ctx) (rest : List Kind) → Behind 6 rest → run (Want LSum (on (compare_rest a ds op) k)) (tokens e rest) ≡ run (Linked a (snoc_link ds (Op op) e) k) rest
+-- an operand of a comparison, from its begin to the place after it
+read_operand : (e : Expr) → At LSum e → Back e → (a : Expr) (ds : Links) (op : CmpOp) (k : Ctx) (rest : List Kind) → After 6 rest → run (Want LSum (on (compare_rest a ds op) k)) (tokens e rest) ≡ run (Linked a (snoc_link ds (Op op) e) k) rest
 read_operand e al ih a ds op k rest b = read_part e ih LSum (omega arith) al (on (compare_rest a ds op) k) rest 6 b (stops_sum (level e) al) LCmp (omega arith) (omega arith) ∙ have_compared a ds op e k rest
 
 -- one comparison of a chain
-read_link : (op : Comparison) (e : Expr) → Compared op e → Back e → (a : Expr) (ds : Links) (k : Ctx) (rest : List Kind) → Behind 6 rest → run (Linked a ds k) (comparison op (tokens e rest)) ≡ run (Linked a (snoc_link ds op e) k) rest
+read_link : (op : Comparison) (e : Expr) → Compared op e → Back e → (a : Expr) (ds : Links) (k : Ctx) (rest : List Kind) → After 6 rest → run (Linked a ds k) (comparison op (tokens e rest)) ≡ run (Linked a (snoc_link ds op e) k) rest
 read_link (Op cmp_.NotIn) e c ih a ds k rest b = read_operand e c ih a ds cmp_.NotIn k rest b
 read_link (Op op) e c ih a ds k rest b = read_operand e c ih a ds _ k rest b
 read_link Is none c ih a ds k rest b = refl
@@ -229,10 +229,10 @@ read_link IsNot (bool true) c ih a ds k rest b = refl
 read_link IsNot (bool false) c ih a ds k rest b = refl
 read_link IsNot e c ih a ds k rest b = absurd c
 
-read_chain : (ls : Links) → NormalLinks ls → AllBackLinks ls → (a : Expr) (ds : Links) (k : Ctx) (rest : List Kind) → Behind 5 rest → run (Linked a ds k) (links ls rest) ≡ run (Linked a (join_links ds ls) k) rest
+read_chain : (ls : Links) → NormalLinks ls → AllBackLinks ls → (a : Expr) (ds : Links) (k : Ctx) (rest : List Kind) → After 5 rest → run (Linked a ds k) (links ls rest) ≡ run (Linked a (join_links ds ls) k) rest
 read_chain no_links n ih a ds k rest b = ap (λ (x : Links). run (Linked a x k) rest) (sym (join_links_none ds))
 read_chain (link op e ls) n ih a ds k rest b =
-    read_link op e n.0 ih.0 a ds k (links ls rest) (links_behind ls rest b)
+    read_link op e n.0 ih.0 a ds k (links ls rest) (links_after ls rest b)
     ∙ read_chain ls n.2 ih.1 a (snoc_link ds op e) k rest b
     ∙ ap (λ (x : Links). run (Linked a x k) rest) (join_links_snoc ds op e ls)
 
@@ -242,11 +242,11 @@ chain_begins a (Op op) k ts = refl
 chain_begins a Is k ts = refl
 chain_begins a IsNot k ts = refl
 
-compare_behind : (op : Comparison) (ts : List Kind) → Behind 6 (comparison op ts)
-compare_behind (Op cmp_.Eq) ts = (omega arith, refl)
-compare_behind (Op op) ts = (omega arith, refl)
-compare_behind Is ts = (omega arith, refl)
-compare_behind IsNot ts = (omega arith, refl)
+compare_after : (op : Comparison) (ts : List Kind) → After 6 (comparison op ts)
+compare_after (Op cmp_.Eq) ts = (omega arith, refl)
+compare_after (Op op) ts = (omega arith, refl)
+compare_after Is ts = (omega arith, refl)
+compare_after IsNot ts = (omega arith, refl)
 
 pub back_compare : (a : Expr) (op : Comparison) (e : Expr) (ls : Links) → At LSum a → NormalLinks (link op e ls) → Back a → AllBackLinks (link op e ls) → Back (compare a (link op e ls))
 unfolding join_links
@@ -255,9 +255,9 @@ back_compare a op e ls al n iha ihs lev k rest low h f =
     let K = upto_and lev k in
     let open-is : upto lev LCmp k ≡ on compare_first K = ap (λ (c : Bool). cond c (on compare_first K) k) at in
     let ts = tokens e (links ls rest) in
-    let b = behind LCmp 5 rest (omega arith) (omega arith) f in
-    let left = iha lev k (comparison op ts) low (omega arith) (follows (level a) 6 (comparison op ts) (omega arith) (stops_sum (level a) al) (compare_behind op ts)) in
-    let down = settles lev LCmp (level a) a k (comparison op ts) (omega arith) (behind_binds 6 6 (comparison op ts) (omega arith) (compare_behind op ts)) in
+    let b = after LCmp 5 rest (omega arith) (omega arith) f in
+    let left = iha lev k (comparison op ts) low (omega arith) (follows (level a) 6 (comparison op ts) (omega arith) (stops_sum (level a) al) (compare_after op ts)) in
+    let down = settles lev LCmp (level a) a k (comparison op ts) (omega arith) (after_binds 6 6 (comparison op ts) (omega arith) (compare_after op ts)) in
     left ∙ down
     ∙ ap (λ (c : Ctx). run (Have a c) (comparison op ts)) open-is
     ∙ chain_begins a op K ts
@@ -266,9 +266,9 @@ back_compare a op e ls al n iha ihs lev k rest low h f =
     ∙ up rest b
     ∙ ap (λ (c : Ctx). run (Have (compare a (link op e ls)) c) rest) (sym open-is)
   where
-    up : (rest : List Kind) → Behind 5 rest → run (Have (compare a (link op e ls)) (upto_and lev k)) rest ≡ run (Have (compare a (link op e ls)) (on compare_first (upto_and lev k))) rest
+    up : (rest : List Kind) → After 5 rest → run (Have (compare a (link op e ls)) (upto_and lev k)) rest ≡ run (Have (compare a (link op e ls)) (on compare_first (upto_and lev k))) rest
     up [] b = refl
-    up (t ∷ ts) b = ap (λ (o : Out). outcome o t ts) (sym (pass_compare (compare a (link op e ls)) (upto_and lev k) (role t) b.0))
+    up (t ∷ ts) b = ap (λ (o : Out). outcome o t ts) (sym (pass_compare (compare a (link op e ls)) (upto_and lev k) (class t) b.0))
 
 -- ---- conditional expressions
 
@@ -290,5 +290,5 @@ back_cond b t o bl tl ol ihb iht iho lev k rest low h f =
     ∙ settles lev LOr (level b) b k (Word word.If ∷ two) bl (omega arith)
     ∙ if_taken lev b k two low h
     ∙ read_part t iht LOr (omega arith) tl (on (cond_test b) K) (Word word.Else ∷ three) 0 (omega arith, refl) (omega arith) LEnd (omega arith) (omega arith)
-    ∙ read_part o iho LExpr (omega arith) ol (on (cond_else b t) K) rest 1 (behind LExpr 1 rest (omega arith) (omega arith) f) (stops_expr (level o) ol) LExpr ol (omega arith)
+    ∙ read_part o iho LExpr (omega arith) ol (on (cond_else b t) K) rest 1 (after LExpr 1 rest (omega arith) (omega arith) f) (stops_expr (level o) ol) LExpr ol (omega arith)
     ∙ have_cond b t o K rest

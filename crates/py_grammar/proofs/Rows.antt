@@ -8,7 +8,7 @@ use Rattle.py_syntax.specs.declared.expr.Comparison.TheVariants.{Op, IsNot}
 use Rattle.py_syntax.specs.declared.expr.Sign.TheVariants as sign_
 use Rattle.py_syntax.specs.Tree.{Expr, name, str, fstr, none, tuple, list, dict, paren, not', and, or, unary, binary, compare, cond, call, index, slice, attr, no_exprs, exprs, no_pairs, pair, no_links, link, absent, present, no_fragments, plain, format, no_parts, text, field}
 use Rattle.py_syntax.specs.Kinds.{Kind, Name, Word, Int, Str, FString, Sign, End, no_pieces, chars_piece, field_piece, no_kinds, kinds_of}
-use Rattle.py_grammar.specs.Machine.{Goal, any, one, target, State, Out, Next, Stuck, Left, start, step, role, Refused, Leaves, run}
+use Rattle.py_grammar.specs.Machine.{Goal, any, one, target, State, Out, Next, Stuck, Left, start, step, class, Refused, Leaves, run}
 use Rattle.py_grammar.specs.Least.{least}
 
 abbrev A : Kind
@@ -195,10 +195,10 @@ no_name = refl
 
 -- ---- least heights
 
--- the least height behind a list of tokens, where all are taken
+-- the least height after a list of tokens, where all are taken
 abbrev low : State → List Kind → Option ℕ
 low s [] = Some (least s)
-low s (t ∷ ts) = elim (step s (role t)) as (λ (o : Out). Option ℕ) [ Next n ↦ low n ts | Stuck ↦ None | Left e ↦ None ]
+low s (t ∷ ts) = elim (step s (class t)) as (λ (o : Out). Option ℕ) [ Next n ↦ low n ts | Stuck ↦ None | Left e ↦ None ]
 
 abbrev opened : ℕ → List Kind → List Kind
 opened zero ts = ts

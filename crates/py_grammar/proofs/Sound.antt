@@ -12,7 +12,7 @@ use Rattle.py_syntax.specs.Tree as tree_
 use Rattle.py_syntax.specs.Kinds.{Kind, Name, Word, Int, Str, FString, Sign}
 use Rattle.py_syntax.specs.Tokens.{comma_if, strings, bool_word, sign_mark, comparison, tokens, items, more, entries, more_entries, links, bound, fragments, pieces}
 use Rattle.py_syntax.specs.Normal.{Level, LExprs, LExpr, LOr, LAnd, LNot, LCmp, LSum, LTerm, LUnary, LPost, is_target}
-use Rattle.py_grammar.specs.Roles.{Joint, j_or, j_and, j_op, Role, r_name, r_int, r_none, r_bool, r_string, r_format, r_bad_format, r_not, r_is, r_if, r_else, r_compare, r_joint, r_comma, r_colon, r_dot, r_left_paren, r_right_paren, r_left_bracket, r_right_bracket, r_left_brace, r_right_brace, joint_level, joint_right, joined, joint_kind, begins, spelled}
+use Rattle.py_grammar.specs.TokenClasses.{BinaryOperator, b_or, b_and, b_op, TokenClass, t_name, t_int, t_none, t_bool, t_string, t_format, t_bad_format, t_not, t_is, t_if, t_else, t_compare, t_operator, t_comma, t_colon, t_dot, t_left_paren, t_right_paren, t_left_bracket, t_right_bracket, t_left_brace, t_right_brace, operator_level, operator_right, joined, operator_kind, begins, spelled}
 use Rattle.py_grammar.specs.Machine.{at_most, same_level, snoc, snoc_pair, snoc_link, snoc_plain, snoc_format, has_format, texts, strings_of, Goal, any, one, target, targets, Opener, a_call, a_list, exprs_first, exprs_rest, cond_first, cond_test, cond_else, first, right, not_of, compare_first, compare_rest, unary_of, post_rest, in_items, index_first, in_index, slice_to, in_paren, in_key, in_value, Ctx, Outside, on, State, Want, Have, Strings, AfterOpen, AfterComma, AfterTarget, ItemsOpen, ItemsComma, DictOpen, DictComma, IndexOpen, SliceColon, AfterDot, AfterNot, AfterIs, AfterIsNot, Linked, Out, Next, Stuck, Left, upto_exprs, upto_cond, upto_or, upto_and, upto_compare, upto_sum, upto_term, begin, close_items, leave, give, step}
 
 -- ---- what was read
@@ -31,7 +31,7 @@ before_ctx (on cond_first k) r = before_ctx k r
 before_ctx (on (cond_test b) k) r = before_ctx k (tokens b (Word word.If ∷ r))
 before_ctx (on (cond_else b c) k) r = before_ctx k (tokens b (Word word.If ∷ tokens c (Word word.Else ∷ r)))
 before_ctx (on (first l) k) r = before_ctx k r
-before_ctx (on (right j a) k) r = before_ctx k (tokens a (joint_kind j ∷ r))
+before_ctx (on (right j a) k) r = before_ctx k (tokens a (operator_kind j ∷ r))
 before_ctx (on not_of k) r = before_ctx k (Word word.Not ∷ r)
 before_ctx (on compare_first k) r = before_ctx k r
 before_ctx (on (compare_rest a ls op) k) r = before_ctx k (tokens a (links ls (comparison (Op op) r)))
@@ -108,32 +108,32 @@ strings_spelled fs r = go (has_format fs) refl
     go true is = refl
     go false is = texts_spelled fs r is
 
-pub joined_spelled : (j : Joint) (a b : Expr) (r : List Kind) → tokens (joined j a b) r ≡ tokens a (joint_kind j ∷ tokens b r)
-joined_spelled j_or a b r = refl
-joined_spelled j_and a b r = refl
-joined_spelled (j_op op) a b r = refl
+pub joined_spelled : (j : BinaryOperator) (a b : Expr) (r : List Kind) → tokens (joined j a b) r ≡ tokens a (operator_kind j ∷ tokens b r)
+joined_spelled b_or a b r = refl
+joined_spelled b_and a b r = refl
+joined_spelled (b_op op) a b r = refl
 
 made_spelled : (o : Opener) (es : Exprs) (e : Expr) (c : Bool) (r : List Kind) → opened o (items (snoc es e) c r) ≡ opened o (items es true (tokens e (comma_if c r)))
 made_spelled o es e c r = ap (opened o) (items_snoc es e c r)
 
 -- ---- what a step does to what was read: of a state, the tokens and then others
 
-abbrev pub Reads : Role → (List Kind → List Kind) → Out → Type 0
+abbrev pub Reads : TokenClass → (List Kind → List Kind) → Out → Type 0
 Reads t all (Next s) = (r : List Kind) → before s r ≡ all (spelled t r)
 Reads t all Stuck = Unit {0}
 Reads t all (Left e) = (r : List Kind) → tokens e r ≡ all r
 
-reads_as : (t : Role) (b c : List Kind → List Kind) → ((r : List Kind) → b r ≡ c r) → (o : Out) → Reads t b o → Reads t c o
+reads_as : (t : TokenClass) (b c : List Kind → List Kind) → ((r : List Kind) → b r ≡ c r) → (o : Out) → Reads t b o → Reads t c o
 reads_as t b c same (Next s) h = λ r. h r ∙ same (spelled t r)
 reads_as t b c same Stuck h = tt
 reads_as t b c same (Left e) h = λ r. h r ∙ same r
 
-leave_reads : (e : Expr) (g : Goal) (t : Role) → Reads t (λ r. before_ctx (Outside g) (tokens e r)) (leave e g t)
+leave_reads : (e : Expr) (g : Goal) (t : TokenClass) → Reads t (λ r. before_ctx (Outside g) (tokens e r)) (leave e g t)
 leave_reads e any t = λ r. refl
 leave_reads e one t = λ r. refl
-leave_reads e target r_comma = go (is_target e)
+leave_reads e target t_comma = go (is_target e)
   where
-    go : (b : Bool) → Reads r_comma (tokens e) (cond b (Next (AfterTarget e no_exprs)) Stuck)
+    go : (b : Bool) → Reads t_comma (tokens e) (cond b (Next (AfterTarget e no_exprs)) Stuck)
     go true = λ r. refl
     go false = tt
 leave_reads e target t = go (is_target e)
@@ -141,9 +141,9 @@ leave_reads e target t = go (is_target e)
     go : (b : Bool) → Reads t (tokens e) (cond b (Left e) Stuck)
     go true = λ r. refl
     go false = tt
-leave_reads e (targets f es) r_comma = go (is_target e)
+leave_reads e (targets f es) t_comma = go (is_target e)
   where
-    go : (b : Bool) → Reads r_comma (λ r. tokens f (more es true (tokens e r))) (cond b (Next (AfterTarget f (snoc es e))) Stuck)
+    go : (b : Bool) → Reads t_comma (λ r. tokens f (more es true (tokens e r))) (cond b (Next (AfterTarget f (snoc es e))) Stuck)
     go true = λ r. ap (tokens f) (more_snoc es e true r)
     go false = tt
 leave_reads e (targets f es) t = go (is_target e)
@@ -152,67 +152,67 @@ leave_reads e (targets f es) t = go (is_target e)
     go true = λ r. ap (tokens f) (more_snoc es e false r)
     go false = tt
 
-close_reads : (o : Opener) (es : Exprs) (c : Bool) (k : Ctx) (t : Role) (other : Out) → Reads t (λ r. before_ctx k (opened o (items es c r))) other → Reads t (λ r. before_ctx k (opened o (items es c r))) (close_items o es c k t other)
-close_reads (a_call f) es c k r_right_paren other h = λ r. refl
-close_reads a_list es c k r_right_bracket other h = λ r. refl
+close_reads : (o : Opener) (es : Exprs) (c : Bool) (k : Ctx) (t : TokenClass) (other : Out) → Reads t (λ r. before_ctx k (opened o (items es c r))) other → Reads t (λ r. before_ctx k (opened o (items es c r))) (close_items o es c k t other)
+close_reads (a_call f) es c k t_right_paren other h = λ r. refl
+close_reads a_list es c k t_right_bracket other h = λ r. refl
 close_reads o es c k t other h = h
 
-pub give_reads : (e : Expr) (k : Ctx) (t : Role) → Reads t (λ r. before_ctx k (tokens e r)) (give e k t)
+pub give_reads : (e : Expr) (k : Ctx) (t : TokenClass) → Reads t (λ r. before_ctx k (tokens e r)) (give e k t)
 give_reads e (Outside g) t = leave_reads e g t
-give_reads e (on exprs_first k) r_comma = λ r. refl
+give_reads e (on exprs_first k) t_comma = λ r. refl
 give_reads e (on exprs_first k) t = give_reads e k t
-give_reads e (on (exprs_rest f es) k) r_comma = λ r. ap (λ (x : List Kind). before_ctx k (tokens f x)) (more_snoc es e true r)
+give_reads e (on (exprs_rest f es) k) t_comma = λ r. ap (λ (x : List Kind). before_ctx k (tokens f x)) (more_snoc es e true r)
 give_reads e (on (exprs_rest f es) k) t = reads_as t (λ r. before_ctx k (tokens (tuple (exprs f (snoc es e)) false) r)) (λ r. before_ctx k (tokens f (more es true (tokens e r)))) (λ r. ap (λ (x : List Kind). before_ctx k (tokens f x)) (more_snoc es e false r)) (give (tuple (exprs f (snoc es e)) false) k t) (give_reads (tuple (exprs f (snoc es e)) false) k t)
-give_reads e (on cond_first k) r_if = λ r. refl
+give_reads e (on cond_first k) t_if = λ r. refl
 give_reads e (on cond_first k) t = give_reads e k t
-give_reads e (on (cond_test b) k) r_else = λ r. refl
+give_reads e (on (cond_test b) k) t_else = λ r. refl
 give_reads e (on (cond_test b) k) t = tt
 give_reads e (on (cond_else b c) k) t = give_reads (tree_.cond b c e) k t
-give_reads e (on (first l) k) (r_joint j) = go (same_level l (joint_level j)) (give_reads e k (r_joint j))
+give_reads e (on (first l) k) (t_operator j) = go (same_level l (operator_level j)) (give_reads e k (t_operator j))
   where
-    go : (b : Bool) → Reads (r_joint j) (λ r. before_ctx k (tokens e r)) (give e k (r_joint j)) → Reads (r_joint j) (λ r. before_ctx k (tokens e r)) (cond b (Next (Want (joint_right j) (on (right j e) k))) (give e k (r_joint j)))
+    go : (b : Bool) → Reads (t_operator j) (λ r. before_ctx k (tokens e r)) (give e k (t_operator j)) → Reads (t_operator j) (λ r. before_ctx k (tokens e r)) (cond b (Next (Want (operator_right j) (on (right j e) k))) (give e k (t_operator j)))
     go true h = λ r. refl
     go false h = h
 give_reads e (on (first l) k) t = give_reads e k t
-give_reads e (on (right i a) k) (r_joint j) = go (same_level (joint_level i) (joint_level j)) (give_reads (joined i a e) k (r_joint j))
+give_reads e (on (right i a) k) (t_operator j) = go (same_level (operator_level i) (operator_level j)) (give_reads (joined i a e) k (t_operator j))
   where
-    spell : (r : List Kind) → before_ctx k (tokens (joined i a e) r) ≡ before_ctx k (tokens a (joint_kind i ∷ tokens e r))
+    spell : (r : List Kind) → before_ctx k (tokens (joined i a e) r) ≡ before_ctx k (tokens a (operator_kind i ∷ tokens e r))
     spell r = ap (before_ctx k) (joined_spelled i a e r)
 
-    go : (b : Bool) → Reads (r_joint j) (λ r. before_ctx k (tokens (joined i a e) r)) (give (joined i a e) k (r_joint j)) → Reads (r_joint j) (λ r. before_ctx k (tokens a (joint_kind i ∷ tokens e r))) (cond b (Next (Want (joint_right j) (on (right j (joined i a e)) k))) (give (joined i a e) k (r_joint j)))
-    go true h = λ r. spell (joint_kind j ∷ r)
-    go false h = reads_as (r_joint j) (λ r. before_ctx k (tokens (joined i a e) r)) (λ r. before_ctx k (tokens a (joint_kind i ∷ tokens e r))) spell (give (joined i a e) k (r_joint j)) h
-give_reads e (on (right i a) k) t = reads_as t (λ r. before_ctx k (tokens (joined i a e) r)) (λ r. before_ctx k (tokens a (joint_kind i ∷ tokens e r))) (λ r. ap (before_ctx k) (joined_spelled i a e r)) (give (joined i a e) k t) (give_reads (joined i a e) k t)
+    go : (b : Bool) → Reads (t_operator j) (λ r. before_ctx k (tokens (joined i a e) r)) (give (joined i a e) k (t_operator j)) → Reads (t_operator j) (λ r. before_ctx k (tokens a (operator_kind i ∷ tokens e r))) (cond b (Next (Want (operator_right j) (on (right j (joined i a e)) k))) (give (joined i a e) k (t_operator j)))
+    go true h = λ r. spell (operator_kind j ∷ r)
+    go false h = reads_as (t_operator j) (λ r. before_ctx k (tokens (joined i a e) r)) (λ r. before_ctx k (tokens a (operator_kind i ∷ tokens e r))) spell (give (joined i a e) k (t_operator j)) h
+give_reads e (on (right i a) k) t = reads_as t (λ r. before_ctx k (tokens (joined i a e) r)) (λ r. before_ctx k (tokens a (operator_kind i ∷ tokens e r))) (λ r. ap (before_ctx k) (joined_spelled i a e r)) (give (joined i a e) k t) (give_reads (joined i a e) k t)
 give_reads e (on not_of k) t = give_reads (not' e) k t
-give_reads e (on compare_first k) (r_compare op) = λ r. refl
-give_reads e (on compare_first k) r_not = λ r. refl
-give_reads e (on compare_first k) r_is = λ r. refl
+give_reads e (on compare_first k) (t_compare op) = λ r. refl
+give_reads e (on compare_first k) t_not = λ r. refl
+give_reads e (on compare_first k) t_is = λ r. refl
 give_reads e (on compare_first k) t = give_reads e k t
-give_reads e (on (compare_rest a ls p) k) (r_compare op) = λ r. ap (λ (x : List Kind). before_ctx k (tokens a x)) (links_snoc ls (Op p) e (comparison (Op op) r))
-give_reads e (on (compare_rest a ls p) k) r_not = λ r. ap (λ (x : List Kind). before_ctx k (tokens a x)) (links_snoc ls (Op p) e (Word word.Not ∷ r))
-give_reads e (on (compare_rest a ls p) k) r_is = λ r. ap (λ (x : List Kind). before_ctx k (tokens a x)) (links_snoc ls (Op p) e (Word word.Is ∷ r))
+give_reads e (on (compare_rest a ls p) k) (t_compare op) = λ r. ap (λ (x : List Kind). before_ctx k (tokens a x)) (links_snoc ls (Op p) e (comparison (Op op) r))
+give_reads e (on (compare_rest a ls p) k) t_not = λ r. ap (λ (x : List Kind). before_ctx k (tokens a x)) (links_snoc ls (Op p) e (Word word.Not ∷ r))
+give_reads e (on (compare_rest a ls p) k) t_is = λ r. ap (λ (x : List Kind). before_ctx k (tokens a x)) (links_snoc ls (Op p) e (Word word.Is ∷ r))
 give_reads e (on (compare_rest a ls p) k) t = reads_as t (λ r. before_ctx k (tokens (compare a (snoc_link ls (Op p) e)) r)) (λ r. before_ctx k (tokens a (links ls (comparison (Op p) (tokens e r))))) (λ r. ap (λ (x : List Kind). before_ctx k (tokens a x)) (links_snoc ls (Op p) e r)) (give (compare a (snoc_link ls (Op p) e)) k t) (give_reads (compare a (snoc_link ls (Op p) e)) k t)
 give_reads e (on (unary_of s) k) t = give_reads (unary s e) k t
-give_reads e (on post_rest k) r_left_paren = λ r. refl
-give_reads e (on post_rest k) r_left_bracket = λ r. refl
-give_reads e (on post_rest k) r_dot = λ r. refl
+give_reads e (on post_rest k) t_left_paren = λ r. refl
+give_reads e (on post_rest k) t_left_bracket = λ r. refl
+give_reads e (on post_rest k) t_dot = λ r. refl
 give_reads e (on post_rest k) t = give_reads e k t
-give_reads e (on (in_items o es) k) r_comma = λ r. ap (before_ctx k) (made_spelled o es e true r)
+give_reads e (on (in_items o es) k) t_comma = λ r. ap (before_ctx k) (made_spelled o es e true r)
 give_reads e (on (in_items o es) k) t = reads_as t (λ r. before_ctx k (opened o (items (snoc es e) false r))) (λ r. before_ctx k (opened o (items es true (tokens e r)))) (λ r. ap (before_ctx k) (made_spelled o es e false r)) (close_items o (snoc es e) false k t Stuck) (close_reads o (snoc es e) false k t Stuck tt)
-give_reads e (on (index_first f) k) r_comma = λ r. refl
-give_reads e (on (index_first f) k) r_colon = λ r. refl
-give_reads e (on (index_first f) k) r_right_bracket = λ r. refl
+give_reads e (on (index_first f) k) t_comma = λ r. refl
+give_reads e (on (index_first f) k) t_colon = λ r. refl
+give_reads e (on (index_first f) k) t_right_bracket = λ r. refl
 give_reads e (on (index_first f) k) t = tt
-give_reads e (on (in_index f) k) r_right_bracket = λ r. refl
+give_reads e (on (in_index f) k) t_right_bracket = λ r. refl
 give_reads e (on (in_index f) k) t = tt
-give_reads e (on (slice_to f from) k) r_right_bracket = λ r. refl
+give_reads e (on (slice_to f from) k) t_right_bracket = λ r. refl
 give_reads e (on (slice_to f from) k) t = tt
-give_reads e (on in_paren k) r_right_paren = λ r. refl
+give_reads e (on in_paren k) t_right_paren = λ r. refl
 give_reads e (on in_paren k) t = tt
-give_reads e (on (in_key ps) k) r_colon = λ r. refl
+give_reads e (on (in_key ps) k) t_colon = λ r. refl
 give_reads e (on (in_key ps) k) t = tt
-give_reads e (on (in_value ps key) k) r_comma = λ r. ap (λ (x : List Kind). before_ctx k (Sign mark.LeftBrace ∷ x)) (entries_snoc ps key e true r)
-give_reads e (on (in_value ps key) k) r_right_brace = λ r. ap (λ (x : List Kind). before_ctx k (Sign mark.LeftBrace ∷ x)) (entries_snoc ps key e false (Sign mark.RightBrace ∷ r))
+give_reads e (on (in_value ps key) k) t_comma = λ r. ap (λ (x : List Kind). before_ctx k (Sign mark.LeftBrace ∷ x)) (entries_snoc ps key e true r)
+give_reads e (on (in_value ps key) k) t_right_brace = λ r. ap (λ (x : List Kind). before_ctx k (Sign mark.LeftBrace ∷ x)) (entries_snoc ps key e false (Sign mark.RightBrace ∷ r))
 give_reads e (on (in_value ps key) k) t = tt
 
 -- ---- the frames that are pushed stand for nothing
@@ -238,44 +238,44 @@ sum_read lev k r = elim (at_most lev LSum) as (λ b. before_ctx (cond b (on (fir
 term_read : (lev : Level) (k : Ctx) (r : List Kind) → before_ctx (upto_term lev k) r ≡ before_ctx k r
 term_read lev k r = elim (at_most lev LTerm) as (λ b. before_ctx (cond b (on (first LTerm) (upto_sum lev k)) k) r ≡ before_ctx k r) [ true ↦ sum_read lev k r | false ↦ refl ]
 
-not_read : (lev : Level) (k : Ctx) (b : Bool) → Reads r_not (before_ctx k) (cond b (Next (Want LNot (on not_of (upto_and lev k)))) Stuck)
+not_read : (lev : Level) (k : Ctx) (b : Bool) → Reads t_not (before_ctx k) (cond b (Next (Want LNot (on not_of (upto_and lev k)))) Stuck)
 not_read lev k true = λ r. and_read lev k (Word word.Not ∷ r)
 not_read lev k false = tt
 
-plus_read : (lev : Level) (k : Ctx) (b : Bool) → Reads (r_joint (j_op op_.Add)) (before_ctx k) (cond b (Next (Want LUnary (on (unary_of sign_.Plus) (upto_term lev k)))) Stuck)
+plus_read : (lev : Level) (k : Ctx) (b : Bool) → Reads (t_operator (b_op op_.Add)) (before_ctx k) (cond b (Next (Want LUnary (on (unary_of sign_.Plus) (upto_term lev k)))) Stuck)
 plus_read lev k true = λ r. term_read lev k (Sign mark.Plus ∷ r)
 plus_read lev k false = tt
 
-minus_read : (lev : Level) (k : Ctx) (b : Bool) → Reads (r_joint (j_op op_.Sub)) (before_ctx k) (cond b (Next (Want LUnary (on (unary_of sign_.Minus) (upto_term lev k)))) Stuck)
+minus_read : (lev : Level) (k : Ctx) (b : Bool) → Reads (t_operator (b_op op_.Sub)) (before_ctx k) (cond b (Next (Want LUnary (on (unary_of sign_.Minus) (upto_term lev k)))) Stuck)
 minus_read lev k true = λ r. term_read lev k (Sign mark.Minus ∷ r)
 minus_read lev k false = tt
 
-pub begin_reads : (lev : Level) (k : Ctx) (t : Role) → Reads t (before_ctx k) (begin lev k t)
-begin_reads lev k (r_name x) = λ r. term_read lev k (Name x ∷ r)
-begin_reads lev k (r_int n) = λ r. term_read lev k (Int n ∷ r)
-begin_reads lev k r_none = λ r. term_read lev k (Word word.None ∷ r)
-begin_reads lev k (r_bool b) = λ r. term_read lev k (bool_word b ∷ r)
-begin_reads lev k (r_string x) = λ r. term_read lev k (Str x ∷ r)
-begin_reads lev k (r_format ps) = λ r. term_read lev k (FString (pieces ps) ∷ r)
-begin_reads lev k r_not = not_read lev k (at_most lev LNot)
-begin_reads lev k (r_joint (j_op op_.Add)) = plus_read lev k (at_most lev LUnary)
-begin_reads lev k (r_joint (j_op op_.Sub)) = minus_read lev k (at_most lev LUnary)
-begin_reads lev k r_left_paren = λ r. term_read lev k (Sign mark.LeftParen ∷ r)
-begin_reads lev k r_left_bracket = λ r. term_read lev k (Sign mark.LeftBracket ∷ r)
-begin_reads lev k r_left_brace = λ r. term_read lev k (Sign mark.LeftBrace ∷ r)
+pub begin_reads : (lev : Level) (k : Ctx) (t : TokenClass) → Reads t (before_ctx k) (begin lev k t)
+begin_reads lev k (t_name x) = λ r. term_read lev k (Name x ∷ r)
+begin_reads lev k (t_int n) = λ r. term_read lev k (Int n ∷ r)
+begin_reads lev k t_none = λ r. term_read lev k (Word word.None ∷ r)
+begin_reads lev k (t_bool b) = λ r. term_read lev k (bool_word b ∷ r)
+begin_reads lev k (t_string x) = λ r. term_read lev k (Str x ∷ r)
+begin_reads lev k (t_format ps) = λ r. term_read lev k (FString (pieces ps) ∷ r)
+begin_reads lev k t_not = not_read lev k (at_most lev LNot)
+begin_reads lev k (t_operator (b_op op_.Add)) = plus_read lev k (at_most lev LUnary)
+begin_reads lev k (t_operator (b_op op_.Sub)) = minus_read lev k (at_most lev LUnary)
+begin_reads lev k t_left_paren = λ r. term_read lev k (Sign mark.LeftParen ∷ r)
+begin_reads lev k t_left_bracket = λ r. term_read lev k (Sign mark.LeftBracket ∷ r)
+begin_reads lev k t_left_brace = λ r. term_read lev k (Sign mark.LeftBrace ∷ r)
 begin_reads lev k t = tt
 
-given_strings : (fs : Fragments) (k : Ctx) (t : Role) → Reads t (λ r. before_ctx k (fragments fs r)) (give (strings_of fs) k t)
+given_strings : (fs : Fragments) (k : Ctx) (t : TokenClass) → Reads t (λ r. before_ctx k (fragments fs r)) (give (strings_of fs) k t)
 given_strings fs k t = reads_as t (λ r. before_ctx k (tokens (strings_of fs) r)) (λ r. before_ctx k (fragments fs r)) (λ r. ap (before_ctx k) (strings_spelled fs r)) (give (strings_of fs) k t) (give_reads (strings_of fs) k t)
 
-pub step_reads : (s : State) (t : Role) → Reads t (before s) (step s t)
+pub step_reads : (s : State) (t : TokenClass) → Reads t (before s) (step s t)
 step_reads (Want lev k) t = begin_reads lev k t
 step_reads (Have e k) t = give_reads e k t
-step_reads (Strings fs k) (r_string x) = λ r. ap (before_ctx k) (plain_snoc fs x r)
-step_reads (Strings fs k) (r_format ps) = λ r. ap (before_ctx k) (format_snoc fs ps r)
-step_reads (Strings fs k) (r_bad_format ps) = tt
+step_reads (Strings fs k) (t_string x) = λ r. ap (before_ctx k) (plain_snoc fs x r)
+step_reads (Strings fs k) (t_format ps) = λ r. ap (before_ctx k) (format_snoc fs ps r)
+step_reads (Strings fs k) (t_bad_format ps) = tt
 step_reads (Strings fs k) t = given_strings fs k t
-step_reads (AfterOpen k) r_right_paren = λ r. refl
+step_reads (AfterOpen k) t_right_paren = λ r. refl
 step_reads (AfterOpen k) t = begin_reads LExprs (on in_paren k) t
 step_reads (AfterComma f es k) t = go (begins t)
   where
@@ -289,26 +289,26 @@ step_reads (AfterTarget f es) t = go (begins t)
     go false = λ r. refl
 step_reads (ItemsOpen o k) t = close_reads o no_exprs false k t (begin LExpr (on (in_items o no_exprs) k) t) (begin_reads LExpr (on (in_items o no_exprs) k) t)
 step_reads (ItemsComma o es k) t = close_reads o es true k t (begin LExpr (on (in_items o es) k) t) (begin_reads LExpr (on (in_items o es) k) t)
-step_reads (DictOpen k) r_right_brace = λ r. refl
+step_reads (DictOpen k) t_right_brace = λ r. refl
 step_reads (DictOpen k) t = begin_reads LExpr (on (in_key no_pairs) k) t
-step_reads (DictComma ps k) r_right_brace = λ r. refl
+step_reads (DictComma ps k) t_right_brace = λ r. refl
 step_reads (DictComma ps k) t = begin_reads LExpr (on (in_key ps) k) t
-step_reads (IndexOpen f k) r_colon = λ r. refl
+step_reads (IndexOpen f k) t_colon = λ r. refl
 step_reads (IndexOpen f k) t = begin_reads LExpr (on (index_first f) k) t
-step_reads (SliceColon f from k) r_right_bracket = λ r. refl
+step_reads (SliceColon f from k) t_right_bracket = λ r. refl
 step_reads (SliceColon f from k) t = begin_reads LExpr (on (slice_to f from) k) t
-step_reads (AfterDot f k) (r_name x) = λ r. refl
+step_reads (AfterDot f k) (t_name x) = λ r. refl
 step_reads (AfterDot f k) t = tt
-step_reads (AfterNot a ls k) (r_compare cmp_.In) = λ r. refl
+step_reads (AfterNot a ls k) (t_compare cmp_.In) = λ r. refl
 step_reads (AfterNot a ls k) t = tt
-step_reads (AfterIs a ls k) r_not = λ r. refl
-step_reads (AfterIs a ls k) r_none = λ r. ap (λ (x : List Kind). before_ctx k (tokens a x)) (links_snoc ls Is none r)
-step_reads (AfterIs a ls k) (r_bool b) = λ r. ap (λ (x : List Kind). before_ctx k (tokens a x)) (links_snoc ls Is (bool b) r)
+step_reads (AfterIs a ls k) t_not = λ r. refl
+step_reads (AfterIs a ls k) t_none = λ r. ap (λ (x : List Kind). before_ctx k (tokens a x)) (links_snoc ls Is none r)
+step_reads (AfterIs a ls k) (t_bool b) = λ r. ap (λ (x : List Kind). before_ctx k (tokens a x)) (links_snoc ls Is (bool b) r)
 step_reads (AfterIs a ls k) t = tt
-step_reads (AfterIsNot a ls k) r_none = λ r. ap (λ (x : List Kind). before_ctx k (tokens a x)) (links_snoc ls IsNot none r)
-step_reads (AfterIsNot a ls k) (r_bool b) = λ r. ap (λ (x : List Kind). before_ctx k (tokens a x)) (links_snoc ls IsNot (bool b) r)
+step_reads (AfterIsNot a ls k) t_none = λ r. ap (λ (x : List Kind). before_ctx k (tokens a x)) (links_snoc ls IsNot none r)
+step_reads (AfterIsNot a ls k) (t_bool b) = λ r. ap (λ (x : List Kind). before_ctx k (tokens a x)) (links_snoc ls IsNot (bool b) r)
 step_reads (AfterIsNot a ls k) t = tt
-step_reads (Linked a ls k) (r_compare op) = λ r. refl
-step_reads (Linked a ls k) r_not = λ r. refl
-step_reads (Linked a ls k) r_is = λ r. refl
+step_reads (Linked a ls k) (t_compare op) = λ r. refl
+step_reads (Linked a ls k) t_not = λ r. refl
+step_reads (Linked a ls k) t_is = λ r. refl
 step_reads (Linked a ls k) t = give_reads (compare a ls) k t

@@ -7,7 +7,7 @@ use Rattle.py_syntax.specs.Tokens.{pieces}
 use Rattle.py_syntax.specs.Normal.{NormalParts}
 use Rattle.py_grammar.specs.Machine.{parts}
 use Rattle.py_grammar.specs.Refusal.{AreSpelled}
-use Rattle.py_grammar.proofs.Spelled.{parts_spell, parts_fine}
+use Rattle.py_grammar.proofs.Spelled.{parts_spell, parts_valid}
 use Rattle.py_grammar.proofs.Complete.{back_parts}
 
 found : (o : Option Parts) (qs : Parts) → o ≡ Some qs → is_some o ≡ true
@@ -15,7 +15,7 @@ found o qs h = ap (λ (x : Option Parts). is_some x) h
 
 spelled : (ps : Pieces) (o : Option Parts) → parts ps ≡ o → is_some o ≡ true → AreSpelled ps
 spelled ps None same h = absurd cc
-spelled ps (Some qs) same h = (qs, parts_fine ps qs same, parts_spell ps qs same)
+spelled ps (Some qs) same h = (qs, parts_valid ps qs same, parts_spell ps qs same)
 
 read : (ps : Pieces) → AreSpelled ps → is_some (parts ps) ≡ true
 read ps h = found (parts ps) h.0 (subst (λ (x : Pieces). parts x ≡ Some h.0) h.2 (back_parts h.0 h.1))

@@ -90,7 +90,7 @@ too_deep limit ts place s n t rest h is steps high =
         let is_low = ap lowest same in
         omega arith
 
--- The tree is whole and nothing stands behind its end.
+-- The tree is whole and nothing stands after its end.
 pub whole_list : (limit : ℕ) (ts : List Kind) (e : Expr) → Stands limit ts (length ts) (Over e) → Spells e ts × (height e ≤ limit)
 whole_list limit ts e h =
     let all : take (length ts) ts ≡ ts = take_all (length ts) ts (omega arith) in

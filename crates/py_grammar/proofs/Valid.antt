@@ -5,7 +5,7 @@ use Rattle.py_syntax.specs.declared.expr.Comparison.{Comparison}
 use Rattle.py_syntax.specs.Tree.{Text, Expr, str, fstr, tuple, compare, Exprs, no_exprs, exprs, Pairs, no_pairs, pair, Links, no_links, link, Fragments, no_fragments, plain, format, Parts}
 use Rattle.py_syntax.specs.Tokens.{more}
 use Rattle.py_syntax.specs.Normal.{Level, LEnd, LExprs, LExpr, LOr, LAnd, LNot, LCmp, LSum, LTerm, LUnary, LPost, rank, level, At, Compared, HasFormat, IsSomething, Normal, NormalLinks, NormalItems, Each, NormalEntries, EachEntry, NormalBound, NormalFragments, NormalParts, is_target, are_targets}
-use Rattle.py_grammar.specs.Roles.{Joint, j_or, j_and, j_op, Role, r_format, joint_level, joint_right, joined}
+use Rattle.py_grammar.specs.TokenClasses.{BinaryOperator, b_or, b_and, b_op, TokenClass, t_format, operator_level, operator_right, joined}
 use Rattle.py_grammar.specs.Machine.{snoc, snoc_pair, snoc_link, snoc_plain, snoc_format, has_format, texts, strings_of, Goal, any, one, target, targets, Opener, a_call, a_list, exprs_first, exprs_rest, cond_first, cond_test, cond_else, first, right, not_of, compare_first, compare_rest, unary_of, post_rest, in_items, index_first, in_index, slice_to, in_paren, in_key, in_value, Ctx, Outside, on, State, Want, Have, Strings, AfterOpen, AfterComma, AfterTarget, ItemsOpen, ItemsComma, DictOpen, DictComma, IndexOpen, SliceColon, AfterDot, AfterNot, AfterIs, AfterIsNot, Linked, Out, Next, Stuck, Left}
 
 -- The level that the hole of a stack asks for.
@@ -19,7 +19,7 @@ needs (on cond_first k) = LOr
 needs (on (cond_test b) k) = LOr
 needs (on (cond_else b c) k) = LExpr
 needs (on (first l) k) = l
-needs (on (right j a) k) = joint_right j
+needs (on (right j a) k) = operator_right j
 needs (on not_of k) = LNot
 needs (on compare_first k) = LSum
 needs (on (compare_rest a ls op) k) = LSum
@@ -40,33 +40,33 @@ Under k l = rank (needs k) ≤ rank l
 abbrev pub AreTargets : Expr → Exprs → Type 0
 AreTargets f es = At LExpr f × Normal f × Each es × (is_target f ≡ true) × (are_targets es ≡ true)
 
-abbrev pub FineOpener : Opener → Type 0
-FineOpener (a_call f) = At LPost f × Normal f
-FineOpener a_list = Unit {0}
+abbrev pub ValidOpener : Opener → Type 0
+ValidOpener (a_call f) = At LPost f × Normal f
+ValidOpener a_list = Unit {0}
 
 -- The stack is that of a reading towards this goal, and its parts are normal and fit.
-abbrev pub Fine : Goal → Ctx → Type 0
-Fine g (Outside (targets f es)) = (g ≡ target) × AreTargets f es
-Fine g (Outside h) = g ≡ h
-Fine g (on exprs_first k) = Under k LExprs × Fine g k
-Fine g (on (exprs_rest f es) k) = At LExpr f × Normal f × Each es × Under k LExprs × Fine g k
-Fine g (on cond_first k) = Under k LExpr × Fine g k
-Fine g (on (cond_test b) k) = At LOr b × Normal b × Under k LExpr × Fine g k
-Fine g (on (cond_else b c) k) = At LOr b × Normal b × At LOr c × Normal c × Under k LExpr × Fine g k
-Fine g (on (first l) k) = (rank l ≤ 8) × Under k l × Fine g k
-Fine g (on (right j a) k) = At (joint_level j) a × Normal a × Under k (joint_level j) × Fine g k
-Fine g (on not_of k) = Under k LNot × Fine g k
-Fine g (on compare_first k) = Under k LCmp × Fine g k
-Fine g (on (compare_rest a ls op) k) = At LSum a × Normal a × NormalLinks ls × Under k LCmp × Fine g k
-Fine g (on (unary_of s) k) = Under k LUnary × Fine g k
-Fine g (on post_rest k) = Fine g k
-Fine g (on (in_items o es) k) = FineOpener o × Each es × Fine g k
-Fine g (on (index_first f) k) = At LPost f × Normal f × Fine g k
-Fine g (on (in_index f) k) = At LPost f × Normal f × Fine g k
-Fine g (on (slice_to f from) k) = At LPost f × Normal f × NormalBound from × Fine g k
-Fine g (on in_paren k) = Fine g k
-Fine g (on (in_key ps) k) = EachEntry ps × Fine g k
-Fine g (on (in_value ps key) k) = EachEntry ps × At LExpr key × Normal key × Fine g k
+abbrev pub Valid : Goal → Ctx → Type 0
+Valid g (Outside (targets f es)) = (g ≡ target) × AreTargets f es
+Valid g (Outside h) = g ≡ h
+Valid g (on exprs_first k) = Under k LExprs × Valid g k
+Valid g (on (exprs_rest f es) k) = At LExpr f × Normal f × Each es × Under k LExprs × Valid g k
+Valid g (on cond_first k) = Under k LExpr × Valid g k
+Valid g (on (cond_test b) k) = At LOr b × Normal b × Under k LExpr × Valid g k
+Valid g (on (cond_else b c) k) = At LOr b × Normal b × At LOr c × Normal c × Under k LExpr × Valid g k
+Valid g (on (first l) k) = (rank l ≤ 8) × Under k l × Valid g k
+Valid g (on (right j a) k) = At (operator_level j) a × Normal a × Under k (operator_level j) × Valid g k
+Valid g (on not_of k) = Under k LNot × Valid g k
+Valid g (on compare_first k) = Under k LCmp × Valid g k
+Valid g (on (compare_rest a ls op) k) = At LSum a × Normal a × NormalLinks ls × Under k LCmp × Valid g k
+Valid g (on (unary_of s) k) = Under k LUnary × Valid g k
+Valid g (on post_rest k) = Valid g k
+Valid g (on (in_items o es) k) = ValidOpener o × Each es × Valid g k
+Valid g (on (index_first f) k) = At LPost f × Normal f × Valid g k
+Valid g (on (in_index f) k) = At LPost f × Normal f × Valid g k
+Valid g (on (slice_to f from) k) = At LPost f × Normal f × NormalBound from × Valid g k
+Valid g (on in_paren k) = Valid g k
+Valid g (on (in_key ps) k) = EachEntry ps × Valid g k
+Valid g (on (in_value ps key) k) = EachEntry ps × At LExpr key × Normal key × Valid g k
 
 abbrev pub SomeItems : Exprs → Type 0
 SomeItems no_exprs = ⊥
@@ -84,29 +84,29 @@ abbrev pub SomeStrings : Fragments → Type 0
 SomeStrings no_fragments = ⊥
 SomeStrings fs = Unit {0}
 
--- an operand and the comparisons behind it
+-- an operand and the comparisons after it
 abbrev pub Compares : Goal → Expr → Links → Ctx → Type 0
-Compares g a ls k = At LSum a × Normal a × NormalLinks ls × Under k LCmp × Fine g k
+Compares g a ls k = At LSum a × Normal a × NormalLinks ls × Under k LCmp × Valid g k
 
--- behind what may go on as a postfix
+-- after what may go on as a postfix
 abbrev pub Postfix : Ctx → Type 0
 Postfix (on post_rest k) = Unit {0}
 Postfix k = ⊥
 
 abbrev pub Sound : Goal → State → Type 0
-Sound g (Want lev k) = Under k lev × Fine g k
-Sound g (Have e k) = At (needs k) e × Normal e × Postfix k × Fine g k
-Sound g (Strings fs k) = SomeStrings fs × NormalFragments fs × Postfix k × Fine g k
-Sound g (AfterOpen k) = Fine g k
-Sound g (AfterComma f es k) = At LExpr f × Normal f × Each es × Under k LExprs × Fine g k
+Sound g (Want lev k) = Under k lev × Valid g k
+Sound g (Have e k) = At (needs k) e × Normal e × Postfix k × Valid g k
+Sound g (Strings fs k) = SomeStrings fs × NormalFragments fs × Postfix k × Valid g k
+Sound g (AfterOpen k) = Valid g k
+Sound g (AfterComma f es k) = At LExpr f × Normal f × Each es × Under k LExprs × Valid g k
 Sound g (AfterTarget f es) = (g ≡ target) × AreTargets f es
-Sound g (ItemsOpen o k) = FineOpener o × Fine g k
-Sound g (ItemsComma o es k) = FineOpener o × SomeItems es × Each es × Fine g k
-Sound g (DictOpen k) = Fine g k
-Sound g (DictComma ps k) = SomePairs ps × EachEntry ps × Fine g k
-Sound g (IndexOpen f k) = At LPost f × Normal f × Fine g k
-Sound g (SliceColon f from k) = At LPost f × Normal f × NormalBound from × Fine g k
-Sound g (AfterDot f k) = At LPost f × Normal f × Fine g k
+Sound g (ItemsOpen o k) = ValidOpener o × Valid g k
+Sound g (ItemsComma o es k) = ValidOpener o × SomeItems es × Each es × Valid g k
+Sound g (DictOpen k) = Valid g k
+Sound g (DictComma ps k) = SomePairs ps × EachEntry ps × Valid g k
+Sound g (IndexOpen f k) = At LPost f × Normal f × Valid g k
+Sound g (SliceColon f from k) = At LPost f × Normal f × NormalBound from × Valid g k
+Sound g (AfterDot f k) = At LPost f × Normal f × Valid g k
 Sound g (AfterNot a ls k) = Compares g a ls k
 Sound g (AfterIs a ls k) = Compares g a ls k
 Sound g (AfterIsNot a ls k) = Compares g a ls k
@@ -123,9 +123,9 @@ Keeps g (Next s) = Sound g s
 Keeps g Stuck = Unit {0}
 Keeps g (Left e) = Normal e × Meets g e
 
-abbrev pub FineRole : Role → Type 0
-FineRole (r_format ps) = NormalParts ps
-FineRole t = Unit {0}
+abbrev pub ValidClass : TokenClass → Type 0
+ValidClass (t_format ps) = NormalParts ps
+ValidClass t = Unit {0}
 
 -- ---- small facts
 
@@ -142,24 +142,24 @@ highest LTerm = omega arith
 highest LUnary = omega arith
 highest LPost = omega arith
 
-pub joint_rank : (j : Joint) → (3 ≤ rank (joint_level j)) × (rank (joint_level j) ≤ 8)
-joint_rank j_or = (omega arith, omega arith)
-joint_rank j_and = (omega arith, omega arith)
-joint_rank (j_op op_.Add) = (omega arith, omega arith)
-joint_rank (j_op op_.Sub) = (omega arith, omega arith)
-joint_rank (j_op op_.Mul) = (omega arith, omega arith)
-joint_rank (j_op op_.Floor) = (omega arith, omega arith)
-joint_rank (j_op op_.Mod) = (omega arith, omega arith)
+pub operator_rank : (j : BinaryOperator) → (3 ≤ rank (operator_level j)) × (rank (operator_level j) ≤ 8)
+operator_rank b_or = (omega arith, omega arith)
+operator_rank b_and = (omega arith, omega arith)
+operator_rank (b_op op_.Add) = (omega arith, omega arith)
+operator_rank (b_op op_.Sub) = (omega arith, omega arith)
+operator_rank (b_op op_.Mul) = (omega arith, omega arith)
+operator_rank (b_op op_.Floor) = (omega arith, omega arith)
+operator_rank (b_op op_.Mod) = (omega arith, omega arith)
 
-pub joined_level : (j : Joint) (a b : Expr) → level (joined j a b) ≡ joint_level j
-joined_level j_or a b = refl
-joined_level j_and a b = refl
-joined_level (j_op op) a b = refl
+pub joined_level : (j : BinaryOperator) (a b : Expr) → level (joined j a b) ≡ operator_level j
+joined_level b_or a b = refl
+joined_level b_and a b = refl
+joined_level (b_op op) a b = refl
 
-pub joined_normal : (j : Joint) (a b : Expr) → At (joint_level j) a → Normal a → At (joint_right j) b → Normal b → Normal (joined j a b)
-joined_normal j_or a b al an bl bn = (al, an, bl, bn)
-joined_normal j_and a b al an bl bn = (al, an, bl, bn)
-joined_normal (j_op op) a b al an bl bn = (al, an, bl, bn)
+pub joined_normal : (j : BinaryOperator) (a b : Expr) → At (operator_level j) a → Normal a → At (operator_right j) b → Normal b → Normal (joined j a b)
+joined_normal b_or a b al an bl bn = (al, an, bl, bn)
+joined_normal b_and a b al an bl bn = (al, an, bl, bn)
+joined_normal (b_op op) a b al an bl bn = (al, an, bl, bn)
 
 pub both_true : (a b : Bool) → a ≡ true → b ≡ true → (a && b) ≡ true
 both_true true b h i = i

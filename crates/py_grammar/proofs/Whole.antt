@@ -4,21 +4,21 @@ use Rattle.py_syntax.specs.Tree.{Expr}
 use Rattle.py_syntax.specs.Kinds.{Kind, End}
 use Rattle.py_syntax.specs.Tokens.{tokens}
 use Rattle.py_syntax.specs.Normal.{Normal, height}
-use Rattle.py_grammar.specs.Machine.{any, Outside, State, Out, Next, Stuck, Left, step, start, role, Leaves, run}
+use Rattle.py_grammar.specs.Machine.{any, Outside, State, Out, Next, Stuck, Left, step, start, class, Leaves, run}
 use Rattle.py_grammar.specs.Least.{finished, least}
 use Rattle.py_grammar.specs.Refusal.{Spells, IsViable, IsViableWithin, OneTree}
 use Rattle.py_grammar.proofs.Sound.{before, Reads, step_reads}
-use Rattle.py_grammar.proofs.Fine.{Sound, Keeps}
+use Rattle.py_grammar.proofs.Valid.{Sound, Keeps}
 use Rattle.py_grammar.proofs.Keeps.{step_keeps}
-use Rattle.py_grammar.proofs.Spelled.{outcome, role_spells, role_fine, start_any}
+use Rattle.py_grammar.proofs.Spelled.{outcome, class_spells, class_valid, start_any}
 use Rattle.py_grammar.proofs.Enclosed.{read_all}
 use Rattle.py_grammar.proofs.Complete.{back}
 use Rattle.py_grammar.proofs.Finish.{finish}
 use Rattle.py_grammar.proofs.Finishes.{finishes}
-use Rattle.py_grammar.proofs.Rising.{Grows, step_grows}
+use Rattle.py_grammar.proofs.LeastNeverFalls.{Grows, step_grows}
 use Rattle.py_grammar.proofs.Exact as exact
 
--- a state inside the expression, or the whole expression with the end behind it
+-- a state inside the expression, or the whole expression with the end after it
 pub data Whole : Type 0 where
   Going : State → Whole
   Over : Expr → Whole
@@ -33,7 +33,7 @@ goes Stuck t = None
 goes (Left e) t = over_at e t
 
 abbrev pub next : Whole → Kind → Option Whole
-next (Going s) t = goes (step s (role t)) t
+next (Going s) t = goes (step s (class t)) t
 next (Over e) t = None
 
 abbrev pub done : Whole → Option Expr
@@ -44,9 +44,9 @@ abbrev pub lowest : Whole → ℕ
 lowest (Going s) = least s
 lowest (Over e) = height e
 
-abbrev pub FineWhole : Whole → Type 0
-FineWhole (Going s) = Sound any s
-FineWhole (Over e) = Normal e
+abbrev pub ValidWhole : Whole → Type 0
+ValidWhole (Going s) = Sound any s
+ValidWhole (Over e) = Normal e
 
 abbrev pub begun : Whole
 begun = Going (start any)
@@ -57,15 +57,15 @@ reading = exact.run next
 abbrev pub onward : Option Whole → List Kind → Option Whole
 onward o ts = elim o as (λ (w : Option Whole). Option Whole) [ None ↦ None | Some n ↦ exact.run next n ts ]
 
-fine_goes : (o : Out) (t : Kind) (n : Whole) → Keeps any o → goes o t ≡ Some n → FineWhole n
-fine_goes (Next s) t n keeps h = let same : Going s ≡ n = cc in subst FineWhole same keeps
-fine_goes Stuck t n keeps h = absurd cc
-fine_goes (Left e) End n keeps h = let same : Over e ≡ n = cc in subst FineWhole same keeps.0
-fine_goes (Left e) t n keeps h = absurd cc
+valid_goes : (o : Out) (t : Kind) (n : Whole) → Keeps any o → goes o t ≡ Some n → ValidWhole n
+valid_goes (Next s) t n keeps h = let same : Going s ≡ n = cc in subst ValidWhole same keeps
+valid_goes Stuck t n keeps h = absurd cc
+valid_goes (Left e) End n keeps h = let same : Over e ≡ n = cc in subst ValidWhole same keeps.0
+valid_goes (Left e) t n keeps h = absurd cc
 
-pub fine_step : (s : Whole) (t : Kind) (n : Whole) → FineWhole s → next s t ≡ Some n → FineWhole n
-fine_step (Going s) t n fine h = fine_goes (step s (role t)) t n (step_keeps any s (role t) (role_fine t) fine) h
-fine_step (Over e) t n fine h = absurd cc
+pub valid_step : (s : Whole) (t : Kind) (n : Whole) → ValidWhole s → next s t ≡ Some n → ValidWhole n
+valid_step (Going s) t n valid h = valid_goes (step s (class t)) t n (step_keeps any s (class t) (class_valid t) valid) h
+valid_step (Over e) t n valid h = absurd cc
 
 grows_goes : (o : Out) (t : Kind) (n : Whole) (h : ℕ) → Grows h o → goes o t ≡ Some n → h ≤ lowest n
 grows_goes (Next s) t n h grows is = let same : Going s ≡ n = cc in subst (λ (x : Whole). h ≤ lowest x) same grows
@@ -74,7 +74,7 @@ grows_goes (Left e) End n h grows is = let same : Over e ≡ n = cc in subst (λ
 grows_goes (Left e) t n h grows is = absurd cc
 
 pub grows : (s : Whole) (t : Kind) (n : Whole) → next s t ≡ Some n → lowest s ≤ lowest n
-grows (Going s) t n h = grows_goes (step s (role t)) t n (least s) (step_grows s (role t)) h
+grows (Going s) t n h = grows_goes (step s (class t)) t n (least s) (step_grows s (class t)) h
 grows (Over e) t n h = absurd cc
 
 pub done_lowest : (s : Whole) (e : Expr) → done s ≡ Some e → lowest s ≡ height e
@@ -84,7 +84,7 @@ done_lowest (Over f) e h = let same : f ≡ e = cc in ap height same
 -- what the machine for expressions reads, this one reads
 pub leaves_over : (s : State) (ts : List Kind) (e : Expr) → run s ts ≡ Leaves e (End ∷ []) → reading (Going s) ts ≡ Some (Over e)
 leaves_over s [] e h = absurd cc
-leaves_over s (t ∷ ts) e h = go (λ n. leaves_over n ts e) (step s (role t)) h
+leaves_over s (t ∷ ts) e h = go (λ n. leaves_over n ts e) (step s (class t)) h
   where
     left_over : (f : Expr) (t : Kind) (ts : List Kind) → f ≡ e → t ≡ End → ts ≡ [] → onward (over_at f t) ts ≡ Some (Over e)
     left_over f t ts fe te tse = ap (λ (x : Kind). onward (over_at f x) ts) te ∙ ap (λ (x : List Kind). exact.run next (Over f) x) tse ∙ ap (λ (x : Expr). Some (Over x)) fe
@@ -106,8 +106,8 @@ over_ends e [] last m h d = let same : Over e ≡ last = cc in let all = ap done
 over_ends e (t ∷ ts) last m h d = absurd cc
 
 pub sound_from : (s : State) (ts : List Kind) (last : Whole) (m : Expr) → Sound any s → reading (Going s) ts ≡ Some last → done last ≡ Some m → Normal m × (before s ts ≡ tokens m (End ∷ []))
-sound_from s [] last m fine h d = let same : Going s ≡ last = cc in let all = ap done same ∙ d in absurd cc
-sound_from s (t ∷ ts) last m fine h d = go (λ n. sound_from n ts last m) (step s (role t)) (step_keeps any s (role t) (role_fine t) fine) (step_reads s (role t)) h
+sound_from s [] last m valid h d = let same : Going s ≡ last = cc in let all = ap done same ∙ d in absurd cc
+sound_from s (t ∷ ts) last m valid h d = go (λ n. sound_from n ts last m) (step s (class t)) (step_keeps any s (class t) (class_valid t) valid) (step_reads s (class t)) h
   where
     over : (f : Expr) (t : Kind) → Normal f → ((r : List Kind) → tokens f r ≡ before s r) → onward (over_at f t) ts ≡ Some last → Normal m × (before s (t ∷ ts) ≡ tokens m (End ∷ []))
     over f End keeps reads h =
@@ -115,34 +115,34 @@ sound_from s (t ∷ ts) last m fine h d = go (λ n. sound_from n ts last m) (ste
         (subst Normal o.1 keeps, sym (reads (End ∷ ts)) ∙ ap (λ (x : List Kind). tokens f (End ∷ x)) o.0 ∙ ap (λ (x : Expr). tokens x (End ∷ [])) o.1)
     over f t keeps reads h = absurd cc
 
-    go : ((n : State) → Sound any n → reading (Going n) ts ≡ Some last → done last ≡ Some m → Normal m × (before n ts ≡ tokens m (End ∷ []))) → (o : Out) → Keeps any o → Reads (role t) (before s) o → onward (goes o t) ts ≡ Some last → Normal m × (before s (t ∷ ts) ≡ tokens m (End ∷ []))
-    go rec (Next n) keeps reads h = let r = rec n keeps h d in (r.0, ap (before s) (sym (role_spells t ts)) ∙ sym (reads ts) ∙ r.1)
+    go : ((n : State) → Sound any n → reading (Going n) ts ≡ Some last → done last ≡ Some m → Normal m × (before n ts ≡ tokens m (End ∷ []))) → (o : Out) → Keeps any o → Reads (class t) (before s) o → onward (goes o t) ts ≡ Some last → Normal m × (before s (t ∷ ts) ≡ tokens m (End ∷ []))
+    go rec (Next n) keeps reads h = let r = rec n keeps h d in (r.0, ap (before s) (sym (class_spells t ts)) ∙ sym (reads ts) ∙ r.1)
     go rec Stuck keeps reads h = absurd cc
     go rec (Left f) keeps reads h = over f t keeps.0 reads h
 
 pub sound : (ts : List Kind) (s : Whole) (m : Expr) → reading begun ts ≡ Some s → done s ≡ Some m → Spells m ts
 sound ts s m h d = sound_from (start any) ts s m start_any h d
 
-pub completes : (s : Whole) → FineWhole s → (more : List Kind) × (last : Whole) × (m : Expr) × (reading s more ≡ Some last) × (done last ≡ Some m) × (height m ≡ lowest s)
-completes (Going s) fine = (finish s (End ∷ []), Over (finished s), finished s, leaves_over s (finish s (End ∷ [])) (finished s) (finishes any s End [] fine (omega arith, refl, refl)), refl, refl)
-completes (Over e) fine = ([], Over e, e, refl, refl, refl)
+pub completes : (s : Whole) → ValidWhole s → (more : List Kind) × (last : Whole) × (m : Expr) × (reading s more ≡ Some last) × (done last ≡ Some m) × (height m ≡ lowest s)
+completes (Going s) valid = (finish s (End ∷ []), Over (finished s), finished s, leaves_over s (finish s (End ∷ [])) (finished s) (finishes any s End [] valid (omega arith, refl, refl)), refl, refl)
+completes (Over e) valid = ([], Over e, e, refl, refl, refl)
 
 -- ---- viable prefixes
 
 pub viable_within : (limit : ℕ) (front : List Kind) (s : Whole) → reading begun front ≡ Some s → lowest s ≤ limit → IsViableWithin limit front
-viable_within = exact.viable_from Spells height begun next done lowest FineWhole start_any fine_step grows done_lowest complete sound completes
+viable_within = exact.viable_from Spells height begun next done lowest ValidWhole start_any valid_step grows done_lowest complete sound completes
 
 pub within_viable : (limit : ℕ) (front : List Kind) → IsViableWithin limit front → (s : Whole) × (reading begun front ≡ Some s) × (lowest s ≤ limit)
-within_viable = exact.viable_to Spells height begun next done lowest FineWhole start_any fine_step grows done_lowest complete sound completes
+within_viable = exact.viable_to Spells height begun next done lowest ValidWhole start_any valid_step grows done_lowest complete sound completes
 
 pub viable_from : (front : List Kind) (s : Whole) → reading begun front ≡ Some s → IsViable front
-viable_from = exact.begins_from Spells height begun next done lowest FineWhole start_any fine_step grows done_lowest complete sound completes
+viable_from = exact.begins_from Spells height begun next done lowest ValidWhole start_any valid_step grows done_lowest complete sound completes
 
 pub viable_to : (front : List Kind) → IsViable front → (s : Whole) × (reading begun front ≡ Some s)
-viable_to = exact.begins_to Spells height begun next done lowest FineWhole start_any fine_step grows done_lowest complete sound completes
+viable_to = exact.begins_to Spells height begun next done lowest ValidWhole start_any valid_step grows done_lowest complete sound completes
 
 pub one_tree : OneTree
-one_tree = exact.one_tree Spells height begun next done lowest FineWhole start_any fine_step grows done_lowest complete sound completes
+one_tree = exact.one_tree Spells height begun next done lowest ValidWhole start_any valid_step grows done_lowest complete sound completes
 
 pub run_append : (s : Whole) (front back : List Kind) → reading s (front ++ back) ≡ onward (reading s front) back
-run_append = exact.run_append Spells height begun next done lowest FineWhole start_any fine_step grows done_lowest complete sound completes
+run_append = exact.run_append Spells height begun next done lowest ValidWhole start_any valid_step grows done_lowest complete sound completes

@@ -6,7 +6,7 @@ use Rattle.py_grammar.specs.Machine.{Goal, start}
 use Rattle.py_grammar.specs.Reading.{Unexpected, TooDeep, Reads, EndsAt, Parted}
 use Rattle.py_grammar.specs.ExprTrees.{IsAsked, IsExpr, IsUnexpected, IsTooDeep}
 
--- Where the machine ends behind an expression, the tokens between the places are its tokens, and the next goes on with
+-- Where the machine ends after an expression, the tokens between the places are its tokens, and the next goes on with
 -- none; and where it ends otherwise, why there is no expression.
 pub record IsExact (goal : Goal) (limit : ℕ) (ts : List Kind) (at place : ℕ) : Type 0 where
   pub reads : (e : Expr) → EndsAt limit (start goal) ts at place (Reads e) → Parted ts at place (IsExpr goal limit e)

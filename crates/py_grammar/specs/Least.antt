@@ -1,18 +1,22 @@
 -- The least tree that a state can be completed to.
+--     least_name, as_target, target_if     the least expression, and one made a target
+--     targets_so_far, wants                whether all that is open can still become a target
+--     fit, whole                           what comes of a stack with an expression in its hole
+--     finished, least                      the least tree of a state, and its height
 use Rattle.std.specs.Prelude.{ℕ, Bool, true, false, cond, ◌&&◌, []}
 use Rattle.py_value.specs.declared.operator.CmpOp.TheVariants as cmp_
 use Rattle.py_syntax.specs.declared.expr.Comparison.TheVariants.{Op, Is, IsNot}
 use Rattle.py_syntax.specs.Tree.{Expr, name, none, tuple, dict, paren, not', unary, compare, index, slice, attr, no_exprs, exprs, no_pairs, absent, present}
 use Rattle.py_syntax.specs.Tree as tree_
 use Rattle.py_syntax.specs.Normal.{is_target, are_targets, height}
-use Rattle.py_grammar.specs.Roles.{joined}
+use Rattle.py_grammar.specs.TokenClasses.{joined}
 use Rattle.py_grammar.specs.Machine.{snoc, snoc_pair, snoc_link, strings_of, Goal, target, targets, a_list, made, exprs_first, exprs_rest, cond_first, cond_test, cond_else, first, right, not_of, compare_first, compare_rest, unary_of, post_rest, in_items, index_first, in_index, slice_to, in_paren, in_key, in_value, Ctx, Outside, on, State, Want, Have, Strings, AfterOpen, AfterComma, AfterTarget, ItemsOpen, ItemsComma, DictOpen, DictComma, IndexOpen, SliceColon, AfterDot, AfterNot, AfterIs, AfterIsNot, Linked}
 
 -- the least expression
 abbrev pub least_name : Expr
 least_name = name []
 
--- an expression, and behind it an index where it has to be a target and is none
+-- an expression, and after it an index where it has to be a target and is none
 abbrev pub as_target : Expr → Expr
 as_target e = cond (is_target e) e (index e least_name)
 

@@ -1,9 +1,9 @@
-pub mod Roles
+pub mod TokenClasses
 pub mod Machine
 pub mod Least
 pub mod Bare
 pub mod Refusal
 pub mod Reading
 pub mod ExprTrees
-pub mod Rooms
+pub mod Budgets
 pub mod Ends

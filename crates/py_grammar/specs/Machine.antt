@@ -1,4 +1,12 @@
 -- The reader of expressions as a machine: a stack of what is open, and a step for each token.
+--     at_most, same_level                     levels of the grammar
+--     snoc .. strings_of                      lists with one more at the end, and strings side by side
+--     Goal, Opener, Frame, Ctx                what is read towards, and what is open
+--     State, Out                              a place in an expression, and what a token makes of it
+--     upto_exprs .. upto                      the frames from one level up to another
+--     begin, leave, give, step, start         the steps
+--     ended, format_class, class .. parts     the class of a token, and the fields of f-strings
+--     Verdict, run                            the reading of a list
 use Rattle.std.specs.Prelude.{nat_eq, Bool, true, false, cond, List, [], ◌∷◌, Option, Some, None, option_map}
 use Rattle.py_value.specs.declared.operator.BinOp.TheVariants as op_
 use Rattle.py_value.specs.declared.operator.CmpOp.{CmpOp}
@@ -13,7 +21,7 @@ use Rattle.py_syntax.specs.Tree.{Text, Expr, name, int, str, fstr, none, bool, t
 use Rattle.py_syntax.specs.Tree as tree_
 use Rattle.py_syntax.specs.Kinds.{Kind, Name, Word, Int, Str, FString, Sign, Newline, Indent, Dedent, End, Pieces, no_pieces, chars_piece, field_piece, Kinds, no_kinds, kinds}
 use Rattle.py_syntax.specs.Normal.{Level, LEnd, LExprs, LExpr, LOr, LAnd, LNot, LCmp, LSum, LTerm, LUnary, LPost, rank, is_target}
-use Rattle.py_grammar.specs.Roles.{Joint, j_or, j_and, j_op, Role, r_name, r_int, r_none, r_bool, r_string, r_format, r_bad_format, r_not, r_is, r_if, r_else, r_compare, r_joint, r_comma, r_colon, r_dot, r_left_paren, r_right_paren, r_left_bracket, r_right_bracket, r_left_brace, r_right_brace, r_other, joint_level, joint_right, joined, begins}
+use Rattle.py_grammar.specs.TokenClasses.{BinaryOperator, b_or, b_and, b_op, TokenClass, t_name, t_int, t_none, t_bool, t_string, t_format, t_bad_format, t_not, t_is, t_if, t_else, t_compare, t_operator, t_comma, t_colon, t_dot, t_left_paren, t_right_paren, t_left_bracket, t_right_bracket, t_left_brace, t_right_brace, t_other, operator_level, operator_right, joined, begins}
 use Rattle.std.specs.Prelude.{nat_le}
 
 abbrev pub at_most : Level → Level → Bool
@@ -82,16 +90,16 @@ made a_list es c = list es c
 
 -- A place where a production waits for a part, with the parts in front of it.
 pub data Frame : Type 0 where
-  -- an `expr` that may be the first of several; one behind a comma
+  -- an `expr` that may be the first of several; one after a comma
   exprs_first : Frame
   exprs_rest : (f : Expr) (es : Exprs) → Frame
-  -- the body of a conditional expression, its test, and what stands behind `else`
+  -- the body of a conditional expression, its test, and what stands after `else`
   cond_first : Frame
   cond_test : (body : Expr) → Frame
   cond_else : (body test : Expr) → Frame
-  -- an operand that may be the left one of a joint of that level; the right one
+  -- an operand that may be the left one of an operator of that level; the right one
   first : (l : Level) → Frame
-  right : (j : Joint) (a : Expr) → Frame
+  right : (j : BinaryOperator) (a : Expr) → Frame
   -- the operand of `not`
   not_of : Frame
   -- an operand that may begin a chain of comparisons; one in it
@@ -125,23 +133,23 @@ pub data State : Type 0 where
   Have : (e : Expr) (k : Ctx) → State
   -- a string or several are read
   Strings : (fs : Fragments) (k : Ctx) → State
-  -- behind `(`
+  -- after `(`
   AfterOpen : (k : Ctx) → State
-  -- behind a comma of a tuple; of the target of a `for`
+  -- after a comma of a tuple; of the target of a `for`
   AfterComma : (f : Expr) (es : Exprs) (k : Ctx) → State
   AfterTarget : (f : Expr) (es : Exprs) → State
-  -- behind the bracket of a call or a list; behind a comma in it
+  -- after the bracket of a call or a list; after a comma in it
   ItemsOpen : (o : Opener) (k : Ctx) → State
   ItemsComma : (o : Opener) (es : Exprs) (k : Ctx) → State
-  -- behind `{`; behind a comma of a dict
+  -- after `{`; after a comma of a dict
   DictOpen : (k : Ctx) → State
   DictComma : (ps : Pairs) (k : Ctx) → State
-  -- behind the bracket of an index or a slice; behind the colon of a slice
+  -- after the bracket of an index or a slice; after the colon of a slice
   IndexOpen : (of : Expr) (k : Ctx) → State
   SliceColon : (of : Expr) (from : OptExpr) (k : Ctx) → State
-  -- behind a dot
+  -- after a dot
   AfterDot : (of : Expr) (k : Ctx) → State
-  -- behind the `not` of `not in`, `is`, and `is not`; behind what stands behind `is`
+  -- after the `not` of `not in`, `is`, and `is not`; after what stands after `is`
   AfterNot : (a : Expr) (ls : Links) (k : Ctx) → State
   AfterIs : (a : Expr) (ls : Links) (k : Ctx) → State
   AfterIsNot : (a : Expr) (ls : Links) (k : Ctx) → State
@@ -176,7 +184,7 @@ upto_sum lev k = cond (at_most lev LSum) (on (first LSum) (upto_compare lev k)) 
 abbrev pub upto_term : Level → Ctx → Ctx
 upto_term lev k = cond (at_most lev LTerm) (on (first LTerm) (upto_sum lev k)) k
 
--- what is open behind a tree of the second level, where one of the first was to begin
+-- what is open after a tree of the second level, where one of the first was to begin
 abbrev pub upto : Level → Level → Ctx → Ctx
 upto lev LEnd k = k
 upto lev LExprs k = upto_exprs lev k
@@ -193,119 +201,119 @@ upto lev LPost k = on post_rest (upto_term lev k)
 -- ---- the steps
 
 -- An expression of that level begins.
-abbrev pub begin : Level → Ctx → Role → Out
-begin lev k (r_name x) = Next (Have (name x) (upto lev LPost k))
-begin lev k (r_int n) = Next (Have (int n) (upto lev LPost k))
-begin lev k r_none = Next (Have none (upto lev LPost k))
-begin lev k (r_bool b) = Next (Have (bool b) (upto lev LPost k))
-begin lev k (r_string x) = Next (Strings (plain x no_fragments) (upto lev LPost k))
-begin lev k (r_format ps) = Next (Strings (format ps no_fragments) (upto lev LPost k))
-begin lev k r_not = cond (at_most lev LNot) (Next (Want LNot (on not_of (upto lev LNot k)))) Stuck
-begin lev k (r_joint (j_op op_.Add)) = cond (at_most lev LUnary) (Next (Want LUnary (on (unary_of sign_.Plus) (upto lev LUnary k)))) Stuck
-begin lev k (r_joint (j_op op_.Sub)) = cond (at_most lev LUnary) (Next (Want LUnary (on (unary_of sign_.Minus) (upto lev LUnary k)))) Stuck
-begin lev k r_left_paren = Next (AfterOpen (upto_term lev k))
-begin lev k r_left_bracket = Next (ItemsOpen a_list (upto_term lev k))
-begin lev k r_left_brace = Next (DictOpen (upto_term lev k))
+abbrev pub begin : Level → Ctx → TokenClass → Out
+begin lev k (t_name x) = Next (Have (name x) (upto lev LPost k))
+begin lev k (t_int n) = Next (Have (int n) (upto lev LPost k))
+begin lev k t_none = Next (Have none (upto lev LPost k))
+begin lev k (t_bool b) = Next (Have (bool b) (upto lev LPost k))
+begin lev k (t_string x) = Next (Strings (plain x no_fragments) (upto lev LPost k))
+begin lev k (t_format ps) = Next (Strings (format ps no_fragments) (upto lev LPost k))
+begin lev k t_not = cond (at_most lev LNot) (Next (Want LNot (on not_of (upto lev LNot k)))) Stuck
+begin lev k (t_operator (b_op op_.Add)) = cond (at_most lev LUnary) (Next (Want LUnary (on (unary_of sign_.Plus) (upto lev LUnary k)))) Stuck
+begin lev k (t_operator (b_op op_.Sub)) = cond (at_most lev LUnary) (Next (Want LUnary (on (unary_of sign_.Minus) (upto lev LUnary k)))) Stuck
+begin lev k t_left_paren = Next (AfterOpen (upto_term lev k))
+begin lev k t_left_bracket = Next (ItemsOpen a_list (upto_term lev k))
+begin lev k t_left_brace = Next (DictOpen (upto_term lev k))
 begin lev k _ = Stuck
 
 -- the token that closes a bracket with items
-abbrev pub close_items : Opener → Exprs → Bool → Ctx → Role → Out → Out
-close_items (a_call f) es c k r_right_paren o = Next (Have (call f es c) (on post_rest k))
-close_items a_list es c k r_right_bracket o = Next (Have (list es c) (on post_rest k))
+abbrev pub close_items : Opener → Exprs → Bool → Ctx → TokenClass → Out → Out
+close_items (a_call f) es c k t_right_paren o = Next (Have (call f es c) (on post_rest k))
+close_items a_list es c k t_right_bracket o = Next (Have (list es c) (on post_rest k))
 close_items p es c k t o = o
 
 -- the outermost expression is whole
-abbrev pub leave : Expr → Goal → Role → Out
+abbrev pub leave : Expr → Goal → TokenClass → Out
 leave e any t = Left e
 leave e one t = Left e
-leave e target r_comma = cond (is_target e) (Next (AfterTarget e no_exprs)) Stuck
+leave e target t_comma = cond (is_target e) (Next (AfterTarget e no_exprs)) Stuck
 leave e target t = cond (is_target e) (Left e) Stuck
-leave e (targets f es) r_comma = cond (is_target e) (Next (AfterTarget f (snoc es e))) Stuck
+leave e (targets f es) t_comma = cond (is_target e) (Next (AfterTarget f (snoc es e))) Stuck
 leave e (targets f es) t = cond (is_target e) (Left (tuple (exprs f (snoc es e)) false)) Stuck
 
 -- An expression is whole as far as the stack knows, and this token comes.
-abbrev pub give : Expr → Ctx → Role → Out
+abbrev pub give : Expr → Ctx → TokenClass → Out
 give e (Outside g) t = leave e g t
-give e (on exprs_first k) r_comma = Next (AfterComma e no_exprs k)
+give e (on exprs_first k) t_comma = Next (AfterComma e no_exprs k)
 give e (on exprs_first k) t = give e k t
-give e (on (exprs_rest f es) k) r_comma = Next (AfterComma f (snoc es e) k)
+give e (on (exprs_rest f es) k) t_comma = Next (AfterComma f (snoc es e) k)
 give e (on (exprs_rest f es) k) t = give (tuple (exprs f (snoc es e)) false) k t
-give e (on cond_first k) r_if = Next (Want LOr (on (cond_test e) k))
+give e (on cond_first k) t_if = Next (Want LOr (on (cond_test e) k))
 give e (on cond_first k) t = give e k t
-give e (on (cond_test b) k) r_else = Next (Want LExpr (on (cond_else b e) k))
+give e (on (cond_test b) k) t_else = Next (Want LExpr (on (cond_else b e) k))
 give e (on (cond_test b) k) t = Stuck
 give e (on (cond_else b c) k) t = give (tree_.cond b c e) k t
-give e (on (first l) k) (r_joint j) = cond (same_level l (joint_level j)) (Next (Want (joint_right j) (on (right j e) k))) (give e k (r_joint j))
+give e (on (first l) k) (t_operator j) = cond (same_level l (operator_level j)) (Next (Want (operator_right j) (on (right j e) k))) (give e k (t_operator j))
 give e (on (first l) k) t = give e k t
-give e (on (right i a) k) (r_joint j) = cond (same_level (joint_level i) (joint_level j)) (Next (Want (joint_right j) (on (right j (joined i a e)) k))) (give (joined i a e) k (r_joint j))
+give e (on (right i a) k) (t_operator j) = cond (same_level (operator_level i) (operator_level j)) (Next (Want (operator_right j) (on (right j (joined i a e)) k))) (give (joined i a e) k (t_operator j))
 give e (on (right i a) k) t = give (joined i a e) k t
 give e (on not_of k) t = give (not' e) k t
-give e (on compare_first k) (r_compare op) = Next (Want LSum (on (compare_rest e no_links op) k))
-give e (on compare_first k) r_not = Next (AfterNot e no_links k)
-give e (on compare_first k) r_is = Next (AfterIs e no_links k)
+give e (on compare_first k) (t_compare op) = Next (Want LSum (on (compare_rest e no_links op) k))
+give e (on compare_first k) t_not = Next (AfterNot e no_links k)
+give e (on compare_first k) t_is = Next (AfterIs e no_links k)
 give e (on compare_first k) t = give e k t
-give e (on (compare_rest a ls p) k) (r_compare op) = Next (Want LSum (on (compare_rest a (snoc_link ls (Op p) e) op) k))
-give e (on (compare_rest a ls p) k) r_not = Next (AfterNot a (snoc_link ls (Op p) e) k)
-give e (on (compare_rest a ls p) k) r_is = Next (AfterIs a (snoc_link ls (Op p) e) k)
+give e (on (compare_rest a ls p) k) (t_compare op) = Next (Want LSum (on (compare_rest a (snoc_link ls (Op p) e) op) k))
+give e (on (compare_rest a ls p) k) t_not = Next (AfterNot a (snoc_link ls (Op p) e) k)
+give e (on (compare_rest a ls p) k) t_is = Next (AfterIs a (snoc_link ls (Op p) e) k)
 give e (on (compare_rest a ls p) k) t = give (compare a (snoc_link ls (Op p) e)) k t
 give e (on (unary_of s) k) t = give (unary s e) k t
-give e (on post_rest k) r_left_paren = Next (ItemsOpen (a_call e) k)
-give e (on post_rest k) r_left_bracket = Next (IndexOpen e k)
-give e (on post_rest k) r_dot = Next (AfterDot e k)
+give e (on post_rest k) t_left_paren = Next (ItemsOpen (a_call e) k)
+give e (on post_rest k) t_left_bracket = Next (IndexOpen e k)
+give e (on post_rest k) t_dot = Next (AfterDot e k)
 give e (on post_rest k) t = give e k t
-give e (on (in_items o es) k) r_comma = Next (ItemsComma o (snoc es e) k)
+give e (on (in_items o es) k) t_comma = Next (ItemsComma o (snoc es e) k)
 give e (on (in_items o es) k) t = close_items o (snoc es e) false k t Stuck
-give e (on (index_first f) k) r_comma = Next (AfterComma e no_exprs (on (in_index f) k))
-give e (on (index_first f) k) r_colon = Next (SliceColon f (present e) k)
-give e (on (index_first f) k) r_right_bracket = Next (Have (index f e) (on post_rest k))
+give e (on (index_first f) k) t_comma = Next (AfterComma e no_exprs (on (in_index f) k))
+give e (on (index_first f) k) t_colon = Next (SliceColon f (present e) k)
+give e (on (index_first f) k) t_right_bracket = Next (Have (index f e) (on post_rest k))
 give e (on (index_first f) k) t = Stuck
-give e (on (in_index f) k) r_right_bracket = Next (Have (index f e) (on post_rest k))
+give e (on (in_index f) k) t_right_bracket = Next (Have (index f e) (on post_rest k))
 give e (on (in_index f) k) t = Stuck
-give e (on (slice_to f from) k) r_right_bracket = Next (Have (slice f from (present e)) (on post_rest k))
+give e (on (slice_to f from) k) t_right_bracket = Next (Have (slice f from (present e)) (on post_rest k))
 give e (on (slice_to f from) k) t = Stuck
-give e (on in_paren k) r_right_paren = Next (Have (paren e) (on post_rest k))
+give e (on in_paren k) t_right_paren = Next (Have (paren e) (on post_rest k))
 give e (on in_paren k) t = Stuck
-give e (on (in_key ps) k) r_colon = Next (Want LExpr (on (in_value ps e) k))
+give e (on (in_key ps) k) t_colon = Next (Want LExpr (on (in_value ps e) k))
 give e (on (in_key ps) k) t = Stuck
-give e (on (in_value ps key) k) r_comma = Next (DictComma (snoc_pair ps key e) k)
-give e (on (in_value ps key) k) r_right_brace = Next (Have (dict (snoc_pair ps key e) false) (on post_rest k))
+give e (on (in_value ps key) k) t_comma = Next (DictComma (snoc_pair ps key e) k)
+give e (on (in_value ps key) k) t_right_brace = Next (Have (dict (snoc_pair ps key e) false) (on post_rest k))
 give e (on (in_value ps key) k) t = Stuck
 
-abbrev pub step : State → Role → Out
+abbrev pub step : State → TokenClass → Out
 step (Want lev k) t = begin lev k t
 step (Have e k) t = give e k t
-step (Strings fs k) (r_string x) = Next (Strings (snoc_plain fs x) k)
-step (Strings fs k) (r_format ps) = Next (Strings (snoc_format fs ps) k)
-step (Strings fs k) (r_bad_format ps) = Stuck
+step (Strings fs k) (t_string x) = Next (Strings (snoc_plain fs x) k)
+step (Strings fs k) (t_format ps) = Next (Strings (snoc_format fs ps) k)
+step (Strings fs k) (t_bad_format ps) = Stuck
 step (Strings fs k) t = give (strings_of fs) k t
-step (AfterOpen k) r_right_paren = Next (Have (tuple no_exprs false) (on post_rest k))
+step (AfterOpen k) t_right_paren = Next (Have (tuple no_exprs false) (on post_rest k))
 step (AfterOpen k) t = begin LExprs (on in_paren k) t
 step (AfterComma f es k) t = cond (begins t) (begin LExpr (on (exprs_rest f es) k) t) (give (tuple (exprs f es) true) k t)
 step (AfterTarget f es) t = cond (begins t) (begin LPost (Outside (targets f es)) t) (Left (tuple (exprs f es) true))
 step (ItemsOpen o k) t = close_items o no_exprs false k t (begin LExpr (on (in_items o no_exprs) k) t)
 step (ItemsComma o es k) t = close_items o es true k t (begin LExpr (on (in_items o es) k) t)
-step (DictOpen k) r_right_brace = Next (Have (dict no_pairs false) (on post_rest k))
+step (DictOpen k) t_right_brace = Next (Have (dict no_pairs false) (on post_rest k))
 step (DictOpen k) t = begin LExpr (on (in_key no_pairs) k) t
-step (DictComma ps k) r_right_brace = Next (Have (dict ps true) (on post_rest k))
+step (DictComma ps k) t_right_brace = Next (Have (dict ps true) (on post_rest k))
 step (DictComma ps k) t = begin LExpr (on (in_key ps) k) t
-step (IndexOpen f k) r_colon = Next (SliceColon f absent k)
+step (IndexOpen f k) t_colon = Next (SliceColon f absent k)
 step (IndexOpen f k) t = begin LExpr (on (index_first f) k) t
-step (SliceColon f from k) r_right_bracket = Next (Have (slice f from absent) (on post_rest k))
+step (SliceColon f from k) t_right_bracket = Next (Have (slice f from absent) (on post_rest k))
 step (SliceColon f from k) t = begin LExpr (on (slice_to f from) k) t
-step (AfterDot f k) (r_name x) = Next (Have (attr f x) (on post_rest k))
+step (AfterDot f k) (t_name x) = Next (Have (attr f x) (on post_rest k))
 step (AfterDot f k) t = Stuck
-step (AfterNot a ls k) (r_compare cmp_.In) = Next (Want LSum (on (compare_rest a ls cmp_.NotIn) k))
+step (AfterNot a ls k) (t_compare cmp_.In) = Next (Want LSum (on (compare_rest a ls cmp_.NotIn) k))
 step (AfterNot a ls k) t = Stuck
-step (AfterIs a ls k) r_not = Next (AfterIsNot a ls k)
-step (AfterIs a ls k) r_none = Next (Linked a (snoc_link ls Is none) k)
-step (AfterIs a ls k) (r_bool b) = Next (Linked a (snoc_link ls Is (bool b)) k)
+step (AfterIs a ls k) t_not = Next (AfterIsNot a ls k)
+step (AfterIs a ls k) t_none = Next (Linked a (snoc_link ls Is none) k)
+step (AfterIs a ls k) (t_bool b) = Next (Linked a (snoc_link ls Is (bool b)) k)
 step (AfterIs a ls k) t = Stuck
-step (AfterIsNot a ls k) r_none = Next (Linked a (snoc_link ls IsNot none) k)
-step (AfterIsNot a ls k) (r_bool b) = Next (Linked a (snoc_link ls IsNot (bool b)) k)
+step (AfterIsNot a ls k) t_none = Next (Linked a (snoc_link ls IsNot none) k)
+step (AfterIsNot a ls k) (t_bool b) = Next (Linked a (snoc_link ls IsNot (bool b)) k)
 step (AfterIsNot a ls k) t = Stuck
-step (Linked a ls k) (r_compare op) = Next (Want LSum (on (compare_rest a ls op) k))
-step (Linked a ls k) r_not = Next (AfterNot a ls k)
-step (Linked a ls k) r_is = Next (AfterIs a ls k)
+step (Linked a ls k) (t_compare op) = Next (Want LSum (on (compare_rest a ls op) k))
+step (Linked a ls k) t_not = Next (AfterNot a ls k)
+step (Linked a ls k) t_is = Next (AfterIs a ls k)
 step (Linked a ls k) t = give (compare a ls) k t
 
 abbrev pub start : Goal → State
@@ -314,59 +322,59 @@ start one = Want LExpr (Outside one)
 start target = Want LPost (Outside target)
 start (targets f es) = AfterTarget f es
 
--- ---- the role of a token
+-- ---- the class of a token
 
 -- the expression that a state has, where no more comes
 abbrev pub ended : State → Option Expr
-ended s = elim (step s (r_other End)) as (λ (o : Out). Option Expr) [ Next n ↦ None | Stuck ↦ None | Left e ↦ Some e ]
+ended s = elim (step s (t_other End)) as (λ (o : Out). Option Expr) [ Next n ↦ None | Stuck ↦ None | Left e ↦ Some e ]
 
-abbrev pub format_role : Pieces → Option Parts → Role
-format_role ps (Some qs) = r_format qs
-format_role ps None = r_bad_format ps
+abbrev pub format_class : Pieces → Option Parts → TokenClass
+format_class ps (Some qs) = t_format qs
+format_class ps None = t_bad_format ps
 
 -- The fields of an f-string are read by the machine itself.
 abbrev mutual
-  pub role : Kind → Role
-  role (Name x) = r_name x
-  role (Int n) = r_int n
-  role (Str x) = r_string x
-  role (FString ps) = format_role ps (parts ps)
-  role (Word word.None) = r_none
-  role (Word word.True) = r_bool true
-  role (Word word.False) = r_bool false
-  role (Word word.Not) = r_not
-  role (Word word.Is) = r_is
-  role (Word word.If) = r_if
-  role (Word word.Else) = r_else
-  role (Word word.In) = r_compare cmp_.In
-  role (Word word.Or) = r_joint j_or
-  role (Word word.And) = r_joint j_and
-  role (Word w) = r_other (Word w)
-  role (Sign mark.EqualEqual) = r_compare cmp_.Eq
-  role (Sign mark.NotEqual) = r_compare cmp_.Ne
-  role (Sign mark.Less) = r_compare cmp_.Lt
-  role (Sign mark.LessEqual) = r_compare cmp_.Le
-  role (Sign mark.Greater) = r_compare cmp_.Gt
-  role (Sign mark.GreaterEqual) = r_compare cmp_.Ge
-  role (Sign mark.Plus) = r_joint (j_op op_.Add)
-  role (Sign mark.Minus) = r_joint (j_op op_.Sub)
-  role (Sign mark.Star) = r_joint (j_op op_.Mul)
-  role (Sign mark.DoubleSlash) = r_joint (j_op op_.Floor)
-  role (Sign mark.Percent) = r_joint (j_op op_.Mod)
-  role (Sign mark.Comma) = r_comma
-  role (Sign mark.Colon) = r_colon
-  role (Sign mark.Dot) = r_dot
-  role (Sign mark.LeftParen) = r_left_paren
-  role (Sign mark.RightParen) = r_right_paren
-  role (Sign mark.LeftBracket) = r_left_bracket
-  role (Sign mark.RightBracket) = r_right_bracket
-  role (Sign mark.LeftBrace) = r_left_brace
-  role (Sign mark.RightBrace) = r_right_brace
-  role (Sign m) = r_other (Sign m)
-  role Newline = r_other Newline
-  role Indent = r_other Indent
-  role Dedent = r_other Dedent
-  role End = r_other End
+  pub class : Kind → TokenClass
+  class (Name x) = t_name x
+  class (Int n) = t_int n
+  class (Str x) = t_string x
+  class (FString ps) = format_class ps (parts ps)
+  class (Word word.None) = t_none
+  class (Word word.True) = t_bool true
+  class (Word word.False) = t_bool false
+  class (Word word.Not) = t_not
+  class (Word word.Is) = t_is
+  class (Word word.If) = t_if
+  class (Word word.Else) = t_else
+  class (Word word.In) = t_compare cmp_.In
+  class (Word word.Or) = t_operator b_or
+  class (Word word.And) = t_operator b_and
+  class (Word w) = t_other (Word w)
+  class (Sign mark.EqualEqual) = t_compare cmp_.Eq
+  class (Sign mark.NotEqual) = t_compare cmp_.Ne
+  class (Sign mark.Less) = t_compare cmp_.Lt
+  class (Sign mark.LessEqual) = t_compare cmp_.Le
+  class (Sign mark.Greater) = t_compare cmp_.Gt
+  class (Sign mark.GreaterEqual) = t_compare cmp_.Ge
+  class (Sign mark.Plus) = t_operator (b_op op_.Add)
+  class (Sign mark.Minus) = t_operator (b_op op_.Sub)
+  class (Sign mark.Star) = t_operator (b_op op_.Mul)
+  class (Sign mark.DoubleSlash) = t_operator (b_op op_.Floor)
+  class (Sign mark.Percent) = t_operator (b_op op_.Mod)
+  class (Sign mark.Comma) = t_comma
+  class (Sign mark.Colon) = t_colon
+  class (Sign mark.Dot) = t_dot
+  class (Sign mark.LeftParen) = t_left_paren
+  class (Sign mark.RightParen) = t_right_paren
+  class (Sign mark.LeftBracket) = t_left_bracket
+  class (Sign mark.RightBracket) = t_right_bracket
+  class (Sign mark.LeftBrace) = t_left_brace
+  class (Sign mark.RightBrace) = t_right_brace
+  class (Sign m) = t_other (Sign m)
+  class Newline = t_other Newline
+  class Indent = t_other Indent
+  class Dedent = t_other Dedent
+  class End = t_other End
 
   pub parts : Pieces → Option Parts
   parts no_pieces = Some no_parts
@@ -375,15 +383,15 @@ abbrev mutual
 
   pub field_expr : State → Kinds → Option Expr
   field_expr s no_kinds = ended s
-  field_expr s (kinds t ts) = elim (step s (role t)) as (λ (o : Out). Option Expr) [ Next n ↦ field_expr n ts | Stuck ↦ None | Left e ↦ None ]
+  field_expr s (kinds t ts) = elim (step s (class t)) as (λ (o : Out). Option Expr) [ Next n ↦ field_expr n ts | Stuck ↦ None | Left e ↦ None ]
 
 -- ---- reading a list
 
--- The tokens from the first that no step takes, or the expression and the tokens behind it.
+-- The tokens from the first that no step takes, or the expression and the tokens after it.
 pub data Verdict : Type 0 where
   Refused : List Kind → Verdict
   Leaves : Expr → List Kind → Verdict
 
 abbrev pub run : State → List Kind → Verdict
 run s [] = Refused []
-run s (t ∷ ts) = elim (step s (role t)) as (λ (o : Out). Verdict) [ Next n ↦ run n ts | Stuck ↦ Refused (t ∷ ts) | Left e ↦ Leaves e (t ∷ ts) ]
+run s (t ∷ ts) = elim (step s (class t)) as (λ (o : Out). Verdict) [ Next n ↦ run n ts | Stuck ↦ Refused (t ∷ ts) | Left e ↦ Leaves e (t ∷ ts) ]

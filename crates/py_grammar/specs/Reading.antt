@@ -2,11 +2,11 @@
 use Rattle.std.specs.Prelude.{◌≡◌, ℕ, ◌≤◌, nat_le, cond, List, [], ◌∷◌, ◌++◌, length, drop}
 use Rattle.py_syntax.specs.Tree.{Expr}
 use Rattle.py_syntax.specs.Kinds.{Kind}
-use Rattle.py_grammar.specs.Machine.{State, Out, Next, Stuck, Left, step, role}
+use Rattle.py_grammar.specs.Machine.{State, Out, Next, Stuck, Left, step, class}
 use Rattle.py_grammar.specs.Least.{least}
 
--- How a reading ends: at a token that goes on with no expression, at one behind which every expression is too high,
--- or behind an expression, with the token that isn't taken.
+-- How a reading ends: at a token that goes on with no expression, at one after which every expression is too high,
+-- or after an expression, with the token that isn't taken.
 pub data Ending : Type 0 where
   Unexpected : (rest : List Kind) → Ending
   TooDeep : (rest : List Kind) → Ending
@@ -14,7 +14,7 @@ pub data Ending : Type 0 where
 
 abbrev pub within : ℕ → State → List Kind → Ending
 within limit s [] = Unexpected []
-within limit s (t ∷ ts) = elim (step s (role t)) as (λ (o : Out). Ending) [ Next n ↦ cond (nat_le (least n) limit) (within limit n ts) (TooDeep (t ∷ ts)) | Stuck ↦ Unexpected (t ∷ ts) | Left e ↦ Reads e (t ∷ ts) ]
+within limit s (t ∷ ts) = elim (step s (class t)) as (λ (o : Out). Ending) [ Next n ↦ cond (nat_le (least n) limit) (within limit n ts) (TooDeep (t ∷ ts)) | Stuck ↦ Unexpected (t ∷ ts) | Left e ↦ Reads e (t ∷ ts) ]
 
 -- The machine, from a state and a place, ends so at another place.
 pub record EndsAt (limit : ℕ) (s : State) (ts : List Kind) (at place : ℕ) (end : List Kind → Ending) : Type 0 where

@@ -10,12 +10,12 @@ use Rattle.py_syntax.specs.Headers.{Marked, put, match_name}
 use Rattle.py_syntax.specs.Statements.{in_place_mark, target_tokens, as_tokens, param_tokens, case_name, stmts_tokens, kind_tokens, case_tokens}
 use Rattle.py_grammar.proofs.Sound as expression
 use Rattle.py_parse_pattern.proofs.Sound as pattern
-use Rattle.py_parse.specs.Open.{Owner, an_arm, a_while, a_for, a_try, a_clause, an_else, a_finally, a_def, a_case, Block, top, inside}
-use Rattle.py_parse.specs.Machine.{Resume, value, augmented, leaving, asserted, reason, arm_test, while_test, for_target, for_over, clause_kind, subject, guard, default, Listed, globals, imports, froms, Place, Reading, Matching, Simple, Semicolon, Leaving, NameWanted, NameRead, BoundWanted, BoundRead, ModuleWanted, ImportWanted, FunctionWanted, ParamsWanted, ParamWanted, ParamRead, Except, ClauseBound, ColonWanted, SuiteWanted, IndentWanted, MatchLine, MatchBlock, State, Line, at, Behind, Choosing, Over, listed}
+use Rattle.py_parse.specs.Open.{SuiteOf, an_arm, a_while, a_for, a_try, a_clause, an_else, a_finally, a_def, a_case, SuiteStack, top, inside}
+use Rattle.py_parse.specs.Machine.{Continuation, value, augmented, leaving, asserted, reason, arm_test, while_test, for_target, for_over, clause_kind, subject, guard, default, Listed, globals, imports, froms, Place, Reading, Matching, Simple, Semicolon, Leaving, NameWanted, NameRead, BoundWanted, BoundRead, ModuleWanted, ImportWanted, FunctionWanted, ParamsWanted, ParamWanted, ParamRead, Except, ClauseBound, ColonWanted, SuiteWanted, IndentWanted, MatchLine, MatchBlock, State, Line, at, After, Choosing, Over, listed}
 
 -- ---- the tokens of a header or a simple statement so far, and then others
 
--- names with a comma behind each
+-- names with a comma after each
 abbrev pub commas : List Text → List Kind → List Kind
 commas [] r = r
 commas (x ∷ xs) r = Name x ∷ Sign mark.Comma ∷ commas xs r
@@ -37,7 +37,7 @@ abbrev pub def_open : Text → List Text → Exprs → List Kind → List Kind
 def_open x ps ds r = Word word.Def ∷ Name x ∷ Sign mark.LeftParen ∷ param_tokens ps ds true r
 
 -- in front of the expression
-abbrev pub front : Resume → List Kind → List Kind
+abbrev pub front : Continuation → List Kind → List Kind
 front (value ts) r = target_tokens ts r
 front (augmented p op) r = tokens p (Sign (in_place_mark op) ∷ r)
 front (leaving raises) r = leaving_word raises ∷ r
@@ -62,7 +62,7 @@ clause_part None x r = r
 clause_part (Some e) x r = tokens e (as_tokens x r)
 
 -- a header but for its colon
-abbrev pub head : Owner → List Kind → List Kind
+abbrev pub head : SuiteOf → List Kind → List Kind
 head (an_arm no_arms t) r = Word word.If ∷ tokens t r
 head (an_arm (arm t' b arms) t) r = Word word.Elif ∷ tokens t r
 head (a_while t) r = Word word.While ∷ tokens t r
@@ -107,20 +107,20 @@ header_mark = record { kind = Name match_name; header = true }
 abbrev pub match_open : Expr → Cases → List Marked → List Marked
 match_open e cs r = header_mark ∷ put (tokens e (Sign mark.Colon ∷ Newline ∷ Indent ∷ [])) (case_tokens cs r)
 
-abbrev pub resume_outer : Resume → List Marked → List Marked
+abbrev pub resume_outer : Continuation → List Marked → List Marked
 resume_outer (arm_test arms) r = kind_tokens (if' arms no_suite) r
 resume_outer (clause_kind b cs) r = kind_tokens (try b cs no_suite no_suite) r
 resume_outer subject r = header_mark ∷ r
 resume_outer (guard e last cs p) r = match_open e cs r
 resume_outer p r = r
 
-abbrev pub owner_outer : Owner → List Marked → List Marked
-owner_outer (an_arm arms t) r = kind_tokens (if' arms no_suite) r
-owner_outer (a_clause b cs e x) r = kind_tokens (try b cs no_suite no_suite) r
-owner_outer (an_else k) r = kind_tokens k r
-owner_outer (a_finally b cs o) r = kind_tokens (try b cs o no_suite) r
-owner_outer (a_case e last cs p g) r = match_open e cs r
-owner_outer o r = r
+abbrev pub suite_of_outer : SuiteOf → List Marked → List Marked
+suite_of_outer (an_arm arms t) r = kind_tokens (if' arms no_suite) r
+suite_of_outer (a_clause b cs e x) r = kind_tokens (try b cs no_suite no_suite) r
+suite_of_outer (an_else k) r = kind_tokens k r
+suite_of_outer (a_finally b cs o) r = kind_tokens (try b cs o no_suite) r
+suite_of_outer (a_case e last cs p g) r = match_open e cs r
+suite_of_outer o r = r
 
 abbrev pub outer : Place → List Marked → List Marked
 outer (Reading p s) r = resume_outer p r
@@ -130,9 +130,9 @@ outer (Semicolon k) r = kind_tokens k r
 outer (BoundRead l) r = kind_tokens (listed l) r
 outer (Except b cs) r = kind_tokens (try b cs no_suite no_suite) r
 outer (ClauseBound b cs e) r = kind_tokens (try b cs no_suite no_suite) r
-outer (ColonWanted o) r = owner_outer o r
-outer (SuiteWanted o) r = owner_outer o r
-outer (IndentWanted o) r = owner_outer o r
+outer (ColonWanted o) r = suite_of_outer o r
+outer (SuiteWanted o) r = suite_of_outer o r
+outer (IndentWanted o) r = suite_of_outer o r
 outer (MatchLine e last) r = header_mark ∷ r
 outer (MatchBlock e last) r = header_mark ∷ r
 outer p r = r
@@ -143,13 +143,13 @@ abbrev pub opening : Bool → List Kind
 opening true = []
 opening false = Newline ∷ Indent ∷ []
 
-abbrev pub before_block : Block → List Marked → List Marked
-before_block (top ss) r = stmts_tokens ss r
-before_block (inside ss inline first last begun o b) r = before_block b (owner_outer o (put (head o (Sign mark.Colon ∷ opening inline)) (stmts_tokens ss r)))
+abbrev pub before_suites : SuiteStack → List Marked → List Marked
+before_suites (top ss) r = stmts_tokens ss r
+before_suites (inside ss inline first last begun o b) r = before_suites b (suite_of_outer o (put (head o (Sign mark.Colon ∷ opening inline)) (stmts_tokens ss r)))
 
 abbrev pub before : State → List Marked → List Marked
-before (Line b) r = before_block b r
-before (at p n b) r = before_block b (outer p (put (inner p []) r))
-before (Behind k first last b) r = before_block b (kind_tokens k r)
-before (Choosing e last cs first b) r = before_block b (match_open e cs r)
+before (Line b) r = before_suites b r
+before (at p n b) r = before_suites b (outer p (put (inner p []) r))
+before (After k first last b) r = before_suites b (kind_tokens k r)
+before (Choosing e last cs first b) r = before_suites b (match_open e cs r)
 before (Over ss) r = stmts_tokens ss (put (End ∷ []) r)

@@ -8,7 +8,7 @@ use Rattle.py_syntax.specs.Kinds.{Kind, Name, Word, Sign, Newline}
 use Rattle.py_syntax.specs.Tokens.{strings, sign_mark, comparison, tokens, items, more, entries, links, bound, fragments, pattern_tokens, pattern_items, more_patterns}
 use Rattle.py_syntax.specs.Headers.{Marked, put}
 use Rattle.py_syntax.specs.Statements.{in_place_mark, target_tokens, as_tokens, more_params, params_from, count, param_tokens, case_name}
-use Rattle.py_grammar.specs.Roles.{joint_kind}
+use Rattle.py_grammar.specs.TokenClasses.{operator_kind}
 use Rattle.py_grammar.specs.Machine.{one, targets, Opener, a_call, a_list, exprs_first, exprs_rest, cond_first, cond_test, cond_else, first, right, not_of, compare_first, compare_rest, unary_of, post_rest, in_items, index_first, in_index, slice_to, in_paren, in_key, in_value, Ctx, Outside, on}
 use Rattle.py_grammar.specs.Machine as expression
 use Rattle.py_parse_pattern.specs.Machine as pattern
@@ -18,8 +18,8 @@ use Rattle.py_grammar.proofs.Sound as read_
 use Rattle.py_parse_pattern.proofs.Sound.{barred, before_row, before_closed, before_item}
 use Rattle.py_parse_pattern.proofs.Sound as pattern_read_
 use Rattle.py_parse_pattern.proofs.Exact as pattern_
-use Rattle.py_parse.specs.Open.{Owner, an_arm, a_while, a_for, a_try, a_clause, an_else, a_finally, a_def, a_case}
-use Rattle.py_parse.specs.Machine.{Resume, value, augmented, leaving, asserted, reason, arm_test, while_test, for_target, for_over, clause_kind, subject, guard, default, Listed, globals, imports, froms, Place, Reading, Matching, Simple, Semicolon, Leaving, NameWanted, NameRead, BoundWanted, BoundRead, ModuleWanted, ImportWanted, FunctionWanted, ParamsWanted, ParamWanted, ParamRead, Except, ClauseBound, ColonWanted, SuiteWanted, IndentWanted, MatchLine, MatchBlock}
+use Rattle.py_parse.specs.Open.{SuiteOf, an_arm, a_while, a_for, a_try, a_clause, an_else, a_finally, a_def, a_case}
+use Rattle.py_parse.specs.Machine.{Continuation, value, augmented, leaving, asserted, reason, arm_test, while_test, for_target, for_over, clause_kind, subject, guard, default, Listed, globals, imports, froms, Place, Reading, Matching, Simple, Semicolon, Leaving, NameWanted, NameRead, BoundWanted, BoundRead, ModuleWanted, ImportWanted, FunctionWanted, ParamsWanted, ParamWanted, ParamRead, Except, ClauseBound, ColonWanted, SuiteWanted, IndentWanted, MatchLine, MatchBlock}
 use Rattle.py_parse.proofs.Parted.{comma_parted, strings_parted, comparison_parted, fragments_parted, parted, items_parted, more_parted, entries_parted, links_parted, bound_parted, put_append}
 use Rattle.py_parse.proofs.Before.{commas, alias_commas, listing, def_open, front, guard_part, clause_part, head, inner}
 
@@ -52,7 +52,7 @@ ctx_parted (on cond_first k) = ctx_parted k
 ctx_parted (on (cond_test b) k) = both (before_ctx k) (λ r. tokens b (Word word.If ∷ r)) (ctx_parted k) (then b (Word word.If))
 ctx_parted (on (cond_else b c) k) = both (before_ctx k) (λ r. tokens b (Word word.If ∷ tokens c (Word word.Else ∷ r))) (ctx_parted k) (both (λ r. tokens b (Word word.If ∷ r)) (λ r. tokens c (Word word.Else ∷ r)) (then b (Word word.If)) (then c (Word word.Else)))
 ctx_parted (on (first l) k) = ctx_parted k
-ctx_parted (on (right j e) k) = both (before_ctx k) (λ r. tokens e (joint_kind j ∷ r)) (ctx_parted k) (then e (joint_kind j))
+ctx_parted (on (right j e) k) = both (before_ctx k) (λ r. tokens e (operator_kind j ∷ r)) (ctx_parted k) (then e (operator_kind j))
 ctx_parted (on not_of k) = both (before_ctx k) (λ r. Word word.Not ∷ r) (ctx_parted k) (λ a r. refl)
 ctx_parted (on compare_first k) = ctx_parted k
 ctx_parted (on (compare_rest e ls op) k) = both (before_ctx k) (λ r. tokens e (links ls (comparison (Op op) r))) (ctx_parted k) (both (tokens e) (λ r. links ls (comparison (Op op) r)) (parted e) (both (links ls) (comparison (Op op)) (links_parted ls) (comparison_parted (Op op))))
@@ -167,7 +167,7 @@ targets_parted : (ts : Exprs) → Parted (target_tokens ts)
 targets_parted no_exprs = λ a r. refl
 targets_parted (exprs t ts) = both (λ r. tokens t (Sign mark.Equal ∷ r)) (target_tokens ts) (then t (Sign mark.Equal)) (targets_parted ts)
 
-pub front_parted : (p : Resume) → Parted (front p)
+pub front_parted : (p : Continuation) → Parted (front p)
 front_parted (value ts) = targets_parted ts
 front_parted (augmented p op) = then p (Sign (in_place_mark op))
 front_parted (leaving raises) = λ a r. refl
@@ -191,7 +191,7 @@ guard_parted : (g : Option Expr) → Parted (guard_part g)
 guard_parted None = λ a r. refl
 guard_parted (Some e) = after (Word word.If) (tokens e) (parted e)
 
-pub head_parted : (o : Owner) → Parted (head o)
+pub head_parted : (o : SuiteOf) → Parted (head o)
 head_parted (an_arm no_arms t) = after (Word word.If) (tokens t) (parted t)
 head_parted (an_arm (arm t' b arms) t) = after (Word word.Elif) (tokens t) (parted t)
 head_parted (a_while t) = after (Word word.While) (tokens t) (parted t)

@@ -1,4 +1,4 @@
--- Listed names: the machine reads them up to the semicolon or the line end behind them.
+-- Listed names: the machine reads them up to the semicolon or the line end after them.
 use Rattle.std.proofs.Common.{◌≡◌, ℕ, suc, Bool, true, false, List, [], ◌∷◌, ◌++◌, Option, Some, None, refl, sym, ap, ◌∙◌, append_assoc}
 use Rattle.std.proofs.lemmas.List.{append-nil}
 use Rattle.py_token.specs.declared.token.Keyword.TheVariants as word
@@ -9,19 +9,19 @@ use Rattle.py_syntax.specs.Kinds.{Kind, Name, Word, Sign}
 use Rattle.py_syntax.specs.Normal.{IsSomething}
 use Rattle.py_syntax.specs.Headers.{Marked, put}
 use Rattle.py_syntax.specs.Statements.{more_names, name_list, as_tokens, more_aliases, alias_list, AreSome}
-use Rattle.py_parse.specs.Open.{Block}
-use Rattle.py_parse.specs.Machine.{Listed, globals, imports, froms, Place, NameRead, BoundRead, Lines, State, at, end_simple, listed, alias, behind_name, act}
+use Rattle.py_parse.specs.Open.{SuiteStack}
+use Rattle.py_parse.specs.Machine.{Listed, globals, imports, froms, Place, NameRead, BoundRead, Span, State, at, end_simple, listed, alias, after_name, act}
 use Rattle.py_parse.specs.Places.{Source, kinds_past, run}
 use Rattle.py_parse.proofs.CompleteLines.{plain, lines, after}
 use Rattle.py_parse.proofs.CompleteSimple.{stop, whole, Told, word_begins}
 
 -- ---- names alone
 
-name_stop : (ys : List Text) (y : Text) (z : Bool) (n : Lines) (b : Block) (f l : ℕ) → act (NameRead (globals ys) y) n b (stop z) f l ≡ end_simple (global (ys ++ y ∷ [])) n b (stop z) l
+name_stop : (ys : List Text) (y : Text) (z : Bool) (n : Span) (b : SuiteStack) (f l : ℕ) → act (NameRead (globals ys) y) n b (stop z) f l ≡ end_simple (global (ys ++ y ∷ [])) n b (stop z) l
 name_stop ys y true n b f l = refl
 name_stop ys y false n b f l = refl
 
-names_read : (xs ys : List Text) (y : Text) (z : Bool) (src : Source) (c f : ℕ) (b : Block) (rest : List Marked) (p : ℕ) →
+names_read : (xs ys : List Text) (y : Text) (z : Bool) (src : Source) (c f : ℕ) (b : SuiteStack) (rest : List Marked) (p : ℕ) →
     run src (at (NameRead (globals ys) y) (lines src c f p) b) (put (more_names xs) (plain (stop z) ∷ rest)) p ≡ whole src (global (ys ++ y ∷ xs)) c f b z rest (kinds_past (more_names xs) p)
 names_read [] ys y z src c f b rest p = ap (λ (o : Option State). after src o rest (suc p)) (name_stop ys y z (lines src c f p) b (src.first p) (src.last p))
 names_read (x ∷ xs) ys y z src c f b rest p =
@@ -41,32 +41,32 @@ abbrev importing : Option Text → List Alias → Listed
 importing None ns = imports ns
 importing (Some m) ns = froms m ns
 
--- what may stand behind a listed name: a comma, or what ends the statement
-abbrev behind : Option Bool → Kind
-behind None = Sign mark.Comma
-behind (Some z) = stop z
+-- what may stand after a listed name: a comma, or what ends the statement
+abbrev later : Option Bool → Kind
+later None = Sign mark.Comma
+later (Some z) = stop z
 
--- A place behind these names.
-abbrev IsBehind : Place → Listed → Type 0
-IsBehind P l = (d : Option Bool) (n : Lines) (b : Block) (f last : ℕ) → act P n b (behind d) f last ≡ behind_name l n b (behind d) last
+-- A place after these names.
+abbrev IsAfter : Place → Listed → Type 0
+IsAfter P l = (d : Option Bool) (n : Span) (b : SuiteStack) (f last : ℕ) → act P n b (later d) f last ≡ after_name l n b (later d) last
 
 abbrev MoreRead : List Alias → Type 0
-MoreRead others = (o : Option Text) (ns : List Alias) (P : Place) → IsBehind P (importing o ns) → (z : Bool) (src : Source) (c f : ℕ) (b : Block) (rest : List Marked) (p : ℕ) →
+MoreRead others = (o : Option Text) (ns : List Alias) (P : Place) → IsAfter P (importing o ns) → (z : Bool) (src : Source) (c f : ℕ) (b : SuiteStack) (rest : List Marked) (p : ℕ) →
     run src (at P (lines src c f p) b) (put (more_aliases others) (plain (stop z) ∷ rest)) p ≡ whole src (listed (importing o (ns ++ others))) c f b z rest (kinds_past (more_aliases others) p)
 
-name_behind : (o : Option Text) (ns : List Alias) (x : Text) → IsBehind (NameRead (importing o ns) x) (importing o (ns ++ alias x None ∷ []))
-name_behind None ns x None n b f last = refl
-name_behind None ns x (Some true) n b f last = refl
-name_behind None ns x (Some false) n b f last = refl
-name_behind (Some m) ns x None n b f last = refl
-name_behind (Some m) ns x (Some true) n b f last = refl
-name_behind (Some m) ns x (Some false) n b f last = refl
+name_after : (o : Option Text) (ns : List Alias) (x : Text) → IsAfter (NameRead (importing o ns) x) (importing o (ns ++ alias x None ∷ []))
+name_after None ns x None n b f last = refl
+name_after None ns x (Some true) n b f last = refl
+name_after None ns x (Some false) n b f last = refl
+name_after (Some m) ns x None n b f last = refl
+name_after (Some m) ns x (Some true) n b f last = refl
+name_after (Some m) ns x (Some false) n b f last = refl
 
--- from behind a name through what it is bound to
-alias_read : (others : List Alias) → MoreRead others → (x : Text) (y : Option Text) (o : Option Text) (ns : List Alias) (z : Bool) (src : Source) (c f : ℕ) (b : Block) (rest : List Marked) (p : ℕ) →
+-- from after a name through what it is bound to
+alias_read : (others : List Alias) → MoreRead others → (x : Text) (y : Option Text) (o : Option Text) (ns : List Alias) (z : Bool) (src : Source) (c f : ℕ) (b : SuiteStack) (rest : List Marked) (p : ℕ) →
     run src (at (NameRead (importing o ns) x) (lines src c f p) b) (put (as_tokens y (more_aliases others)) (plain (stop z) ∷ rest)) p ≡ whole src (listed (importing o (ns ++ alias x y ∷ others))) c f b z rest (kinds_past (as_tokens y (more_aliases others)) p)
 alias_read others more x None o ns z src c f b rest p =
-    more o (ns ++ alias x None ∷ []) (NameRead (importing o ns) x) (name_behind o ns x) z src c f b rest p
+    more o (ns ++ alias x None ∷ []) (NameRead (importing o ns) x) (name_after o ns x) z src c f b rest p
     ∙ ap (λ (v : List Alias). whole src (listed (importing o v)) c f b z rest (kinds_past (more_aliases others) p)) (append_assoc ns (alias x None ∷ []) others)
 alias_read others more x (Some y) None ns z src c f b rest p =
     more None (ns ++ alias x (Some y) ∷ []) (BoundRead (imports (ns ++ alias x (Some y) ∷ []))) (λ d n b f last. refl) z src c f b rest (suc (suc p))
@@ -75,7 +75,7 @@ alias_read others more x (Some y) (Some m) ns z src c f b rest p =
     more (Some m) (ns ++ alias x (Some y) ∷ []) (BoundRead (froms m (ns ++ alias x (Some y) ∷ []))) (λ d n b f last. refl) z src c f b rest (suc (suc p))
     ∙ ap (λ (v : List Alias). whole src (from m v) c f b z rest (kinds_past (more_aliases others) (suc (suc p)))) (append_assoc ns (alias x (Some y) ∷ []) others)
 
-listed_stop : (l : Listed) (z : Bool) (n : Lines) (b : Block) (last : ℕ) → behind_name l n b (stop z) last ≡ end_simple (listed l) n b (stop z) last
+listed_stop : (l : Listed) (z : Bool) (n : Span) (b : SuiteStack) (last : ℕ) → after_name l n b (stop z) last ≡ end_simple (listed l) n b (stop z) last
 listed_stop l true n b last = refl
 listed_stop l false n b last = refl
 

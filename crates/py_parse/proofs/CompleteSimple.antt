@@ -1,4 +1,4 @@
--- Simple statements: the machine reads each of them up to the semicolon or the line end behind it.
+-- Simple statements: the machine reads each of them up to the semicolon or the line end after it.
 use Rattle.std.proofs.Common.{◌≡◌, ℕ, suc, Bool, true, false, cond, List, [], ◌∷◌, Option, Some, None, refl, sym, ap, ◌∙◌, arith}
 use Rattle.py_value.specs.declared.operator.BinOp.{BinOp}
 use Rattle.py_value.specs.declared.operator.BinOp.TheVariants as op_
@@ -11,12 +11,12 @@ use Rattle.py_syntax.specs.Tokens.{tokens}
 use Rattle.py_syntax.specs.Normal.{Normal, is_target, is_place}
 use Rattle.py_syntax.specs.Headers.{Marked, put, kinds_marked}
 use Rattle.py_syntax.specs.Statements.{in_place_mark, target_tokens, option_tokens, assert_tokens, kind_tokens, IsOption, NormalExpr, NormalTargets}
-use Rattle.py_grammar.specs.Roles.{begins}
+use Rattle.py_grammar.specs.TokenClasses.{begins}
 use Rattle.py_grammar.specs.Machine as expression
-use Rattle.py_grammar.specs.Machine.{Goal, any, one, snoc, start, role}
+use Rattle.py_grammar.specs.Machine.{Goal, any, one, snoc, start, class}
 use Rattle.py_grammar.proofs.Enclosed.{join_exprs, join_snoc, join_none, join_one}
-use Rattle.py_parse.specs.Open.{Block}
-use Rattle.py_parse.specs.Machine.{Resume, value, augmented, leaving, asserted, reason, goal, wanted, reads, Place, Reading, Leaving, Lines, State, at, begun_at, onward, simple_place, begin_simple, end_simple, assigned, left, behind_value, resume, act, step}
+use Rattle.py_parse.specs.Open.{SuiteStack}
+use Rattle.py_parse.specs.Machine.{Continuation, value, augmented, leaving, asserted, reason, goal, wanted, reads, Place, Reading, Leaving, Span, State, at, begun_at, onward, simple_place, begin_simple, end_simple, assigned, left, after_value, resume, act, step}
 use Rattle.py_parse.specs.Places.{Source, kinds_past, kind_past, run}
 use Rattle.py_parse.proofs.CompleteLines.{plain, lines, after, past, past_parted, Spelt, any_spelt, one_spelt, on_line, ends_line, goal_of, begins_elsewhere}
 
@@ -29,29 +29,29 @@ stop false = Newline
 
 -- a token that may begin one
 abbrev pub starts : Kind → Bool
-starts t = elim (simple_place t) as (λ (w : Option Place). Bool) [ Some p ↦ true | None ↦ begins (role t) ]
+starts t = elim (simple_place t) as (λ (w : Option Place). Bool) [ Some p ↦ true | None ↦ begins (class t) ]
 
 -- One may begin in this state, and belongs to this block.
-abbrev pub Begins : State → Block → Type 0
+abbrev pub Begins : State → SuiteStack → Type 0
 Begins s b = (t : Kind) (f l : ℕ) → starts t ≡ true → step s (plain t) f l ≡ begin_simple b t f l
 
 -- the run goes on where the statement is whole
-abbrev pub whole : Source → StmtKind → ℕ → ℕ → Block → Bool → List Marked → ℕ → Option State
+abbrev pub whole : Source → StmtKind → ℕ → ℕ → SuiteStack → Bool → List Marked → ℕ → Option State
 whole src k g f b x rest q = after src (end_simple k (lines src g f q) b (stop x) (src.last q)) rest (suc q)
 
 -- These tokens are read as this statement.
 abbrev pub Told : List Kind → StmtKind → Type 0
-Told ts k = (src : Source) (s : State) (b : Block) → Begins s b → (x : Bool) (rest : List Marked) (p : ℕ) → run src s (put ts (plain (stop x) ∷ rest)) p ≡ whole src k (src.first p) (src.first p) b x rest (kinds_past ts p)
+Told ts k = (src : Source) (s : State) (b : SuiteStack) → Begins s b → (x : Bool) (rest : List Marked) (p : ℕ) → run src s (put ts (plain (stop x) ∷ rest)) p ≡ whole src k (src.first p) (src.first p) b x rest (kinds_past ts p)
 
 abbrev pub SimpleBack : StmtKind → Type 0
-SimpleBack k = (src : Source) (s : State) (b : Block) → Begins s b → (x : Bool) (rest : List Marked) (p : ℕ) → run src s (kind_tokens k (plain (stop x) ∷ rest)) p ≡ whole src k (src.first p) (src.first p) b x rest (kind_past k p)
+SimpleBack k = (src : Source) (s : State) (b : SuiteStack) → Begins s b → (x : Bool) (rest : List Marked) (p : ℕ) → run src s (kind_tokens k (plain (stop x) ∷ rest)) p ≡ whole src k (src.first p) (src.first p) b x rest (kind_past k p)
 
 pub kinds_put : (ts : List Kind) → kinds_marked (put ts []) ≡ ts
 kinds_put [] = refl
 kinds_put (t ∷ ts) = ap (λ (z : List Kind). t ∷ z) (kinds_put ts)
 
 -- with the place that its kind tells
-pub told : (ts : List Kind) (k : StmtKind) → Told ts k → (src : Source) (s : State) (b : Block) → Begins s b → (x : Bool) (rest : List Marked) (p : ℕ) → run src s (put ts (plain (stop x) ∷ rest)) p ≡ whole src k (src.first p) (src.first p) b x rest (kinds_past (kinds_marked (put ts [])) p)
+pub told : (ts : List Kind) (k : StmtKind) → Told ts k → (src : Source) (s : State) (b : SuiteStack) → Begins s b → (x : Bool) (rest : List Marked) (p : ℕ) → run src s (put ts (plain (stop x) ∷ rest)) p ≡ whole src k (src.first p) (src.first p) b x rest (kinds_past (kinds_marked (put ts [])) p)
 told ts k back src s b takes x rest p =
     back src s b takes x rest p
     ∙ ap (λ (ks : List Kind). whole src k (src.first p) (src.first p) b x rest (kinds_past ks p)) (sym (kinds_put ts))
@@ -63,13 +63,13 @@ starts_place None P c h = absurd cc
 starts_place (Some Q) P c h = refl
 
 -- at a keyword
-pub word_begins : (t : Kind) (P : Place) → simple_place t ≡ Some P → (src : Source) (s : State) (b : Block) → Begins s b → (ms : List Marked) (p : ℕ) → run src s (plain t ∷ ms) p ≡ run src (at P (lines src (src.first p) (src.first p) (suc p)) b) ms (suc p)
+pub word_begins : (t : Kind) (P : Place) → simple_place t ≡ Some P → (src : Source) (s : State) (b : SuiteStack) → Begins s b → (ms : List Marked) (p : ℕ) → run src s (plain t ∷ ms) p ≡ run src (at P (lines src (src.first p) (src.first p) (suc p)) b) ms (suc p)
 word_begins t P is src s b takes ms p =
     ap (λ (o : Option State). after src o ms (suc p))
-    (takes t (src.first p) (src.last p) (starts_place (simple_place t) P (begins (role t)) is)
-    ∙ ap (λ (o : Option Place). elim o as (λ (w : Option Place). Option State) [ Some q ↦ Some (at q (begun_at (src.first p) (src.last p)) b) | None ↦ reads (value no_exprs) (begun_at (src.first p) (src.last p)) b (expression.step (start any) (role t)) ]) is)
+    (takes t (src.first p) (src.last p) (starts_place (simple_place t) P (begins (class t)) is)
+    ∙ ap (λ (o : Option Place). elim o as (λ (w : Option Place). Option State) [ Some q ↦ Some (at q (begun_at (src.first p) (src.last p)) b) | None ↦ reads (value no_exprs) (begun_at (src.first p) (src.last p)) b (expression.step (start any) (class t)) ]) is)
 
-no_place : (h : Kind) → begins (role h) ≡ true → simple_place h ≡ None
+no_place : (h : Kind) → begins (class h) ≡ true → simple_place h ≡ None
 no_place (Word word.Pass) q = absurd cc
 no_place (Word word.Break) q = absurd cc
 no_place (Word word.Continue) q = absurd cc
@@ -81,15 +81,15 @@ no_place (Word word.Import) q = absurd cc
 no_place (Word word.From) q = absurd cc
 no_place h q = refl
 
-pub expr_starts : (h : Kind) → begins (role h) ≡ true → starts h ≡ true
-expr_starts h q = ap (λ (o : Option Place). elim o as (λ (w : Option Place). Bool) [ Some p ↦ true | None ↦ begins (role h) ]) (no_place h q) ∙ q
+pub expr_starts : (h : Kind) → begins (class h) ≡ true → starts h ≡ true
+expr_starts h q = ap (λ (o : Option Place). elim o as (λ (w : Option Place). Bool) [ Some p ↦ true | None ↦ begins (class h) ]) (no_place h q) ∙ q
 
 -- at an expression
-expr_begins : (src : Source) (s : State) (b : Block) → Begins s b → (e : Expr) → Normal e → (a : List Kind) (rest : List Marked) (p : ℕ) → run src s (put (tokens e a) rest) p ≡ run src (at (wanted (value no_exprs)) (lines src (src.first p) (src.first p) p) b) (put (tokens e a) rest) p
+expr_begins : (src : Source) (s : State) (b : SuiteStack) → Begins s b → (e : Expr) → Normal e → (a : List Kind) (rest : List Marked) (p : ℕ) → run src s (put (tokens e a) rest) p ≡ run src (at (wanted (value no_exprs)) (lines src (src.first p) (src.first p) p) b) (put (tokens e a) rest) p
 expr_begins src s b takes e n a rest p =
     begins_elsewhere false s (value no_exprs) (src.first p) (src.first p) b e n src p
     (λ h q. takes h (src.first p) (src.last p) (expr_starts h q)
-    ∙ ap (λ (o : Option Place). elim o as (λ (w : Option Place). Option State) [ Some q ↦ Some (at q (begun_at (src.first p) (src.last p)) b) | None ↦ reads (value no_exprs) (begun_at (src.first p) (src.last p)) b (expression.step (start any) (role h)) ]) (no_place h q))
+    ∙ ap (λ (o : Option Place). elim o as (λ (w : Option Place). Option State) [ Some q ↦ Some (at q (begun_at (src.first p) (src.last p)) b) | None ↦ reads (value no_exprs) (begun_at (src.first p) (src.last p)) b (expression.step (start any) (class h)) ]) (no_place h q))
     a rest
 
 -- ---- how they end
@@ -102,8 +102,8 @@ one_stop : (e : Expr) (x : Bool) → NormalExpr e → Spelt one e (stop x)
 one_stop e true n = one_spelt e (stop true) n (omega arith, refl)
 one_stop e false n = one_spelt e (stop false) n (omega arith, refl)
 
--- The last expression of a statement, behind which it is whole.
-last_read : (g : Goal) (e : Expr) (x : Bool) → Spelt g e (stop x) → (r : Resume) (k : StmtKind) → ((n : Lines) (b : Block) (l : ℕ) → resume r e n b (stop x) l ≡ end_simple k n b (stop x) l) → (src : Source) (c f : ℕ) (b : Block) (rest : List Marked) (p : ℕ) →
+-- The last expression of a statement, after which it is whole.
+last_read : (g : Goal) (e : Expr) (x : Bool) → Spelt g e (stop x) → (r : Continuation) (k : StmtKind) → ((n : Span) (b : SuiteStack) (l : ℕ) → resume r e n b (stop x) l ≡ end_simple k n b (stop x) l) → (src : Source) (c f : ℕ) (b : SuiteStack) (rest : List Marked) (p : ℕ) →
     run src (at (Reading r (start g)) (lines src c f p) b) (put (tokens e []) (plain (stop x) ∷ rest)) p ≡ whole src k c f b x rest (past e p)
 last_read g e x h r k is src c f b rest p =
     ends_line g e (stop x) h src r c f b rest p
@@ -111,29 +111,29 @@ last_read g e x h r k is src c f b rest p =
 
 -- ---- expressions and assignments
 
-value_stop : (ts : Exprs) (e : Expr) (x : Bool) (n : Lines) (b : Block) (l : ℕ) → behind_value ts e n b (stop x) l ≡ end_simple (assigned ts e) n b (stop x) l
+value_stop : (ts : Exprs) (e : Expr) (x : Bool) (n : Span) (b : SuiteStack) (l : ℕ) → after_value ts e n b (stop x) l ≡ end_simple (assigned ts e) n b (stop x) l
 value_stop no_exprs e true n b l = refl
 value_stop no_exprs e false n b l = refl
 value_stop (exprs t ts) e true n b l = refl
 value_stop (exprs t ts) e false n b l = refl
 
-value_read : (e : Expr) → Normal e → (ds : Exprs) (x : Bool) (src : Source) (c f : ℕ) (b : Block) (rest : List Marked) (p : ℕ) → run src (at (wanted (value ds)) (lines src c f p) b) (put (tokens e []) (plain (stop x) ∷ rest)) p ≡ whole src (assigned ds e) c f b x rest (past e p)
+value_read : (e : Expr) → Normal e → (ds : Exprs) (x : Bool) (src : Source) (c f : ℕ) (b : SuiteStack) (rest : List Marked) (p : ℕ) → run src (at (wanted (value ds)) (lines src c f p) b) (put (tokens e []) (plain (stop x) ∷ rest)) p ≡ whole src (assigned ds e) c f b x rest (past e p)
 value_read e n ds x = last_read any e x (any_stop e x n) (value ds) (assigned ds e) (value_stop ds e x)
 
 pub told_expr : (e : Expr) → Normal e → Told (tokens e []) (expr e)
 told_expr e n src s b takes x rest p = expr_begins src s b takes e n [] (plain (stop x) ∷ rest) p ∙ value_read e n no_exprs x src (src.first p) (src.first p) b rest p
 
-equal_taken : (ds : Exprs) (t : Expr) (n : Lines) (b : Block) (l : ℕ) → is_target t ≡ true → behind_value ds t n b (Sign mark.Equal) l ≡ Some (at (wanted (value (snoc ds t))) (onward n l) b)
+equal_taken : (ds : Exprs) (t : Expr) (n : Span) (b : SuiteStack) (l : ℕ) → is_target t ≡ true → after_value ds t n b (Sign mark.Equal) l ≡ Some (at (wanted (value (snoc ds t))) (onward n l) b)
 equal_taken no_exprs t n b l is = ap (λ (c : Bool). cond c (Some (at (wanted (value (snoc no_exprs t))) (onward n l) b)) None) is
 equal_taken (exprs d ds) t n b l is = ap (λ (c : Bool). cond c (Some (at (wanted (value (snoc (exprs d ds) t))) (onward n l) b)) None) is
 
 -- a target with its `=`
-target_read : (t : Expr) → Normal t → is_target t ≡ true → (ds : Exprs) (a : List Kind) (src : Source) (c f : ℕ) (b : Block) (rest : List Marked) (p : ℕ) → run src (at (wanted (value ds)) (lines src c f p) b) (put (tokens t (Sign mark.Equal ∷ a)) rest) p ≡ run src (at (wanted (value (snoc ds t))) (lines src c f (suc (past t p))) b) (put a rest) (suc (past t p))
+target_read : (t : Expr) → Normal t → is_target t ≡ true → (ds : Exprs) (a : List Kind) (src : Source) (c f : ℕ) (b : SuiteStack) (rest : List Marked) (p : ℕ) → run src (at (wanted (value ds)) (lines src c f p) b) (put (tokens t (Sign mark.Equal ∷ a)) rest) p ≡ run src (at (wanted (value (snoc ds t))) (lines src c f (suc (past t p))) b) (put a rest) (suc (past t p))
 target_read t n is ds a src c f b rest p =
     on_line any t (Sign mark.Equal) (any_spelt t (Sign mark.Equal) n (omega arith, refl, refl)) src (value ds) c f b a rest p
     ∙ ap (λ (o : Option State). after src o (put a rest) (suc (past t p))) (equal_taken ds t (lines src c f (past t p)) b (src.last (past t p)) is)
 
-targets_read : (ts : Exprs) → NormalTargets ts → (e : Expr) → Normal e → (ds : Exprs) (x : Bool) (src : Source) (c f : ℕ) (b : Block) (rest : List Marked) (p : ℕ) → run src (at (wanted (value ds)) (lines src c f p) b) (put (target_tokens ts (tokens e [])) (plain (stop x) ∷ rest)) p ≡ whole src (assigned (join_exprs ds ts) e) c f b x rest (kinds_past (target_tokens ts (tokens e [])) p)
+targets_read : (ts : Exprs) → NormalTargets ts → (e : Expr) → Normal e → (ds : Exprs) (x : Bool) (src : Source) (c f : ℕ) (b : SuiteStack) (rest : List Marked) (p : ℕ) → run src (at (wanted (value ds)) (lines src c f p) b) (put (target_tokens ts (tokens e [])) (plain (stop x) ∷ rest)) p ≡ whole src (assigned (join_exprs ds ts) e) c f b x rest (kinds_past (target_tokens ts (tokens e [])) p)
 targets_read no_exprs n e ne ds x src c f b rest p =
     value_read e ne ds x src c f b rest p
     ∙ ap (λ (z : Exprs). whole src (assigned z e) c f b x rest (past e p)) (sym (join_none ds))
@@ -153,7 +153,7 @@ told_assign t ts e n ne src s b takes x rest p =
     ∙ ap (λ (z : Exprs). whole src (assigned z e) F F b x rest (kinds_past a (suc (past t p)))) (join_one t ts)
     ∙ ap (whole src (assign (exprs t ts) e) F F b x rest) (sym (past_parted t (Sign mark.Equal ∷ a) p))
 
-operator_taken : (op : BinOp) (t : Expr) (n : Lines) (b : Block) (l : ℕ) → is_place t ≡ true → behind_value no_exprs t n b (Sign (in_place_mark op)) l ≡ Some (at (wanted (augmented t op)) (onward n l) b)
+operator_taken : (op : BinOp) (t : Expr) (n : Span) (b : SuiteStack) (l : ℕ) → is_place t ≡ true → after_value no_exprs t n b (Sign (in_place_mark op)) l ≡ Some (at (wanted (augmented t op)) (onward n l) b)
 operator_taken op_.Add t n b l is = ap (λ (c : Bool). cond c (Some (at (wanted (augmented t op_.Add)) (onward n l) b)) None) is
 operator_taken op_.Sub t n b l is = ap (λ (c : Bool). cond c (Some (at (wanted (augmented t op_.Sub)) (onward n l) b)) None) is
 operator_taken op_.Mul t n b l is = ap (λ (c : Bool). cond c (Some (at (wanted (augmented t op_.Mul)) (onward n l) b)) None) is
@@ -188,11 +188,11 @@ told_break src s b takes x rest p = word_begins (Word word.Break) _ refl src s b
 pub told_continue : Told (Word word.Continue ∷ []) continue
 told_continue src s b takes x rest p = word_begins (Word word.Continue) _ refl src s b takes (plain (stop x) ∷ rest) p
 
-leaving_stop : (raises : Bool) (x : Bool) (n : Lines) (b : Block) (f l : ℕ) → act (Leaving raises) n b (stop x) f l ≡ end_simple (left raises None) n b (stop x) l
+leaving_stop : (raises : Bool) (x : Bool) (n : Span) (b : SuiteStack) (f l : ℕ) → act (Leaving raises) n b (stop x) f l ≡ end_simple (left raises None) n b (stop x) l
 leaving_stop raises true n b f l = refl
 leaving_stop raises false n b f l = refl
 
-leaving_takes : (raises : Bool) (n : Lines) (b : Block) (h : Kind) (f l : ℕ) → begins (role h) ≡ true → act (Leaving raises) n b h f l ≡ reads (leaving raises) (onward n l) b (expression.step (start (goal (leaving raises))) (role h))
+leaving_takes : (raises : Bool) (n : Span) (b : SuiteStack) (h : Kind) (f l : ℕ) → begins (class h) ≡ true → act (Leaving raises) n b h f l ≡ reads (leaving raises) (onward n l) b (expression.step (start (goal (leaving raises))) (class h))
 leaving_takes raises n b (Sign mark.Semicolon) f l q = absurd cc
 leaving_takes raises n b Newline f l q = absurd cc
 leaving_takes raises n b h f l q = refl
@@ -204,8 +204,8 @@ goal_stop : (raises : Bool) (e : Expr) (x : Bool) → cond raises (NormalExpr e)
 goal_stop true e x n = one_stop e x n
 goal_stop false e x n = any_stop e x n
 
--- behind the keyword
-left_read : (raises : Bool) (o : Option Expr) → IsOption (λ e. cond raises (NormalExpr e) (Normal e)) o → (x : Bool) (src : Source) (c f : ℕ) (b : Block) (rest : List Marked) (p : ℕ) → run src (at (Leaving raises) (lines src c f p) b) (put (option_tokens o) (plain (stop x) ∷ rest)) p ≡ whole src (left raises o) c f b x rest (kinds_past (option_tokens o) p)
+-- after the keyword
+left_read : (raises : Bool) (o : Option Expr) → IsOption (λ e. cond raises (NormalExpr e) (Normal e)) o → (x : Bool) (src : Source) (c f : ℕ) (b : SuiteStack) (rest : List Marked) (p : ℕ) → run src (at (Leaving raises) (lines src c f p) b) (put (option_tokens o) (plain (stop x) ∷ rest)) p ≡ whole src (left raises o) c f b x rest (kinds_past (option_tokens o) p)
 left_read raises None n x src c f b rest p = ap (λ (o : Option State). after src o rest (suc p)) (leaving_stop raises x (lines src c f p) b (src.first p) (src.last p))
 left_read raises (Some e) n x src c f b rest p =
     begins_elsewhere raises (at (Leaving raises) (lines src c f p) b) (leaving raises) c f b e (normal raises n) src p (λ h q. leaving_takes raises (lines src c f p) b h (src.first p) (src.last p) q) [] (plain (stop x) ∷ rest)
@@ -225,7 +225,7 @@ told_raise o n src s b takes x rest p =
     word_begins (Word word.Raise) _ refl src s b takes (put (option_tokens o) (plain (stop x) ∷ rest)) p
     ∙ left_read true o n x src (src.first p) (src.first p) b rest (suc p)
 
-asserted_stop : (e : Expr) (x : Bool) (n : Lines) (b : Block) (l : ℕ) → resume asserted e n b (stop x) l ≡ end_simple (assert e None) n b (stop x) l
+asserted_stop : (e : Expr) (x : Bool) (n : Span) (b : SuiteStack) (l : ℕ) → resume asserted e n b (stop x) l ≡ end_simple (assert e None) n b (stop x) l
 asserted_stop e true n b l = refl
 asserted_stop e false n b l = refl
 

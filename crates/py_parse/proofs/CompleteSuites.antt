@@ -6,8 +6,8 @@ use Rattle.py_syntax.specs.Tree.{Stmts, no_stmts, stmt, Suite, suite, no_suite, 
 use Rattle.py_syntax.specs.Kinds.{Kind, Word, Newline, Dedent, End}
 use Rattle.py_syntax.specs.Headers.{Marked, put}
 use Rattle.py_syntax.specs.Statements.{end_tokens, stmts_tokens, kind_tokens, suite_tokens, begins_simple, EndsLine}
-use Rattle.py_parse.specs.Open.{snoc_stmt, snoc_case, no_end, semicolon_end, Owner, a_case, closed, Block, top, inside, add}
-use Rattle.py_parse.specs.Machine.{Place, Semicolon, SuiteWanted, Lines, State, Line, at, Behind, Choosing, close, over_line, compound_place, begin_simple, begin_line, line, next_part, is_whole, at_line, on_line, plain_step}
+use Rattle.py_parse.specs.Open.{snoc_stmt, snoc_case, no_end, semicolon_end, SuiteOf, a_case, closed, SuiteStack, top, inside, add}
+use Rattle.py_parse.specs.Machine.{Place, Semicolon, SuiteWanted, Span, State, Line, at, After, Choosing, close, over_line, compound_place, begin_simple, begin_line, line, next_part, is_whole, at_line, on_line, plain_step}
 use Rattle.py_parse.specs.Places.{Source, kinds_past, stmts_past, kind_past, suite_past, last_before, run, relined, relined_kind, relined_suite}
 use Rattle.py_parse.proofs.CompleteLines.{plain, lines, after}
 use Rattle.py_parse.proofs.CompleteSimple.{starts, Begins, SimpleBack}
@@ -29,11 +29,11 @@ ends End = true
 ends t = false
 
 -- Any statement may begin in this state on a new line, and belongs to this block.
-pub record Ready (s : State) (b : Block) : Type 0 where
+pub record Ready (s : State) (b : SuiteStack) : Type 0 where
   pub takes : (t : Kind) (f l : ℕ) → goes_on t ≡ false → plain_step s t f l ≡ line b t f l
   pub opens : at_line s ≡ Some b
 
-pub ready_line : (b : Block) → Ready (Line b) b
+pub ready_line : (b : SuiteStack) → Ready (Line b) b
 ready_line b = record { takes = λ t f l h. refl; opens = refl }
 
 next_none : (k : StmtKind) (t : Kind) → goes_on t ≡ false → next_part k t ≡ None
@@ -50,17 +50,17 @@ next_none (try b no_clauses (has_suite o) no_suite) t h = refl
 next_none (try b (clause e x s cs) (has_suite o) no_suite) t h = refl
 next_none k t h = refl
 
-pub ready_behind : (k : StmtKind) (first last : ℕ) (b : Block) → is_whole k ≡ true → Ready (Behind k first last b) (add b first last k no_end)
-ready_behind k first last b whole =
-    let opens : at_line (Behind k first last b) ≡ Some (add b first last k no_end) = ap (λ (c : Bool). cond c (Some (add b first last k no_end)) None) whole in
+pub ready_after : (k : StmtKind) (first last : ℕ) (b : SuiteStack) → is_whole k ≡ true → Ready (After k first last b) (add b first last k no_end)
+ready_after k first last b whole =
+    let opens : at_line (After k first last b) ≡ Some (add b first last k no_end) = ap (λ (c : Bool). cond c (Some (add b first last k no_end)) None) whole in
     record {
       takes = λ t f l h.
-          ap (λ (o : Option Place). elim o as (λ (w : Option Place). Option State) [ Some p ↦ Some (at p (record { begun = first; first = f; last = l }) b) | None ↦ on_line (at_line (Behind k first last b)) t f l ]) (next_none k t h)
-          ∙ ap (λ (o : Option Block). on_line o t f l) opens;
+          ap (λ (o : Option Place). elim o as (λ (w : Option Place). Option State) [ Some p ↦ Some (at p (record { begun = first; first = f; last = l }) b) | None ↦ on_line (at_line (After k first last b)) t f l ]) (next_none k t h)
+          ∙ ap (λ (o : Option SuiteStack). on_line o t f l) opens;
       opens = opens;
     }
 
-pub line_begins : (b : Block) (t : Kind) (f l : ℕ) → ends t ≡ false → line b t f l ≡ begin_line b t f l
+pub line_begins : (b : SuiteStack) (t : Kind) (f l : ℕ) → ends t ≡ false → line b t f l ≡ begin_line b t f l
 line_begins (top ss) End f l h = absurd cc
 line_begins (inside (stmt f' l' k e ss) false first last begun o b) Dedent f l h = absurd cc
 line_begins (top ss) t f l h = refl
@@ -83,24 +83,24 @@ starts_line End h = absurd cc
 starts_line t h = (refl, refl, refl)
 
 -- a simple statement on a new line
-pub ready_begins : (s : State) (b : Block) → Ready s b → Begins s b
+pub ready_begins : (s : State) (b : SuiteStack) → Ready s b → Begins s b
 ready_begins s b ready t f l h =
     let is = starts_line t h in
     ready.takes t f l is.0
     ∙ line_begins b t f l is.1
     ∙ ap (λ (o : Option Place). elim o as (λ (w : Option Place). Option State) [ Some p ↦ Some (at p (record { begun = f; first = f; last = l }) b) | None ↦ begin_simple b t f l ]) is.2
 
--- one behind a semicolon
-semicolon_begins : (k : StmtKind) (n : Lines) (b : Block) → Begins (at (Semicolon k) n b) (add b n.begun n.last k semicolon_end)
+-- one after a semicolon
+semicolon_begins : (k : StmtKind) (n : Span) (b : SuiteStack) → Begins (at (Semicolon k) n b) (add b n.begun n.last k semicolon_end)
 semicolon_begins k n b Newline f l h = absurd cc
 semicolon_begins k n b t f l h = refl
 
 -- one on the line of a header
-suite_begins : (o : Owner) (n : Lines) (b : Block) → Begins (at (SuiteWanted o) n b) (inside no_stmts true n.first n.last n.begun o b)
+suite_begins : (o : SuiteOf) (n : Span) (b : SuiteStack) → Begins (at (SuiteWanted o) n b) (inside no_stmts true n.first n.last n.begun o b)
 suite_begins o n b Newline f l h = absurd cc
 suite_begins o n b t f l h = refl
 
--- ---- statements behind others
+-- ---- statements after others
 
 abbrev pub join_stmts : Stmts → Stmts → Stmts
 join_stmts no_stmts ss = ss
@@ -119,29 +119,29 @@ join_none no_stmts = refl
 join_none (stmt f l k e ds) = ap (λ (x : Stmts). stmt f l k e x) (join_none ds)
 
 -- more statements in the innermost suite
-abbrev pub adds : Block → Stmts → Block
+abbrev pub adds : SuiteStack → Stmts → SuiteStack
 adds (top ds) ss = top (join_stmts ds ss)
 adds (inside ds inline f l g o b) ss = inside (join_stmts ds ss) inline f l g o b
 
-adds_none : (b : Block) → b ≡ adds b no_stmts
+adds_none : (b : SuiteStack) → b ≡ adds b no_stmts
 adds_none (top ds) = ap (λ (x : Stmts). top x) (sym (join_none ds))
 adds_none (inside ds inline f l g o b) = ap (λ (x : Stmts). inside x inline f l g o b) (sym (join_none ds))
 
-adds_add : (b : Block) (f l : ℕ) (k : StmtKind) (e : LineEnd) (ss : Stmts) → adds (add b f l k e) ss ≡ adds b (stmt f l k e ss)
+adds_add : (b : SuiteStack) (f l : ℕ) (k : StmtKind) (e : LineEnd) (ss : Stmts) → adds (add b f l k e) ss ≡ adds b (stmt f l k e ss)
 adds_add (top ds) f l k e ss = ap (λ (x : Stmts). top x) (join_snoc ds f l k e ss)
 adds_add (inside ds inline f' l' g o b) f l k e ss = ap (λ (x : Stmts). inside x inline f' l' g o b) (join_snoc ds f l k e ss)
 
 -- The innermost suite, if any, is an indented block.
-abbrev pub IsOpen : Block → Type 0
+abbrev pub IsOpen : SuiteStack → Type 0
 IsOpen (top ss) = Unit {0}
 IsOpen (inside ss inline f l g o b) = inline ≡ false
 
-over_open : (b : Block) → IsOpen b → (l : ℕ) → over_line b l ≡ Line b
+over_open : (b : SuiteStack) → IsOpen b → (l : ℕ) → over_line b l ≡ Line b
 over_open (top ss) h l = refl
 over_open (inside ss true f l' g o b) h l = absurd cc
 over_open (inside ss false f l' g o b) h l = refl
 
-add_open : (b : Block) (f l : ℕ) (k : StmtKind) (e : LineEnd) → IsOpen b → IsOpen (add b f l k e)
+add_open : (b : SuiteStack) (f l : ℕ) (k : StmtKind) (e : LineEnd) → IsOpen b → IsOpen (add b f l k e)
 add_open (top ss) f l k e h = tt
 add_open (inside ss inline f' l' g o b) f l k e h = h
 
@@ -151,43 +151,43 @@ abbrev the_end : Bool → Bool → LineEnd
 the_end semicolon newline = record { semicolon = semicolon; newline = newline }
 
 -- with the end of its line
-over_simple : (k : StmtKind) → SimpleBack k → (x : Bool) (src : Source) (s : State) (b : Block) → Begins s b → (rest : List Marked) (p : ℕ) →
+over_simple : (k : StmtKind) → SimpleBack k → (x : Bool) (src : Source) (s : State) (b : SuiteStack) → Begins s b → (rest : List Marked) (p : ℕ) →
     run src s (kind_tokens k (put (end_tokens (the_end x true)) rest)) p
     ≡ run src (over_line (add b (src.first p) (last_before src (kind_past k p)) k (the_end x true)) (last_before src (kinds_past (end_tokens (the_end x true)) (kind_past k p)))) rest (kinds_past (end_tokens (the_end x true)) (kind_past k p))
 over_simple k back true src s b takes rest p = back src s b takes true (plain Newline ∷ rest) p
 over_simple k back false src s b takes rest p = back src s b takes false rest p
 
--- with another behind it on its line
-on_simple : (k : StmtKind) → SimpleBack k → (src : Source) (s : State) (b : Block) → Begins s b → (rest : List Marked) (p : ℕ) →
+-- with another after it on its line
+on_simple : (k : StmtKind) → SimpleBack k → (src : Source) (s : State) (b : SuiteStack) → Begins s b → (rest : List Marked) (p : ℕ) →
     run src s (kind_tokens k (put (end_tokens (the_end true false)) rest)) p ≡ run src (at (Semicolon k) (lines src (src.first p) (src.first p) (kind_past k p)) b) rest (suc (kind_past k p))
 on_simple k back src s b takes rest p = back src s b takes true rest p
 
 -- ---- statements of a block or a module
 
 -- A list is read up to the rest of it, where a statement of this block may begin.
-pub record Through (src : Source) (s : State) (ms : List Marked) (p : ℕ) (rest : List Marked) (q : ℕ) (b : Block) : Type 0 where
+pub record Through (src : Source) (s : State) (ms : List Marked) (p : ℕ) (rest : List Marked) (q : ℕ) (b : SuiteStack) : Type 0 where
   pub state : State
   pub ready : Ready state b
   pub reads : run src s ms p ≡ run src state rest q
 
-further : (src : Source) (s s' : State) (ms ms' : List Marked) (p p' : ℕ) (rest : List Marked) (q : ℕ) (b b' : Block) → run src s ms p ≡ run src s' ms' p' → b ≡ b' → Through src s' ms' p' rest q b → Through src s ms p rest q b'
-further src s s' ms ms' p p' rest q b b' same is t = record { state = t.state; ready = subst (λ (x : Block). Ready t.state x) is t.ready; reads = same ∙ t.reads }
+further : (src : Source) (s s' : State) (ms ms' : List Marked) (p p' : ℕ) (rest : List Marked) (q : ℕ) (b b' : SuiteStack) → run src s ms p ≡ run src s' ms' p' → b ≡ b' → Through src s' ms' p' rest q b → Through src s ms p rest q b'
+further src s s' ms ms' p p' rest q b b' same is t = record { state = t.state; ready = subst (λ (x : SuiteStack). Ready t.state x) is t.ready; reads = same ∙ t.reads }
 
 -- from a new line; from where a simple statement may begin
 abbrev pub StmtsBack : Stmts → Type 0
-StmtsBack ss = (src : Source) (s : State) (b : Block) → IsOpen b → Ready s b → (rest : List Marked) (p : ℕ) → Through src s (stmts_tokens ss rest) p rest (stmts_past ss p) (adds b (relined src ss p))
+StmtsBack ss = (src : Source) (s : State) (b : SuiteStack) → IsOpen b → Ready s b → (rest : List Marked) (p : ℕ) → Through src s (stmts_tokens ss rest) p rest (stmts_past ss p) (adds b (relined src ss p))
 
 abbrev pub MoreBack : Stmts → Type 0
-MoreBack ss = (src : Source) (s : State) (b : Block) → IsOpen b → Begins s b → (rest : List Marked) (p : ℕ) → Through src s (stmts_tokens ss rest) p rest (stmts_past ss p) (adds b (relined src ss p))
+MoreBack ss = (src : Source) (s : State) (b : SuiteStack) → IsOpen b → Begins s b → (rest : List Marked) (p : ℕ) → Through src s (stmts_tokens ss rest) p rest (stmts_past ss p) (adds b (relined src ss p))
 
 pub no_more : StmtsBack no_stmts
-no_more src s b open' ready rest p = record { state = s; ready = subst (λ (x : Block). Ready s x) (adds_none b) ready; reads = refl }
+no_more src s b open' ready rest p = record { state = s; ready = subst (λ (x : SuiteStack). Ready s x) (adds_none b) ready; reads = refl }
 
 -- a simple statement keeps its tree
 abbrev pub Plain : StmtKind → Type 0
 Plain k = (src : Source) (p : ℕ) → relined_kind src k p ≡ k
 
--- a simple statement and those behind it
+-- a simple statement and those after it
 simple_on : (first last : ℕ) (k : StmtKind) (x newline : Bool) (ss : Stmts) → SimpleBack k → Plain k → EndsLine true (the_end x newline) ss → StmtsBack ss → (begins_simple ss ≡ true → MoreBack ss) → MoreBack (stmt first last k (the_end x newline) ss)
 simple_on first last k x true ss back same ended rest_back more_back src s b open' takes rest p =
     let q = kind_past k p in
@@ -210,9 +210,9 @@ simple_on first last k true false ss back same ended rest_back more_back src s b
     (adds_add b (src.first p) (last_before src q) k e (relined src ss (suc q)) ∙ ap (λ (z : StmtKind). adds b (stmt (src.first p) (last_before src q) z e (relined src ss (suc q)))) (sym (same src p)))
     (more_back ended.1 src (at (Semicolon k) n b) b' (add_open b (src.first p) (last_before src q) k e open') (semicolon_begins k n b) rest (suc q))
 
--- A compound statement is read to the state behind its last suite.
+-- A compound statement is read to the state after its last suite.
 abbrev pub CompoundBack : StmtKind → Type 0
-CompoundBack k = (src : Source) (s : State) (b : Block) → Ready s b → (rest : List Marked) (p : ℕ) → run src s (kind_tokens k rest) p ≡ run src (Behind (relined_kind src k p) (src.first p) (last_before src (kind_past k p)) b) rest (kind_past k p)
+CompoundBack k = (src : Source) (s : State) (b : SuiteStack) → Ready s b → (rest : List Marked) (p : ℕ) → run src s (kind_tokens k rest) p ≡ run src (After (relined_kind src k p) (src.first p) (last_before src (kind_past k p)) b) rest (kind_past k p)
 
 -- it needs no further part
 abbrev pub Whole : StmtKind → Type 0
@@ -224,19 +224,19 @@ compound_on first last k false true ss back whole ended rest_back src s b open' 
 compound_on first last k false false ss back whole ended rest_back src s b open' ready rest p =
     let q = kind_past k p in
     let k' = relined_kind src k p in
-    let n = Behind k' (src.first p) (last_before src q) b in
+    let n = After k' (src.first p) (last_before src q) b in
     let b' = add b (src.first p) (last_before src q) k' no_end in
     further src s n (kind_tokens k (stmts_tokens ss rest)) (stmts_tokens ss rest) p q rest (stmts_past ss q) (adds b' (relined src ss q)) (adds b (relined src (stmt first last k no_end ss) p))
     (back src s b ready (stmts_tokens ss rest) p)
     (adds_add b (src.first p) (last_before src q) k' no_end (relined src ss q))
-    (rest_back src n b' (add_open b (src.first p) (last_before src q) k' no_end open') (ready_behind k' (src.first p) (last_before src q) b (whole src p)) rest q)
+    (rest_back src n b' (add_open b (src.first p) (last_before src q) k' no_end open') (ready_after k' (src.first p) (last_before src q) b (whole src p)) rest q)
 
 -- what is claimed of a statement of either sort
 abbrev pub KindBack : Bool → StmtKind → Type 0
 KindBack true k = SimpleBack k × Plain k
 KindBack false k = CompoundBack k × Whole k
 
--- a statement on a new line and those behind it
+-- a statement on a new line and those after it
 pub stmts_on : (first last : ℕ) (k : StmtKind) (e : LineEnd) (ss : Stmts) (simple : Bool) → KindBack simple k → EndsLine simple e ss → StmtsBack ss → (begins_simple ss ≡ true → MoreBack ss) → StmtsBack (stmt first last k e ss)
 stmts_on first last k e ss true back ended rest_back more_back src s b open' ready rest p = simple_on first last k e.semicolon e.newline ss back.0 back.1 ended rest_back more_back src s b open' (ready_begins s b ready) rest p
 stmts_on first last k e ss false back ended rest_back more_back src s b open' ready rest p = compound_on first last k e.semicolon e.newline ss back.0 back.1 ended rest_back src s b open' ready rest p
@@ -249,17 +249,17 @@ more_on first last k e ss false is back ended rest_back more_back = absurd cc
 -- ---- suites
 
 -- a suite of this owner is closed
-abbrev pub shut : Owner → Suite → ℕ → Block → ℕ → State
+abbrev pub shut : SuiteOf → Suite → ℕ → SuiteStack → ℕ → State
 shut (a_case e last cs c g) s begun b l = Choosing e last (snoc_case cs c g s) begun b
-shut o s begun b l = Behind (closed o s) begun l b
+shut o s begun b l = After (closed o s) begun l b
 
-close_shut : (o : Owner) (ss : Stmts) (inline : Bool) (f l g : ℕ) (b : Block) (last : ℕ) → close (inside ss inline f l g o b) last ≡ shut o (suite f l inline ss) g b last
+close_shut : (o : SuiteOf) (ss : Stmts) (inline : Bool) (f l g : ℕ) (b : SuiteStack) (last : ℕ) → close (inside ss inline f l g o b) last ≡ shut o (suite f l inline ss) g b last
 close_shut (a_case e last' cs c u) ss inline f l g b last = refl
 close_shut o ss inline f l g b last = refl
 
--- A suite is read from behind the colon of its header, which began at the first of these places.
+-- A suite is read from after the colon of its header, which began at the first of these places.
 abbrev pub SuiteBack : Suite → Type 0
-SuiteBack s = (src : Source) (o : Owner) (g : ℕ) (b : Block) (h : ℕ) (rest : List Marked) (p : ℕ) → run src (at (SuiteWanted o) (lines src g (src.first h) p) b) (suite_tokens s rest) p ≡ run src (shut o (relined_suite src s h p) g b (last_before src (suite_past s p))) rest (suite_past s p)
+SuiteBack s = (src : Source) (o : SuiteOf) (g : ℕ) (b : SuiteStack) (h : ℕ) (rest : List Marked) (p : ℕ) → run src (at (SuiteWanted o) (lines src g (src.first h) p) b) (suite_tokens s rest) p ≡ run src (shut o (relined_suite src s h p) g b (last_before src (suite_past s p))) rest (suite_past s p)
 
 pub block_back : (first last : ℕ) (f l : ℕ) (k : StmtKind) (e : LineEnd) (ss : Stmts) → StmtsBack (stmt f l k e ss) → SuiteBack (suite first last false (stmt f l k e ss))
 block_back first last f l k e ss back src o g b h rest p =
@@ -273,7 +273,7 @@ block_back first last f l k e ss back src o g b h rest p =
 
 -- statements that share the line of their header, up to the end of that line
 abbrev pub SharedBack : Stmts → Type 0
-SharedBack ss = (src : Source) (s : State) (ds : Stmts) (f l g : ℕ) (o : Owner) (b : Block) → Begins s (inside ds true f l g o b) → (rest : List Marked) (p : ℕ) →
+SharedBack ss = (src : Source) (s : State) (ds : Stmts) (f l g : ℕ) (o : SuiteOf) (b : SuiteStack) → Begins s (inside ds true f l g o b) → (rest : List Marked) (p : ℕ) →
     run src s (stmts_tokens ss rest) p ≡ run src (close (inside (join_stmts ds (relined src ss p)) true f l g o b) (last_before src (stmts_past ss p))) rest (stmts_past ss p)
 
 shared_last : (first last : ℕ) (k : StmtKind) (x newline : Bool) → SimpleBack k → Plain k → newline ≡ true → SharedBack (stmt first last k (the_end x newline) no_stmts)

@@ -11,8 +11,8 @@ use Rattle.py_syntax.specs.Statements.{case_name}
 use Rattle.py_grammar.specs.Least.{least_name}
 use Rattle.py_grammar.proofs.Finish as expression
 use Rattle.py_parse_pattern.proofs.Finish as pattern_finish
-use Rattle.py_parse.specs.Open.{Owner, an_arm, a_while, a_for, a_try, a_clause, a_def, a_case, Block, top, inside}
-use Rattle.py_parse.specs.Machine.{Resume, arm_test, while_test, for_target, for_over, clause_kind, subject, guard, default, Place, Reading, Matching, NameWanted, BoundWanted, ModuleWanted, ImportWanted, FunctionWanted, ParamsWanted, ParamWanted, ParamRead, Except, ClauseBound, ColonWanted, SuiteWanted, IndentWanted, MatchLine, MatchBlock, State, Line, at, Behind, Choosing, Over}
+use Rattle.py_parse.specs.Open.{SuiteOf, an_arm, a_while, a_for, a_try, a_clause, a_def, a_case, SuiteStack, top, inside}
+use Rattle.py_parse.specs.Machine.{Continuation, arm_test, while_test, for_target, for_over, clause_kind, subject, guard, default, Place, Reading, Matching, NameWanted, BoundWanted, ModuleWanted, ImportWanted, FunctionWanted, ParamsWanted, ParamWanted, ParamRead, Except, ClauseBound, ColonWanted, SuiteWanted, IndentWanted, MatchLine, MatchBlock, State, Line, at, After, Choosing, Over}
 
 -- ---- suites end
 
@@ -23,8 +23,8 @@ pass_line r = put (Word word.Pass ∷ Newline ∷ []) r
 abbrev pub finally_pass : List Marked → List Marked
 finally_pass r = put (Word word.Finally ∷ Sign mark.Colon ∷ []) (pass_line r)
 
--- behind a suite of this owner
-abbrev pub settled : Owner → List Marked → List Marked
+-- after a suite of this owner
+abbrev pub settled : SuiteOf → List Marked → List Marked
 settled a_try r = finally_pass r
 settled (a_case e last cs p g) r = put (Dedent ∷ []) r
 settled o r = r
@@ -33,48 +33,48 @@ abbrev pub dedent : Bool → List Marked → List Marked
 dedent true r = r
 dedent false r = put (Dedent ∷ []) r
 
--- behind a statement and the end of its line
-abbrev pub outward : Block → List Marked
+-- after a statement and the end of its line
+abbrev pub outward : SuiteStack → List Marked
 outward (top ss) = put (End ∷ []) []
 outward (inside ss inline first last begun o b) = dedent inline (settled o (outward b))
 
 -- where a statement may begin
-abbrev pub from_line : Block → List Marked
+abbrev pub from_line : SuiteStack → List Marked
 from_line (inside no_stmts inline first last begun o b) = pass_line (outward (inside no_stmts inline first last begun o b))
 from_line b = outward b
 
--- behind a suite of a statement that may go on
+-- after a suite of a statement that may go on
 abbrev pub needed : StmtKind → List Marked → List Marked
 needed (try b no_clauses o no_suite) r = finally_pass r
 needed k r = r
 
 -- ---- lines end
 
-abbrev pub line_end : Block → List Marked
+abbrev pub line_end : SuiteStack → List Marked
 line_end b = put (Newline ∷ []) (outward b)
 
 -- a suite on the line, and its header
-abbrev pub suite_here : Owner → Block → List Marked
+abbrev pub suite_here : SuiteOf → SuiteStack → List Marked
 suite_here o b = pass_line (settled o (outward b))
 
-abbrev pub colon_suite : Owner → Block → List Marked
+abbrev pub colon_suite : SuiteOf → SuiteStack → List Marked
 colon_suite o b = put (Sign mark.Colon ∷ []) (suite_here o b)
 
-abbrev pub indented : Owner → Block → List Marked
+abbrev pub indented : SuiteOf → SuiteStack → List Marked
 indented o b = put (Indent ∷ []) (pass_line (put (Dedent ∷ []) (settled o (outward b))))
 
 -- in the block of a `match`
-abbrev pub choosing : Cases → Block → List Marked
+abbrev pub choosing : Cases → SuiteStack → List Marked
 choosing no_cases b = put (Name case_name ∷ Name underscore ∷ Sign mark.Colon ∷ []) (pass_line (put (Dedent ∷ []) (outward b)))
 choosing (case p g s cs) b = put (Dedent ∷ []) (outward b)
 
-abbrev pub match_block : Block → List Marked
+abbrev pub match_block : SuiteStack → List Marked
 match_block b = put (Indent ∷ []) (choosing no_cases b)
 
 -- ---- expressions
 
--- the token behind an expression, and what stands behind that
-abbrev pub closer : Resume → Kind
+-- the token after an expression, and what stands after that
+abbrev pub closer : Continuation → Kind
 closer (arm_test arms) = Sign mark.Colon
 closer while_test = Sign mark.Colon
 closer for_target = Word word.In
@@ -85,21 +85,21 @@ closer (guard e last cs p) = Sign mark.Colon
 closer (default x ps ds y) = Sign mark.RightParen
 closer r = Newline
 
-abbrev pub behind : Resume → Block → List Marked
-behind (arm_test arms) b = suite_here (an_arm arms least_name) b
-behind while_test b = suite_here (a_while least_name) b
-behind for_target b = put (Name [] ∷ []) (colon_suite (a_for least_name least_name) b)
-behind (for_over t) b = suite_here (a_for t least_name) b
-behind (clause_kind body cs) b = suite_here (a_clause body cs None None) b
-behind subject b = put (Newline ∷ []) (match_block b)
-behind (guard e last cs p) b = suite_here (a_case e last cs p None) b
-behind (default x ps ds y) b = colon_suite (a_def x ps ds false) b
-behind r b = outward b
+abbrev pub after : Continuation → SuiteStack → List Marked
+after (arm_test arms) b = suite_here (an_arm arms least_name) b
+after while_test b = suite_here (a_while least_name) b
+after for_target b = put (Name [] ∷ []) (colon_suite (a_for least_name least_name) b)
+after (for_over t) b = suite_here (a_for t least_name) b
+after (clause_kind body cs) b = suite_here (a_clause body cs None None) b
+after subject b = put (Newline ∷ []) (match_block b)
+after (guard e last cs p) b = suite_here (a_case e last cs p None) b
+after (default x ps ds y) b = colon_suite (a_def x ps ds false) b
+after r b = outward b
 
 -- ---- states
 
-abbrev pub finish_place : Place → Block → List Marked
-finish_place (Reading r s) b = put (expression.finish s (closer r ∷ [])) (behind r b)
+abbrev pub finish_place : Place → SuiteStack → List Marked
+finish_place (Reading r s) b = put (expression.finish s (closer r ∷ [])) (after r b)
 finish_place (Matching e last cs s) b = put (pattern_finish.finish s (Sign mark.Colon ∷ [])) (suite_here (a_case e last cs wild None) b)
 finish_place (NameWanted l) b = put (Name [] ∷ []) (line_end b)
 finish_place (BoundWanted l x) b = put (Name [] ∷ []) (line_end b)
@@ -123,12 +123,12 @@ finish_place p b = line_end b
 abbrev pub finish : State → List Marked
 finish (Line b) = from_line b
 finish (at p n b) = finish_place p b
-finish (Behind k first last b) = needed k (outward b)
+finish (After k first last b) = needed k (outward b)
 finish (Choosing e last cs first b) = choosing cs b
 finish (Over ss) = []
 
 -- the line on which all of that stands
 abbrev pub last_line : State → ℕ
 last_line (at p n b) = n.last
-last_line (Behind k first last b) = last
+last_line (After k first last b) = last
 last_line s = 0

@@ -6,32 +6,32 @@ use Rattle.py_syntax.specs.Tree.{Cases, expr, assign, aug_assign, assert}
 use Rattle.py_syntax.specs.Kinds.{Kind, Sign}
 use Rattle.py_syntax.specs.Headers.{Marked, put}
 use Rattle.py_grammar.specs.Machine as expression
-use Rattle.py_grammar.specs.Machine.{snoc, role}
+use Rattle.py_grammar.specs.Machine.{snoc, class}
 use Rattle.py_grammar.specs.Least as expression_least
 use Rattle.py_grammar.specs.Least.{least_name}
-use Rattle.py_parse_pattern.specs.declared.cues.Bracket.TheVariants.{Round, Square}
+use Rattle.py_parse_pattern.specs.declared.token_classes.Bracket.TheVariants.{Round, Square}
 use Rattle.py_parse_pattern.specs.Machine as pattern
 use Rattle.py_parse_pattern.specs.Machine.{Frame, frame, Stack, stack}
 use Rattle.py_grammar.proofs.Spelled as spelled
 use Rattle.py_parse_pattern.proofs.Complete as pattern_complete
-use Rattle.py_grammar.proofs.Fine as expression_fine
+use Rattle.py_grammar.proofs.Valid as expression_valid
 use Rattle.py_grammar.proofs.Finish as expression_finish
 use Rattle.py_grammar.proofs.Finish.{Closes}
 use Rattle.py_grammar.proofs.Finishes as expression_finishes
 use Rattle.py_parse_pattern.proofs.Finish as pattern_finish
-use Rattle.py_parse.specs.Open.{an_arm, a_while, a_for, a_clause, a_def, a_case, newline_end, Block}
-use Rattle.py_parse.specs.Machine.{Resume, value, augmented, leaving, asserted, reason, arm_test, while_test, for_target, for_over, clause_kind, subject, guard, default, goal, Reading, Matching, Lines, State, at, Over, onward, left, resume, resume_pattern}
+use Rattle.py_parse.specs.Open.{an_arm, a_while, a_for, a_clause, a_def, a_case, newline_end, SuiteStack}
+use Rattle.py_parse.specs.Machine.{Continuation, value, augmented, leaving, asserted, reason, arm_test, while_test, for_target, for_over, clause_kind, subject, guard, default, goal, Reading, Matching, Span, State, at, Over, onward, left, resume, resume_pattern}
 use Rattle.py_parse.specs.Least.{form, complete, resumed}
-use Rattle.py_parse.proofs.Fine.{FineLine, FineResume}
-use Rattle.py_parse.proofs.Finish.{closer, behind, suite_here, finish_place}
+use Rattle.py_parse.proofs.Valid.{ValidLine, ValidContinuation}
+use Rattle.py_parse.proofs.Finish.{closer, after, suite_here, finish_place}
 use Rattle.py_parse.proofs.FinishSuites.{steady, goes, Ends, simple_ends, suite_ends, block_ends}
 
 -- ---- from the machine of expressions to this one
 
--- What the machine of expressions reads is read on a line, up to the token behind it.
-pub reading : (l : ℕ) (r : Resume) (s : expression.State) (ts : List Kind) (e : Expr) (t : Kind) (ks : List Kind) (n : Lines) (b : Block) (rest : List Marked) → expression.run s ts ≡ expression.Leaves e (t ∷ ks) → steady l (at (Reading r s) (onward n l) b) (put ts rest) ≡ goes l (resume r e (onward n l) b t l) (put ks rest)
+-- What the machine of expressions reads is read on a line, up to the token after it.
+pub reading : (l : ℕ) (r : Continuation) (s : expression.State) (ts : List Kind) (e : Expr) (t : Kind) (ks : List Kind) (n : Span) (b : SuiteStack) (rest : List Marked) → expression.run s ts ≡ expression.Leaves e (t ∷ ks) → steady l (at (Reading r s) (onward n l) b) (put ts rest) ≡ goes l (resume r e (onward n l) b t l) (put ks rest)
 reading l r s [] e t ks n b rest h = absurd cc
-reading l r s (u ∷ us) e t ks n b rest h = go (λ s'. reading l r s' us e t ks n b rest) (expression.step s (role u)) h
+reading l r s (u ∷ us) e t ks n b rest h = go (λ s'. reading l r s' us e t ks n b rest) (expression.step s (class u)) h
   where
     left : (f : Expr) → f ≡ e → u ≡ t → us ≡ ks → goes l (resume r f (onward n l) b u l) (put us rest) ≡ goes l (resume r e (onward n l) b t l) (put ks rest)
     left f same kind others =
@@ -45,7 +45,7 @@ reading l r s (u ∷ us) e t ks n b rest h = go (λ s'. reading l r s' us e t ks
     go rec (expression.Left f) h = let same : f ≡ e = cc in let kind : u ≡ t = cc in let others : us ≡ ks = cc in left f same kind others
 
 -- and what the machine of patterns reads
-pub matching : (l : ℕ) (e : Expr) (last : ℕ) (cs : Cases) (s : pattern.State) (ts : List Kind) (p : Pattern) (t : Kind) (ks : List Kind) (n : Lines) (b : Block) (rest : List Marked) → pattern.run s ts ≡ pattern.Leaves p (t ∷ ks) → steady l (at (Matching e last cs s) (onward n l) b) (put ts rest) ≡ goes l (resume_pattern e last cs p (onward n l) b t l) (put ks rest)
+pub matching : (l : ℕ) (e : Expr) (last : ℕ) (cs : Cases) (s : pattern.State) (ts : List Kind) (p : Pattern) (t : Kind) (ks : List Kind) (n : Span) (b : SuiteStack) (rest : List Marked) → pattern.run s ts ≡ pattern.Leaves p (t ∷ ks) → steady l (at (Matching e last cs s) (onward n l) b) (put ts rest) ≡ goes l (resume_pattern e last cs p (onward n l) b t l) (put ks rest)
 matching l e last cs s [] p t ks n b rest h = absurd cc
 matching l e last cs s (u ∷ us) p t ks n b rest h = go (λ s'. matching l e last cs s' us p t ks n b rest) (pattern.step s u) h
   where
@@ -62,7 +62,7 @@ matching l e last cs s (u ∷ us) p t ks n b rest h = go (λ s'. matching l e la
 
 -- ---- patterns are finished
 
--- the token behind a pattern
+-- the token after a pattern
 abbrev colon : List Kind
 colon = Sign mark.Colon ∷ []
 
@@ -79,7 +79,7 @@ closing_item p is [] = refl
 closing_item p is (frame Round js cs ∷ fs) = closing_have (pattern.enclosed Round is p) js cs fs
 closing_item p is (frame Square js cs ∷ fs) = closing_have (pattern.enclosed Square is p) js cs fs
 
--- a name or strings behind which everything closes
+-- a name or strings after which everything closes
 closing_named : (x : Text) (is bs : Patterns) (fs : List Frame) → pattern.run (pattern.Named x (stack is bs fs)) (pattern_finish.closing fs colon) ≡ pattern.run (pattern.Have (pattern.named x) (stack is bs fs)) (pattern_finish.closing fs colon)
 closing_named x is bs [] = refl
 closing_named x is bs (frame Round js cs ∷ fs) = refl
@@ -109,7 +109,7 @@ pattern_ends (pattern.Item p is fs) = closing_item p is fs
 
 -- ---- expressions are finished
 
-closes : (r : Resume) → Closes (goal r) (role (closer r))
+closes : (r : Continuation) → Closes (goal r) (class (closer r))
 closes (value ts) = (omega arith, refl, refl)
 closes (augmented p op) = (omega arith, refl, refl)
 closes (leaving true) = (omega arith, refl)
@@ -125,8 +125,8 @@ closes subject = (omega arith, refl, refl)
 closes (guard e last cs p) = (omega arith, refl)
 closes (default x ps ds y) = (omega arith, refl)
 
--- Behind a whole expression the statement is finished.
-resumes : (r : Resume) (e : Expr) (n : Lines) (b : Block) → FineResume r b → goes n.last (resume r e n b (closer r) n.last) (behind r b) ≡ Some (Over (complete (resumed r e n.last) n b))
+-- After a whole expression the statement is finished.
+resumes : (r : Continuation) (e : Expr) (n : Span) (b : SuiteStack) → ValidContinuation r b → goes n.last (resume r e n b (closer r) n.last) (after r b) ≡ Some (Over (complete (resumed r e n.last) n b))
 resumes (value no_exprs) e n b h = simple_ends b n.last n.begun n.last (expr e) newline_end h.1
 resumes (value (exprs t ts)) e n b h = simple_ends b n.last n.begun n.last (assign (exprs t ts) e) newline_end h.1
 resumes (augmented p op) e n b h = simple_ends b n.last n.begun n.last (aug_assign p op e) newline_end h.2
@@ -142,12 +142,12 @@ resumes subject e n b h = block_ends e n.last n b h
 resumes (guard m last cs p) e n b h = suite_ends (a_case m last cs p (Some e)) n b tt h.3
 resumes (default x ps ds y) e n b h = suite_ends (a_def x (ps ++ y ∷ []) (snoc ds e) false) n b tt h.1
 
-pub reading_ends : (r : Resume) (s : expression.State) (n : Lines) (b : Block) → expression_fine.Sound (goal r) s → FineResume r b → Ends n.last (at (Reading r s) n b) (finish_place (Reading r s) b) (complete (form (Reading r s) n.last) n b)
+pub reading_ends : (r : Continuation) (s : expression.State) (n : Span) (b : SuiteStack) → expression_valid.Sound (goal r) s → ValidContinuation r b → Ends n.last (at (Reading r s) n b) (finish_place (Reading r s) b) (complete (form (Reading r s) n.last) n b)
 reading_ends r s n b sound h =
-    reading n.last r s (expression_finish.finish s (closer r ∷ [])) (expression_least.finished s) (closer r) [] n b (behind r b) (expression_finishes.finishes (goal r) s (closer r) [] sound (closes r))
+    reading n.last r s (expression_finish.finish s (closer r ∷ [])) (expression_least.finished s) (closer r) [] n b (after r b) (expression_finishes.finishes (goal r) s (closer r) [] sound (closes r))
     ∙ resumes r (expression_least.finished s) n b h
 
-pub matching_ends : (e : Expr) (last : ℕ) (cs : Cases) (s : pattern.State) (n : Lines) (b : Block) → FineLine b → Ends n.last (at (Matching e last cs s) n b) (finish_place (Matching e last cs s) b) (complete (form (Matching e last cs s) n.last) n b)
+pub matching_ends : (e : Expr) (last : ℕ) (cs : Cases) (s : pattern.State) (n : Span) (b : SuiteStack) → ValidLine b → Ends n.last (at (Matching e last cs s) n b) (finish_place (Matching e last cs s) b) (complete (form (Matching e last cs s) n.last) n b)
 matching_ends e last cs s n b h =
     matching n.last e last cs s (pattern_finish.finish s colon) (pattern.finished s) (Sign mark.Colon) [] n b (suite_here (a_case e last cs wild None) b) (pattern_ends s)
     ∙ suite_ends (a_case e last cs (pattern.finished s) None) n b tt h

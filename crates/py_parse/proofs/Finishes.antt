@@ -3,17 +3,17 @@ use Rattle.std.proofs.Common.{◌≡◌, ℕ, false, [], ◌∷◌, ◌++◌, So
 use Rattle.py_syntax.specs.Tree.{no_exprs, exprs}
 use Rattle.py_grammar.specs.Least.{least_name}
 use Rattle.py_grammar.specs.Machine.{snoc}
-use Rattle.py_parse.specs.Open.{newline_end, both_end, a_clause, a_def, Block}
-use Rattle.py_parse.specs.Machine.{froms, Place, Reading, Matching, Simple, Semicolon, Leaving, NameWanted, NameRead, BoundWanted, BoundRead, ModuleWanted, ImportWanted, FunctionWanted, ParamsWanted, ParamWanted, ParamRead, Except, ClauseBound, ColonWanted, SuiteWanted, IndentWanted, MatchLine, MatchBlock, Lines, State, Line, at, Behind, Choosing, Over, left, listed, with_name, is_some}
+use Rattle.py_parse.specs.Open.{newline_end, both_end, a_clause, a_def, SuiteStack}
+use Rattle.py_parse.specs.Machine.{froms, Place, Reading, Matching, Simple, Semicolon, Leaving, NameWanted, NameRead, BoundWanted, BoundRead, ModuleWanted, ImportWanted, FunctionWanted, ParamsWanted, ParamWanted, ParamRead, Except, ClauseBound, ColonWanted, SuiteWanted, IndentWanted, MatchLine, MatchBlock, Span, State, Line, at, After, Choosing, Over, left, listed, with_name, is_some}
 use Rattle.py_parse.specs.Least.{form, complete, finished}
 use Rattle.py_parse.specs.Places.{run}
-use Rattle.py_parse.proofs.Fine.{FinePlace, Fine}
+use Rattle.py_parse.proofs.Valid.{ValidPlace, Valid}
 use Rattle.py_parse.proofs.Finish.{finish_place, finish, last_line}
 use Rattle.py_parse.proofs.GrowthEnding.{apt}
-use Rattle.py_parse.proofs.FinishSuites.{still, Ends, run_steady, simple_ends, suite_ends, indent_ends, choosing_ends, block_ends, line_ends, behind_ends}
+use Rattle.py_parse.proofs.FinishSuites.{still, Ends, run_steady, simple_ends, suite_ends, indent_ends, choosing_ends, block_ends, line_ends, after_ends}
 use Rattle.py_parse.proofs.FinishParts.{reading_ends, matching_ends}
 
-place_ends : (p : Place) (n : Lines) (b : Block) → FinePlace p b → Ends n.last (at p n b) (finish_place p b) (complete (form p n.last) n b)
+place_ends : (p : Place) (n : Span) (b : SuiteStack) → ValidPlace p b → Ends n.last (at p n b) (finish_place p b) (complete (form p n.last) n b)
 place_ends (Reading r s) n b h = reading_ends r s n b h.0 h.1
 place_ends (Matching e last cs s) n b h = matching_ends e last cs s n b h.3
 place_ends (Simple k) n b h = simple_ends b n.last n.begun n.last k newline_end h.2
@@ -38,13 +38,13 @@ place_ends (IndentWanted o) n b h = indent_ends o n b (apt o h.0) h.1
 place_ends (MatchLine e last) n b h = block_ends e last n b h.1
 place_ends (MatchBlock e last) n b h = block_ends e last n b h.1
 
-pub state_ends : (s : State) → Fine s → Ends (last_line s) s (finish s) (finished s)
+pub state_ends : (s : State) → Valid s → Ends (last_line s) s (finish s) (finished s)
 state_ends (Line b) h = line_ends b h
 state_ends (at p n b) h = place_ends p n b h
-state_ends (Behind k first last b) h = behind_ends k first last b h.2
+state_ends (After k first last b) h = after_ends k first last b h.2
 state_ends (Choosing e last cs first b) h = choosing_ends e last cs first b 0 h.2
 state_ends (Over ss) h = refl
 
 -- What finishes a fine state makes it its least tree.
-pub finishes : (s : State) (p : ℕ) → Fine s → run (still (last_line s)) s (finish s) p ≡ Some (Over (finished s))
+pub finishes : (s : State) (p : ℕ) → Valid s → run (still (last_line s)) s (finish s) p ≡ Some (Over (finished s))
 finishes s p h = run_steady (last_line s) s (finish s) p ∙ state_ends s h

@@ -1,4 +1,4 @@
--- The height and the depth of a statement that a place is completed to, behind an expression or a part more.
+-- The height and the depth of a statement that a place is completed to, after an expression or a part more.
 use Rattle.std.proofs.Common.{ℕ, suc, ◌+◌, ◌≤◌, max, Bool, true, false, cond, List, [], ◌∷◌, ◌++◌, Option, Some, None, arith}
 use Rattle.py_token.specs.declared.token.Keyword.TheVariants as word
 use Rattle.py_syntax.specs.Tree.{Text, Expr, Exprs, no_exprs, exprs, Pattern}
@@ -11,12 +11,12 @@ use Rattle.py_grammar.specs.Least as expression_least
 use Rattle.py_grammar.specs.Least.{least_name}
 use Rattle.py_parse_pattern.specs.Machine as pattern
 use Rattle.py_grammar.proofs.Grows.{heights_snoc, height_some}
-use Rattle.py_parse.specs.Open.{a_try, a_def, a_case, Block}
-use Rattle.py_parse.specs.Machine.{Resume, value, augmented, leaving, asserted, reason, arm_test, while_test, for_target, for_over, clause_kind, subject, guard, default, Place, Reading, Matching, FunctionWanted, ColonWanted, Lines, State, at, next_part}
+use Rattle.py_parse.specs.Open.{a_try, a_def, a_case, SuiteStack}
+use Rattle.py_parse.specs.Machine.{Continuation, value, augmented, leaving, asserted, reason, arm_test, while_test, for_target, for_over, clause_kind, subject, guard, default, Place, Reading, Matching, FunctionWanted, ColonWanted, Span, State, at, next_part}
 use Rattle.py_parse.specs.Least.{ended, resumed, with_param, form}
 use Rattle.py_parse.proofs.GrowthParts.{Under, arm_height, arm_nesting, clause_height, clause_nesting, case_height, case_nesting}
 use Rattle.py_parse.proofs.GrowthForms.{pass_only, passed, core}
-use Rattle.py_parse.proofs.GrowthEnding.{depth, block_nesting}
+use Rattle.py_parse.proofs.GrowthEnding.{depth, suites_nesting}
 use Rattle.py_parse.specs.Levels.{is_start}
 use Rattle.py_parse.proofs.Weights.{tall, deep, inner, level}
 
@@ -27,8 +27,8 @@ Hardly h k k' = (kind_height k' ≤ max (max (kind_height k) 200) h) × (kind_ne
 pub hardly : (h : ℕ) (k k' : StmtKind) → Under k' k → Hardly h k k'
 hardly h k k' u = let one = u.0 in let two = u.1 in (omega arith, omega arith)
 
--- behind another expression
-pub resumed_hardly : (r : Resume) (e e' : Expr) (l l' : ℕ) → Hardly (height e') (core (resumed r e l)) (core (resumed r e' l'))
+-- after another expression
+pub resumed_hardly : (r : Continuation) (e e' : Expr) (l l' : ℕ) → Hardly (height e') (core (resumed r e l)) (core (resumed r e' l'))
 resumed_hardly (value no_exprs) e e' l l' = (omega arith, omega arith)
 resumed_hardly (value (exprs t ts)) e e' l l' = (omega arith, omega arith)
 resumed_hardly (augmented p op) e e' l l' = (omega arith, omega arith)
@@ -52,7 +52,7 @@ resumed_hardly (guard m last cs p) e e' l l' =
 resumed_hardly (default x ps ds y) e e' l l' = let a = heights_snoc ds e in let a' = heights_snoc ds e' in (omega arith, omega arith)
 
 -- the expression is no higher than its statement
-pub resumed_high : (r : Resume) (e : Expr) (l : ℕ) → height e ≤ kind_height (core (resumed r e l))
+pub resumed_high : (r : Continuation) (e : Expr) (l : ℕ) → height e ≤ kind_height (core (resumed r e l))
 resumed_high (value no_exprs) e l = omega arith
 resumed_high (value (exprs t ts)) e l = omega arith
 resumed_high (augmented p op) e l = omega arith
@@ -124,11 +124,11 @@ level_deep (at p n b) = place_deep p n b
     when true d m k h = omega arith
     when false d m k h = omega arith
 
-    place_deep : (p : Place) (n : Lines) (b : Block) → level (at p n b) ≤ deep (at p n b)
-    place_deep (Reading (arm_test no_arms) s) n b = when (is_start s) (depth b) (block_nesting b) 1 (omega arith)
-    place_deep (Reading while_test s) n b = when (is_start s) (depth b) (block_nesting b) 1 (omega arith)
-    place_deep (Reading for_target s) n b = when (is_start s) (depth b) (block_nesting b) 1 (omega arith)
-    place_deep (Reading subject s) n b = when (is_start s) (depth b) (block_nesting b) 1 (omega arith)
+    place_deep : (p : Place) (n : Span) (b : SuiteStack) → level (at p n b) ≤ deep (at p n b)
+    place_deep (Reading (arm_test no_arms) s) n b = when (is_start s) (depth b) (suites_nesting b) 1 (omega arith)
+    place_deep (Reading while_test s) n b = when (is_start s) (depth b) (suites_nesting b) 1 (omega arith)
+    place_deep (Reading for_target s) n b = when (is_start s) (depth b) (suites_nesting b) 1 (omega arith)
+    place_deep (Reading subject s) n b = when (is_start s) (depth b) (suites_nesting b) 1 (omega arith)
     place_deep (ColonWanted a_try) n b = omega arith
     place_deep FunctionWanted n b = omega arith
     place_deep p n b = omega arith

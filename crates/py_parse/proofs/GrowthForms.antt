@@ -10,8 +10,8 @@ use Rattle.py_syntax.specs.Statements.{option_height}
 use Rattle.py_grammar.specs.Machine.{snoc}
 use Rattle.py_grammar.specs.Least.{least_name}
 use Rattle.py_grammar.proofs.Grows.{heights_snoc}
-use Rattle.py_parse.specs.Open.{no_end, Owner, an_arm, a_clause, a_def, a_case, closed, Block}
-use Rattle.py_parse.specs.Machine.{Resume, value, augmented, leaving, asserted, reason, arm_test, while_test, for_target, for_over, clause_kind, subject, guard, default, Place, Lines, next_part}
+use Rattle.py_parse.specs.Open.{no_end, SuiteOf, an_arm, a_clause, a_def, a_case, closed, SuiteStack}
+use Rattle.py_parse.specs.Machine.{Continuation, value, augmented, leaving, asserted, reason, arm_test, while_test, for_target, for_over, clause_kind, subject, guard, default, Place, Span, next_part}
 use Rattle.py_parse.specs.Least.{pass_line, ended, chosen, ending, Form, a_statement, a_header, a_match, resumed, with_param, form, complete}
 use Rattle.py_parse.proofs.GrowthParts.{arm_height, arm_nesting, clause_height, clause_nesting, case_height, case_nesting, Low, Under, under_same, under_trans, within, ended_under, under_ended, closed_under, ending_low}
 
@@ -21,7 +21,7 @@ abbrev pub pass_only : Suite
 pass_only = suite 0 0 true (pass_line 0)
 
 -- a statement whose suite is just `pass`
-abbrev pub passed : Owner → StmtKind
+abbrev pub passed : SuiteOf → StmtKind
 passed o = closed o pass_only
 
 -- the statement without its lines
@@ -30,21 +30,21 @@ core (a_statement k e) = k
 core (a_header inline o) = passed o
 core (a_match e last) = match e 0 (case wild None pass_only no_cases)
 
-pass_up : (o : Owner) (l f g m : ℕ) (i : Bool) → Under (passed o) (ended l (closed o (suite f g i (pass_line m))))
+pass_up : (o : SuiteOf) (l f g m : ℕ) (i : Bool) → Under (passed o) (ended l (closed o (suite f g i (pass_line m))))
 pass_up o l f g m i = under_trans (passed o) (closed o (suite f g i (pass_line m))) (ended l (closed o (suite f g i (pass_line m)))) (closed_under o pass_only (suite f g i (pass_line m)) (within 0 0 f g true i (pass_line 0) (pass_line m) (omega arith, omega arith))) (ended_under l (closed o (suite f g i (pass_line m))))
 
-pass_down : (o : Owner) (l f g m : ℕ) (i : Bool) → Under (ended l (closed o (suite f g i (pass_line m)))) (passed o)
+pass_down : (o : SuiteOf) (l f g m : ℕ) (i : Bool) → Under (ended l (closed o (suite f g i (pass_line m)))) (passed o)
 pass_down o l f g m i = under_trans (ended l (closed o (suite f g i (pass_line m)))) (closed o (suite f g i (pass_line m))) (passed o) (under_ended l (closed o (suite f g i (pass_line m)))) (closed_under o (suite f g i (pass_line m)) pass_only (within f g 0 0 i true (pass_line m) (pass_line 0) (omega arith, omega arith)))
 
 -- A statement put into the block where this place stands.
-pub low_to : (f : Form) (n : Lines) (b : Block) (l x y : ℕ) (k : StmtKind) (e : LineEnd) → Under k (core f) → Low (ending l b x y k e) (complete f n b)
+pub low_to : (f : Form) (n : Span) (b : SuiteStack) (l x y : ℕ) (k : StmtKind) (e : LineEnd) → Under k (core f) → Low (ending l b x y k e) (complete f n b)
 low_to (a_statement k' e') n b l x y k e h = ending_low b l n.last x y n.begun n.last k k' e e' h
 low_to (a_header i o) n b l x y k e h =
     let k' = ended n.last (closed o (suite n.first n.last i (pass_line n.last))) in
     ending_low b l n.last x y n.begun n.last k k' e no_end (under_trans k (passed o) k' h (pass_up o n.last n.first n.last n.last i))
 low_to (a_match m last) n b l x y k e h = ending_low b l n.last x y n.begun n.last k (chosen n.last m last no_cases) e no_end (let h0 = h.0 in let h1 = h.1 in (omega arith, omega arith))
 
-pub low_from : (f : Form) (n : Lines) (b : Block) (l x y : ℕ) (k : StmtKind) (e : LineEnd) → Under (core f) k → Low (complete f n b) (ending l b x y k e)
+pub low_from : (f : Form) (n : Span) (b : SuiteStack) (l x y : ℕ) (k : StmtKind) (e : LineEnd) → Under (core f) k → Low (complete f n b) (ending l b x y k e)
 low_from (a_statement k' e') n b l x y k e h = ending_low b n.last l n.begun n.last x y k' k e' e h
 low_from (a_header i o) n b l x y k e h =
     let k' = ended n.last (closed o (suite n.first n.last i (pass_line n.last))) in
@@ -71,8 +71,8 @@ case_under e last cs p p' g g' h i =
 pub def_under : (x : Text) (ps ps' : List Text) (ds ds' : Exprs) (c c' : Bool) → heights ds ≤ heights ds' → Under (passed (a_def x ps ds c)) (passed (a_def x ps' ds' c'))
 def_under x ps ps' ds ds' c c' h = (omega arith, omega arith)
 
--- the place behind an expression, with a higher one
-pub resumed_under : (r : Resume) (e e' : Expr) (l l' : ℕ) → height e ≤ height e' → Under (core (resumed r e l)) (core (resumed r e' l'))
+-- the place after an expression, with a higher one
+pub resumed_under : (r : Continuation) (e e' : Expr) (l l' : ℕ) → height e ≤ height e' → Under (core (resumed r e l)) (core (resumed r e' l'))
 resumed_under (value no_exprs) e e' l l' h = (omega arith, omega arith)
 resumed_under (value (exprs t ts)) e e' l l' h = (omega arith, omega arith)
 resumed_under (augmented p op) e e' l l' h = (omega arith, omega arith)

@@ -5,7 +5,7 @@ use Rattle.py_syntax.specs.Tree.{Text, Expr, Pattern}
 use Rattle.py_syntax.specs.Tree.{Stmts, no_stmts, stmt, Suite, suite, no_suite, Arms, no_arms, arm, Clauses, no_clauses, clause, Cases, no_cases, case, StmtKind, if', while, for, try}
 use Rattle.py_syntax.specs.Normal.{height, pattern_height}
 use Rattle.py_syntax.specs.Statements.{option_height, stmts_height, kind_height, suite_height, arms_height, clauses_height, cases_height, stmts_nesting, kind_nesting, suite_nesting, arms_nesting, clauses_nesting, cases_nesting}
-use Rattle.py_parse.specs.Open.{snoc_stmt, snoc_arm, snoc_clause, snoc_case, no_end, Owner, an_arm, a_while, a_for, a_try, a_clause, an_else, a_finally, a_def, a_case, with_else, closed, Block, top, inside, add}
+use Rattle.py_parse.specs.Open.{snoc_stmt, snoc_arm, snoc_clause, snoc_case, no_end, SuiteOf, an_arm, a_while, a_for, a_try, a_clause, an_else, a_finally, a_def, a_case, with_else, closed, SuiteStack, top, inside, add}
 use Rattle.py_parse.specs.Least.{pass_line, ended, ending, closing}
 
 -- ---- one more at the end
@@ -90,7 +90,7 @@ else_under (for x e b o) s t h = let h0 = h.0 in let h1 = h.1 in (omega arith, o
 else_under (try b cs o f) s t h = let h0 = h.0 in let h1 = h.1 in (omega arith, omega arith)
 else_under k s t h = under_same k
 
-pub closed_under : (o : Owner) (s t : Suite) → Within s t → Under (closed o s) (closed o t)
+pub closed_under : (o : SuiteOf) (s t : Suite) → Within s t → Under (closed o s) (closed o t)
 closed_under (an_arm arms e) s t h = let h0 = h.0 in let h1 = h.1 in let a = arm_height arms e s in let b = arm_height arms e t in let c = arm_nesting arms e s in let d = arm_nesting arms e t in (omega arith, omega arith)
 closed_under (a_while e) s t h = let h0 = h.0 in let h1 = h.1 in (omega arith, omega arith)
 closed_under (a_for x e) s t h = let h0 = h.0 in let h1 = h.1 in (omega arith, omega arith)
@@ -102,7 +102,7 @@ closed_under (a_def x ps ds c) s t h = let h0 = h.0 in let h1 = h.1 in (omega ar
 closed_under (a_case e last cs p g) s t h = let h0 = h.0 in let h1 = h.1 in let a = case_height cs p g s in let b = case_height cs p g t in let c = case_nesting cs p g s in let d = case_nesting cs p g t in (omega arith, omega arith)
 
 -- a statement so far, and a suite that holds more
-pub suite_under : (o : Owner) (l l' f g f' g' : ℕ) (i i' : Bool) (ss ss' : Stmts) → Low ss ss' → Under (ended l (closed o (suite f g i ss))) (ended l' (closed o (suite f' g' i' ss')))
+pub suite_under : (o : SuiteOf) (l l' f g f' g' : ℕ) (i i' : Bool) (ss ss' : Stmts) → Low ss ss' → Under (ended l (closed o (suite f g i ss))) (ended l' (closed o (suite f' g' i' ss')))
 suite_under o l l' f g f' g' i i' ss ss' h =
     under_trans (ended l (closed o (suite f g i ss))) (closed o (suite f g i ss)) (ended l' (closed o (suite f' g' i' ss'))) (under_ended l (closed o (suite f g i ss)))
     (under_trans (closed o (suite f g i ss)) (closed o (suite f' g' i' ss')) (ended l' (closed o (suite f' g' i' ss'))) (closed_under o (suite f g i ss) (suite f' g' i' ss') (within f g f' g' i i' ss ss' h)) (ended_under l' (closed o (suite f' g' i' ss'))))
@@ -120,14 +120,14 @@ pub snoc_more : (ss : Stmts) (f l : ℕ) (k : StmtKind) (e : LineEnd) → Low ss
 snoc_more ss f l k e = let a = snoc_height ss f l k e in let c = snoc_nesting ss f l k e in (omega arith, omega arith)
 
 -- A statement no lower makes the module no lower.
-pub ending_low : (b : Block) (l l' f g f' g' : ℕ) (k k' : StmtKind) (e e' : LineEnd) → Under k k' → Low (ending l b f g k e) (ending l' b f' g' k' e')
+pub ending_low : (b : SuiteStack) (l l' f g f' g' : ℕ) (k k' : StmtKind) (e e' : LineEnd) → Under k k' → Low (ending l b f g k e) (ending l' b f' g' k' e')
 ending_low (top ss) l l' f g f' g' k k' e e' h = snoc_low ss f g f' g' k k' e e' h
 ending_low (inside ss i x y begun o b) l l' f g f' g' k k' e e' h =
     ending_low b l l' begun l begun l' (ended l (closed o (suite x y i (snoc_stmt ss f g k e)))) (ended l' (closed o (suite x y i (snoc_stmt ss f' g' k' e')))) no_end no_end
     (suite_under o l l' x y x y i i (snoc_stmt ss f g k e) (snoc_stmt ss f' g' k' e') (snoc_low ss f g f' g' k k' e e' h))
 
 -- no statement does either
-pub closing_low : (b : Block) (l l' f g : ℕ) (k : StmtKind) (e : LineEnd) → Low (closing l b) (ending l' b f g k e)
+pub closing_low : (b : SuiteStack) (l l' f g : ℕ) (k : StmtKind) (e : LineEnd) → Low (closing l b) (ending l' b f g k e)
 closing_low (top ss) l l' f g k e = snoc_more ss f g k e
 closing_low (inside no_stmts i x y begun o b) l l' f g k e =
     ending_low b l l' begun l begun l' (ended l (closed o (suite x y i (pass_line l)))) (ended l' (closed o (suite x y i (snoc_stmt no_stmts f g k e)))) no_end no_end
@@ -137,7 +137,7 @@ closing_low (inside (stmt a c k' e' ss) i x y begun o b) l l' f g k e =
     (suite_under o l l' x y x y i i (stmt a c k' e' ss) (snoc_stmt (stmt a c k' e' ss) f g k e) (snoc_more (stmt a c k' e' ss) f g k e))
 
 -- A statement that is put into the innermost suite stays there.
-pub added_low : (b : Block) (l l' f g : ℕ) (k : StmtKind) (e : LineEnd) → Low (ending l b f g k e) (closing l' (add b f g k e))
+pub added_low : (b : SuiteStack) (l l' f g : ℕ) (k : StmtKind) (e : LineEnd) → Low (ending l b f g k e) (closing l' (add b f g k e))
 added_low (top ss) l l' f g k e = low_same (snoc_stmt ss f g k e)
 added_low (inside no_stmts i x y begun o b) l l' f g k e =
     ending_low b l l' begun l begun l' (ended l (closed o (suite x y i (snoc_stmt no_stmts f g k e)))) (ended l' (closed o (suite x y i (snoc_stmt no_stmts f g k e)))) no_end no_end

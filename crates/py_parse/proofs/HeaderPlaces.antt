@@ -5,22 +5,22 @@ use Rattle.py_token.specs.declared.token.Token.{Token}
 use Rattle.py_syntax.specs.Kinds.{Kind, Newline}
 use Rattle.py_syntax.specs.Headers.{is_match, is_colon, is_header, ends_in_colon, ends_line}
 use Rattle.py_grammar.proofs.Places.{kind_there, kinds_length}
-use Rattle.py_parse.specs.HeldMarks.{kinds_of, is_newline, begins_from, heads, header_at}
-use Rattle.py_parse.specs.HeldStates.{kind_at}
+use Rattle.py_parse.specs.ViewMarks.{kinds_of, is_newline, begins_from, heads, header_at}
+use Rattle.py_parse.specs.ViewStates.{kind_at}
 
 -- ---- where a line begins
 
-begins_behind : (b : Bool) (ks : List Kind) (p : ℕ) (k : Kind) (rest : List Kind) → drop p ks ≡ k ∷ rest → begins_from b ks (suc p) ≡ ends_line k
-begins_behind b [] zero k rest h = absurd cc
-begins_behind b [] (suc p) k rest h = absurd cc
-begins_behind b (x ∷ ks) zero k rest h = let one : x ≡ k = cc in ap ends_line one
-begins_behind b (x ∷ ks) (suc p) k rest h = begins_behind (ends_line x) ks p k rest h
+begins_after : (b : Bool) (ks : List Kind) (p : ℕ) (k : Kind) (rest : List Kind) → drop p ks ≡ k ∷ rest → begins_from b ks (suc p) ≡ ends_line k
+begins_after b [] zero k rest h = absurd cc
+begins_after b [] (suc p) k rest h = absurd cc
+begins_after b (x ∷ ks) zero k rest h = let one : x ≡ k = cc in ap ends_line one
+begins_after b (x ∷ ks) (suc p) k rest h = begins_after (ends_line x) ks p k rest h
 
 pub begins_there : (tokens : List Token) (at : ℕ) (d : Token) (b : Bool) → b ≡ ends_line (kind_at (get_or tokens (at - 1) d)) → (at ≡ 0 → ⊥) → at < length tokens → b ≡ begins_from true (kinds_of tokens) at
 begins_there tokens zero d b h some lt = absurd (some refl)
 begins_there tokens (suc p) d b h some lt =
     let one : suc p - 1 ≡ p = omega arith in
-    h ∙ ap (λ (n : ℕ). ends_line (kind_at (get_or tokens n d))) one ∙ sym (begins_behind true (kinds_of tokens) p (kind_at (get_or tokens p d)) (drop (p + 1) (kinds_of tokens)) (kind_there tokens p d (omega arith)))
+    h ∙ ap (λ (n : ℕ). ends_line (kind_at (get_or tokens n d))) one ∙ sym (begins_after true (kinds_of tokens) p (kind_at (get_or tokens p d)) (drop (p + 1) (kinds_of tokens)) (kind_there tokens p d (omega arith)))
 
 -- ---- the end of the line
 

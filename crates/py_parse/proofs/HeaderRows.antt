@@ -40,12 +40,12 @@ alone = refl
 nothing_between : Plain (M ∷ colon ∷ Newline ∷ Indent ∷ [])
 nothing_between = refl
 
--- behind a semicolon, and behind the header of another statement
-behind_semicolon : Plain (A ∷ Sign mark.Semicolon ∷ M ∷ A ∷ colon ∷ Newline ∷ [])
-behind_semicolon = refl
+-- after a semicolon, and after the header of another statement
+after_semicolon : Plain (A ∷ Sign mark.Semicolon ∷ M ∷ A ∷ colon ∷ Newline ∷ [])
+after_semicolon = refl
 
-behind_header : Plain (Word word.If ∷ A ∷ colon ∷ M ∷ A ∷ colon ∷ Newline ∷ [])
-behind_header = refl
+after_header : Plain (Word word.If ∷ A ∷ colon ∷ M ∷ A ∷ colon ∷ Newline ∷ [])
+after_header = refl
 
 -- a line with no end
 cut_short : Plain (M ∷ A ∷ colon ∷ [])

@@ -12,8 +12,8 @@ use Rattle.py_syntax.specs.Normal.{Normal, NormalPattern}
 use Rattle.py_syntax.specs.Headers.{Marked, put, kinds_marked, match_name, is_match, is_colon, ends_in_colon, is_header, ends_line, marked_from, marked}
 use Rattle.py_syntax.specs.Statements.{param_tokens, except_tokens, case_name, guard_tokens, end_tokens, stmts_tokens, kind_tokens, suite_tokens, else_tokens, finally_tokens, elif_tokens, clause_tokens, case_tokens, is_simple, begins_simple, EndsLine, EndLines, ShareLine, IsOption, NormalExpr, NormalClauseHead, NormalParams, NormalStmts, NormalKind, NormalSuite, NormalOpt, NormalArms, NormalClauses, NormalCases}
 use Rattle.py_syntax.specs.Spelling.{module_tokens}
-use Rattle.py_grammar.specs.Roles.{begins}
-use Rattle.py_grammar.specs.Machine.{role}
+use Rattle.py_grammar.specs.TokenClasses.{begins}
+use Rattle.py_grammar.specs.Machine.{class}
 use Rattle.py_grammar.proofs.Opens.{opens}
 use Rattle.py_parse.proofs.Parted.{parted, put_append}
 use Rattle.py_parse.proofs.CompleteLines.{plain}
@@ -43,7 +43,7 @@ good_put (k ∷ ks) c x h ms good =
     let i = inside_of (ends_line k) (last_colon (is_colon k) ks) x h in
     good_plain false k (put ks ms) refl i.0 (good_put ks (is_colon k) x i.1 ms good)
 
--- the colon behind tokens inside a line
+-- the colon after tokens inside a line
 colon_put : (ks : List Kind) (c x : Bool) → last_colon c ks ≡ Some x → (ms : List Marked) → ends_in_colon c (kinds_marked (put ks ms)) ≡ ends_in_colon x (kinds_marked ms)
 colon_put [] c x h ms = let same : c ≡ x = cc in ap (λ (b : Bool). ends_in_colon b (kinds_marked ms)) same
 colon_put (Newline ∷ ks) c x h ms = absurd cc
@@ -101,11 +101,11 @@ test_last e n c = expr_last e n c (Sign mark.Colon ∷ [])
 abbrev StmtsGood : Stmts → Type 0
 StmtsGood ss = (rest : List Marked) → Good true rest → Good true (stmts_tokens ss rest)
 
--- behind a semicolon
+-- after a semicolon
 abbrev MoreGood : Stmts → Type 0
 MoreGood ss = (rest : List Marked) → Good true rest → Good false (stmts_tokens ss rest) × ((c : Bool) → ends_in_colon c (kinds_marked (stmts_tokens ss rest)) ≡ false)
 
--- behind a header on its line
+-- after a header on its line
 abbrev SharedGood : Stmts → Type 0
 SharedGood ss = (rest : List Marked) → Good true rest → Good false (stmts_tokens ss rest)
 
@@ -118,7 +118,7 @@ SuiteGood s = (rest : List Marked) → Good true rest → Good false (suite_toke
 
 -- ---- statements
 
--- what stands behind a simple statement
+-- what stands after a simple statement
 abbrev EndGood : LineEnd → List Marked → Type 0
 EndGood e ms = Good false (put (end_tokens e) ms) × (ends_in_colon false (kinds_marked (put (end_tokens e) ms)) ≡ false)
 
@@ -134,7 +134,7 @@ end_good x true ss ended stmts_good more_good rest good = end_newline x (stmts_t
 end_good false false ss ended stmts_good more_good rest good = absurd (let h = ended.0 in cc)
 end_good true false ss ended stmts_good more_good rest good = let m = more_good ended.1 rest good in end_semicolon (stmts_tokens ss rest) m.0 (m.1 false)
 
--- a simple statement with what stands behind it
+-- a simple statement with what stands after it
 flat_good : (k : StmtKind) → Flat k → (ms : List Marked) → Good false ms → Good false (kind_tokens k ms)
 flat_good k f ms good = subst (λ (y : List Marked). Good false y) (sym (f.spelled ms)) (good_put f.kinds false false (f.last false) ms good)
 
@@ -201,7 +201,7 @@ case_good c u nc nu s back rest good =
     ap (λ (y : List Marked). plain (Name case_name) ∷ y) (good_put (pattern_tokens c (guard_tokens u)) false true (guard_last c u nc nu) (suite_tokens s rest) (back rest good))
 
 -- the header of a `match` has its form
-is_one : (k : Kind) (ks : List Kind) → begins (role k) ≡ true → ends_in_colon false (k ∷ ks) ≡ true → is_header (k ∷ ks) ≡ true
+is_one : (k : Kind) (ks : List Kind) → begins (class k) ≡ true → ends_in_colon false (k ∷ ks) ≡ true → is_header (k ∷ ks) ≡ true
 is_one Newline ks b h = absurd cc
 is_one (Sign mark.Colon) ks b h = absurd cc
 is_one k ks b h = h

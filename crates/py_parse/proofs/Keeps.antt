@@ -10,26 +10,26 @@ use Rattle.py_syntax.specs.Normal.{Normal, Each, is_target, is_place}
 use Rattle.py_syntax.specs.Headers.{Marked, is_match}
 use Rattle.py_syntax.specs.Statements.{count, case_name, NormalExpr, NormalTargets, NormalParams, NormalKind, is_simple}
 use Rattle.py_grammar.specs.Machine as expression
-use Rattle.py_grammar.specs.Machine.{any, one, snoc, start, role}
+use Rattle.py_grammar.specs.Machine.{any, one, snoc, start, class}
 use Rattle.py_parse_pattern.specs.Machine as pattern
-use Rattle.py_grammar.proofs.Fine.{Sound, Meets, Keeps, each_snoc}
+use Rattle.py_grammar.proofs.Valid.{Sound, Meets, Keeps, each_snoc}
 use Rattle.py_grammar.proofs.Keeps as kept_
-use Rattle.py_grammar.proofs.Spelled.{role_fine, start_any, start_one, start_target}
-use Rattle.py_parse_pattern.proofs.Fine as pattern_
-use Rattle.py_parse.specs.Open.{an_arm, a_while, a_for, a_clause, a_case, Block, top, inside, add, no_end, semicolon_end}
-use Rattle.py_parse.specs.Machine.{Resume, value, augmented, leaving, asserted, reason, arm_test, while_test, for_target, for_over, clause_kind, subject, guard, default, goal, Listed, globals, imports, froms, Place, Reading, Matching, Simple, Semicolon, Leaving, NameWanted, NameRead, BoundWanted, BoundRead, ModuleWanted, ImportWanted, FunctionWanted, ParamsWanted, ParamWanted, ParamRead, Except, ClauseBound, ColonWanted, SuiteWanted, IndentWanted, MatchLine, MatchBlock, Lines, State, Line, at, Behind, Choosing, Over, begun, wanted, onward, begun_at, reads, simple_place, compound_place, begin_simple, begin_line, line, end_simple, behind_value, behind_default, in_place_op, assigned, left, resume, resume_pattern, listed, with_name, may_bind, behind_name, is_some, act, choose, next_part, is_whole, at_line, on_line, plain_step, header_step, step}
+use Rattle.py_grammar.proofs.Spelled.{class_valid, start_any, start_one, start_target}
+use Rattle.py_parse_pattern.proofs.NormalStates as pattern_
+use Rattle.py_parse.specs.Open.{an_arm, a_while, a_for, a_clause, a_case, SuiteStack, top, inside, add, no_end, semicolon_end}
+use Rattle.py_parse.specs.Machine.{Continuation, value, augmented, leaving, asserted, reason, arm_test, while_test, for_target, for_over, clause_kind, subject, guard, default, goal, Listed, globals, imports, froms, Place, Reading, Matching, Simple, Semicolon, Leaving, NameWanted, NameRead, BoundWanted, BoundRead, ModuleWanted, ImportWanted, FunctionWanted, ParamsWanted, ParamWanted, ParamRead, Except, ClauseBound, ColonWanted, SuiteWanted, IndentWanted, MatchLine, MatchBlock, Span, State, Line, at, After, Choosing, Over, begun, wanted, onward, begun_at, reads, simple_place, compound_place, begin_simple, begin_line, line, end_simple, after_value, after_default, in_place_op, assigned, left, resume, resume_pattern, listed, with_name, may_bind, after_name, is_some, act, choose, next_part, is_whole, at_line, on_line, plain_step, header_step, step}
 use Rattle.py_parse.specs.Least.{ended}
-use Rattle.py_parse.proofs.Fine.{FineOwner, FineParams, FineLine, FineSimple, FineResume, FinePlace, Fine}
+use Rattle.py_parse.proofs.Valid.{ValidSuiteOf, ValidParams, ValidLine, ValidSimple, ValidContinuation, ValidPlace, Valid}
 use Rattle.py_parse.proofs.Snocs.{count_snoc, length_snoc}
 use Rattle.py_parse.proofs.KeepsParts.{KeepsTo, simple_of_line, add_compound, add_semicolon, close_keeps, both_keeps, end_simple_keeps, end_header_keeps}
 
--- ---- behind an expression
+-- ---- after an expression
 
 targets_snoc : (ts : Exprs) (e : Expr) → NormalTargets ts → Normal e → is_target e ≡ true → NormalTargets (snoc ts e)
 targets_snoc no_exprs e h n is = (n, is, tt)
 targets_snoc (exprs t ts) e h n is = (h.0, h.1, targets_snoc ts e h.2 n is)
 
-value_keeps : (ts : Exprs) (e : Expr) (n : Lines) (b : Block) (t : Kind) (l : ℕ) → NormalTargets ts → FineSimple b → Normal e → KeepsTo (behind_value ts e n b t l)
+value_keeps : (ts : Exprs) (e : Expr) (n : Span) (b : SuiteStack) (t : Kind) (l : ℕ) → NormalTargets ts → ValidSimple b → Normal e → KeepsTo (after_value ts e n b t l)
 value_keeps ts e n b (Sign mark.Equal) l h k norm = go (is_target e) refl
   where
     go : (c : Bool) → is_target e ≡ c → KeepsTo (cond c (Some (at (wanted (value (snoc ts e))) (onward n l) b)) None)
@@ -51,17 +51,17 @@ some_params : (ps : List Text) (y : Text) (ds : Exprs) (c : Bool) → count ds �
 some_params [] y ds c low each = (low, each)
 some_params (x ∷ xs) y ds c low each = (let long = length_snoc xs y in omega arith, each)
 
-default_keeps : (x : Text) (ps : List Text) (ds : Exprs) (y : Text) (e : Expr) (n : Lines) (b : Block) (t : Kind) (l : ℕ) → FineParams ps ds → FineLine b → NormalExpr e → KeepsTo (behind_default x (ps ++ y ∷ []) (snoc ds e) n b t l)
+default_keeps : (x : Text) (ps : List Text) (ds : Exprs) (y : Text) (e : Expr) (n : Span) (b : SuiteStack) (t : Kind) (l : ℕ) → ValidParams ps ds → ValidLine b → NormalExpr e → KeepsTo (after_default x (ps ++ y ∷ []) (snoc ds e) n b t l)
 default_keeps x ps ds y e n b (Sign mark.Comma) l h k norm = ((let some = count_snoc ds e in let long = length_snoc ps y in let low = h.0 in omega arith, each_snoc ds e h.1 norm.0 norm.1), k)
 default_keeps x ps ds y e n b (Sign mark.RightParen) l h k norm = (some_params ps y (snoc ds e) false (let some = count_snoc ds e in let low = h.0 in omega arith) (each_snoc ds e h.1 norm.0 norm.1), k)
 default_keeps x ps ds y e n b t l h k norm = tt
 
-plain_keeps : (x : Text) (ps : List Text) (y : Text) (n : Lines) (b : Block) (t : Kind) (l : ℕ) → FineLine b → KeepsTo (behind_default x (ps ++ y ∷ []) no_exprs n b t l)
+plain_keeps : (x : Text) (ps : List Text) (y : Text) (n : Span) (b : SuiteStack) (t : Kind) (l : ℕ) → ValidLine b → KeepsTo (after_default x (ps ++ y ∷ []) no_exprs n b t l)
 plain_keeps x ps y n b (Sign mark.Comma) l k = ((omega arith, tt), k)
 plain_keeps x ps y n b (Sign mark.RightParen) l k = (some_params ps y no_exprs false (omega arith) tt, k)
 plain_keeps x ps y n b t l k = tt
 
-resume_keeps : (p : Resume) (e : Expr) (n : Lines) (b : Block) (t : Kind) (l : ℕ) → FineResume p b → Normal e → Meets (goal p) e → KeepsTo (resume p e n b t l)
+resume_keeps : (p : Continuation) (e : Expr) (n : Span) (b : SuiteStack) (t : Kind) (l : ℕ) → ValidContinuation p b → Normal e → Meets (goal p) e → KeepsTo (resume p e n b t l)
 resume_keeps (value ts) e n b t l h norm meets = value_keeps ts e n b t l h.0 h.1 norm
 resume_keeps (augmented p op) e n b t l h norm meets = end_simple_keeps (aug_assign p op e) n b t l (h.0, h.1, norm) refl h.2
 resume_keeps (leaving true) e n b t l h norm meets = end_simple_keeps (left true (Some e)) n b t l (meets, norm) refl h
@@ -81,25 +81,25 @@ resume_keeps subject e n b t l h norm meets = tt
 resume_keeps (guard e' last cs p) e n b t l h norm meets = end_header_keeps (a_case e' last cs p (Some e)) n b t l (h.0, h.1, h.2, (meets, norm)) h.3
 resume_keeps (default x ps ds y) e n b t l h norm meets = default_keeps x ps ds y e n b t l h.0 h.1 (meets, norm)
 
-pattern_keeps : (e : Expr) (last : ℕ) (cs : Cases) (p : Pattern) (n : Lines) (b : Block) (t : Kind) (l : ℕ) → FinePlace (MatchLine e last) b → FineOwner (a_case e last cs p None) → KeepsTo (resume_pattern e last cs p n b t l)
+pattern_keeps : (e : Expr) (last : ℕ) (cs : Cases) (p : Pattern) (n : Span) (b : SuiteStack) (t : Kind) (l : ℕ) → ValidPlace (MatchLine e last) b → ValidSuiteOf (a_case e last cs p None) → KeepsTo (resume_pattern e last cs p n b t l)
 pattern_keeps e last cs p n b (Word word.If) l k h = (start_one, (h.0, h.1, h.2, k.1))
 pattern_keeps e last cs p n b t l k h = end_header_keeps (a_case e last cs p None) n b t l h k.1
 
 -- ---- statements begin
 
-begun_keeps : (p : Resume) (n : Lines) (b : Block) (s : expression.State) (t : Kind) → Sound (goal p) s → FineResume p b → KeepsTo (reads p n b (expression.step s (role t)))
-begun_keeps p n b s t sound h = go (expression.step s (role t)) (kept_.step_keeps (goal p) s (role t) (role_fine t) sound)
+begun_keeps : (p : Continuation) (n : Span) (b : SuiteStack) (s : expression.State) (t : Kind) → Sound (goal p) s → ValidContinuation p b → KeepsTo (reads p n b (expression.step s (class t)))
+begun_keeps p n b s t sound h = go (expression.step s (class t)) (kept_.step_keeps (goal p) s (class t) (class_valid t) sound)
   where
     go : (o : expression.Out) → Keeps (goal p) o → KeepsTo (reads p n b o)
     go (expression.Next s') keeps = (keeps, h)
     go expression.Stuck keeps = tt
     go (expression.Left e) keeps = tt
 
-abbrev PlaceKeeps : Option Place → Block → Type 0
+abbrev PlaceKeeps : Option Place → SuiteStack → Type 0
 PlaceKeeps None b = Unit {0}
-PlaceKeeps (Some p) b = FinePlace p b
+PlaceKeeps (Some p) b = ValidPlace p b
 
-simple_keeps : (t : Kind) (b : Block) → FineSimple b → PlaceKeeps (simple_place t) b
+simple_keeps : (t : Kind) (b : SuiteStack) → ValidSimple b → PlaceKeeps (simple_place t) b
 simple_keeps (Word word.Pass) b h = (tt, refl, h)
 simple_keeps (Word word.Break) b h = (tt, refl, h)
 simple_keeps (Word word.Continue) b h = (tt, refl, h)
@@ -111,7 +111,7 @@ simple_keeps (Word word.Import) b h = h
 simple_keeps (Word word.From) b h = h
 simple_keeps t b h = tt
 
-compound_keeps : (t : Kind) (b : Block) → FineLine b → PlaceKeeps (compound_place t) b
+compound_keeps : (t : Kind) (b : SuiteStack) → ValidLine b → PlaceKeeps (compound_place t) b
 compound_keeps (Word word.If) b h = (start_one, (tt, h))
 compound_keeps (Word word.While) b h = (start_one, h)
 compound_keeps (Word word.For) b h = (start_target, h)
@@ -119,28 +119,28 @@ compound_keeps (Word word.Try) b h = (tt, h)
 compound_keeps (Word word.Def) b h = h
 compound_keeps t b h = tt
 
-begin_simple_keeps : (b : Block) (t : Kind) (f l : ℕ) → FineSimple b → KeepsTo (begin_simple b t f l)
+begin_simple_keeps : (b : SuiteStack) (t : Kind) (f l : ℕ) → ValidSimple b → KeepsTo (begin_simple b t f l)
 begin_simple_keeps b t f l h = go (simple_place t) (simple_keeps t b h)
   where
-    go : (o : Option Place) → PlaceKeeps o b → KeepsTo (elim o as (λ (w : Option Place). Option State) [ Some p ↦ Some (at p (begun_at f l) b) | None ↦ reads (value no_exprs) (begun_at f l) b (expression.step (start any) (role t)) ])
+    go : (o : Option Place) → PlaceKeeps o b → KeepsTo (elim o as (λ (w : Option Place). Option State) [ Some p ↦ Some (at p (begun_at f l) b) | None ↦ reads (value no_exprs) (begun_at f l) b (expression.step (start any) (class t)) ])
     go (Some p) k = k
     go None k = begun_keeps (value no_exprs) (begun_at f l) b (start any) t start_any (tt, h)
 
-begin_line_keeps : (b : Block) (t : Kind) (f l : ℕ) → FineLine b → KeepsTo (begin_line b t f l)
+begin_line_keeps : (b : SuiteStack) (t : Kind) (f l : ℕ) → ValidLine b → KeepsTo (begin_line b t f l)
 begin_line_keeps b t f l h = go (compound_place t) (compound_keeps t b h)
   where
     go : (o : Option Place) → PlaceKeeps o b → KeepsTo (elim o as (λ (w : Option Place). Option State) [ Some p ↦ Some (at p (begun_at f l) b) | None ↦ begin_simple b t f l ])
     go (Some p) k = k
     go None k = begin_simple_keeps b t f l (simple_of_line b h)
 
-line_keeps : (b : Block) (t : Kind) (f l : ℕ) → FineLine b → KeepsTo (line b t f l)
+line_keeps : (b : SuiteStack) (t : Kind) (f l : ℕ) → ValidLine b → KeepsTo (line b t f l)
 line_keeps (top ss) End f l h = h
 line_keeps (inside (stmt f' l' k e ss) false first last begun o b) Dedent f l h = close_keeps o (stmt f' l' k e ss) false first last begun b l h.3 (h.1, h.2) h.4
 line_keeps b t f l h = begin_line_keeps b t f l h
 
 -- ---- a token in a place
 
-name_keeps : (xs : Listed) (n : Lines) (b : Block) (t : Kind) (l : ℕ) → NormalKind (listed xs) → is_simple (listed xs) ≡ true → FineSimple b → KeepsTo (behind_name xs n b t l)
+name_keeps : (xs : Listed) (n : Span) (b : SuiteStack) (t : Kind) (l : ℕ) → NormalKind (listed xs) → is_simple (listed xs) ≡ true → ValidSimple b → KeepsTo (after_name xs n b t l)
 name_keeps xs n b (Sign mark.Comma) l norm simple h = h
 name_keeps xs n b t l norm simple h = end_simple_keeps (listed xs) n b t l norm simple h
 
@@ -157,13 +157,13 @@ with_name_normal (imports (a ∷ rest)) x y = tt
 with_name_normal (froms m []) x y = tt
 with_name_normal (froms m (a ∷ rest)) x y = tt
 
-params_end : (ps : List Text) (ds : Exprs) → FineParams ps ds → NormalParams ps ds (is_some ps)
+params_end : (ps : List Text) (ds : Exprs) → ValidParams ps ds → NormalParams ps ds (is_some ps)
 params_end [] no_exprs h = (refl, refl)
 params_end [] (exprs d ds) h = absurd (let low = h.0 in omega arith)
 params_end (x ∷ xs) ds h = (h.0, h.1)
 
-act_keeps : (p : Place) (n : Lines) (b : Block) (t : Kind) (f l : ℕ) → FinePlace p b → KeepsTo (act p n b t f l)
-act_keeps (Reading p s) n b t f l h = go (expression.step s (role t)) (kept_.step_keeps (goal p) s (role t) (role_fine t) h.0)
+act_keeps : (p : Place) (n : Span) (b : SuiteStack) (t : Kind) (f l : ℕ) → ValidPlace p b → KeepsTo (act p n b t f l)
+act_keeps (Reading p s) n b t f l h = go (expression.step s (class t)) (kept_.step_keeps (goal p) s (class t) (class_valid t) h.0)
   where
     go : (o : expression.Out) → Keeps (goal p) o → KeepsTo (elim o as (λ (w : expression.Out). Option State) [ expression.Next s' ↦ Some (at (Reading p s') (onward n l) b) | expression.Stuck ↦ None | expression.Left e ↦ resume p e n b t l ])
     go (expression.Next s') keeps = (keeps, h.1)
@@ -225,11 +225,11 @@ act_keeps (MatchBlock e last) n b t f l h = tt
 
 -- ---- between statements
 
-choose_keeps : (e : Expr) (last : ℕ) (cs : Cases) (first : ℕ) (b : Block) (t : Kind) (f l : ℕ) → Fine (Choosing e last cs first b) → KeepsTo (choose e last cs first b t f l)
+choose_keeps : (e : Expr) (last : ℕ) (cs : Cases) (first : ℕ) (b : SuiteStack) (t : Kind) (f l : ℕ) → Valid (Choosing e last cs first b) → KeepsTo (choose e last cs first b t f l)
 choose_keeps e last cs first b (Name x) f l h = go (bytes_eq x case_name)
   where
     go : (c : Bool) → KeepsTo (cond c (Some (at (Matching e last cs pattern.start) (record { begun = first; first = f; last = l }) b)) None)
-    go true = (h.0, h.1, pattern_.start_fine, h.2)
+    go true = (h.0, h.1, pattern_.start_normal, h.2)
     go false = tt
 choose_keeps e last (case p g s cs) first b Dedent f l h = ((h.0, h.1), refl, h.2)
 choose_keeps e last cs first b t f l h = tt
@@ -241,25 +241,25 @@ whole_ended (try b (clause e x s cs) o f) h = refl
 whole_ended k h = refl
 
 -- where a statement may begin on a new line
-line_fine : (s : State) (b : Block) → Fine s → at_line s ≡ Some b → FineLine b
-line_fine (Line b') b fine h = let same : b' ≡ b = cc in subst FineLine same fine
-line_fine (at p n b') b fine h = absurd cc
-line_fine (Behind k first last b') b fine h = go (is_whole k) refl h
+line_valid : (s : State) (b : SuiteStack) → Valid s → at_line s ≡ Some b → ValidLine b
+line_valid (Line b') b valid h = let same : b' ≡ b = cc in subst ValidLine same valid
+line_valid (at p n b') b valid h = absurd cc
+line_valid (After k first last b') b valid h = go (is_whole k) refl h
   where
-    go : (c : Bool) → is_whole k ≡ c → cond c (Some (add b' first last k no_end)) None ≡ Some b → FineLine b
-    go true is h = let same : add b' first last k no_end ≡ b = cc in subst FineLine same (add_compound b' first last k fine.2 (subst NormalKind (whole_ended k is) fine.0) fine.1)
+    go : (c : Bool) → is_whole k ≡ c → cond c (Some (add b' first last k no_end)) None ≡ Some b → ValidLine b
+    go true is h = let same : add b' first last k no_end ≡ b = cc in subst ValidLine same (add_compound b' first last k valid.2 (subst NormalKind (whole_ended k is) valid.0) valid.1)
     go false is h = absurd cc
-line_fine (Choosing e last cs first b') b fine h = absurd cc
-line_fine (Over ss) b fine h = absurd cc
+line_valid (Choosing e last cs first b') b valid h = absurd cc
+line_valid (Over ss) b valid h = absurd cc
 
-on_line_keeps : (s : State) (t : Kind) (f l : ℕ) → Fine s → KeepsTo (on_line (at_line s) t f l)
-on_line_keeps s t f l fine = go (at_line s) refl
+on_line_keeps : (s : State) (t : Kind) (f l : ℕ) → Valid s → KeepsTo (on_line (at_line s) t f l)
+on_line_keeps s t f l valid = go (at_line s) refl
   where
-    go : (o : Option Block) → at_line s ≡ o → KeepsTo (on_line o t f l)
-    go (Some b) h = line_keeps b t f l (line_fine s b fine h)
+    go : (o : Option SuiteStack) → at_line s ≡ o → KeepsTo (on_line o t f l)
+    go (Some b) h = line_keeps b t f l (line_valid s b valid h)
     go None h = tt
 
-next_keeps : (k : StmtKind) (t : Kind) (b : Block) → NormalKind (ended 0 k) → FineLine b → PlaceKeeps (next_part k t) b
+next_keeps : (k : StmtKind) (t : Kind) (b : SuiteStack) → NormalKind (ended 0 k) → ValidLine b → PlaceKeeps (next_part k t) b
 next_keeps (if' no_arms no_suite) (Word word.Elif) b h m = absurd h
 next_keeps (if' (arm t s arms) no_suite) (Word word.Elif) b h m = (start_one, (h.0, m))
 next_keeps (if' arms no_suite) (Word word.Else) b h m = (h, m)
@@ -272,39 +272,39 @@ next_keeps (try s no_clauses o no_suite) (Word word.Finally) b h m = (((h.0.0, t
 next_keeps (try s (clause e x s' cs) o no_suite) (Word word.Finally) b h m = ((tt, h.1, h.2, h.3), m)
 next_keeps k t b h m = tt
 
-plain_step_keeps : (s : State) (t : Kind) (f l : ℕ) → Fine s → KeepsTo (plain_step s t f l)
-plain_step_keeps (Line b) t f l fine = line_keeps b t f l fine
-plain_step_keeps (at p n b) t f l fine = act_keeps p n b t f l fine
-plain_step_keeps (Behind k first last b) t f l fine = go (next_part k t) (next_keeps k t b fine.0 fine.2)
+plain_step_keeps : (s : State) (t : Kind) (f l : ℕ) → Valid s → KeepsTo (plain_step s t f l)
+plain_step_keeps (Line b) t f l valid = line_keeps b t f l valid
+plain_step_keeps (at p n b) t f l valid = act_keeps p n b t f l valid
+plain_step_keeps (After k first last b) t f l valid = go (next_part k t) (next_keeps k t b valid.0 valid.2)
   where
-    go : (o : Option Place) → PlaceKeeps o b → KeepsTo (elim o as (λ (w : Option Place). Option State) [ Some p ↦ Some (at p (record { begun = first; first = f; last = l }) b) | None ↦ on_line (at_line (Behind k first last b)) t f l ])
+    go : (o : Option Place) → PlaceKeeps o b → KeepsTo (elim o as (λ (w : Option Place). Option State) [ Some p ↦ Some (at p (record { begun = first; first = f; last = l }) b) | None ↦ on_line (at_line (After k first last b)) t f l ])
     go (Some p) h = h
-    go None h = on_line_keeps (Behind k first last b) t f l fine
-plain_step_keeps (Choosing e last cs first b) t f l fine = choose_keeps e last cs first b t f l fine
-plain_step_keeps (Over ss) t f l fine = tt
+    go None h = on_line_keeps (After k first last b) t f l valid
+plain_step_keeps (Choosing e last cs first b) t f l valid = choose_keeps e last cs first b t f l valid
+plain_step_keeps (Over ss) t f l valid = tt
 
-header_step_keeps : (s : State) (t : Kind) (f l : ℕ) → Fine s → KeepsTo (header_step (at_line s) t f l)
-header_step_keeps s t f l fine = go (at_line s) refl
+header_step_keeps : (s : State) (t : Kind) (f l : ℕ) → Valid s → KeepsTo (header_step (at_line s) t f l)
+header_step_keeps s t f l valid = go (at_line s) refl
   where
-    named : (b : Block) → FineLine b → (c : Bool) → KeepsTo (cond c (Some (at (wanted subject) (begun_at f l) b)) None)
+    named : (b : SuiteStack) → ValidLine b → (c : Bool) → KeepsTo (cond c (Some (at (wanted subject) (begun_at f l) b)) None)
     named b h true = (start_any, h)
     named b h false = tt
 
-    go : (o : Option Block) → at_line s ≡ o → KeepsTo (header_step o t f l)
-    go (Some b) h = named b (line_fine s b fine h) (is_match t)
+    go : (o : Option SuiteStack) → at_line s ≡ o → KeepsTo (header_step o t f l)
+    go (Some b) h = named b (line_valid s b valid h) (is_match t)
     go None h = tt
 
-keeps_of : (n : State) (o : Option State) → KeepsTo o → o ≡ Some n → Fine n
+keeps_of : (n : State) (o : Option State) → KeepsTo o → o ≡ Some n → Valid n
 keeps_of n None h is = absurd cc
-keeps_of n (Some n') h is = let same : n' ≡ n = cc in subst Fine same h
+keeps_of n (Some n') h is = let same : n' ≡ n = cc in subst Valid same h
 
 -- A step keeps what its state is.
-pub step_keeps : (s n : State) (m : Marked) (f l : ℕ) → Fine s → step s m f l ≡ Some n → Fine n
-step_keeps s n m f l fine h = go m.header h
+pub step_keeps : (s n : State) (m : Marked) (f l : ℕ) → Valid s → step s m f l ≡ Some n → Valid n
+step_keeps s n m f l valid h = go m.header h
   where
-    go : (c : Bool) → cond c (header_step (at_line s) m.kind f l) (plain_step s m.kind f l) ≡ Some n → Fine n
-    go true h = keeps_of n (header_step (at_line s) m.kind f l) (header_step_keeps s m.kind f l fine) h
-    go false h = keeps_of n (plain_step s m.kind f l) (plain_step_keeps s m.kind f l fine) h
+    go : (c : Bool) → cond c (header_step (at_line s) m.kind f l) (plain_step s m.kind f l) ≡ Some n → Valid n
+    go true h = keeps_of n (header_step (at_line s) m.kind f l) (header_step_keeps s m.kind f l valid) h
+    go false h = keeps_of n (plain_step s m.kind f l) (plain_step_keeps s m.kind f l valid) h
 
-pub fine_begun : Fine begun
-fine_begun = (tt, tt)
+pub valid_begun : Valid begun
+valid_begun = (tt, tt)

@@ -7,16 +7,16 @@ use Rattle.py_syntax.specs.Tree.{Stmts, no_stmts, stmt, Suite, suite, no_suite, 
 use Rattle.py_syntax.specs.Kinds.{Kind, Sign, Newline}
 use Rattle.py_syntax.specs.Normal.{NormalPattern}
 use Rattle.py_syntax.specs.Statements.{is_simple, begins_simple, EndsLine, EndLines, ShareLine, IsOption, NormalExpr, NormalClauseHead, NormalStmts, NormalKind, NormalSuite, NormalArms, NormalClauses, NormalCases}
-use Rattle.py_parse.specs.Open.{snoc_stmt, snoc_arm, snoc_clause, snoc_case, no_end, newline_end, semicolon_end, both_end, Owner, an_arm, a_while, a_for, a_try, a_clause, an_else, a_finally, a_def, a_case, closed, Block, top, inside, add}
-use Rattle.py_parse.specs.Machine.{Lines, State, close, over_line, end_simple, end_header}
+use Rattle.py_parse.specs.Open.{snoc_stmt, snoc_arm, snoc_clause, snoc_case, no_end, newline_end, semicolon_end, both_end, SuiteOf, an_arm, a_while, a_for, a_try, a_clause, an_else, a_finally, a_def, a_case, closed, SuiteStack, top, inside, add}
+use Rattle.py_parse.specs.Machine.{Span, State, close, over_line, end_simple, end_header}
 use Rattle.py_parse.specs.Least.{ended}
-use Rattle.py_parse.proofs.Fine.{FineOwner, with_pass, FineLine, FineSimple, Fine}
+use Rattle.py_parse.proofs.Valid.{ValidSuiteOf, with_pass, ValidLine, ValidSimple, Valid}
 
 abbrev pub KeepsTo : Option State → Type 0
 KeepsTo None = Unit {0}
-KeepsTo (Some s) = Fine s
+KeepsTo (Some s) = Valid s
 
--- ---- statements behind others
+-- ---- statements after others
 
 abbrev joined : Stmts → Stmts → Stmts
 joined no_stmts t = t
@@ -74,7 +74,7 @@ EndsAlone k e = EndsLine (is_simple k) e no_stmts
 ends_snoc : (ss : Stmts) (f l : ℕ) (k : StmtKind) (e : LineEnd) → EndLines ss → EndsAlone k e → EndLines (snoc_stmt ss f l k e)
 ends_snoc ss f l k e h alone = subst EndLines (sym (snoc_joined ss f l k e)) (ends_joined ss (stmt f l k e no_stmts) h (alone, tt))
 
--- a simple statement behind others that let one follow
+-- a simple statement after others that let one follow
 ends_simple : (ss : Stmts) (f l : ℕ) (k : StmtKind) (e : LineEnd) → EndLines (with_pass ss) → is_simple k ≡ true → EndsAlone k e → EndLines (snoc_stmt ss f l k e)
 ends_simple ss f l k e h simple alone =
     subst EndLines (sym (snoc_joined ss f l k e)) (ends_tail ss (stmt 0 0 pass newline_end no_stmts) (stmt f l k e no_stmts) (sym simple) (subst EndLines (snoc_joined ss 0 0 pass newline_end) h) (alone, tt))
@@ -101,18 +101,18 @@ share_semicolon ss f l k h simple =
 
 -- ---- blocks
 
-pub simple_of_line : (b : Block) → FineLine b → FineSimple b
+pub simple_of_line : (b : SuiteStack) → ValidLine b → ValidSimple b
 simple_of_line (top ss) h = (ends_snoc ss 0 0 pass newline_end h.0 tt, h.1)
 simple_of_line (inside ss true f l begun o b) h = absurd (let no_way = h.0 in cc)
 simple_of_line (inside ss false f l begun o b) h = (ends_snoc ss 0 0 pass newline_end h.1 tt, h.2, h.3, h.4)
 
 -- a compound statement is whole
-pub add_compound : (b : Block) (f l : ℕ) (k : StmtKind) → FineLine b → NormalKind k → is_simple k ≡ false → FineLine (add b f l k no_end)
+pub add_compound : (b : SuiteStack) (f l : ℕ) (k : StmtKind) → ValidLine b → NormalKind k → is_simple k ≡ false → ValidLine (add b f l k no_end)
 add_compound (top ss) f l k h n compound = (ends_snoc ss f l k no_end h.0 (subst (λ (s : Bool). EndsLine s no_end no_stmts) (sym compound) (refl, refl)), normal_snoc ss f l k no_end h.1 n)
 add_compound (inside ss inline f' l' begun o b) f l k h n compound =
     (h.0, ends_snoc ss f l k no_end h.1 (subst (λ (s : Bool). EndsLine s no_end no_stmts) (sym compound) (refl, refl)), normal_snoc ss f l k no_end h.2 n, h.3, h.4)
 
-pub add_semicolon : (b : Block) (f l : ℕ) (k : StmtKind) → FineSimple b → NormalKind k → is_simple k ≡ true → FineSimple (add b f l k semicolon_end)
+pub add_semicolon : (b : SuiteStack) (f l : ℕ) (k : StmtKind) → ValidSimple b → NormalKind k → is_simple k ≡ true → ValidSimple (add b f l k semicolon_end)
 add_semicolon (top ss) f l k h n simple = (ends_semicolon ss f l k h.0 simple, normal_snoc ss f l k semicolon_end h.1 n)
 add_semicolon (inside ss true f' l' begun o b) f l k h n simple = (share_semicolon ss f l k h.0 simple, normal_snoc ss f l k semicolon_end h.1 n, h.2, h.3)
 add_semicolon (inside ss false f' l' begun o b) f l k h n simple = (ends_semicolon ss f l k h.0 simple, normal_snoc ss f l k semicolon_end h.1 n, h.2, h.3)
@@ -132,13 +132,13 @@ cases_snoc no_cases p g s h n i m = (n, i, m, tt)
 cases_snoc (case p' g' s' cs) p g s h n i m = (h.0, h.1, h.2, cases_snoc cs p g s h.3 n i m)
 
 -- a statement so far that may take further suites
-abbrev FineSoFar : StmtKind → Type 0
-FineSoFar k = NormalKind (ended 0 k) × (is_simple k ≡ false)
+abbrev ValidSoFar : StmtKind → Type 0
+ValidSoFar k = NormalKind (ended 0 k) × (is_simple k ≡ false)
 
 pass_suite_normal : NormalSuite (suite 0 0 true (stmt 0 0 pass newline_end no_stmts))
 pass_suite_normal = ((refl, refl), (tt, tt))
 
-else_so_far : (k : StmtKind) (s : Suite) → FineOwner (an_else k) → NormalSuite s → FineSoFar (closed (an_else k) s)
+else_so_far : (k : StmtKind) (s : Suite) → ValidSuiteOf (an_else k) → NormalSuite s → ValidSoFar (closed (an_else k) s)
 else_so_far (if' no_arms no_suite) s h m = absurd h
 else_so_far (if' (arm t b arms) no_suite) s h m = ((h.0, m), refl)
 else_so_far (while t b no_suite) s h m = ((h.0, h.1, m), refl)
@@ -146,7 +146,7 @@ else_so_far (for t e b no_suite) s h m = ((h.0, h.1, h.2, h.3, m), refl)
 else_so_far (try b (clause e x s' cs) no_suite no_suite) s h m = ((tt, h.1, h.2, m, tt), refl)
 else_so_far k s h m = absurd h
 
-pub close_keeps : (o : Owner) (ss : Stmts) (inline : Bool) (f l begun : ℕ) (b : Block) (last : ℕ) → FineOwner o → NormalSuite (suite f l inline ss) → FineLine b → Fine (close (inside ss inline f l begun o b) last)
+pub close_keeps : (o : SuiteOf) (ss : Stmts) (inline : Bool) (f l begun : ℕ) (b : SuiteStack) (last : ℕ) → ValidSuiteOf o → NormalSuite (suite f l inline ss) → ValidLine b → Valid (close (inside ss inline f l begun o b) last)
 close_keeps (an_arm no_arms t) ss inline f l begun b last h m k = (((h.1, m, tt), tt), refl, k)
 close_keeps (an_arm (arm t' b' arms) t) ss inline f l begun b last h m k = ((arms_snoc (arm t' b' arms) t (suite f l inline ss) h.0 h.1 m, tt), refl, k)
 close_keeps (a_while t) ss inline f l begun b last h m k = ((h, m, tt), refl, k)
@@ -169,23 +169,23 @@ shared_suite first last (stmt f' l' k' e' ss) f l k e h n = (h, n)
 alone : (k : StmtKind) (e : LineEnd) → is_simple k ≡ true → e.newline ≡ true → EndsAlone k e
 alone k e simple new = subst (λ (s : Bool). EndsLine s e no_stmts) (sym simple) (subst (λ (c : Bool). elim c as (λ (w : Bool). Type 0) [ true ↦ Unit {0} | false ↦ (e.semicolon ≡ true) × (false ≡ true) ]) (sym new) tt)
 
-over_line_keeps : (b : Block) (f l : ℕ) (k : StmtKind) (e : LineEnd) (last : ℕ) → FineSimple b → NormalKind k → is_simple k ≡ true → e.newline ≡ true → Fine (over_line (add b f l k e) last)
+over_line_keeps : (b : SuiteStack) (f l : ℕ) (k : StmtKind) (e : LineEnd) (last : ℕ) → ValidSimple b → NormalKind k → is_simple k ≡ true → e.newline ≡ true → Valid (over_line (add b f l k e) last)
 over_line_keeps (top ss) f l k e last h n simple new = (ends_simple ss f l k e h.0 simple (alone k e simple new), normal_snoc ss f l k e h.1 n)
 over_line_keeps (inside ss true f' l' begun o b) f l k e last h n simple new =
     close_keeps o (snoc_stmt ss f l k e) true f' l' begun b last h.2 (shared_suite f' l' ss f l k e (share_simple ss f l k e h.0 simple new) (normal_snoc ss f l k e h.1 n)) h.3
 over_line_keeps (inside ss false f' l' begun o b) f l k e last h n simple new = (refl, ends_simple ss f l k e h.0 simple (alone k e simple new), normal_snoc ss f l k e h.1 n, h.2, h.3)
 
-pub newline_keeps : (b : Block) (f l : ℕ) (k : StmtKind) (last : ℕ) → FineSimple b → NormalKind k → is_simple k ≡ true → Fine (over_line (add b f l k newline_end) last)
+pub newline_keeps : (b : SuiteStack) (f l : ℕ) (k : StmtKind) (last : ℕ) → ValidSimple b → NormalKind k → is_simple k ≡ true → Valid (over_line (add b f l k newline_end) last)
 newline_keeps b f l k last h n simple = over_line_keeps b f l k newline_end last h n simple refl
 
-pub both_keeps : (b : Block) (f l : ℕ) (k : StmtKind) (last : ℕ) → FineSimple b → NormalKind k → is_simple k ≡ true → Fine (over_line (add b f l k both_end) last)
+pub both_keeps : (b : SuiteStack) (f l : ℕ) (k : StmtKind) (last : ℕ) → ValidSimple b → NormalKind k → is_simple k ≡ true → Valid (over_line (add b f l k both_end) last)
 both_keeps b f l k last h n simple = over_line_keeps b f l k both_end last h n simple refl
 
-pub end_simple_keeps : (k : StmtKind) (n : Lines) (b : Block) (t : Kind) (l : ℕ) → NormalKind k → is_simple k ≡ true → FineSimple b → KeepsTo (end_simple k n b t l)
+pub end_simple_keeps : (k : StmtKind) (n : Span) (b : SuiteStack) (t : Kind) (l : ℕ) → NormalKind k → is_simple k ≡ true → ValidSimple b → KeepsTo (end_simple k n b t l)
 end_simple_keeps k n b (Sign mark.Semicolon) l norm simple h = (norm, simple, h)
 end_simple_keeps k n b Newline l norm simple h = newline_keeps b n.begun n.last k l h norm simple
 end_simple_keeps k n b t l norm simple h = tt
 
-pub end_header_keeps : (o : Owner) (n : Lines) (b : Block) (t : Kind) (l : ℕ) → FineOwner o → FineLine b → KeepsTo (end_header o n b t l)
-end_header_keeps o n b (Sign mark.Colon) l fine h = (fine, h)
-end_header_keeps o n b t l fine h = tt
+pub end_header_keeps : (o : SuiteOf) (n : Span) (b : SuiteStack) (t : Kind) (l : ℕ) → ValidSuiteOf o → ValidLine b → KeepsTo (end_header o n b t l)
+end_header_keeps o n b (Sign mark.Colon) l valid h = (valid, h)
+end_header_keeps o n b t l valid h = tt

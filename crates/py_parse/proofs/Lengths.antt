@@ -1,4 +1,4 @@
--- The place behind a part is as far as the part has tokens, and statements have some.
+-- The place after a part is as far as the part has tokens, and statements have some.
 use Rattle.std.proofs.Common.{◌≡◌, ℕ, suc, ◌+◌, ◌≤◌, true, false, List, [], ◌∷◌, ◌++◌, length, refl, sym, ap, ◌∙◌, arith, length-append}
 use Rattle.py_token.specs.declared.token.Keyword.TheVariants as word
 use Rattle.py_token.specs.declared.token.Mark.TheVariants as mark
@@ -32,9 +32,9 @@ marked_put (k ∷ ks) = ap (λ (x : List Kind). k ∷ x) (marked_put ks)
 line_past : (ks : List Kind) (r : List Marked) (p : ℕ) → length (put ks r) + p ≡ kinds_past (kinds_marked (put ks [])) p + length r
 line_past ks r p = put_past ks r p ∙ ap (λ (x : List Kind). kinds_past x p + length r) (sym (marked_put ks))
 
--- ---- the places behind parts
+-- ---- the places after parts
 
--- behind the header of a `match`
+-- after the header of a `match`
 match_past : (e : Expr) (r : List Marked) (p : ℕ) → length (put (tokens e (Sign mark.Colon ∷ Newline ∷ Indent ∷ [])) r) + p ≡ suc (suc (kinds_past (match_head e) p)) + length r
 match_past e r p =
     let one = put_past (tokens e (Sign mark.Colon ∷ Newline ∷ Indent ∷ [])) r p in

@@ -1,7 +1,7 @@
 mod Rows
 mod HeaderRows
 pub mod Before
-pub mod Fine
+pub mod Valid
 pub mod Parted
 pub mod BeforeParted
 pub mod Snocs
@@ -38,24 +38,24 @@ pub mod ListLines
 pub mod Whole
 pub mod WholeTokens
 pub mod WholeStands
-pub mod Held
-pub mod HeldKinds
+pub mod Views
+pub mod ViewKinds
 pub mod HeaderPlaces
 pub mod TargetItems
 pub mod HeaderNames
 pub mod Acts
 pub mod Stepping
-pub mod Falls
-pub mod PatternFalls
-pub mod Quits
+pub mod ExprLeavesWithin
+pub mod PatternLeavesWithin
+pub mod LineEndsExpr
 pub mod Weights
-pub mod NearForms
-pub mod Near
+pub mod FormsGrowWithin
+pub mod StepGrowsWithin
 pub mod Marks
 pub mod Moves
 pub mod Walk
 pub mod PatternWalk
-pub mod Going
+pub mod ReadsBetween
 pub mod Turning
 pub mod Answering
 pub mod Blocks

@@ -31,7 +31,7 @@ last_inside (suc n) [] h = absurd (omega arith)
 last_inside (suc n) (x ∷ []) h = absurd (omega arith)
 last_inside (suc n) (x ∷ y ∷ ys) h = last_inside n (y ∷ ys) (omega arith)
 
--- behind so many tokens
+-- after so many tokens
 there : (ts : List PToken) (n p q : ℕ) → q ≡ n + p → drop n (drop p ts) ≡ drop q ts
 there ts n p q is = drop-drop n p ts ∙ ap (λ k. drop k ts) {x = p + n} {y = q} (omega arith)
 
@@ -86,9 +86,9 @@ some_except : (e : Option Expr) (x : Option Text) → 1 ≤ length (except_token
 some_except None x = omega arith
 some_except (Some e) x = omega arith
 
--- behind a header and its suite
-behind_there : (ts : List PToken) (head : List Kind) (s : Suite) (p : ℕ) → NormalSuite s → behind head s (drop p ts) ≡ drop (suite_past s (kinds_past head p)) ts
-behind_there ts head s p h =
+-- after a header and its suite
+after_there : (ts : List PToken) (head : List Kind) (s : Suite) (p : ℕ) → NormalSuite s → behind head s (drop p ts) ≡ drop (suite_past s (kinds_past head p)) ts
+after_there ts head s p h =
     let place = kinds_past_is head p in
     let are = suite_is s [] (kinds_past head p) h in
     there ts (length head + length (suite_tokens s [])) p (suite_past s (kinds_past head p)) (omega arith)
@@ -125,7 +125,7 @@ mutual
       let body = suite_lines ts b (test_head word.If t) p (omega arith) h.0.1 (omega arith) in
       let others = arms_lines ts arms (suite_past b (kinds_past (test_head word.If t) p)) h.0.2 (omega arith) in
       let orelse = opt_lines ts o word.Else (arms_past arms (suite_past b (kinds_past (test_head word.If t) p))) h.1 low in
-      let place = behind_there ts (test_head word.If t) b p h.0.1 in
+      let place = after_there ts (test_head word.If t) b p h.0.1 in
       let after = ap (drop (length (elif_tokens arms []))) place ∙ there ts (length (elif_tokens arms [])) (suite_past b (kinds_past (test_head word.If t) p)) (arms_past arms (suite_past b (kinds_past (test_head word.If t) p))) (omega arith) in (
         λ same. let parts = if_parts same in (body.0 parts.0, subst (ArmLines arms) (sym place) (others.0 parts.1), subst (OptLines o (word_head word.Else)) (sym after) (orelse.0 parts.2)),
         λ keeps.
@@ -137,7 +137,7 @@ mutual
       let else_are = else_is o [] (suite_past b (kinds_past (test_head word.While t) p)) h.2 in
       let body = suite_lines ts b (test_head word.While t) p (omega arith) h.1 (omega arith) in
       let orelse = opt_lines ts o word.Else (suite_past b (kinds_past (test_head word.While t) p)) h.2 low in
-      let place = behind_there ts (test_head word.While t) b p h.1 in (
+      let place = after_there ts (test_head word.While t) b p h.1 in (
         λ same. let parts = while_parts same in (body.0 parts.0, subst (OptLines o (word_head word.Else)) (sym place) (orelse.0 parts.1)),
         λ keeps.
             ap (λ (x : Suite). while t x (relined_opt (source ts) o (suite_past b (kinds_past (test_head word.While t) p)))) (body.1 keeps.0)
@@ -147,7 +147,7 @@ mutual
       let else_are = else_is o [] (suite_past b (kinds_past (for_head t e) p)) h.4 in
       let body = suite_lines ts b (for_head t e) p (omega arith) h.3 (omega arith) in
       let orelse = opt_lines ts o word.Else (suite_past b (kinds_past (for_head t e) p)) h.4 low in
-      let place = behind_there ts (for_head t e) b p h.3 in (
+      let place = after_there ts (for_head t e) b p h.3 in (
         λ same. let parts = for_parts same in (body.0 parts.0, subst (OptLines o (word_head word.Else)) (sym place) (orelse.0 parts.1)),
         λ keeps.
             ap (λ (x : Suite). for t e x (relined_opt (source ts) o (suite_past b (kinds_past (for_head t e) p)))) (body.1 keeps.0)
@@ -162,7 +162,7 @@ mutual
       let others = clauses_lines ts cs (suite_past b (suc (suc p))) h.2 (omega arith) in
       let orelse = opt_lines ts o word.Else (clauses_past cs (suite_past b (suc (suc p)))) h.3 (omega arith) in
       let final = opt_lines ts f word.Finally (opt_past o (clauses_past cs (suite_past b (suc (suc p))))) h.4 low in
-      let place = behind_there ts (word_head word.Try) b p h.1 in
+      let place = after_there ts (word_head word.Try) b p h.1 in
       let after = ap (drop (length (clause_tokens cs []))) place ∙ there ts (length (clause_tokens cs [])) (suite_past b (suc (suc p))) (clauses_past cs (suite_past b (suc (suc p)))) (omega arith) in
       let last = ap (drop (length (clause_tokens cs (else_tokens o [])))) place ∙ there ts (length (clause_tokens cs (else_tokens o []))) (suite_past b (suc (suc p))) (opt_past o (clauses_past cs (suite_past b (suc (suc p))))) (omega arith) in (
         λ same. let parts = try_parts same in
@@ -230,7 +230,7 @@ mutual
       let are = arms_are arms [] (suite_past b (kinds_past (test_head word.Elif t) p)) h.2 in
       let body = suite_lines ts b (test_head word.Elif t) p (omega arith) h.1 (omega arith) in
       let others = arms_lines ts arms (suite_past b (kinds_past (test_head word.Elif t) p)) h.2 low in
-      let place = behind_there ts (test_head word.Elif t) b p h.1 in (
+      let place = after_there ts (test_head word.Elif t) b p h.1 in (
         λ same. let parts = arm_parts same in (body.0 parts.0, subst (ArmLines arms) (sym place) (others.0 parts.1)),
         λ keeps.
             ap (λ (x : Suite). arm t x (relined_arms (source ts) arms (suite_past b (kinds_past (test_head word.Elif t) p)))) (body.1 keeps.0)
@@ -243,7 +243,7 @@ mutual
       let are = clauses_are cs [] (suite_past b (kinds_past (except_tokens e x) p)) h.2 in
       let body = suite_lines ts b (except_tokens e x) p (some_except e x) h.1 (omega arith) in
       let others = clauses_lines ts cs (suite_past b (kinds_past (except_tokens e x) p)) h.2 low in
-      let place = behind_there ts (except_tokens e x) b p h.1 in (
+      let place = after_there ts (except_tokens e x) b p h.1 in (
         λ same. let parts = clause_parts same in (body.0 parts.0, subst (ClauseLines cs) (sym place) (others.0 parts.1)),
         λ keeps.
             ap (λ (y : Suite). clause e x y (relined_clauses (source ts) cs (suite_past b (kinds_past (except_tokens e x) p)))) (body.1 keeps.0)
@@ -256,7 +256,7 @@ mutual
       let are = cases_are cs [] (suite_past b (kinds_past (Name case_name ∷ pattern_tokens c (guard_tokens g)) p)) h.3 in
       let body = suite_lines ts b (Name case_name ∷ pattern_tokens c (guard_tokens g)) p (omega arith) h.2 (omega arith) in
       let others = cases_lines ts cs (suite_past b (kinds_past (Name case_name ∷ pattern_tokens c (guard_tokens g)) p)) h.3 low in
-      let place = behind_there ts (Name case_name ∷ pattern_tokens c (guard_tokens g)) b p h.2 in (
+      let place = after_there ts (Name case_name ∷ pattern_tokens c (guard_tokens g)) b p h.2 in (
         λ same. let parts = case_parts same in (body.0 parts.0, subst (CaseLines cs) (sym place) (others.0 parts.1)),
         λ keeps.
             ap (λ (y : Suite). case c g y (relined_cases (source ts) cs (suite_past b (kinds_past (Name case_name ∷ pattern_tokens c (guard_tokens g)) p)))) (body.1 keeps.0)

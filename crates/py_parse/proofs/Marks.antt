@@ -4,7 +4,7 @@ use Rattle.py_token.specs.Plain.{PToken, first_of, last_of}
 use Rattle.py_syntax.specs.Kinds.{Kind, bare_token, bare}
 use Rattle.py_syntax.specs.Headers.{Marked, is_match, is_header, ends_line, marked_from, marked}
 use Rattle.py_parse.specs.Machine.{State, plain_step, step}
-use Rattle.py_parse.specs.HeldMarks.{begins_from, heads, header_at}
+use Rattle.py_parse.specs.ViewMarks.{begins_from, heads, header_at}
 use Rattle.py_parse.proofs.WholeLists.{Lexeme, next}
 use Rattle.py_parse.proofs.WholeTokens.{lexemes, with_lines}
 use Rattle.py_parse.proofs.WholeStands.{lexeme_at}
@@ -37,7 +37,7 @@ there ts p t more h =
     let mark : record { kind = bare_token t; header = begins_from true (bare ts) p && (is_match (bare_token t) && is_header (bare more)) } ≡ (lexeme ts p t).mark = ap (λ (c : Bool). record { kind = bare_token t; header = begins_from true (bare ts) p && c }) (sym same) in
     (lexemes (marked_from (ends_line (bare_token t)) (bare more)) more, lexeme_at p (marked (bare ts)) ts (lexeme ts p t).mark (marked_from (ends_line (bare_token t)) (bare more)) t more (mark_from true (bare ts) p (bare_token t) (bare more) k ∙ ap (λ (m : Marked). m ∷ marked_from (ends_line (bare_token t)) (bare more)) mark) h)
 
--- behind a token that ends no line no header begins
+-- after a token that ends no line no header begins
 no_line : (b : Bool) (ks : List Kind) (p : ℕ) (k : Kind) (rest : List Kind) → drop p ks ≡ k ∷ rest → begins_from b ks (suc p) ≡ ends_line k
 no_line b [] zero k rest h = absurd cc
 no_line b [] (suc p) k rest h = absurd cc
@@ -54,7 +54,7 @@ no_header ts p t more h is =
 pub plainly : (ts : List PToken) (p : ℕ) (t : PToken) (s : State) → header_at (bare ts) p ≡ false → next s (lexeme ts p t) ≡ plain_step s (bare_token t) (first_of t) (last_of t)
 plainly ts p t s h = ap (λ (c : Bool). step s (record { kind = bare_token t; header = c }) (first_of t) (last_of t)) h
 
--- the tokens behind one
+-- the tokens after one
 pub drop_more : {A : Type 0} → (p : ℕ) (ts : List A) (t : A) (more : List A) → drop p ts ≡ t ∷ more → drop (p + 1) ts ≡ more
 drop_more p ts t more h = let one : p + 1 ≡ suc p = omega arith in ap (λ (n : ℕ). drop n ts) one ∙ go p ts t more h
   where

@@ -101,6 +101,6 @@ pub put_append : (a b : List Kind) (r : List Marked) → put (a ++ b) r ≡ put 
 put_append [] b r = refl
 put_append (k ∷ a) b r = ap (λ (y : List Marked). record { kind = k; header = false } ∷ y) (put_append a b r)
 
--- the token behind an expression on its line
+-- the token after an expression on its line
 pub put_parted : (e : Expr) (a : List Kind) (r : List Marked) → put (tokens e a) r ≡ put (tokens e []) (put a r)
 put_parted e a r = ap (λ (y : List Kind). put y r) (parted e [] a) ∙ put_append (tokens e []) a r

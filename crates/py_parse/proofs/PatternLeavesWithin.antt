@@ -4,111 +4,111 @@ use Rattle.py_syntax.specs.Tree.{c_str, Pattern, literal, p_as, Patterns, no_pat
 use Rattle.py_syntax.specs.Kinds.{Kind, Newline, Indent, Dedent}
 use Rattle.py_syntax.specs.Headers.{ends_line}
 use Rattle.py_syntax.specs.Normal.{pattern_height}
-use Rattle.py_parse_pattern.specs.Machine.{Cue, a_name, a_number, a_string, a_none, a_bool, a_minus, opens, shuts, a_bar, an_as, a_comma, a_dot, other, cue, same_bracket, is_underscore, named, joined, enclosed, ended, Frame, frame, Stack, stack, State, Want, Minus, Named, Dotted, Strings, Have, Naming, Item, Out, Next, Stuck, Left, offer, give, shut, wanting, begin, act, step, start, put, whole, closed, settled, least}
+use Rattle.py_parse_pattern.specs.Machine.{TokenClass, a_name, a_number, a_string, a_none, a_bool, a_minus, opens, shuts, a_bar, an_as, a_comma, a_dot, other, class, same_bracket, is_underscore, named, joined, enclosed, ended, Frame, frame, Stack, stack, State, Want, Minus, Named, Dotted, Strings, Have, Naming, Item, Out, Next, Stuck, Left, offer, give, shut, wanting, begin, act, step, start, put, whole, closed, settled, least}
 
 -- what leaves is no higher than this
-abbrev pub Falls : ℕ → Out → Type 0
-Falls n (Next s) = Unit {0}
-Falls n Stuck = Unit {0}
-Falls n (Left p) = pattern_height p ≤ n
+abbrev pub LeavesWithin : ℕ → Out → Type 0
+LeavesWithin n (Next s) = Unit {0}
+LeavesWithin n Stuck = Unit {0}
+LeavesWithin n (Left p) = pattern_height p ≤ n
 
-falls_if : (n : ℕ) (b : Bool) (o p : Out) → Falls n o → Falls n p → Falls n (cond b o p)
-falls_if n true o p h i = h
-falls_if n false o p h i = i
+within_if : (n : ℕ) (b : Bool) (o p : Out) → LeavesWithin n o → LeavesWithin n p → LeavesWithin n (cond b o p)
+within_if n true o p h i = h
+within_if n false o p h i = i
 
-offer_falls : (p : Pattern) (is : Patterns) (fs : List Frame) (c : Cue) → Falls (pattern_height (put p is fs)) (offer p is fs c)
-offer_falls p is fs a_comma = tt
-offer_falls p is [] c = omega arith
-offer_falls p is (frame b js bs ∷ fs) (shuts d) = falls_if (pattern_height (put p is (frame b js bs ∷ fs))) (same_bracket b d) (Next (Have (enclosed b is p) (stack js bs fs))) Stuck tt tt
-offer_falls p is (f ∷ fs) c = tt
+offer_within : (p : Pattern) (is : Patterns) (fs : List Frame) (c : TokenClass) → LeavesWithin (pattern_height (put p is fs)) (offer p is fs c)
+offer_within p is fs a_comma = tt
+offer_within p is [] c = omega arith
+offer_within p is (frame b js bs ∷ fs) (shuts d) = within_if (pattern_height (put p is (frame b js bs ∷ fs))) (same_bracket b d) (Next (Have (enclosed b is p) (stack js bs fs))) Stuck tt tt
+offer_within p is (f ∷ fs) c = tt
 
-give_falls : (p : Pattern) (k : Stack) (c : Cue) → Falls (pattern_height (whole p k)) (give p k c)
-give_falls p (stack is as' fs) a_bar = tt
-give_falls p (stack is as' fs) an_as = tt
-give_falls p (stack is as' fs) c = offer_falls (joined as' p) is fs c
+give_within : (p : Pattern) (k : Stack) (c : TokenClass) → LeavesWithin (pattern_height (whole p k)) (give p k c)
+give_within p (stack is as' fs) a_bar = tt
+give_within p (stack is as' fs) an_as = tt
+give_within p (stack is as' fs) c = offer_within (joined as' p) is fs c
 
-shut_falls : (is : Patterns) (fs : List Frame) (c : Cue) → Falls (pattern_height (closed is fs)) (shut is fs c)
-shut_falls no_patterns [] c = tt
-shut_falls (patterns p ps) [] c = omega arith
-shut_falls is (frame b js bs ∷ fs) (shuts d) = falls_if (pattern_height (closed is (frame b js bs ∷ fs))) (same_bracket b d) (Next (Have (ended b is) (stack js bs fs))) Stuck tt tt
-shut_falls is (f ∷ fs) c = tt
+shut_within : (is : Patterns) (fs : List Frame) (c : TokenClass) → LeavesWithin (pattern_height (closed is fs)) (shut is fs c)
+shut_within no_patterns [] c = tt
+shut_within (patterns p ps) [] c = omega arith
+shut_within is (frame b js bs ∷ fs) (shuts d) = within_if (pattern_height (closed is (frame b js bs ∷ fs))) (same_bracket b d) (Next (Have (ended b is) (stack js bs fs))) Stuck tt tt
+shut_within is (f ∷ fs) c = tt
 
-begin_falls : (k : Stack) (c : Cue) → Falls (pattern_height (settled k)) (begin k c)
-begin_falls k (a_name x) = tt
-begin_falls k (a_number n) = tt
-begin_falls k (a_string x) = tt
-begin_falls k a_none = tt
-begin_falls k (a_bool b) = tt
-begin_falls k a_minus = tt
-begin_falls k (opens b) = tt
-begin_falls k c = wanting_falls k c
+begin_within : (k : Stack) (c : TokenClass) → LeavesWithin (pattern_height (settled k)) (begin k c)
+begin_within k (a_name x) = tt
+begin_within k (a_number n) = tt
+begin_within k (a_string x) = tt
+begin_within k a_none = tt
+begin_within k (a_bool b) = tt
+begin_within k a_minus = tt
+begin_within k (opens b) = tt
+begin_within k c = wanting_within k c
   where
-    wanting_falls : (k : Stack) (c : Cue) → Falls (pattern_height (settled k)) (wanting k c)
-    wanting_falls (stack is no_patterns fs) c = shut_falls is fs c
-    wanting_falls (stack is (patterns a as') fs) c = tt
+    wanting_within : (k : Stack) (c : TokenClass) → LeavesWithin (pattern_height (settled k)) (wanting k c)
+    wanting_within (stack is no_patterns fs) c = shut_within is fs c
+    wanting_within (stack is (patterns a as') fs) c = tt
 
-act_falls : (s : State) (c : Cue) → Falls (least s) (act s c)
-act_falls (Want k) c = begin_falls k c
-act_falls (Minus k) (a_number n) = tt
-act_falls (Minus k) c = tt
-act_falls (Named x k) a_dot = tt
-act_falls (Named x k) c = give_falls (named x) k c
-act_falls (Dotted m k) (a_name x) = tt
-act_falls (Dotted m k) c = tt
-act_falls (Strings xs k) (a_string x) = tt
-act_falls (Strings xs k) c = give_falls (literal false (c_str xs)) k c
-act_falls (Have p k) c = give_falls p k c
-act_falls (Naming p is fs) (a_name x) = falls_if (least (Naming p is fs)) (is_underscore x) Stuck (Next (Item (p_as p x) is fs)) tt tt
-act_falls (Naming p is fs) c = tt
-act_falls (Item p is fs) c = offer_falls p is fs c
+act_within : (s : State) (c : TokenClass) → LeavesWithin (least s) (act s c)
+act_within (Want k) c = begin_within k c
+act_within (Minus k) (a_number n) = tt
+act_within (Minus k) c = tt
+act_within (Named x k) a_dot = tt
+act_within (Named x k) c = give_within (named x) k c
+act_within (Dotted m k) (a_name x) = tt
+act_within (Dotted m k) c = tt
+act_within (Strings xs k) (a_string x) = tt
+act_within (Strings xs k) c = give_within (literal false (c_str xs)) k c
+act_within (Have p k) c = give_within p k c
+act_within (Naming p is fs) (a_name x) = within_if (least (Naming p is fs)) (is_underscore x) Stuck (Next (Item (p_as p x) is fs)) tt tt
+act_within (Naming p is fs) c = tt
+act_within (Item p is fs) c = offer_within p is fs c
 
-pub step_falls : (s : State) (t : Kind) → Falls (least s) (step s t)
-step_falls s t = act_falls s (cue t)
+pub step_within : (s : State) (t : Kind) → LeavesWithin (least s) (step s t)
+step_within s t = act_within s (class t)
 
 -- nothing leaves at the beginning
-start_cue : (c : Cue) → Falls 0 (act start c)
-start_cue (a_name x) = tt
-start_cue (a_number n) = tt
-start_cue (a_string x) = tt
-start_cue a_none = tt
-start_cue (a_bool b) = tt
-start_cue a_minus = tt
-start_cue (opens b) = tt
-start_cue c = tt
+start_class : (c : TokenClass) → LeavesWithin 0 (act start c)
+start_class (a_name x) = tt
+start_class (a_number n) = tt
+start_class (a_string x) = tt
+start_class a_none = tt
+start_class (a_bool b) = tt
+start_class a_minus = tt
+start_class (opens b) = tt
+start_class c = tt
 
-pub start_falls : (t : Kind) → Falls 0 (step start t)
-start_falls t = start_cue (cue t)
+pub start_within : (t : Kind) → LeavesWithin 0 (step start t)
+start_within t = start_class (class t)
 
 -- ---- a line doesn't end in a pattern
 
 -- nothing goes on
-abbrev pub Quits : Out → Type 0
-Quits (Next s) = ⊥
-Quits Stuck = Unit {0}
-Quits (Left p) = Unit {0}
+abbrev pub NoNext : Out → Type 0
+NoNext (Next s) = ⊥
+NoNext Stuck = Unit {0}
+NoNext (Left p) = Unit {0}
 
-offer_quits : (p : Pattern) (is : Patterns) (fs : List Frame) → Quits (offer p is fs other)
-offer_quits p is [] = tt
-offer_quits p is (frame b js bs ∷ fs) = tt
+offer_no_next : (p : Pattern) (is : Patterns) (fs : List Frame) → NoNext (offer p is fs other)
+offer_no_next p is [] = tt
+offer_no_next p is (frame b js bs ∷ fs) = tt
 
-give_quits : (p : Pattern) (k : Stack) → Quits (give p k other)
-give_quits p (stack is as' fs) = offer_quits (joined as' p) is fs
+give_no_next : (p : Pattern) (k : Stack) → NoNext (give p k other)
+give_no_next p (stack is as' fs) = offer_no_next (joined as' p) is fs
 
-act_quits : (s : State) → Quits (act s other)
-act_quits (Want (stack no_patterns no_patterns [])) = tt
-act_quits (Want (stack (patterns p ps) no_patterns [])) = tt
-act_quits (Want (stack is no_patterns (frame b js bs ∷ fs))) = tt
-act_quits (Want (stack is (patterns a as') fs)) = tt
-act_quits (Minus k) = tt
-act_quits (Named x k) = give_quits (named x) k
-act_quits (Dotted m k) = tt
-act_quits (Strings xs k) = give_quits (literal false (c_str xs)) k
-act_quits (Have p k) = give_quits p k
-act_quits (Naming p is fs) = tt
-act_quits (Item p is fs) = offer_quits p is fs
+act_no_next : (s : State) → NoNext (act s other)
+act_no_next (Want (stack no_patterns no_patterns [])) = tt
+act_no_next (Want (stack (patterns p ps) no_patterns [])) = tt
+act_no_next (Want (stack is no_patterns (frame b js bs ∷ fs))) = tt
+act_no_next (Want (stack is (patterns a as') fs)) = tt
+act_no_next (Minus k) = tt
+act_no_next (Named x k) = give_no_next (named x) k
+act_no_next (Dotted m k) = tt
+act_no_next (Strings xs k) = give_no_next (literal false (c_str xs)) k
+act_no_next (Have p k) = give_no_next p k
+act_no_next (Naming p is fs) = tt
+act_no_next (Item p is fs) = offer_no_next p is fs
 
-pub step_quits : (s : State) (t : Kind) → ends_line t ≡ true → Quits (step s t)
-step_quits s Newline h = act_quits s
-step_quits s Indent h = act_quits s
-step_quits s Dedent h = act_quits s
-step_quits s t h = absurd cc
+pub step_no_next : (s : State) (t : Kind) → ends_line t ≡ true → NoNext (step s t)
+step_no_next s Newline h = act_no_next s
+step_no_next s Indent h = act_no_next s
+step_no_next s Dedent h = act_no_next s
+step_no_next s t h = absurd cc

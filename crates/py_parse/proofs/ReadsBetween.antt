@@ -11,18 +11,18 @@ use Rattle.py_grammar.specs.Machine.{start}
 use Rattle.py_grammar.specs.Reading as reading_
 use Rattle.py_parse_pattern.specs.Machine as pattern
 use Rattle.py_parse_pattern.specs.Reads as pattern_reads
-use Rattle.py_parse.specs.declared.places.Resume as held_resume
-use Rattle.py_parse.specs.declared.places.Resume.TheVariants as resume_
+use Rattle.py_parse.specs.declared.places.Continuation as held_continuation
+use Rattle.py_parse.specs.declared.places.Continuation.TheVariants as continuation_
 use Rattle.py_parse.specs.declared.places.Place.TheVariants as place_
 use Rattle.py_parse.specs.declared.places.State as held_state
 use Rattle.py_parse.specs.declared.places.State.TheVariants as state_
-use Rattle.py_parse.specs.Open.{Block}
-use Rattle.py_parse.specs.Machine.{Resume, Reading, Matching, Lines, State, at, Over, begun, goal, resume, resume_pattern, done, step}
+use Rattle.py_parse.specs.Open.{SuiteStack}
+use Rattle.py_parse.specs.Machine.{Continuation, Reading, Matching, Span, State, at, Over, begun, goal, resume, resume_pattern, done, step}
 use Rattle.py_parse.specs.Places.{last_before}
 use Rattle.py_parse.specs.Levels as levels
 use Rattle.py_parse.specs.Refusal.{IsUnexpected, HasDeepSuites, HasDeepExpressions}
-use Rattle.py_parse.specs.HeldStates.{view_block, view_lines, view_state, view_resume}
-use Rattle.py_parse.specs.Progress.{behind, StandsAt, Turns, ReadsFrom, MatchesFrom, last_there, line_before, Resumes}
+use Rattle.py_parse.specs.ViewStates.{view_suites, view_span, view_state, view_continuation}
+use Rattle.py_parse.specs.Progress.{state_after, StandsAt, Turns, ReadsFrom, MatchesFrom, last_there, line_before, Resumes}
 use Rattle.py_parse.proofs.TokenLines.{token_last, token_source}
 use Rattle.py_parse.proofs.WholeLists.{reading}
 use Rattle.py_parse.proofs.WholeTokens.{lexemes}
@@ -36,21 +36,21 @@ use Rattle.py_parse.proofs.PatternWalk as pattern_walk
 
 -- ---- places
 
-behind_is : (s : State) (n : ℕ) (ms : List Marked) (ts : List PToken) → behind s n ms ts ≡ reading s (take n (lexemes ms ts))
-behind_is s zero ms ts = refl
-behind_is s (suc n) [] ts = refl
-behind_is s (suc n) (m ∷ ms) [] = refl
-behind_is s (suc n) (m ∷ ms) (t ∷ ts) = go (λ s'. behind_is s' n ms ts) (step s m (first_of t) (last_of t))
+after_is : (s : State) (n : ℕ) (ms : List Marked) (ts : List PToken) → state_after s n ms ts ≡ reading s (take n (lexemes ms ts))
+after_is s zero ms ts = refl
+after_is s (suc n) [] ts = refl
+after_is s (suc n) (m ∷ ms) [] = refl
+after_is s (suc n) (m ∷ ms) (t ∷ ts) = go (λ s'. after_is s' n ms ts) (step s m (first_of t) (last_of t))
   where
-    go : ((s' : State) → behind s' n ms ts ≡ reading s' (take n (lexemes ms ts))) → (o : Option State) → (elim o as (λ (o : Option State). Option State) [ None ↦ None | Some s' ↦ behind s' n ms ts ]) ≡ (elim o as (λ (o : Option State). Option State) [ None ↦ None | Some s' ↦ reading s' (take n (lexemes ms ts)) ])
+    go : ((s' : State) → state_after s' n ms ts ≡ reading s' (take n (lexemes ms ts))) → (o : Option State) → (elim o as (λ (o : Option State). Option State) [ None ↦ None | Some s' ↦ state_after s' n ms ts ]) ≡ (elim o as (λ (o : Option State). Option State) [ None ↦ None | Some s' ↦ reading s' (take n (lexemes ms ts)) ])
     go rec None = refl
     go rec (Some s') = rec s'
 
 to : (ts : List PToken) (place : ℕ) (s : State) → StandsAt ts place s → Stands ts place s
-to ts place s h = record { inside = h.inside; passes = sym (behind_is begun place (marked (bare ts)) ts) ∙ h.passes; low = h.low; shallow = h.shallow }
+to ts place s h = record { inside = h.inside; passes = sym (after_is begun place (marked (bare ts)) ts) ∙ h.passes; low = h.low; shallow = h.shallow }
 
 from : (ts : List PToken) (place : ℕ) (s : State) → Stands ts place s → StandsAt ts place s
-from ts place s h = record { inside = h.inside; passes = behind_is begun place (marked (bare ts)) ts ∙ h.passes; low = h.low; shallow = h.shallow }
+from ts place s h = record { inside = h.inside; passes = after_is begun place (marked (bare ts)) ts ∙ h.passes; low = h.low; shallow = h.shallow }
 
 pub first_place : (ts : List PToken) → StandsAt ts 0 begun
 first_place ts = from ts 0 begun (stands_first ts)
@@ -64,24 +64,24 @@ token_there ts place lt = go (drop place ts) refl
 
 -- ---- the token at a place
 
-resumed_low : (r : held_resume.Resume) (n : Lines) (b : Block) → inner (at (Reading (view_resume r) (start (goal (view_resume r)))) n b) ≤ 200
-resumed_low (resume_.Value ts) n b = omega arith
-resumed_low (resume_.Augmented p op) n b = omega arith
-resumed_low (resume_.Leaving true) n b = omega arith
-resumed_low (resume_.Leaving false) n b = omega arith
-resumed_low resume_.Asserted n b = omega arith
-resumed_low (resume_.Reason t) n b = omega arith
-resumed_low (resume_.ArmTest arms) n b = omega arith
-resumed_low resume_.WhileTest n b = omega arith
-resumed_low resume_.ForTarget n b = omega arith
-resumed_low (resume_.ForOver t) n b = omega arith
-resumed_low (resume_.ClauseKind t) n b = omega arith
-resumed_low resume_.Subject n b = omega arith
-resumed_low (resume_.Guard c p) n b = omega arith
-resumed_low (resume_.Default s y) n b = omega arith
+resumed_low : (r : held_continuation.Continuation) (n : Span) (b : SuiteStack) → inner (at (Reading (view_continuation r) (start (goal (view_continuation r)))) n b) ≤ 200
+resumed_low (continuation_.Value ts) n b = omega arith
+resumed_low (continuation_.Augmented p op) n b = omega arith
+resumed_low (continuation_.Leaving true) n b = omega arith
+resumed_low (continuation_.Leaving false) n b = omega arith
+resumed_low continuation_.Asserted n b = omega arith
+resumed_low (continuation_.Reason t) n b = omega arith
+resumed_low (continuation_.ArmTest arms) n b = omega arith
+resumed_low continuation_.WhileTest n b = omega arith
+resumed_low continuation_.ForTarget n b = omega arith
+resumed_low (continuation_.ForOver t) n b = omega arith
+resumed_low (continuation_.ClauseKind t) n b = omega arith
+resumed_low continuation_.Subject n b = omega arith
+resumed_low (continuation_.Guard c p) n b = omega arith
+resumed_low (continuation_.Default s y) n b = omega arith
 
 inner_low : (s : held_state.State) → inner (view_state s) ≤ 200
-inner_low (state_.At (place_.Wanted r) n b) = resumed_low r (view_lines n) (view_block b)
+inner_low (state_.At (place_.Wanted r) n b) = resumed_low r (view_span n) (view_suites b)
 inner_low (state_.At (place_.PatternWanted c) n b) = omega arith
 inner_low s = omega arith
 
@@ -119,19 +119,19 @@ same_place : (ts : List PToken) (p q : ℕ) → q ≤ length (bare ts) → lengt
 same_place ts p q inside h = let one = length-drop q (bare ts) in let two = bare_length ts in omega arith
 
 -- the end of the reading of an expression from a place
-outcome : (ts : List PToken) (place : ℕ) (r : Resume) (n : Lines) (b : Block) (e : reading_.Ending) → place < length ts → ReadsFrom ts place r n b → reading_.within HEIGHT (start (goal r)) (drop place (bare ts)) ≡ e → Outcome ts r b n.begun n.first (place + 1) e
+outcome : (ts : List PToken) (place : ℕ) (r : Continuation) (n : Span) (b : SuiteStack) (e : reading_.Ending) → place < length ts → ReadsFrom ts place r n b → reading_.within HEIGHT (start (goal r)) (drop place (bare ts)) ≡ e → Outcome ts r b n.begun n.first (place + 1) e
 outcome ts place r n b e lt h ends =
     let t = token_there ts place lt in
     let turn = h.turn t.0 t.1 t.2 in
     let kinds : drop place (bare ts) ≡ bare (t.0 ∷ t.1) = bare_drop place ts ∙ ap bare t.2 in
     subst (Outcome ts r b n.begun n.first (place + 1)) (sym (ap (reading_.within HEIGHT (start (goal r))) kinds) ∙ ends) (walk.begins ts place h.state t.0 t.1 r n b (to ts place h.state h.stands) t.2 turn.0 turn.1)
 
-pub expression_unexpected : (ts : List PToken) (place q : ℕ) (r : Resume) (n : Lines) (b : Block) → place < length ts → ReadsFrom ts place r n b → reading_.EndsAt HEIGHT (start (goal r)) (bare ts) place q reading_.Unexpected → IsUnexpected ts q
+pub expression_unexpected : (ts : List PToken) (place q : ℕ) (r : Continuation) (n : Span) (b : SuiteStack) → place < length ts → ReadsFrom ts place r n b → reading_.EndsAt HEIGHT (start (goal r)) (bare ts) place q reading_.Unexpected → IsUnexpected ts q
 expression_unexpected ts place q r n b lt h ends =
     let o = outcome ts place r n b (reading_.Unexpected (drop q (bare ts))) lt h ends.ends in
     subst (IsUnexpected ts) (same_place ts o.0 q ends.inside o.2) o.3
 
-pub expression_too_high : (ts : List PToken) (place q : ℕ) (r : Resume) (n : Lines) (b : Block) → place < length ts → ReadsFrom ts place r n b → reading_.EndsAt HEIGHT (start (goal r)) (bare ts) place q reading_.TooDeep → HasDeepExpressions ts q
+pub expression_too_high : (ts : List PToken) (place q : ℕ) (r : Continuation) (n : Span) (b : SuiteStack) → place < length ts → ReadsFrom ts place r n b → reading_.EndsAt HEIGHT (start (goal r)) (bare ts) place q reading_.TooDeep → HasDeepExpressions ts q
 expression_too_high ts place q r n b lt h ends =
     let o = outcome ts place r n b (reading_.TooDeep (drop q (bare ts))) lt h ends.ends in
     subst (HasDeepExpressions ts) (same_place ts o.0 q ends.inside o.2) o.3
@@ -145,7 +145,7 @@ before_is : (ts : List PToken) (q : ℕ) → last_before (token_source ts) q ≡
 before_is ts zero = refl
 before_is ts (suc p) = there_is ts p
 
-pub expression_read : (ts : List PToken) (place q : ℕ) (r : Resume) (n : Lines) (b : Block) (e : Expr) → place < length ts → ReadsFrom ts place r n b → reading_.EndsAt HEIGHT (start (goal r)) (bare ts) place q (reading_.Reads e) → Resumes ts place q (λ m k l. resume r e m b k l) n
+pub expression_read : (ts : List PToken) (place q : ℕ) (r : Continuation) (n : Span) (b : SuiteStack) (e : Expr) → place < length ts → ReadsFrom ts place r n b → reading_.EndsAt HEIGHT (start (goal r)) (bare ts) place q (reading_.Reads e) → Resumes ts place q (λ m k l. resume r e m b k l) n
 expression_read ts place q r n b e lt h ends =
     let o = outcome ts place r n b (reading_.Reads e (drop q (bare ts))) lt h ends.ends in
     let same = same_place ts o.0 q ends.inside o.3 in
@@ -162,23 +162,23 @@ expression_read ts place q r n b e lt h ends =
 
 -- ---- patterns
 
-pattern_outcome : (ts : List PToken) (place : ℕ) (e : Expr) (l : ℕ) (cs : Cases) (n : Lines) (b : Block) (end : pattern.Ending) → place < length ts → MatchesFrom ts place e l cs n b → pattern.within HEIGHT pattern.start (drop place (bare ts)) ≡ end → pattern_walk.Outcome ts e l cs b n.begun n.first (place + 1) end
+pattern_outcome : (ts : List PToken) (place : ℕ) (e : Expr) (l : ℕ) (cs : Cases) (n : Span) (b : SuiteStack) (end : pattern.Ending) → place < length ts → MatchesFrom ts place e l cs n b → pattern.within HEIGHT pattern.start (drop place (bare ts)) ≡ end → pattern_walk.Outcome ts e l cs b n.begun n.first (place + 1) end
 pattern_outcome ts place e l cs n b end lt h ends =
     let t = token_there ts place lt in
     let kinds : drop place (bare ts) ≡ bare (t.0 ∷ t.1) = bare_drop place ts ∙ ap bare t.2 in
     subst (pattern_walk.Outcome ts e l cs b n.begun n.first (place + 1)) (sym (ap (pattern.within HEIGHT pattern.start) kinds) ∙ ends) (pattern_walk.begins ts place h.state t.0 t.1 e l cs n b (to ts place h.state h.stands) t.2 (h.turn t.0 t.1 t.2))
 
-pub pattern_unexpected : (ts : List PToken) (place q : ℕ) (e : Expr) (l : ℕ) (cs : Cases) (n : Lines) (b : Block) → place < length ts → MatchesFrom ts place e l cs n b → pattern_reads.EndsAt (bare ts) place q pattern.Unexpected → IsUnexpected ts q
+pub pattern_unexpected : (ts : List PToken) (place q : ℕ) (e : Expr) (l : ℕ) (cs : Cases) (n : Span) (b : SuiteStack) → place < length ts → MatchesFrom ts place e l cs n b → pattern_reads.EndsAt (bare ts) place q pattern.Unexpected → IsUnexpected ts q
 pattern_unexpected ts place q e l cs n b lt h ends =
     let o = pattern_outcome ts place e l cs n b (pattern.Unexpected (drop q (bare ts))) lt h ends.ends in
     subst (IsUnexpected ts) (same_place ts o.0 q ends.inside o.2) o.3
 
-pub pattern_too_high : (ts : List PToken) (place q : ℕ) (e : Expr) (l : ℕ) (cs : Cases) (n : Lines) (b : Block) → place < length ts → MatchesFrom ts place e l cs n b → pattern_reads.EndsAt (bare ts) place q pattern.TooDeep → HasDeepExpressions ts q
+pub pattern_too_high : (ts : List PToken) (place q : ℕ) (e : Expr) (l : ℕ) (cs : Cases) (n : Span) (b : SuiteStack) → place < length ts → MatchesFrom ts place e l cs n b → pattern_reads.EndsAt (bare ts) place q pattern.TooDeep → HasDeepExpressions ts q
 pattern_too_high ts place q e l cs n b lt h ends =
     let o = pattern_outcome ts place e l cs n b (pattern.TooDeep (drop q (bare ts))) lt h ends.ends in
     subst (HasDeepExpressions ts) (same_place ts o.0 q ends.inside o.2) o.3
 
-pub pattern_read : (ts : List PToken) (place q : ℕ) (e : Expr) (l : ℕ) (cs : Cases) (n : Lines) (b : Block) (p : Pattern) → place < length ts → MatchesFrom ts place e l cs n b → pattern_reads.EndsAt (bare ts) place q (pattern.Reads p) → Resumes ts place q (λ m k last. resume_pattern e l cs p m b k last) n
+pub pattern_read : (ts : List PToken) (place q : ℕ) (e : Expr) (l : ℕ) (cs : Cases) (n : Span) (b : SuiteStack) (p : Pattern) → place < length ts → MatchesFrom ts place e l cs n b → pattern_reads.EndsAt (bare ts) place q (pattern.Reads p) → Resumes ts place q (λ m k last. resume_pattern e l cs p m b k last) n
 pattern_read ts place q e l cs n b p lt h ends =
     let o = pattern_outcome ts place e l cs n b (pattern.Reads p (drop q (bare ts))) lt h ends.ends in
     let same = same_place ts o.0 q ends.inside o.3 in

@@ -31,7 +31,7 @@ after ts = run counted begun (marked ts) 0
 abbrev Reads : List Kind → Stmts → Type 0
 Reads ts m = (after ts ≡ Some (Over (relined counted m 0))) × (kinds_marked (module_tokens m) ≡ ts) × (module_tokens m ≡ marked ts)
 
--- the list is refused behind so many tokens
+-- the list is refused after so many tokens
 abbrev Stops : List Kind → ℕ → Type 0
 Stops ts n = taken begun (marked ts) 0 ≡ n
 
@@ -144,8 +144,8 @@ no_default = refl
 match_without_case : Stops (M ∷ A ∷ colon ∷ Newline ∷ Indent ∷ Dedent ∷ []) 5
 match_without_case = refl
 
-match_behind_semicolon : Stops (A ∷ semi ∷ M ∷ A ∷ colon ∷ Newline ∷ []) 3
-match_behind_semicolon = refl
+match_after_semicolon : Stops (A ∷ semi ∷ M ∷ A ∷ colon ∷ Newline ∷ []) 3
+match_after_semicolon = refl
 
 bare_except_as : Stops (Word word.Try ∷ colon ∷ Word word.Pass ∷ Newline ∷ Word word.Except ∷ Word word.As ∷ []) 5
 bare_except_as = refl

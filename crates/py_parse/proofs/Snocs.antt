@@ -74,7 +74,7 @@ bound (globals xs) x y r h = absurd cc
 bound (imports names) x y r h = ap (λ (z : List Kind). put (Word word.Import ∷ z) r) (aliases_snoc names (record { name = x; bound = Some y }))
 bound (froms m names) x y r h = ap (λ (z : List Kind). put (Word word.From ∷ Name m ∷ Word word.Import ∷ z) r) (aliases_snoc names (record { name = x; bound = Some y }))
 
--- names with a comma behind the last
+-- names with a comma after the last
 commas_snoc : (xs : List Text) (x : Text) (r : List Kind) → commas (xs ++ x ∷ []) r ≡ commas xs (Name x ∷ Sign mark.Comma ∷ r)
 commas_snoc [] x r = refl
 commas_snoc (y ∷ ys) x r = ap (λ (z : List Kind). Name y ∷ Sign mark.Comma ∷ z) (commas_snoc ys x r)

@@ -9,12 +9,12 @@ use Rattle.py_token.proofs.Views.{plain-token}
 use Rattle.py_syntax.specs.Tree.{Expr, Cases}
 use Rattle.py_syntax.specs.Kinds.{Kind, bare_token, bare}
 use Rattle.py_grammar.specs.Machine as expression
-use Rattle.py_grammar.specs.Machine.{start, role}
+use Rattle.py_grammar.specs.Machine.{start, class}
 use Rattle.py_parse_pattern.specs.Machine as pattern
-use Rattle.py_parse.specs.Open.{Block}
-use Rattle.py_parse.specs.Machine.{Resume, Matching, Lines, State, goal, reads, act, step}
-use Rattle.py_parse.specs.HeldMarks.{header_at}
-use Rattle.py_parse.specs.HeldStates.{kind_at, first_at, last_at}
+use Rattle.py_parse.specs.Open.{SuiteStack}
+use Rattle.py_parse.specs.Machine.{Continuation, Matching, Span, State, goal, reads, act, step}
+use Rattle.py_parse.specs.ViewMarks.{header_at}
+use Rattle.py_parse.specs.ViewStates.{kind_at, first_at, last_at}
 use Rattle.py_parse.specs.Progress.{StandsAt, step_at, Turns, ReadsFrom, MatchesFrom, Resumes, last_there, line_before}
 use Rattle.py_parse.specs.Refusal.{line_of}
 
@@ -46,19 +46,19 @@ step_is tokens place d s header lt is t more at_t =
 pub turning : (tokens : List Token) (place : ℕ) (d : Token) (s : State) (header : Bool) (o : Option State) → place < length tokens → header ≡ header_at (bare (view_tokens tokens)) place → StandsAt (view_tokens tokens) place s → step s (record { kind = kind_at (get_or tokens place d); header = header }) (first_at (get_or tokens place d)) (last_at (get_or tokens place d)) ≡ o → Turns (view_tokens tokens) place (λ t w. w ≡ o)
 turning tokens place d s header o lt is stands makes = record { state = s; stands = stands; turn = λ t more at_t. step_is tokens place d s header lt is t more at_t ∙ makes }
 
-pub reading_turn : (tokens : List Token) (place : ℕ) (d : Token) (s : State) (header : Bool) (r : Resume) (n : Lines) (b : Block) → place < length tokens → header ≡ header_at (bare (view_tokens tokens)) place → StandsAt (view_tokens tokens) place s → step s (record { kind = kind_at (get_or tokens place d); header = header }) (first_at (get_or tokens place d)) (last_at (get_or tokens place d)) ≡ reads r n b (expression.step (start (goal r)) (role (kind_at (get_or tokens place d)))) → n.last ≡ last_at (get_or tokens place d) → ReadsFrom (view_tokens tokens) place r n b
+pub reading_turn : (tokens : List Token) (place : ℕ) (d : Token) (s : State) (header : Bool) (r : Continuation) (n : Span) (b : SuiteStack) → place < length tokens → header ≡ header_at (bare (view_tokens tokens)) place → StandsAt (view_tokens tokens) place s → step s (record { kind = kind_at (get_or tokens place d); header = header }) (first_at (get_or tokens place d)) (last_at (get_or tokens place d)) ≡ reads r n b (expression.step (start (goal r)) (class (kind_at (get_or tokens place d)))) → n.last ≡ last_at (get_or tokens place d) → ReadsFrom (view_tokens tokens) place r n b
 reading_turn tokens place d s header r n b lt is stands makes last =
     let u = get_or tokens place d in
     record {
       state = s;
       stands = stands;
       turn = λ t more at_t. (let same = token_is tokens place d t more lt at_t in (
-        step_is tokens place d s header lt is t more at_t ∙ makes ∙ ap (λ (k : Kind). reads r n b (expression.step (start (goal r)) (role k))) (sym (ap bare_token same ∙ kind_is u)),
+        step_is tokens place d s header lt is t more at_t ∙ makes ∙ ap (λ (k : Kind). reads r n b (expression.step (start (goal r)) (class k))) (sym (ap bare_token same ∙ kind_is u)),
         last ∙ sym (ap last_of same ∙ last_is u),
       ));
     }
 
-pub matching_turn : (tokens : List Token) (place : ℕ) (d : Token) (s : State) (header : Bool) (e : Expr) (l : ℕ) (cs : Cases) (n : Lines) (b : Block) → place < length tokens → header ≡ header_at (bare (view_tokens tokens)) place → StandsAt (view_tokens tokens) place s → step s (record { kind = kind_at (get_or tokens place d); header = header }) (first_at (get_or tokens place d)) (last_at (get_or tokens place d)) ≡ act (Matching e l cs pattern.start) n b (kind_at (get_or tokens place d)) (first_at (get_or tokens place d)) (last_at (get_or tokens place d)) → MatchesFrom (view_tokens tokens) place e l cs n b
+pub matching_turn : (tokens : List Token) (place : ℕ) (d : Token) (s : State) (header : Bool) (e : Expr) (l : ℕ) (cs : Cases) (n : Span) (b : SuiteStack) → place < length tokens → header ≡ header_at (bare (view_tokens tokens)) place → StandsAt (view_tokens tokens) place s → step s (record { kind = kind_at (get_or tokens place d); header = header }) (first_at (get_or tokens place d)) (last_at (get_or tokens place d)) ≡ act (Matching e l cs pattern.start) n b (kind_at (get_or tokens place d)) (first_at (get_or tokens place d)) (last_at (get_or tokens place d)) → MatchesFrom (view_tokens tokens) place e l cs n b
 matching_turn tokens place d s header e l cs n b lt is stands makes =
     let u = get_or tokens place d in
     record {
@@ -82,8 +82,8 @@ line_before_is : (tokens : List Token) (q : ℕ) (d : Token) → 0 < q → q ≤
 line_before_is tokens zero d some le = absurd (omega arith)
 line_before_is tokens (suc p) d some le = let one : suc p - 1 ≡ p = omega arith in last_here tokens p d (omega arith) ∙ ap (λ (n : ℕ). last_at (get_or tokens n d)) (sym one)
 
--- behind an expression or a pattern
-pub resuming : (tokens : List Token) (place q : ℕ) (d d' : Token) (o : Lines → Kind → ℕ → Option State) (n : Lines) (w : Option State) → Resumes (view_tokens tokens) place q o n → q < length tokens → o (record { begun = n.begun; first = n.first; last = last_at (get_or tokens (q - 1) d') }) (kind_at (get_or tokens q d)) (last_at (get_or tokens q d)) ≡ w → Turns (view_tokens tokens) q (λ t v. v ≡ w)
+-- after an expression or a pattern
+pub resuming : (tokens : List Token) (place q : ℕ) (d d' : Token) (o : Span → Kind → ℕ → Option State) (n : Span) (w : Option State) → Resumes (view_tokens tokens) place q o n → q < length tokens → o (record { begun = n.begun; first = n.first; last = last_at (get_or tokens (q - 1) d') }) (kind_at (get_or tokens q d)) (last_at (get_or tokens q d)) ≡ w → Turns (view_tokens tokens) q (λ t v. v ≡ w)
 resuming tokens place q d d' o n w h lt makes =
     let turns = h.turns in
     let u = get_or tokens q d in
@@ -119,5 +119,5 @@ line_last (t ∷ []) (suc p) d some h = let one : suc p - 1 ≡ 0 = omega arith 
 line_last (t ∷ u ∷ tokens) zero d some h = absurd (omega arith)
 line_last (t ∷ u ∷ tokens) (suc p) d some h = let one : suc p - 1 ≡ suc (p - 1) = omega arith in line_last (u ∷ tokens) p d (omega arith) (omega arith) ∙ ap (λ (n : ℕ). last_at (get_or (t ∷ u ∷ tokens) n d)) (sym one)
 
-pub line_behind : (tokens : List Token) (p : ℕ) (d : Token) → 0 < p → p ≡ length tokens → last_at (get_or tokens (p - 1) d) ≡ line_of (view_tokens tokens) p
-line_behind tokens p d some h = sym (line_last tokens p d some h)
+pub line_after : (tokens : List Token) (p : ℕ) (d : Token) → 0 < p → p ≡ length tokens → last_at (get_or tokens (p - 1) d) ≡ line_of (view_tokens tokens) p
+line_after tokens p d some h = sym (line_last tokens p d some h)

@@ -16,8 +16,8 @@ use Rattle.py_syntax.specs.View.{plain_expr, plain_exprs, plain_kind, plain_suit
 use Rattle.py_parse.specs.Open.{with_else, an_else}
 use Rattle.py_parse.specs.Machine.{ColonWanted, arm_test, wanted, is_some, is_whole, assigned, next_part}
 use Rattle.py_parse.specs.Levels.{begins_at}
-use Rattle.py_parse.specs.HeldLists.{some_exprs, some_arms, some_clauses, some_cases}
-use Rattle.py_parse.proofs.Held.{plain-arms, plain-clauses, plain-cases}
+use Rattle.py_parse.specs.ViewLists.{some_exprs, some_arms, some_clauses, some_cases}
+use Rattle.py_parse.proofs.Views.{plain-arms, plain-clauses, plain-cases}
 
 pub plain-If : (as' : Vec Arm Global) (o : Option SuiteNode) → plain_kind (kind.If as' o) ≡ if' (plain_arms as'.items) (plain_opt_suite o)
 plain-If as' None = search kind.the_lemmas
@@ -39,9 +39,6 @@ plain-Try b cs None None = search kind.the_lemmas
 plain-Try b cs None (Some s) = search kind.the_lemmas
 plain-Try b cs (Some s) None = search kind.the_lemmas
 plain-Try b cs (Some s) (Some u) = search kind.the_lemmas
-
-pub plain-Def : (x : Text) (ps : Vec Text Global) (ds : Vec Node Global) (c : Bool) (b : SuiteNode) → plain_kind (kind.Def x ps ds c b) ≡ def x ps.items (plain_exprs ds.items) c (plain_suite b)
-plain-Def x ps ds c b = search kind.the_lemmas
 
 -- ---- an `else` more
 

@@ -21,12 +21,12 @@ use Rattle.py_syntax.specs.Tree as tree_
 use Rattle.py_syntax.specs.Tree.{Stmts, stmt, suite, StmtKind, exprs, Arms, arm, Clauses, clause, Cases, case}
 use Rattle.py_syntax.specs.View.{plain_expr, plain_exprs, plain_pattern, plain_kind, plain_suite, plain_stmts, plain_arms, plain_clauses, plain_cases, plain_alias, plain_aliases}
 use Rattle.py_grammar.specs.Machine.{snoc}
-use Rattle.py_parse.specs.declared.block.Open.{Open}
-use Rattle.py_parse.specs.Open.{snoc_stmt, snoc_arm, snoc_clause, snoc_case, Block, inside, add}
+use Rattle.py_parse.specs.declared.suite_stack.Open.{Open}
+use Rattle.py_parse.specs.Open.{snoc_stmt, snoc_arm, snoc_clause, snoc_case, SuiteStack, inside, add}
 use Rattle.py_parse.specs.Machine.{Line, close, over_line}
-use Rattle.py_parse.specs.HeldOwners.{view_owner}
+use Rattle.py_parse.specs.ViewSuiteOf.{view_suite_of}
 use Rattle.py_parse.specs.Levels.{open_count}
-use Rattle.py_parse.specs.HeldStates.{blocks, Opens, SharesLine, is_closable, is_top}
+use Rattle.py_parse.specs.ViewStates.{suite_stack, Opens, SharesLine, is_closable, is_top}
 
 pub plain-arms : (a : Arm) (rest : List Arm) → plain_arms (a ∷ rest) ≡ arm (plain_expr (out-Arm a).test) (plain_suite (out-Arm a).body) (plain_arms rest)
 plain-arms a rest = search arms.the_lemmas
@@ -69,23 +69,23 @@ aliases_snoc (x ∷ xs) a = ap (λ (ys : List tree_.Alias). plain_alias x ∷ ys
 
 -- ---- open suites
 
-pub block_added : (ss : Stmts) (os : List Open) (first last : ℕ) (k : StmtKind) (e : LineEnd) → blocks (snoc_stmt ss first last k e) os ≡ add (blocks ss os) first last k e
+pub block_added : (ss : Stmts) (os : List Open) (first last : ℕ) (k : StmtKind) (e : LineEnd) → suite_stack (snoc_stmt ss first last k e) os ≡ add (suite_stack ss os) first last k e
 block_added ss [] first last k e = refl
 block_added ss (o ∷ os) first last k e = refl
 
 pub reverse_snoc : (os : List Open) (o : Open) → reverse (os ++ o ∷ []) ≡ o ∷ reverse os
 reverse_snoc os o = reverse-append os (o ∷ [])
 
-pub block_opened : (ss inner : Stmts) (os : List Open) (o : Open) → blocks inner (reverse (os ++ o ∷ [])) ≡ inside inner o.inline o.lines.first o.lines.last o.lines.begun (view_owner o.owner.value) (blocks (plain_stmts o.outer.items) (reverse os))
-block_opened ss inner os o = ap (blocks inner) (reverse_snoc os o)
+pub block_opened : (ss inner : Stmts) (os : List Open) (o : Open) → suite_stack inner (reverse (os ++ o ∷ [])) ≡ inside inner o.inline o.span.first o.span.last o.span.begun (view_suite_of o.suite_of.value) (suite_stack (plain_stmts o.outer.items) (reverse os))
+block_opened ss inner os o = ap (suite_stack inner) (reverse_snoc os o)
 
 -- the innermost suite is taken out
 pub block_popped : (ss : Stmts) (new : List Open) (o : Open) → Opens ss (new ++ o ∷ []) new (Some o)
-block_popped ss new o = ap (blocks ss) (reverse_snoc new o)
+block_popped ss new o = ap (suite_stack ss) (reverse_snoc new o)
 
 -- ---- the innermost suite
 
--- a list is empty, or others with one behind them
+-- a list is empty, or others with one after them
 abbrev Ends : List Open → Type 0
 Ends os = (os ≡ []) ⊎ ((init : List Open) × (o : Open) × (os ≡ init ++ o ∷ []))
 
@@ -103,8 +103,8 @@ last_of_snoc init o =
     ap (slice_get (init ++ o ∷ [])) at ∙ get_last init o
 
 -- the blocks with the last one innermost
-pub block_last : (ss : Stmts) (os : List Open) (o : Open) → slice_get os (length os - 1) ≡ Some o → (b : Block) × (blocks ss (reverse os) ≡ inside ss o.inline o.lines.first o.lines.last o.lines.begun (view_owner o.owner.value) b)
-block_last ss os o h = elim (ends os) [ inl none ↦ absurd (nothing none) | inr r ↦ (blocks (plain_stmts o.outer.items) (reverse r.0), ap (λ (xs : List Open). blocks ss (reverse xs)) r.2 ∙ ap (blocks ss) (reverse_snoc r.0 r.1 ∙ ap (λ (q : Open). q ∷ reverse r.0) (same r.0 r.1 r.2))) ]
+pub block_last : (ss : Stmts) (os : List Open) (o : Open) → slice_get os (length os - 1) ≡ Some o → (b : SuiteStack) × (suite_stack ss (reverse os) ≡ inside ss o.inline o.span.first o.span.last o.span.begun (view_suite_of o.suite_of.value) b)
+block_last ss os o h = elim (ends os) [ inl none ↦ absurd (nothing none) | inr r ↦ (suite_stack (plain_stmts o.outer.items) (reverse r.0), ap (λ (xs : List Open). suite_stack ss (reverse xs)) r.2 ∙ ap (suite_stack ss) (reverse_snoc r.0 r.1 ∙ ap (λ (q : Open). q ∷ reverse r.0) (same r.0 r.1 r.2))) ]
   where
     nothing : os ≡ [] → ⊥
     nothing none = let both = sym (ap (λ (xs : List Open). slice_get xs (length xs - 1)) none) ∙ h in cc
@@ -112,33 +112,33 @@ block_last ss os o h = elim (ends os) [ inl none ↦ absurd (nothing none) | inr
     same : (init : List Open) (p : Open) → os ≡ init ++ p ∷ [] → p ≡ o
     same init p is = let both = sym (last_of_snoc init p) ∙ sym (ap (λ (xs : List Open). slice_get xs (length xs - 1)) is) ∙ h in cc
 
-pub line_shared : (ss : Stmts) (os : List Open) (o : Open) → slice_get os (length os - 1) ≡ Some o → SharesLine (blocks ss (reverse os)) o.inline
+pub line_shared : (ss : Stmts) (os : List Open) (o : Open) → slice_get os (length os - 1) ≡ Some o → SharesLine (suite_stack ss (reverse os)) o.inline
 line_shared ss os o h l = let b = block_last ss os o h in rw b.1 (go o.inline)
   where
-    go : (i : Bool) → over_line (inside ss i o.lines.first o.lines.last o.lines.begun (view_owner o.owner.value) (block_last ss os o h).0) l ≡ cond i (close (inside ss i o.lines.first o.lines.last o.lines.begun (view_owner o.owner.value) (block_last ss os o h).0) l) (Line (inside ss i o.lines.first o.lines.last o.lines.begun (view_owner o.owner.value) (block_last ss os o h).0))
+    go : (i : Bool) → over_line (inside ss i o.span.first o.span.last o.span.begun (view_suite_of o.suite_of.value) (block_last ss os o h).0) l ≡ cond i (close (inside ss i o.span.first o.span.last o.span.begun (view_suite_of o.suite_of.value) (block_last ss os o h).0) l) (Line (inside ss i o.span.first o.span.last o.span.begun (view_suite_of o.suite_of.value) (block_last ss os o h).0))
     go true = refl
     go false = refl
 
-pub block_ends : (body : List Stmt) (os : List Open) (o : Open) → slice_get os (length os - 1) ≡ Some o → (not o.inline && not (length body == 0)) ≡ is_closable (blocks (plain_stmts body) (reverse os))
+pub block_ends : (body : List Stmt) (os : List Open) (o : Open) → slice_get os (length os - 1) ≡ Some o → (not o.inline && not (length body == 0)) ≡ is_closable (suite_stack (plain_stmts body) (reverse os))
 block_ends body os o h = let b = block_last (plain_stmts body) os o h in go body o.inline b.0 ∙ sym (ap is_closable b.1)
   where
-    go : (body : List Stmt) (i : Bool) (b : Block) → (not i && not (length body == 0)) ≡ is_closable (inside (plain_stmts body) i o.lines.first o.lines.last o.lines.begun (view_owner o.owner.value) b)
+    go : (body : List Stmt) (i : Bool) (b : SuiteStack) → (not i && not (length body == 0)) ≡ is_closable (inside (plain_stmts body) i o.span.first o.span.last o.span.begun (view_suite_of o.suite_of.value) b)
     go [] true b = refl
     go [] false b = refl
-    go (s ∷ rest) true b = sym (ap (λ (ss : Stmts). is_closable (inside ss true o.lines.first o.lines.last o.lines.begun (view_owner o.owner.value) b)) (plain-stmts s rest))
-    go (s ∷ rest) false b = ap not (ne_eqb (suc (length rest)) 0 (λ e. absurd (omega arith))) ∙ sym (ap (λ (ss : Stmts). is_closable (inside ss false o.lines.first o.lines.last o.lines.begun (view_owner o.owner.value) b)) (plain-stmts s rest))
+    go (s ∷ rest) true b = sym (ap (λ (ss : Stmts). is_closable (inside ss true o.span.first o.span.last o.span.begun (view_suite_of o.suite_of.value) b)) (plain-stmts s rest))
+    go (s ∷ rest) false b = ap not (ne_eqb (suc (length rest)) 0 (λ e. absurd (omega arith))) ∙ sym (ap (λ (ss : Stmts). is_closable (inside ss false o.span.first o.span.last o.span.begun (view_suite_of o.suite_of.value) b)) (plain-stmts s rest))
 
-pub block_top : (ss : Stmts) (os : List Open) → (length os == 0) ≡ is_top (blocks ss (reverse os))
-block_top ss os = elim (ends os) [ inl none ↦ ap (λ (xs : List Open). length xs == 0) none ∙ sym (ap (λ (xs : List Open). is_top (blocks ss (reverse xs))) none) | inr r ↦ long r.0 r.1 r.2 ]
+pub block_top : (ss : Stmts) (os : List Open) → (length os == 0) ≡ is_top (suite_stack ss (reverse os))
+block_top ss os = elim (ends os) [ inl none ↦ ap (λ (xs : List Open). length xs == 0) none ∙ sym (ap (λ (xs : List Open). is_top (suite_stack ss (reverse xs))) none) | inr r ↦ long r.0 r.1 r.2 ]
   where
-    long : (init : List Open) (o : Open) → os ≡ init ++ o ∷ [] → (length os == 0) ≡ is_top (blocks ss (reverse os))
+    long : (init : List Open) (o : Open) → os ≡ init ++ o ∷ [] → (length os == 0) ≡ is_top (suite_stack ss (reverse os))
     long init o is =
         let some : length os ≡ suc (length init) = omega (arith, ap length is, length-append init (o ∷ [])) in
-        ne_eqb (length os) 0 (λ e. absurd (omega arith)) ∙ sym (ap is_top (ap (λ (xs : List Open). blocks ss (reverse xs)) is ∙ ap (blocks ss) (reverse_snoc init o)))
+        ne_eqb (length os) 0 (λ e. absurd (omega arith)) ∙ sym (ap is_top (ap (λ (xs : List Open). suite_stack ss (reverse xs)) is ∙ ap (suite_stack ss) (reverse_snoc init o)))
 
-pub open_count_is : (ss : Stmts) (os : List Open) → open_count (blocks ss (reverse os)) ≡ length os
+pub open_count_is : (ss : Stmts) (os : List Open) → open_count (suite_stack ss (reverse os)) ≡ length os
 open_count_is ss os = count ss (reverse os) ∙ length-reverse os
   where
-    count : (ss : Stmts) (os : List Open) → open_count (blocks ss os) ≡ length os
+    count : (ss : Stmts) (os : List Open) → open_count (suite_stack ss os) ≡ length os
     count ss [] = refl
     count ss (o ∷ os) = ap suc (count (plain_stmts o.outer.items) os)

@@ -5,13 +5,13 @@ use Rattle.py_syntax.specs.Headers.{Marked}
 use Rattle.py_syntax.specs.Statements.{EndLines, NormalStmts, stmts_height, stmts_nesting}
 use Rattle.py_syntax.specs.Spelling.{module_tokens}
 use Rattle.py_grammar.proofs.Exact as exact
-use Rattle.py_parse.specs.Machine.{State, Line, at, Behind, Choosing, Over, begun, done}
+use Rattle.py_parse.specs.Machine.{State, Line, at, After, Choosing, Over, begun, done}
 use Rattle.py_parse.specs.Least.{finished, least_nesting}
 use Rattle.py_parse.specs.Places.{run, relined}
 use Rattle.py_parse.proofs.Before.{before}
-use Rattle.py_parse.proofs.Fine.{Fine}
+use Rattle.py_parse.proofs.Valid.{Valid}
 use Rattle.py_parse.proofs.SoundSteps.{step_reads}
-use Rattle.py_parse.proofs.Keeps.{step_keeps, fine_begun}
+use Rattle.py_parse.proofs.Keeps.{step_keeps, valid_begun}
 use Rattle.py_parse.proofs.GrowthSteps.{grows}
 use Rattle.py_parse.proofs.Finish.{finish, last_line}
 use Rattle.py_parse.proofs.Finishes.{state_ends}
@@ -31,22 +31,22 @@ least_size s = size (finished s)
 
 -- ---- what the machine reads
 
-fine_next : (s : State) (t : Lexeme) (n : State) → Fine s → next s t ≡ Some n → Fine n
-fine_next s t n h is = step_keeps s n t.mark t.first t.last h is
+valid_next : (s : State) (t : Lexeme) (n : State) → Valid s → next s t ≡ Some n → Valid n
+valid_next s t n h is = step_keeps s n t.mark t.first t.last h is
 
 -- Over a whole list, what was read stays before the state, which stays fine.
-reads : (s last : State) (ts : List Lexeme) → Fine s → reading s ts ≡ Some last → Fine last × (before last [] ≡ before s (marks ts))
-reads s last [] fine h = let same : s ≡ last = cc in (subst Fine same fine, ap (λ (x : State). before x []) (sym same))
-reads s last (t ∷ ts) fine h = go (λ n. reads n last ts) (next s t) refl h
+reads : (s last : State) (ts : List Lexeme) → Valid s → reading s ts ≡ Some last → Valid last × (before last [] ≡ before s (marks ts))
+reads s last [] valid h = let same : s ≡ last = cc in (subst Valid same valid, ap (λ (x : State). before x []) (sym same))
+reads s last (t ∷ ts) valid h = go (λ n. reads n last ts) (next s t) refl h
   where
-    go : ((n : State) → Fine n → reading n ts ≡ Some last → Fine last × (before last [] ≡ before n (marks ts))) → (o : Option State) → next s t ≡ o → (elim o as (λ (w : Option State). Option State) [ None ↦ None | Some n ↦ reading n ts ]) ≡ Some last → Fine last × (before last [] ≡ before s (t.mark ∷ marks ts))
+    go : ((n : State) → Valid n → reading n ts ≡ Some last → Valid last × (before last [] ≡ before n (marks ts))) → (o : Option State) → next s t ≡ o → (elim o as (λ (w : Option State). Option State) [ None ↦ None | Some n ↦ reading n ts ]) ≡ Some last → Valid last × (before last [] ≡ before s (t.mark ∷ marks ts))
     go rec None is h = absurd cc
-    go rec (Some n) is h = let r = rec n (fine_next s t n fine is) h in (r.0, r.1 ∙ step_reads s n t.mark t.first t.last (marks ts) fine is)
+    go rec (Some n) is h = let r = rec n (valid_next s t n valid is) h in (r.0, r.1 ∙ step_reads s n t.mark t.first t.last (marks ts) valid is)
 
 done_over : (s : State) (m : Stmts) → done s ≡ Some m → s ≡ Over m
 done_over (Line b) m h = absurd cc
 done_over (at p n b) m h = absurd cc
-done_over (Behind k first last b) m h = absurd cc
+done_over (After k first last b) m h = absurd cc
 done_over (Choosing e last cs first b) m h = absurd cc
 done_over (Over ss) m h = let same : ss ≡ m = cc in ap Over same
 
@@ -59,7 +59,7 @@ complete m ts h = (Over m, read_relined m ts h.0 h.1 h.2 ∙ ap (λ (x : Stmts).
 
 pub sound_over : (ts : List Lexeme) (m : Stmts) → reading begun ts ≡ Some (Over m) → Spelled m ts
 sound_over ts m h =
-    let r = reads begun (Over m) ts fine_begun h in
+    let r = reads begun (Over m) ts valid_begun h in
     let both : Some (Over (relined (source ts) m 0)) ≡ Some (Over m) = sym (read_relined m ts r.0.0 r.0.1 r.1) ∙ h in
     (r.0.0, r.0.1, r.1, over both)
   where
@@ -78,14 +78,14 @@ module _ (measure : Stmts → ℕ) (rises : (s : State) (t : Lexeme) (n : State)
   done_lowest : (s : State) (m : Stmts) → done s ≡ Some m → lowest s ≡ measure m
   done_lowest s m h = ap lowest (done_over s m h)
 
-  completes : (s : State) → Fine s → (more : List Lexeme) × (last : State) × (m : Stmts) × (reading s more ≡ Some last) × (done last ≡ Some m) × (measure m ≡ lowest s)
-  completes s fine = (lined (last_line s) (finish s), Over (finished s), finished s, lined_reads (last_line s) s (finish s) ∙ state_ends s fine, refl, refl)
+  completes : (s : State) → Valid s → (more : List Lexeme) × (last : State) × (m : Stmts) × (reading s more ≡ Some last) × (done last ≡ Some m) × (measure m ≡ lowest s)
+  completes s valid = (lined (last_line s) (finish s), Over (finished s), finished s, lined_reads (last_line s) s (finish s) ∙ state_ends s valid, refl, refl)
 
   viable_from : (limit : ℕ) (front : List Lexeme) (s : State) → reading begun front ≡ Some s → lowest s ≤ limit → exact.Viable Spelled measure limit front
-  viable_from = exact.viable_from Spelled measure begun next done lowest Fine fine_begun fine_next rises done_lowest complete sound completes
+  viable_from = exact.viable_from Spelled measure begun next done lowest Valid valid_begun valid_next rises done_lowest complete sound completes
 
   viable_to : (limit : ℕ) (front : List Lexeme) → exact.Viable Spelled measure limit front → (s : State) × (reading begun front ≡ Some s) × (lowest s ≤ limit)
-  viable_to = exact.viable_to Spelled measure begun next done lowest Fine fine_begun fine_next rises done_lowest complete sound completes
+  viable_to = exact.viable_to Spelled measure begun next done lowest Valid valid_begun valid_next rises done_lowest complete sound completes
 
 -- ---- both limits, and suites alone
 
@@ -110,10 +110,10 @@ nests_to = viable_to stmts_nesting nesting_rises
 -- ---- without limits
 
 pub begins_from : (front : List Lexeme) (s : State) → reading begun front ≡ Some s → exact.Begins Spelled front
-begins_from = exact.begins_from Spelled size begun next done least_size Fine fine_begun fine_next size_rises (done_lowest size size_rises) complete sound (completes size size_rises)
+begins_from = exact.begins_from Spelled size begun next done least_size Valid valid_begun valid_next size_rises (done_lowest size size_rises) complete sound (completes size size_rises)
 
 pub begins_to : (front : List Lexeme) → exact.Begins Spelled front → (s : State) × (reading begun front ≡ Some s)
-begins_to = exact.begins_to Spelled size begun next done least_size Fine fine_begun fine_next size_rises (done_lowest size size_rises) complete sound (completes size size_rises)
+begins_to = exact.begins_to Spelled size begun next done least_size Valid valid_begun valid_next size_rises (done_lowest size size_rises) complete sound (completes size size_rises)
 
 pub one_tree : (m n : Stmts) (ts : List Lexeme) → Spelled m ts → Spelled n ts → m ≡ n
-one_tree = exact.one_tree Spelled size begun next done least_size Fine fine_begun fine_next size_rises (done_lowest size size_rises) complete sound (completes size size_rises)
+one_tree = exact.one_tree Spelled size begun next done least_size Valid valid_begun valid_next size_rises (done_lowest size size_rises) complete sound (completes size size_rises)

@@ -141,7 +141,7 @@ deep_expressions ts place s n t rest h is steps shallow high = (
   nests_within (place + 1) ts n (after ts place s t rest h is ∙ steps) shallow,
 )
 
--- The tree is whole and nothing stands behind its end.
+-- The tree is whole and nothing stands after its end.
 pub whole_list : (ts : List PToken) (m : Stmts) → Stands ts (length ts) (Over m) → Spells m ts × (stmts_height m ≤ HEIGHT) × (stmts_nesting m ≤ NESTING)
 whole_list ts m h =
     let long = count ts in

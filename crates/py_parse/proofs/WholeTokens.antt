@@ -29,7 +29,7 @@ lexemes (m ∷ ms) (t ∷ ts) = record { mark = m; first = first_of t; last = la
 abbrev pub with_lines : List PToken → List Lexeme
 with_lines ts = lexemes (marked (bare ts)) ts
 
--- the state behind so many tokens
+-- the state after so many tokens
 abbrev pub reached : ℕ → List PToken → Option State
 reached n ts = reading begun (take n (with_lines ts))
 

@@ -1,4 +1,10 @@
 -- The least module that a state can be completed to: it is the least in height, and in suites inside each other.
+--     pass_line, pass_suite               the least suite
+--     ended, chosen                       statements that have all that they need
+--     ending, closing                     the open suites end
+--     Form, resumed, with_param, form     what a place inside a statement is completed to
+--     complete, finished                  the least module of a state
+--     least_height, least_nesting         its height, and how deep its suites stand
 --
 -- What is added stands on the last line that was read.
 use Rattle.std.specs.Prelude.{ℕ, Bool, true, false, List, [], ◌∷◌, ◌++◌, Some, None}
@@ -10,8 +16,8 @@ use Rattle.py_grammar.specs.Machine.{snoc}
 use Rattle.py_grammar.specs.Least as expression
 use Rattle.py_grammar.specs.Least.{least_name}
 use Rattle.py_parse_pattern.specs.Machine as pattern
-use Rattle.py_parse.specs.Open.{snoc_stmt, no_end, newline_end, both_end, Owner, an_arm, a_while, a_for, a_clause, a_def, a_case, closed, Block, top, inside}
-use Rattle.py_parse.specs.Machine.{Resume, value, augmented, leaving, asserted, reason, arm_test, while_test, for_target, for_over, clause_kind, subject, guard, default, froms, Place, Reading, Matching, Simple, Semicolon, Leaving, NameWanted, NameRead, BoundWanted, BoundRead, ModuleWanted, ImportWanted, FunctionWanted, ParamsWanted, ParamWanted, ParamRead, Except, ClauseBound, ColonWanted, SuiteWanted, IndentWanted, MatchLine, MatchBlock, Lines, State, Line, at, Behind, Choosing, Over, assigned, left, listed, with_name, is_some}
+use Rattle.py_parse.specs.Open.{snoc_stmt, no_end, newline_end, both_end, SuiteOf, an_arm, a_while, a_for, a_clause, a_def, a_case, closed, SuiteStack, top, inside}
+use Rattle.py_parse.specs.Machine.{Continuation, value, augmented, leaving, asserted, reason, arm_test, while_test, for_target, for_over, clause_kind, subject, guard, default, froms, Place, Reading, Matching, Simple, Semicolon, Leaving, NameWanted, NameRead, BoundWanted, BoundRead, ModuleWanted, ImportWanted, FunctionWanted, ParamsWanted, ParamWanted, ParamRead, Except, ClauseBound, ColonWanted, SuiteWanted, IndentWanted, MatchLine, MatchBlock, Span, State, Line, at, After, Choosing, Over, assigned, left, listed, with_name, is_some}
 
 -- `pass` alone, as statements and as a suite on the line of its header
 abbrev pub pass_line : ℕ → Stmts
@@ -47,13 +53,13 @@ abbrev pub chosen : ℕ → Expr → ℕ → Cases → StmtKind
 chosen l e header_last no_cases = match e header_last (case wild None (pass_suite l) no_cases)
 chosen l e header_last (case p g b cs) = match e header_last (case p g b cs)
 
--- The open suites end, from the inside, behind one statement more.
-abbrev pub ending : ℕ → Block → ℕ → ℕ → StmtKind → LineEnd → Stmts
+-- The open suites end, from the inside, after one statement more.
+abbrev pub ending : ℕ → SuiteStack → ℕ → ℕ → StmtKind → LineEnd → Stmts
 ending l (top ss) first last k e = snoc_stmt ss first last k e
 ending l (inside ss inline f g begun o b) first last k e = ending l b begun l (ended l (closed o (suite f g inline (snoc_stmt ss first last k e)))) no_end
 
 -- They end where a statement may begin. A block that was just opened gets one.
-abbrev pub closing : ℕ → Block → Stmts
+abbrev pub closing : ℕ → SuiteStack → Stmts
 closing l (top ss) = ss
 closing l (inside no_stmts inline first last begun o b) = ending l b begun l (ended l (closed o (suite first last inline (pass_line l)))) no_end
 closing l (inside ss inline first last begun o b) = ending l b begun l (ended l (closed o (suite first last inline ss))) no_end
@@ -61,10 +67,10 @@ closing l (inside ss inline first last begun o b) = ending l b begun l (ended l 
 -- What a place inside a statement or a header is completed to.
 pub data Form : Type 0 where
   a_statement : (k : StmtKind) (e : LineEnd) → Form
-  a_header : (inline : Bool) (o : Owner) → Form
+  a_header : (inline : Bool) (o : SuiteOf) → Form
   a_match : (e : Expr) (header_last : ℕ) → Form
 
-abbrev pub resumed : Resume → Expr → ℕ → Form
+abbrev pub resumed : Continuation → Expr → ℕ → Form
 resumed (value ts) e l = a_statement (assigned ts e) newline_end
 resumed (augmented p op) e l = a_statement (aug_assign p op e) newline_end
 resumed (leaving raises) e l = a_statement (left raises (Some e)) newline_end
@@ -80,7 +86,7 @@ resumed (guard e' last cs p) e l = a_header true (a_case e' last cs p (Some e))
 resumed (default x ps ds y) e l = a_header true (a_def x (ps ++ y ∷ []) (snoc ds e) false)
 
 -- the parameters with this one, which has a default where one stands in front of it
-abbrev pub with_param : Text → List Text → Exprs → Text → Owner
+abbrev pub with_param : Text → List Text → Exprs → Text → SuiteOf
 with_param x ps no_exprs y = a_def x (ps ++ y ∷ []) no_exprs false
 with_param x ps (exprs d ds) y = a_def x (ps ++ y ∷ []) (snoc (exprs d ds) least_name) false
 
@@ -108,7 +114,7 @@ form (IndentWanted o) l = a_header false o
 form (MatchLine e last) l = a_match e last
 form (MatchBlock e last) l = a_match e last
 
-abbrev pub complete : Form → Lines → Block → Stmts
+abbrev pub complete : Form → Span → SuiteStack → Stmts
 complete (a_statement k e) n b = ending n.last b n.begun n.last k e
 complete (a_header inline o) n b = ending n.last b n.begun n.last (ended n.last (closed o (suite n.first n.last inline (pass_line n.last)))) no_end
 complete (a_match e header_last) n b = ending n.last b n.begun n.last (chosen n.last e header_last no_cases) no_end
@@ -116,7 +122,7 @@ complete (a_match e header_last) n b = ending n.last b n.begun n.last (chosen n.
 abbrev pub finished : State → Stmts
 finished (Line b) = closing 0 b
 finished (at p n b) = complete (form p n.last) n b
-finished (Behind k first last b) = ending last b first last (ended last k) no_end
+finished (After k first last b) = ending last b first last (ended last k) no_end
 finished (Choosing e header_last cs first b) = ending 0 b first 0 (chosen 0 e header_last cs) no_end
 finished (Over ss) = ss
 

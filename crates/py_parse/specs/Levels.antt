@@ -3,8 +3,8 @@ use Rattle.std.specs.Prelude.{ℕ, suc, Bool, true, false, cond, ◌&&◌}
 use Rattle.py_syntax.specs.Tree.{no_arms, arm}
 use Rattle.py_grammar.specs.Machine as expression
 use Rattle.py_grammar.specs.Machine.{Want, Outside}
-use Rattle.py_parse.specs.Open.{Block, top, inside, Owner, an_arm, a_while, a_for, a_try, a_clause, an_else, a_finally, a_def, a_case}
-use Rattle.py_parse.specs.Machine.{Resume, value, augmented, leaving, asserted, reason, arm_test, while_test, for_target, for_over, clause_kind, subject, guard, default, Place, Reading, Matching, Simple, Semicolon, Leaving, NameWanted, NameRead, BoundWanted, BoundRead, ModuleWanted, ImportWanted, FunctionWanted, ParamsWanted, ParamWanted, ParamRead, Except, ClauseBound, ColonWanted, SuiteWanted, IndentWanted, MatchLine, MatchBlock, State, at}
+use Rattle.py_parse.specs.Open.{SuiteStack, top, inside, SuiteOf, an_arm, a_while, a_for, a_try, a_clause, an_else, a_finally, a_def, a_case}
+use Rattle.py_parse.specs.Machine.{Continuation, value, augmented, leaving, asserted, reason, arm_test, while_test, for_target, for_over, clause_kind, subject, guard, default, Place, Reading, Matching, Simple, Semicolon, Leaving, NameWanted, NameRead, BoundWanted, BoundRead, ModuleWanted, ImportWanted, FunctionWanted, ParamsWanted, ParamWanted, ParamRead, Except, ClauseBound, ColonWanted, SuiteWanted, IndentWanted, MatchLine, MatchBlock, State, at}
 
 -- nothing of the expression is read
 abbrev pub is_start : expression.State → Bool
@@ -12,7 +12,7 @@ is_start (Want l (Outside g)) = true
 is_start s = false
 
 -- a compound statement has just begun, where an expression is read in its header
-abbrev pub begins_header : Resume → Bool
+abbrev pub begins_header : Continuation → Bool
 begins_header (value ts) = false
 begins_header (augmented p op) = false
 begins_header (leaving raises) = false
@@ -29,7 +29,7 @@ begins_header (guard e last cs p) = false
 begins_header (default x ps ds y) = false
 
 -- and where its colon is wanted
-abbrev pub begins_suite : Owner → Bool
+abbrev pub begins_suite : SuiteOf → Bool
 begins_suite (an_arm arms t) = false
 begins_suite (a_while t) = false
 begins_suite (a_for t e) = false
@@ -65,7 +65,7 @@ begins_at (IndentWanted o) = false
 begins_at (MatchLine e last) = false
 begins_at (MatchBlock e last) = false
 
-abbrev pub open_count : Block → ℕ
+abbrev pub open_count : SuiteStack → ℕ
 open_count (top ss) = 0
 open_count (inside ss inline first last begun o b) = suc (open_count b)
 

@@ -3,11 +3,11 @@ pub mod Machine
 pub mod Least
 pub mod Places
 pub mod Refusal
-pub mod HeldOwners
-pub mod HeldStates
-pub mod HeldParts
-pub mod HeldMarks
+pub mod ViewSuiteOf
+pub mod ViewStates
+pub mod ViewParts
+pub mod ViewMarks
 pub mod Levels
 pub mod Progress
-pub mod HeldLists
-pub mod HeldBlocks
+pub mod ViewLists
+pub mod ViewBlocks

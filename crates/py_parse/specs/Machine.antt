@@ -1,11 +1,20 @@
 -- The reader of statements as a machine: open suites, a place in them, and a step for each token. No limits stand in it.
+--     Continuation, Listed, Place, Span              where a statement is read, and what for
+--     State                                          where a module is read
+--     close .. end_header                            lines and suites end
+--     begun_at .. line                               statements begin
+--     next_part, is_whole                            statements go on after a suite
+--     in_place_op .. resume_pattern                  what comes after an expression or a pattern
+--     listed .. is_some                              listed names
+--     act, choose, plain_step, header_step, step     the steps
+--     begun, done                                    nothing is read, and all is
 --
 -- A step takes a token, whether the header of a `match` statement begins at it, and its lines. Lines go into the trees and
 -- decide nothing. An expression or a pattern that is being read is a state of its own machine, with what it is for.
 --
--- A state stands at the beginning of a line, inside a simple statement or a header, behind a suite of a statement that may
--- go on, between the cases of a `match`, or behind the end. A compound statement is put into its block when the token
--- behind it comes, since only that one tells that it takes no further suite.
+-- A state stands at the beginning of a line, inside a simple statement or a header, after a suite of a statement that may
+-- go on, between the cases of a `match`, or after the end. A compound statement is put into its block when the token
+-- after it comes, since only that one tells that it takes no further suite.
 use Rattle.std.specs.Prelude.{ℕ, Bool, true, false, cond, List, [], ◌∷◌, ◌++◌, Option, Some, None, bytes_eq}
 use Rattle.py_value.specs.declared.operator.BinOp.{BinOp}
 use Rattle.py_value.specs.declared.operator.BinOp.TheVariants as op_
@@ -18,29 +27,29 @@ use Rattle.py_syntax.specs.Normal.{is_target, is_place}
 use Rattle.py_syntax.specs.Headers.{Marked, is_match}
 use Rattle.py_syntax.specs.Statements.{case_name}
 use Rattle.py_grammar.specs.Machine as expression
-use Rattle.py_grammar.specs.Machine.{Goal, any, one, target, snoc, start, role}
+use Rattle.py_grammar.specs.Machine.{Goal, any, one, target, snoc, start, class}
 use Rattle.py_parse_pattern.specs.Machine as pattern
-use Rattle.py_parse.specs.Open.{snoc_case, no_end, newline_end, semicolon_end, both_end, Owner, an_arm, a_while, a_for, a_try, a_clause, an_else, a_finally, a_def, a_case, closed, Block, top, inside, add}
+use Rattle.py_parse.specs.Open.{snoc_case, no_end, newline_end, semicolon_end, both_end, SuiteOf, an_arm, a_while, a_for, a_try, a_clause, an_else, a_finally, a_def, a_case, closed, SuiteStack, top, inside, add}
 
 -- ---- places
 
 -- what an expression is for, with the parts of its statement in front of it
-pub data Resume : Type 0 where
+pub data Continuation : Type 0 where
   -- An expression statement, or the value of an assignment with these targets; or one more target.
-  value : (targets : Exprs) → Resume
-  augmented : (place : Expr) (op : BinOp) → Resume
-  leaving : (raises : Bool) → Resume
-  asserted : Resume
-  reason : (test : Expr) → Resume
-  arm_test : (arms : Arms) → Resume
-  while_test : Resume
-  for_target : Resume
-  for_over : (t : Expr) → Resume
-  clause_kind : (body : Suite) (clauses : Clauses) → Resume
-  subject : Resume
-  guard : (e : Expr) (header_last : ℕ) (cases : Cases) (p : Pattern) → Resume
-  -- the default of a parameter, behind the others with theirs
-  default : (x : Text) (params : List Text) (defaults : Exprs) (y : Text) → Resume
+  value : (targets : Exprs) → Continuation
+  augmented : (place : Expr) (op : BinOp) → Continuation
+  leaving : (raises : Bool) → Continuation
+  asserted : Continuation
+  reason : (test : Expr) → Continuation
+  arm_test : (arms : Arms) → Continuation
+  while_test : Continuation
+  for_target : Continuation
+  for_over : (t : Expr) → Continuation
+  clause_kind : (body : Suite) (clauses : Clauses) → Continuation
+  subject : Continuation
+  guard : (e : Expr) (header_last : ℕ) (cases : Cases) (p : Pattern) → Continuation
+  -- the default of a parameter, after the others with theirs
+  default : (x : Text) (params : List Text) (defaults : Exprs) (y : Text) → Continuation
 
 -- what names are listed for
 pub data Listed : Type 0 where
@@ -50,97 +59,97 @@ pub data Listed : Type 0 where
 
 -- A place inside a statement or a header.
 pub data Place : Type 0 where
-  Reading : (r : Resume) (s : expression.State) → Place
+  Reading : (r : Continuation) (s : expression.State) → Place
   Matching : (e : Expr) (header_last : ℕ) (cases : Cases) (s : pattern.State) → Place
-  -- behind a simple statement that takes no more; behind its semicolon
+  -- after a simple statement that takes no more; after its semicolon
   Simple : (k : StmtKind) → Place
   Semicolon : (k : StmtKind) → Place
-  -- behind `return` or `raise`
+  -- after `return` or `raise`
   Leaving : (raises : Bool) → Place
-  -- a listed name is wanted; behind it; its `as` is read; behind the name that follows
+  -- a listed name is wanted; after it; its `as` is read; after the name that follows
   NameWanted : (l : Listed) → Place
   NameRead : (l : Listed) (x : Text) → Place
   BoundWanted : (l : Listed) (x : Text) → Place
   BoundRead : (l : Listed) → Place
-  -- behind `from`; behind its module
+  -- after `from`; after its module
   ModuleWanted : Place
   ImportWanted : (m : Text) → Place
-  -- behind `def`; behind its name; a parameter may come; behind it
+  -- after `def`; after its name; a parameter may come; after it
   FunctionWanted : Place
   ParamsWanted : (x : Text) → Place
   ParamWanted : (x : Text) (params : List Text) (defaults : Exprs) → Place
   ParamRead : (x : Text) (params : List Text) (defaults : Exprs) (y : Text) → Place
-  -- behind `except`; behind the `as` of a clause
+  -- after `except`; after the `as` of a clause
   Except : (body : Suite) (clauses : Clauses) → Place
   ClauseBound : (body : Suite) (clauses : Clauses) (kind : Expr) → Place
-  -- a header wants its colon; behind it; the line ended there
-  ColonWanted : (o : Owner) → Place
-  SuiteWanted : (o : Owner) → Place
-  IndentWanted : (o : Owner) → Place
-  -- behind the colon of a `match` header; its line ended
+  -- a header wants its colon; after it; the line ended there
+  ColonWanted : (o : SuiteOf) → Place
+  SuiteWanted : (o : SuiteOf) → Place
+  IndentWanted : (o : SuiteOf) → Place
+  -- after the colon of a `match` header; its line ended
   MatchLine : (e : Expr) (header_last : ℕ) → Place
   MatchBlock : (e : Expr) (header_last : ℕ) → Place
 
 -- The first lines of the statement and of the part of it that is read, and the last line of that part so far.
-pub record Lines : Type 0 where
+pub record Span : Type 0 where
   pub begun : ℕ
   pub first : ℕ
   pub last : ℕ
 
 pub data State : Type 0 where
   -- a statement begins on a new line, or its block ends
-  Line : (b : Block) → State
-  at : (p : Place) (n : Lines) (b : Block) → State
-  -- behind a suite of a statement that may go on
-  Behind : (k : StmtKind) (first last : ℕ) (b : Block) → State
+  Line : (b : SuiteStack) → State
+  at : (p : Place) (n : Span) (b : SuiteStack) → State
+  -- after a suite of a statement that may go on
+  After : (k : StmtKind) (first last : ℕ) (b : SuiteStack) → State
   -- between the cases of a `match`
-  Choosing : (e : Expr) (header_last : ℕ) (cases : Cases) (first : ℕ) (b : Block) → State
-  -- behind the end of the module
+  Choosing : (e : Expr) (header_last : ℕ) (cases : Cases) (first : ℕ) (b : SuiteStack) → State
+  -- after the end of the module
   Over : (ss : Stmts) → State
 
 -- ---- lines and suites end
 
 -- a suite ends with a token whose last line is this
-abbrev pub close : Block → ℕ → State
+abbrev pub close : SuiteStack → ℕ → State
 close (top ss) l = Line (top ss)
 close (inside ss inline first last begun (a_case e header_last cs p g) b) l = Choosing e header_last (snoc_case cs p g (suite first last inline ss)) begun b
-close (inside ss inline first last begun o b) l = Behind (closed o (suite first last inline ss)) begun l b
+close (inside ss inline first last begun o b) l = After (closed o (suite first last inline ss)) begun l b
 
 -- the suite of this owner, which has this first line, ends with a token whose last line is this
-abbrev pub over_suite : Owner → Suite → ℕ → ℕ → Block → State
+abbrev pub over_suite : SuiteOf → Suite → ℕ → ℕ → SuiteStack → State
 over_suite (a_case e header_last cs p g) s begun l b = Choosing e header_last (snoc_case cs p g s) begun b
-over_suite o s begun l b = Behind (closed o s) begun l b
+over_suite o s begun l b = After (closed o s) begun l b
 
 -- a line ends, and a suite that shares it
-abbrev pub over_line : Block → ℕ → State
+abbrev pub over_line : SuiteStack → ℕ → State
 over_line (inside ss true first last begun o b) l = close (inside ss true first last begun o b) l
 over_line b l = Line b
 
 -- a simple statement is whole
-abbrev pub end_simple : StmtKind → Lines → Block → Kind → ℕ → Option State
+abbrev pub end_simple : StmtKind → Span → SuiteStack → Kind → ℕ → Option State
 end_simple k n b (Sign mark.Semicolon) l = Some (at (Semicolon k) n b)
 end_simple k n b Newline l = Some (over_line (add b n.begun n.last k newline_end) l)
 end_simple k n b t l = None
 
 -- a header is whole
-abbrev pub end_header : Owner → Lines → Block → Kind → ℕ → Option State
+abbrev pub end_header : SuiteOf → Span → SuiteStack → Kind → ℕ → Option State
 end_header o n b (Sign mark.Colon) l = Some (at (SuiteWanted o) (record { begun = n.begun; first = n.first; last = l }) b)
 end_header o n b t l = None
 
 -- ---- statements begin
 
-abbrev pub begun_at : ℕ → ℕ → Lines
+abbrev pub begun_at : ℕ → ℕ → Span
 begun_at f l = record { begun = f; first = f; last = l }
 
 -- with one token more
-abbrev pub onward : Lines → ℕ → Lines
+abbrev pub onward : Span → ℕ → Span
 onward n l = record { begun = n.begun; first = n.first; last = l }
 
 -- an expression begins
-abbrev pub reads : Resume → Lines → Block → expression.Out → Option State
+abbrev pub reads : Continuation → Span → SuiteStack → expression.Out → Option State
 reads r n b o = elim o as (λ (w : expression.Out). Option State) [ expression.Next s ↦ Some (at (Reading r s) n b) | expression.Stuck ↦ None | expression.Left e ↦ None ]
 
-abbrev pub goal : Resume → Goal
+abbrev pub goal : Continuation → Goal
 goal (value ts) = any
 goal (augmented t op) = any
 goal (leaving raises) = cond raises one any
@@ -156,7 +165,7 @@ goal (guard e last cs p) = one
 goal (default x ps ds y) = one
 
 -- a place where an expression begins
-abbrev pub wanted : Resume → Place
+abbrev pub wanted : Continuation → Place
 wanted r = Reading r (start (goal r))
 
 -- the simple statements that begin with a keyword
@@ -181,19 +190,19 @@ compound_place (Word word.Try) = Some (ColonWanted a_try)
 compound_place (Word word.Def) = Some FunctionWanted
 compound_place t = None
 
-abbrev pub begin_simple : Block → Kind → ℕ → ℕ → Option State
-begin_simple b t f l = elim (simple_place t) as (λ (o : Option Place). Option State) [ Some p ↦ Some (at p (begun_at f l) b) | None ↦ reads (value no_exprs) (begun_at f l) b (expression.step (start any) (role t)) ]
+abbrev pub begin_simple : SuiteStack → Kind → ℕ → ℕ → Option State
+begin_simple b t f l = elim (simple_place t) as (λ (o : Option Place). Option State) [ Some p ↦ Some (at p (begun_at f l) b) | None ↦ reads (value no_exprs) (begun_at f l) b (expression.step (start any) (class t)) ]
 
-abbrev pub begin_line : Block → Kind → ℕ → ℕ → Option State
+abbrev pub begin_line : SuiteStack → Kind → ℕ → ℕ → Option State
 begin_line b t f l = elim (compound_place t) as (λ (o : Option Place). Option State) [ Some p ↦ Some (at p (begun_at f l) b) | None ↦ begin_simple b t f l ]
 
 -- A token comes on a new line.
-abbrev pub line : Block → Kind → ℕ → ℕ → Option State
+abbrev pub line : SuiteStack → Kind → ℕ → ℕ → Option State
 line (top ss) End f l = Some (Over ss)
 line (inside (stmt f' l' k e ss) false first last begun o b) Dedent f l = Some (close (inside (stmt f' l' k e ss) false first last begun o b) l)
 line b t f l = begin_line b t f l
 
--- ---- statements go on behind a suite
+-- ---- statements go on after a suite
 
 abbrev pub next_part : StmtKind → Kind → Option Place
 next_part (expr e) t = None
@@ -262,20 +271,20 @@ assigned (exprs t ts) e = assign (exprs t ts) e
 abbrev pub left : Bool → Option Expr → StmtKind
 left raises e = cond raises (raise e) (return e)
 
--- behind an expression, and targets in front of it
-abbrev pub behind_value : Exprs → Expr → Lines → Block → Kind → ℕ → Option State
-behind_value ts e n b (Sign mark.Equal) l = cond (is_target e) (Some (at (wanted (value (snoc ts e))) (onward n l) b)) None
-behind_value no_exprs e n b t l = elim (in_place_op t) as (λ (o : Option BinOp). Option State) [ Some op ↦ cond (is_place e) (Some (at (wanted (augmented e op)) (onward n l) b)) None | None ↦ end_simple (expr e) n b t l ]
-behind_value ts e n b t l = end_simple (assigned ts e) n b t l
+-- after an expression, and targets in front of it
+abbrev pub after_value : Exprs → Expr → Span → SuiteStack → Kind → ℕ → Option State
+after_value ts e n b (Sign mark.Equal) l = cond (is_target e) (Some (at (wanted (value (snoc ts e))) (onward n l) b)) None
+after_value no_exprs e n b t l = elim (in_place_op t) as (λ (o : Option BinOp). Option State) [ Some op ↦ cond (is_place e) (Some (at (wanted (augmented e op)) (onward n l) b)) None | None ↦ end_simple (expr e) n b t l ]
+after_value ts e n b t l = end_simple (assigned ts e) n b t l
 
-abbrev pub behind_default : Text → List Text → Exprs → Lines → Block → Kind → ℕ → Option State
-behind_default x ps ds n b (Sign mark.Comma) l = Some (at (ParamWanted x ps ds) (onward n l) b)
-behind_default x ps ds n b (Sign mark.RightParen) l = Some (at (ColonWanted (a_def x ps ds false)) (onward n l) b)
-behind_default x ps ds n b t l = None
+abbrev pub after_default : Text → List Text → Exprs → Span → SuiteStack → Kind → ℕ → Option State
+after_default x ps ds n b (Sign mark.Comma) l = Some (at (ParamWanted x ps ds) (onward n l) b)
+after_default x ps ds n b (Sign mark.RightParen) l = Some (at (ColonWanted (a_def x ps ds false)) (onward n l) b)
+after_default x ps ds n b t l = None
 
 -- An expression is whole, and this token comes.
-abbrev pub resume : Resume → Expr → Lines → Block → Kind → ℕ → Option State
-resume (value ts) e n b t l = behind_value ts e n b t l
+abbrev pub resume : Continuation → Expr → Span → SuiteStack → Kind → ℕ → Option State
+resume (value ts) e n b t l = after_value ts e n b t l
 resume (augmented p op) e n b t l = end_simple (aug_assign p op e) n b t l
 resume (leaving raises) e n b t l = end_simple (left raises (Some e)) n b t l
 resume asserted e n b (Sign mark.Comma) l = Some (at (wanted (reason e)) (onward n l) b)
@@ -291,9 +300,9 @@ resume (clause_kind body cs) e n b t l = end_header (a_clause body cs (Some e) N
 resume subject e n b (Sign mark.Colon) l = Some (at (MatchLine e l) (onward n l) b)
 resume subject e n b t l = None
 resume (guard e' last cs p) e n b t l = end_header (a_case e' last cs p (Some e)) n b t l
-resume (default x ps ds y) e n b t l = behind_default x (ps ++ y ∷ []) (snoc ds e) n b t l
+resume (default x ps ds y) e n b t l = after_default x (ps ++ y ∷ []) (snoc ds e) n b t l
 
-abbrev pub resume_pattern : Expr → ℕ → Cases → Pattern → Lines → Block → Kind → ℕ → Option State
+abbrev pub resume_pattern : Expr → ℕ → Cases → Pattern → Span → SuiteStack → Kind → ℕ → Option State
 resume_pattern e last cs p n b (Word word.If) l = Some (at (wanted (guard e last cs p)) (onward n l) b)
 resume_pattern e last cs p n b t l = end_header (a_case e last cs p None) n b t l
 
@@ -317,10 +326,10 @@ may_bind (globals xs) = false
 may_bind (imports names) = true
 may_bind (froms m names) = true
 
--- behind a listed name and what it is bound to
-abbrev pub behind_name : Listed → Lines → Block → Kind → ℕ → Option State
-behind_name l n b (Sign mark.Comma) last = Some (at (NameWanted l) (onward n last) b)
-behind_name l n b t last = end_simple (listed l) n b t last
+-- after a listed name and what it is bound to
+abbrev pub after_name : Listed → Span → SuiteStack → Kind → ℕ → Option State
+after_name l n b (Sign mark.Comma) last = Some (at (NameWanted l) (onward n last) b)
+after_name l n b t last = end_simple (listed l) n b t last
 
 abbrev pub is_some : List Text → Bool
 is_some [] = false
@@ -329,22 +338,22 @@ is_some (x ∷ xs) = true
 -- ---- the steps
 
 -- A token inside a statement or a header.
-abbrev pub act : Place → Lines → Block → Kind → ℕ → ℕ → Option State
-act (Reading r s) n b t f l = elim (expression.step s (role t)) as (λ (w : expression.Out). Option State) [ expression.Next s' ↦ Some (at (Reading r s') (onward n l) b) | expression.Stuck ↦ None | expression.Left e ↦ resume r e n b t l ]
+abbrev pub act : Place → Span → SuiteStack → Kind → ℕ → ℕ → Option State
+act (Reading r s) n b t f l = elim (expression.step s (class t)) as (λ (w : expression.Out). Option State) [ expression.Next s' ↦ Some (at (Reading r s') (onward n l) b) | expression.Stuck ↦ None | expression.Left e ↦ resume r e n b t l ]
 act (Matching e last cs s) n b t f l = elim (pattern.step s t) as (λ (w : pattern.Out). Option State) [ pattern.Next s' ↦ Some (at (Matching e last cs s') (onward n l) b) | pattern.Stuck ↦ None | pattern.Left p ↦ resume_pattern e last cs p n b t l ]
 act (Simple k) n b t f l = end_simple k n b t l
 act (Semicolon k) n b Newline f l = Some (over_line (add b n.begun n.last k both_end) l)
 act (Semicolon k) n b t f l = begin_simple (add b n.begun n.last k semicolon_end) t f l
 act (Leaving raises) n b (Sign mark.Semicolon) f l = end_simple (left raises None) n b (Sign mark.Semicolon) l
 act (Leaving raises) n b Newline f l = end_simple (left raises None) n b Newline l
-act (Leaving raises) n b t f l = reads (leaving raises) (onward n l) b (expression.step (start (goal (leaving raises))) (role t))
+act (Leaving raises) n b t f l = reads (leaving raises) (onward n l) b (expression.step (start (goal (leaving raises))) (class t))
 act (NameWanted xs) n b (Name x) f l = Some (at (NameRead xs x) (onward n l) b)
 act (NameWanted xs) n b t f l = None
 act (NameRead xs x) n b (Word word.As) f l = cond (may_bind xs) (Some (at (BoundWanted xs x) (onward n l) b)) None
-act (NameRead xs x) n b t f l = behind_name (with_name xs x None) n b t l
+act (NameRead xs x) n b t f l = after_name (with_name xs x None) n b t l
 act (BoundWanted xs x) n b (Name y) f l = Some (at (BoundRead (with_name xs x (Some y))) (onward n l) b)
 act (BoundWanted xs x) n b t f l = None
-act (BoundRead xs) n b t f l = behind_name xs n b t l
+act (BoundRead xs) n b t f l = after_name xs n b t l
 act ModuleWanted n b (Name m) f l = Some (at (ImportWanted m) (onward n l) b)
 act ModuleWanted n b t f l = None
 act (ImportWanted m) n b (Word word.Import) f l = Some (at (NameWanted (froms m [])) (onward n l) b)
@@ -357,10 +366,10 @@ act (ParamWanted x ps ds) n b (Name y) f l = Some (at (ParamRead x ps ds y) (onw
 act (ParamWanted x ps ds) n b (Sign mark.RightParen) f l = Some (at (ColonWanted (a_def x ps ds (is_some ps))) (onward n l) b)
 act (ParamWanted x ps ds) n b t f l = None
 act (ParamRead x ps ds y) n b (Sign mark.Equal) f l = Some (at (wanted (default x ps ds y)) (onward n l) b)
-act (ParamRead x ps no_exprs y) n b t f l = behind_default x (ps ++ y ∷ []) no_exprs n b t l
+act (ParamRead x ps no_exprs y) n b t f l = after_default x (ps ++ y ∷ []) no_exprs n b t l
 act (ParamRead x ps ds y) n b t f l = None
 act (Except body cs) n b (Sign mark.Colon) f l = end_header (a_clause body cs None None) n b (Sign mark.Colon) l
-act (Except body cs) n b t f l = reads (clause_kind body cs) (onward n l) b (expression.step (start one) (role t))
+act (Except body cs) n b t f l = reads (clause_kind body cs) (onward n l) b (expression.step (start one) (class t))
 act (ClauseBound body cs e) n b (Name x) f l = Some (at (ColonWanted (a_clause body cs (Some e) (Some x))) (onward n l) b)
 act (ClauseBound body cs e) n b t f l = None
 act (ColonWanted o) n b t f l = end_header o n b t l
@@ -374,31 +383,31 @@ act (MatchBlock e last) n b Indent f l = Some (Choosing e last no_cases n.begun 
 act (MatchBlock e last) n b t f l = None
 
 -- between the cases of a `match`, in its block
-abbrev pub choose : Expr → ℕ → Cases → ℕ → Block → Kind → ℕ → ℕ → Option State
+abbrev pub choose : Expr → ℕ → Cases → ℕ → SuiteStack → Kind → ℕ → ℕ → Option State
 choose e last cs first b (Name x) f l = cond (bytes_eq x case_name) (Some (at (Matching e last cs pattern.start) (record { begun = first; first = f; last = l }) b)) None
-choose e last (case p g s cs) first b Dedent f l = Some (Behind (match e last (case p g s cs)) first l b)
+choose e last (case p g s cs) first b Dedent f l = Some (After (match e last (case p g s cs)) first l b)
 choose e last cs first b t f l = None
 
 -- the open suites, where a statement may begin on a new line
-abbrev pub at_line : State → Option Block
+abbrev pub at_line : State → Option SuiteStack
 at_line (Line b) = Some b
-at_line (Behind k first last b) = cond (is_whole k) (Some (add b first last k no_end)) None
+at_line (After k first last b) = cond (is_whole k) (Some (add b first last k no_end)) None
 at_line s = None
 
-abbrev pub on_line : Option Block → Kind → ℕ → ℕ → Option State
-on_line o t f l = elim o as (λ (w : Option Block). Option State) [ Some b ↦ line b t f l | None ↦ None ]
+abbrev pub on_line : Option SuiteStack → Kind → ℕ → ℕ → Option State
+on_line o t f l = elim o as (λ (w : Option SuiteStack). Option State) [ Some b ↦ line b t f l | None ↦ None ]
 
 -- A token at which no header of a `match` begins.
 abbrev pub plain_step : State → Kind → ℕ → ℕ → Option State
 plain_step (Line b) t f l = line b t f l
 plain_step (at p n b) t f l = act p n b t f l
-plain_step (Behind k first last b) t f l = elim (next_part k t) as (λ (o : Option Place). Option State) [ Some p ↦ Some (at p (record { begun = first; first = f; last = l }) b) | None ↦ on_line (at_line (Behind k first last b)) t f l ]
+plain_step (After k first last b) t f l = elim (next_part k t) as (λ (o : Option Place). Option State) [ Some p ↦ Some (at p (record { begun = first; first = f; last = l }) b) | None ↦ on_line (at_line (After k first last b)) t f l ]
 plain_step (Choosing e last cs first b) t f l = choose e last cs first b t f l
 plain_step (Over ss) t f l = None
 
 -- The header of a `match` begins here.
-abbrev pub header_step : Option Block → Kind → ℕ → ℕ → Option State
-header_step o t f l = elim o as (λ (w : Option Block). Option State) [ Some b ↦ cond (is_match t) (Some (at (wanted subject) (begun_at f l) b)) None | None ↦ None ]
+abbrev pub header_step : Option SuiteStack → Kind → ℕ → ℕ → Option State
+header_step o t f l = elim o as (λ (w : Option SuiteStack). Option State) [ Some b ↦ cond (is_match t) (Some (at (wanted subject) (begun_at f l) b)) None | None ↦ None ]
 
 abbrev pub step : State → Marked → ℕ → ℕ → Option State
 step s m f l = cond (m.header) (header_step (at_line s) m.kind f l) (plain_step s m.kind f l)

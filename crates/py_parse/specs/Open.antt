@@ -1,4 +1,8 @@
 -- What is open round a place in the text of a module: suites, from the inside, with what was read of them.
+--     snoc_stmt .. snoc_case         lists with one more at the end
+--     no_end .. both_end             how a statement ends its line
+--     SuiteOf, with_else, closed     what an open suite belongs to, and the statement where it is closed
+--     SuiteStack, add                the open suites, and a statement more in the innermost
 use Rattle.std.specs.Prelude.{ℕ, Bool, true, false, List, Option}
 use Rattle.py_syntax.specs.declared.stmt.LineEnd.{LineEnd}
 use Rattle.py_syntax.specs.Tree.{Text, Expr, Exprs, Pattern}
@@ -39,17 +43,17 @@ both_end = record { semicolon = true; newline = true }
 -- ---- suites
 
 -- What an open suite belongs to: a part of a compound statement, with what was read of the statement before it.
-pub data Owner : Type 0 where
-  an_arm : (arms : Arms) (test : Expr) → Owner
-  a_while : (test : Expr) → Owner
-  a_for : (target over : Expr) → Owner
-  a_try : Owner
-  a_clause : (body : Suite) (clauses : Clauses) (kind : Option Expr) (bound : Option Text) → Owner
+pub data SuiteOf : Type 0 where
+  an_arm : (arms : Arms) (test : Expr) → SuiteOf
+  a_while : (test : Expr) → SuiteOf
+  a_for : (target over : Expr) → SuiteOf
+  a_try : SuiteOf
+  a_clause : (body : Suite) (clauses : Clauses) (kind : Option Expr) (bound : Option Text) → SuiteOf
   -- the `else` of a statement that has none yet
-  an_else : (so_far : StmtKind) → Owner
-  a_finally : (body : Suite) (clauses : Clauses) (orelse : OptSuite) → Owner
-  a_def : (x : Text) (params : List Text) (defaults : Exprs) (comma : Bool) → Owner
-  a_case : (subject : Expr) (header_last : ℕ) (cases : Cases) (p : Pattern) (guard : Option Expr) → Owner
+  an_else : (so_far : StmtKind) → SuiteOf
+  a_finally : (body : Suite) (clauses : Clauses) (orelse : OptSuite) → SuiteOf
+  a_def : (x : Text) (params : List Text) (defaults : Exprs) (comma : Bool) → SuiteOf
+  a_case : (subject : Expr) (header_last : ℕ) (cases : Cases) (p : Pattern) (guard : Option Expr) → SuiteOf
 
 -- a statement with an `else` suite
 abbrev pub with_else : StmtKind → Suite → StmtKind
@@ -73,7 +77,7 @@ with_else (def x ps ds c b) s = def x ps ds c b
 with_else (match e last cs) s = match e last cs
 
 -- The statement so far, where the suite is closed.
-abbrev pub closed : Owner → Suite → StmtKind
+abbrev pub closed : SuiteOf → Suite → StmtKind
 closed (an_arm arms t) s = if' (snoc_arm arms t s) no_suite
 closed (a_while t) s = while t s no_suite
 closed (a_for t e) s = for t e s no_suite
@@ -86,11 +90,11 @@ closed (a_case e last cs p g) s = match e last (snoc_case cs p g s)
 
 -- The open suites with the statements that were read in them. A suite has the lines of its header, its form, and the
 -- first line of the statement that it belongs to.
-pub data Block : Type 0 where
-  top : (ss : Stmts) → Block
-  inside : (ss : Stmts) (inline : Bool) (first last begun : ℕ) (o : Owner) (k : Block) → Block
+pub data SuiteStack : Type 0 where
+  top : (ss : Stmts) → SuiteStack
+  inside : (ss : Stmts) (inline : Bool) (first last begun : ℕ) (o : SuiteOf) (k : SuiteStack) → SuiteStack
 
 -- a statement more in the innermost suite
-abbrev pub add : Block → ℕ → ℕ → StmtKind → LineEnd → Block
+abbrev pub add : SuiteStack → ℕ → ℕ → StmtKind → LineEnd → SuiteStack
 add (top ss) first last k e = top (snoc_stmt ss first last k e)
 add (inside ss inline f l begun o b) first last k e = inside (snoc_stmt ss first last k e) inline f l begun o b

@@ -1,4 +1,9 @@
 -- Reading a list of marked tokens whose lines are given by their places, and the trees with the lines of their places.
+--     kinds_past, def_head, match_head     places after parts
+--     stmts_past .. cases_past             places after statements
+--     Source, last_before                  the lines of the token at each place
+--     run                                  the reading of a list from a place on
+--     relined .. relined_cases             trees with the lines of their places
 use Rattle.std.specs.Prelude.{ℕ, zero, suc, Bool, true, false, List, [], ◌∷◌, Option, Some, None}
 use Rattle.py_token.specs.declared.token.Keyword.TheVariants as word
 use Rattle.py_token.specs.declared.token.Mark.TheVariants as mark
@@ -11,7 +16,7 @@ use Rattle.py_syntax.specs.Statements.{kind_tokens, end_tokens, param_tokens, ex
 use Rattle.py_syntax.specs.Spelling.{test_head, for_head}
 use Rattle.py_parse.specs.Machine.{State, step}
 
--- ---- places behind parts
+-- ---- places after parts
 
 abbrev pub kinds_past : List Kind → ℕ → ℕ
 kinds_past [] p = p
@@ -20,7 +25,7 @@ kinds_past (k ∷ ks) p = kinds_past ks (suc p)
 abbrev pub def_head : Text → List Text → Exprs → Bool → List Kind
 def_head x ps ds c = Word word.Def ∷ Name x ∷ Sign mark.LeftParen ∷ param_tokens ps ds c (Sign mark.RightParen ∷ Sign mark.Colon ∷ [])
 
--- the header of a `match` behind its first token
+-- the header of a `match` after its first token
 abbrev pub match_head : Expr → List Kind
 match_head e = tokens e (Sign mark.Colon ∷ [])
 

@@ -36,7 +36,7 @@ HasDeepSuites ts place = IsTooDeep ts place × NestsTooDeep (front (place + 1) t
 abbrev pub HasDeepExpressions : List PToken → ℕ → Type 0
 HasDeepExpressions ts place = IsTooDeep ts place × NestsWithin (front (place + 1) ts)
 
--- the first line of the token at a place; behind the last one its last line, and 1 where there is none
+-- the first line of the token at a place; after the last one its last line, and 1 where there is none
 abbrev pub line_of : List PToken → ℕ → ℕ
 line_of [] place = 1
 line_of (t ∷ ts) zero = first_of t

@@ -1,4 +1,8 @@
 -- Whether lists are empty, and what a token is not.
+--     some_exprs .. some_cases     whether a list holds some
+--     NoName, IsNameIn             a name, or none
+--     is_equal_sign .. is_case     single tokens
+--     is_a                         the class of a token
 use Rattle.std.specs.Prelude.{◌≡◌, Bool, true, false, Option, Some, None, Result, Ok, Err, bytes_eq}
 use Rattle.std.specs.declared.alloc.AllocError.{AllocError}
 use Rattle.py_token.specs.declared.token.Mark.TheVariants as mark
@@ -8,8 +12,8 @@ use Rattle.py_syntax.specs.Statements.{case_name}
 use Rattle.py_syntax.specs.Headers.{is_colon, ends_line}
 use Rattle.py_parse.specs.declared.lists.Class.{Class}
 use Rattle.py_parse.specs.declared.lists.Class.TheVariants as class_
-use Rattle.py_parse.specs.HeldMarks.{is_newline}
-use Rattle.py_parse.specs.HeldBlocks.{is_indent}
+use Rattle.py_parse.specs.ViewMarks.{is_newline}
+use Rattle.py_parse.specs.ViewBlocks.{is_indent}
 
 abbrev pub some_exprs : Exprs → Bool
 some_exprs no_exprs = false

@@ -1,20 +1,20 @@
-// What comes behind an expression or a pattern.
+// What comes after an expression or a pattern.
 
 ghost use Rattle.std.specs.Prelude.{◌≡◌, Some, None, false, cond, IfOk, option_map, ◌++◌, ◌∷◌, []};
 ghost use Rattle.py_syntax.specs.View.{plain_expr, plain_exprs, plain_kind, plain_pattern, plain_suite, plain_clauses, plain_cases};
 ghost use Rattle.py_syntax.specs.Normal.{is_target, is_place};
 ghost use Rattle.py_grammar.specs.Machine.{snoc};
-ghost use Rattle.py_parse.specs.Machine.{value, asserted, for_target, clause_kind, subject, ParamRead, at, wanted, onward, act, in_place_op, assigned, left, behind_value, behind_default, resume, resume_pattern};
+ghost use Rattle.py_parse.specs.Machine.{value, asserted, for_target, clause_kind, subject, ParamRead, at, wanted, onward, act, in_place_op, assigned, left, after_value, after_default, resume, resume_pattern};
 ghost use Rattle.py_syntax.specs.Tree.{no_exprs};
-ghost use Rattle.py_parse.specs.HeldLists.{is_equal_sign};
-ghost use Rattle.py_parse.specs.HeldStates.{kind_at, first_at, last_at, view_block, view_lines, view_resume, view_state, Makes};
+ghost use Rattle.py_parse.specs.ViewLists.{is_equal_sign};
+ghost use Rattle.py_parse.specs.ViewStates.{kind_at, first_at, last_at, view_suites, view_span, view_continuation, view_state, Makes};
 
-use crate::block::{Block, Lines};
-use crate::kinds::{asserted, assigned, augmented, boxed, boxed_owner, left};
+use crate::kinds::{asserted, assigned, augmented, boxed, boxed_suite_of, left};
 use crate::lists::{Class, has_exprs, is_a};
-use crate::owner::{Choice, Owner, Signature, Tried};
-use crate::places::{Place, Resume, State};
-use crate::simple::{end_header, end_simple};
+use crate::places::{Continuation, Place, State};
+use crate::statement_end::{end_header, end_simple};
+use crate::suite_of::{PartialMatch, PartialTry, Signature, SuiteOf};
+use crate::suite_stack::{Span, SuiteStack};
 use crate::targets::{is_place, is_target};
 use py_syntax::{Expr, Pattern, StmtKind};
 use py_token::{Keyword, Mark, Token, TokenKind};
@@ -35,7 +35,7 @@ fn in_place_op(token: &Token) -> Option<BinOp>
 }
 
 /// An expression more.
-#[tactic(auto, using(crate::proofs::Held::exprs_snoc))]
+#[tactic(auto, using(crate::proofs::Views::exprs_snoc))]
 fn add_expr(exprs: Vec<Expr>, expr: Expr) -> Result<Vec<Expr>, NoMemory>
     ensures { IfOk result (λ r. plain_exprs r.items ≡ snoc (plain_exprs exprs.items) (plain_expr expr)) }
 {
@@ -44,71 +44,71 @@ fn add_expr(exprs: Vec<Expr>, expr: Expr) -> Result<Vec<Expr>, NoMemory>
     Ok(exprs)
 }
 
-/// Behind an expression that may be one more target.
-fn behind_target(
+/// After an expression that may be one more target.
+fn after_target(
     targets: Vec<Expr>,
     expr: Box<Expr>,
-    lines: Lines,
-    block: Block,
+    span: Span,
+    suites: SuiteStack,
     token: &Token,
 ) -> Result<Option<State>, NoMemory>
-    ensures { Makes (cond (is_target (plain_expr expr.value)) (Some (at (wanted (value (snoc (plain_exprs targets.items) (plain_expr expr.value)))) (onward (view_lines lines) (last_at token.now)) (view_block block))) None) result }
+    ensures { Makes (cond (is_target (plain_expr expr.value)) (Some (at (wanted (value (snoc (plain_exprs targets.items) (plain_expr expr.value)))) (onward (view_span span) (last_at token.now)) (view_suites suites))) None) result }
 {
     if !is_target(&expr) {
         return Ok(None);
     }
     let targets = add_expr(targets, Box::into_inner(expr))?;
     Ok(Some(State::At(
-        Place::Wanted(Resume::Value(targets)),
-        lines.onward(token.last),
-        block,
+        Place::Wanted(Continuation::Value(targets)),
+        span.onward(token.last),
+        suites,
     )))
 }
 
-/// Behind an expression that is no target.
+/// After an expression that is no target.
 #[tactic(auto, using(crate::proofs::Acts::value_augments, crate::proofs::Acts::value_misplaced, crate::proofs::Acts::value_ends))]
-fn behind_last(
+fn after_last(
     alloc: Global,
     expr: Box<Expr>,
-    lines: Lines,
-    block: Block,
+    span: Span,
+    suites: SuiteStack,
     token: &Token,
 ) -> Result<Option<State>, NoMemory>
     requires { is_equal_sign (kind_at token.now) ≡ false }
-    ensures { Makes (behind_value no_exprs (plain_expr expr.value) (view_lines lines) (view_block block) (kind_at token.now) (last_at token.now)) result }
+    ensures { Makes (after_value no_exprs (plain_expr expr.value) (view_span span) (view_suites suites) (kind_at token.now) (last_at token.now)) result }
 {
     let Some(op) = in_place_op(token) else {
         let kind = boxed(alloc, StmtKind::Expr(Box::into_inner(expr)))?;
-        return end_simple(alloc, kind, lines, block, token);
+        return end_simple(alloc, kind, span, suites, token);
     };
     if !is_place(&expr) {
         return Ok(None);
     }
     Ok(Some(State::At(
-        Place::Wanted(Resume::Augmented(expr, op)),
-        lines.onward(token.last),
-        block,
+        Place::Wanted(Continuation::Augmented(expr, op)),
+        span.onward(token.last),
+        suites,
     )))
 }
 
-/// Behind an expression, and targets in front of it.
+/// After an expression, and targets in front of it.
 #[tactic(auto, using(crate::proofs::Acts::value_targets, crate::proofs::Acts::value_assigns, crate::proofs::Acts::value_alone))]
-fn behind_value(
+fn after_value(
     alloc: Global,
     targets: Vec<Expr>,
     expr: Box<Expr>,
-    lines: Lines,
-    block: Block,
+    span: Span,
+    suites: SuiteStack,
     token: &Token,
 ) -> Result<Option<State>, NoMemory>
-    ensures { Makes (behind_value (plain_exprs targets.items) (plain_expr expr.value) (view_lines lines) (view_block block) (kind_at token.now) (last_at token.now)) result }
+    ensures { Makes (after_value (plain_exprs targets.items) (plain_expr expr.value) (view_span span) (view_suites suites) (kind_at token.now) (last_at token.now)) result }
 {
     if is_a(token, Class::EqualSign) {
-        behind_target(targets, expr, lines, block, token)
+        after_target(targets, expr, span, suites, token)
     } else if has_exprs(&targets) {
-        end_simple(alloc, assigned(alloc, targets, expr)?, lines, block, token)
+        end_simple(alloc, assigned(alloc, targets, expr)?, span, suites, token)
     } else {
-        behind_last(alloc, expr, lines, block, token)
+        after_last(alloc, expr, span, suites, token)
     }
 }
 
@@ -142,149 +142,154 @@ fn add_default(signature: Signature, default: Expr) -> Result<Signature, NoMemor
     })
 }
 
-/// Behind a parameter that has a default, or behind others that have none.
-fn behind_default(
+/// After a parameter that has a default, or after others that have none.
+fn after_default(
     alloc: Global,
     signature: Signature,
-    lines: Lines,
-    block: Block,
+    span: Span,
+    suites: SuiteStack,
     token: &Token,
 ) -> Result<Option<State>, NoMemory>
-    ensures { Makes (behind_default signature.name signature.params.items (plain_exprs signature.defaults.items) (view_lines lines) (view_block block) (kind_at token.now) (last_at token.now)) result }
+    ensures { Makes (after_default signature.name signature.params.items (plain_exprs signature.defaults.items) (view_span span) (view_suites suites) (kind_at token.now) (last_at token.now)) result }
 {
     match &token.kind {
         TokenKind::Mark(Mark::Comma) => Ok(Some(State::At(
             Place::ParamWanted(signature),
-            lines.onward(token.last),
-            block,
+            span.onward(token.last),
+            suites,
         ))),
         TokenKind::Mark(Mark::RightParen) => Ok(Some(State::At(
-            Place::ColonWanted(boxed_owner(alloc, Owner::Def(signature, false))?),
-            lines.onward(token.last),
-            block,
+            Place::ColonWanted(boxed_suite_of(alloc, SuiteOf::Def(signature, false))?),
+            span.onward(token.last),
+            suites,
         ))),
         _ => Ok(None),
     }
 }
 
-/// Behind a parameter with no default.
+/// After a parameter with no default.
 #[tactic(auto, using(crate::proofs::Acts::param_default, crate::proofs::Acts::param_late, crate::proofs::Acts::param_ends))]
-pub fn behind_param(
+pub fn after_param(
     alloc: Global,
     signature: Signature,
     param: Text,
-    lines: Lines,
-    block: Block,
+    span: Span,
+    suites: SuiteStack,
     token: &Token,
 ) -> Result<Option<State>, NoMemory>
-    ensures { Makes (act (ParamRead signature.name signature.params.items (plain_exprs signature.defaults.items) param) (view_lines lines) (view_block block) (kind_at token.now) (first_at token.now) (last_at token.now)) result }
+    ensures { Makes (act (ParamRead signature.name signature.params.items (plain_exprs signature.defaults.items) param) (view_span span) (view_suites suites) (kind_at token.now) (first_at token.now) (last_at token.now)) result }
 {
     if is_a(token, Class::EqualSign) {
         return Ok(Some(State::At(
-            Place::Wanted(Resume::Default(signature, param)),
-            lines.onward(token.last),
-            block,
+            Place::Wanted(Continuation::Default(signature, param)),
+            span.onward(token.last),
+            suites,
         )));
     }
     if has_exprs(&signature.defaults) {
         return Ok(None);
     }
     let signature = add_param(signature, param)?;
-    behind_default(alloc, signature, lines, block, token)
+    after_default(alloc, signature, span, suites, token)
 }
 
-/// Behind the test of an `assert`.
-fn behind_test(
+/// After the test of an `assert`.
+fn after_test(
     alloc: Global,
     test: Box<Expr>,
-    lines: Lines,
-    block: Block,
+    span: Span,
+    suites: SuiteStack,
     token: &Token,
 ) -> Result<Option<State>, NoMemory>
-    ensures { Makes (resume asserted (plain_expr test.value) (view_lines lines) (view_block block) (kind_at token.now) (last_at token.now)) result }
+    ensures { Makes (resume asserted (plain_expr test.value) (view_span span) (view_suites suites) (kind_at token.now) (last_at token.now)) result }
 {
     match &token.kind {
         TokenKind::Mark(Mark::Comma) => Ok(Some(State::At(
-            Place::Wanted(Resume::Reason(test)),
-            lines.onward(token.last),
-            block,
+            Place::Wanted(Continuation::Reason(test)),
+            span.onward(token.last),
+            suites,
         ))),
-        _ => end_simple(alloc, asserted(alloc, test, None)?, lines, block, token),
+        _ => end_simple(alloc, asserted(alloc, test, None)?, span, suites, token),
     }
 }
 
-/// Behind the target of a `for`.
-fn behind_for_target(target: Box<Expr>, lines: Lines, block: Block, token: &Token) -> Option<State>
-    ensures { resume for_target (plain_expr target.value) (view_lines lines) (view_block block) (kind_at token.now) (last_at token.now) ≡ option_map view_state result }
+/// After the target of a `for`.
+fn after_for_target(
+    target: Box<Expr>,
+    span: Span,
+    suites: SuiteStack,
+    token: &Token,
+) -> Option<State>
+    ensures { resume for_target (plain_expr target.value) (view_span span) (view_suites suites) (kind_at token.now) (last_at token.now) ≡ option_map view_state result }
 {
     match &token.kind {
         TokenKind::Keyword(Keyword::In) => Some(State::At(
-            Place::Wanted(Resume::ForOver(target)),
-            lines.onward(token.last),
-            block,
+            Place::Wanted(Continuation::ForOver(target)),
+            span.onward(token.last),
+            suites,
         )),
         _ => None,
     }
 }
 
-/// Behind the kind of an `except` clause.
-fn behind_kind(
+/// After the kind of an `except` clause.
+fn after_kind(
     alloc: Global,
-    tried: Tried,
+    partial_try: PartialTry,
     kind: Box<Expr>,
-    lines: Lines,
-    block: Block,
+    span: Span,
+    suites: SuiteStack,
     token: &Token,
 ) -> Result<Option<State>, NoMemory>
-    ensures { Makes (resume (clause_kind (plain_suite tried.body) (plain_clauses tried.clauses.items)) (plain_expr kind.value) (view_lines lines) (view_block block) (kind_at token.now) (last_at token.now)) result }
+    ensures { Makes (resume (clause_kind (plain_suite partial_try.body) (plain_clauses partial_try.clauses.items)) (plain_expr kind.value) (view_span span) (view_suites suites) (kind_at token.now) (last_at token.now)) result }
 {
     match &token.kind {
         TokenKind::Keyword(Keyword::As) => Ok(Some(State::At(
-            Place::ClauseBound(tried, kind),
-            lines.onward(token.last),
-            block,
+            Place::ClauseBound(partial_try, kind),
+            span.onward(token.last),
+            suites,
         ))),
         _ => {
-            let owner = boxed_owner(alloc, Owner::Clause(tried, Some(kind), None))?;
-            Ok(end_header(owner, lines, block, token))
+            let suite_of = boxed_suite_of(alloc, SuiteOf::Clause(partial_try, Some(kind), None))?;
+            Ok(end_header(suite_of, span, suites, token))
         }
     }
 }
 
-/// Behind the subject of a `match`.
-fn behind_subject(of: Box<Expr>, lines: Lines, block: Block, token: &Token) -> Option<State>
-    ensures { resume subject (plain_expr of.value) (view_lines lines) (view_block block) (kind_at token.now) (last_at token.now) ≡ option_map view_state result }
+/// After the subject of a `match`.
+fn after_subject(of: Box<Expr>, span: Span, suites: SuiteStack, token: &Token) -> Option<State>
+    ensures { resume subject (plain_expr of.value) (view_span span) (view_suites suites) (kind_at token.now) (last_at token.now) ≡ option_map view_state result }
 {
     match &token.kind {
         TokenKind::Mark(Mark::Colon) => Some(State::At(
             Place::MatchLine(of, token.last),
-            lines.onward(token.last),
-            block,
+            span.onward(token.last),
+            suites,
         )),
         _ => None,
     }
 }
 
-/// Behind the pattern of a `case`.
+/// After the pattern of a `case`.
 pub fn resume_pattern(
     alloc: Global,
-    choice: Box<Choice>,
+    partial_match: Box<PartialMatch>,
     pattern: Box<Pattern>,
-    lines: Lines,
-    block: Block,
+    span: Span,
+    suites: SuiteStack,
     token: &Token,
 ) -> Result<Option<State>, NoMemory>
-    ensures { Makes (resume_pattern (plain_expr choice.value.subject) choice.value.header_last (plain_cases choice.value.cases.items) (plain_pattern pattern.value) (view_lines lines) (view_block block) (kind_at token.now) (last_at token.now)) result }
+    ensures { Makes (resume_pattern (plain_expr partial_match.value.subject) partial_match.value.header_last (plain_cases partial_match.value.cases.items) (plain_pattern pattern.value) (view_span span) (view_suites suites) (kind_at token.now) (last_at token.now)) result }
 {
     match &token.kind {
         TokenKind::Keyword(Keyword::If) => Ok(Some(State::At(
-            Place::Wanted(Resume::Guard(choice, pattern)),
-            lines.onward(token.last),
-            block,
+            Place::Wanted(Continuation::Guard(partial_match, pattern)),
+            span.onward(token.last),
+            suites,
         ))),
         _ => {
-            let owner = boxed_owner(alloc, Owner::Case(choice, pattern, None))?;
-            Ok(end_header(owner, lines, block, token))
+            let suite_of = boxed_suite_of(alloc, SuiteOf::Case(partial_match, pattern, None))?;
+            Ok(end_header(suite_of, span, suites, token))
         }
     }
 }
@@ -292,52 +297,62 @@ pub fn resume_pattern(
 /// An expression is whole, and this token comes.
 pub fn resume(
     alloc: Global,
-    purpose: Resume,
+    purpose: Continuation,
     expr: Box<Expr>,
-    lines: Lines,
-    block: Block,
+    span: Span,
+    suites: SuiteStack,
     token: &Token,
 ) -> Result<Option<State>, NoMemory>
-    ensures { Makes (resume (view_resume purpose) (plain_expr expr.value) (view_lines lines) (view_block block) (kind_at token.now) (last_at token.now)) result }
+    ensures { Makes (resume (view_continuation purpose) (plain_expr expr.value) (view_span span) (view_suites suites) (kind_at token.now) (last_at token.now)) result }
 {
     match purpose {
-        Resume::Value(targets) => behind_value(alloc, targets, expr, lines, block, token),
-        Resume::Augmented(place, op) => {
+        Continuation::Value(targets) => after_value(alloc, targets, expr, span, suites, token),
+        Continuation::Augmented(place, op) => {
             let kind = augmented(alloc, place, op, expr)?;
-            end_simple(alloc, kind, lines, block, token)
+            end_simple(alloc, kind, span, suites, token)
         }
-        Resume::Leaving(raises) => {
+        Continuation::Leaving(raises) => {
             let kind = left(alloc, raises, Some(expr))?;
-            end_simple(alloc, kind, lines, block, token)
+            end_simple(alloc, kind, span, suites, token)
         }
-        Resume::Asserted => behind_test(alloc, expr, lines, block, token),
-        Resume::Reason(test) => {
+        Continuation::Asserted => after_test(alloc, expr, span, suites, token),
+        Continuation::Reason(test) => {
             let kind = asserted(alloc, test, Some(expr))?;
-            end_simple(alloc, kind, lines, block, token)
+            end_simple(alloc, kind, span, suites, token)
         }
-        Resume::ArmTest(arms) => {
-            let owner = boxed_owner(alloc, Owner::Arm(arms, expr))?;
-            Ok(end_header(owner, lines, block, token))
+        Continuation::ArmTest(arms) => {
+            let suite_of = boxed_suite_of(alloc, SuiteOf::Arm(arms, expr))?;
+            Ok(end_header(suite_of, span, suites, token))
         }
-        Resume::WhileTest => {
-            let owner = boxed_owner(alloc, Owner::While(expr))?;
-            Ok(end_header(owner, lines, block, token))
+        Continuation::WhileTest => {
+            let suite_of = boxed_suite_of(alloc, SuiteOf::While(expr))?;
+            Ok(end_header(suite_of, span, suites, token))
         }
-        Resume::ForTarget => Ok(behind_for_target(expr, lines, block, token)),
-        Resume::ForOver(target) => {
-            let owner = boxed_owner(alloc, Owner::For(target, expr))?;
-            Ok(end_header(owner, lines, block, token))
+        Continuation::ForTarget => Ok(after_for_target(expr, span, suites, token)),
+        Continuation::ForOver(target) => {
+            let suite_of = boxed_suite_of(alloc, SuiteOf::For(target, expr))?;
+            Ok(end_header(suite_of, span, suites, token))
         }
-        Resume::ClauseKind(tried) => behind_kind(alloc, tried, expr, lines, block, token),
-        Resume::Subject => Ok(behind_subject(expr, lines, block, token)),
-        Resume::Guard(choice, pattern) => {
-            let owner = boxed_owner(alloc, Owner::Case(choice, pattern, Some(expr)))?;
-            Ok(end_header(owner, lines, block, token))
+        Continuation::ClauseKind(partial_try) => after_kind(
+            alloc,
+            partial_try,
+            expr,
+            span,
+            suites,
+            token,
+        ),
+        Continuation::Subject => Ok(after_subject(expr, span, suites, token)),
+        Continuation::Guard(partial_match, pattern) => {
+            let suite_of = boxed_suite_of(
+                alloc,
+                SuiteOf::Case(partial_match, pattern, Some(expr)),
+            )?;
+            Ok(end_header(suite_of, span, suites, token))
         }
-        Resume::Default(signature, param) => {
+        Continuation::Default(signature, param) => {
             let signature = add_param(signature, param)?;
             let signature = add_default(signature, Box::into_inner(expr))?;
-            behind_default(alloc, signature, lines, block, token)
+            after_default(alloc, signature, span, suites, token)
         }
     }
 }

@@ -1,4 +1,4 @@
-// Statements go on behind a suite.
+// Statements go on after a suite.
 
 ghost use Rattle.std.specs.Prelude.{◌≡◌, IfOk};
 ghost use Rattle.py_syntax.specs.Tree.{no_suite, has_suite, if', while, for, try};
@@ -7,13 +7,13 @@ ghost use Rattle.py_token.specs.declared.token.Keyword.TheVariants as word;
 ghost use Rattle.py_syntax.specs.View.{plain_expr, plain_kind, plain_suite, plain_opt_suite, plain_arms, plain_clauses};
 ghost use Rattle.py_parse.specs.Open.{an_else, a_finally};
 ghost use Rattle.py_parse.specs.Machine.{ColonWanted, is_whole};
-ghost use Rattle.py_parse.specs.HeldStates.{kind_at, first_at, last_at, view_place};
-ghost use Rattle.py_parse.specs.HeldParts.{IsPart};
+ghost use Rattle.py_parse.specs.ViewStates.{kind_at, first_at, last_at, view_place};
+ghost use Rattle.py_parse.specs.ViewParts.{IsPart};
 
-use crate::kinds::{boxed, boxed_owner};
+use crate::kinds::{boxed, boxed_suite_of};
 use crate::lists::has_clauses;
-use crate::owner::{Owner, Tried};
-use crate::places::{Place, Resume};
+use crate::places::{Continuation, Place};
+use crate::suite_of::{PartialTry, SuiteOf};
 use py_syntax::{Arm, Expr, StmtKind, Suite};
 use py_token::{Keyword, Token, TokenKind};
 use py_value::NoMemory;
@@ -29,22 +29,26 @@ pub enum Part {
 fn else_wanted(alloc: Global, kind: Box<StmtKind>) -> Result<Place, NoMemory>
     ensures { IfOk result (λ p. view_place p ≡ ColonWanted (an_else (plain_kind kind.value))) }
 {
-    Ok(Place::ColonWanted(boxed_owner(alloc, Owner::Else(kind))?))
+    Ok(Place::ColonWanted(boxed_suite_of(alloc, SuiteOf::Else(kind))?))
 }
 
 /// The `finally` suite of a `try` is wanted.
-fn finally_wanted(alloc: Global, tried: Tried, orelse: Option<Suite>) -> Result<Place, NoMemory>
-    ensures { IfOk result (λ p. view_place p ≡ ColonWanted (a_finally (plain_suite tried.body) (plain_clauses tried.clauses.items) (plain_opt_suite orelse))) }
+fn finally_wanted(
+    alloc: Global,
+    partial_try: PartialTry,
+    orelse: Option<Suite>,
+) -> Result<Place, NoMemory>
+    ensures { IfOk result (λ p. view_place p ≡ ColonWanted (a_finally (plain_suite partial_try.body) (plain_clauses partial_try.clauses.items) (plain_opt_suite orelse))) }
 {
-    Ok(Place::ColonWanted(boxed_owner(alloc, Owner::Finally(tried, orelse))?))
+    Ok(Place::ColonWanted(boxed_suite_of(alloc, SuiteOf::Finally(partial_try, orelse))?))
 }
 
-fn behind_if(alloc: Global, arms: Vec<Arm>, token: &Token) -> Result<Part, NoMemory>
+fn after_if(alloc: Global, arms: Vec<Arm>, token: &Token) -> Result<Part, NoMemory>
     ensures { IsPart (if' (plain_arms arms.items) no_suite) (kind_at token.now) result }
 {
     match &token.kind {
         TokenKind::Keyword(Keyword::Elif) => {
-            Ok(Part::Next(Place::Wanted(Resume::ArmTest(arms))))
+            Ok(Part::Next(Place::Wanted(Continuation::ArmTest(arms))))
         }
         TokenKind::Keyword(Keyword::Else) => {
             let kind = boxed(alloc, StmtKind::If { arms, orelse: None })?;
@@ -54,7 +58,7 @@ fn behind_if(alloc: Global, arms: Vec<Arm>, token: &Token) -> Result<Part, NoMem
     }
 }
 
-fn behind_while(alloc: Global, test: Expr, body: Suite, token: &Token) -> Result<Part, NoMemory>
+fn after_while(alloc: Global, test: Expr, body: Suite, token: &Token) -> Result<Part, NoMemory>
     ensures { IsPart (while (plain_expr test) (plain_suite body) no_suite) (kind_at token.now) result }
 {
     let kind = StmtKind::While {
@@ -69,7 +73,7 @@ fn behind_while(alloc: Global, test: Expr, body: Suite, token: &Token) -> Result
     }
 }
 
-fn behind_for(
+fn after_for(
     alloc: Global,
     target: Expr,
     over: Expr,
@@ -91,23 +95,23 @@ fn behind_for(
     }
 }
 
-/// Behind the `else` suite of a `try`.
-fn behind_try_else(
+/// After the `else` suite of a `try`.
+fn after_try_else(
     alloc: Global,
-    tried: Tried,
+    partial_try: PartialTry,
     orelse: Suite,
     token: &Token,
 ) -> Result<Part, NoMemory>
-    ensures { IsPart (try (plain_suite tried.body) (plain_clauses tried.clauses.items) (has_suite (plain_suite orelse)) no_suite) (kind_at token.now) result }
+    ensures { IsPart (try (plain_suite partial_try.body) (plain_clauses partial_try.clauses.items) (has_suite (plain_suite orelse)) no_suite) (kind_at token.now) result }
 {
     match &token.kind {
         TokenKind::Keyword(Keyword::Finally) => {
-            Ok(Part::Next(finally_wanted(alloc, tried, Some(orelse))?))
+            Ok(Part::Next(finally_wanted(alloc, partial_try, Some(orelse))?))
         }
         _ => {
             let kind = StmtKind::Try {
-                body: tried.body,
-                clauses: tried.clauses,
+                body: partial_try.body,
+                clauses: partial_try.clauses,
                 orelse: Some(orelse),
                 finally: None,
             };
@@ -116,15 +120,15 @@ fn behind_try_else(
     }
 }
 
-/// An `else` behind the clauses of a `try`, where it has any.
-#[tactic(auto, using(crate::proofs::HeldKinds::else_some, crate::proofs::HeldKinds::else_none))]
-fn try_else(alloc: Global, tried: Tried) -> Result<Part, NoMemory>
-    ensures { IsPart (try (plain_suite tried.body) (plain_clauses tried.clauses.items) no_suite no_suite) (Word word.Else) result }
+/// An `else` after the clauses of a `try`, where it has any.
+#[tactic(auto, using(crate::proofs::ViewKinds::else_some, crate::proofs::ViewKinds::else_none))]
+fn try_else(alloc: Global, partial_try: PartialTry) -> Result<Part, NoMemory>
+    ensures { IsPart (try (plain_suite partial_try.body) (plain_clauses partial_try.clauses.items) no_suite no_suite) (Word word.Else) result }
 {
-    let some = has_clauses(&tried.clauses);
+    let some = has_clauses(&partial_try.clauses);
     let kind = StmtKind::Try {
-        body: tried.body,
-        clauses: tried.clauses,
+        body: partial_try.body,
+        clauses: partial_try.clauses,
         orelse: None,
         finally: None,
     };
@@ -136,20 +140,20 @@ fn try_else(alloc: Global, tried: Tried) -> Result<Part, NoMemory>
     }
 }
 
-/// Behind the suite or a clause of a `try`.
-fn behind_try(alloc: Global, tried: Tried, token: &Token) -> Result<Part, NoMemory>
-    ensures { IsPart (try (plain_suite tried.body) (plain_clauses tried.clauses.items) no_suite no_suite) (kind_at token.now) result }
+/// After the suite or a clause of a `try`.
+fn after_try(alloc: Global, partial_try: PartialTry, token: &Token) -> Result<Part, NoMemory>
+    ensures { IsPart (try (plain_suite partial_try.body) (plain_clauses partial_try.clauses.items) no_suite no_suite) (kind_at token.now) result }
 {
     match &token.kind {
-        TokenKind::Keyword(Keyword::Except) => Ok(Part::Next(Place::Except(tried))),
-        TokenKind::Keyword(Keyword::Else) => try_else(alloc, tried),
+        TokenKind::Keyword(Keyword::Except) => Ok(Part::Next(Place::Except(partial_try))),
+        TokenKind::Keyword(Keyword::Else) => try_else(alloc, partial_try),
         TokenKind::Keyword(Keyword::Finally) => {
-            Ok(Part::Next(finally_wanted(alloc, tried, None)?))
+            Ok(Part::Next(finally_wanted(alloc, partial_try, None)?))
         }
         _ => {
             let kind = StmtKind::Try {
-                body: tried.body,
-                clauses: tried.clauses,
+                body: partial_try.body,
+                clauses: partial_try.clauses,
                 orelse: None,
                 finally: None,
             };
@@ -158,33 +162,33 @@ fn behind_try(alloc: Global, tried: Tried, token: &Token) -> Result<Part, NoMemo
     }
 }
 
-/// What the token behind a suite is to its statement.
+/// What the token after a suite is to its statement.
 pub fn next_part(alloc: Global, kind: Box<StmtKind>, token: &Token) -> Result<Part, NoMemory>
     ensures { IsPart (plain_kind kind.value) (kind_at token.now) result }
 {
     match Box::into_inner(kind) {
-        StmtKind::If { arms, orelse: None } => behind_if(alloc, arms, token),
+        StmtKind::If { arms, orelse: None } => after_if(alloc, arms, token),
         StmtKind::While {
             test,
             body,
             orelse: None,
-        } => behind_while(alloc, test, body, token),
+        } => after_while(alloc, test, body, token),
         StmtKind::For {
             target,
             over,
             body,
             orelse: None,
-        } => behind_for(alloc, target, over, body, token),
+        } => after_for(alloc, target, over, body, token),
         StmtKind::Try {
             body,
             clauses,
             orelse,
             finally: None,
         } => {
-            let tried = Tried { body, clauses };
+            let partial_try = PartialTry { body, clauses };
             match orelse {
-                Some(orelse) => behind_try_else(alloc, tried, orelse, token),
-                None => behind_try(alloc, tried, token),
+                Some(orelse) => after_try_else(alloc, partial_try, orelse, token),
+                None => after_try(alloc, partial_try, token),
             }
         }
         whole @ (StmtKind::Expr(_)
@@ -209,7 +213,7 @@ pub fn next_part(alloc: Global, kind: Box<StmtKind>, token: &Token) -> Result<Pa
 }
 
 /// Whether a statement has all that it needs: a `try` needs a clause or a `finally`.
-#[tactic(auto, using(crate::proofs::HeldKinds::whole_try))]
+#[tactic(auto, using(crate::proofs::ViewKinds::whole_try))]
 pub fn is_whole(kind: &StmtKind) -> bool
     ensures { result ≡ is_whole (plain_kind kind.now) }
 {

@@ -4,17 +4,17 @@ ghost use Rattle.std.specs.Prelude.{◌≡◌, ℕ, Some, IfOk, option_map};
 ghost use Rattle.py_syntax.specs.Kinds.{Kind};
 ghost use Rattle.py_syntax.specs.View.{plain_expr, plain_exprs, plain_kind, plain_suite, plain_clauses};
 ghost use Rattle.py_parse.specs.Machine.{Semicolon, Leaving, NameWanted, NameRead, BoundWanted, ModuleWanted, ImportWanted, FunctionWanted, ParamsWanted, ParamWanted, Except, ClauseBound, SuiteWanted, IndentWanted, MatchLine, MatchBlock, act};
-ghost use Rattle.py_parse.specs.HeldOwners.{view_owner};
-ghost use Rattle.py_parse.specs.HeldStates.{kind_at, first_at, last_at, view_block, view_lines, view_listed, view_state, ActsAs, Acts, Makes};
+ghost use Rattle.py_parse.specs.ViewSuiteOf.{view_suite_of};
+ghost use Rattle.py_parse.specs.ViewStates.{kind_at, first_at, last_at, view_suites, view_span, view_listed, view_state, ActsAs, Acts, Makes};
 
-use crate::begin::begin_simple;
-use crate::block::{Block, Lines, add, opened};
-use crate::kinds::{boxed_owner, left};
+use crate::kinds::{boxed_suite_of, left};
 use crate::lists::{Class, has_names, is_a, name_in};
-use crate::names::{behind_name, may_bind};
-use crate::owner::{Choice, Owner, Signature, Tried};
-use crate::places::{Listed, Place, Resume, State, Turn};
-use crate::simple::{end_header, end_line, end_simple};
+use crate::names::{after_name, may_bind};
+use crate::places::{Continuation, Listed, Place, State, Turn};
+use crate::statement_end::{end_header, end_line, end_simple};
+use crate::statement_start::begin_simple;
+use crate::suite_of::{PartialMatch, PartialTry, Signature, SuiteOf};
+use crate::suite_stack::{Span, SuiteStack, add, opened};
 use py_syntax::{Expr, LineEnd, StmtKind};
 use py_token::{Keyword, Mark, Token, TokenKind};
 use py_value::{NoMemory, Text};
@@ -30,76 +30,85 @@ pub fn turn(state: Option<State>) -> Turn
     }
 }
 
-/// Behind the semicolon of a simple statement.
+/// After the semicolon of a simple statement.
 #[tactic(auto, using(crate::proofs::Acts::semicolon_line, crate::proofs::Acts::semicolon_turn))]
-pub fn behind_semicolon(
+pub fn after_semicolon(
     alloc: Global,
     kind: Box<StmtKind>,
-    lines: Lines,
-    block: Block,
+    span: Span,
+    suites: SuiteStack,
     token: &Token,
 ) -> Result<Turn, NoMemory>
-    ensures { Acts token.now (act (Semicolon (plain_kind kind.value)) (view_lines lines) (view_block block) (kind_at token.now) (first_at token.now) (last_at token.now)) result }
+    ensures { Acts token.now (act (Semicolon (plain_kind kind.value)) (view_span span) (view_suites suites) (kind_at token.now) (first_at token.now) (last_at token.now)) result }
 {
     if is_a(token, Class::Newline) {
-        return Ok(Turn::Next(end_line(alloc, kind, true, lines, block, token.last)?));
+        return Ok(Turn::Next(end_line(alloc, kind, true, span, suites, token.last)?));
     }
-    let block = add(
-        block,
-        lines.begun,
-        lines.last,
+    let suites = add(
+        suites,
+        span.begun,
+        span.last,
         kind,
         LineEnd {
             semicolon: true,
             newline: false,
         },
     )?;
-    begin_simple(alloc, block, token)
+    begin_simple(alloc, suites, token)
 }
 
-/// Behind `return` or `raise`.
+/// After `return` or `raise`.
 #[tactic(auto, using(crate::proofs::Acts::leaving_reads))]
-pub fn behind_leaving(
+pub fn after_leaving(
     alloc: Global,
     raises: bool,
-    lines: Lines,
-    block: Block,
+    span: Span,
+    suites: SuiteStack,
     token: &Token,
 ) -> Result<Turn, NoMemory>
-    ensures { Acts token.now (act (Leaving raises) (view_lines lines) (view_block block) (kind_at token.now) (first_at token.now) (last_at token.now)) result }
+    ensures { Acts token.now (act (Leaving raises) (view_span span) (view_suites suites) (kind_at token.now) (first_at token.now) (last_at token.now)) result }
 {
     if is_a(token, Class::SimpleEnd) {
         let kind = left(alloc, raises, None)?;
-        let state = end_simple(alloc, kind, lines, block, token)?;
+        let state = end_simple(alloc, kind, span, suites, token)?;
         return Ok(turn(state));
     }
-    Ok(Turn::Reads(Resume::Leaving(raises), lines.onward(token.last), block))
+    Ok(Turn::Reads(
+        Continuation::Leaving(raises),
+        span.onward(token.last),
+        suites,
+    ))
 }
 
 /// Where a listed name is wanted.
-pub fn at_name(names: Listed, lines: Lines, block: Block, token: &Token) -> Result<Turn, NoMemory>
-    ensures { Acts token.now (act (NameWanted (view_listed names)) (view_lines lines) (view_block block) (kind_at token.now) (first_at token.now) (last_at token.now)) result }
+pub fn at_name(
+    names: Listed,
+    span: Span,
+    suites: SuiteStack,
+    token: &Token,
+) -> Result<Turn, NoMemory>
+    ensures { Acts token.now (act (NameWanted (view_listed names)) (view_span span) (view_suites suites) (kind_at token.now) (first_at token.now) (last_at token.now)) result }
 {
     match &token.kind {
         TokenKind::Name(name) => Ok(Turn::Next(State::At(
             Place::NameRead(names, name.copy()?),
-            lines.onward(token.last),
-            block,
+            span.onward(token.last),
+            suites,
         ))),
         _ => Ok(Turn::Stuck),
     }
 }
 
-/// Behind a listed name.
-pub fn behind_listed(
+/// After a listed name.
+pub fn after_listed(
     alloc: Global,
     names: Listed,
     name: Text,
-    lines: Lines,
-    block: Block,
+    span: Span,
+    suites: SuiteStack,
     token: &Token,
 ) -> Result<Option<State>, NoMemory>
-    ensures { Makes (act (NameRead (view_listed names) name) (view_lines lines) (view_block block) (kind_at token.now) (first_at token.now) (last_at token.now)) result }
+    ensures { Makes (act (NameRead (view_listed names) name) (view_span span) (view_suites suites) (kind_at token.now) (first_at token.now) (last_at token.now)) result }
 {
     match &token.kind {
         TokenKind::Keyword(Keyword::As) => {
@@ -108,80 +117,86 @@ pub fn behind_listed(
             }
             Ok(Some(State::At(
                 Place::BoundWanted(names, name),
-                lines.onward(token.last),
-                block,
+                span.onward(token.last),
+                suites,
             )))
         }
         _ => {
             let names = names.with_name(name, None)?;
-            behind_name(alloc, names, lines, block, token)
+            after_name(alloc, names, span, suites, token)
         }
     }
 }
 
-/// Behind the `as` of a listed name.
+/// After the `as` of a listed name.
 #[tactic(auto, using(crate::proofs::Acts::bound_some, crate::proofs::Acts::bound_none))]
 pub fn at_bound(
     names: Listed,
     name: Text,
-    lines: Lines,
-    block: Block,
+    span: Span,
+    suites: SuiteStack,
     token: &Token,
 ) -> Result<Turn, NoMemory>
-    ensures { Acts token.now (act (BoundWanted (view_listed names) name) (view_lines lines) (view_block block) (kind_at token.now) (first_at token.now) (last_at token.now)) result }
+    ensures { Acts token.now (act (BoundWanted (view_listed names) name) (view_span span) (view_suites suites) (kind_at token.now) (first_at token.now) (last_at token.now)) result }
 {
     let Some(bound) = name_in(token)? else {
         return Ok(Turn::Stuck);
     };
     let names = names.with_name(name, Some(bound))?;
-    Ok(Turn::Next(State::At(Place::BoundRead(names), lines.onward(token.last), block)))
+    Ok(Turn::Next(State::At(Place::BoundRead(names), span.onward(token.last), suites)))
 }
 
-/// Behind `from`.
-pub fn at_module(lines: Lines, block: Block, token: &Token) -> Result<Turn, NoMemory>
-    ensures { Acts token.now (act ModuleWanted (view_lines lines) (view_block block) (kind_at token.now) (first_at token.now) (last_at token.now)) result }
+/// After `from`.
+pub fn at_module(span: Span, suites: SuiteStack, token: &Token) -> Result<Turn, NoMemory>
+    ensures { Acts token.now (act ModuleWanted (view_span span) (view_suites suites) (kind_at token.now) (first_at token.now) (last_at token.now)) result }
 {
     match &token.kind {
         TokenKind::Name(name) => Ok(Turn::Next(State::At(
             Place::ImportWanted(name.copy()?),
-            lines.onward(token.last),
-            block,
+            span.onward(token.last),
+            suites,
         ))),
         _ => Ok(Turn::Stuck),
     }
 }
 
-/// Behind the module of a `from`.
-pub fn behind_module(alloc: Global, name: Text, lines: Lines, block: Block, token: &Token) -> Turn
-    ensures { ActsAs (kind_at token.now) (first_at token.now) (last_at token.now) (act (ImportWanted name) (view_lines lines) (view_block block) (kind_at token.now) (first_at token.now) (last_at token.now)) result }
+/// After the module of a `from`.
+pub fn after_module(
+    alloc: Global,
+    name: Text,
+    span: Span,
+    suites: SuiteStack,
+    token: &Token,
+) -> Turn
+    ensures { ActsAs (kind_at token.now) (first_at token.now) (last_at token.now) (act (ImportWanted name) (view_span span) (view_suites suites) (kind_at token.now) (first_at token.now) (last_at token.now)) result }
 {
     match &token.kind {
         TokenKind::Keyword(Keyword::Import) => Turn::Next(State::At(
             Place::NameWanted(Listed::Froms(name, Vec::new(alloc))),
-            lines.onward(token.last),
-            block,
+            span.onward(token.last),
+            suites,
         )),
         _ => Turn::Stuck,
     }
 }
 
-/// Behind `def`.
-pub fn at_function(lines: Lines, block: Block, token: &Token) -> Result<Turn, NoMemory>
-    ensures { Acts token.now (act FunctionWanted (view_lines lines) (view_block block) (kind_at token.now) (first_at token.now) (last_at token.now)) result }
+/// After `def`.
+pub fn at_function(span: Span, suites: SuiteStack, token: &Token) -> Result<Turn, NoMemory>
+    ensures { Acts token.now (act FunctionWanted (view_span span) (view_suites suites) (kind_at token.now) (first_at token.now) (last_at token.now)) result }
 {
     match &token.kind {
         TokenKind::Name(name) => Ok(Turn::Next(State::At(
             Place::ParamsWanted(name.copy()?),
-            lines.onward(token.last),
-            block,
+            span.onward(token.last),
+            suites,
         ))),
         _ => Ok(Turn::Stuck),
     }
 }
 
-/// Behind the name of a `def`.
-pub fn at_params(alloc: Global, name: Text, lines: Lines, block: Block, token: &Token) -> Turn
-    ensures { ActsAs (kind_at token.now) (first_at token.now) (last_at token.now) (act (ParamsWanted name) (view_lines lines) (view_block block) (kind_at token.now) (first_at token.now) (last_at token.now)) result }
+/// After the name of a `def`.
+pub fn at_params(alloc: Global, name: Text, span: Span, suites: SuiteStack, token: &Token) -> Turn
+    ensures { ActsAs (kind_at token.now) (first_at token.now) (last_at token.now) (act (ParamsWanted name) (view_span span) (view_suites suites) (kind_at token.now) (first_at token.now) (last_at token.now)) result }
 {
     match &token.kind {
         TokenKind::Mark(Mark::LeftParen) => {
@@ -192,8 +207,8 @@ pub fn at_params(alloc: Global, name: Text, lines: Lines, block: Block, token: &
             };
             Turn::Next(State::At(
                 Place::ParamWanted(signature),
-                lines.onward(token.last),
-                block,
+                span.onward(token.last),
+                suites,
             ))
         }
         _ => Turn::Stuck,
@@ -205,113 +220,125 @@ pub fn at_params(alloc: Global, name: Text, lines: Lines, block: Block, token: &
 pub fn at_param(
     alloc: Global,
     signature: Signature,
-    lines: Lines,
-    block: Block,
+    span: Span,
+    suites: SuiteStack,
     token: &Token,
 ) -> Result<Turn, NoMemory>
-    ensures { Acts token.now (act (ParamWanted signature.name signature.params.items (plain_exprs signature.defaults.items)) (view_lines lines) (view_block block) (kind_at token.now) (first_at token.now) (last_at token.now)) result }
+    ensures { Acts token.now (act (ParamWanted signature.name signature.params.items (plain_exprs signature.defaults.items)) (view_span span) (view_suites suites) (kind_at token.now) (first_at token.now) (last_at token.now)) result }
 {
     if let Some(param) = name_in(token)? {
         return Ok(Turn::Next(State::At(
             Place::ParamRead(signature, param),
-            lines.onward(token.last),
-            block,
+            span.onward(token.last),
+            suites,
         )));
     }
     if !is_a(token, Class::RightParen) {
         return Ok(Turn::Stuck);
     }
     let comma = has_names(&signature.params);
-    let owner = boxed_owner(alloc, Owner::Def(signature, comma))?;
-    Ok(Turn::Next(State::At(Place::ColonWanted(owner), lines.onward(token.last), block)))
+    let suite_of = boxed_suite_of(alloc, SuiteOf::Def(signature, comma))?;
+    Ok(Turn::Next(State::At(
+        Place::ColonWanted(suite_of),
+        span.onward(token.last),
+        suites,
+    )))
 }
 
-/// Behind `except`.
-pub fn behind_except(
+/// After `except`.
+pub fn after_except(
     alloc: Global,
-    tried: Tried,
-    lines: Lines,
-    block: Block,
+    partial_try: PartialTry,
+    span: Span,
+    suites: SuiteStack,
     token: &Token,
 ) -> Result<Turn, NoMemory>
-    ensures { Acts token.now (act (Except (plain_suite tried.body) (plain_clauses tried.clauses.items)) (view_lines lines) (view_block block) (kind_at token.now) (first_at token.now) (last_at token.now)) result }
+    ensures { Acts token.now (act (Except (plain_suite partial_try.body) (plain_clauses partial_try.clauses.items)) (view_span span) (view_suites suites) (kind_at token.now) (first_at token.now) (last_at token.now)) result }
 {
     if is_a(token, Class::Colon) {
-        let owner = boxed_owner(alloc, Owner::Clause(tried, None, None))?;
-        return Ok(turn(end_header(owner, lines, block, token)));
+        let suite_of = boxed_suite_of(alloc, SuiteOf::Clause(partial_try, None, None))?;
+        return Ok(turn(end_header(suite_of, span, suites, token)));
     }
-    Ok(Turn::Reads(Resume::ClauseKind(tried), lines.onward(token.last), block))
+    Ok(Turn::Reads(
+        Continuation::ClauseKind(partial_try),
+        span.onward(token.last),
+        suites,
+    ))
 }
 
-/// Behind the `as` of a clause.
+/// After the `as` of a clause.
 #[tactic(auto, using(crate::proofs::Acts::clause_some, crate::proofs::Acts::clause_none))]
 pub fn at_clause_name(
     alloc: Global,
-    tried: Tried,
+    partial_try: PartialTry,
     kind: Box<Expr>,
-    lines: Lines,
-    block: Block,
+    span: Span,
+    suites: SuiteStack,
     token: &Token,
 ) -> Result<Turn, NoMemory>
-    ensures { Acts token.now (act (ClauseBound (plain_suite tried.body) (plain_clauses tried.clauses.items) (plain_expr kind.value)) (view_lines lines) (view_block block) (kind_at token.now) (first_at token.now) (last_at token.now)) result }
+    ensures { Acts token.now (act (ClauseBound (plain_suite partial_try.body) (plain_clauses partial_try.clauses.items) (plain_expr kind.value)) (view_span span) (view_suites suites) (kind_at token.now) (first_at token.now) (last_at token.now)) result }
 {
     let Some(name) = name_in(token)? else {
         return Ok(Turn::Stuck);
     };
-    let owner = boxed_owner(alloc, Owner::Clause(tried, Some(kind), Some(name)))?;
-    Ok(Turn::Next(State::At(Place::ColonWanted(owner), lines.onward(token.last), block)))
+    let suite_of = boxed_suite_of(alloc, SuiteOf::Clause(partial_try, Some(kind), Some(name)))?;
+    Ok(Turn::Next(State::At(
+        Place::ColonWanted(suite_of),
+        span.onward(token.last),
+        suites,
+    )))
 }
 
-/// Behind the colon of a header.
+/// After the colon of a header.
 #[tactic(auto, using(crate::proofs::Acts::suite_line, crate::proofs::Acts::suite_turn))]
 pub fn at_suite(
     alloc: Global,
-    owner: Box<Owner>,
-    lines: Lines,
-    block: Block,
+    suite_of: Box<SuiteOf>,
+    span: Span,
+    suites: SuiteStack,
     token: &Token,
 ) -> Result<Turn, NoMemory>
-    ensures { Acts token.now (act (SuiteWanted (view_owner owner.value)) (view_lines lines) (view_block block) (kind_at token.now) (first_at token.now) (last_at token.now)) result }
+    ensures { Acts token.now (act (SuiteWanted (view_suite_of suite_of.value)) (view_span span) (view_suites suites) (kind_at token.now) (first_at token.now) (last_at token.now)) result }
 {
     if is_a(token, Class::Newline) {
-        return Ok(Turn::Next(State::At(Place::IndentWanted(owner), lines, block)));
+        return Ok(Turn::Next(State::At(Place::IndentWanted(suite_of), span, suites)));
     }
-    let block = opened(alloc, block, true, lines, owner)?;
-    begin_simple(alloc, block, token)
+    let suites = opened(alloc, suites, true, span, suite_of)?;
+    begin_simple(alloc, suites, token)
 }
 
 /// Where a block is wanted.
 #[tactic(auto, using(crate::proofs::Blocks::block_opens, crate::proofs::Blocks::block_none))]
 pub fn at_block(
     alloc: Global,
-    owner: Box<Owner>,
-    lines: Lines,
-    block: Block,
+    suite_of: Box<SuiteOf>,
+    span: Span,
+    suites: SuiteStack,
     token: &Token,
 ) -> Result<Option<State>, NoMemory>
-    ensures { Makes (act (IndentWanted (view_owner owner.value)) (view_lines lines) (view_block block) (kind_at token.now) (first_at token.now) (last_at token.now)) result }
+    ensures { Makes (act (IndentWanted (view_suite_of suite_of.value)) (view_span span) (view_suites suites) (kind_at token.now) (first_at token.now) (last_at token.now)) result }
 {
     if !is_a(token, Class::Indent) {
         return Ok(None);
     }
-    Ok(Some(State::Line(opened(alloc, block, false, lines, owner)?)))
+    Ok(Some(State::Line(opened(alloc, suites, false, span, suite_of)?)))
 }
 
-/// Behind the colon of a `match` header.
+/// After the colon of a `match` header.
 pub fn at_match_line(
     subject: Box<Expr>,
     header_last: u32,
-    lines: Lines,
-    block: Block,
+    span: Span,
+    suites: SuiteStack,
     token: &Token,
 ) -> Turn
-    ensures { ActsAs (kind_at token.now) (first_at token.now) (last_at token.now) (act (MatchLine (plain_expr subject.value) header_last) (view_lines lines) (view_block block) (kind_at token.now) (first_at token.now) (last_at token.now)) result }
+    ensures { ActsAs (kind_at token.now) (first_at token.now) (last_at token.now) (act (MatchLine (plain_expr subject.value) header_last) (view_span span) (view_suites suites) (kind_at token.now) (first_at token.now) (last_at token.now)) result }
 {
     match &token.kind {
         TokenKind::Newline => Turn::Next(State::At(
             Place::MatchBlock(subject, header_last),
-            lines,
-            block,
+            span,
+            suites,
         )),
         _ => Turn::Stuck,
     }
@@ -322,21 +349,21 @@ pub fn at_match_block(
     alloc: Global,
     subject: Box<Expr>,
     header_last: u32,
-    lines: Lines,
-    block: Block,
+    span: Span,
+    suites: SuiteStack,
     token: &Token,
 ) -> Result<Turn, NoMemory>
-    ensures { Acts token.now (act (MatchBlock (plain_expr subject.value) header_last) (view_lines lines) (view_block block) (kind_at token.now) (first_at token.now) (last_at token.now)) result }
+    ensures { Acts token.now (act (MatchBlock (plain_expr subject.value) header_last) (view_span span) (view_suites suites) (kind_at token.now) (first_at token.now) (last_at token.now)) result }
 {
     match &token.kind {
         TokenKind::Indent => {
-            let choice = Choice {
+            let partial_match = PartialMatch {
                 subject: Box::into_inner(subject),
                 header_last,
                 cases: Vec::new(alloc),
             };
-            let choice = Box::new(alloc, choice)?;
-            Ok(Turn::Next(State::Choosing(choice, lines.begun, block)))
+            let partial_match = Box::new(alloc, partial_match)?;
+            Ok(Turn::Next(State::Choosing(partial_match, span.begun, suites)))
         }
         _ => Ok(Turn::Stuck),
     }

@@ -4,10 +4,10 @@ ghost use Rattle.std.specs.Prelude.{◌≡◌, IfOk, option_map};
 ghost use Rattle.py_syntax.specs.View.{plain_expr, plain_exprs, plain_kind, plain_cases};
 ghost use Rattle.py_syntax.specs.Tree.{aug_assign, assert, match};
 ghost use Rattle.py_parse.specs.Machine.{assigned, left};
-ghost use Rattle.py_parse.specs.HeldOwners.{boxed_expr};
+ghost use Rattle.py_parse.specs.ViewSuiteOf.{boxed_expr};
 
 use crate::lists::has_exprs;
-use crate::owner::{Choice, Owner};
+use crate::suite_of::{PartialMatch, SuiteOf};
 use py_syntax::{Expr, StmtKind};
 use py_value::{BinOp, NoMemory};
 use std::alloc::Global;
@@ -20,10 +20,10 @@ pub fn boxed(alloc: Global, kind: StmtKind) -> Result<Box<StmtKind>, NoMemory>
 }
 
 /// An owner in a box.
-pub fn boxed_owner(alloc: Global, owner: Owner) -> Result<Box<Owner>, NoMemory>
-    ensures { IfOk result (λ b. b.value ≡ owner) }
+pub fn boxed_suite_of(alloc: Global, suite_of: SuiteOf) -> Result<Box<SuiteOf>, NoMemory>
+    ensures { IfOk result (λ b. b.value ≡ suite_of) }
 {
-    Ok(Box::new(alloc, owner)?)
+    Ok(Box::new(alloc, suite_of)?)
 }
 
 /// An expression out of its box.
@@ -37,7 +37,7 @@ pub fn unboxed(expr: Option<Box<Expr>>) -> Option<Expr>
 }
 
 /// An assignment, or an expression statement where it has no targets.
-#[tactic(auto, using(crate::proofs::HeldKinds::assigned_some, crate::proofs::HeldKinds::assigned_none))]
+#[tactic(auto, using(crate::proofs::ViewKinds::assigned_some, crate::proofs::ViewKinds::assigned_none))]
 pub fn assigned(
     alloc: Global,
     targets: Vec<Expr>,
@@ -96,14 +96,14 @@ pub fn asserted(
 }
 
 /// The `match` statement with its cases.
-pub fn matched(alloc: Global, choice: Box<Choice>) -> Result<Box<StmtKind>, NoMemory>
-    ensures { IfOk result (λ k. plain_kind k.value ≡ match (plain_expr choice.value.subject) choice.value.header_last (plain_cases choice.value.cases.items)) }
+pub fn matched(alloc: Global, partial_match: Box<PartialMatch>) -> Result<Box<StmtKind>, NoMemory>
+    ensures { IfOk result (λ k. plain_kind k.value ≡ match (plain_expr partial_match.value.subject) partial_match.value.header_last (plain_cases partial_match.value.cases.items)) }
 {
-    let Choice {
+    let PartialMatch {
         subject,
         header_last,
         cases,
-    } = Box::into_inner(choice);
+    } = Box::into_inner(partial_match);
     let kind = StmtKind::Match {
         subject,
         header_last,

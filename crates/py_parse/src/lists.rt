@@ -5,8 +5,8 @@ ghost use Rattle.py_token.specs.View.{view_kind};
 ghost use Rattle.py_syntax.specs.Kinds.{bare_kind};
 ghost use Rattle.py_syntax.specs.View.{plain_exprs, plain_arms, plain_clauses, plain_cases};
 ghost use Rattle.py_parse.specs.Machine.{is_some};
-ghost use Rattle.py_parse.specs.HeldLists.{some_exprs, some_arms, some_clauses, some_cases, IsNameIn, is_a, is_case};
-ghost use Rattle.py_parse.specs.HeldStates.{kind_at};
+ghost use Rattle.py_parse.specs.ViewLists.{some_exprs, some_arms, some_clauses, some_cases, IsNameIn, is_a, is_case};
+ghost use Rattle.py_parse.specs.ViewStates.{kind_at};
 
 use crate::match_headers::is_case_name;
 use py_syntax::{Arm, Case, Clause, Expr};
@@ -67,7 +67,7 @@ pub enum Class {
     End,
     /// What ends a simple statement.
     SimpleEnd,
-    /// What a logical line may begin behind.
+    /// What a logical line may begin after.
     LineEnd,
 }
 

@@ -2,12 +2,12 @@
 
 ghost use Rattle.std.specs.Prelude.{◌≡◌, ◌<◌, true, false, bytes_eq, get_or, length, drop};
 ghost use Rattle.py_token.specs.declared.token.Token.{Token};
-ghost use Rattle.py_parse.specs.HeldStates.{kind_at};
+ghost use Rattle.py_parse.specs.ViewStates.{kind_at};
 ghost use Rattle.py_token.specs.View.{view_kind};
 ghost use Rattle.py_syntax.specs.Kinds.{Name, bare_kind};
 ghost use Rattle.py_syntax.specs.Headers.{is_match, ends_in_colon};
 ghost use Rattle.py_syntax.specs.Statements.{case_name};
-ghost use Rattle.py_parse.specs.HeldMarks.{kinds_of, begins_from, header_at};
+ghost use Rattle.py_parse.specs.ViewMarks.{kinds_of, begins_from, header_at};
 
 use crate::lists::{Class, is_a};
 use py_token::{Token, TokenKind};

@@ -1,13 +1,13 @@
 // Listed names.
 
 ghost use Rattle.std.specs.Prelude.{◌≡◌};
-ghost use Rattle.py_parse.specs.Machine.{may_bind, behind_name};
-ghost use Rattle.py_parse.specs.HeldStates.{kind_at, first_at, last_at, view_block, view_lines, view_listed, view_state, Makes};
+ghost use Rattle.py_parse.specs.Machine.{may_bind, after_name};
+ghost use Rattle.py_parse.specs.ViewStates.{kind_at, first_at, last_at, view_suites, view_span, view_listed, view_state, Makes};
 
-use crate::block::{Block, Lines};
 use crate::lists::{Class, is_a};
 use crate::places::{Listed, Place, State};
-use crate::simple::end_simple;
+use crate::statement_end::end_simple;
+use crate::suite_stack::{Span, SuiteStack};
 use py_token::Token;
 use py_value::NoMemory;
 use std::alloc::Global;
@@ -22,19 +22,19 @@ pub fn may_bind(names: &Listed) -> bool
     }
 }
 
-/// Behind a listed name and what it is bound to.
+/// After a listed name and what it is bound to.
 #[tactic(auto, using(crate::proofs::Acts::name_more, crate::proofs::Acts::name_ends))]
-pub fn behind_name(
+pub fn after_name(
     alloc: Global,
     names: Listed,
-    lines: Lines,
-    block: Block,
+    span: Span,
+    suites: SuiteStack,
     token: &Token,
 ) -> Result<Option<State>, NoMemory>
-    ensures { Makes (behind_name (view_listed names) (view_lines lines) (view_block block) (kind_at token.now) (last_at token.now)) result }
+    ensures { Makes (after_name (view_listed names) (view_span span) (view_suites suites) (kind_at token.now) (last_at token.now)) result }
 {
     if is_a(token, Class::Comma) {
-        return Ok(Some(State::At(Place::NameWanted(names), lines.onward(token.last), block)));
+        return Ok(Some(State::At(Place::NameWanted(names), span.onward(token.last), suites)));
     }
-    end_simple(alloc, names.listed(alloc)?, lines, block, token)
+    end_simple(alloc, names.listed(alloc)?, span, suites, token)
 }

@@ -3,21 +3,21 @@
 ghost use Rattle.std.specs.Prelude.{◌≡◌, IfOk};
 ghost use Rattle.py_syntax.specs.View.{plain_kind};
 ghost use Rattle.py_parse.specs.Machine.{act, listed, plain_step, with_name};
-ghost use Rattle.py_parse.specs.HeldStates.{kind_at, first_at, last_at, view_block, view_lines, view_listed, view_place, view_state, Acts, IsDone, Rests};
+ghost use Rattle.py_parse.specs.ViewStates.{kind_at, first_at, last_at, view_suites, view_span, view_listed, view_place, view_state, Acts, IsDone, Rests};
 
-use crate::act::{
-    at_block, at_bound, at_clause_name, at_function, at_match_block, at_match_line, at_module,
-    at_name, at_param, at_params, at_suite, behind_except, behind_leaving, behind_listed,
-    behind_module, behind_semicolon, turn,
+use crate::after_expression::after_param;
+use crate::in_statement::{
+    after_except, after_leaving, after_listed, after_module, after_semicolon, at_block, at_bound,
+    at_clause_name, at_function, at_match_block, at_match_line, at_module, at_name, at_param,
+    at_params, at_suite, turn,
 };
-use crate::begin::line;
-use crate::block::{Block, Lines};
 use crate::kinds::boxed;
-use crate::names::behind_name;
-use crate::owner::{Choice, Owner, Signature, Tried};
-use crate::simple::{end_header, end_simple};
-use crate::steps::{behind, choose, put};
-use crate::values::behind_param;
+use crate::names::after_name;
+use crate::statement_end::{end_header, end_simple};
+use crate::statement_start::line;
+use crate::steps::{after, choose, put};
+use crate::suite_of::{PartialMatch, PartialTry, Signature, SuiteOf};
+use crate::suite_stack::{Span, SuiteStack};
 use py_syntax::{Alias, Arm, Expr, Pattern, Stmt, StmtKind};
 use py_token::Token;
 use py_value::{BinOp, NoMemory, Text};
@@ -25,7 +25,7 @@ use std::alloc::Global;
 
 /// What an expression is for, with the parts of its statement in front of it.
 #[derive(Drop)]
-pub enum Resume {
+pub enum Continuation {
     /// An expression statement, or the value of an assignment with these targets; or one more target.
     Value(Vec<Expr>),
     Augmented(Box<Expr>, BinOp),
@@ -36,10 +36,10 @@ pub enum Resume {
     WhileTest,
     ForTarget,
     ForOver(Box<Expr>),
-    ClauseKind(Tried),
+    ClauseKind(PartialTry),
     Subject,
-    Guard(Box<Choice>, Box<Pattern>),
-    /// The default of a parameter, behind the others with theirs.
+    Guard(Box<PartialMatch>, Box<Pattern>),
+    /// The default of a parameter, after the others with theirs.
     Default(Signature, Text),
 }
 
@@ -66,36 +66,36 @@ impl Drop for Listed {
 /// A place inside a statement or a header.
 pub enum Place {
     /// An expression begins.
-    Wanted(Resume),
+    Wanted(Continuation),
     /// The pattern of a `case` begins.
-    PatternWanted(Box<Choice>),
-    /// Behind a simple statement that takes no more.
+    PatternWanted(Box<PartialMatch>),
+    /// After a simple statement that takes no more.
     Simple(Box<StmtKind>),
-    /// Behind its semicolon.
+    /// After its semicolon.
     Semicolon(Box<StmtKind>),
-    /// Behind `return` or `raise`.
+    /// After `return` or `raise`.
     Leaving(bool),
     NameWanted(Listed),
     NameRead(Listed, Text),
-    /// Behind the `as` of a listed name.
+    /// After the `as` of a listed name.
     BoundWanted(Listed, Text),
     BoundRead(Listed),
-    /// Behind `from`.
+    /// After `from`.
     ModuleWanted,
     ImportWanted(Text),
-    /// Behind `def`.
+    /// After `def`.
     FunctionWanted,
     ParamsWanted(Text),
     /// Where a parameter may come.
     ParamWanted(Signature),
     ParamRead(Signature, Text),
-    Except(Tried),
-    /// Behind the `as` of a clause.
-    ClauseBound(Tried, Box<Expr>),
-    ColonWanted(Box<Owner>),
-    SuiteWanted(Box<Owner>),
-    IndentWanted(Box<Owner>),
-    /// Behind the colon of a `match` header.
+    Except(PartialTry),
+    /// After the `as` of a clause.
+    ClauseBound(PartialTry, Box<Expr>),
+    ColonWanted(Box<SuiteOf>),
+    SuiteWanted(Box<SuiteOf>),
+    IndentWanted(Box<SuiteOf>),
+    /// After the colon of a `match` header.
     MatchLine(Box<Expr>, u32),
     MatchBlock(Box<Expr>, u32),
 }
@@ -104,7 +104,7 @@ impl Drop for Place {
     fn drop(self) {
         match self {
             Place::Wanted(resume) => drop(resume),
-            Place::PatternWanted(choice) => drop(choice),
+            Place::PatternWanted(partial_match) => drop(partial_match),
             Place::Simple(kind) => drop(kind),
             Place::Semicolon(kind) => drop(kind),
             Place::Leaving(_) => (),
@@ -127,14 +127,14 @@ impl Drop for Place {
                 drop(signature);
                 drop(param)
             }
-            Place::Except(tried) => drop(tried),
-            Place::ClauseBound(tried, kind) => {
-                drop(tried);
+            Place::Except(partial_try) => drop(partial_try),
+            Place::ClauseBound(partial_try, kind) => {
+                drop(partial_try);
                 drop(kind)
             }
-            Place::ColonWanted(owner) => drop(owner),
-            Place::SuiteWanted(owner) => drop(owner),
-            Place::IndentWanted(owner) => drop(owner),
+            Place::ColonWanted(suite_of) => drop(suite_of),
+            Place::SuiteWanted(suite_of) => drop(suite_of),
+            Place::IndentWanted(suite_of) => drop(suite_of),
             Place::MatchLine(subject, _) => drop(subject),
             Place::MatchBlock(subject, _) => drop(subject),
         }
@@ -143,31 +143,31 @@ impl Drop for Place {
 
 pub enum State {
     /// A statement begins on a new line, or its block ends.
-    Line(Block),
-    At(Place, Lines, Block),
-    /// Behind a suite of a statement that may go on, which has these first and last lines.
-    Behind(Box<StmtKind>, u32, u32, Block),
+    Line(SuiteStack),
+    At(Place, Span, SuiteStack),
+    /// After a suite of a statement that may go on, which has these first and last lines.
+    After(Box<StmtKind>, u32, u32, SuiteStack),
     /// Between the cases of a `match`, which has this first line.
-    Choosing(Box<Choice>, u32, Block),
-    /// Behind the end of the module.
+    Choosing(Box<PartialMatch>, u32, SuiteStack),
+    /// After the end of the module.
     Over(Vec<Stmt>),
 }
 
 impl Drop for State {
     fn drop(self) {
         match self {
-            State::Line(block) => drop(block),
-            State::At(place, _, block) => {
+            State::Line(suites) => drop(suites),
+            State::At(place, _, suites) => {
                 drop(place);
-                drop(block)
+                drop(suites)
             }
-            State::Behind(kind, _, _, block) => {
+            State::After(kind, _, _, suites) => {
                 drop(kind);
-                drop(block)
+                drop(suites)
             }
-            State::Choosing(choice, _, block) => {
-                drop(choice);
-                drop(block)
+            State::Choosing(partial_match, _, suites) => {
+                drop(partial_match);
+                drop(suites)
             }
             State::Over(body) => drop(body),
         }
@@ -179,9 +179,9 @@ pub enum Turn {
     Next(State),
     Stuck,
     /// An expression begins with the token, which isn't taken.
-    Reads(Resume, Lines, Block),
+    Reads(Continuation, Span, SuiteStack),
     /// A pattern begins with it.
-    Matches(Box<Choice>, Lines, Block),
+    Matches(Box<PartialMatch>, Span, SuiteStack),
 }
 
 impl Listed {
@@ -197,7 +197,7 @@ impl Listed {
     }
 
     /// A name more, with what it is bound to where `as` says so.
-    #[tactic(auto, using(crate::proofs::Held::aliases_snoc))]
+    #[tactic(auto, using(crate::proofs::Views::aliases_snoc))]
     pub fn with_name(self, name: Text, bound: Option<Text>) -> Result<Listed, NoMemory>
         ensures { IfOk result (λ l. view_listed l ≡ with_name (view_listed self) name bound) }
     {
@@ -226,44 +226,46 @@ impl Place {
     pub fn act(
         self,
         alloc: Global,
-        lines: Lines,
-        block: Block,
+        span: Span,
+        suites: SuiteStack,
         token: &Token,
     ) -> Result<Turn, NoMemory>
-        ensures { Acts token.now (act (view_place self) (view_lines lines) (view_block block) (kind_at token.now) (first_at token.now) (last_at token.now)) result }
+        ensures { Acts token.now (act (view_place self) (view_span span) (view_suites suites) (kind_at token.now) (first_at token.now) (last_at token.now)) result }
     {
         match self {
-            Place::Wanted(resume) => Ok(Turn::Reads(resume, lines.onward(token.last), block)),
-            Place::PatternWanted(choice) => Ok(Turn::Matches(choice, lines, block)),
-            Place::Simple(kind) => Ok(turn(end_simple(alloc, kind, lines, block, token)?)),
-            Place::Semicolon(kind) => behind_semicolon(alloc, kind, lines, block, token),
-            Place::Leaving(raises) => behind_leaving(alloc, raises, lines, block, token),
-            Place::NameWanted(names) => at_name(names, lines, block, token),
-            Place::NameRead(names, name) => Ok(turn(behind_listed(
-                alloc, names, name, lines, block, token,
+            Place::Wanted(resume) => Ok(Turn::Reads(resume, span.onward(token.last), suites)),
+            Place::PatternWanted(partial_match) => Ok(Turn::Matches(partial_match, span, suites)),
+            Place::Simple(kind) => Ok(turn(end_simple(alloc, kind, span, suites, token)?)),
+            Place::Semicolon(kind) => after_semicolon(alloc, kind, span, suites, token),
+            Place::Leaving(raises) => after_leaving(alloc, raises, span, suites, token),
+            Place::NameWanted(names) => at_name(names, span, suites, token),
+            Place::NameRead(names, name) => Ok(turn(after_listed(
+                alloc, names, name, span, suites, token,
             )?)),
-            Place::BoundWanted(names, name) => at_bound(names, name, lines, block, token),
-            Place::BoundRead(names) => Ok(turn(behind_name(alloc, names, lines, block, token)?)),
-            Place::ModuleWanted => at_module(lines, block, token),
-            Place::ImportWanted(name) => Ok(behind_module(alloc, name, lines, block, token)),
-            Place::FunctionWanted => at_function(lines, block, token),
-            Place::ParamsWanted(name) => Ok(at_params(alloc, name, lines, block, token)),
-            Place::ParamWanted(signature) => at_param(alloc, signature, lines, block, token),
-            Place::ParamRead(signature, param) => Ok(turn(behind_param(
-                alloc, signature, param, lines, block, token,
+            Place::BoundWanted(names, name) => at_bound(names, name, span, suites, token),
+            Place::BoundRead(names) => Ok(turn(after_name(alloc, names, span, suites, token)?)),
+            Place::ModuleWanted => at_module(span, suites, token),
+            Place::ImportWanted(name) => Ok(after_module(alloc, name, span, suites, token)),
+            Place::FunctionWanted => at_function(span, suites, token),
+            Place::ParamsWanted(name) => Ok(at_params(alloc, name, span, suites, token)),
+            Place::ParamWanted(signature) => at_param(alloc, signature, span, suites, token),
+            Place::ParamRead(signature, param) => Ok(turn(after_param(
+                alloc, signature, param, span, suites, token,
             )?)),
-            Place::Except(tried) => behind_except(alloc, tried, lines, block, token),
-            Place::ClauseBound(tried, kind) => {
-                at_clause_name(alloc, tried, kind, lines, block, token)
+            Place::Except(partial_try) => after_except(alloc, partial_try, span, suites, token),
+            Place::ClauseBound(partial_try, kind) => {
+                at_clause_name(alloc, partial_try, kind, span, suites, token)
             }
-            Place::ColonWanted(owner) => Ok(turn(end_header(owner, lines, block, token))),
-            Place::SuiteWanted(owner) => at_suite(alloc, owner, lines, block, token),
-            Place::IndentWanted(owner) => Ok(turn(at_block(alloc, owner, lines, block, token)?)),
+            Place::ColonWanted(suite_of) => Ok(turn(end_header(suite_of, span, suites, token))),
+            Place::SuiteWanted(suite_of) => at_suite(alloc, suite_of, span, suites, token),
+            Place::IndentWanted(suite_of) => Ok(turn(at_block(
+                alloc, suite_of, span, suites, token,
+            )?)),
             Place::MatchLine(subject, last) => {
-                Ok(at_match_line(subject, last, lines, block, token))
+                Ok(at_match_line(subject, last, span, suites, token))
             }
             Place::MatchBlock(subject, last) => {
-                at_match_block(alloc, subject, last, lines, block, token)
+                at_match_block(alloc, subject, last, span, suites, token)
             }
         }
     }
@@ -275,13 +277,13 @@ impl State {
         ensures { Acts token.now (plain_step (view_state self) (kind_at token.now) (first_at token.now) (last_at token.now)) result }
     {
         match self {
-            State::Line(block) => line(alloc, block, token),
-            State::At(place, lines, block) => place.act(alloc, lines, block, token),
-            State::Behind(kind, first, last, block) => {
-                behind(alloc, kind, first, last, block, token)
+            State::Line(suites) => line(alloc, suites, token),
+            State::At(place, span, suites) => place.act(alloc, span, suites, token),
+            State::After(kind, first, last, suites) => {
+                after(alloc, kind, first, last, suites, token)
             }
-            State::Choosing(choice, first, block) => {
-                Ok(turn(choose(alloc, choice, first, block, token)?))
+            State::Choosing(partial_match, first, suites) => {
+                Ok(turn(choose(alloc, partial_match, first, suites, token)?))
             }
             State::Over(body) => {
                 drop(body);
@@ -291,20 +293,20 @@ impl State {
     }
 
     /// The open suites, where a statement may begin on a new line.
-    pub fn at_line(self) -> Result<Option<Block>, NoMemory>
+    pub fn at_line(self) -> Result<Option<SuiteStack>, NoMemory>
         ensures { Rests (view_state self) result }
     {
         match self {
-            State::Line(block) => Ok(Some(block)),
-            State::At(place, _, block) => {
+            State::Line(suites) => Ok(Some(suites)),
+            State::At(place, _, suites) => {
                 drop(place);
-                drop(block);
+                drop(suites);
                 Ok(None)
             }
-            State::Behind(kind, first, last, block) => put(kind, first, last, block),
-            State::Choosing(choice, _, block) => {
-                drop(choice);
-                drop(block);
+            State::After(kind, first, last, suites) => put(kind, first, last, suites),
+            State::Choosing(partial_match, _, suites) => {
+                drop(partial_match);
+                drop(suites);
                 Ok(None)
             }
             State::Over(body) => {
@@ -319,23 +321,23 @@ impl State {
         ensures { IsDone (view_state self) result }
     {
         match self {
-            State::Line(block) => {
-                drop(block);
+            State::Line(suites) => {
+                drop(suites);
                 None
             }
-            State::At(place, _, block) => {
+            State::At(place, _, suites) => {
                 drop(place);
-                drop(block);
+                drop(suites);
                 None
             }
-            State::Behind(kind, _, _, block) => {
+            State::After(kind, _, _, suites) => {
                 drop(kind);
-                drop(block);
+                drop(suites);
                 None
             }
-            State::Choosing(choice, _, block) => {
-                drop(choice);
-                drop(block);
+            State::Choosing(partial_match, _, suites) => {
+                drop(partial_match);
+                drop(suites);
                 None
             }
             State::Over(body) => Some(body),

@@ -7,18 +7,18 @@ ghost use Rattle.py_parse.specs.Machine.{ColonWanted, goal, resume, resume_patte
 ghost use Rattle.py_parse.specs.Levels.{begins_at, level};
 ghost use Rattle.py_parse.specs.Refusal.{IsUnexpected, HasDeepSuites, HasDeepExpressions, IsRefused, line_of};
 ghost use Rattle.py_parse_expr.specs.ExprReads.{goal_of};
-ghost use Rattle.py_parse.specs.HeldOwners.{view_owner};
-ghost use Rattle.py_parse.specs.HeldStates.{view_block, view_lines, view_place, view_resume, view_state};
+ghost use Rattle.py_parse.specs.ViewSuiteOf.{view_suite_of};
+ghost use Rattle.py_parse.specs.ViewStates.{view_suites, view_span, view_place, view_continuation, view_state};
 ghost use Rattle.py_parse.specs.Progress.{StandsAt, Turns, ReadsFrom, MatchesFrom, Resumes, Advances};
 
-use crate::block::{Block, Lines};
+use crate::after_expression::{resume, resume_pattern};
 use crate::error::{DepthKind, SyntaxError};
 use crate::lists::has_arms;
 use crate::match_headers::is_header;
-use crate::owner::{Choice, Owner};
-use crate::places::{Place, Resume, State, Turn};
+use crate::places::{Continuation, Place, State, Turn};
 use crate::steps::step;
-use crate::values::{resume, resume_pattern};
+use crate::suite_of::{PartialMatch, SuiteOf};
+use crate::suite_stack::{Span, SuiteStack};
 use py_grammar::ReadError;
 use py_parse_expr::{ExprPart, ExprRead, read_expr};
 use py_parse_pattern::{PatternRead, read_patterns};
@@ -35,7 +35,7 @@ pub struct Progress {
 }
 
 /// The line of a refusal at a place.
-#[tactic(auto, using(crate::proofs::Turning::line_inside, crate::proofs::Turning::line_none, crate::proofs::Turning::line_behind))]
+#[tactic(auto, using(crate::proofs::Turning::line_inside, crate::proofs::Turning::line_none, crate::proofs::Turning::line_after))]
 pub fn line_at(tokens: &[Token], place: usize) -> u32
     requires { place ≤ length tokens.now }
     ensures { result ≡ line_of (view_tokens tokens.now) place }
@@ -74,45 +74,45 @@ fn too_high(tokens: &[Token], place: usize) -> SyntaxError
     SyntaxError::TooDeep(DepthKind::Expressions, line_at(tokens, place))
 }
 
-impl Resume {
+impl Continuation {
     /// Whether a compound statement has just begun, where the expression begins.
-    #[tactic(auto, using(crate::proofs::HeldKinds::begins_arms))]
+    #[tactic(auto, using(crate::proofs::ViewKinds::begins_arms))]
     fn begins(&self) -> bool
-        ensures { result ≡ begins_at (wanted (view_resume self.now)) }
+        ensures { result ≡ begins_at (wanted (view_continuation self.now)) }
     {
         match self {
-            Resume::Value(_) => false,
-            Resume::Augmented(_, _) => false,
-            Resume::Leaving(_) => false,
-            Resume::Asserted => false,
-            Resume::Reason(_) => false,
-            Resume::ArmTest(arms) => !has_arms(arms),
-            Resume::WhileTest => true,
-            Resume::ForTarget => true,
-            Resume::ForOver(_) => false,
-            Resume::ClauseKind(_) => false,
-            Resume::Subject => true,
-            Resume::Guard(_, _) => false,
-            Resume::Default(_, _) => false,
+            Continuation::Value(_) => false,
+            Continuation::Augmented(_, _) => false,
+            Continuation::Leaving(_) => false,
+            Continuation::Asserted => false,
+            Continuation::Reason(_) => false,
+            Continuation::ArmTest(arms) => !has_arms(arms),
+            Continuation::WhileTest => true,
+            Continuation::ForTarget => true,
+            Continuation::ForOver(_) => false,
+            Continuation::ClauseKind(_) => false,
+            Continuation::Subject => true,
+            Continuation::Guard(_, _) => false,
+            Continuation::Default(_, _) => false,
         }
     }
 }
 
-impl Owner {
+impl SuiteOf {
     /// Whether it is a statement that has just begun.
     fn begins(&self) -> bool
-        ensures { result ≡ begins_at (ColonWanted (view_owner self.now)) }
+        ensures { result ≡ begins_at (ColonWanted (view_suite_of self.now)) }
     {
         match self {
-            Owner::Arm(_, _) => false,
-            Owner::While(_) => false,
-            Owner::For(_, _) => false,
-            Owner::Try => true,
-            Owner::Clause(_, _, _) => false,
-            Owner::Else(_) => false,
-            Owner::Finally(_, _) => false,
-            Owner::Def(_, _) => false,
-            Owner::Case(_, _, _) => false,
+            SuiteOf::Arm(_, _) => false,
+            SuiteOf::While(_) => false,
+            SuiteOf::For(_, _) => false,
+            SuiteOf::Try => true,
+            SuiteOf::Clause(_, _, _) => false,
+            SuiteOf::Else(_) => false,
+            SuiteOf::Finally(_, _) => false,
+            SuiteOf::Def(_, _) => false,
+            SuiteOf::Case(_, _, _) => false,
         }
     }
 }
@@ -139,7 +139,7 @@ fn begins(place: &Place) -> bool
         Place::ParamRead(_, _) => false,
         Place::Except(_) => false,
         Place::ClauseBound(_, _) => false,
-        Place::ColonWanted(owner) => owner.begins(),
+        Place::ColonWanted(suite_of) => suite_of.begins(),
         Place::SuiteWanted(_) => false,
         Place::IndentWanted(_) => false,
         Place::MatchLine(_, _) => false,
@@ -148,26 +148,26 @@ fn begins(place: &Place) -> bool
 }
 
 /// How many suites are open, with the one that a compound statement opens where it has just begun.
-#[tactic(auto, using(crate::proofs::Held::open_count_is))]
+#[tactic(auto, using(crate::proofs::Views::open_count_is))]
 fn level(state: &State) -> usize
     ensures { result ≡ level (view_state state.now) }
 {
     match state {
         State::Line(_) => 0,
-        State::At(place, _, block) => {
+        State::At(place, _, suites) => {
             if begins(place) {
-                block.open.len() + 1
+                suites.open.len() + 1
             } else {
                 0
             }
         }
-        State::Behind(_, _, _, _) => 0,
+        State::After(_, _, _, _) => 0,
         State::Choosing(_, _, _) => 0,
         State::Over(_) => 0,
     }
 }
 
-/// The place behind a token, where the token is taken.
+/// The place after a token, where the token is taken.
 fn moved(tokens: &[Token], place: usize, state: Option<State>) -> Result<Progress, SyntaxError>
     requires inside { place < length tokens.now }
     requires turns { Turns (view_tokens tokens.now) place (λ t o. o ≡ option_map view_state state) }
@@ -186,68 +186,68 @@ fn moved(tokens: &[Token], place: usize, state: Option<State>) -> Result<Progres
     })
 }
 
-fn part_of(resume: &Resume) -> ExprPart
-    ensures { goal_of result ≡ goal (view_resume resume.now) }
+fn part_of(resume: &Continuation) -> ExprPart
+    ensures { goal_of result ≡ goal (view_continuation resume.now) }
 {
     match resume {
-        Resume::Value(_) => ExprPart::Any,
-        Resume::Augmented(_, _) => ExprPart::Any,
-        Resume::Leaving(raises) => {
+        Continuation::Value(_) => ExprPart::Any,
+        Continuation::Augmented(_, _) => ExprPart::Any,
+        Continuation::Leaving(raises) => {
             if *raises {
                 ExprPart::One
             } else {
                 ExprPart::Any
             }
         }
-        Resume::Asserted => ExprPart::One,
-        Resume::Reason(_) => ExprPart::One,
-        Resume::ArmTest(_) => ExprPart::One,
-        Resume::WhileTest => ExprPart::One,
-        Resume::ForTarget => ExprPart::Target,
-        Resume::ForOver(_) => ExprPart::Any,
-        Resume::ClauseKind(_) => ExprPart::One,
-        Resume::Subject => ExprPart::Any,
-        Resume::Guard(_, _) => ExprPart::One,
-        Resume::Default(_, _) => ExprPart::One,
+        Continuation::Asserted => ExprPart::One,
+        Continuation::Reason(_) => ExprPart::One,
+        Continuation::ArmTest(_) => ExprPart::One,
+        Continuation::WhileTest => ExprPart::One,
+        Continuation::ForTarget => ExprPart::Target,
+        Continuation::ForOver(_) => ExprPart::Any,
+        Continuation::ClauseKind(_) => ExprPart::One,
+        Continuation::Subject => ExprPart::Any,
+        Continuation::Guard(_, _) => ExprPart::One,
+        Continuation::Default(_, _) => ExprPart::One,
     }
 }
 
-/// Behind an expression.
-#[tactic(auto, using(crate::proofs::Answering::later_still, crate::proofs::Answering::goes_later, crate::proofs::Answering::token_behind, crate::proofs::Answering::token_before, crate::proofs::Answering::not_first, crate::proofs::Answering::for_memory))]
-fn behind_expression(
+/// After an expression.
+#[tactic(auto, using(crate::proofs::Answering::later_still, crate::proofs::Answering::goes_later, crate::proofs::Answering::token_after, crate::proofs::Answering::token_before, crate::proofs::Answering::not_first, crate::proofs::Answering::for_memory))]
+fn after_expression(
     alloc: Global,
     tokens: &[Token],
     place: usize,
-    purpose: Resume,
-    lines: Lines,
-    block: Block,
+    purpose: Continuation,
+    span: Span,
+    suites: SuiteStack,
     read: ExprRead,
 ) -> Result<Progress, SyntaxError>
-    requires { Resumes (view_tokens tokens.now) place read.next (λ m k l. resume (view_resume purpose) (plain_expr read.expr.value) m (view_block block) k l) (view_lines lines) }
+    requires { Resumes (view_tokens tokens.now) place read.next (λ m k l. resume (view_continuation purpose) (plain_expr read.expr.value) m (view_suites suites) k l) (view_span span) }
     ensures { Advances (view_tokens tokens.now) place result }
 {
-    let lines = lines.onward(tokens[read.next - 1].last);
+    let span = span.onward(tokens[read.next - 1].last);
     let token = &tokens[read.next];
-    let state = resume(alloc, purpose, read.expr, lines, block, token)?;
+    let state = resume(alloc, purpose, read.expr, span, suites, token)?;
     moved(tokens, read.next, state)
 }
 
-/// Reads an expression, and the token behind it.
+/// Reads an expression, and the token after it.
 #[tactic(auto, using(crate::proofs::Answering::expression_inside))]
 fn expression(
     alloc: Global,
     tokens: &[Token],
     place: usize,
-    purpose: Resume,
-    lines: Lines,
-    block: Block,
+    purpose: Continuation,
+    span: Span,
+    suites: SuiteStack,
 ) -> Result<Progress, SyntaxError>
     requires inside { place < length tokens.now }
-    requires begins { ReadsFrom (view_tokens tokens.now) place (view_resume purpose) (view_lines lines) (view_block block) }
+    requires begins { ReadsFrom (view_tokens tokens.now) place (view_continuation purpose) (view_span span) (view_suites suites) }
     ensures { Advances (view_tokens tokens.now) place result }
 {
     match read_expr(alloc, tokens, place, part_of(&purpose)) {
-        Ok(read) => behind_expression(alloc, tokens, place, purpose, lines, block, read),
+        Ok(read) => after_expression(alloc, tokens, place, purpose, span, suites, read),
         Err(ReadError::Unexpected(place)) => {
             drop(purpose);
             Err(unexpected(tokens, place))
@@ -263,52 +263,52 @@ fn expression(
     }
 }
 
-/// Behind the pattern of a `case`.
-#[tactic(auto, using(crate::proofs::Answering::later_still, crate::proofs::Answering::goes_later, crate::proofs::Answering::token_behind, crate::proofs::Answering::token_before, crate::proofs::Answering::not_first))]
-fn behind_pattern(
+/// After the pattern of a `case`.
+#[tactic(auto, using(crate::proofs::Answering::later_still, crate::proofs::Answering::goes_later, crate::proofs::Answering::token_after, crate::proofs::Answering::token_before, crate::proofs::Answering::not_first))]
+fn after_pattern(
     alloc: Global,
     tokens: &[Token],
     place: usize,
-    choice: Box<Choice>,
-    lines: Lines,
-    block: Block,
+    partial_match: Box<PartialMatch>,
+    span: Span,
+    suites: SuiteStack,
     read: PatternRead,
 ) -> Result<Progress, SyntaxError>
-    requires { Resumes (view_tokens tokens.now) place read.next (λ m k l. resume_pattern (plain_expr choice.value.subject) choice.value.header_last (plain_cases choice.value.cases.items) (plain_pattern read.pattern) m (view_block block) k l) (view_lines lines) }
+    requires { Resumes (view_tokens tokens.now) place read.next (λ m k l. resume_pattern (plain_expr partial_match.value.subject) partial_match.value.header_last (plain_cases partial_match.value.cases.items) (plain_pattern read.pattern) m (view_suites suites) k l) (view_span span) }
     ensures { Advances (view_tokens tokens.now) place result }
 {
-    let lines = lines.onward(tokens[read.next - 1].last);
+    let span = span.onward(tokens[read.next - 1].last);
     let token = &tokens[read.next];
     let Ok(pattern) = Box::new(alloc, read.pattern) else {
         return Err(SyntaxError::NoMemory);
     };
-    let state = resume_pattern(alloc, choice, pattern, lines, block, token)?;
+    let state = resume_pattern(alloc, partial_match, pattern, span, suites, token)?;
     moved(tokens, read.next, state)
 }
 
-/// Reads the pattern of a `case`, and the token behind it.
+/// Reads the pattern of a `case`, and the token after it.
 #[tactic(auto, using(crate::proofs::Answering::pattern_inside))]
 fn pattern(
     alloc: Global,
     tokens: &[Token],
     place: usize,
-    choice: Box<Choice>,
-    lines: Lines,
-    block: Block,
+    partial_match: Box<PartialMatch>,
+    span: Span,
+    suites: SuiteStack,
 ) -> Result<Progress, SyntaxError>
     requires inside { place < length tokens.now }
-    requires begins { MatchesFrom (view_tokens tokens.now) place (plain_expr choice.value.subject) choice.value.header_last (plain_cases choice.value.cases.items) (view_lines lines) (view_block block) }
+    requires begins { MatchesFrom (view_tokens tokens.now) place (plain_expr partial_match.value.subject) partial_match.value.header_last (plain_cases partial_match.value.cases.items) (view_span span) (view_suites suites) }
     ensures { Advances (view_tokens tokens.now) place result }
 {
     match read_patterns(alloc, tokens, place) {
-        Ok(read) => behind_pattern(alloc, tokens, place, choice, lines, block, read),
+        Ok(read) => after_pattern(alloc, tokens, place, partial_match, span, suites, read),
         Err(ReadError::Unexpected(place)) => Err(unexpected(tokens, place)),
         Err(ReadError::TooDeep(place)) => Err(too_high(tokens, place)),
         Err(ReadError::NoMemory) => Err(SyntaxError::NoMemory),
     }
 }
 
-/// Goes on by a token, and where it begins an expression or a pattern behind that and the token there.
+/// Goes on by a token, and where it begins an expression or a pattern after that and the token there.
 #[tactic(auto, using(crate::proofs::Turning::reading_turn, crate::proofs::Turning::matching_turn, crate::proofs::HeaderPlaces::header_match, crate::proofs::Answering::for_memory))]
 pub fn advance(
     alloc: Global,
@@ -325,11 +325,11 @@ pub fn advance(
     match step(alloc, state, token, header)? {
         Turn::Next(next) => moved(tokens, place, Some(next)),
         Turn::Stuck => moved(tokens, place, None),
-        Turn::Reads(purpose, lines, block) => {
-            expression(alloc, tokens, place, purpose, lines, block)
+        Turn::Reads(purpose, span, suites) => {
+            expression(alloc, tokens, place, purpose, span, suites)
         }
-        Turn::Matches(choice, lines, block) => {
-            pattern(alloc, tokens, place, choice, lines, block)
+        Turn::Matches(partial_match, span, suites) => {
+            pattern(alloc, tokens, place, partial_match, span, suites)
         }
     }
 }

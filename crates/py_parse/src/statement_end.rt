@@ -4,13 +4,13 @@ ghost use Rattle.std.specs.Prelude.{◌≡◌, IfOk, option_map, true};
 ghost use Rattle.py_syntax.specs.View.{plain_kind};
 ghost use Rattle.py_parse.specs.Machine.{close, over_line, end_simple, end_header};
 ghost use Rattle.py_parse.specs.Open.{add};
-ghost use Rattle.py_parse.specs.HeldOwners.{view_owner};
-ghost use Rattle.py_parse.specs.HeldStates.{kind_at, first_at, last_at, view_block, view_lines, view_state, Makes};
+ghost use Rattle.py_parse.specs.ViewSuiteOf.{view_suite_of};
+ghost use Rattle.py_parse.specs.ViewStates.{kind_at, first_at, last_at, view_suites, view_span, view_state, Makes};
 
-use crate::block::{Block, Lines, Open, add, innermost};
 use crate::lists::{Class, is_a};
-use crate::owner::Owner;
 use crate::places::{Place, State};
+use crate::suite_of::SuiteOf;
+use crate::suite_stack::{Open, Span, SuiteStack, add, innermost};
 use py_syntax::{LineEnd, StmtKind, Suite};
 use py_token::{Mark, Token, TokenKind};
 use py_value::NoMemory;
@@ -18,39 +18,39 @@ use std::alloc::Global;
 
 /// A suite ends with a token whose last line is this.
 #[tactic(auto, using(crate::proofs::Acts::close_top, crate::proofs::Acts::close_inside))]
-pub fn close(alloc: Global, block: Block, last: u32) -> Result<State, NoMemory>
-    ensures { IfOk result (λ s. view_state s ≡ close (view_block block) last) }
+pub fn close(alloc: Global, suites: SuiteStack, last: u32) -> Result<State, NoMemory>
+    ensures { IfOk result (λ s. view_state s ≡ close (view_suites suites) last) }
 {
-    let Block { body, open } = block;
+    let SuiteStack { body, open } = suites;
     let mut open = open;
     let Some(inner) = innermost(&body, &mut open) else {
-        return Ok(State::Line(Block { body, open }));
+        return Ok(State::Line(SuiteStack { body, open }));
     };
     let Open {
         inline,
-        lines,
-        owner,
+        span,
+        suite_of,
         outer,
     } = inner;
     let suite = Suite {
-        first: lines.first,
-        last: lines.last,
+        first: span.first,
+        last: span.last,
         inline,
         body,
     };
-    let outer = Block { body: outer, open };
-    Box::into_inner(owner).over_suite(alloc, suite, lines.begun, last, outer)
+    let outer = SuiteStack { body: outer, open };
+    Box::into_inner(suite_of).over_suite(alloc, suite, span.begun, last, outer)
 }
 
 /// A line ends, and a suite that shares it.
 #[tactic(auto, using(crate::proofs::Acts::shared_line, crate::proofs::Acts::own_line))]
-fn over_line(alloc: Global, block: Block, last: u32) -> Result<State, NoMemory>
-    ensures { IfOk result (λ s. view_state s ≡ over_line (view_block block) last) }
+fn over_line(alloc: Global, suites: SuiteStack, last: u32) -> Result<State, NoMemory>
+    ensures { IfOk result (λ s. view_state s ≡ over_line (view_suites suites) last) }
 {
-    if block.shares_line() {
-        close(alloc, block, last)
+    if suites.shares_line() {
+        close(alloc, suites, last)
     } else {
-        Ok(State::Line(block))
+        Ok(State::Line(suites))
     }
 }
 
@@ -59,23 +59,23 @@ pub fn end_line(
     alloc: Global,
     kind: Box<StmtKind>,
     semicolon: bool,
-    lines: Lines,
-    block: Block,
+    span: Span,
+    suites: SuiteStack,
     last: u32,
 ) -> Result<State, NoMemory>
-    ensures { IfOk result (λ s. view_state s ≡ over_line (add (view_block block) lines.begun lines.last (plain_kind kind.value) (record { semicolon = semicolon; newline = true })) last) }
+    ensures { IfOk result (λ s. view_state s ≡ over_line (add (view_suites suites) span.begun span.last (plain_kind kind.value) (record { semicolon = semicolon; newline = true })) last) }
 {
-    let block = add(
-        block,
-        lines.begun,
-        lines.last,
+    let suites = add(
+        suites,
+        span.begun,
+        span.last,
         kind,
         LineEnd {
             semicolon,
             newline: true,
         },
     )?;
-    over_line(alloc, block, last)
+    over_line(alloc, suites, last)
 }
 
 /// A simple statement is whole.
@@ -83,29 +83,38 @@ pub fn end_line(
 pub fn end_simple(
     alloc: Global,
     kind: Box<StmtKind>,
-    lines: Lines,
-    block: Block,
+    span: Span,
+    suites: SuiteStack,
     token: &Token,
 ) -> Result<Option<State>, NoMemory>
-    ensures { Makes (end_simple (plain_kind kind.value) (view_lines lines) (view_block block) (kind_at token.now) (last_at token.now)) result }
+    ensures { Makes (end_simple (plain_kind kind.value) (view_span span) (view_suites suites) (kind_at token.now) (last_at token.now)) result }
 {
     if is_a(token, Class::Semicolon) {
-        return Ok(Some(State::At(Place::Semicolon(kind), lines, block)));
+        return Ok(Some(State::At(Place::Semicolon(kind), span, suites)));
     }
     if is_a(token, Class::Newline) {
-        return Ok(Some(end_line(alloc, kind, false, lines, block, token.last)?));
+        return Ok(Some(end_line(alloc, kind, false, span, suites, token.last)?));
     }
     drop(kind);
     Ok(None)
 }
 
 /// A header is whole.
-pub fn end_header(owner: Box<Owner>, lines: Lines, block: Block, token: &Token) -> Option<State>
-    ensures { end_header (view_owner owner.value) (view_lines lines) (view_block block) (kind_at token.now) (last_at token.now) ≡ option_map view_state result }
+pub fn end_header(
+    suite_of: Box<SuiteOf>,
+    span: Span,
+    suites: SuiteStack,
+    token: &Token,
+) -> Option<State>
+    ensures { end_header (view_suite_of suite_of.value) (view_span span) (view_suites suites) (kind_at token.now) (last_at token.now) ≡ option_map view_state result }
 {
     match &token.kind {
         TokenKind::Mark(Mark::Colon) => {
-            Some(State::At(Place::SuiteWanted(owner), lines.onward(token.last), block))
+            Some(State::At(
+                Place::SuiteWanted(suite_of),
+                span.onward(token.last),
+                suites,
+            ))
         }
         _ => None,
     }

@@ -2,26 +2,26 @@
 
 ghost use Rattle.std.specs.Prelude.{◌≡◌, Some, None, IfOk};
 ghost use Rattle.py_parse.specs.Machine.{simple_place, compound_place, begin_simple, begin_line, line};
-ghost use Rattle.py_parse.specs.HeldStates.{kind_at, first_at, last_at, view_block, view_place, view_lines, Acts, MakesPlace};
+ghost use Rattle.py_parse.specs.ViewStates.{kind_at, first_at, last_at, view_suites, view_place, view_span, Acts, MakesPlace};
 
-use crate::block::{Block, Lines};
-use crate::kinds::{boxed, boxed_owner};
+use crate::kinds::{boxed, boxed_suite_of};
 use crate::lists::{Class, is_a};
-use crate::owner::Owner;
-use crate::places::{Listed, Place, Resume, State, Turn};
-use crate::simple::close;
+use crate::places::{Continuation, Listed, Place, State, Turn};
+use crate::statement_end::close;
+use crate::suite_of::SuiteOf;
+use crate::suite_stack::{Span, SuiteStack};
 use py_syntax::StmtKind;
 use py_token::{Keyword, Token, TokenKind};
 use py_value::NoMemory;
 use std::alloc::Global;
 
 /// The lines of a statement that begins with the token.
-pub fn begun_at(token: &Token) -> Lines
+pub fn begun_at(token: &Token) -> Span
     ensures begun { result.begun ≡ (first_at token.now) }
     ensures first { result.first ≡ (first_at token.now) }
     ensures last { result.last ≡ (last_at token.now) }
 {
-    Lines {
+    Span {
         begun: token.first,
         first: token.first,
         last: token.last,
@@ -44,7 +44,7 @@ fn simple_place(alloc: Global, token: &Token) -> Result<Option<Place>, NoMemory>
         }
         TokenKind::Keyword(Keyword::Return) => Ok(Some(Place::Leaving(false))),
         TokenKind::Keyword(Keyword::Raise) => Ok(Some(Place::Leaving(true))),
-        TokenKind::Keyword(Keyword::Assert) => Ok(Some(Place::Wanted(Resume::Asserted))),
+        TokenKind::Keyword(Keyword::Assert) => Ok(Some(Place::Wanted(Continuation::Asserted))),
         TokenKind::Keyword(Keyword::Global) => {
             Ok(Some(Place::NameWanted(Listed::Globals(Vec::new(alloc)))))
         }
@@ -62,12 +62,12 @@ fn compound_place(alloc: Global, token: &Token) -> Result<Option<Place>, NoMemor
 {
     match &token.kind {
         TokenKind::Keyword(Keyword::If) => {
-            Ok(Some(Place::Wanted(Resume::ArmTest(Vec::new(alloc)))))
+            Ok(Some(Place::Wanted(Continuation::ArmTest(Vec::new(alloc)))))
         }
-        TokenKind::Keyword(Keyword::While) => Ok(Some(Place::Wanted(Resume::WhileTest))),
-        TokenKind::Keyword(Keyword::For) => Ok(Some(Place::Wanted(Resume::ForTarget))),
+        TokenKind::Keyword(Keyword::While) => Ok(Some(Place::Wanted(Continuation::WhileTest))),
+        TokenKind::Keyword(Keyword::For) => Ok(Some(Place::Wanted(Continuation::ForTarget))),
         TokenKind::Keyword(Keyword::Try) => {
-            Ok(Some(Place::ColonWanted(boxed_owner(alloc, Owner::Try)?)))
+            Ok(Some(Place::ColonWanted(boxed_suite_of(alloc, SuiteOf::Try)?)))
         }
         TokenKind::Keyword(Keyword::Def) => Ok(Some(Place::FunctionWanted)),
         _ => Ok(None),
@@ -75,36 +75,36 @@ fn compound_place(alloc: Global, token: &Token) -> Result<Option<Place>, NoMemor
 }
 
 /// A simple statement begins with the token.
-pub fn begin_simple(alloc: Global, block: Block, token: &Token) -> Result<Turn, NoMemory>
-    ensures { Acts token.now (begin_simple (view_block block) (kind_at token.now) (first_at token.now) (last_at token.now)) result }
+pub fn begin_simple(alloc: Global, suites: SuiteStack, token: &Token) -> Result<Turn, NoMemory>
+    ensures { Acts token.now (begin_simple (view_suites suites) (kind_at token.now) (first_at token.now) (last_at token.now)) result }
 {
-    let lines = begun_at(token);
+    let span = begun_at(token);
     match simple_place(alloc, token)? {
-        Some(place) => Ok(Turn::Next(State::At(place, lines, block))),
-        None => Ok(Turn::Reads(Resume::Value(Vec::new(alloc)), lines, block)),
+        Some(place) => Ok(Turn::Next(State::At(place, span, suites))),
+        None => Ok(Turn::Reads(Continuation::Value(Vec::new(alloc)), span, suites)),
     }
 }
 
 /// Any statement but a `match`.
-fn begin_line(alloc: Global, block: Block, token: &Token) -> Result<Turn, NoMemory>
-    ensures { Acts token.now (begin_line (view_block block) (kind_at token.now) (first_at token.now) (last_at token.now)) result }
+fn begin_line(alloc: Global, suites: SuiteStack, token: &Token) -> Result<Turn, NoMemory>
+    ensures { Acts token.now (begin_line (view_suites suites) (kind_at token.now) (first_at token.now) (last_at token.now)) result }
 {
     match compound_place(alloc, token)? {
-        Some(place) => Ok(Turn::Next(State::At(place, begun_at(token), block))),
-        None => begin_simple(alloc, block, token),
+        Some(place) => Ok(Turn::Next(State::At(place, begun_at(token), suites))),
+        None => begin_simple(alloc, suites, token),
     }
 }
 
 /// A token comes on a new line.
 #[tactic(auto, using(crate::proofs::Acts::line_over, crate::proofs::Acts::line_closes, crate::proofs::Acts::line_begins))]
-pub fn line(alloc: Global, block: Block, token: &Token) -> Result<Turn, NoMemory>
-    ensures { Acts token.now (line (view_block block) (kind_at token.now) (first_at token.now) (last_at token.now)) result }
+pub fn line(alloc: Global, suites: SuiteStack, token: &Token) -> Result<Turn, NoMemory>
+    ensures { Acts token.now (line (view_suites suites) (kind_at token.now) (first_at token.now) (last_at token.now)) result }
 {
-    if is_a(token, Class::End) && block.is_top() {
-        return Ok(Turn::Next(State::Over(block.body)));
+    if is_a(token, Class::End) && suites.is_top() {
+        return Ok(Turn::Next(State::Over(suites.body)));
     }
-    if is_a(token, Class::Dedent) && block.ends() {
-        return Ok(Turn::Next(close(alloc, block, token.last)?));
+    if is_a(token, Class::Dedent) && suites.ends() {
+        return Ok(Turn::Next(close(alloc, suites, token.last)?));
     }
-    begin_line(alloc, block, token)
+    begin_line(alloc, suites, token)
 }

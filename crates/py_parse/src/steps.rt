@@ -3,16 +3,16 @@
 ghost use Rattle.std.specs.Prelude.{◌≡◌, true, option_map};
 ghost use Rattle.py_syntax.specs.Headers.{is_match};
 ghost use Rattle.py_syntax.specs.View.{plain_expr, plain_kind, plain_cases};
-ghost use Rattle.py_parse.specs.Machine.{Behind, begun, choose, at_line, header_step, plain_step, step};
-ghost use Rattle.py_parse.specs.HeldStates.{kind_at, first_at, last_at, view_block, view_state, Acts, Makes, Rests};
+ghost use Rattle.py_parse.specs.Machine.{After, begun, choose, at_line, header_step, plain_step, step};
+ghost use Rattle.py_parse.specs.ViewStates.{kind_at, first_at, last_at, view_suites, view_state, Acts, Makes, Rests};
 
-use crate::begin::{begun_at, line};
-use crate::block::{Block, Lines, add};
+use crate::after_suite::{Part, is_whole, next_part};
 use crate::kinds::matched;
 use crate::lists::{Class, has_cases, is_a, is_case};
-use crate::owner::Choice;
-use crate::parts::{Part, is_whole, next_part};
-use crate::places::{Place, Resume, State, Turn};
+use crate::places::{Continuation, Place, State, Turn};
+use crate::statement_start::{begun_at, line};
+use crate::suite_of::PartialMatch;
+use crate::suite_stack::{Span, SuiteStack, add};
 use py_syntax::{LineEnd, StmtKind};
 use py_token::Token;
 use py_value::NoMemory;
@@ -22,7 +22,7 @@ use std::alloc::Global;
 pub fn begun(alloc: Global) -> State
     ensures { view_state result ≡ begun }
 {
-    State::Line(Block {
+    State::Line(SuiteStack {
         body: Vec::new(alloc),
         open: Vec::new(alloc),
     })
@@ -32,29 +32,29 @@ pub fn begun(alloc: Global) -> State
 #[tactic(auto, using(crate::proofs::Acts::choose_ends, crate::proofs::Acts::choose_empty, crate::proofs::Acts::choose_case, crate::proofs::Acts::choose_other))]
 pub fn choose(
     alloc: Global,
-    choice: Box<Choice>,
+    partial_match: Box<PartialMatch>,
     first: u32,
-    block: Block,
+    suites: SuiteStack,
     token: &Token,
 ) -> Result<Option<State>, NoMemory>
-    ensures { Makes (choose (plain_expr choice.value.subject) choice.value.header_last (plain_cases choice.value.cases.items) first (view_block block) (kind_at token.now) (first_at token.now) (last_at token.now)) result }
+    ensures { Makes (choose (plain_expr partial_match.value.subject) partial_match.value.header_last (plain_cases partial_match.value.cases.items) first (view_suites suites) (kind_at token.now) (first_at token.now) (last_at token.now)) result }
 {
     if is_a(token, Class::Dedent) {
-        if !has_cases(&choice.cases) {
+        if !has_cases(&partial_match.cases) {
             return Ok(None);
         }
-        let kind = matched(alloc, choice)?;
-        return Ok(Some(State::Behind(kind, first, token.last, block)));
+        let kind = matched(alloc, partial_match)?;
+        return Ok(Some(State::After(kind, first, token.last, suites)));
     }
     if !is_case(&token.kind) {
         return Ok(None);
     }
-    let lines = Lines {
+    let span = Span {
         begun: first,
         first: token.first,
         last: token.last,
     };
-    Ok(Some(State::At(Place::PatternWanted(choice), lines, block)))
+    Ok(Some(State::At(Place::PatternWanted(partial_match), span, suites)))
 }
 
 /// A compound statement is put into its block, where it has all that it needs.
@@ -63,16 +63,16 @@ pub fn put(
     kind: Box<StmtKind>,
     first: u32,
     last: u32,
-    block: Block,
-) -> Result<Option<Block>, NoMemory>
-    ensures { Rests (Behind (plain_kind kind.value) first last (view_block block)) result }
+    suites: SuiteStack,
+) -> Result<Option<SuiteStack>, NoMemory>
+    ensures { Rests (After (plain_kind kind.value) first last (view_suites suites)) result }
 {
     if !is_whole(&kind) {
         drop(kind);
         return Ok(None);
     }
     Ok(Some(add(
-        block,
+        suites,
         first,
         last,
         kind,
@@ -83,29 +83,29 @@ pub fn put(
     )?))
 }
 
-/// The token behind a suite.
+/// The token after a suite.
 #[tactic(auto, using(crate::proofs::Stepping::part_begins, crate::proofs::Stepping::part_over, crate::proofs::Stepping::part_stuck))]
-pub fn behind(
+pub fn after(
     alloc: Global,
     kind: Box<StmtKind>,
     first: u32,
     last: u32,
-    block: Block,
+    suites: SuiteStack,
     token: &Token,
 ) -> Result<Turn, NoMemory>
-    ensures { Acts token.now (plain_step (Behind (plain_kind kind.value) first last (view_block block)) (kind_at token.now) (first_at token.now) (last_at token.now)) result }
+    ensures { Acts token.now (plain_step (After (plain_kind kind.value) first last (view_suites suites)) (kind_at token.now) (first_at token.now) (last_at token.now)) result }
 {
     match next_part(alloc, kind, token)? {
         Part::Next(place) => {
-            let lines = Lines {
+            let span = Span {
                 begun: first,
                 first: token.first,
                 last: token.last,
             };
-            Ok(Turn::Next(State::At(place, lines, block)))
+            Ok(Turn::Next(State::At(place, span, suites)))
         }
-        Part::Whole(kind) => match put(kind, first, last, block)? {
-            Some(block) => line(alloc, block, token),
+        Part::Whole(kind) => match put(kind, first, last, suites)? {
+            Some(suites) => line(alloc, suites, token),
             None => Ok(Turn::Stuck),
         },
     }
@@ -118,9 +118,9 @@ fn header_step(state: State, token: &Token) -> Result<Turn, NoMemory>
     ensures { Acts token.now (header_step (at_line (view_state state)) (kind_at token.now) (first_at token.now) (last_at token.now)) result }
 {
     match state.at_line()? {
-        Some(block) => {
-            let place = Place::Wanted(Resume::Subject);
-            Ok(Turn::Next(State::At(place, begun_at(token), block)))
+        Some(suites) => {
+            let place = Place::Wanted(Continuation::Subject);
+            Ok(Turn::Next(State::At(place, begun_at(token), suites)))
         }
         None => Ok(Turn::Stuck),
     }

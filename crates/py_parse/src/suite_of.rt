@@ -5,19 +5,19 @@ ghost use Rattle.py_syntax.specs.Tree.{no_suite, for, try, def, match};
 ghost use Rattle.py_syntax.specs.View.{plain_expr, plain_exprs, plain_pattern, plain_kind, plain_suite, plain_arms, plain_clauses, plain_cases};
 ghost use Rattle.py_parse.specs.Open.{snoc_arm, snoc_clause, snoc_case, with_else, closed};
 ghost use Rattle.py_parse.specs.Machine.{Choosing, over_suite};
-ghost use Rattle.py_parse.specs.HeldOwners.{boxed_expr, view_owner};
-ghost use Rattle.py_parse.specs.HeldStates.{view_block, view_state};
+ghost use Rattle.py_parse.specs.ViewSuiteOf.{boxed_expr, view_suite_of};
+ghost use Rattle.py_parse.specs.ViewStates.{view_suites, view_state};
 
-use crate::block::Block;
 use crate::kinds::{boxed, unboxed};
 use crate::places::State;
+use crate::suite_stack::SuiteStack;
 use py_syntax::{Arm, Case, Clause, Expr, Pattern, StmtKind, Suite};
 use py_value::{NoMemory, Text};
 use std::alloc::Global;
 
 /// A `match` statement with its cases so far.
 #[derive(Drop)]
-pub struct Choice {
+pub struct PartialMatch {
     pub subject: Expr,
     pub header_last: u32,
     pub cases: Vec<Case>,
@@ -25,7 +25,7 @@ pub struct Choice {
 
 /// A `try` statement with its clauses so far.
 #[derive(Drop)]
-pub struct Tried {
+pub struct PartialTry {
     pub body: Suite,
     pub clauses: Vec<Clause>,
 }
@@ -39,45 +39,45 @@ pub struct Signature {
 }
 
 /// What an open suite belongs to.
-pub enum Owner {
+pub enum SuiteOf {
     Arm(Vec<Arm>, Box<Expr>),
     While(Box<Expr>),
     For(Box<Expr>, Box<Expr>),
     Try,
-    Clause(Tried, Option<Box<Expr>>, Option<Text>),
+    Clause(PartialTry, Option<Box<Expr>>, Option<Text>),
     /// The `else` of a statement that has none yet.
     Else(Box<StmtKind>),
-    Finally(Tried, Option<Suite>),
+    Finally(PartialTry, Option<Suite>),
     Def(Signature, bool),
-    Case(Box<Choice>, Box<Pattern>, Option<Box<Expr>>),
+    Case(Box<PartialMatch>, Box<Pattern>, Option<Box<Expr>>),
 }
 
-impl Drop for Owner {
+impl Drop for SuiteOf {
     fn drop(self) {
         match self {
-            Owner::Arm(arms, test) => {
+            SuiteOf::Arm(arms, test) => {
                 drop(arms);
                 drop(test)
             }
-            Owner::While(test) => drop(test),
-            Owner::For(target, over) => {
+            SuiteOf::While(test) => drop(test),
+            SuiteOf::For(target, over) => {
                 drop(target);
                 drop(over)
             }
-            Owner::Try => (),
-            Owner::Clause(tried, kind, bound) => {
-                drop(tried);
+            SuiteOf::Try => (),
+            SuiteOf::Clause(partial_try, kind, bound) => {
+                drop(partial_try);
                 drop(kind);
                 drop(bound)
             }
-            Owner::Else(kind) => drop(kind),
-            Owner::Finally(tried, orelse) => {
-                drop(tried);
+            SuiteOf::Else(kind) => drop(kind),
+            SuiteOf::Finally(partial_try, orelse) => {
+                drop(partial_try);
                 drop(orelse)
             }
-            Owner::Def(signature, _) => drop(signature),
-            Owner::Case(choice, pattern, guard) => {
-                drop(choice);
+            SuiteOf::Def(signature, _) => drop(signature),
+            SuiteOf::Case(partial_match, pattern, guard) => {
+                drop(partial_match);
                 drop(pattern);
                 drop(guard)
             }
@@ -85,7 +85,7 @@ impl Drop for Owner {
     }
 }
 
-#[tactic(auto, using(crate::proofs::Held::arms_snoc))]
+#[tactic(auto, using(crate::proofs::Views::arms_snoc))]
 fn add_arm(arms: Vec<Arm>, test: Expr, body: Suite) -> Result<Vec<Arm>, NoMemory>
     ensures { IfOk result (λ r. plain_arms r.items ≡ snoc_arm (plain_arms arms.items) (plain_expr test) (plain_suite body)) }
 {
@@ -94,7 +94,7 @@ fn add_arm(arms: Vec<Arm>, test: Expr, body: Suite) -> Result<Vec<Arm>, NoMemory
     Ok(arms)
 }
 
-#[tactic(auto, using(crate::proofs::Held::clauses_snoc))]
+#[tactic(auto, using(crate::proofs::Views::clauses_snoc))]
 fn add_clause(
     clauses: Vec<Clause>,
     kind: Option<Expr>,
@@ -109,7 +109,7 @@ fn add_clause(
 }
 
 /// A case more.
-#[tactic(auto, using(crate::proofs::Held::cases_snoc))]
+#[tactic(auto, using(crate::proofs::Views::cases_snoc))]
 fn add_case(
     cases: Vec<Case>,
     pattern: Pattern,
@@ -127,7 +127,7 @@ fn add_case(
     Ok(cases)
 }
 
-#[tactic(auto, using(crate::proofs::HeldKinds::else_if, crate::proofs::HeldKinds::else_while, crate::proofs::HeldKinds::else_for, crate::proofs::HeldKinds::else_try))]
+#[tactic(auto, using(crate::proofs::ViewKinds::else_if, crate::proofs::ViewKinds::else_while, crate::proofs::ViewKinds::else_for, crate::proofs::ViewKinds::else_try))]
 fn with_else(kind: StmtKind, suite: Suite) -> StmtKind
     ensures { plain_kind result ≡ with_else (plain_kind kind) (plain_suite suite) }
 {
@@ -181,7 +181,7 @@ fn with_else(kind: StmtKind, suite: Suite) -> StmtKind
 }
 
 /// A `for` with its suite.
-#[tactic(auto, using(crate::proofs::HeldKinds::looped_is))]
+#[tactic(auto, using(crate::proofs::ViewKinds::looped_is))]
 fn looped(target: Box<Expr>, over: Box<Expr>, body: Suite) -> StmtKind
     ensures { plain_kind result ≡ for (plain_expr target.value) (plain_expr over.value) (plain_suite body) no_suite }
 {
@@ -195,16 +195,16 @@ fn looped(target: Box<Expr>, over: Box<Expr>, body: Suite) -> StmtKind
 
 /// A `try` with one clause more.
 fn handled(
-    tried: Tried,
+    partial_try: PartialTry,
     kind: Option<Expr>,
     bound: Option<Text>,
     suite: Suite,
 ) -> Result<StmtKind, NoMemory>
-    ensures { IfOk result (λ k. plain_kind k ≡ try (plain_suite tried.body) (snoc_clause (plain_clauses tried.clauses.items) (option_map plain_expr kind) bound (plain_suite suite)) no_suite no_suite) }
+    ensures { IfOk result (λ k. plain_kind k ≡ try (plain_suite partial_try.body) (snoc_clause (plain_clauses partial_try.clauses.items) (option_map plain_expr kind) bound (plain_suite suite)) no_suite no_suite) }
 {
-    let clauses = add_clause(tried.clauses, kind, bound, suite)?;
+    let clauses = add_clause(partial_try.clauses, kind, bound, suite)?;
     Ok(StmtKind::Try {
-        body: tried.body,
+        body: partial_try.body,
         clauses,
         orelse: None,
         finally: None,
@@ -226,18 +226,18 @@ fn defined(signature: Signature, comma: bool, body: Suite) -> StmtKind
 
 /// A `match` with one case more.
 fn chosen(
-    choice: Box<Choice>,
+    partial_match: Box<PartialMatch>,
     pattern: Box<Pattern>,
     guard: Option<Box<Expr>>,
     suite: Suite,
 ) -> Result<StmtKind, NoMemory>
-    ensures { IfOk result (λ k. plain_kind k ≡ match (plain_expr choice.value.subject) choice.value.header_last (snoc_case (plain_cases choice.value.cases.items) (plain_pattern pattern.value) (option_map boxed_expr guard) (plain_suite suite))) }
+    ensures { IfOk result (λ k. plain_kind k ≡ match (plain_expr partial_match.value.subject) partial_match.value.header_last (snoc_case (plain_cases partial_match.value.cases.items) (plain_pattern pattern.value) (option_map boxed_expr guard) (plain_suite suite))) }
 {
-    let Choice {
+    let PartialMatch {
         subject,
         header_last,
         cases,
-    } = Box::into_inner(choice);
+    } = Box::into_inner(partial_match);
     let cases = add_case(cases, Box::into_inner(pattern), unboxed(guard), suite)?;
     Ok(StmtKind::Match {
         subject,
@@ -246,64 +246,74 @@ fn chosen(
     })
 }
 
-/// Behind a case.
+/// After a case.
 fn choosing(
     alloc: Global,
-    choice: Box<Choice>,
+    partial_match: Box<PartialMatch>,
     pattern: Box<Pattern>,
     guard: Option<Box<Expr>>,
     suite: Suite,
     begun: u32,
-    outer: Block,
+    outer: SuiteStack,
 ) -> Result<State, NoMemory>
-    ensures { IfOk result (λ s. view_state s ≡ Choosing (plain_expr choice.value.subject) choice.value.header_last (snoc_case (plain_cases choice.value.cases.items) (plain_pattern pattern.value) (option_map boxed_expr guard) (plain_suite suite)) begun (view_block outer)) }
+    ensures { IfOk result (λ s. view_state s ≡ Choosing (plain_expr partial_match.value.subject) partial_match.value.header_last (snoc_case (plain_cases partial_match.value.cases.items) (plain_pattern pattern.value) (option_map boxed_expr guard) (plain_suite suite)) begun (view_suites outer)) }
 {
-    let Choice {
+    let PartialMatch {
         subject,
         header_last,
         cases,
-    } = Box::into_inner(choice);
+    } = Box::into_inner(partial_match);
     let cases = add_case(cases, Box::into_inner(pattern), unboxed(guard), suite)?;
-    let choice = Choice {
+    let partial_match = PartialMatch {
         subject,
         header_last,
         cases,
     };
-    Ok(State::Choosing(Box::new(alloc, choice)?, begun, outer))
+    Ok(State::Choosing(Box::new(alloc, partial_match)?, begun, outer))
 }
 
-impl Owner {
+impl SuiteOf {
     /// The statement so far, where the suite is closed.
     fn closed(self, alloc: Global, suite: Suite) -> Result<StmtKind, NoMemory>
-        ensures { IfOk result (λ k. plain_kind k ≡ closed (view_owner self) (plain_suite suite)) }
+        ensures { IfOk result (λ k. plain_kind k ≡ closed (view_suite_of self) (plain_suite suite)) }
     {
         match self {
-            Owner::Arm(arms, test) => Ok(StmtKind::If {
+            SuiteOf::Arm(arms, test) => Ok(StmtKind::If {
                 arms: add_arm(arms, Box::into_inner(test), suite)?,
                 orelse: None,
             }),
-            Owner::While(test) => Ok(StmtKind::While {
+            SuiteOf::While(test) => Ok(StmtKind::While {
                 test: Box::into_inner(test),
                 body: suite,
                 orelse: None,
             }),
-            Owner::For(target, over) => Ok(looped(target, over, suite)),
-            Owner::Try => Ok(StmtKind::Try {
+            SuiteOf::For(target, over) => Ok(looped(target, over, suite)),
+            SuiteOf::Try => Ok(StmtKind::Try {
                 body: suite,
                 clauses: Vec::new(alloc),
                 orelse: None,
                 finally: None,
             }),
-            Owner::Clause(tried, kind, bound) => handled(tried, unboxed(kind), bound, suite),
-            Owner::Else(kind) => Ok(with_else(Box::into_inner(kind), suite)),
-            Owner::Finally(tried, orelse) => Ok(StmtKind::Try {
-                body: tried.body,
-                clauses: tried.clauses,
+            SuiteOf::Clause(partial_try, kind, bound) => handled(
+                partial_try,
+                unboxed(kind),
+                bound,
+                suite,
+            ),
+            SuiteOf::Else(kind) => Ok(with_else(Box::into_inner(kind), suite)),
+            SuiteOf::Finally(partial_try, orelse) => Ok(StmtKind::Try {
+                body: partial_try.body,
+                clauses: partial_try.clauses,
                 orelse,
                 finally: Some(suite),
             }),
-            Owner::Def(signature, comma) => Ok(defined(signature, comma, suite)),
-            Owner::Case(choice, pattern, guard) => chosen(choice, pattern, guard, suite),
+            SuiteOf::Def(signature, comma) => Ok(defined(signature, comma, suite)),
+            SuiteOf::Case(partial_match, pattern, guard) => chosen(
+                partial_match,
+                pattern,
+                guard,
+                suite,
+            ),
         }
     }
 
@@ -314,24 +324,24 @@ impl Owner {
         suite: Suite,
         begun: u32,
         last: u32,
-        outer: Block,
+        outer: SuiteStack,
     ) -> Result<State, NoMemory>
-        ensures { IfOk result (λ s. view_state s ≡ over_suite (view_owner self) (plain_suite suite) begun last (view_block outer)) }
+        ensures { IfOk result (λ s. view_state s ≡ over_suite (view_suite_of self) (plain_suite suite) begun last (view_suites outer)) }
     {
         match self {
-            owner @ (Owner::Arm(..)
-            | Owner::While(..)
-            | Owner::For(..)
-            | Owner::Try { .. }
-            | Owner::Clause(..)
-            | Owner::Else(..)
-            | Owner::Finally(..)
-            | Owner::Def(..)) => {
-                let kind = owner.closed(alloc, suite)?;
-                Ok(State::Behind(boxed(alloc, kind)?, begun, last, outer))
+            suite_of @ (SuiteOf::Arm(..)
+            | SuiteOf::While(..)
+            | SuiteOf::For(..)
+            | SuiteOf::Try { .. }
+            | SuiteOf::Clause(..)
+            | SuiteOf::Else(..)
+            | SuiteOf::Finally(..)
+            | SuiteOf::Def(..)) => {
+                let kind = suite_of.closed(alloc, suite)?;
+                Ok(State::After(boxed(alloc, kind)?, begun, last, outer))
             }
-            Owner::Case(choice, pattern, guard) => {
-                choosing(alloc, choice, pattern, guard, suite, begun, outer)
+            SuiteOf::Case(partial_match, pattern, guard) => {
+                choosing(alloc, partial_match, pattern, guard, suite, begun, outer)
             }
         }
     }

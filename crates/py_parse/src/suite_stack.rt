@@ -5,28 +5,28 @@ ghost use Rattle.py_syntax.specs.Tree.{no_stmts};
 ghost use Rattle.py_syntax.specs.View.{plain_kind, plain_stmts};
 ghost use Rattle.py_parse.specs.Open.{inside, add};
 ghost use Rattle.py_parse.specs.Machine.{onward};
-ghost use Rattle.py_parse.specs.HeldOwners.{view_owner};
-ghost use Rattle.py_parse.specs.HeldStates.{view_lines, view_block, Opens, SharesLine, is_closable, is_top};
+ghost use Rattle.py_parse.specs.ViewSuiteOf.{view_suite_of};
+ghost use Rattle.py_parse.specs.ViewStates.{view_span, view_suites, Opens, SharesLine, is_closable, is_top};
 
-use crate::owner::Owner;
+use crate::suite_of::SuiteOf;
 use py_syntax::{LineEnd, Stmt, StmtKind};
 use py_value::NoMemory;
 use std::alloc::Global;
 
 /// The first lines of a statement and of the part of it that is read, and the last line of that part so far.
 #[derive(Clone, Copy)]
-pub struct Lines {
+pub struct Span {
     pub begun: u32,
     pub first: u32,
     pub last: u32,
 }
 
-impl Lines {
+impl Span {
     /// With one token more.
-    pub fn onward(self, last: u32) -> Lines
-        ensures { view_lines result ≡ onward (view_lines self) last }
+    pub fn onward(self, last: u32) -> Span
+        ensures { view_span result ≡ onward (view_span self) last }
     {
-        Lines {
+        Span {
             begun: self.begun,
             first: self.first,
             last,
@@ -38,30 +38,30 @@ impl Lines {
 #[derive(Drop)]
 pub struct Open {
     pub inline: bool,
-    pub lines: Lines,
-    pub owner: Box<Owner>,
+    pub span: Span,
+    pub suite_of: Box<SuiteOf>,
     pub outer: Vec<Stmt>,
 }
 
 /// The statements of the innermost suite so far, and the suites that are open, the innermost last.
 #[derive(Drop)]
-pub struct Block {
+pub struct SuiteStack {
     pub body: Vec<Stmt>,
     pub open: Vec<Open>,
 }
 
 /// A statement more in the innermost suite.
-#[tactic(auto, using(crate::proofs::Held::stmts_snoc, crate::proofs::Held::block_added))]
+#[tactic(auto, using(crate::proofs::Views::stmts_snoc, crate::proofs::Views::block_added))]
 pub fn add(
-    block: Block,
+    suites: SuiteStack,
     first: u32,
     last: u32,
     kind: Box<StmtKind>,
     end: LineEnd,
-) -> Result<Block, NoMemory>
-    ensures { IfOk result (λ b. view_block b ≡ add (view_block block) first last (plain_kind kind.value) end) }
+) -> Result<SuiteStack, NoMemory>
+    ensures { IfOk result (λ b. view_suites b ≡ add (view_suites suites) first last (plain_kind kind.value) end) }
 {
-    let Block { body, open } = block;
+    let SuiteStack { body, open } = suites;
     let mut body = body;
     let kind = Box::into_inner(kind);
     body.push(Stmt {
@@ -70,47 +70,47 @@ pub fn add(
         kind,
         end,
     })?;
-    Ok(Block { body, open })
+    Ok(SuiteStack { body, open })
 }
 
 /// A suite opens.
-#[tactic(auto, using(crate::proofs::Held::block_opened))]
+#[tactic(auto, using(crate::proofs::Views::block_opened))]
 pub fn opened(
     alloc: Global,
-    block: Block,
+    suites: SuiteStack,
     inline: bool,
-    lines: Lines,
-    owner: Box<Owner>,
-) -> Result<Block, NoMemory>
-    ensures { IfOk result (λ b. view_block b ≡ inside no_stmts inline lines.first lines.last lines.begun (view_owner owner.value) (view_block block)) }
+    span: Span,
+    suite_of: Box<SuiteOf>,
+) -> Result<SuiteStack, NoMemory>
+    ensures { IfOk result (λ b. view_suites b ≡ inside no_stmts inline span.first span.last span.begun (view_suite_of suite_of.value) (view_suites suites)) }
 {
-    let Block { body, open } = block;
+    let SuiteStack { body, open } = suites;
     let mut open = open;
     open.push(Open {
         inline,
-        lines,
-        owner,
+        span,
+        suite_of,
         outer: body,
     })?;
-    Ok(Block {
+    Ok(SuiteStack {
         body: Vec::new(alloc),
         open,
     })
 }
 
 /// The innermost of the suites that are open.
-#[tactic(auto, using(crate::proofs::Held::block_popped))]
+#[tactic(auto, using(crate::proofs::Views::block_popped))]
 pub fn innermost(body: &[Stmt], others: &mut Vec<Open>) -> Option<Open>
     ensures { Opens (plain_stmts body.now) others.old.items others.new.items result }
 {
     others.pop()
 }
 
-impl Block {
+impl SuiteStack {
     /// Whether the innermost suite stands on the line of its header.
-    #[tactic(auto, using(crate::proofs::Held::line_shared))]
+    #[tactic(auto, using(crate::proofs::Views::line_shared))]
     pub fn shares_line(&self) -> bool
-        ensures { SharesLine (view_block self.now) result }
+        ensures { SharesLine (view_suites self.now) result }
     {
         match self.open.last() {
             Some(open) => open.inline,
@@ -119,9 +119,9 @@ impl Block {
     }
 
     /// Whether the innermost suite is a block with a statement.
-    #[tactic(auto, using(crate::proofs::Held::block_ends))]
+    #[tactic(auto, using(crate::proofs::Views::block_ends))]
     pub fn ends(&self) -> bool
-        ensures { result ≡ is_closable (view_block self.now) }
+        ensures { result ≡ is_closable (view_suites self.now) }
     {
         match self.open.last() {
             Some(open) => !open.inline && !self.body.is_empty(),
@@ -130,9 +130,9 @@ impl Block {
     }
 
     /// Whether no suite is open.
-    #[tactic(auto, using(crate::proofs::Held::block_top))]
+    #[tactic(auto, using(crate::proofs::Views::block_top))]
     pub fn is_top(&self) -> bool
-        ensures { result ≡ is_top (view_block self.now) }
+        ensures { result ≡ is_top (view_suites self.now) }
     {
         self.open.is_empty()
     }

@@ -1,4 +1,4 @@
--- A tree has room at a place exactly where the whole that comes of it is within the limit.
+-- A tree is within the budget of a place exactly where the whole that comes of it is within the limit.
 use Rattle.std.proofs.Common.{◌≡◌, ℕ, suc, ◌-◌, ◌≤◌, max, nat_le, nat_lt, Bool, true, false, cond, ◌&&◌, refl, sym, ap, ◌∙◌, arith}
 use Rattle.std.proofs.lemmas.Bool.{leb-true, leb-false, ltb-true, ltb-false}
 use Rattle.py_syntax.specs.declared.expr.Comparison.TheVariants.{Op}
@@ -6,14 +6,14 @@ use Rattle.py_syntax.specs.Tree.{Expr, tuple, list, dict, paren, not', unary, co
 use Rattle.py_syntax.specs.Tree as tree_
 use Rattle.py_syntax.specs.Spelling.{HEIGHT}
 use Rattle.py_syntax.specs.Normal.{is_target, are_targets, height, heights, height_entries, height_links, height_bound}
-use Rattle.py_grammar.specs.Roles.{joined}
+use Rattle.py_grammar.specs.TokenClasses.{joined}
 use Rattle.py_grammar.specs.Machine.{snoc, snoc_pair, snoc_link, any, one, target, targets, a_call, a_list, exprs_first, exprs_rest, cond_first, cond_test, cond_else, first, right, not_of, compare_first, compare_rest, unary_of, post_rest, in_items, index_first, in_index, slice_to, in_paren, in_key, in_value, Ctx, Outside, on}
 use Rattle.py_grammar.specs.Least.{least_name, as_target, target_if, wants, fit, whole}
-use Rattle.py_grammar.specs.Rooms.{under, fitted, room, postfix}
+use Rattle.py_grammar.specs.Budgets.{under, fitted, budget, postfix}
 use Rattle.py_parse_expr.specs.declared.expr_nodes.Row.{Row}
-use Rattle.py_parse_expr.specs.declared.expr_stack.Room.{Room}
-use Rattle.py_parse_expr.specs.ExprHeld.{capped, view_row, AreTall}
-use Rattle.py_parse_expr.specs.ExprStacks.{IsRoom, head_of, tail_of, AreSome, KeptItems}
+use Rattle.py_parse_expr.specs.declared.expr_stack.HeightBudget.{HeightBudget}
+use Rattle.py_parse_expr.specs.ExprViews.{capped, view_row, AreMeasured}
+use Rattle.py_parse_expr.specs.ExprStacks.{IsBudget, head_of, tail_of, AreSome, ValidItems}
 use Rattle.py_grammar.proofs.Grows.{height_some, heights_snoc, entries_snoc, links_snoc, joined_height, joined_target, targets_snoc, tuple_snoc}
 
 -- two tests that hold together
@@ -48,64 +48,64 @@ fitted_low false a b n false h i = i
 under_within : (s r n : ℕ) → r ≤ n → under s r ≤ n
 under_within s r n h = let u = under_low s r in omega arith
 
--- no room is above the limit
-pub room_low : (limit : ℕ) (k : Ctx) (is : Bool) → room limit k is ≤ limit
-room_low limit (Outside any) is = omega arith
-room_low limit (Outside one) is = omega arith
-room_low limit (Outside target) is = fitted_low true limit limit limit is (omega arith) (omega arith)
-room_low limit (Outside (targets f es)) is = let u = under_low (max (height f) (heights es)) limit in fitted_low true (under (max (height f) (heights es)) limit) limit limit is u (omega arith)
-room_low limit (on exprs_first k) is = room_low limit k is
-room_low limit (on (exprs_rest f es) k) is = under_within (max (height f) (heights es)) (room limit k ((is_target f && are_targets es) && is)) limit (room_low limit k ((is_target f && are_targets es) && is))
-room_low limit (on cond_first k) is = room_low limit k is
-room_low limit (on (cond_test b) k) is = under_within (max (height b) 1) (room limit k false) limit (room_low limit k false)
-room_low limit (on (cond_else b c) k) is = under_within (max (height b) (height c)) (room limit k false) limit (room_low limit k false)
-room_low limit (on (first l) k) is = room_low limit k is
-room_low limit (on (right j a) k) is = under_within (height a) (room limit k false) limit (room_low limit k false)
-room_low limit (on not_of k) is = under_within 0 (room limit k false) limit (room_low limit k false)
-room_low limit (on compare_first k) is = room_low limit k is
-room_low limit (on (compare_rest a ls op) k) is = under_within (max (height a) (height_links ls)) (room limit k false) limit (room_low limit k false)
-room_low limit (on (unary_of s) k) is = under_within 0 (room limit k false) limit (room_low limit k false)
-room_low limit (on post_rest k) is = fitted_low (wants k) (room limit k true) (room limit k false) limit is (room_low limit k true) (room_low limit k false)
-room_low limit (on (in_items a_list es) k) is = under_within (heights es) (postfix limit k (are_targets es && is)) limit (fitted_low (wants k) (room limit k true) (room limit k false) limit (are_targets es && is) (room_low limit k true) (room_low limit k false))
-room_low limit (on (in_items (a_call f) es) k) is = under_within (max (height f) (heights es)) (postfix limit k false) limit (fitted_low (wants k) (room limit k true) (room limit k false) limit false (room_low limit k true) (room_low limit k false))
-room_low limit (on (index_first f) k) is = under_within (height f) (room limit k true) limit (room_low limit k true)
-room_low limit (on (in_index f) k) is = under_within (height f) (room limit k true) limit (room_low limit k true)
-room_low limit (on (slice_to f from) k) is = under_within (max (height f) (height_bound from)) (postfix limit k false) limit (fitted_low (wants k) (room limit k true) (room limit k false) limit false (room_low limit k true) (room_low limit k false))
-room_low limit (on in_paren k) is = under_within 0 (postfix limit k is) limit (fitted_low (wants k) (room limit k true) (room limit k false) limit is (room_low limit k true) (room_low limit k false))
-room_low limit (on (in_key ps) k) is = under_within (max (height_entries ps) 1) (postfix limit k false) limit (fitted_low (wants k) (room limit k true) (room limit k false) limit false (room_low limit k true) (room_low limit k false))
-room_low limit (on (in_value ps key) k) is = under_within (max (height_entries ps) (height key)) (postfix limit k false) limit (fitted_low (wants k) (room limit k true) (room limit k false) limit false (room_low limit k true) (room_low limit k false))
+-- no budget is above the limit
+pub budget_low : (limit : ℕ) (k : Ctx) (is : Bool) → budget limit k is ≤ limit
+budget_low limit (Outside any) is = omega arith
+budget_low limit (Outside one) is = omega arith
+budget_low limit (Outside target) is = fitted_low true limit limit limit is (omega arith) (omega arith)
+budget_low limit (Outside (targets f es)) is = let u = under_low (max (height f) (heights es)) limit in fitted_low true (under (max (height f) (heights es)) limit) limit limit is u (omega arith)
+budget_low limit (on exprs_first k) is = budget_low limit k is
+budget_low limit (on (exprs_rest f es) k) is = under_within (max (height f) (heights es)) (budget limit k ((is_target f && are_targets es) && is)) limit (budget_low limit k ((is_target f && are_targets es) && is))
+budget_low limit (on cond_first k) is = budget_low limit k is
+budget_low limit (on (cond_test b) k) is = under_within (max (height b) 1) (budget limit k false) limit (budget_low limit k false)
+budget_low limit (on (cond_else b c) k) is = under_within (max (height b) (height c)) (budget limit k false) limit (budget_low limit k false)
+budget_low limit (on (first l) k) is = budget_low limit k is
+budget_low limit (on (right j a) k) is = under_within (height a) (budget limit k false) limit (budget_low limit k false)
+budget_low limit (on not_of k) is = under_within 0 (budget limit k false) limit (budget_low limit k false)
+budget_low limit (on compare_first k) is = budget_low limit k is
+budget_low limit (on (compare_rest a ls op) k) is = under_within (max (height a) (height_links ls)) (budget limit k false) limit (budget_low limit k false)
+budget_low limit (on (unary_of s) k) is = under_within 0 (budget limit k false) limit (budget_low limit k false)
+budget_low limit (on post_rest k) is = fitted_low (wants k) (budget limit k true) (budget limit k false) limit is (budget_low limit k true) (budget_low limit k false)
+budget_low limit (on (in_items a_list es) k) is = under_within (heights es) (postfix limit k (are_targets es && is)) limit (fitted_low (wants k) (budget limit k true) (budget limit k false) limit (are_targets es && is) (budget_low limit k true) (budget_low limit k false))
+budget_low limit (on (in_items (a_call f) es) k) is = under_within (max (height f) (heights es)) (postfix limit k false) limit (fitted_low (wants k) (budget limit k true) (budget limit k false) limit false (budget_low limit k true) (budget_low limit k false))
+budget_low limit (on (index_first f) k) is = under_within (height f) (budget limit k true) limit (budget_low limit k true)
+budget_low limit (on (in_index f) k) is = under_within (height f) (budget limit k true) limit (budget_low limit k true)
+budget_low limit (on (slice_to f from) k) is = under_within (max (height f) (height_bound from)) (postfix limit k false) limit (fitted_low (wants k) (budget limit k true) (budget limit k false) limit false (budget_low limit k true) (budget_low limit k false))
+budget_low limit (on in_paren k) is = under_within 0 (postfix limit k is) limit (fitted_low (wants k) (budget limit k true) (budget limit k false) limit is (budget_low limit k true) (budget_low limit k false))
+budget_low limit (on (in_key ps) k) is = under_within (max (height_entries ps) 1) (postfix limit k false) limit (fitted_low (wants k) (budget limit k true) (budget limit k false) limit false (budget_low limit k true) (budget_low limit k false))
+budget_low limit (on (in_value ps key) k) is = under_within (max (height_entries ps) (height key)) (postfix limit k false) limit (fitted_low (wants k) (budget limit k true) (budget limit k false) limit false (budget_low limit k true) (budget_low limit k false))
 
--- ---- what has room
+-- ---- what fits the budget
 
--- the whole that comes of a tree is within the limit exactly where the tree is within the room
+-- the whole that comes of a tree is within the limit exactly where the tree is within the budget
 abbrev Fits : ℕ → Ctx → Expr → Type 0
-Fits limit k e = nat_le (height (whole k e)) limit ≡ nat_le (height e) (room limit k (is_target e))
+Fits limit k e = nat_le (height (whole k e)) limit ≡ nat_le (height e) (budget limit k (is_target e))
 
 -- a node over the tree
-node_fits : (limit : ℕ) (k : Ctx) (e n : Expr) (s : ℕ) (is : Bool) → Fits limit k n → height n ≡ suc (max s (height e)) → is_target n ≡ is → nat_le (height (whole k n)) limit ≡ nat_le (height e) (under s (room limit k is))
+node_fits : (limit : ℕ) (k : Ctx) (e n : Expr) (s : ℕ) (is : Bool) → Fits limit k n → height n ≡ suc (max s (height e)) → is_target n ≡ is → nat_le (height (whole k n)) limit ≡ nat_le (height e) (under s (budget limit k is))
 node_fits limit k e n s is fits high same =
     fits
-    ∙ ap (λ (b : Bool). nat_le (height n) (room limit k b)) same
-    ∙ ap (λ (h : ℕ). nat_le h (room limit k is)) high
-    ∙ under_fits s (height e) (room limit k is) (height_some e)
+    ∙ ap (λ (b : Bool). nat_le (height n) (budget limit k b)) same
+    ∙ ap (λ (h : ℕ). nat_le h (budget limit k is)) high
+    ∙ under_fits s (height e) (budget limit k is) (height_some e)
 
 -- where a postfix stands
 pub fit_fits : (limit : ℕ) (k : Ctx) (e : Expr) → Fits limit k (fit k e) → nat_le (height (whole k (fit k e))) limit ≡ nat_le (height e) (postfix limit k (is_target e))
 fit_fits limit k e fits = fits ∙ go (wants k) (is_target e) refl
   where
-    targeted : (t : Bool) → is_target e ≡ t → nat_le (height (cond t e (index e least_name))) (room limit k (is_target (cond t e (index e least_name)))) ≡ nat_le (height e) (fitted true (room limit k true) (room limit k false) t)
-    targeted true is = ap (λ (b : Bool). nat_le (height e) (room limit k b)) is
+    targeted : (t : Bool) → is_target e ≡ t → nat_le (height (cond t e (index e least_name))) (budget limit k (is_target (cond t e (index e least_name)))) ≡ nat_le (height e) (fitted true (budget limit k true) (budget limit k false) t)
+    targeted true is = ap (λ (b : Bool). nat_le (height e) (budget limit k b)) is
     targeted false is =
         let some = height_some e in
-        ap (λ (h : ℕ). nat_le h (room limit k true)) (let same : suc (max (height e) 1) ≡ suc (max 0 (height e)) = omega arith in same)
-        ∙ under_fits 0 (height e) (room limit k true) some
+        ap (λ (h : ℕ). nat_le h (budget limit k true)) (let same : suc (max (height e) 1) ≡ suc (max 0 (height e)) = omega arith in same)
+        ∙ under_fits 0 (height e) (budget limit k true) some
 
-    plain : (t : Bool) → is_target e ≡ t → nat_le (height e) (room limit k (is_target e)) ≡ nat_le (height e) (fitted false (room limit k true) (room limit k false) t)
-    plain true is = ap (λ (b : Bool). nat_le (height e) (room limit k b)) is
-    plain false is = ap (λ (b : Bool). nat_le (height e) (room limit k b)) is
+    plain : (t : Bool) → is_target e ≡ t → nat_le (height e) (budget limit k (is_target e)) ≡ nat_le (height e) (fitted false (budget limit k true) (budget limit k false) t)
+    plain true is = ap (λ (b : Bool). nat_le (height e) (budget limit k b)) is
+    plain false is = ap (λ (b : Bool). nat_le (height e) (budget limit k b)) is
 
-    go : (w t : Bool) → is_target e ≡ t → nat_le (height (target_if w e)) (room limit k (is_target (target_if w e))) ≡ nat_le (height e) (fitted w (room limit k true) (room limit k false) t)
-    go true t is = ap (λ (b : Bool). nat_le (height (cond b e (index e least_name))) (room limit k (is_target (cond b e (index e least_name))))) is ∙ targeted t is
+    go : (w t : Bool) → is_target e ≡ t → nat_le (height (target_if w e)) (budget limit k (is_target (target_if w e))) ≡ nat_le (height e) (fitted w (budget limit k true) (budget limit k false) t)
+    go true t is = ap (λ (b : Bool). nat_le (height (cond b e (index e least_name))) (budget limit k (is_target (cond b e (index e least_name))))) is ∙ targeted t is
     go false t is = plain t is
 
 -- a node over the tree, where a postfix stands
@@ -203,17 +203,17 @@ pub capped_test : (a h r limit : ℕ) → a ≡ capped h → r ≤ limit → lim
 capped_test a h r limit is low high = ap (λ (x : ℕ). nat_le x r) is ∙ same_test (capped h) r h r (λ x. omega arith) (λ x. omega arith)
 
 pub postfix_low : (limit : ℕ) (k : Ctx) (is : Bool) → postfix limit k is ≤ limit
-postfix_low limit k is = fitted_low (wants k) (room limit k true) (room limit k false) limit is (room_low limit k true) (room_low limit k false)
+postfix_low limit k is = fitted_low (wants k) (budget limit k true) (budget limit k false) limit is (budget_low limit k true) (budget_low limit k false)
 
--- a frame in which all trees have the same room
-pub same_room : (limit : ℕ) (k : Ctx) (r : Room) (a h x t n : ℕ) → r.target ≡ n → r.other ≡ n → r.wants ≡ false → n ≡ under a x → a ≡ capped h → x ≡ t → t ≤ limit → limit ≤ HEIGHT → room limit k true ≡ under h t → room limit k false ≡ under h t → wants k ≡ false → IsRoom limit k r
-same_room limit k r a h x t n first_is two three is high same low bound for_targets for_others none =
+-- a frame in which all trees have the same budget
+pub same_budget : (limit : ℕ) (k : Ctx) (r : HeightBudget) (a h x t n : ℕ) → r.target ≡ n → r.other ≡ n → r.wants ≡ false → n ≡ under a x → a ≡ capped h → x ≡ t → t ≤ limit → limit ≤ HEIGHT → budget limit k true ≡ under h t → budget limit k false ≡ under h t → wants k ≡ false → IsBudget limit k r
+same_budget limit k r a h x t n first_is two three is high same low bound for_targets for_others none =
     let all : n ≡ under h t = is ∙ capped_under a h x t limit high same low bound in
     record { target = first_is ∙ all ∙ sym for_targets; other = two ∙ all ∙ sym for_others; wants = three ∙ sym none }
 
 -- a frame that can still become a target
-pub open_room : (limit : ℕ) (k : Ctx) (r : Room) (a h x t y u : ℕ) (w : Bool) → r.target ≡ under a x → r.other ≡ under a y → r.wants ≡ w → a ≡ capped h → x ≡ t → y ≡ u → t ≤ limit → u ≤ limit → limit ≤ HEIGHT → room limit k true ≡ under h t → room limit k false ≡ under h u → wants k ≡ w → IsRoom limit k r
-open_room limit k r a h x t y u w first_is two three high same other low low' bound for_targets for_others some =
+pub open_budget : (limit : ℕ) (k : Ctx) (r : HeightBudget) (a h x t y u : ℕ) (w : Bool) → r.target ≡ under a x → r.other ≡ under a y → r.wants ≡ w → a ≡ capped h → x ≡ t → y ≡ u → t ≤ limit → u ≤ limit → limit ≤ HEIGHT → budget limit k true ≡ under h t → budget limit k false ≡ under h u → wants k ≡ w → IsBudget limit k r
+open_budget limit k r a h x t y u w first_is two three high same other low low' bound for_targets for_others some =
     record {
       target = first_is ∙ capped_under a h x t limit high same low bound ∙ sym for_targets;
       other = two ∙ capped_under a h y u limit high other low' bound ∙ sym for_others;
@@ -238,27 +238,27 @@ pub items_targets : (es : Exprs) → AreSome es → are_targets es ≡ (is_targe
 items_targets no_exprs h = absurd h
 items_targets (exprs e es) h = refl
 
-pub chosen : (limit : ℕ) (k : Ctx) (outer : Room) (b : Bool) → IsRoom limit k outer → cond b outer.target outer.other ≡ room limit k b
+pub chosen : (limit : ℕ) (k : Ctx) (outer : HeightBudget) (b : Bool) → IsBudget limit k outer → cond b outer.target outer.other ≡ budget limit k b
 chosen limit k outer true is = is.target
 chosen limit k outer false is = is.other
 
--- behind items with a comma
-pub rest_room : (limit : ℕ) (k : Ctx) (items : Row) (outer : Room) (r : Room) → KeptItems items → IsRoom limit k outer → limit ≤ HEIGHT → r.target ≡ under items.height (cond items.targets outer.target outer.other) → r.other ≡ under items.height outer.other → r.wants ≡ (items.targets && outer.wants) → IsRoom limit (on (exprs_rest (head_of (view_row items)) (tail_of (view_row items))) k) r
-rest_room limit k items outer r kept is low one_is two three =
+-- after items with a comma
+pub rest_budget : (limit : ℕ) (k : Ctx) (items : Row) (outer : HeightBudget) (r : HeightBudget) → ValidItems items → IsBudget limit k outer → limit ≤ HEIGHT → r.target ≡ under items.height (cond items.targets outer.target outer.other) → r.other ≡ under items.height outer.other → r.wants ≡ (items.targets && outer.wants) → IsBudget limit (on (exprs_rest (head_of (view_row items)) (tail_of (view_row items))) k) r
+rest_budget limit k items outer r valid is low one_is two three =
     let f = head_of (view_row items) in
     let es = tail_of (view_row items) in
     let all = is_target f && are_targets es in
-    let same : items.targets ≡ all = kept.are.targets ∙ items_targets (view_row items) kept.some in
-    let high : items.height ≡ capped (max (height f) (heights es)) = kept.are.height ∙ ap capped (items_heights (view_row items) kept.some) in
-    let to : cond items.targets outer.target outer.other ≡ room limit k (all && true) = chosen limit k outer items.targets is ∙ ap (room limit k) (same ∙ sym (and_true_is all)) in
-    let none : outer.other ≡ room limit k (all && false) = is.other ∙ ap (room limit k) (sym (and_false_is all)) in
-    open_room limit (on (exprs_rest f es) k) r items.height (max (height f) (heights es)) (cond items.targets outer.target outer.other) (room limit k (all && true)) outer.other (room limit k (all && false)) (all && wants k) one_is two (three ∙ ap (λ (b : Bool). b && outer.wants) same ∙ ap (λ (b : Bool). all && b) is.wants) high to none (room_low limit k (all && true)) (room_low limit k (all && false)) low refl refl refl
+    let same : items.targets ≡ all = valid.are.targets ∙ items_targets (view_row items) valid.some in
+    let high : items.height ≡ capped (max (height f) (heights es)) = valid.are.height ∙ ap capped (items_heights (view_row items) valid.some) in
+    let to : cond items.targets outer.target outer.other ≡ budget limit k (all && true) = chosen limit k outer items.targets is ∙ ap (budget limit k) (same ∙ sym (and_true_is all)) in
+    let none : outer.other ≡ budget limit k (all && false) = is.other ∙ ap (budget limit k) (sym (and_false_is all)) in
+    open_budget limit (on (exprs_rest f es) k) r items.height (max (height f) (heights es)) (cond items.targets outer.target outer.other) (budget limit k (all && true)) outer.other (budget limit k (all && false)) (all && wants k) one_is two (three ∙ ap (λ (b : Bool). b && outer.wants) same ∙ ap (λ (b : Bool). all && b) is.wants) high to none (budget_low limit k (all && true)) (budget_low limit k (all && false)) low refl refl refl
 
 -- in a list
-pub list_room : (limit : ℕ) (k : Ctx) (items : Row) (outer : Room) (r : Room) (x y : ℕ) → AreTall items → IsRoom limit k outer → limit ≤ HEIGHT → r.target ≡ under items.height x → x ≡ postfix limit k items.targets → r.other ≡ under items.height y → y ≡ postfix limit k false → r.wants ≡ (items.targets && outer.wants) → IsRoom limit (on (in_items a_list (view_row items)) k) r
-list_room limit k items outer r x y are is low one_is to two none three =
+pub list_budget : (limit : ℕ) (k : Ctx) (items : Row) (outer : HeightBudget) (r : HeightBudget) (x y : ℕ) → AreMeasured items → IsBudget limit k outer → limit ≤ HEIGHT → r.target ≡ under items.height x → x ≡ postfix limit k items.targets → r.other ≡ under items.height y → y ≡ postfix limit k false → r.wants ≡ (items.targets && outer.wants) → IsBudget limit (on (in_items a_list (view_row items)) k) r
+list_budget limit k items outer r x y are is low one_is to two none three =
     let es = view_row items in
     let all = are_targets es in
     let here : x ≡ postfix limit k (all && true) = to ∙ ap (postfix limit k) (are.targets ∙ sym (and_true_is all)) in
     let there : y ≡ postfix limit k (all && false) = none ∙ ap (postfix limit k) (sym (and_false_is all)) in
-    open_room limit (on (in_items a_list es) k) r items.height (heights es) x (postfix limit k (all && true)) y (postfix limit k (all && false)) (all && wants k) one_is two (three ∙ ap (λ (b : Bool). b && outer.wants) are.targets ∙ ap (λ (b : Bool). all && b) is.wants) are.height here there (postfix_low limit k (all && true)) (postfix_low limit k (all && false)) low refl refl refl
+    open_budget limit (on (in_items a_list es) k) r items.height (heights es) x (postfix limit k (all && true)) y (postfix limit k (all && false)) (all && wants k) one_is two (three ∙ ap (λ (b : Bool). b && outer.wants) are.targets ∙ ap (λ (b : Bool). all && b) is.wants) are.height here there (postfix_low limit k (all && true)) (postfix_low limit k (all && false)) low refl refl refl

@@ -1,4 +1,4 @@
--- The roles of tokens where all f-strings are one.
+-- The classes of tokens where all f-strings are one.
 use Rattle.std.proofs.Common.{◌≡◌, Option, Some, None, refl, ap, ◌∙◌}
 use Rattle.std.specs.Global.{Vec}
 use Rattle.py_token.specs.declared.token.Piece.{Piece}
@@ -8,15 +8,15 @@ use Rattle.py_token.specs.View.{view_kind, view_pieces}
 use Rattle.py_token.proofs.Views.{plain-fstring}
 use Rattle.py_syntax.specs.Tree.{Parts}
 use Rattle.py_syntax.specs.Kinds.{End, Pieces, bare_kind, bare_pieces}
-use Rattle.py_grammar.specs.Roles.{r_other}
-use Rattle.py_grammar.specs.Machine.{format_role, role, parts}
-use Rattle.py_parse_expr.specs.ExprHeld.{plain_role}
+use Rattle.py_grammar.specs.TokenClasses.{t_other}
+use Rattle.py_grammar.specs.Machine.{format_class, class, parts}
+use Rattle.py_parse_expr.specs.ExprViews.{plain_class}
 
-plain_format : (ps : Pieces) (o : Option Parts) → plain_role (format_role ps o) ≡ r_other End
+plain_format : (ps : Pieces) (o : Option Parts) → plain_class (format_class ps o) ≡ t_other End
 plain_format ps (Some qs) = refl
 plain_format ps None = refl
 
-pub plain_fstring : (ps : Vec Piece) → plain_role (role (bare_kind (view_kind (kind_.FString ps)))) ≡ r_other End
+pub plain_fstring : (ps : Vec Piece) → plain_class (class (bare_kind (view_kind (kind_.FString ps)))) ≡ t_other End
 plain_fstring ps =
     let qs = bare_pieces (piece_row (view_pieces ps.items)) in
-    ap (λ k. plain_role (role (bare_kind k))) (plain-fstring ps) ∙ plain_format qs (parts qs)
+    ap (λ k. plain_class (class (bare_kind k))) (plain-fstring ps) ∙ plain_format qs (parts qs)

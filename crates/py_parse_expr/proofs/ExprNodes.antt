@@ -21,13 +21,13 @@ use Rattle.py_syntax.specs.Tree.{Text, Expr, name, none, bool, str, fstr, tuple,
 use Rattle.py_syntax.specs.Normal.{is_target, are_targets, height, heights, height_entries, height_links, height_fragments, height_parts}
 use Rattle.py_syntax.specs.View.{PlainFragment, a_plain, a_format, fragments_of, opt_of, plain_expr, plain_exprs, plain_pairs, plain_links, plain_fragments, plain_parts}
 use Rattle.py_grammar.specs.Machine.{snoc, snoc_pair, snoc_link, snoc_plain, snoc_format, has_format, texts, strings_of}
-use Rattle.py_parse_expr.specs.declared.expr_nodes.Tall.{Tall}
+use Rattle.py_parse_expr.specs.declared.expr_nodes.Measured.{Measured}
 use Rattle.py_parse_expr.specs.declared.expr_nodes.Row.{Row}
 use Rattle.py_parse_expr.specs.declared.expr_nodes.Entries.{Entries}
 use Rattle.py_parse_expr.specs.declared.expr_nodes.Chain.{Chain}
-use Rattle.py_parse_expr.specs.ExprHeld.{capped, plains, view_tall, view_row, view_entries, view_links, IsTall, AreTall, AreEntries, IsChain, Makes}
+use Rattle.py_parse_expr.specs.ExprViews.{capped, plains, view_measured, view_row, view_entries, view_links, IsMeasured, AreMeasured, AreEntries, IsChain, Makes}
 use Rattle.py_grammar.proofs.Grows.{heights_snoc, entries_snoc, links_snoc, targets_snoc}
-use Rattle.py_grammar.proofs.Rising.{plain_snoc, format_snoc}
+use Rattle.py_grammar.proofs.LeastNeverFalls.{plain_snoc, format_snoc}
 
 pub exprs_more : (es : List Node) (e : Node) → plain_exprs (es ++ e ∷ []) ≡ snoc (plain_exprs es) (plain_expr e)
 exprs_more [] e = refl
@@ -48,31 +48,31 @@ links_more [] op e = search (node.the_lemmas, node_link.the_lemmas)
 links_more (l ∷ ls) op e = link_first l (ls ++ record { op = op; right = e } ∷ []) ∙ ap (link l.op (plain_expr l.right)) (links_more ls op e) ∙ ap (λ (x : Links). snoc_link x op (plain_expr e)) (sym (link_first l ls))
 
 -- what is kept beside items, with one more
-pub row_more : (r n : Row) (t : Tall) → AreTall r → IsTall t → view_row n ≡ snoc (view_row r) (view_tall t) → n.height ≡ max r.height t.height → n.targets ≡ (r.targets && t.target) → AreTall n
+pub row_more : (r n : Row) (t : Measured) → AreMeasured r → IsMeasured t → view_row n ≡ snoc (view_row r) (view_measured t) → n.height ≡ max r.height t.height → n.targets ≡ (r.targets && t.target) → AreMeasured n
 row_more r n t are is same height targets =
-    let h = heights_snoc (view_row r) (view_tall t) in
+    let h = heights_snoc (view_row r) (view_measured t) in
     let e = ap heights same in
     let one = are.height in
     let two = is.height in
     record {
       height = omega arith;
-      targets = targets ∙ ap (λ (b : Bool). b && t.target) are.targets ∙ ap (λ (b : Bool). are_targets (view_row r) && b) is.target ∙ sym (targets_snoc (view_row r) (view_tall t)) ∙ ap are_targets (sym same);
+      targets = targets ∙ ap (λ (b : Bool). b && t.target) are.targets ∙ ap (λ (b : Bool). are_targets (view_row r) && b) is.target ∙ sym (targets_snoc (view_row r) (view_measured t)) ∙ ap are_targets (sym same);
     }
 
-pub entries_more : (ps n : Entries) (k v : Tall) → AreEntries ps → IsTall k → IsTall v → view_entries n ≡ snoc_pair (view_entries ps) (view_tall k) (view_tall v) → n.height ≡ max ps.height (max k.height v.height) → AreEntries n
+pub entries_more : (ps n : Entries) (k v : Measured) → AreEntries ps → IsMeasured k → IsMeasured v → view_entries n ≡ snoc_pair (view_entries ps) (view_measured k) (view_measured v) → n.height ≡ max ps.height (max k.height v.height) → AreEntries n
 entries_more ps n k v are key value same height =
-    let h = entries_snoc (view_entries ps) (view_tall k) (view_tall v) in
+    let h = entries_snoc (view_entries ps) (view_measured k) (view_measured v) in
     let e = ap height_entries same in
     let one = key.height in
     let two = value.height in
     omega arith
 
-pub chain_more : (c n : Chain) (op : Comparison) (t : Tall) → IsChain c → IsTall t → plain_expr n.first.value ≡ plain_expr c.first.value → view_links n ≡ snoc_link (view_links c) op (view_tall t) → n.height ≡ max c.height t.height → IsChain n
-chain_more c n op t is tall first same height' =
-    let h = links_snoc (view_links c) op (view_tall t) in
+pub chain_more : (c n : Chain) (op : Comparison) (t : Measured) → IsChain c → IsMeasured t → plain_expr n.first.value ≡ plain_expr c.first.value → view_links n ≡ snoc_link (view_links c) op (view_measured t) → n.height ≡ max c.height t.height → IsChain n
+chain_more c n op t is measured first same height' =
+    let h = links_snoc (view_links c) op (view_measured t) in
     let e = ap height_links same in
     let f = ap height first in
-    let two = tall.height in
+    let two = measured.height in
     omega arith
 
 -- ---- strings
@@ -124,10 +124,10 @@ abbrev IsMixed : Fragments → ℕ → Type 0
 IsMixed fs h = (has_format fs ≡ true) × (h ≡ capped (height_fragments fs))
 
 pub mixed_text : (fs n : Fragments) (x : Text) (h : ℕ) → n ≡ snoc_plain fs x → IsMixed fs h → IsMixed n h
-mixed_text fs n x h is kept = (ap has_format is ∙ (plain_snoc fs x).0 ∙ kept.0, kept.1 ∙ ap capped (sym (ap height_fragments is ∙ (plain_snoc fs x).1)))
+mixed_text fs n x h is valid = (ap has_format is ∙ (plain_snoc fs x).0 ∙ valid.0, valid.1 ∙ ap capped (sym (ap height_fragments is ∙ (plain_snoc fs x).1)))
 
 pub mixed_format : (fs n : Fragments) (qs : Parts) (h a m : ℕ) → n ≡ snoc_format fs qs → h ≡ capped (height_fragments fs) → a ≡ capped (height_parts qs) → m ≡ max h a → IsMixed n m
-mixed_format fs n qs h a m is kept high most =
+mixed_format fs n qs h a m is valid high most =
     let f = format_snoc fs qs in
     let all : height_fragments n ≡ max (height_fragments fs) (height_parts qs) = ap height_fragments is ∙ f.1 in
     (ap has_format is ∙ f.0, omega arith)
@@ -141,9 +141,9 @@ pub plain_height : (xs : List Text) → 1 ≡ capped (height (strings_of (plains
 plain_height xs = ap (λ (e : Expr). capped (height e)) (sym (strings_plain xs))
 
 pub mixed_height : (fs : Fragments) (h n : ℕ) → IsMixed fs h → n ≡ capped (suc h) → n ≡ capped (height (strings_of fs))
-mixed_height fs h n kept is =
-    let same = ap height (strings_mixed fs kept.0) in
-    let high = kept.1 in
+mixed_height fs h n valid is =
+    let same = ap height (strings_mixed fs valid.0) in
+    let high = valid.1 in
     omega arith
 
 pub str_is : (xs : Vec Text) → plain_expr (variant.Str xs) ≡ strings_of (plains xs.items)
@@ -229,8 +229,8 @@ pub attr_is : (a : Box Node Global) (x : Text) → plain_expr (variant.Attr a x)
 attr_is a x = search node.the_lemmas
 
 -- a tree with what is kept beside it
-pub boxed_makes : (e : Expr) (n : Node) (h : ℕ) (b : Bool) (r : Result Tall AllocError) → IfOk r (λ t. t.expr.value ≡ n) → IfOk r (λ t. t.height ≡ h) → IfOk r (λ t. t.target ≡ b) → plain_expr n ≡ e → h ≡ capped (height e) → b ≡ is_target e → IfOk r (Makes e)
+pub boxed_makes : (e : Expr) (n : Node) (h : ℕ) (b : Bool) (r : Result Measured AllocError) → IfOk r (λ t. t.expr.value ≡ n) → IfOk r (λ t. t.height ≡ h) → IfOk r (λ t. t.target ≡ b) → plain_expr n ≡ e → h ≡ capped (height e) → b ≡ is_target e → IfOk r (Makes e)
 boxed_makes e n h b (Ok t) is high form shows height' target' =
     let same : plain_expr t.expr.value ≡ e = ap plain_expr is ∙ shows in
-    record { is = same; kept = record { height = high ∙ height' ∙ ap (λ (x : Expr). capped (height x)) (sym same); target = form ∙ target' ∙ ap is_target (sym same) } }
+    record { is = same; valid = record { height = high ∙ height' ∙ ap (λ (x : Expr). capped (height x)) (sym same); target = form ∙ target' ∙ ap is_target (sym same) } }
 boxed_makes e n h b (Err x) is high form shows height' target' = tt

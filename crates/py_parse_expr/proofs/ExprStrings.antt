@@ -10,21 +10,21 @@ use Rattle.py_syntax.specs.Tree.{Expr, fstr, tuple, not', unary, compare, exprs,
 use Rattle.py_syntax.specs.Tree as tree_
 use Rattle.py_syntax.specs.Kinds.{Kind, Word, FString, Sign, End, Pieces}
 use Rattle.py_syntax.specs.Normal.{LExpr, LExprs, LPost, is_target, height, height_fragments, height_parts}
-use Rattle.py_grammar.specs.Roles.{Role, r_name, r_none, r_bool, r_format, r_bad_format, r_not, r_is, r_if, r_else, r_compare, r_joint, r_comma, r_colon, r_dot, r_left_paren, r_right_paren, r_left_bracket, r_right_bracket, r_right_brace, r_other, joined}
-use Rattle.py_grammar.specs.Machine.{snoc, snoc_link, snoc_format, has_format, strings_of, any, one, target, targets, a_call, a_list, exprs_first, exprs_rest, cond_first, cond_test, cond_else, first, right, not_of, compare_first, compare_rest, unary_of, post_rest, in_items, index_first, in_index, slice_to, in_paren, in_key, in_value, Ctx, Outside, on, State, Want, Have, Strings, AfterOpen, AfterComma, AfterTarget, ItemsOpen, ItemsComma, DictOpen, DictComma, IndexOpen, SliceColon, AfterDot, AfterNot, AfterIs, AfterIsNot, Linked, Out, Next, Stuck, Left, upto, give, step, role}
+use Rattle.py_grammar.specs.TokenClasses.{TokenClass, t_name, t_none, t_bool, t_format, t_bad_format, t_not, t_is, t_if, t_else, t_compare, t_operator, t_comma, t_colon, t_dot, t_left_paren, t_right_paren, t_left_bracket, t_right_bracket, t_right_brace, t_other, joined}
+use Rattle.py_grammar.specs.Machine.{snoc, snoc_link, snoc_format, has_format, strings_of, any, one, target, targets, a_call, a_list, exprs_first, exprs_rest, cond_first, cond_test, cond_else, first, right, not_of, compare_first, compare_rest, unary_of, post_rest, in_items, index_first, in_index, slice_to, in_paren, in_key, in_value, Ctx, Outside, on, State, Want, Have, Strings, AfterOpen, AfterComma, AfterTarget, ItemsOpen, ItemsComma, DictOpen, DictComma, IndexOpen, SliceColon, AfterDot, AfterNot, AfterIs, AfterIsNot, Linked, Out, Next, Stuck, Left, upto, give, step, class}
 use Rattle.py_grammar.specs.Least.{whole}
-use Rattle.py_grammar.specs.Rooms.{room}
-use Rattle.py_parse_expr.specs.ExprHeld.{plain_role}
+use Rattle.py_grammar.specs.Budgets.{budget}
+use Rattle.py_parse_expr.specs.ExprViews.{plain_class}
 use Rattle.py_parse_expr.specs.ExprFields.{takes_string, NoFString, has_spelled_fields, IsHigh}
-use Rattle.py_grammar.proofs.Rising.{format_snoc}
-use Rattle.py_parse_expr.proofs.Rooms.{room_low, whole_fits}
+use Rattle.py_grammar.proofs.LeastNeverFalls.{format_snoc}
+use Rattle.py_parse_expr.proofs.Budgets.{budget_low, whole_fits}
 
 -- ---- tokens that no expression goes on with
 
-abbrev pub Foreign : Role → Type 0
-Foreign (r_format qs) = Unit {0}
-Foreign (r_bad_format ps) = Unit {0}
-Foreign (r_other t) = Unit {0}
+abbrev pub Foreign : TokenClass → Type 0
+Foreign (t_format qs) = Unit {0}
+Foreign (t_bad_format ps) = Unit {0}
+Foreign (t_other t) = Unit {0}
 Foreign t = ⊥
 
 abbrev pub Ends : Out → Type 0
@@ -39,122 +39,122 @@ left_or_stuck : (b : Bool) (e : Expr) → Alike (cond b (Left e) Stuck) (cond b 
 left_or_stuck true e = (refl, tt)
 left_or_stuck false e = (refl, tt)
 
-pub give_alike : (e : Expr) (k : Ctx) (t : Role) → Foreign t → Alike (give e k t) (give e k (r_other End))
+pub give_alike : (e : Expr) (k : Ctx) (t : TokenClass) → Foreign t → Alike (give e k t) (give e k (t_other End))
 give_alike e (Outside any) t h = (refl, tt)
 give_alike e (Outside one) t h = (refl, tt)
-give_alike e (Outside target) r_comma h = absurd h
+give_alike e (Outside target) t_comma h = absurd h
 give_alike e (Outside target) t h = left_or_stuck (is_target e) e
-give_alike e (Outside (targets f es)) r_comma h = absurd h
+give_alike e (Outside (targets f es)) t_comma h = absurd h
 give_alike e (Outside (targets f es)) t h = left_or_stuck (is_target e) (tuple (exprs f (snoc es e)) false)
-give_alike e (on exprs_first k) r_comma h = absurd h
+give_alike e (on exprs_first k) t_comma h = absurd h
 give_alike e (on exprs_first k) t h = give_alike e k t h
-give_alike e (on (exprs_rest f es) k) r_comma h = absurd h
+give_alike e (on (exprs_rest f es) k) t_comma h = absurd h
 give_alike e (on (exprs_rest f es) k) t h = give_alike (tuple (exprs f (snoc es e)) false) k t h
-give_alike e (on cond_first k) r_if h = absurd h
+give_alike e (on cond_first k) t_if h = absurd h
 give_alike e (on cond_first k) t h = give_alike e k t h
-give_alike e (on (cond_test b) k) r_else h = absurd h
+give_alike e (on (cond_test b) k) t_else h = absurd h
 give_alike e (on (cond_test b) k) t h = (refl, tt)
 give_alike e (on (cond_else b c) k) t h = give_alike (tree_.cond b c e) k t h
-give_alike e (on (first l) k) (r_joint j) h = absurd h
+give_alike e (on (first l) k) (t_operator j) h = absurd h
 give_alike e (on (first l) k) t h = give_alike e k t h
-give_alike e (on (right i a) k) (r_joint j) h = absurd h
+give_alike e (on (right i a) k) (t_operator j) h = absurd h
 give_alike e (on (right i a) k) t h = give_alike (joined i a e) k t h
 give_alike e (on not_of k) t h = give_alike (not' e) k t h
-give_alike e (on compare_first k) (r_compare op) h = absurd h
-give_alike e (on compare_first k) r_not h = absurd h
-give_alike e (on compare_first k) r_is h = absurd h
+give_alike e (on compare_first k) (t_compare op) h = absurd h
+give_alike e (on compare_first k) t_not h = absurd h
+give_alike e (on compare_first k) t_is h = absurd h
 give_alike e (on compare_first k) t h = give_alike e k t h
-give_alike e (on (compare_rest a ls p) k) (r_compare op) h = absurd h
-give_alike e (on (compare_rest a ls p) k) r_not h = absurd h
-give_alike e (on (compare_rest a ls p) k) r_is h = absurd h
+give_alike e (on (compare_rest a ls p) k) (t_compare op) h = absurd h
+give_alike e (on (compare_rest a ls p) k) t_not h = absurd h
+give_alike e (on (compare_rest a ls p) k) t_is h = absurd h
 give_alike e (on (compare_rest a ls p) k) t h = give_alike (compare a (snoc_link ls (Op p) e)) k t h
 give_alike e (on (unary_of s) k) t h = give_alike (unary s e) k t h
-give_alike e (on post_rest k) r_left_paren h = absurd h
-give_alike e (on post_rest k) r_left_bracket h = absurd h
-give_alike e (on post_rest k) r_dot h = absurd h
+give_alike e (on post_rest k) t_left_paren h = absurd h
+give_alike e (on post_rest k) t_left_bracket h = absurd h
+give_alike e (on post_rest k) t_dot h = absurd h
 give_alike e (on post_rest k) t h = give_alike e k t h
-give_alike e (on (in_items (a_call f) es) k) r_comma h = absurd h
-give_alike e (on (in_items (a_call f) es) k) r_right_paren h = absurd h
+give_alike e (on (in_items (a_call f) es) k) t_comma h = absurd h
+give_alike e (on (in_items (a_call f) es) k) t_right_paren h = absurd h
 give_alike e (on (in_items (a_call f) es) k) t h = (refl, tt)
-give_alike e (on (in_items a_list es) k) r_comma h = absurd h
-give_alike e (on (in_items a_list es) k) r_right_bracket h = absurd h
+give_alike e (on (in_items a_list es) k) t_comma h = absurd h
+give_alike e (on (in_items a_list es) k) t_right_bracket h = absurd h
 give_alike e (on (in_items a_list es) k) t h = (refl, tt)
-give_alike e (on (index_first f) k) r_comma h = absurd h
-give_alike e (on (index_first f) k) r_colon h = absurd h
-give_alike e (on (index_first f) k) r_right_bracket h = absurd h
+give_alike e (on (index_first f) k) t_comma h = absurd h
+give_alike e (on (index_first f) k) t_colon h = absurd h
+give_alike e (on (index_first f) k) t_right_bracket h = absurd h
 give_alike e (on (index_first f) k) t h = (refl, tt)
-give_alike e (on (in_index f) k) r_right_bracket h = absurd h
+give_alike e (on (in_index f) k) t_right_bracket h = absurd h
 give_alike e (on (in_index f) k) t h = (refl, tt)
-give_alike e (on (slice_to f from) k) r_right_bracket h = absurd h
+give_alike e (on (slice_to f from) k) t_right_bracket h = absurd h
 give_alike e (on (slice_to f from) k) t h = (refl, tt)
-give_alike e (on in_paren k) r_right_paren h = absurd h
+give_alike e (on in_paren k) t_right_paren h = absurd h
 give_alike e (on in_paren k) t h = (refl, tt)
-give_alike e (on (in_key ps) k) r_colon h = absurd h
+give_alike e (on (in_key ps) k) t_colon h = absurd h
 give_alike e (on (in_key ps) k) t h = (refl, tt)
-give_alike e (on (in_value ps key) k) r_comma h = absurd h
-give_alike e (on (in_value ps key) k) r_right_brace h = absurd h
+give_alike e (on (in_value ps key) k) t_comma h = absurd h
+give_alike e (on (in_value ps key) k) t_right_brace h = absurd h
 give_alike e (on (in_value ps key) k) t h = (refl, tt)
 
 -- where no string may stand
-pub step_alike : (s : State) (t : Role) → takes_string s ≡ false → Foreign t → Alike (step s t) (step s (r_other End))
+pub step_alike : (s : State) (t : TokenClass) → takes_string s ≡ false → Foreign t → Alike (step s t) (step s (t_other End))
 step_alike (Have e k) t is h = give_alike e k t h
-step_alike (AfterDot f k) (r_name x) is h = absurd h
+step_alike (AfterDot f k) (t_name x) is h = absurd h
 step_alike (AfterDot f k) t is h = (refl, tt)
-step_alike (AfterNot a ls k) (r_compare op) is h = absurd h
+step_alike (AfterNot a ls k) (t_compare op) is h = absurd h
 step_alike (AfterNot a ls k) t is h = (refl, tt)
-step_alike (AfterIs a ls k) r_not is h = absurd h
-step_alike (AfterIs a ls k) r_none is h = absurd h
-step_alike (AfterIs a ls k) (r_bool b) is h = absurd h
+step_alike (AfterIs a ls k) t_not is h = absurd h
+step_alike (AfterIs a ls k) t_none is h = absurd h
+step_alike (AfterIs a ls k) (t_bool b) is h = absurd h
 step_alike (AfterIs a ls k) t is h = (refl, tt)
-step_alike (AfterIsNot a ls k) r_none is h = absurd h
-step_alike (AfterIsNot a ls k) (r_bool b) is h = absurd h
+step_alike (AfterIsNot a ls k) t_none is h = absurd h
+step_alike (AfterIsNot a ls k) (t_bool b) is h = absurd h
 step_alike (AfterIsNot a ls k) t is h = (refl, tt)
-step_alike (Linked a ls k) (r_compare op) is h = absurd h
-step_alike (Linked a ls k) r_not is h = absurd h
-step_alike (Linked a ls k) r_is is h = absurd h
+step_alike (Linked a ls k) (t_compare op) is h = absurd h
+step_alike (Linked a ls k) t_not is h = absurd h
+step_alike (Linked a ls k) t_is is h = absurd h
 step_alike (Linked a ls k) t is h = give_alike (compare a ls) k t h
 step_alike s t is h = absurd cc
 
 -- All tokens that stand in no expression are one.
-pub step_other : (s : State) (t : Kind) → step s (r_other End) ≡ step s (r_other t)
-step_other (Have e k) t = sym (give_alike e k (r_other t) tt).0
-step_other (Strings fs k) t = sym (give_alike (strings_of fs) k (r_other t) tt).0
-step_other (AfterComma f es k) t = sym (give_alike (tuple (exprs f es) true) k (r_other t) tt).0
-step_other (Linked a ls k) t = sym (give_alike (compare a ls) k (r_other t) tt).0
+pub step_other : (s : State) (t : Kind) → step s (t_other End) ≡ step s (t_other t)
+step_other (Have e k) t = sym (give_alike e k (t_other t) tt).0
+step_other (Strings fs k) t = sym (give_alike (strings_of fs) k (t_other t) tt).0
+step_other (AfterComma f es k) t = sym (give_alike (tuple (exprs f es) true) k (t_other t) tt).0
+step_other (Linked a ls k) t = sym (give_alike (compare a ls) k (t_other t) tt).0
 step_other (ItemsOpen (a_call f) k) t = refl
 step_other (ItemsOpen a_list k) t = refl
 step_other (ItemsComma (a_call f) es k) t = refl
 step_other (ItemsComma a_list es k) t = refl
 step_other s t = refl
 
-abbrev NoFormat : Role → Type 0
-NoFormat (r_format qs) = ⊥
-NoFormat (r_bad_format ps) = ⊥
+abbrev NoFormat : TokenClass → Type 0
+NoFormat (t_format qs) = ⊥
+NoFormat (t_bad_format ps) = ⊥
 NoFormat t = Unit {0}
 
-step_plain : (s : State) (t : Role) → NoFormat t → step s (plain_role t) ≡ step s t
-step_plain s (r_format qs) h = absurd h
-step_plain s (r_bad_format ps) h = absurd h
-step_plain s (r_other t) h = step_other s t
+step_plain : (s : State) (t : TokenClass) → NoFormat t → step s (plain_class t) ≡ step s t
+step_plain s (t_format qs) h = absurd h
+step_plain s (t_bad_format ps) h = absurd h
+step_plain s (t_other t) h = step_other s t
 step_plain s t h = refl
 
-word_plain : (w : Keyword) → NoFormat (role (Word w))
+word_plain : (w : Keyword) → NoFormat (class (Word w))
 word_plain word.None = tt
 word_plain w = tt
 
-mark_plain : (m : Mark) → NoFormat (role (Sign m))
+mark_plain : (m : Mark) → NoFormat (class (Sign m))
 mark_plain mark.Comma = tt
 mark_plain m = tt
 
-no_format : (t : Kind) → NoFString t → NoFormat (role t)
+no_format : (t : Kind) → NoFString t → NoFormat (class t)
 no_format (FString ps) h = absurd h
 no_format (Word w) h = word_plain w
 no_format (Sign m) h = mark_plain m
 no_format t h = tt
 
--- a token that is no f-string, by the role that the code gives it
-pub step_token : (s : State) (t : Kind) → NoFString t → step s (plain_role (role t)) ≡ step s (role t)
-step_token s t h = step_plain s (role t) (no_format t h)
+-- a token that is no f-string, by the class that the code gives it
+pub step_token : (s : State) (t : Kind) → NoFString t → step s (plain_class (class t)) ≡ step s (class t)
+step_token s t h = step_plain s (class t) (no_format t h)
 
 pub spelled_token : (t : Kind) → NoFString t → has_spelled_fields t ≡ true
 spelled_token (FString ps) h = absurd h
@@ -162,7 +162,7 @@ spelled_token t h = refl
 
 -- ---- where a string may stand
 
-pub step_bad : (s : State) (ps : Pieces) → takes_string s ≡ true → step s (r_bad_format ps) ≡ Stuck
+pub step_bad : (s : State) (ps : Pieces) → takes_string s ≡ true → step s (t_bad_format ps) ≡ Stuck
 step_bad (Have e k) ps is = absurd cc
 step_bad (AfterDot f k) ps is = absurd cc
 step_bad (AfterNot a ls k) ps is = absurd cc
@@ -182,7 +182,7 @@ Takes qs o = (fs : Fragments) × (k : Ctx) × (o ≡ Next (Strings fs k)) × (ha
 begun : (qs : Parts) (k : Ctx) → Takes qs (Next (Strings (format qs no_fragments) k))
 begun qs k = (format qs no_fragments, k, refl, refl, omega arith)
 
-step_takes : (s : State) (qs : Parts) → takes_string s ≡ true → Takes qs (step s (r_format qs))
+step_takes : (s : State) (qs : Parts) → takes_string s ≡ true → Takes qs (step s (t_format qs))
 step_takes (Have e k) qs is = absurd cc
 step_takes (AfterDot f k) qs is = absurd cc
 step_takes (AfterNot a ls k) qs is = absurd cc
@@ -208,14 +208,14 @@ pub whole_high : (k : Ctx) (e : Expr) (limit : ℕ) → limit < height e → lim
 whole_high k e limit high = go (nat_le (height (whole k e)) limit) refl
   where
     go : (b : Bool) → nat_le (height (whole k e)) limit ≡ b → limit < height (whole k e)
-    go true is = let fits = leb-true (height e) (room limit k (is_target e)) (sym (whole_fits limit k e) ∙ is) in let low = room_low limit k (is_target e) in absurd (omega arith)
+    go true is = let fits = leb-true (height e) (budget limit k (is_target e)) (sym (whole_fits limit k e) ∙ is) in let low = budget_low limit k (is_target e) in absurd (omega arith)
     go false is = let no = leb-false (height (whole k e)) limit is in omega arith
 
 strings_high : (fs : Fragments) (limit : ℕ) → has_format fs ≡ true → limit ≤ height_fragments fs → limit < height (strings_of fs)
 strings_high fs limit some high = let is = ap (λ (b : Bool). height (cond b (fstr fs) (tree_.str (Rattle.py_grammar.specs.Machine.texts fs)))) some in omega arith
 
 -- An f-string with fields that are too high makes all too high.
-pub step_high : (s : State) (qs : Parts) (limit : ℕ) → takes_string s ≡ true → limit ≤ height_parts qs → IsHigh limit (step s (r_format qs))
+pub step_high : (s : State) (qs : Parts) (limit : ℕ) → takes_string s ≡ true → limit ≤ height_parts qs → IsHigh limit (step s (t_format qs))
 step_high s qs limit is high =
     let t = step_takes s qs is in
     let more = t.4 in

@@ -14,7 +14,7 @@ use Rattle.py_grammar.specs.declared.error.ReadError.{ReadError}
 use Rattle.py_grammar.specs.declared.error.ReadError.TheVariants as error
 use Rattle.py_parse_expr.specs.declared.exprs.ExprPart.TheVariants as part_
 use Rattle.py_parse_expr.specs.declared.exprs.ExprRead.{ExprRead}
-use Rattle.py_grammar.specs.Machine.{any, State, Out, Next, Stuck, Left, step, start, role}
+use Rattle.py_grammar.specs.Machine.{any, State, Out, Next, Stuck, Left, step, start, class}
 use Rattle.py_grammar.specs.Least.{least}
 use Rattle.py_grammar.specs.Reading.{Ending, Unexpected, TooDeep, Reads, within, EndsAt}
 use Rattle.py_grammar.specs.ExprTrees.{IsExpr}
@@ -30,7 +30,7 @@ use Rattle.py_grammar.proofs.ExprPlaces.{is_exact}
 
 abbrev LeavesAt : State → Expr → List Kind → Type 0
 LeavesAt s e [] = ⊥
-LeavesAt s e (t ∷ rest) = step s (role t) ≡ Left e
+LeavesAt s e (t ∷ rest) = step s (class t) ≡ Left e
 
 abbrev Outcome : ℕ → List Kind → Ending → Type 0
 Outcome limit ts (Unexpected rest) = (place : ℕ) × (place ≤ length ts) × (drop place ts ≡ rest) × IsUnexpected limit ts place
@@ -46,9 +46,9 @@ stops limit ts place s t rest stands there none = unexpected limit ts place (Goi
 
 walks : (limit : ℕ) (ts : List Kind) (place : ℕ) (s : State) (rest : List Kind) → drop place ts ≡ rest → Stands limit ts place (Going s) → Outcome limit ts (within limit s rest)
 walks limit ts place s [] there stands = (place, stands.inside, there, unexpected limit ts place (Going s) stands (λ h. refl) (λ u more is. let both : [] ≡ u ∷ more = sym there ∙ is in absurd cc))
-walks limit ts place s (t ∷ rest) there stands = go (λ n. walks limit ts (place + 1) n rest) (step s (role t)) refl
+walks limit ts place s (t ∷ rest) there stands = go (λ n. walks limit ts (place + 1) n rest) (step s (class t)) refl
   where
-    go : ((n : State) → drop (place + 1) ts ≡ rest → Stands limit ts (place + 1) (Going n) → Outcome limit ts (within limit n rest)) → (o : Out) → step s (role t) ≡ o → Outcome limit ts (elim o as (λ (w : Out). Ending) [ Next n ↦ cond (nat_le (least n) limit) (within limit n rest) (TooDeep (t ∷ rest)) | Stuck ↦ Unexpected (t ∷ rest) | Left e ↦ Reads e (t ∷ rest) ])
+    go : ((n : State) → drop (place + 1) ts ≡ rest → Stands limit ts (place + 1) (Going n) → Outcome limit ts (within limit n rest)) → (o : Out) → step s (class t) ≡ o → Outcome limit ts (elim o as (λ (w : Out). Ending) [ Next n ↦ cond (nat_le (least n) limit) (within limit n rest) (TooDeep (t ∷ rest)) | Stuck ↦ Unexpected (t ∷ rest) | Left e ↦ Reads e (t ∷ rest) ])
     go rec (Next n) is = fits (nat_le (least n) limit) refl
       where
         fits : (b : Bool) → nat_le (least n) limit ≡ b → Outcome limit ts (cond b (within limit n rest) (TooDeep (t ∷ rest)))
@@ -69,7 +69,7 @@ read_unexpected ts place h = let o = outcome ts place Unexpected h in subst (IsU
 pub read_deep : (ts : List Kind) (place : ℕ) → EndsAt HEIGHT (start any) ts 0 place TooDeep → IsTooDeep HEIGHT ts place
 read_deep ts place h = let o = outcome ts place TooDeep h in subst (IsTooDeep HEIGHT ts) (same_place ts o.0 place o.1 h.inside o.2) o.3
 
--- ---- behind an expression
+-- ---- after an expression
 
 -- a token stands there
 pub read_some : (ts : List Kind) (place : ℕ) (e : Expr) → EndsAt HEIGHT (start any) ts 0 place (Reads e) → place < length ts
@@ -85,7 +85,7 @@ low ts place e t rest there h =
     (subst (IsExpr any HEIGHT e parted.0) there parted.2).2
 
 abbrev At : List Kind → ℕ → Expr → Kind → Type 0
-At ts place e t = (s : State) × Stands HEIGHT ts place (Going s) × (step s (role t) ≡ Left e)
+At ts place e t = (s : State) × Stands HEIGHT ts place (Going s) × (step s (class t) ≡ Left e)
 
 leaves : (ts : List Kind) (place : ℕ) (e : Expr) (t : Kind) (rest : List Kind) → drop place ts ≡ t ∷ rest → EndsAt HEIGHT (start any) ts 0 place (Reads e) → At ts place e t
 leaves ts place e t rest there h =
@@ -112,11 +112,11 @@ ended ts place e t rest there h is =
     let l = leaves ts place e t rest there h in
     goes_on HEIGHT ts place (Going l.0) (Over e) t rest l.1 there (ap (λ (o : Out). goes o t) l.2 ∙ ap (over_at e) (end_is t is)) (low ts place e t rest there h)
 
--- more behind the end
+-- more after the end
 pub read_more : (ts : List Kind) (place : ℕ) (e : Expr) (t : Kind) (rest : List Kind) → drop place ts ≡ t ∷ rest → EndsAt HEIGHT (start any) ts 0 place (Reads e) → is_end t ≡ true → place + 1 < length ts → IsUnexpected HEIGHT ts (place + 1)
 read_more ts place e t rest there h is lt = unexpected HEIGHT ts (place + 1) (Over e) (ended ts place e t rest there h is) (λ at_end. absurd (omega arith)) (λ u more here. refl)
 
--- nothing behind the end
+-- nothing after the end
 pub read_whole : (ts : List Kind) (place : ℕ) (e : Expr) (t : Kind) (rest : List Kind) → drop place ts ≡ t ∷ rest → EndsAt HEIGHT (start any) ts 0 place (Reads e) → is_end t ≡ true → length ts ≤ place + 1 → Spells e ts × (height e ≤ HEIGHT)
 read_whole ts place e t rest there h is le =
     let stands = ended ts place e t rest there h is in
@@ -148,6 +148,6 @@ pub answer_refused : (ts : List Kind) (e : ReadError) (r : Result Node ReadError
 answer_refused ts e (Ok n) is h = absurd is
 answer_refused ts e (Err y) is h = subst (λ (x : ReadError). Parses ts (Err x)) (sym is) (refused ts e h)
 
--- a token stands behind an expression that was read
+-- a token stands after an expression that was read
 pub next_inside : (tokens : List Token) (place : ℕ) (e : Expr) → EndsAt HEIGHT (start any) (kinds_of_all tokens) 0 place (Reads e) → place < length tokens
 next_inside tokens place e h = let inside = read_some (kinds_of_all tokens) place e h in let same = kinds_length tokens in omega arith

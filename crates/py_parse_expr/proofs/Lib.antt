@@ -1,6 +1,6 @@
 pub mod ExprLimits
-pub mod ExprRoles
-pub mod Rooms
+pub mod ExprClasses
+pub mod Budgets
 pub mod ExprNodes
 pub mod ExprFrames
 pub mod ExprSteps

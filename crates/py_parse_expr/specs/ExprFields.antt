@@ -1,4 +1,8 @@
 -- The fields of f-strings, as the code reads them.
+--     takes_string, NoFString           where a string may stand, and a token that is no f-string
+--     HasPieces, has_spelled_fields     the pieces of an f-string, and whether its fields are expressions
+--     IsField, ended_turn, AreParts     the trees of the fields under a limit
+--     IsHigh .. Goes                    what a token makes within the limit
 use Rattle.std.specs.Prelude.{◌≡◌, ℕ, ◌≤◌, ◌<◌, Bool, true, false, List, Option, Some, None, is_some, Result, Ok, Err}
 use Rattle.std.specs.declared.alloc.AllocError.{AllocError}
 use Rattle.std.specs.Borrow.{Bor}
@@ -6,7 +10,7 @@ use Rattle.py_token.specs.declared.token.Piece.{Piece}
 use Rattle.py_syntax.specs.Tree.{Expr, Parts}
 use Rattle.py_syntax.specs.Kinds.{Kind, FString}
 use Rattle.py_syntax.specs.Normal.{height, height_parts}
-use Rattle.py_parse_expr.specs.declared.expr_nodes.Tall.{Tall}
+use Rattle.py_parse_expr.specs.declared.expr_nodes.Measured.{Measured}
 use Rattle.py_parse_expr.specs.declared.expr_nodes.Fields.{Fields}
 use Rattle.py_parse_expr.specs.declared.expr_stack.Stack.{Stack}
 use Rattle.py_parse_expr.specs.declared.expr_turns.Turn.{Turn}
@@ -15,7 +19,7 @@ use Rattle.py_parse_expr.specs.declared.expr_fields.Unread.{Unread}
 use Rattle.py_parse_expr.specs.declared.expr_fields.Unread.TheVariants as unread_
 use Rattle.py_grammar.specs.Machine.{State, Have, AfterDot, AfterNot, AfterIs, AfterIsNot, Linked, Out, Next, Stuck, parts}
 use Rattle.py_grammar.specs.Least.{least}
-use Rattle.py_parse_expr.specs.ExprHeld.{view_tall, IsTall, view_fields, AreFields}
+use Rattle.py_parse_expr.specs.ExprViews.{view_measured, IsMeasured, view_fields, AreFields}
 use Rattle.py_parse_expr.specs.ExprTurns.{TurnsTo}
 use Rattle.py_parse_fields.specs.Order.{plain_pieces}
 
@@ -46,13 +50,13 @@ has_spelled_fields t = true
 -- ---- the fields of one f-string
 
 -- The tree of a field under a limit of heights. A field that is said to be too deep may have none.
-abbrev pub IsField : ℕ → Option Expr → Result Tall Unread → Type 0
-IsField limit o (Ok t) = (o ≡ Some (view_tall t)) × IsTall t
+abbrev pub IsField : ℕ → Option Expr → Result Measured Unread → Type 0
+IsField limit o (Ok t) = (o ≡ Some (view_measured t)) × IsMeasured t
 IsField limit o (Err unread_.Unspelled) = o ≡ None
 IsField limit o (Err unread_.TooDeep) = (e : Expr) → o ≡ Some e → limit < height e
 
--- the answer behind the last token of a field
-abbrev pub ended_turn : Turn → Result Tall Unread
+-- the answer after the last token of a field
+abbrev pub ended_turn : Turn → Result Measured Unread
 ended_turn (turn_.Left t) = Ok t
 ended_turn turn = Err unread_.Unspelled
 
@@ -64,7 +68,7 @@ AreParts limit o (Err unread_.TooDeep) = (qs : Parts) → o ≡ Some qs → limi
 
 -- ---- a token
 
--- every expression behind the token is too high
+-- every expression after the token is too high
 abbrev pub IsHigh : ℕ → Out → Type 0
 IsHigh limit o = (n : State) × (o ≡ Next n) × (limit < least n)
 

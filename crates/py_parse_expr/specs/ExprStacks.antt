@@ -1,4 +1,10 @@
 -- What is open round a place of an expression, as the code holds it.
+--     head_of .. ValidItems      items that are some
+--     view_goal, ValidGoal       what the whole is to be
+--     view_frame, ValidFrame     one frame
+--     IsBudget                   the height that is left at a place
+--     view_frames .. Valid       the stack
+--     opened, Pops               frames more, and one fewer
 use Rattle.std.specs.Prelude.{◌≡◌, ℕ, suc, ◌≤◌, true, false, List, [], ◌∷◌, length, reverse, Option, Some, None}
 use Rattle.py_syntax.specs.Spelling.{HEIGHT}
 use Rattle.py_syntax.specs.Tree.{Expr, none, Exprs, no_exprs, exprs}
@@ -9,13 +15,13 @@ use Rattle.py_parse_expr.specs.declared.expr_stack.Goal as held_goal
 use Rattle.py_parse_expr.specs.declared.expr_stack.Goal.TheVariants as goal_
 use Rattle.py_parse_expr.specs.declared.expr_stack.Frame as held_frame
 use Rattle.py_parse_expr.specs.declared.expr_stack.Frame.TheVariants as frame_
-use Rattle.py_parse_expr.specs.declared.expr_stack.Room.{Room}
-use Rattle.py_parse_expr.specs.declared.expr_stack.Held.{Held}
+use Rattle.py_parse_expr.specs.declared.expr_stack.HeightBudget.{HeightBudget}
+use Rattle.py_parse_expr.specs.declared.expr_stack.OpenFrame.{OpenFrame}
 use Rattle.py_parse_expr.specs.declared.expr_stack.Stack.{Stack}
 use Rattle.py_grammar.specs.Machine.{Goal, any, one, target, targets, Frame, exprs_first, exprs_rest, cond_first, cond_test, cond_else, first, right, not_of, compare_first, compare_rest, unary_of, post_rest, in_items, index_first, in_index, slice_to, in_paren, in_key, in_value, Ctx, Outside, on, upto_exprs, upto_cond, upto_or, upto_and, upto_compare, upto_sum, upto_term}
 use Rattle.py_grammar.specs.Least.{wants}
-use Rattle.py_grammar.specs.Rooms.{room}
-use Rattle.py_parse_expr.specs.ExprHeld.{view_level, view_joint, view_tall, view_row, view_entries, view_links, view_opener, view_bound, IsTall, AreTall, AreEntries, IsChain, KeptOpener, KeptBound}
+use Rattle.py_grammar.specs.Budgets.{budget}
+use Rattle.py_parse_expr.specs.ExprViews.{view_precedence, view_operator, view_measured, view_row, view_entries, view_links, view_opener, view_bound, IsMeasured, AreMeasured, AreEntries, IsChain, ValidOpener, ValidBound}
 
 -- the first of some items, and the others
 abbrev pub head_of : Exprs → Expr
@@ -31,8 +37,8 @@ AreSome no_exprs = ⊥
 AreSome (exprs e es) = Unit {0}
 
 -- items that are some
-pub record KeptItems (r : Row) : Type 0 where
-  pub are : AreTall r
+pub record ValidItems (r : Row) : Type 0 where
+  pub are : AreMeasured r
   pub some : AreSome (view_row r)
 
 abbrev pub view_goal : held_goal.Goal → Goal
@@ -41,72 +47,72 @@ view_goal goal_.One = one
 view_goal goal_.Target = target
 view_goal (goal_.Targets r) = targets (head_of (view_row r)) (tail_of (view_row r))
 
-abbrev pub KeptGoal : held_goal.Goal → Type 0
-KeptGoal (goal_.Targets r) = KeptItems r
-KeptGoal g = Unit {0}
+abbrev pub ValidGoal : held_goal.Goal → Type 0
+ValidGoal (goal_.Targets r) = ValidItems r
+ValidGoal g = Unit {0}
 
 abbrev pub view_frame : held_frame.Frame → Frame
 view_frame frame_.ExprsFirst = exprs_first
 view_frame (frame_.ExprsRest r) = exprs_rest (head_of (view_row r)) (tail_of (view_row r))
 view_frame frame_.CondFirst = cond_first
-view_frame (frame_.CondTest b) = cond_test (view_tall b)
-view_frame (frame_.CondElse b t) = cond_else (view_tall b) (view_tall t)
-view_frame (frame_.First l) = first (view_level l)
-view_frame (frame_.Right j a) = right (view_joint j) (view_tall a)
+view_frame (frame_.CondTest b) = cond_test (view_measured b)
+view_frame (frame_.CondElse b t) = cond_else (view_measured b) (view_measured t)
+view_frame (frame_.First l) = first (view_precedence l)
+view_frame (frame_.Right j a) = right (view_operator j) (view_measured a)
 view_frame frame_.NotOf = not_of
 view_frame frame_.CompareFirst = compare_first
 view_frame (frame_.CompareRest c op) = compare_rest (plain_expr c.first.value) (view_links c) op
 view_frame (frame_.UnaryOf s) = unary_of s
 view_frame frame_.PostRest = post_rest
 view_frame (frame_.InItems o r) = in_items (view_opener o) (view_row r)
-view_frame (frame_.IndexFirst f) = index_first (view_tall f)
-view_frame (frame_.InIndex f) = in_index (view_tall f)
-view_frame (frame_.SliceTo f from) = slice_to (view_tall f) (view_bound from)
+view_frame (frame_.IndexFirst f) = index_first (view_measured f)
+view_frame (frame_.InIndex f) = in_index (view_measured f)
+view_frame (frame_.SliceTo f from) = slice_to (view_measured f) (view_bound from)
 view_frame frame_.InParen = in_paren
 view_frame (frame_.InKey ps) = in_key (view_entries ps)
-view_frame (frame_.InValue ps key) = in_value (view_entries ps) (view_tall key)
+view_frame (frame_.InValue ps key) = in_value (view_entries ps) (view_measured key)
 
-abbrev pub KeptFrame : held_frame.Frame → Type 0
-KeptFrame (frame_.ExprsRest r) = KeptItems r
-KeptFrame (frame_.CondTest b) = IsTall b
-KeptFrame (frame_.CondElse b t) = IsTall b × IsTall t
-KeptFrame (frame_.Right j a) = IsTall a
-KeptFrame (frame_.CompareRest c op) = IsChain c
-KeptFrame (frame_.InItems o r) = KeptOpener o × AreTall r
-KeptFrame (frame_.IndexFirst f) = IsTall f
-KeptFrame (frame_.InIndex f) = IsTall f
-KeptFrame (frame_.SliceTo f from) = IsTall f × KeptBound from
-KeptFrame (frame_.InKey ps) = AreEntries ps
-KeptFrame (frame_.InValue ps key) = AreEntries ps × IsTall key
-KeptFrame f = Unit {0}
+abbrev pub ValidFrame : held_frame.Frame → Type 0
+ValidFrame (frame_.ExprsRest r) = ValidItems r
+ValidFrame (frame_.CondTest b) = IsMeasured b
+ValidFrame (frame_.CondElse b t) = IsMeasured b × IsMeasured t
+ValidFrame (frame_.Right j a) = IsMeasured a
+ValidFrame (frame_.CompareRest c op) = IsChain c
+ValidFrame (frame_.InItems o r) = ValidOpener o × AreMeasured r
+ValidFrame (frame_.IndexFirst f) = IsMeasured f
+ValidFrame (frame_.InIndex f) = IsMeasured f
+ValidFrame (frame_.SliceTo f from) = IsMeasured f × ValidBound from
+ValidFrame (frame_.InKey ps) = AreEntries ps
+ValidFrame (frame_.InValue ps key) = AreEntries ps × IsMeasured key
+ValidFrame f = Unit {0}
 
--- the room that is held is the one that there is
-pub record IsRoom (limit : ℕ) (k : Ctx) (r : Room) : Type 0 where
-  pub target : r.target ≡ room limit k true
-  pub other : r.other ≡ room limit k false
+-- the budget that is held is the one that there is
+pub record IsBudget (limit : ℕ) (k : Ctx) (r : HeightBudget) : Type 0 where
+  pub target : r.target ≡ budget limit k true
+  pub other : r.other ≡ budget limit k false
   pub wants : r.wants ≡ wants k
 
 -- The innermost frame first.
-abbrev pub view_frames : Goal → List Held → Ctx
+abbrev pub view_frames : Goal → List OpenFrame → Ctx
 view_frames g [] = Outside g
 view_frames g (h ∷ hs) = on (view_frame h.frame) (view_frames g hs)
 
-abbrev pub KeptFrames : ℕ → Goal → List Held → Type 0
-KeptFrames limit g [] = Unit {0}
-KeptFrames limit g (h ∷ hs) = KeptFrame h.frame × IsRoom limit (view_frames g (h ∷ hs)) h.room × KeptFrames limit g hs
+abbrev pub ValidFrames : ℕ → Goal → List OpenFrame → Type 0
+ValidFrames limit g [] = Unit {0}
+ValidFrames limit g (h ∷ hs) = ValidFrame h.frame × IsBudget limit (view_frames g (h ∷ hs)) h.budget × ValidFrames limit g hs
 
 -- the innermost frame is the last in the code, and the first in the machine
 abbrev pub view_stack : Stack → Ctx
 view_stack s = view_frames (view_goal s.goal) (reverse s.frames.items)
 
 -- The limit is at most the greatest, and all that is kept beside the trees is so.
-pub record Kept (limit : ℕ) (s : Stack) : Type 0 where
+pub record Valid (limit : ℕ) (s : Stack) : Type 0 where
   pub same : s.limit ≡ limit
   pub low : limit ≤ HEIGHT
-  pub goal : KeptGoal s.goal
-  pub frames : KeptFrames limit (view_goal s.goal) (reverse s.frames.items)
+  pub goal : ValidGoal s.goal
+  pub frames : ValidFrames limit (view_goal s.goal) (reverse s.frames.items)
 
--- What is open behind a tree of the second level, and what holds one: where a tree of the first level was to begin.
+-- What is open after a tree of the second level, and what holds one: where a tree of the first level was to begin.
 abbrev pub opened : Level → Level → Ctx → Ctx
 opened lev LEnd k = k
 opened lev LExprs k = upto_exprs lev k
@@ -123,4 +129,4 @@ opened lev LPost k = on post_rest (upto_term lev k)
 -- the innermost frame, and those round it
 abbrev pub Pops : Option held_frame.Frame → Stack → Stack → Type 0
 Pops None old new = view_stack old ≡ Outside (view_goal new.goal)
-Pops (Some f) old new = (view_stack old ≡ on (view_frame f) (view_stack new)) × KeptFrame f × (length old.frames.items ≡ suc (length new.frames.items))
+Pops (Some f) old new = (view_stack old ≡ on (view_frame f) (view_stack new)) × ValidFrame f × (length old.frames.items ≡ suc (length new.frames.items))

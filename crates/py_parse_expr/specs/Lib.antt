@@ -1,6 +1,6 @@
 pub mod Refusal
 pub mod ExprReads
-pub mod ExprHeld
+pub mod ExprViews
 pub mod ExprStacks
 pub mod ExprTurns
 pub mod ExprFields

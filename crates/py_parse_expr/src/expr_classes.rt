@@ -4,9 +4,9 @@ ghost use Rattle.std.specs.Prelude.{◌≡◌, IfOk, nat_le};
 ghost use Rattle.py_token.specs.View.{view_kind};
 ghost use Rattle.py_syntax.specs.Kinds.{bare_kind};
 ghost use Rattle.py_syntax.specs.Normal.{rank};
-ghost use Rattle.py_grammar.specs.Roles.{joint_level, joint_right, begins};
-ghost use Rattle.py_grammar.specs.Machine.{at_most, same_level, role};
-ghost use Rattle.py_parse_expr.specs.ExprHeld.{view_level, view_joint, view_role, word_role, mark_role, plain_role};
+ghost use Rattle.py_grammar.specs.TokenClasses.{operator_level, operator_right, begins};
+ghost use Rattle.py_grammar.specs.Machine.{at_most, same_level, class};
+ghost use Rattle.py_parse_expr.specs.ExprViews.{view_precedence, view_operator, view_class, word_class, mark_class, plain_class};
 
 use crate::expr_nodes::Fields;
 use py_token::{Keyword, Mark, TokenKind};
@@ -14,7 +14,7 @@ use py_value::{BinOp, CmpOp, NoMemory, Text};
 
 /// The levels of the grammar, from the loosest.
 #[derive(Clone, Copy)]
-pub enum Level {
+pub enum Precedence {
     Exprs,
     Expr,
     Or,
@@ -29,7 +29,7 @@ pub enum Level {
 
 /// An operator that joins two operands and groups to the left.
 #[derive(Clone, Copy)]
-pub enum Joint {
+pub enum BinaryOperator {
     Or,
     And,
     Op(BinOp),
@@ -37,7 +37,7 @@ pub enum Joint {
 
 /// What a token is to an expression. Each string and each name is a copy.
 #[derive(Drop)]
-pub enum Role {
+pub enum TokenClass {
     Name(Text),
     Int(i64),
     NoneWord,
@@ -50,7 +50,7 @@ pub enum Role {
     If,
     Else,
     Compare(CmpOp),
-    Joint(Joint),
+    BinaryOperator(BinaryOperator),
     Comma,
     Colon,
     Dot,
@@ -63,148 +63,148 @@ pub enum Role {
     Other,
 }
 
-impl Level {
+impl Precedence {
     fn rank(self) -> u8
-        ensures { result ≡ rank (view_level self) }
+        ensures { result ≡ rank (view_precedence self) }
     {
         match self {
-            Level::Exprs => 1,
-            Level::Expr => 2,
-            Level::Or => 3,
-            Level::And => 4,
-            Level::Not => 5,
-            Level::Compare => 6,
-            Level::Sum => 7,
-            Level::Term => 8,
-            Level::Unary => 9,
-            Level::Post => 10,
+            Precedence::Exprs => 1,
+            Precedence::Expr => 2,
+            Precedence::Or => 3,
+            Precedence::And => 4,
+            Precedence::Not => 5,
+            Precedence::Compare => 6,
+            Precedence::Sum => 7,
+            Precedence::Term => 8,
+            Precedence::Unary => 9,
+            Precedence::Post => 10,
         }
     }
 
     /// Whether a tree of this level may stand above one of the other.
-    pub fn at_most(self, other: Level) -> bool
-        ensures { result ≡ at_most (view_level self) (view_level other) }
+    pub fn at_most(self, other: Precedence) -> bool
+        ensures { result ≡ at_most (view_precedence self) (view_precedence other) }
     {
         self.rank() <= other.rank()
     }
 
-    pub fn is(self, other: Level) -> bool
-        ensures { result ≡ same_level (view_level self) (view_level other) }
+    pub fn is(self, other: Precedence) -> bool
+        ensures { result ≡ same_level (view_precedence self) (view_precedence other) }
     {
         self.rank() == other.rank()
     }
 }
 
-impl Joint {
+impl BinaryOperator {
     /// The level of its trees.
-    pub fn level(self) -> Level
-        ensures { view_level result ≡ joint_level (view_joint self) }
+    pub fn precedence(self) -> Precedence
+        ensures { view_precedence result ≡ operator_level (view_operator self) }
     {
         match self {
-            Joint::Or => Level::Or,
-            Joint::And => Level::And,
-            Joint::Op(BinOp::Add) => Level::Sum,
-            Joint::Op(BinOp::Sub) => Level::Sum,
-            Joint::Op(_) => Level::Term,
+            BinaryOperator::Or => Precedence::Or,
+            BinaryOperator::And => Precedence::And,
+            BinaryOperator::Op(BinOp::Add) => Precedence::Sum,
+            BinaryOperator::Op(BinOp::Sub) => Precedence::Sum,
+            BinaryOperator::Op(_) => Precedence::Term,
         }
     }
 
     /// The level of its right operand.
-    pub fn right(self) -> Level
-        ensures { view_level result ≡ joint_right (view_joint self) }
+    pub fn right(self) -> Precedence
+        ensures { view_precedence result ≡ operator_right (view_operator self) }
     {
         match self {
-            Joint::Or => Level::And,
-            Joint::And => Level::Not,
-            Joint::Op(BinOp::Add) => Level::Term,
-            Joint::Op(BinOp::Sub) => Level::Term,
-            Joint::Op(_) => Level::Unary,
+            BinaryOperator::Or => Precedence::And,
+            BinaryOperator::And => Precedence::Not,
+            BinaryOperator::Op(BinOp::Add) => Precedence::Term,
+            BinaryOperator::Op(BinOp::Sub) => Precedence::Term,
+            BinaryOperator::Op(_) => Precedence::Unary,
         }
     }
 }
 
-fn word_role(word: Keyword) -> Role
-    ensures { view_role result ≡ word_role word }
+fn word_class(word: Keyword) -> TokenClass
+    ensures { view_class result ≡ word_class word }
 {
     match word {
-        Keyword::None => Role::NoneWord,
-        Keyword::True => Role::Bool(true),
-        Keyword::False => Role::Bool(false),
-        Keyword::Not => Role::Not,
-        Keyword::Is => Role::Is,
-        Keyword::If => Role::If,
-        Keyword::Else => Role::Else,
-        Keyword::In => Role::Compare(CmpOp::In),
-        Keyword::Or => Role::Joint(Joint::Or),
-        Keyword::And => Role::Joint(Joint::And),
-        _ => Role::Other,
+        Keyword::None => TokenClass::NoneWord,
+        Keyword::True => TokenClass::Bool(true),
+        Keyword::False => TokenClass::Bool(false),
+        Keyword::Not => TokenClass::Not,
+        Keyword::Is => TokenClass::Is,
+        Keyword::If => TokenClass::If,
+        Keyword::Else => TokenClass::Else,
+        Keyword::In => TokenClass::Compare(CmpOp::In),
+        Keyword::Or => TokenClass::BinaryOperator(BinaryOperator::Or),
+        Keyword::And => TokenClass::BinaryOperator(BinaryOperator::And),
+        _ => TokenClass::Other,
     }
 }
 
-fn operator_role(mark: Mark) -> Role
-    ensures { view_role result ≡ mark_role mark }
+fn operator_class(mark: Mark) -> TokenClass
+    ensures { view_class result ≡ mark_class mark }
 {
     match mark {
-        Mark::EqualEqual => Role::Compare(CmpOp::Eq),
-        Mark::NotEqual => Role::Compare(CmpOp::Ne),
-        Mark::Less => Role::Compare(CmpOp::Lt),
-        Mark::LessEqual => Role::Compare(CmpOp::Le),
-        Mark::Greater => Role::Compare(CmpOp::Gt),
-        Mark::GreaterEqual => Role::Compare(CmpOp::Ge),
-        Mark::Plus => Role::Joint(Joint::Op(BinOp::Add)),
-        Mark::Minus => Role::Joint(Joint::Op(BinOp::Sub)),
-        Mark::Star => Role::Joint(Joint::Op(BinOp::Mul)),
-        Mark::DoubleSlash => Role::Joint(Joint::Op(BinOp::Floor)),
-        Mark::Percent => Role::Joint(Joint::Op(BinOp::Mod)),
-        Mark::Comma => Role::Comma,
-        Mark::Colon => Role::Colon,
-        Mark::Dot => Role::Dot,
-        Mark::LeftParen => Role::LeftParen,
-        Mark::RightParen => Role::RightParen,
-        Mark::LeftBracket => Role::LeftBracket,
-        Mark::RightBracket => Role::RightBracket,
-        Mark::LeftBrace => Role::LeftBrace,
-        Mark::RightBrace => Role::RightBrace,
-        _ => Role::Other,
+        Mark::EqualEqual => TokenClass::Compare(CmpOp::Eq),
+        Mark::NotEqual => TokenClass::Compare(CmpOp::Ne),
+        Mark::Less => TokenClass::Compare(CmpOp::Lt),
+        Mark::LessEqual => TokenClass::Compare(CmpOp::Le),
+        Mark::Greater => TokenClass::Compare(CmpOp::Gt),
+        Mark::GreaterEqual => TokenClass::Compare(CmpOp::Ge),
+        Mark::Plus => TokenClass::BinaryOperator(BinaryOperator::Op(BinOp::Add)),
+        Mark::Minus => TokenClass::BinaryOperator(BinaryOperator::Op(BinOp::Sub)),
+        Mark::Star => TokenClass::BinaryOperator(BinaryOperator::Op(BinOp::Mul)),
+        Mark::DoubleSlash => TokenClass::BinaryOperator(BinaryOperator::Op(BinOp::Floor)),
+        Mark::Percent => TokenClass::BinaryOperator(BinaryOperator::Op(BinOp::Mod)),
+        Mark::Comma => TokenClass::Comma,
+        Mark::Colon => TokenClass::Colon,
+        Mark::Dot => TokenClass::Dot,
+        Mark::LeftParen => TokenClass::LeftParen,
+        Mark::RightParen => TokenClass::RightParen,
+        Mark::LeftBracket => TokenClass::LeftBracket,
+        Mark::RightBracket => TokenClass::RightBracket,
+        Mark::LeftBrace => TokenClass::LeftBrace,
+        Mark::RightBrace => TokenClass::RightBrace,
+        _ => TokenClass::Other,
     }
 }
 
-/// The role of a token that is no f-string; an f-string has the one of a token that stands in no expression.
-pub fn role_of(kind: &TokenKind) -> Result<Role, NoMemory>
-    ensures { IfOk result (λ r. view_role r ≡ plain_role (role (bare_kind (view_kind kind.now)))) }
+/// The class of a token that is no f-string; an f-string has the one of a token that stands in no expression.
+pub fn class_of(kind: &TokenKind) -> Result<TokenClass, NoMemory>
+    ensures { IfOk result (λ r. view_class r ≡ plain_class (class (bare_kind (view_kind kind.now)))) }
 {
     match kind {
-        TokenKind::Name(text) => Ok(Role::Name(text.copy()?)),
-        TokenKind::Int(number) => Ok(Role::Int(*number)),
-        TokenKind::Str(text) => Ok(Role::Str(text.copy()?)),
-        TokenKind::Keyword(word) => Ok(word_role(*word)),
-        TokenKind::Mark(mark) => Ok(operator_role(*mark)),
-        TokenKind::FString(_) => Ok(Role::Other),
-        TokenKind::Newline => Ok(Role::Other),
-        TokenKind::Indent => Ok(Role::Other),
-        TokenKind::Dedent => Ok(Role::Other),
-        TokenKind::End => Ok(Role::Other),
+        TokenKind::Name(text) => Ok(TokenClass::Name(text.copy()?)),
+        TokenKind::Int(number) => Ok(TokenClass::Int(*number)),
+        TokenKind::Str(text) => Ok(TokenClass::Str(text.copy()?)),
+        TokenKind::Keyword(word) => Ok(word_class(*word)),
+        TokenKind::Mark(mark) => Ok(operator_class(*mark)),
+        TokenKind::FString(_) => Ok(TokenClass::Other),
+        TokenKind::Newline => Ok(TokenClass::Other),
+        TokenKind::Indent => Ok(TokenClass::Other),
+        TokenKind::Dedent => Ok(TokenClass::Other),
+        TokenKind::End => Ok(TokenClass::Other),
     }
 }
 
-impl Role {
+impl TokenClass {
     /// Whether an expression may begin with it.
     pub fn begins(&self) -> bool
-        ensures { result ≡ begins (view_role self.now) }
+        ensures { result ≡ begins (view_class self.now) }
     {
         match self {
-            Role::Name(_) => true,
-            Role::Int(_) => true,
-            Role::NoneWord => true,
-            Role::Bool(_) => true,
-            Role::Str(_) => true,
-            Role::Format(_) => true,
-            Role::Not => true,
-            Role::Joint(Joint::Op(BinOp::Add)) => true,
-            Role::Joint(Joint::Op(BinOp::Sub)) => true,
-            Role::LeftParen => true,
-            Role::LeftBracket => true,
-            Role::LeftBrace => true,
+            TokenClass::Name(_) => true,
+            TokenClass::Int(_) => true,
+            TokenClass::NoneWord => true,
+            TokenClass::Bool(_) => true,
+            TokenClass::Str(_) => true,
+            TokenClass::Format(_) => true,
+            TokenClass::Not => true,
+            TokenClass::BinaryOperator(BinaryOperator::Op(BinOp::Add)) => true,
+            TokenClass::BinaryOperator(BinaryOperator::Op(BinOp::Sub)) => true,
+            TokenClass::LeftParen => true,
+            TokenClass::LeftBracket => true,
+            TokenClass::LeftBrace => true,
             _ => false,
         }
     }

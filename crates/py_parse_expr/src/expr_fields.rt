@@ -5,15 +5,15 @@ ghost use Rattle.py_token.specs.Plain.{token_row};
 ghost use Rattle.py_token.specs.View.{view_kind, view_tokens};
 ghost use Rattle.py_syntax.specs.Kinds.{bare_kind, bare_tokens};
 ghost use Rattle.py_syntax.specs.Spelling.{HEIGHT};
-ghost use Rattle.py_grammar.specs.Machine.{Ctx, any, step, start, role, parts, field_expr};
+ghost use Rattle.py_grammar.specs.Machine.{Ctx, any, step, start, class, parts, field_expr};
 ghost use Rattle.py_parse_fields.specs.Order.{plain_pieces};
-ghost use Rattle.py_parse_expr.specs.ExprStacks.{view_stack, Kept};
-ghost use Rattle.py_parse_expr.specs.ExprTurns.{view_at, KeptAt};
+ghost use Rattle.py_parse_expr.specs.ExprStacks.{view_stack, Valid};
+ghost use Rattle.py_parse_expr.specs.ExprTurns.{view_at, ValidAt};
 ghost use Rattle.py_parse_expr.specs.ExprFields.{takes_string, has_spelled_fields, HasPieces, ended_turn, IsField, AreParts, Goes};
 
+use crate::expr_classes::{Precedence, TokenClass, class_of};
 use crate::expr_limits::step;
-use crate::expr_nodes::{Fields, Tall, higher};
-use crate::expr_roles::{Level, Role, role_of};
+use crate::expr_nodes::{Fields, Measured, higher};
 use crate::expr_stack::{Goal, Stack};
 use crate::expr_turns::{Progress, Turn};
 use py_parse_fields::is_spelled;
@@ -74,8 +74,8 @@ fn takes_string(progress: &Progress) -> bool
     }
 }
 
-/// The tree of a field behind its last token.
-fn ended(turn: Turn) -> Result<Tall, Unread>
+/// The tree of a field after its last token.
+fn ended(turn: Turn) -> Result<Measured, Unread>
     ensures { result ≡ ended_turn turn }
 {
     match turn {
@@ -85,7 +85,7 @@ fn ended(turn: Turn) -> Result<Tall, Unread>
         }
         Turn::Stuck => Err(Unread::Unspelled),
         Turn::Deep => Err(Unread::Unspelled),
-        Turn::Left(tall) => Ok(tall),
+        Turn::Left(measured) => Ok(measured),
     }
 }
 
@@ -97,18 +97,18 @@ pub fn turn(
     progress: Progress,
     kind: &TokenKind,
 ) -> Result<Turn, NoMemory>
-    requires kept { Kept stack.old.limit stack.old }
-    requires at { KeptAt progress }
-    ensures { Goes (step (view_at progress (view_stack stack.old)) (role (bare_kind (view_kind kind.now)))) stack.old.limit stack.new (bare_kind (view_kind kind.now)) result }
+    requires valid { Valid stack.old.limit stack.old }
+    requires at { ValidAt progress }
+    ensures { Goes (step (view_at progress (view_stack stack.old)) (class (bare_kind (view_kind kind.now)))) stack.old.limit stack.new (bare_kind (view_kind kind.now)) result }
 {
     let Some(pieces) = pieces_of(kind) else {
-        return step(alloc, stack, progress, role_of(kind)?);
+        return step(alloc, stack, progress, class_of(kind)?);
     };
     if !takes_string(&progress) {
-        return step(alloc, stack, progress, Role::Other);
+        return step(alloc, stack, progress, TokenClass::Other);
     }
     match fields(alloc, pieces, stack.limit)? {
-        Ok(fields) => step(alloc, stack, progress, Role::Format(fields)),
+        Ok(fields) => step(alloc, stack, progress, TokenClass::Format(fields)),
         Err(Unread::Unspelled) => Ok(Turn::Stuck),
         Err(Unread::TooDeep) => Ok(Turn::Deep),
     }
@@ -129,9 +129,9 @@ fn fields(alloc: Global, pieces: &[Piece], limit: usize) -> Result<Result<Fields
         match piece {
             Piece::Chars(text) => parts.push(FormatPart::Chars(text.copy()?))?,
             Piece::Field(tokens) => match field(alloc, tokens, limit - 1)? {
-                Ok(tall) => {
-                    height = higher(height, tall.height);
-                    parts.push(FormatPart::Field(Box::into_inner(tall.expr)))?;
+                Ok(measured) => {
+                    height = higher(height, measured.height);
+                    parts.push(FormatPart::Field(Box::into_inner(measured.expr)))?;
                 }
                 Err(unread) => return Ok(Err(unread)),
             },
@@ -142,24 +142,28 @@ fn fields(alloc: Global, pieces: &[Piece], limit: usize) -> Result<Result<Fields
 
 /// The tree of a field within a limit.
 #[cycle(turn)]
-fn field(alloc: Global, tokens: &[Token], limit: usize) -> Result<Result<Tall, Unread>, NoMemory>
+fn field(
+    alloc: Global,
+    tokens: &[Token],
+    limit: usize,
+) -> Result<Result<Measured, Unread>, NoMemory>
     requires { limit ≤ HEIGHT }
     ensures { IfOk result (IsField limit (field_expr (start any) (bare_tokens (token_row (view_tokens tokens.now))))) }
 {
     let mut stack = Stack::new(alloc, limit, Goal::Any);
-    let mut progress = Progress::Want(Level::Exprs);
+    let mut progress = Progress::Want(Precedence::Exprs);
     'tokens: for token in tokens {
         match turn(alloc, &mut stack, progress, &token.kind)? {
             Turn::Next(next) => progress = next,
             Turn::Stuck => return Ok(Err(Unread::Unspelled)),
             Turn::Deep => return Ok(Err(Unread::TooDeep)),
-            Turn::Left(tall) => {
-                drop(tall);
+            Turn::Left(measured) => {
+                drop(measured);
                 return Ok(Err(Unread::Unspelled));
             }
         }
     }
-    Ok(ended(step(alloc, &mut stack, progress, Role::Other)?))
+    Ok(ended(step(alloc, &mut stack, progress, TokenClass::Other)?))
 }
 
 /// Whether the fields of a token are expressions.

@@ -3,122 +3,147 @@
 ghost use Rattle.std.specs.Prelude.{◌≡◌};
 ghost use Rattle.py_syntax.specs.View.{plain_expr};
 ghost use Rattle.py_grammar.specs.Machine.{Ctx, Next, Have, Linked, step, exprs_first, cond_first, cond_test, first, right, compare_first, post_rest, in_items, index_first, in_index, slice_to, in_paren, in_key, in_value};
-ghost use Rattle.py_parse_expr.specs.ExprHeld.{view_level, view_joint, view_role, view_tall, view_row, view_entries, view_links, view_opener, view_bound, IsTall, AreTall, AreEntries, IsChain, KeptOpener, KeptBound};
-ghost use Rattle.py_parse_expr.specs.ExprStacks.{view_frame, KeptFrame};
+ghost use Rattle.py_parse_expr.specs.ExprViews.{view_precedence, view_operator, view_class, view_measured, view_row, view_entries, view_links, view_opener, view_bound, IsMeasured, AreMeasured, AreEntries, IsChain, ValidOpener, ValidBound};
+ghost use Rattle.py_parse_expr.specs.ExprStacks.{view_frame, ValidFrame};
 ghost use Rattle.py_parse_expr.specs.ExprTurns.{closes, Becomes, MeetsAs, Meets};
 
+use crate::expr_classes::{BinaryOperator, Precedence, TokenClass};
 use crate::expr_nodes::{
-    Chain, Entries, Opener, Row, Tall, comparison, dict, index, joined, made, paren, slice, tuple,
+    Chain, Entries, Measured, Opener, Row, comparison, dict, index, joined, made, paren, slice,
+    tuple,
 };
-use crate::expr_roles::{Joint, Level, Role};
 use crate::expr_stack::Frame;
-use crate::expr_turns::{Met, Progress};
+use crate::expr_turns::{FrameStep, Progress};
 use py_syntax::Comparison;
 use py_value::{CmpOp, NoMemory};
 use std::alloc::Global;
 
-pub fn exprs_first(alloc: Global, tall: Tall, role: &Role) -> Result<Met, NoMemory>
-    requires { IsTall tall }
-    ensures { Meets (view_tall tall) exprs_first (view_role role.now) result }
+pub fn exprs_first(
+    alloc: Global,
+    measured: Measured,
+    class: &TokenClass,
+) -> Result<FrameStep, NoMemory>
+    requires { IsMeasured measured }
+    ensures { Meets (view_measured measured) exprs_first (view_class class.now) result }
 {
-    match role {
-        Role::Comma => Ok(Met::Next(Progress::AfterComma(Row::new(alloc).with(tall)?))),
-        _ => Ok(Met::Passes(tall)),
+    match class {
+        TokenClass::Comma => Ok(FrameStep::Next(Progress::AfterComma(Row::new(alloc).with(
+            measured,
+        )?))),
+        _ => Ok(FrameStep::Passes(measured)),
     }
 }
 
-pub fn exprs_rest(alloc: Global, items: Row, tall: Tall, role: &Role) -> Result<Met, NoMemory>
-    requires frame { KeptFrame (Frame.ExprsRest items) }
-    requires tall { IsTall tall }
-    ensures { Meets (view_tall tall) (view_frame (Frame.ExprsRest items)) (view_role role.now) result }
+pub fn exprs_rest(
+    alloc: Global,
+    items: Row,
+    measured: Measured,
+    class: &TokenClass,
+) -> Result<FrameStep, NoMemory>
+    requires frame { ValidFrame (Frame.ExprsRest items) }
+    requires measured { IsMeasured measured }
+    ensures { Meets (view_measured measured) (view_frame (Frame.ExprsRest items)) (view_class class.now) result }
 {
-    let items = items.with(tall)?;
-    match role {
-        Role::Comma => Ok(Met::Next(Progress::AfterComma(items))),
-        _ => Ok(Met::Passes(tuple(alloc, items, false)?)),
+    let items = items.with(measured)?;
+    match class {
+        TokenClass::Comma => Ok(FrameStep::Next(Progress::AfterComma(items))),
+        _ => Ok(FrameStep::Passes(tuple(alloc, items, false)?)),
     }
 }
 
-pub fn cond_first(tall: Tall, role: &Role) -> Met
-    requires { IsTall tall }
-    ensures { MeetsAs (view_tall tall) cond_first (view_role role.now) result }
+pub fn cond_first(measured: Measured, class: &TokenClass) -> FrameStep
+    requires { IsMeasured measured }
+    ensures { MeetsAs (view_measured measured) cond_first (view_class class.now) result }
 {
-    match role {
-        Role::If => Met::Opens(Frame::CondTest(tall), Progress::Want(Level::Or)),
-        _ => Met::Passes(tall),
+    match class {
+        TokenClass::If => FrameStep::Opens(
+            Frame::CondTest(measured),
+            Progress::Want(Precedence::Or),
+        ),
+        _ => FrameStep::Passes(measured),
     }
 }
 
-pub fn cond_test(body: Tall, tall: Tall, role: &Role) -> Met
-    requires body { IsTall body }
-    requires tall { IsTall tall }
-    ensures { MeetsAs (view_tall tall) (cond_test (view_tall body)) (view_role role.now) result }
+pub fn cond_test(body: Measured, measured: Measured, class: &TokenClass) -> FrameStep
+    requires body { IsMeasured body }
+    requires measured { IsMeasured measured }
+    ensures { MeetsAs (view_measured measured) (cond_test (view_measured body)) (view_class class.now) result }
 {
-    match role {
-        Role::Else => Met::Opens(Frame::CondElse(body, tall), Progress::Want(Level::Expr)),
-        _ => Met::Stuck,
+    match class {
+        TokenClass::Else => FrameStep::Opens(
+            Frame::CondElse(body, measured),
+            Progress::Want(Precedence::Expr),
+        ),
+        _ => FrameStep::Stuck,
     }
 }
 
-/// An operand in front of a joint of its level, or not.
-pub fn operand(level: Level, tall: Tall, role: &Role) -> Met
-    requires { IsTall tall }
-    ensures { MeetsAs (view_tall tall) (first (view_level level)) (view_role role.now) result }
+/// An operand in front of an operator of its level, or not.
+pub fn operand(precedence: Precedence, measured: Measured, class: &TokenClass) -> FrameStep
+    requires { IsMeasured measured }
+    ensures { MeetsAs (view_measured measured) (first (view_precedence precedence)) (view_class class.now) result }
 {
-    match role {
-        Role::Joint(joint) => {
-            if level.is(joint.level()) {
-                return Met::Opens(Frame::Right(*joint, tall), Progress::Want(joint.right()));
+    match class {
+        TokenClass::BinaryOperator(operator) => {
+            if precedence.is(operator.precedence()) {
+                return FrameStep::Opens(
+                    Frame::Right(*operator, measured),
+                    Progress::Want(operator.right()),
+                );
             }
-            Met::Passes(tall)
+            FrameStep::Passes(measured)
         }
-        _ => Met::Passes(tall),
+        _ => FrameStep::Passes(measured),
     }
 }
 
 pub fn right(
     alloc: Global,
-    joint: Joint,
-    left: Tall,
-    tall: Tall,
-    role: &Role,
-) -> Result<Met, NoMemory>
-    requires left { IsTall left }
-    requires tall { IsTall tall }
-    ensures { Meets (view_tall tall) (right (view_joint joint) (view_tall left)) (view_role role.now) result }
+    operator: BinaryOperator,
+    left: Measured,
+    measured: Measured,
+    class: &TokenClass,
+) -> Result<FrameStep, NoMemory>
+    requires left { IsMeasured left }
+    requires measured { IsMeasured measured }
+    ensures { Meets (view_measured measured) (right (view_operator operator) (view_measured left)) (view_class class.now) result }
 {
-    let tall = joined(alloc, joint, left, tall)?;
-    Ok(operand(joint.level(), tall, role))
+    let measured = joined(alloc, operator, left, measured)?;
+    Ok(operand(operator.precedence(), measured, class))
 }
 
-pub fn compare_first(alloc: Global, tall: Tall, role: &Role) -> Result<Met, NoMemory>
-    requires { IsTall tall }
-    ensures { Meets (view_tall tall) compare_first (view_role role.now) result }
+pub fn compare_first(
+    alloc: Global,
+    measured: Measured,
+    class: &TokenClass,
+) -> Result<FrameStep, NoMemory>
+    requires { IsMeasured measured }
+    ensures { Meets (view_measured measured) compare_first (view_class class.now) result }
 {
-    match role {
-        Role::Compare(op) => Ok(Met::Opens(
-            Frame::CompareRest(Chain::new(alloc, tall), *op),
-            Progress::Want(Level::Sum),
+    match class {
+        TokenClass::Compare(op) => Ok(FrameStep::Opens(
+            Frame::CompareRest(Chain::new(alloc, measured), *op),
+            Progress::Want(Precedence::Sum),
         )),
-        Role::Not => Ok(Met::Next(Progress::AfterNot(Chain::new(alloc, tall)))),
-        Role::Is => Ok(Met::Next(Progress::AfterIs(Chain::new(alloc, tall)))),
-        _ => Ok(Met::Passes(tall)),
+        TokenClass::Not => Ok(FrameStep::Next(Progress::AfterNot(Chain::new(alloc, measured)))),
+        TokenClass::Is => Ok(FrameStep::Next(Progress::AfterIs(Chain::new(alloc, measured)))),
+        _ => Ok(FrameStep::Passes(measured)),
     }
 }
 
-/// Behind a comparison.
-pub fn link(alloc: Global, chain: Chain, role: &Role) -> Result<Met, NoMemory>
+/// After a comparison.
+pub fn link(alloc: Global, chain: Chain, class: &TokenClass) -> Result<FrameStep, NoMemory>
     requires { IsChain chain }
-    ensures { (k : Ctx) → Becomes (step (Linked (plain_expr chain.first.value) (view_links chain) k) (view_role role.now)) k (view_role role.now) result }
+    ensures { (k : Ctx) → Becomes (step (Linked (plain_expr chain.first.value) (view_links chain) k) (view_class class.now)) k (view_class class.now) result }
 {
-    match role {
-        Role::Compare(op) => Ok(Met::Opens(
+    match class {
+        TokenClass::Compare(op) => Ok(FrameStep::Opens(
             Frame::CompareRest(chain, *op),
-            Progress::Want(Level::Sum),
+            Progress::Want(Precedence::Sum),
         )),
-        Role::Not => Ok(Met::Next(Progress::AfterNot(chain))),
-        Role::Is => Ok(Met::Next(Progress::AfterIs(chain))),
-        _ => Ok(Met::Passes(comparison(alloc, chain)?)),
+        TokenClass::Not => Ok(FrameStep::Next(Progress::AfterNot(chain))),
+        TokenClass::Is => Ok(FrameStep::Next(Progress::AfterIs(chain))),
+        _ => Ok(FrameStep::Passes(comparison(alloc, chain)?)),
     }
 }
 
@@ -126,35 +151,35 @@ pub fn compare_rest(
     alloc: Global,
     chain: Chain,
     op: CmpOp,
-    tall: Tall,
-    role: &Role,
-) -> Result<Met, NoMemory>
+    measured: Measured,
+    class: &TokenClass,
+) -> Result<FrameStep, NoMemory>
     requires chain { IsChain chain }
-    requires tall { IsTall tall }
-    ensures { Meets (view_tall tall) (view_frame (Frame.CompareRest chain op)) (view_role role.now) result }
+    requires measured { IsMeasured measured }
+    ensures { Meets (view_measured measured) (view_frame (Frame.CompareRest chain op)) (view_class class.now) result }
 {
-    link(alloc, chain.with(Comparison::Op(op), tall)?, role)
+    link(alloc, chain.with(Comparison::Op(op), measured)?, class)
 }
 
-pub fn post_rest(tall: Tall, role: &Role) -> Met
-    requires { IsTall tall }
-    ensures { MeetsAs (view_tall tall) post_rest (view_role role.now) result }
+pub fn post_rest(measured: Measured, class: &TokenClass) -> FrameStep
+    requires { IsMeasured measured }
+    ensures { MeetsAs (view_measured measured) post_rest (view_class class.now) result }
 {
-    match role {
-        Role::LeftParen => Met::Next(Progress::ItemsOpen(Opener::Call(tall))),
-        Role::LeftBracket => Met::Next(Progress::IndexOpen(tall)),
-        Role::Dot => Met::Next(Progress::AfterDot(tall)),
-        _ => Met::Passes(tall),
+    match class {
+        TokenClass::LeftParen => FrameStep::Next(Progress::ItemsOpen(Opener::Call(measured))),
+        TokenClass::LeftBracket => FrameStep::Next(Progress::IndexOpen(measured)),
+        TokenClass::Dot => FrameStep::Next(Progress::AfterDot(measured)),
+        _ => FrameStep::Passes(measured),
     }
 }
 
 /// Whether a token closes a bracket with items.
-pub fn closes(opener: &Opener, role: &Role) -> bool
-    ensures { result ≡ closes (view_opener opener.now) (view_role role.now) }
+pub fn closes(opener: &Opener, class: &TokenClass) -> bool
+    ensures { result ≡ closes (view_opener opener.now) (view_class class.now) }
 {
     match opener {
-        Opener::Call(_) => matches!(role, Role::RightParen),
-        Opener::List => matches!(role, Role::RightBracket),
+        Opener::Call(_) => matches!(class, TokenClass::RightParen),
+        Opener::List => matches!(class, TokenClass::RightBracket),
     }
 }
 
@@ -162,123 +187,140 @@ pub fn in_items(
     alloc: Global,
     opener: Opener,
     items: Row,
-    tall: Tall,
-    role: &Role,
-) -> Result<Met, NoMemory>
-    requires opener { KeptOpener opener }
-    requires items { AreTall items }
-    requires tall { IsTall tall }
-    ensures { Meets (view_tall tall) (in_items (view_opener opener) (view_row items)) (view_role role.now) result }
+    measured: Measured,
+    class: &TokenClass,
+) -> Result<FrameStep, NoMemory>
+    requires opener { ValidOpener opener }
+    requires items { AreMeasured items }
+    requires measured { IsMeasured measured }
+    ensures { Meets (view_measured measured) (in_items (view_opener opener) (view_row items)) (view_class class.now) result }
 {
-    let items = items.with(tall)?;
-    match role {
-        Role::Comma => Ok(Met::Next(Progress::ItemsComma(opener, items))),
+    let items = items.with(measured)?;
+    match class {
+        TokenClass::Comma => Ok(FrameStep::Next(Progress::ItemsComma(opener, items))),
         _ => {
-            if !closes(&opener, role) {
-                return Ok(Met::Stuck);
+            if !closes(&opener, class) {
+                return Ok(FrameStep::Stuck);
             }
-            let tall = made(alloc, opener, items, false)?;
-            Ok(Met::Opens(Frame::PostRest, Progress::Have(tall)))
+            let measured = made(alloc, opener, items, false)?;
+            Ok(FrameStep::Opens(Frame::PostRest, Progress::Have(measured)))
         }
     }
 }
 
-pub fn index_first(alloc: Global, of: Tall, tall: Tall, role: &Role) -> Result<Met, NoMemory>
-    requires of { IsTall of }
-    requires tall { IsTall tall }
-    ensures { Meets (view_tall tall) (index_first (view_tall of)) (view_role role.now) result }
+pub fn index_first(
+    alloc: Global,
+    of: Measured,
+    measured: Measured,
+    class: &TokenClass,
+) -> Result<FrameStep, NoMemory>
+    requires of { IsMeasured of }
+    requires measured { IsMeasured measured }
+    ensures { Meets (view_measured measured) (index_first (view_measured of)) (view_class class.now) result }
 {
-    match role {
-        Role::Comma => {
-            let items = Row::new(alloc).with(tall)?;
-            Ok(Met::Opens(Frame::InIndex(of), Progress::AfterComma(items)))
+    match class {
+        TokenClass::Comma => {
+            let items = Row::new(alloc).with(measured)?;
+            Ok(FrameStep::Opens(Frame::InIndex(of), Progress::AfterComma(items)))
         }
-        Role::Colon => Ok(Met::Next(Progress::SliceColon(of, Some(tall)))),
-        Role::RightBracket => {
-            let whole = index(alloc, of, tall)?;
-            Ok(Met::Opens(Frame::PostRest, Progress::Have(whole)))
+        TokenClass::Colon => Ok(FrameStep::Next(Progress::SliceColon(of, Some(measured)))),
+        TokenClass::RightBracket => {
+            let whole = index(alloc, of, measured)?;
+            Ok(FrameStep::Opens(Frame::PostRest, Progress::Have(whole)))
         }
-        _ => Ok(Met::Stuck),
+        _ => Ok(FrameStep::Stuck),
     }
 }
 
-pub fn in_index(alloc: Global, of: Tall, tall: Tall, role: &Role) -> Result<Met, NoMemory>
-    requires of { IsTall of }
-    requires tall { IsTall tall }
-    ensures { Meets (view_tall tall) (in_index (view_tall of)) (view_role role.now) result }
+pub fn in_index(
+    alloc: Global,
+    of: Measured,
+    measured: Measured,
+    class: &TokenClass,
+) -> Result<FrameStep, NoMemory>
+    requires of { IsMeasured of }
+    requires measured { IsMeasured measured }
+    ensures { Meets (view_measured measured) (in_index (view_measured of)) (view_class class.now) result }
 {
-    match role {
-        Role::RightBracket => {
-            let whole = index(alloc, of, tall)?;
-            Ok(Met::Opens(Frame::PostRest, Progress::Have(whole)))
+    match class {
+        TokenClass::RightBracket => {
+            let whole = index(alloc, of, measured)?;
+            Ok(FrameStep::Opens(Frame::PostRest, Progress::Have(whole)))
         }
-        _ => Ok(Met::Stuck),
+        _ => Ok(FrameStep::Stuck),
     }
 }
 
 pub fn slice_to(
     alloc: Global,
-    of: Tall,
-    from: Option<Tall>,
-    tall: Tall,
-    role: &Role,
-) -> Result<Met, NoMemory>
-    requires of { IsTall of }
-    requires from { KeptBound from }
-    requires tall { IsTall tall }
-    ensures { Meets (view_tall tall) (slice_to (view_tall of) (view_bound from)) (view_role role.now) result }
+    of: Measured,
+    from: Option<Measured>,
+    measured: Measured,
+    class: &TokenClass,
+) -> Result<FrameStep, NoMemory>
+    requires of { IsMeasured of }
+    requires from { ValidBound from }
+    requires measured { IsMeasured measured }
+    ensures { Meets (view_measured measured) (slice_to (view_measured of) (view_bound from)) (view_class class.now) result }
 {
-    match role {
-        Role::RightBracket => {
-            let whole = slice(alloc, of, from, Some(tall))?;
-            Ok(Met::Opens(Frame::PostRest, Progress::Have(whole)))
+    match class {
+        TokenClass::RightBracket => {
+            let whole = slice(alloc, of, from, Some(measured))?;
+            Ok(FrameStep::Opens(Frame::PostRest, Progress::Have(whole)))
         }
-        _ => Ok(Met::Stuck),
+        _ => Ok(FrameStep::Stuck),
     }
 }
 
-pub fn in_paren(alloc: Global, tall: Tall, role: &Role) -> Result<Met, NoMemory>
-    requires { IsTall tall }
-    ensures { Meets (view_tall tall) in_paren (view_role role.now) result }
+pub fn in_paren(
+    alloc: Global,
+    measured: Measured,
+    class: &TokenClass,
+) -> Result<FrameStep, NoMemory>
+    requires { IsMeasured measured }
+    ensures { Meets (view_measured measured) in_paren (view_class class.now) result }
 {
-    match role {
-        Role::RightParen => {
-            let whole = paren(alloc, tall)?;
-            Ok(Met::Opens(Frame::PostRest, Progress::Have(whole)))
+    match class {
+        TokenClass::RightParen => {
+            let whole = paren(alloc, measured)?;
+            Ok(FrameStep::Opens(Frame::PostRest, Progress::Have(whole)))
         }
-        _ => Ok(Met::Stuck),
+        _ => Ok(FrameStep::Stuck),
     }
 }
 
-pub fn in_key(entries: Entries, tall: Tall, role: &Role) -> Met
+pub fn in_key(entries: Entries, measured: Measured, class: &TokenClass) -> FrameStep
     requires entries { AreEntries entries }
-    requires tall { IsTall tall }
-    ensures { MeetsAs (view_tall tall) (in_key (view_entries entries)) (view_role role.now) result }
+    requires measured { IsMeasured measured }
+    ensures { MeetsAs (view_measured measured) (in_key (view_entries entries)) (view_class class.now) result }
 {
-    match role {
-        Role::Colon => Met::Opens(Frame::InValue(entries, tall), Progress::Want(Level::Expr)),
-        _ => Met::Stuck,
+    match class {
+        TokenClass::Colon => FrameStep::Opens(
+            Frame::InValue(entries, measured),
+            Progress::Want(Precedence::Expr),
+        ),
+        _ => FrameStep::Stuck,
     }
 }
 
 pub fn in_value(
     alloc: Global,
     entries: Entries,
-    key: Tall,
-    tall: Tall,
-    role: &Role,
-) -> Result<Met, NoMemory>
+    key: Measured,
+    measured: Measured,
+    class: &TokenClass,
+) -> Result<FrameStep, NoMemory>
     requires entries { AreEntries entries }
-    requires key { IsTall key }
-    requires tall { IsTall tall }
-    ensures { Meets (view_tall tall) (in_value (view_entries entries) (view_tall key)) (view_role role.now) result }
+    requires key { IsMeasured key }
+    requires measured { IsMeasured measured }
+    ensures { Meets (view_measured measured) (in_value (view_entries entries) (view_measured key)) (view_class class.now) result }
 {
-    match role {
-        Role::Comma => Ok(Met::Next(Progress::DictComma(entries.with(key, tall)?))),
-        Role::RightBrace => {
-            let whole = dict(alloc, entries.with(key, tall)?, false)?;
-            Ok(Met::Opens(Frame::PostRest, Progress::Have(whole)))
+    match class {
+        TokenClass::Comma => Ok(FrameStep::Next(Progress::DictComma(entries.with(key, measured)?))),
+        TokenClass::RightBrace => {
+            let whole = dict(alloc, entries.with(key, measured)?, false)?;
+            Ok(FrameStep::Opens(Frame::PostRest, Progress::Have(whole)))
         }
-        _ => Ok(Met::Stuck),
+        _ => Ok(FrameStep::Stuck),
     }
 }

@@ -5,11 +5,11 @@ ghost use Rattle.py_syntax.specs.Tree.{name, tuple, list, dict, paren, not', una
 ghost use Rattle.std.specs.Option.{option_map};
 ghost use Rattle.py_syntax.specs.Normal.{is_target, height, height_bound};
 ghost use Rattle.py_syntax.specs.View.{plain_expr, opt_of};
-ghost use Rattle.py_grammar.specs.Roles.{joined};
+ghost use Rattle.py_grammar.specs.TokenClasses.{joined};
 ghost use Rattle.py_grammar.specs.Machine.{snoc, snoc_pair, snoc_link, made};
-ghost use Rattle.py_parse_expr.specs.ExprHeld.{view_joint, view_tall, view_row, view_entries, view_links, view_opener, view_bound, capped, IsTall, AreTall, AreEntries, IsChain, KeptOpener, KeptBound, Makes};
+ghost use Rattle.py_parse_expr.specs.ExprViews.{view_operator, view_measured, view_row, view_entries, view_links, view_opener, view_bound, capped, IsMeasured, AreMeasured, AreEntries, IsChain, ValidOpener, ValidBound, Makes};
 
-use crate::expr_roles::Joint;
+use crate::expr_classes::BinaryOperator;
 use py_syntax::{Comparison, Expr, FormatPart, Fragment, Link, Pair, Sign};
 use py_value::{NoMemory, Text};
 use std::alloc::Global;
@@ -19,7 +19,7 @@ const CAP: usize = 201;
 
 /// An expression, its height, and whether it has the form of a target. It stands in a box, so that it moves at little cost.
 #[derive(Drop)]
-pub struct Tall {
+pub struct Measured {
     pub expr: Box<Expr>,
     pub height: usize,
     pub target: bool,
@@ -65,7 +65,7 @@ pub enum Strings {
 /// What opened a bracket that holds items.
 #[derive(Drop)]
 pub enum Opener {
-    Call(Tall),
+    Call(Measured),
     List,
 }
 
@@ -89,14 +89,14 @@ pub fn over(height: usize) -> usize
     if height < CAP { height + 1 } else { CAP }
 }
 
-impl Tall {
-    pub fn new(alloc: Global, expr: Expr, height: usize, target: bool) -> Result<Tall, NoMemory>
+impl Measured {
+    pub fn new(alloc: Global, expr: Expr, height: usize, target: bool) -> Result<Measured, NoMemory>
         ensures expr { IfOk result (λ t. t.expr.value ≡ expr) }
         ensures height { IfOk result (λ t. t.height ≡ height) }
         ensures target { IfOk result (λ t. t.target ≡ target) }
     {
         let expr = Box::new(alloc, expr)?;
-        Ok(Tall {
+        Ok(Measured {
             expr,
             height,
             target,
@@ -104,25 +104,25 @@ impl Tall {
     }
 
     /// What has the height of a name and isn't one.
-    pub fn low(alloc: Global, expr: Expr) -> Result<Tall, NoMemory>
+    pub fn low(alloc: Global, expr: Expr) -> Result<Measured, NoMemory>
         requires height { height (plain_expr expr) ≡ 1 }
         requires target { is_target (plain_expr expr) ≡ false }
         ensures { IfOk result (Makes (plain_expr expr)) }
     {
-        Tall::new(alloc, expr, 1, false)
+        Measured::new(alloc, expr, 1, false)
     }
 
-    pub fn name(alloc: Global, text: Text) -> Result<Tall, NoMemory>
+    pub fn name(alloc: Global, text: Text) -> Result<Measured, NoMemory>
         ensures { IfOk result (Makes (name text)) }
     {
-        Tall::new(alloc, Expr::Name(text), 1, true)
+        Measured::new(alloc, Expr::Name(text), 1, true)
     }
 }
 
 impl Row {
     pub fn new(alloc: Global) -> Row
         ensures none { view_row result ≡ no_exprs }
-        ensures are { AreTall result }
+        ensures are { AreMeasured result }
     {
         Row {
             items: Vec::new(alloc),
@@ -132,16 +132,16 @@ impl Row {
     }
 
     /// The same with one more at the end.
-    pub fn with(self, tall: Tall) -> Result<Row, NoMemory>
-        requires are { AreTall self }
-        requires is { IsTall tall }
-        ensures items { IfOk result (λ r. view_row r ≡ snoc (view_row self) (view_tall tall)) }
-        ensures are { IfOk result AreTall }
+    pub fn with(self, measured: Measured) -> Result<Row, NoMemory>
+        requires are { AreMeasured self }
+        requires is { IsMeasured measured }
+        ensures items { IfOk result (λ r. view_row r ≡ snoc (view_row self) (view_measured measured)) }
+        ensures are { IfOk result AreMeasured }
     {
         let mut row = self;
-        row.height = higher(row.height, tall.height);
-        row.targets = both(row.targets, tall.target);
-        row.items.push(Box::into_inner(tall.expr))?;
+        row.height = higher(row.height, measured.height);
+        row.targets = both(row.targets, measured.target);
+        row.items.push(Box::into_inner(measured.expr))?;
         Ok(row)
     }
 }
@@ -158,11 +158,11 @@ impl Entries {
     }
 
     /// The same with one more at the end.
-    pub fn with(self, key: Tall, value: Tall) -> Result<Entries, NoMemory>
+    pub fn with(self, key: Measured, value: Measured) -> Result<Entries, NoMemory>
         requires are { AreEntries self }
-        requires key { IsTall key }
-        requires value { IsTall value }
-        ensures pairs { IfOk result (λ r. view_entries r ≡ snoc_pair (view_entries self) (view_tall key) (view_tall value)) }
+        requires key { IsMeasured key }
+        requires value { IsMeasured value }
+        ensures pairs { IfOk result (λ r. view_entries r ≡ snoc_pair (view_entries self) (view_measured key) (view_measured value)) }
         ensures are { IfOk result AreEntries }
     {
         let mut entries = self;
@@ -177,9 +177,9 @@ impl Entries {
 
 impl Chain {
     /// A chain that begins with this operand.
-    pub fn new(alloc: Global, first: Tall) -> Chain
-        requires { IsTall first }
-        ensures first { plain_expr result.first.value ≡ view_tall first }
+    pub fn new(alloc: Global, first: Measured) -> Chain
+        requires { IsMeasured first }
+        ensures first { plain_expr result.first.value ≡ view_measured first }
         ensures links { view_links result ≡ no_links }
         ensures is { IsChain result }
     {
@@ -191,11 +191,11 @@ impl Chain {
     }
 
     /// The same with one more comparison at the end.
-    pub fn with(self, op: Comparison, right: Tall) -> Result<Chain, NoMemory>
+    pub fn with(self, op: Comparison, right: Measured) -> Result<Chain, NoMemory>
         requires is { IsChain self }
-        requires right { IsTall right }
+        requires right { IsMeasured right }
         ensures first { IfOk result (λ r. plain_expr r.first.value ≡ plain_expr self.first.value) }
-        ensures links { IfOk result (λ r. view_links r ≡ snoc_link (view_links self) op (view_tall right)) }
+        ensures links { IfOk result (λ r. view_links r ≡ snoc_link (view_links self) op (view_measured right)) }
         ensures is { IfOk result IsChain }
     {
         let mut chain = self;
@@ -208,21 +208,21 @@ impl Chain {
     }
 }
 
-pub fn tuple(alloc: Global, items: Row, comma: bool) -> Result<Tall, NoMemory>
-    requires { AreTall items }
+pub fn tuple(alloc: Global, items: Row, comma: bool) -> Result<Measured, NoMemory>
+    requires { AreMeasured items }
     ensures { IfOk result (Makes (tuple (view_row items) comma)) }
 {
     let expr = Expr::Tuple {
         items: items.items,
         comma,
     };
-    Tall::new(alloc, expr, over(items.height), items.targets)
+    Measured::new(alloc, expr, over(items.height), items.targets)
 }
 
 /// A call, or a list.
-pub fn made(alloc: Global, opener: Opener, items: Row, comma: bool) -> Result<Tall, NoMemory>
-    requires opener { KeptOpener opener }
-    requires items { AreTall items }
+pub fn made(alloc: Global, opener: Opener, items: Row, comma: bool) -> Result<Measured, NoMemory>
+    requires opener { ValidOpener opener }
+    requires items { AreMeasured items }
     ensures { IfOk result (Makes (made (view_opener opener) (view_row items) comma)) }
 {
     match opener {
@@ -233,19 +233,19 @@ pub fn made(alloc: Global, opener: Opener, items: Row, comma: bool) -> Result<Ta
                 args: items.items,
                 comma,
             };
-            Tall::new(alloc, expr, height, false)
+            Measured::new(alloc, expr, height, false)
         }
         Opener::List => {
             let expr = Expr::List {
                 items: items.items,
                 comma,
             };
-            Tall::new(alloc, expr, over(items.height), items.targets)
+            Measured::new(alloc, expr, over(items.height), items.targets)
         }
     }
 }
 
-pub fn dict(alloc: Global, entries: Entries, comma: bool) -> Result<Tall, NoMemory>
+pub fn dict(alloc: Global, entries: Entries, comma: bool) -> Result<Measured, NoMemory>
     requires { AreEntries entries }
     ensures { IfOk result (Makes (dict (view_entries entries) comma)) }
 {
@@ -253,14 +253,14 @@ pub fn dict(alloc: Global, entries: Entries, comma: bool) -> Result<Tall, NoMemo
         items: entries.pairs,
         comma,
     };
-    Tall::new(alloc, expr, over(entries.height), false)
+    Measured::new(alloc, expr, over(entries.height), false)
 }
 
-pub fn paren(alloc: Global, inner: Tall) -> Result<Tall, NoMemory>
-    requires { IsTall inner }
-    ensures { IfOk result (Makes (paren (view_tall inner))) }
+pub fn paren(alloc: Global, inner: Measured) -> Result<Measured, NoMemory>
+    requires { IsMeasured inner }
+    ensures { IfOk result (Makes (paren (view_measured inner))) }
 {
-    Tall::new(
+    Measured::new(
         alloc,
         Expr::Paren(inner.expr),
         over(inner.height),
@@ -268,31 +268,41 @@ pub fn paren(alloc: Global, inner: Tall) -> Result<Tall, NoMemory>
     )
 }
 
-pub fn negation(alloc: Global, operand: Tall) -> Result<Tall, NoMemory>
-    requires { IsTall operand }
-    ensures { IfOk result (Makes (not' (view_tall operand))) }
+pub fn negation(alloc: Global, operand: Measured) -> Result<Measured, NoMemory>
+    requires { IsMeasured operand }
+    ensures { IfOk result (Makes (not' (view_measured operand))) }
 {
-    Tall::new(alloc, Expr::Not(operand.expr), over(operand.height), false)
+    Measured::new(alloc, Expr::Not(operand.expr), over(operand.height), false)
 }
 
-pub fn unary(alloc: Global, sign: Sign, operand: Tall) -> Result<Tall, NoMemory>
-    requires { IsTall operand }
-    ensures { IfOk result (Makes (unary sign (view_tall operand))) }
+pub fn unary(alloc: Global, sign: Sign, operand: Measured) -> Result<Measured, NoMemory>
+    requires { IsMeasured operand }
+    ensures { IfOk result (Makes (unary sign (view_measured operand))) }
 {
     let height = over(operand.height);
-    Tall::new(alloc, Expr::Unary(sign, operand.expr), height, false)
+    Measured::new(alloc, Expr::Unary(sign, operand.expr), height, false)
 }
 
-pub fn joined(alloc: Global, joint: Joint, left: Tall, right: Tall) -> Result<Tall, NoMemory>
-    requires left { IsTall left }
-    requires right { IsTall right }
-    ensures { IfOk result (Makes (joined (view_joint joint) (view_tall left) (view_tall right))) }
+pub fn joined(
+    alloc: Global,
+    operator: BinaryOperator,
+    left: Measured,
+    right: Measured,
+) -> Result<Measured, NoMemory>
+    requires left { IsMeasured left }
+    requires right { IsMeasured right }
+    ensures { IfOk result (Makes (joined (view_operator operator) (view_measured left) (view_measured right))) }
 {
     let height = over(higher(left.height, right.height));
-    match joint {
-        Joint::Or => Tall::new(alloc, Expr::Or(left.expr, right.expr), height, false),
-        Joint::And => Tall::new(alloc, Expr::And(left.expr, right.expr), height, false),
-        Joint::Op(op) => Tall::new(
+    match operator {
+        BinaryOperator::Or => Measured::new(alloc, Expr::Or(left.expr, right.expr), height, false),
+        BinaryOperator::And => Measured::new(
+            alloc,
+            Expr::And(left.expr, right.expr),
+            height,
+            false,
+        ),
+        BinaryOperator::Op(op) => Measured::new(
             alloc,
             Expr::Binary(op, left.expr, right.expr),
             height,
@@ -301,12 +311,12 @@ pub fn joined(alloc: Global, joint: Joint, left: Tall, right: Tall) -> Result<Ta
     }
 }
 
-pub fn comparison(alloc: Global, chain: Chain) -> Result<Tall, NoMemory>
+pub fn comparison(alloc: Global, chain: Chain) -> Result<Measured, NoMemory>
     requires { IsChain chain }
     ensures { IfOk result (Makes (compare (plain_expr chain.first.value) (view_links chain))) }
 {
     let height = over(chain.height);
-    Tall::new(
+    Measured::new(
         alloc,
         Expr::Compare(chain.first, chain.links),
         height,
@@ -314,11 +324,16 @@ pub fn comparison(alloc: Global, chain: Chain) -> Result<Tall, NoMemory>
     )
 }
 
-pub fn conditional(alloc: Global, body: Tall, test: Tall, orelse: Tall) -> Result<Tall, NoMemory>
-    requires body { IsTall body }
-    requires test { IsTall test }
-    requires orelse { IsTall orelse }
-    ensures { IfOk result (Makes (cond (view_tall body) (view_tall test) (view_tall orelse))) }
+pub fn conditional(
+    alloc: Global,
+    body: Measured,
+    test: Measured,
+    orelse: Measured,
+) -> Result<Measured, NoMemory>
+    requires body { IsMeasured body }
+    requires test { IsMeasured test }
+    requires orelse { IsMeasured orelse }
+    ensures { IfOk result (Makes (cond (view_measured body) (view_measured test) (view_measured orelse))) }
 {
     let height = over(higher(body.height, higher(test.height, orelse.height)));
     let expr = Expr::Cond {
@@ -326,48 +341,48 @@ pub fn conditional(alloc: Global, body: Tall, test: Tall, orelse: Tall) -> Resul
         test: test.expr,
         orelse: orelse.expr,
     };
-    Tall::new(alloc, expr, height, false)
+    Measured::new(alloc, expr, height, false)
 }
 
-pub fn index(alloc: Global, of: Tall, at: Tall) -> Result<Tall, NoMemory>
-    requires of { IsTall of }
-    requires at { IsTall at }
-    ensures { IfOk result (Makes (index (view_tall of) (view_tall at))) }
+pub fn index(alloc: Global, of: Measured, at: Measured) -> Result<Measured, NoMemory>
+    requires of { IsMeasured of }
+    requires at { IsMeasured at }
+    ensures { IfOk result (Makes (index (view_measured of) (view_measured at))) }
 {
     let height = over(higher(of.height, at.height));
-    Tall::new(alloc, Expr::Index(of.expr, at.expr), height, true)
+    Measured::new(alloc, Expr::Index(of.expr, at.expr), height, true)
 }
 
 /// The height of a bound of a slice.
-pub fn bound_height(bound: &Option<Tall>) -> usize
-    requires { KeptBound bound.now }
+pub fn bound_height(bound: &Option<Measured>) -> usize
+    requires { ValidBound bound.now }
     ensures { result ≡ capped (height_bound (view_bound bound.now)) }
 {
     match bound {
         None => 0,
-        Some(tall) => tall.height,
+        Some(measured) => measured.height,
     }
 }
 
-fn boxed(bound: Option<Tall>) -> Option<Box<Expr>>
+fn boxed(bound: Option<Measured>) -> Option<Box<Expr>>
     ensures { opt_of (option_map (λ x. plain_expr x.value) result) ≡ view_bound bound }
 {
     match bound {
         None => None,
-        Some(tall) => Some(tall.expr),
+        Some(measured) => Some(measured.expr),
     }
 }
 
 pub fn slice(
     alloc: Global,
-    of: Tall,
-    from: Option<Tall>,
-    to: Option<Tall>,
-) -> Result<Tall, NoMemory>
-    requires of { IsTall of }
-    requires from { KeptBound from }
-    requires to { KeptBound to }
-    ensures { IfOk result (Makes (slice (view_tall of) (view_bound from) (view_bound to))) }
+    of: Measured,
+    from: Option<Measured>,
+    to: Option<Measured>,
+) -> Result<Measured, NoMemory>
+    requires of { IsMeasured of }
+    requires from { ValidBound from }
+    requires to { ValidBound to }
+    ensures { IfOk result (Makes (slice (view_measured of) (view_bound from) (view_bound to))) }
 {
     let height = over(higher(of.height, higher(bound_height(&from), bound_height(&to))));
     let expr = Expr::Slice {
@@ -375,13 +390,13 @@ pub fn slice(
         from: boxed(from),
         to: boxed(to),
     };
-    Tall::new(alloc, expr, height, false)
+    Measured::new(alloc, expr, height, false)
 }
 
-pub fn attribute(alloc: Global, of: Tall, name: Text) -> Result<Tall, NoMemory>
-    requires { IsTall of }
-    ensures { IfOk result (Makes (attr (view_tall of) name)) }
+pub fn attribute(alloc: Global, of: Measured, name: Text) -> Result<Measured, NoMemory>
+    requires { IsMeasured of }
+    ensures { IfOk result (Makes (attr (view_measured of) name)) }
 {
     let height = over(of.height);
-    Tall::new(alloc, Expr::Attr(of.expr, name), height, false)
+    Measured::new(alloc, Expr::Attr(of.expr, name), height, false)
 }

@@ -1,22 +1,22 @@
-// What is open round a place of an expression, with the room that is left there.
+// What is open round a place of an expression, with the budget that is left there.
 
 ghost use Rattle.std.specs.Prelude.{◌≡◌, ℕ, ◌≤◌, cond, true, false, OnOk};
 ghost use Rattle.py_syntax.specs.Spelling.{HEIGHT};
 ghost use Rattle.py_grammar.specs.Machine.{at_most, on, Ctx, Outside, in_items};
-ghost use Rattle.py_grammar.specs.Rooms.{under, room, postfix};
-ghost use Rattle.py_parse_expr.specs.ExprHeld.{view_tall, view_role, IsTall, view_level, view_row, view_opener, AreTall, KeptOpener};
-ghost use Rattle.py_parse_expr.specs.ExprStacks.{opened, view_goal, view_frame, view_stack, KeptGoal, KeptFrame, IsRoom, Kept, Pops};
+ghost use Rattle.py_grammar.specs.Budgets.{under, budget, postfix};
+ghost use Rattle.py_parse_expr.specs.ExprViews.{view_measured, view_class, IsMeasured, view_precedence, view_row, view_opener, AreMeasured, ValidOpener};
+ghost use Rattle.py_parse_expr.specs.ExprStacks.{opened, view_goal, view_frame, view_stack, ValidGoal, ValidFrame, IsBudget, Valid, Pops};
 ghost use Rattle.py_parse_expr.specs.ExprTurns.{Meets};
 
+use crate::expr_classes::{BinaryOperator, Precedence, TokenClass};
 use crate::expr_frames::{
     compare_first, compare_rest, cond_first, cond_test, exprs_first, exprs_rest, in_index,
     in_items, in_key, in_paren, in_value, index_first, operand, post_rest, right, slice_to,
 };
 use crate::expr_nodes::{
-    Chain, Entries, Opener, Row, Tall, both, bound_height, conditional, higher, negation, unary,
+    Chain, Entries, Measured, Opener, Row, both, bound_height, conditional, higher, negation, unary,
 };
-use crate::expr_roles::{Joint, Level, Role};
-use crate::expr_turns::Met;
+use crate::expr_turns::FrameStep;
 use py_syntax::Sign;
 use py_value::{CmpOp, NoMemory};
 use std::alloc::Global;
@@ -36,22 +36,22 @@ pub enum Frame {
     ExprsFirst,
     ExprsRest(Row),
     CondFirst,
-    CondTest(Tall),
-    CondElse(Tall, Tall),
-    First(Level),
-    Right(Joint, Tall),
+    CondTest(Measured),
+    CondElse(Measured, Measured),
+    First(Precedence),
+    Right(BinaryOperator, Measured),
     NotOf,
     CompareFirst,
     CompareRest(Chain, CmpOp),
     UnaryOf(Sign),
     PostRest,
     InItems(Opener, Row),
-    IndexFirst(Tall),
-    InIndex(Tall),
-    SliceTo(Tall, Option<Tall>),
+    IndexFirst(Measured),
+    InIndex(Measured),
+    SliceTo(Measured, Option<Measured>),
     InParen,
     InKey(Entries),
-    InValue(Entries, Tall),
+    InValue(Entries, Measured),
 }
 
 // Written out, and not derived, so that letting it go is one call wherever that happens.
@@ -82,34 +82,39 @@ impl Drop for Frame {
 }
 
 impl Frame {
-    /// What the innermost frame makes of an expression and the token behind it.
-    pub fn meet(self, alloc: Global, tall: Tall, role: &Role) -> Result<Met, NoMemory>
-        requires frame { KeptFrame self }
-        requires tall { IsTall tall }
-        ensures { Meets (view_tall tall) (view_frame self) (view_role role.now) result }
+    /// What the innermost frame makes of an expression and the token after it.
+    pub fn meet(
+        self,
+        alloc: Global,
+        measured: Measured,
+        class: &TokenClass,
+    ) -> Result<FrameStep, NoMemory>
+        requires frame { ValidFrame self }
+        requires measured { IsMeasured measured }
+        ensures { Meets (view_measured measured) (view_frame self) (view_class class.now) result }
     {
         match self {
-            Frame::ExprsFirst => exprs_first(alloc, tall, role),
-            Frame::ExprsRest(items) => exprs_rest(alloc, items, tall, role),
-            Frame::CondFirst => Ok(cond_first(tall, role)),
-            Frame::CondTest(body) => Ok(cond_test(body, tall, role)),
+            Frame::ExprsFirst => exprs_first(alloc, measured, class),
+            Frame::ExprsRest(items) => exprs_rest(alloc, items, measured, class),
+            Frame::CondFirst => Ok(cond_first(measured, class)),
+            Frame::CondTest(body) => Ok(cond_test(body, measured, class)),
             Frame::CondElse(body, test) => {
-                Ok(Met::Passes(conditional(alloc, body, test, tall)?))
+                Ok(FrameStep::Passes(conditional(alloc, body, test, measured)?))
             }
-            Frame::First(level) => Ok(operand(level, tall, role)),
-            Frame::Right(joint, left) => right(alloc, joint, left, tall, role),
-            Frame::NotOf => Ok(Met::Passes(negation(alloc, tall)?)),
-            Frame::CompareFirst => compare_first(alloc, tall, role),
-            Frame::CompareRest(chain, op) => compare_rest(alloc, chain, op, tall, role),
-            Frame::UnaryOf(sign) => Ok(Met::Passes(unary(alloc, sign, tall)?)),
-            Frame::PostRest => Ok(post_rest(tall, role)),
-            Frame::InItems(opener, items) => in_items(alloc, opener, items, tall, role),
-            Frame::IndexFirst(of) => index_first(alloc, of, tall, role),
-            Frame::InIndex(of) => in_index(alloc, of, tall, role),
-            Frame::SliceTo(of, from) => slice_to(alloc, of, from, tall, role),
-            Frame::InParen => in_paren(alloc, tall, role),
-            Frame::InKey(entries) => Ok(in_key(entries, tall, role)),
-            Frame::InValue(entries, key) => in_value(alloc, entries, key, tall, role),
+            Frame::First(precedence) => Ok(operand(precedence, measured, class)),
+            Frame::Right(operator, left) => right(alloc, operator, left, measured, class),
+            Frame::NotOf => Ok(FrameStep::Passes(negation(alloc, measured)?)),
+            Frame::CompareFirst => compare_first(alloc, measured, class),
+            Frame::CompareRest(chain, op) => compare_rest(alloc, chain, op, measured, class),
+            Frame::UnaryOf(sign) => Ok(FrameStep::Passes(unary(alloc, sign, measured)?)),
+            Frame::PostRest => Ok(post_rest(measured, class)),
+            Frame::InItems(opener, items) => in_items(alloc, opener, items, measured, class),
+            Frame::IndexFirst(of) => index_first(alloc, of, measured, class),
+            Frame::InIndex(of) => in_index(alloc, of, measured, class),
+            Frame::SliceTo(of, from) => slice_to(alloc, of, from, measured, class),
+            Frame::InParen => in_paren(alloc, measured, class),
+            Frame::InKey(entries) => Ok(in_key(entries, measured, class)),
+            Frame::InValue(entries, key) => in_value(alloc, entries, key, measured, class),
         }
     }
 }
@@ -117,17 +122,17 @@ impl Frame {
 /// How high a tree may be at a place: one that has the form of a target, and any other; and whether what is open can
 /// still become a target by it.
 #[derive(Clone, Copy)]
-pub struct Room {
+pub struct HeightBudget {
     pub target: usize,
     pub other: usize,
     pub wants: bool,
 }
 
-/// A frame with the room inside it.
+/// A frame with the budget inside it.
 #[derive(Drop)]
-pub struct Held {
+pub struct OpenFrame {
     pub frame: Frame,
-    pub room: Room,
+    pub budget: HeightBudget,
 }
 
 /// What is open, the innermost last, under a limit of heights.
@@ -135,26 +140,26 @@ pub struct Held {
 pub struct Stack {
     pub limit: usize,
     pub goal: Goal,
-    pub frames: Vec<Held>,
+    pub frames: Vec<OpenFrame>,
 }
 
-/// The room below a node with other parts of that height.
-fn under(height: usize, room: usize) -> usize
-    ensures { result ≡ under height room }
+/// The budget below a node with other parts of that height.
+fn under(height: usize, budget: usize) -> usize
+    ensures { result ≡ under height budget }
 {
-    if height < room { room - 1 } else { 0 }
+    if height < budget { budget - 1 } else { 0 }
 }
 
-impl Room {
-    /// The same room for all trees, none of which makes a target of the whole.
-    fn same(room: usize) -> Room
-        ensures target { result.target ≡ room }
-        ensures other { result.other ≡ room }
+impl HeightBudget {
+    /// The same budget for all trees, none of which makes a target of the whole.
+    fn same(budget: usize) -> HeightBudget
+        ensures target { result.target ≡ budget }
+        ensures other { result.other ≡ budget }
         ensures wants { result.wants ≡ false }
     {
-        Room {
-            target: room,
-            other: room,
+        HeightBudget {
+            target: budget,
+            other: budget,
             wants: false,
         }
     }
@@ -165,9 +170,9 @@ impl Room {
         if target { self.target } else { self.other }
     }
 
-    /// The room where a postfix stands, which an index behind it can make a target.
+    /// The budget where a postfix stands, which an index after it can make a target.
     pub fn postfix(self, target: bool) -> usize
-        ensures { (limit : ℕ) (k : Ctx) → IsRoom limit k self → result ≡ postfix limit k target }
+        ensures { (limit : ℕ) (k : Ctx) → IsBudget limit k self → result ≡ postfix limit k target }
     {
         if target {
             return self.target;
@@ -179,17 +184,17 @@ impl Room {
     }
 }
 
-fn room_in_items(opener: &Opener, items: &Row, outer: Room) -> Room
-    requires opener { KeptOpener opener.now }
-    requires items { AreTall items.now }
-    ensures { (limit : ℕ) (k : Ctx) → limit ≤ HEIGHT → IsRoom limit k outer → IsRoom limit (on (in_items (view_opener opener.now) (view_row items.now)) k) result }
+fn budget_in_items(opener: &Opener, items: &Row, outer: HeightBudget) -> HeightBudget
+    requires opener { ValidOpener opener.now }
+    requires items { AreMeasured items.now }
+    ensures { (limit : ℕ) (k : Ctx) → limit ≤ HEIGHT → IsBudget limit k outer → IsBudget limit (on (in_items (view_opener opener.now) (view_row items.now)) k) result }
 {
     match opener {
         Opener::Call(callee) => {
-            let room = outer.postfix(false);
-            Room::same(under(higher(callee.height, items.height), room))
+            let budget = outer.postfix(false);
+            HeightBudget::same(under(higher(callee.height, items.height), budget))
         }
-        Opener::List => Room {
+        Opener::List => HeightBudget {
             target: under(items.height, outer.postfix(items.targets)),
             other: under(items.height, outer.postfix(false)),
             wants: both(items.targets, outer.wants),
@@ -197,71 +202,71 @@ fn room_in_items(opener: &Opener, items: &Row, outer: Room) -> Room
     }
 }
 
-/// The room inside a frame.
-fn room_inside(frame: &Frame, outer: Room) -> Room
-    requires { KeptFrame frame.now }
-    ensures { (limit : ℕ) (k : Ctx) → limit ≤ HEIGHT → IsRoom limit k outer → IsRoom limit (on (view_frame frame.now) k) result }
+/// The budget inside a frame.
+fn budget_inside(frame: &Frame, outer: HeightBudget) -> HeightBudget
+    requires { ValidFrame frame.now }
+    ensures { (limit : ℕ) (k : Ctx) → limit ≤ HEIGHT → IsBudget limit k outer → IsBudget limit (on (view_frame frame.now) k) result }
 {
     match frame {
         Frame::ExprsFirst => outer,
-        Frame::ExprsRest(items) => Room {
+        Frame::ExprsRest(items) => HeightBudget {
             target: under(items.height, outer.of(items.targets)),
             other: under(items.height, outer.other),
             wants: both(items.targets, outer.wants),
         },
         Frame::CondFirst => outer,
-        Frame::CondTest(body) => Room::same(under(higher(body.height, 1), outer.other)),
+        Frame::CondTest(body) => HeightBudget::same(under(higher(body.height, 1), outer.other)),
         Frame::CondElse(body, test) => {
-            Room::same(under(higher(body.height, test.height), outer.other))
+            HeightBudget::same(under(higher(body.height, test.height), outer.other))
         }
         Frame::First(_) => outer,
-        Frame::Right(_, left) => Room::same(under(left.height, outer.other)),
-        Frame::NotOf => Room::same(under(0, outer.other)),
+        Frame::Right(_, left) => HeightBudget::same(under(left.height, outer.other)),
+        Frame::NotOf => HeightBudget::same(under(0, outer.other)),
         Frame::CompareFirst => outer,
-        Frame::CompareRest(chain, _) => Room::same(under(chain.height, outer.other)),
-        Frame::UnaryOf(_) => Room::same(under(0, outer.other)),
-        Frame::PostRest => Room {
+        Frame::CompareRest(chain, _) => HeightBudget::same(under(chain.height, outer.other)),
+        Frame::UnaryOf(_) => HeightBudget::same(under(0, outer.other)),
+        Frame::PostRest => HeightBudget {
             target: outer.target,
             other: outer.postfix(false),
             wants: outer.wants,
         },
-        Frame::InItems(opener, items) => room_in_items(opener, items, outer),
-        Frame::IndexFirst(of) => Room::same(under(of.height, outer.target)),
-        Frame::InIndex(of) => Room::same(under(of.height, outer.target)),
+        Frame::InItems(opener, items) => budget_in_items(opener, items, outer),
+        Frame::IndexFirst(of) => HeightBudget::same(under(of.height, outer.target)),
+        Frame::InIndex(of) => HeightBudget::same(under(of.height, outer.target)),
         Frame::SliceTo(of, from) => {
             let height = higher(of.height, bound_height(from));
-            Room::same(under(height, outer.postfix(false)))
+            HeightBudget::same(under(height, outer.postfix(false)))
         }
-        Frame::InParen => Room {
+        Frame::InParen => HeightBudget {
             target: under(0, outer.target),
             other: under(0, outer.postfix(false)),
             wants: outer.wants,
         },
         Frame::InKey(entries) => {
-            Room::same(under(higher(entries.height, 1), outer.postfix(false)))
+            HeightBudget::same(under(higher(entries.height, 1), outer.postfix(false)))
         }
         Frame::InValue(entries, key) => {
             let height = higher(entries.height, key.height);
-            Room::same(under(height, outer.postfix(false)))
+            HeightBudget::same(under(height, outer.postfix(false)))
         }
     }
 }
 
-/// The room with nothing open.
-fn room_outside(limit: usize, goal: &Goal) -> Room
+/// The budget with nothing open.
+fn budget_outside(limit: usize, goal: &Goal) -> HeightBudget
     requires low { limit ≤ HEIGHT }
-    requires goal { KeptGoal goal.now }
-    ensures { IsRoom limit (Outside (view_goal goal.now)) result }
+    requires goal { ValidGoal goal.now }
+    ensures { IsBudget limit (Outside (view_goal goal.now)) result }
 {
     match goal {
-        Goal::Any => Room::same(limit),
-        Goal::One => Room::same(limit),
-        Goal::Target => Room {
+        Goal::Any => HeightBudget::same(limit),
+        Goal::One => HeightBudget::same(limit),
+        Goal::Target => HeightBudget {
             target: limit,
             other: under(0, limit),
             wants: true,
         },
-        Goal::Targets(items) => Room {
+        Goal::Targets(items) => HeightBudget {
             target: under(items.height, limit),
             other: under(0, under(items.height, limit)),
             wants: true,
@@ -272,9 +277,9 @@ fn room_outside(limit: usize, goal: &Goal) -> Room
 impl Stack {
     pub fn new(alloc: Global, limit: usize, goal: Goal) -> Stack
         requires low { limit ≤ HEIGHT }
-        requires goal { KeptGoal goal }
+        requires goal { ValidGoal goal }
         ensures view { view_stack result ≡ Outside (view_goal goal) }
-        ensures kept { Kept limit result }
+        ensures valid { Valid limit result }
     {
         Stack {
             limit,
@@ -283,33 +288,33 @@ impl Stack {
         }
     }
 
-    /// The room at the place.
-    pub fn room(&self) -> Room
-        requires { Kept self.now.limit self.now }
-        ensures { IsRoom self.now.limit (view_stack self.now) result }
+    /// The budget at the place.
+    pub fn budget(&self) -> HeightBudget
+        requires { Valid self.now.limit self.now }
+        ensures { IsBudget self.now.limit (view_stack self.now) result }
     {
         match self.frames.last() {
-            Some(held) => held.room,
-            None => room_outside(self.limit, &self.goal),
+            Some(held) => held.budget,
+            None => budget_outside(self.limit, &self.goal),
         }
     }
 
     pub fn push(&mut self, frame: Frame) -> Result<(), NoMemory>
-        requires kept { Kept self.old.limit self.old }
-        requires frame { KeptFrame frame }
+        requires valid { Valid self.old.limit self.old }
+        requires frame { ValidFrame frame }
         ensures view { OnOk result (view_stack self.new ≡ on (view_frame frame) (view_stack self.old)) }
-        ensures kept { OnOk result (Kept self.old.limit self.new) }
+        ensures valid { OnOk result (Valid self.old.limit self.new) }
     {
-        let room = room_inside(&frame, self.room());
-        self.frames.push(Held { frame, room })?;
+        let budget = budget_inside(&frame, self.budget());
+        self.frames.push(OpenFrame { frame, budget })?;
         Ok(())
     }
 
     /// Takes the innermost frame off.
     pub fn pop(&mut self) -> Option<Frame>
-        requires { Kept self.old.limit self.old }
+        requires { Valid self.old.limit self.old }
         ensures pops { Pops result self.old self.new }
-        ensures kept { Kept self.old.limit self.new }
+        ensures valid { Valid self.old.limit self.new }
     {
         match self.frames.pop() {
             Some(held) => Some(held.frame),
@@ -323,17 +328,17 @@ impl Stack {
     #[cycle(opened)]
     fn opened_with(
         &mut self,
-        from: Level,
-        looser: Level,
-        level: Level,
+        from: Precedence,
+        looser: Precedence,
+        precedence: Precedence,
         frame: Frame,
     ) -> Result<(), NoMemory>
-        requires kept { Kept self.old.limit self.old }
-        requires frame { KeptFrame frame }
-        ensures view { OnOk result (view_stack self.new ≡ cond (at_most (view_level from) (view_level level)) (on (view_frame frame) (opened (view_level from) (view_level looser) (view_stack self.old))) (view_stack self.old)) }
-        ensures kept { OnOk result (Kept self.old.limit self.new) }
+        requires valid { Valid self.old.limit self.old }
+        requires frame { ValidFrame frame }
+        ensures view { OnOk result (view_stack self.new ≡ cond (at_most (view_precedence from) (view_precedence precedence)) (on (view_frame frame) (opened (view_precedence from) (view_precedence looser) (view_stack self.old))) (view_stack self.old)) }
+        ensures valid { OnOk result (Valid self.old.limit self.new) }
     {
-        if !from.at_most(level) {
+        if !from.at_most(precedence) {
             drop(frame);
             return Ok(());
         }
@@ -343,28 +348,28 @@ impl Stack {
 
     /// The frames from one level up to another.
     #[cycle(opened)]
-    pub fn opened(&mut self, from: Level, to: Level) -> Result<(), NoMemory>
-        requires { Kept self.old.limit self.old }
-        ensures view { OnOk result (view_stack self.new ≡ opened (view_level from) (view_level to) (view_stack self.old)) }
-        ensures kept { OnOk result (Kept self.old.limit self.new) }
+    pub fn opened(&mut self, from: Precedence, to: Precedence) -> Result<(), NoMemory>
+        requires { Valid self.old.limit self.old }
+        ensures view { OnOk result (view_stack self.new ≡ opened (view_precedence from) (view_precedence to) (view_stack self.old)) }
+        ensures valid { OnOk result (Valid self.old.limit self.new) }
     {
         match to {
-            Level::Exprs => {
-                if !from.at_most(Level::Exprs) {
+            Precedence::Exprs => {
+                if !from.at_most(Precedence::Exprs) {
                     return Ok(());
                 }
                 self.push(Frame::ExprsFirst)
             }
-            Level::Expr => self.opened_with(from, Level::Exprs, to, Frame::CondFirst),
-            Level::Or => self.opened_with(from, Level::Expr, to, Frame::First(to)),
-            Level::And => self.opened_with(from, Level::Or, to, Frame::First(to)),
-            Level::Not => self.opened(from, Level::And),
-            Level::Compare => self.opened_with(from, Level::And, to, Frame::CompareFirst),
-            Level::Sum => self.opened_with(from, Level::Compare, to, Frame::First(to)),
-            Level::Term => self.opened_with(from, Level::Sum, to, Frame::First(to)),
-            Level::Unary => self.opened(from, Level::Term),
-            Level::Post => {
-                self.opened(from, Level::Term)?;
+            Precedence::Expr => self.opened_with(from, Precedence::Exprs, to, Frame::CondFirst),
+            Precedence::Or => self.opened_with(from, Precedence::Expr, to, Frame::First(to)),
+            Precedence::And => self.opened_with(from, Precedence::Or, to, Frame::First(to)),
+            Precedence::Not => self.opened(from, Precedence::And),
+            Precedence::Compare => self.opened_with(from, Precedence::And, to, Frame::CompareFirst),
+            Precedence::Sum => self.opened_with(from, Precedence::Compare, to, Frame::First(to)),
+            Precedence::Term => self.opened_with(from, Precedence::Sum, to, Frame::First(to)),
+            Precedence::Unary => self.opened(from, Precedence::Term),
+            Precedence::Post => {
+                self.opened(from, Precedence::Term)?;
                 self.push(Frame::PostRest)
             }
         }

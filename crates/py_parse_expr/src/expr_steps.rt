@@ -4,160 +4,208 @@ ghost use Rattle.std.specs.Prelude.{◌≡◌, false, cond};
 ghost use Rattle.py_syntax.specs.View.{plain_expr};
 ghost use Rattle.py_syntax.specs.Normal.{LExpr, LPost, height, is_target};
 ghost use Rattle.py_grammar.specs.Machine.{at_most, snoc_link, target, on, in_items, AfterOpen, Strings as StringsState, Want, IndexOpen, SliceColon, AfterDot, Linked, Next, Stuck, Have, upto, begin, close_items, leave, give, step};
-ghost use Rattle.py_parse_expr.specs.ExprHeld.{view_level, view_role, view_tall, view_row, view_entries, view_links, view_bound, view_opener, view_strings, IsTall, AreTall, AreEntries, IsChain, KeptOpener, KeptBound, KeptRole, KeptStrings};
-ghost use Rattle.py_parse_expr.specs.ExprStacks.{opened, view_goal, view_frame, view_stack, KeptGoal, KeptItems, KeptFrame, Kept};
-ghost use Rattle.py_parse_expr.specs.ExprTurns.{view_at, KeptAt, close_dict, Stays, Acts};
+ghost use Rattle.py_parse_expr.specs.ExprViews.{view_precedence, view_class, view_measured, view_row, view_entries, view_links, view_bound, view_opener, view_strings, IsMeasured, AreMeasured, AreEntries, IsChain, ValidOpener, ValidBound, ValidClass, ValidStrings};
+ghost use Rattle.py_parse_expr.specs.ExprStacks.{opened, view_goal, view_frame, view_stack, ValidGoal, ValidItems, ValidFrame, Valid};
+ghost use Rattle.py_parse_expr.specs.ExprTurns.{view_at, ValidAt, close_dict, Stays, Acts};
 
+use crate::expr_classes::{BinaryOperator, Precedence, TokenClass};
 use crate::expr_frames::{closes, link};
 use crate::expr_nodes::{
-    Chain, Entries, Opener, Row, Strings, Tall, attribute, dict, made, slice, tuple,
+    Chain, Entries, Measured, Opener, Row, Strings, attribute, dict, made, slice, tuple,
 };
-use crate::expr_roles::{Joint, Level, Role};
 use crate::expr_stack::{Frame, Goal, Stack};
-use crate::expr_turns::{Met, Progress, Turn};
+use crate::expr_turns::{FrameStep, Progress, Turn};
 use py_syntax::{Comparison, Expr, Sign};
 use py_value::{BinOp, CmpOp, NoMemory};
 use std::alloc::Global;
 
 /// The outermost expression is whole, and is to be the target of a `for`, or its first item.
-fn leave_first(alloc: Global, tall: Tall, role: &Role) -> Result<Turn, NoMemory>
-    requires { IsTall tall }
-    ensures { Stays (λ k. leave (view_tall tall) target (view_role role.now)) result }
+fn leave_first(alloc: Global, measured: Measured, class: &TokenClass) -> Result<Turn, NoMemory>
+    requires { IsMeasured measured }
+    ensures { Stays (λ k. leave (view_measured measured) target (view_class class.now)) result }
 {
-    if !tall.target {
+    if !measured.target {
         return Ok(Turn::Stuck);
     }
-    match role {
-        Role::Comma => {
-            let items = Row::new(alloc).with(tall)?;
+    match class {
+        TokenClass::Comma => {
+            let items = Row::new(alloc).with(measured)?;
             Ok(Turn::Next(Progress::AfterTarget(items)))
         }
-        _ => Ok(Turn::Left(tall)),
+        _ => Ok(Turn::Left(measured)),
     }
 }
 
 /// The outermost expression is whole, and is to be a further item of the target of a `for`.
-fn leave_next(alloc: Global, items: Row, tall: Tall, role: &Role) -> Result<Turn, NoMemory>
-    requires items { KeptItems items }
-    requires tall { IsTall tall }
-    ensures { Stays (λ k. leave (view_tall tall) (view_goal (Goal.Targets items)) (view_role role.now)) result }
+fn leave_next(
+    alloc: Global,
+    items: Row,
+    measured: Measured,
+    class: &TokenClass,
+) -> Result<Turn, NoMemory>
+    requires items { ValidItems items }
+    requires measured { IsMeasured measured }
+    ensures { Stays (λ k. leave (view_measured measured) (view_goal (Goal.Targets items)) (view_class class.now)) result }
 {
-    if !tall.target {
+    if !measured.target {
         return Ok(Turn::Stuck);
     }
-    let items = items.with(tall)?;
-    match role {
-        Role::Comma => Ok(Turn::Next(Progress::AfterTarget(items))),
+    let items = items.with(measured)?;
+    match class {
+        TokenClass::Comma => Ok(Turn::Next(Progress::AfterTarget(items))),
         _ => Ok(Turn::Left(tuple(alloc, items, false)?)),
     }
 }
 
 /// The outermost expression is whole.
-fn leave(alloc: Global, goal: Goal, tall: Tall, role: &Role) -> Result<Turn, NoMemory>
-    requires goal { KeptGoal goal }
-    requires tall { IsTall tall }
-    ensures { Stays (λ k. leave (view_tall tall) (view_goal goal) (view_role role.now)) result }
+fn leave(
+    alloc: Global,
+    goal: Goal,
+    measured: Measured,
+    class: &TokenClass,
+) -> Result<Turn, NoMemory>
+    requires goal { ValidGoal goal }
+    requires measured { IsMeasured measured }
+    ensures { Stays (λ k. leave (view_measured measured) (view_goal goal) (view_class class.now)) result }
 {
     match goal {
-        Goal::Any => Ok(Turn::Left(tall)),
-        Goal::One => Ok(Turn::Left(tall)),
-        Goal::Target => leave_first(alloc, tall, role),
-        Goal::Targets(items) => leave_next(alloc, items, tall, role),
+        Goal::Any => Ok(Turn::Left(measured)),
+        Goal::One => Ok(Turn::Left(measured)),
+        Goal::Target => leave_first(alloc, measured, class),
+        Goal::Targets(items) => leave_next(alloc, items, measured, class),
     }
 }
 
 /// An expression is whole as far as the stack knows.
-pub fn give(alloc: Global, stack: &mut Stack, tall: Tall, role: &Role) -> Result<Turn, NoMemory>
-    requires kept { Kept stack.old.limit stack.old }
-    requires tall { IsTall tall }
-    ensures { Acts (give (view_tall tall) (view_stack stack.old) (view_role role.now)) stack.old.limit stack.new result }
+pub fn give(
+    alloc: Global,
+    stack: &mut Stack,
+    measured: Measured,
+    class: &TokenClass,
+) -> Result<Turn, NoMemory>
+    requires valid { Valid stack.old.limit stack.old }
+    requires measured { IsMeasured measured }
+    ensures { Acts (give (view_measured measured) (view_stack stack.old) (view_class class.now)) stack.old.limit stack.new result }
 {
-    let mut tall = tall;
+    let mut measured = measured;
     'frames: while let Some(frame) = stack.pop() {
-        match frame.meet(alloc, tall, role)? {
-            Met::Next(progress) => return Ok(Turn::Next(progress)),
-            Met::Opens(frame, progress) => {
+        match frame.meet(alloc, measured, class)? {
+            FrameStep::Next(progress) => return Ok(Turn::Next(progress)),
+            FrameStep::Opens(frame, progress) => {
                 stack.push(frame)?;
                 return Ok(Turn::Next(progress));
             }
-            Met::Stuck => return Ok(Turn::Stuck),
-            Met::Passes(next) => tall = next,
+            FrameStep::Stuck => return Ok(Turn::Stuck),
+            FrameStep::Passes(next) => measured = next,
         }
     }
     let goal = std::mem::replace(&mut stack.goal, Goal::Any);
     *stack = Stack::new(alloc, stack.limit, Goal::Any);
-    leave(alloc, goal, tall, role)
+    leave(alloc, goal, measured, class)
 }
 
 /// A token is an expression, or begins strings.
-fn atom(stack: &mut Stack, level: Level, progress: Progress) -> Result<Turn, NoMemory>
-    requires kept { Kept stack.old.limit stack.old }
-    requires at { KeptAt progress }
-    ensures { Acts (Next (view_at progress (upto (view_level level) LPost (view_stack stack.old)))) stack.old.limit stack.new result }
+fn atom(stack: &mut Stack, precedence: Precedence, progress: Progress) -> Result<Turn, NoMemory>
+    requires valid { Valid stack.old.limit stack.old }
+    requires at { ValidAt progress }
+    ensures { Acts (Next (view_at progress (upto (view_precedence precedence) LPost (view_stack stack.old)))) stack.old.limit stack.new result }
 {
-    stack.opened(level, Level::Post)?;
+    stack.opened(precedence, Precedence::Post)?;
     Ok(Turn::Next(progress))
 }
 
 /// A number or a word that is an expression.
-fn low(alloc: Global, stack: &mut Stack, level: Level, expr: Expr) -> Result<Turn, NoMemory>
-    requires kept { Kept stack.old.limit stack.old }
+fn low(
+    alloc: Global,
+    stack: &mut Stack,
+    precedence: Precedence,
+    expr: Expr,
+) -> Result<Turn, NoMemory>
+    requires valid { Valid stack.old.limit stack.old }
     requires height { height (plain_expr expr) ≡ 1 }
     requires target { is_target (plain_expr expr) ≡ false }
-    ensures { Acts (Next (Have (plain_expr expr) (upto (view_level level) LPost (view_stack stack.old)))) stack.old.limit stack.new result }
+    ensures { Acts (Next (Have (plain_expr expr) (upto (view_precedence precedence) LPost (view_stack stack.old)))) stack.old.limit stack.new result }
 {
-    let tall = Tall::low(alloc, expr)?;
-    atom(stack, level, Progress::Have(tall))
+    let measured = Measured::low(alloc, expr)?;
+    atom(stack, precedence, Progress::Have(measured))
 }
 
 /// An operator stands in front of an operand, which has the level of its trees.
-fn prefixed(stack: &mut Stack, level: Level, frame: Frame, operand: Level) -> Result<Turn, NoMemory>
-    requires kept { Kept stack.old.limit stack.old }
-    requires frame { KeptFrame frame }
-    ensures { Acts (cond (at_most (view_level level) (view_level operand)) (Next (Want (view_level operand) (on (view_frame frame) (opened (view_level level) (view_level operand) (view_stack stack.old))))) Stuck) stack.old.limit stack.new result }
+fn prefixed(
+    stack: &mut Stack,
+    precedence: Precedence,
+    frame: Frame,
+    operand: Precedence,
+) -> Result<Turn, NoMemory>
+    requires valid { Valid stack.old.limit stack.old }
+    requires frame { ValidFrame frame }
+    ensures { Acts (cond (at_most (view_precedence precedence) (view_precedence operand)) (Next (Want (view_precedence operand) (on (view_frame frame) (opened (view_precedence precedence) (view_precedence operand) (view_stack stack.old))))) Stuck) stack.old.limit stack.new result }
 {
-    if !level.at_most(operand) {
+    if !precedence.at_most(operand) {
         drop(frame);
         return Ok(Turn::Stuck);
     }
-    stack.opened(level, operand)?;
+    stack.opened(precedence, operand)?;
     stack.push(frame)?;
     Ok(Turn::Next(Progress::Want(operand)))
 }
 
 /// An expression of that level begins.
-pub fn begin(alloc: Global, stack: &mut Stack, level: Level, role: Role) -> Result<Turn, NoMemory>
-    requires kept { Kept stack.old.limit stack.old }
-    requires role { KeptRole role }
-    ensures { Acts (begin (view_level level) (view_stack stack.old) (view_role role)) stack.old.limit stack.new result }
+pub fn begin(
+    alloc: Global,
+    stack: &mut Stack,
+    precedence: Precedence,
+    class: TokenClass,
+) -> Result<Turn, NoMemory>
+    requires valid { Valid stack.old.limit stack.old }
+    requires class { ValidClass class }
+    ensures { Acts (begin (view_precedence precedence) (view_stack stack.old) (view_class class)) stack.old.limit stack.new result }
 {
-    match role {
-        Role::Name(text) => atom(stack, level, Progress::Have(Tall::name(alloc, text)?)),
-        Role::Int(number) => low(alloc, stack, level, Expr::Int(number)),
-        Role::NoneWord => low(alloc, stack, level, Expr::None),
-        Role::Bool(truth) => low(alloc, stack, level, Expr::Bool(truth)),
-        Role::Str(text) => atom(stack, level, Progress::Strings(Strings::text(alloc, text)?)),
-        Role::Format(fields) => {
+    match class {
+        TokenClass::Name(text) => atom(
+            stack,
+            precedence,
+            Progress::Have(Measured::name(alloc, text)?),
+        ),
+        TokenClass::Int(number) => low(alloc, stack, precedence, Expr::Int(number)),
+        TokenClass::NoneWord => low(alloc, stack, precedence, Expr::None),
+        TokenClass::Bool(truth) => low(alloc, stack, precedence, Expr::Bool(truth)),
+        TokenClass::Str(text) => atom(
+            stack,
+            precedence,
+            Progress::Strings(Strings::text(alloc, text)?),
+        ),
+        TokenClass::Format(fields) => {
             let strings = Strings::format(alloc, fields)?;
-            atom(stack, level, Progress::Strings(strings))
+            atom(stack, precedence, Progress::Strings(strings))
         }
-        Role::Not => prefixed(stack, level, Frame::NotOf, Level::Not),
-        Role::Joint(Joint::Op(BinOp::Add)) => {
-            prefixed(stack, level, Frame::UnaryOf(Sign::Plus), Level::Unary)
+        TokenClass::Not => prefixed(stack, precedence, Frame::NotOf, Precedence::Not),
+        TokenClass::BinaryOperator(BinaryOperator::Op(BinOp::Add)) => {
+            prefixed(
+                stack,
+                precedence,
+                Frame::UnaryOf(Sign::Plus),
+                Precedence::Unary,
+            )
         }
-        Role::Joint(Joint::Op(BinOp::Sub)) => {
-            prefixed(stack, level, Frame::UnaryOf(Sign::Minus), Level::Unary)
+        TokenClass::BinaryOperator(BinaryOperator::Op(BinOp::Sub)) => {
+            prefixed(
+                stack,
+                precedence,
+                Frame::UnaryOf(Sign::Minus),
+                Precedence::Unary,
+            )
         }
-        Role::LeftParen => {
-            stack.opened(level, Level::Term)?;
+        TokenClass::LeftParen => {
+            stack.opened(precedence, Precedence::Term)?;
             Ok(Turn::Next(Progress::AfterOpen))
         }
-        Role::LeftBracket => {
-            stack.opened(level, Level::Term)?;
+        TokenClass::LeftBracket => {
+            stack.opened(precedence, Precedence::Term)?;
             Ok(Turn::Next(Progress::ItemsOpen(Opener::List)))
         }
-        Role::LeftBrace => {
-            stack.opened(level, Level::Term)?;
+        TokenClass::LeftBrace => {
+            stack.opened(precedence, Precedence::Term)?;
             Ok(Turn::Next(Progress::DictOpen))
         }
         other => {
@@ -172,51 +220,51 @@ fn begin_in(
     alloc: Global,
     stack: &mut Stack,
     frame: Frame,
-    level: Level,
-    role: Role,
+    precedence: Precedence,
+    class: TokenClass,
 ) -> Result<Turn, NoMemory>
-    requires kept { Kept stack.old.limit stack.old }
-    requires frame { KeptFrame frame }
-    requires role { KeptRole role }
-    ensures { Acts (begin (view_level level) (on (view_frame frame) (view_stack stack.old)) (view_role role)) stack.old.limit stack.new result }
+    requires valid { Valid stack.old.limit stack.old }
+    requires frame { ValidFrame frame }
+    requires class { ValidClass class }
+    ensures { Acts (begin (view_precedence precedence) (on (view_frame frame) (view_stack stack.old)) (view_class class)) stack.old.limit stack.new result }
 {
     stack.push(frame)?;
-    begin(alloc, stack, level, role)
+    begin(alloc, stack, precedence, class)
 }
 
 pub fn in_strings(
     alloc: Global,
     stack: &mut Stack,
     strings: Strings,
-    role: Role,
+    class: TokenClass,
 ) -> Result<Turn, NoMemory>
-    requires kept { Kept stack.old.limit stack.old }
-    requires strings { KeptStrings strings }
-    requires role { KeptRole role }
-    ensures { Acts (step (StringsState (view_strings strings) (view_stack stack.old)) (view_role role)) stack.old.limit stack.new result }
+    requires valid { Valid stack.old.limit stack.old }
+    requires strings { ValidStrings strings }
+    requires class { ValidClass class }
+    ensures { Acts (step (StringsState (view_strings strings) (view_stack stack.old)) (view_class class)) stack.old.limit stack.new result }
 {
-    match role {
-        Role::Str(text) => Ok(Turn::Next(Progress::Strings(strings.with_text(text)?))),
-        Role::Format(fields) => {
+    match class {
+        TokenClass::Str(text) => Ok(Turn::Next(Progress::Strings(strings.with_text(text)?))),
+        TokenClass::Format(fields) => {
             let strings = strings.with_format(alloc, fields)?;
             Ok(Turn::Next(Progress::Strings(strings)))
         }
-        rest => give(alloc, stack, strings.tall(alloc)?, &rest),
+        rest => give(alloc, stack, strings.measured(alloc)?, &rest),
     }
 }
 
-pub fn after_open(alloc: Global, stack: &mut Stack, role: Role) -> Result<Turn, NoMemory>
-    requires kept { Kept stack.old.limit stack.old }
-    requires role { KeptRole role }
-    ensures { Acts (step (AfterOpen (view_stack stack.old)) (view_role role)) stack.old.limit stack.new result }
+pub fn after_open(alloc: Global, stack: &mut Stack, class: TokenClass) -> Result<Turn, NoMemory>
+    requires valid { Valid stack.old.limit stack.old }
+    requires class { ValidClass class }
+    ensures { Acts (step (AfterOpen (view_stack stack.old)) (view_class class)) stack.old.limit stack.new result }
 {
-    match role {
-        Role::RightParen => {
+    match class {
+        TokenClass::RightParen => {
             stack.push(Frame::PostRest)?;
-            let tall = tuple(alloc, Row::new(alloc), false)?;
-            Ok(Turn::Next(Progress::Have(tall)))
+            let measured = tuple(alloc, Row::new(alloc), false)?;
+            Ok(Turn::Next(Progress::Have(measured)))
         }
-        rest => begin_in(alloc, stack, Frame::InParen, Level::Exprs, rest),
+        rest => begin_in(alloc, stack, Frame::InParen, Precedence::Exprs, rest),
     }
 }
 
@@ -224,36 +272,42 @@ pub fn after_comma(
     alloc: Global,
     stack: &mut Stack,
     items: Row,
-    role: Role,
+    class: TokenClass,
 ) -> Result<Turn, NoMemory>
-    requires kept { Kept stack.old.limit stack.old }
-    requires items { KeptItems items }
-    requires role { KeptRole role }
-    ensures { Acts (step (view_at (Progress.AfterComma items) (view_stack stack.old)) (view_role role)) stack.old.limit stack.new result }
+    requires valid { Valid stack.old.limit stack.old }
+    requires items { ValidItems items }
+    requires class { ValidClass class }
+    ensures { Acts (step (view_at (Progress.AfterComma items) (view_stack stack.old)) (view_class class)) stack.old.limit stack.new result }
 {
-    if role.begins() {
-        return begin_in(alloc, stack, Frame::ExprsRest(items), Level::Expr, role);
+    if class.begins() {
+        return begin_in(
+            alloc,
+            stack,
+            Frame::ExprsRest(items),
+            Precedence::Expr,
+            class,
+        );
     }
-    give(alloc, stack, tuple(alloc, items, true)?, &role)
+    give(alloc, stack, tuple(alloc, items, true)?, &class)
 }
 
 pub fn after_target(
     alloc: Global,
     stack: &mut Stack,
     items: Row,
-    role: Role,
+    class: TokenClass,
 ) -> Result<Turn, NoMemory>
-    requires kept { Kept stack.old.limit stack.old }
-    requires items { KeptItems items }
-    requires role { KeptRole role }
-    ensures { Acts (step (view_at (Progress.AfterTarget items) (view_stack stack.old)) (view_role role)) stack.old.limit stack.new result }
+    requires valid { Valid stack.old.limit stack.old }
+    requires items { ValidItems items }
+    requires class { ValidClass class }
+    ensures { Acts (step (view_at (Progress.AfterTarget items) (view_stack stack.old)) (view_class class)) stack.old.limit stack.new result }
 {
-    if !role.begins() {
-        drop(role);
+    if !class.begins() {
+        drop(class);
         return Ok(Turn::Left(tuple(alloc, items, true)?));
     }
     *stack = Stack::new(alloc, stack.limit, Goal::Targets(items));
-    begin(alloc, stack, Level::Post, role)
+    begin(alloc, stack, Precedence::Post, class)
 }
 
 /// A bracket with items is closed, or another item begins.
@@ -263,26 +317,26 @@ pub fn in_items(
     opener: Opener,
     items: Row,
     comma: bool,
-    role: Role,
+    class: TokenClass,
 ) -> Result<Turn, NoMemory>
-    requires kept { Kept stack.old.limit stack.old }
-    requires opener { KeptOpener opener }
-    requires items { AreTall items }
-    requires role { KeptRole role }
-    ensures { Acts (close_items (view_opener opener) (view_row items) comma (view_stack stack.old) (view_role role) (begin LExpr (on (in_items (view_opener opener) (view_row items)) (view_stack stack.old)) (view_role role))) stack.old.limit stack.new result }
+    requires valid { Valid stack.old.limit stack.old }
+    requires opener { ValidOpener opener }
+    requires items { AreMeasured items }
+    requires class { ValidClass class }
+    ensures { Acts (close_items (view_opener opener) (view_row items) comma (view_stack stack.old) (view_class class) (begin LExpr (on (in_items (view_opener opener) (view_row items)) (view_stack stack.old)) (view_class class))) stack.old.limit stack.new result }
 {
-    if closes(&opener, &role) {
-        drop(role);
+    if closes(&opener, &class) {
+        drop(class);
         stack.push(Frame::PostRest)?;
-        let tall = made(alloc, opener, items, comma)?;
-        return Ok(Turn::Next(Progress::Have(tall)));
+        let measured = made(alloc, opener, items, comma)?;
+        return Ok(Turn::Next(Progress::Have(measured)));
     }
     begin_in(
         alloc,
         stack,
         Frame::InItems(opener, items),
-        Level::Expr,
-        role,
+        Precedence::Expr,
+        class,
     )
 }
 
@@ -292,68 +346,84 @@ pub fn in_dict(
     stack: &mut Stack,
     entries: Entries,
     comma: bool,
-    role: Role,
+    class: TokenClass,
 ) -> Result<Turn, NoMemory>
-    requires kept { Kept stack.old.limit stack.old }
+    requires valid { Valid stack.old.limit stack.old }
     requires entries { AreEntries entries }
-    requires role { KeptRole role }
-    ensures { Acts (close_dict (view_entries entries) comma (view_stack stack.old) (view_role role)) stack.old.limit stack.new result }
+    requires class { ValidClass class }
+    ensures { Acts (close_dict (view_entries entries) comma (view_stack stack.old) (view_class class)) stack.old.limit stack.new result }
 {
-    match role {
-        Role::RightBrace => {
+    match class {
+        TokenClass::RightBrace => {
             stack.push(Frame::PostRest)?;
-            let tall = dict(alloc, entries, comma)?;
-            Ok(Turn::Next(Progress::Have(tall)))
+            let measured = dict(alloc, entries, comma)?;
+            Ok(Turn::Next(Progress::Have(measured)))
         }
-        rest => begin_in(alloc, stack, Frame::InKey(entries), Level::Expr, rest),
+        rest => begin_in(alloc, stack, Frame::InKey(entries), Precedence::Expr, rest),
     }
 }
 
-pub fn index_open(alloc: Global, stack: &mut Stack, of: Tall, role: Role) -> Result<Turn, NoMemory>
-    requires kept { Kept stack.old.limit stack.old }
-    requires of { IsTall of }
-    requires role { KeptRole role }
-    ensures { Acts (step (IndexOpen (view_tall of) (view_stack stack.old)) (view_role role)) stack.old.limit stack.new result }
+pub fn index_open(
+    alloc: Global,
+    stack: &mut Stack,
+    of: Measured,
+    class: TokenClass,
+) -> Result<Turn, NoMemory>
+    requires valid { Valid stack.old.limit stack.old }
+    requires of { IsMeasured of }
+    requires class { ValidClass class }
+    ensures { Acts (step (IndexOpen (view_measured of) (view_stack stack.old)) (view_class class)) stack.old.limit stack.new result }
 {
-    match role {
-        Role::Colon => Ok(Turn::Next(Progress::SliceColon(of, None))),
-        rest => begin_in(alloc, stack, Frame::IndexFirst(of), Level::Expr, rest),
+    match class {
+        TokenClass::Colon => Ok(Turn::Next(Progress::SliceColon(of, None))),
+        rest => begin_in(alloc, stack, Frame::IndexFirst(of), Precedence::Expr, rest),
     }
 }
 
 pub fn slice_colon(
     alloc: Global,
     stack: &mut Stack,
-    of: Tall,
-    from: Option<Tall>,
-    role: Role,
+    of: Measured,
+    from: Option<Measured>,
+    class: TokenClass,
 ) -> Result<Turn, NoMemory>
-    requires kept { Kept stack.old.limit stack.old }
-    requires of { IsTall of }
-    requires from { KeptBound from }
-    requires role { KeptRole role }
-    ensures { Acts (step (SliceColon (view_tall of) (view_bound from) (view_stack stack.old)) (view_role role)) stack.old.limit stack.new result }
+    requires valid { Valid stack.old.limit stack.old }
+    requires of { IsMeasured of }
+    requires from { ValidBound from }
+    requires class { ValidClass class }
+    ensures { Acts (step (SliceColon (view_measured of) (view_bound from) (view_stack stack.old)) (view_class class)) stack.old.limit stack.new result }
 {
-    match role {
-        Role::RightBracket => {
+    match class {
+        TokenClass::RightBracket => {
             stack.push(Frame::PostRest)?;
-            let tall = slice(alloc, of, from, None)?;
-            Ok(Turn::Next(Progress::Have(tall)))
+            let measured = slice(alloc, of, from, None)?;
+            Ok(Turn::Next(Progress::Have(measured)))
         }
-        rest => begin_in(alloc, stack, Frame::SliceTo(of, from), Level::Expr, rest),
+        rest => begin_in(
+            alloc,
+            stack,
+            Frame::SliceTo(of, from),
+            Precedence::Expr,
+            rest,
+        ),
     }
 }
 
-pub fn after_dot(alloc: Global, stack: &mut Stack, of: Tall, role: Role) -> Result<Turn, NoMemory>
-    requires kept { Kept stack.old.limit stack.old }
-    requires of { IsTall of }
-    ensures { Acts (step (AfterDot (view_tall of) (view_stack stack.old)) (view_role role)) stack.old.limit stack.new result }
+pub fn after_dot(
+    alloc: Global,
+    stack: &mut Stack,
+    of: Measured,
+    class: TokenClass,
+) -> Result<Turn, NoMemory>
+    requires valid { Valid stack.old.limit stack.old }
+    requires of { IsMeasured of }
+    ensures { Acts (step (AfterDot (view_measured of) (view_stack stack.old)) (view_class class)) stack.old.limit stack.new result }
 {
-    match role {
-        Role::Name(text) => {
+    match class {
+        TokenClass::Name(text) => {
             stack.push(Frame::PostRest)?;
-            let tall = attribute(alloc, of, text)?;
-            Ok(Turn::Next(Progress::Have(tall)))
+            let measured = attribute(alloc, of, text)?;
+            Ok(Turn::Next(Progress::Have(measured)))
         }
         other => {
             drop(other);
@@ -362,15 +432,15 @@ pub fn after_dot(alloc: Global, stack: &mut Stack, of: Tall, role: Role) -> Resu
     }
 }
 
-pub fn after_not(stack: &mut Stack, chain: Chain, role: Role) -> Result<Turn, NoMemory>
-    requires kept { Kept stack.old.limit stack.old }
+pub fn after_not(stack: &mut Stack, chain: Chain, class: TokenClass) -> Result<Turn, NoMemory>
+    requires valid { Valid stack.old.limit stack.old }
     requires chain { IsChain chain }
-    ensures { Acts (step (view_at (Progress.AfterNot chain) (view_stack stack.old)) (view_role role)) stack.old.limit stack.new result }
+    ensures { Acts (step (view_at (Progress.AfterNot chain) (view_stack stack.old)) (view_class class)) stack.old.limit stack.new result }
 {
-    match role {
-        Role::Compare(CmpOp::In) => {
+    match class {
+        TokenClass::Compare(CmpOp::In) => {
             stack.push(Frame::CompareRest(chain, CmpOp::NotIn))?;
-            Ok(Turn::Next(Progress::Want(Level::Sum)))
+            Ok(Turn::Next(Progress::Want(Precedence::Sum)))
         }
         other => {
             drop(other);
@@ -379,28 +449,28 @@ pub fn after_not(stack: &mut Stack, chain: Chain, role: Role) -> Result<Turn, No
     }
 }
 
-/// Behind `is` or `is not`, a word stands that is an expression.
-fn constant(chain: Chain, op: Comparison, tall: Tall) -> Result<Turn, NoMemory>
+/// After `is` or `is not`, a word stands that is an expression.
+fn constant(chain: Chain, op: Comparison, measured: Measured) -> Result<Turn, NoMemory>
     requires chain { IsChain chain }
-    requires tall { IsTall tall }
-    ensures { Stays (λ k. Next (Linked (plain_expr chain.first.value) (snoc_link (view_links chain) op (view_tall tall)) k)) result }
+    requires measured { IsMeasured measured }
+    ensures { Stays (λ k. Next (Linked (plain_expr chain.first.value) (snoc_link (view_links chain) op (view_measured measured)) k)) result }
 {
-    Ok(Turn::Next(Progress::Linked(chain.with(op, tall)?)))
+    Ok(Turn::Next(Progress::Linked(chain.with(op, measured)?)))
 }
 
-pub fn after_is(alloc: Global, chain: Chain, role: Role) -> Result<Turn, NoMemory>
+pub fn after_is(alloc: Global, chain: Chain, class: TokenClass) -> Result<Turn, NoMemory>
     requires { IsChain chain }
-    ensures { Stays (λ k. step (view_at (Progress.AfterIs chain) k) (view_role role)) result }
+    ensures { Stays (λ k. step (view_at (Progress.AfterIs chain) k) (view_class class)) result }
 {
-    match role {
-        Role::Not => Ok(Turn::Next(Progress::AfterIsNot(chain))),
-        Role::NoneWord => {
-            let tall = Tall::low(alloc, Expr::None)?;
-            constant(chain, Comparison::Is, tall)
+    match class {
+        TokenClass::Not => Ok(Turn::Next(Progress::AfterIsNot(chain))),
+        TokenClass::NoneWord => {
+            let measured = Measured::low(alloc, Expr::None)?;
+            constant(chain, Comparison::Is, measured)
         }
-        Role::Bool(truth) => {
-            let tall = Tall::low(alloc, Expr::Bool(truth))?;
-            constant(chain, Comparison::Is, tall)
+        TokenClass::Bool(truth) => {
+            let measured = Measured::low(alloc, Expr::Bool(truth))?;
+            constant(chain, Comparison::Is, measured)
         }
         other => {
             drop(other);
@@ -409,18 +479,18 @@ pub fn after_is(alloc: Global, chain: Chain, role: Role) -> Result<Turn, NoMemor
     }
 }
 
-pub fn after_is_not(alloc: Global, chain: Chain, role: Role) -> Result<Turn, NoMemory>
+pub fn after_is_not(alloc: Global, chain: Chain, class: TokenClass) -> Result<Turn, NoMemory>
     requires { IsChain chain }
-    ensures { Stays (λ k. step (view_at (Progress.AfterIsNot chain) k) (view_role role)) result }
+    ensures { Stays (λ k. step (view_at (Progress.AfterIsNot chain) k) (view_class class)) result }
 {
-    match role {
-        Role::NoneWord => {
-            let tall = Tall::low(alloc, Expr::None)?;
-            constant(chain, Comparison::IsNot, tall)
+    match class {
+        TokenClass::NoneWord => {
+            let measured = Measured::low(alloc, Expr::None)?;
+            constant(chain, Comparison::IsNot, measured)
         }
-        Role::Bool(truth) => {
-            let tall = Tall::low(alloc, Expr::Bool(truth))?;
-            constant(chain, Comparison::IsNot, tall)
+        TokenClass::Bool(truth) => {
+            let measured = Measured::low(alloc, Expr::Bool(truth))?;
+            constant(chain, Comparison::IsNot, measured)
         }
         other => {
             drop(other);
@@ -429,26 +499,31 @@ pub fn after_is_not(alloc: Global, chain: Chain, role: Role) -> Result<Turn, NoM
     }
 }
 
-pub fn linked(alloc: Global, stack: &mut Stack, chain: Chain, role: Role) -> Result<Turn, NoMemory>
-    requires kept { Kept stack.old.limit stack.old }
+pub fn linked(
+    alloc: Global,
+    stack: &mut Stack,
+    chain: Chain,
+    class: TokenClass,
+) -> Result<Turn, NoMemory>
+    requires valid { Valid stack.old.limit stack.old }
     requires chain { IsChain chain }
-    requires role { KeptRole role }
-    ensures { Acts (step (view_at (Progress.Linked chain) (view_stack stack.old)) (view_role role)) stack.old.limit stack.new result }
+    requires class { ValidClass class }
+    ensures { Acts (step (view_at (Progress.Linked chain) (view_stack stack.old)) (view_class class)) stack.old.limit stack.new result }
 {
-    match link(alloc, chain, &role)? {
-        Met::Next(progress) => {
-            drop(role);
+    match link(alloc, chain, &class)? {
+        FrameStep::Next(progress) => {
+            drop(class);
             Ok(Turn::Next(progress))
         }
-        Met::Opens(frame, progress) => {
-            drop(role);
+        FrameStep::Opens(frame, progress) => {
+            drop(class);
             stack.push(frame)?;
             Ok(Turn::Next(progress))
         }
-        Met::Stuck => {
-            drop(role);
+        FrameStep::Stuck => {
+            drop(class);
             Ok(Turn::Stuck)
         }
-        Met::Passes(tall) => give(alloc, stack, tall, &role),
+        FrameStep::Passes(measured) => give(alloc, stack, measured, &class),
     }
 }

@@ -5,9 +5,9 @@ ghost use Rattle.py_syntax.specs.Tree.{plain, format, no_fragments};
 ghost use Rattle.py_syntax.specs.View.{plain_parts, plain_fragments};
 ghost use Rattle.py_syntax.specs.Normal.{height};
 ghost use Rattle.py_grammar.specs.Machine.{snoc_plain, snoc_format, strings_of};
-ghost use Rattle.py_parse_expr.specs.ExprHeld.{capped, plains, view_fields, AreFields, view_strings, KeptStrings, Makes};
+ghost use Rattle.py_parse_expr.specs.ExprViews.{capped, plains, view_fields, AreFields, view_strings, ValidStrings, Makes};
 
-use crate::expr_nodes::{Fields, Strings, Tall, higher, over};
+use crate::expr_nodes::{Fields, Measured, Strings, higher, over};
 use py_syntax::{Expr, Fragment};
 use py_value::{NoMemory, Text};
 use std::alloc::Global;
@@ -26,7 +26,7 @@ fn fragments(alloc: Global, texts: &[Text]) -> Result<Vec<Fragment>, NoMemory>
 impl Strings {
     pub fn text(alloc: Global, text: Text) -> Result<Strings, NoMemory>
         ensures view { IfOk result (λ s. view_strings s ≡ plain text no_fragments) }
-        ensures kept { IfOk result KeptStrings }
+        ensures valid { IfOk result ValidStrings }
     {
         let mut texts = Vec::new(alloc);
         texts.push(text)?;
@@ -36,7 +36,7 @@ impl Strings {
     pub fn format(alloc: Global, fields: Fields) -> Result<Strings, NoMemory>
         requires { AreFields fields }
         ensures view { IfOk result (λ s. view_strings s ≡ format (view_fields fields) no_fragments) }
-        ensures kept { IfOk result KeptStrings }
+        ensures valid { IfOk result ValidStrings }
     {
         let mut all = Vec::new(alloc);
         all.push(Fragment::Format(fields.parts))?;
@@ -45,9 +45,9 @@ impl Strings {
 
     /// The same and a plain string.
     pub fn with_text(self, text: Text) -> Result<Strings, NoMemory>
-        requires { KeptStrings self }
+        requires { ValidStrings self }
         ensures view { IfOk result (λ s. view_strings s ≡ snoc_plain (view_strings self) text) }
-        ensures kept { IfOk result KeptStrings }
+        ensures valid { IfOk result ValidStrings }
     {
         match self {
             Strings::Plain(texts) => {
@@ -65,10 +65,10 @@ impl Strings {
 
     /// The same and an f-string.
     pub fn with_format(self, alloc: Global, fields: Fields) -> Result<Strings, NoMemory>
-        requires kept { KeptStrings self }
+        requires valid { ValidStrings self }
         requires fields { AreFields fields }
         ensures view { IfOk result (λ s. view_strings s ≡ snoc_format (view_strings self) (view_fields fields)) }
-        ensures kept { IfOk result KeptStrings }
+        ensures valid { IfOk result ValidStrings }
     {
         match self {
             Strings::Plain(texts) => {
@@ -86,7 +86,7 @@ impl Strings {
 
     /// The height of the expression.
     pub fn height(&self) -> usize
-        requires { KeptStrings self.now }
+        requires { ValidStrings self.now }
         ensures { result ≡ capped (height (strings_of (view_strings self.now))) }
     {
         match self {
@@ -96,15 +96,15 @@ impl Strings {
     }
 
     /// The expression.
-    pub fn tall(self, alloc: Global) -> Result<Tall, NoMemory>
-        requires { KeptStrings self }
+    pub fn measured(self, alloc: Global) -> Result<Measured, NoMemory>
+        requires { ValidStrings self }
         ensures { IfOk result (Makes (strings_of (view_strings self))) }
     {
         let height = self.height();
         match self {
-            Strings::Plain(texts) => Tall::new(alloc, Expr::Str(texts), height, false),
+            Strings::Plain(texts) => Measured::new(alloc, Expr::Str(texts), height, false),
             Strings::Mixed(fragments, _) => {
-                Tall::new(alloc, Expr::FStr(fragments), height, false)
+                Measured::new(alloc, Expr::FStr(fragments), height, false)
             }
         }
     }

@@ -1,12 +1,12 @@
 // What a token makes of an expression that is read.
 
 ghost use Rattle.py_grammar.specs.Machine.{step};
-ghost use Rattle.py_parse_expr.specs.ExprHeld.{view_role, KeptRole};
-ghost use Rattle.py_parse_expr.specs.ExprStacks.{view_stack, Kept};
-ghost use Rattle.py_parse_expr.specs.ExprTurns.{view_at, KeptAt, Acts};
+ghost use Rattle.py_parse_expr.specs.ExprViews.{view_class, ValidClass};
+ghost use Rattle.py_parse_expr.specs.ExprStacks.{view_stack, Valid};
+ghost use Rattle.py_parse_expr.specs.ExprTurns.{view_at, ValidAt, Acts};
 
-use crate::expr_nodes::{Chain, Entries, Opener, Row, Strings, Tall};
-use crate::expr_roles::{Level, Role};
+use crate::expr_classes::{Precedence, TokenClass};
+use crate::expr_nodes::{Chain, Entries, Measured, Opener, Row, Strings};
 use crate::expr_stack::{Frame, Stack};
 use crate::expr_steps::{
     after_comma, after_dot, after_is, after_is_not, after_not, after_open, after_target, begin,
@@ -15,10 +15,10 @@ use crate::expr_steps::{
 use py_value::NoMemory;
 use std::alloc::Global;
 
-/// What of an expression stands behind what the stack holds.
+/// What of an expression stands after what the stack holds.
 pub enum Progress {
-    Want(Level),
-    Have(Tall),
+    Want(Precedence),
+    Have(Measured),
     Strings(Strings),
     AfterOpen,
     AfterComma(Row),
@@ -27,9 +27,9 @@ pub enum Progress {
     ItemsComma(Opener, Row),
     DictOpen,
     DictComma(Entries),
-    IndexOpen(Tall),
-    SliceColon(Tall, Option<Tall>),
-    AfterDot(Tall),
+    IndexOpen(Measured),
+    SliceColon(Measured, Option<Measured>),
+    AfterDot(Measured),
     AfterNot(Chain),
     AfterIs(Chain),
     AfterIsNot(Chain),
@@ -41,7 +41,7 @@ impl Drop for Progress {
     fn drop(self) {
         match self {
             Progress::Want(_) => (),
-            Progress::Have(tall) => drop(tall),
+            Progress::Have(measured) => drop(measured),
             Progress::Strings(strings) => drop(strings),
             Progress::AfterOpen => (),
             Progress::AfterComma(items) => drop(items),
@@ -61,16 +61,16 @@ impl Drop for Progress {
     }
 }
 
-/// What a frame makes of an expression and the token behind it.
+/// What a frame makes of an expression and the token after it.
 #[derive(Drop)]
-pub enum Met {
+pub enum FrameStep {
     /// The token is taken.
     Next(Progress),
     /// The token is taken, and this frame is open.
     Opens(Frame, Progress),
     Stuck,
     /// This expression is whole for the next frame.
-    Passes(Tall),
+    Passes(Measured),
 }
 
 /// What a token does. Left: the outermost expression is whole, and the token isn't taken.
@@ -79,39 +79,39 @@ pub enum Turn {
     Next(Progress),
     Stuck,
     Deep,
-    Left(Tall),
+    Left(Measured),
 }
 
 impl Progress {
     /// What a token does, whatever its height.
-    pub fn act(self, alloc: Global, stack: &mut Stack, role: Role) -> Result<Turn, NoMemory>
-        requires kept { Kept stack.old.limit stack.old }
-        requires at { KeptAt self }
-        requires role { KeptRole role }
-        ensures { Acts (step (view_at self (view_stack stack.old)) (view_role role)) stack.old.limit stack.new result }
+    pub fn act(self, alloc: Global, stack: &mut Stack, class: TokenClass) -> Result<Turn, NoMemory>
+        requires valid { Valid stack.old.limit stack.old }
+        requires at { ValidAt self }
+        requires class { ValidClass class }
+        ensures { Acts (step (view_at self (view_stack stack.old)) (view_class class)) stack.old.limit stack.new result }
     {
         match self {
-            Progress::Want(level) => begin(alloc, stack, level, role),
-            Progress::Have(tall) => give(alloc, stack, tall, &role),
-            Progress::Strings(strings) => in_strings(alloc, stack, strings, role),
-            Progress::AfterOpen => after_open(alloc, stack, role),
-            Progress::AfterComma(items) => after_comma(alloc, stack, items, role),
-            Progress::AfterTarget(items) => after_target(alloc, stack, items, role),
+            Progress::Want(precedence) => begin(alloc, stack, precedence, class),
+            Progress::Have(measured) => give(alloc, stack, measured, &class),
+            Progress::Strings(strings) => in_strings(alloc, stack, strings, class),
+            Progress::AfterOpen => after_open(alloc, stack, class),
+            Progress::AfterComma(items) => after_comma(alloc, stack, items, class),
+            Progress::AfterTarget(items) => after_target(alloc, stack, items, class),
             Progress::ItemsOpen(opener) => {
-                in_items(alloc, stack, opener, Row::new(alloc), false, role)
+                in_items(alloc, stack, opener, Row::new(alloc), false, class)
             }
             Progress::ItemsComma(opener, items) => {
-                in_items(alloc, stack, opener, items, true, role)
+                in_items(alloc, stack, opener, items, true, class)
             }
-            Progress::DictOpen => in_dict(alloc, stack, Entries::new(alloc), false, role),
-            Progress::DictComma(entries) => in_dict(alloc, stack, entries, true, role),
-            Progress::IndexOpen(of) => index_open(alloc, stack, of, role),
-            Progress::SliceColon(of, from) => slice_colon(alloc, stack, of, from, role),
-            Progress::AfterDot(of) => after_dot(alloc, stack, of, role),
-            Progress::AfterNot(chain) => after_not(stack, chain, role),
-            Progress::AfterIs(chain) => after_is(alloc, chain, role),
-            Progress::AfterIsNot(chain) => after_is_not(alloc, chain, role),
-            Progress::Linked(chain) => linked(alloc, stack, chain, role),
+            Progress::DictOpen => in_dict(alloc, stack, Entries::new(alloc), false, class),
+            Progress::DictComma(entries) => in_dict(alloc, stack, entries, true, class),
+            Progress::IndexOpen(of) => index_open(alloc, stack, of, class),
+            Progress::SliceColon(of, from) => slice_colon(alloc, stack, of, from, class),
+            Progress::AfterDot(of) => after_dot(alloc, stack, of, class),
+            Progress::AfterNot(chain) => after_not(stack, chain, class),
+            Progress::AfterIs(chain) => after_is(alloc, chain, class),
+            Progress::AfterIsNot(chain) => after_is_not(alloc, chain, class),
+            Progress::Linked(chain) => linked(alloc, stack, chain, class),
         }
     }
 }

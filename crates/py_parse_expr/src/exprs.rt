@@ -4,13 +4,13 @@ ghost use Rattle.std.specs.Prelude.{◌≡◌, ◌≤◌, length};
 ghost use Rattle.py_token.specs.View.{view_kind, view_tokens};
 ghost use Rattle.py_syntax.specs.Kinds.{bare, bare_kind};
 ghost use Rattle.py_grammar.specs.Machine.{Outside, Want, start};
-ghost use Rattle.py_parse_expr.specs.ExprHeld.{view_level};
-ghost use Rattle.py_parse_expr.specs.ExprStacks.{view_goal, KeptGoal};
+ghost use Rattle.py_parse_expr.specs.ExprViews.{view_precedence};
+ghost use Rattle.py_parse_expr.specs.ExprStacks.{view_goal, ValidGoal};
 ghost use Rattle.py_parse_expr.specs.ExprReads.{goal_of, FollowsMachine, is_end};
 ghost use Rattle.py_parse_expr.specs.Refusal.{Parses};
 
+use crate::expr_classes::Precedence;
 use crate::expr_fields::{has_spelled_fields, turn};
-use crate::expr_roles::Level;
 use crate::expr_stack::{Goal, Stack};
 use crate::expr_turns::{Progress, Turn};
 use py_grammar::ReadError;
@@ -28,7 +28,7 @@ pub enum ExprPart {
     Target,
 }
 
-/// An expression, and the place of the token behind it.
+/// An expression, and the place of the token after it.
 #[derive(Drop)]
 pub struct ExprRead {
     pub expr: Box<Expr>,
@@ -40,7 +40,7 @@ const HEIGHT_LIMIT: usize = 200;
 
 fn goal(part: ExprPart) -> Goal
     ensures view { view_goal result ≡ goal_of part }
-    ensures kept { KeptGoal result }
+    ensures valid { ValidGoal result }
 {
     match part {
         ExprPart::Any => Goal::Any,
@@ -50,13 +50,13 @@ fn goal(part: ExprPart) -> Goal
 }
 
 /// The level at which it begins.
-fn level(part: ExprPart) -> Level
-    ensures { start (goal_of part) ≡ Want (view_level result) (Outside (goal_of part)) }
+fn precedence(part: ExprPart) -> Precedence
+    ensures { start (goal_of part) ≡ Want (view_precedence result) (Outside (goal_of part)) }
 {
     match part {
-        ExprPart::Any => Level::Exprs,
-        ExprPart::One => Level::Expr,
-        ExprPart::Target => Level::Post,
+        ExprPart::Any => Precedence::Exprs,
+        ExprPart::One => Precedence::Expr,
+        ExprPart::Target => Precedence::Post,
     }
 }
 
@@ -71,7 +71,7 @@ pub fn read_expr(
     ensures follows { FollowsMachine (bare (view_tokens tokens.now)) at part result }
 {
     let mut stack = Stack::new(alloc, HEIGHT_LIMIT, goal(part));
-    let mut progress = Progress::Want(level(part));
+    let mut progress = Progress::Want(precedence(part));
     let mut place = at;
     'tokens: while place < tokens.len() {
         match turn(alloc, &mut stack, progress, &tokens[place].kind)? {
@@ -83,9 +83,9 @@ pub fn read_expr(
                 }
                 return Err(ReadError::Unexpected(place));
             }
-            Turn::Left(tall) => {
+            Turn::Left(measured) => {
                 return Ok(ExprRead {
-                    expr: tall.expr,
+                    expr: measured.expr,
                     next: place,
                 });
             }

@@ -2,11 +2,11 @@
 //! `parse_expr` a whole list.
 #![tactic(auto)]
 
+mod expr_classes;
 mod expr_fields;
 mod expr_frames;
 mod expr_limits;
 mod expr_nodes;
-mod expr_roles;
 mod expr_stack;
 mod expr_steps;
 mod expr_strings;

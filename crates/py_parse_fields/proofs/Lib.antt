@@ -1,4 +1,4 @@
 pub mod Offers
-pub mod Roles
+pub mod TokenClasses
 pub mod Runs
 pub mod Order

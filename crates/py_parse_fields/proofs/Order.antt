@@ -1,19 +1,19 @@
--- The f-strings in fields may be asked behind the fields.
+-- The f-strings in fields may be asked after the fields.
 use Rattle.std.proofs.Common.{◌≡◌, ℕ, ◌+◌, ◌<◌, ◌≤◌, Bool, true, false, cond, ◌&&◌, List, [], ◌∷◌, ◌++◌, Option, Some, None, is_some, Ok, refl, sym, ap, subst, ◌∙◌, arith, append_assoc}
 use Rattle.py_syntax.specs.declared.expr.Comparison.TheVariants.{Op}
 use Rattle.py_syntax.specs.Tree.{Expr, Parts, no_parts, tuple, not', unary, compare, exprs}
 use Rattle.py_syntax.specs.Tree as tree_
 use Rattle.py_syntax.specs.Kinds.{Kind, FString, Pieces, no_pieces, chars_piece, field_piece, Kinds, kinds}
-use Rattle.py_grammar.specs.Roles.{Role, r_format, r_bad_format, joined}
-use Rattle.py_grammar.specs.Machine.{snoc, snoc_link, any, one, target, targets, a_call, a_list, exprs_first, exprs_rest, cond_first, cond_test, cond_else, first, right, not_of, compare_first, compare_rest, unary_of, post_rest, in_items, index_first, in_index, slice_to, in_paren, in_key, in_value, Ctx, Outside, on, State, Want, Have, Strings, AfterOpen, AfterComma, AfterTarget, ItemsOpen, ItemsComma, DictOpen, DictComma, IndexOpen, SliceColon, AfterDot, AfterNot, AfterIs, AfterIsNot, Linked, Out, Next, Stuck, Left, leave, give, step, start, format_role, role, parts, field_expr}
-use Rattle.py_parse_fields.specs.declared.cues.Cue.{Cue}
+use Rattle.py_grammar.specs.TokenClasses.{TokenClass, t_format, t_bad_format, joined}
+use Rattle.py_grammar.specs.Machine.{snoc, snoc_link, any, one, target, targets, a_call, a_list, exprs_first, exprs_rest, cond_first, cond_test, cond_else, first, right, not_of, compare_first, compare_rest, unary_of, post_rest, in_items, index_first, in_index, slice_to, in_paren, in_key, in_value, Ctx, Outside, on, State, Want, Have, Strings, AfterOpen, AfterComma, AfterTarget, ItemsOpen, ItemsComma, DictOpen, DictComma, IndexOpen, SliceColon, AfterDot, AfterNot, AfterIs, AfterIsNot, Linked, Out, Next, Stuck, Left, leave, give, step, start, format_class, class, parts, field_expr}
+use Rattle.py_parse_fields.specs.declared.token_classes.TokenClass as held_class
 use Rattle.py_parse_fields.specs.declared.reader.Reader.{Reader}
 use Rattle.py_parse_fields.specs.declared.reader.Turn.{Turn}
-use Rattle.py_parse_fields.specs.Frames.{bare_role, view_cue}
+use Rattle.py_parse_fields.specs.Frames.{bare_class, view_class}
 use Rattle.py_parse_fields.specs.Reader.{view_reader, view_turn, Acts}
 use Rattle.py_parse_fields.specs.Order.{shallow, formats, each_spelled, weight, field_weight, kind_weight, load}
 use Rattle.py_grammar.proofs.Spelled.{field_after}
-use Rattle.py_parse_fields.proofs.Roles.{same_step}
+use Rattle.py_parse_fields.proofs.TokenClasses.{same_step}
 use Rattle.std.proofs.Common.{drop, length, get_or}
 use Rattle.std.proofs.lemmas.List.{append-nil, at_drop_more}
 use Rattle.std.specs.Borrow.{Bor}
@@ -66,7 +66,7 @@ goes_on (Next s) = true
 goes_on Stuck = false
 goes_on (Left e) = false
 
-leave_bad : (e : Expr) (g : Rattle.py_grammar.specs.Machine.Goal) (ps : Pieces) → goes_on (leave e g (r_bad_format ps)) ≡ false
+leave_bad : (e : Expr) (g : Rattle.py_grammar.specs.Machine.Goal) (ps : Pieces) → goes_on (leave e g (t_bad_format ps)) ≡ false
 leave_bad e any ps = refl
 leave_bad e one ps = refl
 leave_bad e target ps = go (Rattle.py_syntax.specs.Normal.is_target e)
@@ -80,7 +80,7 @@ leave_bad e (targets f es) ps = go (Rattle.py_syntax.specs.Normal.is_target e)
     go true = refl
     go false = refl
 
-give_bad : (e : Expr) (k : Ctx) (ps : Pieces) → goes_on (give e k (r_bad_format ps)) ≡ false
+give_bad : (e : Expr) (k : Ctx) (ps : Pieces) → goes_on (give e k (t_bad_format ps)) ≡ false
 give_bad e (Outside g) ps = leave_bad e g ps
 give_bad e (on exprs_first k) ps = give_bad e k ps
 give_bad e (on (exprs_rest f es) k) ps = give_bad (tuple (exprs f (snoc es e)) false) k ps
@@ -103,7 +103,7 @@ give_bad e (on in_paren k) ps = refl
 give_bad e (on (in_key qs) k) ps = refl
 give_bad e (on (in_value qs key) k) ps = refl
 
-step_bad : (s : State) (ps : Pieces) → goes_on (step s (r_bad_format ps)) ≡ false
+step_bad : (s : State) (ps : Pieces) → goes_on (step s (t_bad_format ps)) ≡ false
 step_bad (Want lev k) ps = refl
 step_bad (Have e k) ps = give_bad e k ps
 step_bad (Strings fs k) ps = refl
@@ -131,28 +131,28 @@ after_bad (Left e) ts h = refl
 
 -- ---- a token, where an f-string waits
 
-format_goes : (r : Reader) (ps : Pieces) (o : Option Parts) (ts : Kinds) (turn : Turn) → Acts (step (view_reader r) (bare_role (r_format no_parts))) (Ok turn) → (added : List Pieces) → (is_some (field_after (step (view_reader r) (format_role ps o)) ts) && each_spelled added) ≡ (is_some (field_after (view_turn turn) ts) && (each_spelled added && (is_some o && true)))
+format_goes : (r : Reader) (ps : Pieces) (o : Option Parts) (ts : Kinds) (turn : Turn) → Acts (step (view_reader r) (bare_class (t_format no_parts))) (Ok turn) → (added : List Pieces) → (is_some (field_after (step (view_reader r) (format_class ps o)) ts) && each_spelled added) ≡ (is_some (field_after (view_turn turn) ts) && (each_spelled added && (is_some o && true)))
 format_goes r ps None ts turn acts added =
-    ap (λ (b : Bool). b && each_spelled added) (after_bad (step (view_reader r) (r_bad_format ps)) ts (step_bad (view_reader r) ps))
+    ap (λ (b : Bool). b && each_spelled added) (after_bad (step (view_reader r) (t_bad_format ps)) ts (step_bad (view_reader r) ps))
     ∙ sym (ap (λ (b : Bool). is_some (field_after (view_turn turn) ts) && b) (and_false (each_spelled added)) ∙ and_false (is_some (field_after (view_turn turn) ts)))
 format_goes r ps (Some qs) ts turn acts added =
-    ap (λ (b : Bool). b && each_spelled added) (goes_as r (r_format qs) ts turn (same_step (view_reader r) (r_format qs) ∙ acts))
+    ap (λ (b : Bool). b && each_spelled added) (goes_as r (t_format qs) ts turn (same_step (view_reader r) (t_format qs) ∙ acts))
     ∙ ap (λ (b : Bool). is_some (field_after (view_turn turn) ts) && b) (sym (and_true (each_spelled added)))
 
-plain_goes : (r : Reader) (t : Kind) (ts : Kinds) (turn : Turn) → Acts (step (view_reader r) (bare_role (role t))) (Ok turn) → (added : List Pieces) → (is_some (field_expr (view_reader r) (kinds t ts)) && each_spelled added) ≡ (is_some (field_after (view_turn turn) ts) && (each_spelled added && true))
+plain_goes : (r : Reader) (t : Kind) (ts : Kinds) (turn : Turn) → Acts (step (view_reader r) (bare_class (class t))) (Ok turn) → (added : List Pieces) → (is_some (field_expr (view_reader r) (kinds t ts)) && each_spelled added) ≡ (is_some (field_after (view_turn turn) ts) && (each_spelled added && true))
 plain_goes r t ts turn acts added =
-    ap (λ (b : Bool). b && each_spelled added) (goes_as r (role t) ts turn (same_step (view_reader r) (role t) ∙ acts))
+    ap (λ (b : Bool). b && each_spelled added) (goes_as r (class t) ts turn (same_step (view_reader r) (class t) ∙ acts))
     ∙ ap (λ (b : Bool). is_some (field_after (view_turn turn) ts) && b) (sym (and_true (each_spelled added)))
 
-waits_goes : (r : Reader) (t : Kind) (ts : Kinds) (turn : Turn) → Acts (step (view_reader r) (bare_role (shallow t))) (Ok turn) → (added : List Pieces) → (is_some (field_expr (view_reader r) (kinds t ts)) && each_spelled added) ≡ (is_some (field_after (view_turn turn) ts) && (each_spelled added && each_spelled (formats t)))
+waits_goes : (r : Reader) (t : Kind) (ts : Kinds) (turn : Turn) → Acts (step (view_reader r) (bare_class (shallow t))) (Ok turn) → (added : List Pieces) → (is_some (field_expr (view_reader r) (kinds t ts)) && each_spelled added) ≡ (is_some (field_after (view_turn turn) ts) && (each_spelled added && each_spelled (formats t)))
 waits_goes r (FString ps) ts turn acts added = format_goes r ps (parts ps) ts turn acts added
 waits_goes r t ts turn acts added = plain_goes r t ts turn acts added
 
--- what is told in front of a token is told behind it
-pub token_told : (r : Reader) (t : Kind) (ts : Kinds) (cue : Cue) (turn : Turn) (all : Bool) (added : List Pieces) → bare_role (shallow t) ≡ view_cue cue → Acts (step (view_reader r) (view_cue cue)) (Ok turn) → all ≡ (is_some (field_expr (view_reader r) (kinds t ts)) && each_spelled added) → all ≡ (is_some (field_after (view_turn turn) ts) && each_spelled (added ++ formats t))
-token_told r t ts cue turn all added is acts same =
+-- what is told in front of a token is told after it
+pub token_told : (r : Reader) (t : Kind) (ts : Kinds) (class : held_class.TokenClass) (turn : Turn) (all : Bool) (added : List Pieces) → bare_class (shallow t) ≡ view_class class → Acts (step (view_reader r) (view_class class)) (Ok turn) → all ≡ (is_some (field_expr (view_reader r) (kinds t ts)) && each_spelled added) → all ≡ (is_some (field_after (view_turn turn) ts) && each_spelled (added ++ formats t))
+token_told r t ts class turn all added is acts same =
     same
-    ∙ waits_goes r t ts turn (subst (λ (x : Role). Acts (step (view_reader r) x) (Ok turn)) (sym is) acts) added
+    ∙ waits_goes r t ts turn (subst (λ (x : TokenClass). Acts (step (view_reader r) x) (Ok turn)) (sym is) acts) added
     ∙ ap (λ (b : Bool). is_some (field_after (view_turn turn) ts) && b) (sym (each_append added (formats t)))
 
 pub formats_load : (t : Kind) → load (formats t) ≡ kind_weight t
@@ -164,8 +164,8 @@ formats_load t = refl
 pub field_begins : (fs : List held_frame.Frame) (old : List Pieces) (ks : Kinds) → fs ≡ [] → FieldSoFar (is_some (field_expr (start any) ks)) (field_weight ks + 1) old old (Want LExprs (view_stack fs)) ks
 field_begins fs old ks is = subst (λ (gs : List held_frame.Frame). FieldSoFar (is_some (field_expr (start any) ks)) (field_weight ks + 1) old old (Want LExprs (view_stack gs)) ks) (sym is) record { added = []; waits = sym (append-nil old); is = sym (and_true (is_some (field_expr (start any) ks))); few = omega arith }
 
-pub field_next : (ts : List Token) (i : ℕ) (t : Token) (r : Reader) (cue : Cue) (turn : Turn) (all : Bool) (bound : ℕ) (old now new : List Pieces) → i < length ts → t ≡ get_or ts i t → Waits (bare_kind (view_kind (out-Token t).kind)) cue now new → Acts (step (view_reader r) (view_cue cue)) (Ok turn) → FieldSoFar all bound old now (view_reader r) (row (drop i ts)) → (added : List Pieces) × (new ≡ old ++ added) × (all ≡ (is_some (field_after (view_turn turn) (row (drop (i + 1) ts))) && each_spelled added)) × (load added + field_weight (row (drop (i + 1) ts)) < bound)
-field_next ts i t r cue turn all bound old now new h at w acts inv =
+pub field_next : (ts : List Token) (i : ℕ) (t : Token) (r : Reader) (class : held_class.TokenClass) (turn : Turn) (all : Bool) (bound : ℕ) (old now new : List Pieces) → i < length ts → t ≡ get_or ts i t → Waits (bare_kind (view_kind (out-Token t).kind)) class now new → Acts (step (view_reader r) (view_class class)) (Ok turn) → FieldSoFar all bound old now (view_reader r) (row (drop i ts)) → (added : List Pieces) × (new ≡ old ++ added) × (all ≡ (is_some (field_after (view_turn turn) (row (drop (i + 1) ts))) && each_spelled added)) × (load added + field_weight (row (drop (i + 1) ts)) < bound)
+field_next ts i t r class turn all bound old now new h at w acts inv =
     let k = bare_kind (view_kind (out-Token t).kind) in
     let rest = row (drop (i + 1) ts) in
     let split : row (drop i ts) ≡ kinds k rest = next_row ts i t h at in
@@ -173,7 +173,7 @@ field_next ts i t r cue turn all bound old now new h at w acts inv =
     let low = inv.few in (
       inv.added ++ formats k,
       w.1 ∙ ap (λ (x : List Pieces). x ++ formats k) inv.waits ∙ append_assoc old inv.added (formats k),
-      token_told r k rest cue turn all inv.added w.0 acts (inv.is ∙ ap (λ (x : Kinds). is_some (field_expr (view_reader r) x) && each_spelled inv.added) split),
+      token_told r k rest class turn all inv.added w.0 acts (inv.is ∙ ap (λ (x : Kinds). is_some (field_expr (view_reader r) x) && each_spelled inv.added) split),
       omega (arith, load_append inv.added (formats k), formats_load k),
     )
 

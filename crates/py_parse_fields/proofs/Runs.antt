@@ -9,7 +9,7 @@ use Rattle.py_token.specs.View.{view_token, view_kind, view_tokens, view_piece}
 use Rattle.py_token.proofs.Views.{plain-token}
 use Rattle.py_syntax.specs.Tree.{Text, Expr, Parts, field}
 use Rattle.py_syntax.specs.Kinds.{Pieces, Kinds, kinds, bare_kind, bare_token, bare_tokens}
-use Rattle.py_grammar.specs.Roles.{Role}
+use Rattle.py_grammar.specs.TokenClasses.{TokenClass}
 use Rattle.py_grammar.specs.Machine.{Out, Next, Stuck, Left, step, parts, field_expr}
 use Rattle.py_grammar.specs.Bare.{bare, bare_out}
 use Rattle.py_grammar.proofs.Spelled.{field_after}
@@ -72,8 +72,8 @@ after_alike ts (Left e) (Next m) h i is = absurd cc
 after_alike ts (Left e) Stuck h i is = refl
 after_alike ts (Left e) (Left d) h i is = refl
 
--- a token with that role
-pub goes_as : (r : Reader) (c : Role) (ts : Kinds) (turn : Turn) → bare_out (step (view_reader r) c) ≡ bare_out (view_turn turn) → is_some (field_after (step (view_reader r) c) ts) ≡ is_some (field_after (view_turn turn) ts)
+-- a token with that class
+pub goes_as : (r : Reader) (c : TokenClass) (ts : Kinds) (turn : Turn) → bare_out (step (view_reader r) c) ≡ bare_out (view_turn turn) → is_some (field_after (step (view_reader r) c) ts) ≡ is_some (field_after (view_turn turn) ts)
 goes_as r c ts turn acts = after_alike ts (step (view_reader r) c) (view_turn turn) (step_free (view_reader r) c (at_free r.progress r.frames.items)) (turn_free turn) acts
 
 -- ---- the fields of an f-string

@@ -6,10 +6,10 @@ use Rattle.py_token.specs.Plain.{piece_row}
 use Rattle.py_token.specs.View.{view_pieces}
 use Rattle.py_syntax.specs.Tree.{no_parts}
 use Rattle.py_syntax.specs.Kinds.{Kind, FString, Pieces, no_pieces, chars_piece, field_piece, Kinds, no_kinds, kinds, bare_pieces}
-use Rattle.py_parse_fields.specs.declared.cues.Cue.{Cue}
-use Rattle.py_grammar.specs.Roles.{Role, r_format}
-use Rattle.py_grammar.specs.Machine.{State, role, parts, field_expr}
-use Rattle.py_parse_fields.specs.Frames.{bare_role, view_cue}
+use Rattle.py_parse_fields.specs.declared.token_classes.TokenClass as held_class
+use Rattle.py_grammar.specs.TokenClasses.{TokenClass, t_format}
+use Rattle.py_grammar.specs.Machine.{State, class, parts, field_expr}
+use Rattle.py_parse_fields.specs.Frames.{bare_class, view_class}
 
 abbrev pub plain_pieces : List Piece → Pieces
 plain_pieces ps = bare_pieces (piece_row (view_pieces ps))
@@ -18,10 +18,10 @@ plain_pieces ps = bare_pieces (piece_row (view_pieces ps))
 abbrev pub waiting_of : List (Bor (List Piece)) → List Pieces
 waiting_of ws = map (λ w. plain_pieces w.now) ws
 
--- the role of a token where the fields of an f-string count as spelled
-abbrev pub shallow : Kind → Role
-shallow (FString ps) = r_format no_parts
-shallow t = role t
+-- the class of a token where the fields of an f-string count as spelled
+abbrev pub shallow : Kind → TokenClass
+shallow (FString ps) = t_format no_parts
+shallow t = class t
 
 abbrev pub formats : Kind → List Pieces
 formats (FString ps) = ps ∷ []
@@ -51,8 +51,8 @@ load [] = 0
 load (ps ∷ rest) = weight ps + load rest
 
 -- A token, where an f-string waits.
-abbrev pub Waits : Kind → Cue → List Pieces → List Pieces → Type 0
-Waits t c old new = (bare_role (shallow t) ≡ view_cue c) × (new ≡ old ++ formats t)
+abbrev pub Waits : Kind → held_class.TokenClass → List Pieces → List Pieces → Type 0
+Waits t c old new = (bare_class (shallow t) ≡ view_class c) × (new ≡ old ++ formats t)
 
 -- What is told of something, but for the f-strings that wait.
 pub record Asks (all told : Bool) (bound : ℕ) (old new : List Pieces) : Type 0 where

@@ -2,7 +2,7 @@
 use Rattle.std.specs.Prelude.{◌≡◌, Bool, true, false, [], Result, Ok, Err}
 use Rattle.std.specs.declared.alloc.AllocError.{AllocError}
 use Rattle.py_syntax.specs.Tree.{no_exprs, no_pairs, no_links, absent, no_fragments, plain}
-use Rattle.py_grammar.specs.Roles.{Role}
+use Rattle.py_grammar.specs.TokenClasses.{TokenClass}
 use Rattle.py_grammar.specs.Machine.{Frame, Ctx, on, State, Want, Have, Strings, AfterOpen, AfterComma, ItemsOpen, ItemsComma, DictOpen, DictComma, IndexOpen, SliceColon, AfterDot, AfterNot, AfterIs, AfterIsNot, Linked, Out, Next, Stuck, Left, give}
 use Rattle.py_grammar.specs.Least.{least_name}
 use Rattle.py_grammar.specs.Bare.{bare_out, Free}
@@ -13,10 +13,10 @@ use Rattle.py_parse_fields.specs.declared.reader.Turn.{Turn}
 use Rattle.py_parse_fields.specs.declared.reader.Turn.TheVariants as turn_
 use Rattle.py_parse_fields.specs.declared.reader.Reply.{Reply}
 use Rattle.py_parse_fields.specs.declared.reader.Reply.TheVariants as reply_
-use Rattle.py_parse_fields.specs.Frames.{view_level, view_opener, view_frame, view_stack}
+use Rattle.py_parse_fields.specs.Frames.{view_precedence, view_opener, view_frame, view_stack}
 
 abbrev pub view_at : Progress → Ctx → State
-view_at (progress_.Want l) k = Want (view_level l) k
+view_at (progress_.Want l) k = Want (view_precedence l) k
 view_at progress_.Have k = Have least_name k
 view_at progress_.Strings k = Strings (plain [] no_fragments) k
 view_at progress_.AfterOpen k = AfterOpen k
@@ -55,12 +55,12 @@ Turns o (Err e) = Unit {0}
 abbrev pub Acts : Out → Result Turn AllocError → Type 0
 Acts o r = Turns (bare_out o) r
 
-abbrev pub replied : Reply → Ctx → Role → Out
+abbrev pub replied : Reply → Ctx → TokenClass → Out
 replied reply_.Pass k t = give least_name k t
 replied reply_.Stuck k t = Stuck
 replied (reply_.Goes p) k t = Next (view_at p k)
 replied (reply_.Opens f p) k t = Next (view_at p (on (view_frame f) k))
 
 -- What a frame does with a token is what the machine does there, but for the trees.
-pub record Offers (f : Frame) (t : Role) (o : Reply) : Type 0 where
+pub record Offers (f : Frame) (t : TokenClass) (o : Reply) : Type 0 where
   pub same : (k : Ctx) → Free k → bare_out (give least_name (on f k) t) ≡ bare_out (replied o k t)

@@ -9,9 +9,9 @@ ghost use Rattle.py_grammar.specs.Refusal.{AreSpelled};
 ghost use Rattle.py_parse_fields.specs.Reader.{view_turn, is_left};
 ghost use Rattle.py_parse_fields.specs.Order.{plain_pieces, waiting_of, Waits, Asks, weight, field_weight};
 
-use crate::cues::{Cue, mark_cue, word_cue};
-use crate::frames::Level;
+use crate::frames::Precedence;
 use crate::reader::{Progress, Reader, Turn, act};
+use crate::token_classes::{TokenClass, mark_class, word_class};
 use py_token::{Piece, Token, TokenKind};
 use py_value::NoMemory;
 use std::alloc::Global;
@@ -23,20 +23,20 @@ fn is_left(turn: Turn) -> bool
 }
 
 /// What a token is. The fields of an f-string wait to be asked.
-fn cue_of<'a>(kind: &'a TokenKind, waiting: &mut Vec<&'a [Piece]>) -> Result<Cue, NoMemory>
+fn class_of<'a>(kind: &'a TokenKind, waiting: &mut Vec<&'a [Piece]>) -> Result<TokenClass, NoMemory>
     ensures { IfOk result (λ c. Waits (bare_kind (view_kind kind.now)) c (waiting_of waiting.old.items) (waiting_of waiting.new.items)) }
 {
     match kind {
-        TokenKind::Name(_) => Ok(Cue::Name),
-        TokenKind::Keyword(word) => Ok(word_cue(*word)),
-        TokenKind::Int(_) => Ok(Cue::Number),
-        TokenKind::Str(_) => Ok(Cue::Text),
+        TokenKind::Name(_) => Ok(TokenClass::Name),
+        TokenKind::Keyword(word) => Ok(word_class(*word)),
+        TokenKind::Int(_) => Ok(TokenClass::Number),
+        TokenKind::Str(_) => Ok(TokenClass::Text),
         TokenKind::FString(pieces) => {
             waiting.push(pieces.as_slice())?;
-            Ok(Cue::Text)
+            Ok(TokenClass::Text)
         }
-        TokenKind::Mark(mark) => Ok(mark_cue(*mark)),
-        _ => Ok(Cue::Other),
+        TokenKind::Mark(mark) => Ok(mark_class(*mark)),
+        _ => Ok(TokenClass::Other),
     }
 }
 
@@ -50,16 +50,16 @@ fn is_field<'a>(
 {
     let mut reader = Reader {
         frames: Vec::new(alloc),
-        progress: Progress::Want(Level::Exprs),
+        progress: Progress::Want(Precedence::Exprs),
     };
     'tokens: for token in tokens {
-        match act(reader, cue_of(&token.kind, waiting)?)? {
+        match act(reader, class_of(&token.kind, waiting)?)? {
             Turn::Next(next) => reader = next,
             Turn::Stuck => return Ok(false),
             Turn::Left => return Ok(false),
         }
     }
-    Ok(is_left(act(reader, Cue::Other)?))
+    Ok(is_left(act(reader, TokenClass::Other)?))
 }
 
 /// Whether the fields of an f-string are expressions, but for the f-strings in them, which wait.

@@ -3,15 +3,15 @@
 ghost use Rattle.std.specs.Prelude.{◌≡◌, cond, IfOk};
 ghost use Rattle.py_syntax.specs.Normal.{rank};
 ghost use Rattle.py_grammar.specs.Machine.{on, upto_term, upto_and, at_most, same_level};
-ghost use Rattle.py_parse_fields.specs.Frames.{view_level, view_frame, view_stack, Pops};
+ghost use Rattle.py_parse_fields.specs.Frames.{view_precedence, view_frame, view_stack, Pops};
 
-use crate::cues::Joint;
+use crate::token_classes::BinaryOperator;
 use py_syntax::Sign;
 use py_value::{CmpOp, NoMemory};
 
 /// A level of the grammar, from the loosest.
 #[derive(Clone, Copy)]
-pub enum Level {
+pub enum Precedence {
     Exprs,
     Expr,
     Or,
@@ -38,8 +38,8 @@ pub enum Frame {
     CondFirst,
     CondTest,
     CondElse,
-    First(Level),
-    Right(Joint),
+    First(Precedence),
+    Right(BinaryOperator),
     NotOf,
     CompareFirst,
     CompareRest(CmpOp),
@@ -54,30 +54,30 @@ pub enum Frame {
     InValue,
 }
 
-fn rank(level: Level) -> u8
-    ensures { result ≡ rank (view_level level) }
+fn rank(precedence: Precedence) -> u8
+    ensures { result ≡ rank (view_precedence precedence) }
 {
-    match level {
-        Level::Exprs => 1,
-        Level::Expr => 2,
-        Level::Or => 3,
-        Level::And => 4,
-        Level::Not => 5,
-        Level::Compare => 6,
-        Level::Sum => 7,
-        Level::Term => 8,
-        Level::Unary => 9,
+    match precedence {
+        Precedence::Exprs => 1,
+        Precedence::Expr => 2,
+        Precedence::Or => 3,
+        Precedence::And => 4,
+        Precedence::Not => 5,
+        Precedence::Compare => 6,
+        Precedence::Sum => 7,
+        Precedence::Term => 8,
+        Precedence::Unary => 9,
     }
 }
 
-pub fn at_most(one: Level, other: Level) -> bool
-    ensures { result ≡ at_most (view_level one) (view_level other) }
+pub fn at_most(one: Precedence, other: Precedence) -> bool
+    ensures { result ≡ at_most (view_precedence one) (view_precedence other) }
 {
     rank(one) <= rank(other)
 }
 
-pub fn same_level(one: Level, other: Level) -> bool
-    ensures { result ≡ same_level (view_level one) (view_level other) }
+pub fn same_level(one: Precedence, other: Precedence) -> bool
+    ensures { result ≡ same_level (view_precedence one) (view_precedence other) }
 {
     rank(one) == rank(other)
 }
@@ -106,27 +106,51 @@ fn push_if(wanted: bool, frames: &mut Vec<Frame>, frame: Frame) -> Result<(), No
 }
 
 /// The frames from a level up to the operand of a `not`.
-pub fn raise_to_not(level: Level, frames: &mut Vec<Frame>) -> Result<(), NoMemory>
-    ensures { IfOk result (λ done. view_stack frames.new.items ≡ upto_and (view_level level) (view_stack frames.old.items)) }
+pub fn raise_to_not(precedence: Precedence, frames: &mut Vec<Frame>) -> Result<(), NoMemory>
+    ensures { IfOk result (λ done. view_stack frames.new.items ≡ upto_and (view_precedence precedence) (view_stack frames.old.items)) }
 {
-    push_if(at_most(level, Level::Exprs), frames, Frame::ExprsFirst)?;
-    push_if(at_most(level, Level::Expr), frames, Frame::CondFirst)?;
-    push_if(at_most(level, Level::Or), frames, Frame::First(Level::Or))?;
-    push_if(at_most(level, Level::And), frames, Frame::First(Level::And))?;
+    push_if(
+        at_most(precedence, Precedence::Exprs),
+        frames,
+        Frame::ExprsFirst,
+    )?;
+    push_if(
+        at_most(precedence, Precedence::Expr),
+        frames,
+        Frame::CondFirst,
+    )?;
+    push_if(
+        at_most(precedence, Precedence::Or),
+        frames,
+        Frame::First(Precedence::Or),
+    )?;
+    push_if(
+        at_most(precedence, Precedence::And),
+        frames,
+        Frame::First(Precedence::And),
+    )?;
     Ok(())
 }
 
 /// The frames from a level up to the operand of a sign.
-pub fn raise_to_unary(level: Level, frames: &mut Vec<Frame>) -> Result<(), NoMemory>
-    ensures { IfOk result (λ done. view_stack frames.new.items ≡ upto_term (view_level level) (view_stack frames.old.items)) }
+pub fn raise_to_unary(precedence: Precedence, frames: &mut Vec<Frame>) -> Result<(), NoMemory>
+    ensures { IfOk result (λ done. view_stack frames.new.items ≡ upto_term (view_precedence precedence) (view_stack frames.old.items)) }
 {
-    raise_to_not(level, frames)?;
-    push_if(at_most(level, Level::Compare), frames, Frame::CompareFirst)?;
-    push_if(at_most(level, Level::Sum), frames, Frame::First(Level::Sum))?;
+    raise_to_not(precedence, frames)?;
     push_if(
-        at_most(level, Level::Term),
+        at_most(precedence, Precedence::Compare),
         frames,
-        Frame::First(Level::Term),
+        Frame::CompareFirst,
+    )?;
+    push_if(
+        at_most(precedence, Precedence::Sum),
+        frames,
+        Frame::First(Precedence::Sum),
+    )?;
+    push_if(
+        at_most(precedence, Precedence::Term),
+        frames,
+        Frame::First(Precedence::Term),
     )?;
     Ok(())
 }

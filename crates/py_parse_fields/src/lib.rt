@@ -1,9 +1,9 @@
 //! Whether the fields of an f-string are expressions, whatever their height: `is_spelled`, which builds no trees.
 #![tactic(auto)]
 
-mod cues;
 mod fields;
 mod frames;
 mod reader;
+mod token_classes;
 
 pub use fields::is_spelled;

@@ -2,15 +2,15 @@
 
 ghost use Rattle.std.specs.Prelude.{◌≡◌};
 ghost use Rattle.py_syntax.specs.Kinds.{Word, Sign};
-ghost use Rattle.py_grammar.specs.Machine.{role};
-ghost use Rattle.py_parse_fields.specs.Frames.{bare_role, view_cue};
+ghost use Rattle.py_grammar.specs.Machine.{class};
+ghost use Rattle.py_parse_fields.specs.Frames.{bare_class, view_class};
 
 use py_token::{Keyword, Mark};
 use py_value::{BinOp, CmpOp};
 
 /// An operator that joins two operands.
 #[derive(Clone, Copy)]
-pub enum Joint {
+pub enum BinaryOperator {
     Or,
     And,
     Op(BinOp),
@@ -18,7 +18,7 @@ pub enum Joint {
 
 /// What a token is to an expression.
 #[derive(Clone, Copy)]
-pub enum Cue {
+pub enum TokenClass {
     Name,
     Number,
     /// `None`, `True`, `False`.
@@ -32,7 +32,7 @@ pub enum Cue {
     If,
     Else,
     Compare(CmpOp),
-    Joint(Joint),
+    BinaryOperator(BinaryOperator),
     Comma,
     Colon,
     Dot,
@@ -45,48 +45,48 @@ pub enum Cue {
     Other,
 }
 
-pub fn word_cue(word: Keyword) -> Cue
-    ensures { bare_role (role (Word word)) ≡ view_cue result }
+pub fn word_class(word: Keyword) -> TokenClass
+    ensures { bare_class (class (Word word)) ≡ view_class result }
 {
     match word {
-        Keyword::None => Cue::Constant,
-        Keyword::True => Cue::Constant,
-        Keyword::False => Cue::Constant,
-        Keyword::Not => Cue::Not,
-        Keyword::Is => Cue::Is,
-        Keyword::If => Cue::If,
-        Keyword::Else => Cue::Else,
-        Keyword::In => Cue::Compare(CmpOp::In),
-        Keyword::Or => Cue::Joint(Joint::Or),
-        Keyword::And => Cue::Joint(Joint::And),
-        _ => Cue::Other,
+        Keyword::None => TokenClass::Constant,
+        Keyword::True => TokenClass::Constant,
+        Keyword::False => TokenClass::Constant,
+        Keyword::Not => TokenClass::Not,
+        Keyword::Is => TokenClass::Is,
+        Keyword::If => TokenClass::If,
+        Keyword::Else => TokenClass::Else,
+        Keyword::In => TokenClass::Compare(CmpOp::In),
+        Keyword::Or => TokenClass::BinaryOperator(BinaryOperator::Or),
+        Keyword::And => TokenClass::BinaryOperator(BinaryOperator::And),
+        _ => TokenClass::Other,
     }
 }
 
-pub fn mark_cue(mark: Mark) -> Cue
-    ensures { bare_role (role (Sign mark)) ≡ view_cue result }
+pub fn mark_class(mark: Mark) -> TokenClass
+    ensures { bare_class (class (Sign mark)) ≡ view_class result }
 {
     match mark {
-        Mark::EqualEqual => Cue::Compare(CmpOp::Eq),
-        Mark::NotEqual => Cue::Compare(CmpOp::Ne),
-        Mark::Less => Cue::Compare(CmpOp::Lt),
-        Mark::LessEqual => Cue::Compare(CmpOp::Le),
-        Mark::Greater => Cue::Compare(CmpOp::Gt),
-        Mark::GreaterEqual => Cue::Compare(CmpOp::Ge),
-        Mark::Plus => Cue::Joint(Joint::Op(BinOp::Add)),
-        Mark::Minus => Cue::Joint(Joint::Op(BinOp::Sub)),
-        Mark::Star => Cue::Joint(Joint::Op(BinOp::Mul)),
-        Mark::DoubleSlash => Cue::Joint(Joint::Op(BinOp::Floor)),
-        Mark::Percent => Cue::Joint(Joint::Op(BinOp::Mod)),
-        Mark::Comma => Cue::Comma,
-        Mark::Colon => Cue::Colon,
-        Mark::Dot => Cue::Dot,
-        Mark::LeftParen => Cue::LeftParen,
-        Mark::RightParen => Cue::RightParen,
-        Mark::LeftBracket => Cue::LeftBracket,
-        Mark::RightBracket => Cue::RightBracket,
-        Mark::LeftBrace => Cue::LeftBrace,
-        Mark::RightBrace => Cue::RightBrace,
-        _ => Cue::Other,
+        Mark::EqualEqual => TokenClass::Compare(CmpOp::Eq),
+        Mark::NotEqual => TokenClass::Compare(CmpOp::Ne),
+        Mark::Less => TokenClass::Compare(CmpOp::Lt),
+        Mark::LessEqual => TokenClass::Compare(CmpOp::Le),
+        Mark::Greater => TokenClass::Compare(CmpOp::Gt),
+        Mark::GreaterEqual => TokenClass::Compare(CmpOp::Ge),
+        Mark::Plus => TokenClass::BinaryOperator(BinaryOperator::Op(BinOp::Add)),
+        Mark::Minus => TokenClass::BinaryOperator(BinaryOperator::Op(BinOp::Sub)),
+        Mark::Star => TokenClass::BinaryOperator(BinaryOperator::Op(BinOp::Mul)),
+        Mark::DoubleSlash => TokenClass::BinaryOperator(BinaryOperator::Op(BinOp::Floor)),
+        Mark::Percent => TokenClass::BinaryOperator(BinaryOperator::Op(BinOp::Mod)),
+        Mark::Comma => TokenClass::Comma,
+        Mark::Colon => TokenClass::Colon,
+        Mark::Dot => TokenClass::Dot,
+        Mark::LeftParen => TokenClass::LeftParen,
+        Mark::RightParen => TokenClass::RightParen,
+        Mark::LeftBracket => TokenClass::LeftBracket,
+        Mark::RightBracket => TokenClass::RightBracket,
+        Mark::LeftBrace => TokenClass::LeftBrace,
+        Mark::RightBrace => TokenClass::RightBrace,
+        _ => TokenClass::Other,
     }
 }

@@ -20,9 +20,9 @@ use Rattle.py_parse_pattern.proofs.Sound.{is_wild}
 use Rattle.py_syntax.specs.declared.pattern.Pattern.{Pattern as Node}
 use Rattle.py_syntax.specs.View.{plain_pattern, plain_patterns}
 use Rattle.py_syntax.specs.declared.pattern.Brackets.{Brackets}
-use Rattle.py_parse_pattern.specs.declared.nodes.Tall.{Tall}
+use Rattle.py_parse_pattern.specs.declared.nodes.Measured.{Measured}
 use Rattle.py_parse_pattern.specs.declared.nodes.Many.{Many}
-use Rattle.py_parse_pattern.specs.Held.{view_tall, IsTall, view_many, AreTall, Makes}
+use Rattle.py_parse_pattern.specs.Views.{view_measured, IsMeasured, view_many, AreMeasured, Makes}
 use Rattle.py_parse_pattern.proofs.Least.{heights_snoc}
 
 pub plain_snoc : (ps : List Node) (p : Node) → plain_patterns (ps ++ p ∷ []) ≡ snoc (plain_patterns ps) (plain_pattern p)
@@ -54,10 +54,10 @@ pub joined_some : (ps : Patterns) (p : Pattern) → is_some ps ≡ true → join
 joined_some no_patterns p h = absurd cc
 joined_some (patterns q qs) p h = refl
 
--- the height behind a further pattern
-pub pushed_height : (m n : Many) (t : Tall) → AreTall m → IsTall t → view_many n ≡ snoc (view_many m) (view_tall t) → n.height ≡ max m.height t.height → AreTall n
+-- the height after a further pattern
+pub pushed_height : (m n : Many) (t : Measured) → AreMeasured m → IsMeasured t → view_many n ≡ snoc (view_many m) (view_measured t) → n.height ≡ max m.height t.height → AreMeasured n
 pushed_height m n t are is same height =
-    let h = heights_snoc (view_many m) (view_tall t) in
+    let h = heights_snoc (view_many m) (view_measured t) in
     let e = ap pattern_heights same in
     omega arith
 
@@ -67,16 +67,16 @@ plain_sequence b ps c = search node.the_lemmas
 plain_or : (ps : Vec Node) → plain_pattern (variant.Or ps) ≡ p_or (plain_patterns ps.items)
 plain_or ps = search node.the_lemmas
 
-pub makes_sequence : (b : Brackets) (m n : Many) (t : Tall) → AreTall m → IsTall t → view_many n ≡ snoc (view_many m) (view_tall t) → n.height ≡ max m.height t.height → Makes (sequence b (snoc (view_many m) (view_tall t)) false) (record { pattern = variant.Sequence b n.patterns false; height = n.height + 1 })
+pub makes_sequence : (b : Brackets) (m n : Many) (t : Measured) → AreMeasured m → IsMeasured t → view_many n ≡ snoc (view_many m) (view_measured t) → n.height ≡ max m.height t.height → Makes (sequence b (snoc (view_many m) (view_measured t)) false) (record { pattern = variant.Sequence b n.patterns false; height = n.height + 1 })
 makes_sequence b m n t are is same height =
     let all = pushed_height m n t are is same height in
     let e = ap pattern_heights same in
     record { is = plain_sequence b n.patterns false ∙ ap (λ (x : Patterns). sequence b x false) same; height = omega arith }
 
-pub makes_joined : (m n : Many) (t : Tall) → is_some (view_many m) ≡ true → AreTall m → IsTall t → view_many n ≡ snoc (view_many m) (view_tall t) → n.height ≡ max m.height t.height → Makes (joined (view_many m) (view_tall t)) (record { pattern = variant.Or n.patterns; height = n.height + 1 })
+pub makes_joined : (m n : Many) (t : Measured) → is_some (view_many m) ≡ true → AreMeasured m → IsMeasured t → view_many n ≡ snoc (view_many m) (view_measured t) → n.height ≡ max m.height t.height → Makes (joined (view_many m) (view_measured t)) (record { pattern = variant.Or n.patterns; height = n.height + 1 })
 makes_joined m n t some are is same height =
     let all = pushed_height m n t are is same height in
     let e = ap pattern_heights same in
-    let j = joined_some (view_many m) (view_tall t) some in
+    let j = joined_some (view_many m) (view_measured t) some in
     let k = ap pattern_height j in
     record { is = plain_or n.patterns ∙ ap p_or same ∙ sym j; height = omega arith }

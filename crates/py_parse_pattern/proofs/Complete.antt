@@ -5,9 +5,9 @@ use Rattle.py_syntax.specs.Tree.{Text, Constant, c_int, c_str, c_none, c_bool, P
 use Rattle.py_syntax.specs.Kinds.{Kind, Name, Word, Str, Sign}
 use Rattle.py_syntax.specs.Tokens.{strings, bool_word, underscore, minus_if, pattern_tokens, pattern_items, more_patterns, alternatives}
 use Rattle.py_syntax.specs.Normal.{pattern_rank, NormalConstant, NormalPattern, EachPattern}
-use Rattle.py_parse_pattern.specs.declared.cues.Bracket.{Bracket}
-use Rattle.py_parse_pattern.specs.declared.cues.Bracket.TheVariants.{Round, Square}
-use Rattle.py_parse_pattern.specs.Machine.{Cue, a_string, a_bar, an_as, a_dot, other, cue, shut_mark, brackets_of, snoc, is_some, is_underscore, named, joined, enclosed, listed, ended, Frame, frame, Stack, stack, State, Want, Named, Strings, Have, Naming, Item, Out, Next, Stuck, Left, offer, give, leave, begin, act, step, start, Verdict, Refused, Leaves, run}
+use Rattle.py_parse_pattern.specs.declared.token_classes.Bracket.{Bracket}
+use Rattle.py_parse_pattern.specs.declared.token_classes.Bracket.TheVariants.{Round, Square}
+use Rattle.py_parse_pattern.specs.Machine.{TokenClass, a_string, a_bar, an_as, a_dot, other, class, shut_mark, brackets_of, snoc, is_some, is_underscore, named, joined, enclosed, listed, ended, Frame, frame, Stack, stack, State, Want, Named, Strings, Have, Naming, Item, Out, Next, Stuck, Left, offer, give, leave, begin, act, step, start, Verdict, Refused, Leaves, run}
 use Rattle.py_token.specs.declared.token.Keyword.TheVariants as word
 use Rattle.py_token.specs.declared.token.Mark.TheVariants as mark
 use Rattle.py_syntax.specs.declared.pattern.Brackets.{Brackets}
@@ -24,13 +24,13 @@ alike s u t ts same = ap (λ (o : Out). outcome o t ts) same
 -- ---- what may follow
 
 -- a token that makes a name or a string longer
-abbrev pub lengthens : Cue → Bool
+abbrev pub lengthens : TokenClass → Bool
 lengthens a_dot = true
 lengthens (a_string x) = true
 lengthens c = false
 
 -- a token that goes on with one pattern
-abbrev pub goes_on : Cue → Bool
+abbrev pub goes_on : TokenClass → Bool
 goes_on a_dot = true
 goes_on (a_string x) = true
 goes_on a_bar = true
@@ -39,20 +39,20 @@ goes_on c = false
 
 abbrev pub Quiet : List Kind → Type 0
 Quiet [] = ⊥
-Quiet (t ∷ ts) = lengthens (cue t) ≡ false
+Quiet (t ∷ ts) = lengthens (class t) ≡ false
 
 abbrev pub Ends : List Kind → Type 0
 Ends [] = ⊥
-Ends (t ∷ ts) = goes_on (cue t) ≡ false
+Ends (t ∷ ts) = goes_on (class t) ≡ false
 
-quiet_cue : (c : Cue) → goes_on c ≡ false → lengthens c ≡ false
-quiet_cue a_dot h = absurd cc
-quiet_cue (a_string x) h = absurd cc
-quiet_cue c h = refl
+quiet_class : (c : TokenClass) → goes_on c ≡ false → lengthens c ≡ false
+quiet_class a_dot h = absurd cc
+quiet_class (a_string x) h = absurd cc
+quiet_class c h = refl
 
 quiet : (r : List Kind) → Ends r → Quiet r
 quiet [] h = absurd h
-quiet (t ∷ ts) h = quiet_cue (cue t) h
+quiet (t ∷ ts) h = quiet_class (class t) h
 
 -- ---- what is claimed of a pattern
 
@@ -76,14 +76,14 @@ ItemBack q = (is : Patterns) (fs : List Frame) (r : List Kind) → Ends r → ru
 ready_closed : (p : Pattern) → ClosedBack p → ReadyBack p
 ready_closed p back is fs r h = record { earlier = no_patterns; last = p; all = refl; reads = back (stack is no_patterns fs) r h }
 
-give_item : (p : Pattern) (is as' : Patterns) (fs : List Frame) (c : Cue) → goes_on c ≡ false → give p (stack is as' fs) c ≡ offer (joined as' p) is fs c
+give_item : (p : Pattern) (is as' : Patterns) (fs : List Frame) (c : TokenClass) → goes_on c ≡ false → give p (stack is as' fs) c ≡ offer (joined as' p) is fs c
 give_item p is as' fs a_bar h = absurd cc
 give_item p is as' fs an_as h = absurd cc
 give_item p is as' fs c h = refl
 
 have_item : (p : Pattern) (is as' : Patterns) (fs : List Frame) (r : List Kind) → Ends r → run (Have p (stack is as' fs)) r ≡ run (Item (joined as' p) is fs) r
 have_item p is as' fs [] h = absurd h
-have_item p is as' fs (t ∷ ts) h = alike (Have p (stack is as' fs)) (Item (joined as' p) is fs) t ts (give_item p is as' fs (cue t) h)
+have_item p is as' fs (t ∷ ts) h = alike (Have p (stack is as' fs)) (Item (joined as' p) is fs) t ts (give_item p is as' fs (class t) h)
 
 item_ready : (q : Pattern) → ReadyBack q → ItemBack q
 item_ready q back is fs r h =
@@ -92,21 +92,21 @@ item_ready q back is fs r h =
 
 -- ---- closed patterns
 
-settle_strings : (xs : List Text) (k : Stack) (c : Cue) → lengthens c ≡ false → act (Strings xs k) c ≡ give (literal false (c_str xs)) k c
+settle_strings : (xs : List Text) (k : Stack) (c : TokenClass) → lengthens c ≡ false → act (Strings xs k) c ≡ give (literal false (c_str xs)) k c
 settle_strings xs k (a_string x) h = absurd cc
 settle_strings xs k c h = refl
 
-settle_name : (x : Text) (k : Stack) (c : Cue) → lengthens c ≡ false → act (Named x k) c ≡ give (named x) k c
+settle_name : (x : Text) (k : Stack) (c : TokenClass) → lengthens c ≡ false → act (Named x k) c ≡ give (named x) k c
 settle_name x k a_dot h = absurd cc
 settle_name x k c h = refl
 
 run_name : (x : Text) (k : Stack) (r : List Kind) → Quiet r → run (Named x k) r ≡ run (Have (named x) k) r
 run_name x k [] h = absurd h
-run_name x k (t ∷ ts) h = alike (Named x k) (Have (named x) k) t ts (settle_name x k (cue t) h)
+run_name x k (t ∷ ts) h = alike (Named x k) (Have (named x) k) t ts (settle_name x k (class t) h)
 
 run_strings : (xs ys : List Text) (k : Stack) (r : List Kind) → Quiet r → run (Strings xs k) (strings ys r) ≡ run (Have (literal false (c_str (xs ++ ys))) k) r
 run_strings xs [] k [] h = absurd h
-run_strings xs [] k (t ∷ ts) h = alike (Strings xs k) (Have (literal false (c_str xs)) k) t ts (settle_strings xs k (cue t) h) ∙ ap (λ (z : List Text). run (Have (literal false (c_str z)) k) (t ∷ ts)) (sym (append-nil xs))
+run_strings xs [] k (t ∷ ts) h = alike (Strings xs k) (Have (literal false (c_str xs)) k) t ts (settle_strings xs k (class t) h) ∙ ap (λ (z : List Text). run (Have (literal false (c_str z)) k) (t ∷ ts)) (sym (append-nil xs))
 run_strings xs (y ∷ ys) k r h = run_strings (xs ++ y ∷ []) ys k r h ∙ ap (λ (z : List Text). run (Have (literal false (c_str z)) k) r) (append_assoc xs (y ∷ []) ys)
 
 literal_back : (minus : Bool) (c : Constant) → NormalConstant minus c → ClosedBack (literal minus c)
@@ -170,7 +170,7 @@ abbrev AllClosed : Patterns → Type 0
 AllClosed no_patterns = Unit {0}
 AllClosed (patterns p ps) = ClosedBack p × AllClosed ps
 
--- in round brackets one item alone has a comma behind it, and so it is with no brackets
+-- in round brackets one item alone has a comma after it, and so it is with no brackets
 abbrev Marked : Brackets → Patterns → Patterns → Bool → Type 0
 Marked brackets_.Square is ps c = Unit {0}
 Marked b no_patterns no_patterns c = c ≡ true
@@ -190,12 +190,12 @@ some_snoc : (is : Patterns) (p : Pattern) → is_some (snoc is p) ≡ true
 some_snoc no_patterns p = refl
 some_snoc (patterns q qs) p = refl
 
--- the bracket shuts behind an item
+-- the bracket shuts after an item
 shuts_item : (b : Bracket) (q : Pattern) (is js bs : Patterns) (fs : List Frame) (r : List Kind) → run (Item q is (frame b js bs ∷ fs)) (shut_token b ∷ r) ≡ run (Have (enclosed b is q) (stack js bs fs)) r
 shuts_item Round q is js bs fs r = refl
 shuts_item Square q is js bs fs r = refl
 
--- the bracket shuts behind a comma, or at once
+-- the bracket shuts after a comma, or at once
 shuts_row : (b : Bracket) (is js bs : Patterns) (fs : List Frame) (r : List Kind) → run (Want (stack is no_patterns (frame b js bs ∷ fs))) (shut_token b ∷ r) ≡ run (Have (ended b is) (stack js bs fs)) r
 shuts_row Round is js bs fs r = refl
 shuts_row Square is js bs fs r = refl
@@ -214,7 +214,7 @@ ends_more no_patterns true r h = refl
 ends_more no_patterns false r h = h
 ends_more (patterns p ps) c r h = refl
 
--- behind the first items of a row, to its end
+-- after the first items of a row, to its end
 rest_of_row : (b : Bracket) (ps is : Patterns) (q : Pattern) (js bs : Patterns) (fs : List Frame) (c : Bool) (r : List Kind) → AllItems ps → Marked (brackets_of b) is ps c →
     run (Item q is (frame b js bs ∷ fs)) (more_patterns ps c (shut_token b ∷ r)) ≡ run (Have (sequence (brackets_of b) (join is (patterns q ps)) c) (stack js bs fs)) r
 rest_of_row b no_patterns is q js bs fs false r all m =
@@ -344,7 +344,7 @@ mutual
 
 -- a token that no pattern has
 abbrev pub IsOver : Kind → Type 0
-IsOver t = cue t ≡ other
+IsOver t = class t ≡ other
 
 over_item : (p : Pattern) (is : Patterns) (t : Kind) → IsOver t → step (Item p is []) t ≡ Left (listed is p)
 over_item p is t h = ap (offer p is []) h

@@ -6,7 +6,7 @@ use Rattle.py_syntax.specs.Tree.{Text, Constant, c_int, c_str, c_none, c_bool, P
 use Rattle.py_syntax.specs.Kinds.{Kind, Name, Word, Str, Sign}
 use Rattle.py_syntax.specs.Tokens.{comma_if, strings, minus_if, constant, pattern_tokens, pattern_items, more_patterns, alternatives}
 use Rattle.py_syntax.specs.Normal.{NormalPattern, pattern_height}
-use Rattle.py_parse_pattern.specs.Machine.{Cue, a_name, a_number, a_string, a_none, a_bool, a_minus, opens, shuts, a_bar, an_as, a_comma, a_dot, other, cue, same_bracket, is_underscore, named, joined, enclosed, ended, Frame, frame, Stack, stack, State, Want, Minus, Named, Dotted, Strings, Have, Naming, Item, Out, Next, Stuck, Left, offer, give, leave, shut, wanting, begin, act, step, start, Leaves, run, put, whole, closed, settled, finished, least, Ending, Unexpected, TooDeep, within}
+use Rattle.py_parse_pattern.specs.Machine.{TokenClass, a_name, a_number, a_string, a_none, a_bool, a_minus, opens, shuts, a_bar, an_as, a_comma, a_dot, other, class, same_bracket, is_underscore, named, joined, enclosed, ended, Frame, frame, Stack, stack, State, Want, Minus, Named, Dotted, Strings, Have, Naming, Item, Out, Next, Stuck, Left, offer, give, leave, shut, wanting, begin, act, step, start, Leaves, run, put, whole, closed, settled, finished, least, Ending, Unexpected, TooDeep, within}
 use Rattle.py_token.specs.declared.token.Keyword.TheVariants as word
 use Rattle.py_token.specs.declared.token.Mark.TheVariants as mark
 use Rattle.std.proofs.lemmas.List.{append-nil}
@@ -15,7 +15,7 @@ use Rattle.py_parse_pattern.specs.Machine as machine
 use Rattle.py_syntax.specs.Refusals as any_tree
 use Rattle.py_parse_pattern.specs.Trees.{HasTokens, IsWithin, BeginsPattern, IsPattern, IsUnexpected, IsTooDeep, OnePattern}
 use Rattle.py_parse_pattern.proofs.Sound.{before, Reads, step_reads}
-use Rattle.py_parse_pattern.proofs.Fine.{Fine, Keeps, step_keeps, start_fine, finished_fine}
+use Rattle.py_parse_pattern.proofs.NormalStates.{NormalState, Keeps, step_keeps, start_normal, finished_normal}
 use Rattle.py_parse_pattern.proofs.Finish.{finish, finish_tokens}
 use Rattle.py_parse_pattern.proofs.Least.{Grows, step_grows}
 use Rattle.py_parse_pattern.proofs.Complete.{outcome, reads_all}
@@ -66,7 +66,7 @@ mutual
   bars_parted no_patterns a r = refl
   bars_parted (patterns p ps) a r = ap (λ (y : List Kind). Sign mark.Bar ∷ y) (ap (pattern_tokens p) (bars_parted ps a r) ∙ parted p (alternatives ps a) r)
 
--- ---- the state behind some tokens
+-- ---- the state after some tokens
 
 abbrev one : Out → Option State
 one (Next n) = Some n
@@ -89,11 +89,11 @@ steps_before s n (t ∷ ts) r h = go (λ m. steps_before m n ts r) (step s t) (s
     go rec Stuck reads h = absurd cc
     go rec (Left p) reads h = absurd cc
 
-steps_fine : (s n : State) (ts : List Kind) → Fine s → steps s ts ≡ Some n → Fine n
-steps_fine s n [] fine h = let same : s ≡ n = cc in subst Fine same fine
-steps_fine s n (t ∷ ts) fine h = go (λ m. steps_fine m n ts) (step s t) (step_keeps s t fine) h
+steps_normal : (s n : State) (ts : List Kind) → NormalState s → steps s ts ≡ Some n → NormalState n
+steps_normal s n [] normal h = let same : s ≡ n = cc in subst NormalState same normal
+steps_normal s n (t ∷ ts) normal h = go (λ m. steps_normal m n ts) (step s t) (step_keeps s t normal) h
   where
-    go : ((m : State) → Fine m → steps m ts ≡ Some n → Fine n) → (o : Out) → Keeps o → carried o ts ≡ Some n → Fine n
+    go : ((m : State) → NormalState m → steps m ts ≡ Some n → NormalState n) → (o : Out) → Keeps o → carried o ts ≡ Some n → NormalState n
     go rec (Next m) keeps h = rec m keeps h
     go rec Stuck keeps h = absurd cc
     go rec (Left p) keeps h = absurd cc
@@ -135,14 +135,14 @@ passes : (s : State) (front : List Kind) (b : Kind) (bs : List Kind) (p : Patter
 passes s [] b bs p e h = (s, refl, run_least s (b ∷ bs) p (e ∷ []) h)
 passes s (u ∷ us) b bs p e h = go (λ m. passes m us b bs p e) (step s u) h
   where
-    behind : (us : List Kind) → us ++ b ∷ bs ≡ [] → ⊥
-    behind [] h = absurd cc
-    behind (v ∷ vs) h = absurd cc
+    after : (us : List Kind) → us ++ b ∷ bs ≡ [] → ⊥
+    after [] h = absurd cc
+    after (v ∷ vs) h = absurd cc
 
     go : ((m : State) → run m (us ++ b ∷ bs) ≡ Leaves p (e ∷ []) → (n : State) × (steps m us ≡ Some n) × (least n ≤ pattern_height p)) → (o : Out) → outcome o u (us ++ b ∷ bs) ≡ Leaves p (e ∷ []) → (n : State) × (carried o us ≡ Some n) × (least n ≤ pattern_height p)
     go rec (Next m) h = rec m h
     go rec Stuck h = absurd cc
-    go rec (Left q) h = let none : us ++ b ∷ bs ≡ [] = cc in absurd (behind us none)
+    go rec (Left q) h = let none : us ++ b ∷ bs ≡ [] = cc in absurd (after us none)
 
 -- ---- viable prefixes
 
@@ -151,7 +151,7 @@ BeginsWithin limit front = any_tree.BeginsWithin HasTokens (IsWithin limit) fron
 
 pub within_from : (limit : ℕ) (front : List Kind) (s : State) → steps start front ≡ Some s → least s ≤ limit → BeginsWithin limit front
 within_from limit front s h low =
-    (finished s, finish s [], (finished_fine s (steps_fine start s front start_fine h), sym (finish_tokens s []) ∙ sym (steps_before start s front (finish s []) h)), low)
+    (finished s, finish s [], (finished_normal s (steps_normal start s front start_normal h), sym (finish_tokens s []) ∙ sym (steps_before start s front (finish s []) h)), low)
 
 -- the tokens of a pattern and an end
 ended_list : (p : Pattern) (front more : List Kind) → pattern_tokens p [] ≡ front ++ more → pattern_tokens p (End ∷ []) ≡ front ++ (more ++ End ∷ [])
@@ -186,7 +186,7 @@ LeavesIt s (Next n) = Unit {0}
 LeavesIt s Stuck = Unit {0}
 LeavesIt s (Left p) = finished s ≡ p
 
-offer_left : (s : State) (p : Pattern) (is : Patterns) (fs : List Frame) (c : Cue) → finished s ≡ put p is fs → LeavesIt s (offer p is fs c)
+offer_left : (s : State) (p : Pattern) (is : Patterns) (fs : List Frame) (c : TokenClass) → finished s ≡ put p is fs → LeavesIt s (offer p is fs c)
 offer_left s p is fs a_comma h = tt
 offer_left s p is [] c h = h
 offer_left s p is (frame b js bs ∷ fs) (shuts d) h = go (same_bracket b d)
@@ -196,12 +196,12 @@ offer_left s p is (frame b js bs ∷ fs) (shuts d) h = go (same_bracket b d)
     go false = tt
 offer_left s p is (f ∷ fs) c h = tt
 
-give_left : (s : State) (p : Pattern) (k : Stack) (c : Cue) → finished s ≡ whole p k → LeavesIt s (give p k c)
+give_left : (s : State) (p : Pattern) (k : Stack) (c : TokenClass) → finished s ≡ whole p k → LeavesIt s (give p k c)
 give_left s p (stack is as' fs) a_bar h = tt
 give_left s p (stack is as' fs) an_as h = tt
 give_left s p (stack is as' fs) c h = offer_left s (joined as' p) is fs c h
 
-shut_left : (s : State) (is : Patterns) (fs : List Frame) (c : Cue) → finished s ≡ closed is fs → LeavesIt s (shut is fs c)
+shut_left : (s : State) (is : Patterns) (fs : List Frame) (c : TokenClass) → finished s ≡ closed is fs → LeavesIt s (shut is fs c)
 shut_left s no_patterns [] c h = tt
 shut_left s (patterns p ps) [] c h = h
 shut_left s is (frame b js bs ∷ fs) (shuts d) h = go (same_bracket b d)
@@ -211,11 +211,11 @@ shut_left s is (frame b js bs ∷ fs) (shuts d) h = go (same_bracket b d)
     go false = tt
 shut_left s is (f ∷ fs) c h = tt
 
-wanting_left : (s : State) (k : Stack) (c : Cue) → finished s ≡ settled k → LeavesIt s (wanting k c)
+wanting_left : (s : State) (k : Stack) (c : TokenClass) → finished s ≡ settled k → LeavesIt s (wanting k c)
 wanting_left s (stack is no_patterns fs) c h = shut_left s is fs c h
 wanting_left s (stack is (patterns a as') fs) c h = tt
 
-begin_left : (s : State) (k : Stack) (c : Cue) → finished s ≡ settled k → LeavesIt s (begin k c)
+begin_left : (s : State) (k : Stack) (c : TokenClass) → finished s ≡ settled k → LeavesIt s (begin k c)
 begin_left s k (a_name x) h = tt
 begin_left s k (a_number n) h = tt
 begin_left s k (a_string x) h = tt
@@ -225,7 +225,7 @@ begin_left s k a_minus h = tt
 begin_left s k (opens b) h = tt
 begin_left s k c h = wanting_left s k c h
 
-left_is : (s : State) (c : Cue) → LeavesIt s (act s c)
+left_is : (s : State) (c : TokenClass) → LeavesIt s (act s c)
 left_is (Want k) c = begin_left (Want k) k c refl
 left_is (Minus k) (a_number n) = tt
 left_is (Minus k) c = tt
@@ -253,26 +253,26 @@ abbrev sticks : Out → Bool
 sticks Stuck = true
 sticks o = false
 
-offer_stuck : (p : Pattern) (is : Patterns) (fs : List Frame) (c : Cue) → sticks (offer p is fs c) ≡ true → leaves_one (offer p is fs other) ≡ false
+offer_stuck : (p : Pattern) (is : Patterns) (fs : List Frame) (c : TokenClass) → sticks (offer p is fs c) ≡ true → leaves_one (offer p is fs other) ≡ false
 offer_stuck p is fs a_comma h = absurd cc
 offer_stuck p is [] c h = absurd cc
 offer_stuck p is (f ∷ fs) c h = refl
 
-give_stuck : (p : Pattern) (k : Stack) (c : Cue) → sticks (give p k c) ≡ true → leaves_one (give p k other) ≡ false
+give_stuck : (p : Pattern) (k : Stack) (c : TokenClass) → sticks (give p k c) ≡ true → leaves_one (give p k other) ≡ false
 give_stuck p (stack is as' fs) a_bar h = absurd cc
 give_stuck p (stack is as' fs) an_as h = absurd cc
 give_stuck p (stack is as' fs) c h = offer_stuck (joined as' p) is fs c h
 
-shut_stuck : (is : Patterns) (fs : List Frame) (c : Cue) → sticks (shut is fs c) ≡ true → leaves_one (shut is fs other) ≡ false
+shut_stuck : (is : Patterns) (fs : List Frame) (c : TokenClass) → sticks (shut is fs c) ≡ true → leaves_one (shut is fs other) ≡ false
 shut_stuck no_patterns [] c h = refl
 shut_stuck (patterns p ps) [] c h = absurd cc
 shut_stuck is (frame b js bs ∷ fs) c h = refl
 
-wanting_stuck : (k : Stack) (c : Cue) → sticks (wanting k c) ≡ true → leaves_one (wanting k other) ≡ false
+wanting_stuck : (k : Stack) (c : TokenClass) → sticks (wanting k c) ≡ true → leaves_one (wanting k other) ≡ false
 wanting_stuck (stack is no_patterns fs) c h = shut_stuck is fs c h
 wanting_stuck (stack is (patterns a as') fs) c h = refl
 
-begin_stuck : (k : Stack) (c : Cue) → sticks (begin k c) ≡ true → leaves_one (begin k other) ≡ false
+begin_stuck : (k : Stack) (c : TokenClass) → sticks (begin k c) ≡ true → leaves_one (begin k other) ≡ false
 begin_stuck k (a_name x) h = absurd cc
 begin_stuck k (a_number n) h = absurd cc
 begin_stuck k (a_string x) h = absurd cc
@@ -282,7 +282,7 @@ begin_stuck k a_minus h = absurd cc
 begin_stuck k (opens b) h = absurd cc
 begin_stuck k c h = wanting_stuck k c h
 
-stuck_end : (s : State) (c : Cue) → sticks (act s c) ≡ true → leaves_one (act s other) ≡ false
+stuck_end : (s : State) (c : TokenClass) → sticks (act s c) ≡ true → leaves_one (act s other) ≡ false
 stuck_end (Want k) c h = begin_stuck k c h
 stuck_end (Minus k) c h = refl
 stuck_end (Named x k) a_dot h = absurd cc
@@ -348,7 +348,7 @@ no_pattern front s t h stuck p has =
     let is = has.1 in
     let all = ended_list p front [] (is ∙ sym (append-nil front)) in
     let left = sym (run_steps start s front (End ∷ []) h) ∙ ap (run start) (sym all) ∙ reads_all p End [] n refl in
-    not_left (step s End) (stuck_end s (cue t) (ap sticks stuck)) left
+    not_left (step s End) (stuck_end s (class t) (ap sticks stuck)) left
   where
     not_left : (o : Out) → leaves_one o ≡ false → outcome o End [] ≡ Leaves p (End ∷ []) → ⊥
     not_left (Next m) no_left h = absurd cc
@@ -377,8 +377,8 @@ means limit front s (TooDeep (t ∷ ts)) h low how =
         absurd (omega arith)
 means limit front s (machine.Reads p []) h low how = absurd how
 means limit front s (machine.Reads p (t ∷ ts)) h low how =
-    let it : finished s ≡ p = subst (LeavesIt s) how (left_is s (cue t)) in
-    let normal = subst NormalPattern it (finished_fine s (steps_fine start s front start_fine h)) in
+    let it : finished s ≡ p = subst (LeavesIt s) how (left_is s (class t)) in
+    let normal = subst NormalPattern it (finished_normal s (steps_normal start s front start_normal h)) in
     let nothing = within_from limit front s h low in
     (normal, spelled how, subst (λ (x : Pattern). pattern_height x ≤ limit) it low, no_next front s t h (ap one how))
   where

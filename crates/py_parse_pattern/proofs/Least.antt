@@ -3,9 +3,9 @@ use Rattle.std.proofs.Common.{◌≡◌, ℕ, suc, ◌+◌, ◌≤◌, max, pos,
 use Rattle.py_syntax.specs.Tree.{Text, c_int, c_str, c_none, c_bool, Pattern, literal, capture, wild, member, sequence, p_or, p_as, p_paren, Patterns, no_patterns, patterns}
 use Rattle.py_syntax.specs.Kinds.{Kind}
 use Rattle.py_syntax.specs.Normal.{pattern_height, pattern_heights}
-use Rattle.py_parse_pattern.specs.declared.cues.Bracket.{Bracket}
-use Rattle.py_parse_pattern.specs.declared.cues.Bracket.TheVariants.{Round, Square}
-use Rattle.py_parse_pattern.specs.Machine.{Cue, a_name, a_number, a_string, a_none, a_bool, a_minus, opens, shuts, a_bar, an_as, a_comma, a_dot, cue, same_bracket, snoc, is_underscore, named, joined, enclosed, listed, ended, Frame, frame, Stack, stack, State, Want, Minus, Named, Dotted, Strings, Have, Naming, Item, Out, Next, Stuck, Left, offer, give, shut, wanting, begin, act, step, put, whole, closed, settled, some_name, least}
+use Rattle.py_parse_pattern.specs.declared.token_classes.Bracket.{Bracket}
+use Rattle.py_parse_pattern.specs.declared.token_classes.Bracket.TheVariants.{Round, Square}
+use Rattle.py_parse_pattern.specs.Machine.{TokenClass, a_name, a_number, a_string, a_none, a_bool, a_minus, opens, shuts, a_bar, an_as, a_comma, a_dot, class, same_bracket, snoc, is_underscore, named, joined, enclosed, listed, ended, Frame, frame, Stack, stack, State, Want, Minus, Named, Dotted, Strings, Have, Naming, Item, Out, Next, Stuck, Left, offer, give, shut, wanting, begin, act, step, put, whole, closed, settled, some_name, least}
 use Rattle.py_parse_pattern.specs.Heights.{levels, over, raised, depth, base, base_closed}
 
 pub heights_snoc : (ps : Patterns) (p : Pattern) → pattern_heights (snoc ps p) ≡ max (pattern_heights ps) (pattern_height p)
@@ -52,7 +52,7 @@ put_height p is (frame b js bs ∷ fs) =
 pub whole_height : (p : Pattern) (is as' : Patterns) (fs : List Frame) → pattern_height (whole p (stack is as' fs)) ≡ max (max (base is fs) (raised as' (depth is fs))) (pattern_height p + levels as' + depth is fs)
 whole_height p is as' fs = let one = put_height (joined as' p) is fs in let two = joined_height as' p in let three = raised_is as' (depth is fs) (pattern_height p + levels as') in omega arith
 
--- the height of an open list where it may end behind its items
+-- the height of an open list where it may end after its items
 pub closed_height : (is : Patterns) (fs : List Frame) → pattern_height (closed is fs) ≡ max (base is fs) 1
 closed_height no_patterns [] = omega arith
 closed_height (patterns p ps) [] = omega arith
@@ -99,7 +99,7 @@ pub settled_bar : (is as' : Patterns) (p : Pattern) (fs : List Frame) → settle
 settled_bar is no_patterns p fs = refl
 settled_bar is (patterns q qs) p fs = refl
 
--- the height behind a bar
+-- the height after a bar
 pub bar_height : (is as' : Patterns) (p : Pattern) (fs : List Frame) → pattern_height (settled (stack is (snoc as' p) fs)) ≡ max (base is fs) (suc (max (pattern_heights as') (pattern_height p)) + depth is fs)
 bar_height is as' p fs =
     let same = ap pattern_height (settled_bar is as' p fs) in
@@ -116,7 +116,7 @@ Grows n (Next s) = n ≤ least s
 Grows n Stuck = Unit {0}
 Grows n (Left p) = n ≤ pattern_height p
 
-offer_grows : (p : Pattern) (is : Patterns) (fs : List Frame) (c : Cue) → Grows (pattern_height (put p is fs)) (offer p is fs c)
+offer_grows : (p : Pattern) (is : Patterns) (fs : List Frame) (c : TokenClass) → Grows (pattern_height (put p is fs)) (offer p is fs c)
 offer_grows p is fs a_comma = let h = put_height p is fs in let c = closed_height (snoc is p) fs in let b = comma_base p is fs in let d = deeper is fs in omega arith
   where
     deeper : (is : Patterns) (fs : List Frame) → depth is fs ≤ depth (snoc is p) fs
@@ -130,15 +130,15 @@ offer_grows p is (frame b js bs ∷ fs) (shuts d) = go (same_bracket b d)
 offer_grows p is [] c = omega arith
 offer_grows p is (f ∷ fs) c = tt
 
-give_grows : (p : Pattern) (k : Stack) (c : Cue) → Grows (pattern_height (whole p k)) (give p k c)
+give_grows : (p : Pattern) (k : Stack) (c : TokenClass) → Grows (pattern_height (whole p k)) (give p k c)
 give_grows p (stack is as' fs) a_bar = let w = whole_height p is as' fs in let b = bar_height is as' p fs in let o = raised_low as' (depth is fs) in let l = levels_low as' in omega arith
 give_grows p (stack is as' fs) an_as = let h = put_height (joined as' p) is fs in let n = put_height (p_as (joined as' p) some_name) is fs in omega arith
 give_grows p (stack is as' fs) c = offer_grows (joined as' p) is fs c
 
-wanting_grows : (k : Stack) (c : Cue) → Grows (pattern_height (settled k)) (wanting k c)
+wanting_grows : (k : Stack) (c : TokenClass) → Grows (pattern_height (settled k)) (wanting k c)
 wanting_grows (stack is no_patterns fs) c = shut_grows is fs c
   where
-    shut_grows : (is : Patterns) (fs : List Frame) (c : Cue) → Grows (pattern_height (closed is fs)) (shut is fs c)
+    shut_grows : (is : Patterns) (fs : List Frame) (c : TokenClass) → Grows (pattern_height (closed is fs)) (shut is fs c)
     shut_grows is (frame b js bs ∷ fs) (shuts d) = go (same_bracket b d)
       where
         go : (same : Bool) → Grows (pattern_height (closed is (frame b js bs ∷ fs))) (cond same (Next (Have (ended b is) (stack js bs fs))) Stuck)
@@ -156,7 +156,7 @@ named_height x = go (is_underscore x)
     go true = refl
     go false = refl
 
-begin_grows : (k : Stack) (c : Cue) → Grows (pattern_height (settled k)) (begin k c)
+begin_grows : (k : Stack) (c : TokenClass) → Grows (pattern_height (settled k)) (begin k c)
 begin_grows k (a_name x) = settled_high k (named x)
 begin_grows k (a_number n) = settled_high k (literal false (c_int n))
 begin_grows k (a_string x) = settled_high k (literal false (c_str (x ∷ [])))
@@ -170,7 +170,7 @@ begin_grows k c = wanting_grows k c
 level_with : (p q : Pattern) (k : Stack) → pattern_height p ≡ pattern_height q → pattern_height (whole p k) ≤ pattern_height (whole q k)
 level_with p q (stack is as' fs) h = let one = whole_height p is as' fs in let two = whole_height q is as' fs in omega arith
 
-act_grows : (s : State) (c : Cue) → Grows (least s) (act s c)
+act_grows : (s : State) (c : TokenClass) → Grows (least s) (act s c)
 act_grows (Want k) c = begin_grows k c
 act_grows (Minus k) (a_number n) = level_with (literal true (c_int (pos 0))) (literal true (c_int n)) k refl
 act_grows (Minus k) c = tt
@@ -190,4 +190,4 @@ act_grows (Naming p is fs) c = tt
 act_grows (Item p is fs) c = offer_grows p is fs c
 
 pub step_grows : (s : State) (t : Kind) → Grows (least s) (step s t)
-step_grows s t = act_grows s (cue t)
+step_grows s t = act_grows s (class t)

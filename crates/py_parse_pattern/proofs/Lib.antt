@@ -1,5 +1,5 @@
 pub mod Sound
-pub mod Fine
+pub mod NormalStates
 pub mod Least
 pub mod Finish
 pub mod Complete

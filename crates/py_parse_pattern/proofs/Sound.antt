@@ -4,9 +4,9 @@ use Rattle.std.proofs.lemmas.Bool.{eqb-true}
 use Rattle.py_syntax.specs.Tree.{Text, c_str, Pattern, literal, capture, wild, p_as, Patterns, no_patterns, patterns}
 use Rattle.py_syntax.specs.Kinds.{Kind, Name, Word, Int, Str, Sign}
 use Rattle.py_syntax.specs.Tokens.{comma_if, strings, bool_word, underscore, pattern_tokens, pattern_items, more_patterns, alternatives}
-use Rattle.py_parse_pattern.specs.declared.cues.Bracket.{Bracket}
-use Rattle.py_parse_pattern.specs.declared.cues.Bracket.TheVariants.{Round, Square}
-use Rattle.py_parse_pattern.specs.Machine.{Cue, a_name, a_number, a_string, a_none, a_bool, a_minus, opens, shuts, a_bar, an_as, a_comma, a_dot, other, cue, open_mark, shut_mark, same_bracket, snoc, is_underscore, named, joined, enclosed, listed, ended, Frame, frame, Stack, stack, State, Want, Minus, Named, Dotted, Strings, Have, Naming, Item, Out, Next, Stuck, Left, offer, give, shut, wanting, begin, act, step}
+use Rattle.py_parse_pattern.specs.declared.token_classes.Bracket.{Bracket}
+use Rattle.py_parse_pattern.specs.declared.token_classes.Bracket.TheVariants.{Round, Square}
+use Rattle.py_parse_pattern.specs.Machine.{TokenClass, a_name, a_number, a_string, a_none, a_bool, a_minus, opens, shuts, a_bar, an_as, a_comma, a_dot, other, class, open_mark, shut_mark, same_bracket, snoc, is_underscore, named, joined, enclosed, listed, ended, Frame, frame, Stack, stack, State, Want, Minus, Named, Dotted, Strings, Have, Naming, Item, Out, Next, Stuck, Left, offer, give, shut, wanting, begin, act, step}
 use Rattle.py_token.specs.declared.token.Keyword.TheVariants as word
 use Rattle.py_token.specs.declared.token.Mark.TheVariants as mark
 
@@ -80,10 +80,10 @@ named_tokens x r = go (is_underscore x) refl
     go true is = ap (λ (y : Text). Name y ∷ r) (sym (is_wild x is))
     go false is = refl
 
--- ---- tokens and their cues
+-- ---- tokens and their classes
 
--- the token of a cue
-abbrev pub Says : Cue → Kind → Type 0
+-- the token of a class
+abbrev pub Says : TokenClass → Kind → Type 0
 Says (a_name x) t = t ≡ Name x
 Says (a_number n) t = t ≡ Int n
 Says (a_string x) t = t ≡ Str x
@@ -98,7 +98,7 @@ Says a_comma t = t ≡ Sign mark.Comma
 Says a_dot t = t ≡ Sign mark.Dot
 Says other t = Unit {0}
 
-pub says : (t : Kind) → Says (cue t) t
+pub says : (t : Kind) → Says (class t) t
 says (Name x) = refl
 says (Int n) = refl
 says (Str x) = refl
@@ -145,7 +145,7 @@ same_is Square Square h = refl
 same_is Round Square h = absurd cc
 same_is Square Round h = absurd cc
 
-pub offer_reads : (p : Pattern) (is : Patterns) (fs : List Frame) (c : Cue) (t : Kind) (r : List Kind) → Says c t → Reads t r (before_item is fs (pattern_tokens p (t ∷ r))) (offer p is fs c)
+pub offer_reads : (p : Pattern) (is : Patterns) (fs : List Frame) (c : TokenClass) (t : Kind) (r : List Kind) → Says c t → Reads t r (before_item is fs (pattern_tokens p (t ∷ r))) (offer p is fs c)
 offer_reads p is fs a_comma t r h = ap (before_row fs) (items_snoc is p true r) ∙ ap (λ (u : Kind). before_item is fs (pattern_tokens p (u ∷ r))) (sym h)
 offer_reads p is (frame b js bs ∷ fs) (shuts d) t r h = go (same_bracket b d) refl
   where
@@ -157,15 +157,15 @@ offer_reads p is (frame b js bs ∷ fs) (shuts d) t r h = go (same_bracket b d) 
 offer_reads p is [] c t r h = listed_tokens is p (t ∷ r)
 offer_reads p is (f ∷ fs) c t r h = tt
 
-offered : (p : Pattern) (is as' : Patterns) (fs : List Frame) (c : Cue) (t : Kind) (r : List Kind) → Says c t → Reads t r (before_closed (stack is as' fs) (pattern_tokens p (t ∷ r))) (offer (joined as' p) is fs c)
+offered : (p : Pattern) (is as' : Patterns) (fs : List Frame) (c : TokenClass) (t : Kind) (r : List Kind) → Says c t → Reads t r (before_closed (stack is as' fs) (pattern_tokens p (t ∷ r))) (offer (joined as' p) is fs c)
 offered p is as' fs c t r h = subst (λ (x : List Kind). Reads t r (before_item is fs x) (offer (joined as' p) is fs c)) (joined_tokens as' p (t ∷ r)) (offer_reads (joined as' p) is fs c t r h)
 
-pub give_reads : (p : Pattern) (k : Stack) (c : Cue) (t : Kind) (r : List Kind) → Says c t → Reads t r (before_closed k (pattern_tokens p (t ∷ r))) (give p k c)
+pub give_reads : (p : Pattern) (k : Stack) (c : TokenClass) (t : Kind) (r : List Kind) → Says c t → Reads t r (before_closed k (pattern_tokens p (t ∷ r))) (give p k c)
 give_reads p (stack is as' fs) a_bar t r h = ap (λ (x : List Kind). before_item is fs x) (barred_snoc as' p r) ∙ ap (λ (u : Kind). before_closed (stack is as' fs) (pattern_tokens p (u ∷ r))) (sym h)
 give_reads p (stack is as' fs) an_as t r h = ap (λ (x : List Kind). before_item is fs x) (joined_tokens as' p (Word word.As ∷ r)) ∙ ap (λ (u : Kind). before_closed (stack is as' fs) (pattern_tokens p (u ∷ r))) (sym h)
 give_reads p (stack is as' fs) c t r h = offered p is as' fs c t r h
 
-shut_reads : (is : Patterns) (fs : List Frame) (c : Cue) (t : Kind) (r : List Kind) → Says c t → Reads t r (before_item is fs (t ∷ r)) (shut is fs c)
+shut_reads : (is : Patterns) (fs : List Frame) (c : TokenClass) (t : Kind) (r : List Kind) → Says c t → Reads t r (before_item is fs (t ∷ r)) (shut is fs c)
 shut_reads is (frame b js bs ∷ fs) (shuts d) t r h = go (same_bracket b d) refl
   where
     go : (same : Bool) → same_bracket b d ≡ same → Reads t r (before_item is (frame b js bs ∷ fs) (t ∷ r)) (cond same (Next (Have (ended b is) (stack js bs fs))) Stuck)
@@ -177,7 +177,7 @@ shut_reads no_patterns [] c t r h = tt
 shut_reads (patterns p ps) [] c t r h = refl
 shut_reads is (f ∷ fs) c t r h = tt
 
-wanting_reads : (k : Stack) (c : Cue) (t : Kind) (r : List Kind) → Says c t → Reads t r (before_closed k (t ∷ r)) (wanting k c)
+wanting_reads : (k : Stack) (c : TokenClass) (t : Kind) (r : List Kind) → Says c t → Reads t r (before_closed k (t ∷ r)) (wanting k c)
 wanting_reads (stack is no_patterns fs) c t r h = shut_reads is fs c t r h
 wanting_reads (stack is (patterns a as') fs) c t r h = tt
 
@@ -185,7 +185,7 @@ wanting_reads (stack is (patterns a as') fs) c t r h = tt
 moved : (k : Stack) (u t : Kind) (r : List Kind) → t ≡ u → before_closed k (u ∷ r) ≡ before_closed k (t ∷ r)
 moved k u t r h = ap (λ (v : Kind). before_closed k (v ∷ r)) (sym h)
 
-begin_reads : (k : Stack) (c : Cue) (t : Kind) (r : List Kind) → Says c t → Reads t r (before_closed k (t ∷ r)) (begin k c)
+begin_reads : (k : Stack) (c : TokenClass) (t : Kind) (r : List Kind) → Says c t → Reads t r (before_closed k (t ∷ r)) (begin k c)
 begin_reads k (a_name x) t r h = moved k (Name x) t r h
 begin_reads k (a_number n) t r h = moved k (Int n) t r h
 begin_reads k (a_string x) t r h = moved k (Str x) t r h
@@ -195,10 +195,10 @@ begin_reads k a_minus t r h = moved k (Sign mark.Minus) t r h
 begin_reads (stack is as' fs) (opens b) t r h = moved (stack is as' fs) (Sign (open_mark b)) t r h
 begin_reads k c t r h = wanting_reads k c t r h
 
-given : (p : Pattern) (k : Stack) (c : Cue) (t : Kind) (r all : List Kind) → Says c t → pattern_tokens p (t ∷ r) ≡ all → Reads t r (before_closed k all) (give p k c)
+given : (p : Pattern) (k : Stack) (c : TokenClass) (t : Kind) (r all : List Kind) → Says c t → pattern_tokens p (t ∷ r) ≡ all → Reads t r (before_closed k all) (give p k c)
 given p k c t r all h same = subst (λ (x : List Kind). Reads t r (before_closed k x) (give p k c)) same (give_reads p k c t r h)
 
-pub act_reads : (s : State) (c : Cue) (t : Kind) (r : List Kind) → Says c t → Reads t r (before s (t ∷ r)) (act s c)
+pub act_reads : (s : State) (c : TokenClass) (t : Kind) (r : List Kind) → Says c t → Reads t r (before s (t ∷ r)) (act s c)
 act_reads (Want k) c t r h = begin_reads k c t r h
 act_reads (Minus k) (a_number n) t r h = ap (λ (v : Kind). before_closed k (Sign mark.Minus ∷ v ∷ r)) (sym h)
 act_reads (Minus k) c t r h = tt
@@ -218,4 +218,4 @@ act_reads (Naming p is fs) c t r h = tt
 act_reads (Item p is fs) c t r h = offer_reads p is fs c t r h
 
 pub step_reads : (s : State) (t : Kind) (r : List Kind) → Reads t r (before s (t ∷ r)) (step s t)
-step_reads s t r = act_reads s (cue t) t r (says t)
+step_reads s t r = act_reads s (class t) t r (says t)

@@ -22,11 +22,11 @@ use Rattle.py_parse_pattern.specs.declared.patterns.PatternRead.{PatternRead}
 use Rattle.py_grammar.specs.declared.error.ReadError.{ReadError}
 use Rattle.py_grammar.specs.declared.error.ReadError.TheVariants as error
 use Rattle.py_parse_pattern.specs.Machine as machine
-use Rattle.py_parse_pattern.specs.declared.nodes.Tall.{Tall}
+use Rattle.py_parse_pattern.specs.declared.nodes.Measured.{Measured}
 use Rattle.py_parse_pattern.specs.declared.reader.Turn.{Turn}
 use Rattle.py_parse_pattern.specs.declared.reader.Turn.TheVariants as turn_
-use Rattle.py_parse_pattern.specs.Held.{view_tall}
-use Rattle.py_parse_pattern.specs.Rows.{view_reader, Kept, TurnsTo}
+use Rattle.py_parse_pattern.specs.Views.{view_measured}
+use Rattle.py_parse_pattern.specs.Rows.{view_reader, Valid, TurnsTo}
 use Rattle.py_parse_pattern.specs.Reads.{EndsAt, FollowsMachine, IsRead}
 use Rattle.py_parse_pattern.proofs.Exact.{exact}
 use Rattle.py_grammar.proofs.Places.{kinds_of_all, kind_at, kinds_length, kind_there}
@@ -36,28 +36,28 @@ pub record Reading (ts : List Kind) (at place : ℕ) (r : Reader) : Type 0 where
   pub forward : at ≤ place
   pub inside : place ≤ length ts
   pub same : within HEIGHT start (drop at ts) ≡ within HEIGHT (view_reader r) (drop place ts)
-  pub kept : Kept HEIGHT r
+  pub valid : Valid HEIGHT r
   pub low : least (view_reader r) ≤ HEIGHT
 
 abbrev ending : Out → Kind → List Kind → Ending
 ending o t ts = elim o as (λ (w : Out). Ending) [ Next n ↦ cond (nat_le (least n) HEIGHT) (within HEIGHT n ts) (TooDeep (t ∷ ts)) | Stuck ↦ Unexpected (t ∷ ts) | Left p ↦ machine.Reads p (t ∷ ts) ]
 
-pub starts : (ts : List Kind) (at : ℕ) (r : Reader) → at ≤ length ts → view_reader r ≡ start → Kept HEIGHT r → Reading ts at at r
-starts ts at r le is kept =
+pub starts : (ts : List Kind) (at : ℕ) (r : Reader) → at ≤ length ts → view_reader r ≡ start → Valid HEIGHT r → Reading ts at at r
+starts ts at r le is valid =
     let e = ap least is in
-    record { forward = omega arith; inside = le; same = ap (λ (s : State). within HEIGHT s (drop at ts)) (sym is); kept = kept; low = omega arith }
+    record { forward = omega arith; inside = le; same = ap (λ (s : State). within HEIGHT s (drop at ts)) (sym is); valid = valid; low = omega arith }
 
 stepped : (ts : List Kind) (at place : ℕ) (r : Reader) (t : Kind) (o : Out) → Reading ts at place r → drop place ts ≡ t ∷ drop (place + 1) ts → step (view_reader r) t ≡ o → within HEIGHT start (drop at ts) ≡ ending o t (drop (place + 1) ts)
 stepped ts at place r t o h there is = h.same ∙ ap (within HEIGHT (view_reader r)) there ∙ ap (λ (w : Out). ending w t (drop (place + 1) ts)) is
 
-pub goes_on : (ts : List Kind) (at place : ℕ) (r n : Reader) (t : Kind) → Reading ts at place r → place < length ts → drop place ts ≡ t ∷ drop (place + 1) ts → step (view_reader r) t ≡ Next (view_reader n) → Kept HEIGHT n → least (view_reader n) ≤ HEIGHT → Reading ts at (place + 1) n
-goes_on ts at place r n t h lt there is kept low =
+pub goes_on : (ts : List Kind) (at place : ℕ) (r n : Reader) (t : Kind) → Reading ts at place r → place < length ts → drop place ts ≡ t ∷ drop (place + 1) ts → step (view_reader r) t ≡ Next (view_reader n) → Valid HEIGHT n → least (view_reader n) ≤ HEIGHT → Reading ts at (place + 1) n
+goes_on ts at place r n t h lt there is valid low =
     let forward = h.forward in
     record {
       forward = omega arith;
       inside = omega arith;
       same = stepped ts at place r t (Next (view_reader n)) h there is ∙ ap (λ (b : Bool). cond b (within HEIGHT (view_reader n) (drop (place + 1) ts)) (TooDeep (t ∷ drop (place + 1) ts))) (le-leb (least (view_reader n)) HEIGHT low);
-      kept = kept;
+      valid = valid;
       low = low;
     }
 
@@ -97,8 +97,8 @@ module _ (tokens : List Token) (at place : ℕ) (r : Reader) (t : Token) (turn :
   pub turn_deep : turn ≡ turn_.Deep → EndsAt (kinds_of_all tokens) at place TooDeep
   turn_deep same = let d = subst (TurnsTo (step (view_reader r) (kind_at (get_or tokens place t)))) same turns in is_deep (kinds_of_all tokens) at place r (kind_at (get_or tokens place t)) d.0 h before_end there d.1 d.2
 
-  pub turn_left : (p : Tall) → turn ≡ turn_.Left p → EndsAt (kinds_of_all tokens) at place (machine.Reads (view_tall p))
-  turn_left p same = is_left (kinds_of_all tokens) at place r (kind_at (get_or tokens place t)) (view_tall p) h before_end there (subst (TurnsTo (step (view_reader r) (kind_at (get_or tokens place t)))) same turns)
+  pub turn_left : (p : Measured) → turn ≡ turn_.Left p → EndsAt (kinds_of_all tokens) at place (machine.Reads (view_measured p))
+  turn_left p same = is_left (kinds_of_all tokens) at place r (kind_at (get_or tokens place t)) (view_measured p) h before_end there (subst (TurnsTo (step (view_reader r) (kind_at (get_or tokens place t)))) same turns)
 
   pub turn_next : (n : Reader) → turn ≡ turn_.Next n → Reading (kinds_of_all tokens) at (place + 1) n
   turn_next n same = let d = subst (TurnsTo (step (view_reader r) (kind_at (get_or tokens place t)))) same turns in goes_on (kinds_of_all tokens) at place r n (kind_at (get_or tokens place t)) h before_end there d.0 d.1 d.2

@@ -4,7 +4,7 @@ use Rattle.py_syntax.specs.declared.pattern.Brackets.TheVariants as brackets_
 use Rattle.py_syntax.specs.Tree.{Pattern, Patterns, no_patterns, patterns}
 use Rattle.py_syntax.specs.Tokens.{alternatives}
 use Rattle.py_syntax.specs.Normal.{pattern_height, pattern_heights}
-use Rattle.py_parse_pattern.specs.declared.cues.Bracket.{Bracket}
+use Rattle.py_parse_pattern.specs.declared.token_classes.Bracket.{Bracket}
 use Rattle.py_parse_pattern.specs.Machine.{opens, snoc, joined, enclosed, Frame, frame}
 use Rattle.py_token.specs.declared.token.Keyword.TheVariants as word
 use Rattle.py_token.specs.declared.token.Mark.TheVariants as mark
@@ -12,17 +12,17 @@ use Rattle.std.proofs.Common.{map, reverse}
 use Rattle.std.proofs.lemmas.List.{reverse-append}
 use Rattle.py_syntax.specs.Spelling.{HEIGHT}
 use Rattle.py_parse_pattern.specs.Heights.{levels, over, depth}
-use Rattle.py_parse_pattern.specs.declared.nodes.Tall.{Tall}
+use Rattle.py_parse_pattern.specs.declared.nodes.Measured.{Measured}
 use Rattle.py_parse_pattern.specs.declared.nodes.Many.{Many}
 use Rattle.py_parse_pattern.specs.declared.reader.Row as held_row
 use Rattle.py_parse_pattern.specs.declared.reader.Frame as held_frame
 use Rattle.py_parse_pattern.specs.declared.reader.Rows.{Rows}
-use Rattle.py_parse_pattern.specs.Held.{view_tall, view_many, AreTall, Makes}
-use Rattle.py_parse_pattern.specs.Rows.{view_frame, view_frames, KeptRow, KeptRows, KeptFrames, KeptTall, SLACK, depth_behind}
+use Rattle.py_parse_pattern.specs.Views.{view_measured, view_many, AreMeasured, Makes}
+use Rattle.py_parse_pattern.specs.Rows.{view_frame, view_frames, ValidRow, ValidRows, ValidFrames, ValidMeasured, SLACK, depth_after}
 use Rattle.py_parse_pattern.proofs.Built.{pushed_height}
 use Rattle.py_parse_pattern.proofs.Least.{joined_height, enclosed_height, levels_snoc}
 
-loosen_row : (r : held_row.Row) (fs : List Frame) → KeptRow HEIGHT r fs → KeptRow SLACK r fs
+loosen_row : (r : held_row.Row) (fs : List Frame) → ValidRow HEIGHT r fs → ValidRow SLACK r fs
 loosen_row r fs k =
     let one = k.low_items in
     let two = k.low_alternatives in
@@ -37,39 +37,39 @@ viewed_push fs f = ap (map view_frame) (reversed fs f)
 
 -- a bracket opens
 pub opened : (row : held_row.Row) (frames new : List held_frame.Frame) (b : Bracket) (inner : held_row.Row) →
-    KeptRow HEIGHT row (view_frames frames) → KeptFrames (reverse frames) → new ≡ frames ++ record { bracket = b; outer = row } ∷ [] →
+    ValidRow HEIGHT row (view_frames frames) → ValidFrames (reverse frames) → new ≡ frames ++ record { bracket = b; outer = row } ∷ [] →
     view_many inner.items ≡ no_patterns → inner.items.height ≡ 0 → view_many inner.alternatives ≡ no_patterns → inner.alternatives.height ≡ 0 → inner.depth ≡ row.depth + levels (view_many row.alternatives) + 1 →
-    KeptRow SLACK inner (view_frames new) × KeptFrames (reverse new)
-opened row frames new b inner kept outer is none zero none' zero' deep =
+    ValidRow SLACK inner (view_frames new) × ValidFrames (reverse new)
+opened row frames new b inner valid outer is none zero none' zero' deep =
     let f : held_frame.Frame = record { bracket = b; outer = row } in
     let views : view_frames new ≡ view_frame f ∷ view_frames frames = ap view_frames is ∙ viewed_push frames f in
     let e = ap pattern_heights none in
     let e' = ap pattern_heights none' in
-    let low = kept.shallow in
-    let depth_is = kept.depth_is in
+    let low = valid.shallow in
+    let depth_is = valid.depth_is in
     let few = levels_few (view_many row.alternatives) in (
-      subst (KeptRow SLACK inner) (sym views) record { items = omega arith; alternatives = omega arith; depth_is = omega arith; low_items = omega arith; low_alternatives = omega arith; shallow = omega arith },
-      subst KeptFrames (sym (ap reverse is ∙ reversed frames f)) (kept, outer),
+      subst (ValidRow SLACK inner) (sym views) record { items = omega arith; alternatives = omega arith; depth_is = omega arith; low_items = omega arith; low_alternatives = omega arith; shallow = omega arith },
+      subst ValidFrames (sym (ap reverse is ∙ reversed frames f)) (valid, outer),
     )
   where
     levels_few : (ps : Patterns) → levels ps ≤ 1
     levels_few no_patterns = omega arith
     levels_few (patterns p ps) = omega arith
 
--- behind an alternative and its bar
-pub bar_rows : (rows : Rows) (new : Many) (t : Tall) → KeptRows HEIGHT rows → KeptTall HEIGHT t → view_many new ≡ snoc (view_many rows.row.alternatives) (view_tall t) → new.height ≡ max rows.row.alternatives.height t.height → KeptRows SLACK (record { row = record { items = rows.row.items; alternatives = new; depth = rows.row.depth }; frames = rows.frames })
-bar_rows rows new t kept tall same height =
-    let row = loosen_row rows.row (view_frames rows.frames.items) kept.row in
-    let low = kept.row.low_alternatives in
-    let low' = tall.low in
+-- after an alternative and its bar
+pub bar_rows : (rows : Rows) (new : Many) (t : Measured) → ValidRows HEIGHT rows → ValidMeasured HEIGHT t → view_many new ≡ snoc (view_many rows.row.alternatives) (view_measured t) → new.height ≡ max rows.row.alternatives.height t.height → ValidRows SLACK (record { row = record { items = rows.row.items; alternatives = new; depth = rows.row.depth }; frames = rows.frames })
+bar_rows rows new t valid measured same height =
+    let row = loosen_row rows.row (view_frames rows.frames.items) valid.row in
+    let low = valid.row.low_alternatives in
+    let low' = measured.low in
     record {
-      row = record { items = row.items; alternatives = pushed_height rows.row.alternatives new t kept.row.alternatives tall.is same height; depth_is = row.depth_is; low_items = row.low_items; low_alternatives = omega arith; shallow = row.shallow };
-      frames = kept.frames;
+      row = record { items = row.items; alternatives = pushed_height rows.row.alternatives new t valid.row.alternatives measured.is same height; depth_is = row.depth_is; low_items = row.low_items; low_alternatives = omega arith; shallow = row.shallow };
+      frames = valid.frames;
     }
 
-deep_behind : (fs : List held_frame.Frame) (is : Patterns) (p : Pattern) (d : ℕ) → d ≡ depth is (view_frames fs) → depth_behind fs d ≡ depth (snoc is p) (view_frames fs)
-deep_behind [] is p d h = sym (levels_snoc is p)
-deep_behind (f ∷ fs) is p d h = go (view_frames (f ∷ fs)) refl h
+deep_after : (fs : List held_frame.Frame) (is : Patterns) (p : Pattern) (d : ℕ) → d ≡ depth is (view_frames fs) → depth_after fs d ≡ depth (snoc is p) (view_frames fs)
+deep_after [] is p d h = sym (levels_snoc is p)
+deep_after (f ∷ fs) is p d h = go (view_frames (f ∷ fs)) refl h
   where
     none : view_frames (f ∷ fs) ≡ [] → ⊥
     none h = let e = ap length (sym (ap (map view_frame) (reverse-append (f ∷ []) fs)) ∙ h) in some (reverse fs) e
@@ -82,31 +82,31 @@ deep_behind (f ∷ fs) is p d h = go (view_frames (f ∷ fs)) refl h
     go [] is-nil h = absurd (none is-nil)
     go (frame b js bs ∷ fs') is-some h = h
 
--- behind an item and its comma
-pub item_rows : (rows : Rows) (new none : Many) (t : Tall) (d : ℕ) → KeptRows HEIGHT rows → KeptTall 202 t → view_many new ≡ snoc (view_many rows.row.items) (view_tall t) → new.height ≡ max rows.row.items.height t.height → view_many none ≡ no_patterns → none.height ≡ 0 → d ≡ depth_behind rows.frames.items rows.row.depth → KeptRows SLACK (record { row = record { items = new; alternatives = none; depth = d }; frames = rows.frames })
-item_rows rows new none t d kept tall same height empty zero deep =
-    let low = kept.row.low_items in
-    let low' = tall.low in
-    let shallow = kept.row.shallow in
+-- after an item and its comma
+pub item_rows : (rows : Rows) (new none : Many) (t : Measured) (d : ℕ) → ValidRows HEIGHT rows → ValidMeasured 202 t → view_many new ≡ snoc (view_many rows.row.items) (view_measured t) → new.height ≡ max rows.row.items.height t.height → view_many none ≡ no_patterns → none.height ≡ 0 → d ≡ depth_after rows.frames.items rows.row.depth → ValidRows SLACK (record { row = record { items = new; alternatives = none; depth = d }; frames = rows.frames })
+item_rows rows new none t d valid measured same height empty zero deep =
+    let low = valid.row.low_items in
+    let low' = measured.low in
+    let shallow = valid.row.shallow in
     let e = ap pattern_heights empty in
-    let deeper = deep_behind rows.frames.items (view_many rows.row.items) (view_tall t) rows.row.depth kept.row.depth_is in
+    let deeper = deep_after rows.frames.items (view_many rows.row.items) (view_measured t) rows.row.depth valid.row.depth_is in
     record {
       row = record {
-        items = pushed_height rows.row.items new t kept.row.items tall.is same height;
+        items = pushed_height rows.row.items new t valid.row.items measured.is same height;
         alternatives = omega arith;
         depth_is = deep ∙ deeper ∙ ap (λ (x : Patterns). depth x (view_frames rows.frames.items)) (sym same);
         low_items = omega arith;
         low_alternatives = omega arith;
-        shallow = low_behind rows.frames.items rows.row.depth d deep (omega arith);
+        shallow = low_after rows.frames.items rows.row.depth d deep (omega arith);
       };
-      frames = kept.frames;
+      frames = valid.frames;
     }
   where
-    low_behind : (fs : List held_frame.Frame) (n d : ℕ) → d ≡ depth_behind fs n → n ≤ 200 → d ≤ 210
-    low_behind [] n d h le = omega arith
-    low_behind (f ∷ fs) n d h le = omega arith
+    low_after : (fs : List held_frame.Frame) (n d : ℕ) → d ≡ depth_after fs n → n ≤ 200 → d ≤ 210
+    low_after [] n d h le = omega arith
+    low_after (f ∷ fs) n d h le = omega arith
 
-made : (p : Pattern) (t : Tall) (n : ℕ) → Makes p t → pattern_height p ≤ n → KeptTall n t
+made : (p : Pattern) (t : Measured) (n : ℕ) → Makes p t → pattern_height p ≤ n → ValidMeasured n t
 made p t n m low = let h = m.height in let e = ap pattern_height m.is in record { is = omega arith; low = omega arith }
 
 over_few : (ps : Patterns) → over ps ≤ suc (pattern_heights ps)
@@ -117,18 +117,18 @@ few_levels : (ps : Patterns) → levels ps ≤ 1
 few_levels no_patterns = omega arith
 few_levels (patterns p ps) = omega arith
 
-pub joined_kept : (n : ℕ) (m' m : Many) (t r : Tall) → 201 ≤ n → m' ≡ m → AreTall m → m.height ≤ HEIGHT → KeptTall HEIGHT t → Makes (joined (view_many m') (view_tall t)) r → KeptTall n r
-joined_kept n m' m t r le same are low tall makes =
-    let j = joined_height (view_many m) (view_tall t) in
+pub joined_valid : (n : ℕ) (m' m : Many) (t r : Measured) → 201 ≤ n → m' ≡ m → AreMeasured m → m.height ≤ HEIGHT → ValidMeasured HEIGHT t → Makes (joined (view_many m') (view_measured t)) r → ValidMeasured n r
+joined_valid n m' m t r le same are low measured makes =
+    let j = joined_height (view_many m) (view_measured t) in
     let o = over_few (view_many m) in
     let l = few_levels (view_many m) in
-    let is = tall.is in
-    let low' = tall.low in
-    made (joined (view_many m) (view_tall t)) r n (subst (λ (x : Many). Makes (joined (view_many x) (view_tall t)) r) same makes) (omega arith)
+    let is = measured.is in
+    let low' = measured.low in
+    made (joined (view_many m) (view_measured t)) r n (subst (λ (x : Many). Makes (joined (view_many x) (view_measured t)) r) same makes) (omega arith)
 
-pub enclosed_kept : (b : Bracket) (m : Many) (t r : Tall) → AreTall m → m.height ≤ HEIGHT → KeptTall 202 t → Makes (enclosed b (view_many m) (view_tall t)) r → KeptTall SLACK r
-enclosed_kept b m t r are low tall makes =
-    let j = enclosed_height b (view_many m) (view_tall t) in
-    let is = tall.is in
-    let low' = tall.low in
-    made (enclosed b (view_many m) (view_tall t)) r SLACK makes (omega arith)
+pub enclosed_valid : (b : Bracket) (m : Many) (t r : Measured) → AreMeasured m → m.height ≤ HEIGHT → ValidMeasured 202 t → Makes (enclosed b (view_many m) (view_measured t)) r → ValidMeasured SLACK r
+enclosed_valid b m t r are low measured makes =
+    let j = enclosed_height b (view_many m) (view_measured t) in
+    let is = measured.is in
+    let low' = measured.low in
+    made (enclosed b (view_many m) (view_measured t)) r SLACK makes (omega arith)

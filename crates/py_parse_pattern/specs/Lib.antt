@@ -1,6 +1,6 @@
 pub mod Machine
 pub mod Trees
 pub mod Heights
-pub mod Held
+pub mod Views
 pub mod Rows
 pub mod Reads

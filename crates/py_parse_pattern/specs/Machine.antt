@@ -1,4 +1,11 @@
 -- The patterns of a `case`, read a token at a time: a stack of what is open, and a step for each token.
+--     TokenClass, class .. same_bracket     what a token can be to a pattern
+--     snoc .. ended                         the trees of items and alternatives
+--     Frame, Stack, State, Out              what is open, a place in a pattern, and what a token makes of it
+--     offer .. step, start                  the steps
+--     Verdict, run                          the reading of a list
+--     put .. least                          the least pattern that goes on from a state
+--     Ending, within                        a reading under a limit
 use Rattle.std.specs.Prelude.{ℕ, nat_eq, nat_le, ℤ, pos, Bool, true, false, cond, List, [], ◌∷◌, ◌++◌}
 use Rattle.py_token.specs.declared.token.Keyword.TheVariants as word
 use Rattle.py_token.specs.declared.token.Mark.{Mark}
@@ -8,44 +15,44 @@ use Rattle.py_syntax.specs.declared.pattern.Brackets.TheVariants as brackets_
 use Rattle.py_syntax.specs.Tree.{Text, c_int, c_str, c_none, c_bool, Pattern, literal, capture, wild, member, sequence, p_or, p_as, p_paren, Patterns, no_patterns, patterns}
 use Rattle.py_syntax.specs.Kinds.{Kind, Name, Word, Int, Str, Sign}
 use Rattle.py_syntax.specs.Normal.{pattern_height}
-use Rattle.py_parse_pattern.specs.declared.cues.Bracket.{Bracket}
-use Rattle.py_parse_pattern.specs.declared.cues.Bracket.TheVariants.{Round, Square}
+use Rattle.py_parse_pattern.specs.declared.token_classes.Bracket.{Bracket}
+use Rattle.py_parse_pattern.specs.declared.token_classes.Bracket.TheVariants.{Round, Square}
 
 -- ---- tokens
 
 -- what a token can be to a pattern
-pub data Cue : Type 0 where
-  a_name : (x : Text) → Cue
-  a_number : (n : ℤ) → Cue
-  a_string : (x : Text) → Cue
-  a_none : Cue
-  a_bool : (b : Bool) → Cue
-  a_minus : Cue
-  opens : (b : Bracket) → Cue
-  shuts : (b : Bracket) → Cue
-  a_bar : Cue
-  an_as : Cue
-  a_comma : Cue
-  a_dot : Cue
-  other : Cue
+pub data TokenClass : Type 0 where
+  a_name : (x : Text) → TokenClass
+  a_number : (n : ℤ) → TokenClass
+  a_string : (x : Text) → TokenClass
+  a_none : TokenClass
+  a_bool : (b : Bool) → TokenClass
+  a_minus : TokenClass
+  opens : (b : Bracket) → TokenClass
+  shuts : (b : Bracket) → TokenClass
+  a_bar : TokenClass
+  an_as : TokenClass
+  a_comma : TokenClass
+  a_dot : TokenClass
+  other : TokenClass
 
-abbrev pub cue : Kind → Cue
-cue (Name x) = a_name x
-cue (Int n) = a_number n
-cue (Str x) = a_string x
-cue (Word word.None) = a_none
-cue (Word word.True) = a_bool true
-cue (Word word.False) = a_bool false
-cue (Word word.As) = an_as
-cue (Sign mark.Minus) = a_minus
-cue (Sign mark.LeftParen) = opens Round
-cue (Sign mark.LeftBracket) = opens Square
-cue (Sign mark.RightParen) = shuts Round
-cue (Sign mark.RightBracket) = shuts Square
-cue (Sign mark.Bar) = a_bar
-cue (Sign mark.Comma) = a_comma
-cue (Sign mark.Dot) = a_dot
-cue t = other
+abbrev pub class : Kind → TokenClass
+class (Name x) = a_name x
+class (Int n) = a_number n
+class (Str x) = a_string x
+class (Word word.None) = a_none
+class (Word word.True) = a_bool true
+class (Word word.False) = a_bool false
+class (Word word.As) = an_as
+class (Sign mark.Minus) = a_minus
+class (Sign mark.LeftParen) = opens Round
+class (Sign mark.LeftBracket) = opens Square
+class (Sign mark.RightParen) = shuts Round
+class (Sign mark.RightBracket) = shuts Square
+class (Sign mark.Bar) = a_bar
+class (Sign mark.Comma) = a_comma
+class (Sign mark.Dot) = a_dot
+class t = other
 
 abbrev pub open_mark : Bracket → Mark
 open_mark Round = mark.LeftParen
@@ -88,7 +95,7 @@ abbrev pub joined : Patterns → Pattern → Pattern
 joined no_patterns p = p
 joined (patterns q qs) p = p_or (patterns q (snoc qs p))
 
--- what brackets hold where the last item has no comma behind it
+-- what brackets hold where the last item has no comma after it
 abbrev pub enclosed : Bracket → Patterns → Pattern → Pattern
 enclosed Round no_patterns p = p_paren p
 enclosed b is p = sequence (brackets_of b) (snoc is p) false
@@ -98,7 +105,7 @@ abbrev pub listed : Patterns → Pattern → Pattern
 listed no_patterns p = p
 listed is p = sequence brackets_.Bare (snoc is p) false
 
--- what brackets hold where each item has a comma behind it
+-- what brackets hold where each item has a comma after it
 abbrev pub ended : Bracket → Patterns → Pattern
 ended b is = sequence (brackets_of b) is (is_some is)
 
@@ -115,19 +122,19 @@ pub data Stack : Type 0 where
 pub data State : Type 0 where
   -- a pattern begins here, or its row ends
   Want : (k : Stack) → State
-  -- behind a minus
+  -- after a minus
   Minus : (k : Stack) → State
-  -- behind a name
+  -- after a name
   Named : (x : Text) (k : Stack) → State
-  -- behind a name and a dot
+  -- after a name and a dot
   Dotted : (m : Text) (k : Stack) → State
-  -- behind a run of strings
+  -- after a run of strings
   Strings : (xs : List Text) (k : Stack) → State
-  -- behind a closed pattern
+  -- after a closed pattern
   Have : (p : Pattern) (k : Stack) → State
-  -- behind `as`
+  -- after `as`
   Naming : (p : Pattern) (items : Patterns) (frames : List Frame) → State
-  -- behind the name that follows `as`
+  -- after the name that follows `as`
   Item : (p : Pattern) (items : Patterns) (frames : List Frame) → State
 
 -- What a token does. Left: the outermost pattern is whole, and the token isn't taken.
@@ -137,31 +144,31 @@ pub data Out : Type 0 where
   Left : (p : Pattern) → Out
 
 -- an item is whole
-abbrev pub offer : Pattern → Patterns → List Frame → Cue → Out
+abbrev pub offer : Pattern → Patterns → List Frame → TokenClass → Out
 offer p is fs a_comma = Next (Want (stack (snoc is p) no_patterns fs))
 offer p is [] c = Left (listed is p)
 offer p is (frame b js bs ∷ fs) (shuts d) = cond (same_bracket b d) (Next (Have (enclosed b is p) (stack js bs fs))) Stuck
 offer p is (f ∷ fs) c = Stuck
 
 -- a closed pattern is whole
-abbrev pub give : Pattern → Stack → Cue → Out
+abbrev pub give : Pattern → Stack → TokenClass → Out
 give p (stack is as' fs) a_bar = Next (Want (stack is (snoc as' p) fs))
 give p (stack is as' fs) an_as = Next (Naming (joined as' p) is fs)
 give p (stack is as' fs) c = offer (joined as' p) is fs c
 
--- a list with no brackets ends behind these items, each with its comma
+-- a list with no brackets ends after these items, each with its comma
 abbrev pub leave : Patterns → Out
 leave no_patterns = Stuck
 leave is = Left (sequence brackets_.Bare is true)
 
--- a row ends behind such items
-abbrev pub shut : Patterns → List Frame → Cue → Out
+-- a row ends after such items
+abbrev pub shut : Patterns → List Frame → TokenClass → Out
 shut is [] c = leave is
 shut is (frame b js bs ∷ fs) (shuts d) = cond (same_bracket b d) (Next (Have (ended b is) (stack js bs fs))) Stuck
 shut is (f ∷ fs) c = Stuck
 
 -- no pattern begins
-abbrev pub wanting : Stack → Cue → Out
+abbrev pub wanting : Stack → TokenClass → Out
 wanting (stack is no_patterns fs) c = shut is fs c
 wanting (stack is (patterns a as') fs) c = Stuck
 
@@ -169,7 +176,7 @@ wanting (stack is (patterns a as') fs) c = Stuck
 abbrev pub inside : Bracket → Stack → Stack
 inside b (stack is as' fs) = stack no_patterns no_patterns (frame b is as' ∷ fs)
 
-abbrev pub begin : Stack → Cue → Out
+abbrev pub begin : Stack → TokenClass → Out
 begin k (a_name x) = Next (Named x k)
 begin k (a_number n) = Next (Have (literal false (c_int n)) k)
 begin k (a_string x) = Next (Strings (x ∷ []) k)
@@ -179,7 +186,7 @@ begin k a_minus = Next (Minus k)
 begin k (opens b) = Next (Want (inside b k))
 begin k c = wanting k c
 
-abbrev pub act : State → Cue → Out
+abbrev pub act : State → TokenClass → Out
 act (Want k) c = begin k c
 act (Minus k) (a_number n) = Next (Have (literal true (c_int n)) k)
 act (Minus k) c = Stuck
@@ -195,13 +202,13 @@ act (Naming p is fs) c = Stuck
 act (Item p is fs) c = offer p is fs c
 
 abbrev pub step : State → Kind → Out
-step s t = act s (cue t)
+step s t = act s (class t)
 
 -- nothing is read
 abbrev pub start : State
 start = Want (stack no_patterns no_patterns [])
 
--- The tokens from the first that no step takes, or the pattern and the tokens behind it.
+-- The tokens from the first that no step takes, or the pattern and the tokens after it.
 pub data Verdict : Type 0 where
   Refused : (rest : List Kind) → Verdict
   Leaves : (p : Pattern) (rest : List Kind) → Verdict
@@ -212,7 +219,7 @@ run s (t ∷ ts) = elim (step s t) [ Next n ↦ run n ts | Stuck ↦ Refused (t 
 
 -- ---- the least pattern that goes on from a state
 
--- the pattern that comes of an item where everything is closed behind it
+-- the pattern that comes of an item where everything is closed after it
 abbrev pub put : Pattern → Patterns → List Frame → Pattern
 put p is [] = listed is p
 put p is (frame b js bs ∷ fs) = put (joined bs (enclosed b is p)) js fs
@@ -220,12 +227,12 @@ put p is (frame b js bs ∷ fs) = put (joined bs (enclosed b is p)) js fs
 abbrev pub whole : Pattern → Stack → Pattern
 whole p (stack is as' fs) = put (joined as' p) is fs
 
--- what a list with no brackets holds where each item has a comma behind it
+-- what a list with no brackets holds where each item has a comma after it
 abbrev pub trailed : Patterns → Pattern
 trailed no_patterns = wild
 trailed is = sequence brackets_.Bare is true
 
--- where the row may end behind its items
+-- where the row may end after its items
 abbrev pub closed : Patterns → List Frame → Pattern
 closed is [] = trailed is
 closed is (frame b js bs ∷ fs) = whole (ended b is) (stack js bs fs)

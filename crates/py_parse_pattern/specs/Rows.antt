@@ -1,8 +1,14 @@
 -- The open rows of a pattern as the code holds them.
+--     view_frame .. view_reader      open rows, and the reader over them
+--     ValidRow .. Valid, SLACK       the heights that the code holds are within a bound
+--     ActsAs, Acts                   what a step makes, but for the limit
+--     TurnsTo, Turns                 what it makes within the limit
+--     Pops, ValidPops                one bracket fewer
+--     depth_after .. item_height     the height of what is open in a row
 use Rattle.std.specs.Prelude.{◌≡◌, ℕ, ◌+◌, max, ◌≤◌, ◌<◌, List, [], ◌∷◌, map, reverse, Option, Some, None, Result, Ok, Err}
 use Rattle.std.specs.declared.alloc.AllocError.{AllocError}
 use Rattle.py_syntax.specs.Spelling.{HEIGHT}
-use Rattle.py_parse_pattern.specs.declared.nodes.Tall.{Tall}
+use Rattle.py_parse_pattern.specs.declared.nodes.Measured.{Measured}
 use Rattle.py_parse_pattern.specs.declared.reader.Row as held_row
 use Rattle.py_parse_pattern.specs.declared.reader.Frame as held_frame
 use Rattle.py_parse_pattern.specs.declared.reader.Rows.{Rows}
@@ -13,7 +19,7 @@ use Rattle.py_parse_pattern.specs.declared.reader.Turn.{Turn}
 use Rattle.py_parse_pattern.specs.declared.reader.Turn.TheVariants as turn_
 use Rattle.py_parse_pattern.specs.Machine.{Frame, frame, Stack, stack, State, Want, Minus, Named, Dotted, Strings, Have, Naming, Item, Out, Next, Stuck, Left, least}
 use Rattle.py_parse_pattern.specs.Heights.{depth, raised, levels}
-use Rattle.py_parse_pattern.specs.Held.{view_tall, IsTall, view_many, AreTall}
+use Rattle.py_parse_pattern.specs.Views.{view_measured, IsMeasured, view_many, AreMeasured}
 
 abbrev pub view_frame : held_frame.Frame → Frame
 view_frame f = frame f.bracket (view_many f.outer.items) (view_many f.outer.alternatives)
@@ -31,44 +37,44 @@ view_at progress_.Minus r = Minus (view_rows r)
 view_at (progress_.Named x) r = Named x (view_rows r)
 view_at (progress_.Dotted m) r = Dotted m (view_rows r)
 view_at (progress_.Strings xs) r = Strings xs.items (view_rows r)
-view_at (progress_.Have t) r = Have (view_tall t) (view_rows r)
-view_at (progress_.Naming t) r = Naming (view_tall t) (view_many r.row.items) (view_frames r.frames.items)
-view_at (progress_.Item t) r = Item (view_tall t) (view_many r.row.items) (view_frames r.frames.items)
+view_at (progress_.Have t) r = Have (view_measured t) (view_rows r)
+view_at (progress_.Naming t) r = Naming (view_measured t) (view_many r.row.items) (view_frames r.frames.items)
+view_at (progress_.Item t) r = Item (view_measured t) (view_many r.row.items) (view_frames r.frames.items)
 
 abbrev pub view_reader : Reader → State
 view_reader r = view_at r.progress r.rows
 
 -- The heights that the code holds are those of its patterns, and none is above the bound.
-pub record KeptRow (bound : ℕ) (r : held_row.Row) (fs : List Frame) : Type 0 where
-  pub items : AreTall r.items
-  pub alternatives : AreTall r.alternatives
+pub record ValidRow (bound : ℕ) (r : held_row.Row) (fs : List Frame) : Type 0 where
+  pub items : AreMeasured r.items
+  pub alternatives : AreMeasured r.alternatives
   pub depth_is : r.depth ≡ depth (view_many r.items) fs
   pub low_items : r.items.height ≤ bound
   pub low_alternatives : r.alternatives.height ≤ HEIGHT
   pub shallow : r.depth ≤ bound
 
 -- the innermost first
-abbrev pub KeptFrames : List held_frame.Frame → Type 0
-KeptFrames [] = Unit {0}
-KeptFrames (f ∷ fs) = KeptRow HEIGHT f.outer (map view_frame fs) × KeptFrames fs
+abbrev pub ValidFrames : List held_frame.Frame → Type 0
+ValidFrames [] = Unit {0}
+ValidFrames (f ∷ fs) = ValidRow HEIGHT f.outer (map view_frame fs) × ValidFrames fs
 
-pub record KeptRows (bound : ℕ) (r : Rows) : Type 0 where
-  pub row : KeptRow bound r.row (view_frames r.frames.items)
-  pub frames : KeptFrames (reverse r.frames.items)
+pub record ValidRows (bound : ℕ) (r : Rows) : Type 0 where
+  pub row : ValidRow bound r.row (view_frames r.frames.items)
+  pub frames : ValidFrames (reverse r.frames.items)
 
-pub record KeptTall (bound : ℕ) (t : Tall) : Type 0 where
-  pub is : IsTall t
+pub record ValidMeasured (bound : ℕ) (t : Measured) : Type 0 where
+  pub is : IsMeasured t
   pub low : t.height ≤ bound
 
-abbrev pub KeptAt : ℕ → Progress → Type 0
-KeptAt bound (progress_.Have t) = KeptTall bound t
-KeptAt bound (progress_.Naming t) = KeptTall bound t
-KeptAt bound (progress_.Item t) = KeptTall bound t
-KeptAt bound p = Unit {0}
+abbrev pub ValidAt : ℕ → Progress → Type 0
+ValidAt bound (progress_.Have t) = ValidMeasured bound t
+ValidAt bound (progress_.Naming t) = ValidMeasured bound t
+ValidAt bound (progress_.Item t) = ValidMeasured bound t
+ValidAt bound p = Unit {0}
 
-pub record Kept (bound : ℕ) (r : Reader) : Type 0 where
-  pub rows : KeptRows bound r.rows
-  pub at : KeptAt bound r.progress
+pub record Valid (bound : ℕ) (r : Reader) : Type 0 where
+  pub rows : ValidRows bound r.rows
+  pub at : ValidAt bound r.progress
 
 -- a bound for what a step makes of heights within the limit
 abbrev pub SLACK : ℕ
@@ -76,10 +82,10 @@ SLACK = 210
 
 -- What a step of the machine makes, but for the limit.
 abbrev pub ActsAs : Out → Turn → Type 0
-ActsAs o (turn_.Next r) = (o ≡ Next (view_reader r)) × Kept SLACK r
+ActsAs o (turn_.Next r) = (o ≡ Next (view_reader r)) × Valid SLACK r
 ActsAs o turn_.Stuck = o ≡ Stuck
 ActsAs o turn_.Deep = ⊥
-ActsAs o (turn_.Left t) = o ≡ Left (view_tall t)
+ActsAs o (turn_.Left t) = o ≡ Left (view_measured t)
 
 abbrev pub Acts : Out → Result Turn AllocError → Type 0
 Acts o (Ok t) = ActsAs o t
@@ -87,10 +93,10 @@ Acts o (Err e) = Unit {0}
 
 -- What a step of the machine makes within the limit.
 abbrev pub TurnsTo : Out → Turn → Type 0
-TurnsTo o (turn_.Next r) = (o ≡ Next (view_reader r)) × Kept HEIGHT r × (least (view_reader r) ≤ HEIGHT)
+TurnsTo o (turn_.Next r) = (o ≡ Next (view_reader r)) × Valid HEIGHT r × (least (view_reader r) ≤ HEIGHT)
 TurnsTo o turn_.Stuck = o ≡ Stuck
 TurnsTo o turn_.Deep = (n : State) × (o ≡ Next n) × (HEIGHT < least n)
-TurnsTo o (turn_.Left t) = o ≡ Left (view_tall t)
+TurnsTo o (turn_.Left t) = o ≡ Left (view_measured t)
 
 abbrev pub Turns : Out → Result Turn AllocError → Type 0
 Turns o (Ok t) = TurnsTo o t
@@ -101,14 +107,14 @@ abbrev pub Pops : Option held_frame.Frame → List Frame → List Frame → Type
 Pops None old new = old ≡ []
 Pops (Some f) old new = old ≡ view_frame f ∷ new
 
-abbrev pub KeptPops : Option held_frame.Frame → List Frame → List held_frame.Frame → Type 0
-KeptPops None fs rest = Unit {0}
-KeptPops (Some f) fs rest = KeptRow HEIGHT f.outer fs × KeptFrames rest
+abbrev pub ValidPops : Option held_frame.Frame → List Frame → List held_frame.Frame → Type 0
+ValidPops None fs rest = Unit {0}
+ValidPops (Some f) fs rest = ValidRow HEIGHT f.outer fs × ValidFrames rest
 
 -- how many nodes stand above an item that has others in front of it
-abbrev pub depth_behind : List held_frame.Frame → ℕ → ℕ
-depth_behind [] d = 1
-depth_behind (f ∷ fs) d = d
+abbrev pub depth_after : List held_frame.Frame → ℕ → ℕ
+depth_after [] d = 1
+depth_after (f ∷ fs) d = d
 
 -- the height of what is open in a row, without a closed pattern, and with one or an item of that height
 abbrev pub row_height : held_row.Row → ℕ

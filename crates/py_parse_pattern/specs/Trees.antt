@@ -18,7 +18,7 @@ IsWithin limit p = pattern_height p ≤ limit
 abbrev pub BeginsPattern : List Kind → Type 0
 BeginsPattern front = Begins HasTokens front
 
--- The pattern has the tokens in front, and the one behind them goes on with no pattern.
+-- The pattern has the tokens in front, and the one after them goes on with no pattern.
 abbrev pub IsPattern : ℕ → Pattern → List Kind → List Kind → Type 0
 IsPattern limit p front [] = ⊥
 IsPattern limit p front (t ∷ rest) = NormalPattern p × (pattern_tokens p [] ≡ front) × (pattern_height p ≤ limit) × (BeginsPattern (front ++ t ∷ []) → ⊥)

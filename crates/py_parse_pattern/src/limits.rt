@@ -6,12 +6,12 @@ ghost use Rattle.py_syntax.specs.Kinds.{bare_kind};
 ghost use Rattle.py_syntax.specs.Spelling.{HEIGHT};
 ghost use Rattle.py_parse_pattern.specs.Machine.{step, least};
 ghost use Rattle.py_parse_pattern.specs.Heights.{base_outside};
-ghost use Rattle.py_parse_pattern.specs.Held.{AreTall};
-ghost use Rattle.py_parse_pattern.specs.Rows.{view_frames, view_reader, Kept, SLACK, Turns, row_height, closed_height, item_height};
+ghost use Rattle.py_parse_pattern.specs.Views.{AreMeasured};
+ghost use Rattle.py_parse_pattern.specs.Rows.{view_frames, view_reader, Valid, SLACK, Turns, row_height, closed_height, item_height};
 
-use crate::cues::cue_of;
 use crate::nodes::higher;
 use crate::reader::{Progress, Reader, Row, Turn, levels};
+use crate::token_classes::class_of;
 use py_token::TokenKind;
 use py_value::NoMemory;
 use std::alloc::Global;
@@ -24,7 +24,7 @@ fn row_height(row: &Row) -> usize
     requires items { row.now.items.height ≤ SLACK }
     requires alternatives { row.now.alternatives.height ≤ SLACK }
     requires depth { row.now.depth ≤ SLACK }
-    requires are { AreTall row.now.alternatives }
+    requires are { AreMeasured row.now.alternatives }
     ensures { result ≡ row_height row.now }
 {
     let items = row.items.height + row.depth;
@@ -39,7 +39,7 @@ fn closed_height(row: &Row, height: usize) -> usize
     requires items { row.now.items.height ≤ SLACK }
     requires alternatives { row.now.alternatives.height ≤ SLACK }
     requires depth { row.now.depth ≤ SLACK }
-    requires are { AreTall row.now.alternatives }
+    requires are { AreMeasured row.now.alternatives }
     requires low { height ≤ 2 * SLACK }
     ensures { result ≡ closed_height row.now height }
 {
@@ -61,7 +61,7 @@ fn item_height(row: &Row, height: usize) -> usize
 
 /// The height of the least pattern that goes on from here, but for what is open outside the innermost brackets.
 fn height(reader: &Reader) -> usize
-    requires { Kept SLACK reader.now }
+    requires { Valid SLACK reader.now }
     ensures { least (view_reader reader.now) ≡ max (max (base_outside (view_frames reader.now.rows.frames.items)) 1) result }
 {
     let row = &reader.rows.row;
@@ -76,19 +76,19 @@ fn height(reader: &Reader) -> usize
         Progress::Named(_) => closed_height(row, 1),
         Progress::Dotted(_) => closed_height(row, 1),
         Progress::Strings(_) => closed_height(row, 1),
-        Progress::Have(tall) => closed_height(row, tall.height),
-        Progress::Naming(tall) => item_height(row, tall.height + 1),
-        Progress::Item(tall) => item_height(row, tall.height),
+        Progress::Have(measured) => closed_height(row, measured.height),
+        Progress::Naming(measured) => item_height(row, measured.height + 1),
+        Progress::Item(measured) => item_height(row, measured.height),
     }
 }
 
 /// What a token does within the limit.
 pub fn step(alloc: Global, reader: Reader, kind: &TokenKind) -> Result<Turn, NoMemory>
-    requires kept { Kept HEIGHT reader }
+    requires valid { Valid HEIGHT reader }
     requires low { least (view_reader reader) ≤ HEIGHT }
     ensures { Turns (step (view_reader reader) (bare_kind (view_kind kind.now))) result }
 {
-    match reader.act(alloc, cue_of(kind)?)? {
+    match reader.act(alloc, class_of(kind)?)? {
         Turn::Next(next) => {
             if height(&next) > HEIGHT_LIMIT {
                 return Ok(Turn::Deep);
@@ -97,6 +97,6 @@ pub fn step(alloc: Global, reader: Reader, kind: &TokenKind) -> Result<Turn, NoM
         }
         Turn::Stuck => Ok(Turn::Stuck),
         Turn::Deep => Ok(Turn::Deep),
-        Turn::Left(tall) => Ok(Turn::Left(tall)),
+        Turn::Left(measured) => Ok(Turn::Left(measured)),
     }
 }

@@ -4,16 +4,16 @@ ghost use Rattle.std.specs.Prelude.{◌≡◌, ◌<◌, ◌^◌, max, true, fals
 ghost use Rattle.py_syntax.specs.Tree.{no_patterns, sequence, p_as};
 ghost use Rattle.py_syntax.specs.View.{plain_pattern, plain_patterns};
 ghost use Rattle.py_parse_pattern.specs.Machine.{snoc, joined, enclosed, listed, ended, is_some, named, is_underscore, brackets_of};
-ghost use Rattle.py_parse_pattern.specs.Held.{view_tall, IsTall, view_many, AreTall, Makes};
+ghost use Rattle.py_parse_pattern.specs.Views.{view_measured, IsMeasured, view_many, AreMeasured, Makes};
 
-use crate::cues::Bracket;
+use crate::token_classes::Bracket;
 use py_syntax::{Brackets, Pattern};
 use py_value::{NoMemory, Text};
 use std::alloc::Global;
 
 /// A pattern and its height.
 #[derive(Drop)]
-pub struct Tall {
+pub struct Measured {
     pub pattern: Pattern,
     pub height: usize,
 }
@@ -49,12 +49,12 @@ impl Many {
         }
     }
 
-    pub fn push(&mut self, tall: Tall) -> Result<(), NoMemory>
-        ensures patterns { OnOk result (view_many self.new ≡ snoc (view_many self.old) (view_tall tall)) }
-        ensures height { OnOk result (self.new.height ≡ max self.old.height tall.height) }
+    pub fn push(&mut self, measured: Measured) -> Result<(), NoMemory>
+        ensures patterns { OnOk result (view_many self.new ≡ snoc (view_many self.old) (view_measured measured)) }
+        ensures height { OnOk result (self.new.height ≡ max self.old.height measured.height) }
     {
-        self.patterns.push(tall.pattern)?;
-        self.height = higher(self.height, tall.height);
+        self.patterns.push(measured.pattern)?;
+        self.height = higher(self.height, measured.height);
         Ok(())
     }
 
@@ -66,19 +66,19 @@ impl Many {
 }
 
 /// The last of some alternatives, with those in front of it.
-pub fn joined(alternatives: Many, last: Tall) -> Result<Tall, NoMemory>
+pub fn joined(alternatives: Many, last: Measured) -> Result<Measured, NoMemory>
     requires few { alternatives.height < 2 ^ 60 }
     requires low { last.height < 2 ^ 60 }
-    requires heights { AreTall alternatives }
-    requires height { IsTall last }
-    ensures { IfOk result (Makes (joined (view_many alternatives) (view_tall last))) }
+    requires heights { AreMeasured alternatives }
+    requires height { IsMeasured last }
+    ensures { IfOk result (Makes (joined (view_many alternatives) (view_measured last))) }
 {
     if !alternatives.is_some() {
         return Ok(last);
     }
     let mut all = alternatives;
     all.push(last)?;
-    Ok(Tall {
+    Ok(Measured {
         pattern: Pattern::Or(all.patterns),
         height: all.height + 1,
     })
@@ -93,17 +93,17 @@ fn brackets_of(bracket: Bracket) -> Brackets
     }
 }
 
-/// The items and a last one with no comma behind it.
-fn sequence(brackets: Brackets, items: Many, last: Tall) -> Result<Tall, NoMemory>
+/// The items and a last one with no comma after it.
+fn sequence(brackets: Brackets, items: Many, last: Measured) -> Result<Measured, NoMemory>
     requires few { items.height < 2 ^ 60 }
     requires low { last.height < 2 ^ 60 }
-    requires heights { AreTall items }
-    requires height { IsTall last }
-    ensures { IfOk result (Makes (sequence brackets (snoc (view_many items) (view_tall last)) false)) }
+    requires heights { AreMeasured items }
+    requires height { IsMeasured last }
+    ensures { IfOk result (Makes (sequence brackets (snoc (view_many items) (view_measured last)) false)) }
 {
     let mut all = items;
     all.push(last)?;
-    Ok(Tall {
+    Ok(Measured {
         pattern: Pattern::Sequence {
             brackets,
             items: all.patterns,
@@ -113,20 +113,25 @@ fn sequence(brackets: Brackets, items: Many, last: Tall) -> Result<Tall, NoMemor
     })
 }
 
-/// What brackets hold where the last item has no comma behind it.
-pub fn enclosed(alloc: Global, bracket: Bracket, items: Many, last: Tall) -> Result<Tall, NoMemory>
+/// What brackets hold where the last item has no comma after it.
+pub fn enclosed(
+    alloc: Global,
+    bracket: Bracket,
+    items: Many,
+    last: Measured,
+) -> Result<Measured, NoMemory>
     requires few { items.height < 2 ^ 60 }
     requires low { last.height < 2 ^ 60 }
-    requires heights { AreTall items }
-    requires height { IsTall last }
-    ensures { IfOk result (Makes (enclosed bracket (view_many items) (view_tall last))) }
+    requires heights { AreMeasured items }
+    requires height { IsMeasured last }
+    ensures { IfOk result (Makes (enclosed bracket (view_many items) (view_measured last))) }
 {
     match bracket {
         Bracket::Square => sequence(Brackets::Square, items, last),
         Bracket::Round => {
             if !items.is_some() {
                 let height = last.height + 1;
-                return Ok(Tall {
+                return Ok(Measured {
                     pattern: Pattern::Paren(Box::new(alloc, last.pattern)?),
                     height,
                 });
@@ -137,12 +142,12 @@ pub fn enclosed(alloc: Global, bracket: Bracket, items: Many, last: Tall) -> Res
 }
 
 /// The same with no brackets.
-pub fn listed(items: Many, last: Tall) -> Result<Tall, NoMemory>
+pub fn listed(items: Many, last: Measured) -> Result<Measured, NoMemory>
     requires few { items.height < 2 ^ 60 }
     requires low { last.height < 2 ^ 60 }
-    requires heights { AreTall items }
-    requires height { IsTall last }
-    ensures { IfOk result (Makes (listed (view_many items) (view_tall last))) }
+    requires heights { AreMeasured items }
+    requires height { IsMeasured last }
+    ensures { IfOk result (Makes (listed (view_many items) (view_measured last))) }
 {
     if !items.is_some() {
         return Ok(last);
@@ -150,15 +155,15 @@ pub fn listed(items: Many, last: Tall) -> Result<Tall, NoMemory>
     sequence(Brackets::Bare, items, last)
 }
 
-/// What brackets hold where each item has a comma behind it.
-pub fn ended(bracket: Bracket, items: Many) -> Tall
+/// What brackets hold where each item has a comma after it.
+pub fn ended(bracket: Bracket, items: Many) -> Measured
     requires few { items.height < 2 ^ 60 }
-    requires heights { AreTall items }
+    requires heights { AreMeasured items }
     ensures { Makes (ended bracket (view_many items)) result }
 {
     let height = items.height + 1;
     let comma = items.is_some();
-    Tall {
+    Measured {
         pattern: Pattern::Sequence {
             brackets: brackets_of(bracket),
             items: items.patterns,
@@ -168,14 +173,14 @@ pub fn ended(bracket: Bracket, items: Many) -> Tall
     }
 }
 
-/// A list with no brackets where each item has a comma behind it.
-pub fn trailed(items: Many) -> Tall
+/// A list with no brackets where each item has a comma after it.
+pub fn trailed(items: Many) -> Measured
     requires few { items.height < 2 ^ 60 }
-    requires heights { AreTall items }
+    requires heights { AreMeasured items }
     ensures { Makes (sequence Brackets.Bare (view_many items) true) result }
 {
     let height = items.height + 1;
-    Tall {
+    Measured {
         pattern: Pattern::Sequence {
             brackets: Brackets::Bare,
             items: items.patterns,
@@ -202,22 +207,22 @@ pub fn named(name: Text) -> Pattern
 }
 
 /// What has the height of a name.
-pub fn low(pattern: Pattern) -> Tall
-    ensures pattern { view_tall result ≡ plain_pattern pattern }
+pub fn low(pattern: Pattern) -> Measured
+    ensures pattern { view_measured result ≡ plain_pattern pattern }
     ensures height { result.height ≡ 1 }
 {
-    Tall { pattern, height: 1 }
+    Measured { pattern, height: 1 }
 }
 
 /// `p as name`.
-pub fn renamed(alloc: Global, tall: Tall, name: Text) -> Result<Tall, NoMemory>
-    requires low { tall.height < 2 ^ 60 }
-    requires height { IsTall tall }
-    ensures { IfOk result (Makes (p_as (view_tall tall) name)) }
+pub fn renamed(alloc: Global, measured: Measured, name: Text) -> Result<Measured, NoMemory>
+    requires low { measured.height < 2 ^ 60 }
+    requires height { IsMeasured measured }
+    ensures { IfOk result (Makes (p_as (view_measured measured) name)) }
 {
-    let height = tall.height + 1;
-    Ok(Tall {
-        pattern: Pattern::As(Box::new(alloc, tall.pattern)?, name),
+    let height = measured.height + 1;
+    Ok(Measured {
+        pattern: Pattern::As(Box::new(alloc, measured.pattern)?, name),
         height,
     })
 }

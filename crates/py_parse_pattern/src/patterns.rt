@@ -3,7 +3,7 @@
 ghost use Rattle.std.specs.Prelude.{◌≡◌, ◌≤◌, length};
 ghost use Rattle.py_syntax.specs.Spelling.{HEIGHT};
 ghost use Rattle.py_parse_pattern.specs.Machine.{start};
-ghost use Rattle.py_parse_pattern.specs.Rows.{view_reader, Kept};
+ghost use Rattle.py_parse_pattern.specs.Rows.{view_reader, Valid};
 ghost use Rattle.py_token.specs.View.{view_tokens};
 ghost use Rattle.py_syntax.specs.Kinds.{bare};
 ghost use Rattle.py_parse_pattern.specs.Reads.{FollowsMachine, IsRead};
@@ -16,7 +16,7 @@ use py_syntax::Pattern;
 use py_token::Token;
 use std::alloc::Global;
 
-/// The pattern of a `case`, and the place of the token behind it.
+/// The pattern of a `case`, and the place of the token after it.
 #[derive(Drop)]
 pub struct PatternRead {
     pub pattern: Pattern,
@@ -26,7 +26,7 @@ pub struct PatternRead {
 /// A reader that has read nothing.
 fn begun(alloc: Global) -> Reader
     ensures is { view_reader result ≡ start }
-    ensures kept { Kept HEIGHT result }
+    ensures valid { Valid HEIGHT result }
 {
     let row = Row {
         items: Many::new(alloc),
@@ -57,9 +57,9 @@ pub fn read_patterns(alloc: Global, tokens: &[Token], at: usize) -> Result<Patte
             Turn::Next(next) => reader = next,
             Turn::Stuck => return Err(ReadError::Unexpected(place)),
             Turn::Deep => return Err(ReadError::TooDeep(place)),
-            Turn::Left(tall) => {
+            Turn::Left(measured) => {
                 return Ok(PatternRead {
-                    pattern: tall.pattern,
+                    pattern: measured.pattern,
                     next: place,
                 });
             }

@@ -7,18 +7,18 @@ ghost use Rattle.py_syntax.specs.Spelling.{HEIGHT};
 ghost use Rattle.py_syntax.specs.View.{plain_pattern, plain_constant};
 ghost use Rattle.py_parse_pattern.specs.Machine.{a_comma, snoc, stack, Want, Have, Naming, Next, begin, wanting, shut, leave, offer, give, act, inside};
 ghost use Rattle.py_parse_pattern.specs.Heights.{levels};
-ghost use Rattle.py_parse_pattern.specs.Held.{view_cue, view_tall, view_many, AreTall};
-ghost use Rattle.py_parse_pattern.specs.Rows.{view_frames, view_rows, view_at, view_reader, KeptRow, KeptRows, KeptFrames, KeptTall, KeptAt, Kept, SLACK, ActsAs, Acts, Pops, KeptPops, depth_behind};
+ghost use Rattle.py_parse_pattern.specs.Views.{view_class, view_measured, view_many, AreMeasured};
+ghost use Rattle.py_parse_pattern.specs.Rows.{view_frames, view_rows, view_at, view_reader, ValidRow, ValidRows, ValidFrames, ValidMeasured, ValidAt, Valid, SLACK, ActsAs, Acts, Pops, ValidPops, depth_after};
 
-use crate::cues::{Bracket, Cue, same_bracket};
 use crate::nodes::{
-    Many, Tall, enclosed, ended, is_underscore, joined, listed, low, named, renamed, trailed,
+    Many, Measured, enclosed, ended, is_underscore, joined, listed, low, named, renamed, trailed,
 };
+use crate::token_classes::{Bracket, TokenClass, same_bracket};
 use py_syntax::{Constant, Pattern};
 use py_value::{NoMemory, Text};
 use std::alloc::Global;
 
-/// A row of patterns: the items with a comma behind them, the alternatives of the next one, each with a bar behind it,
+/// A row of patterns: the items with a comma after them, the alternatives of the next one, each with a bar after it,
 /// and how many nodes stand above an item.
 #[derive(Drop)]
 pub struct Row {
@@ -41,7 +41,7 @@ pub struct Rows {
     pub frames: Vec<Frame>,
 }
 
-/// What of a pattern stands behind what the rows hold.
+/// What of a pattern stands after what the rows hold.
 #[derive(Drop)]
 pub enum Progress {
     Want,
@@ -49,11 +49,11 @@ pub enum Progress {
     Named(Text),
     Dotted(Text),
     Strings(Vec<Text>),
-    Have(Tall),
-    /// Behind `as`; the row has no alternatives.
-    Naming(Tall),
-    /// Behind the name that follows `as`; the row has no alternatives.
-    Item(Tall),
+    Have(Measured),
+    /// After `as`; the row has no alternatives.
+    Naming(Measured),
+    /// After the name that follows `as`; the row has no alternatives.
+    Item(Measured),
 }
 
 pub struct Reader {
@@ -76,12 +76,12 @@ pub enum Turn {
     Next(Reader),
     Stuck,
     Deep,
-    Left(Tall),
+    Left(Measured),
 }
 
 fn next(rows: Rows, progress: Progress) -> Turn
-    requires rows { KeptRows SLACK rows }
-    requires at { KeptAt SLACK progress }
+    requires rows { ValidRows SLACK rows }
+    requires at { ValidAt SLACK progress }
     ensures { ActsAs (Next (view_at progress rows)) result }
 {
     Turn::Next(Reader { rows, progress })
@@ -89,7 +89,7 @@ fn next(rows: Rows, progress: Progress) -> Turn
 
 /// A closed pattern of one node is whole.
 fn one_node(rows: Rows, pattern: Pattern) -> Turn
-    requires rows { KeptRows HEIGHT rows }
+    requires rows { ValidRows HEIGHT rows }
     requires node { pattern_height (plain_pattern pattern) ≡ 1 }
     ensures { ActsAs (Next (Have (plain_pattern pattern) (view_rows rows))) result }
 {
@@ -111,7 +111,7 @@ pub fn levels(alternatives: &Many) -> usize
 
 /// A bracket opens a row of its own.
 fn open(alloc: Global, rows: Rows, bracket: Bracket) -> Result<Turn, NoMemory>
-    requires { KeptRows HEIGHT rows }
+    requires { ValidRows HEIGHT rows }
     ensures { Acts (Next (Want (inside bracket (view_rows rows)))) result }
 {
     let Rows { row, frames } = rows;
@@ -131,30 +131,30 @@ fn open(alloc: Global, rows: Rows, bracket: Bracket) -> Result<Turn, NoMemory>
 /// The innermost bracket that is open.
 fn innermost(frames: &mut Vec<Frame>) -> Option<Frame>
     ensures frames { Pops result (view_frames frames.old.items) (view_frames frames.new.items) }
-    ensures kept { KeptFrames (reverse frames.old.items) → KeptPops result (view_frames frames.new.items) (reverse frames.new.items) }
+    ensures valid { ValidFrames (reverse frames.old.items) → ValidPops result (view_frames frames.new.items) (reverse frames.new.items) }
 {
     frames.pop()
 }
 
 /// A closed pattern in the row round a bracket.
-fn behind(frame: Frame, frames: Vec<Frame>, tall: Tall) -> Turn
-    requires row { KeptRow HEIGHT frame.outer (view_frames frames.items) }
-    requires frames { KeptFrames (reverse frames.items) }
-    requires tall { KeptTall SLACK tall }
-    ensures { ActsAs (Next (Have (view_tall tall) (stack (view_many frame.outer.items) (view_many frame.outer.alternatives) (view_frames frames.items)))) result }
+fn after(frame: Frame, frames: Vec<Frame>, measured: Measured) -> Turn
+    requires row { ValidRow HEIGHT frame.outer (view_frames frames.items) }
+    requires frames { ValidFrames (reverse frames.items) }
+    requires measured { ValidMeasured SLACK measured }
+    ensures { ActsAs (Next (Have (view_measured measured) (stack (view_many frame.outer.items) (view_many frame.outer.alternatives) (view_frames frames.items)))) result }
 {
     next(
         Rows {
             row: frame.outer,
             frames,
         },
-        Progress::Have(tall),
+        Progress::Have(measured),
     )
 }
 
-/// A list with no brackets ends behind these items, each with its comma.
+/// A list with no brackets ends after these items, each with its comma.
 fn leave(items: Many) -> Turn
-    requires are { AreTall items }
+    requires are { AreMeasured items }
     requires low { items.height ≤ HEIGHT }
     ensures { ActsAs (leave (view_many items)) result }
 {
@@ -164,25 +164,25 @@ fn leave(items: Many) -> Turn
     Turn::Stuck
 }
 
-/// A row ends behind its items, each with its comma.
-fn shut(rows: Rows, cue: Cue) -> Turn
-    requires { KeptRows HEIGHT rows }
-    ensures { ActsAs (shut (view_many rows.row.items) (view_frames rows.frames.items) (view_cue cue)) result }
+/// A row ends after its items, each with its comma.
+fn shut(rows: Rows, class: TokenClass) -> Turn
+    requires { ValidRows HEIGHT rows }
+    ensures { ActsAs (shut (view_many rows.row.items) (view_frames rows.frames.items) (view_class class)) result }
 {
     let Rows { row, frames } = rows;
     let mut frames = frames;
     match innermost(&mut frames) {
         None => {
-            drop(cue);
+            drop(class);
             leave(row.items)
         }
-        Some(frame) => match cue {
-            Cue::Close(bracket) => {
+        Some(frame) => match class {
+            TokenClass::Close(bracket) => {
                 if !same_bracket(frame.bracket, bracket) {
                     return Turn::Stuck;
                 }
-                let tall = ended(frame.bracket, row.items);
-                behind(frame, frames, tall)
+                let measured = ended(frame.bracket, row.items);
+                after(frame, frames, measured)
             }
             other => {
                 drop(other);
@@ -193,55 +193,55 @@ fn shut(rows: Rows, cue: Cue) -> Turn
 }
 
 /// No pattern begins.
-fn wanting(rows: Rows, cue: Cue) -> Turn
-    requires { KeptRows HEIGHT rows }
-    ensures { ActsAs (wanting (view_rows rows) (view_cue cue)) result }
+fn wanting(rows: Rows, class: TokenClass) -> Turn
+    requires { ValidRows HEIGHT rows }
+    ensures { ActsAs (wanting (view_rows rows) (view_class class)) result }
 {
     if rows.row.alternatives.is_some() {
-        drop(cue);
+        drop(class);
         return Turn::Stuck;
     }
-    shut(rows, cue)
+    shut(rows, class)
 }
 
 /// A pattern begins, or its row ends.
-fn begin(alloc: Global, rows: Rows, cue: Cue) -> Result<Turn, NoMemory>
-    requires { KeptRows HEIGHT rows }
-    ensures { Acts (begin (view_rows rows) (view_cue cue)) result }
+fn begin(alloc: Global, rows: Rows, class: TokenClass) -> Result<Turn, NoMemory>
+    requires { ValidRows HEIGHT rows }
+    ensures { Acts (begin (view_rows rows) (view_class class)) result }
 {
-    match cue {
-        Cue::Name(name) => Ok(next(rows, Progress::Named(name))),
-        Cue::Number(number) => { Ok(one_node(rows, literal(false, Constant::Int(number)))) }
-        Cue::Str(text) => {
+    match class {
+        TokenClass::Name(name) => Ok(next(rows, Progress::Named(name))),
+        TokenClass::Number(number) => { Ok(one_node(rows, literal(false, Constant::Int(number)))) }
+        TokenClass::Str(text) => {
             let mut texts = Vec::new(alloc);
             texts.push(text)?;
             Ok(next(rows, Progress::Strings(texts)))
         }
-        Cue::NoneWord => Ok(one_node(rows, literal(false, Constant::None))),
-        Cue::Bool(is) => Ok(one_node(rows, literal(false, Constant::Bool(is)))),
-        Cue::Minus => Ok(next(rows, Progress::Minus)),
-        Cue::Open(bracket) => open(alloc, rows, bracket),
+        TokenClass::NoneWord => Ok(one_node(rows, literal(false, Constant::None))),
+        TokenClass::Bool(is) => Ok(one_node(rows, literal(false, Constant::Bool(is)))),
+        TokenClass::Minus => Ok(next(rows, Progress::Minus)),
+        TokenClass::Open(bracket) => open(alloc, rows, bracket),
         rest => Ok(wanting(rows, rest)),
     }
 }
 
 /// How many nodes stand above an item that has others in front of it.
-fn depth_behind(frames: &[Frame], depth: usize) -> usize
-    ensures { result ≡ depth_behind frames.now depth }
+fn depth_after(frames: &[Frame], depth: usize) -> usize
+    ensures { result ≡ depth_after frames.now depth }
 {
     if frames.is_empty() { 1 } else { depth }
 }
 
-/// The row behind an item and its comma.
-fn behind_item(alloc: Global, tall: Tall, rows: Rows) -> Result<Turn, NoMemory>
-    requires rows { KeptRows HEIGHT rows }
-    requires tall { KeptTall 202 tall }
-    ensures { Acts (Next (Want (stack (snoc (view_many rows.row.items) (view_tall tall)) no_patterns (view_frames rows.frames.items)))) result }
+/// The row after an item and its comma.
+fn after_item(alloc: Global, measured: Measured, rows: Rows) -> Result<Turn, NoMemory>
+    requires rows { ValidRows HEIGHT rows }
+    requires measured { ValidMeasured 202 measured }
+    ensures { Acts (Next (Want (stack (snoc (view_many rows.row.items) (view_measured measured)) no_patterns (view_frames rows.frames.items)))) result }
 {
     let Rows { row, frames } = rows;
     let mut items = row.items;
-    items.push(tall)?;
-    let depth = depth_behind(&frames, row.depth);
+    items.push(measured)?;
+    let depth = depth_after(&frames, row.depth);
     let row = Row {
         items,
         alternatives: Many::new(alloc),
@@ -251,37 +251,42 @@ fn behind_item(alloc: Global, tall: Tall, rows: Rows) -> Result<Turn, NoMemory>
 }
 
 /// An item is whole.
-fn offer(alloc: Global, tall: Tall, rows: Rows, cue: Cue) -> Result<Turn, NoMemory>
-    requires rows { KeptRows HEIGHT rows }
-    requires tall { KeptTall 202 tall }
-    ensures { Acts (offer (view_tall tall) (view_many rows.row.items) (view_frames rows.frames.items) (view_cue cue)) result }
+fn offer(alloc: Global, measured: Measured, rows: Rows, class: TokenClass) -> Result<Turn, NoMemory>
+    requires rows { ValidRows HEIGHT rows }
+    requires measured { ValidMeasured 202 measured }
+    ensures { Acts (offer (view_measured measured) (view_many rows.row.items) (view_frames rows.frames.items) (view_class class)) result }
 {
-    match cue {
-        Cue::Comma => behind_item(alloc, tall, rows),
-        rest => end_item(alloc, tall, rows, rest),
+    match class {
+        TokenClass::Comma => after_item(alloc, measured, rows),
+        rest => end_item(alloc, measured, rows, rest),
     }
 }
 
-/// An item is whole, and no comma stands behind it.
-fn end_item(alloc: Global, tall: Tall, rows: Rows, cue: Cue) -> Result<Turn, NoMemory>
-    requires rows { KeptRows HEIGHT rows }
-    requires tall { KeptTall 202 tall }
-    ensures { view_cue cue ≢ a_comma → Acts (offer (view_tall tall) (view_many rows.row.items) (view_frames rows.frames.items) (view_cue cue)) result }
+/// An item is whole, and no comma stands after it.
+fn end_item(
+    alloc: Global,
+    measured: Measured,
+    rows: Rows,
+    class: TokenClass,
+) -> Result<Turn, NoMemory>
+    requires rows { ValidRows HEIGHT rows }
+    requires measured { ValidMeasured 202 measured }
+    ensures { view_class class ≢ a_comma → Acts (offer (view_measured measured) (view_many rows.row.items) (view_frames rows.frames.items) (view_class class)) result }
 {
     let Rows { row, frames } = rows;
     let mut frames = frames;
     match innermost(&mut frames) {
         None => {
-            drop(cue);
-            Ok(Turn::Left(listed(row.items, tall)?))
+            drop(class);
+            Ok(Turn::Left(listed(row.items, measured)?))
         }
-        Some(frame) => match cue {
-            Cue::Close(bracket) => {
+        Some(frame) => match class {
+            TokenClass::Close(bracket) => {
                 if !same_bracket(frame.bracket, bracket) {
                     return Ok(Turn::Stuck);
                 }
-                let tall = enclosed(alloc, frame.bracket, row.items, tall)?;
-                Ok(behind(frame, frames, tall))
+                let measured = enclosed(alloc, frame.bracket, row.items, measured)?;
+                Ok(after(frame, frames, measured))
             }
             other => {
                 drop(other);
@@ -291,21 +296,21 @@ fn end_item(alloc: Global, tall: Tall, rows: Rows, cue: Cue) -> Result<Turn, NoM
     }
 }
 
-/// The row behind an alternative and its bar.
-fn behind_bar(tall: Tall, rows: Rows) -> Result<Turn, NoMemory>
-    requires rows { KeptRows HEIGHT rows }
-    requires tall { KeptTall HEIGHT tall }
-    ensures { Acts (Next (Want (stack (view_many rows.row.items) (snoc (view_many rows.row.alternatives) (view_tall tall)) (view_frames rows.frames.items)))) result }
+/// The row after an alternative and its bar.
+fn after_bar(measured: Measured, rows: Rows) -> Result<Turn, NoMemory>
+    requires rows { ValidRows HEIGHT rows }
+    requires measured { ValidMeasured HEIGHT measured }
+    ensures { Acts (Next (Want (stack (view_many rows.row.items) (snoc (view_many rows.row.alternatives) (view_measured measured)) (view_frames rows.frames.items)))) result }
 {
     let mut rows = rows;
-    rows.row.alternatives.push(tall)?;
+    rows.row.alternatives.push(measured)?;
     Ok(next(rows, Progress::Want))
 }
 
 /// A row, and the alternatives in front of its next item.
 fn parted(alloc: Global, rows: Rows) -> (Rows, Many)
-    requires { KeptRows HEIGHT rows }
-    ensures rows { KeptRows HEIGHT result.0 }
+    requires { ValidRows HEIGHT rows }
+    ensures rows { ValidRows HEIGHT result.0 }
     ensures items { view_many result.0.row.items ≡ view_many rows.row.items }
     ensures frames { view_frames result.0.frames.items ≡ view_frames rows.frames.items }
     ensures alternatives { result.1 ≡ rows.row.alternatives }
@@ -320,39 +325,44 @@ fn parted(alloc: Global, rows: Rows) -> (Rows, Many)
 }
 
 /// A closed pattern is whole.
-fn give(alloc: Global, tall: Tall, rows: Rows, cue: Cue) -> Result<Turn, NoMemory>
-    requires rows { KeptRows HEIGHT rows }
-    requires tall { KeptTall HEIGHT tall }
-    ensures { Acts (give (view_tall tall) (view_rows rows) (view_cue cue)) result }
+fn give(alloc: Global, measured: Measured, rows: Rows, class: TokenClass) -> Result<Turn, NoMemory>
+    requires rows { ValidRows HEIGHT rows }
+    requires measured { ValidMeasured HEIGHT measured }
+    ensures { Acts (give (view_measured measured) (view_rows rows) (view_class class)) result }
 {
-    match cue {
-        Cue::Bar => behind_bar(tall, rows),
-        Cue::As => {
+    match class {
+        TokenClass::Bar => after_bar(measured, rows),
+        TokenClass::As => {
             let (rows, alternatives) = parted(alloc, rows);
-            let tall = joined(alternatives, tall)?;
-            Ok(next(rows, Progress::Naming(tall)))
+            let measured = joined(alternatives, measured)?;
+            Ok(next(rows, Progress::Naming(measured)))
         }
         rest => {
             let (rows, alternatives) = parted(alloc, rows);
-            let tall = joined(alternatives, tall)?;
-            offer(alloc, tall, rows, rest)
+            let measured = joined(alternatives, measured)?;
+            offer(alloc, measured, rows, rest)
         }
     }
 }
 
-/// Behind `as`, a name stands that isn't `_`.
-fn rename(alloc: Global, tall: Tall, rows: Rows, cue: Cue) -> Result<Turn, NoMemory>
-    requires rows { KeptRows HEIGHT rows }
-    requires tall { KeptTall HEIGHT tall }
-    ensures { Acts (act (Naming (view_tall tall) (view_many rows.row.items) (view_frames rows.frames.items)) (view_cue cue)) result }
+/// After `as`, a name stands that isn't `_`.
+fn rename(
+    alloc: Global,
+    measured: Measured,
+    rows: Rows,
+    class: TokenClass,
+) -> Result<Turn, NoMemory>
+    requires rows { ValidRows HEIGHT rows }
+    requires measured { ValidMeasured HEIGHT measured }
+    ensures { Acts (act (Naming (view_measured measured) (view_many rows.row.items) (view_frames rows.frames.items)) (view_class class)) result }
 {
-    match cue {
-        Cue::Name(name) => {
+    match class {
+        TokenClass::Name(name) => {
             if is_underscore(&name) {
                 return Ok(Turn::Stuck);
             }
-            let tall = renamed(alloc, tall, name)?;
-            Ok(next(rows, Progress::Item(tall)))
+            let measured = renamed(alloc, measured, name)?;
+            Ok(next(rows, Progress::Item(measured)))
         }
         other => {
             drop(other);
@@ -363,42 +373,44 @@ fn rename(alloc: Global, tall: Tall, rows: Rows, cue: Cue) -> Result<Turn, NoMem
 
 impl Reader {
     /// What a token does, whatever its height.
-    pub fn act(self, alloc: Global, cue: Cue) -> Result<Turn, NoMemory>
-        requires { Kept HEIGHT self }
-        ensures { Acts (act (view_reader self) (view_cue cue)) result }
+    pub fn act(self, alloc: Global, class: TokenClass) -> Result<Turn, NoMemory>
+        requires { Valid HEIGHT self }
+        ensures { Acts (act (view_reader self) (view_class class)) result }
     {
         let Reader { rows, progress } = self;
         match progress {
-            Progress::Want => begin(alloc, rows, cue),
-            Progress::Minus => match cue {
-                Cue::Number(number) => { Ok(one_node(rows, literal(true, Constant::Int(number)))) }
+            Progress::Want => begin(alloc, rows, class),
+            Progress::Minus => match class {
+                TokenClass::Number(number) => {
+                    Ok(one_node(rows, literal(true, Constant::Int(number))))
+                }
                 other => {
                     drop(other);
                     Ok(Turn::Stuck)
                 }
             },
-            Progress::Named(name) => match cue {
-                Cue::Dot => Ok(next(rows, Progress::Dotted(name))),
+            Progress::Named(name) => match class {
+                TokenClass::Dot => Ok(next(rows, Progress::Dotted(name))),
                 rest => give(alloc, low(named(name)), rows, rest),
             },
-            Progress::Dotted(of) => match cue {
-                Cue::Name(name) => Ok(one_node(rows, Pattern::Member(of, name))),
+            Progress::Dotted(of) => match class {
+                TokenClass::Name(name) => Ok(one_node(rows, Pattern::Member(of, name))),
                 other => {
                     drop(other);
                     Ok(Turn::Stuck)
                 }
             },
-            Progress::Strings(texts) => match cue {
-                Cue::Str(text) => {
+            Progress::Strings(texts) => match class {
+                TokenClass::Str(text) => {
                     let mut texts = texts;
                     texts.push(text)?;
                     Ok(next(rows, Progress::Strings(texts)))
                 }
                 rest => give(alloc, low(literal(false, Constant::Str(texts))), rows, rest),
             },
-            Progress::Have(tall) => give(alloc, tall, rows, cue),
-            Progress::Naming(tall) => rename(alloc, tall, rows, cue),
-            Progress::Item(tall) => offer(alloc, tall, rows, cue),
+            Progress::Have(measured) => give(alloc, measured, rows, class),
+            Progress::Naming(measured) => rename(alloc, measured, rows, class),
+            Progress::Item(measured) => offer(alloc, measured, rows, class),
         }
     }
 }

@@ -3,8 +3,8 @@
 ghost use Rattle.std.specs.Prelude.{◌≡◌, IfOk};
 ghost use Rattle.py_token.specs.View.{view_kind};
 ghost use Rattle.py_syntax.specs.Kinds.{bare_kind};
-ghost use Rattle.py_parse_pattern.specs.Machine.{cue, same_bracket};
-ghost use Rattle.py_parse_pattern.specs.Held.{view_cue, mark_cue, word_cue};
+ghost use Rattle.py_parse_pattern.specs.Machine.{class, same_bracket};
+ghost use Rattle.py_parse_pattern.specs.Views.{view_class, mark_class, word_class};
 
 use py_token::{Keyword, Mark, TokenKind};
 use py_value::{NoMemory, Text};
@@ -18,7 +18,7 @@ pub enum Bracket {
 
 /// What a token can be to a pattern.
 #[derive(Drop)]
-pub enum Cue {
+pub enum TokenClass {
     Name(Text),
     Number(i64),
     Str(Text),
@@ -40,44 +40,44 @@ pub fn same_bracket(one: Bracket, other: Bracket) -> bool
     one == other
 }
 
-fn mark_cue(mark: Mark) -> Cue
-    ensures { view_cue result ≡ mark_cue mark }
+fn mark_class(mark: Mark) -> TokenClass
+    ensures { view_class result ≡ mark_class mark }
 {
     match mark {
-        Mark::Minus => Cue::Minus,
-        Mark::LeftParen => Cue::Open(Bracket::Round),
-        Mark::LeftBracket => Cue::Open(Bracket::Square),
-        Mark::RightParen => Cue::Close(Bracket::Round),
-        Mark::RightBracket => Cue::Close(Bracket::Square),
-        Mark::Bar => Cue::Bar,
-        Mark::Comma => Cue::Comma,
-        Mark::Dot => Cue::Dot,
-        _ => Cue::Other,
+        Mark::Minus => TokenClass::Minus,
+        Mark::LeftParen => TokenClass::Open(Bracket::Round),
+        Mark::LeftBracket => TokenClass::Open(Bracket::Square),
+        Mark::RightParen => TokenClass::Close(Bracket::Round),
+        Mark::RightBracket => TokenClass::Close(Bracket::Square),
+        Mark::Bar => TokenClass::Bar,
+        Mark::Comma => TokenClass::Comma,
+        Mark::Dot => TokenClass::Dot,
+        _ => TokenClass::Other,
     }
 }
 
-fn word_cue(word: Keyword) -> Cue
-    ensures { view_cue result ≡ word_cue word }
+fn word_class(word: Keyword) -> TokenClass
+    ensures { view_class result ≡ word_class word }
 {
     match word {
-        Keyword::None => Cue::NoneWord,
-        Keyword::True => Cue::Bool(true),
-        Keyword::False => Cue::Bool(false),
-        Keyword::As => Cue::As,
-        _ => Cue::Other,
+        Keyword::None => TokenClass::NoneWord,
+        Keyword::True => TokenClass::Bool(true),
+        Keyword::False => TokenClass::Bool(false),
+        Keyword::As => TokenClass::As,
+        _ => TokenClass::Other,
     }
 }
 
 /// The text of a name or a string is copied.
-pub fn cue_of(kind: &TokenKind) -> Result<Cue, NoMemory>
-    ensures { IfOk result (λ c. view_cue c ≡ cue (bare_kind (view_kind kind.now))) }
+pub fn class_of(kind: &TokenKind) -> Result<TokenClass, NoMemory>
+    ensures { IfOk result (λ c. view_class c ≡ class (bare_kind (view_kind kind.now))) }
 {
     match kind {
-        TokenKind::Name(text) => Ok(Cue::Name(text.copy()?)),
-        TokenKind::Int(number) => Ok(Cue::Number(*number)),
-        TokenKind::Str(text) => Ok(Cue::Str(text.copy()?)),
-        TokenKind::Keyword(word) => Ok(word_cue(*word)),
-        TokenKind::Mark(mark) => Ok(mark_cue(*mark)),
-        _ => Ok(Cue::Other),
+        TokenKind::Name(text) => Ok(TokenClass::Name(text.copy()?)),
+        TokenKind::Int(number) => Ok(TokenClass::Number(*number)),
+        TokenKind::Str(text) => Ok(TokenClass::Str(text.copy()?)),
+        TokenKind::Keyword(word) => Ok(word_class(*word)),
+        TokenKind::Mark(mark) => Ok(mark_class(*mark)),
+        _ => Ok(TokenClass::Other),
     }
 }

@@ -5,9 +5,6 @@ use Rattle.std.proofs.lemmas.Bool.{cases_lt, ne_eqb}
 use Rattle.std.specs.Char.{digit_value}
 use Rattle.py_token.specs.Numbers.{digits_value}
 
-next_value : ℕ → ℕ → ℕ → ℕ
-next_value base n c = cond (eqb c 95) n (n * base + digit_value c)
-
 -- a value never falls
 next_ge : (base n c : ℕ) → 1 ≤ base → n ≤ cond (eqb c 95) n (n * base + digit_value c)
 next_ge base n c some = go (eqb c 95)

@@ -7,7 +7,7 @@ use Rattle.std.proofs.lemmas.List.{length-take-le}
 use Rattle.std.specs.List.{list_all, prefix_len}
 use Rattle.std.specs.Char.{digit_value}
 use Rattle.py_token.specs.Numbers.{digits_value, is_digit_of}
-use Rattle.py_token.specs.Strings.{holds, is_character, hex_bit, octal_len, octal_bit}
+use Rattle.py_token.specs.Strings.{holds, is_character, hex_item, octal_len, octal_item}
 
 character_small : (n : ℕ) → is_character n ≡ true → n < 0x110000
 character_small n is = grind (arith, nat_tests)
@@ -16,8 +16,8 @@ character_small n is = grind (arith, nat_tests)
 whole_code : (v : ℕ) → is_character (min v (2 ^ 63)) ≡ true → min v (2 ^ 63) ≡ v
 whole_code v is = let small = character_small (min v (2 ^ 63)) is in omega (arith, small)
 
-pub hex_found : (line n c v : ℕ) (cs : List ℕ) → n ≤ length cs → true ≡ list_all (is_digit_of 16) (take n cs) → v ≡ min (digits_value 16 0 (take n cs)) (2 ^ 63) → is_character v ≡ true → c ≡ v → holds (c ∷ []) (n + 1) line ≡ hex_bit line n cs
-unfolding hex_bit
+pub hex_found : (line n c v : ℕ) (cs : List ℕ) → n ≤ length cs → true ≡ list_all (is_digit_of 16) (take n cs) → v ≡ min (digits_value 16 0 (take n cs)) (2 ^ 63) → is_character v ≡ true → c ≡ v → holds (c ∷ []) (n + 1) line ≡ hex_item line n cs
+unfolding hex_item
 hex_found line n c v cs long digits value is code =
     let whole = whole_code (digits_value 16 0 (take n cs)) (sym (ap is_character value) ∙ is) in
     let len : length (take n cs) ≡ n = length-take-le n cs long in
@@ -64,8 +64,8 @@ octal_low cs = let small = value_small 3 0 cs in omega (arith, small)
 low_character : (n : ℕ) → n < 512 → is_character n ≡ true
 low_character n low = grind (arith, nat_tests)
 
-pub octal_found : (line c n v : ℕ) (cs : List ℕ) → n ≡ octal_len cs → v ≡ min (digits_value 8 0 (take n cs)) (2 ^ 63) → c ≡ v → holds (c ∷ []) n line ≡ octal_bit line cs
-unfolding octal_bit
+pub octal_found : (line c n v : ℕ) (cs : List ℕ) → n ≡ octal_len cs → v ≡ min (digits_value 8 0 (take n cs)) (2 ^ 63) → c ≡ v → holds (c ∷ []) n line ≡ octal_item line cs
+unfolding octal_item
 octal_found line c n v cs len value code =
     let low = octal_low cs in
     let same : digits_value 8 0 (take (octal_len cs) cs) ≡ c = sym (code ∙ value ∙ ap (λ k. min (digits_value 8 0 (take k cs)) (2 ^ 63)) len ∙ omega (arith, low)) in

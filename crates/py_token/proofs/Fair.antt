@@ -1,4 +1,4 @@
--- A bit of a string lies within the string, and passes as many lines as it has line ends.
+-- An item of a string lies within the string, and passes as many lines as it has line ends.
 use Rattle.std.proofs.Common.{◌≡◌, ◌≤◌, ◌+◌, ℕ, Bool, true, false, cond, not, ◌&&◌, ◌||◌, List, [], ◌∷◌, length, take, drop, eqb, Option, Some, None, refl, arith}
 use Rattle.std.proofs.lemmas.Bool.{eqb-true}
 use Rattle.std.proofs.lemmas.List.{length-take}
@@ -7,19 +7,19 @@ use Rattle.std.specs.List.{list_all}
 use Rattle.py_token.specs.declared.error.TokenError.TheVariants.{BadCharacter, OpenString}
 use Rattle.py_token.specs.Source.{line_count}
 use Rattle.py_token.specs.Numbers.{is_digit_of, digits_value}
-use Rattle.py_token.specs.Strings.{Bit, holds, closing, fault, behind_of, next_of, doubled, closes, escaped, digits_asked, is_character, hex_bit, octal_bit, other_bit, hex_or, escaped_or, escape_bit, raw_bit, text_bit}
+use Rattle.py_token.specs.Strings.{StringItem, holds, closing, fault, after_of, next_of, doubled, closes, escaped, digits_asked, is_character, hex_item, octal_item, other_item, hex_or, escaped_or, escape_item, raw_item, text_item}
 use Rattle.py_token.proofs.Lines.{line_count-cons, line_count-end, line_count-drop}
 
-pub record Fair {A : Type 0} (line c : ℕ) (cs : List ℕ) (bit : Bit A) : Type 0 where
-  pub within : behind_of bit ≤ length cs
-  pub lines : next_of bit line + line_count (drop (behind_of bit) cs) ≤ line + line_count (c ∷ cs)
-  pub later : line ≤ next_of bit line
+pub record Fair {A : Type 0} (line c : ℕ) (cs : List ℕ) (item : StringItem A) : Type 0 where
+  pub within : after_of item ≤ length cs
+  pub lines : next_of item line + line_count (drop (after_of item) cs) ≤ line + line_count (c ∷ cs)
+  pub later : line ≤ next_of item line
 
--- a bit on one line
-pub on_line : {A : Type 0} (line c : ℕ) (cs : List ℕ) (bit : Bit A) → behind_of bit ≤ length cs → next_of bit line ≡ line → Fair line c cs bit
-on_line line c cs bit within same = record {
+-- an item on one line
+pub on_line : {A : Type 0} (line c : ℕ) (cs : List ℕ) (item : StringItem A) → after_of item ≤ length cs → next_of item line ≡ line → Fair line c cs item
+on_line line c cs item within same = record {
   within = within;
-  lines = let d = line_count-drop (behind_of bit) cs in let h = (line_count-cons c cs).0 in omega (arith, d, h, same);
+  lines = let d = line_count-drop (after_of item) cs in let h = (line_count-cons c cs).0 in omega (arith, d, h, same);
   later = omega (arith, same);
 }
 
@@ -48,8 +48,8 @@ closing_fair line quote true c cs is = on_line line c cs (closing 2) (go (eqb c 
     go true is = doubled_long quote cs is
     go false is = absurd cc
 
-hex_fair : (line n c d : ℕ) (ds : List ℕ) → Fair {A = List ℕ} line c (d ∷ ds) (hex_bit line n ds)
-unfolding hex_bit
+hex_fair : (line n c d : ℕ) (ds : List ℕ) → Fair {A = List ℕ} line c (d ∷ ds) (hex_item line n ds)
+unfolding hex_item
 hex_fair line n c d ds = go (eqb (length (take n ds)) n) (list_all (is_digit_of 16) (take n ds)) (is_character (digits_value 16 0 (take n ds))) refl
   where
     go : (a b e : Bool) → eqb (length (take n ds)) n ≡ a → Fair {A = List ℕ} line c (d ∷ ds) (cond (a && b && e) (holds (digits_value 16 0 (take n ds) ∷ []) (n + 1) line) (fault (BadCharacter line)))
@@ -58,11 +58,11 @@ hex_fair line n c d ds = go (eqb (length (take n ds)) n) (list_all (is_digit_of 
     go true true false is = on_line line c (d ∷ ds) (fault (BadCharacter line)) (omega arith) refl
     go true true true is = on_line line c (d ∷ ds) (holds (digits_value 16 0 (take n ds) ∷ []) (n + 1) line) (let e = eqb-true (length (take n ds)) n is in let l = length-take n ds in omega (arith, e, l)) refl
 
-octal_fair : (line c : ℕ) (cs : List ℕ) → Fair {A = List ℕ} line c cs (octal_bit line cs)
-unfolding octal_bit
-octal_fair line c cs = on_line line c cs (octal_bit line cs) (let h = prefix_len-le-length (is_digit_of 8) (take 3 cs) in let l = length-take 3 cs in omega (arith, h, l)) refl
+octal_fair : (line c : ℕ) (cs : List ℕ) → Fair {A = List ℕ} line c cs (octal_item line cs)
+unfolding octal_item
+octal_fair line c cs = on_line line c cs (octal_item line cs) (let h = prefix_len-le-length (is_digit_of 8) (take 3 cs) in let l = length-take 3 cs in omega (arith, h, l)) refl
 
-other_fair : (line c d : ℕ) (cs : List ℕ) → Fair {A = List ℕ} line c cs (other_bit line d)
+other_fair : (line c d : ℕ) (cs : List ℕ) → Fair {A = List ℕ} line c cs (other_item line d)
 other_fair line c d cs = go (eqb d 78)
   where
     go : (b : Bool) → Fair {A = List ℕ} line c cs (cond b (fault (BadCharacter line)) (holds (92 ∷ []) 0 line))
@@ -77,11 +77,11 @@ escaped_fair : (o : Option ℕ) (line c d : ℕ) (ds : List ℕ) → Fair {A = L
 escaped_fair (Some e) line c d ds = on_line line c (d ∷ ds) (holds (e ∷ []) 1 line) (omega arith) refl
 escaped_fair None line c d ds = go (is_digit_of 8 d)
   where
-    go : (b : Bool) → Fair {A = List ℕ} line c (d ∷ ds) (cond b (octal_bit line (d ∷ ds)) (hex_or (digits_asked d) line d ds))
+    go : (b : Bool) → Fair {A = List ℕ} line c (d ∷ ds) (cond b (octal_item line (d ∷ ds)) (hex_or (digits_asked d) line d ds))
     go true = octal_fair line c (d ∷ ds)
     go false = hex_or_fair (digits_asked d) line c d ds
 
-escape_fair : (line c : ℕ) (cs : List ℕ) → Fair {A = List ℕ} line c cs (escape_bit line cs)
+escape_fair : (line c : ℕ) (cs : List ℕ) → Fair {A = List ℕ} line c cs (escape_item line cs)
 escape_fair line c [] = on_line line c [] (holds (92 ∷ []) 0 line) (omega arith) refl
 escape_fair line c (d ∷ ds) = go (eqb d 10) refl
   where
@@ -89,7 +89,7 @@ escape_fair line c (d ∷ ds) = go (eqb d 10) refl
     go true is = over_end line c d ds [] (eqb-true d 10 is)
     go false is = escaped_fair (escaped d) line c d ds
 
-raw_fair : (line c : ℕ) (cs : List ℕ) → Fair {A = List ℕ} line c cs (raw_bit line cs)
+raw_fair : (line c : ℕ) (cs : List ℕ) → Fair {A = List ℕ} line c cs (raw_item line cs)
 raw_fair line c [] = on_line line c [] (holds (92 ∷ []) 0 line) (omega arith) refl
 raw_fair line c (d ∷ ds) = go (eqb d 10) (eqb d 13) refl
   where
@@ -98,12 +98,12 @@ raw_fair line c (d ∷ ds) = go (eqb d 10) (eqb d 13) refl
     go false true is = on_line line c (d ∷ ds) (holds (92 ∷ []) 0 line) (omega arith) refl
     go false false is = on_line line c (d ∷ ds) (holds (92 ∷ d ∷ []) 1 line) (omega arith) refl
 
-pub text_fair : (raw : Bool) (quote : ℕ) (triple : Bool) (first line c : ℕ) (cs : List ℕ) → Fair {A = List ℕ} line c cs (text_bit raw quote triple first line c cs)
-unfolding text_bit
+pub text_fair : (raw : Bool) (quote : ℕ) (triple : Bool) (first line c : ℕ) (cs : List ℕ) → Fair {A = List ℕ} line c cs (text_item raw quote triple first line c cs)
+unfolding text_item
 text_fair raw quote triple first line c cs = go (closes quote triple c cs) (eqb c 13) (eqb c 10) (eqb c 92) triple raw refl refl
   where
     go : (shut return feed slash three plain : Bool) → closes quote triple c cs ≡ shut → eqb c 10 ≡ feed
-        → Fair {A = List ℕ} line c cs (cond shut (closing (cond triple 2 0)) (cond return (fault (BadCharacter line)) (cond feed (cond three (holds (10 ∷ []) 0 (line + 1)) (fault (OpenString first))) (cond slash (cond plain (raw_bit line cs) (escape_bit line cs)) (holds (c ∷ []) 0 line)))))
+        → Fair {A = List ℕ} line c cs (cond shut (closing (cond triple 2 0)) (cond return (fault (BadCharacter line)) (cond feed (cond three (holds (10 ∷ []) 0 (line + 1)) (fault (OpenString first))) (cond slash (cond plain (raw_item line cs) (escape_item line cs)) (holds (c ∷ []) 0 line)))))
     go true return feed slash three plain is end = closing_fair line quote triple c cs is
     go false true feed slash three plain is end = on_line line c cs (fault (BadCharacter line)) (omega arith) refl
     go false false true slash true plain is end = record { within = omega arith; lines = let e = line_count-end c cs (eqb-true c 10 end) in omega (arith, e); later = omega arith }

@@ -8,16 +8,16 @@ use Rattle.py_token.specs.Plain.{PKind, newline, indent, dedent, end, PToken, to
 use Rattle.py_token.specs.Words.{same_text}
 use Rattle.py_token.specs.Numbers.{is_empty}
 use Rattle.py_token.specs.Strings.{◌>>=◌}
-use Rattle.py_token.specs.Rules.{Taken}
-use Rattle.py_token.specs.Fields.{is_blank, turn_of, token_at}
-use Rattle.py_token.specs.Cuts.{Lexeme, spelled, blank, comment, line_end, joined_end, stuck, in_comment, token_cut, cut_at, cuts}
-use Rattle.py_token.specs.Layout.{State, outermost, current, is_within, dedents, block_tokens, line_begins, turned, newline_if, spelled_at, put, closing_tokens, ends_with, layout}
+use Rattle.py_token.specs.Rules.{Match}
+use Rattle.py_token.specs.Fields.{is_blank, change_of, token_at}
+use Rattle.py_token.specs.Segments.{Lexeme, spelled, blank, comment, line_end, joined_end, stuck, in_comment, token_segment, segment_at, segments}
+use Rattle.py_token.specs.Layout.{State, outermost, current, is_within, dedents, block_tokens, line_begins, changed, newline_if, spelled_at, put, closing_tokens, ends_with, layout}
 use Rattle.py_token.specs.Spelling.{spelling}
 use Rattle.py_token.specs.OnLines.{IsKindOnLines, AreOnLines}
 use Rattle.py_token.proofs.Lines.{line_count-cons}
 use Rattle.py_token.proofs.FStringBodies.{token_fair}
 use Rattle.py_token.proofs.LinesKept.{token_kind}
-use Rattle.py_token.proofs.Reading.{cut_fair}
+use Rattle.py_token.proofs.Reading.{segment_fair}
 
 append_on_lines : (xs ys : List PToken) → AreOnLines xs → AreOnLines ys → AreOnLines (xs ++ ys)
 append_on_lines [] ys hx hy = hy
@@ -60,7 +60,7 @@ begins_on_lines s line x low high h = go s.begun (block_tokens s.blanks line s.i
     go false (Ok y) more h = subst (λ (w : List PToken × State). AreOnLines w.0) (step_is (y.0, record s { indents = y.1; begun = true }) x h) (more y refl)
     go false (Err e) more h = absurd cc
 
--- a piece that keeps lines of the text
+-- a segment that keeps lines of the text
 abbrev FitsLines : Lexeme → ℕ → ℕ → Type 0
 FitsLines (spelled kind) line next = (line ≤ next) × (next ≤ 65535) × IsKindOnLines kind
 FitsLines (blank c) line next = Unit {0}
@@ -72,8 +72,8 @@ FitsLines (stuck e) line next = Unit {0}
 spelled_on_lines : (s : State) (kind : PKind) (line next : ℕ) (x : List PToken × State) → 1 ≤ line → line ≤ next → next ≤ 65535 → IsKindOnLines kind → spelled_at s kind line next ≡ the_step x → AreOnLines x.0
 spelled_on_lines s kind line next x low grows high ok h = go (line_begins s line) (λ y e. begins_on_lines s line y low (omega arith) e) h
   where
-    go : (r : Result (List PToken × State) TokenError) → ((y : List PToken × State) → r ≡ the_step y → AreOnLines y.0) → (r >>= λ x. Ok (x.0 ++ token kind line next ∷ [], record x.1 { brackets = turned (turn_of kind) line x.1.brackets })) ≡ the_step x → AreOnLines x.0
-    go (Ok y) begun h = subst (λ (w : List PToken × State). AreOnLines w.0) (step_is (y.0 ++ token kind line next ∷ [], record y.1 { brackets = turned (turn_of kind) line y.1.brackets }) x h) (append_on_lines y.0 (token kind line next ∷ []) (begun y refl) ((low, grows, high, ok), tt))
+    go : (r : Result (List PToken × State) TokenError) → ((y : List PToken × State) → r ≡ the_step y → AreOnLines y.0) → (r >>= λ x. Ok (x.0 ++ token kind line next ∷ [], record x.1 { brackets = changed (change_of kind) line x.1.brackets })) ≡ the_step x → AreOnLines x.0
+    go (Ok y) begun h = subst (λ (w : List PToken × State). AreOnLines w.0) (step_is (y.0 ++ token kind line next ∷ [], record y.1 { brackets = changed (change_of kind) line y.1.brackets }) x h) (append_on_lines y.0 (token kind line next ∷ []) (begun y refl) ((low, grows, high, ok), tt))
     go (Err e) begun h = absurd cc
 
 newline_on_lines : (b : Bool) (line : ℕ) → 1 ≤ line → line ≤ 65535 → AreOnLines (newline_if b line)
@@ -111,40 +111,40 @@ ends_on_lines : (s : State) (brackets : List ℕ) (last : ℕ) (ts : List PToken
 ends_on_lines s [] last ts low high h = subst AreOnLines (list_is (newline_if s.begun last ++ closing_tokens last (length s.indents)) ts h) (append_on_lines (newline_if s.begun last) (closing_tokens last (length s.indents)) (newline_on_lines s.begun last low high) (closing_on_lines last (length s.indents) low high))
 ends_on_lines s (b ∷ bs) last ts low high h = absurd cc
 
-token_fits : (line c : ℕ) (cs : List ℕ) (r : Result Taken TokenError) → 1 ≤ line → line + line_count (c ∷ cs) ≤ 65536 → token_at line c cs ≡ r → FitsLines (token_cut line r).lexeme line (token_cut line r).next
+token_fits : (line c : ℕ) (cs : List ℕ) (r : Result Match TokenError) → 1 ≤ line → line + line_count (c ∷ cs) ≤ 65536 → token_at line c cs ≡ r → FitsLines (token_segment line r).lexeme line (token_segment line r).next
 token_fits line c cs (Ok t) low lines is = let h = token_fair line c cs t is in let on = h.on_line in (h.later, omega (arith, on, lines), token_kind line c cs t low lines is)
 token_fits line c cs (Err e) low lines is = tt
 
-cut_fits : (line c : ℕ) (cs : List ℕ) → 1 ≤ line → line + line_count (c ∷ cs) ≤ 65536 → FitsLines (cut_at line c cs).lexeme line (cut_at line c cs).next
-unfolding cut_at
-cut_fits line c cs low lines = go (is_blank c) (eqb c 10) (eqb c 35) ((eqb c 92) && begins 10 cs)
+segment_fits : (line c : ℕ) (cs : List ℕ) → 1 ≤ line → line + line_count (c ∷ cs) ≤ 65536 → FitsLines (segment_at line c cs).lexeme line (segment_at line c cs).next
+unfolding segment_at
+segment_fits line c cs low lines = go (is_blank c) (eqb c 10) (eqb c 35) ((eqb c 92) && begins 10 cs)
   where
-    go : (a b d e : Bool) → FitsLines (cond a (record { lexeme = blank c; behind = 0; next = line }) (cond b (record { lexeme = line_end; behind = 0; next = line + 1 }) (cond d (record { lexeme = comment; behind = prefix_len in_comment cs; next = line }) (cond e (record { lexeme = joined_end; behind = 1; next = line + 1 }) (token_cut line (token_at line c cs)))))).lexeme line (cond a (record { lexeme = blank c; behind = 0; next = line }) (cond b (record { lexeme = line_end; behind = 0; next = line + 1 }) (cond d (record { lexeme = comment; behind = prefix_len in_comment cs; next = line }) (cond e (record { lexeme = joined_end; behind = 1; next = line + 1 }) (token_cut line (token_at line c cs)))))).next
+    go : (a b d e : Bool) → FitsLines (cond a (record { lexeme = blank c; after = 0; next = line }) (cond b (record { lexeme = line_end; after = 0; next = line + 1 }) (cond d (record { lexeme = comment; after = prefix_len in_comment cs; next = line }) (cond e (record { lexeme = joined_end; after = 1; next = line + 1 }) (token_segment line (token_at line c cs)))))).lexeme line (cond a (record { lexeme = blank c; after = 0; next = line }) (cond b (record { lexeme = line_end; after = 0; next = line + 1 }) (cond d (record { lexeme = comment; after = prefix_len in_comment cs; next = line }) (cond e (record { lexeme = joined_end; after = 1; next = line + 1 }) (token_segment line (token_at line c cs)))))).next
     go true b d e = tt
     go false true d e = tt
     go false false true e = tt
     go false false false true = tt
     go false false false false = token_fits line c cs (token_at line c cs) low lines refl
 
-layout_on_lines : (s : State) (last skip line : ℕ) (cs : List ℕ) (ts : List PToken) → 1 ≤ last → last ≤ 65535 → 1 ≤ line → line + line_count (drop skip cs) ≤ 65536 → layout s last (cuts skip line cs) ≡ the_list ts → AreOnLines ts
-unfolding layout cuts
+layout_on_lines : (s : State) (last skip line : ℕ) (cs : List ℕ) (ts : List PToken) → 1 ≤ last → last ≤ 65535 → 1 ≤ line → line + line_count (drop skip cs) ≤ 65536 → layout s last (segments skip line cs) ≡ the_list ts → AreOnLines ts
+unfolding layout segments
 layout_on_lines s last zero line [] ts some high low lines h = ends_on_lines s s.brackets last ts some high h
 layout_on_lines s last (suc skip) line [] ts some high low lines h = ends_on_lines s s.brackets last ts some high h
 layout_on_lines s last (suc skip) line (c ∷ cs) ts some high low lines h = layout_on_lines s last skip line cs ts some high low lines h
 layout_on_lines s last zero line (c ∷ cs) ts some high low lines h =
-    let fair = cut_fair line c cs in
+    let fair = segment_fair line c cs in
     let passed = fair.lines in
     let later = fair.later in
     let here = (line_count-cons c cs).1 in
-    go (put s (cut_at line c cs).lexeme line (cut_at line c cs).next)
-    (λ x e. put_on_lines s (cut_at line c cs).lexeme line (cut_at line c cs).next x low (omega (arith, lines, here)) (cut_fits line c cs low lines) e)
-    (λ after more e. layout_on_lines after last (cut_at line c cs).behind (cut_at line c cs).next cs more some high (omega (arith, low, later)) (omega (arith, passed, lines)) e)
+    go (put s (segment_at line c cs).lexeme line (segment_at line c cs).next)
+    (λ x e. put_on_lines s (segment_at line c cs).lexeme line (segment_at line c cs).next x low (omega (arith, lines, here)) (segment_fits line c cs low lines) e)
+    (λ after more e. layout_on_lines after last (segment_at line c cs).after (segment_at line c cs).next cs more some high (omega (arith, low, later)) (omega (arith, passed, lines)) e)
     h
   where
     go : (r : Result (List PToken × State) TokenError) → ((x : List PToken × State) → r ≡ the_step x → AreOnLines x.0)
-        → ((after : State) (more : List PToken) → layout after last (cuts (cut_at line c cs).behind (cut_at line c cs).next cs) ≡ the_list more → AreOnLines more)
-        → (r >>= λ here. layout here.1 last (cuts (cut_at line c cs).behind (cut_at line c cs).next cs) >>= λ more. Ok (here.0 ++ more)) ≡ the_list ts → AreOnLines ts
-    go (Ok x) first rest h = inner (layout x.1 last (cuts (cut_at line c cs).behind (cut_at line c cs).next cs)) (rest x.1) h
+        → ((after : State) (more : List PToken) → layout after last (segments (segment_at line c cs).after (segment_at line c cs).next cs) ≡ the_list more → AreOnLines more)
+        → (r >>= λ here. layout here.1 last (segments (segment_at line c cs).after (segment_at line c cs).next cs) >>= λ more. Ok (here.0 ++ more)) ≡ the_list ts → AreOnLines ts
+    go (Ok x) first rest h = inner (layout x.1 last (segments (segment_at line c cs).after (segment_at line c cs).next cs)) (rest x.1) h
       where
         inner : (r : Result (List PToken) TokenError) → ((more : List PToken) → r ≡ the_list more → AreOnLines more) → (r >>= λ more. Ok (x.0 ++ more)) ≡ the_list ts → AreOnLines ts
         inner (Ok more) rest h = subst AreOnLines (list_is (x.0 ++ more) ts h) (append_on_lines x.0 more (first x refl) (rest more refl))

@@ -11,10 +11,10 @@ pub mod PlainTokens
 pub mod FieldBodies
 pub mod FairTokens
 pub mod Reaches
-pub mod FieldBits
+pub mod FieldItems
 pub mod FStringBodies
 pub mod Reading
 pub mod OneSpelling
 pub mod LinesKept
 pub mod LayoutKept
-pub mod LongestPieces
+pub mod LongestSegments

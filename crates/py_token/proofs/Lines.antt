@@ -30,7 +30,7 @@ line_count-take (suc n) (c ∷ cs) = go (eqb c 10) (line_count-take n cs)
     go true h = omega arith
     go false h = omega arith
 
--- the characters behind marks are some of those behind the first
+-- the characters after marks are some of those after the first
 pub line_count-marks : (triple : Bool) (cs : List ℕ) → line_count (drop (cond triple 2 0) cs) ≤ line_count cs
 line_count-marks true cs = line_count-drop 2 cs
 line_count-marks false cs = omega arith

@@ -1,4 +1,4 @@
--- No rule of words, numbers, operators and comments takes a longer piece than the one that is cut.
+-- No rule of words, numbers, operators and comments takes a longer segment than the one that is cut.
 use Rattle.std.proofs.Common.{◌≡◌, ◌≤◌, ◌+◌, ℕ, zero, suc, Bool, true, false, cond, ◌&&◌, eqb, List, [], ◌∷◌, length, take, Option, Some, None, Result, Ok, Err, refl, sym, ap, subst, ◌∙◌, arith}
 use Rattle.std.specs.List.{list_all, prefix_len, take_while}
 use Rattle.std.specs.Char.{is_ascii_digit}
@@ -9,15 +9,15 @@ use Rattle.py_token.specs.declared.token.Mark.TheVariants as marks
 use Rattle.py_token.specs.Plain.{PKind, mark}
 use Rattle.py_token.specs.Source.{begins}
 use Rattle.py_token.specs.Strings.{◌>>=◌}
-use Rattle.py_token.proofs.FairTokens.{the_taken, taken_is}
+use Rattle.py_token.proofs.FairTokens.{the_match, match_is}
 use Rattle.std.proofs.lemmas.Bool.{eqb-true}
 use Rattle.py_token.specs.Words.{begins_name, in_name, word_kind}
 use Rattle.py_token.specs.Numbers.{in_number, number_of, kind_of_number}
 use Rattle.py_token.specs.Marks.{mark_of_one, mark_with_equal, mark_of_two, mark_of_three, sized, else_try, mark_at}
-use Rattle.py_token.specs.Rules.{Taken, is_quote, begins_quote, is_raw_prefix, string_at, raw_string, word_at, number_at, marked, plain_token}
+use Rattle.py_token.specs.Rules.{Match, is_quote, begins_quote, is_raw_prefix, string_at, raw_string, word_at, number_at, marked, plain_token}
 use Rattle.py_token.specs.Fields.{is_blank, is_format_prefix, fstring_at, token_at}
-use Rattle.py_token.specs.Cuts.{Cut, in_comment, token_cut, cut_at}
-use Rattle.py_token.specs.Longest.{mark_of_text, word, number, operator, note, IsTaken, NoneLonger}
+use Rattle.py_token.specs.Segments.{Segment, in_comment, token_segment, segment_at}
+use Rattle.py_token.specs.Longest.{mark_of_text, word, number, operator, note, IsMatch, NoneLonger}
 
 prefix_ge : (p : ℕ → Bool) (m : ℕ) (cs : List ℕ) → m ≤ length cs → list_all p (take m cs) ≡ true → m ≤ prefix_len p cs
 prefix_ge p zero cs le h = omega arith
@@ -41,12 +41,12 @@ none_before_quote (suc m) (c ∷ cs) h q le = absurd (go (in_name c) refl h)
     go true is h = quoted is q
     go false is h = cc
 
-abbrev Longer : ℕ → Cut → Type 0
-Longer m cut = IsTaken cut.lexeme → m ≤ cut.behind
+abbrev Longer : ℕ → Segment → Type 0
+Longer m segment = IsMatch segment.lexeme → m ≤ segment.after
 
-of_token : (m line : ℕ) (r : Result Taken TokenError) → ((t : Taken) → r ≡ Ok t → m ≤ t.behind) → Longer m (token_cut line r)
-of_token m line (Ok t) h taken = h t refl
-of_token m line (Err e) h taken = absurd taken
+of_token : (m line : ℕ) (r : Result Match TokenError) → ((t : Match) → r ≡ Ok t → m ≤ t.after) → Longer m (token_segment line r)
+of_token m line (Ok t) h matched = h t refl
+of_token m line (Err e) h matched = absurd matched
 
 record Plain (c : ℕ) : Type 0 where
   no_blank : is_blank c ≡ false
@@ -55,8 +55,8 @@ record Plain (c : ℕ) : Type 0 where
   no_slash : eqb c 92 ≡ false
 
 -- a place where a token begins
-at_token : (m line c : ℕ) (cs : List ℕ) → Plain c → Longer m (token_cut line (token_at line c cs)) → Longer m (cut_at line c cs)
-unfolding cut_at
+at_token : (m line c : ℕ) (cs : List ℕ) → Plain c → Longer m (token_segment line (token_at line c cs)) → Longer m (segment_at line c cs)
+unfolding segment_at
 at_token m line c cs p h = rw (p.no_blank, p.no_end, p.no_note, p.no_slash) h
 
 word_plain : (c : ℕ) → begins_name c ≡ true → Plain c
@@ -69,7 +69,7 @@ both : (a b : Bool) → a && b ≡ true → b ≡ true
 both true b h = h
 both false b h = absurd cc
 
-word_inside : (line c m : ℕ) (cs : List ℕ) → m ≤ length cs → begins_name c ≡ true → list_all in_name (take m cs) ≡ true → (t : Taken) → token_at line c cs ≡ the_taken t → m ≤ t.behind
+word_inside : (line c m : ℕ) (cs : List ℕ) → m ≤ length cs → begins_name c ≡ true → list_all in_name (take m cs) ≡ true → (t : Match) → token_at line c cs ≡ the_match t → m ≤ t.after
 unfolding token_at plain_token
 word_inside line c m cs le begins all t is = go (is_format_prefix c && begins_quote cs) (is_quote c) (is_raw_prefix c && begins_quote cs) (begins_name c) refl refl refl begins is
   where
@@ -77,14 +77,14 @@ word_inside line c m cs le begins all t is = go (is_format_prefix c && begins_qu
     quoted q = grind (arith, nat_tests)
 
     go : (f q r n : Bool) → is_format_prefix c && begins_quote cs ≡ f → is_quote c ≡ q → is_raw_prefix c && begins_quote cs ≡ r → n ≡ true
-        → cond f (fstring_at line cs) (cond q (string_at false line c cs) (cond r (raw_string line cs) (cond n (word_at line c cs) (cond (is_ascii_digit c) (number_at line c cs) (marked line (mark_at c cs)))))) ≡ the_taken t → m ≤ t.behind
+        → cond f (fstring_at line cs) (cond q (string_at false line c cs) (cond r (raw_string line cs) (cond n (word_at line c cs) (cond (is_ascii_digit c) (number_at line c cs) (marked line (mark_at c cs)))))) ≡ the_match t → m ≤ t.after
     go true q r n hf hq hr hn is = let none = none_before_quote m cs all (both (is_format_prefix c) (begins_quote cs) hf) le in omega (arith, none)
     go false true r n hf hq hr hn is = absurd (quoted hq)
     go false false true n hf hq hr hn is = let none = none_before_quote m cs all (both (is_raw_prefix c) (begins_quote cs) hr) le in omega (arith, none)
-    go false false false true hf hq hr hn is = let e = ap (λ (w : Taken). w.behind) (taken_is (record { kind = word_kind (c ∷ take_while in_name cs); behind = prefix_len in_name cs; next = line }) t is) in let g = prefix_ge in_name m cs le all in omega (arith, e, g)
+    go false false false true hf hq hr hn is = let e = ap (λ (w : Match). w.after) (match_is (record { kind = word_kind (c ∷ take_while in_name cs); after = prefix_len in_name cs; next = line }) t is) in let g = prefix_ge in_name m cs le all in omega (arith, e, g)
     go false false false false hf hq hr hn is = absurd cc
 
-number_inside : (line c m : ℕ) (cs : List ℕ) → m ≤ length cs → is_ascii_digit c ≡ true → list_all in_number (take m cs) ≡ true → (t : Taken) → token_at line c cs ≡ the_taken t → m ≤ t.behind
+number_inside : (line c m : ℕ) (cs : List ℕ) → m ≤ length cs → is_ascii_digit c ≡ true → list_all in_number (take m cs) ≡ true → (t : Match) → token_at line c cs ≡ the_match t → m ≤ t.after
 unfolding token_at plain_token
 number_inside line c m cs le digit all t is = go (is_format_prefix c) (is_quote c) (is_raw_prefix c) (begins_name c) (is_ascii_digit c) refl refl refl refl digit is
   where
@@ -100,17 +100,17 @@ number_inside line c m cs le digit all t is = go (is_format_prefix c) (is_quote 
     names : begins_name c ≡ true → ⊥
     names q = grind (arith, nat_tests)
 
-    taken : (r : Result PKind TokenError) → (r >>= λ k. the_taken (record { kind = k; behind = prefix_len in_number cs; next = line })) ≡ the_taken t → m ≤ t.behind
-    taken (Ok k) is = let e = ap (λ (w : Taken). w.behind) (taken_is (record { kind = k; behind = prefix_len in_number cs; next = line }) t is) in let g = prefix_ge in_number m cs le all in omega (arith, e, g)
-    taken (Err e) is = absurd cc
+    matched : (r : Result PKind TokenError) → (r >>= λ k. the_match (record { kind = k; after = prefix_len in_number cs; next = line })) ≡ the_match t → m ≤ t.after
+    matched (Ok k) is = let e = ap (λ (w : Match). w.after) (match_is (record { kind = k; after = prefix_len in_number cs; next = line }) t is) in let g = prefix_ge in_number m cs le all in omega (arith, e, g)
+    matched (Err e) is = absurd cc
 
     go : (f q r n d : Bool) → is_format_prefix c ≡ f → is_quote c ≡ q → is_raw_prefix c ≡ r → begins_name c ≡ n → d ≡ true
-        → cond (f && begins_quote cs) (fstring_at line cs) (cond q (string_at false line c cs) (cond (r && begins_quote cs) (raw_string line cs) (cond n (word_at line c cs) (cond d (number_at line c cs) (marked line (mark_at c cs)))))) ≡ the_taken t → m ≤ t.behind
+        → cond (f && begins_quote cs) (fstring_at line cs) (cond q (string_at false line c cs) (cond (r && begins_quote cs) (raw_string line cs) (cond n (word_at line c cs) (cond d (number_at line c cs) (marked line (mark_at c cs)))))) ≡ the_match t → m ≤ t.after
     go true q r n d hf hq hr hn hd is = absurd (formats hf)
     go false true r n d hf hq hr hn hd is = absurd (quoted hq)
     go false false true n d hf hq hr hn hd is = absurd (raws hr)
     go false false false true d hf hq hr hn hd is = absurd (names hn)
-    go false false false false true hf hq hr hn hd is = taken (kind_of_number line (number_of c (take_while in_number cs))) is
+    go false false false false true hf hq hr hn hd is = matched (kind_of_number line (number_of c (take_while in_number cs))) is
     go false false false false false hf hq hr hn hd is = absurd cc
 
 -- a character that begins an operator of more than one
@@ -162,46 +162,46 @@ operator_token : (line c : ℕ) (cs : List ℕ) → Operates c → token_at line
 unfolding token_at plain_token
 operator_token line c cs h = rw (h.no_format, h.no_quote, h.no_raw, h.no_word, h.no_digit) refl
 
-abbrev BehindLeast : ℕ → Option (Mark × ℕ) → Type 0
-BehindLeast m None = Unit {0}
-BehindLeast m (Some x) = m ≤ x.1
+abbrev AfterLeast : ℕ → Option (Mark × ℕ) → Type 0
+AfterLeast m None = Unit {0}
+AfterLeast m (Some x) = m ≤ x.1
 
-marked_least : (m line : ℕ) (o : Option (Mark × ℕ)) (t : Taken) → BehindLeast m o → marked line o ≡ the_taken t → m ≤ t.behind
+marked_least : (m line : ℕ) (o : Option (Mark × ℕ)) (t : Match) → AfterLeast m o → marked line o ≡ the_match t → m ≤ t.after
 marked_least m line None t h is = absurd cc
-marked_least m line (Some x) t h is = let e = ap (λ (w : Taken). w.behind) (taken_is (record { kind = mark x.0; behind = x.1; next = line }) t is) in omega (arith, h, e)
+marked_least m line (Some x) t h is = let e = ap (λ (w : Match). w.after) (match_is (record { kind = mark x.0; after = x.1; next = line }) t is) in omega (arith, h, e)
 
-two_least : (c d : ℕ) (cs : List ℕ) (k : Mark) → mark_of_two c d ≡ Some k → BehindLeast 1 (mark_at c (d ∷ cs))
+two_least : (c d : ℕ) (cs : List ℕ) (k : Mark) → mark_of_two c d ≡ Some k → AfterLeast 1 (mark_at c (d ∷ cs))
 unfolding mark_at
 two_least c d [] k is = rw is (omega arith)
 two_least c d (e ∷ cs) k is = go (mark_of_three c d e)
   where
-    go : (o : Option Mark) → BehindLeast 1 (else_try (sized 2 o) (else_try (sized 1 (mark_of_two c d)) (sized 0 (mark_of_one c))))
+    go : (o : Option Mark) → AfterLeast 1 (else_try (sized 2 o) (else_try (sized 1 (mark_of_two c d)) (sized 0 (mark_of_one c))))
     go (Some m) = omega arith
     go None = rw is (omega arith)
 
-three_least : (c d e : ℕ) (cs : List ℕ) (k : Mark) → mark_of_three c d e ≡ Some k → BehindLeast 2 (mark_at c (d ∷ e ∷ cs))
+three_least : (c d e : ℕ) (cs : List ℕ) (k : Mark) → mark_of_three c d e ≡ Some k → AfterLeast 2 (mark_at c (d ∷ e ∷ cs))
 unfolding mark_at
 three_least c d e cs k is = rw is (omega arith)
 
-operator_longest : (line c m : ℕ) (cs : List ℕ) (k : Mark) → m ≤ length cs → mark_of_text c (take m cs) ≡ Some k → Longer m (cut_at line c cs)
-operator_longest line c zero cs k le is taken = omega arith
-operator_longest line c (suc m) [] k le is taken = absurd (omega arith)
-operator_longest line c (suc zero) (d ∷ cs) k le is taken =
+operator_longest : (line c m : ℕ) (cs : List ℕ) (k : Mark) → m ≤ length cs → mark_of_text c (take m cs) ≡ Some k → Longer m (segment_at line c cs)
+operator_longest line c zero cs k le is matched = omega arith
+operator_longest line c (suc m) [] k le is matched = absurd (omega arith)
+operator_longest line c (suc zero) (d ∷ cs) k le is matched =
     let ops = two_operates c d k is in
-    at_token 1 line c (d ∷ cs) ops.plain (of_token 1 line (token_at line c (d ∷ cs)) (λ t e. marked_least 1 line (mark_at c (d ∷ cs)) t (two_least c d cs k is) (sym (operator_token line c (d ∷ cs) ops) ∙ e))) taken
-operator_longest line c (suc (suc m)) (d ∷ []) k le is taken = absurd (omega arith)
-operator_longest line c (suc (suc zero)) (d ∷ e ∷ cs) k le is taken =
+    at_token 1 line c (d ∷ cs) ops.plain (of_token 1 line (token_at line c (d ∷ cs)) (λ t e. marked_least 1 line (mark_at c (d ∷ cs)) t (two_least c d cs k is) (sym (operator_token line c (d ∷ cs) ops) ∙ e))) matched
+operator_longest line c (suc (suc m)) (d ∷ []) k le is matched = absurd (omega arith)
+operator_longest line c (suc (suc zero)) (d ∷ e ∷ cs) k le is matched =
     let ops = three_operates c d e k is in
-    at_token 2 line c (d ∷ e ∷ cs) ops.plain (of_token 2 line (token_at line c (d ∷ e ∷ cs)) (λ t f. marked_least 2 line (mark_at c (d ∷ e ∷ cs)) t (three_least c d e cs k is) (sym (operator_token line c (d ∷ e ∷ cs) ops) ∙ f))) taken
-operator_longest line c (suc (suc (suc m))) (d ∷ e ∷ []) k le is taken = absurd (omega arith)
-operator_longest line c (suc (suc (suc m))) (d ∷ e ∷ f ∷ cs) k le is taken = absurd cc
+    at_token 2 line c (d ∷ e ∷ cs) ops.plain (of_token 2 line (token_at line c (d ∷ e ∷ cs)) (λ t f. marked_least 2 line (mark_at c (d ∷ e ∷ cs)) t (three_least c d e cs k is) (sym (operator_token line c (d ∷ e ∷ cs) ops) ∙ f))) matched
+operator_longest line c (suc (suc (suc m))) (d ∷ e ∷ []) k le is matched = absurd (omega arith)
+operator_longest line c (suc (suc (suc m))) (d ∷ e ∷ f ∷ cs) k le is matched = absurd cc
 
-note_longest : (line c m : ℕ) (cs : List ℕ) → m ≤ length cs → c ≡ 35 → list_all in_comment (take m cs) ≡ true → Longer m (cut_at line c cs)
-unfolding cut_at
-note_longest line c m cs le is all = subst (λ x. Longer m (cut_at line x cs)) (sym is) (λ taken. prefix_ge in_comment m cs le all)
+note_longest : (line c m : ℕ) (cs : List ℕ) → m ≤ length cs → c ≡ 35 → list_all in_comment (take m cs) ≡ true → Longer m (segment_at line c cs)
+unfolding segment_at
+note_longest line c m cs le is all = subst (λ x. Longer m (segment_at line x cs)) (sym is) (λ matched. prefix_ge in_comment m cs le all)
 
 pub none_longer : NoneLonger
-none_longer word line c m cs le h taken = at_token m line c cs (word_plain c h.0) (of_token m line (token_at line c cs) (λ t e. word_inside line c m cs le h.0 h.1 t e)) taken
-none_longer number line c m cs le h taken = at_token m line c cs (digit_plain c h.0) (of_token m line (token_at line c cs) (λ t e. number_inside line c m cs le h.0 h.1 t e)) taken
-none_longer operator line c m cs le h taken = operator_longest line c m cs h.0 le h.1 taken
-none_longer note line c m cs le h taken = note_longest line c m cs le h.0 h.1 taken
+none_longer word line c m cs le h matched = at_token m line c cs (word_plain c h.0) (of_token m line (token_at line c cs) (λ t e. word_inside line c m cs le h.0 h.1 t e)) matched
+none_longer number line c m cs le h matched = at_token m line c cs (digit_plain c h.0) (of_token m line (token_at line c cs) (λ t e. number_inside line c m cs le h.0 h.1 t e)) matched
+none_longer operator line c m cs le h matched = operator_longest line c m cs h.0 le h.1 matched
+none_longer note line c m cs le h matched = note_longest line c m cs le h.0 h.1 matched

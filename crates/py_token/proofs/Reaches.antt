@@ -11,7 +11,7 @@ reach_within quote triple (c ∷ cs) = go (may_stand quote triple c cs) (reach_w
     go true h = omega arith
     go false h = omega arith
 
--- the end of the reach, as the number of characters that are left there, is known where it is not behind the place
+-- the end of the reach, as the number of characters that are left there, is known where it is not after the place
 unfoldable pub Known : ℕ → Bool → ℕ → List ℕ → Type 0
 Known quote triple limit cs = limit ≤ length cs → reach quote triple cs + limit ≡ length cs
 

@@ -1,11 +1,11 @@
--- From pieces to tokens: logical lines, brackets and indentation (The Python Language Reference, "Line structure").
+-- From segments to tokens: logical lines, brackets and indentation (The Python Language Reference, "Line structure").
 --     State, outermost                    where the reading of a text stands, and where it begins
 --     current, dedents .. line_begins     the indentation before the first token of a line
---     turned, spelled_at                  a token, and the brackets that are open
+--     changed, spelled_at                 a token, and the brackets that are open
 --     line_ends                           the end of a line
---     put                                 one piece
+--     put                                 one segment
 --     closing_tokens, ends                the end of a text
---     layout                              the tokens of all pieces
+--     layout                              the tokens of all segments
 use Rattle.std.specs.Prelude.{ℕ, zero, suc, Bool, true, false, ◌||◌, ◌&&◌, not, nat_eq, List, [], ◌∷◌, ◌++◌, length, Result, Ok, Err, if◌then◌else◌}
 use Rattle.std.specs.List.{starts_with}
 use Rattle.py_token.specs.declared.error.TokenError.{TokenError}
@@ -14,8 +14,8 @@ use Rattle.py_token.specs.Plain.{PKind, newline, indent, dedent, end, PToken, to
 use Rattle.py_token.specs.Words.{same_text}
 use Rattle.py_token.specs.Numbers.{is_empty}
 use Rattle.py_token.specs.Strings.{◌>>=◌}
-use Rattle.py_token.specs.Fields.{Turn, opening, shutting, neither, turn_of}
-use Rattle.py_token.specs.Cuts.{Lexeme, spelled, blank, comment, line_end, joined_end, stuck, Place}
+use Rattle.py_token.specs.Fields.{BracketChange, opening, shutting, neither, change_of}
+use Rattle.py_token.specs.Segments.{Lexeme, spelled, blank, comment, line_end, joined_end, stuck, Place}
 
 -- Where the reading of a text stands: the indentations that are open, the innermost first; the lines of the open brackets, the last one first;
 -- whether the logical line has a token; the blanks before its first one; and whether a backslash has ended them.
@@ -57,26 +57,26 @@ abbrev pub pops : List ℕ → List ℕ
 pops [] = []
 pops (line ∷ lines) = lines
 
--- the open brackets behind a token
-abbrev pub turned : Turn → ℕ → List ℕ → List ℕ
-turned opening line lines = line ∷ lines
-turned shutting line lines = pops lines
-turned neither line lines = lines
+-- the open brackets after a token
+abbrev pub changed : BracketChange → ℕ → List ℕ → List ℕ
+changed opening line lines = line ∷ lines
+changed shutting line lines = pops lines
+changed neither line lines = lines
 
 -- a `Newline`, where the line has a token
 abbrev pub newline_if : Bool → ℕ → List PToken
 newline_if true line = token newline line line ∷ []
 newline_if false line = []
 
--- a token, behind what its line begins with
+-- a token, after what its line begins with
 abbrev pub spelled_at : State → PKind → ℕ → ℕ → Result (List PToken × State) TokenError
-spelled_at s kind line next = line_begins s line >>= λ x. Ok (x.0 ++ token kind line next ∷ [], record x.1 { brackets = turned (turn_of kind) line x.1.brackets })
+spelled_at s kind line next = line_begins s line >>= λ x. Ok (x.0 ++ token kind line next ∷ [], record x.1 { brackets = changed (change_of kind) line x.1.brackets })
 
 -- lines are joined inside brackets
 abbrev pub line_ends : State → ℕ → Result (List PToken × State) TokenError
 line_ends s line = if is_empty s.brackets then Ok (newline_if s.begun line, record s { begun = false; blanks = []; settled = false }) else Ok ([], s)
 
--- what a piece gives, and the state behind it
+-- what a segment gives, and the state after it
 unfoldable pub put : State → Lexeme → ℕ → ℕ → Result (List PToken × State) TokenError
 put s (spelled kind) line next = spelled_at s kind line next
 put s (blank c) line next = Ok ([], if s.begun || s.settled then s else record s { blanks = s.blanks ++ c ∷ [] })
@@ -99,7 +99,7 @@ ends_with (line ∷ lines) s last = Err (OpenBracket line)
 abbrev pub ends : State → ℕ → Result (List PToken) TokenError
 ends s last = ends_with s.brackets s last
 
--- the tokens of pieces, from a state on
+-- the tokens of segments, from a state on
 unfoldable pub layout : State → ℕ → List Place → Result (List PToken) TokenError
 layout s last [] = ends s last
 layout s last (p ∷ ps) = put s p.lexeme p.line p.next >>= λ here. layout here.1 last ps >>= λ more. Ok (here.0 ++ more)

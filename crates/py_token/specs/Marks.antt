@@ -7,7 +7,7 @@ use Rattle.py_token.specs.declared.token.Mark.TheVariants as marks
 abbrev pub mark_of_three : ℕ → ℕ → ℕ → Option Mark
 mark_of_three c d e = if (c == 47) && (d == 47) && (e == 61) then Some marks.DoubleSlashEqual else None
 
--- a character with an equals sign behind it
+-- a character with an equals sign after it
 abbrev pub mark_with_equal : ℕ → Option Mark
 mark_with_equal c =
     if c == 61 then Some marks.EqualEqual
@@ -47,7 +47,7 @@ mark_of_one c =
     else (if c == 124 then Some marks.Bar
     else None)))))))))))))))))
 
--- a mark, and how many of its characters stand behind the first
+-- a mark, and how many of its characters stand after the first
 abbrev pub sized : ℕ → Option Mark → Option (Mark × ℕ)
 sized n None = None
 sized n (Some m) = Some (m, n)

@@ -6,7 +6,7 @@ use Rattle.py_token.specs.declared.error.TokenError.TheVariants.{BadCharacter, W
 use Rattle.py_token.specs.Plain.{PKind, int}
 use Rattle.py_token.specs.Words.{in_name}
 
--- what stands in a number or directly behind one
+-- what stands in a number or directly after one
 abbrev pub in_number : ℕ → Bool
 in_number c = in_name c || (c == 46)
 
@@ -19,7 +19,7 @@ abbrev pub begins_digit : ℕ → List ℕ → Bool
 begins_digit base [] = false
 begins_digit base (c ∷ cs) = is_digit_of base c
 
--- a digit of a base, or an underscore with a digit directly behind it
+-- a digit of a base, or an underscore with a digit directly after it
 abbrev pub is_digit_here : ℕ → ℕ → List ℕ → Bool
 is_digit_here base c cs = if c == 95 then begins_digit base cs else is_digit_of base c
 
@@ -38,7 +38,7 @@ abbrev pub is_empty : List ℕ → Bool
 is_empty [] = true
 is_empty (c ∷ cs) = false
 
--- the digits behind a prefix
+-- the digits after a prefix
 abbrev pub prefixed : ℕ → List ℕ → Option ℕ
 prefixed base ds = if not (is_empty ds) && are_digits base ds then Some (digits_value base 0 ds) else None
 
@@ -46,7 +46,7 @@ prefixed base ds = if not (is_empty ds) && are_digits base ds then Some (digits_
 abbrev pub decimal : ℕ → List ℕ → Option ℕ
 decimal c cs = if are_digits 10 (c ∷ cs) && (not (c == 48) || (digits_value 10 0 (c ∷ cs) == 0)) then Some (digits_value 10 0 (c ∷ cs)) else None
 
--- the base that a letter behind a 0 names
+-- the base that a letter after a 0 names
 abbrev pub base_named : ℕ → Option ℕ
 base_named c = if (c == 120) || (c == 88) then Some 16 else (if (c == 111) || (c == 79) then Some 8 else (if (c == 98) || (c == 66) then Some 2 else None))
 

@@ -11,10 +11,10 @@ use Rattle.py_token.specs.Numbers.{in_number, number_of, kind_of_number}
 use Rattle.py_token.specs.Marks.{mark_at}
 use Rattle.py_token.specs.Strings.{◌>>=◌, doubled, Body, text_body}
 
--- a token's kind, how many of its characters stand behind the first, and the line where it ends
-pub record Taken : Type 0 where
+-- a token's kind, how many of its characters stand after the first, and the line where it ends
+pub record Match : Type 0 where
   pub kind : PKind
-  pub behind : ℕ
+  pub after : ℕ
   pub next : ℕ
 
 -- `'` or `"`
@@ -36,37 +36,37 @@ joined [] = []
 joined (xs ∷ xss) = xs ++ joined xss
 
 -- a string is one token
-abbrev pub taken_text : List ℕ → Result (Body (List ℕ)) TokenError → Result Taken TokenError
-taken_text cs body = body >>= λ b. Ok (record { kind = str (joined b.values); behind = length cs - length b.rest; next = b.next })
+abbrev pub match_text : List ℕ → Result (Body (List ℕ)) TokenError → Result Match TokenError
+match_text cs body = body >>= λ b. Ok (record { kind = str (joined b.values); after = length cs - length b.rest; next = b.next })
 
--- a string, with these characters behind its first quote; three quotes open a string in three
-abbrev pub string_at : Bool → ℕ → ℕ → List ℕ → Result Taken TokenError
-string_at raw line quote cs = if doubled quote cs then taken_text cs (text_body raw quote true line (drop 2 cs)) else taken_text cs (text_body raw quote false line cs)
+-- a string, with these characters after its first quote; three quotes open a string in three
+abbrev pub string_at : Bool → ℕ → ℕ → List ℕ → Result Match TokenError
+string_at raw line quote cs = if doubled quote cs then match_text cs (text_body raw quote true line (drop 2 cs)) else match_text cs (text_body raw quote false line cs)
 
 -- a token with one character more in front
-abbrev pub behind_prefix : Result Taken TokenError → Result Taken TokenError
-behind_prefix taken = taken >>= λ t. Ok (record t { behind = t.behind + 1 })
+abbrev pub after_prefix : Result Match TokenError → Result Match TokenError
+after_prefix matched = matched >>= λ t. Ok (record t { after = t.after + 1 })
 
--- a raw string, with these characters behind its prefix
-abbrev pub raw_string : ℕ → List ℕ → Result Taken TokenError
+-- a raw string, with these characters after its prefix
+abbrev pub raw_string : ℕ → List ℕ → Result Match TokenError
 raw_string line [] = Err (BadCharacter line)
-raw_string line (quote ∷ cs) = behind_prefix (string_at true line quote cs)
+raw_string line (quote ∷ cs) = after_prefix (string_at true line quote cs)
 
 -- the word at the front
-abbrev pub word_at : ℕ → ℕ → List ℕ → Result Taken TokenError
-word_at line c cs = Ok (record { kind = word_kind (c ∷ take_while in_name cs); behind = prefix_len in_name cs; next = line })
+abbrev pub word_at : ℕ → ℕ → List ℕ → Result Match TokenError
+word_at line c cs = Ok (record { kind = word_kind (c ∷ take_while in_name cs); after = prefix_len in_name cs; next = line })
 
 -- the number at the front
-abbrev pub number_at : ℕ → ℕ → List ℕ → Result Taken TokenError
-number_at line c cs = kind_of_number line (number_of c (take_while in_number cs)) >>= λ k. Ok (record { kind = k; behind = prefix_len in_number cs; next = line })
+abbrev pub number_at : ℕ → ℕ → List ℕ → Result Match TokenError
+number_at line c cs = kind_of_number line (number_of c (take_while in_number cs)) >>= λ k. Ok (record { kind = k; after = prefix_len in_number cs; next = line })
 
 -- a mark, or a character that no rule takes
-abbrev pub marked : ℕ → Option (Mark × ℕ) → Result Taken TokenError
+abbrev pub marked : ℕ → Option (Mark × ℕ) → Result Match TokenError
 marked line None = Err (BadCharacter line)
-marked line (Some m) = Ok (record { kind = mark m.0; behind = m.1; next = line })
+marked line (Some m) = Ok (record { kind = mark m.0; after = m.1; next = line })
 
 -- the longest token at the front
-unfoldable pub plain_token : ℕ → ℕ → List ℕ → Result Taken TokenError
+unfoldable pub plain_token : ℕ → ℕ → List ℕ → Result Match TokenError
 plain_token line c cs =
     if is_quote c then string_at false line c cs
     else (if is_raw_prefix c && begins_quote cs then raw_string line cs

@@ -3,12 +3,12 @@ use Rattle.std.specs.Prelude.{◌≡◌, ℕ, List, Result, Ok, Err}
 use Rattle.py_token.specs.declared.error.TokenError.{TokenError}
 use Rattle.py_token.specs.Source.{source_text, last_line}
 use Rattle.py_token.specs.Plain.{PToken}
-use Rattle.py_token.specs.Cuts.{cuts}
+use Rattle.py_token.specs.Segments.{segments}
 use Rattle.py_token.specs.Layout.{outermost, layout}
 
 -- the tokens of characters without a mark at their start and with plain line ends
 unfoldable pub spelling : List ℕ → Result (List PToken) TokenError
-spelling cs = layout outermost (last_line cs) (cuts 0 1 cs)
+spelling cs = layout outermost (last_line cs) (segments 0 1 cs)
 
 -- the text spells these tokens
 unfoldable pub Spells : List ℕ → List PToken → Type 0

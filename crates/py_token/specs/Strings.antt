@@ -1,10 +1,10 @@
 -- Strings (The Python Language Reference, "String and Bytes literals").
---     ◌>>=◌                                    what goes on where there is no fault
---     Bit                                      what stands at a place in a string
---     doubled, closes                          quotes
---     escaped .. escape_bit                    escapes
---     raw_bit, text_bit                        a place of a raw string and of any string
---     Body, body_of, text_body                 a string behind its opening marks
+--     ◌>>=◌                        what goes on where there is no fault
+--     StringItem                   what stands at a place in a string
+--     doubled, closes              quotes
+--     escaped .. escape_item       escapes
+--     raw_item, text_item          a place of a raw string and of any string
+--     Body, body_of, text_body     a string after its opening marks
 use Rattle.std.specs.Prelude.{ℕ, zero, suc, ◌+◌, Bool, false, ◌||◌, ◌&&◌, not, ◌==◌, nat_lt, List, [], ◌∷◌, length, take, drop, Option, Some, None, Result, Ok, Err, if◌then◌else◌}
 use Rattle.std.specs.List.{list_all, prefix_len}
 use Rattle.py_token.specs.declared.error.TokenError.{TokenError}
@@ -18,12 +18,12 @@ abbrev pub ◌>>=◌ : {A B : Type 0} → Result A TokenError → (A → Result 
 (Ok x) >>= f = f x
 (Err e) >>= f = Err e
 
--- A bit of a string is what stands at a place in it: something that the string holds, with the number of characters behind the first and the line behind it;
+-- An item of a string is what stands at a place in it: something that the string holds, with the number of characters after the first and the line after it;
 -- the closing marks; or a fault.
-pub data Bit (A : Type 0) : Type 0 where
-  holds : (value : A) (behind next : ℕ) → Bit A
-  closing : (behind : ℕ) → Bit A
-  fault : (error : TokenError) → Bit A
+pub data StringItem (A : Type 0) : Type 0 where
+  holds : (value : A) (after next : ℕ) → StringItem A
+  closing : (after : ℕ) → StringItem A
+  fault : (error : TokenError) → StringItem A
 
 -- two more of a quote
 abbrev pub doubled : ℕ → List ℕ → Bool
@@ -34,7 +34,7 @@ doubled quote (c ∷ cs) = (c == quote) && begins quote cs
 abbrev pub closes : ℕ → Bool → ℕ → List ℕ → Bool
 closes quote triple c cs = (c == quote) && (not triple || doubled quote cs)
 
--- the character that a letter or a mark behind a backslash stands for
+-- the character that a letter or a mark after a backslash stands for
 abbrev pub escaped : ℕ → Option ℕ
 escaped c =
     if (c == 92) || (c == 39) || (c == 34) then Some c
@@ -47,7 +47,7 @@ escaped c =
     else (if c == 118 then Some 11
     else None)))))))
 
--- how many hexadecimal digits a letter behind a backslash asks for
+-- how many hexadecimal digits a letter after a backslash asks for
 abbrev pub digits_asked : ℕ → Option ℕ
 digits_asked c = if c == 120 then Some 2 else (if c == 117 then Some 4 else (if c == 85 then Some 8 else None))
 
@@ -55,9 +55,9 @@ digits_asked c = if c == 120 then Some 2 else (if c == 117 then Some 4 else (if 
 abbrev pub is_character : ℕ → Bool
 is_character n = nat_lt n 0xD800 || (nat_lt 0xDFFF n && nat_lt n 0x110000)
 
--- so many hexadecimal digits behind the letter
-unfoldable pub hex_bit : ℕ → ℕ → List ℕ → Bit (List ℕ)
-hex_bit line n cs =
+-- so many hexadecimal digits after the letter
+unfoldable pub hex_item : ℕ → ℕ → List ℕ → StringItem (List ℕ)
+hex_item line n cs =
     if (length (take n cs) == n) && list_all (is_digit_of 16) (take n cs) && is_character (digits_value 16 0 (take n cs))
     then holds (digits_value 16 0 (take n cs) ∷ []) (n + 1) line
     else fault (BadCharacter line)
@@ -67,46 +67,46 @@ abbrev pub octal_len : List ℕ → ℕ
 octal_len cs = prefix_len (is_digit_of 8) (take 3 cs)
 
 -- so many octal digits are one character
-unfoldable pub octal_bit : ℕ → List ℕ → Bit (List ℕ)
-octal_bit line cs = holds (digits_value 8 0 (take (octal_len cs) cs) ∷ []) (octal_len cs) line
+unfoldable pub octal_item : ℕ → List ℕ → StringItem (List ℕ)
+octal_item line cs = holds (digits_value 8 0 (take (octal_len cs) cs) ∷ []) (octal_len cs) line
 
 -- any other backslash stays as it is
-abbrev pub other_bit : ℕ → ℕ → Bit (List ℕ)
-other_bit line d = if d == 78 then fault (BadCharacter line) else holds (92 ∷ []) 0 line
+abbrev pub other_item : ℕ → ℕ → StringItem (List ℕ)
+other_item line d = if d == 78 then fault (BadCharacter line) else holds (92 ∷ []) 0 line
 
 -- hexadecimal digits where a letter asks for them
-abbrev pub hex_or : Option ℕ → ℕ → ℕ → List ℕ → Bit (List ℕ)
-hex_or (Some n) line d ds = hex_bit line n ds
-hex_or None line d ds = other_bit line d
+abbrev pub hex_or : Option ℕ → ℕ → ℕ → List ℕ → StringItem (List ℕ)
+hex_or (Some n) line d ds = hex_item line n ds
+hex_or None line d ds = other_item line d
 
 -- the character of an escape, or else digits
-abbrev pub escaped_or : Option ℕ → ℕ → ℕ → List ℕ → Bit (List ℕ)
+abbrev pub escaped_or : Option ℕ → ℕ → ℕ → List ℕ → StringItem (List ℕ)
 escaped_or (Some c) line d ds = holds (c ∷ []) 1 line
-escaped_or None line d ds = if is_digit_of 8 d then octal_bit line (d ∷ ds) else hex_or (digits_asked d) line d ds
+escaped_or None line d ds = if is_digit_of 8 d then octal_item line (d ∷ ds) else hex_or (digits_asked d) line d ds
 
--- a backslash, with these characters behind it
-abbrev pub escape_bit : ℕ → List ℕ → Bit (List ℕ)
-escape_bit line [] = holds (92 ∷ []) 0 line
-escape_bit line (d ∷ ds) = if d == 10 then holds [] 1 (line + 1) else escaped_or (escaped d) line d ds
+-- a backslash, with these characters after it
+abbrev pub escape_item : ℕ → List ℕ → StringItem (List ℕ)
+escape_item line [] = holds (92 ∷ []) 0 line
+escape_item line (d ∷ ds) = if d == 10 then holds [] 1 (line + 1) else escaped_or (escaped d) line d ds
 
--- in a raw string a backslash and the character behind it both stay
-abbrev pub raw_bit : ℕ → List ℕ → Bit (List ℕ)
-raw_bit line [] = holds (92 ∷ []) 0 line
-raw_bit line (d ∷ ds) =
+-- in a raw string a backslash and the character after it both stay
+abbrev pub raw_item : ℕ → List ℕ → StringItem (List ℕ)
+raw_item line [] = holds (92 ∷ []) 0 line
+raw_item line (d ∷ ds) =
     if d == 10 then holds (92 ∷ 10 ∷ []) 1 (line + 1)
     else (if d == 13 then holds (92 ∷ []) 0 line
     else holds (92 ∷ d ∷ []) 1 line)
 
--- a bit of a string that begins on the line `first`; a string in single marks ends on its line
-unfoldable pub text_bit : Bool → ℕ → Bool → ℕ → ℕ → ℕ → List ℕ → Bit (List ℕ)
-text_bit raw quote triple first line c cs =
+-- an item of a string that begins on the line `first`; a string in single marks ends on its line
+unfoldable pub text_item : Bool → ℕ → Bool → ℕ → ℕ → ℕ → List ℕ → StringItem (List ℕ)
+text_item raw quote triple first line c cs =
     if closes quote triple c cs then closing (if triple then 2 else 0)
     else (if c == 13 then fault (BadCharacter line)
     else (if c == 10 then (if triple then holds (10 ∷ []) 0 (line + 1) else fault (OpenString first))
-    else (if c == 92 then (if raw then raw_bit line cs else escape_bit line cs)
+    else (if c == 92 then (if raw then raw_item line cs else escape_item line cs)
     else holds (c ∷ []) 0 line)))
 
--- what a string holds, the characters behind its closing marks, and the line where it ends
+-- what a string holds, the characters after its closing marks, and the line where it ends
 pub record Body (A : Type 0) : Type 0 where
   pub values : List A
   pub rest : List ℕ
@@ -116,30 +116,30 @@ pub record Body (A : Type 0) : Type 0 where
 abbrev pub more_of : {A : Type 0} → A → Result (Body A) TokenError → Result (Body A) TokenError
 more_of x body = body >>= λ b. Ok (record b { values = x ∷ b.values })
 
--- how many of its characters stand behind the first
-abbrev pub behind_of : {A : Type 0} → Bit A → ℕ
-behind_of (holds x behind next) = behind
-behind_of (closing behind) = behind
-behind_of (fault e) = 0
+-- how many of its characters stand after the first
+abbrev pub after_of : {A : Type 0} → StringItem A → ℕ
+after_of (holds x after next) = after
+after_of (closing after) = after
+after_of (fault e) = 0
 
--- the line behind it
-abbrev pub next_of : {A : Type 0} → Bit A → ℕ → ℕ
-next_of (holds x behind next) line = next
-next_of (closing behind) line = line
+-- the line after it
+abbrev pub next_of : {A : Type 0} → StringItem A → ℕ → ℕ
+next_of (holds x after next) line = next
+next_of (closing after) line = line
 next_of (fault e) line = line
 
--- a bit, and then the others of the string
-abbrev pub with_bit : {A : Type 0} → Bit A → ℕ → List ℕ → Result (Body A) TokenError → Result (Body A) TokenError
-with_bit (holds x behind next) line cs body = more_of x body
-with_bit (closing behind) line cs body = Ok (record { values = []; rest = drop behind cs; next = line })
-with_bit (fault e) line cs body = Err e
+-- an item, and then the others of the string
+abbrev pub with_item : {A : Type 0} → StringItem A → ℕ → List ℕ → Result (Body A) TokenError → Result (Body A) TokenError
+with_item (holds x after next) line cs body = more_of x body
+with_item (closing after) line cs body = Ok (record { values = []; rest = drop after cs; next = line })
+with_item (fault e) line cs body = Err e
 
--- The bits of a string behind its opening marks, up to the closing ones. The first characters are passed over.
-unfoldable pub body_of : {A : Type 0} → (ℕ → ℕ → List ℕ → Bit A) → ℕ → ℕ → ℕ → List ℕ → Result (Body A) TokenError
-body_of bit first skip line [] = Err (OpenString first)
-body_of bit first (suc skip) line (c ∷ cs) = body_of bit first skip line cs
-body_of bit first zero line (c ∷ cs) = with_bit (bit line c cs) line cs (body_of bit first (behind_of (bit line c cs)) (next_of (bit line c cs) line) cs)
+-- The items of a string after its opening marks, up to the closing ones. The first characters are passed over.
+unfoldable pub body_of : {A : Type 0} → (ℕ → ℕ → List ℕ → StringItem A) → ℕ → ℕ → ℕ → List ℕ → Result (Body A) TokenError
+body_of item first skip line [] = Err (OpenString first)
+body_of item first (suc skip) line (c ∷ cs) = body_of item first skip line cs
+body_of item first zero line (c ∷ cs) = with_item (item line c cs) line cs (body_of item first (after_of (item line c cs)) (next_of (item line c cs) line) cs)
 
--- a string behind its opening marks
+-- a string after its opening marks
 unfoldable pub text_body : Bool → ℕ → Bool → ℕ → List ℕ → Result (Body (List ℕ)) TokenError
-text_body raw quote triple first cs = body_of (text_bit raw quote triple first) first 0 first cs
+text_body raw quote triple first cs = body_of (text_item raw quote triple first) first 0 first cs

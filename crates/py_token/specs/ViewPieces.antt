@@ -5,17 +5,17 @@ use Rattle.py_token.specs.declared.error.TokenError.TheVariants.{BadCharacter, N
 use Rattle.py_token.specs.declared.fstrings.FStringBody.{FStringBody}
 use Rattle.py_token.specs.Source.{begins}
 use Rattle.py_token.specs.Plain.{PToken, PTokens, PPiece, chars, field}
-use Rattle.py_token.specs.Strings.{◌>>=◌, Bit, holds, fault, Body}
+use Rattle.py_token.specs.Strings.{◌>>=◌, StringItem, holds, fault, Body}
 use Rattle.py_token.specs.Fields.{reach, limit_fault, field_tokens, normal, token_at}
-use Rattle.py_token.specs.Rules.{Taken}
+use Rattle.py_token.specs.Rules.{Match}
 use Rattle.py_token.specs.View.{view_pieces}
-use Rattle.py_token.specs.Held.{tokens_of}
+use Rattle.py_token.specs.ViewMatch.{tokens_of}
 
 -- whether a `{` opens a field here
 abbrev pub opens_field : ℕ → List ℕ → Bool
 opens_field c cs = (c == 123) && not (begins 123 cs)
 
--- the tokens of a field, with these characters behind its `{`, and how many characters of its reach are left
+-- the tokens of a field, with these characters after its `{`, and how many characters of its reach are left
 abbrev pub field_at : ℕ → Bool → ℕ → ℕ → List ℕ → Result (List PToken × ℕ) TokenError
 field_at quote triple first line cs = tokens_of (field_tokens (limit_fault triple first line (drop (reach quote triple cs) cs)) line 0 0 (take (reach quote triple cs) cs))
 
@@ -24,13 +24,13 @@ abbrev pub ended : List ℕ → List PPiece
 ended [] = []
 ended (c ∷ cs) = chars (c ∷ cs) ∷ []
 
--- the bit is a field, which is added behind the characters that were held
-abbrev pub PushesField : Result ℕ TokenError → Bit PPiece → ℕ → List ℕ → List PPiece → List PPiece → Type 0
-PushesField (Ok n) bit line held old new = (ts : PTokens) × (bit ≡ holds (field ts) n line) × (new ≡ old ++ (ended held ++ field ts ∷ []))
-PushesField (Err NoMemory) bit line held old new = Unit {0}
-PushesField (Err e) bit line held old new = bit ≡ fault e
+-- the item is a field, which is added after the characters that were held
+abbrev pub PushesField : Result ℕ TokenError → StringItem PPiece → ℕ → List ℕ → List PPiece → List PPiece → Type 0
+PushesField (Ok n) item line held old new = (ts : PTokens) × (item ≡ holds (field ts) n line) × (new ≡ old ++ (ended held ++ field ts ∷ []))
+PushesField (Err NoMemory) item line held old new = Unit {0}
+PushesField (Err e) item line held old new = item ≡ fault e
 
--- the pieces of an f-string, how many characters are left behind it, and the line where it ends
+-- the pieces of an f-string, how many characters are left after it, and the line where it ends
 abbrev pub pieces_of : Result (Body PPiece) TokenError → Result (List PPiece × ℕ × ℕ) TokenError
 pieces_of body = body >>= λ b. Ok (normal b.values, length b.rest, b.next)
 
@@ -39,6 +39,6 @@ abbrev pub view_fstring : FStringBody → List PPiece × ℕ × ℕ
 view_fstring b = (view_pieces b.pieces.items, b.left, b.next)
 
 -- the token at the front of a text
-abbrev pub token_at_of : ℕ → List ℕ → Result Taken TokenError
+abbrev pub token_at_of : ℕ → List ℕ → Result Match TokenError
 token_at_of line [] = Err (BadCharacter line)
 token_at_of line (c ∷ cs) = token_at line c cs

@@ -14,8 +14,8 @@ pub fn split_first(chars: &[char]) -> Option<(char, &[char])>
     Some((chars[0], &chars[1..]))
 }
 
-/// The characters behind the first `n`.
-pub fn behind(chars: &[char], n: usize) -> &[char]
+/// The characters after the first `n`.
+pub fn after(chars: &[char], n: usize) -> &[char]
     requires { n ≤ length chars.now }
     ensures { result.now ≡ drop n chars.now }
 {

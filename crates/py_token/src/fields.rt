@@ -3,14 +3,14 @@
 ghost use Rattle.std.specs.Prelude.{◌≡◌, ◌==◌, ◌&&◌, ◌≤◌, ◌<◌, ◌+◌, ◌^◌, length};
 ghost use Rattle.py_token.specs.Source.{line_count};
 ghost use Rattle.py_token.specs.View.{view_kind};
-ghost use Rattle.py_token.specs.Fields.{is_blank, is_format_prefix, may_stand, reach, turn_of, turn_of_mark, field_tokens, field_fault, limit_fault, depth_after};
-ghost use Rattle.py_token.specs.Held.{view_taken, view_turn, field_token_of, tokens_of, view_field};
+ghost use Rattle.py_token.specs.Fields.{is_blank, is_format_prefix, may_stand, reach, change_of, change_of_mark, field_tokens, field_fault, limit_fault, depth_after};
+ghost use Rattle.py_token.specs.ViewMatch.{view_match, view_change, field_token_of, tokens_of, view_field};
 ghost use Rattle.py_token.specs.Answers.{Gives};
 
-use crate::characters::{behind, split_first};
+use crate::characters::{after, split_first};
 use crate::error::TokenError;
 use crate::lists::push_token;
-use crate::plain::{Taken, begins_quote, plain_token};
+use crate::plain::{Match, begins_quote, plain_token};
 use crate::strings::{Opening, closes};
 use crate::token::{Mark, Token, TokenKind};
 use std::alloc::Global;
@@ -75,63 +75,63 @@ fn field_fault(limit: TokenError, error: TokenError) -> TokenError
 
 /// What a token does to the brackets that are open.
 #[derive(Clone, Copy)]
-pub enum Turn {
+pub enum BracketChange {
     Opening,
     Shutting,
     Neither,
 }
 
-fn turn_of_mark(mark: Mark) -> Turn
-    ensures { view_turn result ≡ turn_of_mark mark }
+fn change_of_mark(mark: Mark) -> BracketChange
+    ensures { view_change result ≡ change_of_mark mark }
 {
     match mark {
-        Mark::LeftParen | Mark::LeftBracket | Mark::LeftBrace => Turn::Opening,
-        Mark::RightParen | Mark::RightBracket | Mark::RightBrace => Turn::Shutting,
-        _ => Turn::Neither,
+        Mark::LeftParen | Mark::LeftBracket | Mark::LeftBrace => BracketChange::Opening,
+        Mark::RightParen | Mark::RightBracket | Mark::RightBrace => BracketChange::Shutting,
+        _ => BracketChange::Neither,
     }
 }
 
-pub fn turn_of(kind: &TokenKind) -> Turn
-    ensures { view_turn result ≡ turn_of (view_kind kind.now) }
+pub fn change_of(kind: &TokenKind) -> BracketChange
+    ensures { view_change result ≡ change_of (view_kind kind.now) }
 {
     match kind {
-        TokenKind::Mark(mark) => turn_of_mark(*mark),
-        _ => Turn::Neither,
+        TokenKind::Mark(mark) => change_of_mark(*mark),
+        _ => BracketChange::Neither,
     }
 }
 
 /// The token at the front of a field, where no other f-string can stand.
-fn field_token(alloc: Global, line: u32, chars: &[char]) -> Result<Taken, TokenError>
+fn field_token(alloc: Global, line: u32, chars: &[char]) -> Result<Match, TokenError>
     requires some { 0 < length chars.now }
     requires lines { line + line_count chars.now ≤ 65536 }
-    ensures { Gives view_taken result (field_token_of line chars.now) }
+    ensures { Gives view_match result (field_token_of line chars.now) }
 {
-    if is_format_prefix(chars[0]) && begins_quote(behind(chars, 1)) {
+    if is_format_prefix(chars[0]) && begins_quote(after(chars, 1)) {
         return Err(TokenError::BadCharacter(line));
     }
     plain_token(alloc, line, chars)
 }
 
-/// The tokens of a field, and how many characters are left behind its `}`.
+/// The tokens of a field, and how many characters are left after its `}`.
 #[derive(Drop)]
 pub struct FieldBody {
     pub tokens: Vec<Token>,
     pub left: usize,
 }
 
-fn depth_after(turn: Turn, depth: usize) -> usize
+fn depth_after(change: BracketChange, depth: usize) -> usize
     requires { depth < 2 ^ 63 }
-    ensures { result ≡ depth_after (view_turn turn) depth }
+    ensures { result ≡ depth_after (view_change change) depth }
 {
-    match turn {
-        Turn::Opening => depth + 1,
-        Turn::Shutting => {
+    match change {
+        BracketChange::Opening => depth + 1,
+        BracketChange::Shutting => {
             if depth == 0 {
                 return 0;
             }
             depth - 1
         }
-        Turn::Neither => depth,
+        BracketChange::Neither => depth,
     }
 }
 
@@ -169,10 +169,10 @@ pub fn field_tokens(
         }
         match field_token(alloc, line, rest) {
             Err(error) => return Err(field_fault(limit, error)),
-            Ok(taken) => {
-                depth = depth_after(turn_of(&taken.kind), depth);
-                rest = behind(others, taken.behind);
-                push_token(&mut tokens, taken.kind, line, line)?;
+            Ok(matched) => {
+                depth = depth_after(change_of(&matched.kind), depth);
+                rest = after(others, matched.after);
+                push_token(&mut tokens, matched.kind, line, line)?;
             }
         }
     }

@@ -1,19 +1,19 @@
-// F-strings behind their opening marks.
+// F-strings after their opening marks.
 
 ghost use Rattle.std.specs.Prelude.{◌≡◌, ◌≤◌, ◌<◌, ◌+◌, ◌^◌, ◌++◌, ◌∷◌, [], length, false, OnOk};
 ghost use Rattle.py_token.specs.Source.{line_count};
-ghost use Rattle.py_token.specs.Fields.{reach, chars_bit, field_bit, fstring_bit, fstring_body, fstring_at};
-ghost use Rattle.py_token.specs.Bits.{bit_of};
+ghost use Rattle.py_token.specs.Fields.{reach, chars_item, field_item, fstring_item, fstring_body, fstring_at};
+ghost use Rattle.py_token.specs.StringItems.{item_of};
 ghost use Rattle.py_token.specs.View.{view_piece, view_pieces};
-ghost use Rattle.py_token.specs.Held.{view_taken, view_field};
-ghost use Rattle.py_token.specs.HeldPieces.{opens_field, field_at, ended, PushesField, pieces_of, view_fstring, token_at_of};
+ghost use Rattle.py_token.specs.ViewMatch.{view_match, view_field};
+ghost use Rattle.py_token.specs.ViewPieces.{opens_field, field_at, ended, PushesField, pieces_of, view_fstring, token_at_of};
 ghost use Rattle.py_token.specs.Answers.{Gives};
 
-use crate::characters::{begins, behind, doubled, front, split_first};
+use crate::characters::{after, begins, doubled, front, split_first};
 use crate::error::TokenError;
 use crate::fields::{FieldBody, field_tokens, is_format_prefix, limit_fault, reach};
-use crate::plain::{Taken, begins_quote, plain_token};
-use crate::strings::{Bit, Opening, Shown, behind_marks, push_shown, text_bit};
+use crate::plain::{Match, begins_quote, plain_token};
+use crate::strings::{Denoted, Opening, StringItem, after_marks, push_denoted, text_item};
 use crate::token::{Piece, TokenKind};
 use py_value::Text;
 use std::alloc::{AllocError, Global};
@@ -27,23 +27,28 @@ fn opens_field(c: char, others: &[char]) -> bool
 }
 
 /// What stands at a place of an f-string where no field opens.
-#[tactic(auto, unfolding(crate::specs::Fields::fstring_bit))]
-fn piece_bit(opening: Opening, line: u32, c: char, others: &[char]) -> Result<Bit, TokenError>
+#[tactic(auto, unfolding(crate::specs::Fields::fstring_item))]
+fn piece_item(
+    opening: Opening,
+    line: u32,
+    c: char,
+    others: &[char],
+) -> Result<StringItem, TokenError>
     requires on_a_line { line < 65536 }
     requires not_raw { opening.raw ≡ false }
     requires no_field { false ≡ opens_field c others.now }
-    ensures { chars_bit (bit_of result) ≡ fstring_bit opening.quote opening.triple opening.line line c others.now }
+    ensures { chars_item (item_of result) ≡ fstring_item opening.quote opening.triple opening.line line c others.now }
 {
     if c == '{' {
-        return Ok(Bit::Holds(Shown::One('{'), 1, line));
+        return Ok(StringItem::Holds(Denoted::One('{'), 1, line));
     }
     if c == '}' {
         if begins('}', others) {
-            return Ok(Bit::Holds(Shown::One('}'), 1, line));
+            return Ok(StringItem::Holds(Denoted::One('}'), 1, line));
         }
         return Err(TokenError::BadCharacter(line));
     }
-    text_bit(opening, line, c, others)
+    text_item(opening, line, c, others)
 }
 
 /// How many characters are left at the end of a field's reach. It is known from an earlier field where the reach goes
@@ -58,7 +63,7 @@ fn limit_at(opening: Opening, limit: usize, others: &[char]) -> usize
     others.len() - reach(opening, others)
 }
 
-/// A field with a reach of `n` characters behind its `{`.
+/// A field with a reach of `n` characters after its `{`.
 fn field_at(
     alloc: Global,
     opening: Opening,
@@ -71,7 +76,7 @@ fn field_at(
     requires few { length others.now < 2 ^ 63 }
     ensures { Gives view_field result (field_at opening.quote opening.triple opening.line line others.now) }
 {
-    let limit = limit_fault(opening, line, behind(others, n));
+    let limit = limit_fault(opening, line, after(others, n));
     field_tokens(alloc, limit, line, front(others, n))
 }
 
@@ -92,8 +97,8 @@ fn push_piece(pieces: &mut Vec<Piece>, piece: Piece) -> Result<(), AllocError>
     Ok(())
 }
 
-/// A field with a reach of `n` characters, behind the characters that were held. Answers how many characters it has
-/// behind its `{`.
+/// A field with a reach of `n` characters, after the characters that were held. Answers how many characters it has
+/// after its `{`.
 fn push_field(
     alloc: Global,
     pieces: &mut Vec<Piece>,
@@ -106,7 +111,7 @@ fn push_field(
     requires reached { n ≡ reach opening.quote opening.triple others.now }
     requires lines { line + line_count others.now ≤ 65536 }
     requires few { length others.now < 2 ^ 63 }
-    ensures { PushesField result (field_bit opening.quote opening.triple opening.line line others.now) line held (view_pieces pieces.old.items) (view_pieces pieces.new.items) }
+    ensures { PushesField result (field_item opening.quote opening.triple opening.line line others.now) line held (view_pieces pieces.old.items) (view_pieces pieces.new.items) }
 {
     let field = field_at(alloc, opening, line, others, n)?;
     let left = field.left;
@@ -115,7 +120,7 @@ fn push_field(
     Ok(n - left)
 }
 
-/// An f-string behind its opening marks: its pieces, how many characters are left behind its closing marks, and the
+/// An f-string after its opening marks: its pieces, how many characters are left after its closing marks, and the
 /// line where it ends.
 #[derive(Drop)]
 pub struct FStringBody {
@@ -139,7 +144,7 @@ pub fn fstring_body(
     let mut line = opening.line;
     let mut rest = chars;
     let mut limit = usize::MAX;
-    'bits: while let Some((c, others)) = split_first(rest) {
+    'string_items: while let Some((c, others)) = split_first(rest) {
         if opens_field(c, others) {
             limit = limit_at(opening, limit, others);
             let ended = mem::replace(&mut held, Text::new(alloc));
@@ -152,11 +157,11 @@ pub fn fstring_body(
                 others,
                 others.len() - limit,
             )?;
-            rest = behind(others, n);
+            rest = after(others, n);
             continue;
         }
-        match piece_bit(opening, line, c, others)? {
-            Bit::Closing(n) => {
+        match piece_item(opening, line, c, others)? {
+            StringItem::Closing(n) => {
                 let left = others.len() - n;
                 end_chars(&mut pieces, held)?;
                 return Ok(FStringBody {
@@ -165,21 +170,21 @@ pub fn fstring_body(
                     next: line,
                 });
             }
-            Bit::Holds(shown, n, next) => {
-                push_shown(&mut held, shown)?;
+            StringItem::Holds(denoted, n, next) => {
+                push_denoted(&mut held, denoted)?;
                 line = next;
-                rest = behind(others, n);
+                rest = after(others, n);
             }
         }
     }
     Err(TokenError::OpenString(opening.line))
 }
 
-/// An f-string, with these characters behind its prefix.
-fn fstring_at(alloc: Global, line: u32, others: &[char]) -> Result<Taken, TokenError>
+/// An f-string, with these characters after its prefix.
+fn fstring_at(alloc: Global, line: u32, others: &[char]) -> Result<Match, TokenError>
     requires lines { line + line_count others.now ≤ 65536 }
     requires few { length others.now < 2 ^ 63 }
-    ensures { Gives view_taken result (fstring_at line others.now) }
+    ensures { Gives view_match result (fstring_at line others.now) }
 {
     let Some((quote, rest)) = split_first(others) else {
         return Err(TokenError::BadCharacter(line));
@@ -191,24 +196,24 @@ fn fstring_at(alloc: Global, line: u32, others: &[char]) -> Result<Taken, TokenE
         triple,
         line,
     };
-    let text = behind_marks(triple, rest);
+    let text = after_marks(triple, rest);
     let body = fstring_body(alloc, opening, text)?;
-    Ok(Taken {
+    Ok(Match {
         kind: TokenKind::FString(body.pieces),
-        behind: rest.len() - body.left + 1,
+        after: rest.len() - body.left + 1,
         next: body.next,
     })
 }
 
 /// The token at the front of a text.
 #[tactic(auto, unfolding(crate::specs::Fields::token_at))]
-pub fn token_at(alloc: Global, line: u32, chars: &[char]) -> Result<Taken, TokenError>
+pub fn token_at(alloc: Global, line: u32, chars: &[char]) -> Result<Match, TokenError>
     requires some { 0 < length chars.now }
     requires lines { line + line_count chars.now ≤ 65536 }
     requires few { length chars.now < 2 ^ 63 }
-    ensures { Gives view_taken result (token_at_of line chars.now) }
+    ensures { Gives view_match result (token_at_of line chars.now) }
 {
-    let others = behind(chars, 1);
+    let others = after(chars, 1);
     if is_format_prefix(chars[0]) && begins_quote(others) {
         return fstring_at(alloc, line, others);
     }

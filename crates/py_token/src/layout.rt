@@ -1,17 +1,17 @@
-// From pieces to tokens: logical lines, brackets and indentation.
+// From segments to tokens: logical lines, brackets and indentation.
 
 ghost use Rattle.std.specs.Prelude.{◌≡◌, ◌++◌, OnOk};
 ghost use Rattle.py_token.specs.Words.{same_text};
 ghost use Rattle.py_token.specs.View.{view_kind, view_tokens};
-ghost use Rattle.py_token.specs.Layout.{is_within, current, dedents, block_tokens, line_begins, turned, spelled_at, line_ends, put, closing_tokens};
-ghost use Rattle.py_token.specs.HeldLayout.{Adds, stack_of, view_state, ended};
-ghost use Rattle.py_token.specs.Held.{view_turn};
-ghost use Rattle.py_token.specs.HeldCuts.{view_lexeme};
+ghost use Rattle.py_token.specs.Layout.{is_within, current, dedents, block_tokens, line_begins, changed, spelled_at, line_ends, put, closing_tokens};
+ghost use Rattle.py_token.specs.ViewLayout.{Adds, stack_of, view_state, ended};
+ghost use Rattle.py_token.specs.ViewMatch.{view_change};
+ghost use Rattle.py_token.specs.ViewSegments.{view_lexeme};
 
 use crate::error::TokenError;
-use crate::fields::{Turn, turn_of};
+use crate::fields::{BracketChange, change_of};
 use crate::lists::push_token;
-use crate::pieces::Lexeme;
+use crate::segments::Lexeme;
 use crate::token::{Token, TokenKind};
 use std::alloc::{AllocError, Global};
 
@@ -130,7 +130,7 @@ fn begin(
     Ok(())
 }
 
-/// A token, behind what its line begins with.
+/// A token, after what its line begins with.
 fn add(
     alloc: Global,
     state: &mut State,
@@ -142,26 +142,26 @@ fn add(
     ensures { Adds (spelled_at (view_state state.old) (view_kind kind) line next) result (view_state state.new) (view_tokens tokens.old.items) (view_tokens tokens.new.items) }
 {
     begin(alloc, state, tokens, line)?;
-    let turn = turn_of(&kind);
+    let change = change_of(&kind);
     push_token(tokens, kind, line, next)?;
-    turn_brackets(state, turn, line)?;
+    change_brackets(state, change, line)?;
     Ok(())
 }
 
 /// Opens or shuts a bracket.
-fn turn_brackets(state: &mut State, turn: Turn, line: u32) -> Result<(), AllocError>
-    ensures { OnOk result (view_state state.new ≡ record (view_state state.old) { brackets = turned (view_turn turn) line (view_state state.old).brackets }) }
+fn change_brackets(state: &mut State, change: BracketChange, line: u32) -> Result<(), AllocError>
+    ensures { OnOk result (view_state state.new ≡ record (view_state state.old) { brackets = changed (view_change change) line (view_state state.old).brackets }) }
 {
-    match turn {
-        Turn::Opening => {
+    match change {
+        BracketChange::Opening => {
             state.brackets.push(line)?;
             Ok(())
         }
-        Turn::Shutting => {
+        BracketChange::Shutting => {
             state.brackets.pop();
             Ok(())
         }
-        Turn::Neither => Ok(()),
+        BracketChange::Neither => Ok(()),
     }
 }
 
@@ -181,7 +181,7 @@ fn end_line(state: &mut State, tokens: &mut Vec<Token>, line: u32) -> Result<(),
     Ok(())
 }
 
-/// Takes the next piece.
+/// Takes the next segment.
 #[tactic(auto, unfolding(crate::specs::Layout::put))]
 pub fn put(
     alloc: Global,

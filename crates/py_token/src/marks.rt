@@ -15,7 +15,7 @@ fn mark_of_three(c: char, d: char, e: char) -> Option<Mark>
     None
 }
 
-/// The mark that a character spells with an equals sign behind it.
+/// The mark that a character spells with an equals sign after it.
 fn mark_with_equal(c: char) -> Option<Mark>
     ensures { result ≡ mark_with_equal c }
 {
@@ -70,12 +70,12 @@ fn mark_of_one(c: char) -> Option<Mark>
     }
 }
 
-/// The longest mark at the front, and how many of its characters stand behind the first.
+/// The longest mark at the front, and how many of its characters stand after the first.
 #[tactic(auto, unfolding(crate::specs::Marks::mark_at))]
-pub fn mark_at(c: char, behind: &[char]) -> Option<(Mark, usize)>
-    ensures { result ≡ mark_at c behind.now }
+pub fn mark_at(c: char, after: &[char]) -> Option<(Mark, usize)>
+    ensures { result ≡ mark_at c after.now }
 {
-    if let Some((d, others)) = split_first(behind) {
+    if let Some((d, others)) = split_first(after) {
         if let Some((e, _)) = split_first(others) {
             if let Some(mark) = mark_of_three(c, d, e) {
                 return Some((mark, 2));

@@ -55,11 +55,11 @@ fn begins_digit(base: u32, chars: &[char]) -> bool
     }
 }
 
-fn is_digit_here(base: u32, c: char, behind: &[char]) -> bool
-    ensures { result ≡ is_digit_here base c behind.now }
+fn is_digit_here(base: u32, c: char, after: &[char]) -> bool
+    ensures { result ≡ is_digit_here base c after.now }
 {
     if c == '_' {
-        return begins_digit(base, behind);
+        return begins_digit(base, after);
     }
     is_digit_of(base, c)
 }
@@ -69,11 +69,11 @@ fn are_digits(base: u32, chars: &[char]) -> bool
     ensures { result ≡ are_digits base chars.now }
 {
     let mut rest = chars;
-    'digits: while let Some((c, behind)) = split_first(rest) {
-        if !is_digit_here(base, c, behind) {
+    'digits: while let Some((c, after)) = split_first(rest) {
+        if !is_digit_here(base, c, after) {
             return false;
         }
-        rest = behind;
+        rest = after;
     }
     true
 }
@@ -86,11 +86,11 @@ pub fn digits_value(base: u32, chars: &[char]) -> u64
 {
     let mut value: u64 = 0;
     let mut rest = chars;
-    'digits: while let Some((c, behind)) = split_first(rest) {
+    'digits: while let Some((c, after)) = split_first(rest) {
         if c != '_' {
             value = more_value(base, value, c);
         }
-        rest = behind;
+        rest = after;
     }
     value
 }
@@ -106,7 +106,7 @@ fn more_value(base: u32, value: u64, c: char) -> u64
         .min(LIMIT)
 }
 
-/// The number that digits behind a prefix spell.
+/// The number that digits after a prefix spell.
 fn prefixed(base: u32, chars: &[char]) -> Option<u64>
     requires { 2 ≤ base }
     ensures { result ≡ capped (prefixed base chars.now) }
@@ -132,7 +132,7 @@ fn decimal(chars: &[char]) -> Option<u64>
     Some(value)
 }
 
-/// The base that a letter behind a 0 names.
+/// The base that a letter after a 0 names.
 fn base_named(c: char) -> Option<u32>
     ensures named { result ≡ base_named c }
     ensures least { IfSome result (λ base. 2 ≤ base) }

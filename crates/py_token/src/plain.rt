@@ -4,23 +4,23 @@ ghost use Rattle.std.specs.Prelude.{◌≡◌, ◌≤◌, ◌<◌, ◌+◌, leng
 ghost use Rattle.py_token.specs.Source.{line_count};
 ghost use Rattle.py_token.specs.Rules.{is_quote, begins_quote, is_raw_prefix, string_at, raw_string, marked};
 ghost use Rattle.py_token.specs.Marks.{mark_at};
-ghost use Rattle.py_token.specs.Held.{view_taken, word_text, number_text_at, plain_token_of};
+ghost use Rattle.py_token.specs.ViewMatch.{view_match, word_text, number_text_at, plain_token_of};
 ghost use Rattle.py_token.specs.Answers.{Gives};
 
-use crate::characters::{behind, doubled, front, split_first};
+use crate::characters::{after, doubled, front, split_first};
 use crate::error::TokenError;
 use crate::marks::mark_at;
 use crate::numbers::{number_kind, number_len};
-use crate::strings::{Opening, behind_marks, text_body};
+use crate::strings::{Opening, after_marks, text_body};
 use crate::token::TokenKind;
 use crate::words::{begins_name, name_len, word_kind};
 use std::alloc::Global;
 
-/// A token's kind, how many of its characters stand behind the first, and the line where it ends.
+/// A token's kind, how many of its characters stand after the first, and the line where it ends.
 #[derive(Drop)]
-pub struct Taken {
+pub struct Match {
     pub kind: TokenKind,
-    pub behind: usize,
+    pub after: usize,
     pub next: u32,
 }
 
@@ -45,16 +45,16 @@ fn is_raw_prefix(c: char) -> bool
     c == 'r' || c == 'R'
 }
 
-/// A string, with these characters behind its first quote.
+/// A string, with these characters after its first quote.
 fn string_at(
     alloc: Global,
     raw: bool,
     line: u32,
     quote: char,
     others: &[char],
-) -> Result<Taken, TokenError>
+) -> Result<Match, TokenError>
     requires { line + line_count others.now ≤ 65536 }
-    ensures { Gives view_taken result (string_at raw line quote others.now) }
+    ensures { Gives view_match result (string_at raw line quote others.now) }
 {
     let triple = doubled(quote, others);
     let opening = Opening {
@@ -63,66 +63,66 @@ fn string_at(
         triple,
         line,
     };
-    let text = behind_marks(triple, others);
+    let text = after_marks(triple, others);
     let body = text_body(alloc, opening, text)?;
-    Ok(Taken {
+    Ok(Match {
         kind: TokenKind::Str(body.text),
-        behind: others.len() - body.left,
+        after: others.len() - body.left,
         next: body.next,
     })
 }
 
-/// A raw string, with these characters behind its prefix.
-fn raw_string(alloc: Global, line: u32, others: &[char]) -> Result<Taken, TokenError>
+/// A raw string, with these characters after its prefix.
+fn raw_string(alloc: Global, line: u32, others: &[char]) -> Result<Match, TokenError>
     requires { line + line_count others.now ≤ 65536 }
-    ensures { Gives view_taken result (raw_string line others.now) }
+    ensures { Gives view_match result (raw_string line others.now) }
 {
     let Some((quote, rest)) = split_first(others) else {
         return Err(TokenError::BadCharacter(line));
     };
-    let taken = string_at(alloc, true, line, quote, rest)?;
-    Ok(Taken {
-        kind: taken.kind,
-        behind: taken.behind + 1,
-        next: taken.next,
+    let matched = string_at(alloc, true, line, quote, rest)?;
+    Ok(Match {
+        kind: matched.kind,
+        after: matched.after + 1,
+        next: matched.next,
     })
 }
 
 /// The word at the front.
-fn word_at(alloc: Global, line: u32, chars: &[char]) -> Result<Taken, TokenError>
+fn word_at(alloc: Global, line: u32, chars: &[char]) -> Result<Match, TokenError>
     requires { 0 < length chars.now }
-    ensures { Gives view_taken result (word_text line chars.now) }
+    ensures { Gives view_match result (word_text line chars.now) }
 {
-    let len = name_len(behind(chars, 1));
+    let len = name_len(after(chars, 1));
     let kind = word_kind(alloc, front(chars, len + 1))?;
-    Ok(Taken {
+    Ok(Match {
         kind,
-        behind: len,
+        after: len,
         next: line,
     })
 }
 
 /// The number at the front.
-fn number_at(line: u32, chars: &[char]) -> Result<Taken, TokenError>
+fn number_at(line: u32, chars: &[char]) -> Result<Match, TokenError>
     requires { 0 < length chars.now }
-    ensures { Gives view_taken result (number_text_at line chars.now) }
+    ensures { Gives view_match result (number_text_at line chars.now) }
 {
-    let len = number_len(behind(chars, 1));
+    let len = number_len(after(chars, 1));
     let kind = number_kind(front(chars, len + 1), line)?;
-    Ok(Taken {
+    Ok(Match {
         kind,
-        behind: len,
+        after: len,
         next: line,
     })
 }
 
-fn marked(line: u32, c: char, others: &[char]) -> Result<Taken, TokenError>
-    ensures { Gives view_taken result (marked line (mark_at c others.now)) }
+fn marked(line: u32, c: char, others: &[char]) -> Result<Match, TokenError>
+    ensures { Gives view_match result (marked line (mark_at c others.now)) }
 {
     match mark_at(c, others) {
-        Some((mark, behind)) => Ok(Taken {
+        Some((mark, after)) => Ok(Match {
             kind: TokenKind::Mark(mark),
-            behind,
+            after,
             next: line,
         }),
         None => Err(TokenError::BadCharacter(line)),
@@ -131,13 +131,13 @@ fn marked(line: u32, c: char, others: &[char]) -> Result<Taken, TokenError>
 
 /// The longest token at the front.
 #[tactic(auto, unfolding(crate::specs::Rules::plain_token))]
-pub fn plain_token(alloc: Global, line: u32, chars: &[char]) -> Result<Taken, TokenError>
+pub fn plain_token(alloc: Global, line: u32, chars: &[char]) -> Result<Match, TokenError>
     requires some { 0 < length chars.now }
     requires lines { line + line_count chars.now ≤ 65536 }
-    ensures { Gives view_taken result (plain_token_of line chars.now) }
+    ensures { Gives view_match result (plain_token_of line chars.now) }
 {
     let c = chars[0];
-    let others = behind(chars, 1);
+    let others = after(chars, 1);
     if is_quote(c) {
         return string_at(alloc, false, line, c, others);
     }

@@ -1,13 +1,13 @@
-// The pieces that a text is cut into.
+// The segments that a text is cut into.
 
 ghost use Rattle.std.specs.Prelude.{◌≡◌, ◌≤◌, ◌<◌, ◌+◌, ◌^◌, length};
 ghost use Rattle.std.specs.List.{prefix_len};
 ghost use Rattle.py_token.specs.Source.{line_count};
-ghost use Rattle.py_token.specs.Cuts.{in_comment};
-ghost use Rattle.py_token.specs.HeldCuts.{cut_of, token_cut_of, view_cut};
+ghost use Rattle.py_token.specs.Segments.{in_comment};
+ghost use Rattle.py_token.specs.ViewSegments.{segment_of, token_segment_of, view_segment};
 ghost use Rattle.py_token.specs.Answers.{Gives};
 
-use crate::characters::{begins, behind};
+use crate::characters::{after, begins};
 use crate::error::TokenError;
 use crate::fields::is_blank;
 use crate::fstrings::token_at;
@@ -25,11 +25,11 @@ pub enum Lexeme {
     Stuck(TokenError),
 }
 
-/// A piece, how many of its characters stand behind the first, and the line behind it.
+/// A segment, how many of its characters stand after the first, and the line after it.
 #[derive(Drop)]
-pub struct Cut {
+pub struct Segment {
     pub lexeme: Lexeme,
-    pub behind: usize,
+    pub after: usize,
     pub next: u32,
 }
 
@@ -43,64 +43,64 @@ fn comment_len(chars: &[char]) -> usize
 }
 
 /// The token at the front, or the fault of the place where no rule takes one.
-fn token_cut(alloc: Global, line: u32, chars: &[char]) -> Result<Cut, TokenError>
+fn token_segment(alloc: Global, line: u32, chars: &[char]) -> Result<Segment, TokenError>
     requires some { 0 < length chars.now }
     requires lines { line + line_count chars.now ≤ 65536 }
     requires few { length chars.now < 2 ^ 63 }
-    ensures { Gives view_cut result (token_cut_of line chars.now) }
+    ensures { Gives view_segment result (token_segment_of line chars.now) }
 {
     match token_at(alloc, line, chars) {
-        Ok(taken) => Ok(Cut {
-            lexeme: Lexeme::Spelled(taken.kind),
-            behind: taken.behind,
-            next: taken.next,
+        Ok(matched) => Ok(Segment {
+            lexeme: Lexeme::Spelled(matched.kind),
+            after: matched.after,
+            next: matched.next,
         }),
         Err(TokenError::NoMemory) => Err(TokenError::NoMemory),
-        Err(error) => Ok(Cut {
+        Err(error) => Ok(Segment {
             lexeme: Lexeme::Stuck(error),
-            behind: 0,
+            after: 0,
             next: line,
         }),
     }
 }
 
-/// The longest piece at the front.
-#[tactic(auto, unfolding(crate::specs::Cuts::cut_at))]
-pub fn cut_front(alloc: Global, line: u32, chars: &[char]) -> Result<Cut, TokenError>
+/// The longest segment at the front.
+#[tactic(auto, unfolding(crate::specs::Segments::segment_at))]
+pub fn front_segment(alloc: Global, line: u32, chars: &[char]) -> Result<Segment, TokenError>
     requires some { 0 < length chars.now }
     requires lines { line + line_count chars.now ≤ 65536 }
     requires few { length chars.now < 2 ^ 63 }
-    ensures { Gives view_cut result (cut_of line chars.now) }
+    ensures { Gives view_segment result (segment_of line chars.now) }
 {
     let c = chars[0];
-    let others = behind(chars, 1);
+    let others = after(chars, 1);
     if is_blank(c) {
-        return Ok(Cut {
+        return Ok(Segment {
             lexeme: Lexeme::Blank(c),
-            behind: 0,
+            after: 0,
             next: line,
         });
     }
     if c == '\n' {
-        return Ok(Cut {
+        return Ok(Segment {
             lexeme: Lexeme::LineEnd,
-            behind: 0,
+            after: 0,
             next: line + 1,
         });
     }
     if c == '#' {
-        return Ok(Cut {
+        return Ok(Segment {
             lexeme: Lexeme::Comment,
-            behind: comment_len(others),
+            after: comment_len(others),
             next: line,
         });
     }
     if c == '\\' && begins('\n', others) {
-        return Ok(Cut {
+        return Ok(Segment {
             lexeme: Lexeme::JoinedEnd,
-            behind: 1,
+            after: 1,
             next: line + 1,
         });
     }
-    token_cut(alloc, line, chars)
+    token_segment(alloc, line, chars)
 }

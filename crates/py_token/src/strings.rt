@@ -1,14 +1,14 @@
-// Strings behind their opening marks.
+// Strings after their opening marks.
 
 ghost use Rattle.std.specs.Prelude.{◌≡◌, ◌≤◌, ◌<◌, ◌+◌, ◌++◌, length, drop, if◌then◌else◌, IsTrue, OnOk, SomeIff, true};
 ghost use Rattle.std.specs.List.{list_all};
 ghost use Rattle.py_token.specs.Numbers.{is_digit_of};
 ghost use Rattle.py_token.specs.Source.{line_count};
-ghost use Rattle.py_token.specs.Strings.{closes, escaped, digits_asked, is_character, hex_bit, octal_len, octal_bit, escape_bit, raw_bit, text_bit, text_body};
-ghost use Rattle.py_token.specs.Bits.{shown_text, bit_of, text_of, view_text};
+ghost use Rattle.py_token.specs.Strings.{closes, escaped, digits_asked, is_character, hex_item, octal_len, octal_item, escape_item, raw_item, text_item, text_body};
+ghost use Rattle.py_token.specs.StringItems.{denoted_text, item_of, text_of, view_text};
 ghost use Rattle.py_token.specs.Answers.{Gives};
 
-use crate::characters::{behind, doubled, split_first};
+use crate::characters::{after, doubled, split_first};
 use crate::error::TokenError;
 use crate::numbers::{digits_value, is_digit_of};
 use py_value::{NoMemory, Text};
@@ -23,18 +23,18 @@ pub struct Opening {
     pub line: u32,
 }
 
-/// The characters that a bit of a string stands for.
+/// The characters that an item of a string stands for.
 #[derive(Clone, Copy)]
-pub enum Shown {
+pub enum Denoted {
     Nothing,
     One(char),
     Two(char, char),
 }
 
-/// What stands at a place in a string, with the number of characters behind the first.
+/// What stands at a place in a string, with the number of characters after the first.
 #[derive(Clone, Copy)]
-pub enum Bit {
-    Holds(Shown, usize, u32),
+pub enum StringItem {
+    Holds(Denoted, usize, u32),
     Closing(usize),
 }
 
@@ -45,15 +45,15 @@ pub fn closes(opening: Opening, c: char, others: &[char]) -> bool
     c == opening.quote && (!opening.triple || doubled(opening.quote, others))
 }
 
-/// The characters behind marks, with these behind the first quote.
-pub fn behind_marks(triple: bool, others: &[char]) -> &[char]
+/// The characters after marks, with these after the first quote.
+pub fn after_marks(triple: bool, others: &[char]) -> &[char]
     requires { IsTrue triple → 2 ≤ length others.now }
     ensures { result.now ≡ drop (if triple then 2 else 0) others.now }
 {
-    if triple { behind(others, 2) } else { others }
+    if triple { after(others, 2) } else { others }
 }
 
-/// The character that a letter or a mark behind a backslash stands for.
+/// The character that a letter or a mark after a backslash stands for.
 fn escaped(c: char) -> Option<char>
     ensures { result ≡ escaped c }
 {
@@ -70,7 +70,7 @@ fn escaped(c: char) -> Option<char>
     }
 }
 
-/// How many hexadecimal digits a letter behind a backslash asks for.
+/// How many hexadecimal digits a letter after a backslash asks for.
 fn digits_asked(c: char) -> Option<usize>
     ensures { result ≡ digits_asked c }
 {
@@ -98,11 +98,11 @@ fn are_hexadecimal(digits: &[char]) -> bool
     digits.iter().all(|c| is_digit_of(16, *c))
 }
 
-/// So many hexadecimal digits behind the letter of an escape.
-#[tactic(auto, unfolding(crate::specs::Strings::hex_bit))]
-fn hex_bit(line: u32, n: usize, chars: &[char]) -> Result<Bit, TokenError>
+/// So many hexadecimal digits after the letter of an escape.
+#[tactic(auto, unfolding(crate::specs::Strings::hex_item))]
+fn hex_item(line: u32, n: usize, chars: &[char]) -> Result<StringItem, TokenError>
     requires { n < 16 }
-    ensures { bit_of result ≡ hex_bit line n chars.now }
+    ensures { item_of result ≡ hex_item line n chars.now }
 {
     if chars.len() < n {
         return Err(TokenError::BadCharacter(line));
@@ -112,7 +112,7 @@ fn hex_bit(line: u32, n: usize, chars: &[char]) -> Result<Bit, TokenError>
         return Err(TokenError::BadCharacter(line));
     }
     match character(digits_value(16, digits)) {
-        Some(c) => Ok(Bit::Holds(Shown::One(c), n + 1, line)),
+        Some(c) => Ok(StringItem::Holds(Denoted::One(c), n + 1, line)),
         None => Err(TokenError::BadCharacter(line)),
     }
 }
@@ -129,97 +129,102 @@ fn octal_len(chars: &[char]) -> usize
 }
 
 /// One to three octal digits.
-#[tactic(auto, unfolding(crate::specs::Strings::octal_bit))]
-fn octal_bit(line: u32, chars: &[char]) -> Result<Bit, TokenError>
-    ensures { bit_of result ≡ octal_bit line chars.now }
+#[tactic(auto, unfolding(crate::specs::Strings::octal_item))]
+fn octal_item(line: u32, chars: &[char]) -> Result<StringItem, TokenError>
+    ensures { item_of result ≡ octal_item line chars.now }
 {
     let n = octal_len(chars);
     match character(digits_value(8, &chars[..n])) {
-        Some(c) => Ok(Bit::Holds(Shown::One(c), n, line)),
+        Some(c) => Ok(StringItem::Holds(Denoted::One(c), n, line)),
         None => Err(TokenError::BadCharacter(line)),
     }
 }
 
-/// A backslash, with these characters behind it.
-fn escape_bit(line: u32, chars: &[char]) -> Result<Bit, TokenError>
+/// A backslash, with these characters after it.
+fn escape_item(line: u32, chars: &[char]) -> Result<StringItem, TokenError>
     requires { line < 65536 }
-    ensures { bit_of result ≡ escape_bit line chars.now }
+    ensures { item_of result ≡ escape_item line chars.now }
 {
     let Some((d, others)) = split_first(chars) else {
-        return Ok(Bit::Holds(Shown::One('\\'), 0, line));
+        return Ok(StringItem::Holds(Denoted::One('\\'), 0, line));
     };
     if d == '\n' {
-        return Ok(Bit::Holds(Shown::Nothing, 1, line + 1));
+        return Ok(StringItem::Holds(Denoted::Nothing, 1, line + 1));
     }
     if let Some(c) = escaped(d) {
-        return Ok(Bit::Holds(Shown::One(c), 1, line));
+        return Ok(StringItem::Holds(Denoted::One(c), 1, line));
     }
     if is_digit_of(8, d) {
-        return octal_bit(line, chars);
+        return octal_item(line, chars);
     }
     if let Some(n) = digits_asked(d) {
-        return hex_bit(line, n, others);
+        return hex_item(line, n, others);
     }
     if d == 'N' {
         return Err(TokenError::BadCharacter(line));
     }
-    Ok(Bit::Holds(Shown::One('\\'), 0, line))
+    Ok(StringItem::Holds(Denoted::One('\\'), 0, line))
 }
 
-/// A backslash in a raw string, with these characters behind it.
-fn raw_bit(line: u32, chars: &[char]) -> Result<Bit, TokenError>
+/// A backslash in a raw string, with these characters after it.
+fn raw_item(line: u32, chars: &[char]) -> Result<StringItem, TokenError>
     requires { line < 65536 }
-    ensures { bit_of result ≡ raw_bit line chars.now }
+    ensures { item_of result ≡ raw_item line chars.now }
 {
     match split_first(chars) {
-        None => Ok(Bit::Holds(Shown::One('\\'), 0, line)),
-        Some(('\n', _)) => Ok(Bit::Holds(Shown::Two('\\', '\n'), 1, line + 1)),
-        Some(('\r', _)) => Ok(Bit::Holds(Shown::One('\\'), 0, line)),
-        Some((d, _)) => Ok(Bit::Holds(Shown::Two('\\', d), 1, line)),
+        None => Ok(StringItem::Holds(Denoted::One('\\'), 0, line)),
+        Some(('\n', _)) => Ok(StringItem::Holds(Denoted::Two('\\', '\n'), 1, line + 1)),
+        Some(('\r', _)) => Ok(StringItem::Holds(Denoted::One('\\'), 0, line)),
+        Some((d, _)) => Ok(StringItem::Holds(Denoted::Two('\\', d), 1, line)),
     }
 }
 
 /// What stands at a place in a string, where the marks don't.
-#[tactic(auto, unfolding(crate::specs::Strings::text_bit))]
-pub fn text_bit(opening: Opening, line: u32, c: char, others: &[char]) -> Result<Bit, TokenError>
+#[tactic(auto, unfolding(crate::specs::Strings::text_item))]
+pub fn text_item(
+    opening: Opening,
+    line: u32,
+    c: char,
+    others: &[char],
+) -> Result<StringItem, TokenError>
     requires { line < 65536 }
-    ensures { bit_of result ≡ text_bit opening.raw opening.quote opening.triple opening.line line c others.now }
+    ensures { item_of result ≡ text_item opening.raw opening.quote opening.triple opening.line line c others.now }
 {
     if closes(opening, c, others) {
-        return Ok(Bit::Closing(if opening.triple { 2 } else { 0 }));
+        return Ok(StringItem::Closing(if opening.triple { 2 } else { 0 }));
     }
     match c {
         '\r' => Err(TokenError::BadCharacter(line)),
         '\n' => {
             if opening.triple {
-                return Ok(Bit::Holds(Shown::One('\n'), 0, line + 1));
+                return Ok(StringItem::Holds(Denoted::One('\n'), 0, line + 1));
             }
             Err(TokenError::OpenString(opening.line))
         }
         '\\' => {
             if opening.raw {
-                return raw_bit(line, others);
+                return raw_item(line, others);
             }
-            escape_bit(line, others)
+            escape_item(line, others)
         }
-        _ => Ok(Bit::Holds(Shown::One(c), 0, line)),
+        _ => Ok(StringItem::Holds(Denoted::One(c), 0, line)),
     }
 }
 
-pub fn push_shown(text: &mut Text, shown: Shown) -> Result<(), NoMemory>
-    ensures { OnOk result (text.new ≡ text.old ++ shown_text shown) }
+pub fn push_denoted(text: &mut Text, denoted: Denoted) -> Result<(), NoMemory>
+    ensures { OnOk result (text.new ≡ text.old ++ denoted_text denoted) }
 {
-    match shown {
-        Shown::Nothing => Ok(()),
-        Shown::One(c) => text.push(c),
-        Shown::Two(c, d) => {
+    match denoted {
+        Denoted::Nothing => Ok(()),
+        Denoted::One(c) => text.push(c),
+        Denoted::Two(c, d) => {
             text.push(c)?;
             text.push(d)
         }
     }
 }
 
-/// A string behind its opening marks: its text, how many characters are left behind its closing marks, and the line
+/// A string after its opening marks: its text, how many characters are left after its closing marks, and the line
 /// where it ends.
 #[derive(Drop)]
 pub struct TextBody {
@@ -236,9 +241,9 @@ pub fn text_body(alloc: Global, opening: Opening, chars: &[char]) -> Result<Text
     let first = opening.line;
     let mut line = first;
     let mut rest = chars;
-    'bits: while let Some((c, others)) = split_first(rest) {
-        match text_bit(opening, line, c, others)? {
-            Bit::Closing(n) => {
+    'string_items: while let Some((c, others)) = split_first(rest) {
+        match text_item(opening, line, c, others)? {
+            StringItem::Closing(n) => {
                 let left = others.len() - n;
                 return Ok(TextBody {
                     text,
@@ -246,10 +251,10 @@ pub fn text_body(alloc: Global, opening: Opening, chars: &[char]) -> Result<Text
                     next: line,
                 });
             }
-            Bit::Holds(shown, n, next) => {
-                push_shown(&mut text, shown)?;
+            StringItem::Holds(denoted, n, next) => {
+                push_denoted(&mut text, denoted)?;
                 line = next;
-                rest = behind(others, n);
+                rest = after(others, n);
             }
         }
     }

@@ -8,10 +8,10 @@ ghost use Rattle.py_token.specs.OnLines.{AreOnLines};
 ghost use Rattle.py_token.specs.View.{view_tokens};
 ghost use Rattle.py_token.specs.Answers.{Gives};
 
-use crate::characters::behind;
+use crate::characters::after;
 use crate::error::TokenError;
 use crate::layout::{State, finish, put};
-use crate::pieces::cut_front;
+use crate::segments::front_segment;
 use crate::source::{last_line, source_text};
 use crate::token::Token;
 use std::alloc::Global;
@@ -46,13 +46,13 @@ fn spelling(alloc: Global, chars: &[char]) -> Result<Vec<Token>, TokenError>
     };
     let mut line = 1;
     let mut rest = chars;
-    'pieces: while !rest.is_empty() {
-        let piece = cut_front(alloc, line, rest)?;
-        let next = piece.next;
-        let len = piece.behind + 1;
-        put(alloc, &mut state, &mut tokens, piece.lexeme, line, next)?;
+    'segments: while !rest.is_empty() {
+        let segment = front_segment(alloc, line, rest)?;
+        let next = segment.next;
+        let len = segment.after + 1;
+        put(alloc, &mut state, &mut tokens, segment.lexeme, line, next)?;
         line = next;
-        rest = behind(rest, len);
+        rest = after(rest, len);
     }
     finish(state, &mut tokens, last)?;
     Ok(tokens)

@@ -1,4 +1,4 @@
-// What expressions are read from sources, row by row: the expression with the place behind it, or the refusal with its
+// What expressions are read from sources, row by row: the expression with the place after it, or the refusal with its
 // place.
 
 use crate::writer::Writer;
@@ -34,7 +34,7 @@ fn comparison(op: Comparison) -> &'static str {
     }
 }
 
-/// Writes a part of a node down, behind the node's name.
+/// Writes a part of a node down, after the node's name.
 #[cycle(show)]
 fn single(out: &mut Writer, head: &str, part: &Expr) {
     out.put(head);
@@ -236,7 +236,7 @@ fn shown_whole(alloc: Global, source: &str) -> Result<String, Fail> {
 }
 
 /// The rows that are read otherwise; without a part, as whole lists. Each row is a source and what is read from it, with
-/// `~~` between them and `^` behind.
+/// `~~` between them and `^` after them.
 fn misread(alloc: Global, rows: &str, part: Option<ExprPart>) -> Result<String, Fail> {
     let mut out = Writer::new(alloc);
     for row in rows.split('^') {

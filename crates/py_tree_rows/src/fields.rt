@@ -31,7 +31,7 @@ fn told(alloc: Global, source: &str) -> Result<&'static str, Fail> {
     }
 }
 
-// A row is an f-string and whether its fields are expressions, with `~` between them and `^` behind.
+// A row is an f-string and whether its fields are expressions, with `~` between them and `^` after them.
 
 fn rows() -> &'static str {
     "\

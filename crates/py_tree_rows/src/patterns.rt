@@ -1,4 +1,4 @@
-// What patterns are read from sources, row by row: the pattern with the place behind it, or the refusal with its place.
+// What patterns are read from sources, row by row: the pattern with the place after it, or the refusal with its place.
 
 use crate::writer::Writer;
 use py_parse_pattern::read_patterns;
@@ -105,7 +105,7 @@ fn shown(alloc: Global, source: &str) -> Result<String, Fail> {
     out.done()
 }
 
-// A row is a source and what is read from it, with `~` between them and `^` behind.
+// A row is a source and what is read from it, with `~` between them and `^` after them.
 
 fn rows() -> &'static str {
     "\

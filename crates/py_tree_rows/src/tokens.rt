@@ -76,7 +76,7 @@ fn shown(alloc: Global, source: &str) -> Result<String, Fail> {
     out.done()
 }
 
-// A row is a source and what it spells, with `~` between them and `^` behind.
+// A row is a source and what it spells, with `~` between them and `^` after them.
 
 /// Refused sources, empty lines and characters that no rule takes.
 fn refused_and_plain_lines() -> &'static str {

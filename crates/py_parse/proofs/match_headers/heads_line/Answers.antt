@@ -1,8 +1,8 @@
 use Rattle.std.proofs.Common.{◌+◌, Bool, not, ◌&&◌, false, drop, sym, ap, ◌∙◌, arith}
 use Rattle.py_syntax.specs.Headers.{ends_in_colon}
 use Rattle.py_token.specs.declared.token.Token.{Token}
-use Rattle.py_parse.specs.HeldMarks.{kinds_of, is_newline}
-use Rattle.py_parse.specs.HeldStates.{kind_at}
+use Rattle.py_parse.specs.ViewMarks.{kinds_of, is_newline}
+use Rattle.py_parse.specs.ViewStates.{kind_at}
 use Rattle.py_parse.proofs.HeaderPlaces.{no_more, whole_line}
 use Rattle.py_parse.proofs.match_headers.heads_line.Goals as goal
 

@@ -1,4 +1,4 @@
-use Rattle.py_parse.specs.HeldStates.{view_state}
+use Rattle.py_parse.specs.ViewStates.{view_state}
 use Rattle.py_parse.proofs.Answering.{unparsed}
 use Rattle.py_parse.proofs.parser.parse.Goals as goal
 

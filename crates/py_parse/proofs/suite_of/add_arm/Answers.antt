@@ -1,8 +1,8 @@
 use Rattle.std.proofs.Common.{ap, ◌∙◌}
 use Rattle.py_syntax.specs.declared.stmt.Arm as arms
 use Rattle.py_syntax.specs.View.{plain_arms}
-use Rattle.py_parse.proofs.Held.{arms_snoc}
-use Rattle.py_parse.proofs.owner.add_arm.Goals as goal
+use Rattle.py_parse.proofs.Views.{arms_snoc}
+use Rattle.py_parse.proofs.suite_of.add_arm.Goals as goal
 
 pub returns : goal.returns
 returns c = ap plain_arms c.in_ok-push.ensures.items ∙ arms_snoc c.args.arms.items _ ∙ search arms.the_lemmas

@@ -1,6 +1,6 @@
 use Rattle.std.proofs.Common.{sym}
-use Rattle.py_parse_expr.proofs.ExprRoles.{plain_fstring}
-use Rattle.py_parse_expr.proofs.expr_roles.role_of.Goals as goal
+use Rattle.py_parse_expr.proofs.ExprClasses.{plain_fstring}
+use Rattle.py_parse_expr.proofs.expr_classes.class_of.Goals as goal
 
 pub returns-in-FString : goal.returns-in-FString
 returns-in-FString c = rw c.in-FString.is (sym (plain_fstring c.in-FString.field-0))

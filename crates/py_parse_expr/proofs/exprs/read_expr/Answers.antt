@@ -7,13 +7,13 @@ use Rattle.py_parse_expr.proofs.ExprReader.{starts, turn_next, turn_stuck, turn_
 use Rattle.py_parse_expr.proofs.exprs.read_expr.Goals as goal
 
 pub tokens-init : goal.tokens-init
-tokens-init c = starts (goal_of c.args.part) c.args.tokens.now c.args.at c.level.result c.new-stack.result c.requires c.level.ensures (c.new-stack.ensures.view ∙ ap Outside c.goal.ensures.view) c.new-stack.ensures.kept
+tokens-init c = starts (goal_of c.args.part) c.args.tokens.now c.args.at c.precedence.result c.new-stack.result c.requires c.precedence.ensures (c.new-stack.ensures.view ∙ ap Outside c.goal.ensures.view) c.new-stack.ensures.valid
 
 pub tokens-preserved : goal.tokens-preserved
 tokens-preserved c = turn_next (goal_of c.args.part) c.args.tokens.now c.args.at c.tokens.place c.tokens.progress c.tokens.stack c.turn.new.stack c.index-tokens-place.result c.in_ok-next.field-0 c.tokens.invariant c.tokens-test.true c.in_ok-next.ensures c.in-Next.next c.in-Next.is
 
-pub turn-requires-clause-kept : goal.turn-requires-clause-kept
-turn-requires-clause-kept c = same_limit HEIGHT c.tokens.stack c.tokens.invariant.kept
+pub turn-requires-clause-valid : goal.turn-requires-clause-valid
+turn-requires-clause-valid c = same_limit HEIGHT c.tokens.stack c.tokens.invariant.valid
 
 pub turn-requires-clause-at : goal.turn-requires-clause-at
 turn-requires-clause-at c = c.tokens.invariant.going
@@ -22,7 +22,7 @@ pub returns-in-Stuck : goal.returns-in-Stuck
 returns-in-Stuck c = record { follows = turn_stuck (goal_of c.args.part) c.args.tokens.now c.args.at c.tokens.place c.tokens.progress c.tokens.stack c.turn.new.stack c.index-tokens-place.result c.in_ok-next.field-0 c.tokens.invariant c.tokens-test.true c.in_ok-next.ensures c.in-Stuck.is }
 
 pub returns-in-Left : goal.returns-in-Left
-returns-in-Left c = record { follows = turn_left (goal_of c.args.part) c.args.tokens.now c.args.at c.tokens.place c.tokens.progress c.tokens.stack c.turn.new.stack c.index-tokens-place.result c.in_ok-next.field-0 c.tokens.invariant c.tokens-test.true c.in_ok-next.ensures c.in-Left.tall c.in-Left.is }
+returns-in-Left c = record { follows = turn_left (goal_of c.args.part) c.args.tokens.now c.args.at c.tokens.place c.tokens.progress c.tokens.stack c.turn.new.stack c.index-tokens-place.result c.in_ok-next.field-0 c.tokens.invariant c.tokens-test.true c.in_ok-next.ensures c.in-Left.measured c.in-Left.is }
 
 pub returns-then-branch : goal.returns-then-branch
 returns-then-branch c = record { follows = turn_deep (goal_of c.args.part) c.args.tokens.now c.args.at c.tokens.place c.tokens.progress c.tokens.stack c.turn.new.stack c.index-tokens-place.result c.in_ok-next.field-0 c.tokens.invariant c.tokens-test.true c.in_ok-next.ensures c.in-Deep.is c.index-tokens-place-in-Deep.result (sym c.if-branch.true ∙ c.in_ok-has_spelled_fields-in-Deep.ensures) }

@@ -11,17 +11,17 @@ tokens-init c = field_begins c.new.result.items (waiting_of c.args.waiting.now.i
 
 pub returns-in-Stuck : goal.returns-in-Stuck
 returns-in-Stuck c =
-    let a = field_next c.args.tokens.now c.tokens.token-index c.token-item.result c.tokens.reader c.in_ok-cue_of.field-0 turn_.Stuck (is_some (field_expr (start any) (row c.args.tokens.now))) (field_weight (row c.args.tokens.now) + 1) (waiting_of c.args.waiting.now.items) (waiting_of c.tokens.waiting.items) (waiting_of c.cue_of.new.waiting.items) c.tokens-test.true c.token-item.is c.in_ok-cue_of.ensures (rw c.in-Stuck.is at c.in_ok-next.ensures) c.tokens.invariant in
+    let a = field_next c.args.tokens.now c.tokens.token-index c.token-item.result c.tokens.reader c.in_ok-class_of.field-0 turn_.Stuck (is_some (field_expr (start any) (row c.args.tokens.now))) (field_weight (row c.args.tokens.now) + 1) (waiting_of c.args.waiting.now.items) (waiting_of c.tokens.waiting.items) (waiting_of c.class_of.new.waiting.items) c.tokens-test.true c.token-item.is c.in_ok-class_of.ensures (rw c.in-Stuck.is at c.in_ok-next.ensures) c.tokens.invariant in
     let low = a.3 in
     record { added = a.0; waits = a.1; is = a.2; few = omega arith }
 
 pub returns-in-Left : goal.returns-in-Left
 returns-in-Left c =
-    let a = field_next c.args.tokens.now c.tokens.token-index c.token-item.result c.tokens.reader c.in_ok-cue_of.field-0 turn_.Left (is_some (field_expr (start any) (row c.args.tokens.now))) (field_weight (row c.args.tokens.now) + 1) (waiting_of c.args.waiting.now.items) (waiting_of c.tokens.waiting.items) (waiting_of c.cue_of.new.waiting.items) c.tokens-test.true c.token-item.is c.in_ok-cue_of.ensures (rw c.in-Left.is at c.in_ok-next.ensures) c.tokens.invariant in
+    let a = field_next c.args.tokens.now c.tokens.token-index c.token-item.result c.tokens.reader c.in_ok-class_of.field-0 turn_.Left (is_some (field_expr (start any) (row c.args.tokens.now))) (field_weight (row c.args.tokens.now) + 1) (waiting_of c.args.waiting.now.items) (waiting_of c.tokens.waiting.items) (waiting_of c.class_of.new.waiting.items) c.tokens-test.true c.token-item.is c.in_ok-class_of.ensures (rw c.in-Left.is at c.in_ok-next.ensures) c.tokens.invariant in
     let low = a.3 in
     record { added = a.0; waits = a.1; is = a.2; few = omega arith }
 
 pub tokens-preserved : goal.tokens-preserved
 tokens-preserved c =
-    let a = field_next c.args.tokens.now c.tokens.token-index c.token-item.result c.tokens.reader c.in_ok-cue_of.field-0 (turn_.Next c.in-Next.next) (is_some (field_expr (start any) (row c.args.tokens.now))) (field_weight (row c.args.tokens.now) + 1) (waiting_of c.args.waiting.now.items) (waiting_of c.tokens.waiting.items) (waiting_of c.cue_of.new.waiting.items) c.tokens-test.true c.token-item.is c.in_ok-cue_of.ensures (rw c.in-Next.is at c.in_ok-next.ensures) c.tokens.invariant in
+    let a = field_next c.args.tokens.now c.tokens.token-index c.token-item.result c.tokens.reader c.in_ok-class_of.field-0 (turn_.Next c.in-Next.next) (is_some (field_expr (start any) (row c.args.tokens.now))) (field_weight (row c.args.tokens.now) + 1) (waiting_of c.args.waiting.now.items) (waiting_of c.tokens.waiting.items) (waiting_of c.class_of.new.waiting.items) c.tokens-test.true c.token-item.is c.in_ok-class_of.ensures (rw c.in-Next.is at c.in_ok-next.ensures) c.tokens.invariant in
     record { added = a.0; waits = a.1; is = a.2; few = a.3 }

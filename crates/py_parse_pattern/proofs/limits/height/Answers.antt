@@ -21,10 +21,10 @@ pub returns-in-Strings : goal.returns-in-Strings
 returns-in-Strings c = at_strings c.args.reader.now _ c.closed_height-in-Strings.result c.in-Strings.is c.requires c.closed_height-in-Strings.ensures
 
 pub returns-in-Have : goal.returns-in-Have
-returns-in-Have c = at_have c.args.reader.now c.in-Have.tall c.closed_height-in-Have.result c.in-Have.is c.requires c.closed_height-in-Have.ensures
+returns-in-Have c = at_have c.args.reader.now c.in-Have.measured c.closed_height-in-Have.result c.in-Have.is c.requires c.closed_height-in-Have.ensures
 
 pub returns-in-Naming : goal.returns-in-Naming
-returns-in-Naming c = at_naming c.args.reader.now c.in-Naming.tall c.item_height.result c.in-Naming.is c.requires c.item_height.ensures
+returns-in-Naming c = at_naming c.args.reader.now c.in-Naming.measured c.item_height.result c.in-Naming.is c.requires c.item_height.ensures
 
 pub returns-in-Item : goal.returns-in-Item
-returns-in-Item c = at_item c.args.reader.now c.in-Item.tall c.item_height-in-Item.result c.in-Item.is c.requires c.item_height-in-Item.ensures
+returns-in-Item c = at_item c.args.reader.now c.in-Item.measured c.item_height-in-Item.result c.in-Item.is c.requires c.item_height-in-Item.ensures

@@ -17,10 +17,10 @@ pub returns-in-Deep-clause-is_read : goal.returns-in-Deep-clause-is_read
 returns-in-Deep-clause-is_read c = reads (kinds_of_all c.args.tokens.now) c.args.at (Err (error.TooDeep c.tokens.place)) (turn_deep c.args.tokens.now c.args.at c.tokens.place c.tokens.reader c.index-tokens-place.result c.in_ok-next.field-0 c.tokens.invariant c.tokens-test.true c.in_ok-next.ensures c.in-Deep.is)
 
 pub returns-in-Left-clause-follows : goal.returns-in-Left-clause-follows
-returns-in-Left-clause-follows c = turn_left c.args.tokens.now c.args.at c.tokens.place c.tokens.reader c.index-tokens-place.result c.in_ok-next.field-0 c.tokens.invariant c.tokens-test.true c.in_ok-next.ensures c.in-Left.tall c.in-Left.is
+returns-in-Left-clause-follows c = turn_left c.args.tokens.now c.args.at c.tokens.place c.tokens.reader c.index-tokens-place.result c.in_ok-next.field-0 c.tokens.invariant c.tokens-test.true c.in_ok-next.ensures c.in-Left.measured c.in-Left.is
 
 pub returns-in-Left-clause-is_read : goal.returns-in-Left-clause-is_read
-returns-in-Left-clause-is_read c = reads (kinds_of_all c.args.tokens.now) c.args.at (Ok (record { pattern = c.in-Left.tall.pattern; next = c.tokens.place })) (turn_left c.args.tokens.now c.args.at c.tokens.place c.tokens.reader c.index-tokens-place.result c.in_ok-next.field-0 c.tokens.invariant c.tokens-test.true c.in_ok-next.ensures c.in-Left.tall c.in-Left.is)
+returns-in-Left-clause-is_read c = reads (kinds_of_all c.args.tokens.now) c.args.at (Ok (record { pattern = c.in-Left.measured.pattern; next = c.tokens.place })) (turn_left c.args.tokens.now c.args.at c.tokens.place c.tokens.reader c.index-tokens-place.result c.in_ok-next.field-0 c.tokens.invariant c.tokens-test.true c.in_ok-next.ensures c.in-Left.measured c.in-Left.is)
 
 pub tokens-preserved : goal.tokens-preserved
 tokens-preserved c = turn_next c.args.tokens.now c.args.at c.tokens.place c.tokens.reader c.index-tokens-place.result c.in_ok-next.field-0 c.tokens.invariant c.tokens-test.true c.in_ok-next.ensures c.in-Next.next c.in-Next.is

@@ -1,5 +1,5 @@
-use Rattle.py_parse_pattern.proofs.Turning.{enclosed_kept}
+use Rattle.py_parse_pattern.proofs.Turning.{enclosed_valid}
 use Rattle.py_parse_pattern.proofs.reader.end_item.Goals as goal
 
-pub behind-requires-clause-tall : goal.behind-requires-clause-tall
-behind-requires-clause-tall c = enclosed_kept c.in-Some.frame.bracket c.args.rows.row.items c.args.tall c.in_ok-tall-in-Close.tall c.requires.rows.row.items c.requires.rows.row.low_items c.requires.tall c.in_ok-tall-in-Close.ensures
+pub after-requires-clause-measured : goal.after-requires-clause-measured
+after-requires-clause-measured c = enclosed_valid c.in-Some.frame.bracket c.args.rows.row.items c.args.measured c.in_ok-measured-in-Close.measured c.requires.rows.row.items c.requires.rows.row.low_items c.requires.measured c.in_ok-measured-in-Close.ensures

@@ -4,8 +4,8 @@ use Rattle.py_token.proofs.Lines.{line_count-take}
 use Rattle.py_token.proofs.Reaches.{reach_within}
 use Rattle.py_token.proofs.fstrings.field_at.Goals as goal
 
-pub behind-requires : goal.behind-requires
-behind-requires c = let h = reach_within c.args.opening.quote c.args.opening.triple c.args.others.now in let e = c.requires.reached in omega (arith, h, e)
+pub after-requires : goal.after-requires
+after-requires c = let h = reach_within c.args.opening.quote c.args.opening.triple c.args.others.now in let e = c.requires.reached in omega (arith, h, e)
 
 pub front-requires : goal.front-requires
 front-requires c = let h = reach_within c.args.opening.quote c.args.opening.triple c.args.others.now in let e = c.requires.reached in omega (arith, h, e)

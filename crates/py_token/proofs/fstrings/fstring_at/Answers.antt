@@ -11,13 +11,13 @@ fstring_body-requires-clause-lines c =
     let h = line_count-marks c.doubled-triple.result c.in-Some.rest.now in
     let m = line_count-cons c.in-Some.quote c.in-Some.rest.now in
     let e = ap line_count c.in-Some.ensures in
-    let f = ap line_count c.behind_marks-text.ensures in
+    let f = ap line_count c.after_marks-text.ensures in
     let r = c.requires.lines in
     omega (arith, h, m.0, e, f, r)
 
 pub overflow_sub-result : goal.overflow_sub-result
 overflow_sub-result c =
-    let left = pieces_left c.in-Some.quote c.doubled-triple.result c.args.line c.behind_marks-text.result.now (view_pieces c.in_ok-body.body.pieces.items) c.in_ok-body.body.left c.in_ok-body.body.next c.in_ok-body.ensures in
+    let left = pieces_left c.in-Some.quote c.doubled-triple.result c.args.line c.after_marks-text.result.now (view_pieces c.in_ok-body.body.pieces.items) c.in_ok-body.body.left c.in_ok-body.body.next c.in_ok-body.ensures in
     let shorter = length-marks c.doubled-triple.result c.in-Some.rest.now in
-    let e = ap length c.behind_marks-text.ensures in
+    let e = ap length c.after_marks-text.ensures in
     omega (arith, left, shorter, e)

@@ -3,8 +3,8 @@ use Rattle.py_token.specs.View.{view_pieces}
 use Rattle.py_token.proofs.FStringBodies.{Reads}
 use Rattle.py_token.proofs.fstrings.fstring_body.Given as goal
 
-abbrev pub invariant-bits : goal.invariant-bits
-invariant-bits l = Reads l.opening.quote l.opening.triple l.opening.line l.chars (view_pieces l.pieces.items) l.held l.line l.rest l.limit
+abbrev pub invariant-string_items : goal.invariant-string_items
+invariant-string_items l = Reads l.opening.quote l.opening.triple l.opening.line l.chars (view_pieces l.pieces.items) l.held l.line l.rest l.limit
 
-abbrev pub decreases-bits : goal.decreases-bits
-decreases-bits l = length l.rest
+abbrev pub decreases-string_items : goal.decreases-string_items
+decreases-string_items l = length l.rest

@@ -1,7 +1,7 @@
 use Rattle.std.proofs.lemmas.Result.{err_from_is_err_and}
 use Rattle.py_token.specs.View.{view_tokens, view_pieces}
 use Rattle.py_token.proofs.Views.{plain-field}
-use Rattle.py_token.proofs.FieldBits.{field_left, field_refused, field_pushed}
+use Rattle.py_token.proofs.FieldItems.{field_left, field_refused, field_pushed}
 use Rattle.py_token.proofs.fstrings.push_field.Goals as goal
 
 pub returns-in_err-field : goal.returns-in_err-field

@@ -1,4 +1,4 @@
-use Rattle.py_token.proofs.LongestPieces.{none_longer}
+use Rattle.py_token.proofs.LongestSegments.{none_longer}
 use Rattle.py_token.proofs.OneSpelling.{one_list, one_fault, never_both}
 use Rattle.py_token.proofs.laws.one_spelling.Goals as goal
 

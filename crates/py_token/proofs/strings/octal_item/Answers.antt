@@ -1,5 +1,5 @@
 use Rattle.py_token.proofs.Escapes.{octal_found, octal_fits}
-use Rattle.py_token.proofs.strings.octal_bit.Goals as goal
+use Rattle.py_token.proofs.strings.octal_item.Goals as goal
 
 pub returns-in-Some : goal.returns-in-Some
 returns-in-Some c = octal_found c.args.line c.in-Some.c c.octal_len-n.result c.digits_value.result c.args.chars.now c.octal_len-n.ensures c.digits_value.ensures c.in-Some.ensures.1

@@ -7,5 +7,5 @@ returns-in-Plain c = rw c.in-Plain.is (plain_height c.in-Plain.field-0.items)
 
 pub returns-in-Mixed : goal.returns-in-Mixed
 returns-in-Mixed c =
-    let kept = rw c.in-Mixed.is at c.requires in
-    rw c.in-Mixed.is (mixed_height (plain_fragments c.in-Mixed.field-0.items) c.in-Mixed.height c.over.result kept c.over.ensures)
+    let valid = rw c.in-Mixed.is at c.requires in
+    rw c.in-Mixed.is (mixed_height (plain_fragments c.in-Mixed.field-0.items) c.in-Mixed.height c.over.result valid c.over.ensures)

@@ -2,9 +2,9 @@ use Rattle.std.proofs.Common.{false}
 use Rattle.py_syntax.specs.declared.expr.Expr.TheVariants as variant
 use Rattle.py_syntax.specs.View.{plain_fragments}
 use Rattle.py_grammar.specs.Machine.{strings_of}
-use Rattle.py_parse_expr.specs.ExprHeld.{plains}
+use Rattle.py_parse_expr.specs.ExprViews.{plains}
 use Rattle.py_parse_expr.proofs.ExprNodes.{boxed_makes, str_is, fstr_is, plain_target, mixed_target}
-use Rattle.py_parse_expr.proofs.expr_nodes.Strings.tall.Goals as goal
+use Rattle.py_parse_expr.proofs.expr_nodes.Strings.measured.Goals as goal
 
 pub returns-in-Plain : goal.returns-in-Plain
 returns-in-Plain c =
@@ -15,6 +15,6 @@ returns-in-Plain c =
 pub returns-in-Mixed : goal.returns-in-Mixed
 returns-in-Mixed c =
     let high = rw c.in-Mixed.is at c.height-height.ensures in
-    let kept = rw c.in-Mixed.is at c.requires in
+    let valid = rw c.in-Mixed.is at c.requires in
     let fs = c.in-Mixed.fragments in
-    rw c.in-Mixed.is (boxed_makes (strings_of (plain_fragments fs.items)) (variant.FStr fs) c.height-height.result false c.new-in-Mixed.result c.new-in-Mixed.ensures.expr c.new-in-Mixed.ensures.height c.new-in-Mixed.ensures.target (fstr_is fs kept.0) high (mixed_target (plain_fragments fs.items) kept.0))
+    rw c.in-Mixed.is (boxed_makes (strings_of (plain_fragments fs.items)) (variant.FStr fs) c.height-height.result false c.new-in-Mixed.result c.new-in-Mixed.ensures.expr c.new-in-Mixed.ensures.height c.new-in-Mixed.ensures.target (fstr_is fs valid.0) high (mixed_target (plain_fragments fs.items) valid.0))

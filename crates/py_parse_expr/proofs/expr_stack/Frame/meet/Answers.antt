@@ -1,7 +1,7 @@
 use Rattle.std.proofs.Common.{refl}
 use Rattle.py_syntax.specs.Tree.{not', unary, cond}
 use Rattle.py_grammar.specs.Machine.{cond_else, not_of, unary_of}
-use Rattle.py_parse_expr.specs.ExprHeld.{view_role, view_tall}
+use Rattle.py_parse_expr.specs.ExprViews.{view_class, view_measured}
 use Rattle.py_parse_expr.proofs.ExprFrames.{passes}
 use Rattle.py_parse_expr.proofs.expr_stack.Frame.meet.Goals as goal
 
@@ -18,7 +18,7 @@ pub returns-in-CondTest : goal.returns-in-CondTest
 returns-in-CondTest c = rw c.in-CondTest.is c.cond_test.ensures
 
 pub returns-in_ok-conditional-in-CondElse : goal.returns-in_ok-conditional-in-CondElse
-returns-in_ok-conditional-in-CondElse c = rw c.in-CondElse.is (passes (cond_else (view_tall c.in-CondElse.body) (view_tall c.in-CondElse.test)) (cond (view_tall c.in-CondElse.body) (view_tall c.in-CondElse.test) (view_tall c.args.tall)) (view_tall c.args.tall) (view_role c.args.role.now) c.in_ok-conditional-in-CondElse.field-0 (λ k. refl) c.in_ok-conditional-in-CondElse.ensures)
+returns-in_ok-conditional-in-CondElse c = rw c.in-CondElse.is (passes (cond_else (view_measured c.in-CondElse.body) (view_measured c.in-CondElse.test)) (cond (view_measured c.in-CondElse.body) (view_measured c.in-CondElse.test) (view_measured c.args.measured)) (view_measured c.args.measured) (view_class c.args.class.now) c.in_ok-conditional-in-CondElse.field-0 (λ k. refl) c.in_ok-conditional-in-CondElse.ensures)
 
 pub returns-in-First : goal.returns-in-First
 returns-in-First c = rw c.in-First.is c.operand.ensures
@@ -27,7 +27,7 @@ pub returns-in-Right : goal.returns-in-Right
 returns-in-Right c = rw c.in-Right.is c.right.ensures
 
 pub returns-in_ok-negation-in-NotOf : goal.returns-in_ok-negation-in-NotOf
-returns-in_ok-negation-in-NotOf c = rw c.in-NotOf.is (passes not_of (not' (view_tall c.args.tall)) (view_tall c.args.tall) (view_role c.args.role.now) c.in_ok-negation-in-NotOf.field-0 (λ k. refl) c.in_ok-negation-in-NotOf.ensures)
+returns-in_ok-negation-in-NotOf c = rw c.in-NotOf.is (passes not_of (not' (view_measured c.args.measured)) (view_measured c.args.measured) (view_class c.args.class.now) c.in_ok-negation-in-NotOf.field-0 (λ k. refl) c.in_ok-negation-in-NotOf.ensures)
 
 pub returns-in-CompareFirst : goal.returns-in-CompareFirst
 returns-in-CompareFirst c = rw c.in-CompareFirst.is c.compare_first.ensures
@@ -36,7 +36,7 @@ pub returns-in-CompareRest : goal.returns-in-CompareRest
 returns-in-CompareRest c = rw c.in-CompareRest.is c.compare_rest.ensures
 
 pub returns-in_ok-unary-in-UnaryOf : goal.returns-in_ok-unary-in-UnaryOf
-returns-in_ok-unary-in-UnaryOf c = rw c.in-UnaryOf.is (passes (unary_of c.in-UnaryOf.sign) (unary c.in-UnaryOf.sign (view_tall c.args.tall)) (view_tall c.args.tall) (view_role c.args.role.now) c.in_ok-unary-in-UnaryOf.field-0 (λ k. refl) c.in_ok-unary-in-UnaryOf.ensures)
+returns-in_ok-unary-in-UnaryOf c = rw c.in-UnaryOf.is (passes (unary_of c.in-UnaryOf.sign) (unary c.in-UnaryOf.sign (view_measured c.args.measured)) (view_measured c.args.measured) (view_class c.args.class.now) c.in_ok-unary-in-UnaryOf.field-0 (λ k. refl) c.in_ok-unary-in-UnaryOf.ensures)
 
 pub returns-in-PostRest : goal.returns-in-PostRest
 returns-in-PostRest c = rw c.in-PostRest.is c.post_rest.ensures

@@ -5,4 +5,4 @@ use Rattle.py_syntax.specs.View.{plain_patterns}
 use Rattle.std.proofs.Common.{ap, ◌∙◌}
 
 pub returns-clause-patterns : goal.returns-clause-patterns
-returns-clause-patterns c = ap plain_patterns c.in_ok-push.ensures.items ∙ plain_snoc c.args.self.now.patterns.items c.args.tall.pattern
+returns-clause-patterns c = ap plain_patterns c.in_ok-push.ensures.items ∙ plain_snoc c.args.self.now.patterns.items c.args.measured.pattern
