@@ -3,7 +3,6 @@
 --     plain_walk, plain_callee     a walk, and what is called
 use Rattle.std.specs.Prelude.{ℕ, Option, Some, None}
 use Rattle.py_value.specs.declared.builtin.Method.{Method}
-use Rattle.py_value.specs.declared.value.Value.{Value}
 use Rattle.py_value.specs.View.{plain, plain_raised}
 use Rattle.py_value.specs.Plain.{PlainValue}
 use Rattle.py_builtins.specs.Callees.{Callee, a_value, a_method}

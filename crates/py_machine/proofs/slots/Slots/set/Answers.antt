@@ -1,4 +1,4 @@
-use Rattle.std.proofs.Common.{Some, None}
+use Rattle.std.proofs.Common.{Some}
 use Rattle.py_machine.specs.Locals.{plain_slot}
 use Rattle.py_machine.proofs.Lookups.{map-slice_set}
 use Rattle.py_machine.proofs.slots.Slots.set.Goals as goal
