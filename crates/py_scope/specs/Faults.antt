@@ -1,12 +1,12 @@
 -- The faults of a module and the names of its functions.
---     module_place .. in_finally         where a statement stands
---     Findings, nothing, ◌&◌, blame      what is found, and one thing after another
---     late_globals                       names that are declared `global` after they were used
---     names_of, in_function              a function
---     blame_case                         the header of a case
---     findings, kind_findings            what is found in statements; suite_findings and the like for what stands in them
---     faults_of, functions_of            of a whole module
---     IsWellFormed                       a module without a fault
+--     module_place .. in_finally        where a statement stands
+--     Findings, nothing, ◌&◌, blame     what is found, and one thing after another
+--     late_globals                      names that are declared `global` after they were used
+--     names_of, in_function             a function
+--     blame_case                        the header of a case
+--     findings, kind_findings           what is found in statements; suite_findings and the like for what stands in them
+--     faults_of, functions_of           of a whole module
+--     IsWellFormed                      a module without a fault
 use Rattle.std.specs.Prelude.{◌≡◌, ℕ, Bool, true, false, not, ◌&&◌, ◌||◌, if◌then◌else◌, List, [], ◌∷◌, ◌++◌, is_none, is_some}
 use Rattle.py_syntax.specs.Tree.{Text, Pattern, Stmts, no_stmts, stmt, Suite, suite, OptSuite, no_suite, has_suite, Arms, no_arms, arm, Clauses, no_clauses, clause, Cases, no_cases, case, StmtKind, expr, assign, aug_assign, pass, break, continue, return, raise, assert, global, import, from, if', while, for, try, def, match}
 use Rattle.py_syntax.specs.Names.{is_among, add_name, distinct, assigned_names, declared_names}

@@ -1,9 +1,9 @@
 -- The occurrences of names in a body of a module or a function, in the order of the text. The body of a function that it defines
 -- is none of it; the defaults of that function's parameters are.
---     in_expr                    of an expression; in_exprs and the like for what stands in it
---     in_target, in_pattern      of what is assigned to
---     assigning, declaring       names as occurrences
---     occurrences, in_kind       of statements; in_suite and the like for what stands in them
+--     in_expr                   of an expression; in_exprs and the like for what stands in it
+--     in_target, in_pattern     of what is assigned to
+--     assigning, declaring      names as occurrences
+--     occurrences, in_kind      of statements; in_suite and the like for what stands in them
 use Rattle.std.specs.Prelude.{ℕ, List, [], ◌∷◌, ◌++◌, map, Option, Some, None}
 use Rattle.py_syntax.specs.Tree.{Text, Expr, name, int, str, fstr, none, bool, tuple, list, dict, paren, not', and, or, unary, binary, compare, cond, call, index, slice, attr, Exprs, no_exprs, exprs, Pairs, no_pairs, pair, Links, no_links, link, OptExpr, absent, present, Fragments, no_fragments, plain, format, Parts, no_parts, text, field}
 use Rattle.py_syntax.specs.Tree.{Pattern, literal, capture, wild, member, sequence, p_or, p_as, p_paren, Patterns, no_patterns, patterns}

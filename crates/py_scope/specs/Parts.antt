@@ -1,4 +1,4 @@
--- What is found in one clause and in one case, apart from those behind it.
+-- What is found in one clause and in one case, apart from those after it.
 use Rattle.std.specs.Prelude.{Bool, ◌&&◌, is_none, is_some}
 use Rattle.py_syntax.specs.declared.stmt.Case.{Case, out-Case}
 use Rattle.py_syntax.specs.declared.stmt.Clause.{Clause, out-Clause}

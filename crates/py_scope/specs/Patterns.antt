@@ -1,8 +1,8 @@
 -- What a pattern may be blamed for.
---     repeats_in, has_repeats         names that stand twice
---     is_early, has_early             patterns that match everything and stand before others
---     binds, alternative_binds        patterns that bind a name, and those with an alternative that does
---     is_twice_named                  patterns that bind a name twice
+--     repeats_in, has_repeats      names that stand twice
+--     is_early, has_early          patterns that match everything and stand before others
+--     binds, alternative_binds     patterns that bind a name, and those with an alternative that does
+--     is_twice_named               patterns that bind a name twice
 use Rattle.std.specs.Prelude.{Bool, true, false, not, ◌&&◌, ◌||◌, List, [], ◌∷◌}
 use Rattle.py_syntax.specs.Tree.{Text, Pattern, literal, capture, wild, member, sequence, p_or, p_as, p_paren, Patterns, no_patterns, patterns}
 use Rattle.py_syntax.specs.Patterns.{is_irrefutable}

@@ -7,10 +7,10 @@ ghost use Rattle.py_scope.specs.Answer.{ComesBefore, IsFirst};
 ghost use Rattle.py_scope.specs.Faults.{IsWellFormed, all_findings, faults_of, functions_of};
 
 use crate::error::ScopeError;
+use crate::faults::statements;
 use crate::place::Place;
 use crate::report::Report;
 use crate::scopes::Scopes;
-use crate::walk::statements;
 use py_syntax::Module;
 use py_value::NoMemory;
 use std::alloc::Global;

@@ -2,20 +2,20 @@
 #![tactic(auto)]
 
 mod body;
+mod checker;
 mod error;
 mod expressions;
+mod faults;
 mod lists;
 mod names;
 mod occurrence;
+mod occurrences;
 mod patterns;
 mod place;
 mod report;
 mod scopes;
-mod statements;
-mod verdict;
-mod walk;
 
+pub use checker::check;
 pub use error::ScopeError;
 pub use names::NameSet;
 pub use scopes::{FunctionNames, Scopes};
-pub use verdict::check;

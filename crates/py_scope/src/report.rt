@@ -8,8 +8,8 @@ ghost use Rattle.py_scope.specs.Seen.{after, starting};
 
 use crate::body::Body;
 use crate::error::ScopeError;
+use crate::occurrences::statements;
 use crate::scopes::FunctionNames;
-use crate::statements::statements;
 use py_syntax::Stmt;
 use py_value::{NoMemory, Text};
 use std::alloc::Global;

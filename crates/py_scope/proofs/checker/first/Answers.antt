@@ -1,7 +1,7 @@
 use Rattle.std.proofs.Common.{arith}
 use Rattle.std.proofs.lemmas.List.{get_or_default}
 use Rattle.py_scope.proofs.Firsts.{chosen-one, chosen-all}
-use Rattle.py_scope.proofs.verdict.first.Goals as goal
+use Rattle.py_scope.proofs.checker.first.Goals as goal
 
 pub loop-fault-preserved : goal.loop-fault-preserved
 loop-fault-preserved c = record {

@@ -3,7 +3,7 @@ use Rattle.py_syntax.specs.View.{plain_stmts, plain_arms, plain_clauses, plain_c
 use Rattle.py_scope.specs.Faults.{◌&◌, findings, arms_findings, clauses_findings, cases_findings}
 use Rattle.py_scope.proofs.Gathering.{found, at_end}
 use Rattle.py_scope.proofs.Turns.{clause_turn, case_turn, tried}
-use Rattle.py_scope.proofs.walk.+walk.Goals as goal
+use Rattle.py_scope.proofs.faults.+walk.Goals as goal
 
 pub statements-returns : goal.statements-returns
 statements-returns t c = at_end found (λ xs. findings c.args.at (plain_stmts xs)) refl _ _ _ _ c.loop-s-test.false c.loop-s.invariant

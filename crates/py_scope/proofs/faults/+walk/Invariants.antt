@@ -1,7 +1,7 @@
 use Rattle.std.proofs.Common.{◌≡◌, ◌+◌, length, drop}
 use Rattle.py_syntax.specs.View.{plain_stmts, plain_arms, plain_clauses, plain_cases}
 use Rattle.py_scope.specs.Faults.{◌&◌, findings, arms_findings, clauses_findings, cases_findings}
-use Rattle.py_scope.proofs.walk.+walk.Given as goal
+use Rattle.py_scope.proofs.faults.+walk.Given as goal
 
 abbrev pub invariant-statements-loop-s : goal.invariant-statements-loop-s
 invariant-statements-loop-s l = (l.report & findings l.at (plain_stmts (drop l.s-index l.items))) ≡ (l.initial.report & findings l.at (plain_stmts l.items))

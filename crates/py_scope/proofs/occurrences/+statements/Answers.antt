@@ -2,7 +2,7 @@ use Rattle.std.proofs.Common.{refl}
 use Rattle.py_syntax.specs.View.{plain_stmts, plain_arms, plain_clauses, plain_cases}
 use Rattle.py_scope.specs.Occurrences.{occurrences, in_arms, in_clauses, in_cases}
 use Rattle.py_scope.proofs.Gathering.{listed, at_end}
-use Rattle.py_scope.proofs.statements.+statements.Goals as goal
+use Rattle.py_scope.proofs.occurrences.+statements.Goals as goal
 
 pub statements-returns : goal.statements-returns
 statements-returns t c = at_end listed (λ xs. occurrences (plain_stmts xs)) refl _ _ _ _ c.loop-s-test.false c.loop-s.invariant

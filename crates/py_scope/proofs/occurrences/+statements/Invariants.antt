@@ -1,7 +1,7 @@
 use Rattle.std.proofs.Common.{◌≡◌, ◌++◌, drop}
 use Rattle.py_syntax.specs.View.{plain_stmts, plain_arms, plain_clauses, plain_cases}
 use Rattle.py_scope.specs.Occurrences.{occurrences, in_arms, in_clauses, in_cases}
-use Rattle.py_scope.proofs.statements.+statements.Given as goal
+use Rattle.py_scope.proofs.occurrences.+statements.Given as goal
 
 abbrev pub invariant-statements-loop-s : goal.invariant-statements-loop-s
 invariant-statements-loop-s l = l.out.items ++ occurrences (plain_stmts (drop l.s-index l.items)) ≡ l.initial.out.items ++ occurrences (plain_stmts l.items)

@@ -4,7 +4,7 @@ use Rattle.py_syntax.specs.View.{plain_aliases}
 use Rattle.py_syntax.specs.Names.{alias_name}
 use Rattle.py_scope.specs.Occurrences.{assigning}
 use Rattle.py_scope.proofs.Gathering.{listed, at_end}
-use Rattle.py_scope.proofs.statements.aliases.Goals as goal
+use Rattle.py_scope.proofs.occurrences.aliases.Goals as goal
 
 pub returns : goal.returns
 returns c = at_end listed (λ xs. assigning (map alias_name (plain_aliases xs))) refl _ _ _ _ c.loop-alias-test.false c.loop-alias.invariant

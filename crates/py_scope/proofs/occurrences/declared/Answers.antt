@@ -1,7 +1,7 @@
 use Rattle.std.proofs.Common.{refl}
 use Rattle.py_scope.specs.Occurrences.{declaring}
 use Rattle.py_scope.proofs.Gathering.{listed, at_end}
-use Rattle.py_scope.proofs.statements.declared.Goals as goal
+use Rattle.py_scope.proofs.occurrences.declared.Goals as goal
 
 pub returns : goal.returns
 returns c = at_end listed (λ xs. declaring c.args.line xs) refl _ _ _ _ c.loop-name-test.false c.loop-name.invariant
