@@ -1,4 +1,3 @@
 mod Parts
 mod Placed
 pub mod PrefixLemmas
-pub mod CountLemmas
