@@ -112,10 +112,11 @@ item_falls vs W R F count cq cqs extra few f us le =
     let shape = append_more (map of_value vs) W (pushed us R) in
     let long = length_more (map of_value vs) (W ++ pushed us R) in
     let many = spread_length vs in
-    let same_long : length ((map of_value vs ++ W) ++ pushed us R) ≡ length (map of_value vs ++ (W ++ pushed us R)) = ap length shape in
-    (omega arith,
-    ap (λ zs. drop (length us + (count + extra)) zs) shape
-    ∙ (drop_front (map of_value vs) (W ++ pushed us R) (length us + (count + extra)) (length us + extra) (omega arith) ∙ fact.1))
+    let same_long : length ((map of_value vs ++ W) ++ pushed us R) ≡ length (map of_value vs ++ (W ++ pushed us R)) = ap length shape in (
+      omega arith,
+      ap (λ zs. drop (length us + (count + extra)) zs) shape
+          ∙ (drop_front (map of_value vs) (W ++ pushed us R) (length us + (count + extra)) (length us + extra) (omega arith) ∙ fact.1),
+    )
 
 -- over captured values
 rest_falls : (ws : List PlainValue) (W R F : List Operand) (cq cqs extra : ℕ) → length ws ≡ cq → Falls (cq + cqs) extra W R F → Falls cqs (cq + extra) W (pushed ws R) F
@@ -123,9 +124,10 @@ rest_falls ws W R F cq cqs extra named f us le =
     let long = length_values ws us in
     let fact = f (ws ++ us) (omega arith) in
     let shape : W ++ pushed (ws ++ us) R ≡ W ++ pushed us (pushed ws R) = ap (λ zs. W ++ zs) (pushed_append ws us R) in
-    let count : length (ws ++ us) + extra ≡ length us + (cq + extra) = omega arith in
-    (subst (λ m. m ≤ length (W ++ pushed us (pushed ws R))) count (subst (λ zs. length (ws ++ us) + extra ≤ length zs) shape fact.0),
-    ap (λ m. drop m (W ++ pushed us (pushed ws R))) (sym count) ∙ (ap (λ zs. drop (length (ws ++ us) + extra) zs) (sym shape) ∙ fact.1))
+    let count : length (ws ++ us) + extra ≡ length us + (cq + extra) = omega arith in (
+      subst (λ m. m ≤ length (W ++ pushed us (pushed ws R))) count (subst (λ zs. length (ws ++ us) + extra ≤ length zs) shape fact.0),
+      ap (λ m. drop m (W ++ pushed us (pushed ws R))) (sym count) ∙ (ap (λ zs. drop (length (ws ++ us) + extra) zs) (sym shape) ∙ fact.1),
+    )
 
 as_falls : (x : Operand) (W R F : List Operand) (cq extra : ℕ) → Falls (cq + 1) extra W R F → Falls cq (1 + extra) (x ∷ W) R F
 as_falls x W R F cq extra f us le =

@@ -280,7 +280,7 @@ module _ (cs : List Module) (ms : List LoadedModule) (matches : Matches cs ms) (
       let end = p + (expr_size of + expr_size at + 3 + expr_size e + 3) in
       let fits_at : (d last : ℕ) → last ≤ end → length st ≤ d → Fits g last d = λ d last le more. fits_more g last (length st) d more (fits_less g end last (length st) le fits) in
       let over : (x : Operand) (ys : List Operand) → length st ≤ length ys → ((y : PlainRaised) (t : State) (j : ℕ) → thrown cs w g ys y t j ≡ thrown cs w g st y t j) → (y : PlainRaised) (t : State) (j : ℕ) → thrown cs w g (x ∷ ys) y t j ≡ thrown cs w g st y t j
-          = λ x ys le h y t j. thrown_over cs w g end x ys (fits_at (length ys) end (omega arith) le) y t j ∙ h y t j in
+      = λ x ys le h y t j. thrown_over cs w g end x ys (fits_at (length ys) end (omega arith) le) y t j ∙ h y t j in
       let back = part_at cs ms matches c k calls w u is handled p (expr_size of) (expr_code g p of) _ (expr_length g p of) has in
       let last = part_at cs ms matches c k calls w u is handled q (expr_size at) (expr_code g q at) _ (expr_length g q at) back in
       let right : HasAt u m (expr_code g m e ++ put_cell g (plain (InPlace op)) (put_cell g (plain (Sink 2)) (put_cell g (plain StoreIndex) []))) = has_at u (r + 1 + 1 + 1) m _ (omega arith) last.1.1.1 in

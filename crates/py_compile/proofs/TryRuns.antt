@@ -397,7 +397,7 @@ module _ (cs : List Module) (ms : List LoadedModule) (matches : Matches cs ms) (
       let same : last_at ≡ end = omega arith in
       let tries = tried_code (has_clauses clauses) inner (p + 1) (stmts_size (in_hand v) body) (opt_size (in_hand v) orelse) (clauses_size (in_hand v) clauses) (λ x q. stmts_code fs x q body) (λ q. opt_code fs inner q orelse) (λ q to. clauses_code fs inner q to clauses) in
       let long = tried_length (has_clauses clauses) inner (p + 1) (stmts_size (in_hand v) body) (opt_size (in_hand v) orelse) (clauses_size (in_hand v) clauses) (λ x q. stmts_code fs x q body) (λ q. opt_code fs inner q orelse) (λ q to. clauses_code fs inner q to clauses)
-          (λ x q e. stmts_length fs x q body ∙ ap (λ h. stmts_size h body) e) (λ q. opt_length fs inner q orelse) (λ q to. clauses_length fs inner q to clauses) in
+      (λ x q e. stmts_length fs x q body ∙ ap (λ h. stmts_size h body) e) (λ q. opt_length fs inner q orelse) (λ q to. clauses_length fs inner q to clauses) in
       let behind = part_at cs ms matches c k calls w u is handled (p + 1) size tries _ long has.1 in
       let settled = part_at cs ms matches c k calls w u is handled begin (stmts_size (in_hand v) finally) (stmts_code fs (under v) begin finally) _ (stmts_length fs (under v) begin finally) behind.1 in
       mark_runs cs w u is l v.guard v p end st st _ s n has.0 (λ t j small.
