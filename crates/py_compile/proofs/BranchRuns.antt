@@ -1,8 +1,8 @@
 -- What the code of `if` and of loops does is what they mean.
-use Rattle.std.proofs.Common.{◌≡◌, ℕ, zero, suc, ◌+◌, ◌<◌, ◌≤◌, List, [], ◌∷◌, ◌++◌, length, drop, Option, Some, None, Bool, true, false, refl, sym, ap, ◌∙◌, subst, arith}
-use Rattle.std.specs.Prelude.{slice_get, Ok, Err}
+use Rattle.std.proofs.Common.{◌≡◌, ℕ, zero, suc, ◌+◌, ◌<◌, ◌≤◌, List, ◌∷◌, ◌++◌, length, Option, Some, None, Bool, false, refl, sym, ap, ◌∙◌, subst, arith}
+use Rattle.std.specs.Prelude.{Ok, Err}
 use Rattle.py_value.specs.Plain.{PlainValue, PlainRaised}
-use Rattle.py_syntax.specs.Tree.{Expr, Stmts, suite, OptSuite, no_suite, has_suite, Arms, no_arms, arm, if', while, for}
+use Rattle.py_syntax.specs.Tree.{Expr, Stmts, suite, OptSuite, Arms, no_arms, arm, if', while, for}
 use Rattle.py_builtins.specs.Items.{walk_length, item_of}
 use Rattle.py_builtins.specs.World.{Names}
 use Rattle.py_meaning.specs.Activations.{mark, again}
@@ -10,26 +10,26 @@ use Rattle.py_meaning.specs.Assignments.{assign_to}
 use Rattle.py_meaning.specs.Calls.{Calls}
 use Rattle.py_meaning.specs.Computations.{Setting, State, Res, done, cut, M, Ans, bind, give, chain, value, ask, branch, note, read}
 use Rattle.py_meaning.specs.Expressions.{gives, eval}
-use Rattle.py_meaning.specs.Laws.{IsAtMost, IsSteady}
+use Rattle.py_meaning.specs.Laws.{IsAtMost}
 use Rattle.py_meaning.specs.Modules.{LoadedModule}
 use Rattle.py_meaning.specs.Places.{Place}
-use Rattle.py_meaning.specs.Statements.{Out, normal, breaks, continues, returns as returned, raises, on_answer, using, looped, Loop, if_turn, one_turn, loop, while_header, while_loop, Walked, walked, at_item, for_header, for_loop, exec, exec_kind, exec_opt, exec_arms}
-use Rattle.py_meaning.proofs.Steady.{steady-give, steady-ask}
+use Rattle.py_meaning.specs.Statements.{Out, normal, breaks, continues, returns as returned, raises, on_answer, using, looped, Loop, if_turn, loop, while_header, while_loop, Walked, walked, at_item, for_loop, exec, exec_kind, exec_opt, exec_arms}
+use Rattle.py_meaning.proofs.Steady.{steady-ask}
 use Rattle.py_meaning.proofs.SteadyExpressions.{steady-eval, steady-assign_to}
 use Rattle.py_meaning.proofs.SteadyStatements.{steady_law, steady-using, whiles_turn, fors_turn}
 use Rattle.py_code.specs.declared.instr.Instr.TheVariants.{Goto, IfFalse, Walk, Next}
-use Rattle.py_code.specs.Configurations.{Operand, of_value, of_walk, Locals, End}
+use Rattle.py_code.specs.Configurations.{Operand, of_value, of_walk, Locals}
 use Rattle.py_code.specs.Machine.{act, answers, turns}
 use Rattle.py_code.specs.Slots.{by_names}
 use Rattle.py_code.specs.Units.{Code, Module, unit_at}
-use Rattle.py_compile_expr.specs.Cells.{Guard, Cell, cell, plain, marks, marks_again, put as put_cell}
+use Rattle.py_compile_expr.specs.Cells.{Cell, cell, plain, marks_again, put as put_cell}
 use Rattle.py_compile_expr.specs.Expressions.{expr_size, expr_code}
-use Rattle.py_compile_expr.specs.Runs.{Spot, conf, from as going, after, on_top, Fits, Matches, part_of, CallsRun}
+use Rattle.py_compile_expr.specs.Runs.{Spot, conf, from as going, on_top, Fits, Matches, part_of, CallsRun}
 use Rattle.py_compile_expr.specs.Stands.{StandsAt, HasAt}
 use Rattle.py_compile_expr.specs.Targets.{target_size, target_code}
 use Rattle.py_compile_expr.proofs.ExpressionRuns.{unchanged, part_at, eval_runs}
 use Rattle.py_compile_expr.proofs.Places.{has_front, has_at}
-use Rattle.py_compile_expr.proofs.Simulation.{fits_less, fits_more, at_most, led, asks, thrown_over}
+use Rattle.py_compile_expr.proofs.Simulation.{fits_less, at_most, led, asks}
 use Rattle.py_compile_expr.proofs.Sizes.{expr_length, target_length}
 use Rattle.py_compile.specs.StatementRuns.{after_out, FitsWays}
 use Rattle.py_compile.specs.Statements.{stmts_size, kind_size, opt_size, arms_size, stmts_code, kind_code, opt_code, arms_code}

@@ -1,37 +1,33 @@
 -- What a machine does with the code of units, in frames of their own, is what calls mean.
-use Rattle.std.proofs.Common.{◌≡◌, ℕ, zero, suc, ◌+◌, ◌-◌, ◌<◌, ◌≤◌, List, [], ◌∷◌, ◌++◌, length, drop, Option, Some, None, Bool, true, false, refl, sym, ap, ◌∙◌, subst, arith}
+use Rattle.std.proofs.Common.{◌≡◌, ℕ, zero, suc, ◌+◌, ◌-◌, ◌<◌, List, [], ◌∷◌, ◌++◌, length, drop, Option, Some, None, true, false, refl, sym, ap, ◌∙◌, subst, arith}
 use Rattle.std.specs.Prelude.{slice_get, if◌then◌else◌, Ok, Err}
 use Rattle.cov_event.specs.declared.event.CodeId.{CodeId}
-use Rattle.cov_event.specs.declared.event.Event.{Event}
-use Rattle.cov_event.specs.declared.event.Event.TheVariants.{Call as Called, Throw}
+use Rattle.cov_event.specs.declared.event.Event.TheVariants.{Call as Called}
 use Rattle.py_value.specs.Plain.{PlainValue, none_value, PlainRaised}
 use Rattle.py_syntax.specs.Functions.{Function, functions, without_docstring}
-use Rattle.py_syntax.specs.Names.{local_names}
 use Rattle.py_syntax.specs.Tree.{Text, Stmts}
 use Rattle.py_builtins.specs.Parameters.{parameters}
 use Rattle.py_builtins.specs.World.{Names, first_names, with_begun}
-use Rattle.py_meaning.specs.Activations.{Items, no_items, more, sub, activation, throw as throw_item}
-use Rattle.py_meaning.specs.Calls.{Calls}
-use Rattle.py_meaning.specs.Computations.{Setting, State, Res, done, cut, M, Ans, bind, add, put, give, chain, tick, write, stop}
+use Rattle.py_meaning.specs.Activations.{no_items, more, sub, activation, throw as throw_item}
+use Rattle.py_meaning.specs.Computations.{State, Res, done, cut, M, Ans, bind, add, put, give, chain, tick, write}
 use Rattle.py_meaning.specs.Events.{told}
-use Rattle.py_meaning.specs.Frames.{in_frame, back_in, answer_of, left_by, framed, own_names, place_of, exec_unit, begun, not_begun, ended, in_unit, unit_call, calls}
+use Rattle.py_meaning.specs.Frames.{in_frame, back_in, left_by, framed, own_names, place_of, exec_unit, begun, not_begun, ended, in_unit, unit_call, calls}
 use Rattle.py_meaning.specs.Laws.{IsAtMost, IsSteady, AreSteady}
-use Rattle.py_meaning.specs.Modules.{LoadedModule, body_of, module_body, module_name, name_of, unit_in, unit_of, function_in, function_found, function_or, imported_number, number_from}
-use Rattle.py_meaning.specs.Places.{Place}
+use Rattle.py_meaning.specs.Modules.{LoadedModule, body_of, module_body, module_name, unit_in, unit_of, function_in, function_found, function_or, number_from}
 use Rattle.py_meaning.specs.Statements.{Out, normal, breaks, continues, returns as returned, raises, exec}
 use Rattle.py_meaning.proofs.Steady.{steady-give, steady-stop, steady-chain, steady-tick, steady-write}
 use Rattle.py_meaning.proofs.SteadyStatements.{steady_law}
 use Rattle.py_code.specs.declared.instr.Instr.TheVariants.{Return}
 use Rattle.py_code.specs.declared.unit.Constant.TheVariants.{None as NoneConstant}
 use Rattle.py_code.specs.declared.unit.Handler.{Handler}
-use Rattle.py_code.specs.Configurations.{Operand, of_value, of_way, by_raise, Locals, Frame, Configuration, Effects, spent, End, Next}
-use Rattle.py_code.specs.Machine.{told as tells, escaped, entered, name_at, land, leave, give as giving, new_frame, begins, stepping, machine, follows}
-use Rattle.py_code.specs.Run.{Goes, go}
+use Rattle.py_code.specs.Configurations.{Operand, of_value, of_way, by_raise, Locals, spent, End}
+use Rattle.py_code.specs.Machine.{told as tells, entered, name_at, land, leave, begins, stepping, machine, follows}
+use Rattle.py_code.specs.Run.{go}
 use Rattle.py_code.specs.Slots.{by_names, params_in}
-use Rattle.py_code.specs.Units.{Code, Module, unit_at, units_of, handlers_in, handler_of, handler_at, imported_number as numbered, number_from as numbered_from}
+use Rattle.py_code.specs.Units.{Code, Module, unit_at, units_of, handlers_in, handler_of, handler_at, number_from as numbered_from}
 use Rattle.py_value.specs.Keys.{is_same_text}
-use Rattle.py_compile_expr.specs.Cells.{constant, plain, Guard, Cell, put as put_cell}
-use Rattle.py_compile_expr.specs.Runs.{Spot, effects_of, conf, from as going, thrown, after, on_top, Fits, IsLike, Matches, part_of, CallsRun}
+use Rattle.py_compile_expr.specs.Cells.{constant, plain, Guard, put as put_cell}
+use Rattle.py_compile_expr.specs.Runs.{Spot, effects_of, conf, from as going, thrown, after, on_top, IsLike, Matches, part_of, CallsRun}
 use Rattle.py_compile_expr.specs.Stands.{HasAt, Guards}
 use Rattle.py_compile_expr.proofs.ExpressionRuns.{constant_runs}
 use Rattle.py_compile_expr.proofs.Places.{has_front, has_behind, has_at}

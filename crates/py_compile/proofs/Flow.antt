@@ -3,7 +3,7 @@
 --     uses, then_runs                one part of a statement behind another
 --     mark_runs, again_runs          steps
 --     break_runs and the like        instructions that take ways out
-use Rattle.std.proofs.Common.{◌≡◌, ℕ, zero, suc, ◌+◌, ◌-◌, ◌<◌, ◌≤◌, List, [], ◌∷◌, ◌++◌, length, drop, Option, Some, None, Bool, true, false, refl, sym, ap, ◌∙◌, arith}
+use Rattle.std.proofs.Common.{◌≡◌, ℕ, zero, suc, ◌+◌, ◌-◌, ◌<◌, ◌≤◌, List, [], ◌∷◌, length, drop, Option, Some, None, Bool, true, false, refl, ap, ◌∙◌, arith}
 use Rattle.std.specs.Prelude.{slice_get, nat_le, if◌then◌else◌, Ok, Err}
 use Rattle.std.proofs.lemmas.Option.{slice_get_within}
 use Rattle.std.proofs.lemmas.Bool.Decides.{nat_tests}
@@ -17,11 +17,10 @@ use Rattle.py_meaning.specs.Laws.{IsAtMost}
 use Rattle.py_meaning.specs.Statements.{Out, normal, breaks, continues, returns as returned, raises, on_answer, using, next}
 use Rattle.py_code.specs.declared.instr.Instr.{Instr}
 use Rattle.py_code.specs.declared.unit.Handler.{Handler}
-use Rattle.py_code.specs.declared.instr.Instr.TheVariants.{Goto, Again}
+use Rattle.py_code.specs.declared.instr.Instr.TheVariants.{Goto}
 use Rattle.py_code.specs.Configurations.{Way, by_break, by_continue, by_return, by_raise, Operand, of_value, of_way, Locals, Frame, Configuration, Effects, stuck, End, Next}
-use Rattle.py_code.specs.Machine.{told as tells, told_line, act, acts, move, stepping, marks as marking, halted, jumps, where_found, rank, callers_rank, machine, follows, land, escapes, throw, leave, give as giving, dropping}
-use Rattle.py_code.specs.Operands.{exception_in, value_in}
-use Rattle.py_code.specs.Run.{Goes, Ticks, Ends, go}
+use Rattle.py_code.specs.Machine.{told as tells, told_line, act, move, stepping, marks as marking, halted, jumps, where_found, callers_rank, machine, land, escapes, throw, leave, give as giving, dropping}
+use Rattle.py_code.specs.Run.{Goes, Ticks, go}
 use Rattle.py_code.specs.Slots.{by_names}
 use Rattle.py_code.specs.Units.{Code, Module, unit_at, places_in, places_of, handlers_in, handler_of}
 use Rattle.py_code.proofs.Steps.{goes, ticks, ends, back_ticks, back_ends}

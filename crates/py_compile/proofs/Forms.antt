@@ -2,7 +2,7 @@
 --     StmtsRun, OptRuns, ArmsRun ..      the law of parts of statements
 --     marked_uses                        a line is marked, and an answer is used
 --     forks, forks_back                  jumps by the truth of a value
-use Rattle.std.proofs.Common.{◌≡◌, ℕ, zero, suc, ◌+◌, ◌<◌, ◌≤◌, List, [], ◌∷◌, length, Option, Some, None, Bool, true, false, refl, sym, ap, ◌∙◌, arith}
+use Rattle.std.proofs.Common.{◌≡◌, ℕ, ◌+◌, ◌<◌, ◌≤◌, List, ◌∷◌, Option, Some, Bool, true, false, refl, sym, ap, ◌∙◌, arith}
 use Rattle.std.specs.Prelude.{slice_get, if◌then◌else◌, Ok, Err}
 use Rattle.py_value.specs.Operators.{truth_of}
 use Rattle.py_value.specs.Plain.{PlainValue, PlainRaised}
@@ -10,19 +10,18 @@ use Rattle.py_syntax.specs.Functions.{Function, functions}
 use Rattle.py_syntax.specs.Tree.{Stmts, OptSuite, Arms, Clauses, Cases, StmtKind}
 use Rattle.py_meaning.specs.Activations.{mark}
 use Rattle.py_meaning.specs.Calls.{Calls}
-use Rattle.py_meaning.specs.Computations.{State, Res, done, cut, M, Ans, bind, give, chain, step, note, read, on_value, value, ask, branch}
+use Rattle.py_meaning.specs.Computations.{State, Res, done, cut, M, Ans, bind, give, chain, step, note, read, on_value, value, branch}
 use Rattle.py_meaning.specs.Expressions.{gives}
 use Rattle.py_meaning.specs.Laws.{IsSteady}
 use Rattle.py_meaning.specs.Modules.{LoadedModule, body_of}
 use Rattle.py_meaning.specs.Statements.{Out, on_answer, using, exec, exec_kind, exec_opt, exec_arms, exec_clauses, exec_cases}
 use Rattle.py_code.specs.declared.instr.Instr.{Instr}
-use Rattle.py_code.specs.Configurations.{Operand, of_value, of_way, by_raise, Locals, End}
+use Rattle.py_code.specs.Configurations.{Operand, of_value, of_way, by_raise, Locals}
 use Rattle.py_code.specs.Machine.{act, falls, jumps}
-use Rattle.py_code.specs.Run.{Goes}
 use Rattle.py_code.specs.Slots.{by_names}
 use Rattle.py_code.specs.Units.{Code, Module, unit_at}
 use Rattle.py_builtins.specs.World.{Names}
-use Rattle.py_compile_expr.specs.Cells.{Guard, cell, marks}
+use Rattle.py_compile_expr.specs.Cells.{cell, marks}
 use Rattle.py_compile_expr.specs.Runs.{Spot, conf, from as going, after, part_of}
 use Rattle.py_compile_expr.specs.Stands.{StandsAt, HasAt}
 use Rattle.py_compile_expr.proofs.Simulation.{at_most, led}

@@ -1,10 +1,8 @@
 -- What the code of imports does is what they mean.
-use Rattle.std.proofs.Common.{◌≡◌, ℕ, zero, suc, ◌+◌, ◌<◌, ◌≤◌, List, [], ◌∷◌, ◌++◌, length, Option, Some, None, Bool, true, false, refl, sym, ap, ◌∙◌, subst, arith}
-use Rattle.std.specs.Prelude.{slice_get, if◌then◌else◌, nat_lt, Ok, Err, codes}
+use Rattle.std.proofs.Common.{◌≡◌, ℕ, suc, ◌+◌, ◌<◌, List, [], ◌∷◌, length, Option, Some, None, Bool, true, false, refl, sym, ap, ◌∙◌, subst, arith}
+use Rattle.std.specs.Prelude.{slice_get, if◌then◌else◌, Ok, codes}
 use Rattle.cov_event.specs.declared.event.CodeId.{CodeId}
-use Rattle.py_value.specs.declared.cause.Cause.TheVariants.{TooDeep}
 use Rattle.py_value.specs.declared.value.ModId.TheVariants.{Loaded, Sys}
-use Rattle.py_value.specs.Causes.{raised_by}
 use Rattle.py_value.specs.Keys.{is_same_text}
 use Rattle.py_value.specs.Plain.{PlainValue, none_value, module_value, PlainRaised}
 use Rattle.py_syntax.specs.Functions.{Function}
@@ -12,32 +10,28 @@ use Rattle.py_syntax.specs.Names.{alias_name}
 use Rattle.py_syntax.specs.Tree.{Text, Alias, import, from}
 use Rattle.py_builtins.specs.Callees.{taken}
 use Rattle.py_builtins.specs.Faults.{no_module}
-use Rattle.py_builtins.specs.Parameters.{most_frames}
 use Rattle.py_builtins.specs.World.{Names, is_begun}
 use Rattle.py_meaning.specs.Calls.{Calls, enter}
-use Rattle.py_meaning.specs.Computations.{Setting, State, Res, done, cut, M, Ans, put, give, read, write, value, ask}
+use Rattle.py_meaning.specs.Computations.{Setting, State, M, Ans, put, give, read, write, value}
 use Rattle.py_meaning.specs.Expressions.{gives}
 use Rattle.py_meaning.specs.Imports.{loaded_module, begin, module_of, import_each, taken_in, take_each}
-use Rattle.py_meaning.specs.Laws.{IsAtMost, IsSteady}
 use Rattle.py_meaning.specs.Modules.{LoadedModule, function_in, function_found, number_from, imported_number}
 use Rattle.py_meaning.specs.Places.{Place, bound}
 use Rattle.py_meaning.specs.Statements.{normal, exec_kind}
-use Rattle.py_meaning.proofs.Steady.{steady-ask, steady-value}
+use Rattle.py_meaning.proofs.Steady.{steady-value}
 use Rattle.py_meaning.proofs.SteadyExpressions.{steady-enter, steady-module_of, steady-import_each, steady-take_each}
 use Rattle.py_code.specs.declared.instr.Instr.{Instr}
 use Rattle.py_code.specs.declared.instr.Instr.TheVariants.{Pop, Import, Module as LoadModule, Take}
-use Rattle.py_code.specs.Configurations.{Operand, of_value, Locals, Next, Configuration}
-use Rattle.py_code.specs.Machine.{act, answers, pushes, throw, enter as entering, runs_module, imports as importing, imported, module_of as module_found, where_found, one}
-use Rattle.py_code.specs.Operands.{value_in}
+use Rattle.py_code.specs.Configurations.{Operand, of_value, Locals, Configuration}
+use Rattle.py_code.specs.Machine.{act, answers, pushes, enter as entering, runs_module, imports as importing, imported, module_of as module_found, where_found}
 use Rattle.py_code.specs.Slots.{by_names}
-use Rattle.py_code.specs.Units.{Code, Module, unit_at, handler_of, imported_number as numbered}
-use Rattle.py_compile_expr.specs.Cells.{store, imports, module_named, takes, plain, Guard, cell, name_at}
+use Rattle.py_code.specs.Units.{Code, Module, unit_at, imported_number as numbered}
+use Rattle.py_compile_expr.specs.Cells.{imports, module_named, plain, Guard, cell, name_at}
 use Rattle.py_compile_expr.specs.Runs.{Spot, conf, from as going, after, on_top, Fits, IsLike, Matches, part_of, CallsRun}
 use Rattle.py_compile_expr.specs.Stands.{tables_in, StandsAt, HasAt}
 use Rattle.py_compile_expr.proofs.ExpressionRuns.{ends_at, unchanged, then_asks, frame_runs}
-use Rattle.py_compile_expr.proofs.Places.{has_at}
 use Rattle.py_compile_expr.proofs.Simulation.{fits_less, fits_more, Any, holds_any, at_most, thrown_over, runs_on, threw, asks}
-use Rattle.py_compile.specs.StatementRuns.{after_out, FitsWays, NamesMatch}
+use Rattle.py_compile.specs.StatementRuns.{NamesMatch}
 use Rattle.py_compile.specs.Statements.{import_size, import_code, take_size, take_code}
 use Rattle.py_compile.proofs.Flow.{led_on}
 use Rattle.py_compile.proofs.Forms.{KindRuns, marked_uses}

@@ -7,12 +7,15 @@ mod TargetRuns
 mod Forms
 mod SimpleRuns
 mod BranchRuns
+mod WaysOut
 mod TryRuns
 mod ImportRuns
 mod StatementLaw
 mod CallRuns
+mod SlotNames
 mod ProgramLaw
 mod PatternNames
+mod PatternOperands
 mod PatternRuns
 mod MatchRuns
 mod Agreement

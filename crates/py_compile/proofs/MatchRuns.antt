@@ -1,10 +1,9 @@
 -- What the code of `match` does is what it means.
-use Rattle.std.proofs.Common.{◌≡◌, ℕ, zero, suc, ◌+◌, ◌<◌, ◌≤◌, List, [], ◌∷◌, ◌++◌, length, take, drop, Option, Some, None, Bool, true, false, refl, sym, ap, ◌∙◌, subst, arith}
+use Rattle.std.proofs.Common.{◌≡◌, ℕ, suc, ◌+◌, ◌<◌, ◌≤◌, List, [], ◌∷◌, ◌++◌, length, Option, Some, None, Bool, refl, sym, ap, ◌∙◌, arith}
 use Rattle.std.specs.Prelude.{slice_get, remove, Ok, Err}
 use Rattle.py_value.specs.Plain.{PlainValue, PlainRaised}
 use Rattle.py_syntax.specs.Tree.{Text, Expr, Pattern, Stmts, suite, Cases, no_cases, case, match}
 use Rattle.py_builtins.specs.World.{Names}
-use Rattle.py_meaning.specs.Activations.{mark}
 use Rattle.py_meaning.specs.Calls.{Calls}
 use Rattle.py_meaning.specs.Computations.{Setting, State, M, Ans, put, give, chain, note, read, write, ask, branch}
 use Rattle.py_meaning.specs.Expressions.{eval}
@@ -14,15 +13,15 @@ use Rattle.py_meaning.specs.Places.{Place, bound}
 use Rattle.py_meaning.specs.Statements.{Out, on_answer, using, on_match, guarded, exec, exec_kind, exec_cases}
 use Rattle.py_meaning.proofs.SteadyExpressions.{steady-eval}
 use Rattle.py_code.specs.declared.instr.Instr.TheVariants.{Pop, Copy, Roll, Goto, IfFalse}
-use Rattle.py_code.specs.Configurations.{Operand, of_value, Locals}
+use Rattle.py_code.specs.Configurations.{Operand, of_value}
 use Rattle.py_code.specs.Machine.{falls, where_found}
 use Rattle.py_code.specs.Units.{Code, Module, unit_at}
 use Rattle.py_compile_expr.specs.Cells.{plain, Guard, Cell, put as put_cell}
 use Rattle.py_compile_expr.specs.Expressions.{expr_size, expr_code}
 use Rattle.py_compile_expr.specs.Patterns.{captured, pattern_size, Site, pattern_code, names_size, names_code}
-use Rattle.py_compile_expr.specs.Runs.{Spot, conf, from as going, thrown, on_top, Fits, Matches, part_of, CallsRun}
+use Rattle.py_compile_expr.specs.Runs.{Spot, conf, from as going, on_top, Fits, Matches, part_of, CallsRun}
 use Rattle.py_compile_expr.specs.Stands.{HasAt}
-use Rattle.py_compile_expr.proofs.ExpressionRuns.{unchanged, part_at, eval_runs}
+use Rattle.py_compile_expr.proofs.ExpressionRuns.{part_at, eval_runs}
 use Rattle.py_compile_expr.proofs.Places.{has_front, has_at}
 use Rattle.py_compile_expr.proofs.Pushed.{pushed, drop_pushed, length_pushed}
 use Rattle.py_compile_expr.proofs.Simulation.{fits_less, fits_more, at_most, led, thrown_over}
@@ -34,7 +33,8 @@ use Rattle.py_compile.specs.Ways.{Ways, in_hand}
 use Rattle.py_compile.proofs.Flow.{ways_less, thrown_is, uses, ends_on, led_on, mark_runs}
 use Rattle.py_compile.proofs.Forms.{here, StmtsRun, KindRuns, CasesRun, marked_uses, forks}
 use Rattle.py_compile.proofs.PatternNames.{names_in, values_in, as_many, HasNames, has_names}
-use Rattle.py_compile.proofs.PatternRuns.{Falls, after_match, pattern_runs}
+use Rattle.py_compile.proofs.PatternOperands.{Falls}
+use Rattle.py_compile.proofs.PatternRuns.{after_match, pattern_runs}
 use Rattle.py_compile.proofs.Sizes.{stmts_length, guard_length}
 use Rattle.py_compile.proofs.TargetRuns.{store_runs}
 

@@ -1,10 +1,10 @@
 -- A match gives values for the names that its pattern captures.
-use Rattle.std.proofs.Common.{◌≡◌, ℕ, suc, ◌+◌, ◌≤◌, List, [], ◌∷◌, ◌++◌, length, Option, Some, None, Bool, true, false, refl, sym, ap, ◌∙◌, arith}
+use Rattle.std.proofs.Common.{◌≡◌, suc, List, [], ◌∷◌, ◌++◌, length, Option, Some, None, Bool, true, false, refl, ap, ◌∙◌}
 use Rattle.std.specs.Prelude.{Ok, Err}
 use Rattle.py_value.specs.declared.operator.CmpOp.TheVariants.{Eq}
 use Rattle.py_value.specs.Answers.{◌>>=◌}
 use Rattle.py_value.specs.Operators.{compare_of}
-use Rattle.py_value.specs.Plain.{PlainValue, PlainRaised}
+use Rattle.py_value.specs.Plain.{PlainValue}
 use Rattle.py_syntax.specs.Tree.{Text, Pattern, literal, capture, wild, member, sequence, p_or, p_as, p_paren, Patterns, no_patterns, patterns}
 use Rattle.py_builtins.specs.Attributes.{attribute}
 use Rattle.py_builtins.specs.Items.{sequence_items, of_length}

@@ -1,38 +1,40 @@
 -- What a machine does with faithful code of modules is what these mean.
-use Rattle.std.proofs.Common.{◌≡◌, ℕ, zero, suc, ◌+◌, ◌-◌, ◌<◌, List, [], ◌∷◌, ◌++◌, length, map, Option, Some, None, refl, sym, ap, ◌∙◌, subst, arith}
+use Rattle.std.proofs.Common.{◌≡◌, ℕ, zero, suc, ◌-◌, ◌<◌, List, [], ◌∷◌, ◌++◌, length, map, Option, Some, None, refl, ap, ◌∙◌, arith}
 use Rattle.std.specs.Prelude.{slice_get, Result, Ok, Err}
 use Rattle.cov_event.specs.declared.event.CodeId.{CodeId}
 use Rattle.cov_event.specs.declared.event.Event.TheVariants.{Call as Called}
-use Rattle.py_value.specs.declared.builtin.Builtin.{Builtin}
-use Rattle.py_value.specs.declared.cause.Cause.TheVariants.{NotCallable, WrongArgumentCount}
 use Rattle.py_value.specs.declared.value.FuncId.{FuncId}
-use Rattle.py_value.specs.Causes.{raised_by}
-use Rattle.py_value.specs.Plain.{PlainValue, none_value, bool_value, int_value, str_value, tuple_value, list_at, dict_at, func_value, module_value, kind_value, exc_value, builtin_value, PlainHeap, PlainRaised}
+use Rattle.py_value.specs.Plain.{PlainValue, none_value, bool_value, int_value, str_value, tuple_value, list_at, dict_at, func_value, module_value, kind_value, exc_value, builtin_value, PlainRaised}
 use Rattle.py_syntax.specs.Functions.{Function, functions}
-use Rattle.py_syntax.specs.Tree.{Text}
+use Rattle.py_syntax.specs.Tree.{Text, Stmts}
 use Rattle.py_builtins.specs.Arguments.{Answer}
 use Rattle.py_builtins.specs.Attributes.{or_raise}
 use Rattle.py_builtins.specs.Builtins.{Done, builtin_of, exception_of}
 use Rattle.py_builtins.specs.Faults.{name_unknown}
+use Rattle.py_builtins.specs.Outcomes as outcomes
 use Rattle.py_builtins.specs.Parameters.{parameters, arguments, defaults_at}
+use Rattle.py_builtins.specs.Returns as returned_values
 use Rattle.py_builtins.specs.World.{World, Names, with_begun, first_names, global_of}
 use Rattle.py_meaning.specs.Activations.{no_items}
 use Rattle.py_meaning.specs.Calls.{enter, enter_with, call_value, call_function, use_builtin, set_input, code_of}
-use Rattle.py_meaning.specs.Computations.{State, Res, done, cut, Ans, put, set_heap, give, chain, tick, read, write, say, bind, on_value, value, ask, worked}
-use Rattle.py_meaning.specs.Events.{told, events_in}
+use Rattle.py_meaning.specs.Computations.{State, Res, done, cut, Ans, put, give, chain, tick, read, write, say, bind, on_value, value, ask, worked}
+use Rattle.py_meaning.specs.Events.{told}
 use Rattle.py_meaning.specs.Frames.{in_frame, left_by, framed, exec_unit, begun, ended, in_unit, unit_call, calls}
 use Rattle.py_meaning.specs.Modules.{LoadedModule, body_of, unit_of, function_found}
 use Rattle.py_meaning.specs.Program as meant
 use Rattle.py_meaning.specs.Statements.{Out, normal, breaks, continues, returns as returned, raises}
 use Rattle.py_code.specs.Configurations.{Locals, Effects, gave, failed, spent, End}
-use Rattle.py_code.specs.Machine.{told as tells, entered, follows, outermost, outer_call, at_once, reach, to_function, with_arguments, by_answer, by_done, machine as machine_of}
+use Rattle.py_code.specs.Machine.{told as tells, entered, follows, outermost, outer_call, at_once, reach, to_function, with_arguments, by_answer, machine as machine_of}
 use Rattle.py_code.specs.Programs as machine
 use Rattle.py_code.specs.Run.{go}
 use Rattle.py_code.specs.Slots.{by_names, by_slots, AreNamed}
 use Rattle.py_code.specs.Units.{Code, Module, unit_at}
 use Rattle.py_code.proofs.OneMachine.{one_machine}
 use Rattle.py_compile_expr.specs.Runs.{Spot, effects_of, IsLike}
-use Rattle.py_compile.specs.ProgramRuns.{HasUnits, AreFaithful, AreProperModules, IsRun, IsReply, ProgramsRun}
+use Rattle.py_compile.specs.ProgramRuns.{HasFunctions, HasUnits, AreFaithful, AreProperModules, as_run, as_reply, as_request, ProgramsRun}
+use Rattle.py_compile.specs.Units.{function_code, compiled}
+use Rattle.py_compile.proofs.SlotNames.{are_named}
+use Rattle.py_compile.proofs.Standing.{units_faithful}
 use Rattle.py_compile.proofs.CallRuns.{units_match, modules_pair, names_pair, unit_found, params_same, body_end, body_runs, calls_run}
 
 no_globals : (cs : List Module) (ms : List LoadedModule) → AreFaithful cs ms → map machine.no_names cs ≡ map meant.no_names ms
@@ -56,15 +58,18 @@ result_end (done (Ok x) s n) = record { how = gave x; steps = n; effects = effec
 result_end (done (Err e) s n) = record { how = failed e; steps = n; effects = effects_of [] s }
 result_end (cut s) = record { how = spent; steps = 0; effects = effects_of [] s }
 
-is_run : (budget : ℕ) (r : Res (Ans PlainValue)) → IsRun (machine.run_by budget (result_end r)) (meant.run_of budget r)
-is_run budget (done (Ok x) s n) = record { outcome = refl; out = refl; input = refl; steps = refl; events = refl; world = refl }
-is_run budget (done (Err e) s n) = record { outcome = refl; out = refl; input = refl; steps = refl; events = refl; world = refl }
-is_run budget (cut s) = record { outcome = refl; out = refl; input = refl; steps = omega arith; events = refl; world = refl }
+all_taken : (budget : ℕ) → budget - 0 ≡ budget
+all_taken budget = omega arith
 
-is_reply : (budget : ℕ) (r : Res (Ans PlainValue)) → IsReply (machine.reply_by budget (result_end r)) (meant.answer_in budget r)
-is_reply budget (done (Ok x) s n) = record { returned = refl; out = refl; input = refl; steps = refl; events = refl; world = refl }
-is_reply budget (done (Err e) s n) = record { returned = refl; out = refl; input = refl; steps = refl; events = refl; world = refl }
-is_reply budget (cut s) = record { returned = refl; out = refl; input = refl; steps = omega arith; events = refl; world = refl }
+is_run : (budget : ℕ) (r : Res (Ans PlainValue)) → machine.run_by budget (result_end r) ≡ as_run (meant.run_of budget r)
+is_run budget (done (Ok x) s n) = refl
+is_run budget (done (Err e) s n) = refl
+is_run budget (cut s) = ap (λ m. as_run (meant.run_with outcomes.cut s m)) (all_taken budget)
+
+is_reply : (budget : ℕ) (r : Res (Ans PlainValue)) → machine.reply_by budget (result_end r) ≡ as_reply (meant.answer_in budget r)
+is_reply budget (done (Ok x) s n) = refl
+is_reply budget (done (Err e) s n) = refl
+is_reply budget (cut s) = ap (λ m. as_reply (meant.answer_with returned_values.cut s m)) (all_taken budget)
 
 module _ (cs : List Module) (ms : List LoadedModule) (faithful : AreFaithful cs ms) (proper : AreProperModules ms) where
   abbrev N : Locals Names
@@ -194,47 +199,49 @@ module _ (cs : List Module) (ms : List LoadedModule) (faithful : AreFaithful cs 
     global_called (Ok x) vs budget = value_called x vs budget
     global_called (Err e) vs budget = refl
 
-    call_ends : (r : machine.Request) (q : meant.Request) → r.number ≡ q.number → r.name ≡ q.name → r.values ≡ q.values → (budget : ℕ) → machine.end_of_call N cs world input r budget ≡ result_end (meant.call_global ms q budget rest budget)
+    call_ends : (q : meant.Request) (budget : ℕ) → machine.end_of_call N cs world input (as_request q) budget ≡ result_end (meant.call_global ms q budget rest budget)
     unfolding machine.end_of_call value chain ask read give
-    call_ends r q number name values budget =
-        ap (λ m. follows N cs (outer_call N cs (machine.reach_global cs (or_raise (name_unknown r.name) (global_of m r.name world)) r.values still) budget still)) number
-        ∙ (ap (λ x. follows N cs (outer_call N cs (machine.reach_global cs (or_raise (name_unknown x) (global_of q.number x world)) r.values still) budget still)) name
-        ∙ (ap (λ vs. follows N cs (outer_call N cs (machine.reach_global cs (or_raise (name_unknown q.name) (global_of q.number q.name world)) vs still) budget still)) values
-        ∙ global_called (or_raise (name_unknown q.name) (global_of q.number q.name world)) q.values budget))
+    call_ends q budget = global_called (or_raise (name_unknown q.name) (global_of q.number q.name world)) q.values budget
 
   -- ---- programs, and calls
 
   worlds_same : (words : List Text) → machine.first_world cs words ≡ meant.first_world ms words
   worlds_same words = ap (λ gs. record { globals = gs; begun = []; heap = (meant.first_world ms words).heap; words = 0 }) (no_globals cs ms faithful)
 
-  names_law : 0 < length ms → (words : List Text) (input : List ℕ) (budget : ℕ) → IsRun (machine.run N cs (machine.first_world cs words) input budget) (meant.run_modules ms words input budget)
+  names_law : 0 < length ms → (words : List Text) (input : List ℕ) (budget : ℕ) → machine.run N cs (machine.first_world cs words) input budget ≡ as_run (meant.run_modules ms words input budget)
   unfolding machine.run meant.run_modules
   names_law some words input budget =
-      subst (λ x. IsRun (machine.run_by budget (machine.end_of_run N cs x input budget)) (meant.run_of budget (meant.script_body ms budget (meant.at_rest (meant.first_world ms words) input) budget))) (sym (worlds_same words))
-      (subst (λ e. IsRun (machine.run_by budget e) (meant.run_of budget (meant.script_body ms budget (meant.at_rest (meant.first_world ms words) input) budget))) (sym (script_ends (meant.first_world ms words) input some budget))
-      (is_run budget (meant.script_body ms budget (meant.at_rest (meant.first_world ms words) input) budget)))
+      let first = meant.first_world ms words in
+      ap (λ x. machine.run_by budget (machine.end_of_run N cs x input budget)) (worlds_same words)
+      ∙ (ap (machine.run_by budget) (script_ends first input some budget) ∙ is_run budget (meant.script_body ms budget (meant.at_rest first input) budget))
 
-  slots_law : AreNamed cs → 0 < length ms → (words : List Text) (input : List ℕ) (budget : ℕ) → IsRun (machine.run (by_slots cs) cs (machine.first_world cs words) input budget) (meant.run_modules ms words input budget)
+  slots_law : AreNamed cs → 0 < length ms → (words : List Text) (input : List ℕ) (budget : ℕ) → machine.run (by_slots cs) cs (machine.first_world cs words) input budget ≡ as_run (meant.run_modules ms words input budget)
   unfolding machine.run
-  slots_law named some words input budget =
-      subst (λ e. IsRun (machine.run_by budget e) (meant.run_modules ms words input budget)) (sym (one_machine.run cs named (machine.first_world cs words) input budget)) (names_law some words input budget)
+  slots_law named some words input budget = ap (machine.run_by budget) (one_machine.run cs named (machine.first_world cs words) input budget) ∙ names_law some words input budget
 
-  call_law : (world : World) (input : List ℕ) (r : machine.Request) (q : meant.Request) → r.number ≡ q.number → r.name ≡ q.name → r.values ≡ q.values → (budget : ℕ) → IsReply (machine.called N cs world input r budget) (meant.called ms world input q budget)
+  call_law : (world : World) (input : List ℕ) (q : meant.Request) (budget : ℕ) → machine.called N cs world input (as_request q) budget ≡ as_reply (meant.called ms world input q budget)
   unfolding machine.called meant.called
-  call_law world input r q number name values budget =
-      subst (λ e. IsReply (machine.reply_by budget e) (meant.answer_in budget (meant.call_global ms q budget (meant.at_rest world input) budget))) (sym (call_ends world input r q number name values budget))
-      (is_reply budget (meant.call_global ms q budget (meant.at_rest world input) budget))
+  call_law world input q budget = ap (machine.reply_by budget) (call_ends world input q budget) ∙ is_reply budget (meant.call_global ms q budget (meant.at_rest world input) budget)
 
-  call_slots_law : AreNamed cs → (world : World) (input : List ℕ) (r : machine.Request) (q : meant.Request) → r.number ≡ q.number → r.name ≡ q.name → r.values ≡ q.values → (budget : ℕ)
-      → IsReply (machine.called (by_slots cs) cs world input r budget) (meant.called ms world input q budget)
+  call_slots_law : AreNamed cs → (world : World) (input : List ℕ) (q : meant.Request) (budget : ℕ) → machine.called (by_slots cs) cs world input (as_request q) budget ≡ as_reply (meant.called ms world input q budget)
   unfolding machine.called
-  call_slots_law named world input r q number name values budget =
-      subst (λ e. IsReply (machine.reply_by budget e) (meant.called ms world input q budget)) (sym (one_machine.call cs named world input r budget)) (call_law world input r q number name values budget)
+  call_slots_law named world input q budget = ap (machine.reply_by budget) (one_machine.call cs named world input (as_request q) budget) ∙ call_law world input q budget
+
+-- ---- the code of modules
+
+functions_have : (b : Stmts) (fs : List Function) → HasFunctions (functions b) fs (map (function_code (functions b)) fs)
+functions_have b [] = tt
+functions_have b (f ∷ fs) = (units_faithful.function b f, functions_have b fs)
+
+compiles : (ms : List LoadedModule) → AreFaithful (map compiled ms) ms
+compiles [] = tt
+compiles (l ∷ ls) = (refl, (units_faithful.body l.body, functions_have l.body (functions l.body)), compiles ls)
 
 pub programs_run : ProgramsRun
 programs_run = record {
+  compiles = compiles;
   runs_by_names = λ cs ms faithful proper some words input budget. names_law cs ms faithful proper some words input budget;
-  runs_by_slots = λ cs ms faithful proper named some words input budget. slots_law cs ms faithful proper named some words input budget;
-  calls_by_names = λ cs ms faithful proper world input r q number name values budget. call_law cs ms faithful proper world input r q number name values budget;
-  calls_by_slots = λ cs ms faithful proper named world input r q number name values budget. call_slots_law cs ms faithful proper named world input r q number name values budget;
+  runs_by_slots = λ cs ms faithful proper own some words input budget. slots_law cs ms faithful proper (are_named cs ms faithful own) some words input budget;
+  calls_by_names = λ cs ms faithful proper world input q budget. call_law cs ms faithful proper world input q budget;
+  calls_by_slots = λ cs ms faithful proper own world input q budget. call_slots_law cs ms faithful proper (are_named cs ms faithful own) world input q budget;
 }

@@ -1,47 +1,47 @@
 -- What the code of simple statements does is what they mean.
-use Rattle.std.proofs.Common.{◌≡◌, ℕ, zero, suc, ◌+◌, ◌-◌, ◌<◌, ◌≤◌, List, [], ◌∷◌, ◌++◌, length, Option, Some, None, Bool, true, false, refl, sym, ap, ◌∙◌, subst, arith}
+use Rattle.std.proofs.Common.{◌≡◌, ℕ, ◌+◌, ◌-◌, ◌<◌, List, ◌∷◌, length, Option, Some, None, Bool, true, false, refl, sym, ap, ◌∙◌, arith}
 use Rattle.std.specs.Prelude.{slice_get, Ok, Err}
 use Rattle.py_value.specs.declared.cause.Cause.TheVariants.{NotException}
 use Rattle.py_value.specs.declared.exception.ExcKind.TheVariants.{AssertionError}
 use Rattle.py_value.specs.declared.operator.BinOp.{BinOp}
 use Rattle.py_value.specs.Causes.{raised_by}
 use Rattle.py_value.specs.Plain.{PlainValue, none_value, bool_value, int_value, str_value, tuple_value, list_at, dict_at, func_value, module_value, kind_value, exc_value, builtin_value, no_argument, PlainRaised}
-use Rattle.py_syntax.specs.Tree.{Text, Expr, Exprs, no_exprs, exprs, Suite, suite, StmtKind, expr, assign, aug_assign, pass, break, continue, return, raise, assert, global, def}
+use Rattle.py_syntax.specs.Tree.{Text, Expr, Exprs, no_exprs, exprs, Suite, StmtKind, expr, assign, aug_assign, pass, break, continue, return, raise, assert, global, def}
 use Rattle.py_builtins.specs.Catching.{assertion_error}
 use Rattle.py_builtins.specs.Methods.{new_list}
 use Rattle.py_builtins.specs.Parameters.{address_of}
-use Rattle.py_meaning.specs.Activations.{mark, throw as throw_item}
+use Rattle.py_meaning.specs.Activations.{throw as throw_item}
 use Rattle.py_meaning.specs.Assignments.{assign_all, augment}
 use Rattle.py_meaning.specs.Calls.{Calls}
-use Rattle.py_meaning.specs.Computations.{Setting, State, Res, done, cut, M, Ans, bind, add, put, give, chain, step, note, write, on_value, value, work}
-use Rattle.py_meaning.specs.Expressions.{gives, eval, eval_each}
+use Rattle.py_meaning.specs.Computations.{Setting, State, done, M, Ans, add, put, give, chain, note, write, value}
+use Rattle.py_meaning.specs.Expressions.{eval, eval_each}
 use Rattle.py_meaning.specs.Laws.{IsSteady}
 use Rattle.py_meaning.specs.Modules.{LoadedModule, unit_at as unit_of_line}
 use Rattle.py_meaning.specs.Places.{Place, bound}
-use Rattle.py_meaning.specs.Statements.{Out, normal, returns, raises, throwing, on_answer, using, simply, raise_value, reraise, failed_assertion, default_list, function_at, returned, raised as raised_out, exec_kind}
+use Rattle.py_meaning.specs.Statements.{normal, returns, throwing, on_answer, using, raise_value, reraise, failed_assertion, default_list, raised as raised_out, exec_kind}
 use Rattle.py_meaning.proofs.Steady.{steady-give, steady-value, steady-work}
 use Rattle.py_meaning.proofs.SteadyExpressions.{steady-eval, steady-each, steady-assign_all, steady-augment}
 use Rattle.py_code.specs.declared.instr.Instr.TheVariants.{Pop, List as MakeList, IfTrue, Function as MakeFunction, FunctionWith, Raise, Reraise, Assertion, AssertionWith}
 use Rattle.py_code.specs.declared.unit.Constant.TheVariants.{None as NoneConstant}
-use Rattle.py_code.specs.Configurations.{Operand, of_value, Locals, End}
-use Rattle.py_code.specs.Machine.{act, answers, falls, throw, escapes, raises as raising, with_operands, where_found, many, one, on_heap}
+use Rattle.py_code.specs.Configurations.{Operand, of_value, Locals}
+use Rattle.py_code.specs.Machine.{act, answers, falls, throw, escapes, raises as raising, where_found, on_heap}
 use Rattle.py_code.specs.Operands.{exception_in}
 use Rattle.py_code.specs.Slots.{by_names}
 use Rattle.py_code.specs.Units.{Code, Module, unit_at}
 use Rattle.py_builtins.specs.World.{Names}
-use Rattle.py_compile_expr.specs.Cells.{store, plain, Guard, cell, put as put_cell}
+use Rattle.py_compile_expr.specs.Cells.{plain, Guard, cell}
 use Rattle.py_compile_expr.specs.Expressions.{count, expr_size, expr_code, each_size, each_code}
-use Rattle.py_compile_expr.specs.Runs.{Spot, conf, from as going, thrown, after, on_top, Fits, Matches, part_of, CallsRun}
+use Rattle.py_compile_expr.specs.Runs.{Spot, conf, from as going, after, on_top, Fits, Matches, part_of, CallsRun}
 use Rattle.py_compile_expr.specs.Stands.{StandsAt, HasAt}
-use Rattle.py_compile_expr.specs.Targets.{all_size, all_code}
+use Rattle.py_compile_expr.specs.Targets.{all_size}
 use Rattle.py_compile_expr.proofs.ExpressionRuns.{each_counts, ends_at, then_value, unchanged, then_works, constant_runs, part_at, eval_runs, each_runs}
 use Rattle.py_compile_expr.proofs.Places.{has_front}
 use Rattle.py_compile_expr.proofs.Pushed.{pushed, many_pushed}
-use Rattle.py_compile_expr.proofs.Simulation.{fits_less, fits_more, Holds, at_most, thrown_over, runs_on, answered, works}
+use Rattle.py_compile_expr.proofs.Simulation.{fits_less, at_most, runs_on, works}
 use Rattle.py_compile_expr.proofs.Sizes.{expr_length, each_length}
-use Rattle.py_compile.specs.StatementRuns.{raised, after_out, HandledFits, FitsWays}
-use Rattle.py_compile.specs.Statements.{option_size, option_code, augment_size, raise_size, raise_code, assert_size, assert_code, function_size, function_code, kind_size, kind_code}
-use Rattle.py_compile.specs.Ways.{Ways, in_hand, is_there, return_exit}
+use Rattle.py_compile.specs.StatementRuns.{raised, after_out, HandledFits}
+use Rattle.py_compile.specs.Statements.{augment_size, raise_size, raise_code, assert_size, assert_code, function_size, function_code}
+use Rattle.py_compile.specs.Ways.{Ways, in_hand, is_there}
 use Rattle.py_compile.proofs.Flow.{route_less, uses, mark_runs, led_on, break_runs, continue_runs, return_runs, escaped_runs, threw_runs}
 use Rattle.py_compile.proofs.Forms.{here, KindRuns, using_value, marked_uses, forks_back}
 use Rattle.py_compile.proofs.Sizes.{function_length}

@@ -1,13 +1,13 @@
 -- What the code of statements does is what they mean.
-use Rattle.std.proofs.Common.{◌≡◌, ℕ, ◌+◌, ◌<◌, List, [], ◌∷◌, ◌++◌, length, Option, Some, None, Bool, ap, ◌∙◌, arith}
+use Rattle.std.proofs.Common.{◌≡◌, ℕ, ◌+◌, ◌<◌, List, Option, Some, None, ap, ◌∙◌, arith}
 use Rattle.py_value.specs.Plain.{PlainRaised}
 use Rattle.py_syntax.specs.declared.stmt.LineEnd.{LineEnd}
 use Rattle.py_syntax.specs.Tree.{Stmts, no_stmts, stmt, suite, OptSuite, no_suite, has_suite, Arms, no_arms, arm, Clauses, no_clauses, clause, Cases, no_cases, case, StmtKind, expr, assign, aug_assign, pass, break, continue, return, raise, assert, global, import, from, if', while, for, try, def, match}
 use Rattle.py_meaning.specs.Calls.{Calls}
-use Rattle.py_meaning.specs.Computations.{State, chain, give}
+use Rattle.py_meaning.specs.Computations.{State, give}
 use Rattle.py_meaning.specs.Modules.{LoadedModule}
 use Rattle.py_meaning.specs.Places.{Place}
-use Rattle.py_meaning.specs.Statements.{next, exec, exec_kind, exec_opt}
+use Rattle.py_meaning.specs.Statements.{exec, exec_kind, exec_opt}
 use Rattle.py_meaning.proofs.SteadyStatements.{steady-kind}
 use Rattle.py_code.specs.Configurations.{Operand}
 use Rattle.py_code.specs.Units.{Code, Module, unit_at}

@@ -1,5 +1,5 @@
 -- What the code of targets does is what assignments to them mean.
-use Rattle.std.proofs.Common.{◌≡◌, ℕ, zero, suc, ◌+◌, ◌<◌, ◌≤◌, List, [], ◌∷◌, ◌++◌, length, map, take, Option, Some, None, Bool, true, false, refl, sym, ap, ◌∙◌, subst, arith}
+use Rattle.std.proofs.Common.{◌≡◌, ℕ, suc, ◌+◌, ◌<◌, ◌≤◌, List, [], ◌∷◌, ◌++◌, length, map, take, Option, Some, Bool, true, false, refl, sym, ap, ◌∙◌, arith}
 use Rattle.std.specs.Prelude.{slice_get, if◌then◌else◌, nat_eq, Result, Ok, Err}
 use Rattle.std.proofs.lemmas.Bool.Decides.{nat_tests}
 use Rattle.py_value.specs.declared.cause.Cause.TheVariants.{NotSubscriptable, WrongValueCount}
@@ -13,20 +13,19 @@ use Rattle.py_syntax.specs.Names.{is_among}
 use Rattle.py_syntax.specs.Tree.{Text, Expr, name, int, str, fstr, none, bool, tuple, list, dict, paren, not', and, or, unary, binary, compare, cond, call, index, slice, attr, Exprs, no_exprs, exprs}
 use Rattle.py_builtins.specs.Items.{items_in, unpacked}
 use Rattle.py_builtins.specs.Making.{stored}
-use Rattle.py_builtins.specs.World.{Names, with_name, without_name, with_global, without_global}
+use Rattle.py_builtins.specs.World.{with_name, without_name, with_global, without_global}
 use Rattle.py_meaning.specs.Assignments.{no_target, target_count, assign_to, assign_each, assign_all, augment}
 use Rattle.py_meaning.specs.Calls.{Calls}
-use Rattle.py_meaning.specs.Computations.{Setting, State, Res, done, cut, M, Ans, put, give, write, value, read, ask, work}
-use Rattle.py_meaning.specs.Expressions.{gives, eval}
+use Rattle.py_meaning.specs.Computations.{Setting, State, done, put, give, write, value, read, ask, work}
+use Rattle.py_meaning.specs.Expressions.{gives}
 use Rattle.py_meaning.specs.Modules.{LoadedModule}
 use Rattle.py_meaning.specs.Places.{Place, fetched, bound, unbound}
 use Rattle.py_meaning.proofs.Steady.{steady-ask}
 use Rattle.py_meaning.proofs.SteadyExpressions.{steady-assign_to}
 use Rattle.py_code.specs.declared.instr.Instr.TheVariants.{Pop, Copy, Sink, StoreLocal, StoreGlobal, UnsetLocal, UnsetGlobal, InPlace, Index, StoreIndex, Unpack}
 use Rattle.py_code.specs.declared.unit.Constant.TheVariants.{None as NoneConstant}
-use Rattle.py_code.specs.Configurations.{Operand, of_value, End}
-use Rattle.py_code.specs.Machine.{falls, one, where_found, with_locals, on_world}
-use Rattle.py_code.specs.Operands.{value_in}
+use Rattle.py_code.specs.Configurations.{Operand, of_value}
+use Rattle.py_code.specs.Machine.{falls, where_found, with_locals, on_world}
 use Rattle.py_code.specs.Slots.{slot_name, name_or_none, locals_in}
 use Rattle.py_code.specs.Units.{Code, Module, unit_at}
 use Rattle.py_compile_expr.specs.Cells.{store, unset, plain, Guard, cell, put as put_cell, place_in, name_at}

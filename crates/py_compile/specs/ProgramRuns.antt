@@ -1,22 +1,23 @@
 -- What a machine does with faithful code of modules, beside what these mean.
 --     AreFaithful                    modules of code beside loaded modules
 --     AreProperModules               modules in which no alternative of a pattern binds a name
---     IsRun, IsReply                 a run and a call as they are meant
+--     HaveOwnParameters              modules whose parameters have slots of their own
+--     as_run, as_reply               a run and a call as they are meant
 --     ProgramsRun                    the law of programs
-use Rattle.std.specs.Prelude.{◌≡◌, ◌<◌, ℕ, List, [], ◌∷◌, length}
+use Rattle.std.specs.Prelude.{◌≡◌, ◌<◌, ℕ, false, List, [], ◌∷◌, length, map}
 use Rattle.py_builtins.specs.World.{World}
 use Rattle.py_syntax.specs.Functions.{Function, functions, without_docstring}
-use Rattle.py_syntax.specs.Names.{local_names}
+use Rattle.py_syntax.specs.Names.{is_among, declared_names, local_names}
 use Rattle.py_syntax.specs.Tree.{Text, Stmts}
 use Rattle.py_meaning.specs.Events.{events_in}
 use Rattle.py_meaning.specs.Modules.{LoadedModule}
 use Rattle.py_meaning.specs.Program as meant
 use Rattle.py_code.specs.Programs as machine
-use Rattle.py_code.specs.Slots.{by_names, by_slots, AreNamed}
+use Rattle.py_code.specs.Slots.{by_names, by_slots, IsDistinct}
 use Rattle.py_code.specs.Units.{Code, Module}
 use Rattle.py_compile.specs.Faithful.{IsFaithful}
 use Rattle.py_compile.specs.Proper.{AreProper}
-use Rattle.py_compile.specs.Units.{body_function}
+use Rattle.py_compile.specs.Units.{body_function, compiled}
 
 -- the units of functions, in the order of the text
 abbrev pub HasFunctions : List Function → List Function → List Code → Type 0
@@ -44,32 +45,43 @@ abbrev pub AreProperModules : List LoadedModule → Type 0
 AreProperModules [] = Unit {0}
 AreProperModules (l ∷ ls) = AreProper (without_docstring l.body) × AreProperFunctions (functions l.body) × AreProperModules ls
 
--- same ending, output, input left, steps, events and world
-pub record IsRun (r : machine.Run) (m : meant.Run) : Type 0 where
-  pub outcome : r.outcome ≡ m.outcome
-  pub out : r.out ≡ m.out
-  pub input : r.input ≡ m.input
-  pub steps : r.steps ≡ m.steps
-  pub events : r.events ≡ events_in m.items
-  pub world : r.world ≡ m.world
+-- none of these names is among those
+abbrev pub NoneAmong : List Text → List Text → Type 0
+NoneAmong ds [] = Unit {0}
+NoneAmong ds (x ∷ xs) = (is_among ds x ≡ false) × NoneAmong ds xs
 
--- and same answer
-pub record IsReply (r : machine.Reply) (m : meant.Answer) : Type 0 where
-  pub returned : r.returned ≡ m.returned
-  pub out : r.out ≡ m.out
-  pub input : r.input ≡ m.input
-  pub steps : r.steps ≡ m.steps
-  pub events : r.events ≡ events_in m.items
-  pub world : r.world ≡ m.world
+-- no two parameters have one name, and none is declared `global`
+abbrev pub HasOwnParameters : Function → Type 0
+HasOwnParameters f = IsDistinct f.params × NoneAmong (declared_names f.body) f.params
 
--- A machine runs faithful code of one or more modules as these mean, and answers a call as they mean it, on every world. It keeps local
--- names by names, or by slots where each of these has a name of its own.
+abbrev pub EachHasOwnParameters : List Function → Type 0
+EachHasOwnParameters [] = Unit {0}
+EachHasOwnParameters (f ∷ fs) = HasOwnParameters f × EachHasOwnParameters fs
+
+abbrev pub HaveOwnParameters : List LoadedModule → Type 0
+HaveOwnParameters [] = Unit {0}
+HaveOwnParameters (l ∷ ls) = EachHasOwnParameters (functions l.body) × HaveOwnParameters ls
+
+-- a run and a call as they are meant: with the events of what happened
+abbrev pub as_run : meant.Run → machine.Run
+as_run m = record { outcome = m.outcome; out = m.out; input = m.input; steps = m.steps; events = events_in m.items; world = m.world }
+
+abbrev pub as_reply : meant.Answer → machine.Reply
+as_reply m = record { returned = m.returned; out = m.out; input = m.input; steps = m.steps; events = events_in m.items; world = m.world }
+
+abbrev pub as_request : meant.Request → machine.Request
+as_request q = record { number = q.number; name = q.name; values = q.values }
+
+-- The code of modules is faithful. A machine runs faithful code of one or more modules as these mean, and answers a call as they mean it,
+-- on every world: same ending, output, input left, steps, events and world. It keeps local names by names, or by slots where parameters
+-- are such.
 pub record ProgramsRun : Type 0 where
+  pub compiles : (ms : List LoadedModule) → AreFaithful (map compiled ms) ms
   pub runs_by_names : (cs : List Module) (ms : List LoadedModule) → AreFaithful cs ms → AreProperModules ms → 0 < length ms → (words : List Text) (input : List ℕ) (budget : ℕ)
-      → IsRun (machine.run (by_names cs) cs (machine.first_world cs words) input budget) (meant.run_modules ms words input budget)
-  pub runs_by_slots : (cs : List Module) (ms : List LoadedModule) → AreFaithful cs ms → AreProperModules ms → AreNamed cs → 0 < length ms → (words : List Text) (input : List ℕ) (budget : ℕ)
-      → IsRun (machine.run (by_slots cs) cs (machine.first_world cs words) input budget) (meant.run_modules ms words input budget)
-  pub calls_by_names : (cs : List Module) (ms : List LoadedModule) → AreFaithful cs ms → AreProperModules ms → (w : World) (input : List ℕ) (r : machine.Request) (q : meant.Request)
-      → r.number ≡ q.number → r.name ≡ q.name → r.values ≡ q.values → (budget : ℕ) → IsReply (machine.called (by_names cs) cs w input r budget) (meant.called ms w input q budget)
-  pub calls_by_slots : (cs : List Module) (ms : List LoadedModule) → AreFaithful cs ms → AreProperModules ms → AreNamed cs → (w : World) (input : List ℕ) (r : machine.Request) (q : meant.Request)
-      → r.number ≡ q.number → r.name ≡ q.name → r.values ≡ q.values → (budget : ℕ) → IsReply (machine.called (by_slots cs) cs w input r budget) (meant.called ms w input q budget)
+      → machine.run (by_names cs) cs (machine.first_world cs words) input budget ≡ as_run (meant.run_modules ms words input budget)
+  pub runs_by_slots : (cs : List Module) (ms : List LoadedModule) → AreFaithful cs ms → AreProperModules ms → HaveOwnParameters ms → 0 < length ms → (words : List Text) (input : List ℕ) (budget : ℕ)
+      → machine.run (by_slots cs) cs (machine.first_world cs words) input budget ≡ as_run (meant.run_modules ms words input budget)
+  pub calls_by_names : (cs : List Module) (ms : List LoadedModule) → AreFaithful cs ms → AreProperModules ms → (w : World) (input : List ℕ) (q : meant.Request) (budget : ℕ)
+      → machine.called (by_names cs) cs w input (as_request q) budget ≡ as_reply (meant.called ms w input q budget)
+  pub calls_by_slots : (cs : List Module) (ms : List LoadedModule) → AreFaithful cs ms → AreProperModules ms → HaveOwnParameters ms → (w : World) (input : List ℕ) (q : meant.Request) (budget : ℕ)
+      → machine.called (by_slots cs) cs w input (as_request q) budget ≡ as_reply (meant.called ms w input q budget)

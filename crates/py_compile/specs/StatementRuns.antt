@@ -3,7 +3,7 @@
 --     after_out                              all of them
 --     FitsWays                               ways that lead ahead
 --     StatementsRun                          the law of statements
-use Rattle.std.specs.Prelude.{◌≡◌, ℕ, suc, ◌+◌, ◌-◌, ◌<◌, ◌≤◌, Bool, true, false, List, [], ◌∷◌, length, drop, Option, Some, None, slice_get}
+use Rattle.std.specs.Prelude.{◌≡◌, ℕ, ◌+◌, ◌-◌, ◌<◌, ◌≤◌, Bool, true, false, List, ◌∷◌, length, drop, Option, Some, None, slice_get}
 use Rattle.py_value.specs.Plain.{PlainValue, none_value, PlainRaised}
 use Rattle.py_syntax.specs.Functions.{functions}
 use Rattle.py_syntax.specs.Tree.{Text, Stmts}
