@@ -13,7 +13,7 @@ mod ImportRuns
 mod StatementLaw
 mod CallRuns
 mod SlotNames
-mod ProgramLaw
+pub mod ProgramLaw
 mod PatternNames
 mod PatternOperands
 mod PatternRuns

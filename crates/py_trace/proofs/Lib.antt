@@ -1,0 +1,3 @@
+mod Patterns
+mod Bodies
+mod Law
