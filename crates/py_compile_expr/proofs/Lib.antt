@@ -3,3 +3,8 @@ pub mod Places
 pub mod Pushed
 pub mod Simulation
 pub mod ExpressionRuns
+pub mod Turns
+pub mod Chains
+pub mod Alternatives
+pub mod Calls
+pub mod Nodes

@@ -1,5 +1,8 @@
 pub mod Cells
+pub mod CellView
 pub mod Expressions
+pub mod Callees
+pub mod Pieces
 pub mod Targets
 pub mod Patterns
 pub mod Laws

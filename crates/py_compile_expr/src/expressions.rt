@@ -1,0 +1,309 @@
+// Emission of expressions: each leaves its value on top.
+
+ghost use Rattle.std.specs.Prelude.{◌≡◌, ◌+◌, ◌++◌, IfOk, OnOk};
+ghost use Rattle.std.specs.Option.{option_map};
+ghost use Rattle.py_syntax.specs.View.{plain_expr, plain_exprs, plain_pairs, plain_links, plain_fragments, plain_parts, opt_of};
+ghost use Rattle.py_compile_expr.specs.CellView.{plain_guard};
+ghost use Rattle.py_compile_expr.specs.Callees.{callee_code};
+ghost use Rattle.py_compile_expr.specs.Expressions.{count, expr_size, expr_code, each_size, each_code, pairs_size, pairs_code, links_size, links_code, opt_size, opt_code, fragments_size, fragments_code, parts_size, parts_code};
+
+use crate::cells::{Builder, Guard, Op, sum};
+use crate::expr_sizes::{expr_size, links_size};
+use crate::operators::{bounds, count, link_instr, question, sign_operator};
+use crate::texts::{put_chars, put_string, put_text};
+use py_code::{Constant, Instr};
+use py_syntax::{Expr, FormatPart, Fragment, Link, Pair};
+use py_value::NoMemory;
+
+/// Adds the code of an expression at a place, with the handler that holds there. Answers the place behind it.
+#[cycle(expressions)]
+pub fn put_expr(out: &mut Builder, guard: Option<Guard>, at: u32, e: &Expr) -> Result<u32, NoMemory>
+    ensures cells { OnOk result (out.new ≡ out.old ++ expr_code (plain_guard guard) at (plain_expr e.now)) }
+    ensures place { IfOk result (λ n. n ≡ at + expr_size (plain_expr e.now)) }
+{
+    match e {
+        Expr::Name(name) => {
+            let name = name.copy()?;
+            out.put(guard, at, Op::Load(name))
+        }
+        Expr::Int(n) => out.put(guard, at, Op::Constant(Constant::Int(*n))),
+        Expr::Str(pieces) => put_string(out, guard, at, pieces),
+        Expr::FStr(pieces) => {
+            let at = put_text(out, guard, at)?;
+            put_fragments(out, guard, at, pieces)
+        }
+        Expr::None => out.put(guard, at, Op::Constant(Constant::None)),
+        Expr::Bool(b) => out.put(guard, at, Op::Constant(Constant::Bool(*b))),
+        Expr::Tuple { items, comma: _ } => {
+            let size = count(items)?;
+            let at = put_each(out, guard, at, items)?;
+            out.put(guard, at, Op::Plain(Instr::Tuple(size)))
+        }
+        Expr::List { items, comma: _ } => {
+            let size = count(items)?;
+            let at = put_each(out, guard, at, items)?;
+            out.put(guard, at, Op::Plain(Instr::List(size)))
+        }
+        Expr::Dict { items, comma: _ } => {
+            let at = out.put(guard, at, Op::Plain(Instr::Dict))?;
+            put_pairs(out, guard, at, items)
+        }
+        Expr::Paren(inner) => put_expr(out, guard, at, inner),
+        Expr::Not(operand) => {
+            let at = put_expr(out, guard, at, operand)?;
+            out.put(guard, at, Op::Plain(Instr::Not))
+        }
+        Expr::And(left, right) => {
+            let size = expr_size(right)?;
+            let at = put_expr(out, guard, at, left)?;
+            let end = over(at, size)?;
+            let at = out.put(guard, at, Op::Plain(Instr::And(end)))?;
+            put_expr(out, guard, at, right)
+        }
+        Expr::Or(left, right) => {
+            let size = expr_size(right)?;
+            let at = put_expr(out, guard, at, left)?;
+            let end = over(at, size)?;
+            let at = out.put(guard, at, Op::Plain(Instr::Or(end)))?;
+            put_expr(out, guard, at, right)
+        }
+        Expr::Unary(sign, operand) => {
+            let at = out.put(guard, at, Op::Constant(Constant::Int(0)))?;
+            let at = put_expr(out, guard, at, operand)?;
+            out.put(guard, at, Op::Plain(Instr::Binary(sign_operator(*sign))))
+        }
+        Expr::Binary(op, left, right) => {
+            let at = put_expr(out, guard, at, left)?;
+            let at = put_expr(out, guard, at, right)?;
+            out.put(guard, at, Op::Plain(Instr::Binary(*op)))
+        }
+        Expr::Compare(first, links) => {
+            let size = links_size(links)?;
+            let at = put_expr(out, guard, at, first)?;
+            let end = sum(at, size)?;
+            put_links(out, guard, at, end, links)
+        }
+        Expr::Cond { body, test, orelse } => {
+            let body_size = expr_size(body)?;
+            let orelse_size = expr_size(orelse)?;
+            let at = put_expr(out, guard, at, test)?;
+            let no = sum(over(at, body_size)?, 1)?;
+            let end = sum(no, orelse_size)?;
+            let at = out.put(guard, at, Op::Plain(Instr::IfFalse(no)))?;
+            let at = put_expr(out, guard, at, body)?;
+            let at = out.put(guard, at, Op::Plain(Instr::Goto(end)))?;
+            put_expr(out, guard, at, orelse)
+        }
+        Expr::Call {
+            callee,
+            args,
+            comma: _,
+        } => {
+            let size = count(args)?;
+            let at = put_callee(out, guard, at, callee)?;
+            let at = put_each(out, guard, at, args)?;
+            out.put(guard, at, Op::Plain(Instr::Call(size)))
+        }
+        Expr::Index(of, index) => {
+            let at = put_expr(out, guard, at, of)?;
+            let at = put_expr(out, guard, at, index)?;
+            out.put(guard, at, Op::Plain(Instr::Index))
+        }
+        Expr::Slice { of, from, to } => {
+            let at = put_expr(out, guard, at, of)?;
+            let at = put_bound(out, guard, at, from)?;
+            let at = put_bound(out, guard, at, to)?;
+            out.put(guard, at, Op::Plain(Instr::Slice(bounds(from, to))))
+        }
+        Expr::Attr(of, name) => {
+            let name = name.copy()?;
+            let at = put_expr(out, guard, at, of)?;
+            out.put(guard, at, Op::Attribute(name))
+        }
+    }
+}
+
+/// The place behind one instruction and a part of this size.
+pub fn over(at: u32, size: u32) -> Result<u32, NoMemory>
+    ensures { IfOk result (λ n. n ≡ at + 1 + size) }
+{
+    let next = sum(at, 1)?;
+    sum(next, size)
+}
+
+/// What is called: a method by the name behind a dot, or else the value of an expression.
+#[cycle(expressions)]
+fn put_callee(
+    out: &mut Builder,
+    guard: Option<Guard>,
+    at: u32,
+    callee: &Expr,
+) -> Result<u32, NoMemory>
+    ensures cells { OnOk result (out.new ≡ out.old ++ callee_code (plain_guard guard) at (plain_expr callee.now)) }
+    ensures place { IfOk result (λ n. n ≡ at + expr_size (plain_expr callee.now)) }
+{
+    match callee {
+        Expr::Name(_)
+        | Expr::Int(_)
+        | Expr::Str(_)
+        | Expr::FStr(_)
+        | Expr::None
+        | Expr::Bool(_)
+        | Expr::Tuple { items: _, comma: _ }
+        | Expr::List { items: _, comma: _ }
+        | Expr::Dict { items: _, comma: _ }
+        | Expr::Paren(_)
+        | Expr::Not(_)
+        | Expr::And(_, _)
+        | Expr::Or(_, _)
+        | Expr::Unary(_, _)
+        | Expr::Binary(_, _, _)
+        | Expr::Compare(_, _)
+        | Expr::Cond {
+            body: _,
+            test: _,
+            orelse: _,
+        }
+        | Expr::Call {
+            callee: _,
+            args: _,
+            comma: _,
+        }
+        | Expr::Index(_, _)
+        | Expr::Slice {
+            of: _,
+            from: _,
+            to: _,
+        } => put_expr(out, guard, at, callee),
+        Expr::Attr(of, name) => {
+            let name = name.copy()?;
+            let at = put_expr(out, guard, at, of)?;
+            out.put(guard, at, Op::Method(name))
+        }
+    }
+}
+
+/// Adds the code of expressions in a row.
+#[cycle(expressions)]
+pub fn put_each(
+    out: &mut Builder,
+    guard: Option<Guard>,
+    at: u32,
+    items: &[Expr],
+) -> Result<u32, NoMemory>
+    ensures cells { OnOk result (out.new ≡ out.old ++ each_code (plain_guard guard) at (plain_exprs items.now)) }
+    ensures place { IfOk result (λ n. n ≡ at + each_size (plain_exprs items.now)) }
+{
+    let mut to = at;
+    for e in items {
+        to = put_expr(out, guard, to, e)?;
+    }
+    Ok(to)
+}
+
+#[cycle(expressions)]
+fn put_pairs(
+    out: &mut Builder,
+    guard: Option<Guard>,
+    at: u32,
+    items: &[Pair],
+) -> Result<u32, NoMemory>
+    ensures cells { OnOk result (out.new ≡ out.old ++ pairs_code (plain_guard guard) at (plain_pairs items.now)) }
+    ensures place { IfOk result (λ n. n ≡ at + pairs_size (plain_pairs items.now)) }
+{
+    let mut to = at;
+    for pair in items {
+        to = put_expr(out, guard, to, &pair.key)?;
+        to = put_expr(out, guard, to, &pair.value)?;
+        to = out.put(guard, to, Op::Plain(Instr::AddPair))?;
+    }
+    Ok(to)
+}
+
+/// The comparisons of a chain. The first false one leads to the end.
+#[cycle(expressions)]
+fn put_links(
+    out: &mut Builder,
+    guard: Option<Guard>,
+    at: u32,
+    end: u32,
+    items: &[Link],
+) -> Result<u32, NoMemory>
+    ensures cells { OnOk result (out.new ≡ out.old ++ links_code (plain_guard guard) at end (plain_links items.now)) }
+    ensures place { IfOk result (λ n. n ≡ at + links_size (plain_links items.now)) }
+{
+    if items.is_empty() {
+        let at = out.put(guard, at, Op::Plain(Instr::Pop))?;
+        return out.put(guard, at, Op::Constant(Constant::Bool(true)));
+    }
+    let mut to = at;
+    for i in 0..items.len() {
+        let link = &items[i];
+        to = put_expr(out, guard, to, &link.right)?;
+        let instr = link_instr(question(link.op), end, items.len() - i);
+        to = out.put(guard, to, Op::Plain(instr))?;
+    }
+    Ok(to)
+}
+
+#[cycle(expressions)]
+fn put_bound(
+    out: &mut Builder,
+    guard: Option<Guard>,
+    at: u32,
+    e: &Option<Box<Expr>>,
+) -> Result<u32, NoMemory>
+    ensures cells { OnOk result (out.new ≡ out.old ++ opt_code (plain_guard guard) at (opt_of (option_map (λ b. plain_expr b.value) e.now))) }
+    ensures place { IfOk result (λ n. n ≡ at + opt_size (opt_of (option_map (λ b. plain_expr b.value) e.now))) }
+{
+    match e {
+        None => Ok(at),
+        Some(e) => put_expr(out, guard, at, e),
+    }
+}
+
+/// Neighbouring strings, each behind the text on top.
+#[cycle(expressions)]
+fn put_fragments(
+    out: &mut Builder,
+    guard: Option<Guard>,
+    at: u32,
+    items: &[Fragment],
+) -> Result<u32, NoMemory>
+    ensures cells { OnOk result (out.new ≡ out.old ++ fragments_code (plain_guard guard) at (plain_fragments items.now)) }
+    ensures place { IfOk result (λ n. n ≡ at + fragments_size (plain_fragments items.now)) }
+{
+    let mut to = at;
+    for fragment in items {
+        match fragment {
+            Fragment::Plain(text) => to = put_chars(out, guard, to, text)?,
+            Fragment::Format(parts) => to = put_parts(out, guard, to, parts)?,
+        }
+    }
+    Ok(to)
+}
+
+/// The parts of an f-string, each behind the text on top.
+#[cycle(expressions)]
+fn put_parts(
+    out: &mut Builder,
+    guard: Option<Guard>,
+    at: u32,
+    items: &[FormatPart],
+) -> Result<u32, NoMemory>
+    ensures cells { OnOk result (out.new ≡ out.old ++ parts_code (plain_guard guard) at (plain_parts items.now)) }
+    ensures place { IfOk result (λ n. n ≡ at + parts_size (plain_parts items.now)) }
+{
+    let mut to = at;
+    for part in items {
+        match part {
+            FormatPart::Chars(text) => to = put_chars(out, guard, to, text)?,
+            FormatPart::Field(e) => {
+                to = put_expr(out, guard, to, e)?;
+                to = out.put(guard, to, Op::Plain(Instr::Text))?;
+                to = out.put(guard, to, Op::Plain(Instr::Extend))?;
+            }
+        }
+    }
+    Ok(to)
+}

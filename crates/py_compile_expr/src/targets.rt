@@ -1,0 +1,183 @@
+// Emission of targets: each takes the value on top.
+
+ghost use Rattle.std.specs.Prelude.{◌≡◌, ◌+◌, ◌++◌, IfOk, OnOk};
+ghost use Rattle.py_syntax.specs.View.{plain_expr, plain_exprs};
+ghost use Rattle.py_compile_expr.specs.CellView.{plain_guard};
+ghost use Rattle.py_compile_expr.specs.Targets.{no_target_code, target_size, target_code, targets_size, targets_code, all_size, all_code};
+
+use crate::cells::{Builder, Guard, Op, sum};
+use crate::expr_sizes::{both, expr_size};
+use crate::expressions::put_expr;
+use crate::operators::count;
+use py_code::{Constant, Instr};
+use py_syntax::Expr;
+use py_value::NoMemory;
+
+/// How many instructions a target takes.
+#[cycle(target_sizes)]
+pub fn target_size(e: &Expr) -> Result<u32, NoMemory>
+    ensures { IfOk result (λ n. n ≡ target_size (plain_expr e.now)) }
+{
+    match e {
+        Expr::Name(_) => Ok(1),
+        Expr::Int(_) | Expr::Str(_) | Expr::FStr(_) | Expr::None | Expr::Bool(_) => Ok(5),
+        Expr::Tuple { items, comma: _ } => sum(targets_size(items)?, 1),
+        Expr::List { items, comma: _ } => sum(targets_size(items)?, 1),
+        Expr::Dict { items: _, comma: _ } => Ok(5),
+        Expr::Paren(inner) => target_size(inner),
+        Expr::Not(_)
+        | Expr::And(_, _)
+        | Expr::Or(_, _)
+        | Expr::Unary(_, _)
+        | Expr::Binary(_, _, _)
+        | Expr::Compare(_, _)
+        | Expr::Cond {
+            body: _,
+            test: _,
+            orelse: _,
+        }
+        | Expr::Call {
+            callee: _,
+            args: _,
+            comma: _,
+        } => Ok(5),
+        Expr::Index(of, at) => both(expr_size(of)?, expr_size(at)?),
+        Expr::Slice {
+            of: _,
+            from: _,
+            to: _,
+        }
+        | Expr::Attr(_, _) => Ok(5),
+    }
+}
+
+#[cycle(target_sizes)]
+fn targets_size(items: &[Expr]) -> Result<u32, NoMemory>
+    ensures { IfOk result (λ n. n ≡ targets_size (plain_exprs items.now)) }
+{
+    let mut size = 0;
+    for e in items {
+        size = sum(size, target_size(e)?)?;
+    }
+    Ok(size)
+}
+
+/// How many instructions it takes to give one value to each of these targets.
+pub fn all_size(items: &[Expr]) -> Result<u32, NoMemory>
+    ensures { IfOk result (λ n. n ≡ all_size (plain_exprs items.now)) }
+{
+    let mut size = 1;
+    for e in items {
+        size = both(size, target_size(e)?)?;
+    }
+    Ok(size)
+}
+
+/// What is no target raises as None has no items.
+fn put_no_target(out: &mut Builder, guard: Option<Guard>, at: u32) -> Result<u32, NoMemory>
+    ensures cells { OnOk result (out.new ≡ out.old ++ no_target_code (plain_guard guard)) }
+    ensures place { IfOk result (λ n. n ≡ at + 5) }
+{
+    let at = out.put(guard, at, Op::Constant(Constant::None))?;
+    let at = out.put(guard, at, Op::Constant(Constant::None))?;
+    let at = out.put(guard, at, Op::Plain(Instr::Index))?;
+    let at = out.put(guard, at, Op::Plain(Instr::Pop))?;
+    out.put(guard, at, Op::Plain(Instr::Pop))
+}
+
+/// Adds the code of a target.
+#[cycle(targets)]
+pub fn put_target(
+    out: &mut Builder,
+    guard: Option<Guard>,
+    at: u32,
+    e: &Expr,
+) -> Result<u32, NoMemory>
+    ensures cells { OnOk result (out.new ≡ out.old ++ target_code (plain_guard guard) at (plain_expr e.now)) }
+    ensures place { IfOk result (λ n. n ≡ at + target_size (plain_expr e.now)) }
+{
+    match e {
+        Expr::Name(name) => {
+            let name = name.copy()?;
+            out.put(guard, at, Op::Store(name))
+        }
+        Expr::Int(_) | Expr::Str(_) | Expr::FStr(_) | Expr::None | Expr::Bool(_) => {
+            put_no_target(out, guard, at)
+        }
+        Expr::Tuple { items, comma: _ } => {
+            let size = count(items)?;
+            let at = out.put(guard, at, Op::Plain(Instr::Unpack(size)))?;
+            put_targets(out, guard, at, items)
+        }
+        Expr::List { items, comma: _ } => {
+            let size = count(items)?;
+            let at = out.put(guard, at, Op::Plain(Instr::Unpack(size)))?;
+            put_targets(out, guard, at, items)
+        }
+        Expr::Dict { items: _, comma: _ } => put_no_target(out, guard, at),
+        Expr::Paren(inner) => put_target(out, guard, at, inner),
+        Expr::Not(_)
+        | Expr::And(_, _)
+        | Expr::Or(_, _)
+        | Expr::Unary(_, _)
+        | Expr::Binary(_, _, _)
+        | Expr::Compare(_, _)
+        | Expr::Cond {
+            body: _,
+            test: _,
+            orelse: _,
+        }
+        | Expr::Call {
+            callee: _,
+            args: _,
+            comma: _,
+        } => put_no_target(out, guard, at),
+        Expr::Index(of, index) => {
+            let at = put_expr(out, guard, at, of)?;
+            let at = put_expr(out, guard, at, index)?;
+            out.put(guard, at, Op::Plain(Instr::StoreIndex))
+        }
+        Expr::Slice {
+            of: _,
+            from: _,
+            to: _,
+        }
+        | Expr::Attr(_, _) => put_no_target(out, guard, at),
+    }
+}
+
+/// Targets in a row, the first for the value on top.
+#[cycle(targets)]
+fn put_targets(
+    out: &mut Builder,
+    guard: Option<Guard>,
+    at: u32,
+    items: &[Expr],
+) -> Result<u32, NoMemory>
+    ensures cells { OnOk result (out.new ≡ out.old ++ targets_code (plain_guard guard) at (plain_exprs items.now)) }
+    ensures place { IfOk result (λ n. n ≡ at + targets_size (plain_exprs items.now)) }
+{
+    let mut to = at;
+    for e in items {
+        to = put_target(out, guard, to, e)?;
+    }
+    Ok(to)
+}
+
+/// Gives the value on top to each of these targets, and takes it away.
+pub fn put_all(
+    out: &mut Builder,
+    guard: Option<Guard>,
+    at: u32,
+    items: &[Expr],
+) -> Result<u32, NoMemory>
+    ensures cells { OnOk result (out.new ≡ out.old ++ all_code (plain_guard guard) at (plain_exprs items.now)) }
+    ensures place { IfOk result (λ n. n ≡ at + all_size (plain_exprs items.now)) }
+{
+    let mut to = at;
+    for e in items {
+        to = out.put(guard, to, Op::Plain(Instr::Copy(0)))?;
+        to = put_target(out, guard, to, e)?;
+    }
+    out.put(guard, to, Op::Plain(Instr::Pop))
+}
