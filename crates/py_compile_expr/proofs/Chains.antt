@@ -2,7 +2,7 @@
 --     rest_size, rest_code                what is left of a chain, which may be nothing
 --     chain_size, chain_code              that of a whole chain
 --     links_added, links_counted          one of them, and what is left then
-use Rattle.std.proofs.Common.{◌≡◌, ℕ, suc, ◌+◌, ◌-◌, ◌<◌, ◌==◌, List, [], ◌∷◌, ◌++◌, Option, Bool, true, false, length, drop, get_or, refl, sym, ap, ◌∙◌, arith, length-drop, append_assoc}
+use Rattle.std.proofs.Common.{◌≡◌, ℕ, suc, ◌+◌, ◌-◌, ◌<◌, ◌==◌, List, [], ◌∷◌, ◌++◌, Option, false, length, drop, get_or, refl, sym, ap, ◌∙◌, arith, length-drop, append_assoc}
 use Rattle.std.specs.Prelude.{if◌then◌else◌}
 use Rattle.py_code.specs.declared.instr.Instr.{Instr}
 use Rattle.py_code.specs.declared.instr.Instr.TheVariants.{Compare, Link}
@@ -11,7 +11,7 @@ use Rattle.py_syntax.specs.declared.expr.Comparison.{Comparison}
 use Rattle.py_syntax.specs.declared.expr.Expr.{Expr as Node}
 use Rattle.py_syntax.specs.declared.expr.Link.{Link as LinkNode, out-Link}
 use Rattle.py_syntax.specs.declared.expr.Link as links_
-use Rattle.py_syntax.specs.Tree.{Expr, Links, no_links, link, Exprs}
+use Rattle.py_syntax.specs.Tree.{Expr, Links, no_links, link}
 use Rattle.py_syntax.specs.View.{plain_expr, plain_exprs, plain_links}
 use Rattle.py_compile_expr.specs.Cells.{plain, Guard, Cell, put}
 use Rattle.py_compile_expr.specs.Expressions.{count, question, expr_size, expr_code, links_size, links_code}

@@ -1,6 +1,6 @@
 -- The code of one form of expression or pattern in memory, by the code of its parts.
 use Rattle.std.specs.Prelude.{Box, option_map}
-use Rattle.std.proofs.Common.{◌≡◌, ℕ, ◌+◌, List, [], ◌∷◌, ◌++◌, Bool, Option, Some, None, length, refl, sym, ap, ◌∙◌, arith, append_assoc}
+use Rattle.std.proofs.Common.{◌≡◌, ℕ, ◌+◌, List, [], ◌++◌, Bool, Option, Some, None, length, sym, ap, ◌∙◌}
 use Rattle.std.specs.Global.{Global, Vec}
 use Rattle.py_code.specs.declared.instr.Bounds.{Bounds}
 use Rattle.py_code.specs.declared.instr.Instr.TheVariants.{Copy, Sink, Index, Slice, Call, Sequence}
@@ -14,9 +14,9 @@ use Rattle.py_syntax.specs.declared.pattern.Pattern.TheVariants as pattern_varia
 use Rattle.py_syntax.specs.Tree.{Text, Expr, call, index, slice, attr, Exprs, OptExpr, p_as, sequence}
 use Rattle.py_syntax.specs.View.{plain_expr, plain_exprs, opt_of, plain_pattern, plain_patterns}
 use Rattle.py_compile_expr.specs.Callees.{callee_code}
-use Rattle.py_compile_expr.specs.Cells.{attribute, plain, Guard, Cell, put}
+use Rattle.py_compile_expr.specs.Cells.{attribute, plain, Guard, put}
 use Rattle.py_compile_expr.specs.Expressions.{bounds, count, expr_size, expr_code, each_size, each_code, opt_size, opt_code}
-use Rattle.py_compile_expr.specs.Patterns.{Site, behind, pattern_size, pattern_code, items_code}
+use Rattle.py_compile_expr.specs.Patterns.{Site, behind, pattern_code, items_code}
 use Rattle.py_compile_expr.proofs.Alternatives.{patterns-are}
 use Rattle.py_compile_expr.proofs.Calls.{call_size, call_code}
 

@@ -1,6 +1,5 @@
-use Rattle.std.proofs.Common.{refl, sym, ap, ◌∙◌, ◌+◌, arith}
-use Rattle.py_syntax.specs.View.{plain_pattern, plain_patterns}
-use Rattle.py_compile_expr.specs.Pieces.{alternative_size}
+use Rattle.std.proofs.Common.{refl, sym, ◌∙◌}
+use Rattle.py_syntax.specs.View.{plain_patterns}
 use Rattle.py_compile_expr.proofs.Alternatives.{left_size, one_size-left, left_turn}
 use Rattle.py_compile_expr.proofs.Turns.{none_counted}
 use Rattle.py_compile_expr.proofs.patterns.+pattern_sizes.Goals as goal
