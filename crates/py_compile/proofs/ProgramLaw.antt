@@ -1,5 +1,5 @@
 -- What a machine does with faithful code of modules is what these mean.
-use Rattle.std.proofs.Common.{◌≡◌, ℕ, zero, suc, ◌-◌, ◌<◌, List, [], ◌∷◌, ◌++◌, length, map, Option, Some, None, refl, ap, ◌∙◌, arith}
+use Rattle.std.proofs.Common.{◌≡◌, ℕ, zero, suc, ◌-◌, ◌<◌, List, [], ◌∷◌, ◌++◌, length, map, Option, Some, None, refl, ap, ◌∙◌, arith, ◌≢◌, ◌≤◌, sym, subst}
 use Rattle.std.specs.Prelude.{slice_get, Result, Ok, Err}
 use Rattle.cov_event.specs.declared.event.CodeId.{CodeId}
 use Rattle.cov_event.specs.declared.event.Event.TheVariants.{Call as Called}
@@ -31,7 +31,8 @@ use Rattle.py_code.specs.Slots.{by_names, by_slots, AreNamed}
 use Rattle.py_code.specs.Units.{Code, Module, unit_at}
 use Rattle.py_code.proofs.OneMachine.{one_machine}
 use Rattle.py_compile_expr.specs.Runs.{Spot, effects_of, IsLike}
-use Rattle.py_compile.specs.ProgramRuns.{HasFunctions, HasUnits, AreFaithful, AreProperModules, as_run, as_reply, as_request, ProgramsRun}
+use Rattle.py_meaning.proofs.ProgramLaws.{modules_budget}
+use Rattle.py_compile.specs.ProgramRuns.{HasFunctions, HasUnits, AreFaithful, AreProperModules, as_run, as_reply, as_request, Settles, ProgramsRun}
 use Rattle.py_compile.specs.Units.{function_code, compiled}
 use Rattle.py_compile.proofs.SlotNames.{are_named}
 use Rattle.py_compile.proofs.Standing.{units_faithful}
@@ -227,6 +228,16 @@ module _ (cs : List Module) (ms : List LoadedModule) (faithful : AreFaithful cs 
   unfolding machine.called
   call_slots_law named world input q budget = ap (machine.reply_by budget) (one_machine.call cs named world input (as_request q) budget) ∙ call_law world input q budget
 
+  settles_law : 0 < length ms → (words : List Text) (input : List ℕ) (budget other : ℕ) → (machine.run N cs (machine.first_world cs words) input budget).outcome ≢ outcomes.cut
+      → Settles (machine.run N cs (machine.first_world cs words) input budget) other (machine.run N cs (machine.first_world cs words) input other)
+  settles_law some words input budget other uncut =
+      let here = names_law some words input budget in
+      let there = names_law some words input other in
+      let meant_law = modules_budget ms words input budget other (λ e. uncut (ap (λ r. r.outcome) here ∙ e)) in (
+        λ le. there ∙ (ap as_run (meant_law.0 (subst (λ r. r.steps ≤ other) here le)) ∙ sym here),
+        λ lt. ap (λ r. r.outcome) there ∙ meant_law.1 (subst (λ r. other < r.steps) here lt),
+      )
+
 -- ---- the code of modules
 
 functions_have : (b : Stmts) (fs : List Function) → HasFunctions (functions b) fs (map (function_code (functions b)) fs)
@@ -242,6 +253,7 @@ programs_run = record {
   compiles = compiles;
   runs_by_names = λ cs ms faithful proper some words input budget. names_law cs ms faithful proper some words input budget;
   runs_by_slots = λ cs ms faithful proper own some words input budget. slots_law cs ms faithful proper (are_named cs ms faithful own) some words input budget;
+  settles = λ cs ms faithful proper some words input budget other uncut. settles_law cs ms faithful proper some words input budget other uncut;
   calls_by_names = λ cs ms faithful proper world input q budget. call_law cs ms faithful proper world input q budget;
   calls_by_slots = λ cs ms faithful proper own world input q budget. call_slots_law cs ms faithful proper (are_named cs ms faithful own) world input q budget;
 }

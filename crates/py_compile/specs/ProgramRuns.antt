@@ -3,8 +3,10 @@
 --     AreProperModules               modules in which no alternative of a pattern binds a name
 --     HaveOwnParameters              modules whose parameters have slots of their own
 --     as_run, as_reply               a run and a call as they are meant
+--     Settles                        a run that a larger budget doesn't change
 --     ProgramsRun                    the law of programs
-use Rattle.std.specs.Prelude.{◌≡◌, ◌<◌, ℕ, false, List, [], ◌∷◌, length, map}
+use Rattle.std.specs.Prelude.{◌≡◌, ◌≢◌, ◌<◌, ◌≤◌, ℕ, false, List, [], ◌∷◌, length, map}
+use Rattle.py_builtins.specs.Outcomes as outcomes
 use Rattle.py_builtins.specs.World.{World}
 use Rattle.py_syntax.specs.Functions.{Function, functions, without_docstring}
 use Rattle.py_syntax.specs.Names.{is_among, declared_names, local_names}
@@ -72,9 +74,14 @@ as_reply m = record { returned = m.returned; out = m.out; input = m.input; steps
 abbrev pub as_request : meant.Request → machine.Request
 as_request q = record { number = q.number; name = q.name; values = q.values }
 
+-- What a run that isn't cut says of another budget: the run is the same where that is at least the steps that it took, and is cut where
+-- it is less.
+abbrev pub Settles : machine.Run → ℕ → machine.Run → Type 0
+Settles run budget other = (run.steps ≤ budget → other ≡ run) × (budget < run.steps → other.outcome ≡ outcomes.cut)
+
 -- The code of modules is faithful. A machine runs faithful code of one or more modules as these mean, and answers a call as they mean it,
 -- on every world: same ending, output, input left, steps, events and world. It keeps local names by names, or by slots where parameters
--- are such.
+-- are such. And a larger budget changes nothing.
 pub record ProgramsRun : Type 0 where
   pub compiles : (ms : List LoadedModule) → AreFaithful (map compiled ms) ms
   pub runs_by_names : (cs : List Module) (ms : List LoadedModule) → AreFaithful cs ms → AreProperModules ms → 0 < length ms → (words : List Text) (input : List ℕ) (budget : ℕ)
@@ -85,3 +92,6 @@ pub record ProgramsRun : Type 0 where
       → machine.called (by_names cs) cs w input (as_request q) budget ≡ as_reply (meant.called ms w input q budget)
   pub calls_by_slots : (cs : List Module) (ms : List LoadedModule) → AreFaithful cs ms → AreProperModules ms → HaveOwnParameters ms → (w : World) (input : List ℕ) (q : meant.Request) (budget : ℕ)
       → machine.called (by_slots cs) cs w input (as_request q) budget ≡ as_reply (meant.called ms w input q budget)
+  pub settles : (cs : List Module) (ms : List LoadedModule) → AreFaithful cs ms → AreProperModules ms → 0 < length ms → (words : List Text) (input : List ℕ) (budget other : ℕ)
+      → (machine.run (by_names cs) cs (machine.first_world cs words) input budget).outcome ≢ outcomes.cut
+      → Settles (machine.run (by_names cs) cs (machine.first_world cs words) input budget) other (machine.run (by_names cs) cs (machine.first_world cs words) input other)

@@ -20,7 +20,7 @@ pub fn statements_run()
     ensures { StatementsRun }
 {}
 
-/// A machine that runs faithful code of modules does what these mean.
+/// Trace-preserving compilation: a machine that runs faithful code of modules does what these mean.
 pub fn programs_run()
     ensures { ProgramsRun }
 {}
