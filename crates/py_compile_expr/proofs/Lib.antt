@@ -8,3 +8,4 @@ pub mod Chains
 pub mod Alternatives
 pub mod Calls
 pub mod Nodes
+pub mod NumberLaws

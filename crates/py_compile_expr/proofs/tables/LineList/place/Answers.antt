@@ -1,0 +1,15 @@
+use Rattle.std.proofs.Common.{ap, sym, ◌∙◌, ◌==◌}
+use Rattle.py_compile_expr.specs.Cells.{place_in, add_new}
+use Rattle.py_compile_expr.proofs.NumberLaws.{place-number, added-number, of_answer}
+use Rattle.py_compile_expr.proofs.Turns.{the_number}
+use Rattle.py_compile_expr.proofs.tables.LineList.place.Goals as goal
+
+pub returns-clause-place : goal.returns-clause-place
+returns-clause-place c =
+    the_number c.number.result _ _ c.number.ensures
+    (c.in_ok-place.ensures.index ∙ sym (place-number c.self.inside.all.keys c.args.line) ∙ ap (λ s. place_in (λ a b. a == b) s c.args.line) c.self.view_is)
+
+pub returns-clause-added : goal.returns-clause-added
+returns-clause-added c =
+    of_answer c.number.result _
+    (c.in_ok-place.ensures.keys ∙ sym (added-number c.self.inside.all.keys c.args.line) ∙ ap (λ s. add_new (λ a b. a == b) s c.args.line) c.self.view_is)
