@@ -19,13 +19,13 @@ use Rattle.cov_app.specs.declared.walk.Left.{Left}
 use Rattle.cov_app.specs.declared.walk.Left.TheVariants as left
 use Rattle.cov_app.specs.declared.walk.Walk.{Walk}
 use Rattle.cov_app.specs.Walked.{IsWalked, IsWalkedKind, AreWalkedArms, IsWalkedElse}
-use Rattle.cov_app.specs.Walk.{script, Reaches, Does, DoesOr, Prints_part, leaves}
+use Rattle.cov_app.specs.Walk.{script, Reaches, Does, DoesOr, PrintsPart, leaves}
 use Rattle.cov_app.proofs.Nodes.{plain-Suite, plain-If, plain-While}
 use Rattle.cov_app.proofs.Reaching.{at_once, does-after, reaches}
 
 -- ---- what is left to do
 
-pub broke-or : (m k : M Out) (a b : Walk) (T : Type 0) (c d : List ℕ) (r : Result (Option Left) RunFault) → IsErr r → Prints_part m a T c d → DoesOr m k a r b T c d
+pub broke-or : (m k : M Out) (a b : Walk) (T : Type 0) (c d : List ℕ) (r : Result (Option Left) RunFault) → IsErr r → PrintsPart m a T c d → DoesOr m k a r b T c d
 broke-or m k a b T c d (Ok l) h p = absurd cc
 broke-or m k a b T c d (Err x) h p = p
 
@@ -73,6 +73,6 @@ pub suite-reached : (calls : Calls) (ms : List LoadedModule) (ss ls : List Stmt)
     → IsWalked (plain_stmts ls) → Reaches (exec calls (script ms) (plain_stmts ls)) k a b T c d
 suite-reached calls ms ss ls k a b T c d is h = subst (λ l. IsWalked (plain_stmts l) → Reaches (exec calls (script ms) (plain_stmts l)) k a b T c d) is h
 
-pub suite-part : (calls : Calls) (ms : List LoadedModule) (ss ls : List Stmt) (a : Walk) (T : Type 0) (c d : List ℕ) → ss ≡ ls → (IsWalked (plain_stmts ss) → Prints_part (exec calls (script ms) (plain_stmts ss)) a T c d)
-    → IsWalked (plain_stmts ls) → Prints_part (exec calls (script ms) (plain_stmts ls)) a T c d
-suite-part calls ms ss ls a T c d is h = subst (λ l. IsWalked (plain_stmts l) → Prints_part (exec calls (script ms) (plain_stmts l)) a T c d) is h
+pub suite-part : (calls : Calls) (ms : List LoadedModule) (ss ls : List Stmt) (a : Walk) (T : Type 0) (c d : List ℕ) → ss ≡ ls → (IsWalked (plain_stmts ss) → PrintsPart (exec calls (script ms) (plain_stmts ss)) a T c d)
+    → IsWalked (plain_stmts ls) → PrintsPart (exec calls (script ms) (plain_stmts ls)) a T c d
+suite-part calls ms ss ls a T c d is h = subst (λ l. IsWalked (plain_stmts l) → PrintsPart (exec calls (script ms) (plain_stmts l)) a T c d) is h

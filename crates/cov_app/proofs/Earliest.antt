@@ -97,5 +97,5 @@ pub two : (r a b : Option ℕ) (xs ys zs : List ℕ) → r ≡ earlier a b → a
 two r a b xs ys zs is h k same = is ∙ ap (λ o. earlier o b) h ∙ ap (earlier (least xs)) k ∙ sym (least_append xs ys) ∙ ap least (sym same)
 
 -- a line, and others
-pub behind : (r b : Option ℕ) (line : ℕ) (ys zs : List ℕ) → r ≡ earlier (Some line) b → b ≡ least ys → zs ≡ line ∷ ys → r ≡ least zs
-behind r b line ys zs is k same = is ∙ ap (earlier (Some line)) k ∙ ap least (sym same)
+pub after : (r b : Option ℕ) (line : ℕ) (ys zs : List ℕ) → r ≡ earlier (Some line) b → b ≡ least ys → zs ≡ line ∷ ys → r ≡ least zs
+after r b line ys zs is k same = is ∙ ap (earlier (Some line)) k ∙ ap least (sym same)

@@ -34,7 +34,7 @@ use Rattle.cov_app.specs.Answer.{program}
 use Rattle.cov_app.specs.Runs.{Shows, answer_left, ending_left, last_arcs}
 use Rattle.cov_app.specs.Step.{Arc, budget_of_runs, ended_by, run_of, shown_by, arc_lines}
 use Rattle.cov_app.specs.Walked.{IsWalked}
-use Rattle.cov_app.specs.Walk.{script, raised_of, Stands, end_of, Reaches, Prints_part, leaves}
+use Rattle.cov_app.specs.Walk.{script, raised_of, Stands, end_of, Reaches, PrintsPart, leaves}
 use Rattle.cov_app.proofs.Globals.{either}
 use Rattle.cov_app.proofs.Loading.{alone, loaded-alone, no-docstring}
 use Rattle.cov_app.proofs.Standing.{arcs-push}
@@ -73,7 +73,7 @@ stands-first path b input w h = record {
 abbrev pub in_program : List ℕ → Stmts → List ℕ → ℕ → Res Out
 in_program path b input n = exec (calls (alone (chars path) b) budget_of_runs) (script (alone (chars path) b)) b (first path b input) n
 
--- behind the script's body
+-- after the script's body
 abbrev at_end : List ℕ → Stmts → List ℕ → Res Out → Res (Ans PlainValue)
 at_end path b input r = bind (left_by script_code (put (begun (alone (chars path) b) 0) (before path b input)) r) (ended 0)
 
@@ -173,8 +173,8 @@ printed-by path b input (done (returns v) s n) = refl
 printed-by path b input (done (raises e t) s n) = refl
 printed-by path b input (cut s) = refl
 
-pub fault-in-run : (path : List ℕ) (b : Stmts) (input : List ℕ) (a : Walk) (T : Type 0) (c d : List ℕ) (r : Result Left RunFault) → IsErr r → IsWalked b → Begins a → ((k : Calls) (ms : List LoadedModule) → IsWalked b → Prints_part (exec k (script ms) b) a T c d) → Shows path b (run_of path b input) r T c d
-unfolding Prints_part
+pub fault-in-run : (path : List ℕ) (b : Stmts) (input : List ℕ) (a : Walk) (T : Type 0) (c d : List ℕ) (r : Result Left RunFault) → IsErr r → IsWalked b → Begins a → ((k : Calls) (ms : List LoadedModule) → IsWalked b → PrintsPart (exec k (script ms) b) a T c d) → Shows path b (run_of path b input) r T c d
+unfolding PrintsPart
 fault-in-run path b input a T c d (Ok l) h walked begins p = absurd cc
 fault-in-run path b input a T c d (Err x) h walked begins p = λ t.
     let g = p (calls (alone (chars path) b) budget_of_runs) (alone (chars path) b) walked c (first path b input) (stands-first path b input a begins) (λ t. sym (append-nil c)) t in
@@ -186,9 +186,9 @@ fault-in-run path b input a T c d (Err x) h walked begins p = λ t.
       is = printed.is;
     }
 
-pub fault-behind-run : (path : List ℕ) (b : Stmts) (input : List ℕ) (l : Left) (w : Walk) (T : Type 0) (c d : List ℕ) (q : Result Left RunFault) → IsErr q → IsWalked b → Ran path b input l w T c d → Shows path b (run_of path b input) q T c d
-fault-behind-run path b input l w T c d (Ok x) h walked r = absurd cc
-fault-behind-run path b input l w T c d (Err x) h walked r = λ t.
+pub fault-after-run : (path : List ℕ) (b : Stmts) (input : List ℕ) (l : Left) (w : Walk) (T : Type 0) (c d : List ℕ) (q : Result Left RunFault) → IsErr q → IsWalked b → Ran path b input l w T c d → Shows path b (run_of path b input) q T c d
+fault-after-run path b input l w T c d (Ok x) h walked r = absurd cc
+fault-after-run path b input l w T c d (Err x) h walked r = λ t.
     record { front = r.state.out; prefix = record { rest = arc_lines path (last_arcs l w); is = shown-is path b input l w T c d walked r }; is = r.holds t }
 
 pub fault-in-arcs : (path : List ℕ) (b : Stmts) (input : List ℕ) (l : Left) (w : Walk) (T : Type 0) (c d e : List ℕ) (as' : List Arc) (text : List ℕ) (q : Result Left RunFault) → IsErr q → IsWalked b → Ran path b input l w T c d → as' ≡ last_arcs l w → text ≡ arc_lines path as' → (T → GainsPrefix d e text) → Shows path b (run_of path b input) q T c e

@@ -37,7 +37,7 @@ not_print x h = go (is_same_text (codes "print") x) refl
         apart e = cc
     go false is = refl
 
--- a global behind an assignment
+-- a global after an assignment
 pub global-with : (x y : Text) (v : PlainValue) (w : World) → global_of 0 y (with_global 0 x v w) ≡ (if is_same_text y x then Some v else global_of 0 y w)
 unfolding names_at with_names_at
 global-with x y v w = go w.globals

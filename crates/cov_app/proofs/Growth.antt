@@ -23,27 +23,27 @@ use Rattle.cov_app.proofs.Evals.{given-then}
 use Rattle.cov_app.proofs.Printing.{print-found}
 use Rattle.py_builtins.specs.Callees.{a_value}
 
--- a state behind another
-pub record Behind (s t : State) : Type 0 where
+-- a state after another
+pub record After (s t : State) : Type 0 where
   pub printed : IsPrefix s.out t.out
   pub print : HasPrint t.now
 
 unfoldable pub Grows : {A : Type 0} → M A → Type 0
-Grows m = (s : State) (n : ℕ) → HasPrint s.now → Behind s (end_of (m s n))
+Grows m = (s : State) (n : ℕ) → HasPrint s.now → After s (end_of (m s n))
 
 -- ---- how computations are put together
 
-behind-itself : (s : State) → HasPrint s.now → Behind s s
-behind-itself s h = record { printed = begins-itself s.out; print = h }
+after-itself : (s : State) → HasPrint s.now → After s s
+after-itself s h = record { printed = begins-itself s.out; print = h }
 
 pub grows-give : {A : Type 0} (a : A) → Grows (give a)
 unfolding Grows give
-grows-give a s n h = behind-itself s h
+grows-give a s n h = after-itself s h
 
-pub grows-bind : {A B : Type 0} (r : Res A) (f : A → M B) → HasPrint (end_of r).now → ((a : A) → Grows (f a)) → Behind (end_of r) (end_of (bind r f))
+pub grows-bind : {A B : Type 0} (r : Res A) (f : A → M B) → HasPrint (end_of r).now → ((a : A) → Grows (f a)) → After (end_of r) (end_of (bind r f))
 unfolding Grows
 grows-bind (done a s n) f h g = g a s n h
-grows-bind (cut s) f h g = behind-itself s h
+grows-bind (cut s) f h g = after-itself s h
 
 pub grows-chain : {A B : Type 0} (m : M A) (f : A → M B) → Grows m → ((a : A) → Grows (f a)) → Grows (chain m f)
 unfolding Grows chain
@@ -53,7 +53,7 @@ grows-chain m f g gf s n h =
 
 pub grows-step : {A : Type 0} (i : Item) (m : M A) → Grows m → Grows (step i m)
 unfolding Grows step
-grows-step i m g s zero h = behind-itself s h
+grows-step i m g s zero h = after-itself s h
 grows-step i m g s (suc n) h = let p = g (add i s) n h in record { printed = p.printed; print = p.print }
 
 grows-note : {A : Type 0} (i : Item) (m : M A) → Grows m → Grows (note i m)
@@ -80,7 +80,7 @@ grows-within f g s n h = g n s n h
 
 grows-stop : (A : Type 0) → Grows {A = A} stop
 unfolding Grows stop
-grows-stop A s n h = behind-itself s h
+grows-stop A s n h = after-itself s h
 
 grows-if : {A : Type 0} (b : Bool) (m k : M A) → Grows m → Grows k → Grows (if b then m else k)
 grows-if true m k g h = g
@@ -142,7 +142,7 @@ print-grows calls ms vs = grows-read _ (λ w. go (builtin_of Print vs w.world.he
 printing-grows : (calls : Calls) (ms : List LoadedModule) (e : Expr) (comma : Bool) → IsSum e → Grows (eval calls (script ms) (call (name (codes "print")) (exprs e no_exprs) comma))
 unfolding Grows eval eval_each
 printing-grows calls ms e comma is s n h =
-    subst (λ r. Behind s (end_of r)) (sym (given-then (eval calls (script ms) (name (codes "print"))) _ (builtin_value Print) s s n n (print-found calls ms s n h)))
+    subst (λ r. After s (end_of r)) (sym (given-then (eval calls (script ms) (name (codes "print"))) _ (builtin_value Print) s s n n (print-found calls ms s n h)))
     (grows-value _ _ (grows-value _ _ (sum-grows calls ms e is) (λ v. grows-value _ _ (grows-give _) (λ vs. grows-give _))) (λ vs. print-grows calls ms vs) s n h)
 
 pub call-grows : (calls : Calls) (ms : List LoadedModule) (e : Expr) → IsPrintCall e → Grows (eval calls (script ms) e)

@@ -16,7 +16,7 @@ use Rattle.cov_app.specs.declared.walk.Left.{Left}
 use Rattle.cov_app.specs.declared.walk.Left.TheVariants as left
 use Rattle.cov_app.specs.declared.walk.Walk.{Walk}
 use Rattle.cov_app.specs.Walked.{IsTest, IsWalked, IsWalkedKind, AreWalkedArms, IsWalkedElse}
-use Rattle.cov_app.specs.Walk.{script, Tests, Notes, Reaches, Prints_part, leaves}
+use Rattle.cov_app.specs.Walk.{script, Tests, Notes, Reaches, PrintsPart, leaves}
 use Rattle.cov_app.proofs.Growth.{Grows, exec-grows, kind-grows, arms-grow, else-grows, grows-next}
 use Rattle.cov_app.proofs.Reaching.{reaches, reaches-trans, moves-trans, part-after, fault-before, at_once, follows, Passes, chain-reaches, chain-left, fault-in-chain, marked-on, no-step, testing, test-given, test-raised}
 use Rattle.cov_app.proofs.Nodes.{plain-stmts, plain-arms, plain-Suite}
@@ -62,8 +62,8 @@ suite-begins body w T c f = record { reached = λ calls ms h. reaches _ _ w w T 
 pub arms-begin : (arms : List Arm) (w : Walk) (T : Type 0) (c : List ℕ) (f : ℕ) → ArmsCome arms 0 w w T c c f f
 arms-begin arms w T c f = record { reached = λ calls ms o h. reaches _ _ w w T c (at_once (exec_arms calls (script ms) (plain_arms arms) (exec_opt calls (script ms) o)) w); fewer = omega arith; count = omega arith }
 
--- want of memory behind a place that a loop has come to
-fault-at : (m k : M Out) (a b : Walk) (T : Type 0) (c d : List ℕ) → Reaches m k a b T c d → Grows k → Prints_part m a T c d
+-- want of memory after a place that a loop has come to
+fault-at : (m k : M Out) (a b : Walk) (T : Type 0) (c d : List ℕ) → Reaches m k a b T c d → Grows k → PrintsPart m a T c d
 fault-at m k a b T c d p g = part-after m k a b T c d d p (fault-before k b T d g)
 
 module _ (calls : Calls) (ms : List LoadedModule) where
@@ -100,10 +100,10 @@ module _ (calls : Calls) (ms : List LoadedModule) where
       (subst (λ k. Reaches k (leaves l) mid to T d e) (sym (exec-at body i s is)) (chain-left (statement s) (rest_of body (suc i)) _ l mid to T d e (passes-next _) other q))
 
   pub suite-broke : (m : M Out) (body : List Stmt) (i : ℕ) (s : Stmt) (from mid : Walk) (T : Type 0) (c d e : List ℕ) → drop i body ≡ s ∷ drop (suc i) body → IsWalked (plain_stmts body)
-      → Reaches m (rest_of body i) from mid T c d → Prints_part (statement s) mid T d e → Prints_part m from T c e
+      → Reaches m (rest_of body i) from mid T c d → PrintsPart (statement s) mid T d e → PrintsPart m from T c e
   suite-broke m body i s from mid T c d e is h p q =
       part-after m (rest_of body i) from mid T c d e p
-      (subst (λ k. Prints_part k mid T d e) (sym (exec-at body i s is))
+      (subst (λ k. PrintsPart k mid T d e) (sym (exec-at body i s is))
       (fault-in-chain (statement s) _ mid T d e (kind-grows calls ms s.first (plain_kind s.kind) (statement-walked body i s is h)) (λ o. grows-next (rest_of body (suc i)) (exec-grows calls ms _ (walked-drop body (suc i) h)) o) q))
 
   pub suite-ends : (m : M Out) (body : List Stmt) (i : ℕ) (from to : Walk) (T : Type 0) (c d : List ℕ) → length body ≤ i → Reaches m (rest_of body i) from to T c d → Reaches m (leaves left.End) from to T c d
@@ -138,7 +138,7 @@ module _ (calls : Calls) (ms : List LoadedModule) where
   arm-cut m arms i a orelse from to T c d is none p =
       reaches-trans m (arms_from arms i orelse) stop from to to T c d d p (subst (λ k. Reaches k stop to to T d d) (sym (arms-at arms i a orelse is)) (reaches _ stop to to T d (no-step _ (mark (line_of a)) to none)))
 
-  -- behind the mark and the test
+  -- after the mark and the test
   pub arm-tested : (m : M Out) (arms : List Arm) (i : ℕ) (a : Arm) (orelse : M Out) (from mid to : Walk) (T : Type 0) (c d : List ℕ) (b : Bool) (r : Result Bool Raised) → drop i arms ≡ a ∷ drop (suc i) arms → AreWalkedArms (plain_arms arms) → Notes mid false (line_of a) to → to.steps + 1 ≡ mid.steps
       → r ≡ Ok b → Tests to.globals (plain_expr (out-Arm a).test) r → Reaches m (arms_from arms i orelse) from mid T c d → Reaches m (if b then body_of a else arms_from arms (suc i) orelse) from to T c d
   arm-tested m arms i a orelse from mid to T c d b r is h notes steps r-is t p =
@@ -157,5 +157,5 @@ module _ (calls : Calls) (ms : List LoadedModule) where
   unfolding exec_arms
   arms-end m arms i orelse from to T c d le p = subst (λ l. Reaches m (exec_arms calls (script ms) (plain_arms l) orelse) from to T c d) (drop_of_length-le arms le) p
 
-  pub arms-broke : (m : M Out) (arms : List Arm) (i : ℕ) (o : OptSuite) (a b : Walk) (T : Type 0) (c d : List ℕ) → AreWalkedArms (plain_arms arms) → IsWalkedElse o → Reaches m (arms_from arms i (exec_opt calls (script ms) o)) a b T c d → Prints_part m a T c d
+  pub arms-broke : (m : M Out) (arms : List Arm) (i : ℕ) (o : OptSuite) (a b : Walk) (T : Type 0) (c d : List ℕ) → AreWalkedArms (plain_arms arms) → IsWalkedElse o → Reaches m (arms_from arms i (exec_opt calls (script ms) o)) a b T c d → PrintsPart m a T c d
   arms-broke m arms i o a b T c d h k p = fault-at _ _ a b T c d p (arms-grow calls ms (plain_arms (drop i arms)) _ (arms-drop arms i h) (else-grows calls ms o k))

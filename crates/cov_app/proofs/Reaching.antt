@@ -16,7 +16,7 @@ use Rattle.cov_app.specs.declared.walk.Left.{Left}
 use Rattle.cov_app.specs.declared.walk.Left.TheVariants as left
 use Rattle.cov_app.specs.declared.walk.Walk.{Walk}
 use Rattle.cov_app.specs.Walked.{IsTest}
-use Rattle.cov_app.specs.Walk.{script, Stands, mark_of, Notes, Tests, IsTested, raised_of, end_of, Reaches, Prints_part, leaves, Does, Move, Moves}
+use Rattle.cov_app.specs.Walk.{script, Stands, mark_of, Notes, Tests, IsTested, raised_of, end_of, Reaches, PrintsPart, leaves, Does, Move, Moves}
 use Rattle.cov_app.proofs.Evals.{given-then, raised-then}
 use Rattle.cov_app.proofs.Growth.{Grows, grows-bind}
 use Rattle.cov_app.proofs.Standing.{throws}
@@ -46,8 +46,8 @@ reaches m k a b T c p = λ base s st h.
     let x = p s st in
     record { state = x.state; stands = x.stands; holds = λ t. h t ∙ ap (λ o. base ++ o) (sym x.silent); same = x.same }
 
-pub part-after : (m k : M Out) (a b : Walk) (T : Type 0) (c e f : List ℕ) → Reaches m k a b T c e → Prints_part k b T e f → Prints_part m a T c f
-unfolding Prints_part Reaches
+pub part-after : (m k : M Out) (a b : Walk) (T : Type 0) (c e f : List ℕ) → Reaches m k a b T c e → PrintsPart k b T e f → PrintsPart m a T c f
+unfolding PrintsPart Reaches
 part-after m k a b T c e f p q = λ base s st h t.
     let y = p base s st h in
     subst (λ r. GainsPrefix base f (end_of r).out) (sym y.same) (q base y.state y.stands y.holds t)
@@ -66,8 +66,8 @@ longer : {base after xs ys : List ℕ} → GainsPrefix base after xs → IsPrefi
 longer g p = record { front = g.front; prefix = begins-trans g.prefix p; is = g.is }
 
 -- a fault before anything was printed, as want of memory is
-pub fault-before : (m : M Out) (a : Walk) (T : Type 0) (c : List ℕ) → Grows m → Prints_part m a T c c
-unfolding Prints_part Grows
+pub fault-before : (m : M Out) (a : Walk) (T : Type 0) (c : List ℕ) → Grows m → PrintsPart m a T c c
+unfolding PrintsPart Grows
 fault-before m a T c g = λ base s st h t. record { front = s.out; prefix = (g s a.steps st.print).printed; is = h t }
 
 -- ---- parts
@@ -78,8 +78,8 @@ in-chain m k f a b T c d p = λ base s st h.
     let x = p base s st h in
     record { state = x.state; stands = x.stands; holds = x.holds; same = ap (λ r. bind r f) x.same }
 
-pub fault-in-chain : (m : M Out) (f : Out → M Out) (a : Walk) (T : Type 0) (c d : List ℕ) → Grows m → ((o : Out) → Grows (f o)) → Prints_part m a T c d → Prints_part (chain m f) a T c d
-unfolding Prints_part Grows chain
+pub fault-in-chain : (m : M Out) (f : Out → M Out) (a : Walk) (T : Type 0) (c d : List ℕ) → Grows m → ((o : Out) → Grows (f o)) → PrintsPart m a T c d → PrintsPart (chain m f) a T c d
+unfolding PrintsPart Grows chain
 fault-in-chain m f a T c d gm g p = λ base s st h t.
     longer (p base s st h t) (grows-bind (m s a.steps) f (gm s a.steps st.print).print g).printed
 
@@ -89,7 +89,7 @@ follows left.End m = m
 follows (left.Raised x) m = give (raises (raised_of x) true)
 follows left.Cut m = stop
 
--- going on with m behind a normal end, and passing on an exception
+-- going on with m after a normal end, and passing on an exception
 pub record Passes (f : Out → M Out) (m : M Out) : Type 0 where
   pub on : f normal ≡ m
   pub out : (e : PlainRaised) → f (raises e true) ≡ give (raises e true)

@@ -30,7 +30,7 @@ use Rattle.cov_app.specs.declared.walk.Left.TheVariants as left
 use Rattle.cov_app.specs.declared.walk.Walk.{Walk}
 use Rattle.cov_app.specs.Forms.{is_print_name}
 use Rattle.cov_app.specs.Walked.{IsName, IsSum, IsOneSum, IsPrintName, IsPrintCall, IsOneName, IsSimple}
-use Rattle.cov_app.specs.Walk.{script, assigning, raised_of, number_of, Stands, Values, Stores, Notes, Moves, Reaches, Does, Prints_part, leaves, end_of}
+use Rattle.cov_app.specs.Walk.{script, assigning, raised_of, number_of, Stands, Values, Stores, Notes, Moves, Reaches, Does, PrintsPart, leaves, end_of}
 use Rattle.cov_app.proofs.Evals.{given-then, raised-then}
 use Rattle.cov_app.proofs.Growth.{Grows}
 use Rattle.cov_app.proofs.Nodes.{plain-Name, plain-Call, plain-Expr, plain-Assign, many_arguments}
@@ -49,7 +49,7 @@ pub no-memory : (m : M Out) (a b : Walk) (T : Type 0) (c : List ℕ) (r : Result
 no-memory m a b T c (Ok l) g h = absurd h
 no-memory m a b T c (Err x) g h = fault-before m a T c g
 
-pub broke : (m : M Out) (a b : Walk) (T : Type 0) (c d : List ℕ) (r : Result Left RunFault) → IsErr r → Prints_part m a T c d → Does m a r b T c d
+pub broke : (m : M Out) (a b : Walk) (T : Type 0) (c d : List ℕ) (r : Result Left RunFault) → IsErr r → PrintsPart m a T c d → Does m a r b T c d
 broke m a b T c d (Ok l) h p = absurd cc
 broke m a b T c d (Err x) h p = p
 
@@ -91,8 +91,8 @@ module _ (calls : Calls) (ms : List LoadedModule) (f : Node) (es : List Node) (e
       assoc : (xs bs cs ds : List ℕ) → (xs ++ bs) ++ cs ++ ds ≡ xs ++ (bs ++ cs ++ ds)
       assoc xs bs cs ds = append_assoc (xs ++ bs) cs ds ∙ append_assoc xs bs (cs ++ ds) ∙ ap (λ o. xs ++ o) (sym (append_assoc bs cs ds))
 
-  pub fault-in-value : (z k : ℤ) (r : Result ℤ Raised) (T : Type 0) (c d : List ℕ) → r ≡ Ok z → k ≡ z → to_z w64 (of_z w64 z) ≡ z → Values w.globals (plain_expr e) r → (T → GainsPrefix c d (signed_decimal k ++ 10 ∷ [])) → Prints_part printing w T c d
-  unfolding Prints_part
+  pub fault-in-value : (z k : ℤ) (r : Result ℤ Raised) (T : Type 0) (c d : List ℕ) → r ≡ Ok z → k ≡ z → to_z w64 (of_z w64 z) ≡ z → Values w.globals (plain_expr e) r → (T → GainsPrefix c d (signed_decimal k ++ 10 ∷ [])) → PrintsPart printing w T c d
+  unfolding PrintsPart
   fault-in-value z k r T c d r-is k-is fits v g = λ base s st h t.
       let p : GainsPrefix c d (signed_decimal z ++ 10 ∷ []) = subst (λ n. GainsPrefix c d (signed_decimal n ++ 10 ∷ [])) k-is (g t) in
       subst (λ q. GainsPrefix base d (end_of q).out) (sym (prints z fits (subst (Values w.globals (plain_expr e)) r-is v) s w.steps st)) (record {

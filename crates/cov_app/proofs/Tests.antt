@@ -67,7 +67,7 @@ unfolding Tests Values eval eval_links
 compare_right m a b op z x h k = λ calls ms s n is g.
     given-then (eval calls (script ms) a) _ (int_value z) s s n n (h calls ms s n is.0 g) ∙ raised-then (eval calls (script ms) b) _ (raised_of x) s s n n (k calls ms s n is.1.1 g)
 
--- the comparison of the two values, behind which nothing is left
+-- the comparison of the two values, after which nothing is left
 related : (calls : Calls) (ms : List LoadedModule) (op : Comparison) (z y : ℤ) (r : Result Bool Raised) (s : State) (n : ℕ) → IsRelation op → Compares op z y r
     → IsTested r s n (value (ask (λ w. compared (asked op) (int_value z) (int_value y) w.world.heap)) (λ b. if b then eval_links calls (script ms) no_links (int_value y) else gives (bool_value false)) s n)
 unfolding value chain ask read give eval_links

@@ -14,7 +14,7 @@ use Rattle.cov_app.specs.declared.walk.Left.{Left}
 use Rattle.cov_app.specs.declared.walk.Left.TheVariants as left
 use Rattle.cov_app.specs.declared.walk.Walk.{Walk}
 use Rattle.cov_app.specs.Walked.{IsTest, IsWalked, IsWalkedKind, IsWalkedLoop, IsWalkedElse}
-use Rattle.cov_app.specs.Walk.{script, Tests, Notes, mark_of, Moves, Reaches, Prints_part, leaves}
+use Rattle.cov_app.specs.Walk.{script, Tests, Notes, mark_of, Moves, Reaches, PrintsPart, leaves}
 use Rattle.cov_app.proofs.Growth.{Grows, exec-grows, else-grows, test-grows, grows-looped, grows-turns, grows-while_header}
 use Rattle.cov_app.proofs.Reaching.{reaches, reaches-trans, moves-trans, part-after, fault-before, at_once, follows, Passes, chain-reaches, chain-left, fault-in-chain, marked-on, no-step, asking, ask-given, ask-raised}
 use Rattle.cov_app.proofs.Nodes.{plain-Suite}
@@ -57,7 +57,7 @@ pub record Turns (header : Node) (body : SuiteNode) (again : Bool) (from to : Wa
   pub fewer : to.steps ≤ from.steps
   pub count : f ≤ g
 
--- behind the mark and the test of a turn whose test held
+-- after the mark and the test of a turn whose test held
 pub record Turned (header : Node) (body : SuiteNode) (from to : Walk) (T : Type 0) (c d : List ℕ) : Type 0 where
   pub left_of : ℕ
   pub enough : to.steps ≤ left_of
@@ -164,8 +164,8 @@ turn-left header body from mid to T c d e k other p q calls ms l o h =
     (chain-left (suite_of calls ms body) (turning calls ms header body l o p.left_of true) _ k mid to T d e (passes-looped calls ms header body l o _) other (q calls ms (parts header body l o h).suite))
 
 pub turn-broke : (header : Node) (body : SuiteNode) (from mid : Walk) (T : Type 0) (c d e : List ℕ) → Turned header body from mid T c d
-    → ((calls : Calls) (ms : List LoadedModule) → IsWalked (plain_stmts (out-Suite body).body.items) → Prints_part (suite_of calls ms body) mid T d e)
-    → (calls : Calls) (ms : List LoadedModule) (l : ℕ) (o : OptSuite) → IsLoop header body l o → Prints_part (whole calls ms header body l o) from T c e
+    → ((calls : Calls) (ms : List LoadedModule) → IsWalked (plain_stmts (out-Suite body).body.items) → PrintsPart (suite_of calls ms body) mid T d e)
+    → (calls : Calls) (ms : List LoadedModule) (l : ℕ) (o : OptSuite) → IsLoop header body l o → PrintsPart (whole calls ms header body l o) from T c e
 turn-broke header body from mid T c d e p q calls ms l o h =
     let w = (parts header body l o h).suite in
     part-after _ _ from mid T c d e (p.reached calls ms l o h)
@@ -178,5 +178,5 @@ turns-cut header body again from to T c d f g none p calls ms l o h =
 
 -- want of memory at a turn
 pub turns-broke : (header : Node) (body : SuiteNode) (again : Bool) (a b : Walk) (T : Type 0) (c d : List ℕ) (f g : ℕ) → Turns header body again a b T c d f g
-    → (calls : Calls) (ms : List LoadedModule) (l : ℕ) (o : OptSuite) → IsLoop header body l o → Prints_part (whole calls ms header body l o) a T c d
+    → (calls : Calls) (ms : List LoadedModule) (l : ℕ) (o : OptSuite) → IsLoop header body l o → PrintsPart (whole calls ms header body l o) a T c d
 turns-broke header body again a b T c d f g p calls ms l o h = part-after _ _ a b T c d d (p.reached calls ms l o h) (fault-before _ b T d (turning-grows calls ms header body l o h p.left_of again))

@@ -65,13 +65,13 @@ limit_text Expressions = codes "Expressions"
 limit_text Suites = codes "Suites"
 
 -- what a command writes to `err`, where its program's ending writes these bytes
-abbrev pub err_text : Answer → List ℕ → List ℕ
-err_text (program n) e = e
-err_text (budget n) e = codes "coverage: budget of " ++ decimal n ++ codes " steps is spent\n"
-err_text (usage i) e = codes "coverage: usage: stopped after " ++ decimal i ++ codes " words\n"
-err_text (no_such_file name) e = codes "coverage: no file " ++ name ++ codes "\n"
-err_text (syntax file line kind) e = codes "coverage: " ++ (file ++ (codes ":" ++ (decimal line ++ (codes ": " ++ (kind_text kind ++ codes "\n")))))
-err_text (limit kind n) e = codes "coverage: limit " ++ limit_text kind ++ codes " passed: " ++ decimal n ++ codes "\n"
-err_text write_fault e = codes "coverage: writing output failed\n"
-err_text shelf_fault e = codes "coverage: files failed\n"
-err_text no_memory e = codes "coverage: no memory\n"
+abbrev pub message_of : Answer → List ℕ → List ℕ
+message_of (program n) e = e
+message_of (budget n) e = codes "coverage: budget of " ++ decimal n ++ codes " steps is spent\n"
+message_of (usage i) e = codes "coverage: usage: stopped after " ++ decimal i ++ codes " words\n"
+message_of (no_such_file name) e = codes "coverage: no file " ++ name ++ codes "\n"
+message_of (syntax file line kind) e = codes "coverage: " ++ (file ++ (codes ":" ++ (decimal line ++ (codes ": " ++ (kind_text kind ++ codes "\n")))))
+message_of (limit kind n) e = codes "coverage: limit " ++ limit_text kind ++ codes " passed: " ++ decimal n ++ codes "\n"
+message_of write_fault e = codes "coverage: writing output failed\n"
+message_of shelf_fault e = codes "coverage: files failed\n"
+message_of no_memory e = codes "coverage: no memory\n"

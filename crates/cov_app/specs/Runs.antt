@@ -44,7 +44,7 @@ abbrev pub ending_of : Option Raised → List ℕ
 ending_of None = []
 ending_of (Some x) = raised_line x
 
--- the run was left as it ends, and its sink gained what it shows; behind a fault a prefix of that
+-- the run was left as it ends, and its sink gained what it shows; after a fault a prefix of that
 abbrev pub Shows : List ℕ → Stmts → Run → Result Left RunFault → Type 0 → List ℕ → List ℕ → Type 0
 Shows path t r (Ok l) tells before after =
     (ended_by r.outcome ≡ answer_left l) × (err_of r.outcome ≡ ending_left l) × (tells → after ≡ before ++ shown_by path t r)

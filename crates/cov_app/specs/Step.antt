@@ -24,7 +24,7 @@ use Rattle.cov_app.specs.declared.answer.Told.TheVariants as told_variants
 use Rattle.cov_app.specs.declared.answer.SyntaxKind.TheVariants as kinds
 use Rattle.cov_app.specs.declared.answer.LimitKind.TheVariants.{FileBytes, Lines, Expressions, Suites}
 use Rattle.cov_app.specs.Command.{command}
-use Rattle.cov_app.specs.Answer.{Answer, program, budget, usage, no_such_file, syntax, limit, no_memory, answer_of, err_text}
+use Rattle.cov_app.specs.Answer.{Answer, program, budget, usage, no_such_file, syntax, limit, no_memory, answer_of, message_of}
 use Rattle.cov_app.specs.Reading.{Reading, no_text, long, stuck, no_tree, ill_formed, unbuilt, tree, unread, Reads}
 
 -- ---- the run
@@ -164,7 +164,7 @@ pub record TakesStep (words : List (List ℕ)) (shelf_tells : Type 0) (files : F
   pub ending : List ℕ
   pub answers : shelf_tells → Answers words files input w ending out_tells out_before out_after
   pub given : AnswersGiven words input w ending out_tells out_before out_after
-  pub told : err_tells → IsTold t (err_text (answer_of w) ending) err_before err_after
+  pub told : err_tells → IsTold t (message_of (answer_of w) ending) err_before err_after
 
 -- the part of a script, and that of its bytes
 pub record AnswersScript (path : List ℕ) (files : Files) (input : List ℕ) (w : Why) (e : List ℕ) (tells : Type 0) (before after : List ℕ) : Type 0 where

@@ -128,7 +128,7 @@ Stores old x z new = (ms : List LoadedModule) (s : State) → is_taken x ≡ fal
 
 -- ---- computations
 
--- what an assignment does behind its mark
+-- what an assignment does after its mark
 abbrev pub assigning : Calls → List LoadedModule → Exprs → Expr → M Out
 assigning calls ms targets e = simply (value (eval calls (script ms) e) (assign_all calls (script ms) targets))
 
@@ -137,7 +137,7 @@ abbrev pub end_of : {A : Type 0} → Res A → State
 end_of (done a s n) = s
 end_of (cut s) = s
 
--- the sink holds what was printed, behind a base
+-- the sink holds what was printed, after a base
 abbrev pub Holds : Type 0 → List ℕ → List ℕ → State → Type 0
 Holds tells contents base s = tells → contents ≡ base ++ s.out
 
@@ -153,9 +153,9 @@ unfoldable pub Reaches : (m k : M Out) (from to : Walk) (tells : Type 0) (before
 Reaches m k from to tells before after =
     (base : List ℕ) (s : State) → Stands from s → Holds tells before base s → Arrival m k from to tells after base s
 
--- the sink holds a prefix of what is printed in all, behind the base
-unfoldable pub Prints_part : (m : M Out) (from : Walk) (tells : Type 0) (before after : List ℕ) → Type 0
-Prints_part m from tells before after =
+-- the sink holds a prefix of what is printed in all, after the base
+unfoldable pub PrintsPart : (m : M Out) (from : Walk) (tells : Type 0) (before after : List ℕ) → Type 0
+PrintsPart m from tells before after =
     (base : List ℕ) (s : State) → Stands from s → Holds tells before base s → tells → GainsPrefix base after (end_of (m s from.steps)).out
 
 -- going on with m from one place is going on with k from the other, and nothing is printed between them
@@ -178,10 +178,10 @@ leaves left.Cut = stop
 -- what the walk did is what the meaning does
 abbrev pub Does : (m : M Out) (from : Walk) → Result Left RunFault → (to : Walk) (tells : Type 0) (before after : List ℕ) → Type 0
 Does m from (Ok l) to tells before after = Reaches m (leaves l) from to tells before after
-Does m from (Err fault) to tells before after = Prints_part m from tells before after
+Does m from (Err fault) to tells before after = PrintsPart m from tells before after
 
 -- the same, where `None` says that what follows is left to do
 abbrev pub DoesOr : (m k : M Out) (from : Walk) → Result (Option Left) RunFault → (to : Walk) (tells : Type 0) (before after : List ℕ) → Type 0
 DoesOr m k from (Ok None) to tells before after = Reaches m k from to tells before after
 DoesOr m k from (Ok (Some l)) to tells before after = Reaches m (leaves l) from to tells before after
-DoesOr m k from (Err fault) to tells before after = Prints_part m from tells before after
+DoesOr m k from (Err fault) to tells before after = PrintsPart m from tells before after

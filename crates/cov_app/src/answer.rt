@@ -14,9 +14,9 @@ pub struct End {
 pub enum Told {
     /// All of it was written.
     Whole,
-    /// Writing failed behind a prefix of it.
+    /// Writing failed after a prefix of it.
     Failed,
-    /// No memory was left behind a prefix of it.
+    /// No memory was left after a prefix of it.
     NoMemory,
 }
 

@@ -3,11 +3,11 @@
 
 mod answer;
 mod command;
-mod err_text;
+mod messages;
 mod front;
 mod script;
-mod top_call;
+mod coverage;
 mod walk;
 
 pub use answer::{End, LimitKind, SyntaxKind, Told, Why};
-pub use top_call::coverage;
+pub use coverage::coverage;

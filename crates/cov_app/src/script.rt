@@ -26,9 +26,13 @@ pub(crate) fn run<O: Sink>(
     tree: &Module,
     out: &mut O,
 ) -> Result<Left, RunFault>
-    ensures shows { IsBuilt (plain_module tree.now) → (tokens : List PToken) → Spells (plain_module tree.now) tokens → (input : List ℕ) → Shows path.now (plain_module tree.now) (run_of path.now (plain_module tree.now) input) result O.tells (O.contents out.old) (O.contents out.new) }
+    ensures shows { IsBuilt (plain_module tree.now) → (tokens : List PToken)
+        → Spells (plain_module tree.now) tokens → (input : List ℕ)
+        → Shows path.now (plain_module tree.now) (run_of path.now (plain_module tree.now) input)
+        result O.tells (O.contents out.old) (O.contents out.new) }
     ensures count { O.faults out.old ≤ O.faults out.new }
-    ensures fault { IsErrOf result RunFault.WriteFault → Rose (O.faults out.old) (O.faults out.new) }
+    ensures fault { IsErrOf result RunFault.WriteFault
+        → Rose (O.faults out.old) (O.faults out.new) }
 {
     let mut walk = Walk {
         globals: BTreeMap::new(alloc),

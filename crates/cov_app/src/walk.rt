@@ -145,7 +145,8 @@ fn chain(
     first: &Expr,
     links: &[Link],
 ) -> Result<Result<bool, Raised>, NoMemory>
-    ensures { IfOk result (λ r. Tests globals.now (compare (plain_expr first.now) (plain_links links.now)) r) }
+    ensures { IfOk result (λ r.
+        Tests globals.now (compare (plain_expr first.now) (plain_links links.now)) r) }
 {
     if links.len() != 1 {
         return Ok(Err(Raised::Unbuilt));
@@ -187,7 +188,8 @@ impl Walk {
 
     /// Notes the arc of leaving the module.
     pub(crate) fn leave(&mut self) -> Result<(), NoMemory>
-        ensures { OnOk result (self.new.arcs.keys ≡ insert_key by_lines self.old.arcs.keys (shown_line 1 self.old.kept, shown_line 1 0)) }
+        ensures { OnOk result (self.new.arcs.keys
+            ≡ insert_key by_lines self.old.arcs.keys (shown_line 1 self.old.kept, shown_line 1 0)) }
     {
         self.arcs.insert((end_of_arc(self.kept), -1))?;
         Ok(())
@@ -212,10 +214,13 @@ pub(crate) fn run_suite<O: Sink>(
     out: &mut O,
     body: &[Stmt],
 ) -> Result<Left, RunFault>
-    ensures does { (calls : Calls) → (ms : List LoadedModule) → IsWalked (plain_stmts body.now) → Does (exec calls (script ms) (plain_stmts body.now)) walk.old result walk.new O.tells (O.contents out.old) (O.contents out.new) }
+    ensures does { (calls : Calls) → (ms : List LoadedModule) → IsWalked (plain_stmts body.now)
+        → Does (exec calls (script ms) (plain_stmts body.now)) walk.old result walk.new O.tells
+        (O.contents out.old) (O.contents out.new) }
     ensures fewer { OnOk result (walk.new.steps ≤ walk.old.steps) }
     ensures count { O.faults out.old ≤ O.faults out.new }
-    ensures fault { IsErrOf result RunFault.WriteFault → Rose (O.faults out.old) (O.faults out.new) }
+    ensures fault { IsErrOf result RunFault.WriteFault
+        → Rose (O.faults out.old) (O.faults out.new) }
 {
     for stmt in body {
         match run_kind(alloc, walk, out, stmt.first, &stmt.kind)? {
@@ -234,10 +239,14 @@ fn run_kind<O: Sink>(
     line: u32,
     kind: &StmtKind,
 ) -> Result<Left, RunFault>
-    ensures does { (calls : Calls) → (ms : List LoadedModule) → IsWalkedKind line (plain_kind kind.now) → Does (exec_kind calls (script ms) line (plain_kind kind.now)) walk.old result walk.new O.tells (O.contents out.old) (O.contents out.new) }
+    ensures does { (calls : Calls) → (ms : List LoadedModule)
+        → IsWalkedKind line (plain_kind kind.now)
+        → Does (exec_kind calls (script ms) line (plain_kind kind.now)) walk.old result walk.new
+        O.tells (O.contents out.old) (O.contents out.new) }
     ensures fewer { OnOk result (walk.new.steps ≤ walk.old.steps) }
     ensures count { O.faults out.old ≤ O.faults out.new }
-    ensures fault { IsErrOf result RunFault.WriteFault → Rose (O.faults out.old) (O.faults out.new) }
+    ensures fault { IsErrOf result RunFault.WriteFault
+        → Rose (O.faults out.old) (O.faults out.new) }
 {
     match kind {
         StmtKind::Expr(_) | StmtKind::Assign { .. } => run_simple(alloc, walk, out, line, kind),
@@ -274,10 +283,15 @@ fn run_arms<O: Sink>(
     out: &mut O,
     arms: &[Arm],
 ) -> Result<Option<Left>, RunFault>
-    ensures does { (calls : Calls) → (ms : List LoadedModule) → (o : OptSuite) → AreWalkedArms (plain_arms arms.now) → IsWalkedElse o → DoesOr (exec_arms calls (script ms) (plain_arms arms.now) (exec_opt calls (script ms) o)) (exec_opt calls (script ms) o) walk.old result walk.new O.tells (O.contents out.old) (O.contents out.new) }
+    ensures does { (calls : Calls) → (ms : List LoadedModule) → (o : OptSuite)
+        → AreWalkedArms (plain_arms arms.now) → IsWalkedElse o
+        → DoesOr (exec_arms calls (script ms) (plain_arms arms.now) (exec_opt calls (script ms) o))
+        (exec_opt calls (script ms) o) walk.old result walk.new O.tells (O.contents out.old)
+        (O.contents out.new) }
     ensures fewer { OnOk result (walk.new.steps ≤ walk.old.steps) }
     ensures count { O.faults out.old ≤ O.faults out.new }
-    ensures fault { IsErrOf result RunFault.WriteFault → Rose (O.faults out.old) (O.faults out.new) }
+    ensures fault { IsErrOf result RunFault.WriteFault
+        → Rose (O.faults out.old) (O.faults out.new) }
 {
     for arm in arms {
         if walk.steps == 0 {
@@ -303,10 +317,14 @@ fn run_else<O: Sink>(
     out: &mut O,
     orelse: &Option<Suite>,
 ) -> Result<Left, RunFault>
-    ensures does { (calls : Calls) → (ms : List LoadedModule) → IsWalkedElse (plain_opt_suite orelse.now) → Does (exec_opt calls (script ms) (plain_opt_suite orelse.now)) walk.old result walk.new O.tells (O.contents out.old) (O.contents out.new) }
+    ensures does { (calls : Calls) → (ms : List LoadedModule)
+        → IsWalkedElse (plain_opt_suite orelse.now)
+        → Does (exec_opt calls (script ms) (plain_opt_suite orelse.now)) walk.old result walk.new
+        O.tells (O.contents out.old) (O.contents out.new) }
     ensures fewer { OnOk result (walk.new.steps ≤ walk.old.steps) }
     ensures count { O.faults out.old ≤ O.faults out.new }
-    ensures fault { IsErrOf result RunFault.WriteFault → Rose (O.faults out.old) (O.faults out.new) }
+    ensures fault { IsErrOf result RunFault.WriteFault
+        → Rose (O.faults out.old) (O.faults out.new) }
 {
     match orelse {
         None => Ok(Left::End),
@@ -323,10 +341,15 @@ fn run_while<O: Sink>(
     body: &Suite,
     header: &Expr,
 ) -> Result<Option<Left>, RunFault>
-    ensures does { (calls : Calls) → (ms : List LoadedModule) → (line : ℕ) → (o : OptSuite) → IsWalkedKind line (while (plain_expr header.now) (plain_suite body.now) o) → DoesOr (exec_kind calls (script ms) line (while (plain_expr header.now) (plain_suite body.now) o)) (exec_opt calls (script ms) o) walk.old result walk.new O.tells (O.contents out.old) (O.contents out.new) }
+    ensures does { (calls : Calls) → (ms : List LoadedModule) → (line : ℕ) → (o : OptSuite)
+        → IsWalkedKind line (while (plain_expr header.now) (plain_suite body.now) o)
+        → DoesOr (exec_kind calls (script ms) line
+        (while (plain_expr header.now) (plain_suite body.now) o)) (exec_opt calls (script ms) o)
+        walk.old result walk.new O.tells (O.contents out.old) (O.contents out.new) }
     ensures fewer { OnOk result (walk.new.steps ≤ walk.old.steps) }
     ensures count { O.faults out.old ≤ O.faults out.new }
-    ensures fault { IsErrOf result RunFault.WriteFault → Rose (O.faults out.old) (O.faults out.new) }
+    ensures fault { IsErrOf result RunFault.WriteFault
+        → Rose (O.faults out.old) (O.faults out.new) }
 {
     let mut again = false;
     'turns: while walk.steps > 0 {
@@ -353,10 +376,13 @@ fn run_simple<O: Sink>(
     line: u32,
     kind: &StmtKind,
 ) -> Result<Left, RunFault>
-    ensures does { (calls : Calls) → (ms : List LoadedModule) → IsSimple (plain_kind kind.now) → Does (exec_kind calls (script ms) line (plain_kind kind.now)) walk.old result walk.new O.tells (O.contents out.old) (O.contents out.new) }
+    ensures does { (calls : Calls) → (ms : List LoadedModule) → IsSimple (plain_kind kind.now)
+        → Does (exec_kind calls (script ms) line (plain_kind kind.now)) walk.old result walk.new
+        O.tells (O.contents out.old) (O.contents out.new) }
     ensures fewer { OnOk result (walk.new.steps ≤ walk.old.steps) }
     ensures count { O.faults out.old ≤ O.faults out.new }
-    ensures fault { IsErrOf result RunFault.WriteFault → Rose (O.faults out.old) (O.faults out.new) }
+    ensures fault { IsErrOf result RunFault.WriteFault
+        → Rose (O.faults out.old) (O.faults out.new) }
 {
     if walk.steps == 0 {
         return Ok(Left::Cut);
@@ -391,9 +417,12 @@ fn run_expression<O: Sink>(
     out: &mut O,
     e: &Expr,
 ) -> Result<Left, RunFault>
-    ensures does { (calls : Calls) → (ms : List LoadedModule) → IsPrintCall (plain_expr e.now) → Does (simply (eval calls (script ms) (plain_expr e.now))) walk.now result walk.now O.tells (O.contents out.old) (O.contents out.new) }
+    ensures does { (calls : Calls) → (ms : List LoadedModule) → IsPrintCall (plain_expr e.now)
+        → Does (simply (eval calls (script ms) (plain_expr e.now))) walk.now result walk.now O.tells
+        (O.contents out.old) (O.contents out.new) }
     ensures count { O.faults out.old ≤ O.faults out.new }
-    ensures fault { IsErrOf result RunFault.WriteFault → Rose (O.faults out.old) (O.faults out.new) }
+    ensures fault { IsErrOf result RunFault.WriteFault
+        → Rose (O.faults out.old) (O.faults out.new) }
 {
     match e {
         Expr::Call {
@@ -413,9 +442,14 @@ fn run_call<O: Sink>(
     callee: &Expr,
     args: &[Expr],
 ) -> Result<Left, RunFault>
-    ensures does { (calls : Calls) → (ms : List LoadedModule) → (comma : Bool) → IsPrintCall (call (plain_expr callee.now) (plain_exprs args.now) comma) → Does (simply (eval calls (script ms) (call (plain_expr callee.now) (plain_exprs args.now) comma))) walk.now result walk.now O.tells (O.contents out.old) (O.contents out.new) }
+    ensures does { (calls : Calls) → (ms : List LoadedModule) → (comma : Bool)
+        → IsPrintCall (call (plain_expr callee.now) (plain_exprs args.now) comma)
+        → Does (simply (eval calls (script ms)
+        (call (plain_expr callee.now) (plain_exprs args.now) comma))) walk.now result walk.now
+        O.tells (O.contents out.old) (O.contents out.new) }
     ensures count { O.faults out.old ≤ O.faults out.new }
-    ensures fault { IsErrOf result RunFault.WriteFault → Rose (O.faults out.old) (O.faults out.new) }
+    ensures fault { IsErrOf result RunFault.WriteFault
+        → Rose (O.faults out.old) (O.faults out.new) }
 {
     if !is_print(callee) || args.len() != 1 {
         return Ok(Left::Raised(Raised::Unbuilt));
@@ -440,10 +474,14 @@ fn is_print(e: &Expr) -> bool
 
 /// Writes the number and a line end.
 fn print<O: Sink>(alloc: Global, out: &mut O, z: i64) -> Result<(), RunFault>
-    ensures ok { O.tells → OnOk result (O.contents out.new ≡ O.contents out.old ++ signed_decimal z ++ 10 ∷ []) }
-    ensures err { O.tells → OnErr result (GainsPrefix (O.contents out.old) (O.contents out.new) (signed_decimal z ++ 10 ∷ [])) }
+    ensures ok { O.tells
+        → OnOk result (O.contents out.new ≡ O.contents out.old ++ signed_decimal z ++ 10 ∷ []) }
+    ensures err { O.tells
+        → OnErr result (GainsPrefix (O.contents out.old) (O.contents out.new)
+        (signed_decimal z ++ 10 ∷ [])) }
     ensures count { O.faults out.old ≤ O.faults out.new }
-    ensures fault { IsErrOf result RunFault.WriteFault → Rose (O.faults out.old) (O.faults out.new) }
+    ensures fault { IsErrOf result RunFault.WriteFault
+        → Rose (O.faults out.old) (O.faults out.new) }
 {
     let line = format!(in alloc; "{z}\n")?;
     write(alloc, out, line.as_bytes())
@@ -452,9 +490,11 @@ fn print<O: Sink>(alloc: Global, out: &mut O, z: i64) -> Result<(), RunFault>
 /// Writes the whole piece, or a prefix of it before a fault.
 pub(crate) fn write<O: Sink>(alloc: Global, out: &mut O, piece: &[u8]) -> Result<(), RunFault>
     ensures ok { O.tells → OnOk result (O.contents out.new ≡ O.contents out.old ++ piece.now) }
-    ensures err { O.tells → OnErr result (GainsPrefix (O.contents out.old) (O.contents out.new) piece.now) }
+    ensures err { O.tells
+        → OnErr result (GainsPrefix (O.contents out.old) (O.contents out.new) piece.now) }
     ensures count { O.faults out.old ≤ O.faults out.new }
-    ensures fault { IsErrOf result RunFault.WriteFault → Rose (O.faults out.old) (O.faults out.new) }
+    ensures fault { IsErrOf result RunFault.WriteFault
+        → Rose (O.faults out.old) (O.faults out.new) }
 {
     match out.write(alloc, piece) {
         Ok(()) => Ok(()),
@@ -465,7 +505,11 @@ pub(crate) fn write<O: Sink>(alloc: Global, out: &mut O, piece: &[u8]) -> Result
 
 /// `name = sum`.
 fn assign(alloc: Global, walk: &mut Walk, targets: &[Expr], e: &Expr) -> Result<Left, NoMemory>
-    ensures moves { IfOk result (λ left. (calls : Calls) → (ms : List LoadedModule) → IsOneName (plain_exprs targets.now) → IsSum (plain_expr e.now) → Moves (assigning calls ms (plain_exprs targets.now) (plain_expr e.now)) (leaves left) walk.old walk.new) }
+    ensures moves { IfOk result (λ left.
+        (calls : Calls) → (ms : List LoadedModule) → IsOneName (plain_exprs targets.now)
+        → IsSum (plain_expr e.now)
+        → Moves (assigning calls ms (plain_exprs targets.now) (plain_expr e.now)) (leaves left)
+        walk.old walk.new) }
     ensures steps { OnOk result (walk.new.steps ≡ walk.old.steps) }
 {
     if targets.len() != 1 {

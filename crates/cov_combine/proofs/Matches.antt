@@ -4,11 +4,11 @@ use Rattle.std.specs.Prelude.{◌&&◌, nat_lt, is_some}
 use Rattle.std.specs.Option.{option_or, option_map}
 use Rattle.std.proofs.lemmas.Bool.{lt-ltb, le-ltb, and_right}
 use Rattle.cov_data.specs.DataSet.{Text}
-use Rattle.cov_combine.specs.Aliases.{fits, left_behind, behind_star}
+use Rattle.cov_combine.specs.Aliases.{fits, left_after, after_star}
 use Rattle.cov_combine.proofs.Parts.{drop_at}
 
-pub left_behind-fits : (ps cs : List Text) → fits ps cs ≡ true → length ps < length cs → left_behind ps cs ≡ Some (drop (length ps) cs)
-left_behind-fits ps cs fit short =
+pub left_after-fits : (ps cs : List Text) → fits ps cs ≡ true → length ps < length cs → left_after ps cs ≡ Some (drop (length ps) cs)
+left_after-fits ps cs fit short =
     ap (λ b. cond (b && nat_lt (length ps) (length cs)) (Some (drop (length ps) cs)) None) fit
     ∙ ap (λ b. cond b (Some (drop (length ps) cs)) None) (lt-ltb (length ps) (length cs) short)
 
@@ -25,13 +25,13 @@ is_some-option_map f None = refl
 is_some-option_map f (Some x) = refl
 
 -- one leading component more goes to the `*`
-pub behind_star-at : (ps cs : List Text) (i : ℕ) → 1 ≤ i → i ≤ length cs → behind_star ps (drop (i - 1) cs) ≡ option_or (left_behind ps (drop i cs)) (behind_star ps (drop i cs))
-behind_star-at ps cs i low high =
+pub after_star-at : (ps cs : List Text) (i : ℕ) → 1 ≤ i → i ≤ length cs → after_star ps (drop (i - 1) cs) ≡ option_or (left_after ps (drop i cs)) (after_star ps (drop i cs))
+after_star-at ps cs i low high =
     let at : i - 1 + 1 ≡ i = omega arith in
-    ap (behind_star ps) (drop_at cs (i - 1) [] (omega arith)) ∙ ap (λ k. option_or (left_behind ps (drop k cs)) (behind_star ps (drop k cs))) at
+    ap (after_star ps) (drop_at cs (i - 1) [] (omega arith)) ∙ ap (λ k. option_or (left_after ps (drop k cs)) (after_star ps (drop k cs))) at
 
 -- a path of one component leaves none
-pub behind_star-short : (ps cs : List Text) → length cs ≤ 1 → behind_star ps cs ≡ None
-behind_star-short ps [] h = refl
-behind_star-short ps (c ∷ []) h = ap (λ o. option_or o None) (ap (λ b. cond b (Some (drop (length ps) [])) None) (and_right (fits ps []) (nat_lt (length ps) 0) (le-ltb (length ps) 0 (omega arith))))
-behind_star-short ps (c ∷ d ∷ cs) h = absurd (omega arith)
+pub after_star-short : (ps cs : List Text) → length cs ≤ 1 → after_star ps cs ≡ None
+after_star-short ps [] h = refl
+after_star-short ps (c ∷ []) h = ap (λ o. option_or o None) (ap (λ b. cond b (Some (drop (length ps) [])) None) (and_right (fits ps []) (nat_lt (length ps) 0) (le-ltb (length ps) 0 (omega arith))))
+after_star-short ps (c ∷ d ∷ cs) h = absurd (omega arith)

@@ -2,7 +2,7 @@
 use Rattle.std.proofs.Common.{◌≡◌, ℕ, ◌+◌, ◌<◌, Bool, true, false, cond, List, [], ◌∷◌, ◌++◌, length, get_or, drop, refl, ap, sym, ◌∙◌, append-nil, drop-cons, add-one}
 use Rattle.std.specs.Prelude.{◌||◌, ◌==◌}
 use Rattle.std.specs.List.{slice_split, onto_first, flat_map}
-use Rattle.cov_combine.specs.Aliases.{components, joined, behind}
+use Rattle.cov_combine.specs.Aliases.{components, joined, after}
 
 abbrev is_slash : ℕ → Bool
 is_slash b = b == 47
@@ -53,7 +53,7 @@ components-twice (b ∷ bs) =
 
 -- ---- joined again
 
-pub joined-cons : (x : List ℕ) (xs : List (List ℕ)) → joined (x ∷ xs) ≡ x ++ behind xs
+pub joined-cons : (x : List ℕ) (xs : List (List ℕ)) → joined (x ∷ xs) ≡ x ++ after xs
 joined-cons x [] = sym (append-nil x)
 joined-cons x (y ∷ ys) = ap (λ t. x ++ (47 ∷ t)) (joined-cons y ys)
 

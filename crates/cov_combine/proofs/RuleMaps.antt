@@ -33,9 +33,9 @@ module _ {Y : Type 0} where
 
 -- ---- a rule more at the end of the list
 
-find_behind : (q k : Text) (r : Rule) (es : List (Text × Rule)) → find text_cmp q (es ++ (k, r) ∷ []) ≡ option_or (find text_cmp q es) (cond (eq_by_cmp text_cmp q k) (Some r) None)
-find_behind q k r [] = refl
-find_behind q k r (e ∷ es) = ap (cond (eq_by_cmp text_cmp q e.0) (Some e.1)) (find_behind q k r es)
+find_after : (q k : Text) (r : Rule) (es : List (Text × Rule)) → find text_cmp q (es ++ (k, r) ∷ []) ≡ option_or (find text_cmp q es) (cond (eq_by_cmp text_cmp q k) (Some r) None)
+find_after q k r [] = refl
+find_after q k r (e ∷ es) = ap (cond (eq_by_cmp text_cmp q e.0) (Some e.1)) (find_after q k r es)
     ∙ elim (eq_by_cmp text_cmp q e.0) as (λ b. cond b (Some e.1) (option_or (find text_cmp q es) (cond (eq_by_cmp text_cmp q k) (Some r) None)) ≡ option_or (cond b (Some e.1) (find text_cmp q es)) (cond (eq_by_cmp text_cmp q k) (Some r) None)) [ true ↦ refl | false ↦ refl ]
 
 left_out : (o p : Option Rule) → is_some p ≡ false → option_or o p ≡ o
@@ -49,7 +49,7 @@ kept_first (Some r) p h = refl
 -- a name that is there keeps its rule
 pub from_entries-present : (es : List (Text × Rule)) (k : Text) (r : Rule) → is_some (find text_cmp k es) ≡ true → from_entries {R = text_cmp} (es ++ (k, r) ∷ []) ≡ from_entries es
 from_entries-present es k r there = same_map text_cmp_total text_cmp_same _ _ (λ q.
-    get-from_entries text_cmp_total (es ++ (k, r) ∷ []) q ∙ find_behind q k r es
+    get-from_entries text_cmp_total (es ++ (k, r) ∷ []) q ∙ find_after q k r es
     ∙ elim (text_cmp q k) as (λ o. text_cmp q k ≡ o → option_or (find text_cmp q es) (cond (is_eq o) (Some r) None) ≡ find text_cmp q es) [
       | Less ↦ λ t. left_out (find text_cmp q es) None refl
       | Equal ↦ λ t. kept_first (find text_cmp q es) (Some r) (ap is_some (sym (find_tied text_cmp text_cmp_total q k t es)) ∙ there)

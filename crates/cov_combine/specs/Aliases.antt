@@ -1,6 +1,6 @@
 -- Aliases of paths, as the section `paths` of coverage.py's settings gives them.
 --     components, cut        the parts of a path between / and \; of a pattern, where one at the end is dropped
---     left_by                what is left of a path behind a pattern that matches it
+--     left_by                what is left of a path after a pattern that matches it
 --     Rule, rule_from        where paths go, and the patterns of the paths that go there
 --     Rules, rules_from      the rules in the byte order of their names
 --     alias_of               the alias of a path
@@ -37,20 +37,20 @@ fits [] parts = true
 fits (p ∷ ps) [] = false
 fits (p ∷ ps) (c ∷ cs) = (bytes_eq p star || bytes_eq p c) && fits ps cs
 
--- the components behind those of a pattern: a match leaves at least one
-abbrev pub left_behind : List Text → List Text → Option (List Text)
-left_behind ps parts = cond (fits ps parts && nat_lt (length ps) (length parts)) (Some (drop (length ps) parts)) None
+-- the components after those of a pattern: a match leaves at least one
+abbrev pub left_after : List Text → List Text → Option (List Text)
+left_after ps parts = cond (fits ps parts && nat_lt (length ps) (length parts)) (Some (drop (length ps) parts)) None
 
--- behind a `*` that leads a pattern: it is the fewest leading components that let the rest match
-abbrev pub behind_star : List Text → List Text → Option (List Text)
-behind_star ps [] = None
-behind_star ps (c ∷ cs) = option_or (left_behind ps cs) (behind_star ps cs)
+-- after a `*` that leads a pattern: it is the fewest leading components that let the rest match
+abbrev pub after_star : List Text → List Text → Option (List Text)
+after_star ps [] = None
+after_star ps (c ∷ cs) = option_or (left_after ps cs) (after_star ps cs)
 
 abbrev pub left_by : List Text → List Text → Option (List Text)
-left_by [] parts = left_behind [] parts
-left_by (p ∷ ps) parts = cond (bytes_eq p star) (behind_star ps parts) (left_behind (p ∷ ps) parts)
+left_by [] parts = left_after [] parts
+left_by (p ∷ ps) parts = cond (bytes_eq p star) (after_star ps parts) (left_after (p ∷ ps) parts)
 
--- behind the first pattern that matches
+-- after the first pattern that matches
 abbrev pub first_left : List (List Text) → List Text → Option (List Text)
 first_left [] parts = None
 first_left (p ∷ ps) parts = option_or (left_by p parts) (first_left ps parts)
@@ -59,10 +59,10 @@ first_left (p ∷ ps) parts = option_or (left_by p parts) (first_left ps parts)
 abbrev pub joined : List Text → Text
 joined parts = join_with_byte 47 parts
 
--- components, each behind a `/`
-abbrev pub behind : List Text → Text
-behind [] = []
-behind (part ∷ parts) = 47 ∷ (part ++ behind parts)
+-- components, each after a `/`
+abbrev pub after : List Text → Text
+after [] = []
+after (part ∷ parts) = 47 ∷ (part ++ after parts)
 
 -- where the paths go, and the patterns of those that go there
 abbrev pub Rule : Type 0
@@ -88,7 +88,7 @@ abbrev pub rules_from : List (Text × List Text) → Rules
 rules_from given = from_entries (map (λ e. (e.0, rule_from e.1)) given)
 
 abbrev pub moved : Text → List Text → Text
-moved place left = place ++ behind left
+moved place left = place ++ after left
 
 -- by the first rule with a pattern that matches
 abbrev pub alias_among : List Rule → List Text → Option Text

@@ -69,7 +69,8 @@ fn insert_first(
     alloc: Global,
     rule: PathRule,
 ) -> Result<(), NoMemory>
-    ensures { OnOk result (rules_by_name rules.new.entries ≡ with_first (rules_by_name rules.old.entries) name.now rule) }
+    ensures { OnOk result (rules_by_name rules.new.entries
+        ≡ with_first (rules_by_name rules.old.entries) name.now rule) }
 {
     if rules.contains_key(name) {
         return Ok(());

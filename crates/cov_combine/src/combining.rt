@@ -31,15 +31,20 @@ impl From<AllocError> for CombineError {
 pub fn combine(alloc: Global, inputs: &[Data], rules: &AliasRules) -> Result<Data, CombineError>
     requires { 0 < length inputs.now }
     ensures ok { IfOk result (λ all. all ≡ combined (alias_of rules.now) inputs.now) }
-    ensures mixed { has_both_kinds inputs.now ≡ true → IsErrOf result (CombineError.Mixed (flag_of inputs.now) (not (flag_of inputs.now))) }
+    ensures mixed { has_both_kinds inputs.now ≡ true
+        → IsErrOf result (CombineError.Mixed (flag_of inputs.now) (not (flag_of inputs.now))) }
     ensures refused { IfErr result (IsMixture inputs.now) }
 
     // The order of the inputs does not matter, repeats change no more than counts, and a combination
     // may be combined with further inputs where its paths are their own aliases.
-    ensures any_order { IfOk result (λ all. (others : List DataSet) → IsPermutation inputs.now others → all ≡ combined (alias_of rules.now) others) }
+    ensures any_order { IfOk result (λ all.
+        (others : List DataSet) → IsPermutation inputs.now others
+        → all ≡ combined (alias_of rules.now) others) }
     ensures repeats { IfOk result (λ all. (others : List DataSet)
         → ((d : DataSet) → Contains inputs.now d ↔ Contains others d) → HoldsAlike all (combined (alias_of rules.now) others)) }
-    ensures groups { IfOk result (λ all. (more : List DataSet) → ((path : List ℕ) → has_path all path ≡ true → alias_of rules.now path ≡ path)
+    ensures groups { IfOk result (λ all.
+        (more : List DataSet)
+        → ((path : List ℕ) → has_path all path ≡ true → alias_of rules.now path ≡ path)
         → combined (alias_of rules.now) (all ∷ more) ≡ combined (alias_of rules.now) (inputs.now ++ more)) }
 {
     let first = inputs[0].is_arcs();

@@ -1,7 +1,7 @@
 //! The components of paths and patterns.
 ghost use Rattle.std.specs.Prelude.{◌≡◌, ◌==◌, ◌++◌, ◌∷◌, map, string_bytes, IfOk, OnOk};
 ghost use Rattle.std.specs.List.{slice_split};
-ghost use Rattle.cov_combine.specs.Aliases.{components, cut, joined, behind};
+ghost use Rattle.cov_combine.specs.Aliases.{components, cut, joined, after};
 
 use crate::NoMemory;
 use std::alloc::Global;
@@ -18,13 +18,15 @@ pub(crate) fn components<'t>(alloc: Global, text: &'t str) -> Result<Vec<&'t str
 }
 
 fn slashed<'t>(alloc: Global, text: &'t str) -> Result<Vec<&'t str>, NoMemory>
-    ensures { IfOk result (λ parts. map (λ part. part.now) parts.items ≡ slice_split (λ b. b == 47) text.now) }
+    ensures { IfOk result (λ parts.
+        map (λ part. part.now) parts.items ≡ slice_split (λ b. b == 47) text.now) }
 {
     text.split('/').collect(alloc)
 }
 
 fn backslashed<'t>(alloc: Global, text: &'t str) -> Result<Vec<&'t str>, NoMemory>
-    ensures { IfOk result (λ parts. map (λ part. part.now) parts.items ≡ slice_split (λ b. b == 92) text.now) }
+    ensures { IfOk result (λ parts.
+        map (λ part. part.now) parts.items ≡ slice_split (λ b. b == 92) text.now) }
 {
     text.split('\\').collect(alloc)
 }
@@ -41,9 +43,10 @@ pub(crate) fn cut<'t>(alloc: Global, text: &'t str) -> Result<Vec<&'t str>, NoMe
     Ok(parts)
 }
 
-/// Appends components, each behind a `/`.
-pub(crate) fn push_behind(text: &mut String, parts: &[&str]) -> Result<(), NoMemory>
-    ensures { OnOk result (string_bytes text.new ≡ string_bytes text.old ++ behind (map (λ part. part.now) parts.now)) }
+/// Appends components, each after a `/`.
+pub(crate) fn push_after(text: &mut String, parts: &[&str]) -> Result<(), NoMemory>
+    ensures { OnOk result (string_bytes text.new
+        ≡ string_bytes text.old ++ after (map (λ part. part.now) parts.now)) }
 {
     for part in parts {
         text.push('/')?;
@@ -60,6 +63,6 @@ pub(crate) fn joined(alloc: Global, parts: &[&str]) -> Result<String, NoMemory>
         return Ok(String::new(alloc));
     };
     let mut text = String::from_str(alloc, first)?;
-    push_behind(&mut text, others)?;
+    push_after(&mut text, others)?;
     Ok(text)
 }

@@ -1,7 +1,7 @@
-//! What is left of a path behind a pattern that matches it.
+//! What is left of a path after a pattern that matches it.
 ghost use Rattle.std.specs.Prelude.{◌≡◌, map, string_bytes};
 ghost use Rattle.std.specs.Option.{option_map};
-ghost use Rattle.cov_combine.specs.Aliases.{fits, left_behind, behind_star, left_by};
+ghost use Rattle.cov_combine.specs.Aliases.{fits, left_after, after_star, left_by};
 
 /// Whether the pattern's components are the path's first ones.
 fn fits(pattern: &[String], parts: &[&str]) -> bool
@@ -19,8 +19,10 @@ fn fits(pattern: &[String], parts: &[&str]) -> bool
     true
 }
 
-fn left_behind<'p, 't>(pattern: &[String], parts: &'p [&'t str]) -> Option<&'p [&'t str]>
-    ensures { option_map (λ left. map (λ part. part.now) left.now) result ≡ left_behind (map string_bytes pattern.now) (map (λ part. part.now) parts.now) }
+fn left_after<'p, 't>(pattern: &[String], parts: &'p [&'t str]) -> Option<&'p [&'t str]>
+    ensures { option_map (λ left.
+        map (λ part. part.now) left.now) result
+        ≡ left_after (map string_bytes pattern.now) (map (λ part. part.now) parts.now) }
 {
     if fits(pattern, parts) && pattern.len() < parts.len() {
         Some(&parts[pattern.len()..])
@@ -29,11 +31,13 @@ fn left_behind<'p, 't>(pattern: &[String], parts: &'p [&'t str]) -> Option<&'p [
     }
 }
 
-fn behind_star<'p, 't>(rest: &[String], parts: &'p [&'t str]) -> Option<&'p [&'t str]>
-    ensures { option_map (λ left. map (λ part. part.now) left.now) result ≡ behind_star (map string_bytes rest.now) (map (λ part. part.now) parts.now) }
+fn after_star<'p, 't>(rest: &[String], parts: &'p [&'t str]) -> Option<&'p [&'t str]>
+    ensures { option_map (λ left.
+        map (λ part. part.now) left.now) result
+        ≡ after_star (map string_bytes rest.now) (map (λ part. part.now) parts.now) }
 {
     for start in 1..parts.len() {
-        let found = left_behind(rest, &parts[start..]);
+        let found = left_after(rest, &parts[start..]);
         if found.is_some() {
             return found;
         }
@@ -41,18 +45,20 @@ fn behind_star<'p, 't>(rest: &[String], parts: &'p [&'t str]) -> Option<&'p [&'t
     None
 }
 
-/// The components behind the pattern, of which there is at least one.
+/// The components after the pattern, of which there is at least one.
 pub(crate) fn left_by<'p, 't>(pattern: &[String], parts: &'p [&'t str]) -> Option<&'p [&'t str]>
-    ensures { option_map (λ left. map (λ part. part.now) left.now) result ≡ left_by (map string_bytes pattern.now) (map (λ part. part.now) parts.now) }
+    ensures { option_map (λ left.
+        map (λ part. part.now) left.now) result
+        ≡ left_by (map string_bytes pattern.now) (map (λ part. part.now) parts.now) }
 {
     match pattern.split_first() {
         Some((first, rest)) => {
             if first.as_str() == "*" {
-                behind_star(rest, parts)
+                after_star(rest, parts)
             } else {
-                left_behind(pattern, parts)
+                left_after(pattern, parts)
             }
         }
-        None => left_behind(pattern, parts),
+        None => left_after(pattern, parts),
     }
 }

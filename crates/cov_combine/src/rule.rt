@@ -4,7 +4,7 @@ ghost use Rattle.std.specs.Option.{option_map};
 ghost use Rattle.cov_combine.specs.Aliases.{cut, rule_from, first_left, moved};
 
 use crate::NoMemory;
-use crate::components::{cut, joined, push_behind};
+use crate::components::{cut, joined, push_after};
 use crate::matching::left_by;
 use std::alloc::Global;
 use std::marker::Model;
@@ -48,12 +48,15 @@ impl PathRule {
 
     /// The alias of the path of these components, where a pattern matches it.
     pub(crate) fn moved(&self, alloc: Global, parts: &[&str]) -> Result<Option<String>, NoMemory>
-        ensures { IfOk result (λ alias. option_map string_bytes alias ≡ option_map (moved self.now.0) (first_left self.now.1 (map (λ part. part.now) parts.now))) }
+        ensures { IfOk result (λ alias.
+            option_map string_bytes alias
+            ≡ option_map (moved self.now.0)
+            (first_left self.now.1 (map (λ part. part.now) parts.now))) }
     {
         for pattern in &self.patterns {
             if let Some(left) = left_by(pattern.as_slice(), parts) {
                 let mut alias = String::from_str(alloc, self.place.as_str())?;
-                push_behind(&mut alias, left)?;
+                push_after(&mut alias, left)?;
                 return Ok(Some(alias));
             }
         }

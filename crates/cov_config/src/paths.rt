@@ -26,7 +26,8 @@ pub(crate) fn read_paths(
 }
 
 fn rules_in(alloc: Global, table: &Table) -> Result<Vec<(String, Vec<String>)>, ConfigError>
-    ensures { Answers (λ rules. rules_view rules.items) (rules_in (in_order (table_view table.now))) result }
+    ensures { Answers (λ rules.
+        rules_view rules.items) (rules_in (in_order (table_view table.now))) result }
 {
     let mut rules = Vec::new(alloc);
     for (name, value) in table {

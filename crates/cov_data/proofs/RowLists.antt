@@ -27,16 +27,16 @@ file_rows-none p = ap (map (row_of p)) (entries-empty place_cmp)
 -- ---- each entry of a map is what a look-up finds
 
 module _ {K X : Type 0} {R : K → K → Ordering} (o : IsTotalOrder R) where
-  -- the entries behind e are found behind it
-  found_behind : (e : K × X) (all es : List (K × X)) → T (below_all R e.0 es) → AllByRecursion (λ f. find R f.0 all ≡ Some f.1) es → AllByRecursion (λ f. find R f.0 (e ∷ all) ≡ Some f.1) es
-  found_behind e all [] h found = tt
-  found_behind e all (f ∷ es) h found =
+  -- the entries after e are found after it
+  found_after : (e : K × X) (all es : List (K × X)) → T (below_all R e.0 es) → AllByRecursion (λ f. find R f.0 all ≡ Some f.1) es → AllByRecursion (λ f. find R f.0 (e ∷ all) ≡ Some f.1) es
+  found_after e all [] h found = tt
+  found_after e all (f ∷ es) h found =
       let apart : R f.0 e.0 ≡ Greater = o.antisymm f.0 e.0 ∙ ap ordering_reverse (less (R e.0 f.0) (first _ _ h)) in
-      (ap (λ r. cond (is_eq r) (Some e.1) (find R f.0 all)) apart ∙ found.0, found_behind e all es (second _ _ h) found.1)
+      (ap (λ r. cond (is_eq r) (Some e.1) (find R f.0 all)) apart ∙ found.0, found_after e all es (second _ _ h) found.1)
 
   found_all : (es : List (K × X)) → T (is_sorted R es) → AllByRecursion (λ f. find R f.0 es ≡ Some f.1) es
   found_all [] h = tt
-  found_all (e ∷ es) h = (ap (λ r. cond (is_eq r) (Some e.1) (find R e.0 es)) (tied_itself o e.0), found_behind e es es (first _ _ h) (found_all es (second _ _ h)))
+  found_all (e ∷ es) h = (ap (λ r. cond (is_eq r) (Some e.1) (find R e.0 es)) (tied_itself o e.0), found_after e es es (first _ _ h) (found_all es (second _ _ h)))
 
   pub get-each : (m : FinMap R X) → All (λ e. get m e.0 ≡ Some e.1) (entries m)
   get-each m = All-weaker (λ e. find R e.0 (entries m) ≡ Some e.1) (λ e. get m e.0 ≡ Some e.1) (λ e h. get-entries m e.0 ∙ h) (entries m) (All-from_recursion (λ e. find R e.0 (entries m) ≡ Some e.1) (entries m) (found_all (entries m) (entries_sorted m)))

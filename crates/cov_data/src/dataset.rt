@@ -119,7 +119,8 @@ impl Data {
     /// The rows in order of path, context, from, to.
     pub fn rows(&self) -> Result<Vec<Row>, NoMemory>
         ensures rows { IfOk result (λ rows. map row_view rows.items ≡ rows_of self.now) }
-        ensures in_range { All (λ row. IsInRange self.now.arcs row.from row.to row.count) (rows_of self.now) }
+        ensures in_range { All (λ row.
+            IsInRange self.now.arcs row.from row.to row.count) (rows_of self.now) }
     {
         self.files.rows()
     }
@@ -149,7 +150,8 @@ impl Data {
 
     /// The rows of one path, in order of context, from, to.
     pub fn path_rows(&self, path: &str) -> Result<Vec<Row>, NoMemory>
-        ensures { IfOk result (λ rows. map row_view rows.items ≡ file_rows path.now (file_of self.now path.now)) }
+        ensures { IfOk result (λ rows.
+            map row_view rows.items ≡ file_rows path.now (file_of self.now path.now)) }
     {
         match self.files.get(path) {
             Some(file) => {
@@ -166,11 +168,13 @@ impl Data {
     /// large data.
     pub fn union(&mut self, other: &Data) -> Result<(), DataError>
         ensures ok { OnOk result (self.new ≡ union self.old other.now) }
-        ensures paths { OnOk result ((path : List ℕ) → has_path self.new path ≡ (has_path self.old path || has_path other.now path)) }
+        ensures paths { OnOk result ((path : List ℕ)
+            → has_path self.new path ≡ (has_path self.old path || has_path other.now path)) }
         ensures counts { OnOk result ((path context : List ℕ) (from to : ℤ)
             → count_at self.new path context from to ≡ add_counts (count_at self.old path context from to) (count_at other.now path context from to)) }
 
-        ensures mixed { self.old.arcs ≢ other.now.arcs → IsErrOf result (DataError.Mixed self.old.arcs other.now.arcs) }
+        ensures mixed { self.old.arcs ≢ other.now.arcs
+            → IsErrOf result (DataError.Mixed self.old.arcs other.now.arcs) }
         ensures refused { IfErr result (IsMixture self.old other.now) }
         ensures err { OnErr result (self.new ≡ self.old) }
     {

@@ -32,7 +32,8 @@ impl Place {
 
     /// Adds those of its two numbers that are lines.
     fn add_lines(&self, lines: &mut BTreeSet<u32>) -> Result<(), AllocError>
-        ensures { OnOk result (lines.new.keys ≡ fold (insert_key nat_cmp) lines.old.keys (place_lines (place_view self.now))) }
+        ensures { OnOk result (lines.new.keys
+            ≡ fold (insert_key nat_cmp) lines.old.keys (place_lines (place_view self.now))) }
     {
         add_line(lines, self.from)?;
         add_line(lines, self.to)
@@ -144,7 +145,8 @@ impl FileCounts {
         path: &str,
         rows: &mut Vec<Row>,
     ) -> Result<(), AllocError>
-        ensures ok { OnOk result (map row_view rows.new.items ≡ map row_view rows.old.items ++ file_rows path.now self.now) }
+        ensures ok { OnOk result (map row_view rows.new.items
+            ≡ map row_view rows.old.items ++ file_rows path.now self.now) }
     {
         for (place, count) in &self.counts {
             rows.push(place.row(alloc, path, *count)?)?;

@@ -61,7 +61,8 @@ impl FileMap {
     }
 
     pub(crate) fn add(&mut self, path: String, place: Place, count: u32) -> Result<(), AllocError>
-        ensures ok { OnOk result (self.new ≡ add_row self.old (string_bytes path) (place_view place) count) }
+        ensures ok { OnOk result (self.new
+            ≡ add_row self.old (string_bytes path) (place_view place) count) }
         ensures err { OnErr result (self.new ≡ self.old) }
         ensures fits { count ≤ 4294967295 }
     {

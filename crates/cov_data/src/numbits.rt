@@ -11,8 +11,10 @@ use std::alloc::Global;
 /// times. No line gives no byte.
 pub fn numbits_of(alloc: Global, lines: &[u32]) -> Result<Vec<u8>, NoMemory>
     ensures numbits { IfOk result (λ bytes. IsNumbits lines.now bytes.items) }
-    ensures shortest { IfOk result (λ bytes. 0 < length bytes.items → slice_index bytes.items (length bytes.items - 1) ≢ 0) }
-    ensures back { IfOk result (λ bytes. lines_of_bits bytes.items ≡ distinct_in_order nat_cmp lines.now) }
+    ensures shortest { IfOk result (λ bytes.
+        0 < length bytes.items → slice_index bytes.items (length bytes.items - 1) ≢ 0) }
+    ensures back { IfOk result (λ bytes.
+        lines_of_bits bytes.items ≡ distinct_in_order nat_cmp lines.now) }
 {
     let mut bytes = vec![in alloc; 0u8; bytes_needed(lines)]?;
     for line in lines {

@@ -10,7 +10,8 @@ use std::collections::BTreeSet;
 
 /// Adds `number` where it is a line.
 pub(crate) fn add_line(lines: &mut BTreeSet<u32>, number: i32) -> Result<(), AllocError>
-    ensures { OnOk result (lines.new.keys ≡ fold (insert_key nat_cmp) lines.old.keys (lines_in number)) }
+    ensures { OnOk result (lines.new.keys
+        ≡ fold (insert_key nat_cmp) lines.old.keys (lines_in number)) }
 {
     if number > 0 {
         lines.insert(number as u32)?;

@@ -14,7 +14,8 @@ pub trait Ask: Drop {
 
     /// Asks for the label of a call of this function of this module.
     fn ask(&mut self, alloc: Global, module: &str, function: &str) -> Result<Option<Text>, NoMemory>
-        ensures moved { IfOk result (λ label. moves self.old «module».now function.now label self.new) }
+        ensures moved { IfOk result (λ label.
+            moves self.old «module».now function.now label self.new) }
         ensures refused { OnErr result (refused self.old self.new) };
 }
 

@@ -24,6 +24,7 @@ pub trait ContextPlugin: Drop {
     /// Asks for the label of a call of this function of this module. A question that is refused for memory
     /// leaves the plugin as it was.
     fn context(&mut self, alloc: Global, module: &str, function: &str) -> Result<Verdict, NoMemory>
-        ensures moved { IfOk result (λ verdict. moves self.old «module».now function.now verdict self.new) }
+        ensures moved { IfOk result (λ verdict.
+            moves self.old «module».now function.now verdict self.new) }
         ensures kept { OnErr result (self.new ≡ self.old) };
 }

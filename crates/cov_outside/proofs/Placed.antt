@@ -46,9 +46,9 @@ other_name : (name key other : List ℕ) → key ≡ other → bytes_eq key name
 other_name name key other same differs = false_from_ne_true (bytes_eq name other) (λ is. let k : bytes_eq key name ≡ true = (bytes_eq-Decides key name).1 (same ∙ sym (same_name other name is)) in cc)
 
 module _ (name bytes : List ℕ) (put : Pair) (named : string_bytes put.0 ≡ name) (holds : put.1.items ≡ bytes) where
-  behind : (pair : Pair) (old new : Option (List ℕ)) (other : List ℕ) → is_named name pair ≡ false → new ≡ cond (bytes_eq name other) (Some bytes) old
+  after : (pair : Pair) (old new : Option (List ℕ)) (other : List ℕ) → is_named name pair ≡ false → new ≡ cond (bytes_eq name other) (Some bytes) old
       → cond (bytes_eq (string_bytes pair.0) other) (Some pair.1.items) new ≡ cond (bytes_eq name other) (Some bytes) (cond (bytes_eq (string_bytes pair.0) other) (Some pair.1.items) old)
-  behind pair old new other differs rest =
+  after pair old new other differs rest =
       elim (bytes_eq (string_bytes pair.0) other) as (λ b. bytes_eq (string_bytes pair.0) other ≡ b → cond b (Some pair.1.items) new ≡ cond (bytes_eq name other) (Some bytes) (cond b (Some pair.1.items) old)) [
         | true ↦ λ is. rw (other_name name (string_bytes pair.0) other (same_name other (string_bytes pair.0) is) differs) refl
         | false ↦ λ is. rest
@@ -64,14 +64,14 @@ module _ (name bytes : List ℕ) (put : Pair) (named : string_bytes put.0 ≡ na
   set_at [] i d other low here before = absurd (omega arith)
   set_at (pair ∷ pairs) zero d other low here before = in_front pair (files_of (plain_pairs pairs) other) other (same_name name (string_bytes pair.0) here)
   set_at (pair ∷ pairs) (suc i) d other low here before =
-      behind pair (files_of (plain_pairs pairs) other) _ other (before 0 (omega arith)) (set_at pairs i d other (omega arith) here (λ k h. before (suc k) (omega arith)))
+      after pair (files_of (plain_pairs pairs) other) _ other (before 0 (omega arith)) (set_at pairs i d other (omega arith) here (λ k h. before (suc k) (omega arith)))
 
   push_at : (pairs : List Pair) (i : ℕ) (other : List ℕ) → position_from (is_named name) i pairs ≡ None → files_of (plain_pairs (pairs ++ put ∷ [])) other ≡ with_file name bytes (files_of (plain_pairs pairs)) other
   push_at [] i other none = rw (named, holds) refl
   push_at (pair ∷ pairs) i other none =
       elim (is_named name pair) as (λ b. is_named name pair ≡ b → cond b (Some i) (position_from (is_named name) (i + 1) pairs) ≡ None → files_of (plain_pairs (pair ∷ pairs ++ put ∷ [])) other ≡ with_file name bytes (files_of (plain_pairs (pair ∷ pairs))) other) [
         | true ↦ λ is h. absurd (cc)
-        | false ↦ λ is h. behind pair (files_of (plain_pairs pairs) other) _ other is (push_at pairs (i + 1) other h)
+        | false ↦ λ is h. after pair (files_of (plain_pairs pairs) other) _ other is (push_at pairs (i + 1) other h)
       ] refl none
 
   -- a pair of a new name is added

@@ -34,7 +34,8 @@ impl FolderShelf {
     }
 
     fn path_of(&self, alloc: Global, name: &str) -> Result<PathBuf, AllocError>
-        ensures { IfOk result (λ path. path_buf_bytes path ≡ path_join (folder_of self.now) name.now) }
+        ensures { IfOk result (λ path.
+            path_buf_bytes path ≡ path_join (folder_of self.now) name.now) }
     {
         Path::new(self.folder.as_str()).join(alloc, name)
     }

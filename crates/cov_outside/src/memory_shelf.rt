@@ -18,16 +18,21 @@ struct Entries {
 impl Entries {
     /// The place of the first pair of this name.
     fn find(&self, name: &str) -> Option<usize>
-        ensures { result ≡ position (λ pair. bytes_eq (string_bytes pair.0) name.now) self.now.pairs.items }
+        ensures { result ≡ position (λ pair.
+            bytes_eq (string_bytes pair.0) name.now) self.now.pairs.items }
     {
         self.pairs.iter().position(|pair| pair.0.as_str() == name)
     }
 
     fn read(&self, alloc: Global, name: &str, most: usize) -> Result<Vec<u8>, ShelfError>
-        ensures found { IfOk result (λ bytes. files_of (plain_pairs self.now.pairs.items) name.now ≡ Some bytes.items) }
+        ensures found { IfOk result (λ bytes.
+            files_of (plain_pairs self.now.pairs.items) name.now ≡ Some bytes.items) }
         ensures fits { IfOk result (λ bytes. length bytes.items ≤ most) }
-        ensures absent { IsErrOf result ShelfError.Absent → files_of (plain_pairs self.now.pairs.items) name.now ≡ None }
-        ensures too_large { IsErrOf result ShelfError.TooLarge → (bytes : List ℕ) × (files_of (plain_pairs self.now.pairs.items) name.now ≡ Some bytes) × (most < length bytes) }
+        ensures absent { IsErrOf result ShelfError.Absent
+            → files_of (plain_pairs self.now.pairs.items) name.now ≡ None }
+        ensures too_large { IsErrOf result ShelfError.TooLarge
+            → (bytes : List ℕ) × (files_of (plain_pairs self.now.pairs.items) name.now ≡ Some bytes)
+            × (most < length bytes) }
         ensures not_failed { IsErrOf result ShelfError.Failed → ⊥ }
     {
         let Some(at) = self.find(name) else {
@@ -41,7 +46,8 @@ impl Entries {
     }
 
     fn put(&mut self, alloc: Global, name: &str, bytes: &[u8]) -> Result<(), AllocError>
-        ensures ok { OnOk result (files_of (plain_pairs self.new.pairs.items) ≡ with_file name.now bytes.now (files_of (plain_pairs self.old.pairs.items))) }
+        ensures ok { OnOk result (files_of (plain_pairs self.new.pairs.items)
+            ≡ with_file name.now bytes.now (files_of (plain_pairs self.old.pairs.items))) }
         ensures err { OnErr result (self.new.pairs.items ≡ self.old.pairs.items) }
     {
         let bytes = Vec::from_slice(alloc, bytes)?;
@@ -100,11 +106,14 @@ impl Shelf for MemShelf {
         ensures found { IfOk result (λ bytes. shelf_files self.old name.now ≡ Some bytes.items) }
         ensures fits { IfOk result (λ bytes. length bytes.items ≤ most) }
         ensures absent { IsErrOf result ShelfError.Absent → shelf_files self.old name.now ≡ None }
-        ensures too_large { IsErrOf result ShelfError.TooLarge → (bytes : List ℕ) × (shelf_files self.old name.now ≡ Some bytes) × (most < length bytes) }
+        ensures too_large { IsErrOf result ShelfError.TooLarge
+            → (bytes : List ℕ) × (shelf_files self.old name.now ≡ Some bytes)
+            × (most < length bytes) }
         ensures kept { shelf_files self.new ≡ shelf_files self.old }
 
         ensures count { shelf_faults self.old ≤ shelf_faults self.new }
-        ensures failed { IsErrOf result ShelfError.Failed → Rose (shelf_faults self.old) (shelf_faults self.new) }
+        ensures failed { IsErrOf result ShelfError.Failed
+            → Rose (shelf_faults self.old) (shelf_faults self.new) }
     {
         if self.failing.fails() {
             return Err(ShelfError::Failed);
@@ -117,13 +126,15 @@ impl Shelf for MemShelf {
         ensures fails { IsErrOf result ShelfError.Failed ↔ FailsNext (shelf_calls self.old) }
         ensures calls { shelf_calls self.new ≡ after_call (shelf_calls self.old) }
 
-        ensures ok { OnOk result (shelf_files self.new ≡ with_file name.now bytes.now (shelf_files self.old)) }
+        ensures ok { OnOk result (shelf_files self.new
+            ≡ with_file name.now bytes.now (shelf_files self.old)) }
         ensures err { OnErr result (shelf_files self.new ≡ shelf_files self.old) }
         ensures not_absent { IsErrOf result ShelfError.Absent → ⊥ }
         ensures not_too_large { IsErrOf result ShelfError.TooLarge → ⊥ }
 
         ensures count { shelf_faults self.old ≤ shelf_faults self.new }
-        ensures failed { IsErrOf result ShelfError.Failed → Rose (shelf_faults self.old) (shelf_faults self.new) }
+        ensures failed { IsErrOf result ShelfError.Failed
+            → Rose (shelf_faults self.old) (shelf_faults self.new) }
     {
         if self.failing.fails() {
             return Err(ShelfError::Failed);

@@ -60,7 +60,8 @@ impl Sink for MemSink {
         ensures kept { OnErr result (sink_contents self.new ≡ sink_contents self.old) }
 
         ensures count { sink_faults self.old ≤ sink_faults self.new }
-        ensures failed { IsErrOf result SinkError.Failed → Rose (sink_faults self.old) (sink_faults self.new) }
+        ensures failed { IsErrOf result SinkError.Failed
+            → Rose (sink_faults self.old) (sink_faults self.new) }
     {
         if self.failing.fails() {
             return Err(SinkError::Failed);

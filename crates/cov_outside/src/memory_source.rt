@@ -85,7 +85,8 @@ impl Source for MemSource {
         ensures calls { source_calls self.new ≡ after_call (source_calls self.old) }
 
         ensures fits { IfOk result (λ n. n ≤ length buf.old) }
-        ensures moved { IfOk result (λ n. source_left self.old ≡ take n buf.new ++ source_left self.new) }
+        ensures moved { IfOk result (λ n.
+            source_left self.old ≡ take n buf.new ++ source_left self.new) }
         ensures rest { IfOk result (λ n. drop n buf.new ≡ drop n buf.old) }
         ensures end { 0 < length buf.old → IfOk result (λ n. n ≡ 0 → source_left self.new ≡ []) }
 

@@ -44,22 +44,26 @@ pub trait Shelf {
         ensures found { tells → IfOk result (λ bytes. files self.old name.now ≡ Some bytes.items) }
         ensures fits { IfOk result (λ bytes. length bytes.items ≤ most) }
         ensures absent { tells → IsErrOf result ShelfError.Absent → files self.old name.now ≡ None }
-        ensures too_large { tells → IsErrOf result ShelfError.TooLarge → (bytes : List ℕ) × (files self.old name.now ≡ Some bytes) × (most < length bytes) }
+        ensures too_large { tells → IsErrOf result ShelfError.TooLarge
+            → (bytes : List ℕ) × (files self.old name.now ≡ Some bytes) × (most < length bytes) }
         ensures kept { tells → files self.new ≡ files self.old }
 
         ensures count { faults self.old ≤ faults self.new }
-        ensures failed { IsErrOf result ShelfError.Failed → Rose (faults self.old) (faults self.new) };
+        ensures failed { IsErrOf result ShelfError.Failed
+            → Rose (faults self.old) (faults self.new) };
 
     /// Sets the file of this name as a whole, whether there was one or not. After a refusal the files are
     /// as before.
     fn put(&mut self, alloc: Global, name: &str, bytes: &[u8]) -> Result<(), ShelfError>
-        ensures ok { tells → OnOk result (files self.new ≡ with_file name.now bytes.now (files self.old)) }
+        ensures ok { tells
+            → OnOk result (files self.new ≡ with_file name.now bytes.now (files self.old)) }
         ensures err { tells → OnErr result (files self.new ≡ files self.old) }
         ensures not_absent { IsErrOf result ShelfError.Absent → ⊥ }
         ensures not_too_large { IsErrOf result ShelfError.TooLarge → ⊥ }
 
         ensures count { faults self.old ≤ faults self.new }
-        ensures failed { IsErrOf result ShelfError.Failed → Rose (faults self.old) (faults self.new) };
+        ensures failed { IsErrOf result ShelfError.Failed
+            → Rose (faults self.old) (faults self.new) };
 
     // The count stands still at the greatest number of 64 bits.
     ghost bounded: { (shelf : Self) → faults shelf ≤ greatest };

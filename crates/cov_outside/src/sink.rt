@@ -41,10 +41,12 @@ pub trait Sink {
     /// Writes the whole piece. After a refusal a prefix of it was written.
     fn write(&mut self, alloc: Global, piece: &[u8]) -> Result<(), SinkError>
         ensures ok { tells → OnOk result (contents self.new ≡ contents self.old ++ piece.now) }
-        ensures err { tells → OnErr result (GainsPrefix (contents self.old) (contents self.new) piece.now) }
+        ensures err { tells
+            → OnErr result (GainsPrefix (contents self.old) (contents self.new) piece.now) }
 
         ensures count { faults self.old ≤ faults self.new }
-        ensures failed { IsErrOf result SinkError.Failed → Rose (faults self.old) (faults self.new) }
+        ensures failed { IsErrOf result SinkError.Failed
+            → Rose (faults self.old) (faults self.new) }
         ensures no_memory { IsErrOf result SinkError.NoMemory → allocates };
 
     // The count stands still at the greatest number of 64 bits.

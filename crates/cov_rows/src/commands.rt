@@ -169,7 +169,7 @@ fn rows(rt: HostRuntime) -> Result<(), Fail> {
             "coverage: usage: stopped after 1 words\n",
         ),
         unfailing(
-            "Words behind the script",
+            "Words after the script",
             "arcs s.py x",
             "",
             1,
@@ -272,9 +272,9 @@ const REFUSED: [(&str, &str, &str); 50] = [
     ("No field", "f\"{}\"", "1: Unexpected"),
     ("A format", "x = 1\ny = f\"{x:>5}\"", "2: Unexpected"),
     ("A raw f-string", "x = 1\ny = rf\"{x}\"", "2: Unexpected"),
-    ("Name behind a name", "x = 1\nx y", "2: Unexpected"),
+    ("Name after a name", "x = 1\nx y", "2: Unexpected"),
     (
-        "Parameter behind a default",
+        "Parameter after a default",
         "def f(a=1, b): pass",
         "1: Unexpected",
     ),
@@ -302,12 +302,12 @@ const REFUSED: [(&str, &str, &str); 50] = [
         "2: NestedFunction",
     ),
     (
-        "A clause behind a bare one",
+        "A clause after a bare one",
         "try: pass\nexcept: pass\nexcept KeyError: pass",
         "2: EarlyIrrefutable",
     ),
     (
-        "A case behind a name",
+        "A case after a name",
         "match 1:\n  case x: pass\n  case 2: pass",
         "2: EarlyIrrefutable",
     ),
@@ -350,7 +350,7 @@ const REFUSED: [(&str, &str, &str); 50] = [
     ("Two printed values", "print(1, 2)", "1: Unbuilt"),
     ("A value alone", "x = 1\nx", "2: Unbuilt"),
     ("A comparison as a value", "x = 1 < 2", "1: Unbuilt"),
-    ("A part behind its line", "x = 1 + (\n2)", "1: Unbuilt"),
+    ("A part after its line", "x = 1 + (\n2)", "1: Unbuilt"),
     (
         "A test in a loop",
         "x = 1\nwhile not x:\n    x = 1\n    pass",

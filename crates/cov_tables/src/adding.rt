@@ -38,7 +38,9 @@ impl Column {
 
 impl Entry {
     fn spot(&self, from: i32, to: i32) -> Spot
-        ensures { result ≡ record { file_id = self.now.file_id; context_id = self.now.context_id; from = from; to = to } }
+        ensures { result
+            ≡ record { file_id = self.now.file_id; context_id = self.now.context_id; from = from; to
+            = to } }
     {
         Spot {
             file_id: self.file_id,
@@ -56,8 +58,10 @@ impl Entry {
         hits: &Hits,
         data: &mut Data,
     ) -> Result<(), AllocError>
-        requires { IsInRange data.old.arcs from to (row_with (count_at hits.now) (entry_view self.now) from to).count }
-        ensures { OnOk result (data.new ≡ with_row data.old (row_with (count_at hits.now) (entry_view self.now) from to)) }
+        requires { IsInRange data.old.arcs from to
+            (row_with (count_at hits.now) (entry_view self.now) from to).count }
+        ensures { OnOk result (data.new
+            ≡ with_row data.old (row_with (count_at hits.now) (entry_view self.now) from to)) }
     {
         let spot = self.spot(from, to);
         let count = hits.count(spot);
@@ -75,7 +79,8 @@ impl Entry {
         requires arcs { data.old.arcs ≡ true }
         requires good { is_bad_arc (entry_view self.now) ≡ false }
         requires counted { (spot : Spots) → 0 < count_at hits.now spot }
-        ensures { OnOk result (data.new ≡ fold with_row data.old (arc_rows (count_at hits.now) (entry_view self.now))) }
+        ensures { OnOk result (data.new
+            ≡ fold with_row data.old (arc_rows (count_at hits.now) (entry_view self.now))) }
     {
         match (&self.first, &self.second) {
             (Column::Int(from), Column::Int(to)) if *from != 0 && *to != 0 => {
@@ -95,7 +100,8 @@ impl Entry {
     ) -> Result<(), AllocError>
         requires lines { data.old.arcs ≡ false }
         requires counted { (spot : Spots) → 0 < count_at hits.now spot }
-        ensures { OnOk result (data.new ≡ fold with_row data.old (line_row (count_at hits.now) (entry_view self.now) line)) }
+        ensures { OnOk result (data.new
+            ≡ fold with_row data.old (line_row (count_at hits.now) (entry_view self.now) line)) }
     {
         if 0 < line && line <= 65_535 {
             self.add_row(alloc, line as i32, line as i32, hits, data)
@@ -113,7 +119,9 @@ impl Entry {
     ) -> Result<(), AllocError>
         requires lines { data.old.arcs ≡ false }
         requires counted { (spot : Spots) → 0 < count_at hits.now spot }
-        ensures { OnOk result (data.new ≡ fold with_row data.old (flat_map (line_row (count_at hits.now) (entry_view self.now)) lines.now)) }
+        ensures { OnOk result (data.new
+            ≡ fold with_row data.old
+            (flat_map (line_row (count_at hits.now) (entry_view self.now)) lines.now)) }
     {
         for line in lines {
             self.add_line(alloc, *line, hits, data)?;
@@ -125,7 +133,8 @@ impl Entry {
     fn add_bits(&self, alloc: Global, hits: &Hits, data: &mut Data) -> Result<(), AllocError>
         requires lines { data.old.arcs ≡ false }
         requires counted { (spot : Spots) → 0 < count_at hits.now spot }
-        ensures { OnOk result (data.new ≡ fold with_row data.old (bits_rows (count_at hits.now) (entry_view self.now))) }
+        ensures { OnOk result (data.new
+            ≡ fold with_row data.old (bits_rows (count_at hits.now) (entry_view self.now))) }
     {
         match &self.first {
             Column::Int(_) => Ok(()),

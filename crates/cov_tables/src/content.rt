@@ -75,7 +75,8 @@ fn is_arcs(meta: &[Vec<Cell>], arcs: &[Vec<Cell>]) -> bool
 
 /// Adds the path of a row of `file`.
 fn add_path(data: &mut Data, cells: &[Cell]) -> Result<(), AllocError>
-    ensures { OnOk result (data.new ≡ fold with_path data.old (option_to_list (text_at (row cells.now) 1))) }
+    ensures { OnOk result (data.new
+        ≡ fold with_path data.old (option_to_list (text_at (row cells.now) 1))) }
 {
     match text_at(cells, 1) {
         Some(path) => data.add_path(path),

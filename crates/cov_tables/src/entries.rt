@@ -97,7 +97,9 @@ impl Column {
 
 impl Key {
     fn entry(&self, alloc: Global, path: &String, context: &String) -> Result<Entry, AllocError>
-        ensures { IfOk result (λ made. entry_view made ≡ entry (key_view self.now) (string_bytes path.now) (string_bytes context.now)) }
+        ensures { IfOk result (λ made.
+            entry_view made
+            ≡ entry (key_view self.now) (string_bytes path.now) (string_bytes context.now)) }
     {
         Ok(Entry {
             file_id: self.file_id,
@@ -172,7 +174,8 @@ pub(crate) fn arc_entries(
     contexts: &Names,
     lists: &[Vec<Cell>],
 ) -> Result<Vec<Entry>, AllocError>
-    ensures { IfOk result (λ entries. seen entries.items ≡ arcs_named files.now contexts.now (rows lists.now)) }
+    ensures { IfOk result (λ entries.
+        seen entries.items ≡ arcs_named files.now contexts.now (rows lists.now)) }
 {
     let mut entries = Vec::new(alloc);
     for cells in lists {
@@ -189,7 +192,8 @@ pub(crate) fn bits_entries(
     contexts: &Names,
     lists: &[Vec<Cell>],
 ) -> Result<Vec<Entry>, AllocError>
-    ensures { IfOk result (λ entries. seen entries.items ≡ bits_named files.now contexts.now (rows lists.now)) }
+    ensures { IfOk result (λ entries.
+        seen entries.items ≡ bits_named files.now contexts.now (rows lists.now)) }
 {
     let mut entries = Vec::new(alloc);
     for cells in lists {

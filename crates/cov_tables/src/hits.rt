@@ -46,7 +46,8 @@ pub(crate) struct Hits {
 impl Hits {
     /// The counts of these rows of `hits`.
     pub(crate) fn of(alloc: Global, lists: &[Vec<Cell>]) -> Result<Hits, AllocError>
-        ensures { IfOk result (λ hits. (spot : Spots) → count_at hits spot ≡ count_of (rows lists.now) spot) }
+        ensures { IfOk result (λ hits.
+            (spot : Spots) → count_at hits spot ≡ count_of (rows lists.now) spot) }
     {
         let mut hits = Hits {
             counts: BTreeMap::new(alloc),
@@ -58,7 +59,9 @@ impl Hits {
     }
 
     fn add_row(&mut self, cells: &[Cell]) -> Result<(), AllocError>
-        ensures { OnOk result ((spot : Spots) → kept_at self.new spot ≡ with_counts (kept_at self.old spot) (counts_with spot (row cells.now))) }
+        ensures { OnOk result ((spot : Spots)
+            → kept_at self.new spot
+            ≡ with_counts (kept_at self.old spot) (counts_with spot (row cells.now))) }
     {
         match spot_at(cells) {
             Some(spot) => self.add(spot, counted(whole_at(cells, 4))),
@@ -67,7 +70,8 @@ impl Hits {
     }
 
     fn add(&mut self, spot: Spot, count: u32) -> Result<(), AllocError>
-        ensures { OnOk result ((other : Spots) → kept_at self.new other ≡ kept_after self.old spot count other) }
+        ensures { OnOk result ((other : Spots)
+            → kept_at self.new other ≡ kept_after self.old spot count other) }
     {
         let count = self.counted_with(&spot, count);
         self.counts.insert(spot, count)?;

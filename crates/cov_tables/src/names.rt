@@ -17,7 +17,8 @@ pub(crate) struct Names {
 impl Names {
     /// The texts of these rows, each with an id and a text.
     pub(crate) fn of(alloc: Global, lists: &[Vec<Cell>]) -> Result<Names, AllocError>
-        ensures { IfOk result (λ names. (id : ℤ) → texts_at names id ≡ texts_of (rows lists.now) id) }
+        ensures { IfOk result (λ names.
+            (id : ℤ) → texts_at names id ≡ texts_of (rows lists.now) id) }
     {
         let mut names = Names {
             texts: BTreeMap::new(alloc),
@@ -29,7 +30,8 @@ impl Names {
     }
 
     fn add_row(&mut self, alloc: Global, cells: &[Cell]) -> Result<(), AllocError>
-        ensures { OnOk result ((q : ℤ) → texts_at self.new q ≡ texts_at self.old q ++ texts_with q (row cells.now)) }
+        ensures { OnOk result ((q : ℤ)
+            → texts_at self.new q ≡ texts_at self.old q ++ texts_with q (row cells.now)) }
     {
         match (whole_at(cells, 0), text_at(cells, 1)) {
             (Some(id), Some(text)) => self.add(alloc, id, text),
@@ -38,7 +40,9 @@ impl Names {
     }
 
     fn add(&mut self, alloc: Global, id: i64, text: &str) -> Result<(), AllocError>
-        ensures { OnOk result ((q : ℤ) → texts_at self.new q ≡ texts_at self.old q ++ cond (same_whole q id) (text.now ∷ []) []) }
+        ensures { OnOk result ((q : ℤ)
+            → texts_at self.new q
+            ≡ texts_at self.old q ++ cond (same_whole q id) (text.now ∷ []) []) }
     {
         let text = String::from_str(alloc, text)?;
         let mut texts = match self.texts.remove(&id) {

@@ -77,9 +77,9 @@ present name pairs i d found = let at = position-Some (is_named name) pairs i d 
 -- ---- another content, another pair, a pair less
 
 module _ (name : Text) (content : Content) (put : Pair) (named : string_bytes put.0 ≡ name) (holds : put.1 ≡ content) where
-  behind : (key q : Text) (c : Content) (old new : Option Content) → bytes_eq key name ≡ false → new ≡ cond (bytes_eq name q) (Some content) old
+  after : (key q : Text) (c : Content) (old new : Option Content) → bytes_eq key name ≡ false → new ≡ cond (bytes_eq name q) (Some content) old
       → cond (bytes_eq key q) (Some c) new ≡ cond (bytes_eq name q) (Some content) (cond (bytes_eq key q) (Some c) old)
-  behind key q c old new differs rest =
+  after key q c old new differs rest =
       elim (bytes_eq name q) as (λ b. bytes_eq name q ≡ b → new ≡ cond b (Some content) old → cond (bytes_eq key q) (Some c) new ≡ cond b (Some content) (cond (bytes_eq key q) (Some c) old)) [
         | true ↦ λ is h. rw (apart name key q differs is) h
         | false ↦ λ is h. ap (cond (bytes_eq key q) (Some c)) h
@@ -97,7 +97,7 @@ module _ (name : Text) (content : Content) (put : Pair) (named : string_bytes pu
       rw (ties q (string_bytes put.0), ties q (string_bytes pair.0)) (in_front (string_bytes pair.0) q pair.1 (held pairs q) (same_name name (string_bytes pair.0) here))
   held-set (pair ∷ pairs) (suc i) d q low here before =
       rw (ties q (string_bytes pair.0))
-      (behind (string_bytes pair.0) q pair.1 (held pairs q) _ (before 0 (omega arith)) (held-set pairs i d q (omega arith) here (λ k h. before (suc k) (omega arith))))
+      (after (string_bytes pair.0) q pair.1 (held pairs q) _ (before 0 (omega arith)) (held-set pairs i d q (omega arith) here (λ k h. before (suc k) (omega arith))))
 
   -- the content of the first pair of the name is replaced
   pub replaced : (pairs : List Pair) (i : ℕ) (d : Pair) → position (is_named name) pairs ≡ Some i → contents_of (set pairs i put) ≡ insert (contents_of pairs) name content

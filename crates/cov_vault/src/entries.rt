@@ -18,13 +18,15 @@ pub struct Entries {
 impl Entries {
     /// The place of the first pair of this name.
     fn find(&self, name: &str) -> Option<usize>
-        ensures { result ≡ position (λ pair. bytes_eq (string_bytes pair.0) name.now) self.now.pairs.items }
+        ensures { result ≡ position (λ pair.
+            bytes_eq (string_bytes pair.0) name.now) self.now.pairs.items }
     {
         self.pairs.iter().position(|pair| pair.0.as_str() == name)
     }
 
     pub fn names(&self, alloc: Global) -> Result<Vec<String>, AllocError>
-        ensures { IfOk result (λ names. map string_bytes names.items ≡ finite.keys (contents_of self.now.pairs.items)) }
+        ensures { IfOk result (λ names.
+            map string_bytes names.items ≡ finite.keys (contents_of self.now.pairs.items)) }
     {
         let mut names = BTreeSet::new(alloc);
         for pair in &self.pairs {
@@ -34,10 +36,14 @@ impl Entries {
     }
 
     pub fn load(&self, alloc: Global, name: &str) -> Result<Data, VaultError>
-        ensures found { IfOk result (λ loaded. finite.get (contents_of self.now.pairs.items) name.now ≡ Some (Content.Good loaded)) }
-        ensures absent { IsErrOf result VaultError.Absent → finite.get (contents_of self.now.pairs.items) name.now ≡ None }
-        ensures not_schema { IsErrOf result VaultError.NotSchema7 → finite.get (contents_of self.now.pairs.items) name.now ≡ Some Content.NotSchema7 }
-        ensures bad_row { (row : ℕ) → IsErrOf result (VaultError.BadRow row) → finite.get (contents_of self.now.pairs.items) name.now ≡ Some (Content.BadRow row) }
+        ensures found { IfOk result (λ loaded.
+            finite.get (contents_of self.now.pairs.items) name.now ≡ Some (Content.Good loaded)) }
+        ensures absent { IsErrOf result VaultError.Absent
+            → finite.get (contents_of self.now.pairs.items) name.now ≡ None }
+        ensures not_schema { IsErrOf result VaultError.NotSchema7
+            → finite.get (contents_of self.now.pairs.items) name.now ≡ Some Content.NotSchema7 }
+        ensures bad_row { (row : ℕ) → IsErrOf result (VaultError.BadRow row)
+            → finite.get (contents_of self.now.pairs.items) name.now ≡ Some (Content.BadRow row) }
         ensures not_failed { IsErrOf result VaultError.Failed → ⊥ }
     {
         let Some(place) = self.find(name) else {
@@ -51,9 +57,13 @@ impl Entries {
     }
 
     pub fn save(&mut self, alloc: Global, name: &str, content: &Data) -> Result<(), VaultError>
-        ensures ok { OnOk result (contents_of self.new.pairs.items ≡ finite.insert (contents_of self.old.pairs.items) name.now (Content.Good content.now)) }
-        ensures replaces { OnOk result (finite.get (contents_of self.old.pairs.items) name.now ≢ Some Content.NotSchema7) }
-        ensures not_schema { IsErrOf result VaultError.NotSchema7 → finite.get (contents_of self.old.pairs.items) name.now ≡ Some Content.NotSchema7 }
+        ensures ok { OnOk result (contents_of self.new.pairs.items
+            ≡ finite.insert (contents_of self.old.pairs.items) name.now
+            (Content.Good content.now)) }
+        ensures replaces { OnOk result
+            (finite.get (contents_of self.old.pairs.items) name.now ≢ Some Content.NotSchema7) }
+        ensures not_schema { IsErrOf result VaultError.NotSchema7
+            → finite.get (contents_of self.old.pairs.items) name.now ≡ Some Content.NotSchema7 }
         ensures err { OnErr result (self.new.pairs.items ≡ self.old.pairs.items) }
         ensures not_absent { IsErrOf result VaultError.Absent → ⊥ }
         ensures not_bad_row { (row : ℕ) → IsErrOf result (VaultError.BadRow row) → ⊥ }
@@ -72,8 +82,11 @@ impl Entries {
 
     /// Adds a name that isn't there.
     fn add(&mut self, alloc: Global, name: &str, content: &Data) -> Result<(), AllocError>
-        requires { position (λ pair. bytes_eq (string_bytes pair.0) name.now) self.old.pairs.items ≡ None }
-        ensures ok { OnOk result (contents_of self.new.pairs.items ≡ finite.insert (contents_of self.old.pairs.items) name.now (Content.Good content.now)) }
+        requires { position (λ pair.
+            bytes_eq (string_bytes pair.0) name.now) self.old.pairs.items ≡ None }
+        ensures ok { OnOk result (contents_of self.new.pairs.items
+            ≡ finite.insert (contents_of self.old.pairs.items) name.now
+            (Content.Good content.now)) }
         ensures err { OnErr result (self.new.pairs.items ≡ self.old.pairs.items) }
     {
         let name = String::from_str(alloc, name)?;
@@ -83,9 +96,13 @@ impl Entries {
     }
 
     pub fn remove(&mut self, name: &str) -> Result<(), VaultError>
-        ensures ok { OnOk result (contents_of self.new.pairs.items ≡ finite.remove (contents_of self.old.pairs.items) name.now) }
-        ensures removes { OnOk result (finite.get (contents_of self.old.pairs.items) name.now ≢ None) }
-        ensures absent { IfErr result (λ e. (e ≡ VaultError.Absent) × (finite.get (contents_of self.old.pairs.items) name.now ≡ None)) }
+        ensures ok { OnOk result (contents_of self.new.pairs.items
+            ≡ finite.remove (contents_of self.old.pairs.items) name.now) }
+        ensures removes { OnOk result
+            (finite.get (contents_of self.old.pairs.items) name.now ≢ None) }
+        ensures absent { IfErr result (λ e.
+            (e ≡ VaultError.Absent)
+            × (finite.get (contents_of self.old.pairs.items) name.now ≡ None)) }
         ensures err { OnErr result (self.new.pairs.items ≡ self.old.pairs.items) }
     {
         let Some(_first) = self.find(name) else {

@@ -52,14 +52,16 @@ impl Vault for MemVault {
         ensures fails { IsErrOf result VaultError.Failed ↔ FailsNext (vault_calls self.old) }
         ensures calls { vault_calls self.new ≡ after_call (vault_calls self.old) }
 
-        ensures names { IfOk result (λ names. map string_bytes names.items ≡ finite.keys (vault_contents self.old)) }
+        ensures names { IfOk result (λ names.
+            map string_bytes names.items ≡ finite.keys (vault_contents self.old)) }
         ensures kept { vault_contents self.new ≡ vault_contents self.old }
         ensures not_absent { IsErrOf result VaultError.Absent → ⊥ }
         ensures not_schema { IsErrOf result VaultError.NotSchema7 → ⊥ }
         ensures not_bad_row { (row : ℕ) → IsErrOf result (VaultError.BadRow row) → ⊥ }
 
         ensures count { vault_faults self.old ≤ vault_faults self.new }
-        ensures failed { IsErrOf result VaultError.Failed → Rose (vault_faults self.old) (vault_faults self.new) }
+        ensures failed { IsErrOf result VaultError.Failed
+            → Rose (vault_faults self.old) (vault_faults self.new) }
     {
         if self.failing.fails() {
             return Err(VaultError::Failed);
@@ -72,14 +74,19 @@ impl Vault for MemVault {
         ensures fails { IsErrOf result VaultError.Failed ↔ FailsNext (vault_calls self.old) }
         ensures calls { vault_calls self.new ≡ after_call (vault_calls self.old) }
 
-        ensures found { IfOk result (λ loaded. finite.get (vault_contents self.old) name.now ≡ Some (Content.Good loaded)) }
-        ensures absent { IsErrOf result VaultError.Absent → finite.get (vault_contents self.old) name.now ≡ None }
-        ensures not_schema { IsErrOf result VaultError.NotSchema7 → finite.get (vault_contents self.old) name.now ≡ Some Content.NotSchema7 }
-        ensures bad_row { (row : ℕ) → IsErrOf result (VaultError.BadRow row) → finite.get (vault_contents self.old) name.now ≡ Some (Content.BadRow row) }
+        ensures found { IfOk result (λ loaded.
+            finite.get (vault_contents self.old) name.now ≡ Some (Content.Good loaded)) }
+        ensures absent { IsErrOf result VaultError.Absent
+            → finite.get (vault_contents self.old) name.now ≡ None }
+        ensures not_schema { IsErrOf result VaultError.NotSchema7
+            → finite.get (vault_contents self.old) name.now ≡ Some Content.NotSchema7 }
+        ensures bad_row { (row : ℕ) → IsErrOf result (VaultError.BadRow row)
+            → finite.get (vault_contents self.old) name.now ≡ Some (Content.BadRow row) }
         ensures kept { vault_contents self.new ≡ vault_contents self.old }
 
         ensures count { vault_faults self.old ≤ vault_faults self.new }
-        ensures failed { IsErrOf result VaultError.Failed → Rose (vault_faults self.old) (vault_faults self.new) }
+        ensures failed { IsErrOf result VaultError.Failed
+            → Rose (vault_faults self.old) (vault_faults self.new) }
     {
         if self.failing.fails() {
             return Err(VaultError::Failed);
@@ -92,15 +99,19 @@ impl Vault for MemVault {
         ensures fails { IsErrOf result VaultError.Failed ↔ FailsNext (vault_calls self.old) }
         ensures calls { vault_calls self.new ≡ after_call (vault_calls self.old) }
 
-        ensures ok { OnOk result (vault_contents self.new ≡ finite.insert (vault_contents self.old) name.now (Content.Good content.now)) }
-        ensures replaces { OnOk result (finite.get (vault_contents self.old) name.now ≢ Some Content.NotSchema7) }
-        ensures not_schema { IsErrOf result VaultError.NotSchema7 → finite.get (vault_contents self.old) name.now ≡ Some Content.NotSchema7 }
+        ensures ok { OnOk result (vault_contents self.new
+            ≡ finite.insert (vault_contents self.old) name.now (Content.Good content.now)) }
+        ensures replaces { OnOk result
+            (finite.get (vault_contents self.old) name.now ≢ Some Content.NotSchema7) }
+        ensures not_schema { IsErrOf result VaultError.NotSchema7
+            → finite.get (vault_contents self.old) name.now ≡ Some Content.NotSchema7 }
         ensures err { OnErr result (vault_contents self.new ≡ vault_contents self.old) }
         ensures not_absent { IsErrOf result VaultError.Absent → ⊥ }
         ensures not_bad_row { (row : ℕ) → IsErrOf result (VaultError.BadRow row) → ⊥ }
 
         ensures count { vault_faults self.old ≤ vault_faults self.new }
-        ensures failed { IsErrOf result VaultError.Failed → Rose (vault_faults self.old) (vault_faults self.new) }
+        ensures failed { IsErrOf result VaultError.Failed
+            → Rose (vault_faults self.old) (vault_faults self.new) }
     {
         if self.failing.fails() {
             return Err(VaultError::Failed);
@@ -113,15 +124,18 @@ impl Vault for MemVault {
         ensures fails { IsErrOf result VaultError.Failed ↔ FailsNext (vault_calls self.old) }
         ensures calls { vault_calls self.new ≡ after_call (vault_calls self.old) }
 
-        ensures ok { OnOk result (vault_contents self.new ≡ finite.remove (vault_contents self.old) name.now) }
+        ensures ok { OnOk result (vault_contents self.new
+            ≡ finite.remove (vault_contents self.old) name.now) }
         ensures removes { OnOk result (finite.get (vault_contents self.old) name.now ≢ None) }
-        ensures absent { IsErrOf result VaultError.Absent → finite.get (vault_contents self.old) name.now ≡ None }
+        ensures absent { IsErrOf result VaultError.Absent
+            → finite.get (vault_contents self.old) name.now ≡ None }
         ensures err { OnErr result (vault_contents self.new ≡ vault_contents self.old) }
         ensures not_schema { IsErrOf result VaultError.NotSchema7 → ⊥ }
         ensures not_bad_row { (row : ℕ) → IsErrOf result (VaultError.BadRow row) → ⊥ }
 
         ensures count { vault_faults self.old ≤ vault_faults self.new }
-        ensures failed { IsErrOf result VaultError.Failed → Rose (vault_faults self.old) (vault_faults self.new) }
+        ensures failed { IsErrOf result VaultError.Failed
+            → Rose (vault_faults self.old) (vault_faults self.new) }
     {
         if self.failing.fails() {
             return Err(VaultError::Failed);

@@ -133,7 +133,9 @@ pub fn read_words(alloc: Global, words: &[String]) -> Result<Command, WordsError
 
 /// Reads further words as far as they go on with a command. Answers how many do.
 fn read_on<'a>(reading: &mut Reading<'a>, words: &'a [String]) -> Result<usize, NoMemory>
-    ensures { IfOk result (λ n. IsReadOn (reading_view reading.old) (map string_bytes words.now) n (reading_view reading.new)) }
+    ensures { IfOk result (λ n.
+        IsReadOn (reading_view reading.old) (map string_bytes words.now) n
+        (reading_view reading.new)) }
 {
     let mut passed = 0;
     for word in words {

@@ -15,7 +15,8 @@ use std::alloc::Global;
 
 /// A command of what was read, where nothing is missing.
 pub(crate) fn command_of(alloc: Global, reading: &Reading<'_>) -> Result<Option<Command>, NoMemory>
-    ensures { IfOk result (λ made. option_map command_view made ≡ command_read (Some (reading_view reading.now))) }
+    ensures { IfOk result (λ made.
+        option_map command_view made ≡ command_read (Some (reading_view reading.now))) }
 {
     if reading.awaiting.is_some() {
         return Ok(None);

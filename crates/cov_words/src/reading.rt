@@ -87,14 +87,16 @@ impl<'a> Reading<'a> {
     }
 
     fn may_take(&self, option: OptionName) -> bool
-        ensures { result ≡ may_take (reading_view self.now).command (reading_view self.now).given option }
+        ensures { result
+            ≡ may_take (reading_view self.now).command (reading_view self.now).given option }
     {
         self.command.has(option) && !is_given(option, self.given.as_slice())
     }
 
     /// Whether a further word can be read; it is read then.
     pub(crate) fn step(&mut self, word: &'a str) -> Result<bool, NoMemory>
-        ensures { IfOk result (λ goes. Goes (step (reading_view self.old) word.now) goes (reading_view self.new)) }
+        ensures { IfOk result (λ goes.
+            Goes (step (reading_view self.old) word.now) goes (reading_view self.new)) }
     {
         if let Some(option) = self.awaiting {
             let Some(value) = value_of(option, word) else {
@@ -115,7 +117,9 @@ impl<'a> Reading<'a> {
     }
 
     fn take(&mut self, found: Found<'a>) -> Result<bool, NoMemory>
-        ensures { IfOk result (λ goes. Goes (next (reading_view self.old) (found_view found.entry)) goes (reading_view self.new)) }
+        ensures { IfOk result (λ goes.
+            Goes (next (reading_view self.old) (found_view found.entry)) goes
+            (reading_view self.new)) }
     {
         match found {
             Found::Nowhere => Ok(false),

@@ -1,4 +1,4 @@
--- A prompt, and the line behind it.
+-- A prompt, and the line after it.
 use Rattle.std.proofs.Common.{◌≡◌, ℕ, List, [], ◌∷◌, ◌++◌, Result, Ok, Err, IfOk, OnOk, refl, ap, sym, ◌∙◌, subst, append-nil, encode_utf8_all}
 use Rattle.cov_outside.specs.Prefixes.{LosesPrefix}
 use Rattle.cov_outside.proofs.PrefixLemmas.{loses_nothing}

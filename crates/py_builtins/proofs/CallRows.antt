@@ -20,8 +20,8 @@ minus = refl
 minus_zero : signed (codes "-0") ≡ Ok (pos 0)
 minus_zero = refl
 
-blank_behind : signed (codes "+07 ") ≡ Ok (pos 7)
-blank_behind = refl
+blank_after : signed (codes "+07 ") ≡ Ok (pos 7)
+blank_after = refl
 
 no_digit : signed (codes "-") ≡ Err InvalidLiteral
 no_digit = refl

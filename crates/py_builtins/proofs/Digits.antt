@@ -38,7 +38,7 @@ digit_on cs i c n next want l e d f w =
     ∙ ap (λ x. capped (digits_then_blanks n (x ∷ drop (i + 1) cs))) e
     ∙ sym (at_drop_more (λ (xs : List ℕ). capped (digits_then_blanks n xs)) cs i c l) ∙ w
 
--- behind the digits
+-- after the digits
 pub digits_end : (cs : List ℕ) (i c n : ℕ) (want : Option ℕ) → i < length cs → c ≡ get_or cs i c → is_digit c ≡ false
     → capped (digits_then_blanks n (drop i cs)) ≡ want → capped (if are_blanks (drop i cs) then Some n else None) ≡ want
 digits_end cs i c n want l e d w =

@@ -24,7 +24,7 @@ asks_once [] h = tt
 asks_once (Some b ∷ reads) h = h
 asks_once (None ∷ reads) h = absurd h
 
--- the reads of two calls, one behind the other
+-- the reads of two calls, one after the other
 pub fed_then : (old new : List (Option ℕ)) (all mid rest : List ℕ) → Fed old all mid → Fed new mid rest → Fed (new ++ old) all rest
 fed_then old [] all mid rest f g = subst (λ xs. Fed old all xs) g f
 fed_then old (Some b ∷ new) all mid rest f g = fed_then old new all mid (b ∷ rest) f g

@@ -1,4 +1,4 @@
--- Pieces of writing, one behind the other.
+-- Pieces of writing, one after the other.
 use Rattle.std.proofs.Common.{◌≡◌, ℕ, zero, suc, ◌+◌, nat_le, Bool, IsTrue, IsErrAnd, List, [], ◌∷◌, length, drop, add-one, Result, Ok, Err, Some, refl, ap, sym, ◌∙◌, subst, append_assoc, append-nil, if◌then◌else◌}
 use Rattle.std.specs.List.{slice_get}
 use Rattle.std.proofs.lemmas.Option.{slice_get_within, get_or_from_slice_get}

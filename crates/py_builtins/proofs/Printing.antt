@@ -12,9 +12,9 @@ abbrev pub ending : ℕ → List (List ℕ) → List ℕ
 ending zero ts = line_of ts
 ending (suc i) ts = each_after (32 ∷ []) ts ++ 10 ∷ []
 
--- some of a line, and behind it the texts from a place on
-abbrev pub line_behind : List ℕ → ℕ → List PlainValue → PlainHeap → Result (List ℕ) PlainRaised
-line_behind done i vs h = str_texts vs h >>= λ ts. Ok (done ++ ending i ts)
+-- some of a line, and after it the texts from a place on
+abbrev pub line_after : List ℕ → ℕ → List PlainValue → PlainHeap → Result (List ℕ) PlainRaised
+line_after done i vs h = str_texts vs h >>= λ ts. Ok (done ++ ending i ts)
 
 abbrev pub line_from : List ℕ → ℕ → List Value → PlainHeap → Result (List ℕ) PlainRaised
-line_from done i vs h = line_behind done i (plains vs) h
+line_from done i vs h = line_after done i (plains vs) h

@@ -11,10 +11,10 @@ use Rattle.py_value.specs.Sequences.{begins}
 use Rattle.py_builtins.specs.Methods.{before_first, parts_between, texts}
 use Rattle.py_builtins.proofs.Starts.{begins_itself, begun, not_begun}
 
--- no separator begins in the front of a text with this behind it
+-- no separator begins in the front of a text with this after it
 abbrev pub Clear : List ℕ → List ℕ → List ℕ → Type 0
-Clear t [] behind = Unit {0}
-Clear t (c ∷ cs) behind = (begins t (c ∷ cs ++ behind) ≡ false) × Clear t cs behind
+Clear t [] after = Unit {0}
+Clear t (c ∷ cs) after = (begins t (c ∷ cs ++ after) ≡ false) × Clear t cs after
 
 cut_at : (t cs : List ℕ) (c : ℕ) (b : Bool) → begins t (c ∷ cs) ≡ b → parts_between t zero (c ∷ cs) ≡ cond b ([] ∷ parts_between t (length t - 1) cs) (before_first c (parts_between t zero cs))
 cut_at t cs c b e = ap (λ x. cond x ([] ∷ parts_between t (length t - 1) cs) (before_first c (parts_between t zero cs))) e
@@ -39,19 +39,19 @@ cut_nowhere t (c ∷ cs) h =
     cut_at t cs c false (ap (λ xs. begins t (c ∷ xs)) (sym (append-nil cs)) ∙ h.0) ∙ ap (before_first c) (cut_nowhere t cs h.1)
 
 -- bytes that don't stand in a text before a place, and the characters
-pub clear_before : (t done pre behind bs p : List ℕ) (n : ℕ) → ((i : ℕ) → i < n → LacksTextAt p bs i) → p ≡ encode_utf8_all t → bs ≡ encode_utf8_all (done ++ (pre ++ behind)) → length (encode_utf8_all (done ++ pre)) ≤ n → Clear t pre behind
-clear_before t done [] behind bs p n lacks e f l = tt
-clear_before t done (c ∷ pre) behind bs p n lacks e f l = (
-  not_begun (begins t (c ∷ pre ++ behind)) stands,
-  clear_before t (done ++ c ∷ []) pre behind bs p n lacks e (f ∙ ap encode_utf8_all (sym (append_assoc done (c ∷ []) (pre ++ behind)))) (omega (arith, l, ap (λ xs. length (encode_utf8_all xs)) (append_assoc done (c ∷ []) pre))),
+pub clear_before : (t done pre after bs p : List ℕ) (n : ℕ) → ((i : ℕ) → i < n → LacksTextAt p bs i) → p ≡ encode_utf8_all t → bs ≡ encode_utf8_all (done ++ (pre ++ after)) → length (encode_utf8_all (done ++ pre)) ≤ n → Clear t pre after
+clear_before t done [] after bs p n lacks e f l = tt
+clear_before t done (c ∷ pre) after bs p n lacks e f l = (
+  not_begun (begins t (c ∷ pre ++ after)) stands,
+  clear_before t (done ++ c ∷ []) pre after bs p n lacks e (f ∙ ap encode_utf8_all (sym (append_assoc done (c ∷ []) (pre ++ after)))) (omega (arith, l, ap (λ xs. length (encode_utf8_all xs)) (append_assoc done (c ∷ []) pre))),
 )
   where
-    stands : begins t (c ∷ pre ++ behind) ≡ true → ⊥
+    stands : begins t (c ∷ pre ++ after) ≡ true → ⊥
     stands h =
-        let w : (post : List ℕ) × (c ∷ pre ++ behind ≡ t ++ post) = begun t (c ∷ pre ++ behind) h in
+        let w : (post : List ℕ) × (c ∷ pre ++ after ≡ t ++ post) = begun t (c ∷ pre ++ after) h in
         let k : length (encode_utf8_all done) < n = omega (arith, l, ap length (encodes-append done (c ∷ pre)), length-append (encode_utf8_all done) (encode_utf8_all (c ∷ pre)), length-le-encodes (c ∷ pre)) in
         lacks (length (encode_utf8_all done)) k (encode_utf8_all w.0)
-        (ap (drop (length (encode_utf8_all done))) (f ∙ encodes-append done (c ∷ pre ++ behind)) ∙ drop-append_seam (encode_utf8_all done) (encode_utf8_all (c ∷ pre ++ behind))
+        (ap (drop (length (encode_utf8_all done))) (f ∙ encodes-append done (c ∷ pre ++ after)) ∙ drop-append_seam (encode_utf8_all done) (encode_utf8_all (c ∷ pre ++ after))
         ∙ ap encode_utf8_all w.1 ∙ encodes-append t w.0 ∙ ap (λ xs. xs ++ encode_utf8_all w.0) (sym e))
 
 -- ---- by bytes

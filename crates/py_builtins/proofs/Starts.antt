@@ -8,7 +8,7 @@ pub begins_itself : (cs post : List ℕ) → begins cs (cs ++ post) ≡ true
 begins_itself [] post = refl
 begins_itself (c ∷ cs) post = ap (λ b. b && begins cs (cs ++ post)) (eq-eqb c c refl) ∙ begins_itself cs post
 
--- what begins with a text has the rest behind it
+-- what begins with a text has the rest after it
 pub begun : (cs ds : List ℕ) → begins cs ds ≡ true → (post : List ℕ) × (ds ≡ cs ++ post)
 begun [] ds h = (ds, refl)
 begun (c ∷ cs) [] h = absurd (cc)

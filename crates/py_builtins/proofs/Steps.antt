@@ -29,7 +29,7 @@ numbers_on most turn bound step n next now more want l e f g w =
     ∙ ap (λ m. now ++ (int_value n ∷ numbers_before (most - (turn + 1)) bound step m)) f
     ∙ ap (λ ns. now ++ ns) (sym (one_before (most - (turn + 1)) bound step n e)) ∙ ap (λ j. now ++ numbers_before j bound step n) (sym k) ∙ w
 
--- the last number, where the next one stands behind the bound
+-- the last number, where the next one stands after the bound
 pub numbers_last : (most turn : ℕ) (bound step n : ℤ) (now more want : List PlainValue) → turn < most → is_before step n bound ≡ true → is_before step (n +ℤ step) bound ≡ false → more ≡ now ++ int_value n ∷ []
     → now ++ numbers_before (most - turn) bound step n ≡ want → more ≡ want
 numbers_last most turn bound step n now more want l e f g w =

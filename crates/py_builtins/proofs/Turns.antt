@@ -29,12 +29,12 @@ next_none : (mid after : List ℕ) (o : Option ℕ) → o ≡ None → NextByte 
 next_none mid after None e h = h
 next_none mid after (Some c) e h = absurd (cc)
 
--- the bytes so far, and those behind the next one
-behind : (line before mid after : List ℕ) (o : Option ℕ) (b : ℕ) → o ≡ Some b → NextByte mid after o → line ++ mid ≡ before → line ++ b ∷ after ≡ before
-behind line before mid after o b e h w = ap (λ xs. line ++ xs) (sym (next_some mid after o b e h)) ∙ w
+-- the bytes so far, and those after the next one
+with_next : (line before mid after : List ℕ) (o : Option ℕ) (b : ℕ) → o ≡ Some b → NextByte mid after o → line ++ mid ≡ before → line ++ b ∷ after ≡ before
+with_next line before mid after o b e h w = ap (λ xs. line ++ xs) (sym (next_some mid after o b e h)) ∙ w
 
-pub behind_next : (line before mid after : List ℕ) (o : Option ℕ) (b : ℕ) → o ≡ Some b → NextByte mid after o → line ++ mid ≡ before → (line ++ b ∷ []) ++ after ≡ before
-behind_next line before mid after o b e h w = append_assoc line (b ∷ []) after ∙ behind line before mid after o b e h w
+pub after_next : (line before mid after : List ℕ) (o : Option ℕ) (b : ℕ) → o ≡ Some b → NextByte mid after o → line ++ mid ≡ before → (line ++ b ∷ []) ++ after ≡ before
+after_next line before mid after o b e h w = append_assoc line (b ∷ []) after ∙ with_next line before mid after o b e h w
 
 -- the reading of a byte failed
 pub failed_further : (line before mid after : List ℕ) → IsOpen line → length line ≤ suc most_items → line ++ mid ≡ before → after ≡ mid → LosesPrefix after (bytes_read before).1
@@ -73,18 +73,18 @@ ended_line tells line before mid after o b h l e t n w = record {
   rest = after;
   once = all_bytes [] line tt;
   fed = fed_bytes [] line (line ++ b ∷ after) (b ∷ after) refl;
-  told = λ s. (behind line before mid after o b e (n s) (w s), refl);
+  told = λ s. (with_next line before mid after o b e (n s) (w s), refl);
   holds = λ all rest f. sym (ap bytes_read (bytes_fed [] line all (b ∷ rest) f) ∙ read_ended line b rest h l (ends b t));
 }
 
 -- there was no memory for the byte
 pub dropped_lost : (line before mid after : List ℕ) (o : Option ℕ) (b : ℕ) → o ≡ Some b → NextByte mid after o → line ++ mid ≡ before → LosesPrefix before after
-dropped_lost line before mid after o b e n w = record { front = line ++ b ∷ []; is = sym (behind_next line before mid after o b e n w) }
+dropped_lost line before mid after o b e n w = record { front = line ++ b ∷ []; is = sym (after_next line before mid after o b e n w) }
 
 pub dropped_further : (line before mid after : List ℕ) (o : Option ℕ) (b : ℕ) → IsOpen line → length line ≤ most_items → o ≡ Some b → (b ≡ 10 → ⊥) → NextByte mid after o → line ++ mid ≡ before → LosesPrefix after (bytes_read before).1
 dropped_further line before mid after o b h l e t n w =
     let one : length (line ++ b ∷ []) ≤ suc most_items = omega (arith, length-append line (b ∷ [])) in
-    subst (λ xs. LosesPrefix after (bytes_read xs).1) (behind_next line before mid after o b e n w) (still_read (line ++ b ∷ []) after (open_more line b h (goes_on b t)) one)
+    subst (λ xs. LosesPrefix after (bytes_read xs).1) (after_next line before mid after o b e n w) (still_read (line ++ b ∷ []) after (open_more line b h (goes_on b t)) one)
 
 -- too many bytes were read
 pub many_line : (tells : Type 0) (line before mid : List ℕ) → IsOpen line → length line ≡ suc most_items → (tells → line ++ mid ≡ before) → OnReads tells before mid (λ all rest. (Err TooManyItems, rest) ≡ bytes_read all)
@@ -113,7 +113,7 @@ all_lost before after e = subst (λ xs. LosesPrefix before xs) (sym e) (still_li
 pub further_same : (before after : List ℕ) → LosesPrefix after (bytes_read before).1 → LosesPrefix after (line_read before).1
 further_same before after h = subst (λ xs. LosesPrefix after xs) (left_same before) h
 
--- what is left behind the line
+-- what is left after the line
 pub line_kept : (tells : Type 0) (before after : List ℕ) (got : Result (List ℕ) Cause) → OnReads tells before after (λ all rest. (got, rest) ≡ bytes_read all) → tells → after ≡ (line_read before).1
 line_kept tells before after got h t =
     let told = h.told t in

@@ -5,7 +5,7 @@ use Rattle.py_value.specs.declared.cause.Cause.TheVariants.{WrongArgumentCount}
 use Rattle.py_value.specs.Causes.{raised_by}
 use Rattle.py_value.specs.Plain.{PlainValue, PlainHeap, PlainRaised}
 
--- What a call answers: the value and the heap behind it, or the exception.
+-- What a call answers: the value and the heap after it, or the exception.
 abbrev pub Answer : Type 0
 Answer = Result (PlainValue × PlainHeap) PlainRaised
 

@@ -1,4 +1,4 @@
--- Names behind a dot (Python Language Reference, 6.3.1).
+-- Names after a dot (Python Language Reference, 6.3.1).
 use Rattle.std.specs.Prelude.{ℕ, if◌then◌else◌, List, [], ◌∷◌, Option, Some, None, Result, Ok, Err}
 use Rattle.py_value.specs.declared.builtin.Method.{Method}
 use Rattle.py_value.specs.declared.builtin.Method.TheVariants.{Append, Pop, Get, Keys, StartsWith, Join, Split}

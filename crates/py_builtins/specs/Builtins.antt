@@ -67,7 +67,7 @@ unfoldable pub numbers_before : ℕ → ℤ → ℤ → ℤ → List PlainValue
 numbers_before zero bound step n = []
 numbers_before (suc most) bound step n = elim (is_before step n bound) [ true ↦ int_value n ∷ numbers_before most bound step (n +ℤ step) | false ↦ [] ]
 
--- whether the numbers from one on are more than a list holds: the one behind so many still stands before the bound
+-- whether the numbers from one on are more than a list holds: the one after so many still stands before the bound
 abbrev pub is_too_long : ℤ → ℤ → ℤ → Bool
 is_too_long step from to = is_before step (from +ℤ step *ℤ pos most_items) to
 
@@ -112,7 +112,7 @@ abbrev pub are_blanks : List ℕ → Bool
 are_blanks [] = true
 are_blanks (c ∷ cs) = is_blank c && are_blanks cs
 
--- the number of some digits with blanks behind them, where so much stands before the next digit
+-- the number of some digits with blanks after them, where so much stands before the next digit
 abbrev pub digits_then_blanks : ℕ → List ℕ → Option ℕ
 digits_then_blanks n [] = Some n
 digits_then_blanks n (c ∷ cs) = if is_digit c then digits_then_blanks (10 * n + (c - 48)) cs else if are_blanks (c ∷ cs) then Some n else None
@@ -148,7 +148,7 @@ number_in x None = Err BadArgument
 abbrev pub int_of : List PlainValue → PlainHeap → Answer
 int_of args h = for_one (only args) (λ x. in_words raised_by (number_in x (number_of x) >>= λ n. Ok (int_value n, h)))
 
--- the bytes up to a line end, and those behind it
+-- the bytes up to a line end, and those after it
 abbrev pub first_line : List ℕ → List ℕ
 first_line [] = []
 first_line (b ∷ bs) = if nat_eq b 10 then [] else b ∷ first_line bs

@@ -56,7 +56,7 @@ mark_of s = if has 39 s && not (has 34 s) then 34 else 39
 abbrev pub hex_digit : ℕ → ℕ
 hex_digit d = if nat_lt d 10 then 48 + d else 87 + d
 
--- a character between two marks: behind a backslash the backslash, the mark, and `n`, `r`, `t` for a line end,
+-- a character between two marks: after a backslash the backslash, the mark, and `n`, `r`, `t` for a line end,
 -- a carriage return and a tab; other characters below 32 and 127 as `\xhh`; all others stand as they are
 abbrev pub escaped : ℕ → ℕ → List ℕ
 escaped mark c =
@@ -74,7 +74,7 @@ all_escaped mark (c ∷ cs) = escaped mark c ++ all_escaped mark cs
 abbrev pub quoted : List ℕ → List ℕ
 quoted s = mark_of s ∷ all_escaped (mark_of s) s ++ mark_of s ∷ []
 
--- each behind a comma and a blank
+-- each after a comma and a blank
 abbrev pub further : {A : Type 0} → (A → Writing) → List A → Writing
 further show [] = whole []
 further show (x ∷ xs) = whole (codes ", ") ▸ show x ▸ further show xs

@@ -1,5 +1,5 @@
 -- Values that expressions and statements make (Python Language Reference, 6.2.5 to 6.2.7, 6.3.3, 6.10, 2.4.3).
---     extended                a text with another behind it
+--     extended                a text with another after it
 --     new_tuple, new_dict     displays
 --     stored                  `of[at] = v`
 --     sliced                  slices
@@ -14,7 +14,7 @@ use Rattle.py_value.specs.Operators.{slice_of, store_of}
 use Rattle.py_value.specs.Plain.{PlainValue, dict_at, tuple_of, dict_object, may_nest, PlainHeap, PlainRaised}
 use Rattle.py_value.specs.Sequences.{joined, within_limit}
 
--- a text with another behind it
+-- a text with another after it
 abbrev pub extended : List ℕ → List ℕ → Result (List ℕ) PlainRaised
 extended x y = in_words raised_by (joined x y)
 

@@ -1,4 +1,4 @@
--- What a method gives: the value and the heap behind it, or the exception. In the order of the table of calls.
+-- What a method gives: the value and the heap after it, or the exception. In the order of the table of calls.
 use Rattle.std.specs.Prelude.{ℕ, zero, suc, ◌+◌, ◌-◌, ◌||◌, ◌&&◌, nat_eq, nat_le, nat_lt, Bool, true, false, if◌then◌else◌, ℤ, negsuc, List, [], ◌∷◌, ◌++◌, length, map, remove, Option, Some, None, Result, Ok, Err, codes}
 use Rattle.py_value.specs.declared.builtin.Method.{Method}
 use Rattle.py_value.specs.declared.builtin.Method.TheVariants.{Append, Pop, Get, Keys, StartsWith, Join, Split}

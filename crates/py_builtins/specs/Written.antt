@@ -9,7 +9,7 @@ abbrev pub Settles : Stop → Writing → Type 0
 Settles (Raises cause) w = (rest : Writing) → answer_of (w ▸ rest) ≡ Err cause
 Settles NoMemory w = Unit {0}
 
--- what was to be written behind a text stands there now, or the answer is settled
+-- what was to be written after a text stands there now, or the answer is settled
 abbrev pub IsWritten : Result (Unit {0}) Stop → List ℕ → List ℕ → Writing → Type 0
 IsWritten (Ok u) before now w = whole before ▸ w ≡ whole now
 IsWritten (Err stop) before now w = Settles stop (whole before ▸ w)

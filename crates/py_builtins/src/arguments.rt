@@ -15,7 +15,8 @@ pub(crate) fn are_none(args: &[Value]) -> bool
 
 /// The argument, where there is just one.
 pub(crate) fn only(args: &[Value]) -> Option<&Value>
-    ensures { MatchOption result (only (plains args.now) ≡ None) (λ x. only (plains args.now) ≡ Some (plain x.now)) }
+    ensures { MatchOption result (only (plains args.now) ≡ None) (λ x.
+        only (plains args.now) ≡ Some (plain x.now)) }
 {
     if args.len() == 1 {
         Some(&args[0])
@@ -26,7 +27,8 @@ pub(crate) fn only(args: &[Value]) -> Option<&Value>
 
 /// The two arguments, where there are just two.
 pub(crate) fn pair(args: &[Value]) -> Option<(&Value, &Value)>
-    ensures { MatchOption result (pair (plains args.now) ≡ None) (λ p. pair (plains args.now) ≡ Some (plain p.0.now, plain p.1.now)) }
+    ensures { MatchOption result (pair (plains args.now) ≡ None) (λ p.
+        pair (plains args.now) ≡ Some (plain p.0.now, plain p.1.now)) }
 {
     if args.len() == 2 {
         Some((&args[0], &args[1]))

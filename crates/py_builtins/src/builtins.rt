@@ -5,6 +5,7 @@ ghost use Rattle.cov_outside.specs.Counts.{Rose};
 ghost use Rattle.cov_outside.specs.Prefixes.{GainsPrefix, LosesPrefix};
 ghost use Rattle.py_value.specs.HeapView.{plain_heap};
 ghost use Rattle.py_value.specs.View.{plain, plains, plain_outcome};
+ghost use Rattle.py_builtins.specs.Answering.{Answers, RaiseKeeps};
 ghost use Rattle.py_builtins.specs.Builtins.{str_of, repr_of, builtin_of};
 ghost use Rattle.py_builtins.specs.Inputs.{OnReads, Gives, Wrote};
 
@@ -22,7 +23,7 @@ use py_value::{Builtin, Cause, ExcKind, Heap, NoMemory, Raised, Value};
 use std::alloc::Global;
 
 /// A built-in, called with these arguments. It writes and reads also where it raises. What `answer` says
-/// of two calls holds of both one behind the other: their reads are one list, the newest in front.
+/// of two calls holds of both one after the other: their reads are one list, the newest in front.
 pub fn call_builtin<I: Source, O: Sink>(
     alloc: Global,
     which: Builtin,
@@ -35,19 +36,30 @@ pub fn call_builtin<I: Source, O: Sink>(
         (λ all rest. Gives (builtin_of which (plains args.now) (plain_heap heap.old) all)
         (plain_outcome answer (plain_heap heap.new))
         (Wrote O.tells (O.contents out.old) (O.contents out.new)) rest)) }
-    ensures raised { IfOk result (λ answer. OnErr answer (plain_heap heap.new ≡ plain_heap heap.old)) }
-    ensures written { O.tells → OnOk result (O.contents out.new ≡ O.contents out.old ++ (builtin_of which (plains args.now) (plain_heap heap.old) (I.left input.old)).written) }
-    ensures left { I.tells → OnOk result (I.left input.new ≡ (builtin_of which (plains args.now) (plain_heap heap.old) (I.left input.old)).left) }
+    ensures raised { RaiseKeeps result heap.old heap.new }
+    ensures written { O.tells
+        → OnOk result (O.contents out.new
+        ≡ O.contents out.old
+        ++ (builtin_of which (plains args.now) (plain_heap heap.old) (I.left input.old)).written) }
+    ensures left { I.tells
+        → OnOk result (I.left input.new
+        ≡ (builtin_of which (plains args.now) (plain_heap heap.old) (I.left input.old)).left) }
     // After a fault a part of it is written, and no more is read than without the fault.
     ensures heap { OnErr result (plain_heap heap.new ≡ plain_heap heap.old) }
-    ensures gained { O.tells → OnErr result (GainsPrefix (O.contents out.old) (O.contents out.new) (builtin_of which (plains args.now) (plain_heap heap.old) (I.left input.old)).written) }
+    ensures gained { O.tells
+        → OnErr result (GainsPrefix (O.contents out.old) (O.contents out.new)
+        (builtin_of which (plains args.now) (plain_heap heap.old) (I.left input.old)).written) }
     ensures lost { I.tells → OnErr result (LosesPrefix (I.left input.old) (I.left input.new)) }
-    ensures no_further { I.tells → OnErr result (LosesPrefix (I.left input.new) (builtin_of which (plains args.now) (plain_heap heap.old) (I.left input.old)).left) }
+    ensures no_further { I.tells
+        → OnErr result (LosesPrefix (I.left input.new)
+        (builtin_of which (plains args.now) (plain_heap heap.old) (I.left input.old)).left) }
 
     ensures reads { I.faults input.old ≤ I.faults input.new }
     ensures writes { O.faults out.old ≤ O.faults out.new }
-    ensures read_fault { IsErrOf result RunFault.ReadFault → Rose (I.faults input.old) (I.faults input.new) }
-    ensures write_fault { IsErrOf result RunFault.WriteFault → Rose (O.faults out.old) (O.faults out.new) }
+    ensures read_fault { IsErrOf result RunFault.ReadFault
+        → Rose (I.faults input.old) (I.faults input.new) }
+    ensures write_fault { IsErrOf result RunFault.WriteFault
+        → Rose (O.faults out.old) (O.faults out.new) }
     // The other built-ins touch neither the source nor the sink.
     ensures source { which ≢ Builtin.Input → input.new ≡ input.old }
     ensures sink { which ≢ Builtin.Print → which ≢ Builtin.Input → out.new ≡ out.old }
@@ -66,7 +78,7 @@ pub fn call_builtin<I: Source, O: Sink>(
 
 /// `str(x)`.
 fn text(alloc: Global, args: &[Value], heap: &Heap) -> Result<Result<Value, Raised>, NoMemory>
-    ensures { IfOk result (λ answer. plain_outcome answer (plain_heap heap.now) ≡ str_of (plains args.now) (plain_heap heap.now)) }
+    ensures { Answers result heap.now (str_of (plains args.now) (plain_heap heap.now)) }
 {
     match only(args) {
         None => Ok(Err(Raised::of(alloc, Cause::WrongArgumentCount)?)),
@@ -79,7 +91,7 @@ fn text(alloc: Global, args: &[Value], heap: &Heap) -> Result<Result<Value, Rais
 
 /// `repr(x)`.
 fn display(alloc: Global, args: &[Value], heap: &Heap) -> Result<Result<Value, Raised>, NoMemory>
-    ensures { IfOk result (λ answer. plain_outcome answer (plain_heap heap.now) ≡ repr_of (plains args.now) (plain_heap heap.now)) }
+    ensures { Answers result heap.now (repr_of (plains args.now) (plain_heap heap.now)) }
 {
     match only(args) {
         None => Ok(Err(Raised::of(alloc, Cause::WrongArgumentCount)?)),

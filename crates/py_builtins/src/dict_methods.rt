@@ -1,9 +1,10 @@
 // The methods of dicts.
 
 ghost use Rattle.std.specs.Prelude.{◌≡◌, IfOk, OnErr, Some, length};
-ghost use Rattle.py_value.specs.View.{plain, plains, plain_outcome};
+ghost use Rattle.py_value.specs.View.{plain, plains};
 ghost use Rattle.py_value.specs.HeapView.{plain_heap};
 ghost use Rattle.py_value.specs.Heaps.{dict_pairs, dict_keys};
+ghost use Rattle.py_builtins.specs.Answering.{Answers, RaiseKeeps};
 ghost use Rattle.py_builtins.specs.Methods.{pop_key, pop_key_or, pop_of_dict, get_or, get_of, keys_of};
 
 use crate::arguments::{are_none, only, pair};
@@ -19,8 +20,9 @@ pub(crate) fn pop_value(
     args: &[Value],
     heap: &mut Heap,
 ) -> Result<Result<Value, Raised>, NoMemory>
-    ensures answer { IfOk result (λ answer. plain_outcome answer (plain_heap heap.new) ≡ pop_of_dict dict.place (plains args.now) (plain_heap heap.old)) }
-    ensures raised { IfOk result (λ answer. OnErr answer (plain_heap heap.new ≡ plain_heap heap.old)) }
+    ensures answer { Answers result heap.new
+        (pop_of_dict dict.place (plains args.now) (plain_heap heap.old)) }
+    ensures raised { RaiseKeeps result heap.old heap.new }
     ensures err { OnErr result (plain_heap heap.new ≡ plain_heap heap.old) }
 {
     match only(args) {
@@ -38,8 +40,9 @@ fn pop_key(
     key: &Value,
     heap: &mut Heap,
 ) -> Result<Result<Value, Raised>, NoMemory>
-    ensures answer { IfOk result (λ answer. plain_outcome answer (plain_heap heap.new) ≡ pop_key dict.place (plain key.now) (plain_heap heap.old)) }
-    ensures raised { IfOk result (λ answer. OnErr answer (plain_heap heap.new ≡ plain_heap heap.old)) }
+    ensures answer { Answers result heap.new
+        (pop_key dict.place (plain key.now) (plain_heap heap.old)) }
+    ensures raised { RaiseKeeps result heap.old heap.new }
     ensures err { OnErr result (plain_heap heap.new ≡ plain_heap heap.old) }
 {
     if !is_key(key) {
@@ -58,8 +61,9 @@ fn pop_key_or(
     absent: &Value,
     heap: &mut Heap,
 ) -> Result<Result<Value, Raised>, NoMemory>
-    ensures answer { IfOk result (λ answer. plain_outcome answer (plain_heap heap.new) ≡ pop_key_or dict.place (plain key.now) (plain absent.now) (plain_heap heap.old)) }
-    ensures raised { IfOk result (λ answer. OnErr answer (plain_heap heap.new ≡ plain_heap heap.old)) }
+    ensures answer { Answers result heap.new
+        (pop_key_or dict.place (plain key.now) (plain absent.now) (plain_heap heap.old)) }
+    ensures raised { RaiseKeeps result heap.old heap.new }
     ensures err { OnErr result (plain_heap heap.new ≡ plain_heap heap.old) }
 {
     if !is_key(key) {
@@ -78,7 +82,8 @@ pub(crate) fn get_value(
     args: &[Value],
     heap: &Heap,
 ) -> Result<Result<Value, Raised>, NoMemory>
-    ensures answer { IfOk result (λ answer. plain_outcome answer (plain_heap heap.now) ≡ get_of dict.place (plains args.now) (plain_heap heap.now)) }
+    ensures answer { Answers result heap.now
+        (get_of dict.place (plains args.now) (plain_heap heap.now)) }
 {
     match only(args) {
         Some(key) => {
@@ -99,7 +104,8 @@ fn get_or(
     absent: &Value,
     heap: &Heap,
 ) -> Result<Result<Value, Raised>, NoMemory>
-    ensures answer { IfOk result (λ answer. plain_outcome answer (plain_heap heap.now) ≡ get_or dict.place (plain key.now) (plain absent.now) (plain_heap heap.now)) }
+    ensures answer { Answers result heap.now
+        (get_or dict.place (plain key.now) (plain absent.now) (plain_heap heap.now)) }
 {
     if !is_key(key) {
         return Ok(Err(Raised::of(alloc, Cause::UnhashableKey)?));
@@ -117,8 +123,9 @@ pub(crate) fn list_keys(
     args: &[Value],
     heap: &mut Heap,
 ) -> Result<Result<Value, Raised>, NoMemory>
-    ensures answer { IfOk result (λ answer. plain_outcome answer (plain_heap heap.new) ≡ keys_of dict.place (plains args.now) (plain_heap heap.old)) }
-    ensures raised { IfOk result (λ answer. OnErr answer (plain_heap heap.new ≡ plain_heap heap.old)) }
+    ensures answer { Answers result heap.new
+        (keys_of dict.place (plains args.now) (plain_heap heap.old)) }
+    ensures raised { RaiseKeeps result heap.old heap.new }
     ensures err { OnErr result (plain_heap heap.new ≡ plain_heap heap.old) }
 {
     if !are_none(args) {

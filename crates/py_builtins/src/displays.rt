@@ -23,7 +23,8 @@ pub(crate) fn display(
     inside: &mut Vec<usize>,
     out: &mut Writer,
 ) -> Result<(), Stop>
-    ensures written { IsWritten result out.old.text out.new.text (display_within levels (plain_heap heap.now) inside.old.items (plain value.now)) }
+    ensures written { IsWritten result out.old.text out.new.text
+        (display_within levels (plain_heap heap.now) inside.old.items (plain value.now)) }
     ensures inside { OnOk result (inside.new.items ≡ inside.old.items) }
 {
     if levels == 0 {
@@ -40,7 +41,9 @@ fn display_inside(
     inside: &mut Vec<usize>,
     out: &mut Writer,
 ) -> Result<(), Stop>
-    ensures written { IsWritten result out.old.text out.new.text (display_step (display_within levels (plain_heap heap.now)) (plain_heap heap.now) inside.old.items (plain value.now)) }
+    ensures written { IsWritten result out.old.text out.new.text
+        (display_step (display_within levels (plain_heap heap.now)) (plain_heap heap.now)
+        inside.old.items (plain value.now)) }
     ensures inside { OnOk result (inside.new.items ≡ inside.old.items) }
 {
     match value {
@@ -68,7 +71,9 @@ fn display_items(
     inside: &mut Vec<usize>,
     out: &mut Writer,
 ) -> Result<(), Stop>
-    ensures written { IsWritten result out.old.text out.new.text (separated (display_within levels (plain_heap heap.now) inside.old.items) (plains items.now)) }
+    ensures written { IsWritten result out.old.text out.new.text
+        (separated (display_within levels (plain_heap heap.now) inside.old.items)
+        (plains items.now)) }
     ensures inside { OnOk result (inside.new.items ≡ inside.old.items) }
 {
     for i in 0..items.len() {
@@ -86,7 +91,9 @@ fn display_tuple(
     inside: &mut Vec<usize>,
     out: &mut Writer,
 ) -> Result<(), Stop>
-    ensures written { IsWritten result out.old.text out.new.text (tuple_display (display_within levels (plain_heap heap.now) inside.old.items) (plains items.now)) }
+    ensures written { IsWritten result out.old.text out.new.text
+        (tuple_display (display_within levels (plain_heap heap.now) inside.old.items)
+        (plains items.now)) }
     ensures inside { OnOk result (inside.new.items ≡ inside.old.items) }
 {
     out.push_word("(")?;
@@ -106,7 +113,9 @@ fn display_list(
     inside: &mut Vec<usize>,
     out: &mut Writer,
 ) -> Result<(), Stop>
-    ensures written { IsWritten result out.old.text out.new.text (display_step (display_within levels (plain_heap heap.now)) (plain_heap heap.now) inside.old.items (list_at list.place)) }
+    ensures written { IsWritten result out.old.text out.new.text
+        (display_step (display_within levels (plain_heap heap.now)) (plain_heap heap.now)
+        inside.old.items (list_at list.place)) }
     ensures inside { OnOk result (inside.new.items ≡ inside.old.items) }
 {
     if is_among(list.place as usize, inside) {
@@ -129,7 +138,9 @@ fn display_exception(
     inside: &mut Vec<usize>,
     out: &mut Writer,
 ) -> Result<(), Stop>
-    ensures written { IsWritten result out.old.text out.new.text (exception_display (display_within levels (plain_heap heap.now) inside.old.items) kind arg.now) }
+    ensures written { IsWritten result out.old.text out.new.text
+        (exception_display (display_within levels (plain_heap heap.now) inside.old.items) kind
+        arg.now) }
     ensures inside { OnOk result (inside.new.items ≡ inside.old.items) }
 {
     out.push_word(kind_name(kind))?;
@@ -146,7 +157,8 @@ fn display_argument(
     inside: &mut Vec<usize>,
     out: &mut Writer,
 ) -> Result<(), Stop>
-    ensures written { IsWritten result out.old.text out.new.text (argument_display (display_within levels (plain_heap heap.now) inside.old.items) arg.now) }
+    ensures written { IsWritten result out.old.text out.new.text
+        (argument_display (display_within levels (plain_heap heap.now) inside.old.items) arg.now) }
     ensures inside { OnOk result (inside.new.items ≡ inside.old.items) }
 {
     match arg.value() {
@@ -156,7 +168,8 @@ fn display_argument(
 }
 
 fn display_kind(kind: ExcKind, out: &mut Writer) -> Result<(), Stop>
-    ensures { IsWritten result out.old.text out.new.text (whole (codes "<class '" ++ kind_name kind ++ codes "'>")) }
+    ensures { IsWritten result out.old.text out.new.text
+        (whole (codes "<class '" ++ kind_name kind ++ codes "'>")) }
 {
     out.push_word("<class '")?;
     out.push_word(kind_name(kind))?;
@@ -164,7 +177,8 @@ fn display_kind(kind: ExcKind, out: &mut Writer) -> Result<(), Stop>
 }
 
 fn display_builtin(which: Builtin, out: &mut Writer) -> Result<(), Stop>
-    ensures { IsWritten result out.old.text out.new.text (whole (codes "<built-in function " ++ builtin_name which ++ codes ">")) }
+    ensures { IsWritten result out.old.text out.new.text
+        (whole (codes "<built-in function " ++ builtin_name which ++ codes ">")) }
 {
     out.push_word("<built-in function ")?;
     out.push_word(builtin_name(which))?;

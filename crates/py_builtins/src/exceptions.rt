@@ -14,7 +14,8 @@ pub fn exception_of(
     kind: ExcKind,
     args: &[Value],
 ) -> Result<Result<Value, Raised>, NoMemory>
-    ensures { IfOk result (λ answer. plain_value_answer answer ≡ exception_of kind (plains args.now)) }
+    ensures { IfOk result (λ answer.
+        plain_value_answer answer ≡ exception_of kind (plains args.now)) }
 {
     if are_none(args) {
         return Ok(Ok(Value::Exc(kind, Argument::none())));

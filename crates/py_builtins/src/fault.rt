@@ -39,10 +39,12 @@ impl<T: Drop> From<AllocFailed<T>> for RunFault {
 /// Writes the whole piece, or a prefix of it before a fault.
 pub(crate) fn write<O: Sink>(alloc: Global, out: &mut O, piece: &[u8]) -> Result<(), RunFault>
     ensures written { O.tells → OnOk result (O.contents out.new ≡ O.contents out.old ++ piece.now) }
-    ensures gained { O.tells → OnErr result (GainsPrefix (O.contents out.old) (O.contents out.new) piece.now) }
+    ensures gained { O.tells
+        → OnErr result (GainsPrefix (O.contents out.old) (O.contents out.new) piece.now) }
 
     ensures count { O.faults out.old ≤ O.faults out.new }
-    ensures write_fault { IsErrOf result RunFault.WriteFault → Rose (O.faults out.old) (O.faults out.new) }
+    ensures write_fault { IsErrOf result RunFault.WriteFault
+        → Rose (O.faults out.old) (O.faults out.new) }
     ensures no_read_fault { IsErrOf result RunFault.ReadFault → ⊥ }
 {
     match out.write(alloc, piece) {

@@ -29,17 +29,28 @@ pub(crate) fn ask<I: Source, O: Sink>(
         (λ all rest. Gives (input_of (plains args.now) (plain_heap heap.now) all)
         (plain_outcome answer (plain_heap heap.now))
         (Wrote O.tells (O.contents out.old) (O.contents out.new)) rest)) }
-    ensures written { O.tells → OnOk result (O.contents out.new ≡ O.contents out.old ++ (input_of (plains args.now) (plain_heap heap.now) (I.left input.old)).written) }
-    ensures left { I.tells → OnOk result (I.left input.new ≡ (input_of (plains args.now) (plain_heap heap.now) (I.left input.old)).left) }
+    ensures written { O.tells
+        → OnOk result (O.contents out.new
+        ≡ O.contents out.old
+        ++ (input_of (plains args.now) (plain_heap heap.now) (I.left input.old)).written) }
+    ensures left { I.tells
+        → OnOk result (I.left input.new
+        ≡ (input_of (plains args.now) (plain_heap heap.now) (I.left input.old)).left) }
 
-    ensures gained { O.tells → OnErr result (GainsPrefix (O.contents out.old) (O.contents out.new) (input_of (plains args.now) (plain_heap heap.now) (I.left input.old)).written) }
+    ensures gained { O.tells
+        → OnErr result (GainsPrefix (O.contents out.old) (O.contents out.new)
+        (input_of (plains args.now) (plain_heap heap.now) (I.left input.old)).written) }
     ensures lost { I.tells → OnErr result (LosesPrefix (I.left input.old) (I.left input.new)) }
-    ensures no_further { I.tells → OnErr result (LosesPrefix (I.left input.new) (input_of (plains args.now) (plain_heap heap.now) (I.left input.old)).left) }
+    ensures no_further { I.tells
+        → OnErr result (LosesPrefix (I.left input.new)
+        (input_of (plains args.now) (plain_heap heap.now) (I.left input.old)).left) }
 
     ensures reads { I.faults input.old ≤ I.faults input.new }
     ensures writes { O.faults out.old ≤ O.faults out.new }
-    ensures read_fault { IsErrOf result RunFault.ReadFault → Rose (I.faults input.old) (I.faults input.new) }
-    ensures write_fault { IsErrOf result RunFault.WriteFault → Rose (O.faults out.old) (O.faults out.new) }
+    ensures read_fault { IsErrOf result RunFault.ReadFault
+        → Rose (I.faults input.old) (I.faults input.new) }
+    ensures write_fault { IsErrOf result RunFault.WriteFault
+        → Rose (O.faults out.old) (O.faults out.new) }
 {
     match prompt_of(alloc, args, heap)? {
         Ok(prompt) => ask_with(alloc, &prompt, heap, input, out),
@@ -58,17 +69,23 @@ fn ask_with<I: Source, O: Sink>(
         (λ all rest. Gives (asked (Ok prompt.now) (plain_heap heap.now) all)
         (plain_outcome answer (plain_heap heap.now))
         (Wrote O.tells (O.contents out.old) (O.contents out.new)) rest)) }
-    ensures written { O.tells → OnOk result (O.contents out.new ≡ O.contents out.old ++ encode_utf8_all prompt.now) }
+    ensures written { O.tells
+        → OnOk result (O.contents out.new ≡ O.contents out.old ++ encode_utf8_all prompt.now) }
     ensures left { I.tells → OnOk result (I.left input.new ≡ (line_read (I.left input.old)).1) }
 
-    ensures gained { O.tells → OnErr result (GainsPrefix (O.contents out.old) (O.contents out.new) (encode_utf8_all prompt.now)) }
+    ensures gained { O.tells
+        → OnErr result (GainsPrefix (O.contents out.old) (O.contents out.new)
+        (encode_utf8_all prompt.now)) }
     ensures lost { I.tells → OnErr result (LosesPrefix (I.left input.old) (I.left input.new)) }
-    ensures no_further { I.tells → OnErr result (LosesPrefix (I.left input.new) (line_read (I.left input.old)).1) }
+    ensures no_further { I.tells
+        → OnErr result (LosesPrefix (I.left input.new) (line_read (I.left input.old)).1) }
 
     ensures reads { I.faults input.old ≤ I.faults input.new }
     ensures writes { O.faults out.old ≤ O.faults out.new }
-    ensures read_fault { IsErrOf result RunFault.ReadFault → Rose (I.faults input.old) (I.faults input.new) }
-    ensures write_fault { IsErrOf result RunFault.WriteFault → Rose (O.faults out.old) (O.faults out.new) }
+    ensures read_fault { IsErrOf result RunFault.ReadFault
+        → Rose (I.faults input.old) (I.faults input.new) }
+    ensures write_fault { IsErrOf result RunFault.WriteFault
+        → Rose (O.faults out.old) (O.faults out.new) }
 {
     write_prompt(alloc, prompt, out)?;
     match read_text(alloc, input)? {
@@ -79,7 +96,8 @@ fn ask_with<I: Source, O: Sink>(
 
 /// The text of the prompt; without a prompt the empty one.
 fn prompt_of(alloc: Global, args: &[Value], heap: &Heap) -> Result<Result<Text, Raised>, NoMemory>
-    ensures { IfOk result (λ answer. plain_answer answer ≡ prompt_of (plains args.now) (plain_heap heap.now)) }
+    ensures { IfOk result (λ answer.
+        plain_answer answer ≡ prompt_of (plains args.now) (plain_heap heap.now)) }
 {
     if are_none(args) {
         return Ok(Ok(Text::new(alloc)));
@@ -92,11 +110,15 @@ fn prompt_of(alloc: Global, args: &[Value], heap: &Heap) -> Result<Result<Text, 
 
 /// Writes the prompt. An empty one asks nothing of the sink.
 fn write_prompt<O: Sink>(alloc: Global, prompt: &Text, out: &mut O) -> Result<(), RunFault>
-    ensures written { O.tells → OnOk result (O.contents out.new ≡ O.contents out.old ++ encode_utf8_all prompt.now) }
-    ensures gained { O.tells → OnErr result (GainsPrefix (O.contents out.old) (O.contents out.new) (encode_utf8_all prompt.now)) }
+    ensures written { O.tells
+        → OnOk result (O.contents out.new ≡ O.contents out.old ++ encode_utf8_all prompt.now) }
+    ensures gained { O.tells
+        → OnErr result (GainsPrefix (O.contents out.old) (O.contents out.new)
+        (encode_utf8_all prompt.now)) }
 
     ensures count { O.faults out.old ≤ O.faults out.new }
-    ensures write_fault { IsErrOf result RunFault.WriteFault → Rose (O.faults out.old) (O.faults out.new) }
+    ensures write_fault { IsErrOf result RunFault.WriteFault
+        → Rose (O.faults out.old) (O.faults out.new) }
     ensures no_read_fault { IsErrOf result RunFault.ReadFault → ⊥ }
 {
     if prompt.is_empty() {

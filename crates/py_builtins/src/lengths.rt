@@ -2,9 +2,10 @@
 
 ghost use Rattle.std.specs.Prelude.{◌≡◌, Ok, Err, IfOk, MatchOption, length, pos};
 ghost use Rattle.py_value.specs.declared.cause.Cause.TheVariants.{BadArgument};
-ghost use Rattle.py_value.specs.View.{plain, plains, plain_outcome};
+ghost use Rattle.py_value.specs.View.{plain, plains};
 ghost use Rattle.py_value.specs.HeapView.{plain_heap};
 ghost use Rattle.py_value.specs.Plain.{int_value};
+ghost use Rattle.py_builtins.specs.Answering.{Answers};
 ghost use Rattle.py_builtins.specs.Builtins.{size_of, len_of};
 
 use crate::arguments::only;
@@ -18,7 +19,7 @@ pub(crate) fn len(
     args: &[Value],
     heap: &Heap,
 ) -> Result<Result<Value, Raised>, NoMemory>
-    ensures { IfOk result (λ answer. plain_outcome answer (plain_heap heap.now) ≡ len_of (plains args.now) (plain_heap heap.now)) }
+    ensures { Answers result heap.now (len_of (plains args.now) (plain_heap heap.now)) }
 {
     match only(args) {
         None => Ok(Err(Raised::of(alloc, Cause::WrongArgumentCount)?)),
@@ -31,7 +32,8 @@ pub(crate) fn len(
 
 /// The number of a value's items, where it has items.
 fn size_of(value: &Value, heap: &Heap) -> Option<usize>
-    ensures { MatchOption result (size_of (plain value.now) (plain_heap heap.now) ≡ Err BadArgument) (λ n. size_of (plain value.now) (plain_heap heap.now) ≡ Ok n) }
+    ensures { MatchOption result (size_of (plain value.now) (plain_heap heap.now) ≡ Err BadArgument)
+        (λ n. size_of (plain value.now) (plain_heap heap.now) ≡ Ok n) }
 {
     match value {
         Value::Str(text) => Some(text.len()),

@@ -1,4 +1,4 @@
-// Lines of the input, read one byte at a time so that no byte behind the line is taken.
+// Lines of the input, read one byte at a time so that no byte after the line is taken.
 
 ghost use Rattle.std.specs.Prelude.{◌≡◌, ◌≤◌, ◌∷◌, [], length, IfOk, OnOk, OnErr, IsErrOf, MatchOption};
 ghost use Rattle.cov_outside.specs.Counts.{Rose};

@@ -1,9 +1,10 @@
 // The methods of lists.
 
-ghost use Rattle.std.specs.Prelude.{◌≡◌, IfOk, OnErr, Some};
-ghost use Rattle.py_value.specs.View.{plain, plains, plain_outcome};
+ghost use Rattle.std.specs.Prelude.{◌≡◌, OnErr, Some};
+ghost use Rattle.py_value.specs.View.{plain, plains};
 ghost use Rattle.py_value.specs.HeapView.{plain_heap};
 ghost use Rattle.py_value.specs.Sequences.{place_among};
+ghost use Rattle.py_builtins.specs.Answering.{Answers, RaiseKeeps};
 ghost use Rattle.py_builtins.specs.Methods.{append_value, append_of, take_item, pop_of_list};
 
 use crate::arguments::{are_none, only};
@@ -18,8 +19,9 @@ pub(crate) fn append(
     args: &[Value],
     heap: &mut Heap,
 ) -> Result<Result<Value, Raised>, NoMemory>
-    ensures answer { IfOk result (λ answer. plain_outcome answer (plain_heap heap.new) ≡ append_of list.place (plains args.now) (plain_heap heap.old)) }
-    ensures raised { IfOk result (λ answer. OnErr answer (plain_heap heap.new ≡ plain_heap heap.old)) }
+    ensures answer { Answers result heap.new
+        (append_of list.place (plains args.now) (plain_heap heap.old)) }
+    ensures raised { RaiseKeeps result heap.old heap.new }
     ensures err { OnErr result (plain_heap heap.new ≡ plain_heap heap.old) }
 {
     match only(args) {
@@ -34,8 +36,9 @@ fn append_value(
     value: &Value,
     heap: &mut Heap,
 ) -> Result<Result<Value, Raised>, NoMemory>
-    ensures answer { IfOk result (λ answer. plain_outcome answer (plain_heap heap.new) ≡ append_value list.place (plain value.now) (plain_heap heap.old)) }
-    ensures raised { IfOk result (λ answer. OnErr answer (plain_heap heap.new ≡ plain_heap heap.old)) }
+    ensures answer { Answers result heap.new
+        (append_value list.place (plain value.now) (plain_heap heap.old)) }
+    ensures raised { RaiseKeeps result heap.old heap.new }
     ensures err { OnErr result (plain_heap heap.new ≡ plain_heap heap.old) }
 {
     if heap.items(list).len() >= MOST_ITEMS {
@@ -53,8 +56,9 @@ pub(crate) fn pop_item(
     args: &[Value],
     heap: &mut Heap,
 ) -> Result<Result<Value, Raised>, NoMemory>
-    ensures answer { IfOk result (λ answer. plain_outcome answer (plain_heap heap.new) ≡ pop_of_list list.place (plains args.now) (plain_heap heap.old)) }
-    ensures raised { IfOk result (λ answer. OnErr answer (plain_heap heap.new ≡ plain_heap heap.old)) }
+    ensures answer { Answers result heap.new
+        (pop_of_list list.place (plains args.now) (plain_heap heap.old)) }
+    ensures raised { RaiseKeeps result heap.old heap.new }
     ensures err { OnErr result (plain_heap heap.new ≡ plain_heap heap.old) }
 {
     match only(args) {
@@ -78,8 +82,9 @@ fn take_item(
     at: i64,
     heap: &mut Heap,
 ) -> Result<Result<Value, Raised>, NoMemory>
-    ensures answer { IfOk result (λ answer. plain_outcome answer (plain_heap heap.new) ≡ take_item list.place (plain_heap heap.old) (Some at)) }
-    ensures raised { IfOk result (λ answer. OnErr answer (plain_heap heap.new ≡ plain_heap heap.old)) }
+    ensures answer { Answers result heap.new
+        (take_item list.place (plain_heap heap.old) (Some at)) }
+    ensures raised { RaiseKeeps result heap.old heap.new }
     ensures err { OnErr result (plain_heap heap.new ≡ plain_heap heap.old) }
 {
     match place_among(heap.items(list).len(), at) {

@@ -1,9 +1,10 @@
 // `int`: whole numbers in texts.
 
 ghost use Rattle.std.specs.Prelude.{◌≡◌, IfOk};
-ghost use Rattle.py_value.specs.View.{plain, plains, plain_outcome};
+ghost use Rattle.py_value.specs.View.{plain, plains};
 ghost use Rattle.py_value.specs.HeapView.{plain_heap};
 ghost use Rattle.py_value.specs.Numbers.{number_of, exact};
+ghost use Rattle.py_builtins.specs.Answering.{Answers};
 ghost use Rattle.py_builtins.specs.Builtins.{number_in, int_of, is_blank, are_blanks, is_digit, digits_then_blanks, unsigned, negated, with_sign, signed, without_blanks};
 ghost use Rattle.py_builtins.specs.Calls.{capped};
 
@@ -18,7 +19,7 @@ pub(crate) fn int(
     args: &[Value],
     heap: &Heap,
 ) -> Result<Result<Value, Raised>, NoMemory>
-    ensures { IfOk result (λ answer. plain_outcome answer (plain_heap heap.now) ≡ int_of (plains args.now) (plain_heap heap.now)) }
+    ensures { Answers result heap.now (int_of (plains args.now) (plain_heap heap.now)) }
 {
     match only(args) {
         None => Ok(Err(Raised::of(alloc, Cause::WrongArgumentCount)?)),
@@ -31,7 +32,8 @@ pub(crate) fn int(
 
 /// The number that a value counts as, or that its text writes.
 fn number_in(alloc: Global, value: &Value) -> Result<Result<i64, Cause>, NoMemory>
-    ensures { IfOk result (λ number. number ≡ number_in (plain value.now) (number_of (plain value.now))) }
+    ensures { IfOk result (λ number.
+        number ≡ number_in (plain value.now) (number_of (plain value.now))) }
 {
     if let Some(n) = value.number() {
         return Ok(Ok(n));
@@ -45,7 +47,7 @@ fn number_in(alloc: Global, value: &Value) -> Result<Result<i64, Cause>, NoMemor
     }
 }
 
-/// The characters behind the blanks at the front.
+/// The characters after the blanks at the front.
 fn without_blanks(characters: &[char]) -> &[char]
     ensures { result.now ≡ without_blanks characters.now }
 {

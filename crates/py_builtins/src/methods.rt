@@ -1,8 +1,9 @@
 // The methods of values.
 
 ghost use Rattle.std.specs.Prelude.{◌≡◌, IfOk, OnErr};
-ghost use Rattle.py_value.specs.View.{plain, plains, plain_outcome, plain_raised};
+ghost use Rattle.py_value.specs.View.{plain, plains, plain_raised};
 ghost use Rattle.py_value.specs.HeapView.{plain_heap};
+ghost use Rattle.py_builtins.specs.Answering.{Answers, RaiseKeeps};
 ghost use Rattle.py_builtins.specs.Methods.{method_name, absent_text, no_attribute, list_method, dict_method, text_method, method_of, is_list_method, is_dict_method, is_text_method, has_method};
 
 use crate::dict_methods::{get_value, list_keys, pop_value};
@@ -19,8 +20,9 @@ pub fn call_method(
     args: &[Value],
     heap: &mut Heap,
 ) -> Result<Result<Value, Raised>, NoMemory>
-    ensures answer { IfOk result (λ answer. plain_outcome answer (plain_heap heap.new) ≡ method_of which (plain on.now) (plains args.now) (plain_heap heap.old)) }
-    ensures raised { IfOk result (λ answer. OnErr answer (plain_heap heap.new ≡ plain_heap heap.old)) }
+    ensures answer { Answers result heap.new
+        (method_of which (plain on.now) (plains args.now) (plain_heap heap.old)) }
+    ensures raised { RaiseKeeps result heap.old heap.new }
     ensures err { OnErr result (plain_heap heap.new ≡ plain_heap heap.old) }
 {
     match on {
@@ -38,8 +40,9 @@ fn list_method(
     args: &[Value],
     heap: &mut Heap,
 ) -> Result<Result<Value, Raised>, NoMemory>
-    ensures answer { IfOk result (λ answer. plain_outcome answer (plain_heap heap.new) ≡ list_method which list.place (plains args.now) (plain_heap heap.old)) }
-    ensures raised { IfOk result (λ answer. OnErr answer (plain_heap heap.new ≡ plain_heap heap.old)) }
+    ensures answer { Answers result heap.new
+        (list_method which list.place (plains args.now) (plain_heap heap.old)) }
+    ensures raised { RaiseKeeps result heap.old heap.new }
     ensures err { OnErr result (plain_heap heap.new ≡ plain_heap heap.old) }
 {
     match which {
@@ -60,8 +63,9 @@ fn dict_method(
     args: &[Value],
     heap: &mut Heap,
 ) -> Result<Result<Value, Raised>, NoMemory>
-    ensures answer { IfOk result (λ answer. plain_outcome answer (plain_heap heap.new) ≡ dict_method which dict.place (plains args.now) (plain_heap heap.old)) }
-    ensures raised { IfOk result (λ answer. OnErr answer (plain_heap heap.new ≡ plain_heap heap.old)) }
+    ensures answer { Answers result heap.new
+        (dict_method which dict.place (plains args.now) (plain_heap heap.old)) }
+    ensures raised { RaiseKeeps result heap.old heap.new }
     ensures err { OnErr result (plain_heap heap.new ≡ plain_heap heap.old) }
 {
     match which {
@@ -82,8 +86,9 @@ fn text_method(
     args: &[Value],
     heap: &mut Heap,
 ) -> Result<Result<Value, Raised>, NoMemory>
-    ensures answer { IfOk result (λ answer. plain_outcome answer (plain_heap heap.new) ≡ text_method which text.now (plains args.now) (plain_heap heap.old)) }
-    ensures raised { IfOk result (λ answer. OnErr answer (plain_heap heap.new ≡ plain_heap heap.old)) }
+    ensures answer { Answers result heap.new
+        (text_method which text.now (plains args.now) (plain_heap heap.old)) }
+    ensures raised { RaiseKeeps result heap.old heap.new }
     ensures err { OnErr result (plain_heap heap.new ≡ plain_heap heap.old) }
 {
     match which {

@@ -20,7 +20,9 @@ pub(crate) fn display_dict(
     inside: &mut Vec<usize>,
     out: &mut Writer,
 ) -> Result<(), Stop>
-    ensures written { IsWritten result out.old.text out.new.text (display_step (display_within levels (plain_heap heap.now)) (plain_heap heap.now) inside.old.items (dict_at dict.place)) }
+    ensures written { IsWritten result out.old.text out.new.text
+        (display_step (display_within levels (plain_heap heap.now)) (plain_heap heap.now)
+        inside.old.items (dict_at dict.place)) }
     ensures inside { OnOk result (inside.new.items ≡ inside.old.items) }
 {
     if is_among(dict.place as usize, inside) {
@@ -42,7 +44,9 @@ fn display_pairs(
     inside: &mut Vec<usize>,
     out: &mut Writer,
 ) -> Result<(), Stop>
-    ensures written { IsWritten result out.old.text out.new.text (separated (pair_display (display_within levels (plain_heap heap.now) inside.old.items)) (dict_pairs (plain_heap heap.now) dict.place)) }
+    ensures written { IsWritten result out.old.text out.new.text
+        (separated (pair_display (display_within levels (plain_heap heap.now) inside.old.items))
+        (dict_pairs (plain_heap heap.now) dict.place)) }
     ensures inside { OnOk result (inside.new.items ≡ inside.old.items) }
 {
     for i in 0..pair_count(heap, dict) {
@@ -62,7 +66,8 @@ fn display_pair(
     out: &mut Writer,
 ) -> Result<(), Stop>
     requires { at < length (dict_pairs (plain_heap heap.now) dict.place) }
-    ensures written { (p : PlainValue × PlainValue) → slice_get (dict_pairs (plain_heap heap.now) dict.place) at ≡ Some p
+    ensures written { (p : PlainValue × PlainValue)
+        → slice_get (dict_pairs (plain_heap heap.now) dict.place) at ≡ Some p
         → IsWritten result out.old.text out.new.text (pair_display (display_within levels (plain_heap heap.now) inside.old.items) p) }
     ensures inside { OnOk result (inside.new.items ≡ inside.old.items) }
 {

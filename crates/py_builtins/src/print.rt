@@ -3,8 +3,9 @@
 ghost use Rattle.std.specs.Prelude.{◌≡◌, ◌≤◌, ◌++◌, [], IfOk, OnOk, OnErr, IsErrOf};
 ghost use Rattle.cov_outside.specs.Counts.{Rose};
 ghost use Rattle.cov_outside.specs.Prefixes.{GainsPrefix};
-ghost use Rattle.py_value.specs.View.{plains, plain_answer, plain_outcome};
+ghost use Rattle.py_value.specs.View.{plains, plain_answer};
 ghost use Rattle.py_value.specs.HeapView.{plain_heap};
+ghost use Rattle.py_builtins.specs.Answering.{Answers};
 ghost use Rattle.py_builtins.specs.Builtins.{print_of};
 ghost use Rattle.py_builtins.specs.Calls.{gap, printed_text};
 
@@ -21,12 +22,18 @@ pub(crate) fn print<O: Sink>(
     heap: &Heap,
     out: &mut O,
 ) -> Result<Result<Value, Raised>, RunFault>
-    ensures answer { IfOk result (λ answer. plain_outcome answer (plain_heap heap.now) ≡ (print_of (plains args.now) (plain_heap heap.now) []).answer) }
-    ensures written { O.tells → OnOk result (O.contents out.new ≡ O.contents out.old ++ (print_of (plains args.now) (plain_heap heap.now) []).written) }
-    ensures gained { O.tells → OnErr result (GainsPrefix (O.contents out.old) (O.contents out.new) (print_of (plains args.now) (plain_heap heap.now) []).written) }
+    ensures answer { Answers result heap.now
+        ((print_of (plains args.now) (plain_heap heap.now) []).answer) }
+    ensures written { O.tells
+        → OnOk result (O.contents out.new
+        ≡ O.contents out.old ++ (print_of (plains args.now) (plain_heap heap.now) []).written) }
+    ensures gained { O.tells
+        → OnErr result (GainsPrefix (O.contents out.old) (O.contents out.new)
+        (print_of (plains args.now) (plain_heap heap.now) []).written) }
 
     ensures count { O.faults out.old ≤ O.faults out.new }
-    ensures write_fault { IsErrOf result RunFault.WriteFault → Rose (O.faults out.old) (O.faults out.new) }
+    ensures write_fault { IsErrOf result RunFault.WriteFault
+        → Rose (O.faults out.old) (O.faults out.new) }
     ensures no_read_fault { IsErrOf result RunFault.ReadFault → ⊥ }
 {
     match line_of(alloc, args, heap)? {
@@ -40,7 +47,8 @@ pub(crate) fn print<O: Sink>(
 
 /// The line of the values' texts.
 fn line_of(alloc: Global, args: &[Value], heap: &Heap) -> Result<Result<Text, Raised>, NoMemory>
-    ensures { IfOk result (λ answer. plain_answer answer ≡ printed_text (plains args.now) (plain_heap heap.now)) }
+    ensures { IfOk result (λ answer.
+        plain_answer answer ≡ printed_text (plains args.now) (plain_heap heap.now)) }
 {
     let mut line = Text::new(alloc);
     for i in 0..args.len() {

@@ -11,7 +11,7 @@ use crate::writer::{Stop, Writer};
 use py_value::Text;
 
 impl Writer {
-    fn push_behind_backslash(&mut self, c: char) -> Result<(), Stop>
+    fn push_after_backslash(&mut self, c: char) -> Result<(), Stop>
         ensures { IsWritten result self.old.text self.new.text (whole (92 ∷ c ∷ [])) }
     {
         self.push('\\')?;
@@ -19,9 +19,10 @@ impl Writer {
     }
 
     fn push_hexadecimal(&mut self, code: u8) -> Result<(), Stop>
-        ensures { IsWritten result self.old.text self.new.text (whole (92 ∷ 120 ∷ hex_digit (code / 16) ∷ hex_digit (code % 16) ∷ [])) }
+        ensures { IsWritten result self.old.text self.new.text
+            (whole (92 ∷ 120 ∷ hex_digit (code / 16) ∷ hex_digit (code % 16) ∷ [])) }
     {
-        self.push_behind_backslash('x')?;
+        self.push_after_backslash('x')?;
         self.push(hex_digit(code / 16))?;
         self.push(hex_digit(code % 16))
     }
@@ -30,13 +31,13 @@ impl Writer {
         ensures { IsWritten result self.old.text self.new.text (whole (escaped mark c)) }
     {
         if c == '\\' || c == mark {
-            self.push_behind_backslash(c)
+            self.push_after_backslash(c)
         } else if c == '\n' {
-            self.push_behind_backslash('n')
+            self.push_after_backslash('n')
         } else if c == '\r' {
-            self.push_behind_backslash('r')
+            self.push_after_backslash('r')
         } else if c == '\t' {
-            self.push_behind_backslash('t')
+            self.push_after_backslash('t')
         } else if c < ' ' || c == '\u{7f}' {
             self.push_hexadecimal(c as u8)
         } else {
@@ -45,7 +46,8 @@ impl Writer {
     }
 
     fn push_all_escaped(&mut self, mark: char, text: &str) -> Result<(), Stop>
-        ensures { IsWritten result self.old.text self.new.text (whole (all_escaped mark (chars text.now))) }
+        ensures { IsWritten result self.old.text self.new.text
+            (whole (all_escaped mark (chars text.now))) }
     {
         for c in text.chars() {
             self.push_escaped(mark, c)?;

@@ -73,16 +73,16 @@ fn range_between(
 fn is_too_long(step: i64, from: i64, to: i64) -> bool
     ensures { result ≡ is_too_long step from to }
 {
-    let behind = number_behind(step, from);
+    let after = number_after(step, from);
     if step >= 0 {
-        behind < i128::from(to)
+        after < i128::from(to)
     } else {
-        i128::from(to) < behind
+        i128::from(to) < after
     }
 }
 
-/// The number that stands behind as many as a list holds.
-fn number_behind(step: i64, from: i64) -> i128
+/// The number that stands after as many as a list holds.
+fn number_after(step: i64, from: i64) -> i128
     ensures { result ≡ from +ℤ step *ℤ pos most_items }
 {
     let steps = i128::from(step) * 1_048_576;
@@ -115,7 +115,7 @@ fn numbers_before(
     Ok(numbers)
 }
 
-/// The next number; none where 64 bits don't hold it, since it stands behind the bound then.
+/// The next number; none where 64 bits don't hold it, since it stands after the bound then.
 fn next_number(n: i64, step: i64, bound: i64) -> Option<i64>
     ensures { MatchOption result (is_before step (n +ℤ step) bound ≡ false)
         (λ next. next ≡ n +ℤ step) }

@@ -2,9 +2,10 @@
 
 ghost use Rattle.std.specs.Prelude.{◌≡◌, ◌≢◌, ◌+◌, ◌++◌, [], IfOk, OnOk, OnErr, length, map, nat_le};
 ghost use Rattle.std.specs.Str.{chars};
-ghost use Rattle.py_value.specs.View.{plain, plains, plain_outcome};
+ghost use Rattle.py_value.specs.View.{plain, plains};
 ghost use Rattle.py_value.specs.HeapView.{plain_heap};
 ghost use Rattle.py_value.specs.Sequences.{most_items};
+ghost use Rattle.py_builtins.specs.Answering.{Answers, RaiseKeeps};
 ghost use Rattle.py_builtins.specs.Methods.{new_list, starts_with, starts_with_of, each_after, each_length, is_text, are_texts, characters_in, joined_texts, join_items, join, join_of, is_white, white_parts, nonempty, parts_between, texts, split_at, split_of};
 
 use crate::arguments::{are_none, only};
@@ -19,7 +20,8 @@ pub(crate) fn test_start(
     args: &[Value],
     heap: &Heap,
 ) -> Result<Result<Value, Raised>, NoMemory>
-    ensures { IfOk result (λ answer. plain_outcome answer (plain_heap heap.now) ≡ starts_with_of text.now (plains args.now) (plain_heap heap.now)) }
+    ensures { Answers result heap.now
+        (starts_with_of text.now (plains args.now) (plain_heap heap.now)) }
 {
     match only(args) {
         Some(front) => starts_with(alloc, text, front, heap),
@@ -33,7 +35,8 @@ fn starts_with(
     front: &Value,
     _heap: &Heap,
 ) -> Result<Result<Value, Raised>, NoMemory>
-    ensures { IfOk result (λ answer. plain_outcome answer (plain_heap _heap.now) ≡ starts_with text.now (plain front.now) (plain_heap _heap.now)) }
+    ensures { Answers result _heap.now
+        (starts_with text.now (plain front.now) (plain_heap _heap.now)) }
 {
     match front {
         Value::Str(front) => {
@@ -51,7 +54,8 @@ pub(crate) fn join_list(
     args: &[Value],
     heap: &Heap,
 ) -> Result<Result<Value, Raised>, NoMemory>
-    ensures { IfOk result (λ answer. plain_outcome answer (plain_heap heap.now) ≡ join_of between.now (plains args.now) (plain_heap heap.now)) }
+    ensures { Answers result heap.now
+        (join_of between.now (plains args.now) (plain_heap heap.now)) }
 {
     match only(args) {
         Some(list) => join(alloc, between, list, heap),
@@ -65,7 +69,7 @@ fn join(
     list: &Value,
     heap: &Heap,
 ) -> Result<Result<Value, Raised>, NoMemory>
-    ensures { IfOk result (λ answer. plain_outcome answer (plain_heap heap.now) ≡ join between.now (plain list.now) (plain_heap heap.now)) }
+    ensures { Answers result heap.now (join between.now (plain list.now) (plain_heap heap.now)) }
 {
     match list {
         Value::List(addr) => join_items(alloc, between, heap.items(*addr), heap),
@@ -80,7 +84,8 @@ fn join_items(
     items: &[Value],
     _heap: &Heap,
 ) -> Result<Result<Value, Raised>, NoMemory>
-    ensures { IfOk result (λ answer. plain_outcome answer (plain_heap _heap.now) ≡ join_items between.now (plains items.now) (plain_heap _heap.now)) }
+    ensures { Answers result _heap.now
+        (join_items between.now (plains items.now) (plain_heap _heap.now)) }
 {
     match joined_texts(alloc, between, items)? {
         Ok(text) => Ok(Ok(Value::Str(text))),
@@ -103,7 +108,7 @@ fn joined_texts(
         return Ok(Ok(Text::new(alloc)));
     }
     let first = copy_text(alloc, &items[0])?;
-    if !fit_behind(first.len(), between.len(), &items[1..]) {
+    if !fit_after(first.len(), between.len(), &items[1..]) {
         return Ok(Err(Cause::TooManyItems));
     }
     Ok(Ok(with_rest(alloc, first, between, &items[1..])?))
@@ -144,9 +149,10 @@ fn text_len(value: &Value) -> usize
     }
 }
 
-/// Whether the texts, each with so many characters before it, fit behind others.
-fn fit_behind(start: usize, between: usize, items: &[Value]) -> bool
-    ensures { result ≡ nat_le (start + each_length between (map characters_in (plains items.now))) most_items }
+/// Whether the texts, each with so many characters before it, fit after others.
+fn fit_after(start: usize, between: usize, items: &[Value]) -> bool
+    ensures { result
+        ≡ nat_le (start + each_length between (map characters_in (plains items.now))) most_items }
 {
     if start > MOST_ITEMS {
         return false;
@@ -168,7 +174,8 @@ fn fit_behind(start: usize, between: usize, items: &[Value]) -> bool
 
 #[tactic(auto, using(crate::proofs::Lists::text_on))]
 fn with_rest(alloc: Global, first: Text, between: &Text, items: &[Value]) -> Result<Text, NoMemory>
-    ensures { IfOk result (λ text. text ≡ first ++ each_after between.now (map characters_in (plains items.now))) }
+    ensures { IfOk result (λ text.
+        text ≡ first ++ each_after between.now (map characters_in (plains items.now))) }
 {
     let mut text = first;
     for item in items {
@@ -186,8 +193,9 @@ pub(crate) fn split(
     args: &[Value],
     heap: &mut Heap,
 ) -> Result<Result<Value, Raised>, NoMemory>
-    ensures answer { IfOk result (λ answer. plain_outcome answer (plain_heap heap.new) ≡ split_of text.now (plains args.now) (plain_heap heap.old)) }
-    ensures raised { IfOk result (λ answer. OnErr answer (plain_heap heap.new ≡ plain_heap heap.old)) }
+    ensures answer { Answers result heap.new
+        (split_of text.now (plains args.now) (plain_heap heap.old)) }
+    ensures raised { RaiseKeeps result heap.old heap.new }
     ensures err { OnErr result (plain_heap heap.new ≡ plain_heap heap.old) }
 {
     match only(args) {
@@ -210,8 +218,9 @@ fn split_at(
     separator: &Value,
     heap: &mut Heap,
 ) -> Result<Result<Value, Raised>, NoMemory>
-    ensures answer { IfOk result (λ answer. plain_outcome answer (plain_heap heap.new) ≡ split_at text.now (plain separator.now) (plain_heap heap.old)) }
-    ensures raised { IfOk result (λ answer. OnErr answer (plain_heap heap.new ≡ plain_heap heap.old)) }
+    ensures answer { Answers result heap.new
+        (split_at text.now (plain separator.now) (plain_heap heap.old)) }
+    ensures raised { RaiseKeeps result heap.old heap.new }
     ensures err { OnErr result (plain_heap heap.new ≡ plain_heap heap.old) }
 {
     match separator {
@@ -232,8 +241,8 @@ pub(crate) fn new_list(
     items: Vec<Value>,
     heap: &mut Heap,
 ) -> Result<Result<Value, Raised>, NoMemory>
-    ensures answer { IfOk result (λ answer. plain_outcome answer (plain_heap heap.new) ≡ new_list (plains items.items) (plain_heap heap.old)) }
-    ensures raised { IfOk result (λ answer. OnErr answer (plain_heap heap.new ≡ plain_heap heap.old)) }
+    ensures answer { Answers result heap.new (new_list (plains items.items) (plain_heap heap.old)) }
+    ensures raised { RaiseKeeps result heap.old heap.new }
     ensures err { OnErr result (plain_heap heap.new ≡ plain_heap heap.old) }
 {
     if items.len() > MOST_ITEMS {
@@ -251,7 +260,8 @@ fn is_white(c: char) -> bool
 
 #[tactic(auto, using(crate::proofs::Splitting::put_nothing, crate::proofs::Splitting::white_closes, crate::proofs::Splitting::white_skips, crate::proofs::Splitting::white_goes_on, crate::proofs::Splitting::white_ends, crate::proofs::Splitting::white_ended))]
 fn nonempty_parts(alloc: Global, characters: &[char]) -> Result<Vec<Value>, NoMemory>
-    ensures { IfOk result (λ parts. plains parts.items ≡ texts (nonempty (white_parts characters.now))) }
+    ensures { IfOk result (λ parts.
+        plains parts.items ≡ texts (nonempty (white_parts characters.now))) }
 {
     let mut parts = Vec::new(alloc);
     let mut part = Text::new(alloc);
@@ -272,14 +282,15 @@ fn nonempty_parts(alloc: Global, characters: &[char]) -> Result<Vec<Value>, NoMe
 /// The parts of a text between each place of a separator, the leftmost place first.
 fn parts_between(alloc: Global, separator: &str, text: &str) -> Result<Vec<Value>, NoMemory>
     requires { chars separator.now ≢ [] }
-    ensures { IfOk result (λ parts. plains parts.items ≡ texts (parts_between (chars separator.now) 0 (chars text.now))) }
+    ensures { IfOk result (λ parts.
+        plains parts.items ≡ texts (parts_between (chars separator.now) 0 (chars text.now))) }
 {
     let mut parts = Vec::new(alloc);
     let mut rest = text;
-    while let Some((part, behind)) = rest.split_once(separator) {
+    while let Some((part, after)) = rest.split_once(separator) {
         let part = Text::from_str(alloc, part)?;
         parts.push(Value::Str(part))?;
-        rest = behind;
+        rest = after;
     }
     let last = Text::from_str(alloc, rest)?;
     parts.push(Value::Str(last))?;

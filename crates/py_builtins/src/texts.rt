@@ -19,7 +19,8 @@ const MOST_LEVELS: u32 = 200;
 
 /// The text that `str` gives.
 pub fn str_of(alloc: Global, value: &Value, heap: &Heap) -> Result<Result<Text, Raised>, NoMemory>
-    ensures { IfOk result (λ answer. plain_answer answer ≡ str_text (plain value.now) (plain_heap heap.now)) }
+    ensures { IfOk result (λ answer.
+        plain_answer answer ≡ str_text (plain value.now) (plain_heap heap.now)) }
 {
     let mut out = Writer::new(alloc);
     let written = text(alloc, MOST_LEVELS, value, heap, &mut out);
@@ -28,7 +29,8 @@ pub fn str_of(alloc: Global, value: &Value, heap: &Heap) -> Result<Result<Text, 
 
 /// The text that `repr` gives: the value as a display writes it.
 pub fn repr_of(alloc: Global, value: &Value, heap: &Heap) -> Result<Result<Text, Raised>, NoMemory>
-    ensures { IfOk result (λ answer. plain_answer answer ≡ repr_text (plain value.now) (plain_heap heap.now)) }
+    ensures { IfOk result (λ answer.
+        plain_answer answer ≡ repr_text (plain value.now) (plain_heap heap.now)) }
 {
     let mut out = Writer::new(alloc);
     let written = display_alone(alloc, MOST_LEVELS, value, heap, &mut out);
@@ -44,7 +46,8 @@ fn text(
     heap: &Heap,
     out: &mut Writer,
 ) -> Result<(), Stop>
-    ensures { IsWritten result out.old.text out.new.text (text_within levels (plain_heap heap.now) (plain value.now)) }
+    ensures { IsWritten result out.old.text out.new.text
+        (text_within levels (plain_heap heap.now) (plain value.now)) }
 {
     if levels == 0 {
         return Err(Stop::Raises(Cause::TooDeep));
@@ -89,7 +92,8 @@ fn display_alone(
     heap: &Heap,
     out: &mut Writer,
 ) -> Result<(), Stop>
-    ensures { IsWritten result out.old.text out.new.text (display_within levels (plain_heap heap.now) [] (plain value.now)) }
+    ensures { IsWritten result out.old.text out.new.text
+        (display_within levels (plain_heap heap.now) [] (plain value.now)) }
 {
     let mut inside = Vec::new(alloc);
     display(levels, value, heap, &mut inside, out)
@@ -101,7 +105,8 @@ fn answer(
     written: Result<(), Stop>,
     out: Writer,
 ) -> Result<Result<Text, Raised>, NoMemory>
-    ensures { (w : Writing) → IsWritten written [] out.text w → IfOk result (λ answer. plain_answer answer ≡ in_words raised_by (answer_of w)) }
+    ensures { (w : Writing) → IsWritten written [] out.text w
+        → IfOk result (λ answer. plain_answer answer ≡ in_words raised_by (answer_of w)) }
 {
     match written {
         Ok(()) => Ok(Ok(out.into_text())),

@@ -36,7 +36,7 @@ forked takes exits = record { needs = takes; takes = takes; exits = exits; raise
 abbrev pub risky_fork : ℕ → List Exit → Footprint
 risky_fork takes exits = record { needs = takes; takes = takes; exits = exits; raises = true }
 
--- the four places behind a way out
+-- the four places after a way out
 abbrev pub ways : ℕ → List Exit
 ways p = exit (4 + p) 0 ∷ exit (1 + p) 0 ∷ exit (2 + p) 0 ∷ exit (3 + p) 1 ∷ []
 

@@ -37,7 +37,7 @@ abbrev pub held : Option (Option PlainValue) → Option PlainValue
 held None = None
 held (Some v) = v
 
--- the values of the parameters, and unset slots behind them
+-- the values of the parameters, and unset slots after them
 abbrev pub by_slots : List Module → Locals (List (Option PlainValue))
 by_slots ms = record {
   fresh = λ code vs. map Some vs ++ replicate (length (locals_in (unit_at ms code)) - length vs) None;

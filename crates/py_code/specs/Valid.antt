@@ -111,10 +111,10 @@ pub record FitsAt (u : Code) (units : ℕ) (depths : List ℕ) (p depth : ℕ) (
   pub leads : LeadAll u depths p (depth - (footprint p i).takes) (footprint p i).exits
   pub lands : LandsIf (footprint p i).raises u depths p (depth - (footprint p i).takes)
 
--- an entry of the handler table: its range lies inside, and its target behind that, where one operand more than its depth stands
+-- an entry of the handler table: its range lies inside, and its target after that, where one operand more than its depth stands
 pub record IsHandler (u : Code) (depths : List ℕ) (h : Handler) : Type 0 where
   pub inside : h.to ≤ length u.instrs
-  pub behind : h.to ≤ h.target
+  pub after : h.to ≤ h.target
   pub stands : slice_get depths h.target ≡ Some (suc h.depth)
 
 abbrev pub IsWithin : Handler → Handler → Type 0

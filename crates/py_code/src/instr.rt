@@ -52,7 +52,7 @@ pub enum Instr {
     // Values.
     /// The text of the top operand in place of it.
     Text,
-    /// A text with another behind it, in place of both.
+    /// A text with another after it, in place of both.
     Extend,
     /// A tuple of so many operands.
     Tuple(u32),
@@ -68,7 +68,7 @@ pub enum Instr {
     Compare(Question),
     Index,
     Slice(Bounds),
-    /// The name behind a dot, of the top operand.
+    /// The name after a dot, of the top operand.
     Attribute(u32),
     /// `object[index] = value`, of value, object and index.
     StoreIndex,
@@ -110,7 +110,7 @@ pub enum Instr {
     Function(u32),
     /// A function whose defaults stand in the list on top.
     FunctionWith(u32),
-    /// Runs the body of a module that isn't begun. A value stands on top behind it, which means nothing.
+    /// Runs the body of a module that isn't begun. A value stands on top after it, which means nothing.
     Import(u32),
     /// The module of a name.
     Module(u32),

@@ -17,7 +17,7 @@ pub enum Constant {
 pub struct Handler {
     /// The first place of the range, from 0.
     pub from: u32,
-    /// The place behind the range.
+    /// The place after the range.
     pub to: u32,
     pub target: u32,
     pub depth: u32,

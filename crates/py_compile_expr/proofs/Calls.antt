@@ -7,7 +7,7 @@ use Rattle.py_compile_expr.specs.Callees.{callee_code}
 use Rattle.py_compile_expr.specs.Cells.{method, plain, Guard, Cell, put}
 use Rattle.py_compile_expr.specs.Expressions.{count, expr_size, expr_code, each_size, each_code}
 
--- the values behind what is called, and the call
+-- the values after what is called, and the call
 abbrev args_code : Option Guard → ℕ → Exprs → List Cell
 args_code g p es = each_code g p es ++ put g (plain (Call (count es))) []
 

@@ -279,7 +279,7 @@ module _ (cs : List Module) (ms : List LoadedModule) (matches : Matches cs ms) (
 
   -- ---- expressions
 
-  -- behind values, a handler finds what it found
+  -- after values, a handler finds what it found
   pub over_values : (g : Option Guard) (end : ℕ) (vs : List PlainValue) (st : List Operand) → Fits g end (length st) → (x : PlainRaised) (t : State) (j : ℕ) → thrown cs w g (pushed vs st) x t j ≡ thrown cs w g st x t j
   over_values g end [] st f x t j = refl
   over_values g end (v ∷ vs) st f x t j =
@@ -293,13 +293,13 @@ module _ (cs : List Module) (ms : List LoadedModule) (matches : Matches cs ms) (
   Runs e = (g : Option Guard) (p : ℕ) → HasAt u p (expr_code g p e) → (st : List Operand) → Fits g (p + expr_size e) (length st) → (s : State) (n : ℕ) → n < k
       → from cs w p st s n ≡ after cs w on_top g (p + expr_size e) st (eval c pl e s n)
 
-  -- a jump behind an expression
+  -- a jump after an expression
   goto_after : (g : Option Guard) (m end : ℕ) (st : List Operand) (r : Res (Ans PlainValue)) → StandsAt u m (cell g (plain (Goto end))) → m < end → after cs w on_top g m st r ≡ after cs w on_top g end st r
   goto_after g m end st (done (Ok v) s n) at lt = led cs w u is m end (Goto end) (of_value v ∷ st) (of_value v ∷ st) s s n at.instr lt refl
   goto_after g m end st (done (Err x) s n) at lt = refl
   goto_after g m end st (cut s) at lt = refl
 
-  -- behind a value, the first or the second of two computations, by its truth
+  -- after a value, the first or the second of two computations, by its truth
   not_runs : (v : PlainValue) (g : Option Guard) (p : ℕ) (st : List Operand) (s : State) (n : ℕ) → StandsAt u p (cell g (plain Not))
       → from cs w p (of_value v ∷ st) s n ≡ after cs w on_top g (p + 1) st (branch v (gives (bool_value false)) (gives (bool_value true)) s n)
   unfolding give
@@ -470,7 +470,7 @@ module _ (cs : List Module) (ms : List LoadedModule) (matches : Matches cs ms) (
   EachRuns es = (g : Option Guard) (p : ℕ) → HasAt u p (each_code g p es) → (st : List Operand) → Fits g (p + each_size es) (length st) → (s : State) (n : ℕ) → n < k
       → from cs w p st s n ≡ after cs w pushed g (p + each_size es) st (eval_each c pl es s n)
 
-  -- the values of a call behind what is called, and the call
+  -- the values of a call after what is called, and the call
   arguments_run_on : (es : Exprs) → EachRuns es → (f : Callee) (g : Option Guard) (p end : ℕ) (st : List Operand) → Fits g (p + each_size es + 1) (length st)
       → HasAt u p (each_code g p es ++ put_cell g (plain (Call (count es))) []) → (s : State) (n : ℕ) → n < k → p + each_size es + 1 ≡ end
       → from cs w p (operand_of f ∷ st) s n ≡ after cs w on_top g end st (value (eval_each c pl es) (λ vs. call_of c ms f vs) s n)

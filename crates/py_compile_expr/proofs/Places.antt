@@ -12,7 +12,7 @@ pub has_back : (u : Code) (p : ℕ) (xs ys : List Cell) → HasAt u p (xs ++ ys)
 has_back u p [] ys h = subst (λ q. HasAt u q ys) (omega arith) h
 has_back u p (x ∷ xs) ys h = subst (λ q. HasAt u q ys) (omega arith) (has_back u (p + 1) xs ys h.1)
 
--- behind a part of so many instructions
+-- after a part of so many instructions
 pub has_behind : (u : Code) (p n : ℕ) (xs ys : List Cell) → length xs ≡ n → HasAt u p (xs ++ ys) → HasAt u (p + n) ys
 has_behind u p n xs ys e h = subst (λ q. HasAt u q ys) (ap (λ k. p + k) e) (has_back u p xs ys h)
 

@@ -14,7 +14,7 @@ abbrev pub pushed : List PlainValue → List Operand → List Operand
 pushed [] st = st
 pushed (v ∷ vs) st = pushed vs (of_value v ∷ st)
 
--- so many operands with the others behind them
+-- so many operands with the others after them
 pub take_pushed : (vs : List PlainValue) (m : ℕ) (ys : List Operand) → take (length vs + m) (pushed vs ys) ≡ reverse (map of_value vs) ++ take m ys
 take_pushed [] m ys = ap (λ n. take n ys) (omega arith)
 take_pushed (v ∷ vs) m ys =

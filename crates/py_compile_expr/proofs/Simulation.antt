@@ -1,5 +1,5 @@
 -- Instructions of a machine beside computations of the meaning, in one frame.
---     runs_on                        one computation behind another
+--     runs_on                        one computation after another
 --     led, threw                     an instruction that goes on, and one that throws
 --     answered, asks, works          an instruction that answers
 use Rattle.std.proofs.Common.{◌≡◌, ℕ, suc, ◌+◌, ◌-◌, ◌<◌, ◌≤◌, List, [], ◌∷◌, length, drop, Option, Some, None, Bool, true, refl, ap, ◌∙◌, arith}
@@ -69,7 +69,7 @@ module _ (cs : List Module) (w : Spot) where
       let count : suc (length st) - g.depth ≡ suc (length st - g.depth) = omega arith in
       ap (λ k. from cs w g.target (of_way (by_raise e true) ∷ drop k (x ∷ st)) (add (throw_item e.kind) s) n) count
 
-  -- one computation behind another: the first leaves something on some operands, and the second goes on there
+  -- one computation after another: the first leaves something on some operands, and the second goes on there
   pub runs_on : {A B : Type 0} (f : A → List Operand → List Operand) (h : B → List Operand → List Operand) (Q : A → Type 0) (g : Option Guard) (mid end : ℕ) (ys st : List Operand)
       (m : M (Ans A)) (k : A → M (Ans B)) (first : End) (s : State) (n : ℕ) → first ≡ after cs w f g mid ys (m s n) → IsAtMost n (m s n) → Holds Q (m s n)
       → ((e : PlainRaised) (t : State) (j : ℕ) → thrown cs w g ys e t j ≡ thrown cs w g st e t j)

@@ -8,7 +8,7 @@ use Rattle.py_compile_expr.specs.Expressions.{expr_size, each_size, pairs_size, 
 use Rattle.py_compile_expr.specs.Patterns.{Site, behind, pattern_size, items_size, one_size, names_size, pattern_code, items_code, one_code, names_code}
 use Rattle.py_compile_expr.specs.Targets.{target_size, targets_size, all_size, target_code, targets_code, all_code}
 
--- one behind the other
+-- one after the other
 pub both : (xs ys : List Cell) (m n : ℕ) → length xs ≡ m → length ys ≡ n → length (xs ++ ys) ≡ m + n
 both xs ys m n e f = let long = length-append xs ys in omega arith
 

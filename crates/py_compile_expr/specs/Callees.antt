@@ -1,4 +1,4 @@
--- What is called: a method by the name behind a dot, or else the value of an expression (Python Language Reference, 6.3.4, "Calls").
+-- What is called: a method by the name after a dot, or else the value of an expression (Python Language Reference, 6.3.4, "Calls").
 use Rattle.std.specs.Prelude.{ℕ, List, [], ◌++◌, Option}
 use Rattle.py_syntax.specs.Tree.{Expr, name, int, str, fstr, none, bool, tuple, list, dict, paren, not', and, or, unary, binary, compare, cond, call, index, slice, attr}
 use Rattle.py_compile_expr.specs.Cells.{method, Guard, Cell, put}

@@ -144,7 +144,7 @@ abbrev mutual
   opt_code g p absent = []
   opt_code g p (present e) = expr_code g p e
 
-  -- each piece behind the text on top
+  -- each piece after the text on top
   pub fragments_code : Option Guard → ℕ → Fragments → List Cell
   fragments_code g p no_fragments = []
   fragments_code g p (plain_piece x rest) = put g (constant (StrConstant x)) (put g (plain Extend) (fragments_code g (p + 2) rest))

@@ -1,4 +1,4 @@
--- The code of patterns, which take the value on top (Python Language Reference, 8.6.4, "Patterns"). Behind a match the values of the
+-- The code of patterns, which take the value on top (Python Language Reference, 8.6.4, "Patterns"). After a match the values of the
 -- captured names stand below what still waits to be matched, the first lowest.
 --     captures                        how many names a pattern captures
 --     pattern_size, pattern_code      patterns
@@ -64,7 +64,7 @@ abbrev mutual
   one_size (patterns q (patterns r rs)) = 1 + pattern_size q + 2 + one_size (patterns r rs)
 
 -- Where a pattern stands: the handler, how many values wait below its value, and where a failed match goes on, with how many
--- operands less, behind the value itself.
+-- operands less, after the value itself.
 pub record Site : Type 0 where
   pub guard : Option Guard
   pub waiting : ℕ

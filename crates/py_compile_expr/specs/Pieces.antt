@@ -1,5 +1,5 @@
 -- Pieces of the code of expressions and patterns.
---     chars_code                 characters behind the text on top
+--     chars_code                 characters after the text on top
 --     link_instr                 the instruction of a comparison in a chain
 --     alternative_size, choice_code and the like        alternatives of a pattern
 use Rattle.std.specs.Prelude.{ℕ, ◌+◌, ◌==◌, false, if◌then◌else◌, List, [], ◌++◌, Option}

@@ -103,9 +103,10 @@ impl Builder {
         &self.cells
     }
 
-    /// Adds an instruction at a place, with the handler that holds there. Answers the place behind it.
+    /// Adds an instruction at a place, with the handler that holds there. Answers the place after it.
     pub fn put(&mut self, guard: Option<Guard>, at: u32, op: Op) -> Result<u32, NoMemory>
-        ensures cells { OnOk result (self.new ≡ self.old ++ put (plain_guard guard) (plain_op op) []) }
+        ensures cells { OnOk result (self.new
+            ≡ self.old ++ put (plain_guard guard) (plain_op op) []) }
         ensures place { IfOk result (λ n. n ≡ at + 1) }
     {
         let behind = sum(at, 1)?;
@@ -114,7 +115,7 @@ impl Builder {
     }
 }
 
-/// A place so many behind another one. A unit has room for no more places than a `u32` counts.
+/// A place so many after another one. A unit has room for no more places than a `u32` counts.
 pub fn sum(at: u32, more: u32) -> Result<u32, NoMemory>
     ensures { IfOk result (λ n. n ≡ at + more) }
 {

@@ -58,7 +58,8 @@ pub fn expr_size(e: &Expr) -> Result<u32, NoMemory>
 
 #[cycle(sizes)]
 fn bound_size(e: &Option<Box<Expr>>) -> Result<u32, NoMemory>
-    ensures { IfOk result (λ n. n ≡ opt_size (opt_of (option_map (λ b. plain_expr b.value) e.now))) }
+    ensures { IfOk result (λ n.
+        n ≡ opt_size (opt_of (option_map (λ b. plain_expr b.value) e.now))) }
 {
     match e {
         None => Ok(0),

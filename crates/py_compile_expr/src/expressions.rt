@@ -15,10 +15,11 @@ use py_code::{Constant, Instr};
 use py_syntax::{Expr, FormatPart, Fragment, Link, Pair};
 use py_value::NoMemory;
 
-/// Adds the code of an expression at a place, with the handler that holds there. Answers the place behind it.
+/// Adds the code of an expression at a place, with the handler that holds there. Answers the place after it.
 #[cycle(expressions)]
 pub fn put_expr(out: &mut Builder, guard: Option<Guard>, at: u32, e: &Expr) -> Result<u32, NoMemory>
-    ensures cells { OnOk result (out.new ≡ out.old ++ expr_code (plain_guard guard) at (plain_expr e.now)) }
+    ensures cells { OnOk result (out.new
+        ≡ out.old ++ expr_code (plain_guard guard) at (plain_expr e.now)) }
     ensures place { IfOk result (λ n. n ≡ at + expr_size (plain_expr e.now)) }
 {
     match e {
@@ -123,7 +124,7 @@ pub fn put_expr(out: &mut Builder, guard: Option<Guard>, at: u32, e: &Expr) -> R
     }
 }
 
-/// The place behind one instruction and a part of this size.
+/// The place after one instruction and a part of this size.
 pub fn over(at: u32, size: u32) -> Result<u32, NoMemory>
     ensures { IfOk result (λ n. n ≡ at + 1 + size) }
 {
@@ -131,7 +132,7 @@ pub fn over(at: u32, size: u32) -> Result<u32, NoMemory>
     sum(next, size)
 }
 
-/// What is called: a method by the name behind a dot, or else the value of an expression.
+/// What is called: a method by the name after a dot, or else the value of an expression.
 #[cycle(expressions)]
 fn put_callee(
     out: &mut Builder,
@@ -139,7 +140,8 @@ fn put_callee(
     at: u32,
     callee: &Expr,
 ) -> Result<u32, NoMemory>
-    ensures cells { OnOk result (out.new ≡ out.old ++ callee_code (plain_guard guard) at (plain_expr callee.now)) }
+    ensures cells { OnOk result (out.new
+        ≡ out.old ++ callee_code (plain_guard guard) at (plain_expr callee.now)) }
     ensures place { IfOk result (λ n. n ≡ at + expr_size (plain_expr callee.now)) }
 {
     match callee {
@@ -191,7 +193,8 @@ pub fn put_each(
     at: u32,
     items: &[Expr],
 ) -> Result<u32, NoMemory>
-    ensures cells { OnOk result (out.new ≡ out.old ++ each_code (plain_guard guard) at (plain_exprs items.now)) }
+    ensures cells { OnOk result (out.new
+        ≡ out.old ++ each_code (plain_guard guard) at (plain_exprs items.now)) }
     ensures place { IfOk result (λ n. n ≡ at + each_size (plain_exprs items.now)) }
 {
     let mut to = at;
@@ -208,7 +211,8 @@ fn put_pairs(
     at: u32,
     items: &[Pair],
 ) -> Result<u32, NoMemory>
-    ensures cells { OnOk result (out.new ≡ out.old ++ pairs_code (plain_guard guard) at (plain_pairs items.now)) }
+    ensures cells { OnOk result (out.new
+        ≡ out.old ++ pairs_code (plain_guard guard) at (plain_pairs items.now)) }
     ensures place { IfOk result (λ n. n ≡ at + pairs_size (plain_pairs items.now)) }
 {
     let mut to = at;
@@ -229,7 +233,8 @@ fn put_links(
     end: u32,
     items: &[Link],
 ) -> Result<u32, NoMemory>
-    ensures cells { OnOk result (out.new ≡ out.old ++ links_code (plain_guard guard) at end (plain_links items.now)) }
+    ensures cells { OnOk result (out.new
+        ≡ out.old ++ links_code (plain_guard guard) at end (plain_links items.now)) }
     ensures place { IfOk result (λ n. n ≡ at + links_size (plain_links items.now)) }
 {
     if items.is_empty() {
@@ -253,8 +258,11 @@ fn put_bound(
     at: u32,
     e: &Option<Box<Expr>>,
 ) -> Result<u32, NoMemory>
-    ensures cells { OnOk result (out.new ≡ out.old ++ opt_code (plain_guard guard) at (opt_of (option_map (λ b. plain_expr b.value) e.now))) }
-    ensures place { IfOk result (λ n. n ≡ at + opt_size (opt_of (option_map (λ b. plain_expr b.value) e.now))) }
+    ensures cells { OnOk result (out.new
+        ≡ out.old
+        ++ opt_code (plain_guard guard) at (opt_of (option_map (λ b. plain_expr b.value) e.now))) }
+    ensures place { IfOk result (λ n.
+        n ≡ at + opt_size (opt_of (option_map (λ b. plain_expr b.value) e.now))) }
 {
     match e {
         None => Ok(at),
@@ -262,7 +270,7 @@ fn put_bound(
     }
 }
 
-/// Neighbouring strings, each behind the text on top.
+/// Neighbouring strings, each after the text on top.
 #[cycle(expressions)]
 fn put_fragments(
     out: &mut Builder,
@@ -270,7 +278,8 @@ fn put_fragments(
     at: u32,
     items: &[Fragment],
 ) -> Result<u32, NoMemory>
-    ensures cells { OnOk result (out.new ≡ out.old ++ fragments_code (plain_guard guard) at (plain_fragments items.now)) }
+    ensures cells { OnOk result (out.new
+        ≡ out.old ++ fragments_code (plain_guard guard) at (plain_fragments items.now)) }
     ensures place { IfOk result (λ n. n ≡ at + fragments_size (plain_fragments items.now)) }
 {
     let mut to = at;
@@ -283,7 +292,7 @@ fn put_fragments(
     Ok(to)
 }
 
-/// The parts of an f-string, each behind the text on top.
+/// The parts of an f-string, each after the text on top.
 #[cycle(expressions)]
 fn put_parts(
     out: &mut Builder,
@@ -291,7 +300,8 @@ fn put_parts(
     at: u32,
     items: &[FormatPart],
 ) -> Result<u32, NoMemory>
-    ensures cells { OnOk result (out.new ≡ out.old ++ parts_code (plain_guard guard) at (plain_parts items.now)) }
+    ensures cells { OnOk result (out.new
+        ≡ out.old ++ parts_code (plain_guard guard) at (plain_parts items.now)) }
     ensures place { IfOk result (λ n. n ≡ at + parts_size (plain_parts items.now)) }
 {
     let mut to = at;

@@ -58,7 +58,7 @@ pub(crate) fn link_instr(question: Question, end: u32, left: usize) -> Instr
     }
 }
 
-/// A sign as the operator behind 0.
+/// A sign as the operator after 0.
 pub(crate) fn sign_operator(sign: Sign) -> BinOp
     ensures { result ≡ sign_operator sign }
 {
@@ -70,7 +70,9 @@ pub(crate) fn sign_operator(sign: Sign) -> BinOp
 
 /// Which bounds of a slice there are.
 pub(crate) fn bounds(from: &Option<Box<Expr>>, to: &Option<Box<Expr>>) -> Bounds
-    ensures { result ≡ bounds (opt_of (option_map (λ b. plain_expr b.value) from.now)) (opt_of (option_map (λ b. plain_expr b.value) to.now)) }
+    ensures { result
+        ≡ bounds (opt_of (option_map (λ b. plain_expr b.value) from.now))
+        (opt_of (option_map (λ b. plain_expr b.value) to.now)) }
 {
     match (from.is_some(), to.is_some()) {
         (false, false) => Bounds::Neither,

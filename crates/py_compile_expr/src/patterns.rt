@@ -60,7 +60,8 @@ fn constant_question(value: &Literal) -> Question
 /// Adds the names that a pattern captures.
 #[cycle(captured)]
 pub fn push_captured(names: &mut Vec<Text>, pattern: &Pattern) -> Result<(), NoMemory>
-    ensures { OnOk result (names.new.items ≡ names.old.items ++ captured (plain_pattern pattern.now)) }
+    ensures { OnOk result (names.new.items
+        ≡ names.old.items ++ captured (plain_pattern pattern.now)) }
 {
     match pattern {
         Pattern::Literal { minus: _, value: _ } => Ok(()),
@@ -83,7 +84,8 @@ pub fn push_captured(names: &mut Vec<Text>, pattern: &Pattern) -> Result<(), NoM
 
 #[cycle(captured)]
 fn push_captured_each(names: &mut Vec<Text>, items: &[Pattern]) -> Result<(), NoMemory>
-    ensures { OnOk result (names.new.items ≡ names.old.items ++ captured_each (plain_patterns items.now)) }
+    ensures { OnOk result (names.new.items
+        ≡ names.old.items ++ captured_each (plain_patterns items.now)) }
 {
     for item in items {
         push_captured(names, item)?;
@@ -194,7 +196,8 @@ pub fn put_pattern(
     at: u32,
     pattern: &Pattern,
 ) -> Result<u32, NoMemory>
-    ensures cells { OnOk result (out.new ≡ out.old ++ pattern_code (plain_site site) at (plain_pattern pattern.now)) }
+    ensures cells { OnOk result (out.new
+        ≡ out.old ++ pattern_code (plain_site site) at (plain_pattern pattern.now)) }
     ensures place { IfOk result (λ n. n ≡ at + pattern_size (plain_pattern pattern.now)) }
 {
     match pattern {
@@ -233,7 +236,8 @@ fn put_literal(
     minus: bool,
     value: &Literal,
 ) -> Result<u32, NoMemory>
-    ensures cells { OnOk result (out.new ≡ out.old ++ pattern_code (plain_site site) at (literal minus (plain_constant value.now))) }
+    ensures cells { OnOk result (out.new
+        ≡ out.old ++ pattern_code (plain_site site) at (literal minus (plain_constant value.now))) }
     ensures place { IfOk result (λ n. n ≡ at + 3) }
 {
     let question = constant_question(value);
@@ -254,7 +258,8 @@ fn put_member(
     of: &Text,
     name: &Text,
 ) -> Result<u32, NoMemory>
-    ensures cells { OnOk result (out.new ≡ out.old ++ pattern_code (plain_site site) at (member of.now name.now)) }
+    ensures cells { OnOk result (out.new
+        ≡ out.old ++ pattern_code (plain_site site) at (member of.now name.now)) }
     ensures place { IfOk result (λ n. n ≡ at + 4) }
 {
     let of = of.copy()?;
@@ -272,7 +277,8 @@ fn put_member(
 /// The items of a sequence. The first one is on top, and the others wait.
 #[cycle(patterns)]
 fn put_items(out: &mut Builder, site: Site, at: u32, items: &[Pattern]) -> Result<u32, NoMemory>
-    ensures cells { OnOk result (out.new ≡ out.old ++ items_code (plain_site site) at (plain_patterns items.now)) }
+    ensures cells { OnOk result (out.new
+        ≡ out.old ++ items_code (plain_site site) at (plain_patterns items.now)) }
     ensures place { IfOk result (λ n. n ≡ at + items_size (plain_patterns items.now)) }
 {
     let mut to = at;
@@ -297,7 +303,8 @@ fn put_one(
     end: u32,
     items: &[Pattern],
 ) -> Result<u32, NoMemory>
-    ensures cells { OnOk result (out.new ≡ out.old ++ one_code (plain_site site) at end (plain_patterns items.now)) }
+    ensures cells { OnOk result (out.new
+        ≡ out.old ++ one_code (plain_site site) at end (plain_patterns items.now)) }
     ensures place { IfOk result (λ n. n ≡ at + one_size (plain_patterns items.now)) }
 {
     if items.is_empty() {
@@ -320,8 +327,10 @@ fn put_choice(
     left: usize,
     pattern: &Pattern,
 ) -> Result<u32, NoMemory>
-    ensures cells { OnOk result (out.new ≡ out.old ++ choice_code (plain_site site) at end left (plain_pattern pattern.now)) }
-    ensures place { IfOk result (λ n. n ≡ at + alternative_size (pattern_size (plain_pattern pattern.now)) left) }
+    ensures cells { OnOk result (out.new
+        ≡ out.old ++ choice_code (plain_site site) at end left (plain_pattern pattern.now)) }
+    ensures place { IfOk result (λ n.
+        n ≡ at + alternative_size (pattern_size (plain_pattern pattern.now)) left) }
 {
     if left == 1 {
         put_pattern(out, site, at, pattern)
@@ -353,7 +362,8 @@ fn put_alternative(
     end: u32,
     pattern: &Pattern,
 ) -> Result<u32, NoMemory>
-    ensures cells { OnOk result (out.new ≡ out.old ++ alternative_code (plain_site site) at end (plain_pattern pattern.now)) }
+    ensures cells { OnOk result (out.new
+        ≡ out.old ++ alternative_code (plain_site site) at end (plain_pattern pattern.now)) }
     ensures place { IfOk result (λ n. n ≡ at + pattern_size (plain_pattern pattern.now) + 3) }
 {
     let waiting = sum(1, site.waiting)?;

@@ -93,7 +93,8 @@ pub fn put_target(
     at: u32,
     e: &Expr,
 ) -> Result<u32, NoMemory>
-    ensures cells { OnOk result (out.new ≡ out.old ++ target_code (plain_guard guard) at (plain_expr e.now)) }
+    ensures cells { OnOk result (out.new
+        ≡ out.old ++ target_code (plain_guard guard) at (plain_expr e.now)) }
     ensures place { IfOk result (λ n. n ≡ at + target_size (plain_expr e.now)) }
 {
     match e {
@@ -154,7 +155,8 @@ fn put_targets(
     at: u32,
     items: &[Expr],
 ) -> Result<u32, NoMemory>
-    ensures cells { OnOk result (out.new ≡ out.old ++ targets_code (plain_guard guard) at (plain_exprs items.now)) }
+    ensures cells { OnOk result (out.new
+        ≡ out.old ++ targets_code (plain_guard guard) at (plain_exprs items.now)) }
     ensures place { IfOk result (λ n. n ≡ at + targets_size (plain_exprs items.now)) }
 {
     let mut to = at;
@@ -171,7 +173,8 @@ pub fn put_all(
     at: u32,
     items: &[Expr],
 ) -> Result<u32, NoMemory>
-    ensures cells { OnOk result (out.new ≡ out.old ++ all_code (plain_guard guard) at (plain_exprs items.now)) }
+    ensures cells { OnOk result (out.new
+        ≡ out.old ++ all_code (plain_guard guard) at (plain_exprs items.now)) }
     ensures place { IfOk result (λ n. n ≡ at + all_size (plain_exprs items.now)) }
 {
     let mut to = at;

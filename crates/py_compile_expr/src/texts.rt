@@ -30,7 +30,9 @@ pub(crate) fn put_string(
     at: u32,
     pieces: &[Text],
 ) -> Result<u32, NoMemory>
-    ensures cells { OnOk result (out.new ≡ out.old ++ put (plain_guard guard) (constant (StrConstant (run_together pieces.now))) []) }
+    ensures cells { OnOk result (out.new
+        ≡ out.old
+        ++ put (plain_guard guard) (constant (StrConstant (run_together pieces.now))) []) }
     ensures place { IfOk result (λ n. n ≡ at + 1) }
 {
     let text = run_together(out.alloc(), pieces)?;
@@ -39,14 +41,15 @@ pub(crate) fn put_string(
 
 /// The empty text, which the pieces of an f-string are added to.
 pub(crate) fn put_text(out: &mut Builder, guard: Option<Guard>, at: u32) -> Result<u32, NoMemory>
-    ensures cells { OnOk result (out.new ≡ out.old ++ put (plain_guard guard) (constant (StrConstant [])) []) }
+    ensures cells { OnOk result (out.new
+        ≡ out.old ++ put (plain_guard guard) (constant (StrConstant [])) []) }
     ensures place { IfOk result (λ n. n ≡ at + 1) }
 {
     let text = Text::new(out.alloc());
     out.put(guard, at, Op::Constant(Constant::Str(text)))
 }
 
-/// Characters behind the text on top.
+/// Characters after the text on top.
 pub(crate) fn put_chars(
     out: &mut Builder,
     guard: Option<Guard>,

@@ -37,7 +37,7 @@ bare-length : (ts : List PToken) → length (bare ts) ≡ length ts
 bare-length [] = refl
 bare-length (t ∷ ts) = ap suc (bare-length ts)
 
--- some token stands behind those of the statements: that of the end
+-- some token stands after those of the statements: that of the end
 long-enough : (m : Stmts) (ts : List PToken) → bare ts ≡ kinds_marked (module_tokens m) → length (stmts_tokens m []) < length ts
 long-enough m ts same =
     let all = sym (bare-length ts) ∙ ap length same ∙ marked-length (module_tokens m) in

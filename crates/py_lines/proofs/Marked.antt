@@ -34,16 +34,16 @@ module _ (P : ℕ → Type 0) where
   headed-case : (c : Pattern) (g : Option Expr) (s : Suite) (rest : Cases) → Headed s → All P (cases_marks rest) → All P (cases_marks (case c g s rest))
   headed-case c g (suite f l i b) rest h k = All-cons P f (stmts_marks b ++ cases_marks rest) h.0 (All-append P (stmts_marks b) (cases_marks rest) h.1 k)
 
-  all-behind : (xs ys : List ℕ) → All P (xs ++ ys) → All P ys
-  all-behind [] ys h = h
-  all-behind (x ∷ xs) ys h = all-behind xs ys (All-tail P x (xs ++ ys) h)
+  all-after : (xs ys : List ℕ) → All P (xs ++ ys) → All P ys
+  all-after [] ys h = h
+  all-after (x ∷ xs) ys h = all-after xs ys (All-tail P x (xs ++ ys) h)
 
   pub body-marks : (b : Stmts) → All P (stmts_marks b) → All P (body_marks b)
   body-marks no_stmts h = h
   body-marks (stmt f l k e rest) h = go (is_docstring k)
     where
       go : (b : Bool) → All P (if b then stmts_marks rest else kind_marks f k ++ stmts_marks rest)
-      go true = all-behind (kind_marks f k) (stmts_marks rest) h
+      go true = all-after (kind_marks f k) (stmts_marks rest) h
       go false = h
 
   headed-function : (s : Suite) → Headed s → All P (function_marks s)
@@ -75,7 +75,7 @@ case_head c g = Name case_name ∷ pattern_tokens c (guard_tokens g)
 abbrev match_front : Expr → List Kind
 match_front e = tokens e (Sign mark.Colon ∷ Newline ∷ Indent ∷ [])
 
--- so many tokens, and those behind a header and its suite
+-- so many tokens, and those after a header and its suite
 abbrev so_far : List Kind → Suite → ℕ
 so_far head s = length head + length (suite_tokens s [])
 
@@ -85,7 +85,7 @@ mutual
   stmts-lined (stmt f l k e ss) ts n keeps on lt =
       let here = kind-length k (put (end_tokens e) (stmts_tokens ss [])) in
       let ends = put-length (end_tokens e) (stmts_tokens ss []) in
-      let behind_it = length-drop (length (kind_tokens k []) + length (end_tokens e)) ts in
+      let after_it = length-drop (length (kind_tokens k []) + length (end_tokens e)) ts in
       All-append IsLine (kind_marks f k) (stmts_marks ss)
       (kind-lined k f ts n.0 keeps.0 keeps.2 on (omega arith))
       (stmts-lined ss (drop (length (kind_tokens k []) + length (end_tokens e)) ts) n.1 keeps.3 (drop-lines (length (kind_tokens k []) + length (end_tokens e)) ts on) (omega arith))
@@ -109,7 +109,7 @@ mutual
   arms-lined (arm t b rest) ts n keeps on lt =
       let head = put-length (test_head word.Elif t) (suite_tokens b (elif_tokens rest [])) in
       let body = suite-length b (elif_tokens rest []) in
-      let behind_it = length-drop (so_far (test_head word.Elif t) b) ts in
+      let after_it = length-drop (so_far (test_head word.Elif t) b) ts in
       headed-arm IsLine t b rest (suite-lined b (test_head word.Elif t) ts n.1 keeps.0 on (omega arith))
       (arms-lined rest (drop (so_far (test_head word.Elif t) b) ts) n.2 keeps.1 (drop-lines (so_far (test_head word.Elif t) b) ts on) (omega arith))
 
@@ -118,7 +118,7 @@ mutual
   clauses-lined (clause e x b rest) ts n keeps on lt =
       let head = put-length (except_tokens e x) (suite_tokens b (clause_tokens rest [])) in
       let body = suite-length b (clause_tokens rest []) in
-      let behind_it = length-drop (so_far (except_tokens e x) b) ts in
+      let after_it = length-drop (so_far (except_tokens e x) b) ts in
       headed-clause IsLine e x b rest (suite-lined b (except_tokens e x) ts n.1 keeps.0 on (omega arith))
       (clauses-lined rest (drop (so_far (except_tokens e x) b) ts) n.2 keeps.1 (drop-lines (so_far (except_tokens e x) b) ts on) (omega arith))
 
@@ -127,7 +127,7 @@ mutual
   cases-lined (case c g b rest) ts n keeps on lt =
       let head = put-length (case_head c g) (suite_tokens b (case_tokens rest [])) in
       let body = suite-length b (case_tokens rest []) in
-      let behind_it = length-drop (so_far (case_head c g) b) ts in
+      let after_it = length-drop (so_far (case_head c g) b) ts in
       headed-case IsLine c g b rest (suite-lined b (case_head c g) ts n.2 keeps.0 on (omega arith))
       (cases-lined rest (drop (so_far (case_head c g) b) ts) n.3 keeps.1 (drop-lines (so_far (case_head c g) b) ts on) (omega arith))
 
@@ -140,22 +140,22 @@ mutual
       let others = arms-length arms (else_tokens o []) in
       let rest = drop (so_far (test_head word.If t) b) ts in
       let rest_on = drop-lines (so_far (test_head word.If t) b) ts on in
-      let behind_it = length-drop (so_far (test_head word.If t) b) ts in
-      let behind_arms = length-drop (length (elif_tokens arms [])) rest in
+      let after_it = length-drop (so_far (test_head word.If t) b) ts in
+      let after_arms = length-drop (length (elif_tokens arms [])) rest in
       All-append IsLine (arms_marks (arm t b arms)) (opt_marks o)
       (headed-arm IsLine t b arms (suite-lined b (test_head word.If t) ts n.0.1 keeps.0 on (omega arith)) (arms-lined arms rest n.0.2 keeps.1 rest_on (omega arith)))
       (opt-lined o word.Else (drop (length (elif_tokens arms [])) rest) n.1 keeps.2 (drop-lines (length (elif_tokens arms [])) rest rest_on) (omega arith))
   kind-lined (while t b o) f ts n is keeps on lt =
       let head = put-length (test_head word.While t) (suite_tokens b (else_tokens o [])) in
       let body = suite-length b (else_tokens o []) in
-      let behind_it = length-drop (so_far (test_head word.While t) b) ts in
+      let after_it = length-drop (so_far (test_head word.While t) b) ts in
       All-cons IsLine f (suite_marks b ++ opt_marks o) (line-of f ts is on (omega arith))
       (All-append IsLine (suite_marks b) (opt_marks o) (headed-suite IsLine b (suite-lined b (test_head word.While t) ts n.1 keeps.0 on (omega arith)))
       (opt-lined o word.Else (drop (so_far (test_head word.While t) b) ts) n.2 keeps.1 (drop-lines (so_far (test_head word.While t) b) ts on) (omega arith)))
   kind-lined (for t e b o) f ts n is keeps on lt =
       let head = put-length (for_head t e) (suite_tokens b (else_tokens o [])) in
       let body = suite-length b (else_tokens o []) in
-      let behind_it = length-drop (so_far (for_head t e) b) ts in
+      let after_it = length-drop (so_far (for_head t e) b) ts in
       All-cons IsLine f (suite_marks b ++ opt_marks o) (line-of f ts is on (omega arith))
       (All-append IsLine (suite_marks b) (opt_marks o) (headed-suite IsLine b (suite-lined b (for_head t e) ts n.3 keeps.0 on (omega arith)))
       (opt-lined o word.Else (drop (so_far (for_head t e) b) ts) n.4 keeps.1 (drop-lines (so_far (for_head t e) b) ts on) (omega arith)))
@@ -167,9 +167,9 @@ mutual
       let last = finally-length fin [] in
       let rest = drop (so_far (word_head word.Try) b) ts in
       let rest_on = drop-lines (so_far (word_head word.Try) b) ts on in
-      let behind_it = length-drop (so_far (word_head word.Try) b) ts in
-      let behind_clauses = length-drop (length (clause_tokens cs [])) rest in
-      let behind_else = length-drop (length (clause_tokens cs (else_tokens o []))) rest in
+      let after_it = length-drop (so_far (word_head word.Try) b) ts in
+      let after_clauses = length-drop (length (clause_tokens cs [])) rest in
+      let after_else = length-drop (length (clause_tokens cs (else_tokens o []))) rest in
       All-cons IsLine f (suite_marks b ++ (clauses_marks cs ++ (opt_marks o ++ opt_marks fin))) (line-of f ts is on (omega arith))
       (All-append IsLine (suite_marks b) (clauses_marks cs ++ (opt_marks o ++ opt_marks fin)) (headed-suite IsLine b (suite-lined b (word_head word.Try) ts n.1 keeps.0 on (omega arith)))
       (All-append IsLine (clauses_marks cs) (opt_marks o ++ opt_marks fin) (clauses-lined cs rest n.2 keeps.1 rest_on (omega arith))
@@ -183,7 +183,7 @@ mutual
   kind-lined (match e l (case c g b cs)) f ts n is keeps on lt =
       let head = put-length (match_front e) (case_tokens (case c g b cs) (put (Dedent ∷ []) [])) in
       let body = cases-length (case c g b cs) (put (Dedent ∷ []) []) in
-      let behind_it = length-drop (length (Name match_name ∷ match_front e)) ts in
+      let after_it = length-drop (length (Name match_name ∷ match_front e)) ts in
       All-cons IsLine f (cases_marks (case c g b cs)) (line-of f ts is on (omega arith))
       (cases-lined (case c g b cs) (drop (length (Name match_name ∷ match_front e)) ts) n.1 keeps.1 (drop-lines (length (Name match_name ∷ match_front e)) ts on) (omega arith))
   kind-lined _ f ts n is keeps on lt = All-cons IsLine f [] (line-of f ts is on (omega arith)) (All-nil IsLine)

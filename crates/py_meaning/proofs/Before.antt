@@ -28,17 +28,17 @@ return-grows false es = begins-itself es
 mutual
   unfolding told told_of
 
-  -- what is told comes behind what came before
-  pub told-behind : (es : List Event) (is : Items) → IsPrefix es (told es is)
-  told-behind es no_items = begins-itself es
-  told-behind es (more is (mark l)) = begins-trans (told-behind es is) (line-grows (is_kept l is) l (told es is))
-  told-behind es (more is (again l)) = begins-trans (told-behind es is) (begins-append (told es is) _)
-  told-behind es (more is (throw kind)) = begins-trans (told-behind es is) (begins-append (told es is) _)
-  told-behind es (more is (sub a)) = begins-trans (told-behind es is) (told-behind-of (told es is) a)
+  -- what is told comes after what came before
+  pub told-after : (es : List Event) (is : Items) → IsPrefix es (told es is)
+  told-after es no_items = begins-itself es
+  told-after es (more is (mark l)) = begins-trans (told-after es is) (line-grows (is_kept l is) l (told es is))
+  told-after es (more is (again l)) = begins-trans (told-after es is) (begins-append (told es is) _)
+  told-after es (more is (throw kind)) = begins-trans (told-after es is) (begins-append (told es is) _)
+  told-after es (more is (sub a)) = begins-trans (told-after es is) (told-after-of (told es is) a)
 
-  told-behind-of : (es : List Event) (a : Activation) → IsPrefix es (told_of es a)
-  told-behind-of es (activation code is ended) =
-      begins-trans (begins-append es _) (begins-trans (told-behind (es ++ Call code ∷ []) is) (return-grows ended _))
+  told-after-of : (es : List Event) (a : Activation) → IsPrefix es (told_of es a)
+  told-after-of es (activation code is ended) =
+      begins-trans (begins-append es _) (begins-trans (told-after (es ++ Call code ∷ []) is) (return-grows ended _))
 
 -- an item tells more
 pub told-more : (es : List Event) (is : Items) (i : Item) → IsPrefix (told es is) (told es (more is i))
@@ -46,7 +46,7 @@ unfolding told
 told-more es is (mark l) = line-grows (is_kept l is) l (told es is)
 told-more es is (again l) = begins-append (told es is) _
 told-more es is (throw kind) = begins-append (told es is) _
-told-more es is (sub a) = told-behind-of (told es is) a
+told-more es is (sub a) = told-after-of (told es is) a
 
 -- what was written and told up to a state is the beginning of that up to another
 abbrev pub Before : State → State → Type 0

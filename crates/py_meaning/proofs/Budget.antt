@@ -61,7 +61,7 @@ right_at_most s n m (cut u) (done b t k) h = h.0
 right_at_most s n m (done a u l) (cut t) h = tt
 right_at_most s n m (cut u) (cut t) h = tt
 
--- and ends behind where it began
+-- and ends after where it began
 pub before_left : {A : Type 0} (s : State) (n m : ℕ) (r q : Res A) → Same s n m r q → Before s (end_of r)
 before_left s n m (done a u l) (done b t k) h = h.4
 before_left s n m (done a u l) (cut t) h = before-trans s t u h.2 h.3

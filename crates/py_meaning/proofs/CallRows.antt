@@ -1,4 +1,4 @@
--- Calls of functions of a module, computed: what each gives on the world behind the module's body.
+-- Calls of functions of a module, computed: what each gives on the world after the module's body.
 use Rattle.std.proofs.Common.{◌≡◌, ℕ, false, List, [], ◌∷◌, Some, None, pos, refl}
 use Prim.Native.String.{String}
 use Rattle.std.specs.Prelude.{codes}
@@ -55,7 +55,7 @@ three_tests_source =
 abbrev three_tests : Program
 three_tests = record { files = alone three_tests_source; script = codes "a.py"; name = codes "__tests__" }
 
--- a test, called on the world behind the import of its module
+-- a test, called on the world after the import of its module
 abbrev tested : String → List PlainValue → ℕ → Answer
 tested x vs budget =
     called (loaded three_tests) (meaning three_tests (codes "__tests__" ∷ []) [] 100).world [] (record { number = 0; name = codes x; values = vs }) budget
@@ -124,9 +124,9 @@ cut_import = record {
 }
 
 -- leaves the module not begun, so that a call on that world begins it
-called_behind_a_cut : (called (loaded cut_import) (meaning cut_import (codes "p.py" ∷ []) [] 3).world [] (record { number = 0; name = codes "f"; values = [] }) 100).returned ≡ gave (int_value (pos 7))
+called_after_a_cut : (called (loaded cut_import) (meaning cut_import (codes "p.py" ∷ []) [] 3).world [] (record { number = 0; name = codes "f"; values = [] }) 100).returned ≡ gave (int_value (pos 7))
 unfolding runs
-called_behind_a_cut = refl
+called_after_a_cut = refl
 
 -- and the script too, where its own step is missing
 nothing_begun : (meaning cut_import (codes "p.py" ∷ []) [] 0).world.begun ≡ []

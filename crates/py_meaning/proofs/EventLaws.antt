@@ -1,4 +1,4 @@
--- What items tell comes behind what was told before.
+-- What items tell comes after what was told before.
 use Rattle.std.proofs.Common.{◌≡◌, ℕ, suc, Bool, true, false, List, [], ◌∷◌, ◌++◌, Ok, Err, refl, sym, ap, ◌∙◌, subst, append_assoc}
 use Rattle.std.proofs.lemmas.List.{append-nil}
 use Rattle.cov_event.specs.declared.event.Event.{Event}
@@ -16,32 +16,32 @@ use Rattle.py_meaning.specs.Modules.{LoadedModule}
 use Rattle.py_meaning.specs.Program.{run_modules, meaning, run_of, first_world, at_rest}
 use Rattle.py_meaning.specs.Statements.{Out}
 
-line-behind : (kept : Bool) (l : ℕ) (es fs gs : List Event) → fs ≡ es ++ gs → line_unless kept l fs ≡ es ++ line_unless kept l gs
-line-behind true l es fs gs e = e
-line-behind false l es fs gs e = ap (λ w. w ++ Line l ∷ []) e ∙ append_assoc es gs (Line l ∷ [])
+line-after : (kept : Bool) (l : ℕ) (es fs gs : List Event) → fs ≡ es ++ gs → line_unless kept l fs ≡ es ++ line_unless kept l gs
+line-after true l es fs gs e = e
+line-after false l es fs gs e = ap (λ w. w ++ Line l ∷ []) e ∙ append_assoc es gs (Line l ∷ [])
 
-return-behind : (ended : Bool) (es fs gs : List Event) → fs ≡ es ++ gs → return_if ended fs ≡ es ++ return_if ended gs
-return-behind true es fs gs e = ap (λ w. w ++ Return ∷ []) e ∙ append_assoc es gs (Return ∷ [])
-return-behind false es fs gs e = e
+return-after : (ended : Bool) (es fs gs : List Event) → fs ≡ es ++ gs → return_if ended fs ≡ es ++ return_if ended gs
+return-after true es fs gs e = ap (λ w. w ++ Return ∷ []) e ∙ append_assoc es gs (Return ∷ [])
+return-after false es fs gs e = e
 
 mutual
   unfolding told told_of
 
-  pub told-behind_it : (es : List Event) (is : Items) → told es is ≡ es ++ told [] is
-  told-behind_it es no_items = sym (append-nil es)
-  told-behind_it es (more is (mark l)) = line-behind (is_kept l is) l es (told es is) (told [] is) (told-behind_it es is)
-  told-behind_it es (more is (again l)) = line-behind false l es (told es is) (told [] is) (told-behind_it es is)
-  told-behind_it es (more is (throw kind)) = ap (λ w. w ++ Throw kind ∷ []) (told-behind_it es is) ∙ append_assoc es (told [] is) (Throw kind ∷ [])
-  told-behind_it es (more is (sub a)) =
-      ap (λ w. told_of w a) (told-behind_it es is) ∙ told-behind_of (es ++ told [] is) a ∙ append_assoc es (told [] is) (told_of [] a)
-      ∙ ap (λ w. es ++ w) (sym (told-behind_of (told [] is) a))
+  pub told-after_it : (es : List Event) (is : Items) → told es is ≡ es ++ told [] is
+  told-after_it es no_items = sym (append-nil es)
+  told-after_it es (more is (mark l)) = line-after (is_kept l is) l es (told es is) (told [] is) (told-after_it es is)
+  told-after_it es (more is (again l)) = line-after false l es (told es is) (told [] is) (told-after_it es is)
+  told-after_it es (more is (throw kind)) = ap (λ w. w ++ Throw kind ∷ []) (told-after_it es is) ∙ append_assoc es (told [] is) (Throw kind ∷ [])
+  told-after_it es (more is (sub a)) =
+      ap (λ w. told_of w a) (told-after_it es is) ∙ told-after_of (es ++ told [] is) a ∙ append_assoc es (told [] is) (told_of [] a)
+      ∙ ap (λ w. es ++ w) (sym (told-after_of (told [] is) a))
 
-  pub told-behind_of : (es : List Event) (a : Activation) → told_of es a ≡ es ++ told_of [] a
-  told-behind_of es (activation code is ended) =
-      return-behind ended es (told (es ++ Call code ∷ []) is) (told (Call code ∷ []) is)
-      (told-behind_it (es ++ Call code ∷ []) is ∙ append_assoc es (Call code ∷ []) (told [] is) ∙ ap (λ w. es ++ w) (sym (told-behind_it (Call code ∷ []) is)))
+  pub told-after_of : (es : List Event) (a : Activation) → told_of es a ≡ es ++ told_of [] a
+  told-after_of es (activation code is ended) =
+      return-after ended es (told (es ++ Call code ∷ []) is) (told (Call code ∷ []) is)
+      (told-after_it (es ++ Call code ∷ []) is ∙ append_assoc es (Call code ∷ []) (told [] is) ∙ ap (λ w. es ++ w) (sym (told-after_it (Call code ∷ []) is)))
 
--- one item, the script's, behind what the end of the body does to the world
+-- one item, the script's, after what the end of the body does to the world
 one_item : (budget : ℕ) (s : State) (a : Ans PlainValue) (now : Setting) (out : List ℕ) (is : Items) (n : ℕ)
     → TellsItsItems (run_of budget (ended 0 a (record { now = now; out = out; items = more no_items (sub (activation script_code is true)) }) n)).items
 unfolding told give write
@@ -64,4 +64,4 @@ unfolding meaning
 run_tells program words input budget = modules_tell (loaded program) words input budget
 
 pub events_law : EventsLaw
-events_law = record { behind = told-behind_it; behind_of = told-behind_of; of_run = run_tells; of_modules = modules_tell }
+events_law = record { after = told-after_it; after_of = told-after_of; of_run = run_tells; of_modules = modules_tell }

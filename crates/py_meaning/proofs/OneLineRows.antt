@@ -20,7 +20,7 @@ use Rattle.py_meaning.specs.Statements.{Out, normal, exec}
 use Rattle.py_value.specs.Plain.{PlainValue}
 use Rattle.py_meaning.proofs.Sources.{runs, var, num, items, program, alone, Shown, row}
 
--- `x=1`, and `;x=1` so many times behind it
+-- `x=1`, and `;x=1` so many times after it
 abbrev assigned : Bool → Stmts → Stmts
 assigned joined rest = T.stmt 1 1 (T.assign (items ((var "x") ∷ [])) (num 1)) (record { semicolon = joined; newline = Rattle.std.specs.Prelude.not joined }) rest
 
@@ -28,7 +28,7 @@ unfoldable many : ℕ → Stmts
 many zero = assigned false T.no_stmts
 many (suc n) = assigned true (many n)
 
--- items behind so many marks more
+-- items after so many marks more
 unfoldable marks : ℕ → Items → Items
 marks zero is = is
 marks (suc n) is = marks n (more is (mark 1))
@@ -38,7 +38,7 @@ unfoldable more_steps : ℕ → ℕ → ℕ
 more_steps zero k = k
 more_steps (suc n) k = suc (more_steps n k)
 
--- the state behind the first assignment
+-- the state after the first assignment
 abbrev set : Items → State
 set is = record {
   now = record {
@@ -116,7 +116,7 @@ begins c m (suc n) k = runs_on c (module_of m) n k (more no_items (mark 1))
 abbrev all_items : ℕ → Items
 all_items n = marks n (more no_items (mark 1))
 
--- behind the body, which ended normally
+-- after the body, which ended normally
 abbrev at_end : ℕ → Res Out → Res (Ans PlainValue)
 at_end n r = bind (left_by script_code (put (begun (module_of n) 0) (first (module_of n))) r) (ended 0)
 

@@ -22,17 +22,17 @@ use Rattle.py_meaning.proofs.Budget.{Same, Agrees, left_at_most, agree-stop, agr
 use Rattle.py_meaning.proofs.ExpressionLaws.{AgreeCalls, agree-enter, agree-call_value}
 use Rattle.py_meaning.proofs.StatementLaws.{Alike, agree-exec}
 
--- a state behind the frame of a body that stands in another one
-abbrev behind : CodeId → State → State → Bool → Setting → State
-behind code s t ended now = record { now = now; out = t.out; items = more s.items (sub (activation code t.items ended)) }
+-- a state after the frame of a body that stands in another one
+abbrev after : CodeId → State → State → Bool → Setting → State
+after code s t ended now = record { now = now; out = t.out; items = more s.items (sub (activation code t.items ended)) }
 
--- what the body tells is told behind what the caller told and the call
-before-behind : (code : CodeId) (s t : State) (ended : Bool) (now inside : Setting) → Before (record { now = inside; out = s.out; items = no_items }) t → Before s (behind code s t ended now)
-before-behind code s t ended now inside h = (h.0, λ es. told-more es s.items (sub (activation code t.items ended)))
+-- what the body tells is told after what the caller told and the call
+before-after : (code : CodeId) (s t : State) (ended : Bool) (now inside : Setting) → Before (record { now = inside; out = s.out; items = no_items }) t → Before s (after code s t ended now)
+before-after code s t ended now inside h = (h.0, λ es. told-more es s.items (sub (activation code t.items ended)))
 
-behind-grows : (code : CodeId) (s t u : State) (ended : Bool) (now later : Setting) → Before t u → Before (behind code s t false now) (behind code s u ended later)
+after-grows : (code : CodeId) (s t u : State) (ended : Bool) (now later : Setting) → Before t u → Before (after code s t false now) (after code s u ended later)
 unfolding told told_of
-behind-grows code s t u ended now later h = (h.0, λ es. begins-trans (h.1 (told es s.items ++ Call code ∷ [])) (return-grows ended (told (told es s.items ++ Call code ∷ []) u.items)))
+after-grows code s t u ended now later h = (h.0, λ es. begins-trans (h.1 (told es s.items ++ Call code ∷ [])) (return-grows ended (told (told es s.items ++ Call code ∷ []) u.items)))
 
 agree-framed : (k : ℕ) (code : CodeId) (names : Names) (f g : M Out) → Agrees k f g → Agrees k (framed code names f) (framed code names g)
 unfolding Agrees framed
@@ -44,15 +44,15 @@ agree-framed k code names f g h s n m hn hm = go (f _ n) (g _ m) (h _ n m hn hm)
     go : (r q : Res Out) → Same first n m r q → Same s n m (left_by code s r) (left_by code s q)
     go (done o t l) (done o' t' l') e =
         let inside : Before first t' = rw (← e.1) e.4 in
-        rw (e.0, e.1) (refl, refl, e.2, e.3, before-behind code s t' true (back_in s.now t'.now) (in_frame names s.now) inside)
-    go (done o t l) (cut t') e = (e.0, e.1, before-behind code s t' false t'.now (in_frame names s.now) e.2, behind-grows code s t' t true t'.now (back_in s.now t.now) e.3)
-    go (cut t) (done o' t' l') e = (e.0, e.1, before-behind code s t false t.now (in_frame names s.now) e.2, behind-grows code s t t' true t.now (back_in s.now t'.now) e.3)
+        rw (e.0, e.1) (refl, refl, e.2, e.3, before-after code s t' true (back_in s.now t'.now) (in_frame names s.now) inside)
+    go (done o t l) (cut t') e = (e.0, e.1, before-after code s t' false t'.now (in_frame names s.now) e.2, after-grows code s t' t true t'.now (back_in s.now t.now) e.3)
+    go (cut t) (done o' t' l') e = (e.0, e.1, before-after code s t false t.now (in_frame names s.now) e.2, after-grows code s t t' true t.now (back_in s.now t'.now) e.3)
     go (cut t) (cut t') e = (
-      before-behind code s t false t.now (in_frame names s.now) e.0,
-      before-behind code s t' false t'.now (in_frame names s.now) e.1,
-      λ le. behind-grows code s t t' false t.now t'.now (e.2 le),
-      λ le. behind-grows code s t' t false t'.now t.now (e.3 le),
-      λ q. ap (λ (w : State). behind code s w false w.now) (e.4 q),
+      before-after code s t false t.now (in_frame names s.now) e.0,
+      before-after code s t' false t'.now (in_frame names s.now) e.1,
+      λ le. after-grows code s t t' false t.now t'.now (e.2 le),
+      λ le. after-grows code s t' t false t'.now t.now (e.3 le),
+      λ q. ap (λ (w : State). after code s w false w.now) (e.4 q),
     )
 
 agree-ended : (k m : ℕ) (a : Ans PlainValue) → Agrees k (ended m a) (ended m a)

@@ -20,7 +20,7 @@ mutual
     no_items : Items
     more : (before : Items) (newest : Item) → Items
 
--- the line that is kept behind these items. Lines are from 1 on, and 0 stands for the outside of the body
+-- the line that is kept after these items. Lines are from 1 on, and 0 stands for the outside of the body
 abbrev pub kept_line : Items → ℕ
 kept_line no_items = 0
 kept_line (more before (mark l)) = l

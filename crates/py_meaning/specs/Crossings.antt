@@ -8,7 +8,7 @@ use Rattle.py_meaning.specs.Activations.{Activation, activation, Items, no_items
 use Rattle.py_meaning.specs.Modules.{LoadedModule, unit_of}
 
 unfoldable mutual
-  -- all activations that were entered, one behind the other, each in front of those that were entered in it
+  -- all activations that were entered, one after the other, each in front of those that were entered in it
   pub activations : Items → List Activation
   activations no_items = []
   activations (more before (mark l)) = activations before

@@ -4,7 +4,7 @@ use Rattle.cov_event.specs.declared.event.Event.{Event}
 use Rattle.cov_event.specs.declared.event.Event.TheVariants.{Call, Line, Throw, Return}
 use Rattle.py_meaning.specs.Activations.{Activation, activation, Items, no_items, more, mark, again, throw, sub, is_kept}
 
--- Events come behind those that came before.
+-- Events come after those that came before.
 abbrev pub line_unless : Bool → ℕ → List Event → List Event
 line_unless true l events = events
 line_unless false l events = events ++ Line l ∷ []

@@ -66,7 +66,7 @@ unfoldable mutual
   eval_pairs c p (pair key e rest) d =
       value (eval c p key) (λ k. value (eval c p e) (λ v. value (work (stored d k v)) (λ u. eval_pairs c p rest d)))
 
-  -- the comparisons behind the operand v; the first false one ends the chain
+  -- the comparisons after the operand v; the first false one ends the chain
   pub eval_links : Calls → Place → Links → PlainValue → M (Ans PlainValue)
   eval_links c p no_links v = gives (bool_value true)
   eval_links c p (link op e rest) v =

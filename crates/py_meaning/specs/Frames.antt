@@ -69,7 +69,7 @@ unfoldable pub in_unit : List LoadedModule → (m u : ℕ) → M (Ans PlainValue
 in_unit ms m zero body = write (begun ms m) (chain body (ended m))
 in_unit ms m (suc k) body = body
 
--- What a call of a unit does, by what the calls inside it do. It takes a step, and what it begins it begins behind that.
+-- What a call of a unit does, by what the calls inside it do. It takes a step, and what it begins it begins after that.
 abbrev pub unit_call : Calls → List LoadedModule → Calls
 unit_call c ms m u vs =
     let code : CodeId = record { «module» = m; unit = u } in

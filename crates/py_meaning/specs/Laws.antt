@@ -97,7 +97,7 @@ abbrev pub SteadyLaw : Type 0
 SteadyLaw = (c : Calls) → AreSteady c → (p : Place) (body : Stmts) → IsSteady (exec c p body)
 
 -- No number that bounds calls inside each other, or turns, cuts a run that has steps left: calls of any depth of at least the
--- steps that are left are as if no depth were asked, and a loop is its next turn with the same loop behind it.
+-- steps that are left are as if no depth were asked, and a loop is its next turn with the same loop after it.
 abbrev pub IsTurning : {T : Type 0} → Loop T → Type 0
 IsTurning {T} l = (i : Item) (before : Option T) (s : State) (n : ℕ) → loop l i before s n ≡ one_turn l i before (λ t. loop l (again l.line) (Some t)) s n
 
@@ -108,7 +108,7 @@ pub record UncutLaw : Type 0 where
   pub of_for : (c : Calls) → AreSteady c → (p : Place) (l : ℕ) (target over : Expr) (body : Stmts) (orelse : OptSuite)
       → IsTurning (for_loop l (eval c p over) (assign_to c p target) (exec c p body) (exec_opt c p orelse))
 
--- The events of a run are those of its items: what they tell comes behind what was told before, and is the same whatever that
+-- The events of a run are those of its items: what they tell comes after what was told before, and is the same whatever that
 -- was. A run of at least one step has one item, the activation of the script's body, and tells what this one tells.
 abbrev pub script_code : CodeId
 script_code = record { «module» = 0; unit = 0 }
@@ -120,7 +120,7 @@ pub record TellsItsItems (items : Items) : Type 0 where
   pub told : events_in items ≡ events_of (activation script_code inside ended)
 
 pub record EventsLaw : Type 0 where
-  pub behind : (events : List Event) (items : Items) → told events items ≡ events ++ events_in items
-  pub behind_of : (events : List Event) (a : Activation) → told_of events a ≡ events ++ events_of a
+  pub after : (events : List Event) (items : Items) → told events items ≡ events ++ events_in items
+  pub after_of : (events : List Event) (a : Activation) → told_of events a ≡ events ++ events_of a
   pub of_run : (program : Program) (words : List Text) (input : List ℕ) (budget : ℕ) → TellsItsItems (meaning program words input (suc budget)).items
   pub of_modules : (ms : List LoadedModule) (words : List Text) (input : List ℕ) (budget : ℕ) → TellsItsItems (run_modules ms words input (suc budget)).items

@@ -97,7 +97,7 @@ abbrev pub on_module : Option LoadedModule → List LoadedModule → (LoadedModu
 on_module None ms f = ms
 on_module (Some m) ms f = f m
 
--- The modules with those that the ones from a number on import, in turn. Behind the script each file is loaded at most once.
+-- The modules with those that the ones from a number on import, in turn. After the script each file is loaded at most once.
 unfoldable pub load_from : ℕ → Files → Text → ℕ → List LoadedModule → List LoadedModule
 load_from zero files folder k ms = ms
 load_from (suc n) files folder k ms =

@@ -51,7 +51,7 @@ using m f = chain m (λ a. on_answer a f)
 abbrev pub simply : {A : Type 0} → M (Ans A) → M Out
 simply m = using m (λ a. give normal)
 
--- goes on behind a statement that ended normally
+-- goes on after a statement that ended normally
 abbrev pub next : Out → M Out → M Out
 next normal m = m
 next breaks m = give breaks
@@ -70,7 +70,7 @@ looped (returns v) m = give (returns v)
 looped (raises e t) m = give (raises e t)
 
 -- A loop: its line, what its header answers, what a turn does, and the `else`. In front of each turn the header answers which turn
--- comes behind the one before, or first; where none comes, the `else` does.
+-- comes after the one before, or first; where none comes, the `else` does.
 pub record Loop (T : Type 0) : Type 0 where
   pub line : ℕ
   pub header : Option T → M (Ans (Option T))
@@ -81,7 +81,7 @@ abbrev pub if_turn : {T : Type 0} → Option T → M Out → (T → M Out) → M
 if_turn None orelse f = orelse
 if_turn (Some t) orelse f = f t
 
--- the turn behind another one, where the header marks the item, and what follows it
+-- the turn after another one, where the header marks the item, and what follows it
 abbrev pub one_turn : {T : Type 0} → Loop T → Item → Option T → (T → M Out) → M Out
 one_turn l i before rest = step i (using (l.header before) (λ found. if_turn found l.orelse (λ t. chain (l.turn t) (λ o. looped o (rest t)))))
 

@@ -208,13 +208,13 @@ fn a_prompt_that_fails_reads_nothing(rt: HostRuntime) {
     assert!(rt; has_left(&mut input, b"abc\nde"));
 }
 
-/// So many bytes `a`, and behind them the others.
-fn long(alloc: Global, count: usize, behind: &[u8]) -> Result<Vec<u8>, NoMemory> {
+/// So many bytes `a`, and after them the others.
+fn long(alloc: Global, count: usize, after: &[u8]) -> Result<Vec<u8>, NoMemory> {
     let mut bytes = Vec::new(alloc);
     for _turn in 0..count {
         bytes.push(b'a')?;
     }
-    bytes.extend_from_slice(behind)?;
+    bytes.extend_from_slice(after)?;
     Ok(bytes)
 }
 

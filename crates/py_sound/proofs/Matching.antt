@@ -1,4 +1,4 @@
--- A pattern that is irrefutable never misses, so that what stands behind its case isn't tried.
+-- A pattern that is irrefutable never misses, so that what stands after its case isn't tried.
 use Rattle.std.proofs.Common.{ℕ, Bool, true, false, not, ◌||◌, IsTrue, [], ◌∷◌, Option, Some, None, Ok, Err, refl, ◌⊎◌, inl, inr, ⊎_elim}
 use Rattle.py_value.specs.Answers.{◌>>=◌}
 use Rattle.py_value.specs.Plain.{PlainValue, PlainRaised}
@@ -61,7 +61,7 @@ unsure : (b : Bool) → (IsTrue b → ⊥) → IsTrue (not b)
 unsure true h = absurd (h refl)
 unsure false h = refl
 
--- what follows a pattern: its case, or the cases behind it where the pattern isn't sure
+-- what follows a pattern: its case, or the cases after it where the pattern isn't sure
 module _ (F : Frame) (pre : Fact) (post : Out → Fact) (taken : Names → M Out) (rest : M Out) where
   found-goes : (b : Bool) (a : Ans Match) → (IsTrue b → Hits a) → ((names : Names) → Goes F pre (taken names) post) → (IsTrue (not b) → Goes F pre rest post) → ((e : PlainRaised) (k : ℕ) (t : Bool) → pre k t → post (raises e true) k true)
       → Goes F pre (on_answer a (λ found. on_match found taken rest)) post

@@ -32,7 +32,7 @@ module _ (F : Frame) where
   abbrev pub At : ℕ → Fact
   At l k t = Mark k (l ∷ [])
 
-  -- A part is left behind one of its last marks, or where it is empty as it was entered. Behind a throw this is asked only where
+  -- A part is left after one of its last marks, or where it is empty as it was entered. After a throw this is asked only where
   -- everything may raise.
   abbrev pub Post : Bool → (Way → List ℕ) → Fact → Out → Fact
   Post empty last pre normal k t = Mark k (last onward) ⊎ (IsTrue empty × pre k t)
@@ -72,12 +72,12 @@ module _ (F : Frame) where
       let q = split4 e f g i r.4 in
       (r.0, r.1, r.2, r.3, q.0, q.1, q.2, q.3)
 
-  -- what follows these marks is entered behind them
+  -- what follows these marks is entered after them
   pub enter-joined : (last first : List ℕ) (pre : Fact) → Joins (joined last first) → ((k : ℕ) (t : Bool) → pre k t → Holds t F.any → Mark k last) → Enter pre first
   enter-joined last first pre j h k t x p ok apart m = let l = h k t p ok in j k x l.up m.up (in-joined k x last first apart l.found m.found)
 
-  pub enter-behind : (l : ℕ) (first : List ℕ) → Joins (joined (l ∷ []) first) → Enter (At l) first
-  enter-behind l first j = enter-joined (l ∷ []) first (At l) j (λ k t p ok. p)
+  pub enter-after : (l : ℕ) (first : List ℕ) → Joins (joined (l ∷ []) first) → Enter (At l) first
+  enter-after l first j = enter-joined (l ∷ []) first (At l) j (λ k t p ok. p)
 
   -- ---- marks, answers and choices
 

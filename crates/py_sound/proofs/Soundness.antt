@@ -17,7 +17,7 @@ use Rattle.py_meaning.specs.Statements.{Out, normal, breaks, continues, returns,
 use Rattle.py_sound.proofs.Members.{in-joined, Mark, left, right, when, and-true, untrue, Lines, lines-head, lines-tail, lines-left, lines-right}
 use Rattle.py_sound.proofs.Tracks.{Fact, AreQuiet, IsQuiet, follows-give, follows-chain, follows-write, follows-if, follows-given, quiet-give, quiet-value, quiet-ask, quiet-branch, quiet-work}
 use Rattle.py_sound.proofs.Quiet.{quiet-eval, quiet-each, quiet-assign_to, quiet-assign_all, quiet-augment, quiet-module_of, quiet-import_each, quiet-take_each}
-use Rattle.py_sound.proofs.Posts.{Frame, Goes, At, Post, Enter, Joins, joins-left, joins-right, split4, split5, split8, enter-joined, enter-behind, marked, throws, uses, uses-answer, branches, widened, raise-at, Own, simple}
+use Rattle.py_sound.proofs.Posts.{Frame, Goes, At, Post, Enter, Joins, joins-left, joins-right, split4, split5, split8, enter-joined, enter-after, marked, throws, uses, uses-answer, branches, widened, raise-at, Own, simple}
 use Rattle.py_sound.proofs.Loops.{last_in_turn, turn_last, loop_last, while-turn, else-goes, HeaderGoes, any-header, constant-header, constant-answers, loop-goes}
 use Rattle.py_sound.proofs.Tries.{try_last, body-ended, handle-goes, raised-mark, has-come, pending-mark, settle-goes}
 use Rattle.py_sound.proofs.Matching.{match-goes}
@@ -149,7 +149,7 @@ module _ (F : Frame) where
           passed = not (is_constant t) && opt_empty o
 
           turn : Goes F (At F l) (exec c p b) (Post F (stmts_empty b) (turn_last F l Body_last) (At F l))
-          turn = widened F (stmts_empty b) (stmts_empty b) Body_last (turn_last F l Body_last) (At F l) (At F l) (exec c p b) (while-turn F l Body_last) (λ k t e q. inr (e, q)) (body (enter-behind F l (stmts_first b) to_body))
+          turn = widened F (stmts_empty b) (stmts_empty b) Body_last (turn_last F l Body_last) (At F l) (At F l) (exec c p b) (while-turn F l Body_last) (λ k t e q. inr (e, q)) (body (enter-after F l (stmts_first b) to_body))
 
           head : (constant : Bool) → is_constant t ≡ constant → HeaderGoes F x (stmts_empty b) Body_last passed Else_last up pre
           head true e = constant-header F x (stmts_empty b) Body_last passed Else_last up pre tt (λ b s n. constant-answers c p t e s n)
@@ -164,7 +164,7 @@ module _ (F : Frame) where
       for-goes target over to_body round to_else enter body orelse =
           loop-goes F x (stmts_empty b) Body_last (opt_empty o) Else_last up pre round
           (any-header F x (stmts_empty b) Body_last (opt_empty o) Else_last up pre (quiet-for_header over)
-          (else-goes F l Body_last (opt_empty o) Else_last pre (opt_empty o) (exec_opt c p o) (λ i. i) (orelse (enter-behind F l (opt_first o) to_else))))
+          (else-goes F l Body_last (opt_empty o) Else_last pre (opt_empty o) (exec_opt c p o) (λ i. i) (orelse (enter-after F l (opt_first o) to_else))))
           turn enter None
         where
           x : Loop Walked
@@ -173,7 +173,7 @@ module _ (F : Frame) where
           turn : (t : Walked) → Goes F (At F l) (using (assign_to c p target t.item) (λ u. exec c p b)) (Post F (stmts_empty b) (turn_last F l Body_last) (At F l))
           turn t =
               uses F (At F l) (assign_to c p target t.item) _ _ (quiet-assign_to F.rule c h p target t.item)
-              (λ u. widened F (stmts_empty b) (stmts_empty b) Body_last (turn_last F l Body_last) (At F l) (At F l) (exec c p b) (while-turn F l Body_last) (λ k t e q. inr (e, q)) (body (enter-behind F l (stmts_first b) to_body)))
+              (λ u. widened F (stmts_empty b) (stmts_empty b) Body_last (turn_last F l Body_last) (At F l) (At F l) (exec c p b) (while-turn F l Body_last) (λ k t e q. inr (e, q)) (body (enter-after F l (stmts_first b) to_body)))
               (λ e k t q. (refl, λ a. left _ (raise-at F k l a q)))
 
   -- ---- clauses
@@ -227,11 +227,11 @@ module _ (F : Frame) (c : Calls) (h : AreQuiet F.rule c) where
         (widened F (stmts_empty b) false (λ w. stmts_last F.any w b) (λ w. arms_last F.any w (arm t (suite f l i b) rest) (last w) empty) (At F f) pre (exec c p b)
         (λ w k q. right (may_raise F.any w f) (right (onward_only w (past f b ++ only (arms_empty rest empty) (f ∷ []))) (left _ q)))
         (λ k t e q. inl (right (may_raise F.any onward f) (left _ (left _ (when e q)))))
-        (sound-exec p b (lines-left (stmts_marks b) (arms_marks rest) (lines-tail lines)) (At F f) j.2 (enter-behind F f (stmts_first b) j.0)))
+        (sound-exec p b (lines-left (stmts_marks b) (arms_marks rest) (lines-tail lines)) (At F f) j.2 (enter-after F f (stmts_first b) j.0)))
         (widened F (arms_empty rest empty) false (λ w. arms_last F.any w rest (last w) empty) (λ w. arms_last F.any w (arm t (suite f l i b) rest) (last w) empty) (At F f) pre (exec_arms c p rest o)
         (λ w k q. right (may_raise F.any w f) (right (onward_only w (past f b ++ only (arms_empty rest empty) (f ∷ []))) (right (stmts_last F.any w b) q)))
         (λ k t e q. inl (right (may_raise F.any onward f) (left _ (right (past f b) (when e q)))))
-        (sound-arms p rest (lines-right (stmts_marks b) (arms_marks rest) (lines-tail lines)) (At F f) o first last empty orelse j.3 (enter-behind F f (arms_first rest first) j.1))))
+        (sound-arms p rest (lines-right (stmts_marks b) (arms_marks rest) (lines-tail lines)) (At F f) o first last empty orelse j.3 (enter-after F f (arms_first rest first) j.1))))
         (λ e k t q. (refl, λ a. left _ (raise-at F k f a q))))
 
     sound-clauses : (p : Place) (cs : Clauses) → Lines (clauses_marks cs) → (pre out : Fact) (S : Way → List ℕ) → ((w : Way) (k : ℕ) → Mark k (clauses_last F.any w cs) → Mark k (S w)) → (has_clause cs ≡ false → (k : ℕ) (t : Bool) → pre k t → IsTrue F.any → Mark k (S raising)) → Joins F (clauses_pairs F.any cs) → Enter F pre (clauses_first cs)
@@ -245,7 +245,7 @@ module _ (F : Frame) (c : Calls) (h : AreQuiet F.rule c) where
         (widened F (stmts_empty b) false (λ w. stmts_last F.any w b) S (At F f) out (exec c (in_clause p e) b)
         (λ w k q. sub w k (right (may_raise F.any w f) (right (onward_only w (past f b)) (left _ q))))
         (λ k t i q. inl (sub onward k (right (may_raise F.any onward f) (left _ (when i q)))))
-        (sound-exec (in_clause p e) b (lines-left (stmts_marks b) (clauses_marks rest) (lines-tail lines)) (At F f) j.2 (enter-behind F f (stmts_first b) j.0))))
+        (sound-exec (in_clause p e) b (lines-left (stmts_marks b) (clauses_marks rest) (lines-tail lines)) (At F f) j.2 (enter-after F f (stmts_first b) j.0))))
         (λ named. sound-clauses p rest (lines-right (stmts_marks b) (clauses_marks rest) (lines-tail lines)) (At F f) out S
         (λ w k q. sub w k (right (may_raise F.any w f) (right (onward_only w (past f b)) (right (stmts_last F.any w b) q))))
         (λ n k t q a. sub raising k (left _ (raise-at F k f a q)))
@@ -265,7 +265,7 @@ module _ (F : Frame) (c : Calls) (h : AreQuiet F.rule c) where
     sound-cases p (case q g (suite f l i b) rest) lines pre joins enter v =
         let j = split4 F (joined (f ∷ []) (stmts_first b)) (joined (only (not (is_sure q g)) (f ∷ [])) (cases_first rest)) (stmts_pairs F.any b) (cases_pairs F.any rest) joins in
         let raise : (e : PlainRaised) (k : ℕ) (t : Bool) → At F f k t → Post F false (λ w. cases_last F.any w (case q g (suite f l i b) rest)) pre (raises e true) k true = λ e k t r. (refl, λ a. left _ (raise-at F k f a r)) in
-        let behind : IsTrue (not (is_sure q g)) → Goes F (At F f) (exec_cases c p rest v) (Post F false (λ w. cases_last F.any w (case q g (suite f l i b) rest)) pre) = λ free.
+        let after : IsTrue (not (is_sure q g)) → Goes F (At F f) (exec_cases c p rest v) (Post F false (λ w. cases_last F.any w (case q g (suite f l i b) rest)) pre) = λ free.
         widened F (not (has_case rest)) false (λ w. cases_last F.any w rest) (λ w. cases_last F.any w (case q g (suite f l i b) rest)) (At F f) pre (exec_cases c p rest v)
         (λ w k r. right (may_raise F.any w f) (right (onward_only w (past f b ++ only (not (is_sure q g) && not (has_case rest)) (f ∷ []))) (right (stmts_last F.any w b) r)))
         (λ k t e r. inl (right (may_raise F.any onward f) (left _ (right (past f b) (when (and-true (not (is_sure q g)) (not (has_case rest)) free e) r)))))
@@ -276,9 +276,9 @@ module _ (F : Frame) (c : Calls) (h : AreQuiet F.rule c) where
         (widened F (stmts_empty b) false (λ w. stmts_last F.any w b) (λ w. cases_last F.any w (case q g (suite f l i b) rest)) (At F f) pre (exec c p b)
         (λ w k r. right (may_raise F.any w f) (right (onward_only w (past f b ++ only (not (is_sure q g) && not (has_case rest)) (f ∷ []))) (left _ r)))
         (λ k t e r. inl (right (may_raise F.any onward f) (left _ (left _ (when e r)))))
-        (sound-exec p b (lines-left (stmts_marks b) (cases_marks rest) (lines-tail lines)) (At F f) j.2 (enter-behind F f (stmts_first b) j.0)))
-        behind raise))
-        behind raise)
+        (sound-exec p b (lines-left (stmts_marks b) (cases_marks rest) (lines-tail lines)) (At F f) j.2 (enter-after F f (stmts_first b) j.0)))
+        after raise))
+        after raise)
 
     sound-kind : (p : Place) (l : ℕ) (k : StmtKind) → Lines (kind_marks l k) → (pre : Fact) → Joins F (kind_pairs F.any l k) → Enter F pre (kind_first l k) → Goes F pre (exec_kind c p l k) (Post F (kind_empty k) (λ w. kind_last F.any w l k) pre)
     sound-kind p l (expr e) lines pre joins enter = simple F pre l (eval c p e) (lines-head lines) enter (quiet-eval F.rule c h p e)
@@ -319,7 +319,7 @@ module _ (F : Frame) (c : Calls) (h : AreQuiet F.rule c) where
         (λ w k q. right (may_raise F.any w l) q) (λ k t e q. absurd (untrue e))
         (follows-chain F.rule F.code (At F l) _ (Post F false came (At F l)) _ _
         (follows-chain F.rule F.code (At F l) (exec c p b) body _ _
-        (sound-exec p b (lines-left (stmts_marks b) (clauses_marks cs ++ (opt_marks o ++ opt_marks fin)) inner) (At F l) j.4 (enter-behind F l (stmts_first b) j.0))
+        (sound-exec p b (lines-left (stmts_marks b) (clauses_marks cs ++ (opt_marks o ++ opt_marks fin)) inner) (At F l) j.4 (enter-after F l (stmts_first b) j.0))
         (handle-goes F l (stmts_empty b) (λ w. stmts_last F.any w b) cs (λ w. clauses_last F.any w cs) (opt_empty o) (λ w. opt_last F.any w o) (At F l) (has_clauses cs) (same-clauses cs) (exec_clauses c p cs) (exec_opt c p o)
         (λ has e t. sound-clauses p cs (lines-left (clauses_marks cs) (opt_marks o ++ opt_marks fin) later) (body (raises e t)) (At F l) came
         (λ w k q. right (past_try w (has_clause cs) (opt_empty o) (stmts_last F.any onward b ++ past l b) (stmts_last F.any w b)) (left (opt_last F.any w o) q))
@@ -335,5 +335,5 @@ module _ (F : Frame) (c : Calls) (h : AreQuiet F.rule c) where
         (λ v. widened F (not (has_case cs)) false (λ w. cases_last F.any w cs) (λ w. kind_last F.any w l (match e header cs)) (At F l) pre (exec_cases c p cs v)
         (λ w k q. right (may_raise F.any w l) (right (onward_only w (only (not (has_case cs)) (l ∷ []))) q))
         (λ k t i q. inl (right (may_raise F.any onward l) (left _ (when i q))))
-        (sound-cases p cs (lines-tail lines) (At F l) (joins-right F (joined (l ∷ []) (cases_first cs)) (cases_pairs F.any cs) joins) (enter-behind F l (cases_first cs) (joins-left F (joined (l ∷ []) (cases_first cs)) (cases_pairs F.any cs) joins)) v))
+        (sound-cases p cs (lines-tail lines) (At F l) (joins-right F (joined (l ∷ []) (cases_first cs)) (cases_pairs F.any cs) joins) (enter-after F l (cases_first cs) (joins-left F (joined (l ∷ []) (cases_first cs)) (cases_pairs F.any cs) joins)) v))
         (λ e k t q. (refl, λ a. left _ (raise-at F k l a q))))

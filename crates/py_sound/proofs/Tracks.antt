@@ -1,4 +1,4 @@
--- What runs leave behind: arcs that are as they should be, and the line and the flag that the next arc begins with.
+-- What runs leave after: arcs that are as they should be, and the line and the flag that the next arc begins with.
 use Rattle.std.proofs.Common.{◌≡◌, ℕ, zero, suc, Bool, true, false, cond, refl, sym, ◌∙◌, subst, List, ◌++◌, Ok, Err}
 use Rattle.cov_event.specs.declared.event.CodeId.{CodeId}
 use Rattle.py_value.specs.declared.exception.ExcKind.{ExcKind}
@@ -29,7 +29,7 @@ abbrev mutual
   IsLinked R (activation c items true) = Linked R c items × R c (arc_to items 0)
   IsLinked R (activation c items false) = Linked R c items
 
--- something about the kept line, and about whether a throw came behind it
+-- something about the kept line, and about whether a throw came after it
 abbrev pub Fact : Type 1
 Fact = ℕ → Bool → Type 0
 

@@ -89,12 +89,12 @@ mutual
       let inner = lines-tail lines in
       let later = lines-right (stmts_marks b) (clauses_marks cs ++ (opt_marks o ++ opt_marks fin)) inner in
       let last = lines-right (clauses_marks cs) (opt_marks o ++ opt_marks fin) later in
-      let behind = clear-right (findings at b) (clauses_findings at cs & (opt_findings at o & opt_findings (in_finally at) fin)) h in
-      let end = clear-right (clauses_findings at cs) (opt_findings at o & opt_findings (in_finally at) fin) behind in
+      let after = clear-right (findings at b) (clauses_findings at cs & (opt_findings at o & opt_findings (in_finally at) fin)) h in
+      let end = clear-right (clauses_findings at cs) (opt_findings at o & opt_findings (in_finally at) fin) after in
       each-append (functions b) (clauses_functions cs ++ (opt_functions o ++ opt_functions fin))
       (functions-fine at b (lines-left (stmts_marks b) (clauses_marks cs ++ (opt_marks o ++ opt_marks fin)) inner) (clear-left (findings at b) (clauses_findings at cs & (opt_findings at o & opt_findings (in_finally at) fin)) h))
       (each-append (clauses_functions cs) (opt_functions o ++ opt_functions fin)
-      (clauses-fine at cs (lines-left (clauses_marks cs) (opt_marks o ++ opt_marks fin) later) (clear-left (clauses_findings at cs) (opt_findings at o & opt_findings (in_finally at) fin) behind))
+      (clauses-fine at cs (lines-left (clauses_marks cs) (opt_marks o ++ opt_marks fin) later) (clear-left (clauses_findings at cs) (opt_findings at o & opt_findings (in_finally at) fin) after))
       (each-append (opt_functions o) (opt_functions fin)
       (opt-fine at o (lines-left (opt_marks o) (opt_marks fin) last) (clear-left (opt_findings at o) (opt_findings (in_finally at) fin) end))
       (opt-fine (in_finally at) fin (lines-right (opt_marks o) (opt_marks fin) last) (clear-right (opt_findings at o) (opt_findings (in_finally at) fin) end))))

@@ -16,7 +16,7 @@ abbrev pub arms_empty : Arms → Bool → Bool
 arms_empty no_arms orelse = orelse
 arms_empty (arm t s rest) orelse = false
 
--- Of the simple statements `global` alone marks nothing. Behind a suite of these alone a run goes on as if it weren't there.
+-- Of the simple statements `global` alone marks nothing. After a suite of these alone a run goes on as if it weren't there.
 unfoldable mutual
   pub stmts_empty : Stmts → Bool
   stmts_empty no_stmts = true

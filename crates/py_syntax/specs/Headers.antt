@@ -45,13 +45,13 @@ ends_in_colon colon [] = false
 ends_in_colon colon (Newline ∷ ks) = colon
 ends_in_colon colon (k ∷ ks) = ends_in_colon (is_colon k) ks
 
--- The tokens behind the name `match` make its logical line a header: one stands there, and the last behind it is a colon.
+-- The tokens after the name `match` make its logical line a header: one stands there, and the last after it is a colon.
 abbrev pub is_header : List Kind → Bool
 is_header [] = false
 is_header (Newline ∷ ks) = false
 is_header (k ∷ ks) = ends_in_colon false ks
 
--- a logical line may begin behind these
+-- a logical line may begin after these
 abbrev pub ends_line : Kind → Bool
 ends_line Newline = true
 ends_line Indent = true

@@ -1,4 +1,4 @@
--- The marks behind which a run may leave a part of a tree, by each way out of it. (Python Language Reference, 7 and 8)
+-- The marks after which a run may leave a part of a tree, by each way out of it. (Python Language Reference, 7 and 8)
 --
 -- Where `any` is true, everything that marks may raise at its mark; else `raise` alone raises.
 --     Way                                    the ways out of a part
@@ -81,8 +81,8 @@ abbrev pub comes : List ℕ → Bool
 comes [] = false
 comes (l ∷ ls) = true
 
--- At the end of a `finally` suite the run goes on by the way by which it came in: the marks that came in, those behind which the
--- suite is left onward, and those behind which it is left by this way.
+-- At the end of a `finally` suite the run goes on by the way by which it came in: the marks that came in, those after which the
+-- suite is left onward, and those after which it is left by this way.
 abbrev pub past_finally : Way → Bool → List ℕ → List ℕ → List ℕ → List ℕ
 past_finally w empty came ended left = only (comes came) ended ++ (only empty came ++ only (not (is_onward w)) left)
 

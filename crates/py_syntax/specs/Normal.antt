@@ -89,7 +89,7 @@ level (attr f x) = LPost
 abbrev pub At : Level → Expr → Type 0
 At l e = rank l ≤ rank (level e)
 
--- what may stand behind `is`
+-- what may stand after `is`
 abbrev pub IsConstant : Expr → Type 0
 IsConstant (name x) = ⊥
 IsConstant (int n) = ⊥
@@ -158,7 +158,7 @@ abbrev mutual
   Normal (slice f from to) = At LPost f × Normal f × NormalBound from × NormalBound to
   Normal (attr f x) = At LPost f × Normal f
 
-  -- the comparisons behind the first
+  -- the comparisons after the first
   pub NormalLinks : Links → Type 0
   NormalLinks no_links = Unit {0}
   NormalLinks (link op e ls) = Compared op e × Normal e × NormalLinks ls

@@ -19,11 +19,11 @@ use Rattle.py_syntax.specs.Tree.{Stmts}
 abbrev pub Arc : Type 0
 Arc = ℤ × ℤ
 
--- where a run is before it enters a body with this first line, and behind it
+-- where a run is before it enters a body with this first line, and after it
 abbrev pub outside : ℕ → ℤ
 outside first = neg_ℤ (pos first)
 
--- of a body without its docstring: what comes first in it, what follows what, behind what it is left, and the one arc of a body
+-- of a body without its docstring: what comes first in it, what follows what, after what it is left, and the one arc of a body
 -- without a mark
 abbrev pub body_arcs : Bool → ℕ → Stmts → List Arc
 body_arcs any first b =

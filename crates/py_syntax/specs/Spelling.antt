@@ -1,6 +1,6 @@
 -- Which tree a list of tokens spells, lines included, and which prefixes begin one.
 --     first_line, last_line                     the lines of tokens
---     test_head .. behind                       headers, and what stands behind one
+--     test_head .. after                       headers, and what stands after one
 --     KeepsLines, KindLines                     the lines that a tree keeps; SuiteLines and the like for what stands in it
 --     module_tokens, IsNormal, Spells           the tokens of a module, a normal one, and the tree that a list spells
 --     HEIGHT, NESTING                           the limits
@@ -42,11 +42,11 @@ for_head t e = Word word.For ∷ tokens t (Word word.In ∷ tokens e (Sign mark.
 abbrev pub word_head : Keyword → List Kind
 word_head w = Word w ∷ Sign mark.Colon ∷ []
 
--- the tokens behind these
+-- the tokens after these
 abbrev pub past : List Marked → List PToken → List PToken
 past before ts = drop (length before) ts
 
--- the tokens behind a header and its suite
+-- the tokens after a header and its suite
 abbrev pub behind : List Kind → Suite → List PToken → List PToken
 behind head s ts = drop (length head + length (suite_tokens s [])) ts
 

@@ -43,7 +43,7 @@ abbrev pub assert_tokens : Option Expr → List Kind
 assert_tokens None = []
 assert_tokens (Some e) = Sign mark.Comma ∷ tokens e []
 
--- the names behind the first
+-- the names after the first
 abbrev pub more_names : List Text → List Kind
 more_names [] = []
 more_names (x ∷ xs) = Sign mark.Comma ∷ Name x ∷ more_names xs
@@ -58,7 +58,7 @@ abbrev pub as_tokens : Option Text → List Kind → List Kind
 as_tokens None rest = rest
 as_tokens (Some x) rest = Word word.As ∷ Name x ∷ rest
 
--- the imported names behind the first
+-- the imported names after the first
 abbrev pub more_aliases : List Alias → List Kind
 more_aliases [] = []
 more_aliases (a ∷ rest) = Sign mark.Comma ∷ Name a.name ∷ as_tokens a.bound (more_aliases rest)
@@ -68,7 +68,7 @@ abbrev pub alias_list : List Alias → List Kind
 alias_list [] = []
 alias_list (a ∷ rest) = Name a.name ∷ as_tokens a.bound (more_aliases rest)
 
--- The parameters behind the first, of which so many have no default.
+-- The parameters after the first, of which so many have no default.
 abbrev pub more_params : ℕ → List Text → Exprs → Bool → List Kind → List Kind
 more_params n [] ds c rest = comma_if c rest
 more_params (suc n) (x ∷ xs) ds c rest = Sign mark.Comma ∷ Name x ∷ more_params n xs ds c rest
@@ -87,7 +87,7 @@ abbrev pub count : Exprs → ℕ
 count no_exprs = 0
 count (exprs e es) = suc (count es)
 
--- parameters, with the defaults of the last ones, and whether a comma stands behind them
+-- parameters, with the defaults of the last ones, and whether a comma stands after them
 abbrev pub param_tokens : List Text → Exprs → Bool → List Kind → List Kind
 param_tokens xs ds c rest = params_from (length xs - count ds) xs ds c rest
 
@@ -105,7 +105,7 @@ abbrev pub guard_tokens : Option Expr → List Kind
 guard_tokens None = Sign mark.Colon ∷ []
 guard_tokens (Some e) = Word word.If ∷ tokens e (Sign mark.Colon ∷ [])
 
--- what stands behind a statement on its line
+-- what stands after a statement on its line
 abbrev pub end_tokens : LineEnd → List Kind
 end_tokens e = elim (e.semicolon) [ true ↦ Sign mark.Semicolon ∷ newline_if e.newline | false ↦ newline_if e.newline ]
   where
@@ -194,7 +194,7 @@ abbrev pub begins_simple : Stmts → Bool
 begins_simple no_stmts = false
 begins_simple (stmt first last k e ss) = is_simple k
 
--- A compound statement has nothing behind it. A simple one has a line end, or a semicolon and a simple one on its line.
+-- A compound statement has nothing after it. A simple one has a line end, or a semicolon and a simple one on its line.
 abbrev pub EndsLine : Bool → LineEnd → Stmts → Type 0
 EndsLine false e ss = (e.semicolon ≡ false) × (e.newline ≡ false)
 EndsLine true e ss = elim (e.newline) [ true ↦ Unit {0} | false ↦ (e.semicolon ≡ true) × (begins_simple ss ≡ true) ]
@@ -204,7 +204,7 @@ abbrev pub EndLines : Stmts → Type 0
 EndLines no_stmts = Unit {0}
 EndLines (stmt first last k e ss) = EndsLine (is_simple k) e ss × EndLines ss
 
--- simple statements on one line, behind its header
+-- simple statements on one line, after its header
 abbrev pub ShareLine : Stmts → Type 0
 ShareLine no_stmts = Unit {0}
 ShareLine (stmt first last k e no_stmts) = (is_simple k ≡ true) × (e.newline ≡ true)

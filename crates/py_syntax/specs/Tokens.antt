@@ -87,22 +87,22 @@ abbrev mutual
   tokens (slice f from to) rest = tokens f (Sign mark.LeftBracket ∷ bound from (Sign mark.Colon ∷ bound to (Sign mark.RightBracket ∷ rest)))
   tokens (attr f x) rest = tokens f (Sign mark.Dot ∷ Name x ∷ rest)
 
-  -- items with commas between them, and whether one stands behind the last
+  -- items with commas between them, and whether one stands after the last
   pub items : Exprs → Bool → List Kind → List Kind
   items no_exprs c rest = rest
   items (exprs e es) c rest = tokens e (more es c rest)
 
-  -- the items behind the first
+  -- the items after the first
   pub more : Exprs → Bool → List Kind → List Kind
   more no_exprs c rest = comma_if c rest
   more (exprs e es) c rest = Sign mark.Comma ∷ tokens e (more es c rest)
 
-  -- keys with their values, and whether a comma stands behind the last
+  -- keys with their values, and whether a comma stands after the last
   pub entries : Pairs → Bool → List Kind → List Kind
   entries no_pairs c rest = rest
   entries (pair k v ps) c rest = tokens k (Sign mark.Colon ∷ tokens v (more_entries ps c rest))
 
-  -- the entries behind the first
+  -- the entries after the first
   pub more_entries : Pairs → Bool → List Kind → List Kind
   more_entries no_pairs c rest = comma_if c rest
   more_entries (pair k v ps) c rest = Sign mark.Comma ∷ tokens k (Sign mark.Colon ∷ tokens v (more_entries ps c rest))
@@ -160,17 +160,17 @@ abbrev mutual
   pattern_tokens (p_as p x) rest = pattern_tokens p (Word word.As ∷ Name x ∷ rest)
   pattern_tokens (p_paren p) rest = Sign mark.LeftParen ∷ pattern_tokens p (Sign mark.RightParen ∷ rest)
 
-  -- patterns with commas between them, and whether one stands behind the last
+  -- patterns with commas between them, and whether one stands after the last
   pub pattern_items : Patterns → Bool → List Kind → List Kind
   pattern_items no_patterns c rest = rest
   pattern_items (patterns p ps) c rest = pattern_tokens p (more_patterns ps c rest)
 
-  -- the patterns behind the first
+  -- the patterns after the first
   pub more_patterns : Patterns → Bool → List Kind → List Kind
   more_patterns no_patterns c rest = comma_if c rest
   more_patterns (patterns p ps) c rest = Sign mark.Comma ∷ pattern_tokens p (more_patterns ps c rest)
 
-  -- the alternatives behind the first
+  -- the alternatives after the first
   pub alternatives : Patterns → List Kind → List Kind
   alternatives no_patterns rest = rest
   alternatives (patterns p ps) rest = Sign mark.Bar ∷ pattern_tokens p (alternatives ps rest)

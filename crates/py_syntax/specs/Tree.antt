@@ -51,7 +51,7 @@ mutual
     no_pairs : Pairs
     pair : (key value : Expr) (rest : Pairs) → Pairs
 
-  -- the comparisons of a chain behind its first operand
+  -- the comparisons of a chain after its first operand
   pub data Links : Type 0 where
     no_links : Links
     link : (op : Comparison) (right : Expr) (rest : Links) → Links

@@ -5,7 +5,7 @@ use crate::pattern::Pattern;
 use py_value::{BinOp, Text};
 
 /// A statement with the first line of its first token and the last line of its last one, counted from 1.
-/// The last line of a statement with a block suite is that of the line behind it: nothing should use it.
+/// The last line of a statement with a block suite is that of the line after it: nothing should use it.
 #[cycle(stmt)]
 #[derive(Drop)]
 pub struct Stmt {
@@ -15,7 +15,7 @@ pub struct Stmt {
     pub end: LineEnd,
 }
 
-/// What was written behind a simple statement. Nothing stands behind a compound one.
+/// What was written after a simple statement. Nothing stands after a compound one.
 #[derive(Clone, Copy)]
 pub struct LineEnd {
     pub semicolon: bool,
@@ -72,7 +72,7 @@ pub struct Case {
     pub body: Suite,
 }
 
-/// An imported name, and the name behind its `as`.
+/// An imported name, and the name after its `as`.
 #[derive(Drop)]
 pub struct Alias {
     pub name: Text,

@@ -13,7 +13,7 @@ use Rattle.py_value.specs.Pairs.{plain_pair}
 use Rattle.py_value.specs.Keys.{is_same_key, place_of_key, value_at, with_value, has_none_same, has_distinct_keys}
 use Rattle.py_value.proofs.TestLaws.{both_true, first_true, second_true, not_true}
 
--- where a key was looked for: here, or behind
+-- where a key was looked for: here, or after
 here : (b : Bool) (o : Option ℕ) → cond b (Some 0) (option_map (λ i. suc i) o) ≡ None → (b ≡ false) × (o ≡ None)
 here true o e = absurd (cc)
 here false None e = (refl, refl)

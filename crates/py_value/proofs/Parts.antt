@@ -8,7 +8,7 @@ use Rattle.std.proofs.lemmas.Str.{chars-append, encodes-append, IsCharBoundary-s
 use Rattle.py_value.specs.Sequences.{begins, is_part}
 use Rattle.py_value.proofs.TestLaws.{both_true, first_true, second_true}
 
--- the first byte behind a front
+-- the first byte after a front
 pub seam_byte : (a ys : List ℕ) → get_or (a ++ ys) (length a) 0 ≡ get_or ys 0 0
 seam_byte [] ys = refl
 seam_byte (x ∷ a) ys = seam_byte a ys

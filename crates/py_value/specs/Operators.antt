@@ -1,5 +1,5 @@
 -- The table of operators (Python Language Reference, 6.7 to 6.10, 7.2.1 and 3.3), with bool counting as 0 or 1.
--- Each operation gives a value and the heap behind it, or raises and leaves the heap as it was.
+-- Each operation gives a value and the heap after it, or raises and leaves the heap as it was.
 --     binary_answer, in_place_answer      `left op right`, `left op= right`
 --     contains_answer, compare_answer     `in`, and the comparisons
 --     item_answer, value_answer           `of[at]` of a sequence and of a dict
@@ -25,7 +25,7 @@ use Rattle.py_value.specs.Sequences.{most_items, joined, repeated, place_among, 
 use Rattle.py_value.specs.Keys.{is_key, value_at, with_value}
 use Rattle.py_value.specs.Comparison.{equal_within, order_within, most_levels, is_item}
 
--- what an operation answers: a value and the heap behind it, or what it raises
+-- what an operation answers: a value and the heap after it, or what it raises
 abbrev pub Answer : Type 0
 Answer = Result (PlainValue × PlainHeap) Cause
 

@@ -11,7 +11,7 @@ pub use Rattle.py_value.specs.Shared.{place_of, plain, plains}
 abbrev pub plain_raised : Raised → PlainRaised
 plain_raised r = record { kind = r.kind; arg = r.arg }
 
--- what an operation answers, and with the heap behind it
+-- what an operation answers, and with the heap after it
 abbrev pub plain_answer : {A : Type 0} → Result A Raised → Result A PlainRaised
 plain_answer (Ok x) = Ok x
 plain_answer (Err r) = Err (plain_raised r)
@@ -28,7 +28,7 @@ abbrev pub plain_stored : Result (Unit {0}) Raised → PlainHeap → Result Plai
 plain_stored (Ok u) h = Ok h
 plain_stored (Err r) h = Err (plain_raised r)
 
--- what an operation makes of its target, and the heap behind it
+-- what an operation makes of its target, and the heap after it
 abbrev pub plain_update : Result (Unit {0}) Raised → PlainValue → PlainHeap → Result (PlainValue × PlainHeap) PlainRaised
 plain_update (Ok u) v h = Ok (v, h)
 plain_update (Err r) v h = Err (plain_raised r)

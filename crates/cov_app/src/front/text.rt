@@ -12,11 +12,11 @@ fn line_ends(bytes: &[u8]) -> u32
 {
     let mut count: u32 = 0;
     let mut rest = bytes;
-    'ends: while let Some((byte, behind)) = rest.split_first() {
+    'ends: while let Some((byte, after)) = rest.split_first() {
         if *byte == b'\n' {
             count += 1;
         }
-        rest = behind;
+        rest = after;
     }
     count
 }
@@ -24,7 +24,8 @@ fn line_ends(bytes: &[u8]) -> u32
 /// The text of bytes that are UTF-8; else the line, counted from 1, of the first byte that fits no character.
 pub(super) fn text_of(bytes: &[u8]) -> Result<&str, u32>
     requires { length bytes.now ≤ 1048576 }
-    ensures { MatchResult result (λ text. (text.now ≡ bytes.now) × IsUtf8 bytes.now) (λ line. ¬ (IsUtf8 bytes.now) × (line ≡ fault_line bytes.now)) }
+    ensures { MatchResult result (λ text. (text.now ≡ bytes.now) × IsUtf8 bytes.now) (λ line.
+        ¬ (IsUtf8 bytes.now) × (line ≡ fault_line bytes.now)) }
 {
     match str::from_utf8(bytes) {
         Ok(text) => Ok(text),

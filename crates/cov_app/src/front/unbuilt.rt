@@ -11,7 +11,8 @@ use py_syntax::{Arm, Case, Clause, Expr, Module, Stmt, StmtKind, Suite};
 /// The least first line of a statement or header that isn't of the built forms, or holds a part that isn't.
 pub(super) fn unbuilt_line(module: &Module) -> Option<u32>
     ensures none { IfNone result (IsBuilt (plain_module «module».now)) }
-    ensures some { IfSome result (λ line. IsLeast (unbuilt_lines (plain_module «module».now)) line) }
+    ensures some { IfSome result (λ line.
+        IsLeast (unbuilt_lines (plain_module «module».now)) line) }
 {
     statements(&module.body)
 }

@@ -4,7 +4,7 @@ use Rattle.cov_app.specs.Walk.{leaves}
 use Rattle.cov_app.specs.Step.{arc_lines}
 use Rattle.cov_app.proofs.Choices.{suite-reached, suite-part}
 use Rattle.cov_app.proofs.Walked.{is-walked}
-use Rattle.cov_app.proofs.Endings.{ran, shows, fault-in-run, fault-behind-run, fault-in-arcs}
+use Rattle.cov_app.proofs.Endings.{ran, shows, fault-in-run, fault-after-run, fault-in-arcs}
 use Rattle.cov_app.proofs.script.run.Goals as goal
 
 pub returns-in_err-left-clause-shows : goal.returns-in_err-left-clause-shows
@@ -15,14 +15,14 @@ returns-in_err-left-clause-shows g c = λ built tokens spelled input.
 
 pub returns-in_err-arcs-clause-shows : goal.returns-in_err-arcs-clause-shows
 returns-in_err-arcs-clause-shows g c = λ built tokens spelled input.
-    fault-behind-run c.args.path.now (plain_module c.args.tree.now) input c.in_ok-left.left c.run_suite.new.walk _ _ _ c.from_residual-in_err-arcs.result c.from_residual-in_err-arcs.ensures.0 (is-walked (plain_module c.args.tree.now) tokens built spelled.0.1 spelled.2)
+    fault-after-run c.args.path.now (plain_module c.args.tree.now) input c.in_ok-left.left c.run_suite.new.walk _ _ _ c.from_residual-in_err-arcs.result c.from_residual-in_err-arcs.ensures.0 (is-walked (plain_module c.args.tree.now) tokens built spelled.0.1 spelled.2)
     (ran c.args.path.now (plain_module c.args.tree.now) input c.in_ok-left.left _ c.run_suite.new.walk _ _ _ (is-walked (plain_module c.args.tree.now) tokens built spelled.0.1 spelled.2)
     (record { globals = c.new.ensures.empty; line = refl; known = c.new-2.ensures.empty; steps = refl })
     (λ calls ms. suite-reached calls ms _ _ (leaves c.in_ok-left.left) _ c.run_suite.new.walk _ _ _ c.deref.ensures.value (c.in_ok-left.ensures.does calls ms)))
 
 pub returns-in_err-text-clause-shows : goal.returns-in_err-text-clause-shows
 returns-in_err-text-clause-shows g c = λ built tokens spelled input.
-    fault-behind-run c.args.path.now (plain_module c.args.tree.now) input c.in_ok-left.left c.run_suite.new.walk _ _ _ c.from_residual-in_err-text.result c.from_residual-in_err-text.ensures.0 (is-walked (plain_module c.args.tree.now) tokens built spelled.0.1 spelled.2)
+    fault-after-run c.args.path.now (plain_module c.args.tree.now) input c.in_ok-left.left c.run_suite.new.walk _ _ _ c.from_residual-in_err-text.result c.from_residual-in_err-text.ensures.0 (is-walked (plain_module c.args.tree.now) tokens built spelled.0.1 spelled.2)
     (ran c.args.path.now (plain_module c.args.tree.now) input c.in_ok-left.left _ c.run_suite.new.walk _ _ _ (is-walked (plain_module c.args.tree.now) tokens built spelled.0.1 spelled.2)
     (record { globals = c.new.ensures.empty; line = refl; known = c.new-2.ensures.empty; steps = refl })
     (λ calls ms. suite-reached calls ms _ _ (leaves c.in_ok-left.left) _ c.run_suite.new.walk _ _ _ c.deref.ensures.value (c.in_ok-left.ensures.does calls ms)))

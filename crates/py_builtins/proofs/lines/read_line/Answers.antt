@@ -2,7 +2,7 @@ use Rattle.std.proofs.Common.{◌≡◌, suc, ◌≤◌, [], ◌∷◌, ◌++◌
 use Rattle.py_value.specs.Sequences.{most_items}
 use Rattle.py_builtins.specs.Calls.{line_bytes}
 use Rattle.py_builtins.proofs.Reading.{open_more, left_whole}
-use Rattle.py_builtins.proofs.Turns.{on_err, goes_on, behind_next, failed_further, none_line, ended_line, dropped_lost, dropped_further, many_line}
+use Rattle.py_builtins.proofs.Turns.{on_err, goes_on, after_next, failed_further, none_line, ended_line, dropped_lost, dropped_further, many_line}
 use Rattle.py_builtins.proofs.lines.read_line.Goals as goal
 
 pub returns-in_err-read_byte-clause-no_further : goal.returns-in_err-read_byte-clause-no_further
@@ -40,7 +40,7 @@ loop-count-preserved g c =
       read = omega (arith, ap length pushed, length-append c.loop-count.line.items (c.in-Some.byte ∷ []), c.loop-count.invariant.read);
       told = λ t.
           ap (λ xs. xs ++ g.I.Source.left c.read_byte.new.input) pushed
-          ∙ behind_next c.loop-count.line.items _ _ _ c.in_ok-read_byte.field-0 c.in-Some.byte c.in-Some.is (c.in_ok-read_byte.ensures.byte t) (c.loop-count.invariant.told t);
+          ∙ after_next c.loop-count.line.items _ _ _ c.in_ok-read_byte.field-0 c.in-Some.byte c.in-Some.is (c.in_ok-read_byte.ensures.byte t) (c.loop-count.invariant.told t);
       faults = omega (arith, c.loop-count.invariant.faults, c.in_ok-read_byte.ensures.count);
     }
 

@@ -24,8 +24,8 @@ returns-then-not-is_before c =
     let from_fits : SFits w64 c.args.from = search rules in
     let from = to_z-of_z w64 c.args.from from_fits in
     let n : to_z w64 c.loop-turn.n-bits ≡ c.loop-turn.n = cc in
-    let behind : is_before c.args.step c.loop-turn.n c.args.bound ≡ false = search rules in
-    numbers_end c.args.most c.loop-turn._turn c.args.bound c.args.step c.loop-turn.n _ _ behind (same _ _ _ _ _ _ _ _ _ _ _ bound step n from c.loop-turn.invariant)
+    let after : is_before c.args.step c.loop-turn.n c.args.bound ≡ false = search rules in
+    numbers_end c.args.most c.loop-turn._turn c.args.bound c.args.step c.loop-turn.n _ _ after (same _ _ _ _ _ _ _ _ _ _ _ bound step n from c.loop-turn.invariant)
 
 pub returns-in-None : goal.returns-in-None
 returns-in-None c =
@@ -38,8 +38,8 @@ returns-in-None c =
     let n : to_z w64 c.loop-turn.n-bits ≡ c.loop-turn.n = cc in
     let before : is_before c.args.step c.loop-turn.n c.args.bound ≡ true = search rules in
     let pushed : c.push.new.self.items ≡ c.loop-turn.numbers.items ++ Int c.loop-turn.n ∷ [] = search rules in
-    let behind : is_before c.args.step (c.loop-turn.n +ℤ c.args.step) c.args.bound ≡ false = search rules in
-    numbers_last c.args.most c.loop-turn._turn c.args.bound c.args.step c.loop-turn.n (plains c.loop-turn.numbers.items) _ _ c.loop-turn-test.true before behind
+    let after : is_before c.args.step (c.loop-turn.n +ℤ c.args.step) c.args.bound ≡ false = search rules in
+    numbers_last c.args.most c.loop-turn._turn c.args.bound c.args.step c.loop-turn.n (plains c.loop-turn.numbers.items) _ _ c.loop-turn-test.true before after
     (ap plains pushed ∙ map-append plain c.loop-turn.numbers.items (Int c.loop-turn.n ∷ [])) (same _ _ _ _ _ _ _ _ _ _ _ bound step n from c.loop-turn.invariant)
 
 pub loop-turn-preserved : goal.loop-turn-preserved

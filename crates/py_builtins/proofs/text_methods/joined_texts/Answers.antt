@@ -7,8 +7,8 @@ use Rattle.py_builtins.proofs.Rests.{whole_rest}
 use Rattle.py_builtins.proofs.Joins.{too_long, fits_joined}
 use Rattle.py_builtins.proofs.text_methods.joined_texts.Goals as goal
 
-pub returns-then-not-fit_behind : goal.returns-then-not-fit_behind
-returns-then-not-fit_behind c =
+pub returns-then-not-fit_after : goal.returns-then-not-fit_after
+returns-then-not-fit_after c =
     let some : false ≡ (length c.args.items.now == 0) = search rules in
     let texts : true ≡ are_texts (plains c.args.items.now) = search rules in
     let first : c.len.result ≡ length (characters_in (plain c.index-items-0.result)) = search rules in

@@ -13,15 +13,15 @@ loop-part-preserved c =
     let part : c.in_ok-part.part ≡ chars c.in-Some.part.now = search rules in
     record {
       utf8 = search rules;
-      parts = parts_on (chars c.args.separator.now) (chars c.loop-part.rest.now) (chars c.in-Some.part.now) (chars c.in-Some.behind.now) (plains c.loop-part.parts.items) (plains c.push.new.self.items) _
-          (cut_found c.args.separator.now c.loop-part.rest.now c.in-Some.part.now c.in-Some.behind.now t.0 t.1 c.utf8.separator c.loop-part.invariant.utf8 c.requires t.2 t.3 t.4 t.6)
+      parts = parts_on (chars c.args.separator.now) (chars c.loop-part.rest.now) (chars c.in-Some.part.now) (chars c.in-Some.after.now) (plains c.loop-part.parts.items) (plains c.push.new.self.items) _
+          (cut_found c.args.separator.now c.loop-part.rest.now c.in-Some.part.now c.in-Some.after.now t.0 t.1 c.utf8.separator c.loop-part.invariant.utf8 c.requires t.2 t.3 t.4 t.6)
           (ap plains pushed ∙ map-append plain c.loop-part.parts.items (Str c.in_ok-part.part ∷ []) ∙ ap (λ s. plains c.loop-part.parts.items ++ plain (Str s) ∷ []) part) c.loop-part.invariant.parts;
     }
 
 pub loop-part-smaller : goal.loop-part-smaller
 loop-part-smaller c =
     let t = c.in-Some.ensures.cases in
-    cut_shorter c.args.separator.now c.in-Some.behind.now c.loop-part.rest.now t.0 t.1 c.requires t.2.1.ends t.7
+    cut_shorter c.args.separator.now c.in-Some.after.now c.loop-part.rest.now t.0 t.1 c.requires t.2.1.ends t.7
 
 pub returns : goal.returns
 returns c =

@@ -2,7 +2,7 @@ use Rattle.std.proofs.Common.{true, false, ◌++◌, refl, ap, ◌∙◌}
 use Rattle.py_syntax.specs.View.{plain_stmts, plain_suite, plain_opt_suite, plain_arms, plain_clauses, plain_cases}
 use Rattle.cov_app.specs.Least.{earlier}
 use Rattle.cov_app.specs.Forms.{unbuilt_lines, in_suite, in_opt, in_arms, in_clauses, in_cases}
-use Rattle.cov_app.proofs.Earliest.{at_end, two, behind}
+use Rattle.cov_app.proofs.Earliest.{at_end, two, after}
 use Rattle.cov_app.proofs.Parts.{if-parts, while-parts, for-parts, try-parts, stmts_turn, arms_turn, clauses_turn, cases_turn}
 use Rattle.cov_app.proofs.front.unbuilt.+unbuilt.Goals as goal
 
@@ -38,13 +38,13 @@ statement-returns-in-While t c = two c.earlier-in-While.result c.suite.result c.
 
 pub statement-returns-in-For : goal.statement-returns-in-For
 statement-returns-in-For t c =
-    behind c.earlier-in-For-2.result c.earlier-in-For.result c.args.line _ _ c.earlier-in-For-2.ensures
+    after c.earlier-in-For-2.result c.earlier-in-For.result c.args.line _ _ c.earlier-in-For-2.ensures
     (two c.earlier-in-For.result c.suite-in-For.result c.opt-in-For.result (in_suite false (plain_suite c.in-For.body)) (in_opt false (plain_opt_suite c.in-For.orelse)) _ c.earlier-in-For.ensures c.suite-in-For.ensures c.opt-in-For.ensures refl)
     (for-parts c.args.line c.args.kind.now c.in-For.target c.in-For.over c.in-For.body c.in-For.orelse c.in-For.is)
 
 pub statement-returns-in-Try : goal.statement-returns-in-Try
 statement-returns-in-Try t c =
-    behind c.earlier-in-Try-2.result c.earlier-in-Try.result c.args.line _ _ c.earlier-in-Try-2.ensures
+    after c.earlier-in-Try-2.result c.earlier-in-Try.result c.args.line _ _ c.earlier-in-Try-2.ensures
     (two c.earlier-in-Try.result c.earlier-handled.result c.earlier-endings.result (in_suite false (plain_suite c.in-Try.body) ++ in_clauses (plain_clauses c.deref-in-Try.result.now)) (in_opt false (plain_opt_suite c.in-Try.orelse) ++ in_opt false (plain_opt_suite c.in-Try.finally)) _ c.earlier-in-Try.ensures
     (two c.earlier-handled.result c.suite-in-Try.result c.clauses-handlers.result (in_suite false (plain_suite c.in-Try.body)) (in_clauses (plain_clauses c.deref-in-Try.result.now)) _ c.earlier-handled.ensures c.suite-in-Try.ensures c.clauses-handlers.ensures refl)
     (two c.earlier-endings.result c.opt-in-Try.result c.opt-in-Try-2.result (in_opt false (plain_opt_suite c.in-Try.orelse)) (in_opt false (plain_opt_suite c.in-Try.finally)) _ c.earlier-endings.ensures c.opt-in-Try.ensures c.opt-in-Try-2.ensures refl)

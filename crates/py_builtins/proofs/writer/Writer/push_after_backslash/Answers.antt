@@ -1,7 +1,7 @@
 use Rattle.std.proofs.Common.{◌∷◌, []}
 use Rattle.py_builtins.specs.Writing.{whole}
 use Rattle.py_builtins.proofs.Pieces.{stopped_then}
-use Rattle.py_builtins.proofs.writer.Writer.push_behind_backslash.Goals as goal
+use Rattle.py_builtins.proofs.writer.Writer.push_after_backslash.Goals as goal
 
 pub returns-in_err-push : goal.returns-in_err-push
 returns-in_err-push c =

@@ -1,7 +1,7 @@
 use Rattle.std.proofs.Common.{◌≡◌, ℕ, ◌-◌, List, map, drop, length, Some, Bor, ap, sym, ◌∙◌, arith, string_bytes, length-drop}
 use Rattle.std.proofs.lemmas.List.{drop-map, length-map, take_all}
-use Rattle.cov_combine.proofs.Matches.{left_behind-fits}
-use Rattle.cov_combine.proofs.matching.left_behind.Goals as goal
+use Rattle.cov_combine.proofs.Matches.{left_after-fits}
+use Rattle.cov_combine.proofs.matching.left_after.Goals as goal
 
 pub returns-then-pattern-parts : goal.returns-then-pattern-parts
 returns-then-pattern-parts c =
@@ -14,4 +14,4 @@ returns-then-pattern-parts c =
     ap (λ xs. Some (map now xs)) (take_all (length parts - k) (drop k parts) (omega (arith, length-drop k parts)))
     ∙ ap Some (sym (drop-map now k parts))
     ∙ ap (λ m. Some (drop m (map now parts))) (sym same)
-    ∙ sym (left_behind-fits (map string_bytes pattern) (map now parts) (sym c.fits.ensures ∙ c.if-fits.true) (omega (arith, same, all, c.if-pattern-parts.true)))
+    ∙ sym (left_after-fits (map string_bytes pattern) (map now parts) (sym c.fits.ensures ∙ c.if-fits.true) (omega (arith, same, all, c.if-pattern-parts.true)))

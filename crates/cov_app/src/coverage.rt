@@ -10,7 +10,7 @@ ghost use Rattle.cov_app.specs.Step.{Answers, AnswersGiven, AnswersScript, Answe
 
 use crate::answer::{End, LimitKind, SyntaxKind, Told, Why};
 use crate::command::read_words;
-use crate::err_text::tell;
+use crate::messages::tell;
 use crate::front::{self, SourceError};
 use crate::script::{BUDGET, run};
 use crate::walk::{Left, Raised, RunFault};
@@ -35,13 +35,17 @@ pub fn coverage<H: Shelf, I: Source, O: Sink, E: Sink>(
     err: &mut E,
 ) -> End
     // The answer and the bytes are those of the step over some files, and over the shelf's own where it tells them.
-    ensures step { TakesStep (map string_bytes words.now) H.tells (H.files shelf.old) (I.left input.old) result.why result.told O.tells (O.contents out.old) (O.contents out.new) E.tells (E.contents err.old) (E.contents err.new) }
+    ensures step { TakesStep (map string_bytes words.now) H.tells (H.files shelf.old)
+        (I.left input.old) result.why result.told O.tells (O.contents out.old) (O.contents out.new)
+        E.tells (E.contents err.old) (E.contents err.new) }
     ensures status { result.status ≡ status_of (answer_of result.why) }
 
     // For every shelf and sink.
-    ensures usage { (i : ℕ) → (answer_of result.why ≡ usage i) ↔ (command (map string_bytes words.now) ≡ Err i) }
+    ensures usage { (i : ℕ) → (answer_of result.why ≡ usage i)
+        ↔ (command (map string_bytes words.now) ≡ Err i) }
     ensures write_fault { result.why ≡ Why.WriteFault → Rose (O.faults out.old) (O.faults out.new) }
-    ensures shelf_fault { result.why ≡ Why.ShelfFault → Rose (H.faults shelf.old) (H.faults shelf.new) }
+    ensures shelf_fault { result.why ≡ Why.ShelfFault
+        → Rose (H.faults shelf.old) (H.faults shelf.new) }
     ensures told_failed { result.told ≡ Told.Failed → Rose (E.faults err.old) (E.faults err.new) }
 
     // The files and the input stay as they were.
@@ -62,11 +66,17 @@ fn answer<H: Shelf, O: Sink>(
     shelf: &mut H,
     out: &mut O,
 ) -> (Why, Option<Raised>)
-    ensures answers { (input : List ℕ) → H.tells → Answers (map string_bytes words.now) (H.files shelf.old) input result.0 (ending_of result.1) O.tells (O.contents out.old) (O.contents out.new) }
-    ensures given { (input : List ℕ) → AnswersGiven (map string_bytes words.now) input result.0 (ending_of result.1) O.tells (O.contents out.old) (O.contents out.new) }
-    ensures usage { (i : ℕ) → (answer_of result.0 ≡ usage i) ↔ (command (map string_bytes words.now) ≡ Err i) }
+    ensures answers { (input : List ℕ) → H.tells
+        → Answers (map string_bytes words.now) (H.files shelf.old) input result.0
+        (ending_of result.1) O.tells (O.contents out.old) (O.contents out.new) }
+    ensures given { (input : List ℕ)
+        → AnswersGiven (map string_bytes words.now) input result.0 (ending_of result.1) O.tells
+        (O.contents out.old) (O.contents out.new) }
+    ensures usage { (i : ℕ) → (answer_of result.0 ≡ usage i)
+        ↔ (command (map string_bytes words.now) ≡ Err i) }
     ensures write_fault { result.0 ≡ Why.WriteFault → Rose (O.faults out.old) (O.faults out.new) }
-    ensures shelf_fault { result.0 ≡ Why.ShelfFault → Rose (H.faults shelf.old) (H.faults shelf.new) }
+    ensures shelf_fault { result.0 ≡ Why.ShelfFault
+        → Rose (H.faults shelf.old) (H.faults shelf.new) }
     ensures shelf_kept { H.tells → H.files shelf.new ≡ H.files shelf.old }
 {
     match read_words(words) {
@@ -82,11 +92,16 @@ fn run_script<H: Shelf, O: Sink>(
     shelf: &mut H,
     out: &mut O,
 ) -> (Why, Option<Raised>)
-    ensures answers { (input : List ℕ) → H.tells → AnswersScript script.now (H.files shelf.old) input result.0 (ending_of result.1) O.tells (O.contents out.old) (O.contents out.new) }
-    ensures given { (input : List ℕ) → AnswersScriptGiven script.now input result.0 (ending_of result.1) O.tells (O.contents out.old) (O.contents out.new) }
+    ensures answers { (input : List ℕ) → H.tells
+        → AnswersScript script.now (H.files shelf.old) input result.0 (ending_of result.1) O.tells
+        (O.contents out.old) (O.contents out.new) }
+    ensures given { (input : List ℕ)
+        → AnswersScriptGiven script.now input result.0 (ending_of result.1) O.tells
+        (O.contents out.old) (O.contents out.new) }
     ensures no_usage { (i : ℕ) → answer_of result.0 ≢ usage i }
     ensures write_fault { result.0 ≡ Why.WriteFault → Rose (O.faults out.old) (O.faults out.new) }
-    ensures shelf_fault { result.0 ≡ Why.ShelfFault → Rose (H.faults shelf.old) (H.faults shelf.new) }
+    ensures shelf_fault { result.0 ≡ Why.ShelfFault
+        → Rose (H.faults shelf.old) (H.faults shelf.new) }
     ensures shelf_kept { H.tells → H.files shelf.new ≡ H.files shelf.old }
 {
     match shelf.read(alloc, script, MOST_BYTES) {
@@ -106,7 +121,9 @@ fn run_source<O: Sink>(
     out: &mut O,
 ) -> (Why, Option<Raised>)
     requires { length bytes.now ≤ 1048576 }
-    ensures answers { (input : List ℕ) → AnswersSource script.now bytes.now input result.0 (ending_of result.1) O.tells (O.contents out.old) (O.contents out.new) }
+    ensures answers { (input : List ℕ)
+        → AnswersSource script.now bytes.now input result.0 (ending_of result.1) O.tells
+        (O.contents out.old) (O.contents out.new) }
     ensures no_usage { (i : ℕ) → answer_of result.0 ≢ usage i }
     ensures write_fault { result.0 ≡ Why.WriteFault → Rose (O.faults out.old) (O.faults out.new) }
     ensures no_shelf_fault { result.0 ≢ Why.ShelfFault }

@@ -2,7 +2,7 @@
 ghost use Rattle.std.specs.Prelude.{◌≡◌, ◌≤◌, IfOk, []};
 ghost use Rattle.std.specs.String.{string_bytes};
 ghost use Rattle.cov_outside.specs.Counts.{Rose};
-ghost use Rattle.cov_app.specs.Answer.{syntax, answer_of, err_text, kind_text, limit_text};
+ghost use Rattle.cov_app.specs.Answer.{syntax, answer_of, message_of, kind_text, limit_text};
 ghost use Rattle.cov_app.specs.Runs.{ending_of, raised_line, line_unset};
 ghost use Rattle.cov_app.specs.Step.{IsTold};
 
@@ -17,7 +17,9 @@ const MOST_NAME_CHARS: usize = 1_048_554;
 
 /// Writes the text of the answer to `err`.
 pub(crate) fn tell<E: Sink>(alloc: Global, err: &mut E, why: &Why, raised: &Option<Raised>) -> Told
-    ensures told { E.tells → IsTold result (err_text (answer_of why.now) (ending_of raised.now)) (E.contents err.old) (E.contents err.new) }
+    ensures told { E.tells
+        → IsTold result (message_of (answer_of why.now) (ending_of raised.now)) (E.contents err.old)
+        (E.contents err.new) }
     ensures count { E.faults err.old ≤ E.faults err.new }
     ensures failed { result ≡ Told.Failed → Rose (E.faults err.old) (E.faults err.new) }
 {
@@ -43,7 +45,8 @@ fn say<E: Sink>(alloc: Global, err: &mut E, text: &str) -> Told
 }
 
 fn err_line(alloc: Global, why: &Why, raised: &Option<Raised>) -> Result<String, NoMemory>
-    ensures { IfOk result (λ line. string_bytes line ≡ err_text (answer_of why.now) (ending_of raised.now)) }
+    ensures { IfOk result (λ line.
+        string_bytes line ≡ message_of (answer_of why.now) (ending_of raised.now)) }
 {
     match why {
         Why::Program(_) => program_line(alloc, raised),
@@ -62,7 +65,7 @@ fn err_line(alloc: Global, why: &Why, raised: &Option<Raised>) -> Result<String,
 }
 
 fn syntax_line(alloc: Global, file: &str, line: u32, kind: SyntaxKind) -> Result<String, NoMemory>
-    ensures { IfOk result (λ text. string_bytes text ≡ err_text (syntax file.now line kind) []) }
+    ensures { IfOk result (λ text. string_bytes text ≡ message_of (syntax file.now line kind) []) }
 {
     let kind = kind_text(kind);
     format!(in alloc; "coverage: {file}:{line}: {kind}\n")

@@ -1,6 +1,6 @@
 use Rattle.std.proofs.Common.{arith}
 use Rattle.cov_app.proofs.ErrTexts.{text-is, unset-long, unset-short}
-use Rattle.cov_app.proofs.err_text.unset_name_line.Goals as goal
+use Rattle.cov_app.proofs.messages.unset_name_line.Goals as goal
 
 pub returns-then-len-gt-MOST_NAME_CHARS : goal.returns-then-len-gt-MOST_NAME_CHARS
 returns-then-len-gt-MOST_NAME_CHARS c = text-is c.from_str.result _ _ c.from_str.ensures.ok (unset-long c.args.name.now (let e = c.len.ensures in let h = c.if-len-gt-MOST_NAME_CHARS.true in omega arith))

@@ -2,7 +2,7 @@ use Rattle.std.proofs.Common.{◌≡◌, ◌≤◌, ◌+◌, nat_le, map, drop}
 use Rattle.py_value.specs.View.{plains}
 use Rattle.py_value.specs.Sequences.{most_items}
 use Rattle.py_builtins.specs.Methods.{each_length, characters_in}
-use Rattle.py_builtins.proofs.text_methods.fit_behind.Given as goal
+use Rattle.py_builtins.proofs.text_methods.fit_after.Given as goal
 
 abbrev pub invariant-loop-item : goal.invariant-loop-item
 invariant-loop-item l =

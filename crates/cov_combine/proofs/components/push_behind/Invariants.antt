@@ -1,6 +1,0 @@
-use Rattle.std.proofs.Common.{◌≡◌, ◌++◌, map, drop, string_bytes}
-use Rattle.cov_combine.specs.Aliases.{behind}
-use Rattle.cov_combine.proofs.components.push_behind.Given as goal
-
-abbrev pub invariant-loop-part : goal.invariant-loop-part
-invariant-loop-part l = string_bytes l.text ++ behind (map (λ p. p.now) (drop l.part-index l.parts)) ≡ string_bytes l.initial.text ++ behind (map (λ p. p.now) l.parts)

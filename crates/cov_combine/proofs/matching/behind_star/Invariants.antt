@@ -1,6 +1,0 @@
-use Rattle.std.proofs.Common.{◌≡◌, ◌-◌, map, drop, string_bytes}
-use Rattle.cov_combine.specs.Aliases.{behind_star}
-use Rattle.cov_combine.proofs.matching.behind_star.Given as goal
-
-abbrev pub invariant-loop-start : goal.invariant-loop-start
-invariant-loop-start l = behind_star (map string_bytes l.rest) (map (λ p. p.now) l.parts) ≡ behind_star (map string_bytes l.rest) (map (λ p. p.now) (drop (l.start - 1) l.parts))
