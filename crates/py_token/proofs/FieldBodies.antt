@@ -56,13 +56,6 @@ field_fair line c cs t is = go (is_format_prefix c && begins_quote cs) is
 pub fits : (line c : ℕ) (rest cs : List ℕ) (t : Match) → rest ≡ c ∷ cs → field_token_of line rest ≡ the_match t → t.after ≤ length cs
 fits line c rest cs t is takes = (field_fair line c cs t (sym (ap (field_token_of line) is) ∙ takes)).within
 
-pub starts : (limit : TokenError) (line : ℕ) (chars : List ℕ) → line + line_count chars ≤ 65536 → Reads limit line chars [] 0 chars
-starts limit line chars few = record { same = no_tokens (tokens_of (field_tokens limit line 0 0 chars)); lines = few; deep = omega arith }
-  where
-    no_tokens : (r : Result (List PToken × ℕ) TokenError) → with_tokens [] r ≡ r
-    no_tokens (Ok x) = refl
-    no_tokens (Err e) = refl
-
 pub closed : {limit : TokenError} {line : ℕ} {chars : List ℕ} {ts : List PToken} {depth : ℕ} {rest : List ℕ} (c : ℕ) (cs : List ℕ) → Reads limit line chars ts depth rest → rest ≡ c ∷ cs → true ≡ ((eqb c 125) && (eqb depth 0)) → tokens_of (field_tokens limit line 0 0 chars) ≡ Ok (ts, length cs)
 closed {limit} {line} {chars} {ts} {depth} {rest} c cs h is ends =
     sym h.same ∙ ap (λ b. with_tokens ts (tokens_of b)) (field_closing limit line depth c rest cs is ends) ∙ ap (λ (x : List PToken). Ok (x, length cs)) (append-nil ts)

@@ -1,11 +1,11 @@
 -- F-strings (The Python Language Reference, "Formatted string literals").
---     is_blank, is_format_prefix                     characters
---     may_stand, reach, limit_fault, field_fault     how far a field can go, and what is wrong where it meets that end
---     BracketChange, change_of, depth_after          the brackets that are open in a field
---     field_tokens                                   the tokens of a field
---     field_item, fstring_item                       a place of an f-string
---     fstring_body, normal, fstring_at               an f-string
---     token_at                                       a token of a text
+--     is_blank, is_format_prefix          characters
+--     may_stand, reach .. field_fault     how far a field can go, and what is wrong at that end
+--     BracketChange .. depth_after        the brackets that are open in a field
+--     field_token .. field_tokens         the tokens of a field
+--     field_of .. fstring_item            a place of an f-string
+--     fstring_body .. fstring_at          an f-string
+--     token_at                            a token of a text
 use Rattle.std.specs.Prelude.{ℕ, zero, suc, ◌-◌, Bool, true, false, ◌||◌, ◌&&◌, not, ◌==◌, List, [], ◌∷◌, ◌++◌, length, take, drop, Result, Ok, Err, if◌then◌else◌}
 use Rattle.py_token.specs.declared.error.TokenError.{TokenError}
 use Rattle.py_token.specs.declared.error.TokenError.TheVariants.{BadCharacter, OpenString}
@@ -24,9 +24,11 @@ is_blank c = (c == 32) || (c == 9)
 abbrev pub is_format_prefix : ℕ → Bool
 is_format_prefix c = (c == 102) || (c == 70)
 
--- Whether a character may stand in a field at all: no backslash, no comment, no line end, and not the marks of the f-string itself
+-- Whether a character may stand in a field at all: no backslash, no comment, no line end, and not
+-- the marks of the f-string itself
 abbrev pub may_stand : ℕ → Bool → ℕ → List ℕ → Bool
-may_stand quote triple c cs = not ((c == 92) || (c == 35) || (c == 10) || (c == 13) || closes quote triple c cs)
+may_stand quote triple c cs =
+    not ((c == 92) || (c == 35) || (c == 10) || (c == 13) || closes quote triple c cs)
 
 -- how many characters stand before the first that may not
 unfoldable pub reach : ℕ → Bool → List ℕ → ℕ
@@ -36,7 +38,8 @@ reach quote triple (c ∷ cs) = if may_stand quote triple c cs then suc (reach q
 -- what is wrong with a field that meets the end of its reach
 abbrev pub limit_fault : Bool → ℕ → ℕ → List ℕ → TokenError
 limit_fault triple first line [] = OpenString first
-limit_fault triple first line (c ∷ cs) = if (c == 10) && not triple then OpenString first else BadCharacter line
+limit_fault triple first line (c ∷ cs) =
+    if (c == 10) && not triple then OpenString first else BadCharacter line
 
 -- a string that is still open there is no other fault
 abbrev pub field_fault : TokenError → TokenError → TokenError
@@ -72,7 +75,8 @@ depth_after neither depth = depth
 
 -- an f-string can't stand in a field
 abbrev pub field_token : ℕ → ℕ → List ℕ → Result Match TokenError
-field_token line c cs = if is_format_prefix c && begins_quote cs then Err (BadCharacter line) else plain_token line c cs
+field_token line c cs =
+    if is_format_prefix c && begins_quote cs then Err (BadCharacter line) else plain_token line c cs
 
 -- how many of its characters stand after the first
 abbrev pub after_match : Result Match TokenError → ℕ
@@ -85,18 +89,22 @@ change_of_match (Ok t) = change_of t.kind
 change_of_match (Err e) = neither
 
 -- a token, and then the others of the field
-abbrev pub with_match : TokenError → ℕ → Result Match TokenError → Result (Body PToken) TokenError → Result (Body PToken) TokenError
+abbrev pub with_match : TokenError → ℕ → Result Match TokenError
+    → Result (Body PToken) TokenError → Result (Body PToken) TokenError
 with_match limit line (Ok t) body = more_of (token t.kind line line) body
 with_match limit line (Err e) body = Err (field_fault limit e)
 
--- The tokens of a field up to the first `}` with no bracket of the field open. The first characters are passed over.
+-- The tokens of a field up to the first `}` with no bracket of the field open. The first characters
+-- are passed over.
 unfoldable pub field_tokens : TokenError → ℕ → ℕ → ℕ → List ℕ → Result (Body PToken) TokenError
 field_tokens limit line skip depth [] = Err limit
 field_tokens limit line (suc skip) depth (c ∷ cs) = field_tokens limit line skip depth cs
 field_tokens limit line zero depth (c ∷ cs) =
     if (c == 125) && (depth == 0) then Ok (record { values = []; rest = cs; next = line })
     else (if is_blank c then field_tokens limit line 0 depth cs
-    else with_match limit line (field_token line c cs) (field_tokens limit line (after_match (field_token line c cs)) (depth_after (change_of_match (field_token line c cs)) depth) cs))
+    else with_match limit line (field_token line c cs)
+    (field_tokens limit line (after_match (field_token line c cs))
+    (depth_after (change_of_match (field_token line c cs)) depth) cs))
 
 -- a field is one item of an f-string
 abbrev pub field_of : ℕ → List ℕ → Result (Body PToken) TokenError → StringItem PPiece
@@ -106,7 +114,9 @@ field_of line cs (Err e) = fault e
 -- a field, with these characters after its `{`
 unfoldable pub field_item : ℕ → Bool → ℕ → ℕ → List ℕ → StringItem PPiece
 field_item quote triple first line cs =
-    field_of line (take (reach quote triple cs) cs) (field_tokens (limit_fault triple first line (drop (reach quote triple cs) cs)) line 0 0 (take (reach quote triple cs) cs))
+    field_of line (take (reach quote triple cs) cs)
+    (field_tokens (limit_fault triple first line (drop (reach quote triple cs) cs))
+    line 0 0 (take (reach quote triple cs) cs))
 
 -- the characters of a string as a piece
 abbrev pub chars_item : StringItem (List ℕ) → StringItem PPiece
@@ -114,11 +124,15 @@ chars_item (holds xs after next) = holds (chars xs) after next
 chars_item (closing after) = closing after
 chars_item (fault e) = fault e
 
--- an item of an f-string that begins on the line `first`: two braces are one, and another `{` opens a field
+-- an item of an f-string that begins on the line `first`: two braces are one, and another `{` opens
+-- a field
 unfoldable pub fstring_item : ℕ → Bool → ℕ → ℕ → ℕ → List ℕ → StringItem PPiece
 fstring_item quote triple first line c cs =
-    if c == 123 then (if begins 123 cs then holds (chars (123 ∷ [])) 1 line else field_item quote triple first line cs)
-    else (if c == 125 then (if begins 125 cs then holds (chars (125 ∷ [])) 1 line else fault (BadCharacter line))
+    if c == 123
+    then (if begins 123 cs then holds (chars (123 ∷ [])) 1 line
+    else field_item quote triple first line cs)
+    else (if c == 125
+    then (if begins 125 cs then holds (chars (125 ∷ [])) 1 line else fault (BadCharacter line))
     else chars_item (text_item false quote triple first line c cs))
 
 -- an f-string after its opening marks
@@ -140,13 +154,22 @@ normal (field ts ∷ ps) = field ts ∷ normal ps
 
 -- an f-string is one token
 abbrev pub matched_pieces : List ℕ → Result (Body PPiece) TokenError → Result Match TokenError
-matched_pieces cs body = body >>= λ b. Ok (record { kind = fstring (piece_row (normal b.values)); after = length cs - length b.rest; next = b.next })
+matched_pieces cs body =
+    body >>= λ b. Ok (record {
+      kind = fstring (piece_row (normal b.values));
+      after = length cs - length b.rest;
+      next = b.next;
+    })
 
 -- an f-string, with these characters after its prefix
 abbrev pub fstring_at : ℕ → List ℕ → Result Match TokenError
 fstring_at line [] = Err (BadCharacter line)
-fstring_at line (quote ∷ cs) = after_prefix (if doubled quote cs then matched_pieces cs (fstring_body quote true line (drop 2 cs)) else matched_pieces cs (fstring_body quote false line cs))
+fstring_at line (quote ∷ cs) =
+    after_prefix (
+    if doubled quote cs then matched_pieces cs (fstring_body quote true line (drop 2 cs))
+    else matched_pieces cs (fstring_body quote false line cs))
 
 -- a token of a text
 unfoldable pub token_at : ℕ → ℕ → List ℕ → Result Match TokenError
-token_at line c cs = if is_format_prefix c && begins_quote cs then fstring_at line cs else plain_token line c cs
+token_at line c cs =
+    if is_format_prefix c && begins_quote cs then fstring_at line cs else plain_token line c cs

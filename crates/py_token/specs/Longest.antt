@@ -40,4 +40,6 @@ IsMatch (stuck e) = ⊥
 
 -- where a segment is taken, none of these rules takes a longer one
 abbrev pub NoneLonger : Type 0
-NoneLonger = (r : Rule) (line c m : ℕ) (cs : List ℕ) → m ≤ length cs → IsOf r c (take m cs) → IsMatch (segment_at line c cs).lexeme → m ≤ (segment_at line c cs).after
+NoneLonger =
+    (r : Rule) (line c m : ℕ) (cs : List ℕ) → m ≤ length cs → IsOf r c (take m cs)
+    → IsMatch (segment_at line c cs).lexeme → m ≤ (segment_at line c cs).after

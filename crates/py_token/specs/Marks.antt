@@ -1,11 +1,13 @@
--- Operators and delimiters (The Python Language Reference, "Operators" and "Delimiters"), the longest first.
+-- Operators and delimiters (The Python Language Reference, "Operators" and "Delimiters"), the
+-- longest first.
 use Rattle.std.specs.Prelude.{ℕ, ◌&&◌, ◌==◌, List, [], ◌∷◌, Option, Some, None, if◌then◌else◌}
 use Rattle.py_token.specs.declared.token.Mark.{Mark}
 use Rattle.py_token.specs.declared.token.Mark.TheVariants as marks
 
 -- the mark that three characters spell
 abbrev pub mark_of_three : ℕ → ℕ → ℕ → Option Mark
-mark_of_three c d e = if (c == 47) && (d == 47) && (e == 61) then Some marks.DoubleSlashEqual else None
+mark_of_three c d e =
+    if (c == 47) && (d == 47) && (e == 61) then Some marks.DoubleSlashEqual else None
 
 -- a character with an equals sign after it
 abbrev pub mark_with_equal : ℕ → Option Mark
@@ -22,7 +24,9 @@ mark_with_equal c =
 
 -- the mark that two characters spell
 abbrev pub mark_of_two : ℕ → ℕ → Option Mark
-mark_of_two c d = if d == 61 then mark_with_equal c else (if (c == 47) && (d == 47) then Some marks.DoubleSlash else None)
+mark_of_two c d =
+    if d == 61 then mark_with_equal c
+    else (if (c == 47) && (d == 47) then Some marks.DoubleSlash else None)
 
 -- the mark that a character spells
 abbrev pub mark_of_one : ℕ → Option Mark
@@ -61,4 +65,6 @@ else_try (Some m) other = Some m
 unfoldable pub mark_at : ℕ → List ℕ → Option (Mark × ℕ)
 mark_at c [] = sized 0 (mark_of_one c)
 mark_at c (d ∷ []) = else_try (sized 1 (mark_of_two c d)) (sized 0 (mark_of_one c))
-mark_at c (d ∷ e ∷ cs) = else_try (sized 2 (mark_of_three c d e)) (else_try (sized 1 (mark_of_two c d)) (sized 0 (mark_of_one c)))
+mark_at c (d ∷ e ∷ cs) =
+    else_try (sized 2 (mark_of_three c d e))
+    (else_try (sized 1 (mark_of_two c d)) (sized 0 (mark_of_one c)))

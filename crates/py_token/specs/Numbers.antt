@@ -31,7 +31,8 @@ are_digits base (c ∷ cs) = is_digit_here base c cs && are_digits base cs
 -- the value of the digits, with n before them
 unfoldable pub digits_value : ℕ → ℕ → List ℕ → ℕ
 digits_value base n [] = n
-digits_value base n (c ∷ cs) = digits_value base (if c == 95 then n else n * base + digit_value c) cs
+digits_value base n (c ∷ cs) =
+    digits_value base (if c == 95 then n else n * base + digit_value c) cs
 
 -- whether there is nothing
 abbrev pub is_empty : List ℕ → Bool
@@ -40,15 +41,23 @@ is_empty (c ∷ cs) = false
 
 -- the digits after a prefix
 abbrev pub prefixed : ℕ → List ℕ → Option ℕ
-prefixed base ds = if not (is_empty ds) && are_digits base ds then Some (digits_value base 0 ds) else None
+prefixed base ds =
+    if not (is_empty ds) && are_digits base ds then Some (digits_value base 0 ds) else None
 
 -- a decimal number that begins with 0 has only zeros
 abbrev pub decimal : ℕ → List ℕ → Option ℕ
-decimal c cs = if are_digits 10 (c ∷ cs) && (not (c == 48) || (digits_value 10 0 (c ∷ cs) == 0)) then Some (digits_value 10 0 (c ∷ cs)) else None
+decimal c cs =
+    if are_digits 10 (c ∷ cs) && (not (c == 48) || (digits_value 10 0 (c ∷ cs) == 0))
+    then Some (digits_value 10 0 (c ∷ cs))
+    else None
 
 -- the base that a letter after a 0 names
 abbrev pub base_named : ℕ → Option ℕ
-base_named c = if (c == 120) || (c == 88) then Some 16 else (if (c == 111) || (c == 79) then Some 8 else (if (c == 98) || (c == 66) then Some 2 else None))
+base_named c =
+    if (c == 120) || (c == 88) then Some 16
+    else (if (c == 111) || (c == 79) then Some 8
+    else (if (c == 98) || (c == 66) then Some 2
+    else None))
 
 -- digits in the base that a letter names, or else decimal ones
 abbrev pub in_base : Option ℕ → ℕ → ℕ → List ℕ → Option ℕ

@@ -18,7 +18,8 @@ abbrev mutual
 
   -- a token keeps lines from 1 to 65,535, its first no later than its last
   pub IsOnLines : PToken → Type 0
-  IsOnLines (token kind first last) = (1 ≤ first) × (first ≤ last) × (last ≤ 65535) × IsKindOnLines kind
+  IsOnLines (token kind first last) =
+      (1 ≤ first) × (first ≤ last) × (last ≤ 65535) × IsKindOnLines kind
 
   pub AreRowOnLines : PTokens → Type 0
   AreRowOnLines no_tokens = Unit {0}

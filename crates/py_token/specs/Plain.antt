@@ -1,4 +1,5 @@
--- Tokens as plain data: texts are lists of characters, and lists of tokens and pieces are their own.
+-- Tokens as plain data: texts are lists of characters, and lists of tokens and pieces are their
+-- own.
 use Rattle.std.specs.Prelude.{ℕ, List, [], ◌∷◌}
 use Rattle.std.specs.Prelude.{ℤ}
 use Rattle.py_token.specs.declared.token.Keyword.{Keyword}
@@ -36,10 +37,6 @@ mutual
   pub data PPieces : Type 0 where
     no_pieces : PPieces
     pieces : (p : PPiece) (ps : PPieces) → PPieces
-
--- what a token is
-abbrev pub kind_of : PToken → PKind
-kind_of (token kind first last) = kind
 
 -- the first line of a token
 abbrev pub first_of : PToken → ℕ

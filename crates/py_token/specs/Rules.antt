@@ -1,4 +1,10 @@
--- What a token is spelled by, where no f-string is meant.
+-- What a token is spelled by, where no f-string is meant (The Python Language Reference, "Lexical
+-- analysis").
+--     Match                               what a rule takes
+--     is_quote .. is_raw_prefix           characters
+--     joined .. raw_string                a string
+--     word_at, number_at, marked          a word, a number, a mark
+--     plain_token                         the longest of them
 use Rattle.std.specs.Prelude.{ℕ, ◌+◌, ◌-◌, Bool, true, false, ◌||◌, ◌&&◌, ◌==◌, List, [], ◌∷◌, ◌++◌, length, drop, Option, Some, None, Result, Ok, Err, if◌then◌else◌}
 use Rattle.std.specs.List.{prefix_len, take_while}
 use Rattle.std.specs.Char.{is_ascii_digit}
@@ -37,11 +43,18 @@ joined (xs ∷ xss) = xs ++ joined xss
 
 -- a string is one token
 abbrev pub match_text : List ℕ → Result (Body (List ℕ)) TokenError → Result Match TokenError
-match_text cs body = body >>= λ b. Ok (record { kind = str (joined b.values); after = length cs - length b.rest; next = b.next })
+match_text cs body =
+    body >>= λ b. Ok (record {
+      kind = str (joined b.values);
+      after = length cs - length b.rest;
+      next = b.next;
+    })
 
 -- a string, with these characters after its first quote; three quotes open a string in three
 abbrev pub string_at : Bool → ℕ → ℕ → List ℕ → Result Match TokenError
-string_at raw line quote cs = if doubled quote cs then match_text cs (text_body raw quote true line (drop 2 cs)) else match_text cs (text_body raw quote false line cs)
+string_at raw line quote cs =
+    if doubled quote cs then match_text cs (text_body raw quote true line (drop 2 cs))
+    else match_text cs (text_body raw quote false line cs)
 
 -- a token with one character more in front
 abbrev pub after_prefix : Result Match TokenError → Result Match TokenError
@@ -54,11 +67,18 @@ raw_string line (quote ∷ cs) = after_prefix (string_at true line quote cs)
 
 -- the word at the front
 abbrev pub word_at : ℕ → ℕ → List ℕ → Result Match TokenError
-word_at line c cs = Ok (record { kind = word_kind (c ∷ take_while in_name cs); after = prefix_len in_name cs; next = line })
+word_at line c cs =
+    Ok (record {
+      kind = word_kind (c ∷ take_while in_name cs);
+      after = prefix_len in_name cs;
+      next = line;
+    })
 
 -- the number at the front
 abbrev pub number_at : ℕ → ℕ → List ℕ → Result Match TokenError
-number_at line c cs = kind_of_number line (number_of c (take_while in_number cs)) >>= λ k. Ok (record { kind = k; after = prefix_len in_number cs; next = line })
+number_at line c cs =
+    kind_of_number line (number_of c (take_while in_number cs))
+    >>= λ k. Ok (record { kind = k; after = prefix_len in_number cs; next = line })
 
 -- a mark, or a character that no rule takes
 abbrev pub marked : ℕ → Option (Mark × ℕ) → Result Match TokenError

@@ -7,7 +7,8 @@ use Rattle.py_token.specs.Plain.{PKind}
 use Rattle.py_token.specs.Rules.{Match}
 use Rattle.py_token.specs.Fields.{is_blank, token_at}
 
--- a segment: a token, what stands between tokens, or the fault of a place where no rule takes anything
+-- a segment: a token, what stands between tokens, or the fault of a place where no rule takes
+-- anything
 pub data Lexeme : Type 0 where
   spelled : (kind : PKind) → Lexeme
   blank : (c : ℕ) → Lexeme
@@ -37,7 +38,8 @@ segment_at line c cs =
     if is_blank c then record { lexeme = blank c; after = 0; next = line }
     else (if c == 10 then record { lexeme = line_end; after = 0; next = line + 1 }
     else (if c == 35 then record { lexeme = comment; after = prefix_len in_comment cs; next = line }
-    else (if (c == 92) && begins 10 cs then record { lexeme = joined_end; after = 1; next = line + 1 }
+    else (if (c == 92) && begins 10 cs
+    then record { lexeme = joined_end; after = 1; next = line + 1 }
     else token_segment line (token_at line c cs))))
 
 -- a segment with the line where it begins and the line after it
@@ -50,4 +52,10 @@ pub record Place : Type 0 where
 unfoldable pub segments : ℕ → ℕ → List ℕ → List Place
 segments skip line [] = []
 segments (suc skip) line (c ∷ cs) = segments skip line cs
-segments zero line (c ∷ cs) = record { lexeme = (segment_at line c cs).lexeme; line = line; next = (segment_at line c cs).next } ∷ segments (segment_at line c cs).after (segment_at line c cs).next cs
+segments zero line (c ∷ cs) =
+    record {
+      lexeme = (segment_at line c cs).lexeme;
+      line = line;
+      next = (segment_at line c cs).next;
+    }
+    ∷ segments (segment_at line c cs).after (segment_at line c cs).next cs

@@ -28,4 +28,5 @@ OneFault = (text : List ℕ) (e f : TokenError) → StuckAt text e → StuckAt t
 
 -- no text both spells tokens and is stuck
 abbrev pub NeverBoth : Type 0
-NeverBoth = (text : List ℕ) (ts : List PToken) (e : TokenError) → Spells text ts → StuckAt text e → ⊥
+NeverBoth =
+    (text : List ℕ) (ts : List PToken) (e : TokenError) → Spells text ts → StuckAt text e → ⊥

@@ -14,12 +14,13 @@ use Rattle.py_token.specs.Numbers.{digits_value, is_digit_of}
 
 -- goes on with a value, and stops at a fault
 infixl 10 ◌>>=◌
-abbrev pub ◌>>=◌ : {A B : Type 0} → Result A TokenError → (A → Result B TokenError) → Result B TokenError
+abbrev pub ◌>>=◌ : {A B : Type 0} → Result A TokenError → (A → Result B TokenError)
+    → Result B TokenError
 (Ok x) >>= f = f x
 (Err e) >>= f = Err e
 
--- An item of a string is what stands at a place in it: something that the string holds, with the number of characters after the first and the line after it;
--- the closing marks; or a fault.
+-- An item of a string is what stands at a place in it: something that the string holds, with the
+-- number of characters after the first and the line after it; the closing marks; or a fault.
 pub data StringItem (A : Type 0) : Type 0 where
   holds : (value : A) (after next : ℕ) → StringItem A
   closing : (after : ℕ) → StringItem A
@@ -49,7 +50,8 @@ escaped c =
 
 -- how many hexadecimal digits a letter after a backslash asks for
 abbrev pub digits_asked : ℕ → Option ℕ
-digits_asked c = if c == 120 then Some 2 else (if c == 117 then Some 4 else (if c == 85 then Some 8 else None))
+digits_asked c =
+    if c == 120 then Some 2 else (if c == 117 then Some 4 else (if c == 85 then Some 8 else None))
 
 -- code points but the surrogates
 abbrev pub is_character : ℕ → Bool
@@ -58,7 +60,8 @@ is_character n = nat_lt n 0xD800 || (nat_lt 0xDFFF n && nat_lt n 0x110000)
 -- so many hexadecimal digits after the letter
 unfoldable pub hex_item : ℕ → ℕ → List ℕ → StringItem (List ℕ)
 hex_item line n cs =
-    if (length (take n cs) == n) && list_all (is_digit_of 16) (take n cs) && is_character (digits_value 16 0 (take n cs))
+    if (length (take n cs) == n) && list_all (is_digit_of 16) (take n cs)
+    && is_character (digits_value 16 0 (take n cs))
     then holds (digits_value 16 0 (take n cs) ∷ []) (n + 1) line
     else fault (BadCharacter line)
 
@@ -82,12 +85,14 @@ hex_or None line d ds = other_item line d
 -- the character of an escape, or else digits
 abbrev pub escaped_or : Option ℕ → ℕ → ℕ → List ℕ → StringItem (List ℕ)
 escaped_or (Some c) line d ds = holds (c ∷ []) 1 line
-escaped_or None line d ds = if is_digit_of 8 d then octal_item line (d ∷ ds) else hex_or (digits_asked d) line d ds
+escaped_or None line d ds =
+    if is_digit_of 8 d then octal_item line (d ∷ ds) else hex_or (digits_asked d) line d ds
 
 -- a backslash, with these characters after it
 abbrev pub escape_item : ℕ → List ℕ → StringItem (List ℕ)
 escape_item line [] = holds (92 ∷ []) 0 line
-escape_item line (d ∷ ds) = if d == 10 then holds [] 1 (line + 1) else escaped_or (escaped d) line d ds
+escape_item line (d ∷ ds) =
+    if d == 10 then holds [] 1 (line + 1) else escaped_or (escaped d) line d ds
 
 -- in a raw string a backslash and the character after it both stay
 abbrev pub raw_item : ℕ → List ℕ → StringItem (List ℕ)
@@ -102,7 +107,8 @@ unfoldable pub text_item : Bool → ℕ → Bool → ℕ → ℕ → ℕ → Lis
 text_item raw quote triple first line c cs =
     if closes quote triple c cs then closing (if triple then 2 else 0)
     else (if c == 13 then fault (BadCharacter line)
-    else (if c == 10 then (if triple then holds (10 ∷ []) 0 (line + 1) else fault (OpenString first))
+    else (if c == 10
+    then (if triple then holds (10 ∷ []) 0 (line + 1) else fault (OpenString first))
     else (if c == 92 then (if raw then raw_item line cs else escape_item line cs)
     else holds (c ∷ []) 0 line)))
 
@@ -129,16 +135,22 @@ next_of (closing after) line = line
 next_of (fault e) line = line
 
 -- an item, and then the others of the string
-abbrev pub with_item : {A : Type 0} → StringItem A → ℕ → List ℕ → Result (Body A) TokenError → Result (Body A) TokenError
+abbrev pub with_item : {A : Type 0} → StringItem A → ℕ → List ℕ → Result (Body A) TokenError
+    → Result (Body A) TokenError
 with_item (holds x after next) line cs body = more_of x body
-with_item (closing after) line cs body = Ok (record { values = []; rest = drop after cs; next = line })
+with_item (closing after) line cs body =
+    Ok (record { values = []; rest = drop after cs; next = line })
 with_item (fault e) line cs body = Err e
 
--- The items of a string after its opening marks, up to the closing ones. The first characters are passed over.
-unfoldable pub body_of : {A : Type 0} → (ℕ → ℕ → List ℕ → StringItem A) → ℕ → ℕ → ℕ → List ℕ → Result (Body A) TokenError
+-- The items of a string after its opening marks, up to the closing ones. The first characters are
+-- passed over.
+unfoldable pub body_of : {A : Type 0} → (ℕ → ℕ → List ℕ → StringItem A) → ℕ → ℕ → ℕ → List ℕ
+    → Result (Body A) TokenError
 body_of item first skip line [] = Err (OpenString first)
 body_of item first (suc skip) line (c ∷ cs) = body_of item first skip line cs
-body_of item first zero line (c ∷ cs) = with_item (item line c cs) line cs (body_of item first (after_of (item line c cs)) (next_of (item line c cs) line) cs)
+body_of item first zero line (c ∷ cs) =
+    with_item (item line c cs) line cs
+    (body_of item first (after_of (item line c cs)) (next_of (item line c cs) line) cs)
 
 -- a string after its opening marks
 unfoldable pub text_body : Bool → ℕ → Bool → ℕ → List ℕ → Result (Body (List ℕ)) TokenError

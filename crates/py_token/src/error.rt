@@ -6,7 +6,8 @@ ghost use Rattle.py_token.specs.declared.error.TokenError.TheVariants.{NoMemory}
 use std::alloc::{AllocError, AllocFailed};
 use thiserror::Error;
 
-/// Why no list of tokens spells a text, with the line of the place that can't be read. Lines count from 1.
+/// Why no list of tokens spells a text, with the line of the place that can't be read. Lines count
+/// from 1.
 #[derive(Debug, Drop, Error)]
 pub enum TokenError {
     /// A character that no rule takes, a bad escape or a malformed number.

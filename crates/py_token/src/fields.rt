@@ -141,8 +141,8 @@ fn ends_field(c: char, depth: usize) -> bool
     c == '}' && depth == 0
 }
 
-/// The tokens of a field up to the first `}` with no bracket of the field open. The characters are those of its reach;
-/// a field that is not closed in them has the fault `limit`.
+/// The tokens of a field up to the first `}` with no bracket of the field open. The characters are
+/// those of its reach; a field that is not closed in them has the fault `limit`.
 pub fn field_tokens(
     alloc: Global,
     limit: TokenError,

@@ -1,12 +1,12 @@
 // F-strings after their opening marks.
 
-ghost use Rattle.std.specs.Prelude.{◌≡◌, ◌≤◌, ◌<◌, ◌+◌, ◌^◌, ◌++◌, ◌∷◌, [], length, false, OnOk};
+ghost use Rattle.std.specs.Prelude.{◌≡◌, ◌≤◌, ◌<◌, ◌+◌, ◌^◌, ◌∷◌, [], length, false, OnOk};
 ghost use Rattle.py_token.specs.Source.{line_count};
-ghost use Rattle.py_token.specs.Fields.{reach, chars_item, field_item, fstring_item, fstring_body, fstring_at};
+ghost use Rattle.py_token.specs.Fields.{reach, chars_item, fstring_at};
 ghost use Rattle.py_token.specs.StringItems.{item_of};
-ghost use Rattle.py_token.specs.View.{view_piece, view_pieces};
+ghost use Rattle.py_token.specs.View.{view_piece};
 ghost use Rattle.py_token.specs.ViewMatch.{view_match, view_field};
-ghost use Rattle.py_token.specs.ViewPieces.{opens_field, field_at, ended, PushesField, pieces_of, view_fstring, token_at_of};
+ghost use Rattle.py_token.specs.ViewPieces.{opens_field, piece_after, field_after, ended, AppendsPieces, AppendsField, pieces_after, view_fstring, token_at_of};
 ghost use Rattle.py_token.specs.Answers.{Gives};
 
 use crate::characters::{after, begins, doubled, front, split_first};
@@ -37,7 +37,7 @@ fn piece_item(
     requires on_a_line { line < 65536 }
     requires not_raw { opening.raw ≡ false }
     requires no_field { false ≡ opens_field c others.now }
-    ensures { chars_item (item_of result) ≡ fstring_item opening.quote opening.triple opening.line line c others.now }
+    ensures { chars_item (item_of result) ≡ piece_after opening line c others.now }
 {
     if c == '{' {
         return Ok(StringItem::Holds(Denoted::One('{'), 1, line));
@@ -51,10 +51,11 @@ fn piece_item(
     text_item(opening, line, c, others)
 }
 
-/// How many characters are left at the end of a field's reach. It is known from an earlier field where the reach goes
-/// on, so that no character is looked at twice.
+/// How many characters are left at the end of a field's reach. It is known from an earlier field
+/// where the reach goes on, so that no character is looked at twice.
 fn limit_at(opening: Opening, limit: usize, others: &[char]) -> usize
-    requires { limit ≤ length others.now → reach opening.quote opening.triple others.now + limit ≡ length others.now }
+    requires { limit ≤ length others.now
+        → reach opening.quote opening.triple others.now + limit ≡ length others.now }
     ensures { reach opening.quote opening.triple others.now + result ≡ length others.now }
 {
     if limit <= others.len() {
@@ -74,7 +75,7 @@ fn field_at(
     requires reached { n ≡ reach opening.quote opening.triple others.now }
     requires lines { line + line_count others.now ≤ 65536 }
     requires few { length others.now < 2 ^ 63 }
-    ensures { Gives view_field result (field_at opening.quote opening.triple opening.line line others.now) }
+    ensures { Gives view_field result (field_after opening line others.now) }
 {
     let limit = limit_fault(opening, line, after(others, n));
     field_tokens(alloc, limit, line, front(others, n))
@@ -82,7 +83,7 @@ fn field_at(
 
 /// Ends a piece of characters, where there are any.
 fn end_chars(pieces: &mut Vec<Piece>, held: Text) -> Result<(), AllocError>
-    ensures { OnOk result (view_pieces pieces.new.items ≡ view_pieces pieces.old.items ++ ended held) }
+    ensures { OnOk result (AppendsPieces (ended held) pieces.old pieces.new) }
 {
     if held.is_empty() {
         return Ok(());
@@ -91,14 +92,14 @@ fn end_chars(pieces: &mut Vec<Piece>, held: Text) -> Result<(), AllocError>
 }
 
 fn push_piece(pieces: &mut Vec<Piece>, piece: Piece) -> Result<(), AllocError>
-    ensures { OnOk result (view_pieces pieces.new.items ≡ view_pieces pieces.old.items ++ view_piece piece ∷ []) }
+    ensures { OnOk result (AppendsPieces (view_piece piece ∷ []) pieces.old pieces.new) }
 {
     pieces.push(piece)?;
     Ok(())
 }
 
-/// A field with a reach of `n` characters, after the characters that were held. Answers how many characters it has
-/// after its `{`.
+/// A field with a reach of `n` characters, after the characters that were held. Answers how many
+/// characters it has after its `{`.
 fn push_field(
     alloc: Global,
     pieces: &mut Vec<Piece>,
@@ -111,7 +112,7 @@ fn push_field(
     requires reached { n ≡ reach opening.quote opening.triple others.now }
     requires lines { line + line_count others.now ≤ 65536 }
     requires few { length others.now < 2 ^ 63 }
-    ensures { PushesField result (field_item opening.quote opening.triple opening.line line others.now) line held (view_pieces pieces.old.items) (view_pieces pieces.new.items) }
+    ensures { AppendsField result opening line others.now held pieces.old pieces.new }
 {
     let field = field_at(alloc, opening, line, others, n)?;
     let left = field.left;
@@ -120,8 +121,8 @@ fn push_field(
     Ok(n - left)
 }
 
-/// An f-string after its opening marks: its pieces, how many characters are left after its closing marks, and the
-/// line where it ends.
+/// An f-string after its opening marks: its pieces, how many characters are left after its closing
+/// marks, and the line where it ends.
 #[derive(Drop)]
 pub struct FStringBody {
     pub pieces: Vec<Piece>,
@@ -137,7 +138,7 @@ pub fn fstring_body(
     requires not_raw { opening.raw ≡ false }
     requires lines { opening.line + line_count chars.now ≤ 65536 }
     requires few { length chars.now < 2 ^ 63 }
-    ensures { Gives view_fstring result (pieces_of (fstring_body opening.quote opening.triple opening.line chars.now)) }
+    ensures { Gives view_fstring result (pieces_after opening chars.now) }
 {
     let mut pieces = Vec::new(alloc);
     let mut held = Text::new(alloc);

@@ -1,11 +1,10 @@
 // From segments to tokens: logical lines, brackets and indentation.
 
-ghost use Rattle.std.specs.Prelude.{◌≡◌, ◌++◌, OnOk};
+ghost use Rattle.std.specs.Prelude.{◌≡◌, OnOk};
 ghost use Rattle.py_token.specs.Words.{same_text};
-ghost use Rattle.py_token.specs.View.{view_kind, view_tokens};
-ghost use Rattle.py_token.specs.Layout.{is_within, current, dedents, block_tokens, line_begins, changed, spelled_at, line_ends, put, closing_tokens};
-ghost use Rattle.py_token.specs.ViewLayout.{Adds, stack_of, view_state, ended};
-ghost use Rattle.py_token.specs.ViewMatch.{view_change};
+ghost use Rattle.py_token.specs.View.{view_kind};
+ghost use Rattle.py_token.specs.Layout.{is_within, current, dedents, block_tokens, line_begins, spelled_at, line_ends, put, closing_tokens};
+ghost use Rattle.py_token.specs.ViewLayout.{stack_of, view_state, after_change, ended, Appends, Closes, Lays, Indents};
 ghost use Rattle.py_token.specs.ViewSegments.{view_lexeme};
 
 use crate::error::TokenError;
@@ -15,9 +14,9 @@ use crate::segments::Lexeme;
 use crate::token::{Token, TokenKind};
 use std::alloc::{AllocError, Global};
 
-/// Where the reading of a text stands: the indentations that are open and the lines of the open brackets, the
-/// innermost last; whether the logical line has a token; the blanks before its first one, and whether a backslash has
-/// ended them.
+/// Where the reading of a text stands: the indentations that are open and the lines of the open
+/// brackets, the innermost last; whether the logical line has a token; the blanks before its first
+/// one, and whether a backslash has ended them.
 pub struct State {
     pub indents: Vec<Vec<char>>,
     pub brackets: Vec<u32>,
@@ -62,7 +61,7 @@ fn dedent(
     tokens: &mut Vec<Token>,
     line: u32,
 ) -> Result<(), TokenError>
-    ensures { Adds (dedents blanks.now line (stack_of indents.old.items)) result (stack_of indents.new.items) (view_tokens tokens.old.items) (view_tokens tokens.new.items) }
+    ensures { Indents (dedents blanks.now line) result indents.old indents.new tokens.old tokens.new }
 {
     match indents.pop() {
         None => {
@@ -102,7 +101,7 @@ fn block(
     tokens: &mut Vec<Token>,
     line: u32,
 ) -> Result<(), TokenError>
-    ensures { Adds (block_tokens blanks.now line (stack_of indents.old.items)) result (stack_of indents.new.items) (view_tokens tokens.old.items) (view_tokens tokens.new.items) }
+    ensures { Indents (block_tokens blanks.now line) result indents.old indents.new tokens.old tokens.new }
 {
     if goes_in(indents, blanks) {
         push_token(tokens, TokenKind::Indent, line, line)?;
@@ -120,7 +119,7 @@ fn begin(
     tokens: &mut Vec<Token>,
     line: u32,
 ) -> Result<(), TokenError>
-    ensures { Adds (line_begins (view_state state.old) line) result (view_state state.new) (view_tokens tokens.old.items) (view_tokens tokens.new.items) }
+    ensures { Lays (λ s. line_begins s line) result state.old state.new tokens.old tokens.new }
 {
     if state.begun {
         return Ok(());
@@ -139,7 +138,8 @@ fn add(
     line: u32,
     next: u32,
 ) -> Result<(), TokenError>
-    ensures { Adds (spelled_at (view_state state.old) (view_kind kind) line next) result (view_state state.new) (view_tokens tokens.old.items) (view_tokens tokens.new.items) }
+    ensures { Lays (λ s. spelled_at s (view_kind kind) line next) result
+        state.old state.new tokens.old tokens.new }
 {
     begin(alloc, state, tokens, line)?;
     let change = change_of(&kind);
@@ -150,7 +150,7 @@ fn add(
 
 /// Opens or shuts a bracket.
 fn change_brackets(state: &mut State, change: BracketChange, line: u32) -> Result<(), AllocError>
-    ensures { OnOk result (view_state state.new ≡ record (view_state state.old) { brackets = changed (view_change change) line (view_state state.old).brackets }) }
+    ensures { OnOk result (view_state state.new ≡ after_change change line state.old) }
 {
     match change {
         BracketChange::Opening => {
@@ -167,7 +167,7 @@ fn change_brackets(state: &mut State, change: BracketChange, line: u32) -> Resul
 
 /// The end of a line.
 fn end_line(state: &mut State, tokens: &mut Vec<Token>, line: u32) -> Result<(), TokenError>
-    ensures { Adds (line_ends (view_state state.old) line) result (view_state state.new) (view_tokens tokens.old.items) (view_tokens tokens.new.items) }
+    ensures { Lays (λ s. line_ends s line) result state.old state.new tokens.old tokens.new }
 {
     if !state.brackets.is_empty() {
         return Ok(());
@@ -191,7 +191,8 @@ pub fn put(
     line: u32,
     next: u32,
 ) -> Result<(), TokenError>
-    ensures { Adds (put (view_state state.old) (view_lexeme lexeme) line next) result (view_state state.new) (view_tokens tokens.old.items) (view_tokens tokens.new.items) }
+    ensures { Lays (λ s. put s (view_lexeme lexeme) line next) result
+        state.old state.new tokens.old tokens.new }
 {
     match lexeme {
         Lexeme::Spelled(kind) => add(alloc, state, tokens, kind, line, next),
@@ -217,7 +218,7 @@ pub fn put(
 
 /// The dedents that are open at the end of a text, and its end.
 fn close(tokens: &mut Vec<Token>, count: usize, line: u32) -> Result<(), AllocError>
-    ensures { OnOk result (view_tokens tokens.new.items ≡ view_tokens tokens.old.items ++ closing_tokens line count) }
+    ensures { OnOk result (Appends (closing_tokens line count) tokens.old tokens.new) }
 {
     if count == 0 {
         return push_token(tokens, TokenKind::End, line, line);
@@ -228,7 +229,7 @@ fn close(tokens: &mut Vec<Token>, count: usize, line: u32) -> Result<(), AllocEr
 
 /// The tokens at the end of a text whose last line is that one.
 pub fn finish(state: State, tokens: &mut Vec<Token>, last: u32) -> Result<(), TokenError>
-    ensures { Adds (ended (view_state state) last) result tt (view_tokens tokens.old.items) (view_tokens tokens.new.items) }
+    ensures { Closes (ended (view_state state) last) result tokens.old tokens.new }
 {
     if let Some(line) = state.brackets.last() {
         return Err(TokenError::OpenBracket(*line));

@@ -1,4 +1,5 @@
-//! Turns the text of a source into its tokens: `count_lines` tells whether a text is short enough, `tokens` cuts it.
+//! Turns the text of a source into its tokens: `count_lines` tells whether a text is short enough,
+//! and `tokens` cuts it.
 #![tactic(auto)]
 
 mod characters;

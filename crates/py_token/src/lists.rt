@@ -1,8 +1,9 @@
 // Lists of tokens.
 
-ghost use Rattle.std.specs.Prelude.{◌≡◌, ◌++◌, ◌∷◌, [], OnOk};
+ghost use Rattle.std.specs.Prelude.{◌∷◌, [], OnOk};
 ghost use Rattle.py_token.specs.Plain.{token};
-ghost use Rattle.py_token.specs.View.{view_kind, view_tokens};
+ghost use Rattle.py_token.specs.View.{view_kind};
+ghost use Rattle.py_token.specs.ViewLayout.{Appends};
 
 use crate::token::{Token, TokenKind};
 use std::alloc::AllocError;
@@ -13,7 +14,7 @@ pub fn push_token(
     first: u32,
     last: u32,
 ) -> Result<(), AllocError>
-    ensures { OnOk result (view_tokens tokens.new.items ≡ view_tokens tokens.old.items ++ token (view_kind kind) first last ∷ []) }
+    ensures { OnOk result (Appends (token (view_kind kind) first last ∷ []) tokens.old tokens.new) }
 {
     tokens.push(Token { kind, first, last })?;
     Ok(())

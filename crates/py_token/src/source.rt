@@ -7,8 +7,9 @@ ghost use Rattle.py_token.specs.Source.{begins, without_mark, joined_ends, sourc
 use crate::characters::{begins, split_first};
 use std::alloc::{AllocError, Global};
 
+/// How many lines a source stands on. A last line without a line end counts, and an empty source
+/// has none.
 #[tactic(auto, unfolding(crate::specs::Source::line_count))]
-/// How many lines a source stands on. A last line without a line end counts, and an empty source has none.
 pub fn count_lines(source: &str) -> usize
     ensures { result ≡ line_count (chars source.now) }
 {
@@ -23,8 +24,8 @@ pub fn count_lines(source: &str) -> usize
     if open { ends + 1 } else { ends }
 }
 
-#[tactic(auto, unfolding(crate::specs::Source::line_count))]
 /// The last line of characters, or 1 where they have none.
+#[tactic(auto, unfolding(crate::specs::Source::line_count))]
 pub fn last_line(chars: &[char]) -> u32
     requires { line_count chars.now ≤ 65535 }
     ensures { result ≡ last_line chars.now }

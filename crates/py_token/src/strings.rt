@@ -4,8 +4,8 @@ ghost use Rattle.std.specs.Prelude.{◌≡◌, ◌≤◌, ◌<◌, ◌+◌, ◌+
 ghost use Rattle.std.specs.List.{list_all};
 ghost use Rattle.py_token.specs.Numbers.{is_digit_of};
 ghost use Rattle.py_token.specs.Source.{line_count};
-ghost use Rattle.py_token.specs.Strings.{closes, escaped, digits_asked, is_character, hex_item, octal_len, octal_item, escape_item, raw_item, text_item, text_body};
-ghost use Rattle.py_token.specs.StringItems.{denoted_text, item_of, text_of, view_text};
+ghost use Rattle.py_token.specs.Strings.{closes, escaped, digits_asked, is_character, hex_item, octal_len, octal_item, escape_item, raw_item};
+ghost use Rattle.py_token.specs.StringItems.{denoted_text, item_of, item_after, text_after, view_text};
 ghost use Rattle.py_token.specs.Answers.{Gives};
 
 use crate::characters::{after, doubled, split_first};
@@ -188,7 +188,7 @@ pub fn text_item(
     others: &[char],
 ) -> Result<StringItem, TokenError>
     requires { line < 65536 }
-    ensures { item_of result ≡ text_item opening.raw opening.quote opening.triple opening.line line c others.now }
+    ensures { item_of result ≡ item_after opening line c others.now }
 {
     if closes(opening, c, others) {
         return Ok(StringItem::Closing(if opening.triple { 2 } else { 0 }));
@@ -224,8 +224,8 @@ pub fn push_denoted(text: &mut Text, denoted: Denoted) -> Result<(), NoMemory>
     }
 }
 
-/// A string after its opening marks: its text, how many characters are left after its closing marks, and the line
-/// where it ends.
+/// A string after its opening marks: its text, how many characters are left after its closing
+/// marks, and the line where it ends.
 #[derive(Drop)]
 pub struct TextBody {
     pub text: Text,
@@ -235,7 +235,7 @@ pub struct TextBody {
 
 pub fn text_body(alloc: Global, opening: Opening, chars: &[char]) -> Result<TextBody, TokenError>
     requires { opening.line + line_count chars.now ≤ 65536 }
-    ensures { Gives view_text result (text_of (text_body opening.raw opening.quote opening.triple opening.line chars.now)) }
+    ensures { Gives view_text result (text_after opening chars.now) }
 {
     let mut text = Text::new(alloc);
     let first = opening.line;

@@ -1,6 +1,6 @@
 // The tokens of a source.
 
-ghost use Rattle.std.specs.Prelude.{◌≡◌, ◌≢◌, ◌≤◌, ◌<◌, ◌^◌, length, IfOk, IfErr};
+ghost use Rattle.std.specs.Prelude.{◌≢◌, ◌≤◌, ◌<◌, ◌^◌, length, IfOk, IfErr};
 ghost use Rattle.std.specs.Str.{chars};
 ghost use Rattle.py_token.specs.Source.{line_count, source_text};
 ghost use Rattle.py_token.specs.Spelling.{spelling, Spells, StuckAt};
@@ -16,8 +16,8 @@ use crate::source::{last_line, source_text};
 use crate::token::Token;
 use std::alloc::Global;
 
-/// The tokens of a source of at most 65,535 lines. A token keeps the first and the last line of its text; lines count
-/// from 1.
+/// The tokens of a source of at most 65,535 lines. A token keeps the first and the last line of its
+/// text; lines count from 1.
 #[tactic(auto, unfolding(crate::specs::Spelling::Spells, crate::specs::Spelling::StuckAt))]
 pub fn tokens(alloc: Global, source: &str) -> Result<Vec<Token>, TokenError>
     requires { line_count (chars source.now) ≤ 65535 }
