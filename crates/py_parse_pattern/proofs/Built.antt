@@ -1,12 +1,9 @@
 -- Patterns made of others, and their heights.
 use Rattle.std.proofs.Common.{◌≡◌, ℕ, suc, ◌+◌, max, nat_eq, Bool, true, false, List, [], ◌∷◌, ◌++◌, length, refl, sym, ap, ◌∙◌, arith}
 use Rattle.std.proofs.lemmas.Bool.{ne_eqb}
-use Rattle.py_syntax.specs.declared.pattern.Brackets.TheVariants as brackets_
 use Rattle.py_syntax.specs.Tree.{Pattern, sequence, p_or, Patterns, no_patterns, patterns}
 use Rattle.py_syntax.specs.Normal.{pattern_height, pattern_heights}
 use Rattle.py_parse_pattern.specs.Machine.{snoc, is_some, is_underscore, joined}
-use Rattle.py_token.specs.declared.token.Keyword.TheVariants as word
-use Rattle.py_token.specs.declared.token.Mark.TheVariants as mark
 use Rattle.std.proofs.Common.{not}
 use Rattle.std.specs.Prelude.{◌==◌}
 use Rattle.std.specs.Prelude.{encode_utf8_all}
@@ -45,10 +42,6 @@ same_underscore name bytes encoded decoded = go (pointwise nat_eq bytes (95 ∷ 
     go : (b : Bool) → pointwise nat_eq bytes (95 ∷ []) ≡ b → b ≡ is_underscore name
     go true is = let same = same_text bytes (95 ∷ []) (sym is) in let it : name ≡ 95 ∷ [] = sym decoded ∙ ap chars same in sym (ap is_underscore it)
     go false is = is_it (is_underscore name) refl is
-
-pub is_none : (ps : Patterns) → is_some ps ≡ false → ps ≡ no_patterns
-is_none no_patterns h = refl
-is_none (patterns p ps) h = absurd cc
 
 pub joined_some : (ps : Patterns) (p : Pattern) → is_some ps ≡ true → joined ps p ≡ p_or (snoc ps p)
 joined_some no_patterns p h = absurd cc

@@ -6,7 +6,7 @@ use Rattle.py_syntax.specs.Tree.{Text, Constant, c_int, c_str, c_none, c_bool, P
 use Rattle.py_syntax.specs.Kinds.{Kind, Name, Word, Str, Sign}
 use Rattle.py_syntax.specs.Tokens.{comma_if, strings, minus_if, constant, pattern_tokens, pattern_items, more_patterns, alternatives}
 use Rattle.py_syntax.specs.Normal.{NormalPattern, pattern_height}
-use Rattle.py_parse_pattern.specs.Machine.{TokenClass, a_name, a_number, a_string, a_none, a_bool, a_minus, opens, shuts, a_bar, an_as, a_comma, a_dot, other, class, same_bracket, is_underscore, named, joined, enclosed, ended, Frame, frame, Stack, stack, State, Want, Minus, Named, Dotted, Strings, Have, Naming, Item, Out, Next, Stuck, Left, offer, give, leave, shut, wanting, begin, act, step, start, Leaves, run, put, whole, closed, settled, finished, least, Ending, Unexpected, TooDeep, within}
+use Rattle.py_parse_pattern.specs.Machine.{TokenClass, a_name, a_number, a_string, a_none, a_bool, a_minus, opens, shuts, a_bar, an_as, a_comma, a_dot, other, class, same_bracket, is_underscore, named, joined, enclosed, ended, Frame, frame, Stack, stack, State, Want, Minus, Named, Dotted, Strings, Have, Naming, Item, Out, Next, Stuck, Left, offer, give, shut, wanting, begin, act, step, start, Leaves, run, put, whole, closed, settled, finished, least, Ending, Unexpected, TooDeep, within}
 use Rattle.py_token.specs.declared.token.Keyword.TheVariants as word
 use Rattle.py_token.specs.declared.token.Mark.TheVariants as mark
 use Rattle.std.proofs.lemmas.List.{append-nil}

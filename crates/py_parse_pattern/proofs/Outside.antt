@@ -1,11 +1,8 @@
 -- What is open outside the innermost brackets is never higher than what was read.
 use Rattle.std.proofs.Common.{◌≡◌, ℕ, ◌+◌, ◌≤◌, max, pos, Bool, true, false, cond, List, [], ◌∷◌, subst, arith}
-use Rattle.py_syntax.specs.declared.pattern.Brackets.TheVariants as brackets_
 use Rattle.py_syntax.specs.Tree.{c_int, c_str, Pattern, literal, member, p_as, Patterns, no_patterns, patterns}
 use Rattle.py_syntax.specs.Normal.{pattern_height, pattern_heights}
 use Rattle.py_parse_pattern.specs.Machine.{TokenClass, a_name, a_number, a_string, a_none, a_bool, a_minus, opens, shuts, a_bar, an_as, a_comma, a_dot, same_bracket, is_underscore, named, joined, enclosed, ended, Frame, frame, Stack, stack, State, Want, Minus, Named, Dotted, Strings, Have, Naming, Item, Out, Next, Stuck, offer, give, shut, wanting, begin, act, put, whole, settled, some_name, least}
-use Rattle.py_token.specs.declared.token.Keyword.TheVariants as word
-use Rattle.py_token.specs.declared.token.Mark.TheVariants as mark
 use Rattle.py_parse_pattern.specs.Heights.{depth, base, base_closed, base_outside}
 use Rattle.py_parse_pattern.proofs.Least.{put_height, whole_height, settled_low}
 

@@ -1,21 +1,12 @@
 -- From the code's walk over the tokens to what it answers.
-use Rattle.std.proofs.Common.{◌≡◌, ℕ, suc, ◌+◌, ◌≤◌, ◌<◌, Bool, cond, List, ◌∷◌, length, drop, nat_le, get_or, Result, Ok, Err, sym, ap, subst, ◌∙◌, arith}
+use Rattle.std.proofs.Common.{◌≡◌, ℕ, ◌+◌, ◌≤◌, ◌<◌, Bool, cond, List, ◌∷◌, length, drop, nat_le, get_or, Result, Ok, Err, sym, ap, subst, ◌∙◌, arith}
 use Rattle.std.proofs.lemmas.Bool.{le-leb, lt-leb}
-use Rattle.py_syntax.specs.declared.pattern.Brackets.TheVariants as brackets_
 use Rattle.py_syntax.specs.Tree.{Pattern}
 use Rattle.py_syntax.specs.Kinds.{Kind}
 use Rattle.py_parse_pattern.specs.Machine.{State, Out, Next, Stuck, Left, inside, step, start, least, Ending, Unexpected, TooDeep, within}
-use Rattle.py_token.specs.declared.token.Keyword.TheVariants as word
-use Rattle.py_token.specs.declared.token.Mark.TheVariants as mark
-use Rattle.std.proofs.lemmas.List.{drop-map, length-map, drop_all}
-use Rattle.std.proofs.Math.Seq.{drop-cons}
-use Rattle.std.proofs.Common.{add-one}
-use Rattle.py_token.specs.declared.token.Token.{Token, out-Token}
-use Rattle.py_token.specs.Plain as plain_
-use Rattle.py_token.specs.View.{view_token, view_tokens, view_kind}
-use Rattle.py_token.proofs.Views.{plain-token}
+use Rattle.std.proofs.lemmas.List.{drop_all}
+use Rattle.py_token.specs.declared.token.Token.{Token}
 use Rattle.py_syntax.specs.Spelling.{HEIGHT}
-use Rattle.py_syntax.specs.Kinds.{bare, bare_token, bare_kind}
 use Rattle.py_syntax.specs.View.{plain_pattern}
 use Rattle.py_parse_pattern.specs.declared.reader.Reader.{Reader}
 use Rattle.py_parse_pattern.specs.declared.patterns.PatternRead.{PatternRead}
@@ -41,11 +32,6 @@ pub record Reading (ts : List Kind) (at place : ℕ) (r : Reader) : Type 0 where
 
 abbrev ending : Out → Kind → List Kind → Ending
 ending o t ts = elim o as (λ (w : Out). Ending) [ Next n ↦ cond (nat_le (least n) HEIGHT) (within HEIGHT n ts) (TooDeep (t ∷ ts)) | Stuck ↦ Unexpected (t ∷ ts) | Left p ↦ machine.Reads p (t ∷ ts) ]
-
-pub starts : (ts : List Kind) (at : ℕ) (r : Reader) → at ≤ length ts → view_reader r ≡ start → Valid HEIGHT r → Reading ts at at r
-starts ts at r le is valid =
-    let e = ap least is in
-    record { forward = omega arith; inside = le; same = ap (λ (s : State). within HEIGHT s (drop at ts)) (sym is); valid = valid; low = omega arith }
 
 stepped : (ts : List Kind) (at place : ℕ) (r : Reader) (t : Kind) (o : Out) → Reading ts at place r → drop place ts ≡ t ∷ drop (place + 1) ts → step (view_reader r) t ≡ o → within HEIGHT start (drop at ts) ≡ ending o t (drop (place + 1) ts)
 stepped ts at place r t o h there is = h.same ∙ ap (within HEIGHT (view_reader r)) there ∙ ap (λ (w : Out). ending w t (drop (place + 1) ts)) is

@@ -1,13 +1,10 @@
 -- What the open rows keep, as the code holds them.
 use Rattle.std.proofs.Common.{◌≡◌, ℕ, suc, ◌+◌, ◌≤◌, max, List, [], ◌∷◌, ◌++◌, length, refl, sym, ap, subst, ◌∙◌, arith}
-use Rattle.py_syntax.specs.declared.pattern.Brackets.TheVariants as brackets_
 use Rattle.py_syntax.specs.Tree.{Pattern, Patterns, no_patterns, patterns}
 use Rattle.py_syntax.specs.Tokens.{alternatives}
 use Rattle.py_syntax.specs.Normal.{pattern_height, pattern_heights}
 use Rattle.py_parse_pattern.specs.declared.token_classes.Bracket.{Bracket}
-use Rattle.py_parse_pattern.specs.Machine.{opens, snoc, joined, enclosed, Frame, frame}
-use Rattle.py_token.specs.declared.token.Keyword.TheVariants as word
-use Rattle.py_token.specs.declared.token.Mark.TheVariants as mark
+use Rattle.py_parse_pattern.specs.Machine.{snoc, joined, enclosed, Frame, frame}
 use Rattle.std.proofs.Common.{map, reverse}
 use Rattle.std.proofs.lemmas.List.{reverse-append}
 use Rattle.py_syntax.specs.Spelling.{HEIGHT}
@@ -18,7 +15,7 @@ use Rattle.py_parse_pattern.specs.declared.reader.Row as held_row
 use Rattle.py_parse_pattern.specs.declared.reader.Frame as held_frame
 use Rattle.py_parse_pattern.specs.declared.reader.Rows.{Rows}
 use Rattle.py_parse_pattern.specs.Views.{view_measured, view_many, AreMeasured, Makes}
-use Rattle.py_parse_pattern.specs.Rows.{view_frame, view_frames, ValidRow, ValidRows, ValidFrames, ValidMeasured, SLACK, depth_after}
+use Rattle.py_parse_pattern.specs.Rows.{view_frame, view_frames, ValidRow, ValidRows, ValidMeasured, SLACK, depth_after}
 use Rattle.py_parse_pattern.proofs.Built.{pushed_height}
 use Rattle.py_parse_pattern.proofs.Least.{joined_height, enclosed_height, levels_snoc}
 
@@ -28,33 +25,6 @@ loosen_row r fs k =
     let two = k.low_alternatives in
     let three = k.shallow in
     record { items = k.items; alternatives = k.alternatives; depth_is = k.depth_is; low_items = omega arith; low_alternatives = omega arith; shallow = omega arith }
-
-reversed : {A : Type 0} (xs : List A) (x : A) → reverse (xs ++ x ∷ []) ≡ x ∷ reverse xs
-reversed xs x = reverse-append xs (x ∷ [])
-
-pub viewed_push : (fs : List held_frame.Frame) (f : held_frame.Frame) → view_frames (fs ++ f ∷ []) ≡ view_frame f ∷ view_frames fs
-viewed_push fs f = ap (map view_frame) (reversed fs f)
-
--- a bracket opens
-pub opened : (row : held_row.Row) (frames new : List held_frame.Frame) (b : Bracket) (inner : held_row.Row) →
-    ValidRow HEIGHT row (view_frames frames) → ValidFrames (reverse frames) → new ≡ frames ++ record { bracket = b; outer = row } ∷ [] →
-    view_many inner.items ≡ no_patterns → inner.items.height ≡ 0 → view_many inner.alternatives ≡ no_patterns → inner.alternatives.height ≡ 0 → inner.depth ≡ row.depth + levels (view_many row.alternatives) + 1 →
-    ValidRow SLACK inner (view_frames new) × ValidFrames (reverse new)
-opened row frames new b inner valid outer is none zero none' zero' deep =
-    let f : held_frame.Frame = record { bracket = b; outer = row } in
-    let views : view_frames new ≡ view_frame f ∷ view_frames frames = ap view_frames is ∙ viewed_push frames f in
-    let e = ap pattern_heights none in
-    let e' = ap pattern_heights none' in
-    let low = valid.shallow in
-    let depth_is = valid.depth_is in
-    let few = levels_few (view_many row.alternatives) in (
-      subst (ValidRow SLACK inner) (sym views) record { items = omega arith; alternatives = omega arith; depth_is = omega arith; low_items = omega arith; low_alternatives = omega arith; shallow = omega arith },
-      subst ValidFrames (sym (ap reverse is ∙ reversed frames f)) (valid, outer),
-    )
-  where
-    levels_few : (ps : Patterns) → levels ps ≤ 1
-    levels_few no_patterns = omega arith
-    levels_few (patterns p ps) = omega arith
 
 -- after an alternative and its bar
 pub bar_rows : (rows : Rows) (new : Many) (t : Measured) → ValidRows HEIGHT rows → ValidMeasured HEIGHT t → view_many new ≡ snoc (view_many rows.row.alternatives) (view_measured t) → new.height ≡ max rows.row.alternatives.height t.height → ValidRows SLACK (record { row = record { items = rows.row.items; alternatives = new; depth = rows.row.depth }; frames = rows.frames })

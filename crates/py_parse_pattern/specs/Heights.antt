@@ -27,7 +27,9 @@ depth is (frame b js bs ∷ fs) = suc (depth js fs + levels bs)
 -- the height of what is open without the item
 abbrev pub base : Patterns → List Frame → ℕ
 base is [] = over is
-base is (frame b js bs ∷ fs) = max (max (base js fs) (raised bs (depth js fs))) (suc (pattern_heights is) + (depth js fs + levels bs))
+base is (frame b js bs ∷ fs) =
+    max (max (base js fs) (raised bs (depth js fs)))
+    (suc (pattern_heights is) + (depth js fs + levels bs))
 
 -- the height of what is open without a closed pattern
 abbrev pub base_closed : Stack → ℕ

@@ -1,7 +1,8 @@
--- The patterns of a `case`, read a token at a time: a stack of what is open, and a step for each token.
+-- The patterns of a `case`, read a token at a time: a stack of what is open, and a step for each
+-- token (The Python Language Reference, "Patterns").
 --     TokenClass, class .. same_bracket     what a token can be to a pattern
 --     snoc .. ended                         the trees of items and alternatives
---     Frame, Stack, State, Out              what is open, a place in a pattern, and what a token makes of it
+--     Frame, Stack, State, Out              what is open, a place, and what a token makes of it
 --     offer .. step, start                  the steps
 --     Verdict, run                          the reading of a list
 --     put .. least                          the least pattern that goes on from a state
@@ -111,7 +112,8 @@ ended b is = sequence (brackets_of b) is (is_some is)
 
 -- ---- what is open
 
--- A bracket that is open, with the items and the alternatives that stand in front of it in its own row.
+-- A bracket that is open, with the items and the alternatives that stand in front of it in its own
+-- row.
 pub data Frame : Type 0 where
   frame : (b : Bracket) (items alternatives : Patterns) → Frame
 
@@ -147,7 +149,8 @@ pub data Out : Type 0 where
 abbrev pub offer : Pattern → Patterns → List Frame → TokenClass → Out
 offer p is fs a_comma = Next (Want (stack (snoc is p) no_patterns fs))
 offer p is [] c = Left (listed is p)
-offer p is (frame b js bs ∷ fs) (shuts d) = cond (same_bracket b d) (Next (Have (enclosed b is p) (stack js bs fs))) Stuck
+offer p is (frame b js bs ∷ fs) (shuts d) =
+    cond (same_bracket b d) (Next (Have (enclosed b is p) (stack js bs fs))) Stuck
 offer p is (f ∷ fs) c = Stuck
 
 -- a closed pattern is whole
@@ -164,7 +167,8 @@ leave is = Left (sequence brackets_.Bare is true)
 -- a row ends after such items
 abbrev pub shut : Patterns → List Frame → TokenClass → Out
 shut is [] c = leave is
-shut is (frame b js bs ∷ fs) (shuts d) = cond (same_bracket b d) (Next (Have (ended b is) (stack js bs fs))) Stuck
+shut is (frame b js bs ∷ fs) (shuts d) =
+    cond (same_bracket b d) (Next (Have (ended b is) (stack js bs fs))) Stuck
 shut is (f ∷ fs) c = Stuck
 
 -- no pattern begins
@@ -215,7 +219,12 @@ pub data Verdict : Type 0 where
 
 abbrev pub run : State → List Kind → Verdict
 run s [] = Refused []
-run s (t ∷ ts) = elim (step s t) [ Next n ↦ run n ts | Stuck ↦ Refused (t ∷ ts) | Left p ↦ Leaves p (t ∷ ts) ]
+run s (t ∷ ts) =
+    elim (step s t) [
+      | Next n ↦ run n ts
+      | Stuck ↦ Refused (t ∷ ts)
+      | Left p ↦ Leaves p (t ∷ ts)
+    ]
 
 -- ---- the least pattern that goes on from a state
 
@@ -268,4 +277,9 @@ pub data Ending : Type 0 where
 
 abbrev pub within : ℕ → State → List Kind → Ending
 within limit s [] = Unexpected []
-within limit s (t ∷ ts) = elim (step s t) [ Next n ↦ cond (nat_le (least n) limit) (within limit n ts) (TooDeep (t ∷ ts)) | Stuck ↦ Unexpected (t ∷ ts) | Left p ↦ Reads p (t ∷ ts) ]
+within limit s (t ∷ ts) =
+    elim (step s t) [
+      | Next n ↦ cond (nat_le (least n) limit) (within limit n ts) (TooDeep (t ∷ ts))
+      | Stuck ↦ Unexpected (t ∷ ts)
+      | Left p ↦ Reads p (t ∷ ts)
+    ]

@@ -22,7 +22,8 @@ FollowsMachine ts at (Err (error.Unexpected place)) = EndsAt ts at place Unexpec
 FollowsMachine ts at (Err (error.TooDeep place)) = EndsAt ts at place TooDeep
 FollowsMachine ts at (Err error.NoMemory) = Unit {0}
 
--- The pattern whose tokens stand there, up to the first token that goes on with none; or why there is none.
+-- The pattern whose tokens stand there, up to the first token that goes on with none; or why there
+-- is none.
 abbrev pub IsRead : List Kind → ℕ → Result PatternRead ReadError → Type 0
 IsRead ts at (Ok r) = Parted ts at r.next (IsPattern HEIGHT (plain_pattern r.pattern))
 IsRead ts at (Err (error.Unexpected place)) = Parted ts at place (IsUnexpected HEIGHT)

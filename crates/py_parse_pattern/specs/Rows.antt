@@ -28,8 +28,11 @@ view_frame f = frame f.bracket (view_many f.outer.items) (view_many f.outer.alte
 abbrev pub view_frames : List held_frame.Frame → List Frame
 view_frames fs = map view_frame (reverse fs)
 
+abbrev pub view_row : held_row.Row → List Frame → Stack
+view_row r fs = stack (view_many r.items) (view_many r.alternatives) fs
+
 abbrev pub view_rows : Rows → Stack
-view_rows r = stack (view_many r.row.items) (view_many r.row.alternatives) (view_frames r.frames.items)
+view_rows r = view_row r.row (view_frames r.frames.items)
 
 abbrev pub view_at : Progress → Rows → State
 view_at progress_.Want r = Want (view_rows r)
@@ -38,8 +41,10 @@ view_at (progress_.Named x) r = Named x (view_rows r)
 view_at (progress_.Dotted m) r = Dotted m (view_rows r)
 view_at (progress_.Strings xs) r = Strings xs.items (view_rows r)
 view_at (progress_.Have t) r = Have (view_measured t) (view_rows r)
-view_at (progress_.Naming t) r = Naming (view_measured t) (view_many r.row.items) (view_frames r.frames.items)
-view_at (progress_.Item t) r = Item (view_measured t) (view_many r.row.items) (view_frames r.frames.items)
+view_at (progress_.Naming t) r =
+    Naming (view_measured t) (view_many r.row.items) (view_frames r.frames.items)
+view_at (progress_.Item t) r =
+    Item (view_measured t) (view_many r.row.items) (view_frames r.frames.items)
 
 abbrev pub view_reader : Reader → State
 view_reader r = view_at r.progress r.rows
@@ -93,7 +98,8 @@ Acts o (Err e) = Unit {0}
 
 -- What a step of the machine makes within the limit.
 abbrev pub TurnsTo : Out → Turn → Type 0
-TurnsTo o (turn_.Next r) = (o ≡ Next (view_reader r)) × Valid HEIGHT r × (least (view_reader r) ≤ HEIGHT)
+TurnsTo o (turn_.Next r) =
+    (o ≡ Next (view_reader r)) × Valid HEIGHT r × (least (view_reader r) ≤ HEIGHT)
 TurnsTo o turn_.Stuck = o ≡ Stuck
 TurnsTo o turn_.Deep = (n : State) × (o ≡ Next n) × (HEIGHT < least n)
 TurnsTo o (turn_.Left t) = o ≡ Left (view_measured t)
@@ -116,7 +122,8 @@ abbrev pub depth_after : List held_frame.Frame → ℕ → ℕ
 depth_after [] d = 1
 depth_after (f ∷ fs) d = d
 
--- the height of what is open in a row, without a closed pattern, and with one or an item of that height
+-- the height of what is open in a row, without a closed pattern, and with one or an item of that
+-- height
 abbrev pub row_height : held_row.Row → ℕ
 row_height r = max (r.items.height + r.depth) (raised (view_many r.alternatives) r.depth)
 

@@ -3,7 +3,6 @@
 ghost use Rattle.py_parse_pattern.specs.Trees.{OnePattern};
 
 /// A list of tokens is that of at most one pattern. It does nothing when it runs.
-#[tactic(auto, using(crate::proofs::Exact::one_pattern))]
 pub fn one_pattern()
     ensures { OnePattern }
 {}

@@ -1,4 +1,5 @@
-//! Reads the patterns of `case` from lists of tokens: `read_patterns` from a place to the next, and the law of patterns.
+//! Reads the patterns of `case` from lists of tokens: `read_patterns` from a place to the next, and
+//! the law of patterns.
 #![tactic(auto)]
 
 mod laws;

@@ -59,10 +59,12 @@ fn item_height(row: &Row, height: usize) -> usize
     higher(row.items.height + row.depth, row.depth + height)
 }
 
-/// The height of the least pattern that goes on from here, but for what is open outside the innermost brackets.
+/// The height of the least pattern that goes on from here, but for what is open outside the
+/// innermost brackets.
 fn height(reader: &Reader) -> usize
     requires { Valid SLACK reader.now }
-    ensures { least (view_reader reader.now) ≡ max (max (base_outside (view_frames reader.now.rows.frames.items)) 1) result }
+    ensures { least (view_reader reader.now)
+        ≡ max (max (base_outside (view_frames reader.now.rows.frames.items)) 1) result }
 {
     let row = &reader.rows.row;
     match &reader.progress {

@@ -50,7 +50,8 @@ impl Many {
     }
 
     pub fn push(&mut self, measured: Measured) -> Result<(), NoMemory>
-        ensures patterns { OnOk result (view_many self.new ≡ snoc (view_many self.old) (view_measured measured)) }
+        ensures patterns { OnOk result
+            (view_many self.new ≡ snoc (view_many self.old) (view_measured measured)) }
         ensures height { OnOk result (self.new.height ≡ max self.old.height measured.height) }
     {
         self.patterns.push(measured.pattern)?;
@@ -99,7 +100,8 @@ fn sequence(brackets: Brackets, items: Many, last: Measured) -> Result<Measured,
     requires low { last.height < 2 ^ 60 }
     requires heights { AreMeasured items }
     requires height { IsMeasured last }
-    ensures { IfOk result (Makes (sequence brackets (snoc (view_many items) (view_measured last)) false)) }
+    ensures { IfOk result
+        (Makes (sequence brackets (snoc (view_many items) (view_measured last)) false)) }
 {
     let mut all = items;
     all.push(last)?;

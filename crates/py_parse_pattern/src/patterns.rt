@@ -43,8 +43,8 @@ fn begun(alloc: Global) -> Reader
     }
 }
 
-/// Reads the pattern of a `case`, which may be a list with commas, from a place in the tokens up to the first token that
-/// goes on with no pattern. Places count from 0.
+/// Reads the pattern of a `case`, which may be a list with commas, from a place in the tokens up to
+/// the first token that goes on with no pattern. Places count from 0.
 pub fn read_patterns(alloc: Global, tokens: &[Token], at: usize) -> Result<PatternRead, ReadError>
     requires { at ≤ length tokens.now }
     ensures follows { FollowsMachine (bare (view_tokens tokens.now)) at result }

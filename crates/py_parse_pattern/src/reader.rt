@@ -5,10 +5,10 @@ ghost use Rattle.py_syntax.specs.Tree.{no_patterns, literal};
 ghost use Rattle.py_syntax.specs.Normal.{pattern_height};
 ghost use Rattle.py_syntax.specs.Spelling.{HEIGHT};
 ghost use Rattle.py_syntax.specs.View.{plain_pattern, plain_constant};
-ghost use Rattle.py_parse_pattern.specs.Machine.{a_comma, snoc, stack, Want, Have, Naming, Next, begin, wanting, shut, leave, offer, give, act, inside};
+ghost use Rattle.py_parse_pattern.specs.Machine.{a_comma, snoc, stack, Want, Have, Next, begin, wanting, shut, leave, give, act, inside};
 ghost use Rattle.py_parse_pattern.specs.Heights.{levels};
 ghost use Rattle.py_parse_pattern.specs.Views.{view_class, view_measured, view_many, AreMeasured};
-ghost use Rattle.py_parse_pattern.specs.Rows.{view_frames, view_rows, view_at, view_reader, ValidRow, ValidRows, ValidFrames, ValidMeasured, ValidAt, Valid, SLACK, ActsAs, Acts, Pops, ValidPops, depth_after};
+ghost use Rattle.py_parse_pattern.specs.Rows.{view_frames, view_row, view_rows, view_at, view_reader, ValidRow, ValidRows, ValidFrames, ValidMeasured, ValidAt, Valid, SLACK, ActsAs, Acts, Pops, ValidPops, depth_after};
 
 use crate::nodes::{
     Many, Measured, enclosed, ended, is_underscore, joined, listed, low, named, renamed, trailed,
@@ -18,8 +18,8 @@ use py_syntax::{Constant, Pattern};
 use py_value::{NoMemory, Text};
 use std::alloc::Global;
 
-/// A row of patterns: the items with a comma after them, the alternatives of the next one, each with a bar after it,
-/// and how many nodes stand above an item.
+/// A row of patterns: the items with a comma after them, the alternatives of the next one, each with
+/// a bar after it, and how many nodes stand above an item.
 #[derive(Drop)]
 pub struct Row {
     pub items: Many,
@@ -131,7 +131,8 @@ fn open(alloc: Global, rows: Rows, bracket: Bracket) -> Result<Turn, NoMemory>
 /// The innermost bracket that is open.
 fn innermost(frames: &mut Vec<Frame>) -> Option<Frame>
     ensures frames { Pops result (view_frames frames.old.items) (view_frames frames.new.items) }
-    ensures valid { ValidFrames (reverse frames.old.items) → ValidPops result (view_frames frames.new.items) (reverse frames.new.items) }
+    ensures valid { ValidFrames (reverse frames.old.items)
+        → ValidPops result (view_frames frames.new.items) (reverse frames.new.items) }
 {
     frames.pop()
 }
@@ -141,7 +142,8 @@ fn after(frame: Frame, frames: Vec<Frame>, measured: Measured) -> Turn
     requires row { ValidRow HEIGHT frame.outer (view_frames frames.items) }
     requires frames { ValidFrames (reverse frames.items) }
     requires measured { ValidMeasured SLACK measured }
-    ensures { ActsAs (Next (Have (view_measured measured) (stack (view_many frame.outer.items) (view_many frame.outer.alternatives) (view_frames frames.items)))) result }
+    ensures { ActsAs (Next (Have (view_measured measured)
+        (view_row frame.outer (view_frames frames.items)))) result }
 {
     next(
         Rows {
@@ -167,7 +169,8 @@ fn leave(items: Many) -> Turn
 /// A row ends after its items, each with its comma.
 fn shut(rows: Rows, class: TokenClass) -> Turn
     requires { ValidRows HEIGHT rows }
-    ensures { ActsAs (shut (view_many rows.row.items) (view_frames rows.frames.items) (view_class class)) result }
+    ensures { ActsAs (shut (view_many rows.row.items) (view_frames rows.frames.items)
+        (view_class class)) result }
 {
     let Rows { row, frames } = rows;
     let mut frames = frames;
@@ -236,7 +239,8 @@ fn depth_after(frames: &[Frame], depth: usize) -> usize
 fn after_item(alloc: Global, measured: Measured, rows: Rows) -> Result<Turn, NoMemory>
     requires rows { ValidRows HEIGHT rows }
     requires measured { ValidMeasured 202 measured }
-    ensures { Acts (Next (Want (stack (snoc (view_many rows.row.items) (view_measured measured)) no_patterns (view_frames rows.frames.items)))) result }
+    ensures { Acts (Next (Want (stack (snoc (view_many rows.row.items) (view_measured measured))
+        no_patterns (view_frames rows.frames.items)))) result }
 {
     let Rows { row, frames } = rows;
     let mut items = row.items;
@@ -254,7 +258,7 @@ fn after_item(alloc: Global, measured: Measured, rows: Rows) -> Result<Turn, NoM
 fn offer(alloc: Global, measured: Measured, rows: Rows, class: TokenClass) -> Result<Turn, NoMemory>
     requires rows { ValidRows HEIGHT rows }
     requires measured { ValidMeasured 202 measured }
-    ensures { Acts (offer (view_measured measured) (view_many rows.row.items) (view_frames rows.frames.items) (view_class class)) result }
+    ensures { Acts (act (view_at (Progress.Item measured) rows) (view_class class)) result }
 {
     match class {
         TokenClass::Comma => after_item(alloc, measured, rows),
@@ -271,7 +275,8 @@ fn end_item(
 ) -> Result<Turn, NoMemory>
     requires rows { ValidRows HEIGHT rows }
     requires measured { ValidMeasured 202 measured }
-    ensures { view_class class ≢ a_comma → Acts (offer (view_measured measured) (view_many rows.row.items) (view_frames rows.frames.items) (view_class class)) result }
+    ensures { view_class class ≢ a_comma
+        → Acts (act (view_at (Progress.Item measured) rows) (view_class class)) result }
 {
     let Rows { row, frames } = rows;
     let mut frames = frames;
@@ -300,7 +305,9 @@ fn end_item(
 fn after_bar(measured: Measured, rows: Rows) -> Result<Turn, NoMemory>
     requires rows { ValidRows HEIGHT rows }
     requires measured { ValidMeasured HEIGHT measured }
-    ensures { Acts (Next (Want (stack (view_many rows.row.items) (snoc (view_many rows.row.alternatives) (view_measured measured)) (view_frames rows.frames.items)))) result }
+    ensures { Acts (Next (Want (stack (view_many rows.row.items)
+        (snoc (view_many rows.row.alternatives) (view_measured measured))
+        (view_frames rows.frames.items)))) result }
 {
     let mut rows = rows;
     rows.row.alternatives.push(measured)?;
@@ -354,7 +361,7 @@ fn rename(
 ) -> Result<Turn, NoMemory>
     requires rows { ValidRows HEIGHT rows }
     requires measured { ValidMeasured HEIGHT measured }
-    ensures { Acts (act (Naming (view_measured measured) (view_many rows.row.items) (view_frames rows.frames.items)) (view_class class)) result }
+    ensures { Acts (act (view_at (Progress.Naming measured) rows) (view_class class)) result }
 {
     match class {
         TokenClass::Name(name) => {
