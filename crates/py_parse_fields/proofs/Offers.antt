@@ -8,7 +8,7 @@ use Rattle.py_grammar.specs.Bare.{bare_out, Free}
 use Rattle.py_grammar.proofs.Alike.{give_alike}
 use Rattle.py_parse_fields.specs.declared.frames.Frame as held_frame
 use Rattle.py_parse_fields.specs.Frames.{view_frame, view_open, view_stack, Pops}
-use Rattle.py_parse_fields.specs.declared.reader.Reply.{Reply}
+use Rattle.py_parse_fields.specs.declared.replies.Reply.{Reply}
 use Rattle.py_parse_fields.specs.Reader.{replied, Offers}
 
 -- whatever tree stands there

@@ -2,8 +2,10 @@
 --     bare_class, view_operator, view_class     classes of tokens, without what they hold
 --     view_precedence, view_opener              precedences, and what opened a bracket
 --     view_frame                                one frame
---     view_open, view_stack, Pops               the stack, and one frame fewer
+--     view_open, view_stack                     the stack
+--     Opens, Pops                               frames more, and one fewer
 use Rattle.std.specs.Prelude.{◌≡◌, ◌<◌, length, pos, List, [], ◌∷◌, reverse, Option, Some, None}
+use Rattle.std.specs.Global.{Vec}
 use Rattle.py_syntax.specs.Tree.{no_exprs, no_pairs, no_links, absent}
 use Rattle.py_syntax.specs.Kinds.{End, no_pieces}
 use Rattle.py_syntax.specs.Normal.{Level, LExprs, LExpr, LOr, LAnd, LNot, LCmp, LSum, LTerm, LUnary}
@@ -105,6 +107,10 @@ view_open (f ∷ fs) = on (view_frame f) (view_open fs)
 abbrev pub view_stack : List held_frame.Frame → Ctx
 view_stack fs = view_open (reverse fs)
 
+abbrev pub Opens : (Ctx → Ctx) → Vec held_frame.Frame → Vec held_frame.Frame → Type 0
+Opens added old new = view_stack new.items ≡ added (view_stack old.items)
+
 abbrev pub Pops : Option held_frame.Frame → List held_frame.Frame → List held_frame.Frame → Type 0
 Pops None old new = old ≡ []
-Pops (Some f) old new = (view_stack old ≡ on (view_frame f) (view_stack new)) × (length new < length old)
+Pops (Some f) old new =
+    (view_stack old ≡ on (view_frame f) (view_stack new)) × (length new < length old)

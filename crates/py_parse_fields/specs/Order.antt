@@ -1,18 +1,34 @@
--- Fields without the f-strings that stand in them, which are asked on their own.
-use Rattle.std.specs.Prelude.{◌≡◌, ℕ, ◌+◌, ◌≤◌, ◌<◌, Bool, true, ◌&&◌, List, [], ◌∷◌, ◌++◌, map, is_some}
+-- Fields without the f-strings that stand in them, which are asked on their own (The Python
+-- Language Reference, "Formatted string literals").
+--     plain_pieces .. field_tree     tokens and pieces of the program as plain ones
+--     waiting_of .. each_spelled     the f-strings that wait
+--     weight .. load                 how many there are to ask
+--     Waits .. AsksPieces            what is told, but for those that wait
+--     FieldSoFar, PiecesSoFar        the same in the midst of a field or an f-string
+use Rattle.std.specs.Prelude.{◌≡◌, ℕ, ◌+◌, ◌≤◌, ◌<◌, Bool, true, ◌&&◌, List, [], ◌∷◌, ◌++◌, map, Option, is_some}
 use Rattle.std.specs.Borrow.{Bor}
+use Rattle.std.specs.Global.{Vec}
 use Rattle.py_token.specs.declared.token.Piece.{Piece}
-use Rattle.py_token.specs.Plain.{piece_row}
-use Rattle.py_token.specs.View.{view_pieces}
-use Rattle.py_syntax.specs.Tree.{no_parts}
-use Rattle.py_syntax.specs.Kinds.{Kind, FString, Pieces, no_pieces, chars_piece, field_piece, Kinds, no_kinds, kinds, bare_pieces}
+use Rattle.py_token.specs.declared.token.Token.{Token}
+use Rattle.py_token.specs.declared.token.TokenKind.{TokenKind}
+use Rattle.py_token.specs.Plain.{token_row, piece_row}
+use Rattle.py_token.specs.View.{view_kind, view_tokens, view_pieces}
+use Rattle.py_syntax.specs.Tree.{Expr, no_parts}
+use Rattle.py_syntax.specs.Kinds.{Kind, FString, Pieces, no_pieces, chars_piece, field_piece, Kinds, no_kinds, kinds, bare_kind, bare_tokens, bare_pieces}
 use Rattle.py_parse_fields.specs.declared.token_classes.TokenClass as held_class
 use Rattle.py_grammar.specs.TokenClasses.{TokenClass, t_format}
-use Rattle.py_grammar.specs.Machine.{State, class, parts, field_expr}
+use Rattle.py_grammar.specs.Machine.{State, any, start, class, parts, field_expr}
 use Rattle.py_parse_fields.specs.Frames.{bare_class, view_class}
 
 abbrev pub plain_pieces : List Piece → Pieces
 plain_pieces ps = bare_pieces (piece_row (view_pieces ps))
+
+abbrev pub plain_tokens : List Token → Kinds
+plain_tokens ts = bare_tokens (token_row (view_tokens ts))
+
+-- the tree of a field that has these tokens, where it has one
+abbrev pub field_tree : List Token → Option Expr
+field_tree ts = field_expr (start any) (plain_tokens ts)
 
 -- the f-strings whose fields wait
 abbrev pub waiting_of : List (Bor (List Piece)) → List Pieces
@@ -54,6 +70,11 @@ load (ps ∷ rest) = weight ps + load rest
 abbrev pub Waits : Kind → held_class.TokenClass → List Pieces → List Pieces → Type 0
 Waits t c old new = (bare_class (shallow t) ≡ view_class c) × (new ≡ old ++ formats t)
 
+abbrev pub WaitsFor : TokenKind → Vec (Bor (List Piece)) → Vec (Bor (List Piece))
+    → held_class.TokenClass → Type 0
+WaitsFor t old new c =
+    Waits (bare_kind (view_kind t)) c (waiting_of old.items) (waiting_of new.items)
+
 -- What is told of something, but for the f-strings that wait.
 pub record Asks (all told : Bool) (bound : ℕ) (old new : List Pieces) : Type 0 where
   pub added : List Pieces
@@ -61,8 +82,21 @@ pub record Asks (all told : Bool) (bound : ℕ) (old new : List Pieces) : Type 0
   pub is : all ≡ (told && each_spelled added)
   pub few : load added < bound
 
+-- The same of a field.
+abbrev pub AsksField : List Token → Vec (Bor (List Piece)) → Vec (Bor (List Piece)) → Bool → Type 0
+AsksField ts old new told =
+    Asks (is_some (field_tree ts)) told (field_weight (plain_tokens ts) + 1)
+    (waiting_of old.items) (waiting_of new.items)
+
+-- The same of the pieces of an f-string.
+abbrev pub AsksPieces : List Piece → Vec (Bor (List Piece)) → Vec (Bor (List Piece)) → Bool → Type 0
+AsksPieces ps old new told =
+    Asks (is_some (parts (plain_pieces ps))) told (weight (plain_pieces ps))
+    (waiting_of old.items) (waiting_of new.items)
+
 -- The same in front of some tokens of a field.
-pub record FieldSoFar (all : Bool) (bound : ℕ) (old new : List Pieces) (s : State) (ks : Kinds) : Type 0 where
+pub record FieldSoFar (all : Bool) (bound : ℕ) (old new : List Pieces) (s : State)
+    (ks : Kinds) : Type 0 where
   pub added : List Pieces
   pub waits : new ≡ old ++ added
   pub is : all ≡ (is_some (field_expr s ks) && each_spelled added)

@@ -1,19 +1,21 @@
 -- What a token does to an expression, as the code holds it without trees.
-use Rattle.std.specs.Prelude.{◌≡◌, Bool, true, false, [], Result, Ok, Err}
+use Rattle.std.specs.Prelude.{◌≡◌, Bool, true, false, List, [], Result, Ok, Err}
 use Rattle.std.specs.declared.alloc.AllocError.{AllocError}
 use Rattle.py_syntax.specs.Tree.{no_exprs, no_pairs, no_links, absent, no_fragments, plain}
 use Rattle.py_grammar.specs.TokenClasses.{TokenClass}
-use Rattle.py_grammar.specs.Machine.{Frame, Ctx, on, State, Want, Have, Strings, AfterOpen, AfterComma, ItemsOpen, ItemsComma, DictOpen, DictComma, IndexOpen, SliceColon, AfterDot, AfterNot, AfterIs, AfterIsNot, Linked, Out, Next, Stuck, Left, give}
+use Rattle.py_grammar.specs.Machine.{Frame, Ctx, on, State, Want, Have, Strings, AfterOpen, AfterComma, ItemsOpen, ItemsComma, DictOpen, DictComma, IndexOpen, SliceColon, AfterDot, AfterNot, AfterIs, AfterIsNot, Linked, Out, Next, Stuck, Left, give, step}
 use Rattle.py_grammar.specs.Least.{least_name}
 use Rattle.py_grammar.specs.Bare.{bare_out, Free}
+use Rattle.py_parse_fields.specs.declared.frames.Frame as held_frame
+use Rattle.py_parse_fields.specs.declared.token_classes.TokenClass as held_class
 use Rattle.py_parse_fields.specs.declared.reader.Progress.{Progress}
 use Rattle.py_parse_fields.specs.declared.reader.Progress.TheVariants as progress_
 use Rattle.py_parse_fields.specs.declared.reader.Reader.{Reader}
 use Rattle.py_parse_fields.specs.declared.reader.Turn.{Turn}
 use Rattle.py_parse_fields.specs.declared.reader.Turn.TheVariants as turn_
-use Rattle.py_parse_fields.specs.declared.reader.Reply.{Reply}
-use Rattle.py_parse_fields.specs.declared.reader.Reply.TheVariants as reply_
-use Rattle.py_parse_fields.specs.Frames.{view_precedence, view_opener, view_frame, view_stack}
+use Rattle.py_parse_fields.specs.declared.replies.Reply.{Reply}
+use Rattle.py_parse_fields.specs.declared.replies.Reply.TheVariants as reply_
+use Rattle.py_parse_fields.specs.Frames.{view_class, view_precedence, view_opener, view_frame, view_stack}
 
 abbrev pub view_at : Progress → Ctx → State
 view_at (progress_.Want l) k = Want (view_precedence l) k
@@ -54,6 +56,16 @@ Turns o (Err e) = Unit {0}
 -- What the machine does, but for the trees.
 abbrev pub Acts : Out → Result Turn AllocError → Type 0
 Acts o r = Turns (bare_out o) r
+
+-- What a token makes of a place in an expression, with these frames open round it.
+abbrev pub Steps : Progress → List held_frame.Frame → held_class.TokenClass
+    → Result Turn AllocError → Type 0
+Steps p fs t r = Acts (step (view_at p (view_stack fs)) (view_class t)) r
+
+-- The place that is reached, with frames more than these.
+abbrev pub Reaches : Progress → (Ctx → Ctx) → List held_frame.Frame → Result Turn AllocError
+    → Type 0
+Reaches p added fs r = Acts (Next (view_at p (added (view_stack fs)))) r
 
 abbrev pub replied : Reply → Ctx → TokenClass → Out
 replied reply_.Pass k t = give least_name k t

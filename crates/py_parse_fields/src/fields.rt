@@ -1,13 +1,10 @@
 // Whether the fields of an f-string are expressions.
 
-ghost use Rattle.std.specs.Prelude.{◌≡◌, ◌+◌, ◌↔◌, IfOk, IsTrue, is_some};
-ghost use Rattle.py_token.specs.Plain.{token_row, piece_row};
-ghost use Rattle.py_token.specs.View.{view_kind, view_tokens, view_pieces};
-ghost use Rattle.py_syntax.specs.Kinds.{bare_kind, bare_tokens, bare_pieces};
-ghost use Rattle.py_grammar.specs.Machine.{any, start, parts, field_expr};
+ghost use Rattle.std.specs.Prelude.{◌≡◌, ◌↔◌, IfOk, IsTrue, is_some};
+ghost use Rattle.py_grammar.specs.Machine.{parts};
 ghost use Rattle.py_grammar.specs.Refusal.{AreSpelled};
 ghost use Rattle.py_parse_fields.specs.Reader.{view_turn, is_left};
-ghost use Rattle.py_parse_fields.specs.Order.{plain_pieces, waiting_of, Waits, Asks, weight, field_weight};
+ghost use Rattle.py_parse_fields.specs.Order.{plain_pieces, WaitsFor, AsksField, AsksPieces};
 
 use crate::frames::Precedence;
 use crate::reader::{Progress, Reader, Turn, act};
@@ -24,7 +21,7 @@ fn is_left(turn: Turn) -> bool
 
 /// What a token is. The fields of an f-string wait to be asked.
 fn class_of<'a>(kind: &'a TokenKind, waiting: &mut Vec<&'a [Piece]>) -> Result<TokenClass, NoMemory>
-    ensures { IfOk result (λ c. Waits (bare_kind (view_kind kind.now)) c (waiting_of waiting.old.items) (waiting_of waiting.new.items)) }
+    ensures { IfOk result (WaitsFor kind.now waiting.old waiting.new) }
 {
     match kind {
         TokenKind::Name(_) => Ok(TokenClass::Name),
@@ -46,7 +43,7 @@ fn is_field<'a>(
     tokens: &'a [Token],
     waiting: &mut Vec<&'a [Piece]>,
 ) -> Result<bool, NoMemory>
-    ensures { IfOk result (λ b. Asks (is_some (field_expr (start any) (bare_tokens (token_row (view_tokens tokens.now))))) b (field_weight (bare_tokens (token_row (view_tokens tokens.now))) + 1) (waiting_of waiting.old.items) (waiting_of waiting.new.items)) }
+    ensures { IfOk result (AsksField tokens.now waiting.old waiting.new) }
 {
     let mut reader = Reader {
         frames: Vec::new(alloc),
@@ -68,7 +65,7 @@ fn are_fields<'a>(
     pieces: &'a [Piece],
     waiting: &mut Vec<&'a [Piece]>,
 ) -> Result<bool, NoMemory>
-    ensures { IfOk result (λ b. Asks (is_some (parts (plain_pieces pieces.now))) b (weight (plain_pieces pieces.now)) (waiting_of waiting.old.items) (waiting_of waiting.new.items)) }
+    ensures { IfOk result (AsksPieces pieces.now waiting.old waiting.new) }
 {
     'pieces: for piece in pieces {
         match piece {
@@ -97,10 +94,10 @@ fn are_read(alloc: Global, pieces: &[Piece]) -> Result<bool, NoMemory>
     Ok(true)
 }
 
-/// Whether the tokens of each field of an f-string are those of some `exprs` (Language Reference, 2.4.3). Nothing is
-/// built, and brackets and f-strings may stand as deep as they like.
+/// Whether the tokens of each field of an f-string are those of some `exprs` (Language Reference,
+/// 2.4.3). Nothing is built, and brackets and f-strings may stand as deep as they like.
 pub fn is_spelled(alloc: Global, pieces: &[Piece]) -> Result<bool, NoMemory>
-    ensures { IfOk result (λ b. IsTrue b ↔ AreSpelled (bare_pieces (piece_row (view_pieces pieces.now)))) }
+    ensures { IfOk result (λ b. IsTrue b ↔ AreSpelled (plain_pieces pieces.now)) }
 {
     are_read(alloc, pieces)
 }

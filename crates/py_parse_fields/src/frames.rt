@@ -2,12 +2,13 @@
 
 ghost use Rattle.std.specs.Prelude.{◌≡◌, cond, IfOk};
 ghost use Rattle.py_syntax.specs.Normal.{rank};
+ghost use Rattle.py_grammar.specs.TokenClasses.{operator_level, operator_right};
 ghost use Rattle.py_grammar.specs.Machine.{on, upto_term, upto_and, at_most, same_level};
-ghost use Rattle.py_parse_fields.specs.Frames.{view_precedence, view_frame, view_stack, Pops};
+ghost use Rattle.py_parse_fields.specs.Frames.{view_operator, view_precedence, view_frame, Opens, Pops};
 
 use crate::token_classes::BinaryOperator;
 use py_syntax::Sign;
-use py_value::{CmpOp, NoMemory};
+use py_value::{BinOp, CmpOp, NoMemory};
 
 /// A level of the grammar, from the loosest.
 #[derive(Clone, Copy)]
@@ -82,8 +83,34 @@ pub fn same_level(one: Precedence, other: Precedence) -> bool
     rank(one) == rank(other)
 }
 
+/// The level of an operator's trees.
+pub fn operator_level(operator: BinaryOperator) -> Precedence
+    ensures { view_precedence result ≡ operator_level (view_operator operator) }
+{
+    match operator {
+        BinaryOperator::Or => Precedence::Or,
+        BinaryOperator::And => Precedence::And,
+        BinaryOperator::Op(BinOp::Add) => Precedence::Sum,
+        BinaryOperator::Op(BinOp::Sub) => Precedence::Sum,
+        BinaryOperator::Op(_) => Precedence::Term,
+    }
+}
+
+/// The level of its right operand.
+pub fn operator_right(operator: BinaryOperator) -> Precedence
+    ensures { view_precedence result ≡ operator_right (view_operator operator) }
+{
+    match operator {
+        BinaryOperator::Or => Precedence::And,
+        BinaryOperator::And => Precedence::Not,
+        BinaryOperator::Op(BinOp::Add) => Precedence::Term,
+        BinaryOperator::Op(BinOp::Sub) => Precedence::Term,
+        BinaryOperator::Op(_) => Precedence::Unary,
+    }
+}
+
 pub fn push(frames: &mut Vec<Frame>, frame: Frame) -> Result<(), NoMemory>
-    ensures { IfOk result (λ done. view_stack frames.new.items ≡ on (view_frame frame) (view_stack frames.old.items)) }
+    ensures { IfOk result (λ done. Opens (λ k. on (view_frame frame) k) frames.old frames.new) }
 {
     frames.push(frame)?;
     Ok(())
@@ -97,7 +124,8 @@ pub fn pop(frames: &mut Vec<Frame>) -> Option<Frame>
 }
 
 fn push_if(wanted: bool, frames: &mut Vec<Frame>, frame: Frame) -> Result<(), NoMemory>
-    ensures { IfOk result (λ done. view_stack frames.new.items ≡ cond wanted (on (view_frame frame) (view_stack frames.old.items)) (view_stack frames.old.items)) }
+    ensures { IfOk result
+        (λ done. Opens (λ k. cond wanted (on (view_frame frame) k) k) frames.old frames.new) }
 {
     if wanted {
         push(frames, frame)?;
@@ -107,7 +135,8 @@ fn push_if(wanted: bool, frames: &mut Vec<Frame>, frame: Frame) -> Result<(), No
 
 /// The frames from a level up to the operand of a `not`.
 pub fn raise_to_not(precedence: Precedence, frames: &mut Vec<Frame>) -> Result<(), NoMemory>
-    ensures { IfOk result (λ done. view_stack frames.new.items ≡ upto_and (view_precedence precedence) (view_stack frames.old.items)) }
+    ensures { IfOk result
+        (λ done. Opens (upto_and (view_precedence precedence)) frames.old frames.new) }
 {
     push_if(
         at_most(precedence, Precedence::Exprs),
@@ -134,7 +163,8 @@ pub fn raise_to_not(precedence: Precedence, frames: &mut Vec<Frame>) -> Result<(
 
 /// The frames from a level up to the operand of a sign.
 pub fn raise_to_unary(precedence: Precedence, frames: &mut Vec<Frame>) -> Result<(), NoMemory>
-    ensures { IfOk result (λ done. view_stack frames.new.items ≡ upto_term (view_precedence precedence) (view_stack frames.old.items)) }
+    ensures { IfOk result
+        (λ done. Opens (upto_term (view_precedence precedence)) frames.old frames.new) }
 {
     raise_to_not(precedence, frames)?;
     push_if(

@@ -1,19 +1,15 @@
 // What tokens an expression goes on with, told without its trees.
 
-ghost use Rattle.std.specs.Prelude.{◌≡◌, Bool, cond, IfOk};
+ghost use Rattle.std.specs.Prelude.{◌≡◌, cond};
 ghost use Rattle.py_syntax.specs.Normal.{LUnary};
-ghost use Rattle.py_syntax.specs.Tree.{Exprs, no_exprs, no_pairs, no_links, absent};
-ghost use Rattle.py_grammar.specs.TokenClasses.{t_not, begins, operator_level, operator_right};
-ghost use Rattle.py_grammar.specs.TokenClasses as classes_;
-ghost use Rattle.py_grammar.specs.Machine.{exprs_first, exprs_rest, cond_first, cond_test, first, right, compare_first, compare_rest, post_rest, in_items, index_first, in_index, slice_to, in_paren, in_key, in_value, unary_of, Ctx, on, Want, Have, AfterComma, ItemsOpen, ItemsComma, DictOpen, DictComma, Linked, Out, Next, Stuck, upto_term, at_most, close_items, give, begin, step};
-ghost use Rattle.py_grammar.specs.Bare.{bare_out};
+ghost use Rattle.py_grammar.specs.TokenClasses.{t_not, begins};
+ghost use Rattle.py_grammar.specs.Machine.{post_rest, unary_of, on, Want, Have, Next, Stuck, upto_term, at_most, give, begin, step};
 ghost use Rattle.py_grammar.specs.Least.{least_name};
-ghost use Rattle.py_parse_fields.specs.Frames.{view_precedence, view_operator, view_frame, view_stack, view_class, view_opener};
-ghost use Rattle.py_parse_fields.specs.Reader.{view_at, view_turn, view_reader, Offers, Acts};
+ghost use Rattle.py_parse_fields.specs.Frames.{view_precedence, view_frame, view_stack, view_class};
+ghost use Rattle.py_parse_fields.specs.Reader.{view_at, view_turn, view_reader, Acts, Steps, Reaches};
 
-use crate::frames::{
-    Frame, Opener, Precedence, at_most, pop, push, raise_to_not, raise_to_unary, same_level,
-};
+use crate::frames::{Frame, Opener, Precedence, at_most, pop, push, raise_to_not, raise_to_unary};
+use crate::replies::{Reply, closes, offer};
 use crate::token_classes::{BinaryOperator, TokenClass};
 use py_syntax::Sign;
 use py_value::{BinOp, CmpOp, NoMemory};
@@ -53,228 +49,6 @@ pub enum Turn {
     Left,
 }
 
-/// What a frame does with a token after the part that it waits for.
-#[derive(Clone, Copy)]
-pub enum Reply {
-    /// The part is whole, and the next frame is asked.
-    Pass,
-    Stuck,
-    Goes(Progress),
-    Opens(Frame, Progress),
-}
-
-#[tactic(auto, using(crate::proofs::Offers::given))]
-fn operator_level(operator: BinaryOperator) -> Precedence
-    ensures { view_precedence result ≡ operator_level (view_operator operator) }
-{
-    match operator {
-        BinaryOperator::Or => Precedence::Or,
-        BinaryOperator::And => Precedence::And,
-        BinaryOperator::Op(BinOp::Add) => Precedence::Sum,
-        BinaryOperator::Op(BinOp::Sub) => Precedence::Sum,
-        BinaryOperator::Op(_) => Precedence::Term,
-    }
-}
-
-#[tactic(auto, using(crate::proofs::Offers::given))]
-fn operator_right(operator: BinaryOperator) -> Precedence
-    ensures { view_precedence result ≡ operator_right (view_operator operator) }
-{
-    match operator {
-        BinaryOperator::Or => Precedence::And,
-        BinaryOperator::And => Precedence::Not,
-        BinaryOperator::Op(BinOp::Add) => Precedence::Term,
-        BinaryOperator::Op(BinOp::Sub) => Precedence::Term,
-        BinaryOperator::Op(_) => Precedence::Unary,
-    }
-}
-
-/// After an operand that may be the left one of an operator of that level.
-#[tactic(auto, using(crate::proofs::Offers::given))]
-fn join(precedence: Precedence, class: TokenClass) -> Reply
-    ensures first { Offers (first (view_precedence precedence)) (view_class class) result }
-    ensures right { (j : classes_.BinaryOperator) → operator_level j ≡ view_precedence precedence → Offers (right j least_name) (view_class class) result }
-{
-    match class {
-        TokenClass::BinaryOperator(operator) => {
-            if same_level(precedence, operator_level(operator)) {
-                return Reply::Opens(
-                    Frame::Right(operator),
-                    Progress::Want(operator_right(operator)),
-                );
-            }
-            Reply::Pass
-        }
-        _ => Reply::Pass,
-    }
-}
-
-/// After an operand of a chain of comparisons.
-#[tactic(auto, using(crate::proofs::Offers::given))]
-fn chain(class: TokenClass) -> Reply
-    ensures first { Offers compare_first (view_class class) result }
-    ensures rest { (op : CmpOp) → Offers (compare_rest least_name no_links op) (view_class class) result }
-{
-    match class {
-        TokenClass::Compare(op) => Reply::Opens(
-            Frame::CompareRest(op),
-            Progress::Want(Precedence::Sum),
-        ),
-        TokenClass::Not => Reply::Goes(Progress::AfterNot),
-        TokenClass::Is => Reply::Goes(Progress::AfterIs),
-        _ => Reply::Pass,
-    }
-}
-
-/// After what may be called, indexed or asked for a name.
-fn postfix(class: TokenClass) -> Reply
-    ensures { Offers post_rest (view_class class) result }
-{
-    match class {
-        TokenClass::LeftParen => Reply::Goes(Progress::ItemsOpen(Opener::Call)),
-        TokenClass::LeftBracket => Reply::Goes(Progress::IndexOpen),
-        TokenClass::Dot => Reply::Goes(Progress::AfterDot),
-        _ => Reply::Pass,
-    }
-}
-
-/// What closes a bracket with items.
-fn closes(opener: Opener, class: TokenClass) -> bool
-    ensures { (es : Exprs) (c : Bool) (k : Ctx) (o : Out) → bare_out (close_items (view_opener opener) es c k (view_class class) o) ≡ cond result (bare_out (Next (Have least_name (on post_rest k)))) (bare_out o) }
-{
-    match opener {
-        Opener::Call => matches!(class, TokenClass::RightParen),
-        Opener::List => matches!(class, TokenClass::RightBracket),
-    }
-}
-
-/// After an item of a call or a list.
-fn item(opener: Opener, class: TokenClass) -> Reply
-    ensures { Offers (in_items (view_opener opener) no_exprs) (view_class class) result }
-{
-    if matches!(class, TokenClass::Comma) {
-        return Reply::Goes(Progress::ItemsComma(opener));
-    }
-    if closes(opener, class) {
-        return Reply::Opens(Frame::PostRest, Progress::Have);
-    }
-    Reply::Stuck
-}
-
-/// After the first `expr` of an index or a slice.
-fn index(class: TokenClass) -> Reply
-    ensures { Offers (index_first least_name) (view_class class) result }
-{
-    match class {
-        TokenClass::Comma => Reply::Opens(Frame::InIndex, Progress::AfterComma),
-        TokenClass::Colon => Reply::Goes(Progress::SliceColon),
-        TokenClass::RightBracket => Reply::Opens(Frame::PostRest, Progress::Have),
-        _ => Reply::Stuck,
-    }
-}
-
-/// After the last part in square brackets.
-fn index_end(class: TokenClass) -> Reply
-    ensures index { Offers (in_index least_name) (view_class class) result }
-    ensures slice { Offers (slice_to least_name absent) (view_class class) result }
-{
-    match class {
-        TokenClass::RightBracket => Reply::Opens(Frame::PostRest, Progress::Have),
-        _ => Reply::Stuck,
-    }
-}
-
-/// After a value of a dict.
-fn entry(class: TokenClass) -> Reply
-    ensures { Offers (in_value no_pairs least_name) (view_class class) result }
-{
-    match class {
-        TokenClass::Comma => Reply::Goes(Progress::DictComma),
-        TokenClass::RightBrace => Reply::Opens(Frame::PostRest, Progress::Have),
-        _ => Reply::Stuck,
-    }
-}
-
-/// After an `expr` that may be one of several.
-#[tactic(auto, using(crate::proofs::Offers::given))]
-fn several(class: TokenClass) -> Reply
-    ensures first { Offers exprs_first (view_class class) result }
-    ensures rest { Offers (exprs_rest least_name no_exprs) (view_class class) result }
-{
-    match class {
-        TokenClass::Comma => Reply::Goes(Progress::AfterComma),
-        _ => Reply::Pass,
-    }
-}
-
-/// After the body of a conditional expression.
-fn condition(class: TokenClass) -> Reply
-    ensures { Offers cond_first (view_class class) result }
-{
-    match class {
-        TokenClass::If => Reply::Opens(Frame::CondTest, Progress::Want(Precedence::Or)),
-        _ => Reply::Pass,
-    }
-}
-
-/// After its test.
-fn test(class: TokenClass) -> Reply
-    ensures { Offers (cond_test least_name) (view_class class) result }
-{
-    match class {
-        TokenClass::Else => Reply::Opens(Frame::CondElse, Progress::Want(Precedence::Expr)),
-        _ => Reply::Stuck,
-    }
-}
-
-/// After what stands in round brackets.
-fn paren(class: TokenClass) -> Reply
-    ensures { Offers in_paren (view_class class) result }
-{
-    match class {
-        TokenClass::RightParen => Reply::Opens(Frame::PostRest, Progress::Have),
-        _ => Reply::Stuck,
-    }
-}
-
-/// After a key of a dict.
-fn key(class: TokenClass) -> Reply
-    ensures { Offers (in_key no_pairs) (view_class class) result }
-{
-    match class {
-        TokenClass::Colon => Reply::Opens(Frame::InValue, Progress::Want(Precedence::Expr)),
-        _ => Reply::Stuck,
-    }
-}
-
-/// What a frame does with a token after the part that it waits for.
-#[tactic(auto, using(crate::proofs::Offers::given))]
-fn offer(frame: Frame, class: TokenClass) -> Reply
-    ensures { Offers (view_frame frame) (view_class class) result }
-{
-    match frame {
-        Frame::ExprsFirst => several(class),
-        Frame::ExprsRest => several(class),
-        Frame::CondFirst => condition(class),
-        Frame::CondTest => test(class),
-        Frame::CondElse => Reply::Pass,
-        Frame::First(precedence) => join(precedence, class),
-        Frame::Right(operator) => join(operator_level(operator), class),
-        Frame::NotOf => Reply::Pass,
-        Frame::CompareFirst => chain(class),
-        Frame::CompareRest(_) => chain(class),
-        Frame::UnaryOf(_) => Reply::Pass,
-        Frame::PostRest => postfix(class),
-        Frame::InItems(opener) => item(opener, class),
-        Frame::IndexFirst => index(class),
-        Frame::InIndex => index_end(class),
-        Frame::SliceTo => index_end(class),
-        Frame::InParen => paren(class),
-        Frame::InKey => key(class),
-        Frame::InValue => entry(class),
-    }
-}
-
 fn next(frames: Vec<Frame>, progress: Progress) -> Turn
     ensures { view_turn result ≡ Next (view_at progress (view_stack frames.items)) }
 {
@@ -299,7 +73,7 @@ fn give(frames: Vec<Frame>, class: TokenClass) -> Result<Turn, NoMemory>
 
 /// A frame is opened.
 fn open(frames: Vec<Frame>, frame: Frame, progress: Progress) -> Result<Turn, NoMemory>
-    ensures { Acts (Next (view_at progress (on (view_frame frame) (view_stack frames.items)))) result }
+    ensures { Reaches progress (λ k. on (view_frame frame) k) frames.items result }
 {
     let mut frames = frames;
     push(&mut frames, frame)?;
@@ -308,7 +82,7 @@ fn open(frames: Vec<Frame>, frame: Frame, progress: Progress) -> Result<Turn, No
 
 /// A bracket begins an operand.
 fn bracket(precedence: Precedence, frames: Vec<Frame>, progress: Progress) -> Result<Turn, NoMemory>
-    ensures { Acts (Next (view_at progress (upto_term (view_precedence precedence) (view_stack frames.items)))) result }
+    ensures { Reaches progress (upto_term (view_precedence precedence)) frames.items result }
 {
     let mut frames = frames;
     raise_to_unary(precedence, &mut frames)?;
@@ -317,7 +91,8 @@ fn bracket(precedence: Precedence, frames: Vec<Frame>, progress: Progress) -> Re
 
 /// A token is an operand.
 fn operand(precedence: Precedence, frames: Vec<Frame>, progress: Progress) -> Result<Turn, NoMemory>
-    ensures { Acts (Next (view_at progress (on post_rest (upto_term (view_precedence precedence) (view_stack frames.items))))) result }
+    ensures { Reaches progress (λ k. on post_rest (upto_term (view_precedence precedence) k))
+        frames.items result }
 {
     let mut frames = frames;
     raise_to_unary(precedence, &mut frames)?;
@@ -326,7 +101,9 @@ fn operand(precedence: Precedence, frames: Vec<Frame>, progress: Progress) -> Re
 
 /// A sign begins an operand.
 fn signed(precedence: Precedence, frames: Vec<Frame>, sign: Sign) -> Result<Turn, NoMemory>
-    ensures { Acts (cond (at_most (view_precedence precedence) LUnary) (Next (Want LUnary (on (unary_of sign) (upto_term (view_precedence precedence) (view_stack frames.items))))) Stuck) result }
+    ensures { Acts (cond (at_most (view_precedence precedence) LUnary) (Next (Want LUnary
+        (on (unary_of sign) (upto_term (view_precedence precedence) (view_stack frames.items)))))
+        Stuck) result }
 {
     if !at_most(precedence, Precedence::Unary) {
         return Ok(Turn::Stuck);
@@ -354,7 +131,7 @@ fn negated(precedence: Precedence, frames: Vec<Frame>) -> Result<Turn, NoMemory>
 
 /// An expression of that level begins.
 fn begin(precedence: Precedence, frames: Vec<Frame>, class: TokenClass) -> Result<Turn, NoMemory>
-    ensures { Acts (begin (view_precedence precedence) (view_stack frames.items) (view_class class)) result }
+    ensures { Steps (Progress.Want precedence) frames.items class result }
 {
     match class {
         TokenClass::Name => operand(precedence, frames, Progress::Have),
@@ -406,7 +183,8 @@ fn begin_in(
     precedence: Precedence,
     class: TokenClass,
 ) -> Result<Turn, NoMemory>
-    ensures { Acts (begin (view_precedence precedence) (on (view_frame frame) (view_stack frames.items)) (view_class class)) result }
+    ensures { Acts (begin (view_precedence precedence)
+        (on (view_frame frame) (view_stack frames.items)) (view_class class)) result }
 {
     let mut frames = frames;
     push(&mut frames, frame)?;
@@ -422,8 +200,8 @@ fn closed(frames: Vec<Frame>) -> Result<Turn, NoMemory>
 
 /// After the bracket of a call or a list, or a comma in it.
 fn items(opener: Opener, frames: Vec<Frame>, class: TokenClass) -> Result<Turn, NoMemory>
-    ensures open { Acts (step (ItemsOpen (view_opener opener) (view_stack frames.items)) (view_class class)) result }
-    ensures comma { Acts (step (ItemsComma (view_opener opener) no_exprs (view_stack frames.items)) (view_class class)) result }
+    ensures open { Steps (Progress.ItemsOpen opener) frames.items class result }
+    ensures comma { Steps (Progress.ItemsComma opener) frames.items class result }
 {
     if closes(opener, class) {
         return closed(frames);
@@ -433,8 +211,8 @@ fn items(opener: Opener, frames: Vec<Frame>, class: TokenClass) -> Result<Turn, 
 
 /// After the brace of a dict, or a comma in it.
 fn entries(frames: Vec<Frame>, class: TokenClass) -> Result<Turn, NoMemory>
-    ensures open { Acts (step (DictOpen (view_stack frames.items)) (view_class class)) result }
-    ensures comma { Acts (step (DictComma no_pairs (view_stack frames.items)) (view_class class)) result }
+    ensures open { Steps Progress.DictOpen frames.items class result }
+    ensures comma { Steps Progress.DictComma frames.items class result }
 {
     match class {
         TokenClass::RightBrace => closed(frames),
@@ -445,7 +223,7 @@ fn entries(frames: Vec<Frame>, class: TokenClass) -> Result<Turn, NoMemory>
 /// After a comma of a tuple.
 #[tactic(auto, using(crate::proofs::Offers::given_open))]
 fn after_comma(frames: Vec<Frame>, class: TokenClass) -> Result<Turn, NoMemory>
-    ensures { Acts (step (AfterComma least_name no_exprs (view_stack frames.items)) (view_class class)) result }
+    ensures { Steps Progress.AfterComma frames.items class result }
 {
     if begins(class) {
         return begin_in(frames, Frame::ExprsRest, Precedence::Expr, class);
@@ -456,7 +234,7 @@ fn after_comma(frames: Vec<Frame>, class: TokenClass) -> Result<Turn, NoMemory>
 /// After what stands after `is`.
 #[tactic(auto, using(crate::proofs::Offers::given_open))]
 fn linked(frames: Vec<Frame>, class: TokenClass) -> Result<Turn, NoMemory>
-    ensures { Acts (step (Linked least_name no_links (view_stack frames.items)) (view_class class)) result }
+    ensures { Steps Progress.Linked frames.items class result }
 {
     match class {
         TokenClass::Compare(op) => open(
@@ -470,8 +248,54 @@ fn linked(frames: Vec<Frame>, class: TokenClass) -> Result<Turn, NoMemory>
     }
 }
 
-/// What a token does.
+/// After a string, or several.
 #[tactic(auto, using(crate::proofs::Offers::given_open))]
+fn strings(frames: Vec<Frame>, class: TokenClass) -> Result<Turn, NoMemory>
+    ensures { Steps Progress.Strings frames.items class result }
+{
+    match class {
+        TokenClass::Text => Ok(next(frames, Progress::Strings)),
+        TokenClass::BadFormat => Ok(Turn::Stuck),
+        rest => give(frames, rest),
+    }
+}
+
+/// After the `not` of `not in`.
+fn after_not(frames: Vec<Frame>, class: TokenClass) -> Result<Turn, NoMemory>
+    ensures { Steps Progress.AfterNot frames.items class result }
+{
+    match class {
+        TokenClass::Compare(CmpOp::In) => open(
+            frames,
+            Frame::CompareRest(CmpOp::NotIn),
+            Progress::Want(Precedence::Sum),
+        ),
+        _ => Ok(Turn::Stuck),
+    }
+}
+
+/// After `is`.
+fn after_is(frames: Vec<Frame>, class: TokenClass) -> Result<Turn, NoMemory>
+    ensures { Steps Progress.AfterIs frames.items class result }
+{
+    match class {
+        TokenClass::Not => Ok(next(frames, Progress::AfterIsNot)),
+        TokenClass::Constant => Ok(next(frames, Progress::Linked)),
+        _ => Ok(Turn::Stuck),
+    }
+}
+
+/// After `is not`.
+fn after_is_not(frames: Vec<Frame>, class: TokenClass) -> Result<Turn, NoMemory>
+    ensures { Steps Progress.AfterIsNot frames.items class result }
+{
+    match class {
+        TokenClass::Constant => Ok(next(frames, Progress::Linked)),
+        _ => Ok(Turn::Stuck),
+    }
+}
+
+/// What a token does.
 pub fn act(reader: Reader, class: TokenClass) -> Result<Turn, NoMemory>
     ensures { Acts (step (view_reader reader) (view_class class)) result }
 {
@@ -479,11 +303,7 @@ pub fn act(reader: Reader, class: TokenClass) -> Result<Turn, NoMemory>
     match progress {
         Progress::Want(precedence) => begin(precedence, frames, class),
         Progress::Have => give(frames, class),
-        Progress::Strings => match class {
-            TokenClass::Text => Ok(next(frames, Progress::Strings)),
-            TokenClass::BadFormat => Ok(Turn::Stuck),
-            rest => give(frames, rest),
-        },
+        Progress::Strings => strings(frames, class),
         Progress::AfterOpen => match class {
             TokenClass::RightParen => closed(frames),
             rest => begin_in(frames, Frame::InParen, Precedence::Exprs, rest),
@@ -505,23 +325,9 @@ pub fn act(reader: Reader, class: TokenClass) -> Result<Turn, NoMemory>
             TokenClass::Name => closed(frames),
             _ => Ok(Turn::Stuck),
         },
-        Progress::AfterNot => match class {
-            TokenClass::Compare(CmpOp::In) => open(
-                frames,
-                Frame::CompareRest(CmpOp::NotIn),
-                Progress::Want(Precedence::Sum),
-            ),
-            _ => Ok(Turn::Stuck),
-        },
-        Progress::AfterIs => match class {
-            TokenClass::Not => Ok(next(frames, Progress::AfterIsNot)),
-            TokenClass::Constant => Ok(next(frames, Progress::Linked)),
-            _ => Ok(Turn::Stuck),
-        },
-        Progress::AfterIsNot => match class {
-            TokenClass::Constant => Ok(next(frames, Progress::Linked)),
-            _ => Ok(Turn::Stuck),
-        },
+        Progress::AfterNot => after_not(frames, class),
+        Progress::AfterIs => after_is(frames, class),
+        Progress::AfterIsNot => after_is_not(frames, class),
         Progress::Linked => linked(frames, class),
     }
 }

@@ -1,7 +1,6 @@
 use Rattle.std.specs.Prelude.{◌↔◌, Result, Ok, Err, IfOk, IsTrue}
 use Rattle.std.proofs.Common.{◌≡◌, Bool, is_some}
 use Rattle.std.specs.declared.alloc.AllocError.{AllocError}
-use Rattle.py_syntax.specs.Kinds.{Pieces}
 use Rattle.py_grammar.specs.Machine.{parts}
 use Rattle.py_grammar.specs.Refusal.{AreSpelled}
 use Rattle.py_grammar.proofs.SpelledFields.{told}

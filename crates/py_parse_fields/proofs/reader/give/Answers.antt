@@ -2,7 +2,7 @@ use Rattle.std.proofs.Common.{ap, sym, subst, ◌∙◌}
 use Rattle.py_grammar.specs.Machine.{Out, give}
 use Rattle.py_grammar.specs.Least.{least_name}
 use Rattle.py_grammar.specs.Bare.{bare_out}
-use Rattle.py_parse_fields.specs.declared.reader.Reply.TheVariants as reply_
+use Rattle.py_parse_fields.specs.declared.replies.Reply.TheVariants as reply_
 use Rattle.py_parse_fields.specs.Frames.{view_stack, view_class}
 use Rattle.py_parse_fields.specs.Reader.{Turns}
 use Rattle.py_parse_fields.proofs.Offers.{offered}
