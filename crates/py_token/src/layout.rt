@@ -61,7 +61,8 @@ fn dedent(
     tokens: &mut Vec<Token>,
     line: u32,
 ) -> Result<(), TokenError>
-    ensures { Indents (dedents blanks.now line) result indents.old indents.new tokens.old tokens.new }
+    ensures { Indents (dedents blanks.now line) result
+        indents.old indents.new tokens.old tokens.new }
 {
     match indents.pop() {
         None => {
@@ -101,7 +102,8 @@ fn block(
     tokens: &mut Vec<Token>,
     line: u32,
 ) -> Result<(), TokenError>
-    ensures { Indents (block_tokens blanks.now line) result indents.old indents.new tokens.old tokens.new }
+    ensures { Indents (block_tokens blanks.now line) result
+        indents.old indents.new tokens.old tokens.new }
 {
     if goes_in(indents, blanks) {
         push_token(tokens, TokenKind::Indent, line, line)?;
