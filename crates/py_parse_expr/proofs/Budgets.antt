@@ -206,9 +206,9 @@ pub postfix_low : (limit : ℕ) (k : Ctx) (is : Bool) → postfix limit k is ≤
 postfix_low limit k is = fitted_low (wants k) (budget limit k true) (budget limit k false) limit is (budget_low limit k true) (budget_low limit k false)
 
 -- a frame in which all trees have the same budget
-pub same_budget : (limit : ℕ) (k : Ctx) (r : HeightBudget) (a h x t n : ℕ) → r.target ≡ n → r.other ≡ n → r.wants ≡ false → n ≡ under a x → a ≡ capped h → x ≡ t → t ≤ limit → limit ≤ HEIGHT → budget limit k true ≡ under h t → budget limit k false ≡ under h t → wants k ≡ false → IsBudget limit k r
-same_budget limit k r a h x t n first_is two three is high same low bound for_targets for_others none =
-    let all : n ≡ under h t = is ∙ capped_under a h x t limit high same low bound in
+pub below_budget : (limit : ℕ) (k : Ctx) (r : HeightBudget) (a h x t : ℕ) → r.target ≡ under a x → r.other ≡ under a x → r.wants ≡ false → a ≡ capped h → x ≡ t → t ≤ limit → limit ≤ HEIGHT → budget limit k true ≡ under h t → budget limit k false ≡ under h t → wants k ≡ false → IsBudget limit k r
+below_budget limit k r a h x t first_is two three high same low bound for_targets for_others none =
+    let all : under a x ≡ under h t = capped_under a h x t limit high same low bound in
     record { target = first_is ∙ all ∙ sym for_targets; other = two ∙ all ∙ sym for_others; wants = three ∙ sym none }
 
 -- a frame that can still become a target

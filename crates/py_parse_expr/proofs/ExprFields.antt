@@ -16,20 +16,18 @@ use Rattle.py_syntax.specs.declared.expr.FormatPart.{FormatPart}
 use Rattle.py_syntax.specs.declared.expr.FormatPart.TheVariants as part_
 use Rattle.py_syntax.specs.Tree.{Text, Expr, Parts, no_parts, text, field}
 use Rattle.py_syntax.specs.Kinds.{Kind, FString, End, Pieces, Kinds, no_kinds, kinds, bare_kind, bare_pieces}
-use Rattle.py_syntax.specs.Normal.{LExprs, height, height_parts}
+use Rattle.py_syntax.specs.Normal.{height, height_parts}
 use Rattle.py_syntax.specs.View.{PlainPart, a_text, a_field, parts_of, plain_expr, plain_parts}
 use Rattle.py_parse_expr.specs.declared.expr_nodes.Measured.{Measured}
 use Rattle.py_parse_expr.specs.declared.expr_nodes.Fields.{Fields}
-use Rattle.py_parse_expr.specs.declared.expr_classes.Precedence.TheVariants as precedence_
 use Rattle.py_parse_expr.specs.declared.expr_stack.Stack.{Stack}
 use Rattle.py_parse_expr.specs.declared.expr_turns.Progress.{Progress}
-use Rattle.py_parse_expr.specs.declared.expr_turns.Progress.TheVariants as progress_
 use Rattle.py_parse_expr.specs.declared.expr_turns.Turn.{Turn}
 use Rattle.py_parse_expr.specs.declared.expr_turns.Turn.TheVariants as turn_
 use Rattle.py_parse_expr.specs.declared.expr_fields.Unread.{Unread}
 use Rattle.py_parse_expr.specs.declared.expr_fields.Unread.TheVariants as unread_
 use Rattle.py_grammar.specs.TokenClasses.{TokenClass, t_format, t_other}
-use Rattle.py_grammar.specs.Machine.{any, Ctx, Outside, State, Want, Out, Next, Stuck, Left, step, start, format_class, class, parts, field_expr}
+use Rattle.py_grammar.specs.Machine.{any, State, Out, Next, Stuck, Left, step, start, format_class, class, parts, field_expr}
 use Rattle.py_grammar.specs.Least.{least}
 use Rattle.py_parse_expr.specs.ExprViews.{capped, view_measured, view_fields, plain_class}
 use Rattle.py_parse_expr.specs.ExprStacks.{view_stack, Valid}
@@ -91,9 +89,6 @@ pub record FieldSoFar (limit : ℕ) (all : Option Expr) (p : Progress) (s : Stac
   pub is : all ≡ field_expr (view_at p (view_stack s)) ks
   pub place : ValidAt p
   pub valid : Valid limit s
-
-pub field_begins : (limit : ℕ) (s : Stack) (ks : Kinds) → view_stack s ≡ Outside any → Valid limit s → FieldSoFar limit (field_expr (start any) ks) (progress_.Want precedence_.Exprs) s ks
-field_begins limit s ks view valid = record { is = ap (λ (k : Ctx). field_expr (Want LExprs k) ks) (sym view); place = tt; valid = valid }
 
 -- A field is at least as high as what it goes on from.
 field_least : (ks : Kinds) (s : State) (e : Expr) → field_expr s ks ≡ Some e → least s ≤ height e

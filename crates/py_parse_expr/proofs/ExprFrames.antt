@@ -10,7 +10,7 @@ use Rattle.py_grammar.specs.Machine.{snoc_link, Opener, a_call, a_list, Frame, C
 use Rattle.py_parse_expr.specs.declared.expr_nodes.Measured.{Measured}
 use Rattle.py_parse_expr.specs.declared.expr_turns.FrameStep.TheVariants as met_
 use Rattle.py_parse_expr.specs.ExprViews.{view_class, Makes}
-use Rattle.py_parse_expr.specs.ExprTurns.{closes, MeetsAs}
+use Rattle.py_parse_expr.specs.ExprTurns.{closes, BecomesAs}
 
 pub give_right : (e a : Expr) (i : BinaryOperator) (k : Ctx) (t : TokenClass) → give e (on (right i a) k) t ≡ give (joined i a e) (on (first (operator_level i)) k) t
 give_right e a i k (t_operator j) = refl
@@ -30,5 +30,5 @@ give_unclosed e (a_call f) es k r h i = refl
 give_unclosed e a_list es k r h i = refl
 
 -- a frame that makes a tree for the next one
-pub passes : (f : Frame) (whole e : Expr) (t : TokenClass) (n : Measured) → ((k : Ctx) → give e (on f k) t ≡ give whole k t) → Makes whole n → MeetsAs e f t (met_.Passes n)
+pub passes : (f : Frame) (whole e : Expr) (t : TokenClass) (n : Measured) → ((k : Ctx) → give e (on f k) t ≡ give whole k t) → Makes whole n → (k : Ctx) → BecomesAs (give e (on f k) t) k t (met_.Passes n)
 passes f whole e t n same makes = λ k. (same k ∙ ap (λ (x : Expr). give x k t) (sym makes.is), makes.valid)

@@ -18,9 +18,12 @@ goal_of part_.Target = target
 
 -- The answer is how the machine ends.
 abbrev pub FollowsMachine : List Kind → ℕ → ExprPart → Result ExprRead ReadError → Type 0
-FollowsMachine ts at part (Ok r) = EndsAt HEIGHT (start (goal_of part)) ts at r.next (Reads (plain_expr r.expr.value))
-FollowsMachine ts at part (Err (error.Unexpected place)) = EndsAt HEIGHT (start (goal_of part)) ts at place Unexpected
-FollowsMachine ts at part (Err (error.TooDeep place)) = EndsAt HEIGHT (start (goal_of part)) ts at place TooDeep
+FollowsMachine ts at part (Ok r) =
+    EndsAt HEIGHT (start (goal_of part)) ts at r.next (Reads (plain_expr r.expr.value))
+FollowsMachine ts at part (Err (error.Unexpected place)) =
+    EndsAt HEIGHT (start (goal_of part)) ts at place Unexpected
+FollowsMachine ts at part (Err (error.TooDeep place)) =
+    EndsAt HEIGHT (start (goal_of part)) ts at place TooDeep
 FollowsMachine ts at part (Err error.NoMemory) = Unit {0}
 
 -- whether a token is the end of the list

@@ -2,14 +2,16 @@
 --     head_of .. ValidItems      items that are some
 --     view_goal, ValidGoal       what the whole is to be
 --     view_frame, ValidFrame     one frame
---     IsBudget                   the height that is left at a place
+--     IsBudget, IsInside         the height that is left at a place, and inside a frame
 --     view_frames .. Valid       the stack
---     opened, Pops               frames more, and one fewer
-use Rattle.std.specs.Prelude.{◌≡◌, ℕ, suc, ◌≤◌, true, false, List, [], ◌∷◌, length, reverse, Option, Some, None}
+--     opened .. upto_bracket     frames more
+--     Opens, Pops                the stack with frames more, and with one fewer
+use Rattle.std.specs.Prelude.{◌≡◌, ℕ, suc, ◌≤◌, true, false, cond, List, [], ◌∷◌, length, reverse, Option, Some, None}
 use Rattle.py_syntax.specs.Spelling.{HEIGHT}
 use Rattle.py_syntax.specs.Tree.{Expr, none, Exprs, no_exprs, exprs}
 use Rattle.py_syntax.specs.Normal.{Level, LEnd, LExprs, LExpr, LOr, LAnd, LNot, LCmp, LSum, LTerm, LUnary, LPost}
 use Rattle.py_syntax.specs.View.{plain_expr}
+use Rattle.py_parse_expr.specs.declared.expr_classes.Precedence.{Precedence}
 use Rattle.py_parse_expr.specs.declared.expr_nodes.Row.{Row}
 use Rattle.py_parse_expr.specs.declared.expr_stack.Goal as held_goal
 use Rattle.py_parse_expr.specs.declared.expr_stack.Goal.TheVariants as goal_
@@ -18,7 +20,7 @@ use Rattle.py_parse_expr.specs.declared.expr_stack.Frame.TheVariants as frame_
 use Rattle.py_parse_expr.specs.declared.expr_stack.HeightBudget.{HeightBudget}
 use Rattle.py_parse_expr.specs.declared.expr_stack.OpenFrame.{OpenFrame}
 use Rattle.py_parse_expr.specs.declared.expr_stack.Stack.{Stack}
-use Rattle.py_grammar.specs.Machine.{Goal, any, one, target, targets, Frame, exprs_first, exprs_rest, cond_first, cond_test, cond_else, first, right, not_of, compare_first, compare_rest, unary_of, post_rest, in_items, index_first, in_index, slice_to, in_paren, in_key, in_value, Ctx, Outside, on, upto_exprs, upto_cond, upto_or, upto_and, upto_compare, upto_sum, upto_term}
+use Rattle.py_grammar.specs.Machine.{at_most, Goal, any, one, target, targets, Frame, exprs_first, exprs_rest, cond_first, cond_test, cond_else, first, right, not_of, compare_first, compare_rest, unary_of, post_rest, in_items, index_first, in_index, slice_to, in_paren, in_key, in_value, Ctx, Outside, on, upto_exprs, upto_cond, upto_or, upto_and, upto_compare, upto_sum, upto_term}
 use Rattle.py_grammar.specs.Least.{wants}
 use Rattle.py_grammar.specs.Budgets.{budget}
 use Rattle.py_parse_expr.specs.ExprViews.{view_precedence, view_operator, view_measured, view_row, view_entries, view_links, view_opener, view_bound, IsMeasured, AreMeasured, AreEntries, IsChain, ValidOpener, ValidBound}
@@ -92,6 +94,12 @@ pub record IsBudget (limit : ℕ) (k : Ctx) (r : HeightBudget) : Type 0 where
   pub other : r.other ≡ budget limit k false
   pub wants : r.wants ≡ wants k
 
+-- the budget inside a frame, wherever the other one is that of the place
+abbrev pub IsInside : HeightBudget → held_frame.Frame → HeightBudget → Type 0
+IsInside outer f inner =
+    (limit : ℕ) (k : Ctx) → limit ≤ HEIGHT → IsBudget limit k outer
+    → IsBudget limit (on (view_frame f) k) inner
+
 -- The innermost frame first.
 abbrev pub view_frames : Goal → List OpenFrame → Ctx
 view_frames g [] = Outside g
@@ -99,7 +107,8 @@ view_frames g (h ∷ hs) = on (view_frame h.frame) (view_frames g hs)
 
 abbrev pub ValidFrames : ℕ → Goal → List OpenFrame → Type 0
 ValidFrames limit g [] = Unit {0}
-ValidFrames limit g (h ∷ hs) = ValidFrame h.frame × IsBudget limit (view_frames g (h ∷ hs)) h.budget × ValidFrames limit g hs
+ValidFrames limit g (h ∷ hs) =
+    ValidFrame h.frame × IsBudget limit (view_frames g (h ∷ hs)) h.budget × ValidFrames limit g hs
 
 -- the innermost frame is the last in the code, and the first in the machine
 abbrev pub view_stack : Stack → Ctx
@@ -112,7 +121,8 @@ pub record Valid (limit : ℕ) (s : Stack) : Type 0 where
   pub goal : ValidGoal s.goal
   pub frames : ValidFrames limit (view_goal s.goal) (reverse s.frames.items)
 
--- What is open after a tree of the second level, and what holds one: where a tree of the first level was to begin.
+-- What is open after a tree of the second level, and what holds one: where a tree of the first
+-- level was to begin.
 abbrev pub opened : Level → Level → Ctx → Ctx
 opened lev LEnd k = k
 opened lev LExprs k = upto_exprs lev k
@@ -126,7 +136,26 @@ opened lev LTerm k = upto_term lev k
 opened lev LUnary k = upto_term lev k
 opened lev LPost k = on post_rest (upto_term lev k)
 
+-- one frame of the level `l` more than those of the looser levels, where one may open
+abbrev pub opened_with : Precedence → Precedence → Precedence → held_frame.Frame → Ctx → Ctx
+opened_with from looser l f k =
+    cond (at_most (view_precedence from) (view_precedence l))
+    (on (view_frame f) (opened (view_precedence from) (view_precedence looser) k)) k
+
+-- what is open after what may be called, indexed or asked for a name; and in the bracket of a tree
+abbrev pub upto_post : Precedence → Ctx → Ctx
+upto_post from k = on post_rest (upto_term (view_precedence from) k)
+
+abbrev pub upto_bracket : Precedence → Ctx → Ctx
+upto_bracket from k = upto_term (view_precedence from) k
+
+-- the stack with more frames
+abbrev pub Opens : (Ctx → Ctx) → Stack → Stack → Type 0
+Opens added old new = view_stack new ≡ added (view_stack old)
+
 -- the innermost frame, and those round it
 abbrev pub Pops : Option held_frame.Frame → Stack → Stack → Type 0
 Pops None old new = view_stack old ≡ Outside (view_goal new.goal)
-Pops (Some f) old new = (view_stack old ≡ on (view_frame f) (view_stack new)) × ValidFrame f × (length old.frames.items ≡ suc (length new.frames.items))
+Pops (Some f) old new =
+    (view_stack old ≡ on (view_frame f) (view_stack new)) × ValidFrame f
+    × (length old.frames.items ≡ suc (length new.frames.items))

@@ -1,15 +1,28 @@
 -- What a token makes of an expression that is read, as the code holds it.
---     view_at, ValidAt       a place in an expression
---     closes, close_dict     tokens that close brackets
---     BecomesAs .. Meets     what one frame makes of a token
---     StaysAs, Stays         a step that leaves what is open as it is
---     ActsAs, Acts           a step, whatever its height
---     TurnsTo, Turns         a step within the limit
-use Rattle.std.specs.Prelude.{◌≡◌, ℕ, ◌≤◌, ◌<◌, Bool, true, false, Result, Ok, Err}
+--     view_at, ValidAt           a place in an expression
+--     IsWithin, is_within        whether the least expression from there on is within the limit
+--     closes                     tokens that close brackets with items
+--     BecomesAs .. Meets         what one frame makes of a token
+--     prefixed .. in_braces      what begins, and what stands in brackets
+--     StaysAs .. Leaves          a step that leaves what is open as it is
+--     ActsAs .. Steps            a step, whatever its height
+--     TurnsTo .. StepsWithin     a step within the limit
+use Rattle.std.specs.Prelude.{◌≡◌, ℕ, ◌≤◌, ◌<◌, nat_le, Bool, true, false, cond, Result, Ok, Err}
 use Rattle.std.specs.declared.alloc.AllocError.{AllocError}
-use Rattle.py_syntax.specs.Tree.{Expr, dict, Pairs}
+use Rattle.py_syntax.specs.Spelling.{HEIGHT}
+use Rattle.py_syntax.specs.Tree.{dict, Pairs}
 use Rattle.py_syntax.specs.Normal.{LExpr}
 use Rattle.py_syntax.specs.View.{plain_expr}
+use Rattle.py_parse_expr.specs.declared.expr_classes.Precedence.{Precedence}
+use Rattle.py_parse_expr.specs.declared.expr_classes.TokenClass as held_class
+use Rattle.py_parse_expr.specs.declared.expr_nodes.Chain.{Chain}
+use Rattle.py_parse_expr.specs.declared.expr_nodes.Entries.{Entries}
+use Rattle.py_parse_expr.specs.declared.expr_nodes.Measured.{Measured}
+use Rattle.py_parse_expr.specs.declared.expr_nodes.Opener as held_opener
+use Rattle.py_parse_expr.specs.declared.expr_nodes.Row.{Row}
+use Rattle.py_parse_expr.specs.declared.expr_stack.Frame as held_frame
+use Rattle.py_parse_expr.specs.declared.expr_stack.Goal as held_goal
+use Rattle.py_parse_expr.specs.declared.expr_stack.HeightBudget.{HeightBudget}
 use Rattle.py_parse_expr.specs.declared.expr_stack.Stack.{Stack}
 use Rattle.py_parse_expr.specs.declared.expr_turns.Progress as held_progress
 use Rattle.py_parse_expr.specs.declared.expr_turns.Progress.TheVariants as progress_
@@ -18,10 +31,10 @@ use Rattle.py_parse_expr.specs.declared.expr_turns.FrameStep.TheVariants as met_
 use Rattle.py_parse_expr.specs.declared.expr_turns.Turn.{Turn}
 use Rattle.py_parse_expr.specs.declared.expr_turns.Turn.TheVariants as turn_
 use Rattle.py_grammar.specs.TokenClasses.{TokenClass, t_right_paren, t_right_bracket, t_right_brace}
-use Rattle.py_grammar.specs.Machine.{Opener, a_call, a_list, Frame, post_rest, in_key, Ctx, on, State, Want, Have, Strings, AfterOpen, AfterComma, AfterTarget, ItemsOpen, ItemsComma, DictOpen, DictComma, IndexOpen, SliceColon, AfterDot, AfterNot, AfterIs, AfterIsNot, Linked, Out, Next, Stuck, Left, begin, give}
+use Rattle.py_grammar.specs.Machine.{at_most, Opener, a_call, a_list, post_rest, in_items, in_key, Ctx, on, State, Want, Have, Strings, AfterOpen, AfterComma, AfterTarget, ItemsOpen, ItemsComma, DictOpen, DictComma, IndexOpen, SliceColon, AfterDot, AfterNot, AfterIs, AfterIsNot, Linked, Out, Next, Stuck, Left, close_items, leave, begin, give, step}
 use Rattle.py_grammar.specs.Least.{least}
-use Rattle.py_parse_expr.specs.ExprViews.{view_precedence, view_measured, view_row, view_entries, view_links, view_opener, view_bound, view_strings, IsMeasured, AreMeasured, AreEntries, IsChain, ValidOpener, ValidBound, ValidStrings}
-use Rattle.py_parse_expr.specs.ExprStacks.{head_of, tail_of, ValidItems, view_frame, ValidFrame, view_stack, Valid}
+use Rattle.py_parse_expr.specs.ExprViews.{view_precedence, view_class, view_measured, view_row, view_entries, view_links, view_opener, view_bound, view_strings, IsMeasured, AreMeasured, AreEntries, IsChain, ValidOpener, ValidBound, ValidStrings}
+use Rattle.py_parse_expr.specs.ExprStacks.{head_of, tail_of, ValidItems, view_goal, view_frame, ValidFrame, IsBudget, view_stack, Valid, opened}
 
 abbrev pub view_at : held_progress.Progress → Ctx → State
 view_at (progress_.Want l) k = Want (view_precedence l) k
@@ -60,6 +73,16 @@ ValidAt (progress_.AfterIsNot c) = IsChain c
 ValidAt (progress_.Linked c) = IsChain c
 ValidAt p = Unit {0}
 
+-- the answer at each place that has this budget
+abbrev pub IsWithin : HeightBudget → held_progress.Progress → Bool → Type 0
+IsWithin b p answer =
+    (limit : ℕ) (k : Ctx) → limit ≤ HEIGHT → IsBudget limit k b
+    → answer ≡ nat_le (least (view_at p k)) limit
+
+-- the same at the place that a stack has
+abbrev pub is_within : held_progress.Progress → Stack → Bool
+is_within p s = nat_le (least (view_at p (view_stack s))) s.limit
+
 -- whether the token closes a bracket with items
 abbrev pub closes : Opener → TokenClass → Bool
 closes (a_call f) t_right_paren = true
@@ -71,7 +94,8 @@ closes o t = false
 -- What a step makes of the frames from this one on.
 abbrev pub BecomesAs : Out → Ctx → TokenClass → FrameStep → Type 0
 BecomesAs o k t (met_.Next p) = (o ≡ Next (view_at p k)) × ValidAt p
-BecomesAs o k t (met_.Opens f p) = (o ≡ Next (view_at p (on (view_frame f) k))) × ValidFrame f × ValidAt p
+BecomesAs o k t (met_.Opens f p) =
+    (o ≡ Next (view_at p (on (view_frame f) k))) × ValidFrame f × ValidAt p
 BecomesAs o k t met_.Stuck = o ≡ Stuck
 BecomesAs o k t (met_.Passes e) = (o ≡ give (view_measured e) k t) × IsMeasured e
 
@@ -80,18 +104,48 @@ Becomes o k t (Ok m) = BecomesAs o k t m
 Becomes o k t (Err e) = Unit {0}
 
 -- What a frame makes of an expression and a token, whatever is open round it.
-abbrev pub MeetsAs : Expr → Frame → TokenClass → FrameStep → Type 0
-MeetsAs e f t m = (k : Ctx) → BecomesAs (give e (on f k) t) k t m
+abbrev pub MeetsAs : Measured → held_frame.Frame → held_class.TokenClass → FrameStep → Type 0
+MeetsAs e f t m =
+    (k : Ctx) → BecomesAs (give (view_measured e) (on (view_frame f) k) (view_class t))
+    k (view_class t) m
 
-abbrev pub Meets : Expr → Frame → TokenClass → Result FrameStep AllocError → Type 0
-Meets e f t r = (k : Ctx) → Becomes (give e (on f k) t) k t r
+abbrev pub Meets : Measured → held_frame.Frame → held_class.TokenClass
+    → Result FrameStep AllocError → Type 0
+Meets e f t r =
+    (k : Ctx) → Becomes (give (view_measured e) (on (view_frame f) k) (view_class t))
+    k (view_class t) r
+
+-- What a token makes of a chain of comparisons, whatever is open round it.
+abbrev pub Links : Chain → held_class.TokenClass → Result FrameStep AllocError → Type 0
+Links c t r =
+    (k : Ctx) → Becomes (step (view_at (progress_.Linked c) k) (view_class t)) k (view_class t) r
 
 -- ---- a step
+
+-- an operand of a level begins in a frame of its own, where a tree of that level may stand
+abbrev pub prefixed : Precedence → held_frame.Frame → Precedence → Ctx → Out
+prefixed from f l k =
+    cond (at_most (view_precedence from) (view_precedence l))
+    (Next (Want (view_precedence l)
+    (on (view_frame f) (opened (view_precedence from) (view_precedence l) k)))) Stuck
+
+-- an expression of a level begins in a frame
+abbrev pub begin_in : held_frame.Frame → Precedence → held_class.TokenClass → Ctx → Out
+begin_in f l t k = begin (view_precedence l) (on (view_frame f) k) (view_class t)
+
+-- the token that closes a bracket with items, or one that begins an item
+abbrev pub in_bracket : held_opener.Opener → Row → Bool → held_class.TokenClass → Ctx → Out
+in_bracket o r c t k =
+    close_items (view_opener o) (view_row r) c k (view_class t)
+    (begin LExpr (on (in_items (view_opener o) (view_row r)) k) (view_class t))
 
 -- the token that closes a dict, or one that begins a key
 abbrev pub close_dict : Pairs → Bool → Ctx → TokenClass → Out
 close_dict ps c k t_right_brace = Next (Have (dict ps c) (on post_rest k))
 close_dict ps c k t = begin LExpr (on (in_key ps) k) t
+
+abbrev pub in_braces : Entries → Bool → held_class.TokenClass → Ctx → Out
+in_braces ps c t k = close_dict (view_entries ps) c k (view_class t)
 
 -- What a step makes that leaves what is open as it is, whatever that is.
 abbrev pub StaysAs : (Ctx → Out) → Turn → Type 0
@@ -104,6 +158,11 @@ abbrev pub Stays : (Ctx → Out) → Result Turn AllocError → Type 0
 Stays o (Ok t) = StaysAs o t
 Stays o (Err e) = Unit {0}
 
+-- What the end of the outermost expression makes.
+abbrev pub Leaves : Measured → held_goal.Goal → held_class.TokenClass
+    → Result Turn AllocError → Type 0
+Leaves e g t r = Stays (λ k. leave (view_measured e) (view_goal g) (view_class t)) r
+
 -- What a step makes, whatever its height.
 abbrev pub ActsAs : Out → ℕ → Stack → Turn → Type 0
 ActsAs o limit s (turn_.Next p) = (o ≡ Next (view_at p (view_stack s))) × ValidAt p × Valid limit s
@@ -115,9 +174,20 @@ abbrev pub Acts : Out → ℕ → Stack → Result Turn AllocError → Type 0
 Acts o limit s (Ok t) = ActsAs o limit s t
 Acts o limit s (Err e) = Unit {0}
 
+-- The same from one stack to the next.
+abbrev pub Moves : (Ctx → Out) → Stack → Stack → Result Turn AllocError → Type 0
+Moves o old new r = Acts (o (view_stack old)) old.limit new r
+
+-- What a token makes of a place in an expression, whatever its height.
+abbrev pub Steps : held_progress.Progress → held_class.TokenClass → Stack → Stack
+    → Result Turn AllocError → Type 0
+Steps p t old new r = Acts (step (view_at p (view_stack old)) (view_class t)) old.limit new r
+
 -- What a step makes within the limit.
 abbrev pub TurnsTo : Out → ℕ → Stack → Turn → Type 0
-TurnsTo o limit s (turn_.Next p) = (o ≡ Next (view_at p (view_stack s))) × ValidAt p × Valid limit s × (least (view_at p (view_stack s)) ≤ limit)
+TurnsTo o limit s (turn_.Next p) =
+    (o ≡ Next (view_at p (view_stack s))) × ValidAt p × Valid limit s
+    × (least (view_at p (view_stack s)) ≤ limit)
 TurnsTo o limit s turn_.Stuck = o ≡ Stuck
 TurnsTo o limit s turn_.Deep = (n : State) × (o ≡ Next n) × (limit < least n)
 TurnsTo o limit s (turn_.Left t) = (o ≡ Left (view_measured t)) × IsMeasured t
@@ -125,3 +195,9 @@ TurnsTo o limit s (turn_.Left t) = (o ≡ Left (view_measured t)) × IsMeasured 
 abbrev pub Turns : Out → ℕ → Stack → Result Turn AllocError → Type 0
 Turns o limit s (Ok t) = TurnsTo o limit s t
 Turns o limit s (Err e) = Unit {0}
+
+-- What a token makes of a place in an expression, within the limit.
+abbrev pub StepsWithin : held_progress.Progress → held_class.TokenClass → Stack → Stack
+    → Result Turn AllocError → Type 0
+StepsWithin p t old new r =
+    Turns (step (view_at p (view_stack old)) (view_class t)) old.limit new r

@@ -119,7 +119,8 @@ abbrev pub view_links : Chain → Links
 view_links c = plain_links c.links.items
 
 abbrev pub IsChain : Chain → Type 0
-IsChain c = c.height ≡ capped (max (height (plain_expr c.first.value)) (height_links (view_links c)))
+IsChain c =
+    c.height ≡ capped (max (height (plain_expr c.first.value)) (height_links (view_links c)))
 
 abbrev pub AreFields : Fields → Type 0
 AreFields fs = fs.height ≡ capped (height_parts (view_fields fs))
@@ -134,7 +135,9 @@ view_strings (strings_.Mixed fs h) = plain_fragments fs.items
 
 abbrev pub ValidStrings : held_strings.Strings → Type 0
 ValidStrings (strings_.Plain xs) = Unit {0}
-ValidStrings (strings_.Mixed fs h) = (has_format (plain_fragments fs.items) ≡ true) × (h ≡ capped (height_fragments (plain_fragments fs.items)))
+ValidStrings (strings_.Mixed fs h) =
+    (has_format (plain_fragments fs.items) ≡ true)
+    × (h ≡ capped (height_fragments (plain_fragments fs.items)))
 
 abbrev pub view_opener : held_opener.Opener → Opener
 view_opener (opener_.Call t) = a_call (view_measured t)

@@ -1,6 +1,6 @@
 // What a token is to an expression.
 
-ghost use Rattle.std.specs.Prelude.{◌≡◌, IfOk, nat_le};
+ghost use Rattle.std.specs.Prelude.{◌≡◌, IfOk};
 ghost use Rattle.py_token.specs.View.{view_kind};
 ghost use Rattle.py_syntax.specs.Kinds.{bare_kind};
 ghost use Rattle.py_syntax.specs.Normal.{rank};
@@ -165,13 +165,22 @@ fn operator_class(mark: Mark) -> TokenClass
         Mark::RightBracket => TokenClass::RightBracket,
         Mark::LeftBrace => TokenClass::LeftBrace,
         Mark::RightBrace => TokenClass::RightBrace,
-        _ => TokenClass::Other,
+        Mark::DoubleSlashEqual => TokenClass::Other,
+        Mark::PlusEqual => TokenClass::Other,
+        Mark::MinusEqual => TokenClass::Other,
+        Mark::StarEqual => TokenClass::Other,
+        Mark::PercentEqual => TokenClass::Other,
+        Mark::Equal => TokenClass::Other,
+        Mark::Semicolon => TokenClass::Other,
+        Mark::Bar => TokenClass::Other,
     }
 }
 
-/// The class of a token that is no f-string; an f-string has the one of a token that stands in no expression.
+/// The class of a token that is no f-string; an f-string has the one of a token that stands in no
+/// expression.
 pub fn class_of(kind: &TokenKind) -> Result<TokenClass, NoMemory>
-    ensures { IfOk result (λ r. view_class r ≡ plain_class (class (bare_kind (view_kind kind.now)))) }
+    ensures { IfOk result
+        (λ r. view_class r ≡ plain_class (class (bare_kind (view_kind kind.now)))) }
 {
     match kind {
         TokenKind::Name(text) => Ok(TokenClass::Name(text.copy()?)),

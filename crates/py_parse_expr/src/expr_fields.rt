@@ -1,15 +1,14 @@
 // F-strings, whose fields are expressions of their own.
 
 ghost use Rattle.std.specs.Prelude.{◌≡◌, ◌≤◌, IfOk};
-ghost use Rattle.py_token.specs.Plain.{token_row};
-ghost use Rattle.py_token.specs.View.{view_kind, view_tokens};
-ghost use Rattle.py_syntax.specs.Kinds.{bare_kind, bare_tokens};
+ghost use Rattle.py_token.specs.View.{view_kind};
+ghost use Rattle.py_syntax.specs.Kinds.{bare_kind};
 ghost use Rattle.py_syntax.specs.Spelling.{HEIGHT};
-ghost use Rattle.py_grammar.specs.Machine.{Ctx, any, step, start, class, parts, field_expr};
-ghost use Rattle.py_parse_fields.specs.Order.{plain_pieces};
-ghost use Rattle.py_parse_expr.specs.ExprStacks.{view_stack, Valid};
+ghost use Rattle.py_grammar.specs.Machine.{Ctx, parts};
+ghost use Rattle.py_parse_fields.specs.Order.{plain_pieces, field_tree};
+ghost use Rattle.py_parse_expr.specs.ExprStacks.{Valid};
 ghost use Rattle.py_parse_expr.specs.ExprTurns.{view_at, ValidAt};
-ghost use Rattle.py_parse_expr.specs.ExprFields.{takes_string, has_spelled_fields, HasPieces, ended_turn, IsField, AreParts, Goes};
+ghost use Rattle.py_parse_expr.specs.ExprFields.{takes_string, has_spelled_fields, HasPieces, ended_turn, IsField, AreParts, Takes};
 
 use crate::expr_classes::{Precedence, TokenClass, class_of};
 use crate::expr_limits::step;
@@ -89,7 +88,8 @@ fn ended(turn: Turn) -> Result<Measured, Unread>
     }
 }
 
-/// What a token does within the limit. An f-string that is said to be too high may have a field that is no expression.
+/// What a token does within the limit. An f-string that is said to be too high may have a field
+/// that is no expression.
 #[cycle(turn)]
 pub fn turn(
     alloc: Global,
@@ -99,7 +99,7 @@ pub fn turn(
 ) -> Result<Turn, NoMemory>
     requires valid { Valid stack.old.limit stack.old }
     requires at { ValidAt progress }
-    ensures { Goes (step (view_at progress (view_stack stack.old)) (class (bare_kind (view_kind kind.now)))) stack.old.limit stack.new (bare_kind (view_kind kind.now)) result }
+    ensures { Takes progress kind.now stack.old stack.new result }
 {
     let Some(pieces) = pieces_of(kind) else {
         return step(alloc, stack, progress, class_of(kind)?);
@@ -148,7 +148,7 @@ fn field(
     limit: usize,
 ) -> Result<Result<Measured, Unread>, NoMemory>
     requires { limit ≤ HEIGHT }
-    ensures { IfOk result (IsField limit (field_expr (start any) (bare_tokens (token_row (view_tokens tokens.now))))) }
+    ensures { IfOk result (IsField limit (field_tree tokens.now)) }
 {
     let mut stack = Stack::new(alloc, limit, Goal::Any);
     let mut progress = Progress::Want(Precedence::Exprs);

@@ -1,11 +1,9 @@
 // An expression is whole as far as the stack knows, and a token comes: one function for each frame.
 
 ghost use Rattle.std.specs.Prelude.{◌≡◌};
-ghost use Rattle.py_syntax.specs.View.{plain_expr};
-ghost use Rattle.py_grammar.specs.Machine.{Ctx, Next, Have, Linked, step, exprs_first, cond_first, cond_test, first, right, compare_first, post_rest, in_items, index_first, in_index, slice_to, in_paren, in_key, in_value};
-ghost use Rattle.py_parse_expr.specs.ExprViews.{view_precedence, view_operator, view_class, view_measured, view_row, view_entries, view_links, view_opener, view_bound, IsMeasured, AreMeasured, AreEntries, IsChain, ValidOpener, ValidBound};
-ghost use Rattle.py_parse_expr.specs.ExprStacks.{view_frame, ValidFrame};
-ghost use Rattle.py_parse_expr.specs.ExprTurns.{closes, Becomes, MeetsAs, Meets};
+ghost use Rattle.py_parse_expr.specs.ExprViews.{view_class, view_opener, IsMeasured, AreMeasured, AreEntries, IsChain, ValidOpener, ValidBound};
+ghost use Rattle.py_parse_expr.specs.ExprStacks.{ValidFrame};
+ghost use Rattle.py_parse_expr.specs.ExprTurns.{closes, Links, MeetsAs, Meets};
 
 use crate::expr_classes::{BinaryOperator, Precedence, TokenClass};
 use crate::expr_nodes::{
@@ -24,7 +22,7 @@ pub fn exprs_first(
     class: &TokenClass,
 ) -> Result<FrameStep, NoMemory>
     requires { IsMeasured measured }
-    ensures { Meets (view_measured measured) exprs_first (view_class class.now) result }
+    ensures { Meets measured Frame.ExprsFirst class.now result }
 {
     match class {
         TokenClass::Comma => Ok(FrameStep::Next(Progress::AfterComma(Row::new(alloc).with(
@@ -42,7 +40,7 @@ pub fn exprs_rest(
 ) -> Result<FrameStep, NoMemory>
     requires frame { ValidFrame (Frame.ExprsRest items) }
     requires measured { IsMeasured measured }
-    ensures { Meets (view_measured measured) (view_frame (Frame.ExprsRest items)) (view_class class.now) result }
+    ensures { Meets measured (Frame.ExprsRest items) class.now result }
 {
     let items = items.with(measured)?;
     match class {
@@ -53,7 +51,7 @@ pub fn exprs_rest(
 
 pub fn cond_first(measured: Measured, class: &TokenClass) -> FrameStep
     requires { IsMeasured measured }
-    ensures { MeetsAs (view_measured measured) cond_first (view_class class.now) result }
+    ensures { MeetsAs measured Frame.CondFirst class.now result }
 {
     match class {
         TokenClass::If => FrameStep::Opens(
@@ -67,7 +65,7 @@ pub fn cond_first(measured: Measured, class: &TokenClass) -> FrameStep
 pub fn cond_test(body: Measured, measured: Measured, class: &TokenClass) -> FrameStep
     requires body { IsMeasured body }
     requires measured { IsMeasured measured }
-    ensures { MeetsAs (view_measured measured) (cond_test (view_measured body)) (view_class class.now) result }
+    ensures { MeetsAs measured (Frame.CondTest body) class.now result }
 {
     match class {
         TokenClass::Else => FrameStep::Opens(
@@ -81,7 +79,7 @@ pub fn cond_test(body: Measured, measured: Measured, class: &TokenClass) -> Fram
 /// An operand in front of an operator of its level, or not.
 pub fn operand(precedence: Precedence, measured: Measured, class: &TokenClass) -> FrameStep
     requires { IsMeasured measured }
-    ensures { MeetsAs (view_measured measured) (first (view_precedence precedence)) (view_class class.now) result }
+    ensures { MeetsAs measured (Frame.First precedence) class.now result }
 {
     match class {
         TokenClass::BinaryOperator(operator) => {
@@ -106,7 +104,7 @@ pub fn right(
 ) -> Result<FrameStep, NoMemory>
     requires left { IsMeasured left }
     requires measured { IsMeasured measured }
-    ensures { Meets (view_measured measured) (right (view_operator operator) (view_measured left)) (view_class class.now) result }
+    ensures { Meets measured (Frame.Right operator left) class.now result }
 {
     let measured = joined(alloc, operator, left, measured)?;
     Ok(operand(operator.precedence(), measured, class))
@@ -118,7 +116,7 @@ pub fn compare_first(
     class: &TokenClass,
 ) -> Result<FrameStep, NoMemory>
     requires { IsMeasured measured }
-    ensures { Meets (view_measured measured) compare_first (view_class class.now) result }
+    ensures { Meets measured Frame.CompareFirst class.now result }
 {
     match class {
         TokenClass::Compare(op) => Ok(FrameStep::Opens(
@@ -134,7 +132,7 @@ pub fn compare_first(
 /// After a comparison.
 pub fn link(alloc: Global, chain: Chain, class: &TokenClass) -> Result<FrameStep, NoMemory>
     requires { IsChain chain }
-    ensures { (k : Ctx) → Becomes (step (Linked (plain_expr chain.first.value) (view_links chain) k) (view_class class.now)) k (view_class class.now) result }
+    ensures { Links chain class.now result }
 {
     match class {
         TokenClass::Compare(op) => Ok(FrameStep::Opens(
@@ -156,14 +154,14 @@ pub fn compare_rest(
 ) -> Result<FrameStep, NoMemory>
     requires chain { IsChain chain }
     requires measured { IsMeasured measured }
-    ensures { Meets (view_measured measured) (view_frame (Frame.CompareRest chain op)) (view_class class.now) result }
+    ensures { Meets measured (Frame.CompareRest chain op) class.now result }
 {
     link(alloc, chain.with(Comparison::Op(op), measured)?, class)
 }
 
 pub fn post_rest(measured: Measured, class: &TokenClass) -> FrameStep
     requires { IsMeasured measured }
-    ensures { MeetsAs (view_measured measured) post_rest (view_class class.now) result }
+    ensures { MeetsAs measured Frame.PostRest class.now result }
 {
     match class {
         TokenClass::LeftParen => FrameStep::Next(Progress::ItemsOpen(Opener::Call(measured))),
@@ -193,7 +191,7 @@ pub fn in_items(
     requires opener { ValidOpener opener }
     requires items { AreMeasured items }
     requires measured { IsMeasured measured }
-    ensures { Meets (view_measured measured) (in_items (view_opener opener) (view_row items)) (view_class class.now) result }
+    ensures { Meets measured (Frame.InItems opener items) class.now result }
 {
     let items = items.with(measured)?;
     match class {
@@ -216,7 +214,7 @@ pub fn index_first(
 ) -> Result<FrameStep, NoMemory>
     requires of { IsMeasured of }
     requires measured { IsMeasured measured }
-    ensures { Meets (view_measured measured) (index_first (view_measured of)) (view_class class.now) result }
+    ensures { Meets measured (Frame.IndexFirst of) class.now result }
 {
     match class {
         TokenClass::Comma => {
@@ -240,7 +238,7 @@ pub fn in_index(
 ) -> Result<FrameStep, NoMemory>
     requires of { IsMeasured of }
     requires measured { IsMeasured measured }
-    ensures { Meets (view_measured measured) (in_index (view_measured of)) (view_class class.now) result }
+    ensures { Meets measured (Frame.InIndex of) class.now result }
 {
     match class {
         TokenClass::RightBracket => {
@@ -261,7 +259,7 @@ pub fn slice_to(
     requires of { IsMeasured of }
     requires from { ValidBound from }
     requires measured { IsMeasured measured }
-    ensures { Meets (view_measured measured) (slice_to (view_measured of) (view_bound from)) (view_class class.now) result }
+    ensures { Meets measured (Frame.SliceTo of from) class.now result }
 {
     match class {
         TokenClass::RightBracket => {
@@ -278,7 +276,7 @@ pub fn in_paren(
     class: &TokenClass,
 ) -> Result<FrameStep, NoMemory>
     requires { IsMeasured measured }
-    ensures { Meets (view_measured measured) in_paren (view_class class.now) result }
+    ensures { Meets measured Frame.InParen class.now result }
 {
     match class {
         TokenClass::RightParen => {
@@ -292,7 +290,7 @@ pub fn in_paren(
 pub fn in_key(entries: Entries, measured: Measured, class: &TokenClass) -> FrameStep
     requires entries { AreEntries entries }
     requires measured { IsMeasured measured }
-    ensures { MeetsAs (view_measured measured) (in_key (view_entries entries)) (view_class class.now) result }
+    ensures { MeetsAs measured (Frame.InKey entries) class.now result }
 {
     match class {
         TokenClass::Colon => FrameStep::Opens(
@@ -313,7 +311,7 @@ pub fn in_value(
     requires entries { AreEntries entries }
     requires key { IsMeasured key }
     requires measured { IsMeasured measured }
-    ensures { Meets (view_measured measured) (in_value (view_entries entries) (view_measured key)) (view_class class.now) result }
+    ensures { Meets measured (Frame.InValue entries key) class.now result }
 {
     match class {
         TokenClass::Comma => Ok(FrameStep::Next(Progress::DictComma(entries.with(key, measured)?))),

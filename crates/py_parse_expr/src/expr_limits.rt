@@ -1,12 +1,9 @@
 // The limit on the height of an expression, token by token.
 
-ghost use Rattle.std.specs.Prelude.{◌≡◌, ◌≤◌, ℕ, nat_le};
-ghost use Rattle.py_syntax.specs.Spelling.{HEIGHT};
-ghost use Rattle.py_grammar.specs.Machine.{Ctx, ItemsOpen, ItemsComma, step};
-ghost use Rattle.py_grammar.specs.Least.{least};
-ghost use Rattle.py_parse_expr.specs.ExprViews.{AreMeasured, ValidOpener, ValidClass, view_opener, view_class, view_row};
-ghost use Rattle.py_parse_expr.specs.ExprStacks.{view_stack, IsBudget, Valid};
-ghost use Rattle.py_parse_expr.specs.ExprTurns.{view_at, ValidAt, Turns};
+ghost use Rattle.std.specs.Prelude.{◌≡◌};
+ghost use Rattle.py_parse_expr.specs.ExprViews.{AreMeasured, ValidOpener, ValidClass};
+ghost use Rattle.py_parse_expr.specs.ExprStacks.{Valid};
+ghost use Rattle.py_parse_expr.specs.ExprTurns.{ValidAt, IsWithin, is_within, StepsWithin};
 
 use crate::expr_classes::TokenClass;
 use crate::expr_nodes::{Opener, Row, bound_height, higher, over};
@@ -18,7 +15,7 @@ use std::alloc::Global;
 /// Whether the bracket of a call or a list is within the budget where it is closed at once.
 fn is_within_budget_open(opener: &Opener, budget: HeightBudget) -> bool
     requires { ValidOpener opener.now }
-    ensures { (limit : ℕ) (k : Ctx) → limit ≤ HEIGHT → IsBudget limit k budget → result ≡ nat_le (least (ItemsOpen (view_opener opener.now) k)) limit }
+    ensures { IsWithin budget (Progress.ItemsOpen opener.now) result }
 {
     match opener {
         Opener::Call(callee) => over(callee.height) <= budget.postfix(false),
@@ -30,7 +27,7 @@ fn is_within_budget_open(opener: &Opener, budget: HeightBudget) -> bool
 fn is_within_budget_comma(opener: &Opener, items: &Row, budget: HeightBudget) -> bool
     requires opener { ValidOpener opener.now }
     requires items { AreMeasured items.now }
-    ensures { (limit : ℕ) (k : Ctx) → limit ≤ HEIGHT → IsBudget limit k budget → result ≡ nat_le (least (ItemsComma (view_opener opener.now) (view_row items.now) k)) limit }
+    ensures { IsWithin budget (Progress.ItemsComma opener.now items.now) result }
 {
     match opener {
         Opener::Call(callee) => {
@@ -44,7 +41,7 @@ fn is_within_budget_comma(opener: &Opener, items: &Row, budget: HeightBudget) ->
 fn is_within_budget(progress: &Progress, stack: &Stack) -> bool
     requires at { ValidAt progress.now }
     requires valid { Valid stack.now.limit stack.now }
-    ensures { result ≡ nat_le (least (view_at progress.now (view_stack stack.now))) stack.now.limit }
+    ensures { result ≡ is_within progress.now stack.now }
 {
     let budget = stack.budget();
     match progress {
@@ -80,7 +77,7 @@ pub fn step(
     requires valid { Valid stack.old.limit stack.old }
     requires at { ValidAt progress }
     requires class { ValidClass class }
-    ensures { Turns (step (view_at progress (view_stack stack.old)) (view_class class)) stack.old.limit stack.new result }
+    ensures { StepsWithin progress class stack.old stack.new result }
 {
     match progress.act(alloc, stack, class)? {
         Turn::Next(next) => {

@@ -1,7 +1,7 @@
 // Expressions with their heights.
 
 ghost use Rattle.std.specs.Prelude.{◌≡◌, suc, max, true, false, ◌&&◌, IfOk};
-ghost use Rattle.py_syntax.specs.Tree.{name, tuple, list, dict, paren, not', unary, compare, cond, index, slice, attr, no_exprs, no_pairs, no_links};
+ghost use Rattle.py_syntax.specs.Tree.{name, tuple, dict, paren, not', unary, compare, cond, index, slice, attr, no_exprs, no_pairs, no_links};
 ghost use Rattle.std.specs.Option.{option_map};
 ghost use Rattle.py_syntax.specs.Normal.{is_target, height, height_bound};
 ghost use Rattle.py_syntax.specs.View.{plain_expr, opt_of};
@@ -17,7 +17,8 @@ use std::alloc::Global;
 /// The greatest height that is told from greater ones.
 const CAP: usize = 201;
 
-/// An expression, its height, and whether it has the form of a target. It stands in a box, so that it moves at little cost.
+/// An expression, its height, and whether it has the form of a target. It stands in a box, so that
+/// it moves at little cost.
 #[derive(Drop)]
 pub struct Measured {
     pub expr: Box<Expr>,
@@ -55,7 +56,8 @@ pub struct Fields {
     pub height: usize,
 }
 
-/// Neighbouring strings: plain ones, or some with an f-string among them and the greatest height of a field.
+/// Neighbouring strings: plain ones, or some with an f-string among them and the greatest height of
+/// a field.
 #[derive(Drop)]
 pub enum Strings {
     Plain(Vec<Text>),
@@ -135,7 +137,8 @@ impl Row {
     pub fn with(self, measured: Measured) -> Result<Row, NoMemory>
         requires are { AreMeasured self }
         requires is { IsMeasured measured }
-        ensures items { IfOk result (λ r. view_row r ≡ snoc (view_row self) (view_measured measured)) }
+        ensures items { IfOk result
+            (λ r. view_row r ≡ snoc (view_row self) (view_measured measured)) }
         ensures are { IfOk result AreMeasured }
     {
         let mut row = self;
@@ -162,7 +165,8 @@ impl Entries {
         requires are { AreEntries self }
         requires key { IsMeasured key }
         requires value { IsMeasured value }
-        ensures pairs { IfOk result (λ r. view_entries r ≡ snoc_pair (view_entries self) (view_measured key) (view_measured value)) }
+        ensures pairs { IfOk result (λ r. view_entries r
+            ≡ snoc_pair (view_entries self) (view_measured key) (view_measured value)) }
         ensures are { IfOk result AreEntries }
     {
         let mut entries = self;
@@ -195,7 +199,8 @@ impl Chain {
         requires is { IsChain self }
         requires right { IsMeasured right }
         ensures first { IfOk result (λ r. plain_expr r.first.value ≡ plain_expr self.first.value) }
-        ensures links { IfOk result (λ r. view_links r ≡ snoc_link (view_links self) op (view_measured right)) }
+        ensures links { IfOk result
+            (λ r. view_links r ≡ snoc_link (view_links self) op (view_measured right)) }
         ensures is { IfOk result IsChain }
     {
         let mut chain = self;
@@ -291,7 +296,8 @@ pub fn joined(
 ) -> Result<Measured, NoMemory>
     requires left { IsMeasured left }
     requires right { IsMeasured right }
-    ensures { IfOk result (Makes (joined (view_operator operator) (view_measured left) (view_measured right))) }
+    ensures { IfOk result
+        (Makes (joined (view_operator operator) (view_measured left) (view_measured right))) }
 {
     let height = over(higher(left.height, right.height));
     match operator {
@@ -333,7 +339,8 @@ pub fn conditional(
     requires body { IsMeasured body }
     requires test { IsMeasured test }
     requires orelse { IsMeasured orelse }
-    ensures { IfOk result (Makes (cond (view_measured body) (view_measured test) (view_measured orelse))) }
+    ensures { IfOk result
+        (Makes (cond (view_measured body) (view_measured test) (view_measured orelse))) }
 {
     let height = over(higher(body.height, higher(test.height, orelse.height)));
     let expr = Expr::Cond {

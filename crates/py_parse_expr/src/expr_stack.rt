@@ -2,10 +2,10 @@
 
 ghost use Rattle.std.specs.Prelude.{◌≡◌, ℕ, ◌≤◌, cond, true, false, OnOk};
 ghost use Rattle.py_syntax.specs.Spelling.{HEIGHT};
-ghost use Rattle.py_grammar.specs.Machine.{at_most, on, Ctx, Outside, in_items};
+ghost use Rattle.py_grammar.specs.Machine.{on, Ctx, Outside};
 ghost use Rattle.py_grammar.specs.Budgets.{under, budget, postfix};
-ghost use Rattle.py_parse_expr.specs.ExprViews.{view_measured, view_class, IsMeasured, view_precedence, view_row, view_opener, AreMeasured, ValidOpener};
-ghost use Rattle.py_parse_expr.specs.ExprStacks.{opened, view_goal, view_frame, view_stack, ValidGoal, ValidFrame, IsBudget, Valid, Pops};
+ghost use Rattle.py_parse_expr.specs.ExprViews.{IsMeasured, view_precedence, AreMeasured, ValidOpener};
+ghost use Rattle.py_parse_expr.specs.ExprStacks.{opened, opened_with, view_goal, view_frame, view_stack, ValidGoal, ValidItems, ValidFrame, IsBudget, IsInside, Valid, Pops, Opens};
 ghost use Rattle.py_parse_expr.specs.ExprTurns.{Meets};
 
 use crate::expr_classes::{BinaryOperator, Precedence, TokenClass};
@@ -21,8 +21,8 @@ use py_syntax::Sign;
 use py_value::{CmpOp, NoMemory};
 use std::alloc::Global;
 
-/// What the whole is to be: any list of expressions, one expression, or the target of a `for`, of which the items in
-/// front of a comma are kept.
+/// What the whole is to be: any list of expressions, one expression, or the target of a `for`, of
+/// which the items in front of a comma are kept.
 #[derive(Drop)]
 pub enum Goal {
     Any,
@@ -91,7 +91,7 @@ impl Frame {
     ) -> Result<FrameStep, NoMemory>
         requires frame { ValidFrame self }
         requires measured { IsMeasured measured }
-        ensures { Meets (view_measured measured) (view_frame self) (view_class class.now) result }
+        ensures { Meets measured self class.now result }
     {
         match self {
             Frame::ExprsFirst => exprs_first(alloc, measured, class),
@@ -119,8 +119,8 @@ impl Frame {
     }
 }
 
-/// How high a tree may be at a place: one that has the form of a target, and any other; and whether what is open can
-/// still become a target by it.
+/// How high a tree may be at a place: one that has the form of a target, and any other; and whether
+/// what is open can still become a target by it.
 #[derive(Clone, Copy)]
 pub struct HeightBudget {
     pub target: usize,
@@ -136,11 +136,23 @@ pub struct OpenFrame {
 }
 
 /// What is open, the innermost last, under a limit of heights.
-#[derive(Drop)]
 pub struct Stack {
     pub limit: usize,
     pub goal: Goal,
     pub frames: Vec<OpenFrame>,
+}
+
+// Written out, and not derived, so that letting it go is one call wherever that happens.
+impl Drop for Stack {
+    fn drop(self) {
+        let Stack {
+            limit: _,
+            goal,
+            frames,
+        } = self;
+        drop(goal);
+        drop(frames)
+    }
 }
 
 /// The budget below a node with other parts of that height.
@@ -162,6 +174,15 @@ impl HeightBudget {
             other: budget,
             wants: false,
         }
+    }
+
+    /// The budget below a node with other parts of that height, which makes no target of the whole.
+    fn below(height: usize, budget: usize) -> HeightBudget
+        ensures target { result.target ≡ under height budget }
+        ensures other { result.other ≡ under height budget }
+        ensures wants { result.wants ≡ false }
+    {
+        HeightBudget::same(under(height, budget))
     }
 
     pub fn of(self, target: bool) -> usize
@@ -187,12 +208,12 @@ impl HeightBudget {
 fn budget_in_items(opener: &Opener, items: &Row, outer: HeightBudget) -> HeightBudget
     requires opener { ValidOpener opener.now }
     requires items { AreMeasured items.now }
-    ensures { (limit : ℕ) (k : Ctx) → limit ≤ HEIGHT → IsBudget limit k outer → IsBudget limit (on (in_items (view_opener opener.now) (view_row items.now)) k) result }
+    ensures { IsInside outer (Frame.InItems opener.now items.now) result }
 {
     match opener {
         Opener::Call(callee) => {
             let budget = outer.postfix(false);
-            HeightBudget::same(under(higher(callee.height, items.height), budget))
+            HeightBudget::below(higher(callee.height, items.height), budget)
         }
         Opener::List => HeightBudget {
             target: under(items.height, outer.postfix(items.targets)),
@@ -202,40 +223,48 @@ fn budget_in_items(opener: &Opener, items: &Row, outer: HeightBudget) -> HeightB
     }
 }
 
+/// The budget of a further item after a comma.
+fn budget_of_rest(items: &Row, outer: HeightBudget) -> HeightBudget
+    requires { ValidItems items.now }
+    ensures { IsInside outer (Frame.ExprsRest items.now) result }
+{
+    HeightBudget {
+        target: under(items.height, outer.of(items.targets)),
+        other: under(items.height, outer.other),
+        wants: both(items.targets, outer.wants),
+    }
+}
+
 /// The budget inside a frame.
 fn budget_inside(frame: &Frame, outer: HeightBudget) -> HeightBudget
     requires { ValidFrame frame.now }
-    ensures { (limit : ℕ) (k : Ctx) → limit ≤ HEIGHT → IsBudget limit k outer → IsBudget limit (on (view_frame frame.now) k) result }
+    ensures { IsInside outer frame.now result }
 {
     match frame {
         Frame::ExprsFirst => outer,
-        Frame::ExprsRest(items) => HeightBudget {
-            target: under(items.height, outer.of(items.targets)),
-            other: under(items.height, outer.other),
-            wants: both(items.targets, outer.wants),
-        },
+        Frame::ExprsRest(items) => budget_of_rest(items, outer),
         Frame::CondFirst => outer,
-        Frame::CondTest(body) => HeightBudget::same(under(higher(body.height, 1), outer.other)),
+        Frame::CondTest(body) => HeightBudget::below(higher(body.height, 1), outer.other),
         Frame::CondElse(body, test) => {
-            HeightBudget::same(under(higher(body.height, test.height), outer.other))
+            HeightBudget::below(higher(body.height, test.height), outer.other)
         }
         Frame::First(_) => outer,
-        Frame::Right(_, left) => HeightBudget::same(under(left.height, outer.other)),
-        Frame::NotOf => HeightBudget::same(under(0, outer.other)),
+        Frame::Right(_, left) => HeightBudget::below(left.height, outer.other),
+        Frame::NotOf => HeightBudget::below(0, outer.other),
         Frame::CompareFirst => outer,
-        Frame::CompareRest(chain, _) => HeightBudget::same(under(chain.height, outer.other)),
-        Frame::UnaryOf(_) => HeightBudget::same(under(0, outer.other)),
+        Frame::CompareRest(chain, _) => HeightBudget::below(chain.height, outer.other),
+        Frame::UnaryOf(_) => HeightBudget::below(0, outer.other),
         Frame::PostRest => HeightBudget {
             target: outer.target,
             other: outer.postfix(false),
             wants: outer.wants,
         },
         Frame::InItems(opener, items) => budget_in_items(opener, items, outer),
-        Frame::IndexFirst(of) => HeightBudget::same(under(of.height, outer.target)),
-        Frame::InIndex(of) => HeightBudget::same(under(of.height, outer.target)),
+        Frame::IndexFirst(of) => HeightBudget::below(of.height, outer.target),
+        Frame::InIndex(of) => HeightBudget::below(of.height, outer.target),
         Frame::SliceTo(of, from) => {
             let height = higher(of.height, bound_height(from));
-            HeightBudget::same(under(height, outer.postfix(false)))
+            HeightBudget::below(height, outer.postfix(false))
         }
         Frame::InParen => HeightBudget {
             target: under(0, outer.target),
@@ -243,11 +272,11 @@ fn budget_inside(frame: &Frame, outer: HeightBudget) -> HeightBudget
             wants: outer.wants,
         },
         Frame::InKey(entries) => {
-            HeightBudget::same(under(higher(entries.height, 1), outer.postfix(false)))
+            HeightBudget::below(higher(entries.height, 1), outer.postfix(false))
         }
         Frame::InValue(entries, key) => {
             let height = higher(entries.height, key.height);
-            HeightBudget::same(under(height, outer.postfix(false)))
+            HeightBudget::below(height, outer.postfix(false))
         }
     }
 }
@@ -302,7 +331,7 @@ impl Stack {
     pub fn push(&mut self, frame: Frame) -> Result<(), NoMemory>
         requires valid { Valid self.old.limit self.old }
         requires frame { ValidFrame frame }
-        ensures view { OnOk result (view_stack self.new ≡ on (view_frame frame) (view_stack self.old)) }
+        ensures view { OnOk result (Opens (λ k. on (view_frame frame) k) self.old self.new) }
         ensures valid { OnOk result (Valid self.old.limit self.new) }
     {
         let budget = budget_inside(&frame, self.budget());
@@ -324,7 +353,8 @@ impl Stack {
 
     // ---- the frames from one level up to another
 
-    /// A frame that opens where one of its level, or of a looser one, was to begin, in those of the looser levels.
+    /// A frame that opens where one of its level, or of a looser one, was to begin, in those of the
+    /// looser levels.
     #[cycle(opened)]
     fn opened_with(
         &mut self,
@@ -335,7 +365,8 @@ impl Stack {
     ) -> Result<(), NoMemory>
         requires valid { Valid self.old.limit self.old }
         requires frame { ValidFrame frame }
-        ensures view { OnOk result (view_stack self.new ≡ cond (at_most (view_precedence from) (view_precedence precedence)) (on (view_frame frame) (opened (view_precedence from) (view_precedence looser) (view_stack self.old))) (view_stack self.old)) }
+        ensures view { OnOk result
+            (Opens (opened_with from looser precedence frame) self.old self.new) }
         ensures valid { OnOk result (Valid self.old.limit self.new) }
     {
         if !from.at_most(precedence) {
@@ -350,7 +381,8 @@ impl Stack {
     #[cycle(opened)]
     pub fn opened(&mut self, from: Precedence, to: Precedence) -> Result<(), NoMemory>
         requires { Valid self.old.limit self.old }
-        ensures view { OnOk result (view_stack self.new ≡ opened (view_precedence from) (view_precedence to) (view_stack self.old)) }
+        ensures view { OnOk result
+            (Opens (opened (view_precedence from) (view_precedence to)) self.old self.new) }
         ensures valid { OnOk result (Valid self.old.limit self.new) }
     {
         match to {

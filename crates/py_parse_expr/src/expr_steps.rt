@@ -1,12 +1,12 @@
 // Expressions, a token at a time, whatever their heights.
 
-ghost use Rattle.std.specs.Prelude.{◌≡◌, false, cond};
+ghost use Rattle.std.specs.Prelude.{◌≡◌, false};
 ghost use Rattle.py_syntax.specs.View.{plain_expr};
-ghost use Rattle.py_syntax.specs.Normal.{LExpr, LPost, height, is_target};
-ghost use Rattle.py_grammar.specs.Machine.{at_most, snoc_link, target, on, in_items, AfterOpen, Strings as StringsState, Want, IndexOpen, SliceColon, AfterDot, Linked, Next, Stuck, Have, upto, begin, close_items, leave, give, step};
-ghost use Rattle.py_parse_expr.specs.ExprViews.{view_precedence, view_class, view_measured, view_row, view_entries, view_links, view_bound, view_opener, view_strings, IsMeasured, AreMeasured, AreEntries, IsChain, ValidOpener, ValidBound, ValidClass, ValidStrings};
-ghost use Rattle.py_parse_expr.specs.ExprStacks.{opened, view_goal, view_frame, view_stack, ValidGoal, ValidItems, ValidFrame, Valid};
-ghost use Rattle.py_parse_expr.specs.ExprTurns.{view_at, ValidAt, close_dict, Stays, Acts};
+ghost use Rattle.py_syntax.specs.Normal.{height, is_target};
+ghost use Rattle.py_grammar.specs.Machine.{snoc_link, Linked, Next, Have, step};
+ghost use Rattle.py_parse_expr.specs.ExprViews.{view_class, view_measured, view_links, IsMeasured, AreMeasured, AreEntries, IsChain, ValidOpener, ValidBound, ValidClass, ValidStrings};
+ghost use Rattle.py_parse_expr.specs.ExprStacks.{upto_post, upto_bracket, ValidGoal, ValidItems, ValidFrame, Valid};
+ghost use Rattle.py_parse_expr.specs.ExprTurns.{view_at, ValidAt, prefixed, begin_in, in_bracket, in_braces, Stays, Leaves, Moves, Steps};
 
 use crate::expr_classes::{BinaryOperator, Precedence, TokenClass};
 use crate::expr_frames::{closes, link};
@@ -22,7 +22,7 @@ use std::alloc::Global;
 /// The outermost expression is whole, and is to be the target of a `for`, or its first item.
 fn leave_first(alloc: Global, measured: Measured, class: &TokenClass) -> Result<Turn, NoMemory>
     requires { IsMeasured measured }
-    ensures { Stays (λ k. leave (view_measured measured) target (view_class class.now)) result }
+    ensures { Leaves measured Goal.Target class.now result }
 {
     if !measured.target {
         return Ok(Turn::Stuck);
@@ -45,7 +45,7 @@ fn leave_next(
 ) -> Result<Turn, NoMemory>
     requires items { ValidItems items }
     requires measured { IsMeasured measured }
-    ensures { Stays (λ k. leave (view_measured measured) (view_goal (Goal.Targets items)) (view_class class.now)) result }
+    ensures { Leaves measured (Goal.Targets items) class.now result }
 {
     if !measured.target {
         return Ok(Turn::Stuck);
@@ -66,7 +66,7 @@ fn leave(
 ) -> Result<Turn, NoMemory>
     requires goal { ValidGoal goal }
     requires measured { IsMeasured measured }
-    ensures { Stays (λ k. leave (view_measured measured) (view_goal goal) (view_class class.now)) result }
+    ensures { Leaves measured goal class.now result }
 {
     match goal {
         Goal::Any => Ok(Turn::Left(measured)),
@@ -85,7 +85,7 @@ pub fn give(
 ) -> Result<Turn, NoMemory>
     requires valid { Valid stack.old.limit stack.old }
     requires measured { IsMeasured measured }
-    ensures { Acts (give (view_measured measured) (view_stack stack.old) (view_class class.now)) stack.old.limit stack.new result }
+    ensures { Steps (Progress.Have measured) class.now stack.old stack.new result }
 {
     let mut measured = measured;
     'frames: while let Some(frame) = stack.pop() {
@@ -104,11 +104,29 @@ pub fn give(
     leave(alloc, goal, measured, class)
 }
 
+/// The same with a token that is let go in writing, since one of unknown kind is costly to let go
+/// in silence.
+pub fn have(
+    alloc: Global,
+    stack: &mut Stack,
+    measured: Measured,
+    class: TokenClass,
+) -> Result<Turn, NoMemory>
+    requires valid { Valid stack.old.limit stack.old }
+    requires measured { IsMeasured measured }
+    ensures { Steps (Progress.Have measured) class stack.old stack.new result }
+{
+    let turn = give(alloc, stack, measured, &class);
+    drop(class);
+    turn
+}
+
 /// A token is an expression, or begins strings.
 fn atom(stack: &mut Stack, precedence: Precedence, progress: Progress) -> Result<Turn, NoMemory>
     requires valid { Valid stack.old.limit stack.old }
     requires at { ValidAt progress }
-    ensures { Acts (Next (view_at progress (upto (view_precedence precedence) LPost (view_stack stack.old)))) stack.old.limit stack.new result }
+    ensures { Moves (λ k. Next (view_at progress (upto_post precedence k)))
+        stack.old stack.new result }
 {
     stack.opened(precedence, Precedence::Post)?;
     Ok(Turn::Next(progress))
@@ -124,7 +142,8 @@ fn low(
     requires valid { Valid stack.old.limit stack.old }
     requires height { height (plain_expr expr) ≡ 1 }
     requires target { is_target (plain_expr expr) ≡ false }
-    ensures { Acts (Next (Have (plain_expr expr) (upto (view_precedence precedence) LPost (view_stack stack.old)))) stack.old.limit stack.new result }
+    ensures { Moves (λ k. Next (Have (plain_expr expr) (upto_post precedence k)))
+        stack.old stack.new result }
 {
     let measured = Measured::low(alloc, expr)?;
     atom(stack, precedence, Progress::Have(measured))
@@ -139,7 +158,7 @@ fn prefixed(
 ) -> Result<Turn, NoMemory>
     requires valid { Valid stack.old.limit stack.old }
     requires frame { ValidFrame frame }
-    ensures { Acts (cond (at_most (view_precedence precedence) (view_precedence operand)) (Next (Want (view_precedence operand) (on (view_frame frame) (opened (view_precedence precedence) (view_precedence operand) (view_stack stack.old))))) Stuck) stack.old.limit stack.new result }
+    ensures { Moves (prefixed precedence frame operand) stack.old stack.new result }
 {
     if !precedence.at_most(operand) {
         drop(frame);
@@ -148,6 +167,26 @@ fn prefixed(
     stack.opened(precedence, operand)?;
     stack.push(frame)?;
     Ok(Turn::Next(Progress::Want(operand)))
+}
+
+/// A sign stands in front of an operand.
+fn signed(stack: &mut Stack, precedence: Precedence, sign: Sign) -> Result<Turn, NoMemory>
+    requires { Valid stack.old.limit stack.old }
+    ensures { Moves (prefixed precedence (Frame.UnaryOf sign) Precedence.Unary)
+        stack.old stack.new result }
+{
+    prefixed(stack, precedence, Frame::UnaryOf(sign), Precedence::Unary)
+}
+
+/// A bracket begins an operand.
+fn bracket(stack: &mut Stack, precedence: Precedence, progress: Progress) -> Result<Turn, NoMemory>
+    requires valid { Valid stack.old.limit stack.old }
+    requires at { ValidAt progress }
+    ensures { Moves (λ k. Next (view_at progress (upto_bracket precedence k)))
+        stack.old stack.new result }
+{
+    stack.opened(precedence, Precedence::Term)?;
+    Ok(Turn::Next(progress))
 }
 
 /// An expression of that level begins.
@@ -159,55 +198,34 @@ pub fn begin(
 ) -> Result<Turn, NoMemory>
     requires valid { Valid stack.old.limit stack.old }
     requires class { ValidClass class }
-    ensures { Acts (begin (view_precedence precedence) (view_stack stack.old) (view_class class)) stack.old.limit stack.new result }
+    ensures { Steps (Progress.Want precedence) class stack.old stack.new result }
 {
     match class {
-        TokenClass::Name(text) => atom(
-            stack,
-            precedence,
-            Progress::Have(Measured::name(alloc, text)?),
-        ),
+        TokenClass::Name(text) => {
+            let measured = Measured::name(alloc, text)?;
+            atom(stack, precedence, Progress::Have(measured))
+        }
         TokenClass::Int(number) => low(alloc, stack, precedence, Expr::Int(number)),
         TokenClass::NoneWord => low(alloc, stack, precedence, Expr::None),
         TokenClass::Bool(truth) => low(alloc, stack, precedence, Expr::Bool(truth)),
-        TokenClass::Str(text) => atom(
-            stack,
-            precedence,
-            Progress::Strings(Strings::text(alloc, text)?),
-        ),
+        TokenClass::Str(text) => {
+            let strings = Strings::text(alloc, text)?;
+            atom(stack, precedence, Progress::Strings(strings))
+        }
         TokenClass::Format(fields) => {
             let strings = Strings::format(alloc, fields)?;
             atom(stack, precedence, Progress::Strings(strings))
         }
         TokenClass::Not => prefixed(stack, precedence, Frame::NotOf, Precedence::Not),
         TokenClass::BinaryOperator(BinaryOperator::Op(BinOp::Add)) => {
-            prefixed(
-                stack,
-                precedence,
-                Frame::UnaryOf(Sign::Plus),
-                Precedence::Unary,
-            )
+            signed(stack, precedence, Sign::Plus)
         }
         TokenClass::BinaryOperator(BinaryOperator::Op(BinOp::Sub)) => {
-            prefixed(
-                stack,
-                precedence,
-                Frame::UnaryOf(Sign::Minus),
-                Precedence::Unary,
-            )
+            signed(stack, precedence, Sign::Minus)
         }
-        TokenClass::LeftParen => {
-            stack.opened(precedence, Precedence::Term)?;
-            Ok(Turn::Next(Progress::AfterOpen))
-        }
-        TokenClass::LeftBracket => {
-            stack.opened(precedence, Precedence::Term)?;
-            Ok(Turn::Next(Progress::ItemsOpen(Opener::List)))
-        }
-        TokenClass::LeftBrace => {
-            stack.opened(precedence, Precedence::Term)?;
-            Ok(Turn::Next(Progress::DictOpen))
-        }
+        TokenClass::LeftParen => bracket(stack, precedence, Progress::AfterOpen),
+        TokenClass::LeftBracket => bracket(stack, precedence, Progress::ItemsOpen(Opener::List)),
+        TokenClass::LeftBrace => bracket(stack, precedence, Progress::DictOpen),
         other => {
             drop(other);
             Ok(Turn::Stuck)
@@ -226,10 +244,15 @@ fn begin_in(
     requires valid { Valid stack.old.limit stack.old }
     requires frame { ValidFrame frame }
     requires class { ValidClass class }
-    ensures { Acts (begin (view_precedence precedence) (on (view_frame frame) (view_stack stack.old)) (view_class class)) stack.old.limit stack.new result }
+    ensures { Moves (begin_in frame precedence class) stack.old stack.new result }
 {
-    stack.push(frame)?;
-    begin(alloc, stack, precedence, class)
+    match stack.push(frame) {
+        Ok(()) => begin(alloc, stack, precedence, class),
+        Err(error) => {
+            drop(class);
+            Err(error)
+        }
+    }
 }
 
 pub fn in_strings(
@@ -241,7 +264,7 @@ pub fn in_strings(
     requires valid { Valid stack.old.limit stack.old }
     requires strings { ValidStrings strings }
     requires class { ValidClass class }
-    ensures { Acts (step (StringsState (view_strings strings) (view_stack stack.old)) (view_class class)) stack.old.limit stack.new result }
+    ensures { Steps (Progress.Strings strings) class stack.old stack.new result }
 {
     match class {
         TokenClass::Str(text) => Ok(Turn::Next(Progress::Strings(strings.with_text(text)?))),
@@ -249,14 +272,20 @@ pub fn in_strings(
             let strings = strings.with_format(alloc, fields)?;
             Ok(Turn::Next(Progress::Strings(strings)))
         }
-        rest => give(alloc, stack, strings.measured(alloc)?, &rest),
+        rest => match strings.measured(alloc) {
+            Ok(measured) => have(alloc, stack, measured, rest),
+            Err(error) => {
+                drop(rest);
+                Err(error)
+            }
+        },
     }
 }
 
 pub fn after_open(alloc: Global, stack: &mut Stack, class: TokenClass) -> Result<Turn, NoMemory>
     requires valid { Valid stack.old.limit stack.old }
     requires class { ValidClass class }
-    ensures { Acts (step (AfterOpen (view_stack stack.old)) (view_class class)) stack.old.limit stack.new result }
+    ensures { Steps Progress.AfterOpen class stack.old stack.new result }
 {
     match class {
         TokenClass::RightParen => {
@@ -277,7 +306,7 @@ pub fn after_comma(
     requires valid { Valid stack.old.limit stack.old }
     requires items { ValidItems items }
     requires class { ValidClass class }
-    ensures { Acts (step (view_at (Progress.AfterComma items) (view_stack stack.old)) (view_class class)) stack.old.limit stack.new result }
+    ensures { Steps (Progress.AfterComma items) class stack.old stack.new result }
 {
     if class.begins() {
         return begin_in(
@@ -288,7 +317,13 @@ pub fn after_comma(
             class,
         );
     }
-    give(alloc, stack, tuple(alloc, items, true)?, &class)
+    match tuple(alloc, items, true) {
+        Ok(measured) => have(alloc, stack, measured, class),
+        Err(error) => {
+            drop(class);
+            Err(error)
+        }
+    }
 }
 
 pub fn after_target(
@@ -300,7 +335,7 @@ pub fn after_target(
     requires valid { Valid stack.old.limit stack.old }
     requires items { ValidItems items }
     requires class { ValidClass class }
-    ensures { Acts (step (view_at (Progress.AfterTarget items) (view_stack stack.old)) (view_class class)) stack.old.limit stack.new result }
+    ensures { Steps (Progress.AfterTarget items) class stack.old stack.new result }
 {
     if !class.begins() {
         drop(class);
@@ -323,12 +358,12 @@ pub fn in_items(
     requires opener { ValidOpener opener }
     requires items { AreMeasured items }
     requires class { ValidClass class }
-    ensures { Acts (close_items (view_opener opener) (view_row items) comma (view_stack stack.old) (view_class class) (begin LExpr (on (in_items (view_opener opener) (view_row items)) (view_stack stack.old)) (view_class class))) stack.old.limit stack.new result }
+    ensures { Moves (in_bracket opener items comma class) stack.old stack.new result }
 {
     if closes(&opener, &class) {
         drop(class);
-        stack.push(Frame::PostRest)?;
         let measured = made(alloc, opener, items, comma)?;
+        stack.push(Frame::PostRest)?;
         return Ok(Turn::Next(Progress::Have(measured)));
     }
     begin_in(
@@ -351,7 +386,7 @@ pub fn in_dict(
     requires valid { Valid stack.old.limit stack.old }
     requires entries { AreEntries entries }
     requires class { ValidClass class }
-    ensures { Acts (close_dict (view_entries entries) comma (view_stack stack.old) (view_class class)) stack.old.limit stack.new result }
+    ensures { Moves (in_braces entries comma class) stack.old stack.new result }
 {
     match class {
         TokenClass::RightBrace => {
@@ -372,7 +407,7 @@ pub fn index_open(
     requires valid { Valid stack.old.limit stack.old }
     requires of { IsMeasured of }
     requires class { ValidClass class }
-    ensures { Acts (step (IndexOpen (view_measured of) (view_stack stack.old)) (view_class class)) stack.old.limit stack.new result }
+    ensures { Steps (Progress.IndexOpen of) class stack.old stack.new result }
 {
     match class {
         TokenClass::Colon => Ok(Turn::Next(Progress::SliceColon(of, None))),
@@ -391,12 +426,12 @@ pub fn slice_colon(
     requires of { IsMeasured of }
     requires from { ValidBound from }
     requires class { ValidClass class }
-    ensures { Acts (step (SliceColon (view_measured of) (view_bound from) (view_stack stack.old)) (view_class class)) stack.old.limit stack.new result }
+    ensures { Steps (Progress.SliceColon of from) class stack.old stack.new result }
 {
     match class {
         TokenClass::RightBracket => {
-            stack.push(Frame::PostRest)?;
             let measured = slice(alloc, of, from, None)?;
+            stack.push(Frame::PostRest)?;
             Ok(Turn::Next(Progress::Have(measured)))
         }
         rest => begin_in(
@@ -417,7 +452,7 @@ pub fn after_dot(
 ) -> Result<Turn, NoMemory>
     requires valid { Valid stack.old.limit stack.old }
     requires of { IsMeasured of }
-    ensures { Acts (step (AfterDot (view_measured of) (view_stack stack.old)) (view_class class)) stack.old.limit stack.new result }
+    ensures { Steps (Progress.AfterDot of) class stack.old stack.new result }
 {
     match class {
         TokenClass::Name(text) => {
@@ -435,7 +470,7 @@ pub fn after_dot(
 pub fn after_not(stack: &mut Stack, chain: Chain, class: TokenClass) -> Result<Turn, NoMemory>
     requires valid { Valid stack.old.limit stack.old }
     requires chain { IsChain chain }
-    ensures { Acts (step (view_at (Progress.AfterNot chain) (view_stack stack.old)) (view_class class)) stack.old.limit stack.new result }
+    ensures { Steps (Progress.AfterNot chain) class stack.old stack.new result }
 {
     match class {
         TokenClass::Compare(CmpOp::In) => {
@@ -453,7 +488,8 @@ pub fn after_not(stack: &mut Stack, chain: Chain, class: TokenClass) -> Result<T
 fn constant(chain: Chain, op: Comparison, measured: Measured) -> Result<Turn, NoMemory>
     requires chain { IsChain chain }
     requires measured { IsMeasured measured }
-    ensures { Stays (λ k. Next (Linked (plain_expr chain.first.value) (snoc_link (view_links chain) op (view_measured measured)) k)) result }
+    ensures { Stays (λ k. Next (Linked (plain_expr chain.first.value)
+        (snoc_link (view_links chain) op (view_measured measured)) k)) result }
 {
     Ok(Turn::Next(Progress::Linked(chain.with(op, measured)?)))
 }
@@ -508,7 +544,7 @@ pub fn linked(
     requires valid { Valid stack.old.limit stack.old }
     requires chain { IsChain chain }
     requires class { ValidClass class }
-    ensures { Acts (step (view_at (Progress.Linked chain) (view_stack stack.old)) (view_class class)) stack.old.limit stack.new result }
+    ensures { Steps (Progress.Linked chain) class stack.old stack.new result }
 {
     match link(alloc, chain, &class)? {
         FrameStep::Next(progress) => {
@@ -524,6 +560,6 @@ pub fn linked(
             drop(class);
             Ok(Turn::Stuck)
         }
-        FrameStep::Passes(measured) => give(alloc, stack, measured, &class),
+        FrameStep::Passes(measured) => have(alloc, stack, measured, class),
     }
 }

@@ -2,7 +2,7 @@
 
 ghost use Rattle.std.specs.Prelude.{◌≡◌, IfOk};
 ghost use Rattle.py_syntax.specs.Tree.{plain, format, no_fragments};
-ghost use Rattle.py_syntax.specs.View.{plain_parts, plain_fragments};
+ghost use Rattle.py_syntax.specs.View.{plain_fragments};
 ghost use Rattle.py_syntax.specs.Normal.{height};
 ghost use Rattle.py_grammar.specs.Machine.{snoc_plain, snoc_format, strings_of};
 ghost use Rattle.py_parse_expr.specs.ExprViews.{capped, plains, view_fields, AreFields, view_strings, ValidStrings, Makes};
@@ -35,7 +35,8 @@ impl Strings {
 
     pub fn format(alloc: Global, fields: Fields) -> Result<Strings, NoMemory>
         requires { AreFields fields }
-        ensures view { IfOk result (λ s. view_strings s ≡ format (view_fields fields) no_fragments) }
+        ensures view { IfOk result
+            (λ s. view_strings s ≡ format (view_fields fields) no_fragments) }
         ensures valid { IfOk result ValidStrings }
     {
         let mut all = Vec::new(alloc);
@@ -67,7 +68,8 @@ impl Strings {
     pub fn with_format(self, alloc: Global, fields: Fields) -> Result<Strings, NoMemory>
         requires valid { ValidStrings self }
         requires fields { AreFields fields }
-        ensures view { IfOk result (λ s. view_strings s ≡ snoc_format (view_strings self) (view_fields fields)) }
+        ensures view { IfOk result
+            (λ s. view_strings s ≡ snoc_format (view_strings self) (view_fields fields)) }
         ensures valid { IfOk result ValidStrings }
     {
         match self {

@@ -1,16 +1,15 @@
 // What a token makes of an expression that is read.
 
-ghost use Rattle.py_grammar.specs.Machine.{step};
-ghost use Rattle.py_parse_expr.specs.ExprViews.{view_class, ValidClass};
-ghost use Rattle.py_parse_expr.specs.ExprStacks.{view_stack, Valid};
-ghost use Rattle.py_parse_expr.specs.ExprTurns.{view_at, ValidAt, Acts};
+ghost use Rattle.py_parse_expr.specs.ExprViews.{ValidClass};
+ghost use Rattle.py_parse_expr.specs.ExprStacks.{Valid};
+ghost use Rattle.py_parse_expr.specs.ExprTurns.{ValidAt, Steps};
 
 use crate::expr_classes::{Precedence, TokenClass};
 use crate::expr_nodes::{Chain, Entries, Measured, Opener, Row, Strings};
 use crate::expr_stack::{Frame, Stack};
 use crate::expr_steps::{
     after_comma, after_dot, after_is, after_is_not, after_not, after_open, after_target, begin,
-    give, in_dict, in_items, in_strings, index_open, linked, slice_colon,
+    have, in_dict, in_items, in_strings, index_open, linked, slice_colon,
 };
 use py_value::NoMemory;
 use std::alloc::Global;
@@ -88,11 +87,11 @@ impl Progress {
         requires valid { Valid stack.old.limit stack.old }
         requires at { ValidAt self }
         requires class { ValidClass class }
-        ensures { Acts (step (view_at self (view_stack stack.old)) (view_class class)) stack.old.limit stack.new result }
+        ensures { Steps self class stack.old stack.new result }
     {
         match self {
             Progress::Want(precedence) => begin(alloc, stack, precedence, class),
-            Progress::Have(measured) => give(alloc, stack, measured, &class),
+            Progress::Have(measured) => have(alloc, stack, measured, class),
             Progress::Strings(strings) => in_strings(alloc, stack, strings, class),
             Progress::AfterOpen => after_open(alloc, stack, class),
             Progress::AfterComma(items) => after_comma(alloc, stack, items, class),

@@ -60,7 +60,8 @@ fn precedence(part: ExprPart) -> Precedence
     }
 }
 
-/// Reads an expression from a place in the tokens up to the first token that goes on with none. Places count from 0.
+/// Reads an expression from a place in the tokens up to the first token that goes on with none.
+/// Places count from 0.
 pub fn read_expr(
     alloc: Global,
     tokens: &[Token],
@@ -113,7 +114,8 @@ fn is_end(kind: &TokenKind) -> bool
     }
 }
 
-/// Reads a list of tokens that is one expression, or several with commas, and the end. Places count from 0.
+/// Reads a list of tokens that is one expression, or several with commas, and the end. Places count
+/// from 0.
 pub fn parse_expr(alloc: Global, tokens: &[Token]) -> Result<Expr, ReadError>
     ensures { Parses (bare (view_tokens tokens.now)) result }
 {

@@ -1,5 +1,5 @@
-//! Reads expressions and the targets of `for` from lists of tokens: `read_expr` from a place to the next, and
-//! `parse_expr` a whole list.
+//! Reads expressions and the targets of `for` from lists of tokens: `read_expr` from a place to the
+//! next, and `parse_expr` a whole list.
 #![tactic(auto)]
 
 mod expr_classes;

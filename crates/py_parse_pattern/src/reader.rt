@@ -18,8 +18,8 @@ use py_syntax::{Constant, Pattern};
 use py_value::{NoMemory, Text};
 use std::alloc::Global;
 
-/// A row of patterns: the items with a comma after them, the alternatives of the next one, each with
-/// a bar after it, and how many nodes stand above an item.
+/// A row of patterns: the items with a comma after them, the alternatives of the next one, each
+/// with a bar after it, and how many nodes stand above an item.
 #[derive(Drop)]
 pub struct Row {
     pub items: Many,

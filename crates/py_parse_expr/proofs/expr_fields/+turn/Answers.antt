@@ -9,7 +9,7 @@ use Rattle.py_parse_expr.specs.ExprTurns.{view_at}
 use Rattle.py_parse_fields.specs.Order.{plain_pieces}
 use Rattle.py_parse_expr.specs.ExprFields.{AreParts}
 use Rattle.py_parse_fields.proofs.Runs.{row}
-use Rattle.py_parse_expr.proofs.ExprFields.{same_limit, token_goes, quiet_goes, deep_goes, field_next, field_left, field_deep, field_over, parts_chars, parts_field, parts_end, parts_unread}
+use Rattle.py_parse_expr.proofs.ExprFields.{same_limit, token_goes, quiet_goes, format_goes, deep_goes, field_next, field_left, field_deep, field_over, parts_chars, parts_field, parts_end, parts_unread}
 use Rattle.py_parse_expr.proofs.expr_fields.+turn.Goals as goal
 use Rattle.py_parse_expr.proofs.expr_fields.+turn.Goals.{fields-in-Chars+in_ok-copy-in-Chars+in_ok-push-in-Chars, fields-in-Field+in_ok-measured-in-Field+in-Ok+in_ok-push-in-Ok}
 
@@ -21,6 +21,9 @@ turn-returns-then-not-takes_string t c = quiet_goes (view_at c.args.progress (vi
 
 pub turn-fields-requires : goal.turn-fields-requires
 turn-fields-requires t c = let d = c.decreases in (omega arith, c.requires.valid.low)
+
+pub turn-returns-in-Ok : goal.turn-returns-in-Ok
+turn-returns-in-Ok t c = format_goes (view_at c.args.progress (view_stack c.args.stack.now)) c.args.stack.now.limit c.step-in-Ok.new.stack (bare_kind (view_kind c.args.kind.now)) (plain_pieces c.in-Some.pieces.now) c.in-Ok.fields c.step-in-Ok.result c.in-Some.ensures (rw c.in-Ok.is at c.in_ok-fields.ensures) c.step-in-Ok.ensures
 
 pub turn-returns : goal.turn-returns
 turn-returns t c = deep_goes (view_at c.args.progress (view_stack c.args.stack.now)) c.args.stack.now.limit c.args.stack.now (bare_kind (view_kind c.args.kind.now)) (plain_pieces c.in-Some.pieces.now) c.in-Some.ensures (sym (c.if-not-takes_string.ensures (view_stack c.args.stack.now))) (subst (AreParts c.args.stack.now.limit (parts (plain_pieces c.in-Some.pieces.now))) (c.in-Err-TooDeep.is ∙ ap Err c.in-Err-TooDeep.field-0-is) c.in_ok-fields.ensures)
