@@ -1,5 +1,5 @@
 -- How many lines characters stand on.
-use Rattle.std.proofs.Common.{◌≡◌, ◌≤◌, max, ℕ, zero, suc, Bool, true, false, cond, ◌&&◌, List, [], ◌∷◌, length, take, drop, eqb, ap, arith, length-drop}
+use Rattle.std.proofs.Common.{◌≡◌, ◌+◌, ◌≤◌, max, ℕ, zero, suc, Bool, true, false, cond, ◌&&◌, List, [], ◌∷◌, ◌++◌, length, take, drop, eqb, refl, sym, ap, ◌∙◌, arith, append_assoc, length-append, length-drop}
 use Rattle.std.proofs.lemmas.Bool.{eq-eqb}
 use Rattle.py_token.specs.Source.{begins, without_mark, joined_ends, source_text, line_count}
 
@@ -68,3 +68,28 @@ unmarked_lines (c ∷ cs) = go (eqb c 0xFEFF)
 
 pub source_lines : (cs : List ℕ) → line_count (source_text cs) ≤ line_count cs
 source_lines cs = let h = joined_lines (without_mark cs) in let k = unmarked_lines cs in omega (arith, h, k)
+
+-- ---- a character more
+
+pub few_more : (xs : List ℕ) (c n : ℕ) → n ≤ length xs → n + 1 ≤ length (xs ++ c ∷ [])
+few_more xs c n few = let e = length-append xs (c ∷ []) in omega (arith, e, few)
+
+pub still_few : (xs : List ℕ) (c n : ℕ) → n ≤ length xs → n ≤ length (xs ++ c ∷ [])
+still_few xs c n few = let e = length-append xs (c ∷ []) in omega (arith, e, few)
+
+line_more : (xs : List ℕ) (c n : ℕ) (going : Bool) (rest : List ℕ) → ((ys : List ℕ) → line_count (xs ++ ys) ≡ n + cond going (max 1 (line_count ys)) (line_count ys)) → line_count ((xs ++ c ∷ []) ++ rest) ≡ n + line_count (c ∷ rest)
+line_more xs c n going rest same = ap line_count (append_assoc xs (c ∷ []) rest) ∙ same (c ∷ rest) ∙ ap (λ k. n + k) (go going (line_count-cons c rest).1)
+  where
+    go : (b : Bool) → 1 ≤ line_count (c ∷ rest) → cond b (max 1 (line_count (c ∷ rest))) (line_count (c ∷ rest)) ≡ line_count (c ∷ rest)
+    go true h = omega (arith, h)
+    go false h = refl
+
+pub after_end : (xs : List ℕ) (c n : ℕ) (going : Bool) (rest : List ℕ) → true ≡ (eqb c 10) → ((ys : List ℕ) → line_count (xs ++ ys) ≡ n + cond going (max 1 (line_count ys)) (line_count ys)) → line_count ((xs ++ c ∷ []) ++ rest) ≡ n + 1 + line_count rest
+unfolding line_count
+after_end xs c n going rest is same =
+    let e : line_count ((xs ++ c ∷ []) ++ rest) ≡ n + suc (line_count rest) = line_more xs c n going rest same ∙ ap (λ b. n + cond b (suc (line_count rest)) (max 1 (line_count rest))) (sym is) in
+    omega (arith, e)
+
+pub in_line : (xs : List ℕ) (c n : ℕ) (going : Bool) (rest : List ℕ) → false ≡ (eqb c 10) → ((ys : List ℕ) → line_count (xs ++ ys) ≡ n + cond going (max 1 (line_count ys)) (line_count ys)) → line_count ((xs ++ c ∷ []) ++ rest) ≡ n + max 1 (line_count rest)
+unfolding line_count
+in_line xs c n going rest is same = line_more xs c n going rest same ∙ ap (λ b. n + cond b (suc (line_count rest)) (max 1 (line_count rest))) (sym is)

@@ -7,6 +7,12 @@ ghost use Rattle.py_token.specs.Source.{begins, without_mark, joined_ends, sourc
 use crate::characters::{begins, split_first};
 use std::alloc::{AllocError, Global};
 
+fn ends_line(c: char) -> bool
+    ensures { result ≡ (c == 10) }
+{
+    c == '\n'
+}
+
 /// How many lines a source stands on. A last line without a line end counts, and an empty source
 /// has none.
 #[tactic(auto, unfolding(crate::specs::Source::line_count))]
@@ -16,10 +22,12 @@ pub fn count_lines(source: &str) -> usize
     let mut ends: usize = 0;
     let mut open = false;
     for c in source.chars() {
-        open = c != '\n';
-        if !open {
+        if ends_line(c) {
             ends += 1;
+            open = false;
+            continue;
         }
+        open = true;
     }
     if open { ends + 1 } else { ends }
 }

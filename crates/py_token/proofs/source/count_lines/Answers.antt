@@ -3,7 +3,20 @@ use Rattle.std.specs.Str.{chars}
 use Rattle.std.proofs.lemmas.Iterator.{YieldsList-from_chars}
 use Rattle.std.proofs.lemmas.Iterator.Consumers.{YieldsList-end}
 use Rattle.py_token.specs.Source.{line_count}
+use Rattle.py_token.proofs.Lines.{few_more, still_few, after_end, in_line}
 use Rattle.py_token.proofs.source.count_lines.Goals as goal
+
+pub loop-c-preserved-then-ends_line : goal.loop-c-preserved-then-ends_line
+loop-c-preserved-then-ends_line c = record {
+  few = few_more c.loop-c.yielded c.in-Some.c c.loop-c.ends c.loop-c.invariant.few;
+  same = λ rest. after_end c.loop-c.yielded c.in-Some.c c.loop-c.ends c.loop-c.open rest c.if-ends_line.ensures c.loop-c.invariant.same;
+}
+
+pub loop-c-preserved : goal.loop-c-preserved
+loop-c-preserved c = record {
+  few = still_few c.loop-c.yielded c.in-Some.c c.loop-c.ends c.loop-c.invariant.few;
+  same = λ rest. in_line c.loop-c.yielded c.in-Some.c c.loop-c.ends c.loop-c.open rest c.if-ends_line.ensures c.loop-c.invariant.same;
+}
 
 pub returns-then-open : goal.returns-then-open
 unfolding line_count
