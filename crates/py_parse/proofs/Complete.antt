@@ -10,11 +10,24 @@ use Rattle.py_syntax.specs.Spelling.{module_tokens}
 use Rattle.py_parse.specs.Open.{top}
 use Rattle.py_parse.specs.Machine.{State, Over, begun}
 use Rattle.py_parse.specs.Places.{Source, stmts_past, run, relined}
-use Rattle.py_parse.proofs.CompleteLines.{plain, after}
-use Rattle.py_parse.proofs.CompleteSimple.{told, told_expr, told_assign, told_aug_assign, told_pass, told_break, told_continue, told_return, told_raise, told_assert}
-use Rattle.py_parse.proofs.CompleteNames.{told_global, told_import, told_from}
-use Rattle.py_parse.proofs.CompleteSuites.{ready_line, StmtsBack, MoreBack, no_more, KindBack, stmts_on, more_on, SuiteBack, SharedBack, block_back, shared_end, shared_more, shared_back}
-use Rattle.py_parse.proofs.CompleteCompound.{OptBack, AllArms, AllClauses, AllCases, back_if, back_while, back_for, back_def, back_try, whole_try, back_match}
+use Rattle.py_parse.proofs.Complete.OnLines.{plain, after}
+use Rattle.py_parse.proofs.Complete.Simple.{told, told_expr, told_assign, told_aug_assign, told_pass, told_break, told_continue, told_return, told_raise, told_assert}
+use Rattle.py_parse.proofs.Complete.ListedNames.{told_global, told_import, told_from}
+use Rattle.py_parse.proofs.Complete.Suites.{ready_line, StmtsBack, MoreBack, no_more, KindBack, stmts_on, more_on, SuiteBack, SharedBack, block_back, shared_end, shared_more, shared_back}
+use Rattle.py_parse.proofs.Complete.Compound.{OptBack, AllArms, AllClauses, AllCases, back_if, back_while, back_for, back_def, back_try, whole_try, back_match}
+pub mod Lengths
+pub mod TreeLines
+pub mod OnLines
+pub mod Simple
+pub mod ListedNames
+pub mod Suites
+pub mod Heads
+pub mod Params
+pub mod Compound
+pub mod LineTokens
+pub mod Headers
+pub mod TokenLines
+pub mod ListLines
 
 abbrev AreStmts : Stmts → Type 0
 AreStmts no_stmts = ⊥

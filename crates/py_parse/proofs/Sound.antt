@@ -18,12 +18,21 @@ use Rattle.py_parse_pattern.proofs.Sound as pattern_read_
 use Rattle.py_parse_pattern.proofs.Exact as pattern_
 use Rattle.py_parse.specs.Open.{a_clause, a_while, a_for, an_arm, a_case, SuiteStack}
 use Rattle.py_parse.specs.Machine.{Continuation, value, augmented, leaving, asserted, reason, arm_test, while_test, for_target, for_over, clause_kind, subject, guard, default, Place, Reading, Matching, Span, State, at, wanted, onward, end_simple, after_value, after_default, in_place_op, assigned, left, resume, resume_pattern}
-use Rattle.py_parse.proofs.Parted.{put_append, parted}
-use Rattle.py_parse.proofs.Before.{front, inner, resume_outer, outer, match_open, before_suites}
-use Rattle.py_parse.proofs.BeforeParted.{front_parted, plain, moves}
-use Rattle.py_parse.proofs.Valid.{ValidContinuation}
-use Rattle.py_parse.proofs.Snocs.{targets_snoc, default_snoc}
-use Rattle.py_parse.proofs.SoundParts.{ReadsTo, reads_to, Owned, owned_simple, end_simple_reads, end_header_reads, resumed, next_reads}
+use Rattle.py_parse.proofs.Sound.Parted.{put_append, parted}
+use Rattle.py_parse.proofs.Sound.Before.{front, inner, resume_outer, outer, match_open, before_suites}
+use Rattle.py_parse.proofs.Sound.BeforeParted.{front_parted, plain, moves}
+use Rattle.py_parse.proofs.Sound.Valid.{ValidContinuation}
+use Rattle.py_parse.proofs.Sound.Snocs.{targets_snoc, default_snoc}
+use Rattle.py_parse.proofs.Sound.Parts.{ReadsTo, reads_to, Owned, owned_simple, end_simple_reads, end_header_reads, resumed, next_reads}
+pub mod Before
+pub mod Valid
+pub mod Parted
+pub mod BeforeParted
+pub mod Snocs
+pub mod Parts
+pub mod EachStep
+pub mod KeepsParts
+pub mod Keeps
 
 -- ---- after an expression
 

@@ -1,23 +1,36 @@
--- The least module that a state can be completed to: it is the least in height, and in suites inside each other.
+-- The least module that a state can be completed to: it is the least in height, and in suites
+-- inside each other.
 --     pass_line, pass_suite               the least suite
---     ended, chosen                       statements that have all that they need
+--     ended, chosen, over                 statements that have all that they need
 --     ending, closing                     the open suites end
 --     Form, resumed, with_param, form     what a place inside a statement is completed to
---     complete, finished                  the least module of a state
+--     header_suite, complete, finished    the least module of a state
 --     least_height, least_nesting         its height, and how deep its suites stand
 --
 -- What is added stands on the last line that was read.
 use Rattle.std.specs.Prelude.{ℕ, Bool, true, false, List, [], ◌∷◌, ◌++◌, Some, None}
 use Rattle.py_syntax.specs.declared.stmt.LineEnd.{LineEnd}
 use Rattle.py_syntax.specs.Tree.{Text, Expr, Exprs, no_exprs, exprs, wild}
-use Rattle.py_syntax.specs.Tree.{Stmts, no_stmts, stmt, Suite, suite, no_suite, has_suite, no_clauses, Cases, no_cases, case, StmtKind, expr, assign, aug_assign, pass, break, continue, return, raise, assert, global, import, from, if', while, for, try, def, match}
+use Rattle.py_syntax.specs.Tree.{Stmts, no_stmts, stmt, Suite, suite, no_suite, has_suite}
+use Rattle.py_syntax.specs.Tree.{no_clauses, Cases, no_cases, case, StmtKind, expr, assign}
+use Rattle.py_syntax.specs.Tree.{aug_assign, pass, break, continue, return, raise, assert, global}
+use Rattle.py_syntax.specs.Tree.{import, from, if', while, for, try, def, match}
 use Rattle.py_syntax.specs.Statements.{stmts_height, stmts_nesting}
 use Rattle.py_grammar.specs.Machine.{snoc}
 use Rattle.py_grammar.specs.Least as expression
 use Rattle.py_grammar.specs.Least.{least_name}
 use Rattle.py_parse_pattern.specs.Machine as pattern
-use Rattle.py_parse.specs.Open.{snoc_stmt, no_end, newline_end, both_end, SuiteOf, an_arm, a_while, a_for, a_clause, a_def, a_case, closed, SuiteStack, top, inside}
-use Rattle.py_parse.specs.Machine.{Continuation, value, augmented, leaving, asserted, reason, arm_test, while_test, for_target, for_over, clause_kind, subject, guard, default, froms, Place, Reading, Matching, Simple, Semicolon, Leaving, NameWanted, NameRead, BoundWanted, BoundRead, ModuleWanted, ImportWanted, FunctionWanted, ParamsWanted, ParamWanted, ParamRead, Except, ClauseBound, ColonWanted, SuiteWanted, IndentWanted, MatchLine, MatchBlock, Span, State, Line, at, After, Choosing, Over, assigned, left, listed, with_name, is_some}
+use Rattle.py_parse.specs.Open.{snoc_stmt, no_end, newline_end, both_end, SuiteOf, an_arm, a_while}
+use Rattle.py_parse.specs.Open.{a_for, a_clause, a_def, a_case, closed, SuiteStack, top, inside}
+use Rattle.py_parse.specs.Machine.{Continuation, value, augmented, leaving, asserted, reason}
+use Rattle.py_parse.specs.Machine.{arm_test, while_test, for_target, for_over, clause_kind, subject}
+use Rattle.py_parse.specs.Machine.{guard, default, Place, Reading, Matching, Simple}
+use Rattle.py_parse.specs.Listed.{froms, listed, with_name, is_some}
+use Rattle.py_parse.specs.Machine.{Semicolon, Leaving, NameWanted, NameRead, BoundWanted, BoundRead}
+use Rattle.py_parse.specs.Machine.{ModuleWanted, ImportWanted, FunctionWanted, ParamsWanted}
+use Rattle.py_parse.specs.Machine.{ParamWanted, ParamRead, Except, ClauseBound, ColonWanted}
+use Rattle.py_parse.specs.Machine.{SuiteWanted, IndentWanted, MatchLine, MatchBlock, Span, State}
+use Rattle.py_parse.specs.Machine.{Line, at, After, Choosing, Over, assigned, left}
 
 -- `pass` alone, as statements and as a suite on the line of its header
 abbrev pub pass_line : ℕ → Stmts
@@ -53,16 +66,23 @@ abbrev pub chosen : ℕ → Expr → ℕ → Cases → StmtKind
 chosen l e header_last no_cases = match e header_last (case wild None (pass_suite l) no_cases)
 chosen l e header_last (case p g b cs) = match e header_last (case p g b cs)
 
+-- the statement of an open suite that is closed, with all that it needs
+abbrev pub over : ℕ → SuiteOf → Suite → StmtKind
+over l o s = ended l (closed o s)
+
 -- The open suites end, from the inside, after one statement more.
 abbrev pub ending : ℕ → SuiteStack → ℕ → ℕ → StmtKind → LineEnd → Stmts
 ending l (top ss) first last k e = snoc_stmt ss first last k e
-ending l (inside ss inline f g begun o b) first last k e = ending l b begun l (ended l (closed o (suite f g inline (snoc_stmt ss first last k e)))) no_end
+ending l (inside ss inline f g begun o b) first last k e =
+    ending l b begun l (over l o (suite f g inline (snoc_stmt ss first last k e))) no_end
 
 -- They end where a statement may begin. A block that was just opened gets one.
 abbrev pub closing : ℕ → SuiteStack → Stmts
 closing l (top ss) = ss
-closing l (inside no_stmts inline first last begun o b) = ending l b begun l (ended l (closed o (suite first last inline (pass_line l)))) no_end
-closing l (inside ss inline first last begun o b) = ending l b begun l (ended l (closed o (suite first last inline ss))) no_end
+closing l (inside no_stmts inline first last begun o b) =
+    ending l b begun l (over l o (suite first last inline (pass_line l))) no_end
+closing l (inside ss inline first last begun o b) =
+    ending l b begun l (over l o (suite first last inline ss)) no_end
 
 -- What a place inside a statement or a header is completed to.
 pub data Form : Type 0 where
@@ -114,10 +134,16 @@ form (IndentWanted o) l = a_header false o
 form (MatchLine e last) l = a_match e last
 form (MatchBlock e last) l = a_match e last
 
+-- the least suite after a header with these lines
+abbrev pub header_suite : Bool → Span → Suite
+header_suite inline n = suite n.first n.last inline (pass_line n.last)
+
 abbrev pub complete : Form → Span → SuiteStack → Stmts
 complete (a_statement k e) n b = ending n.last b n.begun n.last k e
-complete (a_header inline o) n b = ending n.last b n.begun n.last (ended n.last (closed o (suite n.first n.last inline (pass_line n.last)))) no_end
-complete (a_match e header_last) n b = ending n.last b n.begun n.last (chosen n.last e header_last no_cases) no_end
+complete (a_header inline o) n b =
+    ending n.last b n.begun n.last (over n.last o (header_suite inline n)) no_end
+complete (a_match e header_last) n b =
+    ending n.last b n.begun n.last (chosen n.last e header_last no_cases) no_end
 
 abbrev pub finished : State → Stmts
 finished (Line b) = closing 0 b

@@ -1,10 +1,19 @@
 -- How many suites are open, with the one that a compound statement opens where it has just begun.
+--     is_start .. begins_at     whether a compound statement has just begun
+--     open_count, level         how many suites are open
 use Rattle.std.specs.Prelude.{ℕ, suc, Bool, true, false, cond, ◌&&◌}
 use Rattle.py_syntax.specs.Tree.{no_arms, arm}
 use Rattle.py_grammar.specs.Machine as expression
 use Rattle.py_grammar.specs.Machine.{Want, Outside}
-use Rattle.py_parse.specs.Open.{SuiteStack, top, inside, SuiteOf, an_arm, a_while, a_for, a_try, a_clause, an_else, a_finally, a_def, a_case}
-use Rattle.py_parse.specs.Machine.{Continuation, value, augmented, leaving, asserted, reason, arm_test, while_test, for_target, for_over, clause_kind, subject, guard, default, Place, Reading, Matching, Simple, Semicolon, Leaving, NameWanted, NameRead, BoundWanted, BoundRead, ModuleWanted, ImportWanted, FunctionWanted, ParamsWanted, ParamWanted, ParamRead, Except, ClauseBound, ColonWanted, SuiteWanted, IndentWanted, MatchLine, MatchBlock, State, at}
+use Rattle.py_parse.specs.Open.{SuiteStack, top, inside, SuiteOf, an_arm, a_while, a_for, a_try}
+use Rattle.py_parse.specs.Open.{a_clause, an_else, a_finally, a_def, a_case}
+use Rattle.py_parse.specs.Machine.{Continuation, value, augmented, leaving, asserted, reason}
+use Rattle.py_parse.specs.Machine.{arm_test, while_test, for_target, for_over, clause_kind, subject}
+use Rattle.py_parse.specs.Machine.{guard, default, Place, Reading, Matching, Simple, Semicolon}
+use Rattle.py_parse.specs.Machine.{Leaving, NameWanted, NameRead, BoundWanted, BoundRead}
+use Rattle.py_parse.specs.Machine.{ModuleWanted, ImportWanted, FunctionWanted, ParamsWanted}
+use Rattle.py_parse.specs.Machine.{ParamWanted, ParamRead, Except, ClauseBound, ColonWanted}
+use Rattle.py_parse.specs.Machine.{SuiteWanted, IndentWanted, MatchLine, MatchBlock, State, at}
 
 -- nothing of the expression is read
 abbrev pub is_start : expression.State → Bool

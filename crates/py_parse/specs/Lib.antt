@@ -1,4 +1,5 @@
 pub mod Open
+pub mod Listed
 pub mod Machine
 pub mod Least
 pub mod Places
@@ -10,4 +11,3 @@ pub mod ViewMarks
 pub mod Levels
 pub mod Progress
 pub mod ViewLists
-pub mod ViewBlocks

@@ -1,12 +1,18 @@
--- What is open round a place in the text of a module: suites, from the inside, with what was read of them.
+-- What is open round a place in the text of a module: suites, from the inside, with what was read
+-- of them.
 --     snoc_stmt .. snoc_case         lists with one more at the end
 --     no_end .. both_end             how a statement ends its line
---     SuiteOf, with_else, closed     what an open suite belongs to, and the statement where it is closed
+--     SuiteOf                        what an open suite belongs to
+--     with_else, closed              the statement where the suite is closed
 --     SuiteStack, add                the open suites, and a statement more in the innermost
 use Rattle.std.specs.Prelude.{ℕ, Bool, true, false, List, Option}
 use Rattle.py_syntax.specs.declared.stmt.LineEnd.{LineEnd}
 use Rattle.py_syntax.specs.Tree.{Text, Expr, Exprs, Pattern}
-use Rattle.py_syntax.specs.Tree.{Stmts, no_stmts, stmt, Suite, OptSuite, no_suite, has_suite, Arms, no_arms, arm, Clauses, no_clauses, clause, Cases, no_cases, case, StmtKind, expr, assign, aug_assign, pass, break, continue, return, raise, assert, global, import, from, if', while, for, try, def, match}
+use Rattle.py_syntax.specs.Tree.{Stmts, no_stmts, stmt, Suite, OptSuite, no_suite, has_suite, Arms}
+use Rattle.py_syntax.specs.Tree.{no_arms, arm, Clauses, no_clauses, clause, Cases, no_cases, case}
+use Rattle.py_syntax.specs.Tree.{StmtKind, expr, assign, aug_assign, pass, break, continue, return}
+use Rattle.py_syntax.specs.Tree.{raise, assert, global, import, from, if', while, for, try, def}
+use Rattle.py_syntax.specs.Tree.{match}
 
 -- ---- one more at the end
 
@@ -42,7 +48,8 @@ both_end = record { semicolon = true; newline = true }
 
 -- ---- suites
 
--- What an open suite belongs to: a part of a compound statement, with what was read of the statement before it.
+-- What an open suite belongs to: a part of a compound statement, with what was read of the
+-- statement before it.
 pub data SuiteOf : Type 0 where
   an_arm : (arms : Arms) (test : Expr) → SuiteOf
   a_while : (test : Expr) → SuiteOf
@@ -53,7 +60,8 @@ pub data SuiteOf : Type 0 where
   an_else : (so_far : StmtKind) → SuiteOf
   a_finally : (body : Suite) (clauses : Clauses) (orelse : OptSuite) → SuiteOf
   a_def : (x : Text) (params : List Text) (defaults : Exprs) (comma : Bool) → SuiteOf
-  a_case : (subject : Expr) (header_last : ℕ) (cases : Cases) (p : Pattern) (guard : Option Expr) → SuiteOf
+  a_case : (subject : Expr) (header_last : ℕ) (cases : Cases) (p : Pattern) (guard : Option Expr)
+      → SuiteOf
 
 -- a statement with an `else` suite
 abbrev pub with_else : StmtKind → Suite → StmtKind
@@ -88,13 +96,15 @@ closed (a_finally b cs o) s = try b cs o (has_suite s)
 closed (a_def x ps ds c) s = def x ps ds c s
 closed (a_case e last cs p g) s = match e last (snoc_case cs p g s)
 
--- The open suites with the statements that were read in them. A suite has the lines of its header, its form, and the
--- first line of the statement that it belongs to.
+-- The open suites with the statements that were read in them. A suite has the lines of its header,
+-- its form, and the first line of the statement that it belongs to.
 pub data SuiteStack : Type 0 where
   top : (ss : Stmts) → SuiteStack
-  inside : (ss : Stmts) (inline : Bool) (first last begun : ℕ) (o : SuiteOf) (k : SuiteStack) → SuiteStack
+  inside : (ss : Stmts) (inline : Bool) (first last begun : ℕ) (o : SuiteOf) (k : SuiteStack)
+      → SuiteStack
 
 -- a statement more in the innermost suite
 abbrev pub add : SuiteStack → ℕ → ℕ → StmtKind → LineEnd → SuiteStack
 add (top ss) first last k e = top (snoc_stmt ss first last k e)
-add (inside ss inline f l begun o b) first last k e = inside (snoc_stmt ss first last k e) inline f l begun o b
+add (inside ss inline f l begun o b) first last k e =
+    inside (snoc_stmt ss first last k e) inline f l begun o b

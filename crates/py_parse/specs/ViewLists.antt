@@ -6,14 +6,14 @@
 use Rattle.std.specs.Prelude.{◌≡◌, Bool, true, false, Option, Some, None, Result, Ok, Err, bytes_eq}
 use Rattle.std.specs.declared.alloc.AllocError.{AllocError}
 use Rattle.py_token.specs.declared.token.Mark.TheVariants as mark
-use Rattle.py_syntax.specs.Tree.{Text, Exprs, no_exprs, exprs, Arms, no_arms, arm, Clauses, no_clauses, clause, Cases, no_cases, case}
-use Rattle.py_syntax.specs.Kinds.{Kind, Name, Sign, Newline, Dedent, End}
+use Rattle.py_syntax.specs.Tree.{Text, Exprs, no_exprs, exprs, Arms, no_arms, arm, Clauses}
+use Rattle.py_syntax.specs.Tree.{no_clauses, clause, Cases, no_cases, case}
+use Rattle.py_syntax.specs.Kinds.{Kind, Name, Sign, Newline, Indent, Dedent, End}
 use Rattle.py_syntax.specs.Statements.{case_name}
 use Rattle.py_syntax.specs.Headers.{is_colon, ends_line}
 use Rattle.py_parse.specs.declared.lists.Class.{Class}
 use Rattle.py_parse.specs.declared.lists.Class.TheVariants as class_
 use Rattle.py_parse.specs.ViewMarks.{is_newline}
-use Rattle.py_parse.specs.ViewBlocks.{is_indent}
 
 abbrev pub some_exprs : Exprs → Bool
 some_exprs no_exprs = false
@@ -63,6 +63,10 @@ is_comma k = false
 abbrev pub is_right_paren : Kind → Bool
 is_right_paren (Sign mark.RightParen) = true
 is_right_paren k = false
+
+abbrev pub is_indent : Kind → Bool
+is_indent Indent = true
+is_indent k = false
 
 abbrev pub is_dedent : Kind → Bool
 is_dedent Dedent = true

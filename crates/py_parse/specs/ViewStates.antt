@@ -3,20 +3,23 @@
 --     suite_stack, view_suites, Opens     open suites
 --     view_span .. view_state             places and states
 --     ActsAs, Acts, Makes, MakesPlace     what a token does
+--     Steps, step_marked                  the same of a step
+--     ActsAt, TurnsAt, MakesAt            the same of a place inside a statement
+--     Continuing .. ContinuesTo           the same after a part of a statement
 --     SharesLine .. is_top                what is said of the innermost suite
 --     IsDone, Rests                       where the module ends, or a statement may begin
-use Rattle.std.specs.Prelude.{◌≡◌, ℕ, Bool, true, false, cond, List, [], ◌∷◌, reverse, Option, Some, None, option_map, Result, Ok, Err, Vec}
+use Rattle.std.specs.Prelude.{◌≡◌, ℕ, Bool, true, false, cond, List, [], ◌∷◌, reverse, Option, Some}
+use Rattle.std.specs.Prelude.{None, option_map, Result, Ok, Err, Vec}
 use Rattle.std.specs.declared.alloc.AllocError.{AllocError}
 use Rattle.std.specs.Global.{Global}
 use Rattle.py_token.specs.View.{view_kind}
 use Rattle.py_token.specs.declared.token.Token.{Token, out-Token}
 use Rattle.py_syntax.specs.declared.stmt.Stmt.{Stmt}
-use Rattle.py_syntax.specs.Tree.{Stmts, stmt}
+use Rattle.py_syntax.specs.Tree.{Text, Expr, Stmts, stmt}
 use Rattle.py_syntax.specs.Kinds.{Kind, bare_kind}
-use Rattle.py_syntax.specs.View.{plain_expr, plain_exprs, plain_pattern, plain_kind, plain_suite, plain_stmts, plain_arms, plain_clauses, plain_cases, plain_aliases}
-use Rattle.py_grammar.specs.Machine as expression
-use Rattle.py_grammar.specs.Machine.{start, class}
-use Rattle.py_parse_pattern.specs.Machine as pattern
+use Rattle.py_syntax.specs.View.{plain_exprs, plain_stmts, plain_arms, plain_aliases}
+use Rattle.py_parse.specs.declared.suite_of.PartialTry.{PartialTry}
+use Rattle.py_parse.specs.declared.suite_of.Signature.{Signature}
 use Rattle.py_parse.specs.declared.suite_stack.Span as held_span
 use Rattle.py_parse.specs.declared.suite_stack.Open as held_open
 use Rattle.py_parse.specs.declared.suite_stack.SuiteStack as held_suites
@@ -31,8 +34,18 @@ use Rattle.py_parse.specs.declared.places.State.TheVariants as state_
 use Rattle.py_parse.specs.declared.places.Turn.{Turn}
 use Rattle.py_parse.specs.declared.places.Turn.TheVariants as turn_
 use Rattle.py_parse.specs.Open.{SuiteStack, top, inside}
-use Rattle.py_parse.specs.Machine.{Continuation, value, augmented, leaving, asserted, reason, arm_test, while_test, for_target, for_over, clause_kind, subject, guard, default, Listed, globals, imports, froms, Place, Matching, Simple, Semicolon, Leaving, NameWanted, NameRead, BoundWanted, BoundRead, ModuleWanted, ImportWanted, FunctionWanted, ParamsWanted, ParamWanted, ParamRead, Except, ClauseBound, ColonWanted, SuiteWanted, IndentWanted, MatchLine, MatchBlock, Span, State, Line, at, After, Choosing, Over, goal, wanted, reads, act, close, over_line, at_line, done}
-use Rattle.py_parse.specs.ViewSuiteOf.{view_suite_of}
+use Rattle.py_parse.specs.Machine.{Continuation, value, augmented, leaving, asserted, reason}
+use Rattle.py_parse.specs.Machine.{arm_test, while_test, for_target, for_over, clause_kind, subject}
+use Rattle.py_parse.specs.Machine.{guard, default, Place, Simple}
+use Rattle.py_parse.specs.Listed.{Listed, globals, imports, froms}
+use Rattle.py_parse.specs.Machine.{Semicolon, Leaving, NameWanted, NameRead, BoundWanted, BoundRead}
+use Rattle.py_parse.specs.Machine.{ModuleWanted, ImportWanted, FunctionWanted, ParamsWanted}
+use Rattle.py_parse.specs.Machine.{ParamWanted, ParamRead, Except, ClauseBound, ColonWanted}
+use Rattle.py_parse.specs.Machine.{SuiteWanted, IndentWanted, MatchLine, MatchBlock, Span, State}
+use Rattle.py_parse.specs.Machine.{Line, at, After, Choosing, Over, wanted, begin_expr, begin_case}
+use Rattle.py_parse.specs.Machine.{act, close, over_line, at_line, step, done}
+use Rattle.py_parse.specs.ViewSuiteOf.{boxed_expr, boxed_pattern, boxed_kind, of_match, of_try}
+use Rattle.py_parse.specs.ViewSuiteOf.{of_signature, boxed_suite_of}
 
 -- the kind of a token, and its lines
 abbrev pub kind_at : Token → Kind
@@ -46,39 +59,62 @@ last_at t = (out-Token t).last
 
 -- ---- open suites
 
+-- an open suite with these statements, round which these are open
+abbrev pub view_open : Stmts → held_open.Open → SuiteStack → SuiteStack
+view_open ss o b =
+    inside ss o.inline o.span.first o.span.last o.span.begun (boxed_suite_of o.suite_of) b
+
 -- from the inside
 abbrev pub suite_stack : Stmts → List held_open.Open → SuiteStack
 suite_stack ss [] = top ss
-suite_stack ss (o ∷ os) = inside ss o.inline o.span.first o.span.last o.span.begun (view_suite_of o.suite_of.value) (suite_stack (plain_stmts o.outer.items) os)
+suite_stack ss (o ∷ os) = view_open ss o (suite_stack (plain_stmts o.outer.items) os)
 
 -- the innermost is the last in the code
 abbrev pub view_suites : held_suites.SuiteStack → SuiteStack
 view_suites b = suite_stack (plain_stmts b.body.items) (reverse b.open.items)
 
+-- suites that are open, the innermost last
+abbrev pub Opened : Type 0
+Opened = List held_open.Open
+
 -- the innermost suite, and those round it
-abbrev pub Opens : Stmts → List held_open.Open → List held_open.Open → Option held_open.Open → Type 0
-Opens ss old new None = (suite_stack ss (reverse old) ≡ top ss) × (suite_stack ss (reverse new) ≡ top ss)
-Opens ss old new (Some o) = suite_stack ss (reverse old) ≡ inside ss o.inline o.span.first o.span.last o.span.begun (view_suite_of o.suite_of.value) (suite_stack (plain_stmts o.outer.items) (reverse new))
+abbrev pub Opens : Stmts → Opened → Opened → Option held_open.Open → Type 0
+Opens ss old new None =
+    (suite_stack ss (reverse old) ≡ top ss) × (suite_stack ss (reverse new) ≡ top ss)
+Opens ss old new (Some o) =
+    suite_stack ss (reverse old)
+    ≡ view_open ss o (suite_stack (plain_stmts o.outer.items) (reverse new))
 
 -- ---- places
 
 abbrev pub view_span : held_span.Span → Span
 view_span n = record { begun = n.begun; first = n.first; last = n.last }
 
+-- after the default of a parameter, after a parameter, after the `as` of a clause
+abbrev pub default_of : Signature → Text → Continuation
+default_of s y = of_signature (λ x ps ds. default x ps ds y) s
+
+abbrev pub param_of : Signature → Text → Place
+param_of s y = of_signature (λ x ps ds. ParamRead x ps ds y) s
+
+abbrev pub bound_of : PartialTry → Expr → Place
+bound_of t e = of_try (λ b cs. ClauseBound b cs e) t
+
 abbrev pub view_continuation : held_continuation.Continuation → Continuation
 view_continuation (continuation_.Value ts) = value (plain_exprs ts.items)
-view_continuation (continuation_.Augmented p op) = augmented (plain_expr p.value) op
+view_continuation (continuation_.Augmented p op) = augmented (boxed_expr p) op
 view_continuation (continuation_.Leaving raises) = leaving raises
 view_continuation continuation_.Asserted = asserted
-view_continuation (continuation_.Reason t) = reason (plain_expr t.value)
+view_continuation (continuation_.Reason t) = reason (boxed_expr t)
 view_continuation (continuation_.ArmTest arms) = arm_test (plain_arms arms.items)
 view_continuation continuation_.WhileTest = while_test
 view_continuation continuation_.ForTarget = for_target
-view_continuation (continuation_.ForOver t) = for_over (plain_expr t.value)
-view_continuation (continuation_.ClauseKind t) = clause_kind (plain_suite t.body) (plain_clauses t.clauses.items)
+view_continuation (continuation_.ForOver t) = for_over (boxed_expr t)
+view_continuation (continuation_.ClauseKind t) = of_try clause_kind t
 view_continuation continuation_.Subject = subject
-view_continuation (continuation_.Guard c p) = guard (plain_expr c.value.subject) c.value.header_last (plain_cases c.value.cases.items) (plain_pattern p.value)
-view_continuation (continuation_.Default s y) = default s.name s.params.items (plain_exprs s.defaults.items) y
+view_continuation (continuation_.Guard c p) =
+    of_match (λ e last cs. guard e last cs (boxed_pattern p)) c
+view_continuation (continuation_.Default s y) = default_of s y
 
 abbrev pub view_listed : held_listed.Listed → Listed
 view_listed (listed_.Globals xs) = globals xs.items
@@ -87,9 +123,9 @@ view_listed (listed_.Froms m names) = froms m (plain_aliases names.items)
 
 abbrev pub view_place : held_place.Place → Place
 view_place (place_.Wanted r) = wanted (view_continuation r)
-view_place (place_.PatternWanted c) = Matching (plain_expr c.value.subject) c.value.header_last (plain_cases c.value.cases.items) pattern.start
-view_place (place_.Simple k) = Simple (plain_kind k.value)
-view_place (place_.Semicolon k) = Semicolon (plain_kind k.value)
+view_place (place_.PatternWanted c) = of_match begin_case c
+view_place (place_.Simple k) = Simple (boxed_kind k)
+view_place (place_.Semicolon k) = Semicolon (boxed_kind k)
 view_place (place_.Leaving raises) = Leaving raises
 view_place (place_.NameWanted l) = NameWanted (view_listed l)
 view_place (place_.NameRead l x) = NameRead (view_listed l) x
@@ -99,39 +135,49 @@ view_place place_.ModuleWanted = ModuleWanted
 view_place (place_.ImportWanted m) = ImportWanted m
 view_place place_.FunctionWanted = FunctionWanted
 view_place (place_.ParamsWanted x) = ParamsWanted x
-view_place (place_.ParamWanted s) = ParamWanted s.name s.params.items (plain_exprs s.defaults.items)
-view_place (place_.ParamRead s y) = ParamRead s.name s.params.items (plain_exprs s.defaults.items) y
-view_place (place_.Except t) = Except (plain_suite t.body) (plain_clauses t.clauses.items)
-view_place (place_.ClauseBound t e) = ClauseBound (plain_suite t.body) (plain_clauses t.clauses.items) (plain_expr e.value)
-view_place (place_.ColonWanted o) = ColonWanted (view_suite_of o.value)
-view_place (place_.SuiteWanted o) = SuiteWanted (view_suite_of o.value)
-view_place (place_.IndentWanted o) = IndentWanted (view_suite_of o.value)
-view_place (place_.MatchLine e last) = MatchLine (plain_expr e.value) last
-view_place (place_.MatchBlock e last) = MatchBlock (plain_expr e.value) last
+view_place (place_.ParamWanted s) = of_signature ParamWanted s
+view_place (place_.ParamRead s y) = param_of s y
+view_place (place_.Except t) = of_try Except t
+view_place (place_.ClauseBound t e) = bound_of t (boxed_expr e)
+view_place (place_.ColonWanted o) = ColonWanted (boxed_suite_of o)
+view_place (place_.SuiteWanted o) = SuiteWanted (boxed_suite_of o)
+view_place (place_.IndentWanted o) = IndentWanted (boxed_suite_of o)
+view_place (place_.MatchLine e last) = MatchLine (boxed_expr e) last
+view_place (place_.MatchBlock e last) = MatchBlock (boxed_expr e) last
 
 abbrev pub view_state : held_state.State → State
 view_state (state_.Line b) = Line (view_suites b)
 view_state (state_.At p n b) = at (view_place p) (view_span n) (view_suites b)
-view_state (state_.After k first last b) = After (plain_kind k.value) first last (view_suites b)
-view_state (state_.Choosing c first b) = Choosing (plain_expr c.value.subject) c.value.header_last (plain_cases c.value.cases.items) first (view_suites b)
+view_state (state_.After k first last b) = After (boxed_kind k) first last (view_suites b)
+view_state (state_.Choosing c first b) =
+    of_match (λ e last cs. Choosing e last cs first (view_suites b)) c
 view_state (state_.Over ss) = Over (plain_stmts ss.items)
 
 -- ---- what a token does
 
--- A step of the machine with this token, whose last line is the number: an expression or a pattern that begins with the
--- token goes on from its own beginning.
+-- what a token makes of a state in the code, where memory lasts
+abbrev pub Turned : Type 0
+Turned = Result Turn AllocError
+
+abbrev pub Made : Type 0
+Made = Result (Option held_state.State) AllocError
+
+-- A step of the machine with this token, which has these lines: an expression or a pattern that
+-- begins with the token goes on from its own beginning.
 abbrev pub ActsAs : Kind → ℕ → ℕ → Option State → Turn → Type 0
 ActsAs t f l o (turn_.Next s) = o ≡ Some (view_state s)
 ActsAs t f l o turn_.Stuck = o ≡ None
-ActsAs t f l o (turn_.Reads r n b) = (o ≡ reads (view_continuation r) (view_span n) (view_suites b) (expression.step (start (goal (view_continuation r))) (class t))) × (n.last ≡ l)
-ActsAs t f l o (turn_.Matches c n b) = o ≡ act (Matching (plain_expr c.value.subject) c.value.header_last (plain_cases c.value.cases.items) pattern.start) (view_span n) (view_suites b) t f l
+ActsAs t f l o (turn_.Reads r n b) =
+    (o ≡ begin_expr (view_continuation r) (view_span n) (view_suites b) t) × (n.last ≡ l)
+ActsAs t f l o (turn_.Matches c n b) =
+    o ≡ act (of_match begin_case c) (view_span n) (view_suites b) t f l
 
-abbrev pub Acts : Token → Option State → Result Turn AllocError → Type 0
+abbrev pub Acts : Token → Option State → Turned → Type 0
 Acts t o (Ok turn) = ActsAs (kind_at t) (first_at t) (last_at t) o turn
 Acts t o (Err e) = Unit {0}
 
 -- A step that begins no expression or pattern.
-abbrev pub Makes : Option State → Result (Option held_state.State) AllocError → Type 0
+abbrev pub Makes : Option State → Made → Type 0
 Makes o (Ok s) = o ≡ option_map view_state s
 Makes o (Err e) = Unit {0}
 
@@ -139,6 +185,40 @@ Makes o (Err e) = Unit {0}
 abbrev pub MakesPlace : Option Place → Result (Option held_place.Place) AllocError → Type 0
 MakesPlace o (Ok p) = o ≡ option_map view_place p
 MakesPlace o (Err e) = Unit {0}
+
+-- A step of the machine is what the token does.
+abbrev pub Steps : Token → (Kind → ℕ → ℕ → Option State) → Turned → Type 0
+Steps t step r = Acts t (step (kind_at t) (first_at t) (last_at t)) r
+
+-- a step where it is known whether the header of a `match` begins
+abbrev pub step_marked : State → Bool → Kind → ℕ → ℕ → Option State
+step_marked s header k f l = step s (record { kind = k; header = header }) f l
+
+-- What the token does at a place inside a statement or a header.
+abbrev pub ActsAt : Token → Place → held_span.Span → held_suites.SuiteStack → Turned → Type 0
+ActsAt t p n b r = Steps t (act p (view_span n) (view_suites b)) r
+
+-- the same, where no memory is wanted
+abbrev pub TurnsAt : Token → Place → held_span.Span → held_suites.SuiteStack → Turn → Type 0
+TurnsAt t p n b turn = ActsAt t p n b (Ok turn)
+
+-- the same, where no expression or pattern begins
+abbrev pub MakesAt : Token → Place → held_span.Span → held_suites.SuiteStack → Made → Type 0
+MakesAt t p n b r =
+    Makes (act p (view_span n) (view_suites b) (kind_at t) (first_at t) (last_at t)) r
+
+-- a way on after a part of a statement, at a token of this kind with this last line
+abbrev pub Continuing : Type 0
+Continuing = Span → SuiteStack → Kind → ℕ → Option State
+
+-- The token continues a statement so.
+abbrev pub Continues : Token → Continuing → held_span.Span → held_suites.SuiteStack → Made → Type 0
+Continues t way n b r = Makes (way (view_span n) (view_suites b) (kind_at t) (last_at t)) r
+
+-- the same, where no memory is wanted
+abbrev pub ContinuesTo :
+    Token → Continuing → held_span.Span → held_suites.SuiteStack → Option held_state.State → Type 0
+ContinuesTo t way n b s = Continues t way n b (Ok s)
 
 -- whether the innermost suite shares the line of its header
 abbrev pub SharesLine : SuiteStack → Bool → Type 0

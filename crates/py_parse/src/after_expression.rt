@@ -1,13 +1,17 @@
 // What comes after an expression or a pattern.
 
-ghost use Rattle.std.specs.Prelude.{◌≡◌, Some, None, false, cond, IfOk, option_map, ◌++◌, ◌∷◌, []};
-ghost use Rattle.py_syntax.specs.View.{plain_expr, plain_exprs, plain_kind, plain_pattern, plain_suite, plain_clauses, plain_cases};
-ghost use Rattle.py_syntax.specs.Normal.{is_target, is_place};
+ghost use Rattle.std.specs.Prelude.{◌≡◌, false, IfOk, ◌++◌, ◌∷◌, []};
+ghost use Rattle.py_syntax.specs.View.{plain_expr, plain_exprs};
 ghost use Rattle.py_grammar.specs.Machine.{snoc};
-ghost use Rattle.py_parse.specs.Machine.{value, asserted, for_target, clause_kind, subject, ParamRead, at, wanted, onward, act, in_place_op, assigned, left, after_value, after_default, resume, resume_pattern};
+ghost use Rattle.py_parse.specs.Machine.{asserted, for_target, clause_kind, subject, in_place_op};
+ghost use Rattle.py_parse.specs.Machine.{after_value, after_default, resume, resume_pattern};
+ghost use Rattle.py_parse.specs.Machine.{after_target, end_header};
 ghost use Rattle.py_syntax.specs.Tree.{no_exprs};
 ghost use Rattle.py_parse.specs.ViewLists.{is_equal_sign};
-ghost use Rattle.py_parse.specs.ViewStates.{kind_at, first_at, last_at, view_suites, view_span, view_continuation, view_state, Makes};
+ghost use Rattle.py_parse.specs.ViewStates.{default_of, param_of, kind_at, view_continuation};
+ghost use Rattle.py_parse.specs.ViewStates.{Continues, ContinuesTo, MakesAt};
+ghost use Rattle.py_parse.specs.ViewSuiteOf.{boxed_expr, boxed_pattern, of_match, of_signature};
+ghost use Rattle.py_parse.specs.ViewSuiteOf.{of_try, view_suite_of};
 
 use crate::kinds::{asserted, assigned, augmented, boxed, boxed_suite_of, left};
 use crate::lists::{Class, has_exprs, is_a};
@@ -35,9 +39,10 @@ fn in_place_op(token: &Token) -> Option<BinOp>
 }
 
 /// An expression more.
-#[tactic(auto, using(crate::proofs::Views::exprs_snoc))]
+#[tactic(auto, using(crate::proofs::View::OneMore::exprs_snoc))]
 fn add_expr(exprs: Vec<Expr>, expr: Expr) -> Result<Vec<Expr>, NoMemory>
-    ensures { IfOk result (λ r. plain_exprs r.items ≡ snoc (plain_exprs exprs.items) (plain_expr expr)) }
+    ensures { IfOk result (λ r.
+        plain_exprs r.items ≡ snoc (plain_exprs exprs.items) (plain_expr expr)) }
 {
     let mut exprs = exprs;
     exprs.push(expr)?;
@@ -52,7 +57,8 @@ fn after_target(
     suites: SuiteStack,
     token: &Token,
 ) -> Result<Option<State>, NoMemory>
-    ensures { Makes (cond (is_target (plain_expr expr.value)) (Some (at (wanted (value (snoc (plain_exprs targets.items) (plain_expr expr.value)))) (onward (view_span span) (last_at token.now)) (view_suites suites))) None) result }
+    ensures { Continues token.now (after_target (plain_exprs targets.items) (boxed_expr expr))
+        span suites result }
 {
     if !is_target(&expr) {
         return Ok(None);
@@ -66,7 +72,7 @@ fn after_target(
 }
 
 /// After an expression that is no target.
-#[tactic(auto, using(crate::proofs::Acts::value_augments, crate::proofs::Acts::value_misplaced, crate::proofs::Acts::value_ends))]
+#[tactic(auto, using(crate::proofs::View::Acts::last_value_rules))]
 fn after_last(
     alloc: Global,
     expr: Box<Expr>,
@@ -75,7 +81,7 @@ fn after_last(
     token: &Token,
 ) -> Result<Option<State>, NoMemory>
     requires { is_equal_sign (kind_at token.now) ≡ false }
-    ensures { Makes (after_value no_exprs (plain_expr expr.value) (view_span span) (view_suites suites) (kind_at token.now) (last_at token.now)) result }
+    ensures { Continues token.now (after_value no_exprs (boxed_expr expr)) span suites result }
 {
     let Some(op) = in_place_op(token) else {
         let kind = boxed(alloc, StmtKind::Expr(Box::into_inner(expr)))?;
@@ -92,7 +98,7 @@ fn after_last(
 }
 
 /// After an expression, and targets in front of it.
-#[tactic(auto, using(crate::proofs::Acts::value_targets, crate::proofs::Acts::value_assigns, crate::proofs::Acts::value_alone))]
+#[tactic(auto, using(crate::proofs::View::Acts::value_rules))]
 fn after_value(
     alloc: Global,
     targets: Vec<Expr>,
@@ -101,7 +107,8 @@ fn after_value(
     suites: SuiteStack,
     token: &Token,
 ) -> Result<Option<State>, NoMemory>
-    ensures { Makes (after_value (plain_exprs targets.items) (plain_expr expr.value) (view_span span) (view_suites suites) (kind_at token.now) (last_at token.now)) result }
+    ensures { Continues token.now (after_value (plain_exprs targets.items) (boxed_expr expr))
+        span suites result }
 {
     if is_a(token, Class::EqualSign) {
         after_target(targets, expr, span, suites, token)
@@ -116,7 +123,8 @@ fn after_value(
 fn add_param(signature: Signature, param: Text) -> Result<Signature, NoMemory>
     ensures name { IfOk result (λ s. s.name ≡ signature.name) }
     ensures params { IfOk result (λ s. s.params.items ≡ signature.params.items ++ param ∷ []) }
-    ensures defaults { IfOk result (λ s. plain_exprs s.defaults.items ≡ plain_exprs signature.defaults.items) }
+    ensures defaults { IfOk result (λ s.
+        plain_exprs s.defaults.items ≡ plain_exprs signature.defaults.items) }
 {
     let mut signature = signature;
     signature.params.push(param)?;
@@ -127,7 +135,8 @@ fn add_param(signature: Signature, param: Text) -> Result<Signature, NoMemory>
 fn add_default(signature: Signature, default: Expr) -> Result<Signature, NoMemory>
     ensures name { IfOk result (λ s. s.name ≡ signature.name) }
     ensures params { IfOk result (λ s. s.params ≡ signature.params) }
-    ensures defaults { IfOk result (λ s. plain_exprs s.defaults.items ≡ snoc (plain_exprs signature.defaults.items) (plain_expr default)) }
+    ensures defaults { IfOk result (λ s. plain_exprs s.defaults.items
+        ≡ snoc (plain_exprs signature.defaults.items) (plain_expr default)) }
 {
     let Signature {
         name,
@@ -150,7 +159,7 @@ fn after_default(
     suites: SuiteStack,
     token: &Token,
 ) -> Result<Option<State>, NoMemory>
-    ensures { Makes (after_default signature.name signature.params.items (plain_exprs signature.defaults.items) (view_span span) (view_suites suites) (kind_at token.now) (last_at token.now)) result }
+    ensures { Continues token.now (of_signature after_default signature) span suites result }
 {
     match &token.kind {
         TokenKind::Mark(Mark::Comma) => Ok(Some(State::At(
@@ -168,7 +177,7 @@ fn after_default(
 }
 
 /// After a parameter with no default.
-#[tactic(auto, using(crate::proofs::Acts::param_default, crate::proofs::Acts::param_late, crate::proofs::Acts::param_ends))]
+#[tactic(auto, using(crate::proofs::View::Acts::param_rules))]
 pub fn after_param(
     alloc: Global,
     signature: Signature,
@@ -177,7 +186,7 @@ pub fn after_param(
     suites: SuiteStack,
     token: &Token,
 ) -> Result<Option<State>, NoMemory>
-    ensures { Makes (act (ParamRead signature.name signature.params.items (plain_exprs signature.defaults.items) param) (view_span span) (view_suites suites) (kind_at token.now) (first_at token.now) (last_at token.now)) result }
+    ensures { MakesAt token.now (param_of signature param) span suites result }
 {
     if is_a(token, Class::EqualSign) {
         return Ok(Some(State::At(
@@ -201,7 +210,7 @@ fn after_test(
     suites: SuiteStack,
     token: &Token,
 ) -> Result<Option<State>, NoMemory>
-    ensures { Makes (resume asserted (plain_expr test.value) (view_span span) (view_suites suites) (kind_at token.now) (last_at token.now)) result }
+    ensures { Continues token.now (resume asserted (boxed_expr test)) span suites result }
 {
     match &token.kind {
         TokenKind::Mark(Mark::Comma) => Ok(Some(State::At(
@@ -220,7 +229,7 @@ fn after_for_target(
     suites: SuiteStack,
     token: &Token,
 ) -> Option<State>
-    ensures { resume for_target (plain_expr target.value) (view_span span) (view_suites suites) (kind_at token.now) (last_at token.now) ≡ option_map view_state result }
+    ensures { ContinuesTo token.now (resume for_target (boxed_expr target)) span suites result }
 {
     match &token.kind {
         TokenKind::Keyword(Keyword::In) => Some(State::At(
@@ -241,7 +250,8 @@ fn after_kind(
     suites: SuiteStack,
     token: &Token,
 ) -> Result<Option<State>, NoMemory>
-    ensures { Makes (resume (clause_kind (plain_suite partial_try.body) (plain_clauses partial_try.clauses.items)) (plain_expr kind.value) (view_span span) (view_suites suites) (kind_at token.now) (last_at token.now)) result }
+    ensures { Continues token.now (resume (of_try clause_kind partial_try) (boxed_expr kind))
+        span suites result }
 {
     match &token.kind {
         TokenKind::Keyword(Keyword::As) => Ok(Some(State::At(
@@ -258,7 +268,7 @@ fn after_kind(
 
 /// After the subject of a `match`.
 fn after_subject(of: Box<Expr>, span: Span, suites: SuiteStack, token: &Token) -> Option<State>
-    ensures { resume subject (plain_expr of.value) (view_span span) (view_suites suites) (kind_at token.now) (last_at token.now) ≡ option_map view_state result }
+    ensures { ContinuesTo token.now (resume subject (boxed_expr of)) span suites result }
 {
     match &token.kind {
         TokenKind::Mark(Mark::Colon) => Some(State::At(
@@ -279,7 +289,8 @@ pub fn resume_pattern(
     suites: SuiteStack,
     token: &Token,
 ) -> Result<Option<State>, NoMemory>
-    ensures { Makes (resume_pattern (plain_expr partial_match.value.subject) partial_match.value.header_last (plain_cases partial_match.value.cases.items) (plain_pattern pattern.value) (view_span span) (view_suites suites) (kind_at token.now) (last_at token.now)) result }
+    ensures { Continues token.now (of_match resume_pattern partial_match (boxed_pattern pattern))
+        span suites result }
 {
     match &token.kind {
         TokenKind::Keyword(Keyword::If) => Ok(Some(State::At(
@@ -294,6 +305,38 @@ pub fn resume_pattern(
     }
 }
 
+/// After the default of a parameter.
+fn after_param_default(
+    alloc: Global,
+    signature: Signature,
+    param: Text,
+    value: Box<Expr>,
+    span: Span,
+    suites: SuiteStack,
+    token: &Token,
+) -> Result<Option<State>, NoMemory>
+    ensures { Continues token.now (resume (default_of signature param) (boxed_expr value))
+        span suites result }
+{
+    let signature = add_param(signature, param)?;
+    let signature = add_default(signature, Box::into_inner(value))?;
+    after_default(alloc, signature, span, suites, token)
+}
+
+/// After a header that ends in an expression.
+fn after_header(
+    alloc: Global,
+    suite_of: SuiteOf,
+    span: Span,
+    suites: SuiteStack,
+    token: &Token,
+) -> Result<Option<State>, NoMemory>
+    ensures { Continues token.now (end_header (view_suite_of suite_of)) span suites result }
+{
+    let suite_of = boxed_suite_of(alloc, suite_of)?;
+    Ok(end_header(suite_of, span, suites, token))
+}
+
 /// An expression is whole, and this token comes.
 pub fn resume(
     alloc: Global,
@@ -303,7 +346,8 @@ pub fn resume(
     suites: SuiteStack,
     token: &Token,
 ) -> Result<Option<State>, NoMemory>
-    ensures { Makes (resume (view_continuation purpose) (plain_expr expr.value) (view_span span) (view_suites suites) (kind_at token.now) (last_at token.now)) result }
+    ensures { Continues token.now (resume (view_continuation purpose) (boxed_expr expr))
+        span suites result }
 {
     match purpose {
         Continuation::Value(targets) => after_value(alloc, targets, expr, span, suites, token),
@@ -321,38 +365,25 @@ pub fn resume(
             end_simple(alloc, kind, span, suites, token)
         }
         Continuation::ArmTest(arms) => {
-            let suite_of = boxed_suite_of(alloc, SuiteOf::Arm(arms, expr))?;
-            Ok(end_header(suite_of, span, suites, token))
+            after_header(alloc, SuiteOf::Arm(arms, expr), span, suites, token)
         }
         Continuation::WhileTest => {
-            let suite_of = boxed_suite_of(alloc, SuiteOf::While(expr))?;
-            Ok(end_header(suite_of, span, suites, token))
+            after_header(alloc, SuiteOf::While(expr), span, suites, token)
         }
         Continuation::ForTarget => Ok(after_for_target(expr, span, suites, token)),
         Continuation::ForOver(target) => {
-            let suite_of = boxed_suite_of(alloc, SuiteOf::For(target, expr))?;
-            Ok(end_header(suite_of, span, suites, token))
+            after_header(alloc, SuiteOf::For(target, expr), span, suites, token)
         }
-        Continuation::ClauseKind(partial_try) => after_kind(
-            alloc,
-            partial_try,
-            expr,
-            span,
-            suites,
-            token,
-        ),
+        Continuation::ClauseKind(partial_try) => {
+            after_kind(alloc, partial_try, expr, span, suites, token)
+        }
         Continuation::Subject => Ok(after_subject(expr, span, suites, token)),
         Continuation::Guard(partial_match, pattern) => {
-            let suite_of = boxed_suite_of(
-                alloc,
-                SuiteOf::Case(partial_match, pattern, Some(expr)),
-            )?;
-            Ok(end_header(suite_of, span, suites, token))
+            let suite_of = SuiteOf::Case(partial_match, pattern, Some(expr));
+            after_header(alloc, suite_of, span, suites, token)
         }
         Continuation::Default(signature, param) => {
-            let signature = add_param(signature, param)?;
-            let signature = add_default(signature, Box::into_inner(expr))?;
-            after_default(alloc, signature, span, suites, token)
+            after_param_default(alloc, signature, param, expr, span, suites, token)
         }
     }
 }

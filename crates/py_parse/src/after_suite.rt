@@ -1,35 +1,38 @@
 // Statements go on after a suite.
 
 ghost use Rattle.std.specs.Prelude.{◌≡◌, IfOk};
-ghost use Rattle.py_syntax.specs.Tree.{no_suite, has_suite, if', while, for, try};
+ghost use Rattle.py_syntax.specs.Tree.{no_suite, has_suite, if', while, for};
 ghost use Rattle.py_syntax.specs.Kinds.{Word};
 ghost use Rattle.py_token.specs.declared.token.Keyword.TheVariants as word;
-ghost use Rattle.py_syntax.specs.View.{plain_expr, plain_kind, plain_suite, plain_opt_suite, plain_arms, plain_clauses};
-ghost use Rattle.py_parse.specs.Open.{an_else, a_finally};
+ghost use Rattle.py_syntax.specs.View.{plain_expr, plain_kind, plain_suite, plain_opt_suite};
+ghost use Rattle.py_syntax.specs.View.{plain_arms};
+ghost use Rattle.py_parse.specs.Open.{an_else};
 ghost use Rattle.py_parse.specs.Machine.{ColonWanted, is_whole};
-ghost use Rattle.py_parse.specs.ViewStates.{kind_at, first_at, last_at, view_place};
-ghost use Rattle.py_parse.specs.ViewParts.{IsPart};
+ghost use Rattle.py_parse.specs.ViewSuiteOf.{boxed_kind, try_of, finally_of, view_else_of};
+ghost use Rattle.py_parse.specs.ViewStates.{view_place};
+ghost use Rattle.py_parse.specs.ViewParts.{IsPart, IsPartAt};
 
-use crate::kinds::{boxed, boxed_suite_of};
+use crate::kinds::{boxed, boxed_suite_of, tried};
 use crate::lists::has_clauses;
 use crate::places::{Continuation, Place};
-use crate::suite_of::{PartialTry, SuiteOf};
+use crate::suite_of::{ElseOf, PartialTry, SuiteOf};
 use py_syntax::{Arm, Expr, StmtKind, Suite};
 use py_token::{Keyword, Token, TokenKind};
 use py_value::NoMemory;
 use std::alloc::Global;
 
-/// What a token is to a compound statement: a further part begins with it, or the statement is whole.
+/// What a token is to a compound statement: a further part begins with it, or the statement is
+/// whole.
 pub enum Part {
     Next(Place),
     Whole(Box<StmtKind>),
 }
 
 /// The `else` suite of a statement is wanted.
-fn else_wanted(alloc: Global, kind: Box<StmtKind>) -> Result<Place, NoMemory>
-    ensures { IfOk result (λ p. view_place p ≡ ColonWanted (an_else (plain_kind kind.value))) }
+fn else_wanted(alloc: Global, else_of: ElseOf) -> Result<Place, NoMemory>
+    ensures { IfOk result (λ p. view_place p ≡ ColonWanted (an_else (view_else_of else_of))) }
 {
-    Ok(Place::ColonWanted(boxed_suite_of(alloc, SuiteOf::Else(kind))?))
+    Ok(Place::ColonWanted(boxed_suite_of(alloc, SuiteOf::Else(else_of))?))
 }
 
 /// The `finally` suite of a `try` is wanted.
@@ -38,38 +41,41 @@ fn finally_wanted(
     partial_try: PartialTry,
     orelse: Option<Suite>,
 ) -> Result<Place, NoMemory>
-    ensures { IfOk result (λ p. view_place p ≡ ColonWanted (a_finally (plain_suite partial_try.body) (plain_clauses partial_try.clauses.items) (plain_opt_suite orelse))) }
+    ensures { IfOk result (λ p.
+        view_place p ≡ ColonWanted (finally_of partial_try (plain_opt_suite orelse))) }
 {
     Ok(Place::ColonWanted(boxed_suite_of(alloc, SuiteOf::Finally(partial_try, orelse))?))
 }
 
 fn after_if(alloc: Global, arms: Vec<Arm>, token: &Token) -> Result<Part, NoMemory>
-    ensures { IsPart (if' (plain_arms arms.items) no_suite) (kind_at token.now) result }
+    ensures { IsPartAt token.now (if' (plain_arms arms.items) no_suite) result }
 {
     match &token.kind {
         TokenKind::Keyword(Keyword::Elif) => {
             Ok(Part::Next(Place::Wanted(Continuation::ArmTest(arms))))
         }
         TokenKind::Keyword(Keyword::Else) => {
-            let kind = boxed(alloc, StmtKind::If { arms, orelse: None })?;
-            Ok(Part::Next(else_wanted(alloc, kind)?))
+            Ok(Part::Next(else_wanted(alloc, ElseOf::If(arms))?))
         }
         _ => Ok(Part::Whole(boxed(alloc, StmtKind::If { arms, orelse: None })?)),
     }
 }
 
 fn after_while(alloc: Global, test: Expr, body: Suite, token: &Token) -> Result<Part, NoMemory>
-    ensures { IsPart (while (plain_expr test) (plain_suite body) no_suite) (kind_at token.now) result }
+    ensures { IsPartAt token.now (while (plain_expr test) (plain_suite body) no_suite) result }
 {
-    let kind = StmtKind::While {
-        test,
-        body,
-        orelse: None,
-    };
-    let kind = boxed(alloc, kind)?;
     match &token.kind {
-        TokenKind::Keyword(Keyword::Else) => Ok(Part::Next(else_wanted(alloc, kind)?)),
-        _ => Ok(Part::Whole(kind)),
+        TokenKind::Keyword(Keyword::Else) => {
+            Ok(Part::Next(else_wanted(alloc, ElseOf::While(test, body))?))
+        }
+        _ => {
+            let kind = StmtKind::While {
+                test,
+                body,
+                orelse: None,
+            };
+            Ok(Part::Whole(boxed(alloc, kind)?))
+        }
     }
 }
 
@@ -80,18 +86,22 @@ fn after_for(
     body: Suite,
     token: &Token,
 ) -> Result<Part, NoMemory>
-    ensures { IsPart (for (plain_expr target) (plain_expr over) (plain_suite body) no_suite) (kind_at token.now) result }
+    ensures { IsPartAt token.now
+        (for (plain_expr target) (plain_expr over) (plain_suite body) no_suite) result }
 {
-    let kind = StmtKind::For {
-        target,
-        over,
-        body,
-        orelse: None,
-    };
-    let kind = boxed(alloc, kind)?;
     match &token.kind {
-        TokenKind::Keyword(Keyword::Else) => Ok(Part::Next(else_wanted(alloc, kind)?)),
-        _ => Ok(Part::Whole(kind)),
+        TokenKind::Keyword(Keyword::Else) => {
+            Ok(Part::Next(else_wanted(alloc, ElseOf::For(target, over, body))?))
+        }
+        _ => {
+            let kind = StmtKind::For {
+                target,
+                over,
+                body,
+                orelse: None,
+            };
+            Ok(Part::Whole(boxed(alloc, kind)?))
+        }
     }
 }
 
@@ -102,47 +112,32 @@ fn after_try_else(
     orelse: Suite,
     token: &Token,
 ) -> Result<Part, NoMemory>
-    ensures { IsPart (try (plain_suite partial_try.body) (plain_clauses partial_try.clauses.items) (has_suite (plain_suite orelse)) no_suite) (kind_at token.now) result }
+    ensures { IsPartAt token.now
+        (try_of partial_try (has_suite (plain_suite orelse)) no_suite) result }
 {
     match &token.kind {
         TokenKind::Keyword(Keyword::Finally) => {
             Ok(Part::Next(finally_wanted(alloc, partial_try, Some(orelse))?))
         }
-        _ => {
-            let kind = StmtKind::Try {
-                body: partial_try.body,
-                clauses: partial_try.clauses,
-                orelse: Some(orelse),
-                finally: None,
-            };
-            Ok(Part::Whole(boxed(alloc, kind)?))
-        }
+        _ => Ok(Part::Whole(boxed(alloc, tried(partial_try, Some(orelse), None))?)),
     }
 }
 
 /// An `else` after the clauses of a `try`, where it has any.
-#[tactic(auto, using(crate::proofs::ViewKinds::else_some, crate::proofs::ViewKinds::else_none))]
+#[tactic(auto, using(crate::proofs::View::StmtKinds::try_else_rules))]
 fn try_else(alloc: Global, partial_try: PartialTry) -> Result<Part, NoMemory>
-    ensures { IsPart (try (plain_suite partial_try.body) (plain_clauses partial_try.clauses.items) no_suite no_suite) (Word word.Else) result }
+    ensures { IsPart (try_of partial_try no_suite no_suite) (Word word.Else) result }
 {
-    let some = has_clauses(&partial_try.clauses);
-    let kind = StmtKind::Try {
-        body: partial_try.body,
-        clauses: partial_try.clauses,
-        orelse: None,
-        finally: None,
-    };
-    let kind = boxed(alloc, kind)?;
-    if some {
-        Ok(Part::Next(else_wanted(alloc, kind)?))
+    if has_clauses(&partial_try.clauses) {
+        Ok(Part::Next(else_wanted(alloc, ElseOf::Try(partial_try))?))
     } else {
-        Ok(Part::Whole(kind))
+        Ok(Part::Whole(boxed(alloc, tried(partial_try, None, None))?))
     }
 }
 
 /// After the suite or a clause of a `try`.
-fn after_try(alloc: Global, partial_try: PartialTry, token: &Token) -> Result<Part, NoMemory>
-    ensures { IsPart (try (plain_suite partial_try.body) (plain_clauses partial_try.clauses.items) no_suite no_suite) (kind_at token.now) result }
+fn after_clauses(alloc: Global, partial_try: PartialTry, token: &Token) -> Result<Part, NoMemory>
+    ensures { IsPartAt token.now (try_of partial_try no_suite no_suite) result }
 {
     match &token.kind {
         TokenKind::Keyword(Keyword::Except) => Ok(Part::Next(Place::Except(partial_try))),
@@ -150,21 +145,28 @@ fn after_try(alloc: Global, partial_try: PartialTry, token: &Token) -> Result<Pa
         TokenKind::Keyword(Keyword::Finally) => {
             Ok(Part::Next(finally_wanted(alloc, partial_try, None)?))
         }
-        _ => {
-            let kind = StmtKind::Try {
-                body: partial_try.body,
-                clauses: partial_try.clauses,
-                orelse: None,
-                finally: None,
-            };
-            Ok(Part::Whole(boxed(alloc, kind)?))
-        }
+        _ => Ok(Part::Whole(boxed(alloc, tried(partial_try, None, None))?)),
+    }
+}
+
+/// After a suite of a `try` that has no `finally`.
+fn after_try(
+    alloc: Global,
+    partial_try: PartialTry,
+    orelse: Option<Suite>,
+    token: &Token,
+) -> Result<Part, NoMemory>
+    ensures { IsPartAt token.now (try_of partial_try (plain_opt_suite orelse) no_suite) result }
+{
+    match orelse {
+        Some(orelse) => after_try_else(alloc, partial_try, orelse, token),
+        None => after_clauses(alloc, partial_try, token),
     }
 }
 
 /// What the token after a suite is to its statement.
 pub fn next_part(alloc: Global, kind: Box<StmtKind>, token: &Token) -> Result<Part, NoMemory>
-    ensures { IsPart (plain_kind kind.value) (kind_at token.now) result }
+    ensures { IsPartAt token.now (boxed_kind kind) result }
 {
     match Box::into_inner(kind) {
         StmtKind::If { arms, orelse: None } => after_if(alloc, arms, token),
@@ -184,13 +186,7 @@ pub fn next_part(alloc: Global, kind: Box<StmtKind>, token: &Token) -> Result<Pa
             clauses,
             orelse,
             finally: None,
-        } => {
-            let partial_try = PartialTry { body, clauses };
-            match orelse {
-                Some(orelse) => after_try_else(alloc, partial_try, orelse, token),
-                None => after_try(alloc, partial_try, token),
-            }
-        }
+        } => after_try(alloc, PartialTry { body, clauses }, orelse, token),
         whole @ (StmtKind::Expr(_)
         | StmtKind::Assign { .. }
         | StmtKind::AugAssign { .. }
@@ -213,7 +209,7 @@ pub fn next_part(alloc: Global, kind: Box<StmtKind>, token: &Token) -> Result<Pa
 }
 
 /// Whether a statement has all that it needs: a `try` needs a clause or a `finally`.
-#[tactic(auto, using(crate::proofs::ViewKinds::whole_try))]
+#[tactic(auto, using(crate::proofs::View::StmtKinds::whole_try))]
 pub fn is_whole(kind: &StmtKind) -> bool
     ensures { result ≡ is_whole (plain_kind kind.now) }
 {

@@ -15,7 +15,8 @@ pub enum DepthKind {
     Suites,
 }
 
-/// Why a list of tokens is that of no module, with the line of the first token that can't be taken. Lines count from 1.
+/// Why a list of tokens is that of no module, with the line of the first token that can't be taken.
+/// Lines count from 1.
 #[derive(Debug, Drop, Error)]
 pub enum SyntaxError {
     /// No module goes on with the token, or the list ends there.

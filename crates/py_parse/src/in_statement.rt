@@ -1,11 +1,15 @@
 // A token inside a statement or a header.
 
-ghost use Rattle.std.specs.Prelude.{◌≡◌, ℕ, Some, IfOk, option_map};
+ghost use Rattle.std.specs.Prelude.{ℕ, option_map};
 ghost use Rattle.py_syntax.specs.Kinds.{Kind};
-ghost use Rattle.py_syntax.specs.View.{plain_expr, plain_exprs, plain_kind, plain_suite, plain_clauses};
-ghost use Rattle.py_parse.specs.Machine.{Semicolon, Leaving, NameWanted, NameRead, BoundWanted, ModuleWanted, ImportWanted, FunctionWanted, ParamsWanted, ParamWanted, Except, ClauseBound, SuiteWanted, IndentWanted, MatchLine, MatchBlock, act};
-ghost use Rattle.py_parse.specs.ViewSuiteOf.{view_suite_of};
-ghost use Rattle.py_parse.specs.ViewStates.{kind_at, first_at, last_at, view_suites, view_span, view_listed, view_state, ActsAs, Acts, Makes};
+ghost use Rattle.py_parse.specs.Machine.{Semicolon, Leaving, NameWanted, NameRead, BoundWanted};
+ghost use Rattle.py_parse.specs.Machine.{ModuleWanted, ImportWanted, FunctionWanted, ParamsWanted};
+ghost use Rattle.py_parse.specs.Machine.{ParamWanted, Except, SuiteWanted, IndentWanted, MatchLine};
+ghost use Rattle.py_parse.specs.Machine.{MatchBlock};
+ghost use Rattle.py_parse.specs.ViewStates.{view_listed, view_state, ActsAs, ActsAt, MakesAt};
+ghost use Rattle.py_parse.specs.ViewStates.{TurnsAt, bound_of};
+ghost use Rattle.py_parse.specs.ViewSuiteOf.{boxed_expr, boxed_kind, boxed_suite_of, of_signature};
+ghost use Rattle.py_parse.specs.ViewSuiteOf.{of_try};
 
 use crate::kinds::{boxed_suite_of, left};
 use crate::lists::{Class, has_names, is_a, name_in};
@@ -31,7 +35,7 @@ pub fn turn(state: Option<State>) -> Turn
 }
 
 /// After the semicolon of a simple statement.
-#[tactic(auto, using(crate::proofs::Acts::semicolon_line, crate::proofs::Acts::semicolon_turn))]
+#[tactic(auto, using(crate::proofs::View::Acts::semicolon_rules))]
 pub fn after_semicolon(
     alloc: Global,
     kind: Box<StmtKind>,
@@ -39,7 +43,7 @@ pub fn after_semicolon(
     suites: SuiteStack,
     token: &Token,
 ) -> Result<Turn, NoMemory>
-    ensures { Acts token.now (act (Semicolon (plain_kind kind.value)) (view_span span) (view_suites suites) (kind_at token.now) (first_at token.now) (last_at token.now)) result }
+    ensures { ActsAt token.now (Semicolon (boxed_kind kind)) span suites result }
 {
     if is_a(token, Class::Newline) {
         return Ok(Turn::Next(end_line(alloc, kind, true, span, suites, token.last)?));
@@ -58,7 +62,7 @@ pub fn after_semicolon(
 }
 
 /// After `return` or `raise`.
-#[tactic(auto, using(crate::proofs::Acts::leaving_reads))]
+#[tactic(auto, using(crate::proofs::View::Acts::leaving_reads))]
 pub fn after_leaving(
     alloc: Global,
     raises: bool,
@@ -66,7 +70,7 @@ pub fn after_leaving(
     suites: SuiteStack,
     token: &Token,
 ) -> Result<Turn, NoMemory>
-    ensures { Acts token.now (act (Leaving raises) (view_span span) (view_suites suites) (kind_at token.now) (first_at token.now) (last_at token.now)) result }
+    ensures { ActsAt token.now (Leaving raises) span suites result }
 {
     if is_a(token, Class::SimpleEnd) {
         let kind = left(alloc, raises, None)?;
@@ -87,7 +91,7 @@ pub fn at_name(
     suites: SuiteStack,
     token: &Token,
 ) -> Result<Turn, NoMemory>
-    ensures { Acts token.now (act (NameWanted (view_listed names)) (view_span span) (view_suites suites) (kind_at token.now) (first_at token.now) (last_at token.now)) result }
+    ensures { ActsAt token.now (NameWanted (view_listed names)) span suites result }
 {
     match &token.kind {
         TokenKind::Name(name) => Ok(Turn::Next(State::At(
@@ -108,7 +112,7 @@ pub fn after_listed(
     suites: SuiteStack,
     token: &Token,
 ) -> Result<Option<State>, NoMemory>
-    ensures { Makes (act (NameRead (view_listed names) name) (view_span span) (view_suites suites) (kind_at token.now) (first_at token.now) (last_at token.now)) result }
+    ensures { MakesAt token.now (NameRead (view_listed names) name) span suites result }
 {
     match &token.kind {
         TokenKind::Keyword(Keyword::As) => {
@@ -129,7 +133,7 @@ pub fn after_listed(
 }
 
 /// After the `as` of a listed name.
-#[tactic(auto, using(crate::proofs::Acts::bound_some, crate::proofs::Acts::bound_none))]
+#[tactic(auto, using(crate::proofs::View::Acts::bound_rules))]
 pub fn at_bound(
     names: Listed,
     name: Text,
@@ -137,7 +141,7 @@ pub fn at_bound(
     suites: SuiteStack,
     token: &Token,
 ) -> Result<Turn, NoMemory>
-    ensures { Acts token.now (act (BoundWanted (view_listed names) name) (view_span span) (view_suites suites) (kind_at token.now) (first_at token.now) (last_at token.now)) result }
+    ensures { ActsAt token.now (BoundWanted (view_listed names) name) span suites result }
 {
     let Some(bound) = name_in(token)? else {
         return Ok(Turn::Stuck);
@@ -148,7 +152,7 @@ pub fn at_bound(
 
 /// After `from`.
 pub fn at_module(span: Span, suites: SuiteStack, token: &Token) -> Result<Turn, NoMemory>
-    ensures { Acts token.now (act ModuleWanted (view_span span) (view_suites suites) (kind_at token.now) (first_at token.now) (last_at token.now)) result }
+    ensures { ActsAt token.now ModuleWanted span suites result }
 {
     match &token.kind {
         TokenKind::Name(name) => Ok(Turn::Next(State::At(
@@ -168,7 +172,7 @@ pub fn after_module(
     suites: SuiteStack,
     token: &Token,
 ) -> Turn
-    ensures { ActsAs (kind_at token.now) (first_at token.now) (last_at token.now) (act (ImportWanted name) (view_span span) (view_suites suites) (kind_at token.now) (first_at token.now) (last_at token.now)) result }
+    ensures { TurnsAt token.now (ImportWanted name) span suites result }
 {
     match &token.kind {
         TokenKind::Keyword(Keyword::Import) => Turn::Next(State::At(
@@ -182,7 +186,7 @@ pub fn after_module(
 
 /// After `def`.
 pub fn at_function(span: Span, suites: SuiteStack, token: &Token) -> Result<Turn, NoMemory>
-    ensures { Acts token.now (act FunctionWanted (view_span span) (view_suites suites) (kind_at token.now) (first_at token.now) (last_at token.now)) result }
+    ensures { ActsAt token.now FunctionWanted span suites result }
 {
     match &token.kind {
         TokenKind::Name(name) => Ok(Turn::Next(State::At(
@@ -196,7 +200,7 @@ pub fn at_function(span: Span, suites: SuiteStack, token: &Token) -> Result<Turn
 
 /// After the name of a `def`.
 pub fn at_params(alloc: Global, name: Text, span: Span, suites: SuiteStack, token: &Token) -> Turn
-    ensures { ActsAs (kind_at token.now) (first_at token.now) (last_at token.now) (act (ParamsWanted name) (view_span span) (view_suites suites) (kind_at token.now) (first_at token.now) (last_at token.now)) result }
+    ensures { TurnsAt token.now (ParamsWanted name) span suites result }
 {
     match &token.kind {
         TokenKind::Mark(Mark::LeftParen) => {
@@ -216,7 +220,7 @@ pub fn at_params(alloc: Global, name: Text, span: Span, suites: SuiteStack, toke
 }
 
 /// Where a parameter may come.
-#[tactic(auto, using(crate::proofs::Acts::param_some, crate::proofs::Acts::param_close, crate::proofs::Acts::param_none))]
+#[tactic(auto, using(crate::proofs::View::Acts::new_param_rules))]
 pub fn at_param(
     alloc: Global,
     signature: Signature,
@@ -224,7 +228,7 @@ pub fn at_param(
     suites: SuiteStack,
     token: &Token,
 ) -> Result<Turn, NoMemory>
-    ensures { Acts token.now (act (ParamWanted signature.name signature.params.items (plain_exprs signature.defaults.items)) (view_span span) (view_suites suites) (kind_at token.now) (first_at token.now) (last_at token.now)) result }
+    ensures { ActsAt token.now (of_signature ParamWanted signature) span suites result }
 {
     if let Some(param) = name_in(token)? {
         return Ok(Turn::Next(State::At(
@@ -253,7 +257,7 @@ pub fn after_except(
     suites: SuiteStack,
     token: &Token,
 ) -> Result<Turn, NoMemory>
-    ensures { Acts token.now (act (Except (plain_suite partial_try.body) (plain_clauses partial_try.clauses.items)) (view_span span) (view_suites suites) (kind_at token.now) (first_at token.now) (last_at token.now)) result }
+    ensures { ActsAt token.now (of_try Except partial_try) span suites result }
 {
     if is_a(token, Class::Colon) {
         let suite_of = boxed_suite_of(alloc, SuiteOf::Clause(partial_try, None, None))?;
@@ -267,7 +271,7 @@ pub fn after_except(
 }
 
 /// After the `as` of a clause.
-#[tactic(auto, using(crate::proofs::Acts::clause_some, crate::proofs::Acts::clause_none))]
+#[tactic(auto, using(crate::proofs::View::Acts::clause_rules))]
 pub fn at_clause_name(
     alloc: Global,
     partial_try: PartialTry,
@@ -276,7 +280,7 @@ pub fn at_clause_name(
     suites: SuiteStack,
     token: &Token,
 ) -> Result<Turn, NoMemory>
-    ensures { Acts token.now (act (ClauseBound (plain_suite partial_try.body) (plain_clauses partial_try.clauses.items) (plain_expr kind.value)) (view_span span) (view_suites suites) (kind_at token.now) (first_at token.now) (last_at token.now)) result }
+    ensures { ActsAt token.now (bound_of partial_try (boxed_expr kind)) span suites result }
 {
     let Some(name) = name_in(token)? else {
         return Ok(Turn::Stuck);
@@ -290,7 +294,7 @@ pub fn at_clause_name(
 }
 
 /// After the colon of a header.
-#[tactic(auto, using(crate::proofs::Acts::suite_line, crate::proofs::Acts::suite_turn))]
+#[tactic(auto, using(crate::proofs::View::Acts::suite_rules))]
 pub fn at_suite(
     alloc: Global,
     suite_of: Box<SuiteOf>,
@@ -298,7 +302,7 @@ pub fn at_suite(
     suites: SuiteStack,
     token: &Token,
 ) -> Result<Turn, NoMemory>
-    ensures { Acts token.now (act (SuiteWanted (view_suite_of suite_of.value)) (view_span span) (view_suites suites) (kind_at token.now) (first_at token.now) (last_at token.now)) result }
+    ensures { ActsAt token.now (SuiteWanted (boxed_suite_of suite_of)) span suites result }
 {
     if is_a(token, Class::Newline) {
         return Ok(Turn::Next(State::At(Place::IndentWanted(suite_of), span, suites)));
@@ -308,7 +312,7 @@ pub fn at_suite(
 }
 
 /// Where a block is wanted.
-#[tactic(auto, using(crate::proofs::Blocks::block_opens, crate::proofs::Blocks::block_none))]
+#[tactic(auto, using(crate::proofs::View::Acts::block_rules))]
 pub fn at_block(
     alloc: Global,
     suite_of: Box<SuiteOf>,
@@ -316,7 +320,7 @@ pub fn at_block(
     suites: SuiteStack,
     token: &Token,
 ) -> Result<Option<State>, NoMemory>
-    ensures { Makes (act (IndentWanted (view_suite_of suite_of.value)) (view_span span) (view_suites suites) (kind_at token.now) (first_at token.now) (last_at token.now)) result }
+    ensures { MakesAt token.now (IndentWanted (boxed_suite_of suite_of)) span suites result }
 {
     if !is_a(token, Class::Indent) {
         return Ok(None);
@@ -332,7 +336,7 @@ pub fn at_match_line(
     suites: SuiteStack,
     token: &Token,
 ) -> Turn
-    ensures { ActsAs (kind_at token.now) (first_at token.now) (last_at token.now) (act (MatchLine (plain_expr subject.value) header_last) (view_span span) (view_suites suites) (kind_at token.now) (first_at token.now) (last_at token.now)) result }
+    ensures { TurnsAt token.now (MatchLine (boxed_expr subject) header_last) span suites result }
 {
     match &token.kind {
         TokenKind::Newline => Turn::Next(State::At(
@@ -353,7 +357,7 @@ pub fn at_match_block(
     suites: SuiteStack,
     token: &Token,
 ) -> Result<Turn, NoMemory>
-    ensures { Acts token.now (act (MatchBlock (plain_expr subject.value) header_last) (view_span span) (view_suites suites) (kind_at token.now) (first_at token.now) (last_at token.now)) result }
+    ensures { ActsAt token.now (MatchBlock (boxed_expr subject) header_last) span suites result }
 {
     match &token.kind {
         TokenKind::Indent => {

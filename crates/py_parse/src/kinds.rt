@@ -1,14 +1,14 @@
 // Kinds of statements, in boxes, and what stands in boxes in them.
 
 ghost use Rattle.std.specs.Prelude.{◌≡◌, IfOk, option_map};
-ghost use Rattle.py_syntax.specs.View.{plain_expr, plain_exprs, plain_kind, plain_cases};
+ghost use Rattle.py_syntax.specs.View.{plain_expr, plain_exprs, plain_kind, plain_opt_suite};
 ghost use Rattle.py_syntax.specs.Tree.{aug_assign, assert, match};
 ghost use Rattle.py_parse.specs.Machine.{assigned, left};
-ghost use Rattle.py_parse.specs.ViewSuiteOf.{boxed_expr};
+ghost use Rattle.py_parse.specs.ViewSuiteOf.{boxed_expr, boxed_kind, of_match, try_of};
 
 use crate::lists::has_exprs;
-use crate::suite_of::{PartialMatch, SuiteOf};
-use py_syntax::{Expr, StmtKind};
+use crate::suite_of::{PartialMatch, PartialTry, SuiteOf};
+use py_syntax::{Expr, StmtKind, Suite};
 use py_value::{BinOp, NoMemory};
 use std::alloc::Global;
 
@@ -19,7 +19,7 @@ pub fn boxed(alloc: Global, kind: StmtKind) -> Result<Box<StmtKind>, NoMemory>
     Ok(Box::new(alloc, kind)?)
 }
 
-/// An owner in a box.
+/// What a suite belongs to in a box.
 pub fn boxed_suite_of(alloc: Global, suite_of: SuiteOf) -> Result<Box<SuiteOf>, NoMemory>
     ensures { IfOk result (λ b. b.value ≡ suite_of) }
 {
@@ -37,13 +37,14 @@ pub fn unboxed(expr: Option<Box<Expr>>) -> Option<Expr>
 }
 
 /// An assignment, or an expression statement where it has no targets.
-#[tactic(auto, using(crate::proofs::ViewKinds::assigned_some, crate::proofs::ViewKinds::assigned_none))]
+#[tactic(auto, using(crate::proofs::View::StmtKinds::assign_rules))]
 pub fn assigned(
     alloc: Global,
     targets: Vec<Expr>,
     value: Box<Expr>,
 ) -> Result<Box<StmtKind>, NoMemory>
-    ensures { IfOk result (λ k. plain_kind k.value ≡ assigned (plain_exprs targets.items) (plain_expr value.value)) }
+    ensures { IfOk result (λ k.
+        boxed_kind k ≡ assigned (plain_exprs targets.items) (boxed_expr value)) }
 {
     let value = Box::into_inner(value);
     if has_exprs(&targets) {
@@ -60,7 +61,8 @@ pub fn augmented(
     op: BinOp,
     value: Box<Expr>,
 ) -> Result<Box<StmtKind>, NoMemory>
-    ensures { IfOk result (λ k. plain_kind k.value ≡ aug_assign (plain_expr place.value) op (plain_expr value.value)) }
+    ensures { IfOk result (λ k.
+        boxed_kind k ≡ aug_assign (boxed_expr place) op (boxed_expr value)) }
 {
     let place = Box::into_inner(place);
     let value = Box::into_inner(value);
@@ -73,7 +75,7 @@ pub fn left(
     raises: bool,
     value: Option<Box<Expr>>,
 ) -> Result<Box<StmtKind>, NoMemory>
-    ensures { IfOk result (λ k. plain_kind k.value ≡ left raises (option_map boxed_expr value)) }
+    ensures { IfOk result (λ k. boxed_kind k ≡ left raises (option_map boxed_expr value)) }
 {
     let value = unboxed(value);
     if raises {
@@ -89,15 +91,29 @@ pub fn asserted(
     test: Box<Expr>,
     reason: Option<Box<Expr>>,
 ) -> Result<Box<StmtKind>, NoMemory>
-    ensures { IfOk result (λ k. plain_kind k.value ≡ assert (plain_expr test.value) (option_map boxed_expr reason)) }
+    ensures { IfOk result (λ k.
+        boxed_kind k ≡ assert (boxed_expr test) (option_map boxed_expr reason)) }
 {
     let test = Box::into_inner(test);
     boxed(alloc, StmtKind::Assert(test, unboxed(reason)))
 }
 
+/// A `try` with its clauses so far, and further suites.
+pub fn tried(partial_try: PartialTry, orelse: Option<Suite>, finally: Option<Suite>) -> StmtKind
+    ensures { plain_kind result
+        ≡ try_of partial_try (plain_opt_suite orelse) (plain_opt_suite finally) }
+{
+    StmtKind::Try {
+        body: partial_try.body,
+        clauses: partial_try.clauses,
+        orelse,
+        finally,
+    }
+}
+
 /// The `match` statement with its cases.
 pub fn matched(alloc: Global, partial_match: Box<PartialMatch>) -> Result<Box<StmtKind>, NoMemory>
-    ensures { IfOk result (λ k. plain_kind k.value ≡ match (plain_expr partial_match.value.subject) partial_match.value.header_last (plain_cases partial_match.value.cases.items)) }
+    ensures { IfOk result (λ k. boxed_kind k ≡ of_match match partial_match) }
 {
     let PartialMatch {
         subject,

@@ -4,8 +4,9 @@ ghost use Rattle.std.specs.Prelude.{◌≡◌};
 ghost use Rattle.py_token.specs.View.{view_kind};
 ghost use Rattle.py_syntax.specs.Kinds.{bare_kind};
 ghost use Rattle.py_syntax.specs.View.{plain_exprs, plain_arms, plain_clauses, plain_cases};
-ghost use Rattle.py_parse.specs.Machine.{is_some};
-ghost use Rattle.py_parse.specs.ViewLists.{some_exprs, some_arms, some_clauses, some_cases, IsNameIn, is_a, is_case};
+ghost use Rattle.py_parse.specs.Listed.{is_some};
+ghost use Rattle.py_parse.specs.ViewLists.{some_exprs, some_arms, some_clauses, some_cases};
+ghost use Rattle.py_parse.specs.ViewLists.{IsNameIn, is_a, is_case};
 ghost use Rattle.py_parse.specs.ViewStates.{kind_at};
 
 use crate::match_headers::is_case_name;

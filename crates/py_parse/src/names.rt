@@ -1,8 +1,9 @@
 // Listed names.
 
 ghost use Rattle.std.specs.Prelude.{◌≡◌};
-ghost use Rattle.py_parse.specs.Machine.{may_bind, after_name};
-ghost use Rattle.py_parse.specs.ViewStates.{kind_at, first_at, last_at, view_suites, view_span, view_listed, view_state, Makes};
+ghost use Rattle.py_parse.specs.Machine.{after_name};
+ghost use Rattle.py_parse.specs.Listed.{may_bind};
+ghost use Rattle.py_parse.specs.ViewStates.{view_listed, Continues};
 
 use crate::lists::{Class, is_a};
 use crate::places::{Listed, Place, State};
@@ -23,7 +24,7 @@ pub fn may_bind(names: &Listed) -> bool
 }
 
 /// After a listed name and what it is bound to.
-#[tactic(auto, using(crate::proofs::Acts::name_more, crate::proofs::Acts::name_ends))]
+#[tactic(auto, using(crate::proofs::View::Acts::name_rules))]
 pub fn after_name(
     alloc: Global,
     names: Listed,
@@ -31,7 +32,7 @@ pub fn after_name(
     suites: SuiteStack,
     token: &Token,
 ) -> Result<Option<State>, NoMemory>
-    ensures { Makes (after_name (view_listed names) (view_span span) (view_suites suites) (kind_at token.now) (last_at token.now)) result }
+    ensures { Continues token.now (after_name (view_listed names)) span suites result }
 {
     if is_a(token, Class::Comma) {
         return Ok(Some(State::At(Place::NameWanted(names), span.onward(token.last), suites)));

@@ -1,9 +1,11 @@
 // Places in the text of a module, with what was read in front of them.
 
 ghost use Rattle.std.specs.Prelude.{◌≡◌, IfOk};
-ghost use Rattle.py_syntax.specs.View.{plain_kind};
-ghost use Rattle.py_parse.specs.Machine.{act, listed, plain_step, with_name};
-ghost use Rattle.py_parse.specs.ViewStates.{kind_at, first_at, last_at, view_suites, view_span, view_listed, view_place, view_state, Acts, IsDone, Rests};
+ghost use Rattle.py_parse.specs.Machine.{plain_step};
+ghost use Rattle.py_parse.specs.Listed.{listed, with_name};
+ghost use Rattle.py_parse.specs.ViewStates.{view_listed, view_place, view_state, IsDone, Rests};
+ghost use Rattle.py_parse.specs.ViewStates.{ActsAt, Steps};
+ghost use Rattle.py_parse.specs.ViewSuiteOf.{boxed_kind};
 
 use crate::after_expression::after_param;
 use crate::in_statement::{
@@ -26,7 +28,8 @@ use std::alloc::Global;
 /// What an expression is for, with the parts of its statement in front of it.
 #[derive(Drop)]
 pub enum Continuation {
-    /// An expression statement, or the value of an assignment with these targets; or one more target.
+    /// An expression statement, or the value of an assignment with these targets; or one more
+    /// target.
     Value(Vec<Expr>),
     Augmented(Box<Expr>, BinOp),
     Leaving(bool),
@@ -187,7 +190,7 @@ pub enum Turn {
 impl Listed {
     /// The statement with these names.
     pub fn listed(self, alloc: Global) -> Result<Box<StmtKind>, NoMemory>
-        ensures { IfOk result (λ k. plain_kind k.value ≡ listed (view_listed self)) }
+        ensures { IfOk result (λ k. boxed_kind k ≡ listed (view_listed self)) }
     {
         match self {
             Listed::Globals(names) => boxed(alloc, StmtKind::Global(names)),
@@ -197,7 +200,7 @@ impl Listed {
     }
 
     /// A name more, with what it is bound to where `as` says so.
-    #[tactic(auto, using(crate::proofs::Views::aliases_snoc))]
+    #[tactic(auto, using(crate::proofs::View::OneMore::aliases_snoc))]
     pub fn with_name(self, name: Text, bound: Option<Text>) -> Result<Listed, NoMemory>
         ensures { IfOk result (λ l. view_listed l ≡ with_name (view_listed self) name bound) }
     {
@@ -230,7 +233,7 @@ impl Place {
         suites: SuiteStack,
         token: &Token,
     ) -> Result<Turn, NoMemory>
-        ensures { Acts token.now (act (view_place self) (view_span span) (view_suites suites) (kind_at token.now) (first_at token.now) (last_at token.now)) result }
+        ensures { ActsAt token.now (view_place self) span suites result }
     {
         match self {
             Place::Wanted(resume) => Ok(Turn::Reads(resume, span.onward(token.last), suites)),
@@ -274,7 +277,7 @@ impl Place {
 impl State {
     /// A token at which no header of a `match` begins.
     pub fn plain_step(self, alloc: Global, token: &Token) -> Result<Turn, NoMemory>
-        ensures { Acts token.now (plain_step (view_state self) (kind_at token.now) (first_at token.now) (last_at token.now)) result }
+        ensures { Steps token.now (plain_step (view_state self)) result }
     {
         match self {
             State::Line(suites) => line(alloc, suites, token),

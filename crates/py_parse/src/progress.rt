@@ -1,15 +1,17 @@
 // The reading of a list of tokens, from a place to a later one.
 
-ghost use Rattle.std.specs.Prelude.{◌≡◌, ◌≤◌, ◌<◌, length, option_map};
+ghost use Rattle.std.specs.Prelude.{◌≡◌, ◌≤◌, ◌<◌, length};
 ghost use Rattle.py_token.specs.View.{view_tokens};
-ghost use Rattle.py_syntax.specs.View.{plain_expr, plain_cases, plain_pattern};
+ghost use Rattle.py_syntax.specs.View.{plain_pattern};
 ghost use Rattle.py_parse.specs.Machine.{ColonWanted, goal, resume, resume_pattern, wanted};
 ghost use Rattle.py_parse.specs.Levels.{begins_at, level};
-ghost use Rattle.py_parse.specs.Refusal.{IsUnexpected, HasDeepSuites, HasDeepExpressions, IsRefused, line_of};
+ghost use Rattle.py_parse.specs.Refusal.{IsUnexpected, HasDeepSuites, HasDeepExpressions};
+ghost use Rattle.py_parse.specs.Refusal.{IsRefused, line_of};
 ghost use Rattle.py_parse_expr.specs.ExprReads.{goal_of};
-ghost use Rattle.py_parse.specs.ViewSuiteOf.{view_suite_of};
-ghost use Rattle.py_parse.specs.ViewStates.{view_suites, view_span, view_place, view_continuation, view_state};
-ghost use Rattle.py_parse.specs.Progress.{StandsAt, Turns, ReadsFrom, MatchesFrom, Resumes, Advances};
+ghost use Rattle.py_parse.specs.ViewSuiteOf.{view_suite_of, boxed_expr, of_match};
+ghost use Rattle.py_parse.specs.ViewStates.{view_place, view_continuation, view_state};
+ghost use Rattle.py_parse.specs.Progress.{StandsAt, Advances, MatchesThere, ReadsThere, ResumesBy};
+ghost use Rattle.py_parse.specs.Progress.{Takes};
 
 use crate::after_expression::{resume, resume_pattern};
 use crate::error::{DepthKind, SyntaxError};
@@ -35,7 +37,7 @@ pub struct Progress {
 }
 
 /// The line of a refusal at a place.
-#[tactic(auto, using(crate::proofs::Turning::line_inside, crate::proofs::Turning::line_none, crate::proofs::Turning::line_after))]
+#[tactic(auto, using(crate::proofs::View::Turning::line_at_rules))]
 pub fn line_at(tokens: &[Token], place: usize) -> u32
     requires { place ≤ length tokens.now }
     ensures { result ≡ line_of (view_tokens tokens.now) place }
@@ -76,7 +78,7 @@ fn too_high(tokens: &[Token], place: usize) -> SyntaxError
 
 impl Continuation {
     /// Whether a compound statement has just begun, where the expression begins.
-    #[tactic(auto, using(crate::proofs::ViewKinds::begins_arms))]
+    #[tactic(auto, using(crate::proofs::View::StmtKinds::begins_arms))]
     fn begins(&self) -> bool
         ensures { result ≡ begins_at (wanted (view_continuation self.now)) }
     {
@@ -148,7 +150,7 @@ fn begins(place: &Place) -> bool
 }
 
 /// How many suites are open, with the one that a compound statement opens where it has just begun.
-#[tactic(auto, using(crate::proofs::Views::open_count_is))]
+#[tactic(auto, using(crate::proofs::View::OneMore::open_count_is))]
 fn level(state: &State) -> usize
     ensures { result ≡ level (view_state state.now) }
 {
@@ -170,7 +172,7 @@ fn level(state: &State) -> usize
 /// The place after a token, where the token is taken.
 fn moved(tokens: &[Token], place: usize, state: Option<State>) -> Result<Progress, SyntaxError>
     requires inside { place < length tokens.now }
-    requires turns { Turns (view_tokens tokens.now) place (λ t o. o ≡ option_map view_state state) }
+    requires turns { Takes tokens.now place state }
     ensures { Advances (view_tokens tokens.now) place result }
 {
     let Some(state) = state else {
@@ -213,7 +215,7 @@ fn part_of(resume: &Continuation) -> ExprPart
 }
 
 /// After an expression.
-#[tactic(auto, using(crate::proofs::Answering::later_still, crate::proofs::Answering::goes_later, crate::proofs::Answering::token_after, crate::proofs::Answering::token_before, crate::proofs::Answering::not_first, crate::proofs::Answering::for_memory))]
+#[tactic(auto, using(crate::proofs::View::Answering::after_rules))]
 fn after_expression(
     alloc: Global,
     tokens: &[Token],
@@ -223,7 +225,8 @@ fn after_expression(
     suites: SuiteStack,
     read: ExprRead,
 ) -> Result<Progress, SyntaxError>
-    requires { Resumes (view_tokens tokens.now) place read.next (λ m k l. resume (view_continuation purpose) (plain_expr read.expr.value) m (view_suites suites) k l) (view_span span) }
+    requires { ResumesBy tokens.now place read.next
+        (resume (view_continuation purpose) (boxed_expr read.expr)) span suites }
     ensures { Advances (view_tokens tokens.now) place result }
 {
     let span = span.onward(tokens[read.next - 1].last);
@@ -233,7 +236,7 @@ fn after_expression(
 }
 
 /// Reads an expression, and the token after it.
-#[tactic(auto, using(crate::proofs::Answering::expression_inside))]
+#[tactic(auto, using(crate::proofs::View::Answering::expression_inside))]
 fn expression(
     alloc: Global,
     tokens: &[Token],
@@ -243,7 +246,7 @@ fn expression(
     suites: SuiteStack,
 ) -> Result<Progress, SyntaxError>
     requires inside { place < length tokens.now }
-    requires begins { ReadsFrom (view_tokens tokens.now) place (view_continuation purpose) (view_span span) (view_suites suites) }
+    requires begins { ReadsThere tokens.now place purpose span suites }
     ensures { Advances (view_tokens tokens.now) place result }
 {
     match read_expr(alloc, tokens, place, part_of(&purpose)) {
@@ -264,7 +267,7 @@ fn expression(
 }
 
 /// After the pattern of a `case`.
-#[tactic(auto, using(crate::proofs::Answering::later_still, crate::proofs::Answering::goes_later, crate::proofs::Answering::token_after, crate::proofs::Answering::token_before, crate::proofs::Answering::not_first))]
+#[tactic(auto, using(crate::proofs::View::Answering::later_rules))]
 fn after_pattern(
     alloc: Global,
     tokens: &[Token],
@@ -274,7 +277,8 @@ fn after_pattern(
     suites: SuiteStack,
     read: PatternRead,
 ) -> Result<Progress, SyntaxError>
-    requires { Resumes (view_tokens tokens.now) place read.next (λ m k l. resume_pattern (plain_expr partial_match.value.subject) partial_match.value.header_last (plain_cases partial_match.value.cases.items) (plain_pattern read.pattern) m (view_suites suites) k l) (view_span span) }
+    requires { ResumesBy tokens.now place read.next
+        (of_match resume_pattern partial_match (plain_pattern read.pattern)) span suites }
     ensures { Advances (view_tokens tokens.now) place result }
 {
     let span = span.onward(tokens[read.next - 1].last);
@@ -287,7 +291,7 @@ fn after_pattern(
 }
 
 /// Reads the pattern of a `case`, and the token after it.
-#[tactic(auto, using(crate::proofs::Answering::pattern_inside))]
+#[tactic(auto, using(crate::proofs::View::Answering::pattern_inside))]
 fn pattern(
     alloc: Global,
     tokens: &[Token],
@@ -297,7 +301,7 @@ fn pattern(
     suites: SuiteStack,
 ) -> Result<Progress, SyntaxError>
     requires inside { place < length tokens.now }
-    requires begins { MatchesFrom (view_tokens tokens.now) place (plain_expr partial_match.value.subject) partial_match.value.header_last (plain_cases partial_match.value.cases.items) (view_span span) (view_suites suites) }
+    requires begins { MatchesThere tokens.now place partial_match span suites }
     ensures { Advances (view_tokens tokens.now) place result }
 {
     match read_patterns(alloc, tokens, place) {
@@ -308,8 +312,9 @@ fn pattern(
     }
 }
 
-/// Goes on by a token, and where it begins an expression or a pattern after that and the token there.
-#[tactic(auto, using(crate::proofs::Turning::reading_turn, crate::proofs::Turning::matching_turn, crate::proofs::HeaderPlaces::header_match, crate::proofs::Answering::for_memory))]
+/// Goes on by a token, and where it begins an expression or a pattern after that and the token
+/// there.
+#[tactic(auto, using(crate::proofs::View::Answering::turn_rules))]
 pub fn advance(
     alloc: Global,
     tokens: &[Token],

@@ -1,11 +1,10 @@
 // Statements, lines and suites end.
 
-ghost use Rattle.std.specs.Prelude.{◌≡◌, IfOk, option_map, true};
-ghost use Rattle.py_syntax.specs.View.{plain_kind};
+ghost use Rattle.std.specs.Prelude.{◌≡◌, IfOk, true};
 ghost use Rattle.py_parse.specs.Machine.{close, over_line, end_simple, end_header};
 ghost use Rattle.py_parse.specs.Open.{add};
-ghost use Rattle.py_parse.specs.ViewSuiteOf.{view_suite_of};
-ghost use Rattle.py_parse.specs.ViewStates.{kind_at, first_at, last_at, view_suites, view_span, view_state, Makes};
+ghost use Rattle.py_parse.specs.ViewStates.{view_suites, view_state, Continues, ContinuesTo};
+ghost use Rattle.py_parse.specs.ViewSuiteOf.{boxed_kind, boxed_suite_of};
 
 use crate::lists::{Class, is_a};
 use crate::places::{Place, State};
@@ -17,7 +16,7 @@ use py_value::NoMemory;
 use std::alloc::Global;
 
 /// A suite ends with a token whose last line is this.
-#[tactic(auto, using(crate::proofs::Acts::close_top, crate::proofs::Acts::close_inside))]
+#[tactic(auto, using(crate::proofs::View::Acts::close_rules))]
 pub fn close(alloc: Global, suites: SuiteStack, last: u32) -> Result<State, NoMemory>
     ensures { IfOk result (λ s. view_state s ≡ close (view_suites suites) last) }
 {
@@ -43,7 +42,7 @@ pub fn close(alloc: Global, suites: SuiteStack, last: u32) -> Result<State, NoMe
 }
 
 /// A line ends, and a suite that shares it.
-#[tactic(auto, using(crate::proofs::Acts::shared_line, crate::proofs::Acts::own_line))]
+#[tactic(auto, using(crate::proofs::View::Acts::line_over_rules))]
 fn over_line(alloc: Global, suites: SuiteStack, last: u32) -> Result<State, NoMemory>
     ensures { IfOk result (λ s. view_state s ≡ over_line (view_suites suites) last) }
 {
@@ -63,7 +62,9 @@ pub fn end_line(
     suites: SuiteStack,
     last: u32,
 ) -> Result<State, NoMemory>
-    ensures { IfOk result (λ s. view_state s ≡ over_line (add (view_suites suites) span.begun span.last (plain_kind kind.value) (record { semicolon = semicolon; newline = true })) last) }
+    ensures { IfOk result (λ s. view_state s ≡ over_line (add (view_suites suites)
+        span.begun span.last (boxed_kind kind)
+        (record { semicolon = semicolon; newline = true })) last) }
 {
     let suites = add(
         suites,
@@ -79,7 +80,7 @@ pub fn end_line(
 }
 
 /// A simple statement is whole.
-#[tactic(auto, using(crate::proofs::Acts::simple_semicolon, crate::proofs::Acts::simple_newline, crate::proofs::Acts::simple_goes_on))]
+#[tactic(auto, using(crate::proofs::View::Acts::simple_rules))]
 pub fn end_simple(
     alloc: Global,
     kind: Box<StmtKind>,
@@ -87,7 +88,7 @@ pub fn end_simple(
     suites: SuiteStack,
     token: &Token,
 ) -> Result<Option<State>, NoMemory>
-    ensures { Makes (end_simple (plain_kind kind.value) (view_span span) (view_suites suites) (kind_at token.now) (last_at token.now)) result }
+    ensures { Continues token.now (end_simple (boxed_kind kind)) span suites result }
 {
     if is_a(token, Class::Semicolon) {
         return Ok(Some(State::At(Place::Semicolon(kind), span, suites)));
@@ -106,7 +107,7 @@ pub fn end_header(
     suites: SuiteStack,
     token: &Token,
 ) -> Option<State>
-    ensures { end_header (view_suite_of suite_of.value) (view_span span) (view_suites suites) (kind_at token.now) (last_at token.now) ≡ option_map view_state result }
+    ensures { ContinuesTo token.now (end_header (boxed_suite_of suite_of)) span suites result }
 {
     match &token.kind {
         TokenKind::Mark(Mark::Colon) => {

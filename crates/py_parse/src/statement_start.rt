@@ -1,8 +1,10 @@
 // Statements begin.
 
-ghost use Rattle.std.specs.Prelude.{◌≡◌, Some, None, IfOk};
-ghost use Rattle.py_parse.specs.Machine.{simple_place, compound_place, begin_simple, begin_line, line};
-ghost use Rattle.py_parse.specs.ViewStates.{kind_at, first_at, last_at, view_suites, view_place, view_span, Acts, MakesPlace};
+ghost use Rattle.std.specs.Prelude.{◌≡◌};
+ghost use Rattle.py_parse.specs.Machine.{simple_place, compound_place, begin_simple, begin_line};
+ghost use Rattle.py_parse.specs.Machine.{line};
+ghost use Rattle.py_parse.specs.ViewStates.{kind_at, first_at, last_at, view_suites, MakesPlace};
+ghost use Rattle.py_parse.specs.ViewStates.{Steps};
 
 use crate::kinds::{boxed, boxed_suite_of};
 use crate::lists::{Class, is_a};
@@ -76,7 +78,7 @@ fn compound_place(alloc: Global, token: &Token) -> Result<Option<Place>, NoMemor
 
 /// A simple statement begins with the token.
 pub fn begin_simple(alloc: Global, suites: SuiteStack, token: &Token) -> Result<Turn, NoMemory>
-    ensures { Acts token.now (begin_simple (view_suites suites) (kind_at token.now) (first_at token.now) (last_at token.now)) result }
+    ensures { Steps token.now (begin_simple (view_suites suites)) result }
 {
     let span = begun_at(token);
     match simple_place(alloc, token)? {
@@ -87,7 +89,7 @@ pub fn begin_simple(alloc: Global, suites: SuiteStack, token: &Token) -> Result<
 
 /// Any statement but a `match`.
 fn begin_line(alloc: Global, suites: SuiteStack, token: &Token) -> Result<Turn, NoMemory>
-    ensures { Acts token.now (begin_line (view_suites suites) (kind_at token.now) (first_at token.now) (last_at token.now)) result }
+    ensures { Steps token.now (begin_line (view_suites suites)) result }
 {
     match compound_place(alloc, token)? {
         Some(place) => Ok(Turn::Next(State::At(place, begun_at(token), suites))),
@@ -96,9 +98,9 @@ fn begin_line(alloc: Global, suites: SuiteStack, token: &Token) -> Result<Turn, 
 }
 
 /// A token comes on a new line.
-#[tactic(auto, using(crate::proofs::Acts::line_over, crate::proofs::Acts::line_closes, crate::proofs::Acts::line_begins))]
+#[tactic(auto, using(crate::proofs::View::Acts::line_rules))]
 pub fn line(alloc: Global, suites: SuiteStack, token: &Token) -> Result<Turn, NoMemory>
-    ensures { Acts token.now (line (view_suites suites) (kind_at token.now) (first_at token.now) (last_at token.now)) result }
+    ensures { Steps token.now (line (view_suites suites)) result }
 {
     if is_a(token, Class::End) && suites.is_top() {
         return Ok(Turn::Next(State::Over(suites.body)));

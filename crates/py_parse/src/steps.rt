@@ -1,10 +1,11 @@
 // Steps from a state.
 
-ghost use Rattle.std.specs.Prelude.{◌≡◌, true, option_map};
+ghost use Rattle.std.specs.Prelude.{◌≡◌, true};
 ghost use Rattle.py_syntax.specs.Headers.{is_match};
-ghost use Rattle.py_syntax.specs.View.{plain_expr, plain_kind, plain_cases};
-ghost use Rattle.py_parse.specs.Machine.{After, begun, choose, at_line, header_step, plain_step, step};
-ghost use Rattle.py_parse.specs.ViewStates.{kind_at, first_at, last_at, view_suites, view_state, Acts, Makes, Rests};
+ghost use Rattle.py_parse.specs.Machine.{After, begun, choose, at_line, header_step, plain_step};
+ghost use Rattle.py_parse.specs.ViewStates.{kind_at, first_at, last_at, view_suites, view_state};
+ghost use Rattle.py_parse.specs.ViewStates.{Makes, Rests, Steps, step_marked};
+ghost use Rattle.py_parse.specs.ViewSuiteOf.{boxed_kind, of_match};
 
 use crate::after_suite::{Part, is_whole, next_part};
 use crate::kinds::matched;
@@ -29,7 +30,7 @@ pub fn begun(alloc: Global) -> State
 }
 
 /// Between the cases of a `match`, in its block.
-#[tactic(auto, using(crate::proofs::Acts::choose_ends, crate::proofs::Acts::choose_empty, crate::proofs::Acts::choose_case, crate::proofs::Acts::choose_other))]
+#[tactic(auto, using(crate::proofs::View::Acts::choice_rules))]
 pub fn choose(
     alloc: Global,
     partial_match: Box<PartialMatch>,
@@ -37,7 +38,8 @@ pub fn choose(
     suites: SuiteStack,
     token: &Token,
 ) -> Result<Option<State>, NoMemory>
-    ensures { Makes (choose (plain_expr partial_match.value.subject) partial_match.value.header_last (plain_cases partial_match.value.cases.items) first (view_suites suites) (kind_at token.now) (first_at token.now) (last_at token.now)) result }
+    ensures { Makes (of_match choose partial_match first (view_suites suites)
+        (kind_at token.now) (first_at token.now) (last_at token.now)) result }
 {
     if is_a(token, Class::Dedent) {
         if !has_cases(&partial_match.cases) {
@@ -58,14 +60,14 @@ pub fn choose(
 }
 
 /// A compound statement is put into its block, where it has all that it needs.
-#[tactic(auto, using(crate::proofs::Stepping::whole_put, crate::proofs::Stepping::part_waits))]
+#[tactic(auto, using(crate::proofs::View::Stepping::put_rules))]
 pub fn put(
     kind: Box<StmtKind>,
     first: u32,
     last: u32,
     suites: SuiteStack,
 ) -> Result<Option<SuiteStack>, NoMemory>
-    ensures { Rests (After (plain_kind kind.value) first last (view_suites suites)) result }
+    ensures { Rests (After (boxed_kind kind) first last (view_suites suites)) result }
 {
     if !is_whole(&kind) {
         drop(kind);
@@ -84,7 +86,7 @@ pub fn put(
 }
 
 /// The token after a suite.
-#[tactic(auto, using(crate::proofs::Stepping::part_begins, crate::proofs::Stepping::part_over, crate::proofs::Stepping::part_stuck))]
+#[tactic(auto, using(crate::proofs::View::Stepping::part_rules))]
 pub fn after(
     alloc: Global,
     kind: Box<StmtKind>,
@@ -93,7 +95,8 @@ pub fn after(
     suites: SuiteStack,
     token: &Token,
 ) -> Result<Turn, NoMemory>
-    ensures { Acts token.now (plain_step (After (plain_kind kind.value) first last (view_suites suites)) (kind_at token.now) (first_at token.now) (last_at token.now)) result }
+    ensures { Steps token.now
+        (plain_step (After (boxed_kind kind) first last (view_suites suites))) result }
 {
     match next_part(alloc, kind, token)? {
         Part::Next(place) => {
@@ -112,10 +115,10 @@ pub fn after(
 }
 
 /// The header of a `match` begins with the token.
-#[tactic(auto, using(crate::proofs::Stepping::header_begins, crate::proofs::Stepping::header_stuck))]
+#[tactic(auto, using(crate::proofs::View::Stepping::header_rules))]
 fn header_step(state: State, token: &Token) -> Result<Turn, NoMemory>
     requires { is_match (kind_at token.now) ≡ true }
-    ensures { Acts token.now (header_step (at_line (view_state state)) (kind_at token.now) (first_at token.now) (last_at token.now)) result }
+    ensures { Steps token.now (header_step (at_line (view_state state))) result }
 {
     match state.at_line()? {
         Some(suites) => {
@@ -127,10 +130,10 @@ fn header_step(state: State, token: &Token) -> Result<Turn, NoMemory>
 }
 
 /// A step, where it is known whether the header of a `match` begins with the token.
-#[tactic(auto, using(crate::proofs::Stepping::header_steps, crate::proofs::Stepping::plain_steps))]
+#[tactic(auto, using(crate::proofs::View::Stepping::step_rules))]
 pub fn step(alloc: Global, state: State, token: &Token, header: bool) -> Result<Turn, NoMemory>
     requires { header ≡ true → is_match (kind_at token.now) ≡ true }
-    ensures { Acts token.now (step (view_state state) (record { kind = kind_at token.now; header = header }) (first_at token.now) (last_at token.now)) result }
+    ensures { Steps token.now (step_marked (view_state state) header) result }
 {
     if header {
         header_step(state, token)

@@ -1,14 +1,16 @@
-// What an open suite belongs to: a part of a compound statement, with what was read of the statement before it.
+// What an open suite belongs to: a part of a compound statement, with what was read of the
+// statement before it.
 
-ghost use Rattle.std.specs.Prelude.{◌≡◌, Some, None, IfOk, option_map};
-ghost use Rattle.py_syntax.specs.Tree.{no_suite, for, try, def, match};
-ghost use Rattle.py_syntax.specs.View.{plain_expr, plain_exprs, plain_pattern, plain_kind, plain_suite, plain_arms, plain_clauses, plain_cases};
-ghost use Rattle.py_parse.specs.Open.{snoc_arm, snoc_clause, snoc_case, with_else, closed};
-ghost use Rattle.py_parse.specs.Machine.{Choosing, over_suite};
-ghost use Rattle.py_parse.specs.ViewSuiteOf.{boxed_expr, view_suite_of};
+ghost use Rattle.std.specs.Prelude.{◌≡◌, IfOk, option_map};
+ghost use Rattle.py_syntax.specs.View.{plain_expr, plain_pattern, plain_kind, plain_suite};
+ghost use Rattle.py_syntax.specs.View.{plain_arms, plain_clauses, plain_cases};
+ghost use Rattle.py_parse.specs.Open.{a_for, with_else, closed, snoc_arm, snoc_clause, snoc_case};
+ghost use Rattle.py_parse.specs.Machine.{case_closed, over_suite};
+ghost use Rattle.py_parse.specs.ViewSuiteOf.{boxed_expr, boxed_pattern, view_else_of};
+ghost use Rattle.py_parse.specs.ViewSuiteOf.{view_suite_of, of_match, clause_of, def_of, case_of};
 ghost use Rattle.py_parse.specs.ViewStates.{view_suites, view_state};
 
-use crate::kinds::{boxed, unboxed};
+use crate::kinds::{boxed, tried, unboxed};
 use crate::places::State;
 use crate::suite_stack::SuiteStack;
 use py_syntax::{Arm, Case, Clause, Expr, Pattern, StmtKind, Suite};
@@ -38,6 +40,32 @@ pub struct Signature {
     pub defaults: Vec<Expr>,
 }
 
+/// A statement that may take an `else`, and has none yet.
+pub enum ElseOf {
+    If(Vec<Arm>),
+    While(Expr, Suite),
+    For(Expr, Expr, Suite),
+    Try(PartialTry),
+}
+
+impl Drop for ElseOf {
+    fn drop(self) {
+        match self {
+            ElseOf::If(arms) => drop(arms),
+            ElseOf::While(test, body) => {
+                drop(test);
+                drop(body)
+            }
+            ElseOf::For(target, over, body) => {
+                drop(target);
+                drop(over);
+                drop(body)
+            }
+            ElseOf::Try(partial_try) => drop(partial_try),
+        }
+    }
+}
+
 /// What an open suite belongs to.
 pub enum SuiteOf {
     Arm(Vec<Arm>, Box<Expr>),
@@ -45,8 +73,7 @@ pub enum SuiteOf {
     For(Box<Expr>, Box<Expr>),
     Try,
     Clause(PartialTry, Option<Box<Expr>>, Option<Text>),
-    /// The `else` of a statement that has none yet.
-    Else(Box<StmtKind>),
+    Else(ElseOf),
     Finally(PartialTry, Option<Suite>),
     Def(Signature, bool),
     Case(Box<PartialMatch>, Box<Pattern>, Option<Box<Expr>>),
@@ -70,7 +97,7 @@ impl Drop for SuiteOf {
                 drop(kind);
                 drop(bound)
             }
-            SuiteOf::Else(kind) => drop(kind),
+            SuiteOf::Else(else_of) => drop(else_of),
             SuiteOf::Finally(partial_try, orelse) => {
                 drop(partial_try);
                 drop(orelse)
@@ -85,23 +112,23 @@ impl Drop for SuiteOf {
     }
 }
 
-#[tactic(auto, using(crate::proofs::Views::arms_snoc))]
 fn add_arm(arms: Vec<Arm>, test: Expr, body: Suite) -> Result<Vec<Arm>, NoMemory>
-    ensures { IfOk result (λ r. plain_arms r.items ≡ snoc_arm (plain_arms arms.items) (plain_expr test) (plain_suite body)) }
+    ensures { IfOk result (λ r. plain_arms r.items
+        ≡ snoc_arm (plain_arms arms.items) (plain_expr test) (plain_suite body)) }
 {
     let mut arms = arms;
     arms.push(Arm { test, body })?;
     Ok(arms)
 }
 
-#[tactic(auto, using(crate::proofs::Views::clauses_snoc))]
 fn add_clause(
     clauses: Vec<Clause>,
     kind: Option<Expr>,
     name: Option<Text>,
     body: Suite,
 ) -> Result<Vec<Clause>, NoMemory>
-    ensures { IfOk result (λ r. plain_clauses r.items ≡ snoc_clause (plain_clauses clauses.items) (option_map plain_expr kind) name (plain_suite body)) }
+    ensures { IfOk result (λ r. plain_clauses r.items ≡ snoc_clause (plain_clauses clauses.items)
+        (option_map plain_expr kind) name (plain_suite body)) }
 {
     let mut clauses = clauses;
     clauses.push(Clause { kind, name, body })?;
@@ -109,14 +136,14 @@ fn add_clause(
 }
 
 /// A case more.
-#[tactic(auto, using(crate::proofs::Views::cases_snoc))]
 fn add_case(
     cases: Vec<Case>,
     pattern: Pattern,
     guard: Option<Expr>,
     body: Suite,
 ) -> Result<Vec<Case>, NoMemory>
-    ensures { IfOk result (λ r. plain_cases r.items ≡ snoc_case (plain_cases cases.items) (plain_pattern pattern) (option_map plain_expr guard) (plain_suite body)) }
+    ensures { IfOk result (λ r. plain_cases r.items ≡ snoc_case (plain_cases cases.items)
+        (plain_pattern pattern) (option_map plain_expr guard) (plain_suite body)) }
 {
     let mut cases = cases;
     cases.push(Case {
@@ -127,63 +154,38 @@ fn add_case(
     Ok(cases)
 }
 
-#[tactic(auto, using(crate::proofs::ViewKinds::else_if, crate::proofs::ViewKinds::else_while, crate::proofs::ViewKinds::else_for, crate::proofs::ViewKinds::else_try))]
-fn with_else(kind: StmtKind, suite: Suite) -> StmtKind
-    ensures { plain_kind result ≡ with_else (plain_kind kind) (plain_suite suite) }
-{
-    match kind {
-        StmtKind::If { arms, .. } => StmtKind::If {
-            arms,
-            orelse: Some(suite),
-        },
-        StmtKind::While { test, body, .. } => StmtKind::While {
-            test,
-            body,
-            orelse: Some(suite),
-        },
-        StmtKind::For {
-            target,
-            over,
-            body,
-            ..
-        } => StmtKind::For {
-            target,
-            over,
-            body,
-            orelse: Some(suite),
-        },
-        StmtKind::Try {
-            body,
-            clauses,
-            finally,
-            ..
-        } => StmtKind::Try {
-            body,
-            clauses,
-            orelse: Some(suite),
-            finally,
-        },
-        other @ (StmtKind::Expr(_)
-        | StmtKind::Assign { .. }
-        | StmtKind::AugAssign { .. }
-        | StmtKind::Pass
-        | StmtKind::Break
-        | StmtKind::Continue
-        | StmtKind::Return(_)
-        | StmtKind::Raise(_)
-        | StmtKind::Assert(_, _)
-        | StmtKind::Global(_)
-        | StmtKind::Import(_)
-        | StmtKind::From(_, _)
-        | StmtKind::Def { .. }
-        | StmtKind::Match { .. }) => other,
+impl ElseOf {
+    /// The statement with its `else` suite.
+    #[tactic(auto, using(crate::proofs::View::StmtKinds::else_rules))]
+    fn with_else(self, suite: Suite) -> StmtKind
+        ensures { plain_kind result ≡ with_else (view_else_of self) (plain_suite suite) }
+    {
+        match self {
+            ElseOf::If(arms) => StmtKind::If {
+                arms,
+                orelse: Some(suite),
+            },
+            ElseOf::While(test, body) => StmtKind::While {
+                test,
+                body,
+                orelse: Some(suite),
+            },
+            ElseOf::For(target, over, body) => StmtKind::For {
+                target,
+                over,
+                body,
+                orelse: Some(suite),
+            },
+            ElseOf::Try(partial_try) => tried(partial_try, Some(suite), None),
+        }
     }
 }
 
 /// A `for` with its suite.
-#[tactic(auto, using(crate::proofs::ViewKinds::looped_is))]
+#[tactic(auto, using(crate::proofs::View::StmtKinds::looped_is))]
 fn looped(target: Box<Expr>, over: Box<Expr>, body: Suite) -> StmtKind
-    ensures { plain_kind result ≡ for (plain_expr target.value) (plain_expr over.value) (plain_suite body) no_suite }
+    ensures { plain_kind result
+        ≡ closed (a_for (boxed_expr target) (boxed_expr over)) (plain_suite body) }
 {
     StmtKind::For {
         target: Box::into_inner(target),
@@ -200,7 +202,8 @@ fn handled(
     bound: Option<Text>,
     suite: Suite,
 ) -> Result<StmtKind, NoMemory>
-    ensures { IfOk result (λ k. plain_kind k ≡ try (plain_suite partial_try.body) (snoc_clause (plain_clauses partial_try.clauses.items) (option_map plain_expr kind) bound (plain_suite suite)) no_suite no_suite) }
+    ensures { IfOk result (λ k. plain_kind k ≡ closed
+        (clause_of partial_try (option_map plain_expr kind) bound) (plain_suite suite)) }
 {
     let clauses = add_clause(partial_try.clauses, kind, bound, suite)?;
     Ok(StmtKind::Try {
@@ -213,7 +216,7 @@ fn handled(
 
 /// A `def` with its body.
 fn defined(signature: Signature, comma: bool, body: Suite) -> StmtKind
-    ensures { plain_kind result ≡ def signature.name signature.params.items (plain_exprs signature.defaults.items) comma (plain_suite body) }
+    ensures { plain_kind result ≡ closed (def_of signature comma) (plain_suite body) }
 {
     StmtKind::Def {
         name: signature.name,
@@ -231,7 +234,9 @@ fn chosen(
     guard: Option<Box<Expr>>,
     suite: Suite,
 ) -> Result<StmtKind, NoMemory>
-    ensures { IfOk result (λ k. plain_kind k ≡ match (plain_expr partial_match.value.subject) partial_match.value.header_last (snoc_case (plain_cases partial_match.value.cases.items) (plain_pattern pattern.value) (option_map boxed_expr guard) (plain_suite suite))) }
+    ensures { IfOk result (λ k. plain_kind k ≡ closed
+        (case_of partial_match (boxed_pattern pattern) (option_map boxed_expr guard))
+        (plain_suite suite)) }
 {
     let PartialMatch {
         subject,
@@ -256,7 +261,9 @@ fn choosing(
     begun: u32,
     outer: SuiteStack,
 ) -> Result<State, NoMemory>
-    ensures { IfOk result (λ s. view_state s ≡ Choosing (plain_expr partial_match.value.subject) partial_match.value.header_last (snoc_case (plain_cases partial_match.value.cases.items) (plain_pattern pattern.value) (option_map boxed_expr guard) (plain_suite suite)) begun (view_suites outer)) }
+    ensures { IfOk result (λ s. view_state s ≡ of_match case_closed partial_match
+        (boxed_pattern pattern) (option_map boxed_expr guard) (plain_suite suite)
+        begun (view_suites outer)) }
 {
     let PartialMatch {
         subject,
@@ -275,7 +282,8 @@ fn choosing(
 impl SuiteOf {
     /// The statement so far, where the suite is closed.
     fn closed(self, alloc: Global, suite: Suite) -> Result<StmtKind, NoMemory>
-        ensures { IfOk result (λ k. plain_kind k ≡ closed (view_suite_of self) (plain_suite suite)) }
+        ensures { IfOk result (λ k.
+            plain_kind k ≡ closed (view_suite_of self) (plain_suite suite)) }
     {
         match self {
             SuiteOf::Arm(arms, test) => Ok(StmtKind::If {
@@ -300,7 +308,7 @@ impl SuiteOf {
                 bound,
                 suite,
             ),
-            SuiteOf::Else(kind) => Ok(with_else(Box::into_inner(kind), suite)),
+            SuiteOf::Else(else_of) => Ok(else_of.with_else(suite)),
             SuiteOf::Finally(partial_try, orelse) => Ok(StmtKind::Try {
                 body: partial_try.body,
                 clauses: partial_try.clauses,
@@ -326,7 +334,8 @@ impl SuiteOf {
         last: u32,
         outer: SuiteStack,
     ) -> Result<State, NoMemory>
-        ensures { IfOk result (λ s. view_state s ≡ over_suite (view_suite_of self) (plain_suite suite) begun last (view_suites outer)) }
+        ensures { IfOk result (λ s. view_state s
+            ≡ over_suite (view_suite_of self) (plain_suite suite) begun last (view_suites outer)) }
     {
         match self {
             suite_of @ (SuiteOf::Arm(..)

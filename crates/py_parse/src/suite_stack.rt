@@ -1,19 +1,21 @@
 // Open suites, with the statements that were read in them.
 
-ghost use Rattle.std.specs.Prelude.{◌≡◌, ◌≤◌, length, IfOk};
+ghost use Rattle.std.specs.Prelude.{◌≡◌, IfOk};
 ghost use Rattle.py_syntax.specs.Tree.{no_stmts};
-ghost use Rattle.py_syntax.specs.View.{plain_kind, plain_stmts};
+ghost use Rattle.py_syntax.specs.View.{plain_stmts};
 ghost use Rattle.py_parse.specs.Open.{inside, add};
 ghost use Rattle.py_parse.specs.Machine.{onward};
-ghost use Rattle.py_parse.specs.ViewSuiteOf.{view_suite_of};
-ghost use Rattle.py_parse.specs.ViewStates.{view_span, view_suites, Opens, SharesLine, is_closable, is_top};
+ghost use Rattle.py_parse.specs.ViewSuiteOf.{boxed_kind, boxed_suite_of};
+ghost use Rattle.py_parse.specs.ViewStates.{view_span, view_suites, Opens, SharesLine, is_closable};
+ghost use Rattle.py_parse.specs.ViewStates.{is_top};
 
 use crate::suite_of::SuiteOf;
 use py_syntax::{LineEnd, Stmt, StmtKind};
 use py_value::NoMemory;
 use std::alloc::Global;
 
-/// The first lines of a statement and of the part of it that is read, and the last line of that part so far.
+/// The first lines of a statement and of the part of it that is read, and the last line of that
+/// part so far.
 #[derive(Clone, Copy)]
 pub struct Span {
     pub begun: u32,
@@ -34,7 +36,8 @@ impl Span {
     }
 }
 
-/// A suite that is open, with the lines of its header and the first line of its statement; and the statements in front of that one.
+/// A suite that is open, with the lines of its header and the first line of its statement; and the
+/// statements in front of that one.
 #[derive(Drop)]
 pub struct Open {
     pub inline: bool,
@@ -51,7 +54,7 @@ pub struct SuiteStack {
 }
 
 /// A statement more in the innermost suite.
-#[tactic(auto, using(crate::proofs::Views::stmts_snoc, crate::proofs::Views::block_added))]
+#[tactic(auto, using(crate::proofs::View::OneMore::stmt_rules))]
 pub fn add(
     suites: SuiteStack,
     first: u32,
@@ -59,7 +62,8 @@ pub fn add(
     kind: Box<StmtKind>,
     end: LineEnd,
 ) -> Result<SuiteStack, NoMemory>
-    ensures { IfOk result (λ b. view_suites b ≡ add (view_suites suites) first last (plain_kind kind.value) end) }
+    ensures { IfOk result (λ b.
+        view_suites b ≡ add (view_suites suites) first last (boxed_kind kind) end) }
 {
     let SuiteStack { body, open } = suites;
     let mut body = body;
@@ -74,7 +78,7 @@ pub fn add(
 }
 
 /// A suite opens.
-#[tactic(auto, using(crate::proofs::Views::block_opened))]
+#[tactic(auto, using(crate::proofs::View::OneMore::block_opened))]
 pub fn opened(
     alloc: Global,
     suites: SuiteStack,
@@ -82,7 +86,8 @@ pub fn opened(
     span: Span,
     suite_of: Box<SuiteOf>,
 ) -> Result<SuiteStack, NoMemory>
-    ensures { IfOk result (λ b. view_suites b ≡ inside no_stmts inline span.first span.last span.begun (view_suite_of suite_of.value) (view_suites suites)) }
+    ensures { IfOk result (λ b. view_suites b ≡ inside no_stmts inline
+        span.first span.last span.begun (boxed_suite_of suite_of) (view_suites suites)) }
 {
     let SuiteStack { body, open } = suites;
     let mut open = open;
@@ -99,7 +104,7 @@ pub fn opened(
 }
 
 /// The innermost of the suites that are open.
-#[tactic(auto, using(crate::proofs::Views::block_popped))]
+#[tactic(auto, using(crate::proofs::View::OneMore::block_popped))]
 pub fn innermost(body: &[Stmt], others: &mut Vec<Open>) -> Option<Open>
     ensures { Opens (plain_stmts body.now) others.old.items others.new.items result }
 {
@@ -108,7 +113,7 @@ pub fn innermost(body: &[Stmt], others: &mut Vec<Open>) -> Option<Open>
 
 impl SuiteStack {
     /// Whether the innermost suite stands on the line of its header.
-    #[tactic(auto, using(crate::proofs::Views::line_shared))]
+    #[tactic(auto, using(crate::proofs::View::OneMore::line_shared))]
     pub fn shares_line(&self) -> bool
         ensures { SharesLine (view_suites self.now) result }
     {
@@ -119,7 +124,7 @@ impl SuiteStack {
     }
 
     /// Whether the innermost suite is a block with a statement.
-    #[tactic(auto, using(crate::proofs::Views::block_ends))]
+    #[tactic(auto, using(crate::proofs::View::OneMore::block_ends))]
     pub fn ends(&self) -> bool
         ensures { result ≡ is_closable (view_suites self.now) }
     {
@@ -130,7 +135,7 @@ impl SuiteStack {
     }
 
     /// Whether no suite is open.
-    #[tactic(auto, using(crate::proofs::Views::block_top))]
+    #[tactic(auto, using(crate::proofs::View::OneMore::block_top))]
     pub fn is_top(&self) -> bool
         ensures { result ≡ is_top (view_suites self.now) }
     {

@@ -4,7 +4,7 @@ use Rattle.py_parse.specs.declared.suite_of.SuiteOf.{SuiteOf}
 use Rattle.py_parse.specs.Machine.{Except, act, end_header}
 use Rattle.py_parse.specs.ViewSuiteOf.{view_suite_of}
 use Rattle.py_parse.specs.ViewStates.{kind_at, first_at, last_at, view_span, view_suites, view_state}
-use Rattle.py_parse.proofs.Acts.{acts_so, except_ends}
+use Rattle.py_parse.proofs.View.Acts.{acts_so, except_ends}
 use Rattle.py_parse.proofs.in_statement.after_except.Goals as goal
 
 pub returns-then-is_a : goal.returns-then-is_a

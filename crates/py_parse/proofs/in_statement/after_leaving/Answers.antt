@@ -2,7 +2,7 @@ use Rattle.std.proofs.Common.{◌∙◌, sym, option_map}
 use Rattle.py_syntax.specs.View.{plain_kind}
 use Rattle.py_parse.specs.Machine.{Leaving, act}
 use Rattle.py_parse.specs.ViewStates.{kind_at, first_at, last_at, view_span, view_suites, view_state}
-use Rattle.py_parse.proofs.Acts.{acts_so, leaving_ends}
+use Rattle.py_parse.proofs.View.Acts.{acts_so, leaving_ends}
 use Rattle.py_parse.proofs.in_statement.after_leaving.Goals as goal
 
 pub returns-then-is_a : goal.returns-then-is_a

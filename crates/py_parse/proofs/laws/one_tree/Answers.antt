@@ -1,4 +1,4 @@
-use Rattle.py_parse.proofs.WholeTokens.{one_tree}
+use Rattle.py_parse.proofs.Exact.WholeTokens.{one_tree}
 use Rattle.py_parse.proofs.laws.one_tree.Goals as goal
 
 pub returns : goal.returns

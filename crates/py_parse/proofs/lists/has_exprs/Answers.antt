@@ -1,5 +1,5 @@
 use Rattle.std.proofs.Common.{ap, ◌∙◌, not}
-use Rattle.py_parse.proofs.ViewKinds.{any_exprs}
+use Rattle.py_parse.proofs.View.StmtKinds.{any_exprs}
 use Rattle.py_parse.proofs.lists.has_exprs.Goals as goal
 
 pub returns : goal.returns

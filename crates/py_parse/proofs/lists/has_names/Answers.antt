@@ -1,5 +1,5 @@
 use Rattle.std.proofs.Common.{ap, ◌∙◌, not}
-use Rattle.py_parse.proofs.ViewKinds.{any_names}
+use Rattle.py_parse.proofs.View.StmtKinds.{any_names}
 use Rattle.py_parse.proofs.lists.has_names.Goals as goal
 
 pub returns : goal.returns

@@ -1,5 +1,5 @@
 use Rattle.std.proofs.Common.{◌-◌, length}
-use Rattle.py_parse.proofs.HeaderPlaces.{Ending}
+use Rattle.py_parse.proofs.View.HeaderPlaces.{Ending}
 use Rattle.py_parse.proofs.match_headers.ends_in_colon.Given as goal
 
 abbrev pub invariant-tokens : goal.invariant-tokens

@@ -3,7 +3,7 @@ use Rattle.py_syntax.specs.Headers.{ends_in_colon}
 use Rattle.py_token.specs.declared.token.Token.{Token}
 use Rattle.py_parse.specs.ViewMarks.{kinds_of, is_newline}
 use Rattle.py_parse.specs.ViewStates.{kind_at}
-use Rattle.py_parse.proofs.HeaderPlaces.{no_more, whole_line}
+use Rattle.py_parse.proofs.View.HeaderPlaces.{no_more, whole_line}
 use Rattle.py_parse.proofs.match_headers.heads_line.Goals as goal
 
 pub returns-then-at-tokens : goal.returns-then-at-tokens

@@ -1,5 +1,5 @@
 use Rattle.std.proofs.Common.{◌∙◌}
-use Rattle.py_parse.proofs.HeaderNames.{same_match}
+use Rattle.py_parse.proofs.View.HeaderNames.{same_match}
 use Rattle.py_parse.proofs.match_headers.is_match_name.Goals as goal
 
 pub returns : goal.returns

@@ -1,5 +1,5 @@
 use Rattle.py_parse.specs.ViewStates.{view_state}
-use Rattle.py_parse.proofs.Answering.{unparsed}
+use Rattle.py_parse.proofs.View.Answering.{unparsed}
 use Rattle.py_parse.proofs.parser.parse.Goals as goal
 
 pub unexpected-requires-clause-is : goal.unexpected-requires-clause-is

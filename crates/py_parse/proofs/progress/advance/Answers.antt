@@ -1,5 +1,5 @@
 use Rattle.py_parse.specs.ViewStates.{view_state}
-use Rattle.py_parse.proofs.Answering.{next_turns, stuck_turns}
+use Rattle.py_parse.proofs.View.Answering.{next_turns, stuck_turns}
 use Rattle.py_parse.proofs.progress.advance.Goals as goal
 
 pub moved-requires-clause-turns : goal.moved-requires-clause-turns

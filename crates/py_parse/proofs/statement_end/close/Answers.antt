@@ -2,8 +2,8 @@ use Rattle.std.proofs.Common.{ap, subst, Some}
 use Rattle.py_syntax.specs.Tree.{Stmts}
 use Rattle.py_syntax.specs.View.{plain_stmts}
 use Rattle.py_parse.specs.ViewStates.{Opens}
-use Rattle.py_parse.proofs.Acts.{close_made}
-use Rattle.py_parse.proofs.Views.{plain-suite}
+use Rattle.py_parse.proofs.View.Acts.{close_made}
+use Rattle.py_parse.proofs.View.OneMore.{plain-suite}
 use Rattle.py_parse.proofs.statement_end.close.Goals as goal
 
 pub returns : goal.returns

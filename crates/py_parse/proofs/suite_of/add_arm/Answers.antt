@@ -1,7 +1,7 @@
 use Rattle.std.proofs.Common.{ap, ◌∙◌}
 use Rattle.py_syntax.specs.declared.stmt.Arm as arms
 use Rattle.py_syntax.specs.View.{plain_arms}
-use Rattle.py_parse.proofs.Views.{arms_snoc}
+use Rattle.py_parse.proofs.View.OneMore.{arms_snoc}
 use Rattle.py_parse.proofs.suite_of.add_arm.Goals as goal
 
 pub returns : goal.returns

@@ -1,7 +1,7 @@
 use Rattle.std.proofs.Common.{ap, ◌∙◌}
 use Rattle.py_syntax.specs.declared.stmt.Case as cases
 use Rattle.py_syntax.specs.View.{plain_cases}
-use Rattle.py_parse.proofs.Views.{cases_snoc}
+use Rattle.py_parse.proofs.View.OneMore.{cases_snoc}
 use Rattle.py_parse.proofs.suite_of.add_case.Goals as goal
 
 pub returns : goal.returns

@@ -1,5 +1,5 @@
 use Rattle.std.proofs.Common.{rules}
-use Rattle.py_parse.proofs.TargetItems.{an_item, no_item, no_more}
+use Rattle.py_parse.proofs.View.TargetItems.{an_item, no_item, no_more}
 use Rattle.py_parse.proofs.targets.+targets.Goals as goal
 
 pub are_targets-returns-then-not-is_target : goal.are_targets-returns-then-not-is_target

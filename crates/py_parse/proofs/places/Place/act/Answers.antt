@@ -1,6 +1,6 @@
 use Rattle.std.proofs.Common.{ap}
 use Rattle.py_parse.specs.ViewStates.{kind_at, first_at, last_at, view_span, view_suites, view_place}
-use Rattle.py_parse.proofs.Acts.{acts_in}
+use Rattle.py_parse.proofs.View.Acts.{acts_in}
 use Rattle.py_parse.proofs.places.Place.act.Goals as goal
 
 pub returns-in_ok-end_simple-in-Simple : goal.returns-in_ok-end_simple-in-Simple

@@ -2,7 +2,7 @@ use Rattle.std.proofs.Common.{ap, ◌∙◌}
 use Rattle.py_parse.specs.declared.places.State.{State}
 use Rattle.py_parse.specs.Machine.{plain_step}
 use Rattle.py_parse.specs.ViewStates.{kind_at, first_at, last_at, view_state}
-use Rattle.py_parse.proofs.Stepping.{choosing}
+use Rattle.py_parse.proofs.View.Stepping.{choosing}
 use Rattle.py_parse.proofs.places.State.plain_step.Goals as goal
 
 pub returns-in_ok-choose-in-Choosing : goal.returns-in_ok-choose-in-Choosing

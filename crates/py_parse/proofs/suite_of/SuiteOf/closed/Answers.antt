@@ -5,7 +5,7 @@ use Rattle.py_syntax.specs.View.{plain_suite, plain_clauses}
 use Rattle.py_parse.specs.declared.suite_of.SuiteOf.{SuiteOf}
 use Rattle.py_parse.specs.Open.{closed}
 use Rattle.py_parse.specs.ViewSuiteOf.{view_suite_of}
-use Rattle.py_parse.proofs.ViewKinds.{plain-Try}
+use Rattle.py_parse.proofs.View.StmtKinds.{plain-Try}
 use Rattle.py_parse.proofs.suite_of.SuiteOf.closed.Goals as goal
 
 pub returns-in-Try : goal.returns-in-Try

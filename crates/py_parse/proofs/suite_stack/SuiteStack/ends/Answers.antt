@@ -1,5 +1,5 @@
 use Rattle.std.proofs.Common.{rules}
-use Rattle.py_parse.proofs.Views.{block_ends}
+use Rattle.py_parse.proofs.View.OneMore.{block_ends}
 use Rattle.py_parse.proofs.suite_stack.SuiteStack.ends.Goals as goal
 
 pub returns-then-not-open : goal.returns-then-not-open
