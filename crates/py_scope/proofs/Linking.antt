@@ -11,12 +11,12 @@ use Rattle.py_scope.specs.declared.occurrence.Occurrence.{Occurrence}
 use Rattle.py_scope.specs.declared.occurrence.Occurrence.TheVariants.{Uses, Assigns, Declares}
 use Rattle.py_scope.specs.Occurrences.{in_expr, in_exprs, in_pairs, in_links, in_optional, in_fragments, in_parts, in_option, in_target, in_targets, in_pattern, in_patterns, assigning, declaring, in_bound, occurrences, in_kind, in_suite, in_opt, in_arms, in_clauses, in_cases}
 use Rattle.py_scope.specs.Scopes.{Names}
-use Rattle.py_scope.specs.Faults.{Findings, ◌&◌, in_function, names_of, late_globals, fault_if}
+use Rattle.py_scope.specs.Faults.{Findings, ◌&◌, in_module, in_function, names_of, late_globals, fault_if}
 use Rattle.py_scope.proofs.Gathering.{the_findings, both_lists as both_findings}
 use Rattle.py_scope.specs.Seen.{Seen, after, after_one, starting}
 
 -- the occurrences that bind a name
-abbrev bound : List Occurrence → List Binding
+abbrev pub bound : List Occurrence → List Binding
 bound [] = []
 bound (Uses x ∷ os) = bound os
 bound (Assigns x ∷ os) = assigns x ∷ bound os
@@ -152,7 +152,7 @@ name-bound None = refl
 name-bound (Some x) = refl
 
 mutual
-  all-bound : (b : Stmts) → bound (occurrences b) ≡ bindings b
+  pub all-bound : (b : Stmts) → bound (occurrences b) ≡ bindings b
   all-bound no_stmts = refl
   all-bound (stmt first last k e ss) = two (in_kind first k) (occurrences ss) _ _ (kind-bound first k) (all-bound ss)
 
@@ -258,7 +258,7 @@ reported fs ls fs' ms ms' u a d s ps b e f g h =
     ∙ ap (λ t. t & in_function ps b) g
 
 pub declared-in : (fs ls fs' : List ScopeError) (ms : List Names) (u a d : List Text) (s : Findings) (b : Stmts) → fs' ≡ fs ++ ls → the_findings fs ms ≡ s
-    → the_seen u a d ls ≡ after (starting []) (occurrences b) → the_findings fs' ms ≡ the_findings (s.faults ++ late_globals [] (occurrences b)) s.functions
+    → the_seen u a d ls ≡ after (starting []) (occurrences b) → the_findings fs' ms ≡ (s & in_module b)
 declared-in fs ls fs' ms u a d s b e g h =
-    both_findings fs' (fs ++ late_globals [] (occurrences b)) ms ms (e ∙ ap (λ l. fs ++ l) (late-is [] b (the_seen u a d ls) h)) refl
-    ∙ ap (λ (t : Findings). the_findings (t.faults ++ late_globals [] (occurrences b)) t.functions) g
+    both_findings fs' (fs ++ late_globals [] (occurrences b)) ms (ms ++ []) (e ∙ ap (λ l. fs ++ l) (late-is [] b (the_seen u a d ls) h)) (sym (append-nil ms))
+    ∙ ap (λ t. t & in_module b) g

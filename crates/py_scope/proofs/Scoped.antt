@@ -18,6 +18,10 @@ among_added : (xs : List Text) (y x : Text) (b : Bool) → is_among xs y ≡ b �
 among_added xs y x true e = sym (absorbed (is_among xs x) (bytes_eq x y) (λ t. ap (is_among xs) ((bytes_eq-Decides x y).0 t) ∙ e))
 among_added xs y x false e = list_any-append (bytes_eq x) xs (y ∷ []) ∙ ap (λ q. is_among xs x || q) (or_false (bytes_eq x y))
 
+-- with one name more
+pub among-add_name : (xs : List Text) (y x : Text) → is_among (add_name xs y) x ≡ (is_among xs x || bytes_eq x y)
+among-add_name xs y x = among_added xs y x (is_among xs y) refl
+
 or_assoc : (p q r : Bool) → ((p || q) || r) ≡ (p || (q || r))
 or_assoc true q r = refl
 or_assoc false q r = refl
@@ -25,7 +29,7 @@ or_assoc false q r = refl
 among-add_names : (xs ys : List Text) (x : Text) → is_among (add_names xs ys) x ≡ (is_among xs x || is_among ys x)
 among-add_names xs [] x = sym (or_false (is_among xs x))
 among-add_names xs (y ∷ ys) x =
-    among-add_names (add_name xs y) ys x ∙ ap (λ p. p || is_among ys x) (among_added xs y x (is_among xs y) refl)
+    among-add_names (add_name xs y) ys x ∙ ap (λ p. p || is_among ys x) (among-add_name xs y x)
     ∙ or_assoc (is_among xs x) (bytes_eq x y) (is_among ys x)
 
 pub among-distinct : (xs : List Text) (x : Text) → is_among (distinct xs) x ≡ is_among xs x

@@ -2,6 +2,7 @@
 --     module_place .. in_finally        where a statement stands
 --     Findings, nothing, ◌&◌, blame     what is found, and one thing after another
 --     late_globals                      names that are declared `global` after they were used
+--     in_module                         the declarations of a module
 --     names_of, in_function             a function
 --     blame_case                        the header of a case
 --     findings, kind_findings           what is found in statements; suite_findings and the like for what stands in them
@@ -71,6 +72,10 @@ late_globals used [] = []
 late_globals used (Uses x ∷ os) = late_globals (add_name used x) os
 late_globals used (Assigns x ∷ os) = late_globals (add_name used x) os
 late_globals used (Declares x line ∷ os) = fault_if (is_among used x) (GlobalAfterUse line) ++ late_globals used os
+
+-- what is found in the declarations of a module
+abbrev pub in_module : Stmts → Findings
+in_module b = record { faults = late_globals [] (occurrences b); functions = [] }
 
 -- a function with these parameters and this body
 abbrev pub names_of : List Text → Stmts → Names
@@ -145,7 +150,7 @@ abbrev mutual
 
 -- of a whole module
 abbrev pub all_findings : Stmts → Findings
-all_findings b = record { faults = late_globals [] (occurrences b) ++ (findings module_place b).faults; functions = (findings module_place b).functions }
+all_findings b = in_module b & findings module_place b
 
 -- its faults
 abbrev pub faults_of : Stmts → List ScopeError

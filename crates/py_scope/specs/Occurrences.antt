@@ -1,12 +1,12 @@
 -- The occurrences of names in a body of a module or a function, in the order of the text. The body of a function that it defines
 -- is none of it; the defaults of that function's parameters are.
---     in_expr                   of an expression; in_exprs and the like for what stands in it
---     in_target, in_pattern     of what is assigned to
---     assigning, declaring      names as occurrences
---     occurrences, in_kind      of statements; in_suite and the like for what stands in them
+--     in_expr                               of an expression; in_exprs and the like for what stands in it
+--     in_target, in_pattern                 of what is assigned to
+--     assigning, in_aliases, declaring      names as occurrences
+--     occurrences, in_kind                  of statements; in_suite and the like for what stands in them
 use Rattle.std.specs.Prelude.{ℕ, List, [], ◌∷◌, ◌++◌, map, Option, Some, None}
 use Rattle.py_syntax.specs.Tree.{Text, Expr, name, int, str, fstr, none, bool, tuple, list, dict, paren, not', and, or, unary, binary, compare, cond, call, index, slice, attr, Exprs, no_exprs, exprs, Pairs, no_pairs, pair, Links, no_links, link, OptExpr, absent, present, Fragments, no_fragments, plain, format, Parts, no_parts, text, field}
-use Rattle.py_syntax.specs.Tree.{Pattern, literal, capture, wild, member, sequence, p_or, p_as, p_paren, Patterns, no_patterns, patterns}
+use Rattle.py_syntax.specs.Tree.{Alias, Pattern, literal, capture, wild, member, sequence, p_or, p_as, p_paren, Patterns, no_patterns, patterns}
 use Rattle.py_syntax.specs.Tree.{Stmts, no_stmts, stmt, Suite, suite, OptSuite, no_suite, has_suite, Arms, no_arms, arm, Clauses, no_clauses, clause, Cases, no_cases, case, StmtKind, expr, assign, aug_assign, pass, break, continue, return, raise, assert, global, import, from, if', while, for, try, def, match}
 use Rattle.py_syntax.specs.Names.{alias_name}
 use Rattle.py_scope.specs.declared.occurrence.Occurrence.{Occurrence}
@@ -117,6 +117,10 @@ abbrev mutual
 abbrev pub assigning : List Text → List Occurrence
 assigning xs = map Assigns xs
 
+-- names that are imported
+abbrev pub in_aliases : List Alias → List Occurrence
+in_aliases names = assigning (map alias_name names)
+
 -- names that a statement on this line declares `global`
 abbrev pub declaring : ℕ → List Text → List Occurrence
 declaring line xs = map (λ x. Declares x line) xs
@@ -144,8 +148,8 @@ abbrev mutual
   in_kind line (raise e) = in_option e
   in_kind line (assert e why) = in_expr e ++ in_option why
   in_kind line (global xs) = declaring line xs
-  in_kind line (import names) = assigning (map alias_name names)
-  in_kind line (from m names) = assigning (map alias_name names)
+  in_kind line (import names) = in_aliases names
+  in_kind line (from m names) = in_aliases names
   in_kind line (if' arms o) = in_arms arms ++ in_opt o
   in_kind line (while t b o) = in_expr t ++ (in_suite b ++ in_opt o)
   in_kind line (for t e b o) = in_target t ++ (in_expr e ++ (in_suite b ++ in_opt o))

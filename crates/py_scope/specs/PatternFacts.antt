@@ -1,9 +1,13 @@
 -- What is told of patterns at one look.
-use Rattle.std.specs.Prelude.{◌||◌}
+use Rattle.std.specs.Prelude.{Bool, false, ◌||◌}
 use Rattle.py_syntax.specs.Tree.{Pattern, Patterns}
 use Rattle.py_scope.specs.declared.patterns.PatternFacts.{PatternFacts}
 use Rattle.py_scope.specs.Patterns.{has_early, some_early, binds, some_binds, alternative_binds, some_alternative_binds}
 use Rattle.py_syntax.specs.Patterns.{is_irrefutable, has_irrefutable}
+
+-- of a pattern with no other in it
+abbrev pub simple_facts : Bool → Bool → PatternFacts
+simple_facts irrefutable binds = record { irrefutable = irrefutable; early = false; binds = binds; alternative_binds = false }
 
 -- of a pattern
 abbrev pub facts_of : Pattern → PatternFacts

@@ -26,7 +26,12 @@ impl Model for Body {
 
     ghost Value = { Seen };
 
-    ghost view = { λ b. record { used = b.used; assigned = b.assigned; declared = b.declared; late = b.late.items } };
+    ghost view = { λ b. record {
+      used = b.used;
+      assigned = b.assigned;
+      declared = b.declared;
+      late = b.late.items;
+    } };
 }
 
 impl Body {

@@ -15,12 +15,14 @@ use py_syntax::Module;
 use py_value::NoMemory;
 use std::alloc::Global;
 
-/// The names of the module's functions, where it is well formed, and else its first fault: that of the earliest
-/// line, and on one line that of the smallest number. Nothing is left behind where memory doesn't suffice.
+/// The names of the module's functions, where it is well formed, and else its first fault: that of
+/// the earliest line, and on one line that of the smallest number. Nothing is left behind where
+/// memory doesn't suffice.
 pub fn check(alloc: Global, module: &Module) -> Result<Scopes, ScopeError>
     ensures well_formed { IfOk result (λ s. IsWellFormed (plain_module «module».now)) }
     ensures names { IfOk result (λ s. s ≡ functions_of (plain_module «module».now)) }
-    ensures fault { IfErr result (λ e. (e ≡ NoMemory) ⊎ IsFirst (faults_of (plain_module «module».now)) e) }
+    ensures fault { IfErr result (λ e. (e ≡ NoMemory)
+        ⊎ IsFirst (faults_of (plain_module «module».now)) e) }
 {
     let report = report_of(alloc, module)?;
     match first(&report.faults) {

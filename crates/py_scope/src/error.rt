@@ -7,8 +7,8 @@ ghost use Rattle.py_scope.specs.Answer.{line_of, number_of, ComesBefore};
 use std::alloc::{AllocError, AllocFailed};
 use thiserror::Error;
 
-/// Why a module isn't well formed, with the first line of the statement, or of the header, that is to blame.
-/// Lines count from 1.
+/// Why a module isn't well formed, with the first line of the statement, or of the header, that is
+/// to blame. Lines count from 1.
 #[derive(Clone, Copy, Debug, PartialEq, Eq, Drop, Error)]
 pub enum ScopeError {
     /// A `break` or `continue` stands in no loop of its function.
@@ -23,7 +23,8 @@ pub enum ScopeError {
     /// A `def` stands in a function.
     #[error("line {0}: a function in a function")]
     NestedFunction(u32),
-    /// A bare `except`, an irrefutable case or an irrefutable alternative isn't the last of its list.
+    /// A bare `except`, an irrefutable case or an irrefutable alternative isn't the last of its
+    /// list.
     #[error("line {0}: what follows can't be reached")]
     EarlyIrrefutable(u32),
     /// Two parameters have one name, a pattern binds a name twice, or an alternative binds a name.

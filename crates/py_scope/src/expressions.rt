@@ -1,8 +1,11 @@
 // The names that occur in expressions and targets.
 
 ghost use Rattle.std.specs.Prelude.{◌≡◌, ◌++◌, OnOk};
-ghost use Rattle.py_syntax.specs.View.{plain_expr, plain_exprs, plain_pairs, plain_links, plain_fragments, plain_parts, opt_of};
-ghost use Rattle.py_scope.specs.Occurrences.{in_expr, in_exprs, in_pairs, in_links, in_fragments, in_parts, in_option, in_optional};
+ghost use Rattle.py_syntax.specs.View.{plain_expr, plain_exprs, plain_pairs, plain_links};
+ghost use Rattle.py_syntax.specs.View.{plain_fragments, plain_parts};
+ghost use Rattle.py_scope.specs.Occurrences.{in_expr, in_exprs, in_pairs, in_links};
+ghost use Rattle.py_scope.specs.Occurrences.{in_fragments, in_parts, in_option};
+ghost use Rattle.py_scope.specs.Parts.{in_end};
 ghost use Rattle.std.specs.Option.{option_map};
 
 use crate::occurrence::{Occurrence, push_use};
@@ -74,7 +77,7 @@ pub(crate) fn expr(out: &mut Vec<Occurrence>, e: &Expr) -> Result<(), NoMemory>
 
 #[cycle(expr)]
 fn bound(out: &mut Vec<Occurrence>, e: &Option<Box<Expr>>) -> Result<(), NoMemory>
-    ensures { OnOk result (out.new.items ≡ out.old.items ++ in_optional (opt_of (option_map (λ b. plain_expr b.value) e.now))) }
+    ensures { OnOk result (out.new.items ≡ out.old.items ++ in_end e.now) }
 {
     match e {
         None => Ok(()),
@@ -115,7 +118,8 @@ fn links(out: &mut Vec<Occurrence>, items: &[Link]) -> Result<(), NoMemory>
 
 #[cycle(expr)]
 fn fragments(out: &mut Vec<Occurrence>, items: &[Fragment]) -> Result<(), NoMemory>
-    ensures { OnOk result (out.new.items ≡ out.old.items ++ in_fragments (plain_fragments items.now)) }
+    ensures { OnOk result (out.new.items ≡ out.old.items
+        ++ in_fragments (plain_fragments items.now)) }
 {
     for fragment in items {
         match fragment {
@@ -140,7 +144,8 @@ fn parts(out: &mut Vec<Occurrence>, items: &[FormatPart]) -> Result<(), NoMemory
 }
 
 pub(crate) fn option(out: &mut Vec<Occurrence>, e: &Option<Expr>) -> Result<(), NoMemory>
-    ensures { OnOk result (out.new.items ≡ out.old.items ++ in_option (option_map plain_expr e.now)) }
+    ensures { OnOk result (out.new.items ≡ out.old.items
+        ++ in_option (option_map plain_expr e.now)) }
 {
     match e {
         None => Ok(()),

@@ -1,11 +1,12 @@
 // The walk over a module that finds its faults and its functions.
 
 ghost use Rattle.std.specs.Prelude.{◌≡◌, not, ◌&&◌, ◌||◌, OnOk};
-ghost use Rattle.py_syntax.specs.View.{plain_pattern, plain_stmts, plain_kind, plain_suite, plain_opt_suite, plain_arms, plain_clauses, plain_cases};
-ghost use Rattle.py_scope.specs.declared.error.ScopeError.TheVariants.{TwiceNamed};
-ghost use Rattle.py_scope.specs.Patterns.{has_repeats};
-ghost use Rattle.py_scope.specs.Parts.{clause_part, case_part};
-ghost use Rattle.py_scope.specs.Faults.{◌&◌, blame, blame_case, findings, kind_findings, suite_findings, function_findings, opt_findings, arms_findings, clauses_findings, cases_findings};
+ghost use Rattle.py_syntax.specs.View.{plain_pattern, plain_stmts, plain_kind, plain_suite};
+ghost use Rattle.py_syntax.specs.View.{plain_opt_suite, plain_arms, plain_clauses, plain_cases};
+ghost use Rattle.py_scope.specs.Parts.{clause_part, case_part, function_part};
+ghost use Rattle.py_scope.specs.Faults.{◌&◌, blame_case, findings, kind_findings};
+ghost use Rattle.py_scope.specs.Faults.{suite_findings, function_findings, opt_findings};
+ghost use Rattle.py_scope.specs.Faults.{arms_findings, clauses_findings, cases_findings};
 
 use crate::error::ScopeError;
 use crate::lists::has_repeats;
@@ -43,19 +44,12 @@ fn statement(
     ensures { OnOk result (report.new ≡ report.old & kind_findings at line (plain_kind kind.now)) }
 {
     match kind {
-        StmtKind::Expr(_)
-        | StmtKind::Assign {
-            targets: _,
-            value: _,
-        }
-        | StmtKind::AugAssign {
-            place: _,
-            op: _,
-            value: _,
-        }
-        | StmtKind::Pass => Ok(()),
-        StmtKind::Break => report.blame(!at.looped, ScopeError::BreakOutside(line)),
-        StmtKind::Continue => report.blame(!at.looped, ScopeError::BreakOutside(line)),
+        StmtKind::Expr(_) | StmtKind::Assign { .. } | StmtKind::AugAssign { .. } | StmtKind::Pass =>
+            Ok(()),
+        StmtKind::Break | StmtKind::Continue => report.blame(
+            !at.looped,
+            ScopeError::BreakOutside(line),
+        ),
         StmtKind::Return(_) => report.blame(!at.function, ScopeError::ReturnOutside(line)),
         StmtKind::Raise(e) => report.blame(
             e.is_none() && !at.handled,
@@ -63,56 +57,31 @@ fn statement(
         ),
         StmtKind::Assert(_, _) | StmtKind::Global(_) | StmtKind::Import(_) | StmtKind::From(_, _) =>
             Ok(()),
-        StmtKind::If {
-            arms: tests,
-            orelse,
-        } => {
-            arms(alloc, report, at, tests)?;
+        StmtKind::If { arms, orelse } => {
+            branches(alloc, report, at, arms)?;
             opt(alloc, report, at, orelse)
         }
-        StmtKind::While {
-            test: _,
-            body,
-            orelse,
-        } => {
+        StmtKind::While { body, orelse, .. } => {
             suite(alloc, report, at.in_loop(), body)?;
             opt(alloc, report, at, orelse)
         }
-        StmtKind::For {
-            target: _,
-            over: _,
-            body,
-            orelse,
-        } => {
+        StmtKind::For { body, orelse, .. } => {
             suite(alloc, report, at.in_loop(), body)?;
             opt(alloc, report, at, orelse)
         }
         StmtKind::Try {
             body,
-            clauses: handled,
+            clauses,
             orelse,
             finally,
         } => {
             suite(alloc, report, at, body)?;
-            clauses(alloc, report, at, handled)?;
+            handlers(alloc, report, at, clauses)?;
             opt(alloc, report, at, orelse)?;
             opt(alloc, report, at.in_finally(), finally)
         }
-        StmtKind::Def {
-            name: _,
-            params,
-            defaults: _,
-            comma: _,
-            body,
-        } => {
-            report.blame(at.function, ScopeError::NestedFunction(line))?;
-            definition(alloc, report, line, params, body)
-        }
-        StmtKind::Match {
-            subject: _,
-            header_last: _,
-            cases: list,
-        } => cases(alloc, report, at, list),
+        StmtKind::Def { params, body, .. } => definition(alloc, report, at, line, params, body),
+        StmtKind::Match { cases: list, .. } => cases(alloc, report, at, list),
     }
 }
 
@@ -128,12 +97,14 @@ fn suite(alloc: Global, report: &mut Report, at: Place, s: &Suite) -> Result<(),
 fn definition(
     alloc: Global,
     report: &mut Report,
+    at: Place,
     line: u32,
     params: &[Text],
     body: &Suite,
 ) -> Result<(), NoMemory>
-    ensures { OnOk result (report.new ≡ report.old & (blame (has_repeats params.now) (TwiceNamed line) & function_findings params.now (plain_suite body.now))) }
+    ensures { OnOk result (report.new ≡ report.old & function_part at line params.now body.now) }
 {
+    report.blame(at.function, ScopeError::NestedFunction(line))?;
     let repeated = has_repeats(alloc, params)?;
     report.blame(repeated, ScopeError::TwiceNamed(line))?;
     function(alloc, report, params, body)
@@ -146,7 +117,8 @@ fn function(
     params: &[Text],
     body: &Suite,
 ) -> Result<(), NoMemory>
-    ensures { OnOk result (report.new ≡ report.old & function_findings params.now (plain_suite body.now)) }
+    ensures { OnOk result (report.new ≡ report.old
+        & function_findings params.now (plain_suite body.now)) }
 {
     report.function(alloc, params, &body.body)?;
     statements(alloc, report, Place::of_function(), &body.body)
@@ -163,7 +135,7 @@ fn opt(alloc: Global, report: &mut Report, at: Place, s: &Option<Suite>) -> Resu
 }
 
 #[cycle(walk)]
-fn arms(alloc: Global, report: &mut Report, at: Place, items: &[Arm]) -> Result<(), NoMemory>
+fn branches(alloc: Global, report: &mut Report, at: Place, items: &[Arm]) -> Result<(), NoMemory>
     ensures { OnOk result (report.new ≡ report.old & arms_findings at (plain_arms items.now)) }
 {
     for arm in items {
@@ -173,8 +145,9 @@ fn arms(alloc: Global, report: &mut Report, at: Place, items: &[Arm]) -> Result<
 }
 
 #[cycle(walk)]
-fn clauses(alloc: Global, report: &mut Report, at: Place, items: &[Clause]) -> Result<(), NoMemory>
-    ensures { OnOk result (report.new ≡ report.old & clauses_findings at (plain_clauses items.now)) }
+fn handlers(alloc: Global, report: &mut Report, at: Place, items: &[Clause]) -> Result<(), NoMemory>
+    ensures { OnOk result (report.new ≡ report.old
+        & clauses_findings at (plain_clauses items.now)) }
 {
     let mut later = items.len();
     for clause in items {
@@ -243,7 +216,8 @@ fn header(
     guarded: bool,
     follows: bool,
 ) -> Result<(), NoMemory>
-    ensures { OnOk result (report.new ≡ report.old & blame_case line (plain_pattern pattern.now) guarded follows) }
+    ensures { OnOk result (report.new ≡ report.old
+        & blame_case line (plain_pattern pattern.now) guarded follows) }
 {
     let facts = pattern_facts(pattern);
     report.blame(

@@ -18,4 +18,5 @@ mod scopes;
 pub use checker::check;
 pub use error::ScopeError;
 pub use names::NameSet;
+pub use occurrence::Occurrence;
 pub use scopes::{FunctionNames, Scopes};

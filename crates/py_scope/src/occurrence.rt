@@ -1,14 +1,17 @@
 // Occurrences of names.
 
 ghost use Rattle.std.specs.Prelude.{◌≡◌, [], ◌∷◌, ◌++◌, OnOk};
-ghost use Rattle.py_scope.specs.declared.occurrence.Occurrence.TheVariants.{Uses, Assigns, Declares};
+ghost use Rattle.py_scope.specs.declared.occurrence.Occurrence.TheVariants.{Uses, Assigns};
+ghost use Rattle.py_scope.specs.declared.occurrence.Occurrence.TheVariants.{Declares};
 
 use py_value::{NoMemory, Text};
 
-/// An occurrence of a name in a body.
+/// An occurrence of a name in a body, as the definitions of the faults speak of it.
 #[derive(Drop)]
-pub(crate) enum Occurrence {
+pub enum Occurrence {
+    /// Its value is taken.
     Uses(Text),
+    /// It is set, imported or defined.
     Assigns(Text),
     /// In a `global` statement that begins on the line.
     Declares(Text, u32),

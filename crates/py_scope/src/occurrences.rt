@@ -1,10 +1,14 @@
 // The names that occur in statements.
 
-ghost use Rattle.std.specs.Prelude.{◌≡◌, ◌++◌, OnOk, map};
-ghost use Rattle.std.specs.Option.{option_map};
-ghost use Rattle.py_syntax.specs.View.{plain_expr, plain_exprs, plain_pattern, plain_patterns, plain_aliases, plain_stmts, plain_kind, plain_suite, plain_opt_suite, plain_arms, plain_clauses, plain_cases};
-ghost use Rattle.py_syntax.specs.Names.{alias_name};
-ghost use Rattle.py_scope.specs.Occurrences.{assigning, declaring, in_expr, in_target, in_targets, in_pattern, in_patterns, in_bound, occurrences, in_kind, in_suite, in_opt, in_arms, in_clauses, in_cases};
+ghost use Rattle.std.specs.Prelude.{◌≡◌, ◌++◌, OnOk};
+ghost use Rattle.py_syntax.specs.View.{plain_expr, plain_exprs, plain_pattern, plain_patterns};
+ghost use Rattle.py_syntax.specs.View.{plain_aliases, plain_stmts, plain_kind, plain_suite};
+ghost use Rattle.py_syntax.specs.View.{plain_opt_suite, plain_arms, plain_clauses, plain_cases};
+ghost use Rattle.py_scope.specs.Occurrences.{in_aliases, declaring, in_bound};
+ghost use Rattle.py_scope.specs.Occurrences.{in_target, in_targets};
+ghost use Rattle.py_scope.specs.Occurrences.{in_pattern, in_patterns, occurrences, in_kind};
+ghost use Rattle.py_scope.specs.Occurrences.{in_suite, in_opt, in_arms, in_clauses, in_cases};
+ghost use Rattle.py_scope.specs.Parts.{in_assignment, in_augmented, in_assertion, in_definition};
 
 use crate::expressions::{expr, exprs, option};
 use crate::occurrence::{Occurrence, push_assigned, push_declared, push_use};
@@ -18,9 +22,9 @@ fn target(out: &mut Vec<Occurrence>, e: &Expr) -> Result<(), NoMemory>
     match e {
         Expr::Name(x) => push_assigned(out, x),
         Expr::Int(_) | Expr::Str(_) | Expr::FStr(_) | Expr::None | Expr::Bool(_) => expr(out, e),
-        Expr::Tuple { items, comma: _ } => targets(out, items),
-        Expr::List { items, comma: _ } => targets(out, items),
-        Expr::Dict { items: _, comma: _ } => expr(out, e),
+        Expr::Tuple { items, .. } => targets(out, items),
+        Expr::List { items, .. } => targets(out, items),
+        Expr::Dict { .. } => expr(out, e),
         Expr::Paren(inner) => target(out, inner),
         Expr::Not(_)
         | Expr::And(_, _)
@@ -28,22 +32,10 @@ fn target(out: &mut Vec<Occurrence>, e: &Expr) -> Result<(), NoMemory>
         | Expr::Unary(_, _)
         | Expr::Binary(_, _, _)
         | Expr::Compare(_, _)
-        | Expr::Cond {
-            body: _,
-            test: _,
-            orelse: _,
-        }
-        | Expr::Call {
-            callee: _,
-            args: _,
-            comma: _,
-        }
+        | Expr::Cond { .. }
+        | Expr::Call { .. }
         | Expr::Index(_, _)
-        | Expr::Slice {
-            of: _,
-            from: _,
-            to: _,
-        }
+        | Expr::Slice { .. }
         | Expr::Attr(_, _) => expr(out, e),
     }
 }
@@ -83,7 +75,8 @@ fn pattern(out: &mut Vec<Occurrence>, p: &Pattern) -> Result<(), NoMemory>
 
 #[cycle(pattern)]
 fn patterns(out: &mut Vec<Occurrence>, items: &[Pattern]) -> Result<(), NoMemory>
-    ensures { OnOk result (out.new.items ≡ out.old.items ++ in_patterns (plain_patterns items.now)) }
+    ensures { OnOk result (out.new.items ≡ out.old.items
+        ++ in_patterns (plain_patterns items.now)) }
 {
     for p in items {
         pattern(out, p)?;
@@ -92,7 +85,7 @@ fn patterns(out: &mut Vec<Occurrence>, items: &[Pattern]) -> Result<(), NoMemory
 }
 
 fn aliases(out: &mut Vec<Occurrence>, names: &[Alias]) -> Result<(), NoMemory>
-    ensures { OnOk result (out.new.items ≡ out.old.items ++ assigning (map alias_name (plain_aliases names.now))) }
+    ensures { OnOk result (out.new.items ≡ out.old.items ++ in_aliases (plain_aliases names.now)) }
 {
     for alias in names {
         match &alias.bound {
@@ -138,87 +131,80 @@ fn statement(out: &mut Vec<Occurrence>, line: u32, kind: &StmtKind) -> Result<()
 {
     match kind {
         StmtKind::Expr(e) => expr(out, e),
-        StmtKind::Assign { targets: to, value } => {
-            targets(out, to)?;
-            expr(out, value)
-        }
-        StmtKind::AugAssign {
-            place,
-            op: _,
-            value,
-        } => {
-            target(out, place)?;
-            expr(out, value)
-        }
-        StmtKind::Pass => Ok(()),
-        StmtKind::Break => Ok(()),
-        StmtKind::Continue => Ok(()),
+        StmtKind::Assign { targets: to, value } => assignment(out, to, value),
+        StmtKind::AugAssign { place, value, .. } => augmented(out, place, value),
+        StmtKind::Pass | StmtKind::Break | StmtKind::Continue => Ok(()),
         StmtKind::Return(e) => option(out, e),
         StmtKind::Raise(e) => option(out, e),
-        StmtKind::Assert(test, why) => {
-            expr(out, test)?;
-            option(out, why)
-        }
+        StmtKind::Assert(test, why) => assertion(out, test, why),
         StmtKind::Global(names) => declared(out, names, line),
         StmtKind::Import(names) => aliases(out, names),
         StmtKind::From(_, names) => aliases(out, names),
-        StmtKind::If {
-            arms: tests,
-            orelse,
-        } => {
-            arms(out, tests)?;
+        StmtKind::If { arms, orelse } => {
+            branches(out, arms)?;
             opt(out, orelse)
         }
-        StmtKind::While {
-            test,
-            body: turn,
-            orelse,
-        } => {
+        StmtKind::While { test, body, orelse } => {
             expr(out, test)?;
-            suite(out, turn)?;
+            suite(out, body)?;
             opt(out, orelse)
         }
         StmtKind::For {
             target: to,
             over,
-            body: turn,
+            body,
             orelse,
         } => {
             target(out, to)?;
             expr(out, over)?;
-            suite(out, turn)?;
+            suite(out, body)?;
             opt(out, orelse)
         }
         StmtKind::Try {
-            body: tried,
-            clauses: handlers,
+            body,
+            clauses,
             orelse,
             finally,
         } => {
-            suite(out, tried)?;
-            clauses(out, handlers)?;
+            suite(out, body)?;
+            handlers(out, clauses)?;
             opt(out, orelse)?;
             opt(out, finally)
         }
-        StmtKind::Def {
-            name,
-            params: _,
-            defaults,
-            comma: _,
-            body: _,
-        } => {
-            push_assigned(out, name)?;
-            exprs(out, defaults)
-        }
-        StmtKind::Match {
-            subject,
-            header_last: _,
-            cases: list,
-        } => {
+        StmtKind::Def { name, defaults, .. } => definition(out, name, defaults),
+        StmtKind::Match { subject, cases, .. } => {
             expr(out, subject)?;
-            cases(out, list)
+            choices(out, cases)
         }
     }
+}
+
+fn assignment(out: &mut Vec<Occurrence>, to: &[Expr], value: &Expr) -> Result<(), NoMemory>
+    ensures { OnOk result (out.new.items ≡ out.old.items ++ in_assignment to.now value.now) }
+{
+    targets(out, to)?;
+    expr(out, value)
+}
+
+fn augmented(out: &mut Vec<Occurrence>, place: &Expr, value: &Expr) -> Result<(), NoMemory>
+    ensures { OnOk result (out.new.items ≡ out.old.items ++ in_augmented place.now value.now) }
+{
+    target(out, place)?;
+    expr(out, value)
+}
+
+fn assertion(out: &mut Vec<Occurrence>, test: &Expr, why: &Option<Expr>) -> Result<(), NoMemory>
+    ensures { OnOk result (out.new.items ≡ out.old.items ++ in_assertion test.now why.now) }
+{
+    expr(out, test)?;
+    option(out, why)
+}
+
+fn definition(out: &mut Vec<Occurrence>, name: &Text, defaults: &[Expr]) -> Result<(), NoMemory>
+    ensures { OnOk result (out.new.items ≡ out.old.items ++ in_definition name.now defaults.now) }
+{
+    push_assigned(out, name)?;
+    exprs(out, defaults)
 }
 
 #[cycle(statements)]
@@ -239,7 +225,7 @@ fn opt(out: &mut Vec<Occurrence>, s: &Option<Suite>) -> Result<(), NoMemory>
 }
 
 #[cycle(statements)]
-fn arms(out: &mut Vec<Occurrence>, items: &[Arm]) -> Result<(), NoMemory>
+fn branches(out: &mut Vec<Occurrence>, items: &[Arm]) -> Result<(), NoMemory>
     ensures { OnOk result (out.new.items ≡ out.old.items ++ in_arms (plain_arms items.now)) }
 {
     for arm in items {
@@ -250,7 +236,7 @@ fn arms(out: &mut Vec<Occurrence>, items: &[Arm]) -> Result<(), NoMemory>
 }
 
 #[cycle(statements)]
-fn clauses(out: &mut Vec<Occurrence>, items: &[Clause]) -> Result<(), NoMemory>
+fn handlers(out: &mut Vec<Occurrence>, items: &[Clause]) -> Result<(), NoMemory>
     ensures { OnOk result (out.new.items ≡ out.old.items ++ in_clauses (plain_clauses items.now)) }
 {
     for clause in items {
@@ -262,7 +248,7 @@ fn clauses(out: &mut Vec<Occurrence>, items: &[Clause]) -> Result<(), NoMemory>
 }
 
 #[cycle(statements)]
-fn cases(out: &mut Vec<Occurrence>, items: &[Case]) -> Result<(), NoMemory>
+fn choices(out: &mut Vec<Occurrence>, items: &[Case]) -> Result<(), NoMemory>
     ensures { OnOk result (out.new.items ≡ out.old.items ++ in_cases (plain_cases items.now)) }
 {
     for case in items {

@@ -4,7 +4,7 @@ ghost use Rattle.std.specs.Prelude.{◌≡◌, [], ◌∷◌, ◌++◌, true, fa
 ghost use Rattle.py_syntax.specs.View.{plain_pattern, plain_patterns};
 ghost use Rattle.py_syntax.specs.Names.{pattern_names, patterns_names};
 ghost use Rattle.py_syntax.specs.Tree.{p_or};
-ghost use Rattle.py_scope.specs.PatternFacts.{facts_of, items_facts, either};
+ghost use Rattle.py_scope.specs.PatternFacts.{facts_of, simple_facts, items_facts, either};
 
 use py_syntax::Pattern;
 use py_value::{NoMemory, Text};
@@ -24,7 +24,7 @@ pub(crate) struct PatternFacts {
 
 /// What is told of a pattern with no other in it.
 fn simple(irrefutable: bool, binds: bool) -> PatternFacts
-    ensures { result ≡ record { irrefutable = irrefutable; early = false; binds = binds; alternative_binds = false } }
+    ensures { result ≡ simple_facts irrefutable binds }
 {
     PatternFacts {
         irrefutable,
@@ -111,7 +111,8 @@ fn either(a: PatternFacts, b: PatternFacts) -> PatternFacts
 /// Adds the names that the pattern binds, in the order of the text.
 #[cycle(names)]
 pub(crate) fn push_names(names: &mut Vec<Text>, pattern: &Pattern) -> Result<(), NoMemory>
-    ensures { OnOk result (names.new.items ≡ names.old.items ++ pattern_names (plain_pattern pattern.now)) }
+    ensures { OnOk result (names.new.items ≡ names.old.items
+        ++ pattern_names (plain_pattern pattern.now)) }
 {
     match pattern {
         Pattern::Literal { minus: _, value: _ } => Ok(()),
@@ -134,7 +135,8 @@ pub(crate) fn push_names(names: &mut Vec<Text>, pattern: &Pattern) -> Result<(),
 
 #[cycle(names)]
 fn push_all_names(names: &mut Vec<Text>, patterns: &[Pattern]) -> Result<(), NoMemory>
-    ensures { OnOk result (names.new.items ≡ names.old.items ++ patterns_names (plain_patterns patterns.now)) }
+    ensures { OnOk result (names.new.items ≡ names.old.items
+        ++ patterns_names (plain_patterns patterns.now)) }
 {
     for pattern in patterns {
         push_names(names, pattern)?;

@@ -1,7 +1,8 @@
 // Where a statement stands.
 
 ghost use Rattle.std.specs.Prelude.{◌≡◌};
-ghost use Rattle.py_scope.specs.Faults.{module_place, function_place, in_loop, in_clause, in_finally};
+ghost use Rattle.py_scope.specs.Faults.{module_place, function_place, in_loop, in_clause};
+ghost use Rattle.py_scope.specs.Faults.{in_finally};
 
 /// Where a statement stands.
 #[derive(Clone, Copy, Drop)]

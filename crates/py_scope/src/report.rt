@@ -1,8 +1,8 @@
 // What is found in a module.
 
-ghost use Rattle.std.specs.Prelude.{◌≡◌, ◌++◌, [], OnOk, IfOk};
+ghost use Rattle.std.specs.Prelude.{◌≡◌, OnOk, IfOk};
 ghost use Rattle.py_syntax.specs.View.{plain_stmts};
-ghost use Rattle.py_scope.specs.Faults.{nothing, blame, in_function, late_globals, ◌&◌};
+ghost use Rattle.py_scope.specs.Faults.{nothing, blame, in_module, in_function, ◌&◌};
 ghost use Rattle.py_scope.specs.Occurrences.{occurrences};
 ghost use Rattle.py_scope.specs.Seen.{after, starting};
 
@@ -52,7 +52,7 @@ impl Report {
 
     /// Notes the faults of the declarations of a module.
     pub(crate) fn declarations(&mut self, alloc: Global, body: &[Stmt]) -> Result<(), NoMemory>
-        ensures { OnOk result (self.new ≡ record self.old { faults = self.old.faults ++ late_globals [] (occurrences (plain_stmts body.now)) }) }
+        ensures { OnOk result (self.new ≡ self.old & in_module (plain_stmts body.now)) }
     {
         let Body {
             used: _,
@@ -71,7 +71,8 @@ impl Report {
         params: &[Text],
         body: &[Stmt],
     ) -> Result<(), NoMemory>
-        ensures { OnOk result (self.new ≡ self.old & in_function params.now (plain_stmts body.now)) }
+        ensures { OnOk result (self.new ≡ self.old
+            & in_function params.now (plain_stmts body.now)) }
     {
         let Body {
             used: _,
@@ -88,9 +89,11 @@ impl Report {
     }
 }
 
-/// The names that occur in the body of a function with these parameters, or of a module, which has none.
+/// The names that occur in the body of a function with these parameters, or of a module, which has
+/// none.
 fn body_of(alloc: Global, params: &[Text], body: &[Stmt]) -> Result<Body, NoMemory>
-    ensures { IfOk result (λ b. b ≡ after (starting params.now) (occurrences (plain_stmts body.now))) }
+    ensures { IfOk result (λ b. b
+        ≡ after (starting params.now) (occurrences (plain_stmts body.now))) }
 {
     let mut seen = Body::new(alloc, params)?;
     let mut occurrences = Vec::new(alloc);

@@ -10,8 +10,8 @@ use crate::names::NameSet;
 use py_value::Text;
 use std::marker::Model;
 
-/// The names of a function, seen as the list of those that it assigns and the list of those that it declares
-/// `global`, each once, in the order of the text. Its parameters are assigned first.
+/// The names of a function, seen as the list of those that it assigns and the list of those that it
+/// declares `global`, each once, in the order of the text. Its parameters are assigned first.
 #[derive(Drop)]
 pub struct FunctionNames {
     pub(crate) assigned: NameSet,
@@ -31,7 +31,8 @@ impl FunctionNames {
     pub fn is_local(&self, name: &Text) -> bool
         ensures names { result ≡ is_local self.now name.now }
         // In a function with these parameters and this body.
-        ensures function { (params : List Text) (body : Stmts) → self.now ≡ names_of params body → result ≡ is_local_in params body name.now }
+        ensures function { (params : List Text) (body : Stmts) → self.now ≡ names_of params body
+            → result ≡ is_local_in params body name.now }
     {
         self.assigned.contains(name) && !self.globals.contains(name)
     }
@@ -39,7 +40,8 @@ impl FunctionNames {
     /// Whether the function declares the name `global`.
     pub fn is_global(&self, name: &Text) -> bool
         ensures names { result ≡ is_global self.now name.now }
-        ensures function { (params : List Text) (body : Stmts) → self.now ≡ names_of params body → result ≡ is_among (declared_names body) name.now }
+        ensures function { (params : List Text) (body : Stmts) → self.now ≡ names_of params body
+            → result ≡ is_among (declared_names body) name.now }
     {
         self.globals.contains(name)
     }

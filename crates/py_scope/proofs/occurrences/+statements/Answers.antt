@@ -7,11 +7,11 @@ use Rattle.py_scope.proofs.occurrences.+statements.Goals as goal
 pub statements-returns : goal.statements-returns
 statements-returns t c = at_end listed (λ xs. occurrences (plain_stmts xs)) refl _ _ _ _ c.loop-s-test.false c.loop-s.invariant
 
-pub arms-returns : goal.arms-returns
-arms-returns t c = at_end listed (λ xs. in_arms (plain_arms xs)) refl _ _ _ _ c.loop-arm-test.false c.loop-arm.invariant
+pub branches-returns : goal.branches-returns
+branches-returns t c = at_end listed (λ xs. in_arms (plain_arms xs)) refl _ _ _ _ c.loop-arm-test.false c.loop-arm.invariant
 
-pub clauses-returns : goal.clauses-returns
-clauses-returns t c = at_end listed (λ xs. in_clauses (plain_clauses xs)) refl _ _ _ _ c.loop-clause-test.false c.loop-clause.invariant
+pub handlers-returns : goal.handlers-returns
+handlers-returns t c = at_end listed (λ xs. in_clauses (plain_clauses xs)) refl _ _ _ _ c.loop-clause-test.false c.loop-clause.invariant
 
-pub cases-returns : goal.cases-returns
-cases-returns t c = at_end listed (λ xs. in_cases (plain_cases xs)) refl _ _ _ _ c.loop-case-test.false c.loop-case.invariant
+pub choices-returns : goal.choices-returns
+choices-returns t c = at_end listed (λ xs. in_cases (plain_cases xs)) refl _ _ _ _ c.loop-case-test.false c.loop-case.invariant

@@ -6,11 +6,11 @@ use Rattle.py_scope.proofs.occurrences.+statements.Given as goal
 abbrev pub invariant-statements-loop-s : goal.invariant-statements-loop-s
 invariant-statements-loop-s l = l.out.items ++ occurrences (plain_stmts (drop l.s-index l.items)) ≡ l.initial.out.items ++ occurrences (plain_stmts l.items)
 
-abbrev pub invariant-arms-loop-arm : goal.invariant-arms-loop-arm
-invariant-arms-loop-arm l = l.out.items ++ in_arms (plain_arms (drop l.arm-index l.items)) ≡ l.initial.out.items ++ in_arms (plain_arms l.items)
+abbrev pub invariant-branches-loop-arm : goal.invariant-branches-loop-arm
+invariant-branches-loop-arm l = l.out.items ++ in_arms (plain_arms (drop l.arm-index l.items)) ≡ l.initial.out.items ++ in_arms (plain_arms l.items)
 
-abbrev pub invariant-clauses-loop-clause : goal.invariant-clauses-loop-clause
-invariant-clauses-loop-clause l = l.out.items ++ in_clauses (plain_clauses (drop l.clause-index l.items)) ≡ l.initial.out.items ++ in_clauses (plain_clauses l.items)
+abbrev pub invariant-handlers-loop-clause : goal.invariant-handlers-loop-clause
+invariant-handlers-loop-clause l = l.out.items ++ in_clauses (plain_clauses (drop l.clause-index l.items)) ≡ l.initial.out.items ++ in_clauses (plain_clauses l.items)
 
-abbrev pub invariant-cases-loop-case : goal.invariant-cases-loop-case
-invariant-cases-loop-case l = l.out.items ++ in_cases (plain_cases (drop l.case-index l.items)) ≡ l.initial.out.items ++ in_cases (plain_cases l.items)
+abbrev pub invariant-choices-loop-case : goal.invariant-choices-loop-case
+invariant-choices-loop-case l = l.out.items ++ in_cases (plain_cases (drop l.case-index l.items)) ≡ l.initial.out.items ++ in_cases (plain_cases l.items)

@@ -1,10 +1,8 @@
 use Rattle.std.proofs.Common.{refl}
-use Rattle.std.proofs.Common.{map}
 use Rattle.py_syntax.specs.View.{plain_aliases}
-use Rattle.py_syntax.specs.Names.{alias_name}
-use Rattle.py_scope.specs.Occurrences.{assigning}
+use Rattle.py_scope.specs.Occurrences.{in_aliases}
 use Rattle.py_scope.proofs.Gathering.{listed, at_end}
 use Rattle.py_scope.proofs.occurrences.aliases.Goals as goal
 
 pub returns : goal.returns
-returns c = at_end listed (λ xs. assigning (map alias_name (plain_aliases xs))) refl _ _ _ _ c.loop-alias-test.false c.loop-alias.invariant
+returns c = at_end listed (λ xs. in_aliases (plain_aliases xs)) refl _ _ _ _ c.loop-alias-test.false c.loop-alias.invariant
