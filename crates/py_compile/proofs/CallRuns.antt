@@ -1,5 +1,5 @@
 -- What a machine does with the code of units, in frames of their own, is what calls mean.
-use Rattle.std.proofs.Common.{◌≡◌, ℕ, zero, suc, ◌+◌, ◌-◌, ◌<◌, List, [], ◌∷◌, ◌++◌, length, drop, Option, Some, None, true, false, refl, sym, ap, ◌∙◌, subst, arith}
+use Rattle.std.proofs.Common.{◌≡◌, ℕ, zero, suc, ◌+◌, ◌-◌, ◌<◌, List, [], ◌∷◌, ◌++◌, length, map, drop, Option, Some, None, true, false, refl, sym, ap, ◌∙◌, subst, arith}
 use Rattle.std.specs.Prelude.{slice_get, if◌then◌else◌, Ok, Err}
 use Rattle.cov_event.specs.declared.event.CodeId.{CodeId}
 use Rattle.cov_event.specs.declared.event.Event.TheVariants.{Call as Called}
@@ -31,38 +31,44 @@ use Rattle.py_compile_expr.specs.Runs.{Spot, effects_of, conf, from as going, th
 use Rattle.py_compile_expr.specs.Stands.{HasAt, Guards}
 use Rattle.py_compile_expr.proofs.ExpressionRuns.{constant_runs}
 use Rattle.py_compile_expr.proofs.Places.{has_front, has_behind, has_at}
+use Rattle.py_compile.specs.Definitions.{Definition, function_of, definitions}
 use Rattle.py_compile.specs.Faithful.{IsFaithful}
 use Rattle.py_compile.specs.ProgramRuns.{HasFunctions, HasUnits, AreFaithful, AreProperFunctions, AreProperModules}
 use Rattle.py_compile.specs.Proper.{AreProper}
 use Rattle.py_compile.specs.StatementRuns.{ends_with, raised, after_out, FitsWays, NamesMatch}
 use Rattle.py_compile.specs.Statements.{stmts_size, stmts_code}
 use Rattle.py_compile.specs.Ways.{outermost}
+use Rattle.py_compile.proofs.DefinitionLaw.{all_functions}
 use Rattle.py_compile.proofs.Flow.{gives_runs}
 use Rattle.py_compile.proofs.Sizes.{stmts_length}
 use Rattle.py_compile.proofs.StatementLaw.{statements_run}
 
 -- ---- code and text, unit by unit
 
+-- with as many defaults as the text has
+abbrev pub IsCodeOf : Stmts → ℕ → Function → Code → Type 0
+IsCodeOf b k f u = (defaults : ℕ) × IsFaithful (functions b) f defaults (own_names k f) u
+
 abbrev pub IsUnit : Stmts → ℕ → Option Code → Option Function → Type 0
 IsUnit b k None None = Unit {0}
 IsUnit b k None (Some f) = ⊥
 IsUnit b k (Some u) None = ⊥
-IsUnit b k (Some u) (Some f) = IsFaithful (functions b) f (own_names k f) u
+IsUnit b k (Some u) (Some f) = IsCodeOf b k f u
 
-functions_pair : (b : Stmts) (fs : List Function) (us : List Code) → HasFunctions (functions b) fs us → (k : ℕ) → IsUnit b (suc k) (slice_get us k) (slice_get fs k)
+functions_pair : (b : Stmts) (ds : List Definition) (us : List Code) → HasFunctions (functions b) ds us → (k : ℕ) → IsUnit b (suc k) (slice_get us k) (slice_get (map function_of ds) k)
 functions_pair b [] [] h k = tt
 functions_pair b [] (u ∷ us) h k = absurd h
-functions_pair b (f ∷ fs) [] h k = absurd h
-functions_pair b (f ∷ fs) (u ∷ us) h zero = h.0
-functions_pair b (f ∷ fs) (u ∷ us) h (suc k) = next (functions_pair b fs us h.1 k)
+functions_pair b (d ∷ ds) [] h k = absurd h
+functions_pair b (d ∷ ds) (u ∷ us) h zero = (d.defaults, h.0)
+functions_pair b (d ∷ ds) (u ∷ us) h (suc k) = next (functions_pair b ds us h.1 k)
   where
-    next : IsUnit b (suc k) (slice_get us k) (slice_get fs k) → IsUnit b (suc (suc k)) (slice_get us k) (slice_get fs k)
+    next : IsUnit b (suc k) (slice_get us k) (slice_get (map function_of ds) k) → IsUnit b (suc (suc k)) (slice_get us k) (slice_get (map function_of ds) k)
     next r = r
 
 units_pair : (l : LoadedModule) (us : List Code) → HasUnits l.body us → (k : ℕ) → IsUnit l.body k (slice_get us k) (function_in (Some l) k)
 units_pair l [] h k = absurd h
-units_pair l (u ∷ us) h zero = h.0
-units_pair l (u ∷ us) h (suc k) = functions_pair l.body (functions l.body) us h.1 k
+units_pair l (u ∷ us) h zero = (0, h.0)
+units_pair l (u ∷ us) h (suc k) = subst (λ fs. IsUnit l.body (suc k) (slice_get us k) (slice_get fs k)) (all_functions l.body) (functions_pair l.body (definitions l.body) us h.1 k)
 
 pub modules_pair : (cs : List Module) (ms : List LoadedModule) → AreFaithful cs ms → (m k : ℕ) → IsUnit (module_body (slice_get ms m)) k (slice_get (units_of (slice_get cs m)) k) (function_in (slice_get ms m) k)
 modules_pair [] [] h m k = tt
@@ -96,7 +102,7 @@ like : (b : Stmts) (k : ℕ) (o : Option Code) (q : Option Function) → IsUnit 
 like b k None None h = tt
 like b k None (Some f) h = h
 like b k (Some u) None h = h
-like b k (Some u) (Some f) h = h.params
+like b k (Some u) (Some f) h = h.1.params
 
 pub units_match : (cs : List Module) (ms : List LoadedModule) → AreFaithful cs ms → Matches cs ms
 units_match cs ms h code = like (body_of ms code.module) code.unit (unit_at cs code) (function_found ms code) (modules_pair cs ms h code.module code.unit)
@@ -162,14 +168,14 @@ module _ (cs : List Module) (ms : List LoadedModule) (faithful : AreFaithful cs 
   N = by_names cs
 
   -- the code of a unit, from its first place on
-  pub body_runs : (k : ℕ) → CallsRun cs (calls ms k) k → (w : Spot) (u : Code) → unit_at cs w.code ≡ Some u → (f : Function) → function_found ms w.code ≡ Some f → IsFaithful (functions (body_of ms w.code.module)) f (own_names w.code.unit f) u
+  pub body_runs : (k : ℕ) → CallsRun cs (calls ms k) k → (w : Spot) (u : Code) → unit_at cs w.code ≡ Some u → (f : Function) → function_found ms w.code ≡ Some f → IsCodeOf (body_of ms w.code.module) w.code.unit f u
       → (s : State) (n : ℕ) → n < k → going cs w 0 [] s n ≡ body_end cs w (exec_unit (calls ms k) ms w.code s n)
   body_runs k run w u is f found fact s n lt =
-      statements_run cs ms matches names (calls ms k) k run w u is None body (proper_unit ms proper w.code.module w.code.unit f found) (outermost size) 0 (has_front u 0 (stmts_code fs (outermost size) 0 body) _ fact.has) []
+      statements_run cs ms matches names (calls ms k) k run w u is None body (proper_unit ms proper w.code.module w.code.unit f found) (outermost size) 0 (has_front u 0 (stmts_code fs (outermost size) 0 body) _ fact.1.has) []
       (subst (λ m. FitsWays (outermost size) None m []) (sym same) (outer_fits size)) s n lt
       ∙ (ap (λ m. after_out cs w (outermost size) m [] (exec (calls ms k) (part_of ms u w.code None) body s n)) same
       ∙ (ends (exec (calls ms k) (part_of ms u w.code None) body s n)
-      ∙ (ap (λ own. body_end cs w (exec (calls ms k) (record { modules = ms; scope = record { number = w.code.module; own = own }; handled = None }) body s n)) fact.locals
+      ∙ (ap (λ own. body_end cs w (exec (calls ms k) (record { modules = ms; scope = record { number = w.code.module; own = own }; handled = None }) body s n)) fact.1.locals
       ∙ ap (λ g. body_end cs w (exec (calls ms k) (record { modules = ms; scope = record { number = w.code.module; own = own_names w.code.unit g }; handled = None }) (without_docstring g.body) s n)) (sym (unit_is (slice_get ms w.code.module) w.code.unit f found)))))
     where
       matches : Matches cs ms
@@ -193,7 +199,7 @@ module _ (cs : List Module) (ms : List LoadedModule) (faithful : AreFaithful cs 
       tail : HasAt u size (put_cell None (constant NoneConstant) (put_cell None (plain Return) []))
       tail =
           let last = put_cell None (constant NoneConstant) (put_cell None (plain Return) []) in
-          has_at u (0 + size) size last same (has_behind u 0 size (stmts_code fs (outermost size) 0 body) last (stmts_length fs (outermost size) 0 body) fact.has)
+          has_at u (0 + size) size last same (has_behind u 0 size (stmts_code fs (outermost size) 0 body) last (stmts_length fs (outermost size) 0 body) fact.1.has)
 
       none : (t : State) (j : ℕ) → going cs w size [] t j ≡ ends_with cs w none_value t j
       none t j =
@@ -262,17 +268,17 @@ module _ (cs : List Module) (ms : List LoadedModule) (faithful : AreFaithful cs 
   pub record UnitFound (b : Stmts) (k : ℕ) (u : Code) (q : Option Function) : Type 0 where
     pub text : Function
     pub found : q ≡ Some text
-    pub fact : IsFaithful (functions b) text (own_names k text) u
+    pub fact : IsCodeOf b k text u
 
   pub unit_found : (b : Stmts) (k : ℕ) (u : Code) (o : Option Code) (q : Option Function) → IsUnit b k o q → o ≡ Some u → UnitFound b k u q
   unit_found b k u None q h e = absurd cc
   unit_found b k u (Some v) None h e = absurd h
-  unit_found b k u (Some v) (Some f) h e = let same : v ≡ u = cc in record { text = f; found = refl; fact = subst (λ x. IsFaithful (functions b) f (own_names k f) x) same h }
+  unit_found b k u (Some v) (Some f) h e = let same : v ≡ u = cc in record { text = f; found = refl; fact = subst (λ x. IsCodeOf b k f x) same h }
 
   pub params_same : (f : CodeId) (v : Code) → unit_at cs f ≡ Some v → params_in (unit_at cs f) ≡ (unit_of ms f).params
   params_same f v is =
       let r = unit_found (body_of ms f.module) f.unit v (unit_at cs f) (function_found ms f) (modules_pair cs ms faithful f.module f.unit) is in
-      ap params_in is ∙ (r.fact.params ∙ ap (λ g. g.params) (sym (unit_is (slice_get ms f.module) f.unit r.text r.found)))
+      ap params_in is ∙ (r.fact.1.params ∙ ap (λ g. g.params) (sym (unit_is (slice_get ms f.module) f.unit r.text r.found)))
 
   call_runs : (k : ℕ) → CallsRun cs (calls ms k) k → (w : Spot) (u : Code) → unit_at cs w.code ≡ Some u → (g : Option Guard) (p : ℕ) → Guards g (handler_of p u.handlers) → (st : List Operand) (m un : ℕ) (v : Code)
       → unit_at cs (record { «module» = m; unit = un }) ≡ Some v → (vs : List PlainValue) (s : State) (n : ℕ) → n < suc k

@@ -1,6 +1,7 @@
 mod Sizes
 mod Numbering
 mod Ranges
+mod DefinitionLaw
 mod Standing
 mod Flow
 mod TargetRuns

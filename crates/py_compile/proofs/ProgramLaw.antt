@@ -32,6 +32,7 @@ use Rattle.py_code.specs.Units.{Code, Module, unit_at}
 use Rattle.py_code.proofs.OneMachine.{one_machine}
 use Rattle.py_compile_expr.specs.Runs.{Spot, effects_of, IsLike}
 use Rattle.py_meaning.proofs.ProgramLaws.{modules_budget}
+use Rattle.py_compile.specs.Definitions.{Definition, definitions}
 use Rattle.py_compile.specs.ProgramRuns.{HasFunctions, HasUnits, AreFaithful, AreProperModules, as_run, as_reply, as_request, Settles, ProgramsRun}
 use Rattle.py_compile.specs.Units.{function_code, compiled}
 use Rattle.py_compile.proofs.SlotNames.{are_named}
@@ -240,13 +241,13 @@ module _ (cs : List Module) (ms : List LoadedModule) (faithful : AreFaithful cs 
 
 -- ---- the code of modules
 
-functions_have : (b : Stmts) (fs : List Function) → HasFunctions (functions b) fs (map (function_code (functions b)) fs)
+functions_have : (b : Stmts) (ds : List Definition) → HasFunctions (functions b) ds (map (function_code (functions b)) ds)
 functions_have b [] = tt
-functions_have b (f ∷ fs) = (units_faithful.function b f, functions_have b fs)
+functions_have b (d ∷ ds) = (units_faithful.function b d, functions_have b ds)
 
 compiles : (ms : List LoadedModule) → AreFaithful (map compiled ms) ms
 compiles [] = tt
-compiles (l ∷ ls) = (refl, (units_faithful.body l.body, functions_have l.body (functions l.body)), compiles ls)
+compiles (l ∷ ls) = (refl, (units_faithful.body l.body, functions_have l.body (definitions l.body)), compiles ls)
 
 pub programs_run : ProgramsRun
 programs_run = record {

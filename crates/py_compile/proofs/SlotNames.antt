@@ -133,8 +133,8 @@ own_unit (l ∷ ls) h (suc m) k f e = own_unit ls h.1 m k f e
 unit_distinct : (b : Stmts) (k : ℕ) (u : Code) (o : Option Code) (q : Option Function) → IsUnit b k o q → o ≡ Some u → IsDistinct u.locals
 unit_distinct b k u None q h e = absurd cc
 unit_distinct b k u (Some v) None h e = absurd h
-unit_distinct b zero u (Some v) (Some f) h e = let same : v ≡ u = cc in subst (λ x. IsDistinct x.locals) same (subst IsDistinct (sym h.locals) tt)
-unit_distinct b (suc k) u (Some v) (Some f) h e = let same : v ≡ u = cc in subst (λ x. IsDistinct x.locals) same (subst IsDistinct (sym h.locals) (local_distinct f.params f.body))
+unit_distinct b zero u (Some v) (Some f) h e = let same : v ≡ u = cc in subst (λ x. IsDistinct x.locals) same (subst IsDistinct (sym h.1.locals) tt)
+unit_distinct b (suc k) u (Some v) (Some f) h e = let same : v ≡ u = cc in subst (λ x. IsDistinct x.locals) same (subst IsDistinct (sym h.1.locals) (local_distinct f.params f.body))
 
 -- the parameters of a function, or the body of a module, which has none
 abbrev FirstOf : Code → Type 0
@@ -147,15 +147,15 @@ unit_first b k u (Some v) (Some f) h e own =
     let same : v ≡ u = cc in
     let has = own f refl in
     let first = local_first f.params f.body has.0 has.1 in
-    subst FirstOf same (first.0, h.locals ∙ (first.1 ∙ ap (λ ps. ps ++ first.0) (sym h.params)))
+    subst FirstOf same (first.0, h.1.locals ∙ (first.1 ∙ ap (λ ps. ps ++ first.0) (sym h.1.params)))
 
 body_first : (b : Stmts) (u : Code) (o : Option Code) (q : Option Function) → IsUnit b 0 o q → o ≡ Some u → ((f : Function) → q ≡ Some f → f.params ≡ []) → FirstOf u
 body_first b u None q h e bare = absurd cc
 body_first b u (Some v) None h e bare = absurd h
 body_first b u (Some v) (Some f) h e bare =
     let same : v ≡ u = cc in
-    let none : v.params ≡ [] = h.params ∙ bare f refl in
-    subst FirstOf same ([], h.locals ∙ sym (ap (λ ps. ps ++ []) none))
+    let none : v.params ≡ [] = h.1.params ∙ bare f refl in
+    subst FirstOf same ([], h.1.locals ∙ sym (ap (λ ps. ps ++ []) none))
 
 bare_body : (o : Option LoadedModule) (f : Function) → function_in o 0 ≡ Some f → f.params ≡ []
 bare_body None f e = absurd cc

@@ -12,6 +12,7 @@ use Rattle.py_compile_expr.specs.Stands.{tables_in, Guards, HasAt}
 use Rattle.py_compile.specs.Faithful.{IsFaithful}
 use Rattle.py_compile.specs.Laws.{UnitsAreFaithful}
 use Rattle.py_compile.specs.Units.{unit_of_cells, body_cells, body_function}
+use Rattle.py_compile.proofs.DefinitionLaw.{all_functions}
 use Rattle.py_compile.proofs.Numbering.{AllKnown, grows_all, all_known_here}
 use Rattle.py_compile.proofs.Ranges.{column, columns}
 
@@ -50,13 +51,22 @@ cells_stand f defaults own cs =
 own_kept : (t : Tables) (cs : List Cell) → (tables_of t cs).own ≡ t.own
 own_kept t cs = sym (grows_all t cs).own
 
-faithful : (fs : List Function) (f : Function) (own : List Text) → IsFaithful fs f own (unit_of_cells f 0 own (body_cells fs (without_docstring f.body)))
-faithful fs f own =
+faithful : (fs : List Function) (f : Function) (defaults : ℕ) (own : List Text) → IsFaithful fs f defaults own (unit_of_cells f defaults own (body_cells fs (without_docstring f.body)))
+faithful fs f defaults own =
     let cells = body_cells fs (without_docstring f.body) in
-    record { name = refl; first = refl; params = refl; locals = own_kept (record { own = own; names = []; constants = []; lines = [] }) cells; has = cells_stand f 0 own cells; whole = length-map cells _ }
+    record {
+      name = refl;
+      first = refl;
+      params = refl;
+      defaults = refl;
+      locals = own_kept (record { own = own; names = []; constants = []; lines = [] }) cells;
+      has = cells_stand f defaults own cells;
+      whole = length-map cells _;
+    }
 
 pub units_faithful : UnitsAreFaithful
 units_faithful = record {
-  body = λ b. faithful (functions b) (body_function b) [];
-  function = λ b f. faithful (functions b) f (local_names f.params f.body);
+  body = λ b. faithful (functions b) (body_function b) 0 [];
+  function = λ b d. faithful (functions b) d.function d.defaults (local_names d.function.params d.function.body);
+  functions = all_functions;
 }

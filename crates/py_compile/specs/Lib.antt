@@ -1,5 +1,6 @@
 pub mod Ways
 pub mod Statements
+pub mod Definitions
 pub mod Units
 pub mod Faithful
 pub mod Laws

@@ -17,21 +17,22 @@ use Rattle.py_meaning.specs.Program as meant
 use Rattle.py_code.specs.Programs as machine
 use Rattle.py_code.specs.Slots.{by_names, by_slots, IsDistinct}
 use Rattle.py_code.specs.Units.{Code, Module}
+use Rattle.py_compile.specs.Definitions.{Definition, definitions}
 use Rattle.py_compile.specs.Faithful.{IsFaithful}
 use Rattle.py_compile.specs.Proper.{AreProper}
 use Rattle.py_compile.specs.Units.{body_function, compiled}
 
--- the units of functions, in the order of the text
-abbrev pub HasFunctions : List Function → List Function → List Code → Type 0
+-- the units of `def`s, in the order of the text
+abbrev pub HasFunctions : List Function → List Definition → List Code → Type 0
 HasFunctions all [] [] = Unit {0}
 HasFunctions all [] (u ∷ us) = ⊥
-HasFunctions all (f ∷ fs) [] = ⊥
-HasFunctions all (f ∷ fs) (u ∷ us) = IsFaithful all f (local_names f.params f.body) u × HasFunctions all fs us
+HasFunctions all (d ∷ ds) [] = ⊥
+HasFunctions all (d ∷ ds) (u ∷ us) = IsFaithful all d.function d.defaults (local_names d.function.params d.function.body) u × HasFunctions all ds us
 
--- unit 0 is the body, and the others are the functions
+-- unit 0 is the body, and the others are the `def`s
 abbrev pub HasUnits : Stmts → List Code → Type 0
 HasUnits b [] = ⊥
-HasUnits b (u ∷ us) = IsFaithful (functions b) (body_function b) [] u × HasFunctions (functions b) (functions b) us
+HasUnits b (u ∷ us) = IsFaithful (functions b) (body_function b) 0 [] u × HasFunctions (functions b) (definitions b) us
 
 abbrev pub AreFaithful : List Module → List LoadedModule → Type 0
 AreFaithful [] [] = Unit {0}

@@ -12,6 +12,7 @@ use Rattle.py_code.specs.declared.unit.Constant.TheVariants.{None as NoneConstan
 use Rattle.py_code.specs.declared.unit.Handler.{Handler}
 use Rattle.py_code.specs.Units.{Code, Module}
 use Rattle.py_compile_expr.specs.Cells.{Op, constant, plain, Guard, Cell, put, instr_of, tables_of}
+use Rattle.py_compile.specs.Definitions.{Definition, definitions}
 use Rattle.py_compile.specs.Statements.{stmts_size, stmts_code}
 use Rattle.py_compile.specs.Ways.{outermost}
 
@@ -67,11 +68,12 @@ body_function body = record { line = 1; name = []; params = []; body = body }
 abbrev pub module_code : Stmts → Code
 module_code body = unit_of_cells (body_function body) 0 [] (body_cells (functions body) (without_docstring body))
 
-abbrev pub function_code : List Function → Function → Code
-function_code fs f = unit_of_cells f 0 (local_names f.params f.body) (body_cells fs (without_docstring f.body))
+abbrev pub function_code : List Function → Definition → Code
+function_code fs d =
+    let f = d.function in unit_of_cells f d.defaults (local_names f.params f.body) (body_cells fs (without_docstring f.body))
 
 abbrev pub units_code : Stmts → List Code
-units_code body = module_code body ∷ map (function_code (functions body)) (functions body)
+units_code body = module_code body ∷ map (function_code (functions body)) (definitions body)
 
 abbrev pub compiled : LoadedModule → Module
 compiled m = record { name = m.name; units = units_code m.body }
