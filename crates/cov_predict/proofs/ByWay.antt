@@ -59,7 +59,7 @@ module _ (q : Arc) where
 
   -- in front of what follows in a row
   pub ways-before : (f : Way → List ℕ) (ms : List ℕ) (e : Bool) (t : Targets)
-      → ways f (before pos ms e t) ≡ (all_from q (f onward) (firsts q ms) || ways (λ w. only (not (is_onward w) || e) (f w)) t)
+      → ways f (before ms e t) ≡ (all_from q (f onward) (firsts q ms) || ways (λ w. only (not (is_onward w) || e) (f w)) t)
   unfolding ways
   ways-before f ms e t =
       let others = all_from q (f breaking) t.breaking || (all_from q (f continuing) t.continuing || (all_from q (f returning) t.returning || all_from q (f raising) t.raising)) in

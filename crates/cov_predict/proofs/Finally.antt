@@ -101,13 +101,13 @@ module _ (q : Arc) where
       ∙ ap (λ z. z || (came onward && all_from q xs t.onward)) (all_from-nowhere q xs)))))
 
   through-is : (ms : List ℕ) (e : Bool) (o b c r x : List ℕ) (to tb tc tr tx : List Target)
-      → (all_from q o (entering pos ms e to) || (all_from q b (entering pos ms e tb) || (all_from q c (entering pos ms e tc) || (all_from q r (entering pos ms e tr) || all_from q x (entering pos ms e tx)))))
+      → (all_from q o (entering ms e to) || (all_from q b (entering ms e tb) || (all_from q c (entering ms e tc) || (all_from q r (entering ms e tr) || all_from q x (entering ms e tx)))))
       ≡ (has_pair q (joined (o ++ (b ++ (c ++ (r ++ x)))) ms) || (e && (all_from q o to || (all_from q b tb || (all_from q c tc || (all_from q r tr || all_from q x tx))))))
   through-is ms e o b c r x to tb tc tr tx = simp (has_pair-joined, all_from-append, all_from-entering, choices)
 
   -- each way goes through a `finally` suite with this first mark
   pub through : (ms : List ℕ) (e : Bool) (came : Way → List ℕ) (t : Targets)
-      → ways q came (record { onward = entering pos ms e t.onward; breaking = entering pos ms e t.breaking; continuing = entering pos ms e t.continuing; returning = entering pos ms e t.returning; raising = entering pos ms e t.raising })
+      → ways q came (record { onward = entering ms e t.onward; breaking = entering ms e t.breaking; continuing = entering ms e t.continuing; returning = entering ms e t.returning; raising = entering ms e t.raising })
       ≡ (has_pair q (joined (by_each_way came) ms) || (e && ways q came t))
   unfolding ways
   through ms e came t = through-is ms e (came onward) (came breaking) (came continuing) (came returning) (came raising) t.onward t.breaking t.continuing t.returning t.raising
@@ -132,7 +132,7 @@ module _ (q : Arc) where
       (sym (from-united (last onward) (λ w. comes (came w)) t))
 
   left-try-is : (tried passed : Bool) (mc mo : List ℕ) (o b c r x : List ℕ) (to tb tc tr tx : List Target)
-      → (all_from q o (entering pos mo passed to) || (all_from q b tb || (all_from q c tc || (all_from q r tr || all_from q x (entering pos mc (not tried) tx)))))
+      → (all_from q o (entering mo passed to) || (all_from q b tb || (all_from q c tc || (all_from q r tr || all_from q x (entering mc (not tried) tx)))))
       ≡ ((has_pair q (joined x mc) || has_pair q (joined o mo)) || (all_from q (only passed o) to || (all_from q b tb || (all_from q c tc || (all_from q r tr || all_from q (only (not tried) x) tx)))))
   left-try-is tried passed mc mo o b c r x to tb tc tr tx = simp (has_pair-joined, all_from-entering, all_from-only, choices)
 
@@ -141,11 +141,11 @@ module _ (q : Arc) where
 
   -- where a `try` suite is left, with its own mark, and the first marks of the clauses and of the `else`
   pub left-try : (tried passed eb : Bool) (l : ℕ) (mc mo : List ℕ) (last : Way → List ℕ) (t : Targets)
-      → ((eb && from q l (entering pos mo passed t.onward)) || ways q last (record t { onward = entering pos mo passed t.onward; raising = entering pos mc (not tried) t.raising }))
+      → ((eb && from q l (entering mo passed t.onward)) || ways q last (record t { onward = entering mo passed t.onward; raising = entering mc (not tried) t.raising }))
       ≡ ((has_pair q (joined (last raising) mc) || has_pair q (joined (last onward ++ only eb (l ∷ [])) mo)) || ways q (λ w. past_try w tried passed (last onward ++ only eb (l ∷ [])) (last w)) t)
   unfolding ways
   left-try tried passed eb l mc mo last t =
-      ended-is l eb (last onward) (entering pos mo passed t.onward) (all_from q (last breaking) t.breaking || (all_from q (last continuing) t.continuing || (all_from q (last returning) t.returning || all_from q (last raising) (entering pos mc (not tried) t.raising))))
+      ended-is l eb (last onward) (entering mo passed t.onward) (all_from q (last breaking) t.breaking || (all_from q (last continuing) t.continuing || (all_from q (last returning) t.returning || all_from q (last raising) (entering mc (not tried) t.raising))))
       ∙ left-try-is tried passed mc mo (last onward ++ only eb (l ∷ [])) (last breaking) (last continuing) (last returning) (last raising) t.onward t.breaking t.continuing t.returning t.raising
 
   five : {a b c o : Bool} (own body clauses orelse fin : List Arc) → hits q own ≡ a → hits q body ≡ b → hits q clauses ≡ c → hits q orelse ≡ o
@@ -167,12 +167,12 @@ module _ (q : Arc) where
 
   -- a `try`
   pub a-try : (any eb passed tried : Bool) (l : ℕ) (t g : Targets) (mb mc mo mf : List ℕ) (body clauses orelse fin : List Arc) (bps cps ops fps : List Pair) (bl cl ol fl : Way → List ℕ)
-      → hits q body ≡ (has_pair q bps || ways q bl (record g { onward = entering pos mo passed g.onward; raising = entering pos mc (not tried) g.raising }))
+      → hits q body ≡ (has_pair q bps || ways q bl (record g { onward = entering mo passed g.onward; raising = entering mc (not tried) g.raising }))
       → hits q clauses ≡ (has_pair q cps || ways q cl g)
       → hits q orelse ≡ (has_pair q ops || ways q ol g)
       → (ways q (λ w. past_try w tried passed (bl onward ++ only eb (l ∷ [])) (bl w) ++ (cl w ++ ol w)) g || hits q fin)
       ≡ (has_pair q (joined (by_each_way (λ w. past_try w tried passed (bl onward ++ only eb (l ∷ [])) (bl w) ++ (cl w ++ ol w))) mf) || (has_pair q fps || ways q fl t))
-      → hits q ((own_walk any t (pos l) (entering pos mb eb (entering pos mo passed g.onward)) ++ body) ++ (clauses ++ (orelse ++ fin)))
+      → hits q ((own_walk any t (pos l) (entering mb eb (entering mo passed g.onward)) ++ body) ++ (clauses ++ (orelse ++ fin)))
       ≡ (has_pair q (joined (l ∷ []) mb ++ (joined (bl raising) mc ++ (joined (bl onward ++ only eb (l ∷ [])) mo
       ++ (joined (by_each_way (λ w. past_try w tried passed (bl onward ++ only eb (l ∷ [])) (bl w) ++ (cl w ++ ol w))) mf ++ (bps ++ (cps ++ (ops ++ fps)))))))
       || ways q (λ w. may_raise any w l ++ fl w) t)
@@ -180,11 +180,11 @@ module _ (q : Arc) where
       let ended : List ℕ = bl onward ++ only eb (l ∷ []) in
       let inner : Way → List ℕ = λ w. past_try w tried passed (bl onward ++ only eb (l ∷ [])) (bl w) in
       let behind : Way → List ℕ = λ w. cl w ++ ol w in
-      let own : hits q (own_walk any t (pos l) (entering pos mb eb (entering pos mo passed g.onward))) ≡ ((from q l (firsts q mb) || (eb && from q l (entering pos mo passed g.onward))) || (any && from q l t.raising)) =
-      hits-own_walk q any t l (entering pos mb eb (entering pos mo passed g.onward)) ∙ ap (λ z. z || (any && from q l t.raising)) (from-entering q l mb eb (entering pos mo passed g.onward)) in
-      five (own_walk any t (pos l) (entering pos mb eb (entering pos mo passed g.onward))) body clauses orelse fin own hb hc ho
-      ∙ try-is (from q l (firsts q mb)) (eb && from q l (entering pos mo passed g.onward)) (any && from q l t.raising)
-      (has_pair q bps) (ways q bl (record g { onward = entering pos mo passed g.onward; raising = entering pos mc (not tried) g.raising }))
+      let own : hits q (own_walk any t (pos l) (entering mb eb (entering mo passed g.onward))) ≡ ((from q l (firsts q mb) || (eb && from q l (entering mo passed g.onward))) || (any && from q l t.raising)) =
+      hits-own_walk q any t l (entering mb eb (entering mo passed g.onward)) ∙ ap (λ z. z || (any && from q l t.raising)) (from-entering q l mb eb (entering mo passed g.onward)) in
+      five (own_walk any t (pos l) (entering mb eb (entering mo passed g.onward))) body clauses orelse fin own hb hc ho
+      ∙ try-is (from q l (firsts q mb)) (eb && from q l (entering mo passed g.onward)) (any && from q l t.raising)
+      (has_pair q bps) (ways q bl (record g { onward = entering mo passed g.onward; raising = entering mc (not tried) g.raising }))
       (has_pair q cps) (ways q cl g) (has_pair q ops) (ways q ol g) (hits q fin)
       (has_pair q (joined (bl raising) mc)) (has_pair q (joined ended mo)) (ways q inner g)
       (has_pair q (joined (by_each_way (λ w. inner w ++ behind w)) mf)) (has_pair q fps) (ways q fl t) (ways q (λ w. inner w ++ behind w) g)

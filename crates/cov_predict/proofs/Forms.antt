@@ -16,7 +16,7 @@ not_not false = refl
 
 module _ (q : Arc) where
   pub in-a-row : (ms : List ℕ) (e : Bool) (t : Targets) (walk rest : List Arc) (ps rest_ps : List Pair) (last rest_last : Way → List ℕ)
-      → hits q walk ≡ (has_pair q ps || ways q last (before pos ms e t))
+      → hits q walk ≡ (has_pair q ps || ways q last (before ms e t))
       → hits q rest ≡ (has_pair q rest_ps || ways q rest_last t)
       → hits q (walk ++ rest) ≡ (has_pair q (ps ++ (joined (last onward) ms ++ rest_ps)) || ways q (λ w. only (not (is_onward w) || e) (last w) ++ rest_last w) t)
   in-a-row ms e t walk rest ps rest_ps last rest_last h k =
@@ -25,22 +25,22 @@ module _ (q : Arc) where
   pub a-loop : (any c eb eo : Bool) (l : ℕ) (t : Targets) (mb mo : List ℕ) (body orelse : List Arc) (bps ops : List Pair) (bl ol : Way → List ℕ)
       → hits q body ≡ (has_pair q bps || ways q bl (in_loop (pos l) t))
       → hits q orelse ≡ (has_pair q ops || ways q ol t)
-      → hits q ((own_walk any t (pos l) (entering pos mb eb (turn (pos l))) ++ body) ++ ((if c then [] else arcs_to (pos l) (entering pos mo eo t.onward)) ++ orelse))
+      → hits q ((own_walk any t (pos l) (entering mb eb (turn (pos l))) ++ body) ++ ((if c then [] else arcs_to (pos l) (entering mo eo t.onward)) ++ orelse))
       ≡ (has_pair q (joined (l ∷ []) mb ++ (turned l (bl onward ++ (bl continuing ++ only eb (l ∷ []))) ++ (joined (only (not c) (l ∷ [])) mo ++ (bps ++ ops))))
       || ways q (λ w. may_raise any w l ++ (past_loop w (bl breaking) (bl w) ++ (onward_only w (only (not c && eo) (l ∷ [])) ++ ol w))) t)
   a-loop any c eb eo l t mb mo body orelse bps ops bl ol h k =
       simp (hits-append, hits-unless, hits-raises, hits-arcs_to, h, k, from-entering, has_pair-append, has_pair-joined, followed-is, has_pair-none, has_pair-turned, ways-in_loop, ways-append, ways-may_raise, ways-onward_only, all_from-append, all_from-only, all_from-one, choices)
 
-  -- a test: onward into its suite, or to what comes behind it; the marks of what is left count with those of the `else`
+  -- a test: onward into its suite, or to what comes after it; the marks of what is left count with those of the `else`
   pub an-arm : (any eb er : Bool) (l : ℕ) (t : Targets) (mb mr : List ℕ) (body rest : List Arc) (bps rps : List Pair) (bl rl : Way → List ℕ) (orelse : Bool)
       → hits q body ≡ (has_pair q bps || ways q bl t)
       → (hits q rest || orelse) ≡ (has_pair q rps || ways q rl t)
-      → (hits q ((own_walk any t (pos l) (entering pos mb eb t.onward) ++ body) ++ (arcs_to (pos l) (entering pos mr er t.onward) ++ rest)) || orelse)
+      → (hits q ((own_walk any t (pos l) (entering mb eb t.onward) ++ body) ++ (arcs_to (pos l) (entering mr er t.onward) ++ rest)) || orelse)
       ≡ (has_pair q (joined (l ∷ []) mb ++ (joined (l ∷ []) mr ++ (bps ++ rps)))
       || ways q (λ w. may_raise any w l ++ (onward_only w (only eb (l ∷ []) ++ only er (l ∷ [])) ++ (bl w ++ rl w))) t)
   an-arm any eb er l t mb mr body rest bps rps bl rl orelse h k =
-      let A = own_walk any t (pos l) (entering pos mb eb t.onward) ++ body in
-      let B = arcs_to (pos l) (entering pos mr er t.onward) in
+      let A = own_walk any t (pos l) (entering mb eb t.onward) ++ body in
+      let B = arcs_to (pos l) (entering mr er t.onward) in
       ap (λ b. b || orelse) (hits-append q A (B ++ rest) ∙ ap (λ b. hits q A || b) (hits-append q B rest))
       ∙ or_assoc (hits q A) (hits q B || hits q rest) orelse
       ∙ ap (λ b. hits q A || b) (or_assoc (hits q B) (hits q rest) orelse ∙ ap (λ b. hits q B || b) k)
@@ -63,7 +63,7 @@ module _ (q : Arc) where
   pub a-clause : (any eb er named : Bool) (l : ℕ) (t : Targets) (mb mr : List ℕ) (body rest : List Arc) (bps rps : List Pair) (bl rl : Way → List ℕ)
       → hits q body ≡ (has_pair q bps || ways q bl t)
       → hits q rest ≡ (has_pair q rps || ways q rl t)
-      → hits q ((own_walk any t (pos l) (entering pos mb eb t.onward) ++ body) ++ ((if not named then [] else arcs_to (pos l) (entering pos mr er [])) ++ rest))
+      → hits q ((own_walk any t (pos l) (entering mb eb t.onward) ++ body) ++ ((if not named then [] else arcs_to (pos l) (entering mr er [])) ++ rest))
       ≡ (has_pair q (joined (l ∷ []) mb ++ (joined (only named (l ∷ [])) mr ++ (bps ++ rps)))
       || ways q (λ w. may_raise any w l ++ (onward_only w (only eb (l ∷ [])) ++ (bl w ++ rl w))) t)
   a-clause any eb er named l t mb mr body rest bps rps bl rl h k =
@@ -73,7 +73,7 @@ module _ (q : Arc) where
   pub a-case : (any eb er sure : Bool) (l : ℕ) (t : Targets) (mb mr : List ℕ) (body rest : List Arc) (bps rps : List Pair) (bl rl : Way → List ℕ)
       → hits q body ≡ (has_pair q bps || ways q bl t)
       → hits q rest ≡ (has_pair q rps || ways q rl t)
-      → hits q ((own_walk any t (pos l) (entering pos mb eb t.onward) ++ body) ++ ((if sure then [] else arcs_to (pos l) (entering pos mr er t.onward)) ++ rest))
+      → hits q ((own_walk any t (pos l) (entering mb eb t.onward) ++ body) ++ ((if sure then [] else arcs_to (pos l) (entering mr er t.onward)) ++ rest))
       ≡ (has_pair q (joined (l ∷ []) mb ++ (joined (only (not sure) (l ∷ [])) mr ++ (bps ++ rps)))
       || ways q (λ w. may_raise any w l ++ (onward_only w (only eb (l ∷ []) ++ only (not sure && er) (l ∷ [])) ++ (bl w ++ rl w))) t)
   a-case any eb er sure l t mb mr body rest bps rps bl rl h k =
@@ -82,7 +82,7 @@ module _ (q : Arc) where
   -- a `match`
   pub a-match : (any er : Bool) (l : ℕ) (t : Targets) (mr : List ℕ) (rest : List Arc) (rps : List Pair) (rl : Way → List ℕ)
       → hits q rest ≡ (has_pair q rps || ways q rl t)
-      → hits q (own_walk any t (pos l) (entering pos mr er t.onward) ++ rest)
+      → hits q (own_walk any t (pos l) (entering mr er t.onward) ++ rest)
       ≡ (has_pair q (joined (l ∷ []) mr ++ rps) || ways q (λ w. may_raise any w l ++ (onward_only w (only er (l ∷ [])) ++ rl w)) t)
   a-match any er l t mr rest rps rl k =
       simp (hits-append, hits-raises, hits-arcs_to, k, from-entering, has_pair-append, has_pair-joined, followed-is, has_pair-none, ways-append, ways-may_raise, ways-onward_only, all_from-only, all_from-one, choices)

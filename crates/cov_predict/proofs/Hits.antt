@@ -120,7 +120,7 @@ module _ (q : Arc) where
   unfoldable pub firsts : List ℕ → List Target
   firsts ms = map (λ m. (pos m, false)) ms
 
-  pub from-entering : (l : ℕ) (ms : List ℕ) (e : Bool) (ts : List Target) → from l (entering pos ms e ts) ≡ (from l (firsts ms) || (e && from l ts))
+  pub from-entering : (l : ℕ) (ms : List ℕ) (e : Bool) (ts : List Target) → from l (entering ms e ts) ≡ (from l (firsts ms) || (e && from l ts))
   unfolding firsts
   from-entering l ms e ts = from-append l (firsts ms) (if e then ts else []) ∙ ap (λ b. from l (firsts ms) || b) (from-if l e ts)
 
@@ -161,7 +161,7 @@ module _ (q : Arc) where
   all_from-if xs true ts = refl
   all_from-if xs false ts = all_from-nowhere xs
 
-  pub all_from-entering : (xs ms : List ℕ) (e : Bool) (ts : List Target) → all_from xs (entering pos ms e ts) ≡ (all_from xs (firsts ms) || (e && all_from xs ts))
+  pub all_from-entering : (xs ms : List ℕ) (e : Bool) (ts : List Target) → all_from xs (entering ms e ts) ≡ (all_from xs (firsts ms) || (e && all_from xs ts))
   unfolding firsts
   all_from-entering xs ms e ts = all_from-both xs (firsts ms) (if e then ts else []) ∙ ap (λ b. all_from xs (firsts ms) || b) (all_from-if xs e ts)
 

@@ -42,14 +42,14 @@ module _ (q : Arc) where
   mutual
     unfolding computes
 
-    pub stmts-law : (any : Bool) (t : Targets) (b : Stmts) → hits q (stmts_walk pos any t b) ≡ (has_pair q (stmts_pairs any b) || ways q (λ w. stmts_last any w b) t)
+    pub stmts-law : (any : Bool) (t : Targets) (b : Stmts) → hits q (stmts_walk any t b) ≡ (has_pair q (stmts_pairs any b) || ways q (λ w. stmts_last any w b) t)
     stmts-law any t no_stmts = nothing t
     stmts-law any t (stmt l m k e rest) =
-        in-a-row q (stmts_first rest) (stmts_empty rest) t (kind_walk pos any (before pos (stmts_first rest) (stmts_empty rest) t) l k) (stmts_walk pos any t rest) (kind_pairs any l k) (stmts_pairs any rest)
+        in-a-row q (stmts_first rest) (stmts_empty rest) t (kind_walk any (before (stmts_first rest) (stmts_empty rest) t) l k) (stmts_walk any t rest) (kind_pairs any l k) (stmts_pairs any rest)
         (λ w. kind_last any w l k) (λ w. stmts_last any w rest)
-        (kind-law any (before pos (stmts_first rest) (stmts_empty rest) t) l k) (stmts-law any t rest)
+        (kind-law any (before (stmts_first rest) (stmts_empty rest) t) l k) (stmts-law any t rest)
 
-    pub kind-law : (any : Bool) (t : Targets) (l : ℕ) (k : StmtKind) → hits q (kind_walk pos any t l k) ≡ (has_pair q (kind_pairs any l k) || ways q (λ w. kind_last any w l k) t)
+    pub kind-law : (any : Bool) (t : Targets) (l : ℕ) (k : StmtKind) → hits q (kind_walk any t l k) ≡ (has_pair q (kind_pairs any l k) || ways q (λ w. kind_last any w l k) t)
     kind-law any t l (expr e) = goes-on any t l
     kind-law any t l (assign ts e) = goes-on any t l
     kind-law any t l (aug_assign p op e) = goes-on any t l
@@ -63,58 +63,58 @@ module _ (q : Arc) where
     kind-law any t l (import names) = goes-on any t l
     kind-law any t l (from m names) = goes-on any t l
     kind-law any t l (if' arms o) =
-        an-if q t (arms_walk pos any t arms (opt_first o) (opt_empty o)) (opt_walk pos any t o) (arms_pairs any arms (opt_first o)) (opt_pairs any o)
+        an-if q t (arms_walk any t arms (opt_first o) (opt_empty o)) (opt_walk any t o) (arms_pairs any arms (opt_first o)) (opt_pairs any o)
         (λ w. arms_last any w arms (opt_last any w o) (opt_empty o)) (λ w. opt_last any w o)
         (arms-law any t arms (opt_first o) (opt_empty o) (λ w. opt_last any w o)) (opt-law any t o)
     kind-law any t l (while e (suite f g inline b) o) =
-        a-loop q any (is_constant e) (stmts_empty b) (opt_empty o) l t (stmts_first b) (opt_first o) (stmts_walk pos any (in_loop (pos l) t) b) (opt_walk pos any t o)
+        a-loop q any (is_constant e) (stmts_empty b) (opt_empty o) l t (stmts_first b) (opt_first o) (stmts_walk any (in_loop (pos l) t) b) (opt_walk any t o)
         (stmts_pairs any b) (opt_pairs any o) (λ w. stmts_last any w b) (λ w. opt_last any w o)
         (stmts-law any (in_loop (pos l) t) b) (opt-law any t o)
     kind-law any t l (for x e (suite f g inline b) o) =
-        a-loop q any false (stmts_empty b) (opt_empty o) l t (stmts_first b) (opt_first o) (stmts_walk pos any (in_loop (pos l) t) b) (opt_walk pos any t o)
+        a-loop q any false (stmts_empty b) (opt_empty o) l t (stmts_first b) (opt_first o) (stmts_walk any (in_loop (pos l) t) b) (opt_walk any t o)
         (stmts_pairs any b) (opt_pairs any o) (λ w. stmts_last any w b) (λ w. opt_last any w o)
         (stmts-law any (in_loop (pos l) t) b) (opt-law any t o)
     kind-law any t l (try (suite f g inline b) cs o fin) =
-        let inner = before_finally pos fin t in
+        let inner = before_finally fin t in
         let after = record t { onward = united (λ w. comes (came_last any l (suite f g inline b) cs o w)) t } in
         a-try q any (stmts_empty b) (opt_empty o) (has_clause cs) l t inner (stmts_first b) (clauses_first cs) (opt_first o) (opt_first fin)
-        (stmts_walk pos any (in_try pos cs o inner) b) (clauses_walk pos any inner cs) (opt_walk pos any inner o) (opt_walk pos any after fin)
+        (stmts_walk any (in_try cs o inner) b) (clauses_walk any inner cs) (opt_walk any inner o) (opt_walk any after fin)
         (stmts_pairs any b) (clauses_pairs any cs) (opt_pairs any o) (opt_pairs any fin)
         (λ w. stmts_last any w b) (λ w. clauses_last any w cs) (λ w. opt_last any w o) (λ w. finally_last any w fin (came_last any l (suite f g inline b) cs o w))
-        (stmts-law any (in_try pos cs o inner) b) (clauses-law any inner cs) (opt-law any inner o)
+        (stmts-law any (in_try cs o inner) b) (clauses-law any inner cs) (opt-law any inner o)
         (finally-law any t (came_last any l (suite f g inline b) cs o) fin)
     kind-law any t l (def x ps ds c b) = goes-on any t l
     kind-law any t l (match e header cs) =
-        a-match q any (not (has_case cs)) l t (cases_first cs) (cases_walk pos any t cs) (cases_pairs any cs) (λ w. cases_last any w cs) (cases-law any t cs)
+        a-match q any (not (has_case cs)) l t (cases_first cs) (cases_walk any t cs) (cases_pairs any cs) (λ w. cases_last any w cs) (cases-law any t cs)
 
-    pub opt-law : (any : Bool) (t : Targets) (o : OptSuite) → hits q (opt_walk pos any t o) ≡ (has_pair q (opt_pairs any o) || ways q (λ w. opt_last any w o) t)
+    pub opt-law : (any : Bool) (t : Targets) (o : OptSuite) → hits q (opt_walk any t o) ≡ (has_pair q (opt_pairs any o) || ways q (λ w. opt_last any w o) t)
     opt-law any t no_suite = nothing t
     opt-law any t (has_suite (suite f g inline b)) = stmts-law any t b
 
     pub arms-law : (any : Bool) (t : Targets) (arms : Arms) (first : List ℕ) (passed : Bool) (orelse : Way → List ℕ)
-        → (hits q (arms_walk pos any t arms first passed) || ways q orelse t) ≡ (has_pair q (arms_pairs any arms first) || ways q (λ w. arms_last any w arms (orelse w) passed) t)
+        → (hits q (arms_walk any t arms first passed) || ways q orelse t) ≡ (has_pair q (arms_pairs any arms first) || ways q (λ w. arms_last any w arms (orelse w) passed) t)
     arms-law any t no_arms first passed orelse = ap (λ b. b || ways q orelse t) (hits-none q ∙ sym (has_pair-none q))
     arms-law any t (arm e (suite f g inline b) rest) first passed orelse =
-        an-arm q any (stmts_empty b) (arms_empty rest passed) f t (stmts_first b) (arms_first rest first) (stmts_walk pos any t b) (arms_walk pos any t rest first passed)
+        an-arm q any (stmts_empty b) (arms_empty rest passed) f t (stmts_first b) (arms_first rest first) (stmts_walk any t b) (arms_walk any t rest first passed)
         (stmts_pairs any b) (arms_pairs any rest first) (λ w. stmts_last any w b) (λ w. arms_last any w rest (orelse w) passed) (ways q orelse t)
         (stmts-law any t b) (arms-law any t rest first passed orelse)
 
-    pub clauses-law : (any : Bool) (t : Targets) (cs : Clauses) → hits q (clauses_walk pos any t cs) ≡ (has_pair q (clauses_pairs any cs) || ways q (λ w. clauses_last any w cs) t)
+    pub clauses-law : (any : Bool) (t : Targets) (cs : Clauses) → hits q (clauses_walk any t cs) ≡ (has_pair q (clauses_pairs any cs) || ways q (λ w. clauses_last any w cs) t)
     clauses-law any t no_clauses = nothing t
     clauses-law any t (clause k x (suite f g inline b) rest) =
-        a-clause q any (stmts_empty b) (not (has_clause rest)) (names_kind k) f t (stmts_first b) (clauses_first rest) (stmts_walk pos any t b) (clauses_walk pos any t rest)
+        a-clause q any (stmts_empty b) (not (has_clause rest)) (names_kind k) f t (stmts_first b) (clauses_first rest) (stmts_walk any t b) (clauses_walk any t rest)
         (stmts_pairs any b) (clauses_pairs any rest) (λ w. stmts_last any w b) (λ w. clauses_last any w rest)
         (stmts-law any t b) (clauses-law any t rest)
 
-    pub cases-law : (any : Bool) (t : Targets) (cs : Cases) → hits q (cases_walk pos any t cs) ≡ (has_pair q (cases_pairs any cs) || ways q (λ w. cases_last any w cs) t)
+    pub cases-law : (any : Bool) (t : Targets) (cs : Cases) → hits q (cases_walk any t cs) ≡ (has_pair q (cases_pairs any cs) || ways q (λ w. cases_last any w cs) t)
     cases-law any t no_cases = nothing t
     cases-law any t (case p guard (suite f g inline b) rest) =
-        a-case q any (stmts_empty b) (not (has_case rest)) (is_sure p guard) f t (stmts_first b) (cases_first rest) (stmts_walk pos any t b) (cases_walk pos any t rest)
+        a-case q any (stmts_empty b) (not (has_case rest)) (is_sure p guard) f t (stmts_first b) (cases_first rest) (stmts_walk any t b) (cases_walk any t rest)
         (stmts_pairs any b) (cases_pairs any rest) (λ w. stmts_last any w b) (λ w. cases_last any w rest)
         (stmts-law any t b) (cases-law any t rest)
 
     pub finally-law : (any : Bool) (t : Targets) (came : Way → List ℕ) (fin : OptSuite)
-        → (ways q came (before_finally pos fin t) || hits q (opt_walk pos any (record t { onward = united (λ w. comes (came w)) t }) fin))
+        → (ways q came (before_finally fin t) || hits q (opt_walk any (record t { onward = united (λ w. comes (came w)) t }) fin))
         ≡ (has_pair q (joined (by_each_way came) (opt_first fin)) || (has_pair q (opt_pairs any fin) || ways q (λ w. finally_last any w fin (came w)) t))
     finally-law any t came no_suite =
         ap (λ b. b || hits q []) (through q [] true came t)
@@ -122,7 +122,7 @@ module _ (q : Arc) where
         ∙ ap (λ b. has_pair q (joined (by_each_way came) []) || b) (ap (λ b. ways q came t || b) (hits-none q) ∙ or_false (ways q came t) ∙ sym (ap (λ b. b || ways q came t) (has_pair-none q)))
     finally-law any t came (has_suite (suite f g inline b)) =
         let after = record t { onward = united (λ w. comes (came w)) t } in
-        ap (λ z. z || hits q (stmts_walk pos any after b)) (through q (stmts_first b) (stmts_empty b) came t)
+        ap (λ z. z || hits q (stmts_walk any after b)) (through q (stmts_first b) (stmts_empty b) came t)
         ∙ ap (λ z. (has_pair q (joined (by_each_way came) (stmts_first b)) || (stmts_empty b && ways q came t)) || z) (stmts-law any after b)
         ∙ around-finally (has_pair q (joined (by_each_way came) (stmts_first b))) (stmts_empty b && ways q came t) (has_pair q (stmts_pairs any b)) (ways q (λ w. stmts_last any w b) after)
         ∙ ap (λ z. has_pair q (joined (by_each_way came) (stmts_first b)) || (has_pair q (stmts_pairs any b) || z)) (sym (left-finally q (stmts_empty b) came (λ w. stmts_last any w b) t))

@@ -7,3 +7,9 @@ pub mod Forms
 pub mod Finally
 pub mod Law
 pub mod Modules
+pub mod Left
+pub mod Rows
+pub mod Compounds
+pub mod First
+pub mod Defined
+pub mod Predicted

@@ -42,12 +42,12 @@ module _ (q : Arc) where
   unfolding has_pair
   pairs-are ps = refl
 
-  body-law : (any : Bool) (first : ℕ) (b : Stmts) → hits q (body_walk pos any first b) ≡ hits q (body_arcs any first b)
+  body-law : (any : Bool) (first : ℕ) (b : Stmts) → hits q (body_walk any first b) ≡ hits q (body_arcs any first b)
   body-law any first b =
       let out = outside first in
       let F : List Arc = map (λ l. (out, pos l)) (stmts_first b) in
       let E : List Arc = if stmts_empty b then (out, out) ∷ [] else [] in
-      let W = stmts_walk pos any (leaving out) b in
+      let W = stmts_walk any (leaving out) b in
       let P : List Arc = map (λ p. (pos p.0, pos p.1)) (stmts_pairs any b) in
       let n = stmts_last any onward b in
       let r = stmts_last any returning b in
@@ -62,21 +62,21 @@ module _ (q : Arc) where
       ∙ sym (hits-append q F (P ++ (L ++ E))
       ∙ ap (λ z. hits q F || z) (hits-append q P (L ++ E) ∙ ap (λ z. hits q P || z) (hits-append q L E ∙ ap (λ z. z || hits q E) (lasts-out out n r x))))
 
-  functions-law : (any : Bool) (fs : List Function) → hits q (functions_walk pos any fs) ≡ hits q (functions_arcs any fs)
+  functions-law : (any : Bool) (fs : List Function) → hits q (functions_walk any fs) ≡ hits q (functions_arcs any fs)
   functions-law any [] = refl
   functions-law any (f ∷ fs) =
-      hits-append q (body_walk pos any f.line (without_docstring f.body)) (functions_walk pos any fs)
-      ∙ ap (λ z. z || hits q (functions_walk pos any fs)) (body-law any f.line (without_docstring f.body))
+      hits-append q (body_walk any f.line (without_docstring f.body)) (functions_walk any fs)
+      ∙ ap (λ z. z || hits q (functions_walk any fs)) (body-law any f.line (without_docstring f.body))
       ∙ ap (λ z. hits q (body_arcs any f.line (without_docstring f.body)) || z) (functions-law any fs)
       ∙ sym (hits-append q (body_arcs any f.line (without_docstring f.body)) (functions_arcs any fs))
 
-  pub module-law : (any : Bool) (m : Stmts) → hits q (module_walk pos any m) ≡ hits q (module_arcs any m)
+  pub module-law : (any : Bool) (m : Stmts) → hits q (module_walk any m) ≡ hits q (module_arcs any m)
   module-law any m =
-      hits-append q (body_walk pos any 1 (without_docstring m)) (functions_walk pos any (functions m))
-      ∙ ap (λ z. z || hits q (functions_walk pos any (functions m))) (body-law any 1 (without_docstring m))
+      hits-append q (body_walk any 1 (without_docstring m)) (functions_walk any (functions m))
+      ∙ ap (λ z. z || hits q (functions_walk any (functions m))) (body-law any 1 (without_docstring m))
       ∙ ap (λ z. hits q (body_arcs any 1 (without_docstring m)) || z) (functions-law any (functions m))
       ∙ sym (hits-append q (body_arcs any 1 (without_docstring m)) (functions_arcs any (functions m)))
 
-  pub same-arcs : (any : Bool) (m : Stmts) → list_any (eq_by_cmp by_ends q) (module_walk pos any m) ≡ list_any (eq_by_cmp by_ends q) (module_arcs any m)
+  pub same-arcs : (any : Bool) (m : Stmts) → list_any (eq_by_cmp by_ends q) (module_walk any m) ≡ list_any (eq_by_cmp by_ends q) (module_arcs any m)
   unfolding hits
   same-arcs any m = module-law any m

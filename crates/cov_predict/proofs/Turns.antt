@@ -14,9 +14,9 @@ use Rattle.py_syntax.specs.declared.stmt.LineEnd.{LineEnd}
 use Rattle.py_syntax.specs.Tree.{Stmts, StmtKind as Kind, no_stmts, stmt, try, match}
 use Rattle.cov_predict.specs.Leading.{first_marks, lines_of}
 use Rattle.py_syntax.specs.View.{plain_expr, plain_stmts, plain_kind, plain_suite, plain_opt_suite, plain_clauses, plain_cases}
-use Rattle.cov_predict.proofs.Gathering.{goes_on, the_drop}
+use Rattle.cov_predict.proofs.Gathering.{the_drop}
 
-plain-Stmts : (s : Stmt) (ss : List Stmt) → plain_stmts (s ∷ ss) ≡ stmt (out-Stmt s).first (out-Stmt s).last (plain_kind (out-Stmt s).kind) (out-Stmt s).end (plain_stmts ss)
+pub plain-Stmts : (s : Stmt) (ss : List Stmt) → plain_stmts (s ∷ ss) ≡ stmt (out-Stmt s).first (out-Stmt s).last (plain_kind (out-Stmt s).kind) (out-Stmt s).end (plain_stmts ss)
 plain-Stmts s ss = search stmt_.the_lemmas
 
 -- the first statement, and the others
@@ -24,42 +24,24 @@ first-lines : (leads : Bool) (f l : ℕ) (k : Kind) (e : LineEnd) (ss : Stmts) �
 first-lines true f l k e ss = elim (is_docstring k) as (λ b. (if b then stmts_marks ss else (kind_marks f k ++ stmts_marks ss)) ≡ (if b then [] else kind_marks f k) ++ stmts_marks ss) [ true ↦ refl | false ↦ refl ]
 first-lines false f l k e ss = refl
 
-plain-Match : (e : Expr) (l : ℕ) (cs : Vec Case Global) → plain_kind (kind_.Match e l cs) ≡ match (plain_expr e) l (plain_cases cs.items)
+pub plain-Match : (e : Expr) (l : ℕ) (cs : Vec Case Global) → plain_kind (kind_.Match e l cs) ≡ match (plain_expr e) l (plain_cases cs.items)
 plain-Match e l cs = search kind_.the_lemmas
 
-plain-Try : (b : Suite) (cs : Vec Clause Global) (o f : Option Suite) → plain_kind (kind_.Try b cs o f) ≡ try (plain_suite b) (plain_clauses cs.items) (plain_opt_suite o) (plain_opt_suite f)
+pub plain-Try : (b : Suite) (cs : Vec Clause Global) (o f : Option Suite) → plain_kind (kind_.Try b cs o f) ≡ try (plain_suite b) (plain_clauses cs.items) (plain_opt_suite o) (plain_opt_suite f)
 plain-Try b cs None None = search kind_.the_lemmas
 plain-Try b cs None (Some f) = search kind_.the_lemmas
 plain-Try b cs (Some o) None = search kind_.the_lemmas
 plain-Try b cs (Some o) (Some f) = search kind_.the_lemmas
 
 -- the marks of a `match`, and of a `try`
-match-marks : (line : ℕ) (k : StmtKind) (e : Expr) (l : ℕ) (cs : Vec Case Global) (slice : List Case) → k ≡ kind_.Match e l cs → slice ≡ cs.items → kind_marks line (plain_kind k) ≡ (line ∷ []) ++ cases_marks (plain_cases slice)
-match-marks line k e l cs slice is same = ap (λ q. kind_marks line (plain_kind q)) is ∙ ap (kind_marks line) (plain-Match e l cs) ∙ ap (λ xs. line ∷ cases_marks (plain_cases xs)) (sym same)
+pub match-marks : (line : ℕ) (k : StmtKind) (e : Expr) (l : ℕ) (cs : Vec Case Global) (slice : List Case) → k ≡ kind_.Match e l cs → slice ≡ cs.items → line ∷ cases_marks (plain_cases slice) ≡ kind_marks line (plain_kind k)
+match-marks line k e l cs slice is same = sym (ap (λ q. kind_marks line (plain_kind q)) is ∙ ap (kind_marks line) (plain-Match e l cs) ∙ ap (λ xs. line ∷ cases_marks (plain_cases xs)) (sym same))
 
-try-marks : (line : ℕ) (k : StmtKind) (b : Suite) (cs : Vec Clause Global) (slice : List Clause) (o f : Option Suite) → k ≡ kind_.Try b cs o f → slice ≡ cs.items
-    → kind_marks line (plain_kind k) ≡ (line ∷ []) ++ (suite_marks (plain_suite b) ++ (clauses_marks (plain_clauses slice) ++ (opt_marks (plain_opt_suite o) ++ opt_marks (plain_opt_suite f))))
+pub try-marks : (line : ℕ) (k : StmtKind) (b : Suite) (cs : Vec Clause Global) (slice : List Clause) (o f : Option Suite) → k ≡ kind_.Try b cs o f → slice ≡ cs.items
+    → line ∷ (suite_marks (plain_suite b) ++ (clauses_marks (plain_clauses slice) ++ (opt_marks (plain_opt_suite o) ++ opt_marks (plain_opt_suite f)))) ≡ kind_marks line (plain_kind k)
 try-marks line k b cs slice o f is same =
-    ap (λ q. kind_marks line (plain_kind q)) is ∙ ap (kind_marks line) (plain-Try b cs o f)
-    ∙ ap (λ xs. line ∷ (suite_marks (plain_suite b) ++ (clauses_marks (plain_clauses xs) ++ (opt_marks (plain_opt_suite o) ++ opt_marks (plain_opt_suite f))))) (sym same)
-
-pub matched : {E : Type 0} (r : Result (Unit {0}) E) (line : ℕ) (k : StmtKind) (e : Expr) (l : ℕ) (cs : Vec Case Global) (slice : List Case) (before mid after : List ℕ)
-    → k ≡ kind_.Match e l cs → slice ≡ cs.items → mid ≡ before ++ line ∷ [] → OnOk r (after ≡ mid ++ cases_marks (plain_cases slice)) → OnOk r (after ≡ before ++ kind_marks line (plain_kind k))
-matched r line k e l cs slice before mid after is same first h = goes_on r before mid after (line ∷ []) (cases_marks (plain_cases slice)) (kind_marks line (plain_kind k)) h first (match-marks line k e l cs slice is same)
-
-pub tried : {E : Type 0} (r : Result (Unit {0}) E) (line : ℕ) (k : StmtKind) (b : Suite) (cs : Vec Clause Global) (slice : List Clause) (o f : Option Suite) (before mark body clauses orelse after : List ℕ)
-    → k ≡ kind_.Try b cs o f → slice ≡ cs.items → mark ≡ before ++ line ∷ []
-    → body ≡ mark ++ suite_marks (plain_suite b) → clauses ≡ body ++ clauses_marks (plain_clauses slice) → orelse ≡ clauses ++ opt_marks (plain_opt_suite o)
-    → OnOk r (after ≡ orelse ++ opt_marks (plain_opt_suite f)) → OnOk r (after ≡ before ++ kind_marks line (plain_kind k))
-tried r line k b cs slice o f before mark body clauses orelse after is same h0 h1 h2 h3 h4 =
-    let B = suite_marks (plain_suite b) in
-    let C = clauses_marks (plain_clauses slice) in
-    let O = opt_marks (plain_opt_suite o) in
-    let F = opt_marks (plain_opt_suite f) in
-    goes_on r before mark after (line ∷ []) (B ++ (C ++ (O ++ F))) (kind_marks line (plain_kind k))
-    (goes_on r mark body after B (C ++ (O ++ F)) (B ++ (C ++ (O ++ F))) (goes_on r body clauses after C (O ++ F) (C ++ (O ++ F)) (goes_on r clauses orelse after O F (O ++ F) h4 h3 refl) h2 refl) h1 refl)
-    h0
-    (try-marks line k b cs slice o f is same)
+    sym (ap (λ q. kind_marks line (plain_kind q)) is ∙ ap (kind_marks line) (plain-Try b cs o f)
+    ∙ ap (λ xs. line ∷ (suite_marks (plain_suite b) ++ (clauses_marks (plain_clauses xs) ++ (opt_marks (plain_opt_suite o) ++ opt_marks (plain_opt_suite f))))) (sym same))
 
 -- ---- statements, of which the first may be a docstring
 

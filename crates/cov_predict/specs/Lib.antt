@@ -1,4 +1,7 @@
 pub mod ArcSets
 pub mod Leading
 pub mod Walk
-pub mod WalkLaw
+pub mod Leaving
+pub mod Parts
+pub mod Steps
+pub mod Defs

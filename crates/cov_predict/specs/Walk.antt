@@ -1,6 +1,6 @@
 -- The arcs of a module by a walk that knows where each way out of a part leads. (Python Language Reference, 7 and 8)
 --
--- Where `any` is true, everything that marks may raise at its mark; else `raise` alone raises. A line is an end of an arc by `sign`.
+-- Where `any` is true, everything that marks may raise at its mark; else `raise` alone raises. A line is an end of an arc by `pos`.
 --     Target, Targets                        where a mark leads, and where each way out of a part does
 --     arcs_to, raises, unless                the arcs from a line to targets, those of an exception, and those that may be none
 --     entering, opt_entering                 the targets in front of a part
@@ -8,7 +8,7 @@
 --     in_loop, before_finally, in_try        the targets in a loop, in front of a `finally`, and in a `try` suite
 --     stmts_walk, kind_walk, opt_walk        the arcs of statements; suite_walk and the like for what stands in them
 --     body_walk, functions_walk, module_walk     those of bodies
-use Rattle.std.specs.Prelude.{ℕ, Bool, true, false, not, if◌then◌else◌, ◌&&◌, List, [], ◌∷◌, ◌++◌, map, ℤ, neg_ℤ}
+use Rattle.std.specs.Prelude.{ℕ, Bool, true, false, not, if◌then◌else◌, ◌&&◌, List, [], ◌∷◌, ◌++◌, map, ℤ, neg_ℤ, pos}
 use Rattle.std.specs.List.{list_any}
 use Rattle.std.specs.Bool.{beq}
 use Rattle.std.specs.Ordering.{int_eq}
@@ -47,8 +47,8 @@ abbrev pub unless : Bool → List Arc → List Arc
 unless b arcs = if b then [] else arcs
 
 -- the first mark of what comes next, and where that can be passed without a mark, what follows it
-abbrev pub entering : (ℕ → ℤ) → List ℕ → Bool → List Target → List Target
-entering sign firsts empty after = map (λ m. (sign m, false)) firsts ++ (if empty then after else [])
+abbrev pub entering : List ℕ → Bool → List Target → List Target
+entering firsts empty after = map (λ m. (pos m, false)) firsts ++ (if empty then after else [])
 
 -- the header of a loop, to which a turn goes back
 abbrev pub turn : ℤ → List Target
@@ -59,24 +59,24 @@ abbrev pub in_loop : ℤ → Targets → Targets
 in_loop header t = record { onward = turn header; breaking = t.onward; continuing = turn header; returning = t.returning; raising = t.raising }
 
 -- in front of a part, with that part's first mark, and whether it is empty: of an `else`, which is entered onward alone
-abbrev pub before : (ℕ → ℤ) → List ℕ → Bool → Targets → Targets
-before sign firsts empty t = record t { onward = entering sign firsts empty t.onward }
+abbrev pub before : List ℕ → Bool → Targets → Targets
+before firsts empty t = record t { onward = entering firsts empty t.onward }
 
 -- in front of a `finally` suite, through which each way goes
-abbrev pub before_finally : (ℕ → ℤ) → OptSuite → Targets → Targets
-before_finally sign fin t = record {
-  onward = entering sign (opt_first fin) (opt_empty fin) t.onward;
-  breaking = entering sign (opt_first fin) (opt_empty fin) t.breaking;
-  continuing = entering sign (opt_first fin) (opt_empty fin) t.continuing;
-  returning = entering sign (opt_first fin) (opt_empty fin) t.returning;
-  raising = entering sign (opt_first fin) (opt_empty fin) t.raising;
+abbrev pub before_finally : OptSuite → Targets → Targets
+before_finally fin t = record {
+  onward = entering (opt_first fin) (opt_empty fin) t.onward;
+  breaking = entering (opt_first fin) (opt_empty fin) t.breaking;
+  continuing = entering (opt_first fin) (opt_empty fin) t.continuing;
+  returning = entering (opt_first fin) (opt_empty fin) t.returning;
+  raising = entering (opt_first fin) (opt_empty fin) t.raising;
 }
 
 -- in the suite of a `try`
-abbrev pub in_try : (ℕ → ℤ) → Clauses → OptSuite → Targets → Targets
-in_try sign cs o t = record t {
-  onward = entering sign (opt_first o) (opt_empty o) t.onward;
-  raising = entering sign (clauses_first cs) (not (has_clause cs)) t.raising;
+abbrev pub in_try : Clauses → OptSuite → Targets → Targets
+in_try cs o t = record t {
+  onward = entering (opt_first o) (opt_empty o) t.onward;
+  raising = entering (clauses_first cs) (not (has_clause cs)) t.raising;
 }
 
 abbrev pub same_target : Target → Target → Bool
@@ -110,80 +110,80 @@ abbrev pub own_walk : Bool → Targets → ℤ → List Target → List Arc
 own_walk any t l to = arcs_to l to ++ raises any t l
 
 abbrev mutual
-  pub stmts_walk : (ℕ → ℤ) → Bool → Targets → Stmts → List Arc
-  stmts_walk sign any t no_stmts = []
-  stmts_walk sign any t (stmt l m k e rest) = kind_walk sign any (before sign (stmts_first rest) (stmts_empty rest) t) l k ++ stmts_walk sign any t rest
+  pub stmts_walk : Bool → Targets → Stmts → List Arc
+  stmts_walk any t no_stmts = []
+  stmts_walk any t (stmt l m k e rest) = kind_walk any (before (stmts_first rest) (stmts_empty rest) t) l k ++ stmts_walk any t rest
 
   -- of a statement with this first line
-  pub kind_walk : (ℕ → ℤ) → Bool → Targets → ℕ → StmtKind → List Arc
-  kind_walk sign any t l (expr e) = own_walk any t (sign l) t.onward
-  kind_walk sign any t l (assign ts e) = own_walk any t (sign l) t.onward
-  kind_walk sign any t l (aug_assign p op e) = own_walk any t (sign l) t.onward
-  kind_walk sign any t l pass = own_walk any t (sign l) t.onward
-  kind_walk sign any t l break = own_walk any t (sign l) t.breaking
-  kind_walk sign any t l continue = own_walk any t (sign l) t.continuing
-  kind_walk sign any t l (return e) = own_walk any t (sign l) t.returning
-  kind_walk sign any t l (raise e) = arcs_to (sign l) t.raising
-  kind_walk sign any t l (assert e why) = own_walk any t (sign l) t.onward
-  kind_walk sign any t l (global xs) = []
-  kind_walk sign any t l (import names) = own_walk any t (sign l) t.onward
-  kind_walk sign any t l (from m names) = own_walk any t (sign l) t.onward
-  kind_walk sign any t l (if' arms o) = arms_walk sign any t arms (opt_first o) (opt_empty o) ++ opt_walk sign any t o
-  kind_walk sign any t l (while e b o) =
-      suite_walk sign any t (in_loop (sign l) t) l b
-      ++ (unless (is_constant e) (arcs_to (sign l) (entering sign (opt_first o) (opt_empty o) t.onward)) ++ opt_walk sign any t o)
-  kind_walk sign any t l (for x e b o) =
-      suite_walk sign any t (in_loop (sign l) t) l b
-      ++ (unless false (arcs_to (sign l) (entering sign (opt_first o) (opt_empty o) t.onward)) ++ opt_walk sign any t o)
-  kind_walk sign any t l (try b cs o fin) =
-      suite_walk sign any t (in_try sign cs o (before_finally sign fin t)) l b
-      ++ (clauses_walk sign any (before_finally sign fin t) cs
-      ++ (opt_walk sign any (before_finally sign fin t) o
-      ++ opt_walk sign any (record t { onward = united (λ w. comes (came_last any l b cs o w)) t }) fin))
-  kind_walk sign any t l (def x ps ds c b) = own_walk any t (sign l) t.onward
-  kind_walk sign any t l (match e header cs) = own_walk any t (sign l) (entering sign (cases_first cs) (not (has_case cs)) t.onward) ++ cases_walk sign any t cs
+  pub kind_walk : Bool → Targets → ℕ → StmtKind → List Arc
+  kind_walk any t l (expr e) = own_walk any t (pos l) t.onward
+  kind_walk any t l (assign ts e) = own_walk any t (pos l) t.onward
+  kind_walk any t l (aug_assign p op e) = own_walk any t (pos l) t.onward
+  kind_walk any t l pass = own_walk any t (pos l) t.onward
+  kind_walk any t l break = own_walk any t (pos l) t.breaking
+  kind_walk any t l continue = own_walk any t (pos l) t.continuing
+  kind_walk any t l (return e) = own_walk any t (pos l) t.returning
+  kind_walk any t l (raise e) = arcs_to (pos l) t.raising
+  kind_walk any t l (assert e why) = own_walk any t (pos l) t.onward
+  kind_walk any t l (global xs) = []
+  kind_walk any t l (import names) = own_walk any t (pos l) t.onward
+  kind_walk any t l (from m names) = own_walk any t (pos l) t.onward
+  kind_walk any t l (if' arms o) = arms_walk any t arms (opt_first o) (opt_empty o) ++ opt_walk any t o
+  kind_walk any t l (while e b o) =
+      suite_walk any t (in_loop (pos l) t) l b
+      ++ (unless (is_constant e) (arcs_to (pos l) (entering (opt_first o) (opt_empty o) t.onward)) ++ opt_walk any t o)
+  kind_walk any t l (for x e b o) =
+      suite_walk any t (in_loop (pos l) t) l b
+      ++ (unless false (arcs_to (pos l) (entering (opt_first o) (opt_empty o) t.onward)) ++ opt_walk any t o)
+  kind_walk any t l (try b cs o fin) =
+      suite_walk any t (in_try cs o (before_finally fin t)) l b
+      ++ (clauses_walk any (before_finally fin t) cs
+      ++ (opt_walk any (before_finally fin t) o
+      ++ opt_walk any (record t { onward = united (λ w. comes (came_last any l b cs o w)) t }) fin))
+  kind_walk any t l (def x ps ds c b) = own_walk any t (pos l) t.onward
+  kind_walk any t l (match e header cs) = own_walk any t (pos l) (entering (cases_first cs) (not (has_case cs)) t.onward) ++ cases_walk any t cs
 
   -- of a header that leads into its suite, and of the suite, in which other jumps hold
-  pub suite_walk : (ℕ → ℤ) → Bool → Targets → Targets → ℕ → Suite → List Arc
-  suite_walk sign any t within l (suite f g inline b) = own_walk any t (sign l) (entering sign (stmts_first b) (stmts_empty b) within.onward) ++ stmts_walk sign any within b
+  pub suite_walk : Bool → Targets → Targets → ℕ → Suite → List Arc
+  suite_walk any t within l (suite f g inline b) = own_walk any t (pos l) (entering (stmts_first b) (stmts_empty b) within.onward) ++ stmts_walk any within b
 
-  pub opt_walk : (ℕ → ℤ) → Bool → Targets → OptSuite → List Arc
-  opt_walk sign any t no_suite = []
-  opt_walk sign any t (has_suite (suite f g inline b)) = stmts_walk sign any t b
+  pub opt_walk : Bool → Targets → OptSuite → List Arc
+  opt_walk any t no_suite = []
+  opt_walk any t (has_suite (suite f g inline b)) = stmts_walk any t b
 
   -- with the first mark of the `else`, and whether it is empty or missing
-  pub arms_walk : (ℕ → ℤ) → Bool → Targets → Arms → List ℕ → Bool → List Arc
-  arms_walk sign any t no_arms orelse passed = []
-  arms_walk sign any t (arm e s rest) orelse passed =
-      suite_walk sign any t t (header_line s) s
-      ++ (unless false (arcs_to (sign (header_line s)) (entering sign (arms_first rest orelse) (arms_empty rest passed) t.onward)) ++ arms_walk sign any t rest orelse passed)
+  pub arms_walk : Bool → Targets → Arms → List ℕ → Bool → List Arc
+  arms_walk any t no_arms orelse passed = []
+  arms_walk any t (arm e s rest) orelse passed =
+      suite_walk any t t (header_line s) s
+      ++ (unless false (arcs_to (pos (header_line s)) (entering (arms_first rest orelse) (arms_empty rest passed) t.onward)) ++ arms_walk any t rest orelse passed)
 
-  pub clauses_walk : (ℕ → ℤ) → Bool → Targets → Clauses → List Arc
-  clauses_walk sign any t no_clauses = []
-  clauses_walk sign any t (clause k x s rest) =
-      suite_walk sign any t t (header_line s) s
-      ++ (unless (not (names_kind k)) (arcs_to (sign (header_line s)) (entering sign (clauses_first rest) (not (has_clause rest)) [])) ++ clauses_walk sign any t rest)
+  pub clauses_walk : Bool → Targets → Clauses → List Arc
+  clauses_walk any t no_clauses = []
+  clauses_walk any t (clause k x s rest) =
+      suite_walk any t t (header_line s) s
+      ++ (unless (not (names_kind k)) (arcs_to (pos (header_line s)) (entering (clauses_first rest) (not (has_clause rest)) [])) ++ clauses_walk any t rest)
 
-  pub cases_walk : (ℕ → ℤ) → Bool → Targets → Cases → List Arc
-  cases_walk sign any t no_cases = []
-  cases_walk sign any t (case p guard s rest) =
-      suite_walk sign any t t (header_line s) s
-      ++ (unless (is_sure p guard) (arcs_to (sign (header_line s)) (entering sign (cases_first rest) (not (has_case rest)) t.onward)) ++ cases_walk sign any t rest)
+  pub cases_walk : Bool → Targets → Cases → List Arc
+  cases_walk any t no_cases = []
+  cases_walk any t (case p guard s rest) =
+      suite_walk any t t (header_line s) s
+      ++ (unless (is_sure p guard) (arcs_to (pos (header_line s)) (entering (cases_first rest) (not (has_case rest)) t.onward)) ++ cases_walk any t rest)
 
 -- outside a body: no loop is there to leave
 abbrev pub leaving : ℤ → Targets
 leaving out = record { onward = (out, true) ∷ []; breaking = []; continuing = []; returning = (out, true) ∷ []; raising = (out, true) ∷ [] }
 
 -- of a body without its docstring, from outside it and back
-abbrev pub body_walk : (ℕ → ℤ) → Bool → ℕ → Stmts → List Arc
-body_walk sign any first b =
-    map (λ l. (neg_ℤ (sign first), sign l)) (stmts_first b)
-    ++ ((if stmts_empty b then (neg_ℤ (sign first), neg_ℤ (sign first)) ∷ [] else [])
-    ++ stmts_walk sign any (leaving (neg_ℤ (sign first))) b)
+abbrev pub body_walk : Bool → ℕ → Stmts → List Arc
+body_walk any first b =
+    map (λ l. (neg_ℤ (pos first), pos l)) (stmts_first b)
+    ++ ((if stmts_empty b then (neg_ℤ (pos first), neg_ℤ (pos first)) ∷ [] else [])
+    ++ stmts_walk any (leaving (neg_ℤ (pos first))) b)
 
-abbrev pub functions_walk : (ℕ → ℤ) → Bool → List Function → List Arc
-functions_walk sign any [] = []
-functions_walk sign any (f ∷ fs) = body_walk sign any f.line (without_docstring f.body) ++ functions_walk sign any fs
+abbrev pub functions_walk : Bool → List Function → List Arc
+functions_walk any [] = []
+functions_walk any (f ∷ fs) = body_walk any f.line (without_docstring f.body) ++ functions_walk any fs
 
-abbrev pub module_walk : (ℕ → ℤ) → Bool → Stmts → List Arc
-module_walk sign any m = body_walk sign any 1 (without_docstring m) ++ functions_walk sign any (functions m)
+abbrev pub module_walk : Bool → Stmts → List Arc
+module_walk any m = body_walk any 1 (without_docstring m) ++ functions_walk any (functions m)

@@ -1,9 +1,9 @@
 //! The docstring that may lead a body.
-ghost use Rattle.std.specs.Prelude.{◌≡◌};
-ghost use Rattle.py_syntax.specs.View.{plain_expr, plain_kind};
-ghost use Rattle.py_syntax.specs.Functions.{is_string, is_docstring};
+ghost use Rattle.std.specs.Prelude.{◌≡◌, if◌then◌else◌};
+ghost use Rattle.py_syntax.specs.View.{plain_expr, plain_stmts, plain_kind};
+ghost use Rattle.py_syntax.specs.Functions.{is_string, is_docstring, without_docstring};
 
-use py_syntax::{Expr, StmtKind};
+use py_syntax::{Expr, Stmt, StmtKind};
 
 /// Whether a statement is a docstring where it leads a body.
 pub(crate) fn is_docstring(kind: &StmtKind) -> bool
@@ -29,6 +29,22 @@ pub(crate) fn is_docstring(kind: &StmtKind) -> bool
         | StmtKind::Def { .. }
         | StmtKind::Match { .. } => false,
     }
+}
+
+/// The statements of a body without the docstring that may lead it.
+pub(crate) fn without_docstring(items: &[Stmt]) -> &[Stmt]
+    ensures { plain_stmts result.now ≡ without_docstring (plain_stmts items.now) }
+{
+    match items.split_first() {
+        None => items,
+        Some((s, rest)) => led(items, is_docstring(&s.kind), rest),
+    }
+}
+
+fn led<'a>(items: &'a [Stmt], leads: bool, rest: &'a [Stmt]) -> &'a [Stmt]
+    ensures { result.now ≡ (if leads then rest.now else items.now) }
+{
+    if leads { rest } else { items }
 }
 
 /// Neighbouring plain strings without parentheses.

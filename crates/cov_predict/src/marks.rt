@@ -11,7 +11,8 @@ use py_value::NoMemory;
 /// Adds the lines of the body of a module or a function, where these statements lead one, and else their own.
 #[cycle(marks)]
 pub(crate) fn statements(out: &mut Vec<u32>, leads: bool, items: &[Stmt]) -> Result<(), NoMemory>
-    ensures { OnOk result (out.new.items ≡ out.old.items ++ lines_of leads (plain_stmts items.now)) }
+    ensures { OnOk result (out.new.items ≡ out.old.items
+        ++ lines_of leads (plain_stmts items.now)) }
 {
     let mut first = leads;
     for s in items {
@@ -23,7 +24,8 @@ pub(crate) fn statements(out: &mut Vec<u32>, leads: bool, items: &[Stmt]) -> Res
 
 #[cycle(marks)]
 fn leading(out: &mut Vec<u32>, leads: bool, s: &Stmt) -> Result<(), NoMemory>
-    ensures { OnOk result (out.new.items ≡ out.old.items ++ first_marks leads s.now.first (plain_kind s.now.kind)) }
+    ensures { OnOk result (out.new.items ≡ out.old.items
+        ++ first_marks leads s.now.first (plain_kind s.now.kind)) }
 {
     if leads && is_docstring(&s.kind) {
         return Ok(());
@@ -47,52 +49,60 @@ fn statement(out: &mut Vec<u32>, line: u32, kind: &StmtKind) -> Result<(), NoMem
         | StmtKind::Assert(_, _) => mark(out, line),
         StmtKind::Global(_) => Ok(()),
         StmtKind::Import(_) | StmtKind::From(_, _) => mark(out, line),
-        StmtKind::If {
-            arms: tests,
-            orelse,
-        } => {
-            arms(out, tests)?;
+        StmtKind::If { arms, orelse } => {
+            tests(out, arms)?;
             opt(out, orelse)
         }
-        StmtKind::While {
-            body: turn,
-            orelse,
-            ..
-        } => {
-            mark(out, line)?;
-            suite(out, turn)?;
+        StmtKind::While { body, orelse, .. } => {
+            headed(out, line, body)?;
             opt(out, orelse)
         }
-        StmtKind::For {
-            body: turn,
-            orelse,
-            ..
-        } => {
-            mark(out, line)?;
-            suite(out, turn)?;
+        StmtKind::For { body, orelse, .. } => {
+            headed(out, line, body)?;
             opt(out, orelse)
         }
         StmtKind::Try {
-            body: tried,
+            body,
             clauses: handlers,
             orelse,
             finally,
         } => {
-            mark(out, line)?;
-            suite(out, tried)?;
+            headed(out, line, body)?;
             clauses(out, handlers)?;
             opt(out, orelse)?;
             opt(out, finally)
         }
-        StmtKind::Def { body: of, .. } => {
-            mark(out, line)?;
-            function(out, of)
-        }
-        StmtKind::Match { cases: list, .. } => {
-            mark(out, line)?;
-            cases(out, list)
-        }
+        StmtKind::Def { body, .. } => defined(out, line, body),
+        StmtKind::Match { cases: list, .. } => matched(out, line, list),
     }
+}
+
+/// Adds the line of a header and the lines of its suite.
+#[cycle(marks)]
+fn headed(out: &mut Vec<u32>, line: u32, body: &Suite) -> Result<(), NoMemory>
+    ensures { OnOk result (out.new.items ≡ out.old.items
+        ++ line ∷ suite_marks (plain_suite body.now)) }
+{
+    mark(out, line)?;
+    suite(out, body)
+}
+
+#[cycle(marks)]
+fn defined(out: &mut Vec<u32>, line: u32, body: &Suite) -> Result<(), NoMemory>
+    ensures { OnOk result (out.new.items ≡ out.old.items
+        ++ line ∷ function_marks (plain_suite body.now)) }
+{
+    mark(out, line)?;
+    function(out, body)
+}
+
+#[cycle(marks)]
+fn matched(out: &mut Vec<u32>, line: u32, list: &[Case]) -> Result<(), NoMemory>
+    ensures { OnOk result (out.new.items ≡ out.old.items
+        ++ line ∷ cases_marks (plain_cases list.now)) }
+{
+    mark(out, line)?;
+    cases(out, list)
 }
 
 fn mark(out: &mut Vec<u32>, line: u32) -> Result<(), NoMemory>
@@ -127,7 +137,7 @@ fn opt(out: &mut Vec<u32>, s: &Option<Suite>) -> Result<(), NoMemory>
 }
 
 #[cycle(marks)]
-fn arms(out: &mut Vec<u32>, items: &[Arm]) -> Result<(), NoMemory>
+fn tests(out: &mut Vec<u32>, items: &[Arm]) -> Result<(), NoMemory>
     ensures { OnOk result (out.new.items ≡ out.old.items ++ arms_marks (plain_arms items.now)) }
 {
     for arm in items {
@@ -139,7 +149,8 @@ fn arms(out: &mut Vec<u32>, items: &[Arm]) -> Result<(), NoMemory>
 
 #[cycle(marks)]
 fn clauses(out: &mut Vec<u32>, items: &[Clause]) -> Result<(), NoMemory>
-    ensures { OnOk result (out.new.items ≡ out.old.items ++ clauses_marks (plain_clauses items.now)) }
+    ensures { OnOk result (out.new.items ≡ out.old.items
+        ++ clauses_marks (plain_clauses items.now)) }
 {
     for clause in items {
         mark(out, clause.body.first)?;

@@ -2,8 +2,8 @@ use Rattle.std.proofs.Common.{refl}
 use Rattle.py_syntax.specs.View.{plain_stmts, plain_arms, plain_clauses, plain_cases}
 use Rattle.py_syntax.specs.Marks.{arms_marks, clauses_marks, cases_marks}
 use Rattle.cov_predict.specs.Leading.{lines_of}
-use Rattle.cov_predict.proofs.Gathering.{at_end}
-use Rattle.cov_predict.proofs.Turns.{matched, tried, turn, none_left}
+use Rattle.cov_predict.proofs.Gathering.{at_end, said, four}
+use Rattle.cov_predict.proofs.Turns.{match-marks, try-marks, turn, none_left}
 use Rattle.cov_predict.proofs.marks.+marks.Goals as goal
 
 pub statements-loop-s-preserved : goal.statements-loop-s-preserved
@@ -12,8 +12,8 @@ statements-loop-s-preserved t c = turn c.loop-s.first c.loop-s.out.items c.leadi
 pub statements-returns : goal.statements-returns
 statements-returns t c = at_end (λ xs. lines_of c.loop-s.first (plain_stmts xs)) (none_left c.loop-s.first) _ _ c.args.items.now _ c.loop-s-test.false c.loop-s.invariant
 
-pub arms-returns : goal.arms-returns
-arms-returns t c = at_end (λ xs. arms_marks (plain_arms xs)) refl _ _ _ _ c.loop-arm-test.false c.loop-arm.invariant
+pub tests-returns : goal.tests-returns
+tests-returns t c = at_end (λ xs. arms_marks (plain_arms xs)) refl _ _ _ _ c.loop-arm-test.false c.loop-arm.invariant
 
 pub clauses-returns : goal.clauses-returns
 clauses-returns t c = at_end (λ xs. clauses_marks (plain_clauses xs)) refl _ _ _ _ c.loop-clause-test.false c.loop-clause.invariant
@@ -23,11 +23,10 @@ cases-returns t c = at_end (λ xs. cases_marks (plain_cases xs)) refl _ _ _ _ c.
 
 pub statement-returns-in_ok-opt-in-Try : goal.statement-returns-in_ok-opt-in-Try
 statement-returns-in_ok-opt-in-Try t c =
-    tried c.opt-in-Try-2.result c.args.line c.args.kind.now c.in-Try.tried c.in-Try.handlers c.deref-in-Try.result.now c.in-Try.orelse c.in-Try.finally
-    c.args.out.now.items c.mark-in-Try.new.out.items c.suite-in-Try.new.out.items c.clauses.new.out.items c.opt-in-Try.new.out.items c.opt-in-Try-2.new.out.items
-    c.in-Try.is c.deref-in-Try.ensures.value c.in_ok-mark-in-Try.ensures c.in_ok-suite-in-Try.ensures c.in_ok-clauses-in-Try.ensures c.in_ok-opt-in-Try.ensures c.opt-in-Try-2.ensures
+    said c.opt-in-Try-2.result _ _ _ _ (try-marks c.args.line c.args.kind.now c.in-Try.body c.in-Try.handlers c.deref-in-Try.result.now c.in-Try.orelse c.in-Try.finally c.in-Try.is c.deref-in-Try.ensures.value)
+    (four c.opt-in-Try-2.result _ _ _ _ c.args.out.now.items c.headed-in-Try.new.out.items c.clauses.new.out.items c.opt-in-Try.new.out.items c.opt-in-Try-2.new.out.items
+    c.in_ok-headed-in-Try.ensures c.in_ok-clauses-in-Try.ensures c.in_ok-opt-in-Try.ensures c.opt-in-Try-2.ensures)
 
-pub statement-returns-in_ok-mark-in-Match : goal.statement-returns-in_ok-mark-in-Match
-statement-returns-in_ok-mark-in-Match t c =
-    matched c.cases.result c.args.line c.args.kind.now c.in-Match.subject c.in-Match.header_last c.in-Match.list c.deref-in-Match.result.now
-    c.args.out.now.items c.mark-in-Match.new.out.items c.cases.new.out.items c.in-Match.is c.deref-in-Match.ensures.value c.in_ok-mark-in-Match.ensures c.cases.ensures
+pub statement-returns-in-Match : goal.statement-returns-in-Match
+statement-returns-in-Match t c =
+    said c.matched.result _ _ _ _ (match-marks c.args.line c.args.kind.now c.in-Match.subject c.in-Match.header_last c.in-Match.list c.deref-in-Match.result.now c.in-Match.is c.deref-in-Match.ensures.value) c.matched.ensures
