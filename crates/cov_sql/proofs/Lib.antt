@@ -23,3 +23,5 @@ pub mod InsertIntoArc
 pub mod InsertIntoHits
 pub mod CellFields
 pub mod Seeking
+pub mod Stepping
+pub mod Judging
