@@ -1,0 +1,8 @@
+use Rattle.std.proofs.Common.{ap, ◌∙◌}
+use Rattle.py_value.specs.declared.exception.ExcKind.TheVariants.{UnboundLocalError}
+use Rattle.py_builtins.specs.Faults.{fault}
+use Rattle.py_store.proofs.Spelled.{framed_unset}
+use Rattle.py_store.proofs.faults.local_unset.Goals as goal
+
+pub returns : goal.returns
+returns c = c.in_ok-fault.ensures ∙ ap (fault UnboundLocalError) (c.in_ok-text.ensures ∙ framed_unset c.args.name.now)

@@ -1,0 +1,7 @@
+use Rattle.std.proofs.Common.{ap, ◌∙◌}
+use Rattle.py_value.specs.Keys.{is_same_text}
+use Rattle.py_store.proofs.Spelled.{spelled_argv}
+use Rattle.py_store.proofs.texts.is_argv.Goals as goal
+
+pub returns : goal.returns
+returns c = c.is_text.ensures ∙ ap (is_same_text c.args.text.now) spelled_argv

@@ -1,0 +1,97 @@
+// Names that no module sets.
+ghost use Rattle.std.specs.Prelude.{◌≡◌, ◌++◌, map, Some, None, MatchOption};
+ghost use Rattle.py_value.specs.Keys.{is_same_text};
+ghost use Rattle.py_value.specs.Plain.{builtin_value, kind_value};
+ghost use Rattle.py_builtins.specs.Displays.{builtin_name, kind_name};
+ghost use Rattle.py_value.specs.View.{plain};
+ghost use Rattle.py_builtins.specs.Predefined.{builtin_pair, kind_pair, predefined};
+ghost use Rattle.py_builtins.specs.World.{Names, value_of};
+
+use crate::texts::is_text;
+use py_builtins::{builtin_name, kind_name};
+use py_value::{Builtin, ExcKind, Text, Value};
+
+const BUILTINS: [Builtin; 7] = [
+    Builtin::Print,
+    Builtin::Len,
+    Builtin::Range,
+    Builtin::Str,
+    Builtin::Repr,
+    Builtin::Int,
+    Builtin::Input,
+];
+
+const KINDS: [ExcKind; 21] = [
+    ExcKind::BaseException,
+    ExcKind::SystemExit,
+    ExcKind::Exception,
+    ExcKind::ArithmeticError,
+    ExcKind::ZeroDivisionError,
+    ExcKind::OverflowError,
+    ExcKind::AssertionError,
+    ExcKind::AttributeError,
+    ExcKind::EOFError,
+    ExcKind::ImportError,
+    ExcKind::ModuleNotFoundError,
+    ExcKind::LookupError,
+    ExcKind::IndexError,
+    ExcKind::KeyError,
+    ExcKind::MemoryError,
+    ExcKind::NameError,
+    ExcKind::UnboundLocalError,
+    ExcKind::RuntimeError,
+    ExcKind::RecursionError,
+    ExcKind::TypeError,
+    ExcKind::ValueError,
+];
+
+/// The built-in function or the kind of exceptions of this name.
+pub fn predefined(name: &Text) -> Option<Value>
+    ensures { MatchOption result (value_of name.now predefined ≡ None) (λ v. value_of name.now predefined ≡ Some (plain v)) }
+{
+    match builtin_among(name, &BUILTINS) {
+        Some(which) => Some(Value::Builtin(which)),
+        None => match kind_among(name, &KINDS) {
+            Some(kind) => Some(Value::Kind(kind)),
+            None => None,
+        },
+    }
+}
+
+fn builtin_among(name: &Text, all: &[Builtin]) -> Option<Builtin>
+    ensures { (ns : Names) → MatchOption result (value_of name.now (map builtin_pair all.now ++ ns) ≡ value_of name.now ns)
+        (λ f. value_of name.now (map builtin_pair all.now ++ ns) ≡ Some (builtin_value f)) }
+{
+    for which in all {
+        if is_builtin(name, *which) {
+            return Some(*which);
+        }
+    }
+    None
+}
+
+fn kind_among(name: &Text, all: &[ExcKind]) -> Option<ExcKind>
+    ensures { MatchOption result (value_of name.now (map kind_pair all.now) ≡ None)
+        (λ k. value_of name.now (map kind_pair all.now) ≡ Some (kind_value k)) }
+{
+    for kind in all {
+        if is_kind(name, *kind) {
+            return Some(*kind);
+        }
+    }
+    None
+}
+
+/// Whether a built-in function has this name.
+fn is_builtin(name: &Text, which: Builtin) -> bool
+    ensures { result ≡ is_same_text name.now (builtin_name which) }
+{
+    is_text(name, builtin_name(which))
+}
+
+/// Whether a kind of exceptions has this name.
+fn is_kind(name: &Text, kind: ExcKind) -> bool
+    ensures { result ≡ is_same_text name.now (kind_name kind) }
+{
+    is_text(name, kind_name(kind))
+}
