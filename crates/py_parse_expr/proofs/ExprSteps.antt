@@ -1,7 +1,7 @@
 -- Steps of the machine, in the forms in which the code takes them.
 use Rattle.std.proofs.Common.{◌≡◌, ℕ, Bool, true, false, cond, Some, Result, Ok, Err, refl, sym, subst, ap, ◌∙◌}
 use Rattle.std.specs.declared.alloc.AllocError.{AllocError}
-use Rattle.py_syntax.specs.Tree.{Expr, tuple, Exprs, no_exprs, exprs}
+use Rattle.py_syntax.specs.Tree.{Expr, tuple, Exprs, no_exprs, exprs, Pairs, no_pairs}
 use Rattle.py_syntax.specs.Normal.{is_target}
 use Rattle.py_parse_expr.specs.declared.expr_nodes.Measured.{Measured}
 use Rattle.py_parse_expr.specs.declared.expr_classes.TokenClass as held_class
@@ -10,17 +10,25 @@ use Rattle.py_parse_expr.specs.declared.expr_stack.Frame as held_frame
 use Rattle.py_parse_expr.specs.declared.expr_stack.Stack.{Stack}
 use Rattle.py_parse_expr.specs.declared.expr_turns.Turn.{Turn}
 use Rattle.py_parse_expr.specs.declared.expr_turns.Turn.TheVariants as turn_
-use Rattle.py_grammar.specs.TokenClasses.{TokenClass, t_comma}
-use Rattle.py_grammar.specs.Machine.{snoc, targets, AfterTarget, Ctx, on, Out, Next, Stuck, Left, leave, give}
+use Rattle.py_grammar.specs.TokenClasses.{TokenClass, t_comma, t_right_brace}
+use Rattle.py_grammar.specs.Machine.{snoc, targets, AfterTarget, Ctx, on, DictOpen, DictComma, Out, Next, Stuck, Left, leave, give, step}
 use Rattle.py_parse_expr.specs.ExprViews.{view_measured, view_class, IsMeasured}
 use Rattle.py_parse_expr.specs.ExprStacks.{head_of, tail_of, AreSome, view_frame, view_stack, Valid, Pops}
-use Rattle.py_parse_expr.specs.ExprTurns.{Stays, Acts}
+use Rattle.py_parse_expr.specs.ExprTurns.{close_dict, Stays, Acts}
 
 -- an expression that goes through the frames
 pub record Giving (o : Out) (limit : ℕ) (t : TokenClass) (e : Measured) (s : Stack) : Type 0 where
   pub same : o ≡ give (view_measured e) (view_stack s) t
   pub measured : IsMeasured e
   pub valid : Valid limit s
+
+pub dict_open : (k : Ctx) (t : TokenClass) → step (DictOpen k) t ≡ close_dict no_pairs false k t
+dict_open k t_right_brace = refl
+dict_open k t = refl
+
+pub dict_comma : (ps : Pairs) (k : Ctx) (t : TokenClass) → step (DictComma ps k) t ≡ close_dict ps true k t
+dict_comma ps k t_right_brace = refl
+dict_comma ps k t = refl
 
 -- a step that leaves the stack as it is
 pub stays_acts : (o : Ctx → Out) (limit : ℕ) (s : Stack) (r : Result Turn AllocError) → Valid limit s → Stays o r → Acts (o (view_stack s)) limit s r
