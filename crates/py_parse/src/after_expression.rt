@@ -152,6 +152,7 @@ fn add_default(signature: Signature, default: Expr) -> Result<Signature, NoMemor
 }
 
 /// After a parameter that has a default, or after others that have none.
+#[tactic(auto, using(crate::proofs::View::Acts::default_rules))]
 fn after_default(
     alloc: Global,
     signature: Signature,
@@ -161,23 +162,25 @@ fn after_default(
 ) -> Result<Option<State>, NoMemory>
     ensures { Continues token.now (of_signature after_default signature) span suites result }
 {
-    match &token.kind {
-        TokenKind::Mark(Mark::Comma) => Ok(Some(State::At(
+    if is_a(token, Class::Comma) {
+        return Ok(Some(State::At(
             Place::ParamWanted(signature),
             span.onward(token.last),
             suites,
-        ))),
-        TokenKind::Mark(Mark::RightParen) => Ok(Some(State::At(
-            Place::ColonWanted(boxed_suite_of(alloc, SuiteOf::Def(signature, false))?),
-            span.onward(token.last),
-            suites,
-        ))),
-        _ => Ok(None),
+        )));
     }
+    if !is_a(token, Class::RightParen) {
+        return Ok(None);
+    }
+    let suite_of = boxed_suite_of(alloc, SuiteOf::Def(signature, false))?;
+    Ok(Some(State::At(
+        Place::ColonWanted(suite_of),
+        span.onward(token.last),
+        suites,
+    )))
 }
 
 /// After a parameter with no default.
-#[tactic(auto, using(crate::proofs::View::Acts::param_rules))]
 pub fn after_param(
     alloc: Global,
     signature: Signature,

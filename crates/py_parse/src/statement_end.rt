@@ -80,7 +80,6 @@ pub fn end_line(
 }
 
 /// A simple statement is whole.
-#[tactic(auto, using(crate::proofs::View::Acts::simple_rules))]
 pub fn end_simple(
     alloc: Global,
     kind: Box<StmtKind>,

@@ -143,6 +143,19 @@ param_none x ps ds n b (Name y) f l h i = absurd h
 param_none x ps ds n b (Sign mark.RightParen) f l h i = absurd cc
 param_none x ps ds n b k f l h i = refl
 
+pub default_more : (x : Text) (ps : List Text) (ds : Exprs) (n q : Span) (b : SuiteStack) (k : Kind) (l : ℕ) → is_comma k ≡ true → q ≡ onward n l → after_default x ps ds n b k l ≡ Some (at (ParamWanted x ps ds) q b)
+default_more x ps ds n q b (Sign mark.Comma) l h j = ap (λ (m : Span). Some (at (ParamWanted x ps ds) m b)) (sym j)
+default_more x ps ds n q b k l h j = absurd cc
+
+pub default_closes : (x : Text) (ps : List Text) (ds : Exprs) (n q : Span) (b : SuiteStack) (k : Kind) (l : ℕ) → is_right_paren k ≡ true → q ≡ onward n l → after_default x ps ds n b k l ≡ Some (at (ColonWanted (a_def x ps ds false)) q b)
+default_closes x ps ds n q b (Sign mark.RightParen) l h j = ap (λ (m : Span). Some (at (ColonWanted (a_def x ps ds false)) m b)) (sym j)
+default_closes x ps ds n q b k l h j = absurd cc
+
+pub default_none : (x : Text) (ps : List Text) (ds : Exprs) (n : Span) (b : SuiteStack) (k : Kind) (l : ℕ) → is_comma k ≡ false → is_right_paren k ≡ false → after_default x ps ds n b k l ≡ None
+default_none x ps ds n b (Sign mark.Comma) l h i = absurd cc
+default_none x ps ds n b (Sign mark.RightParen) l h i = absurd cc
+default_none x ps ds n b k l h i = refl
+
 -- ---- names
 
 pub name_more : (xs : Listed) (n q : Span) (b : SuiteStack) (t : Kind) (l : ℕ) → is_comma t ≡ true → q ≡ onward n l → after_name xs n b t l ≡ Some (at (NameWanted xs) q b)
@@ -286,13 +299,11 @@ pub ruleset close_rules = (close_top, close_inside)
 
 pub ruleset line_over_rules = (shared_line, own_line)
 
-pub ruleset simple_rules = (simple_semicolon, simple_newline, simple_goes_on)
-
 pub ruleset value_rules = (value_targets, value_assigns, value_alone)
 
 pub ruleset last_value_rules = (value_augments, value_misplaced, value_ends)
 
-pub ruleset param_rules = (param_default, param_late, param_ends)
+pub ruleset default_rules = (default_more, default_closes, default_none)
 
 pub ruleset new_param_rules = (param_some, param_close, param_none)
 
