@@ -1,0 +1,4 @@
+mod Reversed
+mod Taken
+mod TakenValues
+mod Nested

@@ -1,0 +1,95 @@
+-- What a machine in memory is: a configuration, but for what lies outside of it.
+--     Slots, Outside         slots, and what lies outside
+--     plain_operands         operands
+--     plain_frame            a frame
+--     seen                   a configuration
+--     turned                 what is left to do of an instruction
+--     Acts                   what an instruction does
+--     Discards, Inserts, TakesValues   operands taken away, and put below others
+use Rattle.std.specs.Prelude.{◌≡◌, ℕ, nat_le, Bool, true, false, List, ◌∷◌, ◌++◌, length, map, take, drop, reverse, Option, Some, None, Vec}
+use Rattle.std.specs.declared.alloc.Global.{Global}
+use Rattle.cov_event.specs.declared.event.Event.{Event}
+use Rattle.py_value.specs.declared.value.Value.{Value}
+use Rattle.py_value.specs.Plain.{PlainValue}
+use Rattle.py_value.specs.View.{plain, plains, plain_raised}
+use Rattle.py_builtins.specs.Builtins.{builtin_of}
+use Rattle.py_code.specs.declared.instr.Instr.{Instr}
+use Rattle.py_code.specs.Configurations.{Operand, Frame, Effects, Configuration, Next, spent, stuck}
+use Rattle.py_code.specs.Machine.{told, with_effects, halted, throw, escapes, give, calls, by_done, heap_of, act}
+use Rattle.py_code.specs.Operands.{value_in}
+use Rattle.py_code.specs.Run.{Goes, Ticks}
+use Rattle.py_code.specs.Slots.{by_slots}
+use Rattle.py_code.specs.Units.{Code, Module}
+use Rattle.py_instructions.specs.declared.frame.Frame.{Frame as RawFrame}
+use Rattle.py_instructions.specs.declared.frame.State.{State}
+use Rattle.py_instructions.specs.declared.operand.Operand.{Operand as RawOperand}
+use Rattle.py_store.specs.declared.store.Store.{Store}
+use Rattle.py_instructions.specs.declared.turn.Turn.{Turn}
+use Rattle.py_instructions.specs.declared.turn.Turn.TheVariants.{Goes as TurnGoes, Steps, Tells, Throws, Escapes, Gives, Asks, Spent, Stuck}
+use Rattle.py_store.specs.Stores.{world_of}
+use Rattle.py_instructions.specs.Locals.{slots_of}
+use Rattle.py_instructions.specs.Operands.{plain_operand}
+
+abbrev pub Slots : Type 0
+Slots = List (Option PlainValue)
+
+-- the bytes of the input that are left, those that were written, and the events
+pub record Outside : Type 0 where
+  pub input : List ℕ
+  pub out : List ℕ
+  pub events : List Event
+
+abbrev pub plain_operands : List RawOperand → List Operand
+plain_operands xs = map plain_operand xs
+
+abbrev pub plain_frame : RawFrame → Frame Slots
+plain_frame f = record {
+  code = f.code;
+  place = f.place;
+  operands = plain_operands f.operands;
+  locals = slots_of f.slots;
+  line = f.line;
+  depth = f.depth;
+}
+
+abbrev pub effects_of : Store → Outside → Effects
+effects_of s o = record { world = world_of s; input = o.input; out = o.out; events = o.events }
+
+abbrev pub seen : State → Store → Outside → Configuration Slots
+seen m s o = record { top = plain_frame m.top; callers = map plain_frame m.callers; steps = m.steps; effects = effects_of s o }
+
+-- what is left to do of an instruction
+abbrev pub turned : List Module → Turn → Configuration Slots → Next Slots
+turned ms TurnGoes c = Goes c
+turned ms Steps c = Ticks c
+turned ms (Tells e) c = Ticks (with_effects (told e c.effects) c)
+turned ms (Throws e) c = throw (by_slots ms) ms (plain_raised e) c
+turned ms (Escapes e t) c = escapes (by_slots ms) ms (plain_raised e) t c
+turned ms (Gives v) c = give (by_slots ms) ms (plain v) c.callers c.steps c.effects
+turned ms (Asks which vs) c = calls (by_slots ms) ms (by_done (builtin_of which (plains vs.items) (heap_of c) c.effects.input) c.effects) c.top.operands c
+turned ms Spent c = halted spent c
+turned ms Stuck c = halted stuck c
+
+-- what an instruction does, as far as the machine does it alone
+abbrev pub Acts : List Module → Code → Instr → State → Store → State → Store → Turn → Type 0
+Acts ms u i m s m2 s2 t = (o : Outside) → act (by_slots ms) ms u i (plain_operands m.top.operands) (seen m s o) ≡ turned ms t (seen m2 s2 o)
+
+-- so many operands were taken away, or there are fewer
+abbrev pub Discards : Bool → ℕ → List Operand → List Operand → Type 0
+Discards true n xs ys = (nat_le n (length xs) ≡ true) × (ys ≡ drop n xs)
+Discards false n xs ys = nat_le n (length xs) ≡ false
+
+-- an operand was put below so many others, or there are fewer
+abbrev pub Inserts : Bool → ℕ → Operand → List Operand → List Operand → Type 0
+Inserts true n x xs ys = (nat_le n (length xs) ≡ true) × (ys ≡ take n xs ++ x ∷ drop n xs)
+Inserts false n x xs ys = nat_le n (length xs) ≡ false
+
+-- so many values were taken away, the lowest first, or there are fewer
+abbrev pub TakesValues : Option (Vec Value Global) → ℕ → List Operand → List Operand → Type 0
+TakesValues (Some vs) n xs ys = (nat_le n (length xs) ≡ true) × (plains vs.items ≡ map value_in (reverse (take n xs))) × (ys ≡ drop n xs)
+TakesValues None n xs ys = nat_le n (length xs) ≡ false
+
+-- goes on at a handler, or what follows outside
+abbrev pub catching : Bool → Next Slots → Configuration Slots → Next Slots
+catching true out c = Goes c
+catching false out c = out

@@ -1,0 +1,34 @@
+//! Instructions over a machine in memory: what the machine holds, and what each instruction does to it, as far as the machine does it
+//! alone.
+//!
+//! `State::decide` does the instruction at the present place, and answers a `Turn`, which is what is left to do of it.
+#![tactic(auto)]
+
+mod calls;
+mod catching;
+mod comparing;
+mod constants;
+mod decide;
+mod displays;
+mod frame;
+mod imports;
+mod jumps;
+mod loops;
+mod making;
+mod marks;
+mod names;
+mod operand;
+mod operands;
+mod operators;
+mod raising;
+mod slots;
+mod stack;
+mod turn;
+mod ways;
+
+pub use calls::new_frame;
+pub use frame::{Frame, State};
+pub use operand::{Operand, Walk, Way};
+pub use slots::Slots;
+pub use stack::Stack;
+pub use turn::Turn;

@@ -1,0 +1,80 @@
+// Loops.
+ghost use Rattle.std.specs.Prelude.{◌<◌, List, IfOk};
+ghost use Rattle.py_code.specs.declared.instr.Instr.TheVariants.{Walk, Next as NextItem};
+ghost use Rattle.py_code.specs.Units.{Module, plain_unit};
+ghost use Rattle.py_instructions.specs.View.{Acts};
+
+use crate::frame::State;
+use crate::operand::{Operand, Walk as Walked};
+use crate::turn::Turn;
+use py_code::Unit;
+use py_store::{Store, item_of, walk_length};
+use py_value::NoMemory;
+use std::alloc::{AllocError, Global};
+
+impl State {
+    pub fn walk(&mut self, alloc: Global, unit: &Unit, store: &Store) -> Result<Turn, NoMemory>
+        requires { self.old.top.place < usize.MAX }
+        ensures { IfOk result (λ t. (ms : List Module) → Acts ms (plain_unit unit.now) Walk self.old store.now self.new store.now t) }
+    {
+        let Some(x) = self.top.operands.pop() else {
+            return Ok(Turn::Stuck);
+        };
+        let value = x.into_value();
+        match walk_length(alloc, &value, &store.heap)? {
+            Ok(count) => {
+                self.top.operands.push(Operand::Walk(value, count, 0))?;
+                self.top.place += 1;
+                Ok(Turn::Goes)
+            }
+            Err(raised) => {
+                drop(value);
+                Ok(Turn::Throws(raised))
+            }
+        }
+    }
+
+    pub fn next(
+        &mut self,
+        alloc: Global,
+        unit: &Unit,
+        to: u32,
+        store: &Store,
+    ) -> Result<Turn, NoMemory>
+        requires { self.old.top.place < usize.MAX }
+        ensures { IfOk result (λ t. (ms : List Module) → Acts ms (plain_unit unit.now) (NextItem to) self.old store.now self.new store.now t) }
+    {
+        let Some(x) = self.top.operands.pop() else {
+            return Ok(Turn::Stuck);
+        };
+        let Walked {
+            value,
+            count,
+            place,
+        } = x.into_walk();
+        match item_of(alloc, &value, count, place, &store.heap)? {
+            Ok(None) => {
+                drop(value);
+                self.top.place = to as usize;
+                Ok(Turn::Goes)
+            }
+            Ok(Some(item)) => match place.checked_add(1) {
+                None => {
+                    drop(value);
+                    drop(item);
+                    Err(AllocError)
+                }
+                Some(next) => {
+                    self.top.operands.push(Operand::Walk(value, count, next))?;
+                    self.top.operands.push(Operand::Value(item))?;
+                    self.top.place += 1;
+                    Ok(Turn::Goes)
+                }
+            },
+            Err(raised) => {
+                drop(value);
+                Ok(Turn::Throws(raised))
+            }
+        }
+    }
+}

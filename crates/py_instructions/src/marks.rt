@@ -1,0 +1,53 @@
+// Lines.
+ghost use Rattle.std.specs.Prelude.{◌<◌, List};
+ghost use Rattle.py_code.specs.declared.instr.Instr.TheVariants.{Mark, Again};
+ghost use Rattle.py_code.specs.Units.{Module, plain_unit};
+ghost use Rattle.py_store.specs.declared.store.Store.{Store as Kept};
+ghost use Rattle.py_instructions.specs.View.{Acts};
+
+use crate::frame::State;
+use crate::turn::Turn;
+use cov_event::Event;
+use py_code::Unit;
+
+impl State {
+    pub fn mark(&mut self, unit: &Unit, n: u32) -> Turn
+        requires { self.old.top.place < usize.MAX }
+        ensures { (ms : List Module) (s : Kept) → Acts ms (plain_unit unit.now) (Mark n) self.old s self.new s result }
+    {
+        match unit.lines.get(n as usize) {
+            None => Turn::Stuck,
+            Some(line) => {
+                if self.steps == 0 {
+                    return Turn::Spent;
+                }
+                self.steps -= 1;
+                self.top.place += 1;
+                if self.top.line == *line {
+                    Turn::Steps
+                } else {
+                    self.top.line = *line;
+                    Turn::Tells(Event::Line(*line))
+                }
+            }
+        }
+    }
+
+    pub fn again(&mut self, unit: &Unit, n: u32) -> Turn
+        requires { self.old.top.place < usize.MAX }
+        ensures { (ms : List Module) (s : Kept) → Acts ms (plain_unit unit.now) (Again n) self.old s self.new s result }
+    {
+        match unit.lines.get(n as usize) {
+            None => Turn::Stuck,
+            Some(line) => {
+                if self.steps == 0 {
+                    return Turn::Spent;
+                }
+                self.steps -= 1;
+                self.top.place += 1;
+                self.top.line = *line;
+                Turn::Tells(Event::Line(*line))
+            }
+        }
+    }
+}

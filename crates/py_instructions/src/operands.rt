@@ -1,0 +1,86 @@
+// The operands of a frame.
+ghost use Rattle.std.specs.Prelude.{◌≡◌, ◌∷◌, ◌++◌, None, Some, length, map, take, drop, remove, reverse, nat_le, slice_get, IfOk, OnOk, MatchOption};
+ghost use Rattle.py_value.specs.View.{plains};
+ghost use Rattle.py_code.specs.Configurations.{of_value};
+ghost use Rattle.py_code.specs.Operands.{value_in};
+ghost use Rattle.py_instructions.specs.Operands.{plain_operand};
+ghost use Rattle.py_instructions.specs.View.{plain_operands, Discards, Inserts, TakesValues};
+
+use crate::operand::Operand;
+use crate::stack::Stack;
+use py_value::{NoMemory, Value};
+use std::alloc::Global;
+
+impl Stack<Operand> {
+    /// The operand so many below the top one.
+    pub fn operand(&self, below: usize) -> Option<&Operand>
+        ensures { MatchOption result (slice_get (plain_operands self.now) below ≡ None)
+            (λ x. slice_get (plain_operands self.now) below ≡ Some (plain_operand x.now)) }
+    {
+        self.get(below)
+    }
+
+    /// Takes the operand so many below the top one away.
+    pub fn take_operand(&mut self, below: usize) -> Option<Operand>
+        ensures { MatchOption result (slice_get (plain_operands self.old) below ≡ None)
+            (λ x. (slice_get (plain_operands self.old) below ≡ Some (plain_operand x))
+            × (plain_operands self.new ≡ remove (plain_operands self.old) below)) }
+    {
+        self.remove(below)
+    }
+
+    /// Takes so many operands away, where there are so many.
+    pub fn discard(&mut self, n: usize) -> bool
+        ensures { Discards result n (plain_operands self.old) (plain_operands self.new) }
+    {
+        let count = self.len();
+        if n <= count {
+            self.keep(count - n);
+            true
+        } else {
+            false
+        }
+    }
+
+    /// Puts an operand below so many others, where there are so many.
+    pub fn sink(&mut self, n: usize, x: Operand) -> Result<bool, NoMemory>
+        ensures { IfOk result (λ has. Inserts has n (plain_operand x) (plain_operands self.old) (plain_operands self.new)) }
+    {
+        if n <= self.len() {
+            self.insert(n, x)?;
+            Ok(true)
+        } else {
+            drop(x);
+            Ok(false)
+        }
+    }
+
+    /// Takes so many values away, the lowest first, where there are so many.
+    pub fn take_values(&mut self, alloc: Global, n: usize) -> Result<Option<Vec<Value>>, NoMemory>
+        ensures { IfOk result (λ vs. TakesValues vs n (plain_operands self.old) (plain_operands self.new)) }
+    {
+        if n > self.len() {
+            return Ok(None);
+        }
+        let mut values = Vec::with_capacity(alloc, n)?;
+        while values.len() < n {
+            match self.pop() {
+                None => return Ok(None),
+                Some(x) => values.push(x.into_value())?,
+            }
+        }
+        values.reverse();
+        Ok(Some(values))
+    }
+
+    /// Puts values on top, the first one topmost.
+    pub fn spread(&mut self, values: Vec<Value>) -> Result<(), NoMemory>
+        ensures { OnOk result (plain_operands self.new ≡ map of_value (plains values.items) ++ plain_operands self.old) }
+    {
+        let mut rest = values;
+        while let Some(value) = rest.pop() {
+            self.push(Operand::Value(value))?;
+        }
+        Ok(())
+    }
+}

@@ -1,0 +1,156 @@
+// Exceptions that instructions raise.
+ghost use Rattle.std.specs.Prelude.{◌≡◌, ◌<◌, List, IfOk};
+ghost use Rattle.py_value.specs.Plain.{packed};
+ghost use Rattle.py_value.specs.View.{plain, plains, plain_answer};
+ghost use Rattle.py_builtins.specs.Catching.{catches, some_catches, assertion_error};
+ghost use Rattle.py_code.specs.declared.instr.Instr.TheVariants.{Raise, Reraise, Assertion, AssertionWith, Catches, Caught, Uncaught};
+ghost use Rattle.py_code.specs.Units.{Module, plain_unit};
+ghost use Rattle.py_store.specs.declared.store.Store.{Store as Kept};
+ghost use Rattle.py_instructions.specs.View.{Acts};
+
+use crate::frame::State;
+use crate::operand::Operand;
+use crate::turn::Turn;
+use py_code::Unit;
+use py_value::{Argument, Cause, ExcKind, NoMemory, Raised, Value};
+use std::alloc::Global;
+
+impl State {
+    pub fn raise(&mut self, alloc: Global, unit: &Unit) -> Result<Turn, NoMemory>
+        ensures { IfOk result (λ t. (ms : List Module) (s : Kept) → Acts ms (plain_unit unit.now) Raise self.old s self.new s t) }
+    {
+        let Some(x) = self.top.operands.pop() else {
+            return Ok(Turn::Stuck);
+        };
+        let value = x.into_value();
+        match &value {
+            Value::Kind(kind) => Ok(Turn::Escapes(
+                Raised {
+                    kind: *kind,
+                    arg: Argument::none(),
+                },
+                false,
+            )),
+            Value::Exc(kind, arg) => {
+                let arg = arg.copy()?;
+                Ok(Turn::Escapes(Raised { kind: *kind, arg }, false))
+            }
+            _ => Ok(Turn::Throws(Raised::of(alloc, Cause::NotException)?)),
+        }
+    }
+
+    pub fn reraise(&mut self, unit: &Unit, n: u32) -> Result<Turn, NoMemory>
+        ensures { IfOk result (λ t. (ms : List Module) (s : Kept) → Acts ms (plain_unit unit.now) (Reraise n) self.old s self.new s t) }
+    {
+        match self.top.operands.operand(n as usize) {
+            None => Ok(Turn::Stuck),
+            Some(x) => Ok(Turn::Escapes(x.exception()?, false)),
+        }
+    }
+
+    pub fn assertion(&mut self, unit: &Unit) -> Turn
+        ensures { (ms : List Module) (s : Kept) → Acts ms (plain_unit unit.now) Assertion self.old s self.new s result }
+    {
+        Turn::Throws(Raised {
+            kind: ExcKind::AssertionError,
+            arg: Argument::none(),
+        })
+    }
+
+    pub fn assertion_with(&mut self, alloc: Global, unit: &Unit) -> Result<Turn, NoMemory>
+        ensures { IfOk result (λ t. (ms : List Module) (s : Kept) → Acts ms (plain_unit unit.now) AssertionWith self.old s self.new s t) }
+    {
+        let Some(x) = self.top.operands.pop() else {
+            return Ok(Turn::Stuck);
+        };
+        let value = x.into_value();
+        if value.may_nest() {
+            let arg = Argument::of(alloc, value)?;
+            Ok(Turn::Throws(Raised {
+                kind: ExcKind::AssertionError,
+                arg,
+            }))
+        } else {
+            drop(value);
+            Ok(Turn::Throws(Raised::of(alloc, Cause::TooDeep)?))
+        }
+    }
+
+    pub fn catches(&mut self, alloc: Global, unit: &Unit) -> Result<Turn, NoMemory>
+        requires { self.old.top.place < usize.MAX }
+        ensures { IfOk result (λ t. (ms : List Module) (s : Kept) → Acts ms (plain_unit unit.now) Catches self.old s self.new s t) }
+    {
+        let Some(x) = self.top.operands.pop() else {
+            return Ok(Turn::Stuck);
+        };
+        let value = x.into_value();
+        let Some(w) = self.top.operands.pop() else {
+            drop(value);
+            return Ok(Turn::Stuck);
+        };
+        let kind = w.kind();
+        self.top.operands.push(w)?;
+        match catches(alloc, &value, kind)? {
+            Ok(holds) => {
+                self.top.operands.push(Operand::Value(Value::Bool(holds)))?;
+                self.top.place += 1;
+                Ok(Turn::Goes)
+            }
+            Err(raised) => Ok(Turn::Throws(raised)),
+        }
+    }
+
+    pub fn caught(&mut self, unit: &Unit) -> Result<Turn, NoMemory>
+        requires { self.old.top.place < usize.MAX }
+        ensures { IfOk result (λ t. (ms : List Module) (s : Kept) → Acts ms (plain_unit unit.now) Caught self.old s self.new s t) }
+    {
+        let Some(w) = self.top.operands.operand(0) else {
+            return Ok(Turn::Stuck);
+        };
+        let Raised { kind, arg } = w.exception()?;
+        self.top
+            .operands
+            .push(Operand::Value(Value::Exc(kind, arg)))?;
+        self.top.place += 1;
+        Ok(Turn::Goes)
+    }
+
+    pub fn uncaught(&mut self, unit: &Unit) -> Result<Turn, NoMemory>
+        ensures { IfOk result (λ t. (ms : List Module) (s : Kept) → Acts ms (plain_unit unit.now) Uncaught self.old s self.new s t) }
+    {
+        let Some(w) = self.top.operands.pop() else {
+            return Ok(Turn::Stuck);
+        };
+        let raised = w.exception()?;
+        Ok(Turn::Throws(raised))
+    }
+}
+
+/// Whether the value of a clause catches exceptions of a kind.
+fn catches(alloc: Global, value: &Value, kind: ExcKind) -> Result<Result<bool, Raised>, NoMemory>
+    ensures { IfOk result (λ answer. plain_answer answer ≡ catches (plain value.now) kind) }
+{
+    match value {
+        Value::Kind(k) => Ok(Ok(kind.is_or_under(*k))),
+        Value::Tuple(items) => some_catches(alloc, items.as_slice(), kind),
+        _ => Ok(Err(Raised::of(alloc, Cause::NotExceptionKind)?)),
+    }
+}
+
+/// Whether one of the values does. Each must be a kind.
+fn some_catches(
+    alloc: Global,
+    values: &[Value],
+    kind: ExcKind,
+) -> Result<Result<bool, Raised>, NoMemory>
+    ensures { IfOk result (λ answer. plain_answer answer ≡ some_catches (packed (plains values.now)) kind) }
+{
+    let mut holds = false;
+    for value in values {
+        match value {
+            Value::Kind(k) => holds = holds || kind.is_or_under(*k),
+            _ => return Ok(Err(Raised::of(alloc, Cause::NotExceptionKind)?)),
+        }
+    }
+    Ok(Ok(holds))
+}

@@ -1,4 +1,0 @@
-pub mod Operands
-pub mod Locals
-pub mod Globals
-pub mod View
