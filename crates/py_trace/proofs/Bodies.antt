@@ -1,4 +1,5 @@
--- In a module without a fault no alternative of a pattern binds a name, in its body or in a function.
+-- In a module without a fault no alternative of a pattern binds a name, in its body or in a function. And each function has
+-- parameters of its own.
 use Rattle.std.proofs.Common.{◌≡◌, ℕ, Bool, true, false, if◌then◌else◌, List, [], ◌∷◌, ◌++◌, refl}
 use Rattle.py_syntax.specs.Functions.{Function, functions, functions_in, opt_functions, arms_functions, clauses_functions, cases_functions, is_docstring, without_docstring}
 use Rattle.py_syntax.specs.Tree.{Stmts, no_stmts, stmt, suite, OptSuite, no_suite, has_suite, Arms, no_arms, arm, Clauses, no_clauses, clause, Cases, no_cases, case, StmtKind, expr, assign, aug_assign, pass, break, continue, return, raise, assert, global, import, from, if', while, for, try, def, match}
@@ -8,20 +9,14 @@ use Rattle.py_scope.specs.Faults.{Findings, ◌&◌, blame, blame_case, in_loop,
 use Rattle.py_scope.specs.Patterns.{has_repeats, alternative_binds, is_twice_named}
 use Rattle.py_syntax.specs.Names.{pattern_names}
 use Rattle.py_compile.specs.Proper.{AreProper, IsProper, ProperOpt, ProperArms, ProperClauses, ProperCases}
-use Rattle.py_compile.specs.ProgramRuns.{AreProperFunctions}
-use Rattle.py_trace.proofs.Patterns.{right_false, proper-pattern}
+use Rattle.py_compile.specs.ProgramRuns.{AreProperFunctions, EachHasOwnParameters}
+use Rattle.py_trace.proofs.Nothing.{front-none, back-none, right_false}
+use Rattle.py_trace.proofs.Parameters.{own-parameters}
+use Rattle.py_trace.proofs.Patterns.{proper-pattern}
 
 -- no fault is found
 abbrev pub Clear : Findings → Type 0
 Clear f = f.faults ≡ []
-
-front-none : {A : Type 0} (xs ys : List A) → xs ++ ys ≡ [] → xs ≡ []
-front-none [] ys h = refl
-front-none (x ∷ xs) ys h = cc
-
-pub back-none : {A : Type 0} (xs ys : List A) → xs ++ ys ≡ [] → ys ≡ []
-back-none [] ys h = h
-back-none (x ∷ xs) ys h = cc
 
 clear-left : (f g : Findings) → Clear (f & g) → Clear f
 clear-left f g h = front-none f.faults g.faults h
@@ -102,30 +97,36 @@ proper-body at (stmt f l k e rest) h = by (is_docstring k)
 
 -- ---- functions
 
-both : (fs gs : List Function) → AreProperFunctions fs → AreProperFunctions gs → AreProperFunctions (fs ++ gs)
+abbrev pub AreSound : List Function → Type 0
+AreSound fs = AreProperFunctions fs × EachHasOwnParameters fs
+
+none-at-all : AreSound []
+none-at-all = (tt, tt)
+
+both : (fs gs : List Function) → AreSound fs → AreSound gs → AreSound (fs ++ gs)
 both [] gs h k = k
-both (f ∷ fs) gs h k = (h.0, both fs gs h.1 k)
+both (f ∷ fs) gs h k = let rest = both fs gs (h.0.1, h.1.1) k in ((h.0.0, rest.0), (h.1.0, rest.1))
 
 mutual
   unfolding functions functions_in opt_functions arms_functions clauses_functions cases_functions
 
-  pub each : (at : _) (b : Stmts) → Clear (findings at b) → AreProperFunctions (functions b)
-  each at no_stmts h = tt
+  pub each : (at : _) (b : Stmts) → Clear (findings at b) → AreSound (functions b)
+  each at no_stmts h = none-at-all
   each at (stmt f l k e rest) h = both (functions_in f k) (functions rest) (each-kind at f k (clear-left (kind_findings at f k) (findings at rest) h)) (each at rest (clear-right (kind_findings at f k) (findings at rest) h))
 
-  each-kind : (at : _) (l : ℕ) (k : StmtKind) → Clear (kind_findings at l k) → AreProperFunctions (functions_in l k)
-  each-kind at l (expr e) h = tt
-  each-kind at l (assign ts e) h = tt
-  each-kind at l (aug_assign t op e) h = tt
-  each-kind at l pass h = tt
-  each-kind at l break h = tt
-  each-kind at l continue h = tt
-  each-kind at l (return e) h = tt
-  each-kind at l (raise e) h = tt
-  each-kind at l (assert e w) h = tt
-  each-kind at l (global xs) h = tt
-  each-kind at l (import names) h = tt
-  each-kind at l (from m names) h = tt
+  each-kind : (at : _) (l : ℕ) (k : StmtKind) → Clear (kind_findings at l k) → AreSound (functions_in l k)
+  each-kind at l (expr e) h = none-at-all
+  each-kind at l (assign ts e) h = none-at-all
+  each-kind at l (aug_assign t op e) h = none-at-all
+  each-kind at l pass h = none-at-all
+  each-kind at l break h = none-at-all
+  each-kind at l continue h = none-at-all
+  each-kind at l (return e) h = none-at-all
+  each-kind at l (raise e) h = none-at-all
+  each-kind at l (assert e w) h = none-at-all
+  each-kind at l (global xs) h = none-at-all
+  each-kind at l (import names) h = none-at-all
+  each-kind at l (from m names) h = none-at-all
   each-kind at l (if' xs o) h = both (arms_functions xs) (opt_functions o) (each-arms at xs (clear-left (arms_findings at xs) (opt_findings at o) h)) (each-opt at o (clear-right (arms_findings at xs) (opt_findings at o) h))
   each-kind at l (while t (suite f g i b) o) h = both (functions b) (opt_functions o) (each (in_loop at) b (clear-left (findings (in_loop at) b) (opt_findings at o) h)) (each-opt at o (clear-right (findings (in_loop at) b) (opt_findings at o) h))
   each-kind at l (for t e (suite f g i b) o) h = both (functions b) (opt_functions o) (each (in_loop at) b (clear-left (findings (in_loop at) b) (opt_findings at o) h)) (each-opt at o (clear-right (findings (in_loop at) b) (opt_findings at o) h))
@@ -138,25 +139,27 @@ mutual
   each-kind at l (def x ps ds c (suite f g i b)) h =
       let named = clear-right (blame at.function (NestedFunction l)) (blame (has_repeats ps) (TwiceNamed l) & function_findings ps (suite f g i b)) h in
       let own = clear-right (blame (has_repeats ps) (TwiceNamed l)) (function_findings ps (suite f g i b)) named in
-      (proper-body function_place b (clear-right (in_function ps b) (findings function_place b) own), tt)
+      let once = not-blamed (has_repeats ps) (TwiceNamed l) (clear-left (blame (has_repeats ps) (TwiceNamed l)) (function_findings ps (suite f g i b)) named) in
+      let inside = proper-body function_place b (clear-right (in_function ps b) (findings function_place b) own) in
+      ((inside, tt), (own-parameters (record { line = l; name = x; params = ps; body = b }) once (clear-left (in_function ps b) (findings function_place b) own), tt))
   each-kind at l (match e last cs) h = each-cases at cs h
 
-  each-opt : (at : _) (o : OptSuite) → Clear (opt_findings at o) → AreProperFunctions (opt_functions o)
-  each-opt at no_suite h = tt
+  each-opt : (at : _) (o : OptSuite) → Clear (opt_findings at o) → AreSound (opt_functions o)
+  each-opt at no_suite h = none-at-all
   each-opt at (has_suite (suite f g i b)) h = each at b h
 
-  each-arms : (at : _) (xs : Arms) → Clear (arms_findings at xs) → AreProperFunctions (arms_functions xs)
-  each-arms at no_arms h = tt
+  each-arms : (at : _) (xs : Arms) → Clear (arms_findings at xs) → AreSound (arms_functions xs)
+  each-arms at no_arms h = none-at-all
   each-arms at (arm t (suite f g i b) rest) h = both (functions b) (arms_functions rest) (each at b (clear-left (findings at b) (arms_findings at rest) h)) (each-arms at rest (clear-right (findings at b) (arms_findings at rest) h))
 
-  each-clauses : (at : _) (cs : Clauses) → Clear (clauses_findings at cs) → AreProperFunctions (clauses_functions cs)
-  each-clauses at no_clauses h = tt
+  each-clauses : (at : _) (cs : Clauses) → Clear (clauses_findings at cs) → AreSound (clauses_functions cs)
+  each-clauses at no_clauses h = none-at-all
   each-clauses at (clause k x (suite f g i b) rest) h =
       let inner = clear-right (blame _ _) (findings (in_clause at) b & clauses_findings at rest) h in
       both (functions b) (clauses_functions rest) (each (in_clause at) b (clear-left (findings (in_clause at) b) (clauses_findings at rest) inner)) (each-clauses at rest (clear-right (findings (in_clause at) b) (clauses_findings at rest) inner))
 
-  each-cases : (at : _) (cs : Cases) → Clear (cases_findings at cs) → AreProperFunctions (cases_functions cs)
-  each-cases at no_cases h = tt
+  each-cases : (at : _) (cs : Cases) → Clear (cases_findings at cs) → AreSound (cases_functions cs)
+  each-cases at no_cases h = none-at-all
   each-cases at (case q g (suite f l i b) rest) h =
       let inner = clear-right (blame_case f q _ _) (findings at b & cases_findings at rest) h in
       both (functions b) (cases_functions rest) (each at b (clear-left (findings at b) (cases_findings at rest) inner)) (each-cases at rest (clear-right (findings at b) (cases_findings at rest) inner))

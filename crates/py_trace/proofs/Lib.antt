@@ -1,3 +1,5 @@
+mod Nothing
 mod Patterns
+mod Parameters
 mod Bodies
 mod Law

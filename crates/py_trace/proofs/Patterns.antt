@@ -1,16 +1,9 @@
 -- What a header of a case isn't blamed for: no alternative in its pattern binds a name.
-use Rattle.std.proofs.Common.{◌≡◌, Bool, true, false, ◌||◌, refl}
+use Rattle.std.proofs.Common.{◌≡◌, false}
 use Rattle.py_syntax.specs.Tree.{Pattern, literal, capture, wild, member, sequence, p_or, p_as, p_paren, Patterns, no_patterns, patterns}
 use Rattle.py_scope.specs.Patterns.{binds, some_binds, alternative_binds, some_alternative_binds}
 use Rattle.py_compile.specs.Proper.{BindsNone, NoneBind, ProperPattern, ProperPatterns}
-
-pub left_false : (a b : Bool) → (a || b) ≡ false → a ≡ false
-left_false true b h = h
-left_false false b h = refl
-
-pub right_false : (a b : Bool) → (a || b) ≡ false → b ≡ false
-right_false true b h = cc
-right_false false b h = h
+use Rattle.py_trace.proofs.Nothing.{left_false, right_false}
 
 mutual
   binds-none : (p : Pattern) → binds p ≡ false → BindsNone p

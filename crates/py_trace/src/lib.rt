@@ -1,8 +1,13 @@
-//! That compilation keeps what a program does: a law over meanings and code. The function below does nothing, and stands for
+//! That compilation keeps what a program does: laws over meanings and code. The functions below do nothing, and each stands for
 //! the law that its contract states.
 #![tactic(auto)]
 
-ghost use Rattle.py_trace.specs.Traces.{TracesKept};
+ghost use Rattle.py_trace.specs.Traces.{HavePremises, TracesKept};
+
+/// Modules that the check of scopes accepts are those that the laws of code speak of.
+pub fn premises_hold()
+    ensures { HavePremises }
+{}
 
 /// A machine that runs faithful code of well-formed modules does what the modules mean.
 pub fn traces_kept()
