@@ -1,9 +1,9 @@
 -- The arcs of a module by a walk that knows where each way out of a part leads. (Python Language Reference, 7 and 8)
 --
--- Where `any` is true, everything that marks may raise at its mark; else `raise` alone raises. A line is an end of an arc by `pos`.
+-- Where `any` is true, everything that marks may raise at its mark; else `raise` alone raises.
 --     Target, Targets                        where a mark leads, and where each way out of a part does
 --     arcs_to, raises, unless                the arcs from a line to targets, those of an exception, and those that may be none
---     entering, opt_entering                 the targets in front of a part
+--     entering, before                       the targets in front of a part
 --     with_target, united                    targets each once
 --     in_loop, before_finally, in_try        the targets in a loop, in front of a `finally`, and in a `try` suite
 --     stmts_walk, kind_walk, opt_walk        the arcs of statements; suite_walk and the like for what stands in them
