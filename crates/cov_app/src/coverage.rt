@@ -10,8 +10,8 @@ ghost use Rattle.cov_app.specs.Step.{Answers, AnswersGiven, AnswersScript, Answe
 
 use crate::answer::{End, LimitKind, SyntaxKind, Told, Why};
 use crate::command::read_words;
-use crate::messages::tell;
 use crate::front::{self, SourceError};
+use crate::messages::tell;
 use crate::script::{BUDGET, run};
 use crate::walk::{Left, Raised, RunFault};
 use cov_outside::{Shelf, ShelfError, Sink, Source};

@@ -3,10 +3,10 @@
 
 mod answer;
 mod command;
-mod messages;
-mod front;
-mod script;
 mod coverage;
+mod front;
+mod messages;
+mod script;
 mod walk;
 
 pub use answer::{End, LimitKind, SyntaxKind, Told, Why};

@@ -35,8 +35,10 @@ impl Counted {
     /// What an error means, which counts unless a table, a column or memory is missing.
     fn count(&mut self, error: Error) -> StatementError
         ensures count { self.old.refusals ≤ self.new.refusals }
-        ensures refused { result ≡ StatementError.Refused → Rose self.old.refusals self.new.refusals }
-        ensures missing { result ≡ StatementError.Missing → (e : CompileError) × IsAbsence e × (error ≡ SqlInputError e) }
+        ensures refused { result ≡ StatementError.Refused
+            → Rose self.old.refusals self.new.refusals }
+        ensures missing { result ≡ StatementError.Missing
+            → (e : CompileError) × IsAbsence e × (error ≡ SqlInputError e) }
     {
         match error {
             Error::SqliteFailure(ErrorCode::OutOfMemory) => StatementError::NoMemory,
@@ -60,7 +62,8 @@ impl Counted {
     /// What an error at the end of a transaction means, which counts unless memory is missing.
     fn count_end(&mut self, error: Error) -> StatementError
         ensures count { self.old.refusals ≤ self.new.refusals }
-        ensures refused { result ≡ StatementError.Refused → Rose self.old.refusals self.new.refusals }
+        ensures refused { result ≡ StatementError.Refused
+            → Rose self.old.refusals self.new.refusals }
         ensures not_missing { result ≡ StatementError.Missing → ⊥ }
     {
         match error {
@@ -79,13 +82,19 @@ impl Counted {
         base: &mut Connection<S>,
         sql: &str,
     ) -> Result<Vec<Vec<Cell>>, StatementError>
-        ensures shown { HasCleanDisk (state S.Store base.new) → IfOk result (ShowsCells sql.now (state S.Store base.old) (state S.Store base.new)) }
-        ensures missing { HasCleanDisk (state S.Store base.new) → IsErrOf result StatementError.Missing → IsRefusedAsAbsent sql.now (state S.Store base.old) (state S.Store base.new) }
-        ensures asked { HasCleanDisk (state S.Store base.new) → IsAsked sql.now (state S.Store base.old) (state S.Store base.new) }
-        ensures survives { Survives (state S.Store base.old) (state S.Store base.new) (CommitsShowing sql.now [] (state S.Store base.old)) }
+        ensures shown { HasCleanDisk (state S.Store base.new)
+            → IfOk result (ShowsCells sql.now (state S.Store base.old) (state S.Store base.new)) }
+        ensures missing { HasCleanDisk (state S.Store base.new)
+            → IsErrOf result StatementError.Missing
+            → IsRefusedAsAbsent sql.now (state S.Store base.old) (state S.Store base.new) }
+        ensures asked { HasCleanDisk (state S.Store base.new)
+            → IsAsked sql.now (state S.Store base.old) (state S.Store base.new) }
+        ensures survives { Survives (state S.Store base.old) (state S.Store base.new)
+            (CommitsShowing sql.now [] (state S.Store base.old)) }
         ensures mode { base.old.in_transaction ≡ false → base.new.in_transaction ≡ false }
         ensures count { self.old.refusals ≤ self.new.refusals }
-        ensures refused { IsErrOf result StatementError.Refused → Rose self.old.refusals self.new.refusals }
+        ensures refused { IsErrOf result StatementError.Refused
+            → Rose self.old.refusals self.new.refusals }
     {
         match base.query_all(sql, &[]) {
             Ok(rows) => match lists_of(alloc, &rows) {
@@ -105,12 +114,21 @@ impl Counted {
         sql: &str,
         params: &[ValueRef<'_>],
     ) -> Result<(), StatementError>
-        ensures ran { HasCleanDisk (state S.Store work.new.conn.now) → IsTrue (state S.Store work.old.conn.now).in_transaction → OnOk result (Ran sql.now (bound params.now) (state S.Store work.old.conn.now) (state S.Store work.new.conn.now)) }
-        ensures missing { HasCleanDisk (state S.Store work.new.conn.now) → IsTrue (state S.Store work.old.conn.now).in_transaction → IsErrOf result StatementError.Missing → WasAbsent sql.now (bound params.now) (state S.Store work.old.conn.now) (state S.Store work.new.conn.now) }
-        ensures survives { Survives (state S.Store work.old.conn.now) (state S.Store work.new.conn.now) (λ _. ⊥) }
+        ensures ran { HasCleanDisk (state S.Store work.new.conn.now)
+            → IsTrue (state S.Store work.old.conn.now).in_transaction
+            → OnOk result (Ran sql.now (bound params.now) (state S.Store work.old.conn.now)
+            (state S.Store work.new.conn.now)) }
+        ensures missing { HasCleanDisk (state S.Store work.new.conn.now)
+            → IsTrue (state S.Store work.old.conn.now).in_transaction
+            → IsErrOf result StatementError.Missing
+            → WasAbsent sql.now (bound params.now) (state S.Store work.old.conn.now)
+            (state S.Store work.new.conn.now) }
+        ensures survives { Survives (state S.Store work.old.conn.now)
+            (state S.Store work.new.conn.now) (λ _. ⊥) }
         ensures same_reference { work.new.conn.ghost_name ≡ work.old.conn.ghost_name }
         ensures count { self.old.refusals ≤ self.new.refusals }
-        ensures refused { IsErrOf result StatementError.Refused → Rose self.old.refusals self.new.refusals }
+        ensures refused { IsErrOf result StatementError.Refused
+            → Rose self.old.refusals self.new.refusals }
     {
         match work.execute(sql, params) {
             Ok(_) => Ok(()),
@@ -439,11 +457,16 @@ impl Statements for Counted {
     }
 
     fn commit<S: Alter>(&mut self, work: Transaction<'_, S>) -> Result<(), StatementError>
-        ensures told { HasCleanDisk (state S.Store work.exit.0.now) → OnOk result ((state S.Store work.exit.0.now).committed ≡ (state S.Store work.entry.conn.now).now) }
+        ensures told { HasCleanDisk (state S.Store work.exit.0.now)
+            → OnOk result ((state S.Store work.exit.0.now).committed
+            ≡ (state S.Store work.entry.conn.now).now) }
         ensures ended { work.exit.0.now.in_transaction ≡ false }
-        ensures survives { Survives (state S.Store work.entry.conn.now) (state S.Store work.exit.0.now) (λ db. db ≡ (state S.Store work.entry.conn.now).now.trees) }
+        ensures survives { Survives (state S.Store work.entry.conn.now)
+            (state S.Store work.exit.0.now) (λ db.
+            db ≡ (state S.Store work.entry.conn.now).now.trees) }
         ensures count { self.old.refusals ≤ self.new.refusals }
-        ensures refused { IsErrOf result StatementError.Refused → Rose self.old.refusals self.new.refusals }
+        ensures refused { IsErrOf result StatementError.Refused
+            → Rose self.old.refusals self.new.refusals }
         ensures not_missing { IsErrOf result StatementError.Missing → ⊥ }
         ensures tells { ⟦<Counted as Statements>⟧.tells self.new }
     {

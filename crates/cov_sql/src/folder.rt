@@ -43,7 +43,8 @@ impl FolderVault {
     /// A failure, which counts unless memory was missing.
     fn failure(&mut self, no_memory: bool) -> VaultError
         ensures count { self.old.by.refusals ≤ self.new.by.refusals }
-        ensures failed { result ≡ VaultError.Failed → Rose self.old.by.refusals self.new.by.refusals }
+        ensures failed { result ≡ VaultError.Failed
+            → Rose self.old.by.refusals self.new.by.refusals }
         ensures kinds { IsFailure result }
     {
         if no_memory {
@@ -55,7 +56,8 @@ impl FolderVault {
 
     fn is_there(&mut self, path: &PathBuf) -> Result<bool, VaultError>
         ensures count { self.old.by.refusals ≤ self.new.by.refusals }
-        ensures failed { IsErrOf result VaultError.Failed → Rose self.old.by.refusals self.new.by.refusals }
+        ensures failed { IsErrOf result VaultError.Failed
+            → Rose self.old.by.refusals self.new.by.refusals }
         ensures kinds { IfErr result IsFailure }
     {
         match fs::exists(&self.rt, path.as_path()) {
@@ -67,7 +69,8 @@ impl FolderVault {
     fn open(&mut self, path: &PathBuf) -> Result<Connection<FileStore<File>>, VaultError>
         ensures autocommit { IfOk result (λ base. base.in_transaction ≡ false) }
         ensures count { self.old.by.refusals ≤ self.new.by.refusals }
-        ensures failed { IsErrOf result VaultError.Failed → Rose self.old.by.refusals self.new.by.refusals }
+        ensures failed { IsErrOf result VaultError.Failed
+            → Rose self.old.by.refusals self.new.by.refusals }
         ensures kinds { IfErr result IsFailure }
     {
         match Connection::open(&self.rt, path.as_path().as_str()) {
@@ -82,7 +85,8 @@ impl FolderVault {
     /// Takes away what the database keeps beside a file.
     fn take_companions(&mut self, alloc: Global, path: &PathBuf) -> Result<(), VaultError>
         ensures count { self.old.by.refusals ≤ self.new.by.refusals }
-        ensures failed { IsErrOf result VaultError.Failed → Rose self.old.by.refusals self.new.by.refusals }
+        ensures failed { IsErrOf result VaultError.Failed
+            → Rose self.old.by.refusals self.new.by.refusals }
         ensures kinds { IfErr result IsFailure }
     {
         match remove_companions(&self.rt, alloc, path) {
@@ -94,7 +98,8 @@ impl FolderVault {
     fn read(&mut self, alloc: Global, path: &PathBuf) -> Result<Data, VaultError>
         ensures not_absent { IsErrOf result VaultError.Absent → ⊥ }
         ensures count { self.old.by.refusals ≤ self.new.by.refusals }
-        ensures failed { IsErrOf result VaultError.Failed → Rose self.old.by.refusals self.new.by.refusals }
+        ensures failed { IsErrOf result VaultError.Failed
+            → Rose self.old.by.refusals self.new.by.refusals }
     {
         let mut base = self.open(path)?;
         let loaded = read_data(alloc, &mut base, &mut self.by);
@@ -116,7 +121,8 @@ impl FolderVault {
         ensures not_absent { IsErrOf result VaultError.Absent → ⊥ }
         ensures not_bad_row { (row : ℕ) → IsErrOf result (VaultError.BadRow row) → ⊥ }
         ensures count { self.old.by.refusals ≤ self.new.by.refusals }
-        ensures failed { IsErrOf result VaultError.Failed → Rose self.old.by.refusals self.new.by.refusals }
+        ensures failed { IsErrOf result VaultError.Failed
+            → Rose self.old.by.refusals self.new.by.refusals }
     {
         let mut base = self.open(path)?;
         let saved = write_data(alloc, &mut base, &mut self.by, content, fresh);

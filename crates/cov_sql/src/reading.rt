@@ -49,14 +49,17 @@ fn coverage_schema_rows<S: Alter, Q: Statements>(
     base: &mut Connection<S>,
     by: &mut Q,
 ) -> Result<Vec<Vec<Cell>>, SqlError>
-    ensures told { Q.tells by.old → Seeks coverage_schema (state S.Store base.old) (state S.Store base.new) result }
-    ensures survives { Q.tells by.old → LeavesAll coverage_schema (state S.Store base.old) (state S.Store base.new) }
+    ensures told { Q.tells by.old
+        → Seeks coverage_schema (state S.Store base.old) (state S.Store base.new) result }
+    ensures survives { Q.tells by.old
+        → LeavesAll coverage_schema (state S.Store base.old) (state S.Store base.new) }
     ensures not_bad_row { (row : ℕ) → IsErrOf result (SqlError.BadRow row) → ⊥ }
     ensures tells { Q.tells by.old → Q.tells by.new }
     ensures clean { HasCleanDisk (state S.Store base.new) → HasCleanDisk (state S.Store base.old) }
     ensures mode { base.old.in_transaction ≡ false → base.new.in_transaction ≡ false }
     ensures count { Q.refusals by.old ≤ Q.refusals by.new }
-    ensures refused { IsErrOf result SqlError.Refused → Rose (Q.refusals by.old) (Q.refusals by.new) }
+    ensures refused { IsErrOf result SqlError.Refused
+        → Rose (Q.refusals by.old) (Q.refusals by.new) }
 {
     Ok(by.read_coverage_schema(alloc, base)?)
 }
@@ -66,14 +69,17 @@ fn meta_rows<S: Alter, Q: Statements>(
     base: &mut Connection<S>,
     by: &mut Q,
 ) -> Result<Vec<Vec<Cell>>, SqlError>
-    ensures told { Q.tells by.old → Seeks meta (state S.Store base.old) (state S.Store base.new) result }
-    ensures survives { Q.tells by.old → LeavesAll meta (state S.Store base.old) (state S.Store base.new) }
+    ensures told { Q.tells by.old
+        → Seeks meta (state S.Store base.old) (state S.Store base.new) result }
+    ensures survives { Q.tells by.old
+        → LeavesAll meta (state S.Store base.old) (state S.Store base.new) }
     ensures not_bad_row { (row : ℕ) → IsErrOf result (SqlError.BadRow row) → ⊥ }
     ensures tells { Q.tells by.old → Q.tells by.new }
     ensures clean { HasCleanDisk (state S.Store base.new) → HasCleanDisk (state S.Store base.old) }
     ensures mode { base.old.in_transaction ≡ false → base.new.in_transaction ≡ false }
     ensures count { Q.refusals by.old ≤ Q.refusals by.new }
-    ensures refused { IsErrOf result SqlError.Refused → Rose (Q.refusals by.old) (Q.refusals by.new) }
+    ensures refused { IsErrOf result SqlError.Refused
+        → Rose (Q.refusals by.old) (Q.refusals by.new) }
 {
     Ok(by.read_meta(alloc, base)?)
 }
@@ -83,14 +89,17 @@ fn file_rows<S: Alter, Q: Statements>(
     base: &mut Connection<S>,
     by: &mut Q,
 ) -> Result<Vec<Vec<Cell>>, SqlError>
-    ensures told { Q.tells by.old → Seeks file (state S.Store base.old) (state S.Store base.new) result }
-    ensures survives { Q.tells by.old → LeavesAll file (state S.Store base.old) (state S.Store base.new) }
+    ensures told { Q.tells by.old
+        → Seeks file (state S.Store base.old) (state S.Store base.new) result }
+    ensures survives { Q.tells by.old
+        → LeavesAll file (state S.Store base.old) (state S.Store base.new) }
     ensures not_bad_row { (row : ℕ) → IsErrOf result (SqlError.BadRow row) → ⊥ }
     ensures tells { Q.tells by.old → Q.tells by.new }
     ensures clean { HasCleanDisk (state S.Store base.new) → HasCleanDisk (state S.Store base.old) }
     ensures mode { base.old.in_transaction ≡ false → base.new.in_transaction ≡ false }
     ensures count { Q.refusals by.old ≤ Q.refusals by.new }
-    ensures refused { IsErrOf result SqlError.Refused → Rose (Q.refusals by.old) (Q.refusals by.new) }
+    ensures refused { IsErrOf result SqlError.Refused
+        → Rose (Q.refusals by.old) (Q.refusals by.new) }
 {
     Ok(by.read_file(alloc, base)?)
 }
@@ -100,14 +109,17 @@ fn context_rows<S: Alter, Q: Statements>(
     base: &mut Connection<S>,
     by: &mut Q,
 ) -> Result<Vec<Vec<Cell>>, SqlError>
-    ensures told { Q.tells by.old → Seeks context (state S.Store base.old) (state S.Store base.new) result }
-    ensures survives { Q.tells by.old → LeavesAll context (state S.Store base.old) (state S.Store base.new) }
+    ensures told { Q.tells by.old
+        → Seeks context (state S.Store base.old) (state S.Store base.new) result }
+    ensures survives { Q.tells by.old
+        → LeavesAll context (state S.Store base.old) (state S.Store base.new) }
     ensures not_bad_row { (row : ℕ) → IsErrOf result (SqlError.BadRow row) → ⊥ }
     ensures tells { Q.tells by.old → Q.tells by.new }
     ensures clean { HasCleanDisk (state S.Store base.new) → HasCleanDisk (state S.Store base.old) }
     ensures mode { base.old.in_transaction ≡ false → base.new.in_transaction ≡ false }
     ensures count { Q.refusals by.old ≤ Q.refusals by.new }
-    ensures refused { IsErrOf result SqlError.Refused → Rose (Q.refusals by.old) (Q.refusals by.new) }
+    ensures refused { IsErrOf result SqlError.Refused
+        → Rose (Q.refusals by.old) (Q.refusals by.new) }
 {
     Ok(by.read_context(alloc, base)?)
 }
@@ -117,14 +129,17 @@ fn line_bits_rows<S: Alter, Q: Statements>(
     base: &mut Connection<S>,
     by: &mut Q,
 ) -> Result<Vec<Vec<Cell>>, SqlError>
-    ensures told { Q.tells by.old → Seeks line_bits (state S.Store base.old) (state S.Store base.new) result }
-    ensures survives { Q.tells by.old → LeavesAll line_bits (state S.Store base.old) (state S.Store base.new) }
+    ensures told { Q.tells by.old
+        → Seeks line_bits (state S.Store base.old) (state S.Store base.new) result }
+    ensures survives { Q.tells by.old
+        → LeavesAll line_bits (state S.Store base.old) (state S.Store base.new) }
     ensures not_bad_row { (row : ℕ) → IsErrOf result (SqlError.BadRow row) → ⊥ }
     ensures tells { Q.tells by.old → Q.tells by.new }
     ensures clean { HasCleanDisk (state S.Store base.new) → HasCleanDisk (state S.Store base.old) }
     ensures mode { base.old.in_transaction ≡ false → base.new.in_transaction ≡ false }
     ensures count { Q.refusals by.old ≤ Q.refusals by.new }
-    ensures refused { IsErrOf result SqlError.Refused → Rose (Q.refusals by.old) (Q.refusals by.new) }
+    ensures refused { IsErrOf result SqlError.Refused
+        → Rose (Q.refusals by.old) (Q.refusals by.new) }
 {
     Ok(by.read_line_bits(alloc, base)?)
 }
@@ -134,14 +149,17 @@ fn arc_rows<S: Alter, Q: Statements>(
     base: &mut Connection<S>,
     by: &mut Q,
 ) -> Result<Vec<Vec<Cell>>, SqlError>
-    ensures told { Q.tells by.old → Seeks arc (state S.Store base.old) (state S.Store base.new) result }
-    ensures survives { Q.tells by.old → LeavesAll arc (state S.Store base.old) (state S.Store base.new) }
+    ensures told { Q.tells by.old
+        → Seeks arc (state S.Store base.old) (state S.Store base.new) result }
+    ensures survives { Q.tells by.old
+        → LeavesAll arc (state S.Store base.old) (state S.Store base.new) }
     ensures not_bad_row { (row : ℕ) → IsErrOf result (SqlError.BadRow row) → ⊥ }
     ensures tells { Q.tells by.old → Q.tells by.new }
     ensures clean { HasCleanDisk (state S.Store base.new) → HasCleanDisk (state S.Store base.old) }
     ensures mode { base.old.in_transaction ≡ false → base.new.in_transaction ≡ false }
     ensures count { Q.refusals by.old ≤ Q.refusals by.new }
-    ensures refused { IsErrOf result SqlError.Refused → Rose (Q.refusals by.old) (Q.refusals by.new) }
+    ensures refused { IsErrOf result SqlError.Refused
+        → Rose (Q.refusals by.old) (Q.refusals by.new) }
 {
     Ok(by.read_arc(alloc, base)?)
 }
@@ -151,14 +169,17 @@ fn tracer_rows<S: Alter, Q: Statements>(
     base: &mut Connection<S>,
     by: &mut Q,
 ) -> Result<Vec<Vec<Cell>>, SqlError>
-    ensures told { Q.tells by.old → Seeks tracer (state S.Store base.old) (state S.Store base.new) result }
-    ensures survives { Q.tells by.old → LeavesAll tracer (state S.Store base.old) (state S.Store base.new) }
+    ensures told { Q.tells by.old
+        → Seeks tracer (state S.Store base.old) (state S.Store base.new) result }
+    ensures survives { Q.tells by.old
+        → LeavesAll tracer (state S.Store base.old) (state S.Store base.new) }
     ensures not_bad_row { (row : ℕ) → IsErrOf result (SqlError.BadRow row) → ⊥ }
     ensures tells { Q.tells by.old → Q.tells by.new }
     ensures clean { HasCleanDisk (state S.Store base.new) → HasCleanDisk (state S.Store base.old) }
     ensures mode { base.old.in_transaction ≡ false → base.new.in_transaction ≡ false }
     ensures count { Q.refusals by.old ≤ Q.refusals by.new }
-    ensures refused { IsErrOf result SqlError.Refused → Rose (Q.refusals by.old) (Q.refusals by.new) }
+    ensures refused { IsErrOf result SqlError.Refused
+        → Rose (Q.refusals by.old) (Q.refusals by.new) }
 {
     Ok(by.read_tracer(alloc, base)?)
 }
@@ -168,15 +189,18 @@ fn hits_rows<S: Alter, Q: Statements>(
     base: &mut Connection<S>,
     by: &mut Q,
 ) -> Result<Option<Vec<Vec<Cell>>>, SqlError>
-    ensures told { Q.tells by.old → SeeksCounts (state S.Store base.old) (state S.Store base.new) result }
+    ensures told { Q.tells by.old
+        → SeeksCounts (state S.Store base.old) (state S.Store base.new) result }
     ensures not_schema { IsErrOf result SqlError.NotSchema7 → ⊥ }
-    ensures survives { Q.tells by.old → LeavesAll hits (state S.Store base.old) (state S.Store base.new) }
+    ensures survives { Q.tells by.old
+        → LeavesAll hits (state S.Store base.old) (state S.Store base.new) }
     ensures not_bad_row { (row : ℕ) → IsErrOf result (SqlError.BadRow row) → ⊥ }
     ensures tells { Q.tells by.old → Q.tells by.new }
     ensures clean { HasCleanDisk (state S.Store base.new) → HasCleanDisk (state S.Store base.old) }
     ensures mode { base.old.in_transaction ≡ false → base.new.in_transaction ≡ false }
     ensures count { Q.refusals by.old ≤ Q.refusals by.new }
-    ensures refused { IsErrOf result SqlError.Refused → Rose (Q.refusals by.old) (Q.refusals by.new) }
+    ensures refused { IsErrOf result SqlError.Refused
+        → Rose (Q.refusals by.old) (Q.refusals by.new) }
 {
     match by.read_hits(alloc, base) {
         Ok(rows) => Ok(Some(rows)),
@@ -191,14 +215,17 @@ fn read_named<S: Alter, Q: Statements>(
     base: &mut Connection<S>,
     by: &mut Q,
 ) -> Result<Named, SqlError>
-    ensures told { Q.tells by.old → FindsNamed (state S.Store base.old) (state S.Store base.new) result }
-    ensures survives { Q.tells by.old → LeavesFile (state S.Store base.old) (state S.Store base.new) }
+    ensures told { Q.tells by.old
+        → FindsNamed (state S.Store base.old) (state S.Store base.new) result }
+    ensures survives { Q.tells by.old
+        → LeavesFile (state S.Store base.old) (state S.Store base.new) }
     ensures not_bad_row { (row : ℕ) → IsErrOf result (SqlError.BadRow row) → ⊥ }
     ensures tells { Q.tells by.old → Q.tells by.new }
     ensures clean { HasCleanDisk (state S.Store base.new) → HasCleanDisk (state S.Store base.old) }
     ensures mode { base.old.in_transaction ≡ false → base.new.in_transaction ≡ false }
     ensures count { Q.refusals by.old ≤ Q.refusals by.new }
-    ensures refused { IsErrOf result SqlError.Refused → Rose (Q.refusals by.old) (Q.refusals by.new) }
+    ensures refused { IsErrOf result SqlError.Refused
+        → Rose (Q.refusals by.old) (Q.refusals by.new) }
 {
     let coverage_schema = coverage_schema_rows(alloc, base, by)?;
     let meta = meta_rows(alloc, base, by)?;
@@ -217,14 +244,17 @@ fn read_measured<S: Alter, Q: Statements>(
     base: &mut Connection<S>,
     by: &mut Q,
 ) -> Result<Measured, SqlError>
-    ensures told { Q.tells by.old → FindsMeasured (state S.Store base.old) (state S.Store base.new) result }
-    ensures survives { Q.tells by.old → LeavesFile (state S.Store base.old) (state S.Store base.new) }
+    ensures told { Q.tells by.old
+        → FindsMeasured (state S.Store base.old) (state S.Store base.new) result }
+    ensures survives { Q.tells by.old
+        → LeavesFile (state S.Store base.old) (state S.Store base.new) }
     ensures not_bad_row { (row : ℕ) → IsErrOf result (SqlError.BadRow row) → ⊥ }
     ensures tells { Q.tells by.old → Q.tells by.new }
     ensures clean { HasCleanDisk (state S.Store base.new) → HasCleanDisk (state S.Store base.old) }
     ensures mode { base.old.in_transaction ≡ false → base.new.in_transaction ≡ false }
     ensures count { Q.refusals by.old ≤ Q.refusals by.new }
-    ensures refused { IsErrOf result SqlError.Refused → Rose (Q.refusals by.old) (Q.refusals by.new) }
+    ensures refused { IsErrOf result SqlError.Refused
+        → Rose (Q.refusals by.old) (Q.refusals by.new) }
 {
     let line_bits = line_bits_rows(alloc, base, by)?;
     let arc = arc_rows(alloc, base, by)?;
@@ -243,14 +273,17 @@ pub(crate) fn read_tables<S: Alter, Q: Statements>(
     base: &mut Connection<S>,
     by: &mut Q,
 ) -> Result<Found, SqlError>
-    ensures told { Q.tells by.old → FindsAll (state S.Store base.old) (state S.Store base.new) result }
-    ensures survives { Q.tells by.old → LeavesFile (state S.Store base.old) (state S.Store base.new) }
+    ensures told { Q.tells by.old
+        → FindsAll (state S.Store base.old) (state S.Store base.new) result }
+    ensures survives { Q.tells by.old
+        → LeavesFile (state S.Store base.old) (state S.Store base.new) }
     ensures not_bad_row { (row : ℕ) → IsErrOf result (SqlError.BadRow row) → ⊥ }
     ensures tells { Q.tells by.old → Q.tells by.new }
     ensures clean { HasCleanDisk (state S.Store base.new) → HasCleanDisk (state S.Store base.old) }
     ensures mode { base.old.in_transaction ≡ false → base.new.in_transaction ≡ false }
     ensures count { Q.refusals by.old ≤ Q.refusals by.new }
-    ensures refused { IsErrOf result SqlError.Refused → Rose (Q.refusals by.old) (Q.refusals by.new) }
+    ensures refused { IsErrOf result SqlError.Refused
+        → Rose (Q.refusals by.old) (Q.refusals by.new) }
 {
     let named = read_named(alloc, base, by)?;
     let measured = read_measured(alloc, base, by)?;
@@ -302,20 +335,29 @@ pub fn read_data<S: Alter, Q: Statements>(
     base: &mut Connection<S>,
     by: &mut Q,
 ) -> Result<Data, SqlError>
-    ensures good { Q.tells by.old → HasCleanDisk (state S.Store base.new) → AreUnhidden (state S.Store base.old).now
+    ensures good { Q.tells by.old → HasCleanDisk (state S.Store base.new)
+        → AreUnhidden (state S.Store base.old).now
         → IfOk result (λ loaded. content_in (state S.Store base.old).now ≡ Good loaded) }
-    ensures not_schema { Q.tells by.old → HasCleanDisk (state S.Store base.new) → AreUnhidden (state S.Store base.old).now
+    ensures not_schema { Q.tells by.old → HasCleanDisk (state S.Store base.new)
+        → AreUnhidden (state S.Store base.old).now
         → IsErrOf result SqlError.NotSchema7 → content_in (state S.Store base.old).now ≡ NotSchema7 }
-    ensures bad_row { Q.tells by.old → HasCleanDisk (state S.Store base.new) → AreUnhidden (state S.Store base.old).now
+    ensures bad_row { Q.tells by.old → HasCleanDisk (state S.Store base.new)
+        → AreUnhidden (state S.Store base.old).now
         → (row : ℕ) → IsErrOf result (SqlError.BadRow row) → content_in (state S.Store base.old).now ≡ BadRow row }
-    ensures kept { Q.tells by.old → HasCleanDisk (state S.Store base.new) → AreUnhidden (state S.Store base.old).now → OnOk result (IsUnchanged (state S.Store base.old) (state S.Store base.new)) }
-    ensures ends { Q.tells by.old → HasCleanDisk (state S.Store base.new) → AreUnhidden (state S.Store base.old).now → EndsAs (state S.Store base.old) (state S.Store base.new) }
-    ensures survives { Q.tells by.old → LeavesFile (state S.Store base.old) (state S.Store base.new) }
+    ensures kept { Q.tells by.old → HasCleanDisk (state S.Store base.new)
+        → AreUnhidden (state S.Store base.old).now
+        → OnOk result (IsUnchanged (state S.Store base.old) (state S.Store base.new)) }
+    ensures ends { Q.tells by.old → HasCleanDisk (state S.Store base.new)
+        → AreUnhidden (state S.Store base.old).now
+        → EndsAs (state S.Store base.old) (state S.Store base.new) }
+    ensures survives { Q.tells by.old
+        → LeavesFile (state S.Store base.old) (state S.Store base.new) }
     ensures tells { Q.tells by.old → Q.tells by.new }
     ensures clean { HasCleanDisk (state S.Store base.new) → HasCleanDisk (state S.Store base.old) }
     ensures mode { base.old.in_transaction ≡ false → base.new.in_transaction ≡ false }
     ensures count { Q.refusals by.old ≤ Q.refusals by.new }
-    ensures refused { IsErrOf result SqlError.Refused → Rose (Q.refusals by.old) (Q.refusals by.new) }
+    ensures refused { IsErrOf result SqlError.Refused
+        → Rose (Q.refusals by.old) (Q.refusals by.new) }
 {
     let found = read_tables(alloc, base, by)?;
     match content_of(alloc, &found.tables)? {

@@ -40,215 +40,319 @@ pub trait Statements {
         alloc: Global,
         base: &mut Connection<S>,
     ) -> Result<Vec<Vec<Cell>>, StatementError>
-        ensures told { tells self.old → Reads coverage_schema (state S.Store base.old) (state S.Store base.new) result }
-        ensures survives { tells self.old → LeavesAll coverage_schema (state S.Store base.old) (state S.Store base.new) }
-        ensures clean { HasCleanDisk (state S.Store base.new) → HasCleanDisk (state S.Store base.old) }
+        ensures told { tells self.old
+            → Reads coverage_schema (state S.Store base.old) (state S.Store base.new) result }
+        ensures survives { tells self.old
+            → LeavesAll coverage_schema (state S.Store base.old) (state S.Store base.new) }
+        ensures clean { HasCleanDisk (state S.Store base.new)
+            → HasCleanDisk (state S.Store base.old) }
         ensures mode { base.old.in_transaction ≡ false → base.new.in_transaction ≡ false }
         ensures tells { tells self.old → tells self.new }
         ensures count { refusals self.old ≤ refusals self.new }
-        ensures refused { IsErrOf result StatementError.Refused → Rose (refusals self.old) (refusals self.new) };
+        ensures refused { IsErrOf result StatementError.Refused
+            → Rose (refusals self.old) (refusals self.new) };
 
     fn read_meta<S: Alter>(
         &mut self,
         alloc: Global,
         base: &mut Connection<S>,
     ) -> Result<Vec<Vec<Cell>>, StatementError>
-        ensures told { tells self.old → Reads meta (state S.Store base.old) (state S.Store base.new) result }
-        ensures survives { tells self.old → LeavesAll meta (state S.Store base.old) (state S.Store base.new) }
-        ensures clean { HasCleanDisk (state S.Store base.new) → HasCleanDisk (state S.Store base.old) }
+        ensures told { tells self.old
+            → Reads meta (state S.Store base.old) (state S.Store base.new) result }
+        ensures survives { tells self.old
+            → LeavesAll meta (state S.Store base.old) (state S.Store base.new) }
+        ensures clean { HasCleanDisk (state S.Store base.new)
+            → HasCleanDisk (state S.Store base.old) }
         ensures mode { base.old.in_transaction ≡ false → base.new.in_transaction ≡ false }
         ensures tells { tells self.old → tells self.new }
         ensures count { refusals self.old ≤ refusals self.new }
-        ensures refused { IsErrOf result StatementError.Refused → Rose (refusals self.old) (refusals self.new) };
+        ensures refused { IsErrOf result StatementError.Refused
+            → Rose (refusals self.old) (refusals self.new) };
 
     fn read_file<S: Alter>(
         &mut self,
         alloc: Global,
         base: &mut Connection<S>,
     ) -> Result<Vec<Vec<Cell>>, StatementError>
-        ensures told { tells self.old → Reads file (state S.Store base.old) (state S.Store base.new) result }
-        ensures survives { tells self.old → LeavesAll file (state S.Store base.old) (state S.Store base.new) }
-        ensures clean { HasCleanDisk (state S.Store base.new) → HasCleanDisk (state S.Store base.old) }
+        ensures told { tells self.old
+            → Reads file (state S.Store base.old) (state S.Store base.new) result }
+        ensures survives { tells self.old
+            → LeavesAll file (state S.Store base.old) (state S.Store base.new) }
+        ensures clean { HasCleanDisk (state S.Store base.new)
+            → HasCleanDisk (state S.Store base.old) }
         ensures mode { base.old.in_transaction ≡ false → base.new.in_transaction ≡ false }
         ensures tells { tells self.old → tells self.new }
         ensures count { refusals self.old ≤ refusals self.new }
-        ensures refused { IsErrOf result StatementError.Refused → Rose (refusals self.old) (refusals self.new) };
+        ensures refused { IsErrOf result StatementError.Refused
+            → Rose (refusals self.old) (refusals self.new) };
 
     fn read_context<S: Alter>(
         &mut self,
         alloc: Global,
         base: &mut Connection<S>,
     ) -> Result<Vec<Vec<Cell>>, StatementError>
-        ensures told { tells self.old → Reads context (state S.Store base.old) (state S.Store base.new) result }
-        ensures survives { tells self.old → LeavesAll context (state S.Store base.old) (state S.Store base.new) }
-        ensures clean { HasCleanDisk (state S.Store base.new) → HasCleanDisk (state S.Store base.old) }
+        ensures told { tells self.old
+            → Reads context (state S.Store base.old) (state S.Store base.new) result }
+        ensures survives { tells self.old
+            → LeavesAll context (state S.Store base.old) (state S.Store base.new) }
+        ensures clean { HasCleanDisk (state S.Store base.new)
+            → HasCleanDisk (state S.Store base.old) }
         ensures mode { base.old.in_transaction ≡ false → base.new.in_transaction ≡ false }
         ensures tells { tells self.old → tells self.new }
         ensures count { refusals self.old ≤ refusals self.new }
-        ensures refused { IsErrOf result StatementError.Refused → Rose (refusals self.old) (refusals self.new) };
+        ensures refused { IsErrOf result StatementError.Refused
+            → Rose (refusals self.old) (refusals self.new) };
 
     fn read_line_bits<S: Alter>(
         &mut self,
         alloc: Global,
         base: &mut Connection<S>,
     ) -> Result<Vec<Vec<Cell>>, StatementError>
-        ensures told { tells self.old → Reads line_bits (state S.Store base.old) (state S.Store base.new) result }
-        ensures survives { tells self.old → LeavesAll line_bits (state S.Store base.old) (state S.Store base.new) }
-        ensures clean { HasCleanDisk (state S.Store base.new) → HasCleanDisk (state S.Store base.old) }
+        ensures told { tells self.old
+            → Reads line_bits (state S.Store base.old) (state S.Store base.new) result }
+        ensures survives { tells self.old
+            → LeavesAll line_bits (state S.Store base.old) (state S.Store base.new) }
+        ensures clean { HasCleanDisk (state S.Store base.new)
+            → HasCleanDisk (state S.Store base.old) }
         ensures mode { base.old.in_transaction ≡ false → base.new.in_transaction ≡ false }
         ensures tells { tells self.old → tells self.new }
         ensures count { refusals self.old ≤ refusals self.new }
-        ensures refused { IsErrOf result StatementError.Refused → Rose (refusals self.old) (refusals self.new) };
+        ensures refused { IsErrOf result StatementError.Refused
+            → Rose (refusals self.old) (refusals self.new) };
 
     fn read_arc<S: Alter>(
         &mut self,
         alloc: Global,
         base: &mut Connection<S>,
     ) -> Result<Vec<Vec<Cell>>, StatementError>
-        ensures told { tells self.old → Reads arc (state S.Store base.old) (state S.Store base.new) result }
-        ensures survives { tells self.old → LeavesAll arc (state S.Store base.old) (state S.Store base.new) }
-        ensures clean { HasCleanDisk (state S.Store base.new) → HasCleanDisk (state S.Store base.old) }
+        ensures told { tells self.old
+            → Reads arc (state S.Store base.old) (state S.Store base.new) result }
+        ensures survives { tells self.old
+            → LeavesAll arc (state S.Store base.old) (state S.Store base.new) }
+        ensures clean { HasCleanDisk (state S.Store base.new)
+            → HasCleanDisk (state S.Store base.old) }
         ensures mode { base.old.in_transaction ≡ false → base.new.in_transaction ≡ false }
         ensures tells { tells self.old → tells self.new }
         ensures count { refusals self.old ≤ refusals self.new }
-        ensures refused { IsErrOf result StatementError.Refused → Rose (refusals self.old) (refusals self.new) };
+        ensures refused { IsErrOf result StatementError.Refused
+            → Rose (refusals self.old) (refusals self.new) };
 
     fn read_tracer<S: Alter>(
         &mut self,
         alloc: Global,
         base: &mut Connection<S>,
     ) -> Result<Vec<Vec<Cell>>, StatementError>
-        ensures told { tells self.old → Reads tracer (state S.Store base.old) (state S.Store base.new) result }
-        ensures survives { tells self.old → LeavesAll tracer (state S.Store base.old) (state S.Store base.new) }
-        ensures clean { HasCleanDisk (state S.Store base.new) → HasCleanDisk (state S.Store base.old) }
+        ensures told { tells self.old
+            → Reads tracer (state S.Store base.old) (state S.Store base.new) result }
+        ensures survives { tells self.old
+            → LeavesAll tracer (state S.Store base.old) (state S.Store base.new) }
+        ensures clean { HasCleanDisk (state S.Store base.new)
+            → HasCleanDisk (state S.Store base.old) }
         ensures mode { base.old.in_transaction ≡ false → base.new.in_transaction ≡ false }
         ensures tells { tells self.old → tells self.new }
         ensures count { refusals self.old ≤ refusals self.new }
-        ensures refused { IsErrOf result StatementError.Refused → Rose (refusals self.old) (refusals self.new) };
+        ensures refused { IsErrOf result StatementError.Refused
+            → Rose (refusals self.old) (refusals self.new) };
 
     fn read_hits<S: Alter>(
         &mut self,
         alloc: Global,
         base: &mut Connection<S>,
     ) -> Result<Vec<Vec<Cell>>, StatementError>
-        ensures told { tells self.old → Reads hits (state S.Store base.old) (state S.Store base.new) result }
-        ensures survives { tells self.old → LeavesAll hits (state S.Store base.old) (state S.Store base.new) }
-        ensures clean { HasCleanDisk (state S.Store base.new) → HasCleanDisk (state S.Store base.old) }
+        ensures told { tells self.old
+            → Reads hits (state S.Store base.old) (state S.Store base.new) result }
+        ensures survives { tells self.old
+            → LeavesAll hits (state S.Store base.old) (state S.Store base.new) }
+        ensures clean { HasCleanDisk (state S.Store base.new)
+            → HasCleanDisk (state S.Store base.old) }
         ensures mode { base.old.in_transaction ≡ false → base.new.in_transaction ≡ false }
         ensures tells { tells self.old → tells self.new }
         ensures count { refusals self.old ≤ refusals self.new }
-        ensures refused { IsErrOf result StatementError.Refused → Rose (refusals self.old) (refusals self.new) };
+        ensures refused { IsErrOf result StatementError.Refused
+            → Rose (refusals self.old) (refusals self.new) };
 
     /// A statement in a test may refuse here, before a transaction begins.
     fn may_begin(&mut self) -> Result<(), StatementError>
         ensures not_missing { IsErrOf result StatementError.Missing → ⊥ }
         ensures tells { tells self.old → tells self.new }
         ensures count { refusals self.old ≤ refusals self.new }
-        ensures refused { IsErrOf result StatementError.Refused → Rose (refusals self.old) (refusals self.new) };
+        ensures refused { IsErrOf result StatementError.Refused
+            → Rose (refusals self.old) (refusals self.new) };
 
     fn make_coverage_schema<S: Alter>(
         &mut self,
         work: &mut Transaction<'_, S>,
     ) -> Result<(), StatementError>
-        ensures told { tells self.old → Makes coverage_schema declared_coverage_schema (state S.Store work.old.conn.now) (state S.Store work.new.conn.now) result }
-        ensures missing { tells self.old → Misses make_coverage_schema_text (state S.Store work.old.conn.now) (state S.Store work.new.conn.now) result }
-        ensures goes_on { tells self.old → GoesOn (state S.Store work.old.conn.now) (state S.Store work.new.conn.now) result }
-        ensures survives { tells self.old → Survives (state S.Store work.old.conn.now) (state S.Store work.new.conn.now) (λ _. ⊥) }
+        ensures told { tells self.old
+            → Makes coverage_schema declared_coverage_schema (state S.Store work.old.conn.now)
+            (state S.Store work.new.conn.now) result }
+        ensures missing { tells self.old
+            → Misses make_coverage_schema_text (state S.Store work.old.conn.now)
+            (state S.Store work.new.conn.now) result }
+        ensures goes_on { tells self.old
+            → GoesOn (state S.Store work.old.conn.now) (state S.Store work.new.conn.now) result }
+        ensures survives { tells self.old
+            → Survives (state S.Store work.old.conn.now) (state S.Store work.new.conn.now) (λ _.
+            ⊥) }
         ensures same_reference { work.new.conn.ghost_name ≡ work.old.conn.ghost_name }
         ensures tells { tells self.old → tells self.new }
         ensures count { refusals self.old ≤ refusals self.new }
-        ensures refused { IsErrOf result StatementError.Refused → Rose (refusals self.old) (refusals self.new) };
+        ensures refused { IsErrOf result StatementError.Refused
+            → Rose (refusals self.old) (refusals self.new) };
 
     fn make_meta<S: Alter>(&mut self, work: &mut Transaction<'_, S>) -> Result<(), StatementError>
-        ensures told { tells self.old → Makes meta declared_meta (state S.Store work.old.conn.now) (state S.Store work.new.conn.now) result }
-        ensures missing { tells self.old → Misses make_meta_text (state S.Store work.old.conn.now) (state S.Store work.new.conn.now) result }
-        ensures goes_on { tells self.old → GoesOn (state S.Store work.old.conn.now) (state S.Store work.new.conn.now) result }
-        ensures survives { tells self.old → Survives (state S.Store work.old.conn.now) (state S.Store work.new.conn.now) (λ _. ⊥) }
+        ensures told { tells self.old
+            → Makes meta declared_meta (state S.Store work.old.conn.now)
+            (state S.Store work.new.conn.now) result }
+        ensures missing { tells self.old
+            → Misses make_meta_text (state S.Store work.old.conn.now)
+            (state S.Store work.new.conn.now) result }
+        ensures goes_on { tells self.old
+            → GoesOn (state S.Store work.old.conn.now) (state S.Store work.new.conn.now) result }
+        ensures survives { tells self.old
+            → Survives (state S.Store work.old.conn.now) (state S.Store work.new.conn.now) (λ _.
+            ⊥) }
         ensures same_reference { work.new.conn.ghost_name ≡ work.old.conn.ghost_name }
         ensures tells { tells self.old → tells self.new }
         ensures count { refusals self.old ≤ refusals self.new }
-        ensures refused { IsErrOf result StatementError.Refused → Rose (refusals self.old) (refusals self.new) };
+        ensures refused { IsErrOf result StatementError.Refused
+            → Rose (refusals self.old) (refusals self.new) };
 
     fn make_file<S: Alter>(&mut self, work: &mut Transaction<'_, S>) -> Result<(), StatementError>
-        ensures told { tells self.old → Makes file declared_file (state S.Store work.old.conn.now) (state S.Store work.new.conn.now) result }
-        ensures missing { tells self.old → Misses make_file_text (state S.Store work.old.conn.now) (state S.Store work.new.conn.now) result }
-        ensures goes_on { tells self.old → GoesOn (state S.Store work.old.conn.now) (state S.Store work.new.conn.now) result }
-        ensures survives { tells self.old → Survives (state S.Store work.old.conn.now) (state S.Store work.new.conn.now) (λ _. ⊥) }
+        ensures told { tells self.old
+            → Makes file declared_file (state S.Store work.old.conn.now)
+            (state S.Store work.new.conn.now) result }
+        ensures missing { tells self.old
+            → Misses make_file_text (state S.Store work.old.conn.now)
+            (state S.Store work.new.conn.now) result }
+        ensures goes_on { tells self.old
+            → GoesOn (state S.Store work.old.conn.now) (state S.Store work.new.conn.now) result }
+        ensures survives { tells self.old
+            → Survives (state S.Store work.old.conn.now) (state S.Store work.new.conn.now) (λ _.
+            ⊥) }
         ensures same_reference { work.new.conn.ghost_name ≡ work.old.conn.ghost_name }
         ensures tells { tells self.old → tells self.new }
         ensures count { refusals self.old ≤ refusals self.new }
-        ensures refused { IsErrOf result StatementError.Refused → Rose (refusals self.old) (refusals self.new) };
+        ensures refused { IsErrOf result StatementError.Refused
+            → Rose (refusals self.old) (refusals self.new) };
 
     fn make_context<S: Alter>(
         &mut self,
         work: &mut Transaction<'_, S>,
     ) -> Result<(), StatementError>
-        ensures told { tells self.old → Makes context declared_context (state S.Store work.old.conn.now) (state S.Store work.new.conn.now) result }
-        ensures missing { tells self.old → Misses make_context_text (state S.Store work.old.conn.now) (state S.Store work.new.conn.now) result }
-        ensures goes_on { tells self.old → GoesOn (state S.Store work.old.conn.now) (state S.Store work.new.conn.now) result }
-        ensures survives { tells self.old → Survives (state S.Store work.old.conn.now) (state S.Store work.new.conn.now) (λ _. ⊥) }
+        ensures told { tells self.old
+            → Makes context declared_context (state S.Store work.old.conn.now)
+            (state S.Store work.new.conn.now) result }
+        ensures missing { tells self.old
+            → Misses make_context_text (state S.Store work.old.conn.now)
+            (state S.Store work.new.conn.now) result }
+        ensures goes_on { tells self.old
+            → GoesOn (state S.Store work.old.conn.now) (state S.Store work.new.conn.now) result }
+        ensures survives { tells self.old
+            → Survives (state S.Store work.old.conn.now) (state S.Store work.new.conn.now) (λ _.
+            ⊥) }
         ensures same_reference { work.new.conn.ghost_name ≡ work.old.conn.ghost_name }
         ensures tells { tells self.old → tells self.new }
         ensures count { refusals self.old ≤ refusals self.new }
-        ensures refused { IsErrOf result StatementError.Refused → Rose (refusals self.old) (refusals self.new) };
+        ensures refused { IsErrOf result StatementError.Refused
+            → Rose (refusals self.old) (refusals self.new) };
 
     fn make_line_bits<S: Alter>(
         &mut self,
         work: &mut Transaction<'_, S>,
     ) -> Result<(), StatementError>
-        ensures told { tells self.old → Makes line_bits declared_line_bits (state S.Store work.old.conn.now) (state S.Store work.new.conn.now) result }
-        ensures missing { tells self.old → Misses make_line_bits_text (state S.Store work.old.conn.now) (state S.Store work.new.conn.now) result }
-        ensures goes_on { tells self.old → GoesOn (state S.Store work.old.conn.now) (state S.Store work.new.conn.now) result }
-        ensures survives { tells self.old → Survives (state S.Store work.old.conn.now) (state S.Store work.new.conn.now) (λ _. ⊥) }
+        ensures told { tells self.old
+            → Makes line_bits declared_line_bits (state S.Store work.old.conn.now)
+            (state S.Store work.new.conn.now) result }
+        ensures missing { tells self.old
+            → Misses make_line_bits_text (state S.Store work.old.conn.now)
+            (state S.Store work.new.conn.now) result }
+        ensures goes_on { tells self.old
+            → GoesOn (state S.Store work.old.conn.now) (state S.Store work.new.conn.now) result }
+        ensures survives { tells self.old
+            → Survives (state S.Store work.old.conn.now) (state S.Store work.new.conn.now) (λ _.
+            ⊥) }
         ensures same_reference { work.new.conn.ghost_name ≡ work.old.conn.ghost_name }
         ensures tells { tells self.old → tells self.new }
         ensures count { refusals self.old ≤ refusals self.new }
-        ensures refused { IsErrOf result StatementError.Refused → Rose (refusals self.old) (refusals self.new) };
+        ensures refused { IsErrOf result StatementError.Refused
+            → Rose (refusals self.old) (refusals self.new) };
 
     fn make_arc<S: Alter>(&mut self, work: &mut Transaction<'_, S>) -> Result<(), StatementError>
-        ensures told { tells self.old → Makes arc declared_arc (state S.Store work.old.conn.now) (state S.Store work.new.conn.now) result }
-        ensures missing { tells self.old → Misses make_arc_text (state S.Store work.old.conn.now) (state S.Store work.new.conn.now) result }
-        ensures goes_on { tells self.old → GoesOn (state S.Store work.old.conn.now) (state S.Store work.new.conn.now) result }
-        ensures survives { tells self.old → Survives (state S.Store work.old.conn.now) (state S.Store work.new.conn.now) (λ _. ⊥) }
+        ensures told { tells self.old
+            → Makes arc declared_arc (state S.Store work.old.conn.now)
+            (state S.Store work.new.conn.now) result }
+        ensures missing { tells self.old
+            → Misses make_arc_text (state S.Store work.old.conn.now)
+            (state S.Store work.new.conn.now) result }
+        ensures goes_on { tells self.old
+            → GoesOn (state S.Store work.old.conn.now) (state S.Store work.new.conn.now) result }
+        ensures survives { tells self.old
+            → Survives (state S.Store work.old.conn.now) (state S.Store work.new.conn.now) (λ _.
+            ⊥) }
         ensures same_reference { work.new.conn.ghost_name ≡ work.old.conn.ghost_name }
         ensures tells { tells self.old → tells self.new }
         ensures count { refusals self.old ≤ refusals self.new }
-        ensures refused { IsErrOf result StatementError.Refused → Rose (refusals self.old) (refusals self.new) };
+        ensures refused { IsErrOf result StatementError.Refused
+            → Rose (refusals self.old) (refusals self.new) };
 
     fn make_tracer<S: Alter>(&mut self, work: &mut Transaction<'_, S>) -> Result<(), StatementError>
-        ensures told { tells self.old → Makes tracer declared_tracer (state S.Store work.old.conn.now) (state S.Store work.new.conn.now) result }
-        ensures missing { tells self.old → Misses make_tracer_text (state S.Store work.old.conn.now) (state S.Store work.new.conn.now) result }
-        ensures goes_on { tells self.old → GoesOn (state S.Store work.old.conn.now) (state S.Store work.new.conn.now) result }
-        ensures survives { tells self.old → Survives (state S.Store work.old.conn.now) (state S.Store work.new.conn.now) (λ _. ⊥) }
+        ensures told { tells self.old
+            → Makes tracer declared_tracer (state S.Store work.old.conn.now)
+            (state S.Store work.new.conn.now) result }
+        ensures missing { tells self.old
+            → Misses make_tracer_text (state S.Store work.old.conn.now)
+            (state S.Store work.new.conn.now) result }
+        ensures goes_on { tells self.old
+            → GoesOn (state S.Store work.old.conn.now) (state S.Store work.new.conn.now) result }
+        ensures survives { tells self.old
+            → Survives (state S.Store work.old.conn.now) (state S.Store work.new.conn.now) (λ _.
+            ⊥) }
         ensures same_reference { work.new.conn.ghost_name ≡ work.old.conn.ghost_name }
         ensures tells { tells self.old → tells self.new }
         ensures count { refusals self.old ≤ refusals self.new }
-        ensures refused { IsErrOf result StatementError.Refused → Rose (refusals self.old) (refusals self.new) };
+        ensures refused { IsErrOf result StatementError.Refused
+            → Rose (refusals self.old) (refusals self.new) };
 
     fn make_hits<S: Alter>(&mut self, work: &mut Transaction<'_, S>) -> Result<(), StatementError>
-        ensures told { tells self.old → Makes hits declared_hits (state S.Store work.old.conn.now) (state S.Store work.new.conn.now) result }
-        ensures missing { tells self.old → Misses make_hits_text (state S.Store work.old.conn.now) (state S.Store work.new.conn.now) result }
-        ensures goes_on { tells self.old → GoesOn (state S.Store work.old.conn.now) (state S.Store work.new.conn.now) result }
-        ensures survives { tells self.old → Survives (state S.Store work.old.conn.now) (state S.Store work.new.conn.now) (λ _. ⊥) }
+        ensures told { tells self.old
+            → Makes hits declared_hits (state S.Store work.old.conn.now)
+            (state S.Store work.new.conn.now) result }
+        ensures missing { tells self.old
+            → Misses make_hits_text (state S.Store work.old.conn.now)
+            (state S.Store work.new.conn.now) result }
+        ensures goes_on { tells self.old
+            → GoesOn (state S.Store work.old.conn.now) (state S.Store work.new.conn.now) result }
+        ensures survives { tells self.old
+            → Survives (state S.Store work.old.conn.now) (state S.Store work.new.conn.now) (λ _.
+            ⊥) }
         ensures same_reference { work.new.conn.ghost_name ≡ work.old.conn.ghost_name }
         ensures tells { tells self.old → tells self.new }
         ensures count { refusals self.old ≤ refusals self.new }
-        ensures refused { IsErrOf result StatementError.Refused → Rose (refusals self.old) (refusals self.new) };
+        ensures refused { IsErrOf result StatementError.Refused
+            → Rose (refusals self.old) (refusals self.new) };
 
     fn insert_coverage_schema<S: Alter>(
         &mut self,
         work: &mut Transaction<'_, S>,
         version: i64,
     ) -> Result<(), StatementError>
-        ensures told { tells self.old → Inserts coverage_schema declared_coverage_schema (Int version ∷ [])
+        ensures told { tells self.old
+            → Inserts coverage_schema declared_coverage_schema (Int version ∷ [])
             (state S.Store work.old.conn.now) (state S.Store work.new.conn.now) result }
-        ensures missing { tells self.old → Misses insert_coverage_schema_text (state S.Store work.old.conn.now) (state S.Store work.new.conn.now) result }
-        ensures goes_on { tells self.old → GoesOn (state S.Store work.old.conn.now) (state S.Store work.new.conn.now) result }
-        ensures survives { tells self.old → Survives (state S.Store work.old.conn.now) (state S.Store work.new.conn.now) (λ _. ⊥) }
+        ensures missing { tells self.old
+            → Misses insert_coverage_schema_text (state S.Store work.old.conn.now)
+            (state S.Store work.new.conn.now) result }
+        ensures goes_on { tells self.old
+            → GoesOn (state S.Store work.old.conn.now) (state S.Store work.new.conn.now) result }
+        ensures survives { tells self.old
+            → Survives (state S.Store work.old.conn.now) (state S.Store work.new.conn.now) (λ _.
+            ⊥) }
         ensures same_reference { work.new.conn.ghost_name ≡ work.old.conn.ghost_name }
         ensures tells { tells self.old → tells self.new }
         ensures count { refusals self.old ≤ refusals self.new }
-        ensures refused { IsErrOf result StatementError.Refused → Rose (refusals self.old) (refusals self.new) };
+        ensures refused { IsErrOf result StatementError.Refused
+            → Rose (refusals self.old) (refusals self.new) };
 
     fn insert_meta<S: Alter>(
         &mut self,
@@ -256,15 +360,22 @@ pub trait Statements {
         key: &str,
         value: &str,
     ) -> Result<(), StatementError>
-        ensures told { tells self.old → Inserts meta declared_meta (Text key.now ∷ Text value.now ∷ [])
+        ensures told { tells self.old
+            → Inserts meta declared_meta (Text key.now ∷ Text value.now ∷ [])
             (state S.Store work.old.conn.now) (state S.Store work.new.conn.now) result }
-        ensures missing { tells self.old → Misses insert_meta_text (state S.Store work.old.conn.now) (state S.Store work.new.conn.now) result }
-        ensures goes_on { tells self.old → GoesOn (state S.Store work.old.conn.now) (state S.Store work.new.conn.now) result }
-        ensures survives { tells self.old → Survives (state S.Store work.old.conn.now) (state S.Store work.new.conn.now) (λ _. ⊥) }
+        ensures missing { tells self.old
+            → Misses insert_meta_text (state S.Store work.old.conn.now)
+            (state S.Store work.new.conn.now) result }
+        ensures goes_on { tells self.old
+            → GoesOn (state S.Store work.old.conn.now) (state S.Store work.new.conn.now) result }
+        ensures survives { tells self.old
+            → Survives (state S.Store work.old.conn.now) (state S.Store work.new.conn.now) (λ _.
+            ⊥) }
         ensures same_reference { work.new.conn.ghost_name ≡ work.old.conn.ghost_name }
         ensures tells { tells self.old → tells self.new }
         ensures count { refusals self.old ≤ refusals self.new }
-        ensures refused { IsErrOf result StatementError.Refused → Rose (refusals self.old) (refusals self.new) };
+        ensures refused { IsErrOf result StatementError.Refused
+            → Rose (refusals self.old) (refusals self.new) };
 
     fn insert_file<S: Alter>(
         &mut self,
@@ -274,13 +385,19 @@ pub trait Statements {
     ) -> Result<(), StatementError>
         ensures told { tells self.old → Inserts file declared_file (Int id ∷ Text path.now ∷ [])
             (state S.Store work.old.conn.now) (state S.Store work.new.conn.now) result }
-        ensures missing { tells self.old → Misses insert_file_text (state S.Store work.old.conn.now) (state S.Store work.new.conn.now) result }
-        ensures goes_on { tells self.old → GoesOn (state S.Store work.old.conn.now) (state S.Store work.new.conn.now) result }
-        ensures survives { tells self.old → Survives (state S.Store work.old.conn.now) (state S.Store work.new.conn.now) (λ _. ⊥) }
+        ensures missing { tells self.old
+            → Misses insert_file_text (state S.Store work.old.conn.now)
+            (state S.Store work.new.conn.now) result }
+        ensures goes_on { tells self.old
+            → GoesOn (state S.Store work.old.conn.now) (state S.Store work.new.conn.now) result }
+        ensures survives { tells self.old
+            → Survives (state S.Store work.old.conn.now) (state S.Store work.new.conn.now) (λ _.
+            ⊥) }
         ensures same_reference { work.new.conn.ghost_name ≡ work.old.conn.ghost_name }
         ensures tells { tells self.old → tells self.new }
         ensures count { refusals self.old ≤ refusals self.new }
-        ensures refused { IsErrOf result StatementError.Refused → Rose (refusals self.old) (refusals self.new) };
+        ensures refused { IsErrOf result StatementError.Refused
+            → Rose (refusals self.old) (refusals self.new) };
 
     fn insert_context<S: Alter>(
         &mut self,
@@ -288,15 +405,22 @@ pub trait Statements {
         id: i64,
         text: &str,
     ) -> Result<(), StatementError>
-        ensures told { tells self.old → Inserts context declared_context (Int id ∷ Text text.now ∷ [])
+        ensures told { tells self.old
+            → Inserts context declared_context (Int id ∷ Text text.now ∷ [])
             (state S.Store work.old.conn.now) (state S.Store work.new.conn.now) result }
-        ensures missing { tells self.old → Misses insert_context_text (state S.Store work.old.conn.now) (state S.Store work.new.conn.now) result }
-        ensures goes_on { tells self.old → GoesOn (state S.Store work.old.conn.now) (state S.Store work.new.conn.now) result }
-        ensures survives { tells self.old → Survives (state S.Store work.old.conn.now) (state S.Store work.new.conn.now) (λ _. ⊥) }
+        ensures missing { tells self.old
+            → Misses insert_context_text (state S.Store work.old.conn.now)
+            (state S.Store work.new.conn.now) result }
+        ensures goes_on { tells self.old
+            → GoesOn (state S.Store work.old.conn.now) (state S.Store work.new.conn.now) result }
+        ensures survives { tells self.old
+            → Survives (state S.Store work.old.conn.now) (state S.Store work.new.conn.now) (λ _.
+            ⊥) }
         ensures same_reference { work.new.conn.ghost_name ≡ work.old.conn.ghost_name }
         ensures tells { tells self.old → tells self.new }
         ensures count { refusals self.old ≤ refusals self.new }
-        ensures refused { IsErrOf result StatementError.Refused → Rose (refusals self.old) (refusals self.new) };
+        ensures refused { IsErrOf result StatementError.Refused
+            → Rose (refusals self.old) (refusals self.new) };
 
     fn insert_line_bits<S: Alter>(
         &mut self,
@@ -305,15 +429,23 @@ pub trait Statements {
         context_id: i64,
         numbits: &[u8],
     ) -> Result<(), StatementError>
-        ensures told { tells self.old → Inserts line_bits declared_line_bits (Int file_id ∷ Int context_id ∷ Blob numbits.now ∷ [])
+        ensures told { tells self.old
+            → Inserts line_bits declared_line_bits
+            (Int file_id ∷ Int context_id ∷ Blob numbits.now ∷ [])
             (state S.Store work.old.conn.now) (state S.Store work.new.conn.now) result }
-        ensures missing { tells self.old → Misses insert_line_bits_text (state S.Store work.old.conn.now) (state S.Store work.new.conn.now) result }
-        ensures goes_on { tells self.old → GoesOn (state S.Store work.old.conn.now) (state S.Store work.new.conn.now) result }
-        ensures survives { tells self.old → Survives (state S.Store work.old.conn.now) (state S.Store work.new.conn.now) (λ _. ⊥) }
+        ensures missing { tells self.old
+            → Misses insert_line_bits_text (state S.Store work.old.conn.now)
+            (state S.Store work.new.conn.now) result }
+        ensures goes_on { tells self.old
+            → GoesOn (state S.Store work.old.conn.now) (state S.Store work.new.conn.now) result }
+        ensures survives { tells self.old
+            → Survives (state S.Store work.old.conn.now) (state S.Store work.new.conn.now) (λ _.
+            ⊥) }
         ensures same_reference { work.new.conn.ghost_name ≡ work.old.conn.ghost_name }
         ensures tells { tells self.old → tells self.new }
         ensures count { refusals self.old ≤ refusals self.new }
-        ensures refused { IsErrOf result StatementError.Refused → Rose (refusals self.old) (refusals self.new) };
+        ensures refused { IsErrOf result StatementError.Refused
+            → Rose (refusals self.old) (refusals self.new) };
 
     fn insert_arc<S: Alter>(
         &mut self,
@@ -323,15 +455,22 @@ pub trait Statements {
         fromno: i64,
         tono: i64,
     ) -> Result<(), StatementError>
-        ensures told { tells self.old → Inserts arc declared_arc (Int file_id ∷ Int context_id ∷ Int fromno ∷ Int tono ∷ [])
+        ensures told { tells self.old
+            → Inserts arc declared_arc (Int file_id ∷ Int context_id ∷ Int fromno ∷ Int tono ∷ [])
             (state S.Store work.old.conn.now) (state S.Store work.new.conn.now) result }
-        ensures missing { tells self.old → Misses insert_arc_text (state S.Store work.old.conn.now) (state S.Store work.new.conn.now) result }
-        ensures goes_on { tells self.old → GoesOn (state S.Store work.old.conn.now) (state S.Store work.new.conn.now) result }
-        ensures survives { tells self.old → Survives (state S.Store work.old.conn.now) (state S.Store work.new.conn.now) (λ _. ⊥) }
+        ensures missing { tells self.old
+            → Misses insert_arc_text (state S.Store work.old.conn.now)
+            (state S.Store work.new.conn.now) result }
+        ensures goes_on { tells self.old
+            → GoesOn (state S.Store work.old.conn.now) (state S.Store work.new.conn.now) result }
+        ensures survives { tells self.old
+            → Survives (state S.Store work.old.conn.now) (state S.Store work.new.conn.now) (λ _.
+            ⊥) }
         ensures same_reference { work.new.conn.ghost_name ≡ work.old.conn.ghost_name }
         ensures tells { tells self.old → tells self.new }
         ensures count { refusals self.old ≤ refusals self.new }
-        ensures refused { IsErrOf result StatementError.Refused → Rose (refusals self.old) (refusals self.new) };
+        ensures refused { IsErrOf result StatementError.Refused
+            → Rose (refusals self.old) (refusals self.new) };
 
     fn insert_hits<S: Alter>(
         &mut self,
@@ -342,102 +481,171 @@ pub trait Statements {
         tono: i64,
         count: i64,
     ) -> Result<(), StatementError>
-        ensures told { tells self.old → Inserts hits declared_hits (Int file_id ∷ Int context_id ∷ Int fromno ∷ Int tono ∷ Int count ∷ [])
+        ensures told { tells self.old
+            → Inserts hits declared_hits
+            (Int file_id ∷ Int context_id ∷ Int fromno ∷ Int tono ∷ Int count ∷ [])
             (state S.Store work.old.conn.now) (state S.Store work.new.conn.now) result }
-        ensures missing { tells self.old → Misses insert_hits_text (state S.Store work.old.conn.now) (state S.Store work.new.conn.now) result }
-        ensures goes_on { tells self.old → GoesOn (state S.Store work.old.conn.now) (state S.Store work.new.conn.now) result }
-        ensures survives { tells self.old → Survives (state S.Store work.old.conn.now) (state S.Store work.new.conn.now) (λ _. ⊥) }
+        ensures missing { tells self.old
+            → Misses insert_hits_text (state S.Store work.old.conn.now)
+            (state S.Store work.new.conn.now) result }
+        ensures goes_on { tells self.old
+            → GoesOn (state S.Store work.old.conn.now) (state S.Store work.new.conn.now) result }
+        ensures survives { tells self.old
+            → Survives (state S.Store work.old.conn.now) (state S.Store work.new.conn.now) (λ _.
+            ⊥) }
         ensures same_reference { work.new.conn.ghost_name ≡ work.old.conn.ghost_name }
         ensures tells { tells self.old → tells self.new }
         ensures count { refusals self.old ≤ refusals self.new }
-        ensures refused { IsErrOf result StatementError.Refused → Rose (refusals self.old) (refusals self.new) };
+        ensures refused { IsErrOf result StatementError.Refused
+            → Rose (refusals self.old) (refusals self.new) };
 
     fn delete_meta<S: Alter>(&mut self, work: &mut Transaction<'_, S>) -> Result<(), StatementError>
-        ensures told { tells self.old → Deletes meta (state S.Store work.old.conn.now) (state S.Store work.new.conn.now) result }
-        ensures missing { tells self.old → Misses delete_meta_text (state S.Store work.old.conn.now) (state S.Store work.new.conn.now) result }
-        ensures goes_on { tells self.old → GoesOn (state S.Store work.old.conn.now) (state S.Store work.new.conn.now) result }
-        ensures survives { tells self.old → Survives (state S.Store work.old.conn.now) (state S.Store work.new.conn.now) (λ _. ⊥) }
+        ensures told { tells self.old
+            → Deletes meta (state S.Store work.old.conn.now) (state S.Store work.new.conn.now)
+            result }
+        ensures missing { tells self.old
+            → Misses delete_meta_text (state S.Store work.old.conn.now)
+            (state S.Store work.new.conn.now) result }
+        ensures goes_on { tells self.old
+            → GoesOn (state S.Store work.old.conn.now) (state S.Store work.new.conn.now) result }
+        ensures survives { tells self.old
+            → Survives (state S.Store work.old.conn.now) (state S.Store work.new.conn.now) (λ _.
+            ⊥) }
         ensures same_reference { work.new.conn.ghost_name ≡ work.old.conn.ghost_name }
         ensures tells { tells self.old → tells self.new }
         ensures count { refusals self.old ≤ refusals self.new }
-        ensures refused { IsErrOf result StatementError.Refused → Rose (refusals self.old) (refusals self.new) };
+        ensures refused { IsErrOf result StatementError.Refused
+            → Rose (refusals self.old) (refusals self.new) };
 
     fn delete_file<S: Alter>(&mut self, work: &mut Transaction<'_, S>) -> Result<(), StatementError>
-        ensures told { tells self.old → Deletes file (state S.Store work.old.conn.now) (state S.Store work.new.conn.now) result }
-        ensures missing { tells self.old → Misses delete_file_text (state S.Store work.old.conn.now) (state S.Store work.new.conn.now) result }
-        ensures goes_on { tells self.old → GoesOn (state S.Store work.old.conn.now) (state S.Store work.new.conn.now) result }
-        ensures survives { tells self.old → Survives (state S.Store work.old.conn.now) (state S.Store work.new.conn.now) (λ _. ⊥) }
+        ensures told { tells self.old
+            → Deletes file (state S.Store work.old.conn.now) (state S.Store work.new.conn.now)
+            result }
+        ensures missing { tells self.old
+            → Misses delete_file_text (state S.Store work.old.conn.now)
+            (state S.Store work.new.conn.now) result }
+        ensures goes_on { tells self.old
+            → GoesOn (state S.Store work.old.conn.now) (state S.Store work.new.conn.now) result }
+        ensures survives { tells self.old
+            → Survives (state S.Store work.old.conn.now) (state S.Store work.new.conn.now) (λ _.
+            ⊥) }
         ensures same_reference { work.new.conn.ghost_name ≡ work.old.conn.ghost_name }
         ensures tells { tells self.old → tells self.new }
         ensures count { refusals self.old ≤ refusals self.new }
-        ensures refused { IsErrOf result StatementError.Refused → Rose (refusals self.old) (refusals self.new) };
+        ensures refused { IsErrOf result StatementError.Refused
+            → Rose (refusals self.old) (refusals self.new) };
 
     fn delete_context<S: Alter>(
         &mut self,
         work: &mut Transaction<'_, S>,
     ) -> Result<(), StatementError>
-        ensures told { tells self.old → Deletes context (state S.Store work.old.conn.now) (state S.Store work.new.conn.now) result }
-        ensures missing { tells self.old → Misses delete_context_text (state S.Store work.old.conn.now) (state S.Store work.new.conn.now) result }
-        ensures goes_on { tells self.old → GoesOn (state S.Store work.old.conn.now) (state S.Store work.new.conn.now) result }
-        ensures survives { tells self.old → Survives (state S.Store work.old.conn.now) (state S.Store work.new.conn.now) (λ _. ⊥) }
+        ensures told { tells self.old
+            → Deletes context (state S.Store work.old.conn.now) (state S.Store work.new.conn.now)
+            result }
+        ensures missing { tells self.old
+            → Misses delete_context_text (state S.Store work.old.conn.now)
+            (state S.Store work.new.conn.now) result }
+        ensures goes_on { tells self.old
+            → GoesOn (state S.Store work.old.conn.now) (state S.Store work.new.conn.now) result }
+        ensures survives { tells self.old
+            → Survives (state S.Store work.old.conn.now) (state S.Store work.new.conn.now) (λ _.
+            ⊥) }
         ensures same_reference { work.new.conn.ghost_name ≡ work.old.conn.ghost_name }
         ensures tells { tells self.old → tells self.new }
         ensures count { refusals self.old ≤ refusals self.new }
-        ensures refused { IsErrOf result StatementError.Refused → Rose (refusals self.old) (refusals self.new) };
+        ensures refused { IsErrOf result StatementError.Refused
+            → Rose (refusals self.old) (refusals self.new) };
 
     fn delete_line_bits<S: Alter>(
         &mut self,
         work: &mut Transaction<'_, S>,
     ) -> Result<(), StatementError>
-        ensures told { tells self.old → Deletes line_bits (state S.Store work.old.conn.now) (state S.Store work.new.conn.now) result }
-        ensures missing { tells self.old → Misses delete_line_bits_text (state S.Store work.old.conn.now) (state S.Store work.new.conn.now) result }
-        ensures goes_on { tells self.old → GoesOn (state S.Store work.old.conn.now) (state S.Store work.new.conn.now) result }
-        ensures survives { tells self.old → Survives (state S.Store work.old.conn.now) (state S.Store work.new.conn.now) (λ _. ⊥) }
+        ensures told { tells self.old
+            → Deletes line_bits (state S.Store work.old.conn.now) (state S.Store work.new.conn.now)
+            result }
+        ensures missing { tells self.old
+            → Misses delete_line_bits_text (state S.Store work.old.conn.now)
+            (state S.Store work.new.conn.now) result }
+        ensures goes_on { tells self.old
+            → GoesOn (state S.Store work.old.conn.now) (state S.Store work.new.conn.now) result }
+        ensures survives { tells self.old
+            → Survives (state S.Store work.old.conn.now) (state S.Store work.new.conn.now) (λ _.
+            ⊥) }
         ensures same_reference { work.new.conn.ghost_name ≡ work.old.conn.ghost_name }
         ensures tells { tells self.old → tells self.new }
         ensures count { refusals self.old ≤ refusals self.new }
-        ensures refused { IsErrOf result StatementError.Refused → Rose (refusals self.old) (refusals self.new) };
+        ensures refused { IsErrOf result StatementError.Refused
+            → Rose (refusals self.old) (refusals self.new) };
 
     fn delete_arc<S: Alter>(&mut self, work: &mut Transaction<'_, S>) -> Result<(), StatementError>
-        ensures told { tells self.old → Deletes arc (state S.Store work.old.conn.now) (state S.Store work.new.conn.now) result }
-        ensures missing { tells self.old → Misses delete_arc_text (state S.Store work.old.conn.now) (state S.Store work.new.conn.now) result }
-        ensures goes_on { tells self.old → GoesOn (state S.Store work.old.conn.now) (state S.Store work.new.conn.now) result }
-        ensures survives { tells self.old → Survives (state S.Store work.old.conn.now) (state S.Store work.new.conn.now) (λ _. ⊥) }
+        ensures told { tells self.old
+            → Deletes arc (state S.Store work.old.conn.now) (state S.Store work.new.conn.now)
+            result }
+        ensures missing { tells self.old
+            → Misses delete_arc_text (state S.Store work.old.conn.now)
+            (state S.Store work.new.conn.now) result }
+        ensures goes_on { tells self.old
+            → GoesOn (state S.Store work.old.conn.now) (state S.Store work.new.conn.now) result }
+        ensures survives { tells self.old
+            → Survives (state S.Store work.old.conn.now) (state S.Store work.new.conn.now) (λ _.
+            ⊥) }
         ensures same_reference { work.new.conn.ghost_name ≡ work.old.conn.ghost_name }
         ensures tells { tells self.old → tells self.new }
         ensures count { refusals self.old ≤ refusals self.new }
-        ensures refused { IsErrOf result StatementError.Refused → Rose (refusals self.old) (refusals self.new) };
+        ensures refused { IsErrOf result StatementError.Refused
+            → Rose (refusals self.old) (refusals self.new) };
 
     fn delete_tracer<S: Alter>(
         &mut self,
         work: &mut Transaction<'_, S>,
     ) -> Result<(), StatementError>
-        ensures told { tells self.old → Deletes tracer (state S.Store work.old.conn.now) (state S.Store work.new.conn.now) result }
-        ensures missing { tells self.old → Misses delete_tracer_text (state S.Store work.old.conn.now) (state S.Store work.new.conn.now) result }
-        ensures goes_on { tells self.old → GoesOn (state S.Store work.old.conn.now) (state S.Store work.new.conn.now) result }
-        ensures survives { tells self.old → Survives (state S.Store work.old.conn.now) (state S.Store work.new.conn.now) (λ _. ⊥) }
+        ensures told { tells self.old
+            → Deletes tracer (state S.Store work.old.conn.now) (state S.Store work.new.conn.now)
+            result }
+        ensures missing { tells self.old
+            → Misses delete_tracer_text (state S.Store work.old.conn.now)
+            (state S.Store work.new.conn.now) result }
+        ensures goes_on { tells self.old
+            → GoesOn (state S.Store work.old.conn.now) (state S.Store work.new.conn.now) result }
+        ensures survives { tells self.old
+            → Survives (state S.Store work.old.conn.now) (state S.Store work.new.conn.now) (λ _.
+            ⊥) }
         ensures same_reference { work.new.conn.ghost_name ≡ work.old.conn.ghost_name }
         ensures tells { tells self.old → tells self.new }
         ensures count { refusals self.old ≤ refusals self.new }
-        ensures refused { IsErrOf result StatementError.Refused → Rose (refusals self.old) (refusals self.new) };
+        ensures refused { IsErrOf result StatementError.Refused
+            → Rose (refusals self.old) (refusals self.new) };
 
     fn delete_hits<S: Alter>(&mut self, work: &mut Transaction<'_, S>) -> Result<(), StatementError>
-        ensures told { tells self.old → Deletes hits (state S.Store work.old.conn.now) (state S.Store work.new.conn.now) result }
-        ensures missing { tells self.old → Misses delete_hits_text (state S.Store work.old.conn.now) (state S.Store work.new.conn.now) result }
-        ensures goes_on { tells self.old → GoesOn (state S.Store work.old.conn.now) (state S.Store work.new.conn.now) result }
-        ensures survives { tells self.old → Survives (state S.Store work.old.conn.now) (state S.Store work.new.conn.now) (λ _. ⊥) }
+        ensures told { tells self.old
+            → Deletes hits (state S.Store work.old.conn.now) (state S.Store work.new.conn.now)
+            result }
+        ensures missing { tells self.old
+            → Misses delete_hits_text (state S.Store work.old.conn.now)
+            (state S.Store work.new.conn.now) result }
+        ensures goes_on { tells self.old
+            → GoesOn (state S.Store work.old.conn.now) (state S.Store work.new.conn.now) result }
+        ensures survives { tells self.old
+            → Survives (state S.Store work.old.conn.now) (state S.Store work.new.conn.now) (λ _.
+            ⊥) }
         ensures same_reference { work.new.conn.ghost_name ≡ work.old.conn.ghost_name }
         ensures tells { tells self.old → tells self.new }
         ensures count { refusals self.old ≤ refusals self.new }
-        ensures refused { IsErrOf result StatementError.Refused → Rose (refusals self.old) (refusals self.new) };
+        ensures refused { IsErrOf result StatementError.Refused
+            → Rose (refusals self.old) (refusals self.new) };
 
     /// Ends the transaction, whose tables become those of the base.
     fn commit<S: Alter>(&mut self, work: Transaction<'_, S>) -> Result<(), StatementError>
-        ensures told { HasCleanDisk (state S.Store work.exit.0.now) → OnOk result ((state S.Store work.exit.0.now).committed ≡ (state S.Store work.entry.conn.now).now) }
+        ensures told { HasCleanDisk (state S.Store work.exit.0.now)
+            → OnOk result ((state S.Store work.exit.0.now).committed
+            ≡ (state S.Store work.entry.conn.now).now) }
         ensures ended { work.exit.0.now.in_transaction ≡ false }
-        ensures survives { Survives (state S.Store work.entry.conn.now) (state S.Store work.exit.0.now) (λ db. db ≡ (state S.Store work.entry.conn.now).now.trees) }
+        ensures survives { Survives (state S.Store work.entry.conn.now)
+            (state S.Store work.exit.0.now) (λ db.
+            db ≡ (state S.Store work.entry.conn.now).now.trees) }
         ensures not_missing { IsErrOf result StatementError.Missing → ⊥ }
         ensures tells { tells self.old → tells self.new }
         ensures count { refusals self.old ≤ refusals self.new }
-        ensures refused { IsErrOf result StatementError.Refused → Rose (refusals self.old) (refusals self.new) };
+        ensures refused { IsErrOf result StatementError.Refused
+            → Rose (refusals self.old) (refusals self.new) };
 }

@@ -68,13 +68,17 @@ fn make_table<S: Alter, Q: Statements>(
     by: &mut Q,
     table: Table,
 ) -> Result<(), StatementError>
-    ensures told { Q.tells by.old → Makes (shape_of table) (declared_as table) (state S.Store work.old.conn.now) (state S.Store work.new.conn.now) result }
+    ensures told { Q.tells by.old
+        → Makes (shape_of table) (declared_as table) (state S.Store work.old.conn.now)
+        (state S.Store work.new.conn.now) result }
     ensures works { Q.tells by.old → Works S.Store work.old.conn.now work.new.conn.now result }
-    ensures survives { Q.tells by.old → Survives (state S.Store work.old.conn.now) (state S.Store work.new.conn.now) (λ _. ⊥) }
+    ensures survives { Q.tells by.old
+        → Survives (state S.Store work.old.conn.now) (state S.Store work.new.conn.now) (λ _. ⊥) }
     ensures same_reference { work.new.conn.ghost_name ≡ work.old.conn.ghost_name }
     ensures tells { Q.tells by.old → Q.tells by.new }
     ensures count { Q.refusals by.old ≤ Q.refusals by.new }
-    ensures refused { IsErrOf result StatementError.Refused → Rose (Q.refusals by.old) (Q.refusals by.new) }
+    ensures refused { IsErrOf result StatementError.Refused
+        → Rose (Q.refusals by.old) (Q.refusals by.new) }
 {
     match table {
         Table::CoverageSchema => by.make_coverage_schema(work),
@@ -95,11 +99,13 @@ fn empty_table<S: Alter, Q: Statements>(
     table: Table,
 ) -> Result<(), StatementError>
     ensures works { Q.tells by.old → Works S.Store work.old.conn.now work.new.conn.now result }
-    ensures survives { Q.tells by.old → Survives (state S.Store work.old.conn.now) (state S.Store work.new.conn.now) (λ _. ⊥) }
+    ensures survives { Q.tells by.old
+        → Survives (state S.Store work.old.conn.now) (state S.Store work.new.conn.now) (λ _. ⊥) }
     ensures same_reference { work.new.conn.ghost_name ≡ work.old.conn.ghost_name }
     ensures tells { Q.tells by.old → Q.tells by.new }
     ensures count { Q.refusals by.old ≤ Q.refusals by.new }
-    ensures refused { IsErrOf result StatementError.Refused → Rose (Q.refusals by.old) (Q.refusals by.new) }
+    ensures refused { IsErrOf result StatementError.Refused
+        → Rose (Q.refusals by.old) (Q.refusals by.new) }
 {
     match table {
         // The row of the version stays.
@@ -121,11 +127,13 @@ fn make_tables<S: Alter, Q: Statements>(
     tables: &[Table],
 ) -> Result<(), StatementError>
     ensures works { Q.tells by.old → Works S.Store work.old.conn.now work.new.conn.now result }
-    ensures survives { Q.tells by.old → Survives (state S.Store work.old.conn.now) (state S.Store work.new.conn.now) (λ _. ⊥) }
+    ensures survives { Q.tells by.old
+        → Survives (state S.Store work.old.conn.now) (state S.Store work.new.conn.now) (λ _. ⊥) }
     ensures same_reference { work.new.conn.ghost_name ≡ work.old.conn.ghost_name }
     ensures tells { Q.tells by.old → Q.tells by.new }
     ensures count { Q.refusals by.old ≤ Q.refusals by.new }
-    ensures refused { IsErrOf result StatementError.Refused → Rose (Q.refusals by.old) (Q.refusals by.new) }
+    ensures refused { IsErrOf result StatementError.Refused
+        → Rose (Q.refusals by.old) (Q.refusals by.new) }
 {
     for table in tables {
         make_table(work, by, *table)?;
@@ -140,11 +148,13 @@ fn empty_tables<S: Alter, Q: Statements>(
     tables: &[Table],
 ) -> Result<(), StatementError>
     ensures works { Q.tells by.old → Works S.Store work.old.conn.now work.new.conn.now result }
-    ensures survives { Q.tells by.old → Survives (state S.Store work.old.conn.now) (state S.Store work.new.conn.now) (λ _. ⊥) }
+    ensures survives { Q.tells by.old
+        → Survives (state S.Store work.old.conn.now) (state S.Store work.new.conn.now) (λ _. ⊥) }
     ensures same_reference { work.new.conn.ghost_name ≡ work.old.conn.ghost_name }
     ensures tells { Q.tells by.old → Q.tells by.new }
     ensures count { Q.refusals by.old ≤ Q.refusals by.new }
-    ensures refused { IsErrOf result StatementError.Refused → Rose (Q.refusals by.old) (Q.refusals by.new) }
+    ensures refused { IsErrOf result StatementError.Refused
+        → Rose (Q.refusals by.old) (Q.refusals by.new) }
 {
     for table in tables {
         empty_table(work, by, *table)?;
@@ -159,11 +169,13 @@ fn make_all<S: Alter, Q: Statements>(
     by: &mut Q,
 ) -> Result<(), StatementError>
     ensures works { Q.tells by.old → Works S.Store work.old.conn.now work.new.conn.now result }
-    ensures survives { Q.tells by.old → Survives (state S.Store work.old.conn.now) (state S.Store work.new.conn.now) (λ _. ⊥) }
+    ensures survives { Q.tells by.old
+        → Survives (state S.Store work.old.conn.now) (state S.Store work.new.conn.now) (λ _. ⊥) }
     ensures same_reference { work.new.conn.ghost_name ≡ work.old.conn.ghost_name }
     ensures tells { Q.tells by.old → Q.tells by.new }
     ensures count { Q.refusals by.old ≤ Q.refusals by.new }
-    ensures refused { IsErrOf result StatementError.Refused → Rose (Q.refusals by.old) (Q.refusals by.new) }
+    ensures refused { IsErrOf result StatementError.Refused
+        → Rose (Q.refusals by.old) (Q.refusals by.new) }
 {
     make_tables(work, by, &TABLES)?;
     by.insert_coverage_schema(work, 7)
@@ -177,11 +189,13 @@ fn empty_all<S: Alter, Q: Statements>(
     has_hits: bool,
 ) -> Result<(), StatementError>
     ensures works { Q.tells by.old → Works S.Store work.old.conn.now work.new.conn.now result }
-    ensures survives { Q.tells by.old → Survives (state S.Store work.old.conn.now) (state S.Store work.new.conn.now) (λ _. ⊥) }
+    ensures survives { Q.tells by.old
+        → Survives (state S.Store work.old.conn.now) (state S.Store work.new.conn.now) (λ _. ⊥) }
     ensures same_reference { work.new.conn.ghost_name ≡ work.old.conn.ghost_name }
     ensures tells { Q.tells by.old → Q.tells by.new }
     ensures count { Q.refusals by.old ≤ Q.refusals by.new }
-    ensures refused { IsErrOf result StatementError.Refused → Rose (Q.refusals by.old) (Q.refusals by.new) }
+    ensures refused { IsErrOf result StatementError.Refused
+        → Rose (Q.refusals by.old) (Q.refusals by.new) }
 {
     if !has_hits {
         make_table(work, by, Table::Hits)?;
@@ -195,11 +209,13 @@ fn prepare<S: Alter, Q: Statements>(
     start: Start,
 ) -> Result<(), StatementError>
     ensures works { Q.tells by.old → Works S.Store work.old.conn.now work.new.conn.now result }
-    ensures survives { Q.tells by.old → Survives (state S.Store work.old.conn.now) (state S.Store work.new.conn.now) (λ _. ⊥) }
+    ensures survives { Q.tells by.old
+        → Survives (state S.Store work.old.conn.now) (state S.Store work.new.conn.now) (λ _. ⊥) }
     ensures same_reference { work.new.conn.ghost_name ≡ work.old.conn.ghost_name }
     ensures tells { Q.tells by.old → Q.tells by.new }
     ensures count { Q.refusals by.old ≤ Q.refusals by.new }
-    ensures refused { IsErrOf result StatementError.Refused → Rose (Q.refusals by.old) (Q.refusals by.new) }
+    ensures refused { IsErrOf result StatementError.Refused
+        → Rose (Q.refusals by.old) (Q.refusals by.new) }
 {
     match start {
         Start::Nothing => make_all(work, by),
@@ -214,11 +230,13 @@ fn insert_flag<S: Alter, Q: Statements>(
     arcs: bool,
 ) -> Result<(), StatementError>
     ensures works { Q.tells by.old → Works S.Store work.old.conn.now work.new.conn.now result }
-    ensures survives { Q.tells by.old → Survives (state S.Store work.old.conn.now) (state S.Store work.new.conn.now) (λ _. ⊥) }
+    ensures survives { Q.tells by.old
+        → Survives (state S.Store work.old.conn.now) (state S.Store work.new.conn.now) (λ _. ⊥) }
     ensures same_reference { work.new.conn.ghost_name ≡ work.old.conn.ghost_name }
     ensures tells { Q.tells by.old → Q.tells by.new }
     ensures count { Q.refusals by.old ≤ Q.refusals by.new }
-    ensures refused { IsErrOf result StatementError.Refused → Rose (Q.refusals by.old) (Q.refusals by.new) }
+    ensures refused { IsErrOf result StatementError.Refused
+        → Rose (Q.refusals by.old) (Q.refusals by.new) }
 {
     let flag = if arcs { "1" } else { "0" };
     by.insert_meta(work, "has_arcs", flag)
@@ -231,11 +249,13 @@ fn insert_files<S: Alter, Q: Statements>(
     paths: &[String],
 ) -> Result<(), StatementError>
     ensures works { Q.tells by.old → Works S.Store work.old.conn.now work.new.conn.now result }
-    ensures survives { Q.tells by.old → Survives (state S.Store work.old.conn.now) (state S.Store work.new.conn.now) (λ _. ⊥) }
+    ensures survives { Q.tells by.old
+        → Survives (state S.Store work.old.conn.now) (state S.Store work.new.conn.now) (λ _. ⊥) }
     ensures same_reference { work.new.conn.ghost_name ≡ work.old.conn.ghost_name }
     ensures tells { Q.tells by.old → Q.tells by.new }
     ensures count { Q.refusals by.old ≤ Q.refusals by.new }
-    ensures refused { IsErrOf result StatementError.Refused → Rose (Q.refusals by.old) (Q.refusals by.new) }
+    ensures refused { IsErrOf result StatementError.Refused
+        → Rose (Q.refusals by.old) (Q.refusals by.new) }
 {
     let mut number: i64 = 0;
     for text in paths {
@@ -252,11 +272,13 @@ fn insert_contexts<S: Alter, Q: Statements>(
     contexts: &[String],
 ) -> Result<(), StatementError>
     ensures works { Q.tells by.old → Works S.Store work.old.conn.now work.new.conn.now result }
-    ensures survives { Q.tells by.old → Survives (state S.Store work.old.conn.now) (state S.Store work.new.conn.now) (λ _. ⊥) }
+    ensures survives { Q.tells by.old
+        → Survives (state S.Store work.old.conn.now) (state S.Store work.new.conn.now) (λ _. ⊥) }
     ensures same_reference { work.new.conn.ghost_name ≡ work.old.conn.ghost_name }
     ensures tells { Q.tells by.old → Q.tells by.new }
     ensures count { Q.refusals by.old ≤ Q.refusals by.new }
-    ensures refused { IsErrOf result StatementError.Refused → Rose (Q.refusals by.old) (Q.refusals by.new) }
+    ensures refused { IsErrOf result StatementError.Refused
+        → Rose (Q.refusals by.old) (Q.refusals by.new) }
 {
     let mut number: i64 = 0;
     for text in contexts {
@@ -273,11 +295,13 @@ fn insert_arcs<S: Alter, Q: Statements>(
     rows: &[SavedRow],
 ) -> Result<(), StatementError>
     ensures works { Q.tells by.old → Works S.Store work.old.conn.now work.new.conn.now result }
-    ensures survives { Q.tells by.old → Survives (state S.Store work.old.conn.now) (state S.Store work.new.conn.now) (λ _. ⊥) }
+    ensures survives { Q.tells by.old
+        → Survives (state S.Store work.old.conn.now) (state S.Store work.new.conn.now) (λ _. ⊥) }
     ensures same_reference { work.new.conn.ghost_name ≡ work.old.conn.ghost_name }
     ensures tells { Q.tells by.old → Q.tells by.new }
     ensures count { Q.refusals by.old ≤ Q.refusals by.new }
-    ensures refused { IsErrOf result StatementError.Refused → Rose (Q.refusals by.old) (Q.refusals by.new) }
+    ensures refused { IsErrOf result StatementError.Refused
+        → Rose (Q.refusals by.old) (Q.refusals by.new) }
 {
     for row in rows {
         by.insert_arc(work, row.file_id, row.context_id, row.from, row.to)?;
@@ -292,11 +316,13 @@ fn insert_bits<S: Alter, Q: Statements>(
     bits: &[SavedBits],
 ) -> Result<(), StatementError>
     ensures works { Q.tells by.old → Works S.Store work.old.conn.now work.new.conn.now result }
-    ensures survives { Q.tells by.old → Survives (state S.Store work.old.conn.now) (state S.Store work.new.conn.now) (λ _. ⊥) }
+    ensures survives { Q.tells by.old
+        → Survives (state S.Store work.old.conn.now) (state S.Store work.new.conn.now) (λ _. ⊥) }
     ensures same_reference { work.new.conn.ghost_name ≡ work.old.conn.ghost_name }
     ensures tells { Q.tells by.old → Q.tells by.new }
     ensures count { Q.refusals by.old ≤ Q.refusals by.new }
-    ensures refused { IsErrOf result StatementError.Refused → Rose (Q.refusals by.old) (Q.refusals by.new) }
+    ensures refused { IsErrOf result StatementError.Refused
+        → Rose (Q.refusals by.old) (Q.refusals by.new) }
 {
     for set in bits {
         by.insert_line_bits(work, set.file_id, set.context_id, &set.numbits)?;
@@ -311,11 +337,13 @@ fn insert_counts<S: Alter, Q: Statements>(
     rows: &[SavedRow],
 ) -> Result<(), StatementError>
     ensures works { Q.tells by.old → Works S.Store work.old.conn.now work.new.conn.now result }
-    ensures survives { Q.tells by.old → Survives (state S.Store work.old.conn.now) (state S.Store work.new.conn.now) (λ _. ⊥) }
+    ensures survives { Q.tells by.old
+        → Survives (state S.Store work.old.conn.now) (state S.Store work.new.conn.now) (λ _. ⊥) }
     ensures same_reference { work.new.conn.ghost_name ≡ work.old.conn.ghost_name }
     ensures tells { Q.tells by.old → Q.tells by.new }
     ensures count { Q.refusals by.old ≤ Q.refusals by.new }
-    ensures refused { IsErrOf result StatementError.Refused → Rose (Q.refusals by.old) (Q.refusals by.new) }
+    ensures refused { IsErrOf result StatementError.Refused
+        → Rose (Q.refusals by.old) (Q.refusals by.new) }
 {
     for row in rows {
         by.insert_hits(
@@ -337,11 +365,13 @@ fn insert_names<S: Alter, Q: Statements>(
     saved: &Saved,
 ) -> Result<(), StatementError>
     ensures works { Q.tells by.old → Works S.Store work.old.conn.now work.new.conn.now result }
-    ensures survives { Q.tells by.old → Survives (state S.Store work.old.conn.now) (state S.Store work.new.conn.now) (λ _. ⊥) }
+    ensures survives { Q.tells by.old
+        → Survives (state S.Store work.old.conn.now) (state S.Store work.new.conn.now) (λ _. ⊥) }
     ensures same_reference { work.new.conn.ghost_name ≡ work.old.conn.ghost_name }
     ensures tells { Q.tells by.old → Q.tells by.new }
     ensures count { Q.refusals by.old ≤ Q.refusals by.new }
-    ensures refused { IsErrOf result StatementError.Refused → Rose (Q.refusals by.old) (Q.refusals by.new) }
+    ensures refused { IsErrOf result StatementError.Refused
+        → Rose (Q.refusals by.old) (Q.refusals by.new) }
 {
     insert_flag(work, by, saved.arcs)?;
     insert_files(work, by, &saved.paths)?;
@@ -355,11 +385,13 @@ fn insert_rows<S: Alter, Q: Statements>(
     saved: &Saved,
 ) -> Result<(), StatementError>
     ensures works { Q.tells by.old → Works S.Store work.old.conn.now work.new.conn.now result }
-    ensures survives { Q.tells by.old → Survives (state S.Store work.old.conn.now) (state S.Store work.new.conn.now) (λ _. ⊥) }
+    ensures survives { Q.tells by.old
+        → Survives (state S.Store work.old.conn.now) (state S.Store work.new.conn.now) (λ _. ⊥) }
     ensures same_reference { work.new.conn.ghost_name ≡ work.old.conn.ghost_name }
     ensures tells { Q.tells by.old → Q.tells by.new }
     ensures count { Q.refusals by.old ≤ Q.refusals by.new }
-    ensures refused { IsErrOf result StatementError.Refused → Rose (Q.refusals by.old) (Q.refusals by.new) }
+    ensures refused { IsErrOf result StatementError.Refused
+        → Rose (Q.refusals by.old) (Q.refusals by.new) }
 {
     if saved.arcs {
         insert_arcs(work, by, &saved.rows)?;
@@ -376,11 +408,13 @@ fn write_all<S: Alter, Q: Statements>(
     saved: &Saved,
 ) -> Result<(), StatementError>
     ensures works { Q.tells by.old → Works S.Store work.old.conn.now work.new.conn.now result }
-    ensures survives { Q.tells by.old → Survives (state S.Store work.old.conn.now) (state S.Store work.new.conn.now) (λ _. ⊥) }
+    ensures survives { Q.tells by.old
+        → Survives (state S.Store work.old.conn.now) (state S.Store work.new.conn.now) (λ _. ⊥) }
     ensures same_reference { work.new.conn.ghost_name ≡ work.old.conn.ghost_name }
     ensures tells { Q.tells by.old → Q.tells by.new }
     ensures count { Q.refusals by.old ≤ Q.refusals by.new }
-    ensures refused { IsErrOf result StatementError.Refused → Rose (Q.refusals by.old) (Q.refusals by.new) }
+    ensures refused { IsErrOf result StatementError.Refused
+        → Rose (Q.refusals by.old) (Q.refusals by.new) }
 {
     prepare(work, by, start)?;
     insert_names(work, by, saved)?;
@@ -394,14 +428,17 @@ fn judged<S: Alter, Q: Statements>(
     by: &mut Q,
     fresh: bool,
 ) -> Result<Start, SqlError>
-    ensures told { Q.tells by.old → Judges fresh (state S.Store base.old) (state S.Store base.new) result }
-    ensures survives { Q.tells by.old → LeavesFile (state S.Store base.old) (state S.Store base.new) }
+    ensures told { Q.tells by.old
+        → Judges fresh (state S.Store base.old) (state S.Store base.new) result }
+    ensures survives { Q.tells by.old
+        → LeavesFile (state S.Store base.old) (state S.Store base.new) }
     ensures not_bad_row { (row : ℕ) → IsErrOf result (SqlError.BadRow row) → ⊥ }
     ensures tells { Q.tells by.old → Q.tells by.new }
     ensures clean { HasCleanDisk (state S.Store base.new) → HasCleanDisk (state S.Store base.old) }
     ensures mode { base.old.in_transaction ≡ false → base.new.in_transaction ≡ false }
     ensures count { Q.refusals by.old ≤ Q.refusals by.new }
-    ensures refused { IsErrOf result SqlError.Refused → Rose (Q.refusals by.old) (Q.refusals by.new) }
+    ensures refused { IsErrOf result SqlError.Refused
+        → Rose (Q.refusals by.old) (Q.refusals by.new) }
 {
     if fresh {
         return Ok(Start::Nothing);
@@ -426,16 +463,19 @@ pub fn write_data<S: Alter, Q: Statements>(
     fresh: bool,
 ) -> Result<(), SqlError>
     requires { base.old.in_transaction ≡ false }
-    ensures replaces { Q.tells by.old → HasCleanDisk (state S.Store base.new) → AreUnhidden (state S.Store base.old).now → fresh ≡ false
+    ensures replaces { Q.tells by.old → HasCleanDisk (state S.Store base.new)
+        → AreUnhidden (state S.Store base.old).now → fresh ≡ false
         → OnOk result (content_in (state S.Store base.old).now ≢ NotSchema7) }
-    ensures not_schema { Q.tells by.old → HasCleanDisk (state S.Store base.new) → AreUnhidden (state S.Store base.old).now
+    ensures not_schema { Q.tells by.old → HasCleanDisk (state S.Store base.new)
+        → AreUnhidden (state S.Store base.old).now
         → IsErrOf result SqlError.NotSchema7 → ((fresh ≡ false) × (content_in (state S.Store base.old).now ≡ NotSchema7)) ⊎ NamesAbsent S.Store }
     ensures not_bad_row { (row : ℕ) → IsErrOf result (SqlError.BadRow row) → ⊥ }
     ensures crash { Q.tells by.old → LeavesSaved S.Store base.old base.new }
     ensures mode { base.new.in_transaction ≡ false }
     ensures tells { Q.tells by.old → Q.tells by.new }
     ensures count { Q.refusals by.old ≤ Q.refusals by.new }
-    ensures refused { IsErrOf result SqlError.Refused → Rose (Q.refusals by.old) (Q.refusals by.new) }
+    ensures refused { IsErrOf result SqlError.Refused
+        → Rose (Q.refusals by.old) (Q.refusals by.new) }
 {
     let saved = Saved::of(alloc, content)?;
     let start = judged(alloc, base, by, fresh)?;

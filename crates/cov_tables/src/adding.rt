@@ -39,8 +39,13 @@ impl Column {
 impl Entry {
     fn spot(&self, from: i32, to: i32) -> Spot
         ensures { result
-            ≡ record { file_id = self.now.file_id; context_id = self.now.context_id; from = from; to
-            = to } }
+            ≡ record {
+              file_id = self.now.file_id;
+              context_id = self.now.context_id;
+              from = from;
+              to
+                  = to;
+            } }
     {
         Spot {
             file_id: self.file_id,

@@ -37,7 +37,9 @@ impl State {
         programs: &Programs,
     ) -> Result<Turn, NoMemory>
         requires { self.old.top.place < usize.MAX }
-        ensures { IfOk result (λ t. Acts (modules_of programs.now) (plain_unit unit.now) (Call n) self.old store.old self.new store.new t) }
+        ensures { IfOk result (λ t.
+            Acts (modules_of programs.now) (plain_unit unit.now) (Call n) self.old store.old
+            self.new store.new t) }
     {
         let Some(values) = self.top.operands.take_values(alloc, n as usize)? else {
             return Ok(Turn::Stuck);
@@ -178,7 +180,8 @@ impl State {
     }
 
     pub fn give_back(&mut self, unit: &Unit) -> Turn
-        ensures { (ms : List Module) (s : Kept) → Acts ms (plain_unit unit.now) Return self.old s self.new s result }
+        ensures { (ms : List Module) (s : Kept)
+            → Acts ms (plain_unit unit.now) Return self.old s self.new s result }
     {
         match self.top.operands.pop() {
             None => Turn::Stuck,
@@ -188,7 +191,9 @@ impl State {
 
     pub fn function(&mut self, unit: &Unit, k: u32) -> Result<Turn, NoMemory>
         requires { self.old.top.place < usize.MAX }
-        ensures { IfOk result (λ t. (ms : List Module) (s : Kept) → Acts ms (plain_unit unit.now) (Function k) self.old s self.new s t) }
+        ensures { IfOk result (λ t.
+            (ms : List Module) (s : Kept)
+            → Acts ms (plain_unit unit.now) (Function k) self.old s self.new s t) }
     {
         let function = FuncId {
             module: self.top.code.module,
@@ -203,7 +208,9 @@ impl State {
 
     pub fn function_with(&mut self, unit: &Unit, k: u32) -> Result<Turn, NoMemory>
         requires { self.old.top.place < usize.MAX }
-        ensures { IfOk result (λ t. (ms : List Module) (s : Kept) → Acts ms (plain_unit unit.now) (FunctionWith k) self.old s self.new s t) }
+        ensures { IfOk result (λ t.
+            (ms : List Module) (s : Kept)
+            → Acts ms (plain_unit unit.now) (FunctionWith k) self.old s self.new s t) }
     {
         let Some(x) = self.top.operands.pop() else {
             return Ok(Turn::Stuck);
@@ -241,7 +248,10 @@ pub fn new_frame(
     depth: u32,
     programs: &Programs,
 ) -> Result<Frame, NoMemory>
-    ensures { IfOk result (λ f. plain_frame f ≡ new_frame (by_slots (modules_of programs.now)) (modules_of programs.now) code (plains values.items) depth) }
+    ensures { IfOk result (λ f.
+        plain_frame f
+        ≡ new_frame (by_slots (modules_of programs.now)) (modules_of programs.now) code
+        (plains values.items) depth) }
 {
     let count = match unit_in(programs, code) {
         None => 0,

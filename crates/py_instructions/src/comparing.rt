@@ -17,7 +17,9 @@ pub fn compared(
     right: &Value,
     heap: &Heap,
 ) -> Result<Result<bool, Raised>, NoMemory>
-    ensures { IfOk result (λ answer. plain_answer answer ≡ compared (asked question) (plain left.now) (plain right.now) (plain_heap heap.now)) }
+    ensures { IfOk result (λ answer.
+        plain_answer answer
+        ≡ compared (asked question) (plain left.now) (plain right.now) (plain_heap heap.now)) }
 {
     match question {
         Question::Eq => compare(alloc, CmpOp::Eq, left, right, heap),
@@ -38,7 +40,8 @@ pub fn compared(
 
 /// Whether the left value is the right one, which is None, True or False.
 fn is_it(alloc: Global, left: &Value, right: &Value) -> Result<Result<bool, Raised>, NoMemory>
-    ensures { IfOk result (λ answer. plain_answer answer ≡ is_answer (plain left.now) (plain right.now)) }
+    ensures { IfOk result (λ answer.
+        plain_answer answer ≡ is_answer (plain left.now) (plain right.now)) }
 {
     match right {
         Value::None => Ok(Ok(left.is_none())),

@@ -28,7 +28,9 @@ fn value_of_constant(constant: &Constant) -> Result<Value, NoMemory>
 impl State {
     pub fn constant(&mut self, unit: &Unit, n: u32) -> Result<Turn, NoMemory>
         requires { self.old.top.place < usize.MAX }
-        ensures { IfOk result (λ t. (ms : List Module) (s : Kept) → Acts ms (plain_unit unit.now) (Const n) self.old s self.new s t) }
+        ensures { IfOk result (λ t.
+            (ms : List Module) (s : Kept)
+            → Acts ms (plain_unit unit.now) (Const n) self.old s self.new s t) }
     {
         match unit.constants.get(n as usize) {
             None => Ok(Turn::Stuck),
@@ -43,7 +45,8 @@ impl State {
 
     pub fn pop(&mut self, unit: &Unit) -> Turn
         requires { self.old.top.place < usize.MAX }
-        ensures { (ms : List Module) (s : Kept) → Acts ms (plain_unit unit.now) Pop self.old s self.new s result }
+        ensures { (ms : List Module) (s : Kept)
+            → Acts ms (plain_unit unit.now) Pop self.old s self.new s result }
     {
         match self.top.operands.pop() {
             None => Turn::Stuck,
@@ -57,7 +60,9 @@ impl State {
 
     pub fn copy(&mut self, alloc: Global, unit: &Unit, n: u32) -> Result<Turn, NoMemory>
         requires { self.old.top.place < usize.MAX }
-        ensures { IfOk result (λ t. (ms : List Module) (s : Kept) → Acts ms (plain_unit unit.now) (Copy n) self.old s self.new s t) }
+        ensures { IfOk result (λ t.
+            (ms : List Module) (s : Kept)
+            → Acts ms (plain_unit unit.now) (Copy n) self.old s self.new s t) }
     {
         match self.top.operands.operand(n as usize) {
             None => Ok(Turn::Stuck),
@@ -72,7 +77,9 @@ impl State {
 
     pub fn sink(&mut self, unit: &Unit, n: u32) -> Result<Turn, NoMemory>
         requires { self.old.top.place < usize.MAX }
-        ensures { IfOk result (λ t. (ms : List Module) (s : Kept) → Acts ms (plain_unit unit.now) (Sink n) self.old s self.new s t) }
+        ensures { IfOk result (λ t.
+            (ms : List Module) (s : Kept)
+            → Acts ms (plain_unit unit.now) (Sink n) self.old s self.new s t) }
     {
         let Some(x) = self.top.operands.pop() else {
             return Ok(Turn::Stuck);
@@ -86,7 +93,9 @@ impl State {
 
     pub fn roll(&mut self, unit: &Unit, n: u32) -> Result<Turn, NoMemory>
         requires { self.old.top.place < usize.MAX }
-        ensures { IfOk result (λ t. (ms : List Module) (s : Kept) → Acts ms (plain_unit unit.now) (Roll n) self.old s self.new s t) }
+        ensures { IfOk result (λ t.
+            (ms : List Module) (s : Kept)
+            → Acts ms (plain_unit unit.now) (Roll n) self.old s self.new s t) }
     {
         match self.top.operands.take_operand(n as usize) {
             None => Ok(Turn::Stuck),

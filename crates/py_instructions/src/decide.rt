@@ -22,7 +22,11 @@ impl State {
         programs: &Programs,
     ) -> Result<Turn, NoMemory>
         requires { length (modules_of programs.now) ≤ 4294967295 }
-        ensures { IfOk result (λ t. (o : Outside) → move (by_slots (modules_of programs.now)) (modules_of programs.now) (seen self.old store.old o) ≡ turned (modules_of programs.now) t (seen self.new store.new o)) }
+        ensures { IfOk result (λ t.
+            (o : Outside)
+            → move (by_slots (modules_of programs.now)) (modules_of programs.now)
+            (seen self.old store.old o)
+            ≡ turned (modules_of programs.now) t (seen self.new store.new o)) }
     {
         match unit_in(programs, self.top.code) {
             None => Ok(Turn::Stuck),
@@ -47,7 +51,9 @@ impl State {
     ) -> Result<Turn, NoMemory>
         requires room { self.old.top.place < usize.MAX }
         requires few { length (modules_of programs.now) ≤ 4294967295 }
-        ensures { IfOk result (λ t. Acts (modules_of programs.now) (plain_unit unit.now) instr self.old store.old self.new store.new t) }
+        ensures { IfOk result (λ t.
+            Acts (modules_of programs.now) (plain_unit unit.now) instr self.old store.old self.new
+            store.new t) }
     {
         match instr {
             Instr::Constant(n) => self.constant(unit, n),

@@ -18,7 +18,9 @@ use std::alloc::Global;
 impl State {
     pub fn text(&mut self, alloc: Global, unit: &Unit, store: &Store) -> Result<Turn, NoMemory>
         requires { self.old.top.place < usize.MAX }
-        ensures { IfOk result (λ t. (ms : List Module) → Acts ms (plain_unit unit.now) TextOf self.old store.now self.new store.now t) }
+        ensures { IfOk result (λ t.
+            (ms : List Module)
+            → Acts ms (plain_unit unit.now) TextOf self.old store.now self.new store.now t) }
     {
         let Some(x) = self.top.operands.pop() else {
             return Ok(Turn::Stuck);
@@ -41,7 +43,9 @@ impl State {
         store: &mut Store,
     ) -> Result<Turn, NoMemory>
         requires { self.old.top.place < usize.MAX }
-        ensures { IfOk result (λ t. (ms : List Module) → Acts ms (plain_unit unit.now) Extend self.old store.old self.new store.new t) }
+        ensures { IfOk result (λ t.
+            (ms : List Module)
+            → Acts ms (plain_unit unit.now) Extend self.old store.old self.new store.new t) }
     {
         let Some(y) = self.top.operands.pop() else {
             return Ok(Turn::Stuck);
@@ -67,7 +71,9 @@ impl State {
 
     pub fn tuple(&mut self, alloc: Global, unit: &Unit, n: u32) -> Result<Turn, NoMemory>
         requires { self.old.top.place < usize.MAX }
-        ensures { IfOk result (λ t. (ms : List Module) (s : Kept) → Acts ms (plain_unit unit.now) (Tuple n) self.old s self.new s t) }
+        ensures { IfOk result (λ t.
+            (ms : List Module) (s : Kept)
+            → Acts ms (plain_unit unit.now) (Tuple n) self.old s self.new s t) }
     {
         let Some(values) = self.top.operands.take_values(alloc, n as usize)? else {
             return Ok(Turn::Stuck);
@@ -90,7 +96,9 @@ impl State {
         store: &mut Store,
     ) -> Result<Turn, NoMemory>
         requires { self.old.top.place < usize.MAX }
-        ensures { IfOk result (λ t. (ms : List Module) → Acts ms (plain_unit unit.now) (MakeList n) self.old store.old self.new store.new t) }
+        ensures { IfOk result (λ t.
+            (ms : List Module)
+            → Acts ms (plain_unit unit.now) (MakeList n) self.old store.old self.new store.new t) }
     {
         let Some(values) = self.top.operands.take_values(alloc, n as usize)? else {
             return Ok(Turn::Stuck);
@@ -107,7 +115,9 @@ impl State {
 
     pub fn dict(&mut self, unit: &Unit, store: &mut Store) -> Result<Turn, NoMemory>
         requires { self.old.top.place < usize.MAX }
-        ensures { IfOk result (λ t. (ms : List Module) → Acts ms (plain_unit unit.now) Dict self.old store.old self.new store.new t) }
+        ensures { IfOk result (λ t.
+            (ms : List Module)
+            → Acts ms (plain_unit unit.now) Dict self.old store.old self.new store.new t) }
     {
         let made = store.heap.make_dict()?;
         self.top.operands.push(Operand::Value(Value::Dict(made)))?;
@@ -122,7 +132,9 @@ impl State {
         store: &mut Store,
     ) -> Result<Turn, NoMemory>
         requires { self.old.top.place < usize.MAX }
-        ensures { IfOk result (λ t. (ms : List Module) → Acts ms (plain_unit unit.now) AddPair self.old store.old self.new store.new t) }
+        ensures { IfOk result (λ t.
+            (ms : List Module)
+            → Acts ms (plain_unit unit.now) AddPair self.old store.old self.new store.new t) }
     {
         let none = Value::None;
         let Some(v) = self.top.operands.pop() else {

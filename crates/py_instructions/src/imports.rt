@@ -24,7 +24,9 @@ impl State {
         store: &Store,
     ) -> Result<Turn, NoMemory>
         requires { self.old.top.place < usize.MAX }
-        ensures { IfOk result (λ t. (ms : List Module) → Acts ms (plain_unit unit.now) (Attribute n) self.old store.now self.new store.now t) }
+        ensures { IfOk result (λ t.
+            (ms : List Module)
+            → Acts ms (plain_unit unit.now) (Attribute n) self.old store.now self.new store.now t) }
     {
         let Some(name) = unit.names.get(n as usize) else {
             return Ok(Turn::Stuck);
@@ -51,7 +53,9 @@ impl State {
         store: &Store,
     ) -> Result<Turn, NoMemory>
         requires { self.old.top.place < usize.MAX }
-        ensures { IfOk result (λ t. (ms : List Module) → Acts ms (plain_unit unit.now) (MethodOf n) self.old store.now self.new store.now t) }
+        ensures { IfOk result (λ t.
+            (ms : List Module)
+            → Acts ms (plain_unit unit.now) (MethodOf n) self.old store.now self.new store.now t) }
     {
         let Some(name) = unit.names.get(n as usize) else {
             return Ok(Turn::Stuck);
@@ -78,7 +82,9 @@ impl State {
         store: &Store,
     ) -> Result<Turn, NoMemory>
         requires { self.old.top.place < usize.MAX }
-        ensures { IfOk result (λ t. (ms : List Module) → Acts ms (plain_unit unit.now) (Take m n) self.old store.now self.new store.now t) }
+        ensures { IfOk result (λ t.
+            (ms : List Module)
+            → Acts ms (plain_unit unit.now) (Take m n) self.old store.now self.new store.now t) }
     {
         let none = Value::None;
         let Some(from) = unit.names.get(m as usize) else {
@@ -111,7 +117,10 @@ impl State {
     ) -> Result<Turn, NoMemory>
         requires room { self.old.top.place < usize.MAX }
         requires few { length (modules_of programs.now) ≤ 4294967295 }
-        ensures { IfOk result (λ t. (s : Kept) → Acts (modules_of programs.now) (plain_unit unit.now) (LoadModule n) self.old s self.new s t) }
+        ensures { IfOk result (λ t.
+            (s : Kept)
+            → Acts (modules_of programs.now) (plain_unit unit.now) (LoadModule n) self.old s
+            self.new s t) }
     {
         let Some(name) = unit.names.get(n as usize) else {
             return Ok(Turn::Stuck);
@@ -136,7 +145,9 @@ impl State {
     ) -> Result<Turn, NoMemory>
         requires room { self.old.top.place < usize.MAX }
         requires few { length (modules_of programs.now) ≤ 4294967295 }
-        ensures { IfOk result (λ t. Acts (modules_of programs.now) (plain_unit unit.now) (Import n) self.old store.old self.new store.new t) }
+        ensures { IfOk result (λ t.
+            Acts (modules_of programs.now) (plain_unit unit.now) (Import n) self.old store.old
+            self.new store.new t) }
     {
         let Some(name) = unit.names.get(n as usize) else {
             return Ok(Turn::Stuck);

@@ -16,7 +16,8 @@ use std::alloc::Global;
 
 impl State {
     pub fn goto(&mut self, unit: &Unit, to: u32) -> Turn
-        ensures { (ms : List Module) (s : Kept) → Acts ms (plain_unit unit.now) (Goto to) self.old s self.new s result }
+        ensures { (ms : List Module) (s : Kept)
+            → Acts ms (plain_unit unit.now) (Goto to) self.old s self.new s result }
     {
         self.top.place = to as usize;
         Turn::Goes
@@ -24,7 +25,9 @@ impl State {
 
     pub fn if_false(&mut self, unit: &Unit, to: u32, store: &Store) -> Turn
         requires { self.old.top.place < usize.MAX }
-        ensures { (ms : List Module) → Acts ms (plain_unit unit.now) (IfFalse to) self.old store.now self.new store.now result }
+        ensures { (ms : List Module)
+            → Acts ms (plain_unit unit.now) (IfFalse to) self.old store.now self.new store.now
+            result }
     {
         let Some(x) = self.top.operands.pop() else {
             return Turn::Stuck;
@@ -43,7 +46,9 @@ impl State {
 
     pub fn if_true(&mut self, unit: &Unit, to: u32, store: &Store) -> Turn
         requires { self.old.top.place < usize.MAX }
-        ensures { (ms : List Module) → Acts ms (plain_unit unit.now) (IfTrue to) self.old store.now self.new store.now result }
+        ensures { (ms : List Module)
+            → Acts ms (plain_unit unit.now) (IfTrue to) self.old store.now self.new store.now
+            result }
     {
         let Some(x) = self.top.operands.pop() else {
             return Turn::Stuck;
@@ -62,7 +67,9 @@ impl State {
 
     pub fn and(&mut self, unit: &Unit, to: u32, store: &Store) -> Result<Turn, NoMemory>
         requires { self.old.top.place < usize.MAX }
-        ensures { IfOk result (λ t. (ms : List Module) → Acts ms (plain_unit unit.now) (And to) self.old store.now self.new store.now t) }
+        ensures { IfOk result (λ t.
+            (ms : List Module)
+            → Acts ms (plain_unit unit.now) (And to) self.old store.now self.new store.now t) }
     {
         let none = Value::None;
         let Some(x) = self.top.operands.pop() else {
@@ -81,7 +88,9 @@ impl State {
 
     pub fn or(&mut self, unit: &Unit, to: u32, store: &Store) -> Result<Turn, NoMemory>
         requires { self.old.top.place < usize.MAX }
-        ensures { IfOk result (λ t. (ms : List Module) → Acts ms (plain_unit unit.now) (Or to) self.old store.now self.new store.now t) }
+        ensures { IfOk result (λ t.
+            (ms : List Module)
+            → Acts ms (plain_unit unit.now) (Or to) self.old store.now self.new store.now t) }
     {
         let none = Value::None;
         let Some(x) = self.top.operands.pop() else {
@@ -107,7 +116,10 @@ impl State {
         store: &Store,
     ) -> Result<Turn, NoMemory>
         requires { self.old.top.place < usize.MAX }
-        ensures { IfOk result (λ t. (ms : List Module) → Acts ms (plain_unit unit.now) (Link question to) self.old store.now self.new store.now t) }
+        ensures { IfOk result (λ t.
+            (ms : List Module)
+            → Acts ms (plain_unit unit.now) (Link question to) self.old store.now self.new store.now
+            t) }
     {
         let none = Value::None;
         let Some(y) = self.top.operands.pop() else {
@@ -140,7 +152,9 @@ impl State {
 
     pub fn unless(&mut self, unit: &Unit, n: u32, to: u32, store: &Store) -> Turn
         requires { self.old.top.place < usize.MAX }
-        ensures { (ms : List Module) → Acts ms (plain_unit unit.now) (Unless n to) self.old store.now self.new store.now result }
+        ensures { (ms : List Module)
+            → Acts ms (plain_unit unit.now) (Unless n to) self.old store.now self.new store.now
+            result }
     {
         let Some(x) = self.top.operands.pop() else {
             return Turn::Stuck;
@@ -170,7 +184,10 @@ impl State {
         store: &Store,
     ) -> Result<Turn, NoMemory>
         requires { self.old.top.place < usize.MAX }
-        ensures { IfOk result (λ t. (ms : List Module) → Acts ms (plain_unit unit.now) (Sequence count n to) self.old store.now self.new store.now t) }
+        ensures { IfOk result (λ t.
+            (ms : List Module)
+            → Acts ms (plain_unit unit.now) (Sequence count n to) self.old store.now self.new
+            store.now t) }
     {
         let Some(x) = self.top.operands.pop() else {
             return Ok(Turn::Stuck);

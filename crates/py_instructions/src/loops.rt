@@ -15,7 +15,9 @@ use std::alloc::{AllocError, Global};
 impl State {
     pub fn walk(&mut self, alloc: Global, unit: &Unit, store: &Store) -> Result<Turn, NoMemory>
         requires { self.old.top.place < usize.MAX }
-        ensures { IfOk result (λ t. (ms : List Module) → Acts ms (plain_unit unit.now) Walk self.old store.now self.new store.now t) }
+        ensures { IfOk result (λ t.
+            (ms : List Module)
+            → Acts ms (plain_unit unit.now) Walk self.old store.now self.new store.now t) }
     {
         let Some(x) = self.top.operands.pop() else {
             return Ok(Turn::Stuck);
@@ -42,7 +44,9 @@ impl State {
         store: &Store,
     ) -> Result<Turn, NoMemory>
         requires { self.old.top.place < usize.MAX }
-        ensures { IfOk result (λ t. (ms : List Module) → Acts ms (plain_unit unit.now) (NextItem to) self.old store.now self.new store.now t) }
+        ensures { IfOk result (λ t.
+            (ms : List Module)
+            → Acts ms (plain_unit unit.now) (NextItem to) self.old store.now self.new store.now t) }
     {
         let Some(x) = self.top.operands.pop() else {
             return Ok(Turn::Stuck);

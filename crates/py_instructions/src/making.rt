@@ -59,8 +59,11 @@ pub fn new_list(
     values: Vec<Value>,
     heap: &mut Heap,
 ) -> Result<Result<Value, Raised>, NoMemory>
-    ensures answer { IfOk result (λ answer. plain_outcome answer (plain_heap heap.new) ≡ new_list (plains values.items) (plain_heap heap.old)) }
-    ensures raised { IfOk result (λ answer. OnErr answer (plain_heap heap.new ≡ plain_heap heap.old)) }
+    ensures answer { IfOk result (λ answer.
+        plain_outcome answer (plain_heap heap.new)
+        ≡ new_list (plains values.items) (plain_heap heap.old)) }
+    ensures raised { IfOk result (λ answer.
+        OnErr answer (plain_heap heap.new ≡ plain_heap heap.old)) }
 {
     if values.len() <= MOST_ITEMS {
         let made = heap.make_list(values)?;
@@ -79,8 +82,12 @@ pub fn sliced(
     to: &Option<Value>,
     heap: &mut Heap,
 ) -> Result<Result<Value, Raised>, NoMemory>
-    ensures answer { IfOk result (λ answer. plain_outcome answer (plain_heap heap.new) ≡ sliced (plain of.now) (plain_option from.now) (plain_option to.now) (plain_heap heap.old)) }
-    ensures raised { IfOk result (λ answer. OnErr answer (plain_heap heap.new ≡ plain_heap heap.old)) }
+    ensures answer { IfOk result (λ answer.
+        plain_outcome answer (plain_heap heap.new)
+        ≡ sliced (plain of.now) (plain_option from.now) (plain_option to.now)
+        (plain_heap heap.old)) }
+    ensures raised { IfOk result (λ answer.
+        OnErr answer (plain_heap heap.new ≡ plain_heap heap.old)) }
 {
     match bound(from) {
         Err(cause) => Ok(Err(Raised::of(alloc, cause)?)),

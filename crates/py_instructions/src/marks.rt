@@ -13,7 +13,8 @@ use py_code::Unit;
 impl State {
     pub fn mark(&mut self, unit: &Unit, n: u32) -> Turn
         requires { self.old.top.place < usize.MAX }
-        ensures { (ms : List Module) (s : Kept) → Acts ms (plain_unit unit.now) (Mark n) self.old s self.new s result }
+        ensures { (ms : List Module) (s : Kept)
+            → Acts ms (plain_unit unit.now) (Mark n) self.old s self.new s result }
     {
         match unit.lines.get(n as usize) {
             None => Turn::Stuck,
@@ -35,7 +36,8 @@ impl State {
 
     pub fn again(&mut self, unit: &Unit, n: u32) -> Turn
         requires { self.old.top.place < usize.MAX }
-        ensures { (ms : List Module) (s : Kept) → Acts ms (plain_unit unit.now) (Again n) self.old s self.new s result }
+        ensures { (ms : List Module) (s : Kept)
+            → Acts ms (plain_unit unit.now) (Again n) self.old s self.new s result }
     {
         match unit.lines.get(n as usize) {
             None => Turn::Stuck,

@@ -16,7 +16,9 @@ use std::alloc::Global;
 impl State {
     pub fn load_local(&mut self, alloc: Global, unit: &Unit, n: u32) -> Result<Turn, NoMemory>
         requires { self.old.top.place < usize.MAX }
-        ensures { IfOk result (λ t. (ms : List Module) (s : Kept) → Acts ms (plain_unit unit.now) (LoadLocal n) self.old s self.new s t) }
+        ensures { IfOk result (λ t.
+            (ms : List Module) (s : Kept)
+            → Acts ms (plain_unit unit.now) (LoadLocal n) self.old s self.new s t) }
     {
         match unit.locals.get(n as usize) {
             None => Ok(Turn::Stuck),
@@ -34,7 +36,8 @@ impl State {
 
     pub fn store_local(&mut self, unit: &Unit, n: u32) -> Turn
         requires { self.old.top.place < usize.MAX }
-        ensures { (ms : List Module) (s : Kept) → Acts ms (plain_unit unit.now) (StoreLocal n) self.old s self.new s result }
+        ensures { (ms : List Module) (s : Kept)
+            → Acts ms (plain_unit unit.now) (StoreLocal n) self.old s self.new s result }
     {
         match unit.locals.get(n as usize) {
             None => Turn::Stuck,
@@ -52,7 +55,8 @@ impl State {
 
     pub fn unset_local(&mut self, unit: &Unit, n: u32) -> Turn
         requires { self.old.top.place < usize.MAX }
-        ensures { (ms : List Module) (s : Kept) → Acts ms (plain_unit unit.now) (UnsetLocal n) self.old s self.new s result }
+        ensures { (ms : List Module) (s : Kept)
+            → Acts ms (plain_unit unit.now) (UnsetLocal n) self.old s self.new s result }
     {
         match unit.locals.get(n as usize) {
             None => Turn::Stuck,
@@ -72,7 +76,10 @@ impl State {
         store: &Store,
     ) -> Result<Turn, NoMemory>
         requires { self.old.top.place < usize.MAX }
-        ensures { IfOk result (λ t. (ms : List Module) → Acts ms (plain_unit unit.now) (LoadGlobal n) self.old store.now self.new store.now t) }
+        ensures { IfOk result (λ t.
+            (ms : List Module)
+            → Acts ms (plain_unit unit.now) (LoadGlobal n) self.old store.now self.new store.now
+            t) }
     {
         match unit.names.get(n as usize) {
             None => Ok(Turn::Stuck),
@@ -103,7 +110,10 @@ impl State {
         store: &mut Store,
     ) -> Result<Turn, NoMemory>
         requires { self.old.top.place < usize.MAX }
-        ensures { IfOk result (λ t. (ms : List Module) → Acts ms (plain_unit unit.now) (StoreGlobal n) self.old store.old self.new store.new t) }
+        ensures { IfOk result (λ t.
+            (ms : List Module)
+            → Acts ms (plain_unit unit.now) (StoreGlobal n) self.old store.old self.new store.new
+            t) }
     {
         match unit.names.get(n as usize) {
             None => Ok(Turn::Stuck),
@@ -127,7 +137,10 @@ impl State {
         store: &mut Store,
     ) -> Result<Turn, NoMemory>
         requires { self.old.top.place < usize.MAX }
-        ensures { IfOk result (λ t. (ms : List Module) → Acts ms (plain_unit unit.now) (UnsetGlobal n) self.old store.old self.new store.new t) }
+        ensures { IfOk result (λ t.
+            (ms : List Module)
+            → Acts ms (plain_unit unit.now) (UnsetGlobal n) self.old store.old self.new store.new
+            t) }
     {
         match unit.names.get(n as usize) {
             None => Ok(Turn::Stuck),

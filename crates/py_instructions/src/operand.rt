@@ -211,7 +211,8 @@ impl Operand {
 
     /// The exception that it is taken for.
     pub fn exception(&self) -> Result<Raised, NoMemory>
-        ensures { IfOk result (λ raised. plain_raised raised ≡ exception_in (plain_operand self.now)) }
+        ensures { IfOk result (λ raised.
+            plain_raised raised ≡ exception_in (plain_operand self.now)) }
     {
         match self {
             Operand::Way(way) => match way {

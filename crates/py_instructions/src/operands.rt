@@ -44,7 +44,8 @@ impl Stack<Operand> {
 
     /// Puts an operand below so many others, where there are so many.
     pub fn sink(&mut self, n: usize, x: Operand) -> Result<bool, NoMemory>
-        ensures { IfOk result (λ has. Inserts has n (plain_operand x) (plain_operands self.old) (plain_operands self.new)) }
+        ensures { IfOk result (λ has.
+            Inserts has n (plain_operand x) (plain_operands self.old) (plain_operands self.new)) }
     {
         if n <= self.len() {
             self.insert(n, x)?;
@@ -57,7 +58,8 @@ impl Stack<Operand> {
 
     /// Takes so many values away, the lowest first, where there are so many.
     pub fn take_values(&mut self, alloc: Global, n: usize) -> Result<Option<Vec<Value>>, NoMemory>
-        ensures { IfOk result (λ vs. TakesValues vs n (plain_operands self.old) (plain_operands self.new)) }
+        ensures { IfOk result (λ vs.
+            TakesValues vs n (plain_operands self.old) (plain_operands self.new)) }
     {
         if n > self.len() {
             return Ok(None);
@@ -75,7 +77,8 @@ impl Stack<Operand> {
 
     /// Puts values on top, the first one topmost.
     pub fn spread(&mut self, values: Vec<Value>) -> Result<(), NoMemory>
-        ensures { OnOk result (plain_operands self.new ≡ map of_value (plains values.items) ++ plain_operands self.old) }
+        ensures { OnOk result (plain_operands self.new
+            ≡ map of_value (plains values.items) ++ plain_operands self.old) }
     {
         let mut rest = values;
         while let Some(value) = rest.pop() {

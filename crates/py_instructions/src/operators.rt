@@ -18,7 +18,9 @@ use std::alloc::Global;
 impl State {
     pub fn not(&mut self, unit: &Unit, store: &Store) -> Result<Turn, NoMemory>
         requires { self.old.top.place < usize.MAX }
-        ensures { IfOk result (λ t. (ms : List Module) → Acts ms (plain_unit unit.now) Not self.old store.now self.new store.now t) }
+        ensures { IfOk result (λ t.
+            (ms : List Module)
+            → Acts ms (plain_unit unit.now) Not self.old store.now self.new store.now t) }
     {
         let Some(x) = self.top.operands.pop() else {
             return Ok(Turn::Stuck);
@@ -45,7 +47,9 @@ impl State {
         store: &mut Store,
     ) -> Result<Turn, NoMemory>
         requires { self.old.top.place < usize.MAX }
-        ensures { IfOk result (λ t. (ms : List Module) → Acts ms (plain_unit unit.now) (Binary op) self.old store.old self.new store.new t) }
+        ensures { IfOk result (λ t.
+            (ms : List Module)
+            → Acts ms (plain_unit unit.now) (Binary op) self.old store.old self.new store.new t) }
     {
         let Some(y) = self.top.operands.pop() else {
             return Ok(Turn::Stuck);
@@ -74,7 +78,9 @@ impl State {
         store: &mut Store,
     ) -> Result<Turn, NoMemory>
         requires { self.old.top.place < usize.MAX }
-        ensures { IfOk result (λ t. (ms : List Module) → Acts ms (plain_unit unit.now) (InPlace op) self.old store.old self.new store.new t) }
+        ensures { IfOk result (λ t.
+            (ms : List Module)
+            → Acts ms (plain_unit unit.now) (InPlace op) self.old store.old self.new store.new t) }
     {
         let Some(y) = self.top.operands.pop() else {
             return Ok(Turn::Stuck);
@@ -103,7 +109,10 @@ impl State {
         store: &Store,
     ) -> Result<Turn, NoMemory>
         requires { self.old.top.place < usize.MAX }
-        ensures { IfOk result (λ t. (ms : List Module) → Acts ms (plain_unit unit.now) (Compare question) self.old store.now self.new store.now t) }
+        ensures { IfOk result (λ t.
+            (ms : List Module)
+            → Acts ms (plain_unit unit.now) (Compare question) self.old store.now self.new store.now
+            t) }
     {
         let Some(y) = self.top.operands.pop() else {
             return Ok(Turn::Stuck);
@@ -126,7 +135,9 @@ impl State {
 
     pub fn index(&mut self, alloc: Global, unit: &Unit, store: &Store) -> Result<Turn, NoMemory>
         requires { self.old.top.place < usize.MAX }
-        ensures { IfOk result (λ t. (ms : List Module) → Acts ms (plain_unit unit.now) Index self.old store.now self.new store.now t) }
+        ensures { IfOk result (λ t.
+            (ms : List Module)
+            → Acts ms (plain_unit unit.now) Index self.old store.now self.new store.now t) }
     {
         let Some(y) = self.top.operands.pop() else {
             return Ok(Turn::Stuck);
@@ -154,7 +165,9 @@ impl State {
         store: &mut Store,
     ) -> Result<Turn, NoMemory>
         requires { self.old.top.place < usize.MAX }
-        ensures { IfOk result (λ t. (ms : List Module) → Acts ms (plain_unit unit.now) StoreIndex self.old store.old self.new store.new t) }
+        ensures { IfOk result (λ t.
+            (ms : List Module)
+            → Acts ms (plain_unit unit.now) StoreIndex self.old store.old self.new store.new t) }
     {
         let Some(i) = self.top.operands.pop() else {
             return Ok(Turn::Stuck);
@@ -187,7 +200,9 @@ impl State {
         store: &Store,
     ) -> Result<Turn, NoMemory>
         requires { self.old.top.place < usize.MAX }
-        ensures { IfOk result (λ t. (ms : List Module) → Acts ms (plain_unit unit.now) (Unpack n) self.old store.now self.new store.now t) }
+        ensures { IfOk result (λ t.
+            (ms : List Module)
+            → Acts ms (plain_unit unit.now) (Unpack n) self.old store.now self.new store.now t) }
     {
         let Some(x) = self.top.operands.pop() else {
             return Ok(Turn::Stuck);
@@ -211,7 +226,10 @@ impl State {
         store: &mut Store,
     ) -> Result<Turn, NoMemory>
         requires { self.old.top.place < usize.MAX }
-        ensures { IfOk result (λ t. (ms : List Module) → Acts ms (plain_unit unit.now) (Slice bounds) self.old store.old self.new store.new t) }
+        ensures { IfOk result (λ t.
+            (ms : List Module)
+            → Acts ms (plain_unit unit.now) (Slice bounds) self.old store.old self.new store.new
+            t) }
     {
         match bounds {
             Bounds::Neither => self.slice_whole(alloc, unit, store),
@@ -228,7 +246,10 @@ impl State {
         store: &mut Store,
     ) -> Result<Turn, NoMemory>
         requires { self.old.top.place < usize.MAX }
-        ensures { IfOk result (λ t. (ms : List Module) → Acts ms (plain_unit unit.now) (Slice Neither) self.old store.old self.new store.new t) }
+        ensures { IfOk result (λ t.
+            (ms : List Module)
+            → Acts ms (plain_unit unit.now) (Slice Neither) self.old store.old self.new store.new
+            t) }
     {
         let Some(x) = self.top.operands.pop() else {
             return Ok(Turn::Stuck);
@@ -251,7 +272,10 @@ impl State {
         store: &mut Store,
     ) -> Result<Turn, NoMemory>
         requires { self.old.top.place < usize.MAX }
-        ensures { IfOk result (λ t. (ms : List Module) → Acts ms (plain_unit unit.now) (Slice FromOnly) self.old store.old self.new store.new t) }
+        ensures { IfOk result (λ t.
+            (ms : List Module)
+            → Acts ms (plain_unit unit.now) (Slice FromOnly) self.old store.old self.new store.new
+            t) }
     {
         let Some(a) = self.top.operands.pop() else {
             return Ok(Turn::Stuck);
@@ -274,7 +298,10 @@ impl State {
 
     fn slice_to(&mut self, alloc: Global, unit: &Unit, store: &mut Store) -> Result<Turn, NoMemory>
         requires { self.old.top.place < usize.MAX }
-        ensures { IfOk result (λ t. (ms : List Module) → Acts ms (plain_unit unit.now) (Slice ToOnly) self.old store.old self.new store.new t) }
+        ensures { IfOk result (λ t.
+            (ms : List Module)
+            → Acts ms (plain_unit unit.now) (Slice ToOnly) self.old store.old self.new store.new
+            t) }
     {
         let Some(b) = self.top.operands.pop() else {
             return Ok(Turn::Stuck);
@@ -302,7 +329,9 @@ impl State {
         store: &mut Store,
     ) -> Result<Turn, NoMemory>
         requires { self.old.top.place < usize.MAX }
-        ensures { IfOk result (λ t. (ms : List Module) → Acts ms (plain_unit unit.now) (Slice Both) self.old store.old self.new store.new t) }
+        ensures { IfOk result (λ t.
+            (ms : List Module)
+            → Acts ms (plain_unit unit.now) (Slice Both) self.old store.old self.new store.new t) }
     {
         let Some(b) = self.top.operands.pop() else {
             return Ok(Turn::Stuck);

@@ -17,7 +17,9 @@ use std::alloc::Global;
 
 impl State {
     pub fn raise(&mut self, alloc: Global, unit: &Unit) -> Result<Turn, NoMemory>
-        ensures { IfOk result (λ t. (ms : List Module) (s : Kept) → Acts ms (plain_unit unit.now) Raise self.old s self.new s t) }
+        ensures { IfOk result (λ t.
+            (ms : List Module) (s : Kept)
+            → Acts ms (plain_unit unit.now) Raise self.old s self.new s t) }
     {
         let Some(x) = self.top.operands.pop() else {
             return Ok(Turn::Stuck);
@@ -40,7 +42,9 @@ impl State {
     }
 
     pub fn reraise(&mut self, unit: &Unit, n: u32) -> Result<Turn, NoMemory>
-        ensures { IfOk result (λ t. (ms : List Module) (s : Kept) → Acts ms (plain_unit unit.now) (Reraise n) self.old s self.new s t) }
+        ensures { IfOk result (λ t.
+            (ms : List Module) (s : Kept)
+            → Acts ms (plain_unit unit.now) (Reraise n) self.old s self.new s t) }
     {
         match self.top.operands.operand(n as usize) {
             None => Ok(Turn::Stuck),
@@ -49,7 +53,8 @@ impl State {
     }
 
     pub fn assertion(&mut self, unit: &Unit) -> Turn
-        ensures { (ms : List Module) (s : Kept) → Acts ms (plain_unit unit.now) Assertion self.old s self.new s result }
+        ensures { (ms : List Module) (s : Kept)
+            → Acts ms (plain_unit unit.now) Assertion self.old s self.new s result }
     {
         Turn::Throws(Raised {
             kind: ExcKind::AssertionError,
@@ -58,7 +63,9 @@ impl State {
     }
 
     pub fn assertion_with(&mut self, alloc: Global, unit: &Unit) -> Result<Turn, NoMemory>
-        ensures { IfOk result (λ t. (ms : List Module) (s : Kept) → Acts ms (plain_unit unit.now) AssertionWith self.old s self.new s t) }
+        ensures { IfOk result (λ t.
+            (ms : List Module) (s : Kept)
+            → Acts ms (plain_unit unit.now) AssertionWith self.old s self.new s t) }
     {
         let Some(x) = self.top.operands.pop() else {
             return Ok(Turn::Stuck);
@@ -78,7 +85,9 @@ impl State {
 
     pub fn catches(&mut self, alloc: Global, unit: &Unit) -> Result<Turn, NoMemory>
         requires { self.old.top.place < usize.MAX }
-        ensures { IfOk result (λ t. (ms : List Module) (s : Kept) → Acts ms (plain_unit unit.now) Catches self.old s self.new s t) }
+        ensures { IfOk result (λ t.
+            (ms : List Module) (s : Kept)
+            → Acts ms (plain_unit unit.now) Catches self.old s self.new s t) }
     {
         let Some(x) = self.top.operands.pop() else {
             return Ok(Turn::Stuck);
@@ -102,7 +111,9 @@ impl State {
 
     pub fn caught(&mut self, unit: &Unit) -> Result<Turn, NoMemory>
         requires { self.old.top.place < usize.MAX }
-        ensures { IfOk result (λ t. (ms : List Module) (s : Kept) → Acts ms (plain_unit unit.now) Caught self.old s self.new s t) }
+        ensures { IfOk result (λ t.
+            (ms : List Module) (s : Kept)
+            → Acts ms (plain_unit unit.now) Caught self.old s self.new s t) }
     {
         let Some(w) = self.top.operands.operand(0) else {
             return Ok(Turn::Stuck);
@@ -116,7 +127,9 @@ impl State {
     }
 
     pub fn uncaught(&mut self, unit: &Unit) -> Result<Turn, NoMemory>
-        ensures { IfOk result (λ t. (ms : List Module) (s : Kept) → Acts ms (plain_unit unit.now) Uncaught self.old s self.new s t) }
+        ensures { IfOk result (λ t.
+            (ms : List Module) (s : Kept)
+            → Acts ms (plain_unit unit.now) Uncaught self.old s self.new s t) }
     {
         let Some(w) = self.top.operands.pop() else {
             return Ok(Turn::Stuck);
@@ -143,7 +156,8 @@ fn some_catches(
     values: &[Value],
     kind: ExcKind,
 ) -> Result<Result<bool, Raised>, NoMemory>
-    ensures { IfOk result (λ answer. plain_answer answer ≡ some_catches (packed (plains values.now)) kind) }
+    ensures { IfOk result (λ answer.
+        plain_answer answer ≡ some_catches (packed (plains values.now)) kind) }
 {
     let mut holds = false;
     for value in values {

@@ -35,14 +35,16 @@ impl<T> Stack<T> {
     }
 
     pub fn pop(&mut self) -> Option<T>
-        ensures { MatchOption result ((self.old ≡ []) × (self.new ≡ [])) (λ x. self.old ≡ x ∷ self.new) }
+        ensures { MatchOption result ((self.old ≡ []) × (self.new ≡ [])) (λ x.
+            self.old ≡ x ∷ self.new) }
     {
         self.items.pop()
     }
 
     /// What stands so many below the top.
     pub fn get(&self, below: usize) -> Option<&T>
-        ensures { MatchOption result (slice_get self.now below ≡ None) (λ x. slice_get self.now below ≡ Some x.now) }
+        ensures { MatchOption result (slice_get self.now below ≡ None) (λ x.
+            slice_get self.now below ≡ Some x.now) }
     {
         let count = self.items.len();
         if below < count {

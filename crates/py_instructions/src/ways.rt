@@ -17,7 +17,8 @@ use std::alloc::AllocError;
 
 impl State {
     pub fn leave(&mut self, unit: &Unit, n: u32, to: u32) -> Turn
-        ensures { (ms : List Module) (s : Kept) → Acts ms (plain_unit unit.now) (Leave n to) self.old s self.new s result }
+        ensures { (ms : List Module) (s : Kept)
+            → Acts ms (plain_unit unit.now) (Leave n to) self.old s self.new s result }
     {
         if self.top.operands.discard(n as usize) {
             self.top.place = to as usize;
@@ -29,7 +30,9 @@ impl State {
 
     pub fn ending(&mut self, unit: &Unit) -> Result<Turn, NoMemory>
         requires { self.old.top.place < usize.MAX }
-        ensures { IfOk result (λ t. (ms : List Module) (s : Kept) → Acts ms (plain_unit unit.now) Ends self.old s self.new s t) }
+        ensures { IfOk result (λ t.
+            (ms : List Module) (s : Kept)
+            → Acts ms (plain_unit unit.now) Ends self.old s self.new s t) }
     {
         self.top.operands.push(Operand::Way(Way::On))?;
         self.top.place += 1;
@@ -37,7 +40,9 @@ impl State {
     }
 
     pub fn breaking(&mut self, unit: &Unit, n: u32, to: u32) -> Result<Turn, NoMemory>
-        ensures { IfOk result (λ t. (ms : List Module) (s : Kept) → Acts ms (plain_unit unit.now) (Breaking n to) self.old s self.new s t) }
+        ensures { IfOk result (λ t.
+            (ms : List Module) (s : Kept)
+            → Acts ms (plain_unit unit.now) (Breaking n to) self.old s self.new s t) }
     {
         if !self.top.operands.discard(n as usize) {
             return Ok(Turn::Stuck);
@@ -48,7 +53,9 @@ impl State {
     }
 
     pub fn continuing(&mut self, unit: &Unit, n: u32, to: u32) -> Result<Turn, NoMemory>
-        ensures { IfOk result (λ t. (ms : List Module) (s : Kept) → Acts ms (plain_unit unit.now) (Continuing n to) self.old s self.new s t) }
+        ensures { IfOk result (λ t.
+            (ms : List Module) (s : Kept)
+            → Acts ms (plain_unit unit.now) (Continuing n to) self.old s self.new s t) }
     {
         if !self.top.operands.discard(n as usize) {
             return Ok(Turn::Stuck);
@@ -59,7 +66,9 @@ impl State {
     }
 
     pub fn returning(&mut self, unit: &Unit, n: u32, to: u32) -> Result<Turn, NoMemory>
-        ensures { IfOk result (λ t. (ms : List Module) (s : Kept) → Acts ms (plain_unit unit.now) (Returning n to) self.old s self.new s t) }
+        ensures { IfOk result (λ t.
+            (ms : List Module) (s : Kept)
+            → Acts ms (plain_unit unit.now) (Returning n to) self.old s self.new s t) }
     {
         let Some(x) = self.top.operands.pop() else {
             return Ok(Turn::Stuck);
@@ -75,7 +84,9 @@ impl State {
     }
 
     pub fn settle(&mut self, unit: &Unit) -> Result<Turn, NoMemory>
-        ensures { IfOk result (λ t. (ms : List Module) (s : Kept) → Acts ms (plain_unit unit.now) Settle self.old s self.new s t) }
+        ensures { IfOk result (λ t.
+            (ms : List Module) (s : Kept)
+            → Acts ms (plain_unit unit.now) Settle self.old s self.new s t) }
     {
         let Some(x) = self.top.operands.pop() else {
             return Ok(Turn::Stuck);
@@ -85,7 +96,9 @@ impl State {
     }
 
     pub fn release(&mut self, unit: &Unit) -> Result<Turn, NoMemory>
-        ensures { IfOk result (λ t. (ms : List Module) (s : Kept) → Acts ms (plain_unit unit.now) Release self.old s self.new s t) }
+        ensures { IfOk result (λ t.
+            (ms : List Module) (s : Kept)
+            → Acts ms (plain_unit unit.now) Release self.old s self.new s t) }
     {
         let Some(x) = self.top.operands.pop() else {
             return Ok(Turn::Stuck);

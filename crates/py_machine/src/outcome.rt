@@ -60,7 +60,8 @@ fn shown(alloc: Global, value: &Value, heap: &Heap) -> Result<Text, NoMemory>
 
 /// The text of an exception.
 fn shown_raised(alloc: Global, raised: Raised, heap: &Heap) -> Result<Text, NoMemory>
-    ensures { IfOk result (λ text. text ≡ shown_raised (plain_heap heap.now) (plain_raised raised)) }
+    ensures { IfOk result (λ text.
+        text ≡ shown_raised (plain_heap heap.now) (plain_raised raised)) }
 {
     let value = Value::Exc(raised.kind, raised.arg);
     shown(alloc, &value, heap)
@@ -79,7 +80,8 @@ fn low_bits(n: i64) -> u8
 
 /// `SystemExit` with this argument.
 fn exit_of(alloc: Global, arg: &Argument, heap: &Heap) -> Result<Outcome, NoMemory>
-    ensures { IfOk result (λ outcome. plain_outcome outcome ≡ exit_of (plain_heap heap.now) arg.now) }
+    ensures { IfOk result (λ outcome.
+        plain_outcome outcome ≡ exit_of (plain_heap heap.now) arg.now) }
 {
     match arg.value() {
         None => Ok(Outcome::Exited(0, None)),
@@ -98,7 +100,8 @@ fn exit_of(alloc: Global, arg: &Argument, heap: &Heap) -> Result<Outcome, NoMemo
 impl Ending {
     /// The outcome of a program that ended so.
     pub fn into_outcome(self, alloc: Global, heap: &Heap) -> Result<Outcome, NoMemory>
-        ensures { IfOk result (λ outcome. plain_outcome outcome ≡ outcome_by (plain_heap heap.now) (plain_ended self)) }
+        ensures { IfOk result (λ outcome.
+            plain_outcome outcome ≡ outcome_by (plain_heap heap.now) (plain_ended self)) }
     {
         match self {
             Ending::Gave(value) => {
@@ -121,7 +124,8 @@ impl Ending {
 
     /// The answer of a call that ended so.
     pub fn into_called(self, alloc: Global, heap: &Heap) -> Result<Called, NoMemory>
-        ensures { IfOk result (λ called. plain_called called ≡ returned_by (plain_heap heap.now) (plain_ended self)) }
+        ensures { IfOk result (λ called.
+            plain_called called ≡ returned_by (plain_heap heap.now) (plain_ended self)) }
     {
         match self {
             Ending::Gave(value) => Ok(Called::Gave(value)),

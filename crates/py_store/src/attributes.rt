@@ -29,7 +29,8 @@ pub fn attribute(
     name: &Text,
     store: &Store,
 ) -> Result<Result<Value, Raised>, NoMemory>
-    ensures { IfOk result (λ answer. plain_value_answer answer ≡ attribute (plain value.now) name.now (world_of store.now)) }
+    ensures { IfOk result (λ answer.
+        plain_value_answer answer ≡ attribute (plain value.now) name.now (world_of store.now)) }
 {
     match value {
         Value::Module(module) => match store.name_of(alloc, *module, name)? {
@@ -48,7 +49,9 @@ pub fn taken(
     name: &Text,
     store: &Store,
 ) -> Result<Result<Value, Raised>, NoMemory>
-    ensures { IfOk result (λ answer. plain_value_answer answer ≡ taken from.now (plain value.now) name.now (world_of store.now)) }
+    ensures { IfOk result (λ answer.
+        plain_value_answer answer
+        ≡ taken from.now (plain value.now) name.now (world_of store.now)) }
 {
     match value {
         Value::Module(module) => match store.name_of(alloc, *module, name)? {
@@ -66,7 +69,8 @@ pub fn callee_of(
     name: &Text,
     store: &Store,
 ) -> Result<Result<Callee, Raised>, NoMemory>
-    ensures { IfOk result (λ answer. plain_callee_answer answer ≡ callee_of (plain value) name.now (world_of store.now)) }
+    ensures { IfOk result (λ answer.
+        plain_callee_answer answer ≡ callee_of (plain value) name.now (world_of store.now)) }
 {
     if let Value::Module(module) = &value {
         return match store.name_of(alloc, *module, name)? {

@@ -58,7 +58,8 @@ impl Globals {
 
     /// Sets a name: one that is set keeps its place, and a new one goes last.
     pub fn set(&mut self, name: &Text, value: Value) -> Result<(), NoMemory>
-        ensures { OnOk result (names_of self.new ≡ with_name name.now (plain value) (names_of self.old)) }
+        ensures { OnOk result (names_of self.new
+            ≡ with_name name.now (plain value) (names_of self.old)) }
     {
         let mut place = 0;
         while place < self.items.len() {

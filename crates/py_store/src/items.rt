@@ -15,7 +15,8 @@ use std::alloc::Global;
 
 /// The items of a value that has some.
 fn items_of(alloc: Global, value: &Value, heap: &Heap) -> Result<Option<Vec<Value>>, NoMemory>
-    ensures { IfOk result (λ found. found_items found ≡ items_to_append (plain_heap heap.now) (plain value.now)) }
+    ensures { IfOk result (λ found.
+        found_items found ≡ items_to_append (plain_heap heap.now) (plain value.now)) }
 {
     match value {
         Value::List(addr) => Ok(Some(copy_all(alloc, heap.items(*addr))?)),
@@ -65,7 +66,8 @@ pub fn unpacked(
     value: &Value,
     heap: &Heap,
 ) -> Result<Result<Vec<Value>, Raised>, NoMemory>
-    ensures { IfOk result (λ answer. plain_list_answer answer ≡ unpacked count (plain value.now) (plain_heap heap.now)) }
+    ensures { IfOk result (λ answer.
+        plain_list_answer answer ≡ unpacked count (plain value.now) (plain_heap heap.now)) }
 {
     match items_of(alloc, value, heap)? {
         None => Ok(Err(Raised::of(alloc, Cause::NotIterable)?)),
@@ -99,7 +101,8 @@ pub fn walk_length(
     value: &Value,
     heap: &Heap,
 ) -> Result<Result<usize, Raised>, NoMemory>
-    ensures { IfOk result (λ answer. plain_answer answer ≡ walk_length (plain value.now) (plain_heap heap.now)) }
+    ensures { IfOk result (λ answer.
+        plain_answer answer ≡ walk_length (plain value.now) (plain_heap heap.now)) }
 {
     match count_of(value, heap) {
         None => Ok(Err(Raised::of(alloc, Cause::NotIterable)?)),
@@ -125,7 +128,8 @@ pub fn item_of(
     place: usize,
     heap: &Heap,
 ) -> Result<Result<Option<Value>, Raised>, NoMemory>
-    ensures { IfOk result (λ answer. plain_item_answer answer ≡ item_of (plain value.now) count place (plain_heap heap.now)) }
+    ensures { IfOk result (λ answer.
+        plain_item_answer answer ≡ item_of (plain value.now) count place (plain_heap heap.now)) }
 {
     if has_changed(value, count, heap) {
         return Ok(Err(Raised::of(alloc, Cause::DictChangedSize)?));
@@ -165,7 +169,9 @@ pub fn sequence_of(
     value: &Value,
     heap: &Heap,
 ) -> Result<Option<Vec<Value>>, NoMemory>
-    ensures { IfOk result (λ found. found_items found ≡ of_length count (sequence_items (plain value.now) (plain_heap heap.now))) }
+    ensures { IfOk result (λ found.
+        found_items found
+        ≡ of_length count (sequence_items (plain value.now) (plain_heap heap.now))) }
 {
     match value {
         Value::List(addr) => copies_of_length(alloc, count, heap.items(*addr)),
@@ -179,7 +185,8 @@ fn copies_of_length(
     count: usize,
     values: &[Value],
 ) -> Result<Option<Vec<Value>>, NoMemory>
-    ensures { IfOk result (λ found. found_items found ≡ of_length count (Some (plains values.now))) }
+    ensures { IfOk result (λ found.
+        found_items found ≡ of_length count (Some (plains values.now))) }
 {
     if values.len() == count {
         Ok(Some(copy_all(alloc, values)?))

@@ -47,7 +47,8 @@ const KINDS: [ExcKind; 21] = [
 
 /// The built-in function or the kind of exceptions of this name.
 pub fn predefined(name: &Text) -> Option<Value>
-    ensures { MatchOption result (value_of name.now predefined ≡ None) (λ v. value_of name.now predefined ≡ Some (plain v)) }
+    ensures { MatchOption result (value_of name.now predefined ≡ None) (λ v.
+        value_of name.now predefined ≡ Some (plain v)) }
 {
     match builtin_among(name, &BUILTINS) {
         Some(which) => Some(Value::Builtin(which)),
@@ -59,7 +60,9 @@ pub fn predefined(name: &Text) -> Option<Value>
 }
 
 fn builtin_among(name: &Text, all: &[Builtin]) -> Option<Builtin>
-    ensures { (ns : Names) → MatchOption result (value_of name.now (map builtin_pair all.now ++ ns) ≡ value_of name.now ns)
+    ensures { (ns : Names)
+        → MatchOption result (value_of name.now (map builtin_pair all.now ++ ns)
+        ≡ value_of name.now ns)
         (λ f. value_of name.now (map builtin_pair all.now ++ ns) ≡ Some (builtin_value f)) }
 {
     for which in all {

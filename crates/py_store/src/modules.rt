@@ -19,7 +19,8 @@ pub fn imported(
     programs: &Programs,
 ) -> Result<Result<Value, Raised>, NoMemory>
     requires { length (modules_of programs.now) ≤ 4294967295 }
-    ensures { IfOk result (λ answer. plain_value_answer answer ≡ imported (modules_of programs.now) name.now) }
+    ensures { IfOk result (λ answer.
+        plain_value_answer answer ≡ imported (modules_of programs.now) name.now) }
 {
     if is_sys(name) {
         return Ok(Ok(Value::Module(ModId::Sys)));

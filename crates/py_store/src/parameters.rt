@@ -16,7 +16,11 @@ pub fn arguments(
     defaults: Option<Addr>,
     heap: &Heap,
 ) -> Result<Option<Vec<Value>>, NoMemory>
-    ensures { IfOk result (λ found. (names : List (List ℕ)) → length names ≡ params → found_items found ≡ arguments names (defaults_at (plain_heap heap.now) (option_map place_of defaults)) (plains values.items)) }
+    ensures { IfOk result (λ found.
+        (names : List (List ℕ)) → length names ≡ params
+        → found_items found
+        ≡ arguments names (defaults_at (plain_heap heap.now) (option_map place_of defaults))
+        (plains values.items)) }
 {
     match defaults {
         None => {
@@ -37,7 +41,9 @@ fn with_defaults(
     values: Vec<Value>,
     defaults: &[Value],
 ) -> Result<Option<Vec<Value>>, NoMemory>
-    ensures { IfOk result (λ found. (names : List (List ℕ)) → length names ≡ params → found_items found ≡ arguments names (plains defaults.now) (plains values.items)) }
+    ensures { IfOk result (λ found.
+        (names : List (List ℕ)) → length names ≡ params
+        → found_items found ≡ arguments names (plains defaults.now) (plains values.items)) }
 {
     let given = values.len();
     if given > params {

@@ -32,7 +32,8 @@ pub struct Store {
 impl Store {
     /// The store of programs before they run. `sys.argv` holds these words.
     pub fn new(alloc: Alloc, programs: &Programs, words: &[String]) -> Result<Store, NoMemory>
-        ensures { IfOk result (λ store. world_of store ≡ first_world (modules_of programs.now) (words_of words.now)) }
+        ensures { IfOk result (λ store.
+            world_of store ≡ first_world (modules_of programs.now) (words_of words.now)) }
     {
         let globals = no_globals(alloc, programs.modules.len())?;
         let mut heap = Heap::new(alloc);
@@ -86,7 +87,8 @@ impl Store {
         name: &Text,
         value: Value,
     ) -> Result<(), NoMemory>
-        ensures { OnOk result (world_of self.new ≡ with_global «module» name.now (plain value) (world_of self.old)) }
+        ensures { OnOk result (world_of self.new
+            ≡ with_global «module» name.now (plain value) (world_of self.old)) }
     {
         make_room(alloc, &mut self.globals, module as usize)?;
         self.globals[module as usize].set(name, value)?;
@@ -94,7 +96,8 @@ impl Store {
     }
 
     pub fn unset_global(&mut self, alloc: Alloc, module: u32, name: &Text) -> Result<(), NoMemory>
-        ensures { OnOk result (world_of self.new ≡ without_global «module» name.now (world_of self.old)) }
+        ensures { OnOk result (world_of self.new
+            ≡ without_global «module» name.now (world_of self.old)) }
     {
         make_room(alloc, &mut self.globals, module as usize)?;
         self.globals[module as usize].unset(name);
@@ -108,7 +111,8 @@ impl Store {
         module: ModId,
         name: &Text,
     ) -> Result<Option<Value>, NoMemory>
-        ensures { IfOk result (λ found. plain_option found ≡ module_global «module» name.now (world_of self.now)) }
+        ensures { IfOk result (λ found.
+            plain_option found ≡ module_global «module» name.now (world_of self.now)) }
     {
         match module {
             ModId::Loaded(number) => match self.global(number, name) {
@@ -146,7 +150,8 @@ impl Store {
 
     /// A frame of this code begins: the body of a module begins it.
     pub fn enter(&mut self, alloc: Alloc, code: CodeId, programs: &Programs) -> Result<(), NoMemory>
-        ensures { OnOk result (world_of self.new ≡ begun_by (modules_of programs.now) code code.unit (world_of self.old)) }
+        ensures { OnOk result (world_of self.new
+            ≡ begun_by (modules_of programs.now) code code.unit (world_of self.old)) }
     {
         if code.unit > 0 {
             return Ok(());
@@ -157,7 +162,8 @@ impl Store {
 
     /// A module begins, with its name set and no others.
     fn begin(&mut self, alloc: Alloc, module: u32, name: Text) -> Result<(), NoMemory>
-        ensures { OnOk result (world_of self.new ≡ with_begun «module» (first_names name) (world_of self.old)) }
+        ensures { OnOk result (world_of self.new
+            ≡ with_begun «module» (first_names name) (world_of self.old)) }
     {
         let mut names = Globals::new(alloc);
         names.set(&Text::from_str(alloc, "__name__")?, Value::Str(name))?;
@@ -189,7 +195,8 @@ fn module_name(alloc: Alloc, module: u32, programs: &Programs) -> Result<Text, N
 
 /// Makes room for the globals of a module.
 fn make_room(alloc: Alloc, globals: &mut Vec<Globals>, module: usize) -> Result<(), NoMemory>
-    ensures ok { OnOk result (map names_of globals.new.items ≡ with_names_at «module» (λ names. names) (map names_of globals.old.items)) }
+    ensures ok { OnOk result (map names_of globals.new.items ≡ with_names_at «module» (λ names.
+        names) (map names_of globals.old.items)) }
     ensures room { OnOk result («module» < length globals.new.items) }
 {
     while globals.len() <= module {
