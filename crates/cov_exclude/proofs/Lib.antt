@@ -1,0 +1,6 @@
+pub mod Law
+pub mod Touching
+pub mod Matching
+pub mod Forms
+pub mod Refusing
+mod Rows

@@ -1,0 +1,40 @@
+-- Patterns one after the other, and why one isn't made.
+use Rattle.std.proofs.Common.{◌≡◌, inl, inr, ℕ, ◌+◌, ◌<◌, ◌≤◌, List, [], ◌∷◌, ◌++◌, Some, get_or, length, map, take, string_bytes, String, Global, refl, sym, ap, ap₂, subst, ◌∙◌, arith}
+use Rattle.std.specs.Prelude.{slice_get, IsSomeAnd}
+use Rattle.std.proofs.lemmas.List.{map-append, take_more, length-map, get_or-map}
+use Rattle.std.proofs.lemmas.Option.{slice_get_read}
+use Rattle.cov_outside.specs.Counts.{Rose}
+use Rattle.regex.specs.Strings.{regex_source}
+use Rattle.regex.specs.declared.string.regex.Regex.{Regex}
+use Rattle.regex.proofs.SetLemmas.{All-one_more}
+use Rattle.cov_exclude.specs.declared.patterns.PatternError.{PatternError}
+use Rattle.cov_exclude.specs.declared.patterns.PatternError.TheVariants.{BadPattern, PatternSize, NoMemory}
+use Rattle.cov_exclude.specs.Refusals.{IsCauseOf, IsCauseAt}
+use Rattle.cov_exclude.specs.Texts.{IsNoPattern, IsMadeOf, IsPlainlyMade, ArePlainlyMade, texts_of}
+
+rose_after : (before mid after : ℕ) → before ≤ mid → Rose mid after → Rose before after
+rose_after before mid after grows (inl more) = inl (omega (arith, grows, more))
+rose_after before mid after grows (inr most) = inr most
+
+-- the cause at a place, in a call whose count was no greater before
+pub cause-of : (texts : List (List ℕ)) (place : ℕ) (text : List ℕ) (before mid after : ℕ) (e : PatternError) → place < length texts → slice_get texts place ≡ Some text → before ≤ mid
+    → IsCauseAt place text mid after e → IsCauseOf texts before after e
+cause-of texts place text before mid after (BadPattern at) within found grows (is, none) = subst (λ o. IsSomeAnd o IsNoPattern) (sym (ap (slice_get texts) is ∙ found)) none
+cause-of texts place text before mid after (PatternSize at) within found grows (is, rose) = (omega (arith, is, within), rose_after before mid after grows rose)
+cause-of texts place text before mid after NoMemory within found grows h = tt
+
+-- the bytes of the text at a place
+pub text-found : (texts : List (String Global)) (at : ℕ) (text : String Global) → at < length texts → text ≡ get_or texts at text → slice_get (map string_bytes texts) at ≡ Some (string_bytes text)
+text-found texts at text within is =
+    slice_get_read (map string_bytes texts) (length (map string_bytes texts)) at (string_bytes text) refl (omega (arith, length-map texts string_bytes, within))
+    (ap string_bytes is ∙ sym (get_or-map string_bytes texts at text (string_bytes text) within))
+
+-- one more pattern
+pub one-more : (made : List Regex) (new : Regex) (texts : List (String Global)) (at : ℕ) (text : String Global) → at < length texts → text ≡ get_or texts at text → IsMadeOf (string_bytes text) new
+    → texts_of made ≡ map string_bytes (take at texts) → texts_of (made ++ new ∷ []) ≡ map string_bytes (take (at + 1) texts)
+one-more made new texts at text within is made-of before =
+    map-append regex_source made (new ∷ []) ∙ ap₂ (λ xs x. xs ++ x ∷ []) before (made-of.source ∙ ap string_bytes is)
+    ∙ sym (ap (map string_bytes) (take_more texts at text within) ∙ map-append string_bytes (take at texts) (get_or texts at text ∷ []))
+
+pub one-more-plainly : (made : List Regex) (new : Regex) → ArePlainlyMade made → IsPlainlyMade new → ArePlainlyMade (made ++ new ∷ [])
+one-more-plainly made new all last = record { each = All-one_more IsPlainlyMade made new all.each last }

@@ -1,0 +1,9 @@
+pub mod Touched
+pub mod Excluded
+pub mod NoBranch
+pub mod Walk
+pub mod Texts
+pub mod Makers
+pub mod Refusals
+pub mod Views
+pub mod Sources

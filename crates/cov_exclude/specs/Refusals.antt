@@ -1,0 +1,18 @@
+-- Why patterns weren't made of texts.
+use Rattle.std.specs.Prelude.{◌≡◌, ℕ, ◌<◌, List, length, slice_get, IsSomeAnd}
+use Rattle.cov_outside.specs.Counts.{Rose}
+use Rattle.cov_exclude.specs.Texts.{IsNoPattern}
+use Rattle.cov_exclude.specs.declared.patterns.PatternError.{PatternError}
+use Rattle.cov_exclude.specs.declared.patterns.PatternError.TheVariants.{BadPattern, PatternSize, NoMemory}
+
+-- of these texts, with the maker's counts before and after: the named one is no pattern, or the maker found one too large
+abbrev pub IsCauseOf : List (List ℕ) → ℕ → ℕ → PatternError → Type 0
+IsCauseOf texts before after (BadPattern at) = IsSomeAnd (slice_get texts at) IsNoPattern
+IsCauseOf texts before after (PatternSize at) = (at < length texts) × Rose before after
+IsCauseOf texts before after NoMemory = Unit {0}
+
+-- of the text at a place
+abbrev pub IsCauseAt : ℕ → List ℕ → ℕ → ℕ → PatternError → Type 0
+IsCauseAt place text before after (BadPattern at) = (at ≡ place) × IsNoPattern text
+IsCauseAt place text before after (PatternSize at) = (at ≡ place) × Rose before after
+IsCauseAt place text before after NoMemory = Unit {0}
