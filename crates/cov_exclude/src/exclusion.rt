@@ -21,7 +21,8 @@ pub fn excluded(
     module: &Module,
     source: &str,
 ) -> Result<Vec<u32>, NoMemory>
-    ensures { IfOk result (λ ls. ls.items ≡ excluded_in patterns.now (plain_module «module».now) source.now) }
+    ensures { IfOk result (λ ls.
+        ls.items ≡ excluded_in patterns.now (plain_module «module».now) source.now) }
 {
     let matched = patterns.matched_lines(alloc, source)?;
     excluded_by(alloc, module, &matched)
@@ -35,14 +36,16 @@ pub fn no_branch(
     module: &Module,
     source: &str,
 ) -> Result<Vec<u32>, NoMemory>
-    ensures { IfOk result (λ ls. ls.items ≡ no_branch_in patterns.now (plain_module «module».now) source.now) }
+    ensures { IfOk result (λ ls.
+        ls.items ≡ no_branch_in patterns.now (plain_module «module».now) source.now) }
 {
     let matched = patterns.matched_lines(alloc, source)?;
     no_branch_by(alloc, module, &matched)
 }
 
 fn excluded_by(alloc: Global, module: &Module, matched: &Matched) -> Result<Vec<u32>, NoMemory>
-    ensures { IfOk result (λ lines. lines.items ≡ excluded_lines matched.now (plain_module «module».now)) }
+    ensures { IfOk result (λ lines.
+        lines.items ≡ excluded_lines matched.now (plain_module «module».now)) }
 {
     let mut lines = Vec::new(alloc);
     let rule = Rule {
@@ -54,7 +57,8 @@ fn excluded_by(alloc: Global, module: &Module, matched: &Matched) -> Result<Vec<
 }
 
 fn no_branch_by(alloc: Global, module: &Module, matched: &Matched) -> Result<Vec<u32>, NoMemory>
-    ensures { IfOk result (λ lines. lines.items ≡ no_branch_lines matched.now (plain_module «module».now)) }
+    ensures { IfOk result (λ lines.
+        lines.items ≡ no_branch_lines matched.now (plain_module «module».now)) }
 {
     let mut lines = Vec::new(alloc);
     let rule = Rule {

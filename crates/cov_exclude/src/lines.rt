@@ -51,7 +51,8 @@ fn numbers(
 ) -> Result<Vec<usize>, NoMemory>
     requires alike { FindAlike matchers.old made.now }
     requires made { ArePlainlyMade made.now }
-    ensures { IfOk result (λ numbers. numbers.items ≡ numbers_from (is_matched (texts_of made.now)) 1 (texts_view texts.now)) }
+    ensures { IfOk result (λ numbers.
+        numbers.items ≡ numbers_from (is_matched (texts_of made.now)) 1 (texts_view texts.now)) }
 {
     let mut numbers = Vec::new(alloc);
     for at in 0..texts.len() {

@@ -26,7 +26,8 @@ pub trait Maker {
     fn make(&mut self, alloc: Global, text: &str) -> Result<Regex, MakeError>
         ensures made { IfOk result (IsMadeOf text.now) }
         ensures no_pattern { IfErr result (λ e. e ≡ MakeError.NoPattern → IsNoPattern text.now) }
-        ensures size { IfErr result (λ e. e ≡ MakeError.Size → Rose (sizes self.old) (sizes self.new)) }
+        ensures size { IfErr result (λ e.
+            e ≡ MakeError.Size → Rose (sizes self.old) (sizes self.new)) }
         ensures count { sizes self.old ≤ sizes self.new };
 }
 
@@ -120,7 +121,8 @@ impl Maker for MemMaker {
 
         ensures made { IfOk result (IsMadeOf text.now) }
         ensures no_pattern { IfErr result (λ e. e ≡ MakeError.NoPattern → IsNoPattern text.now) }
-        ensures size { IfErr result (λ e. e ≡ MakeError.Size → Rose (maker_sizes self.old) (maker_sizes self.new)) }
+        ensures size { IfErr result (λ e.
+            e ≡ MakeError.Size → Rose (maker_sizes self.old) (maker_sizes self.new)) }
         ensures count { maker_sizes self.old ≤ maker_sizes self.new }
     {
         if self.fails() {

@@ -43,7 +43,8 @@ impl Matched {
 /// How many of the lines are below a line.
 fn place_of(lines: &[usize], first: usize) -> usize
     requires { IsRising lines.now }
-    ensures { IsPartitionPoint (λ l. nat_lt l first ≡ true) (λ l. nat_lt l first ≡ false) lines.now result }
+    ensures { IsPartitionPoint (λ l. nat_lt l first ≡ true) (λ l.
+        nat_lt l first ≡ false) lines.now result }
 {
     lines.partition_point(|line| *line < first)
 }

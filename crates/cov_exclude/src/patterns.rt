@@ -55,7 +55,8 @@ impl Patterns {
         maker: &mut M,
     ) -> Result<Patterns, PatternError>
         ensures built { IfOk result (λ patterns. patterns ≡ map string_bytes texts.now) }
-        ensures refused { IfErr result (IsCauseOf (map string_bytes texts.now) (M.sizes maker.old) (M.sizes maker.new)) }
+        ensures refused { IfErr result
+            (IsCauseOf (map string_bytes texts.now) (M.sizes maker.old) (M.sizes maker.new)) }
         ensures count { M.sizes maker.old ≤ M.sizes maker.new }
     {
         let mut made = Vec::new(alloc);

@@ -39,7 +39,8 @@ pub(crate) fn statements(
     leads: bool,
     items: &[Stmt],
 ) -> Result<(), NoMemory>
-    ensures { OnOk result (out.new.items ≡ out.old.items ++ stmts_walk (rule_view rule.entry) whole leads (plain_stmts items.now)) }
+    ensures { OnOk result (out.new.items
+        ≡ out.old.items ++ stmts_walk (rule_view rule.entry) whole leads (plain_stmts items.now)) }
 {
     let mut first = leads;
     for s in items {
@@ -57,7 +58,10 @@ fn leading(
     leads: bool,
     s: &Stmt,
 ) -> Result<(), NoMemory>
-    ensures { OnOk result (out.new.items ≡ out.old.items ++ leading_walk (rule_view rule.entry) whole leads s.now.first s.now.last (plain_kind s.now.kind)) }
+    ensures { OnOk result (out.new.items
+        ≡ out.old.items
+        ++ leading_walk (rule_view rule.entry) whole leads s.now.first s.now.last
+        (plain_kind s.now.kind)) }
 {
     if leads && is_docstring(&s.kind) {
         return Ok(());
@@ -74,7 +78,8 @@ fn statement(
     last: u32,
     kind: &StmtKind,
 ) -> Result<(), NoMemory>
-    ensures { OnOk result (out.new.items ≡ out.old.items ++ kind_walk (rule_view rule.entry) whole line last (plain_kind kind.now)) }
+    ensures { OnOk result (out.new.items
+        ≡ out.old.items ++ kind_walk (rule_view rule.entry) whole line last (plain_kind kind.now)) }
 {
     match kind {
         StmtKind::Expr(_)
@@ -144,7 +149,8 @@ fn mark(
     first: u32,
     last: u32,
 ) -> Result<(), NoMemory>
-    ensures { OnOk result (out.new.items ≡ out.old.items ++ mark_if (is_gathered (rule_view rule.entry) whole first last) line) }
+    ensures { OnOk result (out.new.items
+        ≡ out.old.items ++ mark_if (is_gathered (rule_view rule.entry) whole first last) line) }
 {
     if is_gathered(rule, whole, first, last) {
         out.push(line)?;
@@ -162,7 +168,9 @@ fn headed(
     line: u32,
     s: &Suite,
 ) -> Result<(), NoMemory>
-    ensures { OnOk result (out.new.items ≡ out.old.items ++ headed_walk (rule_view rule.entry) whole leads line (plain_suite s.now)) }
+    ensures { OnOk result (out.new.items
+        ≡ out.old.items
+        ++ headed_walk (rule_view rule.entry) whole leads line (plain_suite s.now)) }
 {
     let inner = is_whole(rule, whole, s.first, s.last);
     mark(out, rule, whole, line, s.first, s.last)?;
@@ -171,7 +179,8 @@ fn headed(
 
 #[cycle(walk)]
 fn opt(out: &mut Vec<u32>, rule: Rule<'_>, whole: bool, s: &Option<Suite>) -> Result<(), NoMemory>
-    ensures { OnOk result (out.new.items ≡ out.old.items ++ opt_walk (rule_view rule.entry) whole (plain_opt_suite s.now)) }
+    ensures { OnOk result (out.new.items
+        ≡ out.old.items ++ opt_walk (rule_view rule.entry) whole (plain_opt_suite s.now)) }
 {
     match s {
         None => Ok(()),
@@ -182,7 +191,8 @@ fn opt(out: &mut Vec<u32>, rule: Rule<'_>, whole: bool, s: &Option<Suite>) -> Re
 /// Adds the marks of a suite whose header has none.
 #[cycle(walk)]
 fn inside(out: &mut Vec<u32>, rule: Rule<'_>, whole: bool, s: &Suite) -> Result<(), NoMemory>
-    ensures { OnOk result (out.new.items ≡ out.old.items ++ inside_walk (rule_view rule.entry) whole (plain_suite s.now)) }
+    ensures { OnOk result (out.new.items
+        ≡ out.old.items ++ inside_walk (rule_view rule.entry) whole (plain_suite s.now)) }
 {
     let within = is_whole(rule, whole, s.first, s.last);
     statements(out, rule, within, false, &s.body)
@@ -190,7 +200,8 @@ fn inside(out: &mut Vec<u32>, rule: Rule<'_>, whole: bool, s: &Suite) -> Result<
 
 #[cycle(walk)]
 fn arms(out: &mut Vec<u32>, rule: Rule<'_>, whole: bool, items: &[Arm]) -> Result<(), NoMemory>
-    ensures { OnOk result (out.new.items ≡ out.old.items ++ arms_walk (rule_view rule.entry) whole (plain_arms items.now)) }
+    ensures { OnOk result (out.new.items
+        ≡ out.old.items ++ arms_walk (rule_view rule.entry) whole (plain_arms items.now)) }
 {
     for arm in items {
         headed(out, rule, whole, false, arm.body.first, &arm.body)?;
@@ -205,7 +216,8 @@ fn clauses(
     whole: bool,
     items: &[Clause],
 ) -> Result<(), NoMemory>
-    ensures { OnOk result (out.new.items ≡ out.old.items ++ clauses_walk (rule_view rule.entry) whole (plain_clauses items.now)) }
+    ensures { OnOk result (out.new.items
+        ≡ out.old.items ++ clauses_walk (rule_view rule.entry) whole (plain_clauses items.now)) }
 {
     for clause in items {
         headed(out, rule, whole, false, clause.body.first, &clause.body)?;
@@ -215,7 +227,8 @@ fn clauses(
 
 #[cycle(walk)]
 fn cases(out: &mut Vec<u32>, rule: Rule<'_>, whole: bool, items: &[Case]) -> Result<(), NoMemory>
-    ensures { OnOk result (out.new.items ≡ out.old.items ++ cases_walk (rule_view rule.entry) whole (plain_cases items.now)) }
+    ensures { OnOk result (out.new.items
+        ≡ out.old.items ++ cases_walk (rule_view rule.entry) whole (plain_cases items.now)) }
 {
     for case in items {
         headed(out, rule, whole, false, case.body.first, &case.body)?;
