@@ -1,47 +1,48 @@
-// Statement lines of a module.
+// Lines that no text has.
 
-use cov_predict::statements;
-use py_syntax::{Expr, LineEnd, Module, Stmt, StmtKind, Suite};
-use py_value::Text;
+use cov_predict::{possible, predict, statements};
+use py_syntax::{LineEnd, Module, Stmt, StmtKind};
 use std::alloc::Global;
 use std::test::Fail;
 
-/// A statement in a line.
-fn line(first: u32, kind: StmtKind) -> Stmt {
-    Stmt {
-        first,
-        last: first,
-        kind,
+/// A `pass` in this line.
+fn pass(alloc: Global, line: u32) -> Result<Module, Fail> {
+    let statement = Stmt {
+        first: line,
+        last: line,
+        kind: StmtKind::Pass,
         end: LineEnd {
             semicolon: false,
             newline: true,
         },
-    }
-}
-
-/// Line 1 is a docstring, 2 a `while` over a `global` in line 3 and a `pass` in line 4.
-fn module(alloc: Global) -> Result<Module, Fail> {
-    let text = vec![in alloc; Text::from_str(alloc, "doc")?]?;
-    let name = vec![in alloc; Text::from_str(alloc, "x")?]?;
-    let suite = vec![in alloc; line(3, StmtKind::Global(name)), line(4, StmtKind::Pass)]?;
-    let turn = StmtKind::While {
-        test: Expr::None,
-        body: Suite {
-            first: 2,
-            last: 2,
-            inline: false,
-            body: suite,
-        },
-        orelse: None,
     };
-    let body = vec![in alloc; line(1, StmtKind::Expr(Expr::Str(text))), line(2, turn)]?;
-    Ok(Module { body })
+    Ok(Module {
+        body: vec![in alloc; statement]?,
+    })
 }
 
 #[test]
-fn lines_are_those_of_marks(rt: HostRuntime) -> Result<(), Fail> {
+fn arcs_of_the_greatest_line(rt: HostRuntime) -> Result<(), Fail> {
     let alloc = rt.alloc();
-    let found = statements(alloc, &module(alloc)?)?;
-    assert!(rt; found.as_slice() == [2, 4].as_slice(), "the lines");
+    let module = pass(alloc, 2147483647)?;
+    let arcs = predict(alloc, &module)?;
+    assert!(rt;
+        arcs.has(-1, 2147483647) && arcs.has(2147483647, -1),
+        "its arcs"
+    );
+    assert_eq!(rt; arcs.len(), 2);
+    Ok(())
+}
+
+#[test]
+fn no_arcs_of_a_later_line(rt: HostRuntime) -> Result<(), Fail> {
+    let alloc = rt.alloc();
+    let module = pass(alloc, 2147483648)?;
+    assert!(rt; predict(alloc, &module).is_err(), "predicted");
+    assert!(rt; possible(alloc, &module).is_err(), "possible");
+    assert!(rt;
+        statements(alloc, &module)?.as_slice() == [2147483648].as_slice(),
+        "its line"
+    );
     Ok(())
 }

@@ -23,5 +23,3 @@ pub mod InsertIntoArc
 pub mod InsertIntoHits
 pub mod CellFields
 pub mod Seeking
-pub mod Stepping
-pub mod Judging

@@ -8,5 +8,3 @@ pub mod SqlTexts
 pub mod Refusals
 pub mod Content
 pub mod Finds
-pub mod Works
-pub mod Failures
