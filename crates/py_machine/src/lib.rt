@@ -6,3 +6,4 @@ mod outcome;
 
 pub use ending::Ending;
 pub use outcome::{Answer, Called, Outcome, Ran};
+pub use py_store::Store;
