@@ -3,11 +3,11 @@
 
 mod answer;
 mod command;
-mod coverage;
 mod front;
 mod messages;
 mod script;
+mod step;
 mod walk;
 
 pub use answer::{End, LimitKind, SyntaxKind, Told, Why};
-pub use coverage::coverage;
+pub use step::coverage;

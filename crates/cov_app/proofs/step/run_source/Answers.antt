@@ -1,6 +1,6 @@
 use Rattle.py_syntax.specs.View.{plain_module}
 use Rattle.cov_app.proofs.Answering.{ran, write_failed, starved, not_run}
-use Rattle.cov_app.proofs.coverage.run_source.Goals as goal
+use Rattle.cov_app.proofs.step.run_source.Goals as goal
 
 pub returns-in-Ok-run-clause-answers : goal.returns-in-Ok-run-clause-answers
 returns-in-Ok-run-clause-answers g c = λ input. ran c.args.script.now c.args.bytes.now input (plain_module c.in-Ok.module) c.in-Ok-run.left c.ended.result.0 _ _ _ _ c.in-Ok.ensures.read c.ended.ensures.answer c.ended.ensures.raised (c.in-Ok-run.ensures.shows c.in-Ok.ensures.read.2 c.in-Ok.ensures.read.0.tokens c.in-Ok.ensures.read.0.spelled input)

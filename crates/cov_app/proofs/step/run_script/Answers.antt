@@ -2,7 +2,7 @@ use Rattle.std.proofs.Common.{ap, subst, Err}
 use Rattle.cov_app.proofs.Answering.{absent, too_large, from_source, not_read, starved_before, given_absent, given_too_large, given_source, given_unread}
 use Rattle.cov_app.specs.Runs.{ending_of}
 use Rattle.cov_app.specs.Step.{AnswersSource}
-use Rattle.cov_app.proofs.coverage.run_script.Goals as goal
+use Rattle.cov_app.proofs.step.run_script.Goals as goal
 
 pub returns-in-Err-Absent-clause-answers : goal.returns-in-Err-Absent-clause-answers
 returns-in-Err-Absent-clause-answers g c = λ input t. absent c.args.script.now input _ c.no_such_file.result _ _ (c.in-Err-Absent.ensures.absent t (ap (λ e. Err e) c.in-Err-Absent.field-0-is)) c.no_such_file.ensures

@@ -1,5 +1,5 @@
 use Rattle.cov_app.proofs.Answering.{no_command, of_script, given_command, given_script}
-use Rattle.cov_app.proofs.coverage.answer.Goals as goal
+use Rattle.cov_app.proofs.step.answer.Goals as goal
 
 pub returns-in-Err-clause-answers : goal.returns-in-Err-clause-answers
 returns-in-Err-clause-answers g c = λ input t. no_command _ _ input c.in-Err.i _ _ c.in-Err.ensures
