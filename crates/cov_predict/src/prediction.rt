@@ -10,7 +10,8 @@ use py_syntax::Module;
 use py_value::NoMemory;
 use std::alloc::Global;
 
-/// The arcs that a reader of the text can predict: those of the runs in which `raise` alone raises.
+/// The arcs that a reader of the text can predict: those of neighbours in the ways from an entry, a statement or a clause
+/// on, where `raise` alone raises.
 /// A tree with a line past `i32::MAX`, which no text has, finds no room in a set: that is want of memory too.
 pub fn predict(alloc: Global, module: &Module) -> Result<ArcSet, NoMemory>
     ensures { IfOk result (λ arcs. arcs ≡ predicted (plain_module «module».now)) }
@@ -18,7 +19,7 @@ pub fn predict(alloc: Global, module: &Module) -> Result<ArcSet, NoMemory>
     arcs(Rules { any: false, alloc }, module)
 }
 
-/// The arcs of the runs in which everything that marks a line may raise. Of lines past `i32::MAX` as `predict`.
+/// The same, where everything that marks a line may raise. Of lines past `i32::MAX` as `predict`.
 pub fn possible(alloc: Global, module: &Module) -> Result<ArcSet, NoMemory>
     ensures { IfOk result (λ arcs. arcs ≡ possible (plain_module «module».now)) }
 {

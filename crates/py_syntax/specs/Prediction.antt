@@ -48,10 +48,10 @@ abbrev pub arcs_in_order : List Arc → List Arc
 arcs_in_order [] = []
 arcs_in_order (a ∷ rest) = insert_key by_ends (arcs_in_order rest) a
 
--- the arcs of the runs in which `raise` alone raises
+-- the arcs of neighbours in the ways from an entry, a statement or a clause, where `raise` alone raises
 abbrev pub predicted : Stmts → List Arc
 predicted m = arcs_in_order (module_arcs false m)
 
--- the arcs of the runs in which everything that marks a line may raise
+-- the same, where everything that marks a line may raise
 abbrev pub possible : Stmts → List Arc
 possible m = arcs_in_order (module_arcs true m)

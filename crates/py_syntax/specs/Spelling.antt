@@ -1,6 +1,6 @@
 -- Which tree a list of tokens spells, lines included, and which prefixes begin one.
 --     first_line, last_line                     the lines of tokens
---     test_head .. after                       headers, and what stands after one
+--     test_head .. behind                      headers, and what stands behind one
 --     KeepsLines, KindLines                     the lines that a tree keeps; SuiteLines and the like for what stands in it
 --     module_tokens, IsNormal, Spells           the tokens of a module, a normal one, and the tree that a list spells
 --     HEIGHT, NESTING                           the limits
