@@ -7,11 +7,11 @@ ghost use Rattle.cov_predict.specs.Leaving.{targets_of};
 ghost use Rattle.cov_predict.specs.Parts.{entry};
 ghost use Rattle.cov_predict.specs.Walk.{body_walk, leaving};
 
-use crate::docstrings::without_docstring;
 use crate::first_marks::first_of;
 use crate::jumps::{Jumps, leaving};
 use crate::lines::{add_arc, end_of};
 use crate::walk::{Rules, statements};
+use py_docstrings::without_docstring;
 use py_syntax::{Arm, Case, Clause, Stmt, StmtKind, Suite};
 use py_value::NoMemory;
 

@@ -6,7 +6,6 @@ mod arcs;
 mod bodies;
 mod branches;
 mod constants;
-mod docstrings;
 mod first_marks;
 mod handlers;
 mod jumps;

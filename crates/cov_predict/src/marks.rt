@@ -4,7 +4,7 @@ ghost use Rattle.py_syntax.specs.View.{plain_stmts, plain_kind, plain_suite, pla
 ghost use Rattle.py_syntax.specs.Marks.{kind_marks, suite_marks, opt_marks, arms_marks, clauses_marks, cases_marks, function_marks};
 ghost use Rattle.cov_predict.specs.Leading.{first_marks, lines_of};
 
-use crate::docstrings::is_docstring;
+use py_docstrings::is_docstring;
 use py_syntax::{Arm, Case, Clause, Stmt, StmtKind, Suite};
 use py_value::NoMemory;
 

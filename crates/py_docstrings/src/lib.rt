@@ -1,4 +1,7 @@
-//! The docstring that may lead a body.
+//! Tells whether a string leads a body as its docstring: `is_docstring`, `without_docstring`
+//! (Python Language Reference, 8.7).
+#![tactic(auto)]
+
 ghost use Rattle.std.specs.Prelude.{◌≡◌, if◌then◌else◌};
 ghost use Rattle.py_syntax.specs.View.{plain_expr, plain_stmts, plain_kind};
 ghost use Rattle.py_syntax.specs.Functions.{is_string, is_docstring, without_docstring};
@@ -6,7 +9,7 @@ ghost use Rattle.py_syntax.specs.Functions.{is_string, is_docstring, without_doc
 use py_syntax::{Expr, Stmt, StmtKind};
 
 /// Whether a statement is a docstring where it leads a body.
-pub(crate) fn is_docstring(kind: &StmtKind) -> bool
+pub fn is_docstring(kind: &StmtKind) -> bool
     ensures { result ≡ is_docstring (plain_kind kind.now) }
 {
     match kind {
@@ -32,7 +35,7 @@ pub(crate) fn is_docstring(kind: &StmtKind) -> bool
 }
 
 /// The statements of a body without the docstring that may lead it.
-pub(crate) fn without_docstring(items: &[Stmt]) -> &[Stmt]
+pub fn without_docstring(items: &[Stmt]) -> &[Stmt]
     ensures { plain_stmts result.now ≡ without_docstring (plain_stmts items.now) }
 {
     match items.split_first() {
