@@ -1,0 +1,17 @@
+pub mod Blocks
+pub mod Pieces
+pub mod ExpressionFits
+pub mod TargetFits
+pub mod PatternFits
+pub mod StatementFits
+pub mod Suites
+pub mod Forms
+pub mod SimpleFits
+pub mod BranchFits
+pub mod TryFits
+pub mod MatchFits
+pub mod AllStatements
+pub mod Layouts
+pub mod Tables
+pub mod Bodies
+pub mod Law
