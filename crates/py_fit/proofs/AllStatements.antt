@@ -1,5 +1,6 @@
 -- The places of the code of all statements have one number of operands each.
-use Rattle.std.proofs.Common.{◌≡◌, ℕ, suc, ◌+◌, ◌<◌, ◌≤◌, List, [], ◌∷◌, ◌++◌, length, Option, Some, None, refl, arith}
+use Rattle.std.proofs.Common.{ℕ, suc, ◌+◌, ◌<◌, ◌≤◌, List, [], ◌∷◌, ◌++◌, length, Some, None, refl, arith}
+use Rattle.std.proofs.lemmas.List.{length-append}
 use Rattle.std.specs.Prelude.{nat_eq, if◌then◌else◌, Bool, true, false}
 use Rattle.py_syntax.specs.Functions.{Function}
 use Rattle.py_syntax.specs.Tree.{Stmts, no_stmts, stmt, suite, OptSuite, no_suite, has_suite, Arms, no_arms, arm, Clauses, no_clauses, clause, Cases, no_cases, case, StmtKind, expr, assign, aug_assign, pass, break, continue, return, raise, assert, global, import, from, if', while, for, try, def, match}
@@ -41,15 +42,11 @@ number_most l (f ∷ fs) = by_case (nat_eq f.line l) (number_most l fs)
 abbrev pub Room : List Definition → List Function → Type 0
 Room ds fs = 0 < length ds → 0 < length fs
 
-more : (ds es : List Definition) → length (ds ++ es) ≡ length ds + length es
-more [] es = omega arith
-more (d ∷ ds) es = let h = more ds es in omega (arith, h)
-
 room_first : (ds es : List Definition) (fs : List Function) → Room (ds ++ es) fs → Room ds fs
-room_first ds es fs room some = let m = more ds es in room (omega (arith, some, m))
+room_first ds es fs room some = let m = length-append ds es in room (omega (arith, some, m))
 
 pub room_last : (ds es : List Definition) (fs : List Function) → Room (ds ++ es) fs → Room es fs
-room_last ds es fs room some = let m = more ds es in room (omega (arith, some, m))
+room_last ds es fs room some = let m = length-append ds es in room (omega (arith, some, m))
 
 -- ---- statements
 

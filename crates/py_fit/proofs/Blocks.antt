@@ -4,13 +4,14 @@
 --     Fits, AllFit                   cells at places
 --     Block                          a piece of code
 --     after, step, fork, jump, stop  pieces in a row
-use Rattle.std.proofs.Common.{◌≡◌, ℕ, suc, ◌+◌, ◌<◌, ◌≤◌, ◌⊎◌, inl, inr, Bool, true, false, List, [], ◌∷◌, ◌++◌, length, Option, Some, None, refl, sym, ap, ◌∙◌, subst, arith}
+use Rattle.std.proofs.Common.{◌≡◌, ℕ, suc, ◌+◌, ◌<◌, ◌≤◌, ◌⊎◌, Bool, true, false, List, [], ◌∷◌, ◌++◌, length, Option, Some, None, refl, sym, ap, ◌∙◌, subst, arith}
+use Rattle.std.proofs.lemmas.List.{length-append}
 use Rattle.py_code.specs.declared.instr.Instr.{Instr}
 use Rattle.py_code.specs.declared.instr.Instr.TheVariants.{Constant, Pop, Copy, Sink, Roll, LoadLocal, StoreLocal, UnsetLocal, LoadGlobal, StoreGlobal, UnsetGlobal, Text, Extend, Tuple, List as MakeList, Dict, AddPair, Not, Binary, InPlace, Compare, Index, Slice, Attribute, StoreIndex, Unpack}
 use Rattle.py_code.specs.declared.instr.Instr.TheVariants.{Goto, IfFalse, IfTrue, And, Or, Link, Unless, Sequence, Mark, Again, Walk, Next as NextItem, Method, Call, Return, Function, FunctionWith, Import, Module as LoadModule, Take}
 use Rattle.py_code.specs.declared.instr.Instr.TheVariants.{Raise, Reraise, Assertion, AssertionWith, Catches, Caught, Uncaught, Leave, Ending, Breaking, Continuing, Returning, Settle, Release}
-use Rattle.py_code.specs.Footprints.{Exit, exit, Footprint, quiet, risky, forked, risky_fork, footprint}
-use Rattle.py_compile_expr.specs.Cells.{Op, constant, load, store, unset, attribute, method, imports, module_named, takes, marks, marks_again, plain, Guard, Cell, cell}
+use Rattle.py_code.specs.Footprints.{Exit, Footprint, quiet, risky, footprint}
+use Rattle.py_compile_expr.specs.Cells.{Op, constant, load, store, unset, attribute, method, imports, module_named, takes, marks, marks_again, plain, Guard, Cell}
 
 pub record Layout : Type 0 where
   pub depth : ℕ → Option ℕ
@@ -136,9 +137,9 @@ GoAll l p rest [] = Unit {0}
 GoAll l p rest (e ∷ es) = Goes l p e.to (e.leaves + rest) × GoAll l p rest es
 
 -- its handler lies ahead
-abbrev pub Behind : Layout → ℕ → Option Guard → Type 0
-Behind l p None = Unit {0}
-Behind l p (Some g) = (l.depth g.target ≡ Some (suc g.depth)) × (p < g.target)
+abbrev pub LiesAhead : Layout → ℕ → Option Guard → Type 0
+LiesAhead l p None = Unit {0}
+LiesAhead l p (Some g) = (l.depth g.target ≡ Some (suc g.depth)) × (p < g.target)
 
 -- where so many operands are left, a handler finds those that it keeps
 abbrev pub Leaves : Option Guard → ℕ → Type 0
@@ -155,7 +156,7 @@ pub record Fits (l : Layout) (units p d : ℕ) (c : Cell) : Type 0 where
   pub split : d ≡ (print p c.op).takes + rest
   pub enough : (print p c.op).needs ≤ d
   pub leads : GoAll l p rest (print p c.op).exits
-  pub behind : Behind l p c.guard
+  pub handler : LiesAhead l p c.guard
   pub leaves : LeavesIf (print p c.op).raises c.guard rest
   pub named : IsNamed units c.op
 
@@ -183,10 +184,6 @@ pub record Block (units : ℕ) (N P : Layout → Type 0) (p n : ℕ) (cs : List 
   pub fits : (l : Layout) → Stands l p depths → MarksLines l p cs → N l → AllFit l units p cs depths
 
 -- ---- lists in a row
-
-more_length : {A : Type 0} (xs ys : List A) → length (xs ++ ys) ≡ length xs + length ys
-more_length [] ys = omega arith
-more_length (x ∷ xs) ys = let h = more_length xs ys in omega (arith, h)
 
 stands_first : (l : Layout) (p : ℕ) (xs ys : List ℕ) → Stands l p (xs ++ ys) → Stands l p xs
 stands_first l p [] ys h = tt
@@ -237,8 +234,8 @@ seq {units} {N} {N1} {N2} {P1} {P2} {P} {p} {n} {r} {k} {xs} {ys} at a b f g h =
     let later : (l : Layout) → Stands l p (a.depths ++ b.depths) → MarksLines l p (xs ++ ys) → N l → P2 l = λ l s m i. b.gives l (second l s) (second_m l m) (f l i) in
     record {
       depths = a.depths ++ b.depths;
-      long = more_length a.depths b.depths ∙ ap (λ c. c + length b.depths) a.long ∙ ap (λ c. n + c) b.long;
-      size = more_length xs ys ∙ ap (λ c. c + length ys) a.size ∙ ap (λ c. n + c) b.size;
+      long = length-append a.depths b.depths ∙ ap (λ c. c + length b.depths) a.long ∙ ap (λ c. n + c) b.long;
+      size = length-append xs ys ∙ ap (λ c. c + length ys) a.size ∙ ap (λ c. n + c) b.size;
       gives = λ l s m i. h l (a.gives l (first l s) (first_m l m) (g l (later l s m i) i)) (later l s m i) i;
       fits = λ l s m i. fit_both l units p xs a.depths ys b.depths (a.long ∙ sym a.size)
           (a.fits l (first l s) (first_m l m) (g l (later l s m i) i))

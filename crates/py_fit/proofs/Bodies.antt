@@ -1,6 +1,5 @@
 -- The cells of a body are a piece of code that is whole, so that its unit is valid.
-use Rattle.std.proofs.Common.{◌≡◌, ℕ, suc, ◌+◌, ◌<◌, ◌≤◌, true, false, List, [], ◌∷◌, ◌++◌, length, Some, None, refl, sym, ap, ◌∙◌, subst, arith}
-use Rattle.std.specs.Prelude.{slice_get}
+use Rattle.std.proofs.Common.{◌≡◌, ℕ, suc, ◌+◌, false, List, [], ◌∷◌, length, None, refl, sym, ◌∙◌, arith}
 use Rattle.py_syntax.specs.Functions.{Function}
 use Rattle.py_syntax.specs.Tree.{Stmts}
 use Rattle.py_code.specs.declared.instr.Instr.TheVariants.{Return}
@@ -12,9 +11,9 @@ use Rattle.py_compile_expr.specs.Stands.{HasAt}
 use Rattle.py_compile.specs.Statements.{stmts_size}
 use Rattle.py_compile.specs.Units.{handlers_of, body_cells}
 use Rattle.py_compile.specs.Ways.{outermost}
-use Rattle.py_fit.proofs.Blocks.{Layout, Block, front, none}
+use Rattle.py_fit.proofs.Blocks.{Block, front, none}
 use Rattle.py_fit.proofs.Pieces.{At, Any, goes, next_place, fits_by, only, placed}
-use Rattle.py_fit.proofs.Suites.{Way, Outs}
+use Rattle.py_fit.proofs.Suites.{Way}
 use Rattle.py_fit.proofs.Forms.{StmtsFit}
 use Rattle.py_fit.proofs.Layouts.{layout_of, stands_here, marks_here, fits_at}
 use Rattle.py_fit.proofs.Tables.{table}

@@ -1,5 +1,5 @@
 -- The places of the code of `if`, `while` and `for` have one number of operands each, where those of their suites have.
-use Rattle.std.proofs.Common.{◌≡◌, ℕ, suc, ◌+◌, ◌<◌, ◌≤◌, Bool, true, false, List, ◌++◌, Option, Some, None, refl, ap, ◌∙◌, arith}
+use Rattle.std.proofs.Common.{◌≡◌, ℕ, suc, ◌+◌, Bool, true, false, List, Option, Some, None, refl, ap, ◌∙◌, arith}
 use Rattle.py_syntax.specs.Functions.{Function}
 use Rattle.py_syntax.specs.Tree.{Expr, Stmts, suite, OptSuite, Arms, no_arms, arm, if', while, for}
 use Rattle.py_code.specs.declared.instr.Instr.TheVariants.{Goto, IfFalse, Walk, Next}
@@ -7,14 +7,14 @@ use Rattle.py_compile_expr.specs.Cells.{marks, plain}
 use Rattle.py_compile_expr.specs.Expressions.{expr_size}
 use Rattle.py_compile_expr.specs.Targets.{target_size}
 use Rattle.py_compile.specs.Statements.{stmts_size, opt_size, arms_size}
-use Rattle.py_compile.specs.Ways.{Ways, under, in_loop, in_hand}
+use Rattle.py_compile.specs.Ways.{under, in_loop, in_hand}
 use Rattle.py_fit.proofs.Blocks.{resize}
 use Rattle.py_fit.proofs.Pieces.{elsewhere, moved, handled_before, handled_above, step, calm, fork, jump, turn, jump_back, finish, after, only, placed, also_by}
 use Rattle.py_fit.proofs.ExpressionFits.{expr_fits}
 use Rattle.py_fit.proofs.TargetFits.{target_fits}
 use Rattle.py_fit.proofs.StatementFits.{Held}
 use Rattle.py_fit.proofs.Suites.{outs_before, outs_under, outs_loop, suite_at}
-use Rattle.py_fit.proofs.Forms.{StmtsFit, KindFits, OptFits, Ends, ArmsFit}
+use Rattle.py_fit.proofs.Forms.{StmtsFit, KindFits, OptFits, ArmsFit}
 
 pub held_under : (h : Option ℕ) (d : ℕ) → Held h d → Held h (suc d)
 held_under None d k = tt

@@ -1,6 +1,6 @@
 -- The places of the code of expressions have one number of operands each: those below, and one more at the end.
-use Rattle.std.proofs.Common.{◌≡◌, ℕ, suc, ◌+◌, ◌≤◌, Bool, true, false, List, [], ◌∷◌, ◌++◌, Option, refl, sym, ap, ◌∙◌, arith}
-use Rattle.py_syntax.specs.Tree.{Expr, name, int, str, fstr, none as none_expr, bool, tuple, list, dict, paren, not', and, or, unary, binary, compare, cond, call, index, slice, attr, Exprs, no_exprs, exprs, Pairs, no_pairs, pair, Links, no_links, link, OptExpr, absent, present, Fragments, no_fragments, plain as plain_piece, format, Parts, no_parts, text, field}
+use Rattle.std.proofs.Common.{◌≡◌, ℕ, suc, ◌+◌, ◌≤◌, Bool, true, false, List, [], ◌∷◌, ◌++◌, Option, refl, ap, ◌∙◌, arith}
+use Rattle.py_syntax.specs.Tree.{Expr, name, int, str, fstr, none as none_expr, bool, tuple, list, dict, paren, not', and, or, unary, binary, compare, cond, call, index, slice, attr, Exprs, no_exprs, exprs, Pairs, no_pairs, pair, Links, no_links, link, absent, present, Fragments, no_fragments, plain as plain_piece, format, Parts, no_parts, text, field}
 use Rattle.py_meaning.specs.Literals.{run_together, sign_operator}
 use Rattle.py_code.specs.declared.instr.Instr.TheVariants.{Pop, Text as TextOf, Extend, Tuple, List as MakeList, Dict, AddPair, Not, Binary, Compare, Index, Slice, Goto, IfFalse, And, Or, Link, Call}
 use Rattle.std.specs.Prelude.{pos}
@@ -8,8 +8,8 @@ use Rattle.py_code.specs.declared.unit.Constant.TheVariants.{None as NoneConstan
 use Rattle.py_code.specs.declared.instr.Bounds.TheVariants.{Neither, From, To, Both}
 use Rattle.py_code.specs.Footprints.{exit}
 use Rattle.py_compile_expr.specs.Cells.{Op, constant, load, attribute, method, plain, Guard, Cell, cell, put}
-use Rattle.py_compile_expr.specs.Expressions.{question, count, bounds, expr_size, expr_code, each_size, each_code, pairs_size, pairs_code, links_size, links_code, opt_size, opt_code, fragments_size, fragments_code, parts_size, parts_code}
-use Rattle.py_fit.proofs.Blocks.{Layout, print, IsNamed, Block, resize}
+use Rattle.py_compile_expr.specs.Expressions.{question, count, expr_size, expr_code, each_size, each_code, pairs_size, pairs_code, links_size, links_code, fragments_size, fragments_code, parts_size, parts_code}
+use Rattle.py_fit.proofs.Blocks.{print, IsNamed, Block, resize}
 use Rattle.py_fit.proofs.Pieces.{Run, At, Any, moved, step, fork, jump, finish, after, only}
 
 -- One handler holds at all places, which finds m operands below. So many stand at the first place.
@@ -138,7 +138,7 @@ mutual
   each_fits g m p d q f (exprs e es) at is le =
       only (after refl (omega arith) (expr_fits g m p d (p + expr_size e) e refl le) (each_fits g m (p + expr_size e) (suc d) q f es (omega arith) (omega arith) (omega arith)))
 
-  -- behind the dict on top
+  -- after the dict on top
   pairs_fit : {units : ℕ} (g : Option Guard) (m p d q : ℕ) (ps : Pairs) → p + pairs_size ps ≡ q → m ≤ d → Fit units g m p (suc d) q (suc d) (pairs_size ps) (pairs_code g p ps)
   pairs_fit g m p d q no_pairs at le = finish (omega arith) refl
   pairs_fit g m p d q (pair key e rest) at le =
@@ -147,7 +147,7 @@ mutual
       (step (plain AddPair) 3 1 d (suc (suc (suc d))) (suc d) true refl (omega arith) (omega arith) le tt (omega arith)
       (pairs_fit g m (p + expr_size key + expr_size e + 1) d q rest (omega arith) le)))))
 
-  -- behind the left operand on top
+  -- after the left operand on top
   links_fit : {units : ℕ} (g : Option Guard) (m p d q end : ℕ) (ls : Links) → p + links_size ls ≡ end → end ≡ q → m ≤ d → Fit units g m p (suc d) q (suc d) (links_size ls) (links_code g p end ls)
   links_fit g m p d q end no_links at is le =
       only (step (plain Pop) 1 0 d (suc d) d false refl (omega arith) (omega arith) le tt (omega arith)
@@ -160,7 +160,7 @@ mutual
       (fork (plain (Link (question op) end)) 2 1 1 d (suc (suc d)) (suc d) (suc d) end true refl (omega arith) (omega arith) (omega arith) le tt (omega arith) (omega arith)
       (links_fit g m (p + expr_size e + 1) d q end (link r k rest) (omega arith) is le) (λ l there h. ap l.depth is ∙ h.ends))))
 
-  -- behind the text on top
+  -- after the text on top
   fragments_fit : {units : ℕ} (g : Option Guard) (m p d q : ℕ) (fs : Fragments) → p + fragments_size fs ≡ q → m ≤ d → Fit units g m p (suc d) q (suc d) (fragments_size fs) (fragments_code g p fs)
   fragments_fit g m p d q no_fragments at le = finish (omega arith) refl
   fragments_fit g m p d q (plain_piece x rest) at le =

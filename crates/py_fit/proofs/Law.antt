@@ -1,20 +1,17 @@
 -- The units of a module that is well formed are a code.
-use Rattle.std.proofs.Common.{◌≡◌, ℕ, zero, suc, ◌+◌, ◌<◌, ◌≤◌, Bool, true, false, List, [], ◌∷◌, length, map, Option, Some, None, refl, sym, ap, ◌∙◌, subst, arith}
+use Rattle.std.proofs.Common.{◌≡◌, ℕ, zero, suc, ◌<◌, ◌≤◌, Bool, true, false, List, [], ◌∷◌, length, map, Some, refl, sym, ap, ◌∙◌, subst, arith}
 use Rattle.std.specs.Prelude.{slice_get, if◌then◌else◌}
 use Rattle.std.proofs.lemmas.List.{length-map}
 use Rattle.py_syntax.specs.Functions.{Function, functions, without_docstring, is_docstring}
 use Rattle.py_syntax.specs.Tree.{Stmts, no_stmts, stmt}
 use Rattle.py_code.specs.Units.{Code}
-use Rattle.py_code.specs.Valid.{IsValid, UnitsAreValid, IsCode}
+use Rattle.py_code.specs.Valid.{IsValid, IsCode}
 use Rattle.py_compile.specs.Definitions.{Definition, function_of, definitions, definitions_in}
-use Rattle.py_compile.specs.Faithful.{IsFaithful}
 use Rattle.py_compile.specs.Laws.{UnitsAreFaithful}
 use Rattle.py_compile.specs.Proper.{AreProper}
-use Rattle.py_compile.specs.ProgramRuns.{AreProperFunctions, AreProperModules}
-use Rattle.py_compile.specs.Statements.{stmts_size}
-use Rattle.py_compile.specs.Units.{body_cells, body_function, module_code, function_code, units_code}
+use Rattle.py_compile.specs.ProgramRuns.{AreProperFunctions}
+use Rattle.py_compile.specs.Units.{body_cells, module_code, function_code, units_code}
 use Rattle.py_meaning.specs.Modules.{LoadedModule}
-use Rattle.py_scope.specs.Faults.{IsWellFormed}
 use Rattle.py_trace.specs.Traces.{HavePremises}
 use Rattle.py_fit.specs.Fits.{CodeFits}
 use Rattle.py_fit.proofs.AllStatements.{Room, room_last, stmts_fit}

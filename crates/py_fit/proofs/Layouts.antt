@@ -7,7 +7,6 @@ use Rattle.std.specs.Prelude.{slice_get, if◌then◌else◌}
 use Rattle.std.proofs.lemmas.Option.{slice_get_within}
 use Rattle.py_value.specs.Keys.{is_same_text}
 use Rattle.py_syntax.specs.Names.{is_among}
-use Rattle.py_syntax.specs.Tree.{Text as Name}
 use Rattle.py_code.specs.declared.instr.Instr.{Instr}
 use Rattle.py_code.specs.declared.instr.Instr.TheVariants.{Constant, Pop, Copy, Sink, Roll, LoadLocal, StoreLocal, UnsetLocal, LoadGlobal, StoreGlobal, UnsetGlobal, Text, Extend, Tuple, List as MakeList, Dict, AddPair, Not, Binary, InPlace, Compare, Index, Slice, Attribute, StoreIndex, Unpack}
 use Rattle.py_code.specs.declared.instr.Instr.TheVariants.{Goto, IfFalse, IfTrue, And, Or, Link, Unless, Sequence, Mark, Again, Walk, Next as NextItem, Method, Call, Return, Function, FunctionWith, Import, Module as LoadModule, Take}
@@ -15,10 +14,10 @@ use Rattle.py_code.specs.declared.instr.Instr.TheVariants.{Raise, Reraise, Asser
 use Rattle.py_code.specs.declared.unit.Handler.{Handler}
 use Rattle.py_code.specs.Footprints.{Exit, Footprint, quiet, risky, footprint, is_mark}
 use Rattle.py_code.specs.Units.{Code, handler_of}
-use Rattle.py_code.specs.Valid.{HasNumbers, marks_at, Leads, LeadAll, Lands, LandsAt, LandsIf, FitsAt}
+use Rattle.py_code.specs.Valid.{HasNumbers, marks_at, Leads, LeadAll, LandsAt, LandsIf, FitsAt}
 use Rattle.py_compile_expr.specs.Cells.{Op, constant, load, store, unset, attribute, method, imports, module_named, takes, marks, marks_again, plain, Guard, Cell, Tables, place_in, instr_of}
 use Rattle.py_compile_expr.specs.Stands.{tables_in, HasVariable, IsKnown, Guards, StandsAt, HasAt}
-use Rattle.py_fit.proofs.Blocks.{Layout, print, marks_line, IsPlain, IsNamed, Goes, GoAll, Behind, Leaves, LeavesIf, Fits, AllFit, Stands, MarksLines}
+use Rattle.py_fit.proofs.Blocks.{Layout, print, marks_line, IsPlain, IsNamed, Goes, GoAll, LiesAhead, Leaves, LeavesIf, Fits, AllFit, Stands, MarksLines}
 
 -- ---- the layout
 
@@ -236,7 +235,7 @@ module _ (u : Code) (units : ℕ) (cs : List Cell) (ds : List ℕ) (has : HasAt 
   lead_all p rest [] h = tt
   lead_all p rest (e ∷ es) h = (leads p e.to (e.leaves + rest) h.0, lead_all p rest es h.1)
 
-  lands_at : (p rest : ℕ) (g : Option Guard) (o : Option Handler) → Guards g o → Behind lay p g → Leaves g rest → LandsAt ds p rest o
+  lands_at : (p rest : ℕ) (g : Option Guard) (o : Option Handler) → Guards g o → LiesAhead lay p g → Leaves g rest → LandsAt ds p rest o
   lands_at p rest None None k b n = tt
   lands_at p rest None (Some h) k b n = absurd k
   lands_at p rest (Some g) None k b n = absurd k
@@ -246,19 +245,19 @@ module _ (u : Code) (units : ℕ) (cs : List Cell) (ds : List ℕ) (has : HasAt 
     ahead = omega (arith, k.0, b.1);
   }
 
-  lands_if : (b : Bool) (p rest : ℕ) (g : Option Guard) → Guards g (handler_of p u.handlers) → Behind lay p g → LeavesIf b g rest → LandsIf b u ds p rest
-  lands_if false p rest g k behind n = tt
-  lands_if true p rest g k behind n = lands_at p rest g (handler_of p u.handlers) k behind n
+  lands_if : (b : Bool) (p rest : ℕ) (g : Option Guard) → Guards g (handler_of p u.handlers) → LiesAhead lay p g → LeavesIf b g rest → LandsIf b u ds p rest
+  lands_if false p rest g k handler n = tt
+  lands_if true p rest g k handler n = lands_at p rest g (handler_of p u.handlers) k handler n
 
-  fits_with : (p depth : ℕ) (c : Cell) (i : Instr) (f : Footprint) → footprint p i ≡ f → (rest : ℕ) → depth ≡ f.takes + rest → f.needs ≤ depth → GoAll lay p rest f.exits → LeavesIf f.raises c.guard rest → Behind lay p c.guard
+  fits_with : (p depth : ℕ) (c : Cell) (i : Instr) (f : Footprint) → footprint p i ≡ f → (rest : ℕ) → depth ≡ f.takes + rest → f.needs ≤ depth → GoAll lay p rest f.exits → LeavesIf f.raises c.guard rest → LiesAhead lay p c.guard
       → Guards c.guard (handler_of p u.handlers) → HasNumbers u units i → FitsAt u units ds p depth i
-  fits_with p depth c i f e rest split enough goes leaves behind guards numbers =
+  fits_with p depth c i f e rest split enough goes leaves handler guards numbers =
       let left : rest ≡ depth - f.takes = omega arith in
       record {
         numbers = numbers;
         enough = subst (λ (k : Footprint). k.needs ≤ depth) (sym e) enough;
         leads = subst (λ (k : Footprint). LeadAll u ds p (depth - k.takes) k.exits) (sym e) (lead_all p (depth - f.takes) f.exits (subst (λ n. GoAll lay p n f.exits) left goes));
-        lands = subst (λ (k : Footprint). LandsIf k.raises u ds p (depth - k.takes)) (sym e) (lands_if f.raises p (depth - f.takes) c.guard guards behind (subst (λ n. LeavesIf f.raises c.guard n) left leaves));
+        lands = subst (λ (k : Footprint). LandsIf k.raises u ds p (depth - k.takes)) (sym e) (lands_if f.raises p (depth - f.takes) c.guard guards handler (subst (λ n. LeavesIf f.raises c.guard n) left leaves));
       }
 
   pub fits_at : AllFit lay units 0 cs ds → length ds ≡ length cs → (p depth : ℕ) (i : Instr) → slice_get ds p ≡ Some depth → slice_get u.instrs p ≡ Some i → FitsAt u units ds p depth i
@@ -269,7 +268,7 @@ module _ (u : Code) (units : ℕ) (cs : List Cell) (ds : List ℕ) (has : HasAt 
       let known = cell_known p k.one k.is in
       let one : instr_of (tables_in u) k.one.op ≡ i = some_same (sym known.instr ∙ is) in
       subst (λ j. FitsAt u units ds p depth j) one
-      (fits_with p depth k.one (instr_of (tables_in u) k.one.op) (print p k.one.op) (printed (tables_in u) p k.one.op) fit.rest fit.split fit.enough fit.leads fit.leaves fit.behind known.guard
+      (fits_with p depth k.one (instr_of (tables_in u) k.one.op) (print p k.one.op) (printed (tables_in u) p k.one.op) fit.rest fit.split fit.enough fit.leads fit.leaves fit.handler known.guard
       (numbers_known u units k.one.op fit.named known.knows))
     where
       some_same : {A : Type 0} {x y : A} → Some x ≡ Some y → x ≡ y

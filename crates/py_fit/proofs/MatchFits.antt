@@ -1,5 +1,5 @@
 -- The places of the code of `match` have one number of operands each, where those of its suites have.
-use Rattle.std.proofs.Common.{◌≡◌, ℕ, suc, ◌+◌, ◌<◌, ◌≤◌, Bool, true, false, List, ◌++◌, length, Option, Some, None, refl, ap, ◌∙◌, arith}
+use Rattle.std.proofs.Common.{ℕ, suc, ◌+◌, Bool, false, List, length, Option, refl, ap, ◌∙◌, arith}
 use Rattle.py_syntax.specs.Functions.{Function}
 use Rattle.py_syntax.specs.Tree.{Expr, Pattern, Stmts, suite, Cases, no_cases, case, match}
 use Rattle.py_code.specs.declared.instr.Instr.TheVariants.{Pop, Copy, Goto}
@@ -8,9 +8,9 @@ use Rattle.py_compile_expr.specs.Expressions.{expr_size}
 use Rattle.py_compile_expr.specs.Patterns.{Site, captured, pattern_size, names_size}
 use Rattle.py_compile.specs.Proper.{ProperPattern}
 use Rattle.py_compile.specs.Statements.{guard_size, stmts_size, cases_size}
-use Rattle.py_compile.specs.Ways.{Ways, in_hand}
+use Rattle.py_compile.specs.Ways.{in_hand}
 use Rattle.py_fit.proofs.Blocks.{resize}
-use Rattle.py_fit.proofs.Pieces.{moved, handled_before, handled_above, calm, jump, finish, after, only, placed}
+use Rattle.py_fit.proofs.Pieces.{moved, handled_before, calm, jump, finish, after, only, placed}
 use Rattle.py_fit.proofs.ExpressionFits.{expr_fits}
 use Rattle.py_fit.proofs.PatternFits.{pattern_fits, names_fit}
 use Rattle.py_fit.proofs.StatementFits.{guard_fits}

@@ -1,5 +1,6 @@
 -- The places of the code of patterns have one number of operands each. A pattern takes the value on top, and leaves those that it captures.
-use Rattle.std.proofs.Common.{◌≡◌, ℕ, suc, ◌+◌, ◌-◌, ◌≤◌, Bool, true, false, List, [], ◌∷◌, ◌++◌, length, Option, Some, refl, sym, ap, ◌∙◌, arith}
+use Rattle.std.proofs.Common.{◌≡◌, ℕ, suc, ◌+◌, ◌-◌, ◌≤◌, true, false, List, [], ◌∷◌, length, Option, Some, refl, ap, ◌∙◌, arith}
+use Rattle.std.proofs.lemmas.List.{length-append}
 use Rattle.py_syntax.specs.Tree.{Text, Pattern, literal, capture, wild, member, sequence, p_or, p_as, p_paren, Patterns, no_patterns, patterns}
 use Rattle.py_code.specs.declared.instr.Instr.TheVariants.{Pop, Copy, Sink, Roll, Compare, Goto, Unless, Sequence}
 use Rattle.py_code.specs.declared.instr.Question.TheVariants.{Eq}
@@ -9,7 +10,7 @@ use Rattle.py_compile_expr.specs.Patterns.{kept_constant, constant_question, cap
 use Rattle.py_meaning.specs.Patterns.{pattern_count}
 use Rattle.py_compile.specs.Proper.{BindsNone, NoneBind, ProperPattern, ProperPatterns}
 use Rattle.py_fit.proofs.Blocks.{Layout, Block, resize, seq}
-use Rattle.py_fit.proofs.Pieces.{Run, At, Any, elsewhere, moved, handled_before, step, calm, fork, jump, finish, beside, only, starts}
+use Rattle.py_fit.proofs.Pieces.{Run, At, Any, elsewhere, moved, handled_before, step, calm, fork, jump, finish, beside, only}
 use Rattle.py_fit.proofs.ExpressionFits.{Fit}
 
 -- where a match fails, so many operands stand
@@ -18,10 +19,6 @@ Fails b fail l = l.depth fail ≡ Some b
 
 abbrev pub Match : (units : ℕ) → Site → (m b p d q f n : ℕ) → List Cell → Type 0
 Match units s m b p d q f n cs = Block units (Run s.guard m q f (Fails b s.fail)) (At p d Any) p n cs
-
-more_length : {A : Type 0} (xs ys : List A) → length (xs ++ ys) ≡ length xs + length ys
-more_length [] ys = omega arith
-more_length (x ∷ xs) ys = let h = more_length xs ys in omega (arith, h)
 
 mutual
   none_captured : (q : Pattern) → BindsNone q → length (captured q) ≡ 0
@@ -37,7 +34,7 @@ mutual
   none_captured_each : (qs : Patterns) → NoneBind qs → length (captured_each qs) ≡ 0
   none_captured_each no_patterns h = refl
   none_captured_each (patterns q qs) h =
-      let a = none_captured q h.0 in let b = none_captured_each qs h.1 in let c = more_length (captured q) (captured_each qs) in omega arith
+      let a = none_captured q h.0 in let b = none_captured_each qs h.1 in let c = length-append (captured q) (captured_each qs) in omega arith
 
 mutual
   binds_proper : (q : Pattern) → BindsNone q → ProperPattern q
@@ -78,7 +75,7 @@ mutual
   pattern_fits s m b p d q f (p_or qs) ok at ahead le is low out = one_fits s m b p d q f (p + one_size qs) qs ok refl at ahead le is low (omega (arith, out))
   pattern_fits s m b p d q f (p_as t x) ok at ahead le is low out =
       let c = length (captured t) in
-      let more = more_length (captured t) (x ∷ []) in
+      let more = length-append (captured t) (x ∷ []) in
       resize (omega arith) (only (calm (plain (Copy 0)) 1 2 (s.extra + b) d (suc d) refl (omega arith) (omega arith) tt (omega arith)
       (beside refl (omega arith) (pattern_fits (behind 1 s) m b (p + 1) (suc d) (p + 1 + pattern_size t) (c + (1 + s.extra + b)) t ok refl (omega arith) le (omega arith) (omega arith) refl)
       (calm (plain (Sink s.waiting)) (suc s.waiting) (suc s.waiting) (c + (s.extra + b) - s.waiting) (c + (1 + s.extra + b)) (c + (1 + s.extra + b)) refl (omega arith) (omega arith) tt (omega arith) (finish (omega arith) (omega arith))))))
@@ -90,7 +87,7 @@ mutual
   items_fit s m b p d q f (patterns t ts) ok at ahead le is low out =
       let n = pattern_count ts in
       let c = length (captured t) in
-      let more = more_length (captured t) (captured_each ts) in
+      let more = length-append (captured t) (captured_each ts) in
       only (beside refl (omega arith) (pattern_fits (behind n s) m b p d (p + pattern_size t) (c + (n + s.extra + b)) t ok.0 refl (omega arith) le (omega arith) (omega arith) refl)
       (items_fit (with_captured c s) m b (p + pattern_size t) (c + (n + s.extra + b)) q f ts ok.1 (omega arith) ahead le (omega arith) (omega arith) (omega arith)))
 

@@ -6,15 +6,15 @@
 --     after, beside, placed, finish  pieces in a row
 use Rattle.std.proofs.Common.{◌≡◌, ℕ, suc, ◌+◌, ◌<◌, ◌≤◌, inl, inr, Bool, true, false, List, [], ◌∷◌, ◌++◌, Option, Some, None, refl, sym, ap, ◌∙◌, subst, arith}
 use Rattle.py_code.specs.declared.instr.Instr.TheVariants.{Goto}
-use Rattle.py_code.specs.Footprints.{Exit, exit, Footprint, ways}
+use Rattle.py_code.specs.Footprints.{exit, Footprint, ways}
 use Rattle.py_compile_expr.specs.Cells.{Op, marks_again, plain, Guard, Cell, cell}
-use Rattle.py_fit.proofs.Blocks.{Layout, print, IsNamed, marks_line, Goes, GoAll, Behind, Leaves, LeavesIf, Fits, Block, weaken, seq, lead, front, none}
+use Rattle.py_fit.proofs.Blocks.{Layout, print, IsNamed, Goes, GoAll, LiesAhead, LeavesIf, Fits, Block, weaken, seq, lead, front, none}
 
 abbrev pub Handles : Option Guard → (q m : ℕ) → Layout → Type 0
 Handles None q m l = Unit {0}
 Handles (Some g) q m l = (g.depth ≤ m) × (l.depth g.target ≡ Some (suc g.depth)) × (q ≤ g.target)
 
--- so many operands stand at its end, its handler lies there or behind, and finds operands of those below
+-- so many operands stand at its end, its handler lies there or further on, and finds operands of those below
 pub record Run (g : Option Guard) (m q f : ℕ) (z : Layout → Type 0) (l : Layout) : Type 0 where
   pub ends : l.depth q ≡ Some f
   pub handles : Handles g q m l
@@ -34,7 +34,7 @@ pub handled_above : (g : Option Guard) (q m n : ℕ) (l : Layout) → m ≤ n �
 handled_above None q m n l le h = tt
 handled_above (Some g) q m n l le h = (omega (arith, le, h.0), h.1, h.2)
 
-pub ahead_of : (g : Option Guard) (p q m : ℕ) (l : Layout) → p < q → Handles g q m l → Behind l p g
+pub ahead_of : (g : Option Guard) (p q m : ℕ) (l : Layout) → p < q → Handles g q m l → LiesAhead l p g
 ahead_of None p q m l lt h = tt
 ahead_of (Some g) p q m l lt h = (h.1, omega (arith, lt, h.2))
 
@@ -43,13 +43,13 @@ left_over false g q m rest l le h = tt
 left_over true None q m rest l le h = tt
 left_over true (Some g) q m rest l le h = omega (arith, le, h.0)
 
-pub fits_by : (l : Layout) (units p d rest : ℕ) (g : Option Guard) (op : Op) (f : Footprint) → print p op ≡ f → d ≡ f.takes + rest → f.needs ≤ d → GoAll l p rest f.exits → Behind l p g → LeavesIf f.raises g rest → IsNamed units op → Fits l units p d (cell g op)
-fits_by l units p d rest g op f e split enough leads behind leaves named = record {
+pub fits_by : (l : Layout) (units p d rest : ℕ) (g : Option Guard) (op : Op) (f : Footprint) → print p op ≡ f → d ≡ f.takes + rest → f.needs ≤ d → GoAll l p rest f.exits → LiesAhead l p g → LeavesIf f.raises g rest → IsNamed units op → Fits l units p d (cell g op)
+fits_by l units p d rest g op f e split enough leads handler leaves named = record {
   rest = rest;
   split = subst (λ (k : Footprint). d ≡ k.takes + rest) (sym e) split;
   enough = subst (λ (k : Footprint). k.needs ≤ d) (sym e) enough;
   leads = subst (λ (k : Footprint). GoAll l p rest k.exits) (sym e) leads;
-  behind = behind;
+  handler = handler;
   leaves = subst (λ (k : Footprint). LeavesIf k.raises g rest) (sym e) leaves;
   named = named;
 }
@@ -173,7 +173,7 @@ moved {units} {N} {y} {p} {r} {d} {n} {cs} e b = subst (λ k. Block units N (At 
 pub four_moved : {units : ℕ} {N y : Layout → Type 0} {p r d n : ℕ} {cs : List Cell} → p ≡ r → Block units N (FourAt p d y) p n cs → Block units N (FourAt r d y) r n cs
 four_moved {units} {N} {y} {p} {r} {d} {n} {cs} e b = subst (λ k. Block units N (FourAt k d y) k n cs) e b
 
--- what is given behind the first place is of no more use
+-- what is given of places after the first one is of no more use
 pub only : {units : ℕ} {N y : Layout → Type 0} {p d n : ℕ} {cs : List Cell} → Block units N (At p d y) p n cs → Block units N (At p d Any) p n cs
 only b = weaken (λ l h. h) (λ l h g. (g.0, tt)) b
 

@@ -1,5 +1,5 @@
 -- The places of the code of simple statements have one number of operands each.
-use Rattle.std.proofs.Common.{◌≡◌, ℕ, suc, ◌+◌, ◌<◌, ◌≤◌, Bool, true, false, List, [], ◌∷◌, Option, Some, None, refl, ap, ◌∙◌, arith}
+use Rattle.std.proofs.Common.{◌≡◌, ℕ, suc, ◌+◌, ◌<◌, Bool, false, List, Option, refl, ap, ◌∙◌, arith}
 use Rattle.py_value.specs.declared.operator.BinOp.{BinOp}
 use Rattle.py_syntax.specs.Functions.{Function}
 use Rattle.py_syntax.specs.Tree.{Text, Alias, Expr, Exprs, Suite as TreeSuite, expr, assign, aug_assign, pass, break, continue, return, raise, assert, global, import, from, def}
@@ -7,13 +7,12 @@ use Rattle.py_meaning.specs.Modules.{unit_at}
 use Rattle.py_code.specs.declared.instr.Instr.TheVariants.{Pop, IfTrue}
 use Rattle.py_compile_expr.specs.Cells.{store, marks, plain}
 use Rattle.py_compile_expr.specs.Expressions.{expr_size}
-use Rattle.py_compile.specs.Statements.{option_size, augment_size, assert_size, function_size}
-use Rattle.py_compile.specs.Ways.{Ways}
+use Rattle.py_compile.specs.Statements.{option_size, assert_size, function_size}
 use Rattle.py_fit.proofs.Blocks.{resize}
-use Rattle.py_fit.proofs.Pieces.{elsewhere, step, calm, fork, finish, after, only, anywhere}
+use Rattle.py_fit.proofs.Pieces.{elsewhere, calm, fork, finish, after, only, anywhere}
 use Rattle.py_fit.proofs.ExpressionFits.{expr_fits}
 use Rattle.py_fit.proofs.TargetFits.{all_fit}
-use Rattle.py_fit.proofs.StatementFits.{Held, option_fits, module_fits, import_fits, take_fits, augment_fits, raise_fits, assert_fits, function_fits}
+use Rattle.py_fit.proofs.StatementFits.{option_fits, module_fits, import_fits, take_fits, augment_fits, raise_fits, assert_fits, function_fits}
 use Rattle.py_fit.proofs.Suites.{exit_break, exit_continue, exit_return}
 use Rattle.py_fit.proofs.Forms.{KindFits}
 

@@ -1,17 +1,16 @@
 -- The places of the code of parts of statements have one number of operands each.
-use Rattle.std.proofs.Common.{◌≡◌, ℕ, suc, ◌+◌, ◌-◌, ◌<◌, ◌≤◌, inl, inr, Bool, true, false, List, [], ◌∷◌, ◌++◌, length, Option, Some, None, refl, sym, ap, ◌∙◌, subst, arith}
+use Rattle.std.proofs.Common.{◌≡◌, ℕ, suc, ◌+◌, ◌-◌, ◌<◌, ◌≤◌, true, false, List, [], ◌∷◌, Option, Some, None, refl, arith}
 use Rattle.py_value.specs.declared.operator.BinOp.{BinOp}
-use Rattle.py_syntax.specs.Functions.{Function}
 use Rattle.py_syntax.specs.Names.{alias_name}
 use Rattle.py_syntax.specs.Tree.{Text, Alias, Expr, name, int, str, fstr, none, bool, tuple, list, dict, paren, not', and, or, unary, binary, compare, cond, call, index, slice, attr, Exprs, no_exprs, exprs}
 use Rattle.py_code.specs.declared.instr.Instr.TheVariants.{Pop, Copy, Sink, List as MakeList, InPlace, Index, StoreIndex, IfFalse, Function as MakeFunction, FunctionWith, Raise, Reraise, Assertion, AssertionWith, Catches}
 use Rattle.py_code.specs.declared.unit.Constant.TheVariants.{None as NoneConstant}
-use Rattle.py_compile_expr.specs.Cells.{constant, load, store, imports, module_named, takes, plain, Guard, Cell}
+use Rattle.py_compile_expr.specs.Cells.{constant, load, store, imports, module_named, takes, plain, Guard}
 use Rattle.py_compile_expr.specs.Expressions.{count, expr_size, each_size}
 use Rattle.py_compile.specs.Statements.{option_size, option_code, module_code, import_size, import_code, take_size, take_code, no_place_code, augment_size, augment_code, raise_size, raise_code, assert_size, assert_code, function_size, function_code, caught_size, caught_code, guard_size, guard_code}
 use Rattle.py_compile.specs.Ways.{Ways, is_there}
-use Rattle.py_fit.proofs.Blocks.{Layout, Block, resize}
-use Rattle.py_fit.proofs.Pieces.{Run, At, Any, moved, step, calm, fork, stop, finish, after, only, starts, anywhere}
+use Rattle.py_fit.proofs.Blocks.{Block, resize}
+use Rattle.py_fit.proofs.Pieces.{Run, At, Any, moved, step, calm, fork, stop, finish, after, only}
 use Rattle.py_fit.proofs.ExpressionFits.{Fit, expr_fits, each_fits}
 use Rattle.py_fit.proofs.PatternFits.{Fails}
 
@@ -31,7 +30,7 @@ import_fits g m p d q (a ∷ rest) at le =
     resize (omega arith) (only (after refl (omega arith) (module_fits g m p d (p + 3) a.name refl le)
     (calm (store (alias_name a)) 1 0 d (suc d) d refl (omega arith) (omega arith) tt (omega arith) (import_fits g m (p + 3 + 1) d q rest (omega arith) le))))
 
--- behind the module on top, which is taken away
+-- after the module on top, which is taken away
 pub take_fits : {units : ℕ} (g : Option Guard) (m p d q : ℕ) (x : Text) (names : List Alias) → p + take_size names ≡ q → m ≤ d → Fit units g m p (suc d) q d (take_size names) (take_code g x names)
 take_fits g m p d q x [] at le = only (calm (plain Pop) 1 0 d (suc d) d refl (omega arith) (omega arith) tt (omega arith) (finish at refl))
 take_fits g m p d q x (a ∷ rest) at le =

@@ -3,12 +3,12 @@
 --     outs_before and the like       the same ways out from parts of a suite
 --     exit_break and the like        instructions that take a way out
 --     exits_fit                      the four ways after a suite that each way out goes through
-use Rattle.std.proofs.Common.{◌≡◌, ℕ, suc, ◌+◌, ◌<◌, ◌≤◌, Bool, true, false, List, [], ◌∷◌, ◌++◌, Option, Some, None, refl, sym, ap, ◌∙◌, subst, arith}
+use Rattle.std.proofs.Common.{◌≡◌, ℕ, suc, ◌+◌, ◌<◌, ◌≤◌, List, ◌∷◌, ◌++◌, Option, Some, refl, ap, ◌∙◌, arith}
 use Rattle.py_code.specs.declared.instr.Instr.TheVariants.{Goto, Return, Leave, Breaking, Continuing, Returning}
 use Rattle.py_compile_expr.specs.Cells.{plain, Guard, Cell, cell}
 use Rattle.py_compile.specs.Statements.{exits_code}
 use Rattle.py_compile.specs.Ways.{Route, out, straight, through, Ways, lower, under, in_finally, in_try, in_loop, in_clause, break_exit, continue_exit, return_exit}
-use Rattle.py_fit.proofs.Blocks.{Layout, Behind, Fits, Block, seq, front}
+use Rattle.py_fit.proofs.Blocks.{Layout, LiesAhead, Fits, Block, seq, front}
 use Rattle.py_fit.proofs.Pieces.{Handles, Run, At, Any, FourAt, handled_before, ahead_of, fits_by, goes, finish}
 
 -- a way out takes operands away, and leads to a place where the others stand, with k more
@@ -92,27 +92,27 @@ suite_at w q s r l le small e handles outs = record { ends = e; handles = handle
 
 -- ---- instructions
 
-break_fits : (units : ℕ) (r : Route) (g : Option Guard) (l : Layout) (p q d next : ℕ) → Leads r q d l → p < q → l.depth next ≡ Some d → p < next → Behind l p g → Fits l units p d (cell g (plain (break_exit r next)))
-break_fits units out g l p q d next way lt there ahead behind =
-    fits_by l units p d d g (plain (Goto next)) _ refl (omega arith) (omega arith) (goes l p next d (0 + d) there (omega arith) ahead, tt) behind tt tt
-break_fits units (straight drops to) g l p q d next way lt there ahead behind =
-    fits_by l units p d way.below g (plain (Leave drops to)) _ refl way.split (omega (arith, way.split)) (goes l p to (0 + way.below) (0 + way.below) way.stands refl (omega (arith, lt, way.ahead)), tt) behind tt tt
-break_fits units (through drops to) g l p q d next way lt there ahead behind =
-    fits_by l units p d way.below g (plain (Breaking drops to)) _ refl way.split (omega (arith, way.split)) (goes l p to (1 + way.below) (1 + way.below) way.stands refl (omega (arith, lt, way.ahead)), tt) behind tt tt
+break_fits : (units : ℕ) (r : Route) (g : Option Guard) (l : Layout) (p q d next : ℕ) → Leads r q d l → p < q → l.depth next ≡ Some d → p < next → LiesAhead l p g → Fits l units p d (cell g (plain (break_exit r next)))
+break_fits units out g l p q d next way lt there ahead handler =
+    fits_by l units p d d g (plain (Goto next)) _ refl (omega arith) (omega arith) (goes l p next d (0 + d) there (omega arith) ahead, tt) handler tt tt
+break_fits units (straight drops to) g l p q d next way lt there ahead handler =
+    fits_by l units p d way.below g (plain (Leave drops to)) _ refl way.split (omega (arith, way.split)) (goes l p to (0 + way.below) (0 + way.below) way.stands refl (omega (arith, lt, way.ahead)), tt) handler tt tt
+break_fits units (through drops to) g l p q d next way lt there ahead handler =
+    fits_by l units p d way.below g (plain (Breaking drops to)) _ refl way.split (omega (arith, way.split)) (goes l p to (1 + way.below) (1 + way.below) way.stands refl (omega (arith, lt, way.ahead)), tt) handler tt tt
 
-continue_fits : (units : ℕ) (r : Route) (g : Option Guard) (l : Layout) (p q d next : ℕ) → Leads r q d l → p < q → l.depth next ≡ Some d → p < next → Behind l p g → Fits l units p d (cell g (plain (continue_exit r next)))
-continue_fits units out g l p q d next way lt there ahead behind =
-    fits_by l units p d d g (plain (Goto next)) _ refl (omega arith) (omega arith) (goes l p next d (0 + d) there (omega arith) ahead, tt) behind tt tt
-continue_fits units (straight drops to) g l p q d next way lt there ahead behind =
-    fits_by l units p d way.below g (plain (Leave drops to)) _ refl way.split (omega (arith, way.split)) (goes l p to (0 + way.below) (0 + way.below) way.stands refl (omega (arith, lt, way.ahead)), tt) behind tt tt
-continue_fits units (through drops to) g l p q d next way lt there ahead behind =
-    fits_by l units p d way.below g (plain (Continuing drops to)) _ refl way.split (omega (arith, way.split)) (goes l p to (1 + way.below) (1 + way.below) way.stands refl (omega (arith, lt, way.ahead)), tt) behind tt tt
+continue_fits : (units : ℕ) (r : Route) (g : Option Guard) (l : Layout) (p q d next : ℕ) → Leads r q d l → p < q → l.depth next ≡ Some d → p < next → LiesAhead l p g → Fits l units p d (cell g (plain (continue_exit r next)))
+continue_fits units out g l p q d next way lt there ahead handler =
+    fits_by l units p d d g (plain (Goto next)) _ refl (omega arith) (omega arith) (goes l p next d (0 + d) there (omega arith) ahead, tt) handler tt tt
+continue_fits units (straight drops to) g l p q d next way lt there ahead handler =
+    fits_by l units p d way.below g (plain (Leave drops to)) _ refl way.split (omega (arith, way.split)) (goes l p to (0 + way.below) (0 + way.below) way.stands refl (omega (arith, lt, way.ahead)), tt) handler tt tt
+continue_fits units (through drops to) g l p q d next way lt there ahead handler =
+    fits_by l units p d way.below g (plain (Continuing drops to)) _ refl way.split (omega (arith, way.split)) (goes l p to (1 + way.below) (1 + way.below) way.stands refl (omega (arith, lt, way.ahead)), tt) handler tt tt
 
-return_fits : (units : ℕ) (r : Route) (g : Option Guard) (l : Layout) (p q d : ℕ) → Leads r q d l → p < q → Behind l p g → Fits l units p (suc d) (cell g (plain (return_exit r)))
-return_fits units out g l p q d way lt behind = fits_by l units p (suc d) d g (plain Return) _ refl (omega arith) (omega arith) tt behind tt tt
-return_fits units (straight drops to) g l p q d way lt behind = fits_by l units p (suc d) d g (plain Return) _ refl (omega arith) (omega arith) tt behind tt tt
-return_fits units (through drops to) g l p q d way lt behind =
-    fits_by l units p (suc d) way.below g (plain (Returning drops to)) _ refl (omega (arith, way.split)) (omega (arith, way.split)) (goes l p to (1 + way.below) (1 + way.below) way.stands refl (omega (arith, lt, way.ahead)), tt) behind tt tt
+return_fits : (units : ℕ) (r : Route) (g : Option Guard) (l : Layout) (p q d : ℕ) → Leads r q d l → p < q → LiesAhead l p g → Fits l units p (suc d) (cell g (plain (return_exit r)))
+return_fits units out g l p q d way lt handler = fits_by l units p (suc d) d g (plain Return) _ refl (omega arith) (omega arith) tt handler tt tt
+return_fits units (straight drops to) g l p q d way lt handler = fits_by l units p (suc d) d g (plain Return) _ refl (omega arith) (omega arith) tt handler tt tt
+return_fits units (through drops to) g l p q d way lt handler =
+    fits_by l units p (suc d) way.below g (plain (Returning drops to)) _ refl (omega (arith, way.split)) (omega (arith, way.split)) (goes l p to (1 + way.below) (1 + way.below) way.stands refl (omega (arith, lt, way.ahead)), tt) handler tt tt
 
 module _ {units : ℕ} {y : Layout → Type 0} {q f p k : ℕ} {cs : List Cell} (w : Ways) where
   pub exit_break : (next : ℕ) → p < q → p < next → Block units (Run w.guard w.depth q f (Outs w q)) (At (p + 1) w.depth y) (p + 1) k cs

@@ -1,13 +1,13 @@
 -- The handler table of code: ranges one after another, each in front of its target.
-use Rattle.std.proofs.Common.{◌≡◌, ℕ, zero, suc, ◌+◌, ◌<◌, ◌≤◌, ◌==◌, ◌⊎◌, inl, inr, Bool, true, false, List, [], ◌∷◌, ◌++◌, length, Option, Some, None, refl, sym, ap, ◌∙◌, subst, arith}
+use Rattle.std.proofs.Common.{◌≡◌, ℕ, zero, suc, ◌+◌, ◌≤◌, ◌==◌, inl, inr, Bool, true, false, List, [], ◌∷◌, ◌++◌, length, Option, Some, None, refl, sym, ap, ◌∙◌, subst, arith}
 use Rattle.std.specs.Prelude.{slice_get, ◌&&◌, if◌then◌else◌}
 use Rattle.std.proofs.lemmas.Bool.Decides.{Decides-eqb}
 use Rattle.py_code.specs.declared.unit.Handler.{Handler}
 use Rattle.py_code.specs.Units.{Code}
-use Rattle.py_code.specs.Valid.{IsHandler, AreNested, IsTable}
+use Rattle.py_code.specs.Valid.{AreNested, IsTable}
 use Rattle.py_compile_expr.specs.Cells.{Guard, Cell}
 use Rattle.py_compile.specs.Units.{is_same_guard, is_same, closed, ranges, handlers_of}
-use Rattle.py_fit.proofs.Blocks.{Layout, Behind, Fits, AllFit}
+use Rattle.py_fit.proofs.Blocks.{Layout, LiesAhead, AllFit}
 use Rattle.py_fit.proofs.Layouts.{layout_of}
 
 -- ---- handlers that are the same
@@ -49,7 +49,7 @@ abbrev pub Open : Layout → ℕ → Option Guard → Type 0
 Open l p None = Unit {0}
 Open l p (Some g) = (l.depth g.target ≡ Some (suc g.depth)) × (p ≤ g.target)
 
-opened : (l : Layout) (p : ℕ) (g : Option Guard) → Behind l p g → Open l (p + 1) g
+opened : (l : Layout) (p : ℕ) (g : Option Guard) → LiesAhead l p g → Open l (p + 1) g
 opened l p None b = tt
 opened l p (Some g) b = (b.0, omega (arith, b.1))
 
@@ -73,11 +73,11 @@ range_rows l units low from g p high [] ds all begins ordered end o = alone g o
 range_rows l units low from g p high (c ∷ cs) [] all begins ordered end o = absurd all
 range_rows l units low from g p high (c ∷ cs) (d ∷ ds) all begins ordered end o =
     by_case (is_same g c.guard) refl (λ next. range_rows l units low from g (p + 1) high cs ds all.1 begins (omega (arith, ordered)) (omega (arith, end)) next)
-    (range_rows l units p p c.guard (p + 1) high cs ds all.1 (omega arith) (omega arith) (omega (arith, end)) (opened l p c.guard all.0.behind))
+    (range_rows l units p p c.guard (p + 1) high cs ds all.1 (omega arith) (omega arith) (omega (arith, end)) (opened l p c.guard all.0.handler))
   where
     by_case : (b : Bool) → is_same g c.guard ≡ b → (Open l (p + 1) g → Rows l low high (ranges from g (p + 1) cs)) → Rows l p high (ranges p c.guard (p + 1) cs)
         → Rows l low high (if b then ranges from g (p + 1) cs else closed from p g ++ ranges p c.guard (p + 1) cs)
-    by_case true e h k = h (subst (λ x. Open l (p + 1) x) (sym (same_one g c.guard e)) (opened l p c.guard all.0.behind))
+    by_case true e h k = h (subst (λ x. Open l (p + 1) x) (sym (same_one g c.guard e)) (opened l p c.guard all.0.handler))
     by_case false e h k = closed_rows l low from p high g (ranges p c.guard (p + 1) cs) begins ordered (omega (arith, end)) o k
 
 -- ---- the table

@@ -1,5 +1,5 @@
 -- The places of the code of targets have one number of operands each, and each target takes the value on top.
-use Rattle.std.proofs.Common.{◌≡◌, ℕ, suc, ◌+◌, ◌≤◌, Bool, true, false, List, [], ◌∷◌, ◌++◌, Option, refl, sym, ap, ◌∙◌, arith}
+use Rattle.std.proofs.Common.{◌≡◌, ℕ, suc, ◌+◌, ◌≤◌, true, false, Option, refl, arith}
 use Rattle.py_syntax.specs.Tree.{Expr, name, int, str, fstr, none, bool, tuple, list, dict, paren, not', and, or, unary, binary, compare, cond, call, index, slice, attr, Exprs, no_exprs, exprs}
 use Rattle.py_code.specs.declared.instr.Instr.TheVariants.{Pop, Copy, Index, StoreIndex, Unpack}
 use Rattle.py_code.specs.declared.unit.Constant.TheVariants.{None as NoneConstant}

@@ -1,14 +1,14 @@
 -- The places of the code of `try` have one number of operands each, where those of its suites have.
-use Rattle.std.proofs.Common.{◌≡◌, ℕ, suc, ◌+◌, ◌<◌, ◌≤◌, Bool, true, false, List, ◌∷◌, ◌++◌, Option, Some, None, refl, ap, ◌∙◌, arith}
+use Rattle.std.proofs.Common.{◌≡◌, ℕ, suc, ◌+◌, ◌<◌, ◌≤◌, Bool, true, false, List, ◌++◌, Option, Some, None, refl, ap, ◌∙◌, arith}
 use Rattle.py_syntax.specs.Functions.{Function}
 use Rattle.py_syntax.specs.Tree.{Text, Expr, Stmts, Suite as TreeSuite, suite, OptSuite, no_suite, has_suite, Clauses, no_clauses, clause, try}
 use Rattle.py_code.specs.declared.instr.Instr.TheVariants.{Pop, Goto, Caught, Uncaught, Ending, Settle, Release}
 use Rattle.py_compile_expr.specs.Cells.{store, unset, marks, plain, Cell, put}
 use Rattle.py_compile.specs.Statements.{caught_size, stmts_size, opt_size, clauses_size, exits_code}
 use Rattle.py_compile.specs.Ways.{Ways, under, in_finally, in_try, in_clause, in_hand}
-use Rattle.py_fit.proofs.Blocks.{Layout, Block, resize}
+use Rattle.py_fit.proofs.Blocks.{Block, resize}
 use Rattle.py_fit.proofs.Pieces.{Run, At, Any, elsewhere, moved, four_moved, handled_before, handled_above, calm, jump, stop, spread, finish, only, placed}
-use Rattle.py_fit.proofs.StatementFits.{Held, caught_fits}
+use Rattle.py_fit.proofs.StatementFits.{caught_fits}
 use Rattle.py_fit.proofs.Suites.{Outs, Suite, outs_before, outs_under, outs_clause, outs_try, outs_finally, suite_at, exits_fit, exits_then}
 use Rattle.py_fit.proofs.Forms.{StmtsFit, KindFits, OptFits, ClausesFit}
 use Rattle.py_fit.proofs.BranchFits.{held_under}
