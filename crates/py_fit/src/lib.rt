@@ -1,5 +1,6 @@
-//! That the code of modules is one that a machine runs without missing anything: a law over the definition of compilation. The function
-//! below does nothing, and stands for the law that its contract states.
+//! That the code of modules is one that a machine runs without missing anything: a law over the
+//! definition of compilation. The function below does nothing, and stands for the law that its
+//! contract states.
 #![tactic(auto)]
 
 ghost use Rattle.py_fit.specs.Fits.{CodeFits};
