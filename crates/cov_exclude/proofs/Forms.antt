@@ -1,5 +1,5 @@
 -- The walk, form by form: what the code gathers is what the walk gathers.
-use Rattle.std.proofs.Common.{◌≡◌, ℕ, ◌+◌, ◌<◌, List, ◌∷◌, ◌++◌, Bool, false, Result, OnOk, Option, Some, None, Vec, Global, length, drop, get_or, refl, ap, sym, ◌∙◌, append_assoc}
+use Rattle.std.proofs.Common.{◌≡◌, ℕ, ◌+◌, ◌<◌, List, ◌∷◌, ◌++◌, Bool, false, Result, OnOk, Option, Some, None, Vec, Global, length, drop, get_or, refl, ap, sym, subst, ◌∙◌, append_assoc}
 use Rattle.py_syntax.specs.declared.expr.Expr.{Expr}
 use Rattle.py_syntax.specs.declared.stmt.Case.{Case}
 use Rattle.py_syntax.specs.declared.stmt.Clause.{Clause}
@@ -40,12 +40,11 @@ module _ (r : Rule) (whole : Bool) (line last : ℕ) (k : StmtKind) where
       ap (λ q. kind_walk r whole line last (plain_kind q)) is ∙ ap (kind_walk r whole line last) (plain-Try b cs o f)
       ∙ ap (λ xs. headed_walk r whole false line (plain_suite b) ++ (clauses_walk r whole (plain_clauses xs) ++ (opt_walk r whole (plain_opt_suite o) ++ opt_walk r whole (plain_opt_suite f)))) (sym same)
 
-  pub matched : {E : Type 0} (result : Result (Unit {0}) E) (e : Expr) (l : ℕ) (cs : Vec Case Global) (slice : List Case) (inner : Bool) (before mid after : List ℕ)
-      → k ≡ kind_.Match e l cs → slice ≡ cs.items → inner ≡ is_whole r whole line l → mid ≡ before ++ mark_if (is_gathered r whole line l) line
-      → OnOk result (after ≡ mid ++ cases_walk r inner (plain_cases slice)) → OnOk result (after ≡ before ++ kind_walk r whole line last (plain_kind k))
-  matched result e l cs slice inner before mid after is same in-is first h =
-      goes_on result before mid after (mark_if (is_gathered r whole line l) line) (cases_walk r inner (plain_cases slice)) (kind_walk r whole line last (plain_kind k)) h first
-      (of-match e l cs slice is same ∙ ap (λ w. mark_if (is_gathered r whole line l) line ++ cases_walk r w (plain_cases slice)) (sym in-is))
+  pub matched : {E : Type 0} (result : Result (Unit {0}) E) (e : Expr) (l : ℕ) (cs : Vec Case Global) (slice : List Case) (before after : List ℕ)
+      → k ≡ kind_.Match e l cs → slice ≡ cs.items
+      → OnOk result (after ≡ before ++ (mark_if (is_gathered r whole line l) line ++ cases_walk r (is_whole r whole line l) (plain_cases slice)))
+      → OnOk result (after ≡ before ++ kind_walk r whole line last (plain_kind k))
+  matched result e l cs slice before after is same h = subst (λ w. OnOk result (after ≡ before ++ w)) (sym (of-match e l cs slice is same)) h
 
   pub tried : {E : Type 0} (result : Result (Unit {0}) E) (b : Suite) (cs : Vec Clause Global) (slice : List Clause) (o f : Option Suite) (before body clauses orelse after : List ℕ)
       → k ≡ kind_.Try b cs o f → slice ≡ cs.items
@@ -60,6 +59,15 @@ module _ (r : Rule) (whole : Bool) (line last : ℕ) (k : StmtKind) where
       (goes_on result body clauses after C (O ++ F) (C ++ (O ++ F)) (goes_on result clauses orelse after O F (O ++ F) h4 h3 refl) h2 refl)
       h1
       (of-try b cs slice o f is same)
+
+-- the header of a `match`, and then its cases
+pub in_two : (r : Rule) (whole : Bool) (line l : ℕ) {E : Type 0} (result : Result (Unit {0}) E) (slice : List Case) (inner : Bool) (before mid after : List ℕ)
+    → inner ≡ is_whole r whole line l → mid ≡ before ++ mark_if (is_gathered r whole line l) line
+    → OnOk result (after ≡ mid ++ cases_walk r inner (plain_cases slice))
+    → OnOk result (after ≡ before ++ (mark_if (is_gathered r whole line l) line ++ cases_walk r (is_whole r whole line l) (plain_cases slice)))
+in_two r whole line l result slice inner before mid after in-is first h =
+    let M = mark_if (is_gathered r whole line l) line in
+    goes_on result before mid after M (cases_walk r inner (plain_cases slice)) (M ++ cases_walk r (is_whole r whole line l) (plain_cases slice)) h first (ap (λ w. M ++ cases_walk r w (plain_cases slice)) (sym in-is))
 
 -- one statement further
 pub turn : (r : Rule) (whole leads : Bool) (now next was : List ℕ) (xs : List Stmt) (i : ℕ) (s : Stmt) → i < length xs → s ≡ get_or xs i s

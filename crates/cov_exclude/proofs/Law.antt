@@ -12,9 +12,9 @@ use Rattle.cov_exclude.specs.Walk.{Rule, stmts_walk, kind_walk, opt_walk, arms_w
 both : {a b c d : List ℕ} → a ≡ c → b ≡ d → (a ++ b) ≡ (c ++ d)
 both e f = ap₂ (λ x y. x ++ y) e f
 
--- a mark and two parts behind it
-behind : (m : List ℕ) {a b c d : List ℕ} → a ≡ c → b ≡ d → ((m ++ a) ++ b) ≡ (m ++ (c ++ d))
-behind m {a} {b} e f = append_assoc m a b ∙ ap (λ x. m ++ x) (both e f)
+-- a mark and two parts after it
+marked : (m : List ℕ) {a b c d : List ℕ} → a ≡ c → b ≡ d → ((m ++ a) ++ b) ≡ (m ++ (c ++ d))
+marked m {a} {b} e f = append_assoc m a b ∙ ap (λ x. m ++ x) (both e f)
 
 -- the first statement of a body, which may be a docstring, and the others
 leading : (docstring : Bool) {k k' s s' : List ℕ} → k ≡ k' → s ≡ s' → ((if docstring then [] else k) ++ s) ≡ (if docstring then s' else k' ++ s')
@@ -159,10 +159,10 @@ mutual
   kind-touched t first last (import names) = refl
   kind-touched t first last (from m names) = refl
   kind-touched t first last (if' arms o) = both (arms-touched t arms) (opt-touched t o)
-  kind-touched t first last (while e (suite f l inline b) o) = behind (mark_if (t f l) first) (stmts-touched t b) (opt-touched t o)
-  kind-touched t first last (for x e (suite f l inline b) o) = behind (mark_if (t f l) first) (stmts-touched t b) (opt-touched t o)
+  kind-touched t first last (while e (suite f l inline b) o) = marked (mark_if (t f l) first) (stmts-touched t b) (opt-touched t o)
+  kind-touched t first last (for x e (suite f l inline b) o) = marked (mark_if (t f l) first) (stmts-touched t b) (opt-touched t o)
   kind-touched t first last (try (suite f l inline b) cs o fin) =
-      behind (mark_if (t f l) first) (stmts-touched t b) (both (clauses-touched t cs) (both (opt-touched t o) (opt-touched t fin)))
+      marked (mark_if (t f l) first) (stmts-touched t b) (both (clauses-touched t cs) (both (opt-touched t o) (opt-touched t fin)))
   kind-touched t first last (def x ps ds c (suite f l inline b)) = ap (λ y. mark_if (t f l) first ++ y) (body-touched t b)
   kind-touched t first last (match e header_last cs) = ap (λ y. mark_if (t first header_last) first ++ y) (cases-touched t cs)
 
@@ -172,15 +172,15 @@ mutual
 
   arms-touched : (t : ℕ → ℕ → Bool) (arms : Arms) → arms_walk (touching t) false arms ≡ arms_touched t arms
   arms-touched t no_arms = refl
-  arms-touched t (arm e (suite f l inline b) arms) = behind (mark_if (t f l) f) (stmts-touched t b) (arms-touched t arms)
+  arms-touched t (arm e (suite f l inline b) arms) = marked (mark_if (t f l) f) (stmts-touched t b) (arms-touched t arms)
 
   clauses-touched : (t : ℕ → ℕ → Bool) (cs : Clauses) → clauses_walk (touching t) false cs ≡ clauses_touched t cs
   clauses-touched t no_clauses = refl
-  clauses-touched t (clause e x (suite f l inline b) cs) = behind (mark_if (t f l) f) (stmts-touched t b) (clauses-touched t cs)
+  clauses-touched t (clause e x (suite f l inline b) cs) = marked (mark_if (t f l) f) (stmts-touched t b) (clauses-touched t cs)
 
   cases-touched : (t : ℕ → ℕ → Bool) (cs : Cases) → cases_walk (touching t) false cs ≡ cases_touched t cs
   cases-touched t no_cases = refl
-  cases-touched t (case p g (suite f l inline b) cs) = behind (mark_if (t f l) f) (stmts-touched t b) (cases-touched t cs)
+  cases-touched t (case p g (suite f l inline b) cs) = marked (mark_if (t f l) f) (stmts-touched t b) (cases-touched t cs)
 
   pub body-touched : (t : ℕ → ℕ → Bool) (ss : Stmts) → stmts_walk (touching t) false true ss ≡ body_touched t ss
   body-touched t no_stmts = refl

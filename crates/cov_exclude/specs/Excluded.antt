@@ -9,11 +9,8 @@ use Rattle.std.specs.Prelude.{ℕ, Bool, if◌then◌else◌, List, [], ◌∷�
 use Rattle.py_syntax.specs.Functions.{is_docstring}
 use Rattle.py_syntax.specs.Marks.{in_order, stmts_marks, function_marks, cases_marks}
 use Rattle.py_syntax.specs.Tree.{Stmts, no_stmts, stmt, Suite, suite, OptSuite, no_suite, has_suite, Arms, no_arms, arm, Clauses, no_clauses, clause, Cases, no_cases, case, StmtKind, expr, assign, aug_assign, pass, break, continue, return, raise, assert, global, import, from, if', while, for, try, def, match}
+use Rattle.cov_predict.specs.Walk.{header_line}
 use Rattle.cov_exclude.specs.Touched.{mark_if, touches}
-
--- the first line of the header of a suite
-abbrev pub header_line : Suite → ℕ
-header_line (suite first last inline b) = first
 
 -- A simple statement is excluded where it is touched from its first to its last line. A touched header of a suite excludes its own
 -- mark and its suite, and a touched header of a `def` or a `match` the whole statement. Any other suite is judged on its own.

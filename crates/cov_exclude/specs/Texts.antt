@@ -1,5 +1,5 @@
 -- Patterns as texts, and the lines that they match. (the documentation of the regex crate, "Syntax")
---     IsNoPattern                    a text that is no pattern
+--     IsPatternText, IsNoPattern     a text that is a pattern, and one that is none
 --     IsMadeOf, IsPlainlyMade        a pattern is what the grammar reads in a text, or in its own; ArePlainlyMade of several
 --     is_matched_by, is_matched      a pattern or one of several matches a line
 --     matched_lines                  the numbers of the physical lines of a text that are matched
@@ -13,9 +13,13 @@ use Rattle.regex.specs.declared.string.regex.Regex.{Regex}
 use Rattle.regex_syntax.specs.Grammar.{read}
 use Rattle.cov_exclude.specs.Touched.{numbers_from}
 
+-- the grammar reads a pattern in the text, one that doesn't nest too deeply
+abbrev pub IsPatternText : List ℕ → Type 0
+IsPatternText text = IsPattern default_config text
+
 -- the grammar reads no pattern in the text, or one that nests too deeply
 abbrev pub IsNoPattern : List ℕ → Type 0
-IsNoPattern text = ¬ IsPattern default_config text
+IsNoPattern text = ¬ IsPatternText text
 
 -- the pattern is what the grammar reads in its own text, with the options of the crate
 pub record IsPlainlyMade (made : Regex) : Type 0 where

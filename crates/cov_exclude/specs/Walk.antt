@@ -3,7 +3,7 @@
 use Rattle.std.specs.Prelude.{ℕ, Bool, true, false, ◌&&◌, ◌||◌, if◌then◌else◌, List, [], ◌++◌}
 use Rattle.py_syntax.specs.Functions.{is_docstring}
 use Rattle.py_syntax.specs.Tree.{Stmts, no_stmts, stmt, Suite, suite, OptSuite, no_suite, has_suite, Arms, no_arms, arm, Clauses, no_clauses, clause, Cases, no_cases, case, StmtKind, expr, assign, aug_assign, pass, break, continue, return, raise, assert, global, import, from, if', while, for, try, def, match}
-use Rattle.cov_exclude.specs.Excluded.{header_line}
+use Rattle.cov_predict.specs.Walk.{header_line}
 use Rattle.cov_exclude.specs.Touched.{mark_if}
 
 -- which lines touch, and whether a touched header takes its suite with it
@@ -11,7 +11,7 @@ pub record Rule : Type 0 where
   pub touched : ℕ → ℕ → Bool
   pub spreads : Bool
 
--- whether a statement or header with these lines is gathered, and whether the suite behind it is as a whole
+-- whether a statement or header with these lines is gathered, and whether the suite after it is as a whole
 abbrev pub is_gathered : Rule → Bool → ℕ → ℕ → Bool
 is_gathered r whole first last = whole || r.touched first last
 

@@ -14,7 +14,7 @@ use py_value::NoMemory;
 #[derive(Clone, Copy)]
 pub(crate) struct Rule<'a> {
     pub(crate) matched: &'a Matched,
-    /// Whether all marks of the suite behind such a header are gathered too.
+    /// Whether all marks of the suite after such a header are gathered too.
     pub(crate) spreads: bool,
 }
 
@@ -93,51 +93,57 @@ fn statement(
         | StmtKind::Assert(_, _) => mark(out, rule, whole, line, line, last),
         StmtKind::Global(_) => Ok(()),
         StmtKind::Import(_) | StmtKind::From(_, _) => mark(out, rule, whole, line, line, last),
-        StmtKind::If {
-            arms: tests,
-            orelse,
-        } => {
-            arms(out, rule, whole, tests)?;
+        StmtKind::If { arms, orelse } => {
+            tests(out, rule, whole, arms)?;
             opt(out, rule, whole, orelse)
         }
-        StmtKind::While {
-            body: turn,
-            orelse,
-            ..
-        } => {
-            headed(out, rule, whole, false, line, turn)?;
+        StmtKind::While { body, orelse, .. } => {
+            headed(out, rule, whole, false, line, body)?;
             opt(out, rule, whole, orelse)
         }
-        StmtKind::For {
-            body: turn,
-            orelse,
-            ..
-        } => {
-            headed(out, rule, whole, false, line, turn)?;
+        StmtKind::For { body, orelse, .. } => {
+            headed(out, rule, whole, false, line, body)?;
             opt(out, rule, whole, orelse)
         }
         StmtKind::Try {
-            body: tried,
+            body,
             clauses: handlers,
             orelse,
             finally,
         } => {
-            headed(out, rule, whole, false, line, tried)?;
+            headed(out, rule, whole, false, line, body)?;
             clauses(out, rule, whole, handlers)?;
             opt(out, rule, whole, orelse)?;
             opt(out, rule, whole, finally)
         }
-        StmtKind::Def { body: of, .. } => headed(out, rule, whole, true, line, of),
+        StmtKind::Def { body, .. } => headed(out, rule, whole, true, line, body),
         StmtKind::Match {
             header_last,
             cases: list,
             ..
-        } => {
-            let all = is_whole(rule, whole, line, *header_last);
-            mark(out, rule, whole, line, line, *header_last)?;
-            cases(out, rule, all, list)
-        }
+        } => matched(out, rule, whole, line, *header_last, list),
     }
+}
+
+/// Adds the mark of the header of a `match`, which ends at this line, and those of its cases.
+#[cycle(walk)]
+fn matched(
+    out: &mut Vec<u32>,
+    rule: Rule<'_>,
+    whole: bool,
+    line: u32,
+    header_last: u32,
+    list: &[Case],
+) -> Result<(), NoMemory>
+    ensures { OnOk result (out.new.items
+        ≡ out.old.items
+        ++ (mark_if (is_gathered (rule_view rule.entry) whole line header_last) line
+        ++ cases_walk (rule_view rule.entry) (is_whole (rule_view rule.entry) whole line header_last)
+        (plain_cases list.now))) }
+{
+    let all = is_whole(rule, whole, line, header_last);
+    mark(out, rule, whole, line, line, header_last)?;
+    cases(out, rule, all, list)
 }
 
 /// Adds a mark whose statement or header has these lines.
@@ -199,7 +205,7 @@ fn inside(out: &mut Vec<u32>, rule: Rule<'_>, whole: bool, s: &Suite) -> Result<
 }
 
 #[cycle(walk)]
-fn arms(out: &mut Vec<u32>, rule: Rule<'_>, whole: bool, items: &[Arm]) -> Result<(), NoMemory>
+fn tests(out: &mut Vec<u32>, rule: Rule<'_>, whole: bool, items: &[Arm]) -> Result<(), NoMemory>
     ensures { OnOk result (out.new.items
         ≡ out.old.items ++ arms_walk (rule_view rule.entry) whole (plain_arms items.now)) }
 {

@@ -8,8 +8,8 @@ abbrev pub invariant-statements-loop-s : goal.invariant-statements-loop-s
 invariant-statements-loop-s l =
     l.out.items ++ stmts_walk (rule_view l.rule) l.whole l.first (plain_stmts (drop l.s-index l.items)) ≡ l.initial.out.items ++ stmts_walk (rule_view l.rule) l.whole l.initial.first (plain_stmts l.items)
 
-abbrev pub invariant-arms-loop-arm : goal.invariant-arms-loop-arm
-invariant-arms-loop-arm l = l.out.items ++ arms_walk (rule_view l.rule) l.whole (plain_arms (drop l.arm-index l.items)) ≡ l.initial.out.items ++ arms_walk (rule_view l.rule) l.whole (plain_arms l.items)
+abbrev pub invariant-tests-loop-arm : goal.invariant-tests-loop-arm
+invariant-tests-loop-arm l = l.out.items ++ arms_walk (rule_view l.rule) l.whole (plain_arms (drop l.arm-index l.items)) ≡ l.initial.out.items ++ arms_walk (rule_view l.rule) l.whole (plain_arms l.items)
 
 abbrev pub invariant-clauses-loop-clause : goal.invariant-clauses-loop-clause
 invariant-clauses-loop-clause l = l.out.items ++ clauses_walk (rule_view l.rule) l.whole (plain_clauses (drop l.clause-index l.items)) ≡ l.initial.out.items ++ clauses_walk (rule_view l.rule) l.whole (plain_clauses l.items)

@@ -3,7 +3,7 @@ use Rattle.std.specs.Prelude.{IfErr}
 use Rattle.std.proofs.lemmas.List.{length-map, take_all}
 use Rattle.cov_exclude.specs.Refusals.{IsCauseOf, IsCauseAt}
 use Rattle.cov_exclude.specs.Texts.{ArePlainlyMade, IsMadeOf, texts_of}
-use Rattle.cov_exclude.proofs.Refusing.{cause-of, text-found, one-more, one-more-plainly}
+use Rattle.cov_exclude.proofs.Refusing.{cause-of, earlier-patterns, text-found, one-more, one-more-plainly}
 use Rattle.cov_exclude.proofs.patterns.Patterns.build.Goals as goal
 
 pub loop-at-preserved : goal.loop-at-preserved
@@ -22,6 +22,7 @@ returns-in_err-regex-clause-refused g c =
     subst (λ r. IfErr r (IsCauseOf (map string_bytes c.args.texts.now) (sizes c.args.maker.now) (sizes c.made_at.new.maker))) (sym is)
     (cause-of (map string_bytes c.args.texts.now) c.loop-at.at (string_bytes c.index-texts-at.result) (sizes c.args.maker.now) (sizes c.loop-at.maker) (sizes c.made_at.new.maker) c.in_err-regex.field-0.0
     (omega (arith, length-map c.args.texts.now string_bytes)) (text-found c.args.texts.now c.loop-at.at c.index-texts-at.result (omega arith) c.index-texts-at.is) c.loop-at.invariant.count
+    (earlier-patterns c.loop-at.made.items c.args.texts.now c.loop-at.at c.loop-at.invariant.plainly c.loop-at.invariant.texts)
     (subst (λ text. IsCauseAt c.loop-at.at text (sizes c.loop-at.maker) (sizes c.made_at.new.maker) c.in_err-regex.field-0.0) c.as_str.ensures.value c.in_err-regex.ensures.refused))
 
 pub returns-clause-built : goal.returns-clause-built
