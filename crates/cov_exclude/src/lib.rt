@@ -2,7 +2,6 @@
 //! `no_branch`, by the `Patterns` that match a line. A `Maker` builds the patterns.
 #![tactic(auto)]
 
-mod docstrings;
 mod exclusion;
 mod lines;
 mod maker;

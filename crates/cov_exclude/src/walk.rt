@@ -5,8 +5,8 @@ ghost use Rattle.cov_exclude.specs.Touched.{mark_if};
 ghost use Rattle.cov_exclude.specs.Walk.{is_gathered, is_whole, stmts_walk, leading_walk, kind_walk, headed_walk, inside_walk, opt_walk, arms_walk, clauses_walk, cases_walk};
 ghost use Rattle.cov_exclude.specs.Views.{rule_view};
 
-use crate::docstrings::is_docstring;
 use crate::matched::Matched;
+use py_docstrings::is_docstring;
 use py_syntax::{Arm, Case, Clause, Stmt, StmtKind, Suite};
 use py_value::NoMemory;
 
