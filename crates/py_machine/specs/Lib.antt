@@ -1,2 +1,5 @@
 pub mod Endings
 pub mod Outcomes
+pub mod Reaching
+pub mod Told
+pub mod Runs

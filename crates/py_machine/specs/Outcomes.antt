@@ -1,5 +1,4 @@
 -- How programs and calls end, as the definitions have it.
-use Rattle.std.specs.Prelude.{Some, None}
 use Rattle.py_value.specs.View.{plain}
 use Rattle.py_builtins.specs.Outcomes.{Outcome, finished, exited, raised, cut}
 use Rattle.py_builtins.specs.Returns as returns

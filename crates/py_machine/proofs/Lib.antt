@@ -1,0 +1,12 @@
+mod Grows
+mod Joins
+mod Throws
+mod Performs
+mod Begins
+mod Whole
+mod AtOnce
+mod GivesUp
+mod Stops
+mod StopsRuns
+mod StopsCalls
+mod TracerCalls

@@ -1,0 +1,76 @@
+// Whoever runs programs.
+ghost use Rattle.std.specs.Prelude.{◌<◌, ◌≤◌, length, IfOk, OnErr, IsErrOf};
+ghost use Rattle.cov_event.specs.Moves.{Takes};
+ghost use Rattle.cov_outside.specs.Counts.{Rose};
+ghost use Rattle.py_builtins.specs.Inputs.{Wrote};
+ghost use Rattle.py_code.specs.Loaded.{modules_of};
+ghost use Rattle.py_machine.specs.Runs.{IsRun, StopsRun};
+ghost use Rattle.py_machine.specs.Told.{Heard, TakesSome, CallsSome, HeardSome};
+ghost use Rattle.py_store.specs.Stores.{world_of};
+
+use crate::outcome::Ran;
+use crate::runs::run;
+use cov_event::Tracer;
+use cov_outside::{Sink, Source};
+use py_builtins::RunFault;
+use py_code::Programs;
+use py_store::Store;
+use std::alloc::Global;
+
+/// Runs programs. An engine that is true runs them as their code says.
+pub trait Engine {
+    // Whether it is true.
+    ghost faithful: { Type 0 };
+
+    fn run<T: Tracer, I: Source, O: Sink>(
+        &mut self,
+        alloc: Global,
+        programs: &Programs,
+        store: &mut Store,
+        budget: u64,
+        tracer: &mut T,
+        input: &mut I,
+        out: &mut O,
+    ) -> Result<Ran, RunFault>
+        requires some { 0 < length (modules_of programs.now) }
+        requires few { length (modules_of programs.now) ≤ 4294967295 }
+        ensures ok { faithful
+            → IfOk result (λ ran. Heard I.tells (I.left input.old) (I.left input.new)
+            (IsRun (λ es. Takes T.moves tracer.old es tracer.new)
+            (Wrote O.tells (O.contents out.old) (O.contents out.new)) (modules_of programs.now)
+            (world_of store.old) budget ran (world_of store.new))) }
+        ensures given_up { faithful
+            → OnErr result (HeardSome I.tells (I.left input.old) (I.left input.new)
+            (StopsRun (λ es. TakesSome T.moves T.recorded tracer.old es tracer.new) O.tells
+            (O.contents out.old) (O.contents out.new) (modules_of programs.now)
+            (world_of store.old) budget)) }
+        // Whether it is true or not:
+        ensures calls { CallsSome T.moves T.recorded tracer.old tracer.new }
+        ensures reads { I.faults input.old ≤ I.faults input.new }
+        ensures writes { O.faults out.old ≤ O.faults out.new }
+        ensures read_fault { IsErrOf result RunFault.ReadFault
+            → Rose (I.faults input.old) (I.faults input.new) }
+        ensures write_fault { IsErrOf result RunFault.WriteFault
+            → Rose (O.faults out.old) (O.faults out.new) };
+}
+
+/// The machine.
+#[derive(Drop)]
+pub struct Machine;
+
+impl Engine for Machine {
+    ghost faithful = { Unit {0} };
+
+    fn run<T: Tracer, I: Source, O: Sink>(
+        &mut self,
+        alloc: Global,
+        programs: &Programs,
+        store: &mut Store,
+        budget: u64,
+        tracer: &mut T,
+        input: &mut I,
+        out: &mut O,
+    ) -> Result<Ran, RunFault> {
+        run(alloc, programs, store, budget, tracer, input, out)
+    }
+}

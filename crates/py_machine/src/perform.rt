@@ -1,0 +1,148 @@
+// What is left of an instruction: events, output and input.
+ghost use Rattle.std.specs.Prelude.{◌≡◌, ◌≤◌, length, IfOk, OnErr, IsErrOf};
+ghost use Rattle.cov_event.specs.Moves.{Takes};
+ghost use Rattle.cov_outside.specs.Counts.{Rose};
+ghost use Rattle.py_builtins.specs.Inputs.{Wrote};
+ghost use Rattle.py_code.specs.Loaded.{modules_of};
+ghost use Rattle.py_code.specs.Machine.{move};
+ghost use Rattle.py_code.specs.Slots.{by_slots};
+ghost use Rattle.py_instructions.specs.declared.turn.Turn.TheVariants.{Asks};
+ghost use Rattle.py_machine.specs.Told.{Step, TakesSome, CallsSome, HeardSome, Broken};
+ghost use Rattle.py_instructions.specs.View.{seen, turned};
+
+use crate::ending::Ending;
+use crate::exceptions::{escape, give, throw};
+use cov_event::Tracer;
+use cov_outside::{Sink, Source};
+use py_builtins::{RunFault, call_builtin};
+use py_code::Programs;
+use py_instructions::{Operand, State, Turn};
+use py_store::Store;
+use py_value::{Builtin, Value};
+use std::alloc::Global;
+
+/// Calls a built-in function for the top frame.
+fn ask<T: Tracer, I: Source, O: Sink>(
+    alloc: Global,
+    which: Builtin,
+    values: Vec<Value>,
+    m: &mut State,
+    store: &mut Store,
+    programs: &Programs,
+    tracer: &mut T,
+    input: &mut I,
+    out: &mut O,
+) -> Result<Option<Ending>, RunFault>
+    ensures ok { IfOk result (λ how. Step I.tells (I.left input.old) (I.left input.new)
+        (λ es. Takes T.moves tracer.old es tracer.new)
+        (Wrote O.tells (O.contents out.old) (O.contents out.new))
+        (λ o. turned (modules_of programs.now) (Asks which values) (seen m.old store.old o))
+        (seen m.new store.new) how) }
+    ensures given_up { OnErr result (HeardSome I.tells (I.left input.old) (I.left input.new)
+        (Broken (λ es. TakesSome T.moves T.recorded tracer.old es tracer.new) O.tells
+        (O.contents out.old) (O.contents out.new) store.old
+        (λ o. turned (modules_of programs.now) (Asks which values) (seen m.old store.old o)))) }
+    ensures calls { CallsSome T.moves T.recorded tracer.old tracer.new }
+    ensures reads { I.faults input.old ≤ I.faults input.new }
+    ensures writes { O.faults out.old ≤ O.faults out.new }
+    ensures read_fault { IsErrOf result RunFault.ReadFault
+        → Rose (I.faults input.old) (I.faults input.new) }
+    ensures write_fault { IsErrOf result RunFault.WriteFault
+        → Rose (O.faults out.old) (O.faults out.new) }
+{
+    match call_builtin(alloc, which, &values, &mut store.heap, input, out)? {
+        Ok(value) => match m.top.place.checked_add(1) {
+            None => {
+                drop(value);
+                Err(RunFault::NoMemory)
+            }
+            Some(place) => {
+                m.top.operands.push(Operand::Value(value))?;
+                m.top.place = place;
+                Ok(None)
+            }
+        },
+        Err(raised) => Ok(throw(alloc, raised, m, store, programs, tracer)?),
+    }
+}
+
+/// Does what is left of an instruction.
+fn perform<T: Tracer, I: Source, O: Sink>(
+    turn: Turn,
+    alloc: Global,
+    m: &mut State,
+    store: &mut Store,
+    programs: &Programs,
+    tracer: &mut T,
+    input: &mut I,
+    out: &mut O,
+) -> Result<Option<Ending>, RunFault>
+    ensures ok { IfOk result (λ how. Step I.tells (I.left input.old) (I.left input.new)
+        (λ es. Takes T.moves tracer.old es tracer.new)
+        (Wrote O.tells (O.contents out.old) (O.contents out.new))
+        (λ o. turned (modules_of programs.now) turn (seen m.old store.old o))
+        (seen m.new store.new) how) }
+    ensures given_up { OnErr result (HeardSome I.tells (I.left input.old) (I.left input.new)
+        (Broken (λ es. TakesSome T.moves T.recorded tracer.old es tracer.new) O.tells
+        (O.contents out.old) (O.contents out.new) store.old
+        (λ o. turned (modules_of programs.now) turn (seen m.old store.old o)))) }
+    ensures calls { CallsSome T.moves T.recorded tracer.old tracer.new }
+    ensures reads { I.faults input.old ≤ I.faults input.new }
+    ensures writes { O.faults out.old ≤ O.faults out.new }
+    ensures read_fault { IsErrOf result RunFault.ReadFault
+        → Rose (I.faults input.old) (I.faults input.new) }
+    ensures write_fault { IsErrOf result RunFault.WriteFault
+        → Rose (O.faults out.old) (O.faults out.new) }
+{
+    match turn {
+        Turn::Goes => Ok(None),
+        Turn::Steps => Ok(None),
+        Turn::Tells(event) => {
+            tracer.event(alloc, &event)?;
+            Ok(None)
+        }
+        Turn::Throws(raised) => Ok(throw(alloc, raised, m, store, programs, tracer)?),
+        Turn::Escapes(raised, is_thrown) => Ok(escape(
+            alloc, raised, is_thrown, m, store, programs, tracer,
+        )?),
+        Turn::Gives(value) => Ok(give(alloc, value, m, store, programs, tracer)?),
+        Turn::Asks(which, values) => Ok(ask(
+            alloc, which, values, m, store, programs, tracer, input, out,
+        )?),
+        Turn::Spent => Ok(Some(Ending::Spent)),
+        Turn::Stuck => Ok(Some(Ending::Stuck)),
+    }
+}
+
+/// One instruction.
+pub fn step<T: Tracer, I: Source, O: Sink>(
+    alloc: Global,
+    m: &mut State,
+    store: &mut Store,
+    programs: &Programs,
+    tracer: &mut T,
+    input: &mut I,
+    out: &mut O,
+) -> Result<Option<Ending>, RunFault>
+    requires { length (modules_of programs.now) ≤ 4294967295 }
+    ensures ok { IfOk result (λ how. Step I.tells (I.left input.old) (I.left input.new)
+        (λ es. Takes T.moves tracer.old es tracer.new)
+        (Wrote O.tells (O.contents out.old) (O.contents out.new))
+        (λ o. move (by_slots (modules_of programs.now)) (modules_of programs.now)
+        (seen m.old store.old o)) (seen m.new store.new) how) }
+    ensures given_up { OnErr result (HeardSome I.tells (I.left input.old) (I.left input.new)
+        (Broken (λ es. TakesSome T.moves T.recorded tracer.old es tracer.new) O.tells
+        (O.contents out.old) (O.contents out.new) store.old
+        (λ o. move (by_slots (modules_of programs.now)) (modules_of programs.now)
+        (seen m.old store.old o)))) }
+    ensures calls { CallsSome T.moves T.recorded tracer.old tracer.new }
+    ensures reads { I.faults input.old ≤ I.faults input.new }
+    ensures writes { O.faults out.old ≤ O.faults out.new }
+    ensures read_fault { IsErrOf result RunFault.ReadFault
+        → Rose (I.faults input.old) (I.faults input.new) }
+    ensures write_fault { IsErrOf result RunFault.WriteFault
+        → Rose (O.faults out.old) (O.faults out.new) }
+{
+    let turn = m.decide(alloc, store, programs)?;
+    Ok(perform(turn, alloc, m, store, programs, tracer, input, out)?)
+}
