@@ -7,8 +7,8 @@ use Rattle.py_syntax.specs.Kinds.{Name, Word, Sign, End}
 use Rattle.py_syntax.specs.Tokens.{tokens}
 use Rattle.py_syntax.specs.Statements.{in_place_mark, target_tokens, option_tokens, assert_tokens, name_list, alias_list, is_simple, begins_simple, EndLines, ShareLine, NormalStmts, NormalKind, NormalSuite, NormalOpt, NormalArms, NormalClauses, NormalCases}
 use Rattle.py_syntax.specs.Spelling.{module_tokens}
-use Rattle.py_parse.specs.Open.{top}
-use Rattle.py_parse.specs.Machine.{State, Over, begun}
+use Rattle.py_statements.specs.Open.{top}
+use Rattle.py_statements.specs.Machine.{State, Over, begun}
 use Rattle.py_parse.specs.Places.{Source, stmts_past, run, relined}
 use Rattle.py_parse.proofs.Complete.OnLines.{plain, after}
 use Rattle.py_parse.proofs.Complete.Simple.{told, told_expr, told_assign, told_aug_assign, told_pass, told_break, told_continue, told_return, told_raise, told_assert}

@@ -1,5 +1,4 @@
 mod Rows
-mod HeaderRows
 pub mod Sound
 pub mod Complete
 pub mod Least

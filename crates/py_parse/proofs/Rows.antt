@@ -10,8 +10,8 @@ use Rattle.py_syntax.specs.Headers.{Marked, marked, match_name}
 use Rattle.py_syntax.specs.Statements.{case_name}
 use Rattle.py_syntax.specs.Spelling.{module_tokens}
 use Rattle.py_syntax.specs.Headers.{kinds_marked}
-use Rattle.py_parse.specs.Open.{no_end, newline_end, semicolon_end, both_end}
-use Rattle.py_parse.specs.Machine.{State, Over, step, begun}
+use Rattle.py_statements.specs.Open.{no_end, newline_end, semicolon_end, both_end}
+use Rattle.py_statements.specs.Machine.{State, Over, step, begun}
 use Rattle.py_parse.specs.Least.{least_height, least_nesting}
 use Rattle.py_parse.specs.Places.{Source, run, relined}
 

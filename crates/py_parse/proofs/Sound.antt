@@ -11,13 +11,13 @@ use Rattle.py_syntax.specs.Normal.{is_target, is_place}
 use Rattle.py_syntax.specs.Headers.{Marked, put}
 use Rattle.py_syntax.specs.Statements.{in_place_mark, case_name}
 use Rattle.py_grammar.specs.Machine as expression
-use Rattle.py_grammar.specs.Machine.{one, snoc, class}
+use Rattle.py_grammar.specs.Machine.{snoc, class}
 use Rattle.py_parse_pattern.specs.Machine as pattern
 use Rattle.py_grammar.proofs.Sound as read_
 use Rattle.py_parse_pattern.proofs.Sound as pattern_read_
 use Rattle.py_parse_pattern.proofs.Exact as pattern_
-use Rattle.py_parse.specs.Open.{a_clause, a_while, a_for, an_arm, a_case, SuiteStack}
-use Rattle.py_parse.specs.Machine.{Continuation, value, augmented, leaving, asserted, reason, arm_test, while_test, for_target, for_over, clause_kind, subject, guard, default, Place, Reading, Matching, Span, State, at, wanted, onward, end_simple, after_value, after_default, in_place_op, assigned, left, resume, resume_pattern}
+use Rattle.py_statements.specs.Open.{a_clause, a_while, a_for, an_arm, a_case, SuiteStack}
+use Rattle.py_statements.specs.Machine.{Continuation, value, augmented, leaving, asserted, reason, arm_test, while_test, for_target, for_over, clause_kind, subject, guard, default, Place, Reading, Matching, Span, State, at, wanted, onward, end_simple, after_value, after_default, in_place_op, assigned, left, resume, resume_pattern}
 use Rattle.py_parse.proofs.Sound.Parted.{put_append, parted}
 use Rattle.py_parse.proofs.Sound.Before.{front, inner, resume_outer, outer, match_open, before_suites}
 use Rattle.py_parse.proofs.Sound.BeforeParted.{front_parted, plain, moves}

@@ -1,10 +1,3 @@
--- What the code holds and asks is what the machine says.
-pub mod OneMore
-pub mod StmtKinds
-pub mod HeaderPlaces
-pub mod TargetItems
-pub mod HeaderNames
-pub mod Acts
-pub mod Stepping
+-- What the code asks is what the machine says.
 pub mod Turning
 pub mod Answering

@@ -20,17 +20,19 @@ use Rattle.py_grammar.specs.Machine.{snoc}
 use Rattle.py_grammar.specs.Least as expression
 use Rattle.py_grammar.specs.Least.{least_name}
 use Rattle.py_parse_pattern.specs.Machine as pattern
-use Rattle.py_parse.specs.Open.{snoc_stmt, no_end, newline_end, both_end, SuiteOf, an_arm, a_while}
-use Rattle.py_parse.specs.Open.{a_for, a_clause, a_def, a_case, closed, SuiteStack, top, inside}
-use Rattle.py_parse.specs.Machine.{Continuation, value, augmented, leaving, asserted, reason}
-use Rattle.py_parse.specs.Machine.{arm_test, while_test, for_target, for_over, clause_kind, subject}
-use Rattle.py_parse.specs.Machine.{guard, default, Place, Reading, Matching, Simple}
-use Rattle.py_parse.specs.Listed.{froms, listed, with_name, is_some}
-use Rattle.py_parse.specs.Machine.{Semicolon, Leaving, NameWanted, NameRead, BoundWanted, BoundRead}
-use Rattle.py_parse.specs.Machine.{ModuleWanted, ImportWanted, FunctionWanted, ParamsWanted}
-use Rattle.py_parse.specs.Machine.{ParamWanted, ParamRead, Except, ClauseBound, ColonWanted}
-use Rattle.py_parse.specs.Machine.{SuiteWanted, IndentWanted, MatchLine, MatchBlock, Span, State}
-use Rattle.py_parse.specs.Machine.{Line, at, After, Choosing, Over, assigned, left}
+use Rattle.py_statements.specs.Open.{snoc_stmt, no_end, newline_end, both_end, SuiteOf, an_arm}
+use Rattle.py_statements.specs.Open.{a_while, a_for, a_clause, a_def, a_case, closed, SuiteStack}
+use Rattle.py_statements.specs.Open.{top, inside}
+use Rattle.py_statements.specs.Machine.{Continuation, value, augmented, leaving, asserted, reason}
+use Rattle.py_statements.specs.Machine.{arm_test, while_test, for_target, for_over, clause_kind}
+use Rattle.py_statements.specs.Machine.{subject, guard, default, Place, Reading, Matching, Simple}
+use Rattle.py_statements.specs.Listed.{froms, listed, with_name, is_some}
+use Rattle.py_statements.specs.Machine.{Semicolon, Leaving, NameWanted, NameRead, BoundWanted}
+use Rattle.py_statements.specs.Machine.{BoundRead, ModuleWanted, ImportWanted, FunctionWanted}
+use Rattle.py_statements.specs.Machine.{ParamsWanted, ParamWanted, ParamRead, Except, ClauseBound}
+use Rattle.py_statements.specs.Machine.{ColonWanted, SuiteWanted, IndentWanted, MatchLine}
+use Rattle.py_statements.specs.Machine.{MatchBlock, Span, State, Line, at, After, Choosing, Over}
+use Rattle.py_statements.specs.Machine.{assigned, left}
 
 -- `pass` alone, as statements and as a suite on the line of its header
 abbrev pub pass_line : ℕ → Stmts

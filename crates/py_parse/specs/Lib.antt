@@ -1,13 +1,4 @@
-pub mod Open
-pub mod Listed
-pub mod Machine
 pub mod Least
 pub mod Places
 pub mod Refusal
-pub mod ViewSuiteOf
-pub mod ViewStates
-pub mod ViewParts
-pub mod ViewMarks
-pub mod Levels
 pub mod Progress
-pub mod ViewLists

@@ -21,7 +21,7 @@ use Rattle.py_syntax.specs.Headers.{Marked, kinds_marked}
 use Rattle.py_syntax.specs.Statements.{kind_tokens, end_tokens, param_tokens, except_tokens}
 use Rattle.py_syntax.specs.Statements.{guard_tokens, case_name}
 use Rattle.py_syntax.specs.Spelling.{test_head, for_head}
-use Rattle.py_parse.specs.Machine.{State, step}
+use Rattle.py_statements.specs.Machine.{State, step}
 
 -- ---- places after parts
 

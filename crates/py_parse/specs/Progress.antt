@@ -18,19 +18,19 @@ use Rattle.py_syntax.specs.Headers.{Marked, marked}
 use Rattle.py_syntax.specs.Spelling.{HEIGHT, NESTING}
 use Rattle.py_parse.specs.declared.error.SyntaxError.{SyntaxError}
 use Rattle.py_parse.specs.declared.progress.Progress.{Progress}
-use Rattle.py_parse.specs.declared.places.Continuation as held_continuation
-use Rattle.py_parse.specs.declared.places.State as held_state
-use Rattle.py_parse.specs.declared.suite_of.PartialMatch.{PartialMatch}
-use Rattle.py_parse.specs.declared.suite_stack.Span as held_span
-use Rattle.py_parse.specs.declared.suite_stack.SuiteStack as held_suites
-use Rattle.py_parse.specs.Open.{SuiteStack}
-use Rattle.py_parse.specs.Machine.{Continuation, Span, State, begun, onward, begin_expr, begin_case}
-use Rattle.py_parse.specs.Machine.{act, step}
+use Rattle.py_statements.specs.declared.purposes.Continuation as held_continuation
+use Rattle.py_statements.specs.declared.places.State as held_state
+use Rattle.py_statements.specs.declared.suite_of.PartialMatch.{PartialMatch}
+use Rattle.py_statements.specs.declared.suite_stack.Span as held_span
+use Rattle.py_statements.specs.declared.suite_stack.SuiteStack as held_suites
+use Rattle.py_statements.specs.Open.{SuiteStack}
+use Rattle.py_statements.specs.Machine.{Continuation, Span, State, begun, onward, begin_expr}
+use Rattle.py_statements.specs.Machine.{begin_case, act, step}
 use Rattle.py_parse.specs.Least.{least_height, least_nesting}
 use Rattle.py_parse.specs.Refusal.{IsRefused}
-use Rattle.py_parse.specs.ViewMarks.{header_at}
-use Rattle.py_parse.specs.ViewStates.{view_suites, view_span, view_continuation, view_state}
-use Rattle.py_parse.specs.ViewStates.{Continuing}
+use Rattle.py_statements.specs.ViewMarks.{header_at}
+use Rattle.py_statements.specs.ViewStates.{view_suites, view_span, view_continuation, view_state}
+use Rattle.py_statements.specs.ViewStates.{Continuing}
 
 -- the machine after so many marked tokens
 abbrev pub state_after : State → ℕ → List Marked → List PToken → Option State

@@ -5,7 +5,7 @@ ghost use Rattle.py_parse.specs.Refusal.{IsParsed};
 
 use crate::error::SyntaxError;
 use crate::progress::{advance, unexpected};
-use crate::steps::begun;
+use py_statements::begun;
 use py_syntax::Module;
 use py_token::Token;
 use std::alloc::Global;

@@ -3,27 +3,22 @@
 ghost use Rattle.std.specs.Prelude.{◌≡◌, ◌≤◌, ◌<◌, length};
 ghost use Rattle.py_token.specs.View.{view_tokens};
 ghost use Rattle.py_syntax.specs.View.{plain_pattern};
-ghost use Rattle.py_parse.specs.Machine.{ColonWanted, goal, resume, resume_pattern, wanted};
-ghost use Rattle.py_parse.specs.Levels.{begins_at, level};
+ghost use Rattle.py_statements.specs.Machine.{goal, resume, resume_pattern};
 ghost use Rattle.py_parse.specs.Refusal.{IsUnexpected, HasDeepSuites, HasDeepExpressions};
 ghost use Rattle.py_parse.specs.Refusal.{IsRefused, line_of};
 ghost use Rattle.py_parse_expr.specs.ExprReads.{goal_of};
-ghost use Rattle.py_parse.specs.ViewSuiteOf.{view_suite_of, boxed_expr, of_match};
-ghost use Rattle.py_parse.specs.ViewStates.{view_place, view_continuation, view_state};
+ghost use Rattle.py_statements.specs.ViewSuiteOf.{boxed_expr, of_match};
+ghost use Rattle.py_statements.specs.ViewStates.{view_continuation, view_state};
 ghost use Rattle.py_parse.specs.Progress.{StandsAt, Advances, MatchesThere, ReadsThere, ResumesBy};
 ghost use Rattle.py_parse.specs.Progress.{Takes};
 
-use crate::after_expression::{resume, resume_pattern};
 use crate::error::{DepthKind, SyntaxError};
-use crate::lists::has_arms;
-use crate::match_headers::is_header;
-use crate::places::{Continuation, Place, State, Turn};
-use crate::steps::step;
-use crate::suite_of::{PartialMatch, SuiteOf};
-use crate::suite_stack::{Span, SuiteStack};
 use py_grammar::ReadError;
 use py_parse_expr::{ExprPart, ExprRead, read_expr};
 use py_parse_pattern::{PatternRead, read_patterns};
+use py_statements::{
+    Continuation, PartialMatch, Span, State, SuiteStack, Turn, is_header, resume_pattern, step,
+};
 use py_token::Token;
 use std::alloc::Global;
 
@@ -76,99 +71,6 @@ fn too_high(tokens: &[Token], place: usize) -> SyntaxError
     SyntaxError::TooDeep(DepthKind::Expressions, line_at(tokens, place))
 }
 
-impl Continuation {
-    /// Whether a compound statement has just begun, where the expression begins.
-    #[tactic(auto, using(crate::proofs::View::StmtKinds::begins_arms))]
-    fn begins(&self) -> bool
-        ensures { result ≡ begins_at (wanted (view_continuation self.now)) }
-    {
-        match self {
-            Continuation::Value(_) => false,
-            Continuation::Augmented(_, _) => false,
-            Continuation::Leaving(_) => false,
-            Continuation::Asserted => false,
-            Continuation::Reason(_) => false,
-            Continuation::ArmTest(arms) => !has_arms(arms),
-            Continuation::WhileTest => true,
-            Continuation::ForTarget => true,
-            Continuation::ForOver(_) => false,
-            Continuation::ClauseKind(_) => false,
-            Continuation::Subject => true,
-            Continuation::Guard(_, _) => false,
-            Continuation::Default(_, _) => false,
-        }
-    }
-}
-
-impl SuiteOf {
-    /// Whether it is a statement that has just begun.
-    fn begins(&self) -> bool
-        ensures { result ≡ begins_at (ColonWanted (view_suite_of self.now)) }
-    {
-        match self {
-            SuiteOf::Arm(_, _) => false,
-            SuiteOf::While(_) => false,
-            SuiteOf::For(_, _) => false,
-            SuiteOf::Try => true,
-            SuiteOf::Clause(_, _, _) => false,
-            SuiteOf::Else(_) => false,
-            SuiteOf::Finally(_, _) => false,
-            SuiteOf::Def(_, _) => false,
-            SuiteOf::Case(_, _, _) => false,
-        }
-    }
-}
-
-/// Whether a compound statement has just begun.
-fn begins(place: &Place) -> bool
-    ensures { result ≡ begins_at (view_place place.now) }
-{
-    match place {
-        Place::Wanted(resume) => resume.begins(),
-        Place::PatternWanted(_) => false,
-        Place::Simple(_) => false,
-        Place::Semicolon(_) => false,
-        Place::Leaving(_) => false,
-        Place::NameWanted(_) => false,
-        Place::NameRead(_, _) => false,
-        Place::BoundWanted(_, _) => false,
-        Place::BoundRead(_) => false,
-        Place::ModuleWanted => false,
-        Place::ImportWanted(_) => false,
-        Place::FunctionWanted => true,
-        Place::ParamsWanted(_) => false,
-        Place::ParamWanted(_) => false,
-        Place::ParamRead(_, _) => false,
-        Place::Except(_) => false,
-        Place::ClauseBound(_, _) => false,
-        Place::ColonWanted(suite_of) => suite_of.begins(),
-        Place::SuiteWanted(_) => false,
-        Place::IndentWanted(_) => false,
-        Place::MatchLine(_, _) => false,
-        Place::MatchBlock(_, _) => false,
-    }
-}
-
-/// How many suites are open, with the one that a compound statement opens where it has just begun.
-#[tactic(auto, using(crate::proofs::View::OneMore::open_count_is))]
-fn level(state: &State) -> usize
-    ensures { result ≡ level (view_state state.now) }
-{
-    match state {
-        State::Line(_) => 0,
-        State::At(place, _, suites) => {
-            if begins(place) {
-                suites.open.len() + 1
-            } else {
-                0
-            }
-        }
-        State::After(_, _, _, _) => 0,
-        State::Choosing(_, _, _) => 0,
-        State::Over(_) => 0,
-    }
-}
-
 /// The place after a token, where the token is taken.
 fn moved(tokens: &[Token], place: usize, state: Option<State>) -> Result<Progress, SyntaxError>
     requires inside { place < length tokens.now }
@@ -178,7 +80,7 @@ fn moved(tokens: &[Token], place: usize, state: Option<State>) -> Result<Progres
     let Some(state) = state else {
         return Err(unexpected(tokens, place));
     };
-    if level(&state) > NESTING_LIMIT {
+    if state.level() > NESTING_LIMIT {
         drop(state);
         return Err(too_many_suites(tokens, place));
     }
@@ -188,10 +90,10 @@ fn moved(tokens: &[Token], place: usize, state: Option<State>) -> Result<Progres
     })
 }
 
-fn part_of(resume: &Continuation) -> ExprPart
-    ensures { goal_of result ≡ goal (view_continuation resume.now) }
+fn part_of(purpose: &Continuation) -> ExprPart
+    ensures { goal_of result ≡ goal (view_continuation purpose.now) }
 {
-    match resume {
+    match purpose {
         Continuation::Value(_) => ExprPart::Any,
         Continuation::Augmented(_, _) => ExprPart::Any,
         Continuation::Leaving(raises) => {
@@ -231,7 +133,7 @@ fn after_expression(
 {
     let span = span.onward(tokens[read.next - 1].last);
     let token = &tokens[read.next];
-    let state = resume(alloc, purpose, read.expr, span, suites, token)?;
+    let state = purpose.resume(alloc, read.expr, span, suites, token)?;
     moved(tokens, read.next, state)
 }
 

@@ -11,8 +11,8 @@ use Rattle.py_syntax.specs.Normal.{Normal, is_target}
 use Rattle.py_syntax.specs.Headers.{Marked, put}
 use Rattle.py_syntax.specs.Statements.{suite_tokens, else_tokens, finally_tokens, elif_tokens, clause_tokens, case_tokens, except_tokens, guard_tokens, case_name, NormalExpr, NormalTry, NormalParams, NormalArms, NormalClauses, NormalCases}
 use Rattle.py_syntax.specs.Spelling.{test_head, for_head}
-use Rattle.py_parse.specs.Open.{snoc_arm, snoc_clause, snoc_case, SuiteOf, an_arm, a_while, a_for, a_try, a_clause, an_else, a_finally, a_def, a_case, with_else, SuiteStack}
-use Rattle.py_parse.specs.Machine.{arm_test, wanted, Place, Except, ColonWanted, State, at, After, Choosing, next_part, at_line, on_line}
+use Rattle.py_statements.specs.Open.{snoc_arm, snoc_clause, snoc_case, SuiteOf, an_arm, a_while, a_for, a_try, a_clause, an_else, a_finally, a_def, a_case, with_else, SuiteStack}
+use Rattle.py_statements.specs.Machine.{arm_test, wanted, Place, Except, ColonWanted, State, at, After, Choosing, next_part, at_line, on_line}
 use Rattle.py_parse.specs.Places.{Source, kinds_past, def_head, match_head, suite_past, opt_past, arms_past, clauses_past, cases_past, last_before, run, relined_suite, relined_opt, relined_arms, relined_clauses, relined_cases}
 use Rattle.py_parse.proofs.Complete.OnLines.{plain, lines, after, past_parted}
 use Rattle.py_parse.proofs.Complete.Suites.{CompoundBack, Whole, shut, SuiteBack}

@@ -13,8 +13,8 @@ use Rattle.py_syntax.specs.Spelling.{test_head, for_head}
 use Rattle.py_grammar.specs.TokenClasses.{begins}
 use Rattle.py_grammar.specs.Machine as expression
 use Rattle.py_grammar.specs.Machine.{Goal, any, one, target, start, class}
-use Rattle.py_parse.specs.Open.{SuiteOf, an_arm, a_while, a_for, a_clause, a_case, SuiteStack}
-use Rattle.py_parse.specs.Machine.{Continuation, arm_test, while_test, for_target, for_over, clause_kind, subject, guard, wanted, reads, Place, Reading, Except, SuiteWanted, Span, State, at, Choosing, begun_at, onward, compound_place, begin_simple, resume, act, step, header_step}
+use Rattle.py_statements.specs.Open.{SuiteOf, an_arm, a_while, a_for, a_clause, a_case, SuiteStack}
+use Rattle.py_statements.specs.Machine.{Continuation, arm_test, while_test, for_target, for_over, clause_kind, subject, guard, wanted, reads, Place, Reading, Except, SuiteWanted, Span, State, at, Choosing, begun_at, onward, compound_place, begin_simple, resume, act, step, header_step}
 use Rattle.py_parse.specs.Places.{Source, kinds_past, run}
 use Rattle.py_parse.proofs.Complete.OnLines.{plain, lines, after, past, pattern_past, past_parted, past_pattern, Spelt, any_spelt, one_spelt, target_spelt, on_line, begins_elsewhere, pattern_on_line}
 use Rattle.py_parse.proofs.Complete.Suites.{goes_on, Ready, line_begins}

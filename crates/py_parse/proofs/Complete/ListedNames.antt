@@ -9,9 +9,9 @@ use Rattle.py_syntax.specs.Kinds.{Kind, Name, Word, Sign}
 use Rattle.py_syntax.specs.Normal.{IsSomething}
 use Rattle.py_syntax.specs.Headers.{Marked, put}
 use Rattle.py_syntax.specs.Statements.{more_names, name_list, as_tokens, more_aliases, alias_list, AreSome}
-use Rattle.py_parse.specs.Open.{SuiteStack}
-use Rattle.py_parse.specs.Machine.{Place, NameRead, BoundRead, Span, State, at, end_simple, after_name, act}
-use Rattle.py_parse.specs.Listed.{Listed, globals, imports, froms, listed, alias}
+use Rattle.py_statements.specs.Open.{SuiteStack}
+use Rattle.py_statements.specs.Machine.{Place, NameRead, BoundRead, Span, State, at, end_simple, after_name, act}
+use Rattle.py_statements.specs.Listed.{Listed, globals, imports, froms, listed, alias}
 use Rattle.py_parse.specs.Places.{Source, kinds_past, run}
 use Rattle.py_parse.proofs.Complete.OnLines.{plain, lines, after}
 use Rattle.py_parse.proofs.Complete.Simple.{stop, whole, Told, word_begins}

@@ -1,13 +1,12 @@
 -- Expressions and patterns on a line: what their own machines read of a list of tokens, the machine of statements reads.
 use Rattle.std.proofs.Common.{◌≡◌, ℕ, suc, Bool, true, false, cond, List, [], ◌∷◌, ◌++◌, Option, Some, None, refl, sym, ap, ◌∙◌}
-use Rattle.py_value.specs.declared.operator.BinOp.TheVariants as op_
 use Rattle.py_syntax.specs.Tree.{Expr, Cases, Pattern}
 use Rattle.py_syntax.specs.Kinds.{Kind}
 use Rattle.py_syntax.specs.Tokens.{tokens, pattern_tokens}
 use Rattle.py_syntax.specs.Normal.{Normal, NormalPattern, is_target}
 use Rattle.py_syntax.specs.Headers.{Marked, put}
 use Rattle.py_syntax.specs.Statements.{NormalExpr}
-use Rattle.py_grammar.specs.TokenClasses.{TokenClass, t_operator, b_op, begins}
+use Rattle.py_grammar.specs.TokenClasses.{TokenClass, begins}
 use Rattle.py_grammar.specs.Machine as expression
 use Rattle.py_grammar.specs.Machine.{Goal, any, one, target, start, class, Leaves}
 use Rattle.py_parse_pattern.specs.Machine as pattern
@@ -18,8 +17,9 @@ use Rattle.py_grammar.proofs.Targets.{reads_any, reads_one, reads_target}
 use Rattle.py_parse_pattern.proofs.Complete as pattern_
 use Rattle.py_parse_pattern.proofs.Complete.{IsOver, reads_all}
 use Rattle.py_parse_pattern.proofs.Exact as pattern_exact
-use Rattle.py_parse.specs.Open.{SuiteStack}
-use Rattle.py_parse.specs.Machine.{Continuation, Reading, Matching, Span, State, at, onward, reads, resume, resume_pattern, step}
+use Rattle.py_statements.specs.Open.{SuiteStack}
+use Rattle.py_statements.specs.Machine.{Continuation, Reading, Matching, Span, State, at, onward, reads, resume, resume_pattern, step}
+use Rattle.py_statements.proofs.View.Wanted.{any_begins, one_begins}
 use Rattle.py_parse.specs.Places.{Source, kinds_past, last_before, run}
 use Rattle.py_parse.proofs.Sound.Parted.{parted, put_append, put_parted}
 
@@ -113,10 +113,8 @@ abbrev pub goal_of : Bool → Goal
 goal_of alone = cond alone one any
 
 reads_first : (alone : Bool) (t : TokenClass) (r : Continuation) (n : Span) (b : SuiteStack) (x : Expr → Option State) → reads r n b (expression.step (start (goal_of alone)) t) ≡ elim (expression.step (start (goal_of alone)) t) as (λ (w : expression.Out). Option State) [ expression.Next s ↦ Some (at (Reading r s) n b) | expression.Stuck ↦ None | expression.Left e ↦ x e ]
-reads_first true (t_operator (b_op op_.Add)) r n b x = refl
-reads_first true t r n b x = refl
-reads_first false (t_operator (b_op op_.Add)) r n b x = refl
-reads_first false t r n b x = refl
+reads_first true t r n b x = sym (one_begins t r n b x)
+reads_first false t r n b x = sym (any_begins t r n b x)
 
 -- A state that takes the first token like the place where the expression begins reads it like that.
 pub begins_elsewhere : (alone : Bool) (s : State) (r : Continuation) (c f : ℕ) (b : SuiteStack) (e : Expr) → Normal e → (src : Source) (p : ℕ) →

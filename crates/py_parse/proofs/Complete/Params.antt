@@ -11,9 +11,9 @@ use Rattle.py_syntax.specs.Headers.{Marked, put}
 use Rattle.py_syntax.specs.Statements.{more_params, params_from, count, param_tokens, NormalExpr, NormalParams}
 use Rattle.py_grammar.specs.Machine.{one, snoc}
 use Rattle.py_grammar.proofs.Enclosed.{join_exprs, join_snoc, join_none, join_one}
-use Rattle.py_parse.specs.Open.{SuiteOf, a_def, SuiteStack}
-use Rattle.py_parse.specs.Machine.{default, wanted, FunctionWanted, ParamWanted, ParamRead, Span, State, at, onward, after_default, act}
-use Rattle.py_parse.specs.Listed.{is_some}
+use Rattle.py_statements.specs.Open.{SuiteOf, a_def, SuiteStack}
+use Rattle.py_statements.specs.Machine.{default, wanted, FunctionWanted, ParamWanted, ParamRead, Span, State, at, onward, after_default, act}
+use Rattle.py_statements.specs.Listed.{is_some}
 use Rattle.py_parse.specs.Places.{Source, kinds_past, def_head, run}
 use Rattle.py_parse.proofs.Complete.OnLines.{lines, after, past, past_parted, Spelt, one_spelt, on_line}
 use Rattle.py_parse.proofs.Complete.Suites.{Ready}

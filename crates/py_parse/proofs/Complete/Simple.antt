@@ -15,8 +15,8 @@ use Rattle.py_grammar.specs.TokenClasses.{begins}
 use Rattle.py_grammar.specs.Machine as expression
 use Rattle.py_grammar.specs.Machine.{Goal, any, one, snoc, start, class}
 use Rattle.py_grammar.proofs.Enclosed.{join_exprs, join_snoc, join_none, join_one}
-use Rattle.py_parse.specs.Open.{SuiteStack}
-use Rattle.py_parse.specs.Machine.{Continuation, value, augmented, leaving, asserted, reason, goal, wanted, reads, Place, Reading, Leaving, Span, State, at, begun_at, onward, simple_place, begin_simple, end_simple, assigned, left, after_value, resume, act, step}
+use Rattle.py_statements.specs.Open.{SuiteStack}
+use Rattle.py_statements.specs.Machine.{Continuation, value, augmented, leaving, asserted, reason, goal, wanted, reads, Place, Reading, Leaving, Span, State, at, begun_at, onward, simple_place, begin_simple, end_simple, assigned, left, after_value, resume, act, step}
 use Rattle.py_parse.specs.Places.{Source, kinds_past, kind_past, run}
 use Rattle.py_parse.proofs.Complete.OnLines.{plain, lines, after, past, past_parted, Spelt, any_spelt, one_spelt, on_line, ends_line, goal_of, begins_elsewhere}
 

@@ -6,8 +6,8 @@ use Rattle.py_syntax.specs.Tree.{Stmts, no_stmts, stmt, Suite, suite, no_suite, 
 use Rattle.py_syntax.specs.Kinds.{Kind, Word, Newline, Dedent, End}
 use Rattle.py_syntax.specs.Headers.{Marked, put}
 use Rattle.py_syntax.specs.Statements.{end_tokens, stmts_tokens, kind_tokens, suite_tokens, begins_simple, EndsLine}
-use Rattle.py_parse.specs.Open.{snoc_stmt, snoc_case, no_end, semicolon_end, SuiteOf, a_case, closed, SuiteStack, top, inside, add}
-use Rattle.py_parse.specs.Machine.{Place, Semicolon, SuiteWanted, Span, State, Line, at, After, Choosing, close, over_line, compound_place, begin_simple, begin_line, line, next_part, is_whole, at_line, on_line, plain_step}
+use Rattle.py_statements.specs.Open.{snoc_stmt, snoc_case, no_end, semicolon_end, SuiteOf, a_case, closed, SuiteStack, top, inside, add}
+use Rattle.py_statements.specs.Machine.{Place, Semicolon, SuiteWanted, Span, State, Line, at, After, Choosing, close, over_line, compound_place, begin_simple, begin_line, line, next_part, is_whole, at_line, on_line, plain_step}
 use Rattle.py_parse.specs.Places.{Source, kinds_past, stmts_past, kind_past, suite_past, last_before, run, relined, relined_kind, relined_suite}
 use Rattle.py_parse.proofs.Complete.OnLines.{plain, lines, after}
 use Rattle.py_parse.proofs.Complete.Simple.{starts, Begins, SimpleBack}

@@ -3,8 +3,8 @@ use Rattle.std.proofs.Common.{◌≡◌, ℕ, zero, suc, ◌+◌, Bool, true, fa
 use Rattle.py_token.specs.Plain.{PToken, first_of, last_of}
 use Rattle.py_syntax.specs.Kinds.{Kind, bare_token, bare}
 use Rattle.py_syntax.specs.Headers.{Marked, is_match, is_header, ends_line, marked_from, marked}
-use Rattle.py_parse.specs.Machine.{State, plain_step, step}
-use Rattle.py_parse.specs.ViewMarks.{begins_from, heads, header_at}
+use Rattle.py_statements.specs.Machine.{State, plain_step, step}
+use Rattle.py_statements.specs.ViewMarks.{begins_from, heads, header_at}
 use Rattle.py_parse.proofs.Exact.WholeLists.{Lexeme, next}
 use Rattle.py_parse.proofs.Exact.WholeTokens.{lexemes, with_lines}
 use Rattle.py_parse.proofs.Exact.WholeStands.{lexeme_at}

@@ -1,7 +1,7 @@
 -- A reading that stands at a place goes on where a step keeps to the limits.
 use Rattle.std.proofs.Common.{◌≡◌, ℕ, ◌+◌, ◌≤◌, ◌<◌, max, List, [], ◌∷◌, take, drop, Option, Some, None, refl, subst, arith}
 use Rattle.py_token.specs.Plain.{PToken}
-use Rattle.py_parse.specs.Machine.{State, begun}
+use Rattle.py_statements.specs.Machine.{State, begun}
 use Rattle.py_parse.specs.Refusal.{HasDeepSuites, HasDeepExpressions}
 use Rattle.py_parse.proofs.Sound.Valid.{Valid}
 use Rattle.py_parse.proofs.Sound.Keeps.{step_keeps, valid_begun}

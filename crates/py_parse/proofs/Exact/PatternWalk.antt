@@ -10,10 +10,10 @@ use Rattle.py_syntax.specs.Spelling.{HEIGHT}
 use Rattle.py_parse_pattern.specs.Machine as pattern
 use Rattle.py_parse_pattern.specs.Machine.{least, Ending, Unexpected, TooDeep, Reads, within}
 use Rattle.py_parse_pattern.proofs.Least.{at_least_one}
-use Rattle.py_parse.specs.Open.{SuiteStack}
-use Rattle.py_parse.specs.Machine.{Matching, Span, State, at, onward, act, resume_pattern}
+use Rattle.py_statements.specs.Open.{SuiteStack}
+use Rattle.py_statements.specs.Machine.{Matching, Span, State, at, onward, act, resume_pattern}
 use Rattle.py_parse.specs.Places.{last_before}
-use Rattle.py_parse.specs.ViewMarks.{header_at}
+use Rattle.py_statements.specs.ViewMarks.{header_at}
 use Rattle.py_parse.specs.Refusal.{IsUnexpected, HasDeepExpressions}
 use Rattle.py_parse.proofs.Complete.TokenLines.{token_source}
 use Rattle.py_parse.proofs.Exact.WholeLists.{Lexeme, next}

@@ -11,17 +11,17 @@ use Rattle.py_grammar.specs.Machine.{start}
 use Rattle.py_grammar.specs.Reading as reading_
 use Rattle.py_parse_pattern.specs.Machine as pattern
 use Rattle.py_parse_pattern.specs.Reads as pattern_reads
-use Rattle.py_parse.specs.declared.places.Continuation as held_continuation
-use Rattle.py_parse.specs.declared.places.Continuation.TheVariants as continuation_
-use Rattle.py_parse.specs.declared.places.Place.TheVariants as place_
-use Rattle.py_parse.specs.declared.places.State as held_state
-use Rattle.py_parse.specs.declared.places.State.TheVariants as state_
-use Rattle.py_parse.specs.Open.{SuiteStack}
-use Rattle.py_parse.specs.Machine.{Continuation, Reading, Matching, Span, State, at, Over, begun, goal, resume, resume_pattern, done, step}
+use Rattle.py_statements.specs.declared.purposes.Continuation as held_continuation
+use Rattle.py_statements.specs.declared.purposes.Continuation.TheVariants as continuation_
+use Rattle.py_statements.specs.declared.places.Place.TheVariants as place_
+use Rattle.py_statements.specs.declared.places.State as held_state
+use Rattle.py_statements.specs.declared.places.State.TheVariants as state_
+use Rattle.py_statements.specs.Open.{SuiteStack}
+use Rattle.py_statements.specs.Machine.{Continuation, Reading, Matching, Span, State, at, Over, begun, goal, resume, resume_pattern, done, step}
 use Rattle.py_parse.specs.Places.{last_before}
-use Rattle.py_parse.specs.Levels as levels
+use Rattle.py_statements.specs.Levels as levels
 use Rattle.py_parse.specs.Refusal.{IsUnexpected, HasDeepSuites, HasDeepExpressions}
-use Rattle.py_parse.specs.ViewStates.{view_suites, view_span, view_state, view_continuation}
+use Rattle.py_statements.specs.ViewStates.{view_suites, view_span, view_state, view_continuation}
 use Rattle.py_parse.specs.Progress.{state_after, StandsAt, Turns, ReadsFrom, MatchesFrom, last_there, line_before, Resumes}
 use Rattle.py_parse.proofs.Complete.TokenLines.{token_last, token_source}
 use Rattle.py_parse.proofs.Exact.WholeLists.{reading}

@@ -13,16 +13,16 @@ use Rattle.py_grammar.specs.Machine.{start, class}
 use Rattle.py_grammar.specs.Least.{least}
 use Rattle.py_grammar.specs.Reading.{Ending, Unexpected, TooDeep, Reads, within}
 use Rattle.py_grammar.proofs.Grows.{height_some}
-use Rattle.py_parse.specs.Open.{SuiteStack}
-use Rattle.py_parse.specs.Machine.{Continuation, Reading, Span, State, at, goal, reads, onward, act, resume}
+use Rattle.py_statements.specs.Open.{SuiteStack}
+use Rattle.py_statements.specs.Machine.{Continuation, Reading, Span, State, at, goal, reads, onward, act, resume}
 use Rattle.py_parse.specs.Places.{last_before}
-use Rattle.py_parse.specs.ViewMarks.{header_at}
+use Rattle.py_statements.specs.ViewMarks.{header_at}
 use Rattle.py_parse.specs.Refusal.{IsUnexpected, HasDeepExpressions}
 use Rattle.py_parse.proofs.Complete.TokenLines.{token_last, token_source}
 use Rattle.py_parse.proofs.Exact.WholeLists.{Lexeme, next}
 use Rattle.py_parse.proofs.Exact.WholeTokens.{with_lines}
 use Rattle.py_parse.proofs.Exact.WholeStands.{Stands, count, unexpected}
-use Rattle.py_parse.specs.Levels.{is_start}
+use Rattle.py_statements.specs.Levels.{is_start}
 use Rattle.py_parse.proofs.Least.ExprLeavesWithin.{LeavesWithin, step_within, start_within}
 use Rattle.py_parse.proofs.Exact.LineEndsExpr.{NoNext, step_no_next}
 use Rattle.py_parse.proofs.Least.Weights.{level, begun_level}

@@ -5,7 +5,7 @@ use Rattle.py_syntax.specs.Headers.{Marked}
 use Rattle.py_syntax.specs.Statements.{EndLines, NormalStmts, stmts_height, stmts_nesting}
 use Rattle.py_syntax.specs.Spelling.{module_tokens}
 use Rattle.py_grammar.proofs.Exact as exact
-use Rattle.py_parse.specs.Machine.{State, Line, at, After, Choosing, Over, begun, done}
+use Rattle.py_statements.specs.Machine.{State, Line, at, After, Choosing, Over, begun, done}
 use Rattle.py_parse.specs.Least.{finished, least_nesting}
 use Rattle.py_parse.specs.Places.{run, relined}
 use Rattle.py_parse.proofs.Sound.Before.{before}

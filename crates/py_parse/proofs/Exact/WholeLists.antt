@@ -2,7 +2,7 @@
 use Rattle.std.proofs.Common.{◌≡◌, ℕ, zero, suc, List, [], ◌∷◌, ◌++◌, take, Option, Some, None, refl, sym, ap, ◌∙◌}
 use Rattle.py_syntax.specs.Headers.{Marked}
 use Rattle.py_grammar.proofs.Exact as exact
-use Rattle.py_parse.specs.Machine.{State, step}
+use Rattle.py_statements.specs.Machine.{State, step}
 use Rattle.py_parse.specs.Places.{Source, run}
 use Rattle.py_parse.proofs.Least.FinishSuites.{steady, goes}
 

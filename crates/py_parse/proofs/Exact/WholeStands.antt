@@ -7,7 +7,7 @@ use Rattle.py_syntax.specs.Kinds.{bare_token, bare}
 use Rattle.py_syntax.specs.Headers.{Marked, ends_line, marked_from}
 use Rattle.py_syntax.specs.Statements.{stmts_height, stmts_nesting}
 use Rattle.py_syntax.specs.Spelling.{Spells, HEIGHT, NESTING, front}
-use Rattle.py_parse.specs.Machine.{State, Over, begun, done}
+use Rattle.py_statements.specs.Machine.{State, Over, begun, done}
 use Rattle.py_parse.specs.Least.{least_height, least_nesting}
 use Rattle.py_parse.specs.Refusal.{IsUnexpected, IsTooDeep, HasDeepSuites, HasDeepExpressions}
 use Rattle.py_parse.proofs.Exact.WholeLists.{Lexeme, next, reading, reading_append}

@@ -7,7 +7,7 @@ use Rattle.py_syntax.specs.Kinds.{Kind, bare_token, bare}
 use Rattle.py_syntax.specs.Headers.{Marked, kinds_marked, is_match, is_header, ends_line, marked_from, marked}
 use Rattle.py_syntax.specs.Statements.{EndLines, NormalStmts, stmts_height, stmts_nesting}
 use Rattle.py_syntax.specs.Spelling.{module_tokens, IsNormal, Spells, HEIGHT, NESTING, IsViable, IsViableWithin, front}
-use Rattle.py_parse.specs.Machine.{State, Over, begun}
+use Rattle.py_statements.specs.Machine.{State, Over, begun}
 use Rattle.py_parse.specs.Least.{least_height, least_nesting}
 use Rattle.py_parse.specs.Places.{Source, relined}
 use Rattle.py_parse.specs.Refusal.{NestsTooDeep, NestsWithin, OneTree}

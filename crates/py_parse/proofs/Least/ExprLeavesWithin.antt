@@ -9,8 +9,8 @@ use Rattle.py_syntax.specs.Normal.{Level, LExprs, LExpr, LNot, LUnary, LPost, is
 use Rattle.py_grammar.specs.TokenClasses.{TokenClass, b_op, t_name, t_int, t_none, t_bool, t_string, t_format, t_bad_format, t_not, t_is, t_if, t_else, t_compare, t_operator, t_comma, t_colon, t_dot, t_left_paren, t_right_paren, t_left_bracket, t_right_bracket, t_left_brace, t_right_brace, operator_level, joined, begins}
 use Rattle.py_grammar.specs.Machine.{at_most, same_level, snoc, snoc_link, strings_of, Goal, any, one, target, targets, Opener, a_call, a_list, exprs_first, exprs_rest, cond_first, cond_test, cond_else, first, right, not_of, compare_first, compare_rest, unary_of, post_rest, in_items, index_first, in_index, slice_to, in_paren, in_key, in_value, Ctx, Outside, on, State, Want, Have, Strings, AfterOpen, AfterComma, AfterTarget, ItemsOpen, ItemsComma, DictOpen, DictComma, IndexOpen, SliceColon, AfterDot, AfterNot, AfterIs, AfterIsNot, Linked, Out, Next, Stuck, Left, upto, begin, close_items, leave, give, step, start}
 use Rattle.py_grammar.specs.Least.{least_name, as_target, target_if, wants, fit, whole, least}
-use Rattle.py_parse.specs.Machine.{Continuation, value, augmented, leaving, asserted, reason, arm_test, while_test, for_target, for_over, clause_kind, subject, guard, default, goal}
-use Rattle.py_parse.specs.Levels.{is_start}
+use Rattle.py_statements.specs.Machine.{Continuation, value, augmented, leaving, asserted, reason, arm_test, while_test, for_target, for_over, clause_kind, subject, guard, default, goal}
+use Rattle.py_statements.specs.Levels.{is_start}
 use Rattle.py_grammar.proofs.Grows.{heights_snoc, tuple_snoc, and_right}
 
 -- What leaves is no higher than this, and a step leads to no beginning.

@@ -19,8 +19,8 @@ use Rattle.py_grammar.proofs.Finish as expression_finish
 use Rattle.py_grammar.proofs.Finish.{Closes}
 use Rattle.py_grammar.proofs.Finishes as expression_finishes
 use Rattle.py_parse_pattern.proofs.Finish as pattern_finish
-use Rattle.py_parse.specs.Open.{an_arm, a_while, a_for, a_clause, a_def, a_case, newline_end, SuiteStack}
-use Rattle.py_parse.specs.Machine.{Continuation, value, augmented, leaving, asserted, reason, arm_test, while_test, for_target, for_over, clause_kind, subject, guard, default, goal, Reading, Matching, Span, State, at, Over, onward, left, resume, resume_pattern}
+use Rattle.py_statements.specs.Open.{an_arm, a_while, a_for, a_clause, a_def, a_case, newline_end, SuiteStack}
+use Rattle.py_statements.specs.Machine.{Continuation, value, augmented, leaving, asserted, reason, arm_test, while_test, for_target, for_over, clause_kind, subject, guard, default, goal, Reading, Matching, Span, State, at, Over, onward, left, resume, resume_pattern}
 use Rattle.py_parse.specs.Least.{form, complete, resumed}
 use Rattle.py_parse.proofs.Sound.Valid.{ValidLine, ValidContinuation}
 use Rattle.py_parse.proofs.Least.Finish.{closer, after, suite_here, finish_place}

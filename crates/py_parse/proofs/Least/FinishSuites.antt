@@ -5,8 +5,8 @@ use Rattle.py_syntax.specs.Tree.{Expr, wild}
 use Rattle.py_syntax.specs.Tree.{Stmts, no_stmts, stmt, suite, no_suite, has_suite, no_clauses, clause, Cases, no_cases, case, StmtKind, if', while, for, try, match}
 use Rattle.py_syntax.specs.Kinds.{Kind, Dedent, End}
 use Rattle.py_syntax.specs.Headers.{Marked}
-use Rattle.py_parse.specs.Open.{snoc_stmt, no_end, SuiteOf, an_arm, a_while, a_for, a_try, a_clause, an_else, a_finally, a_def, a_case, closed, SuiteStack, top, inside, add}
-use Rattle.py_parse.specs.Machine.{Place, SuiteWanted, IndentWanted, MatchBlock, Span, State, Line, at, After, Choosing, Over, close, over_line, line, next_part, is_whole, at_line, on_line, plain_step, step}
+use Rattle.py_statements.specs.Open.{snoc_stmt, no_end, SuiteOf, an_arm, a_while, a_for, a_try, a_clause, an_else, a_finally, a_def, a_case, closed, SuiteStack, top, inside, add}
+use Rattle.py_statements.specs.Machine.{Place, SuiteWanted, IndentWanted, MatchBlock, Span, State, Line, at, After, Choosing, Over, close, over_line, line, next_part, is_whole, at_line, on_line, plain_step, step}
 use Rattle.py_parse.specs.Least as least
 use Rattle.py_parse.specs.Least.{pass_suite, ended, chosen, ending, closing, a_header, a_match, complete}
 use Rattle.py_parse.specs.Places.{Source, run}

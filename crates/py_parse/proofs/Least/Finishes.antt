@@ -3,9 +3,9 @@ use Rattle.std.proofs.Common.{◌≡◌, ℕ, false, [], ◌∷◌, ◌++◌, So
 use Rattle.py_syntax.specs.Tree.{no_exprs, exprs}
 use Rattle.py_grammar.specs.Least.{least_name}
 use Rattle.py_grammar.specs.Machine.{snoc}
-use Rattle.py_parse.specs.Open.{newline_end, both_end, a_clause, a_def, SuiteStack}
-use Rattle.py_parse.specs.Machine.{Place, Reading, Matching, Simple, Semicolon, Leaving, NameWanted, NameRead, BoundWanted, BoundRead, ModuleWanted, ImportWanted, FunctionWanted, ParamsWanted, ParamWanted, ParamRead, Except, ClauseBound, ColonWanted, SuiteWanted, IndentWanted, MatchLine, MatchBlock, Span, State, Line, at, After, Choosing, Over, left}
-use Rattle.py_parse.specs.Listed.{froms, listed, with_name, is_some}
+use Rattle.py_statements.specs.Open.{newline_end, both_end, a_clause, a_def, SuiteStack}
+use Rattle.py_statements.specs.Machine.{Place, Reading, Matching, Simple, Semicolon, Leaving, NameWanted, NameRead, BoundWanted, BoundRead, ModuleWanted, ImportWanted, FunctionWanted, ParamsWanted, ParamWanted, ParamRead, Except, ClauseBound, ColonWanted, SuiteWanted, IndentWanted, MatchLine, MatchBlock, Span, State, Line, at, After, Choosing, Over, left}
+use Rattle.py_statements.specs.Listed.{froms, listed, with_name, is_some}
 use Rattle.py_parse.specs.Least.{form, complete, finished}
 use Rattle.py_parse.specs.Places.{run}
 use Rattle.py_parse.proofs.Sound.Valid.{ValidPlace, Valid}

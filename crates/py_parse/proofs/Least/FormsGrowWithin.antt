@@ -11,13 +11,13 @@ use Rattle.py_grammar.specs.Least as expression_least
 use Rattle.py_grammar.specs.Least.{least_name}
 use Rattle.py_parse_pattern.specs.Machine as pattern
 use Rattle.py_grammar.proofs.Grows.{heights_snoc, height_some}
-use Rattle.py_parse.specs.Open.{a_try, a_def, a_case, SuiteStack}
-use Rattle.py_parse.specs.Machine.{Continuation, value, augmented, leaving, asserted, reason, arm_test, while_test, for_target, for_over, clause_kind, subject, guard, default, Place, Reading, Matching, FunctionWanted, ColonWanted, Span, State, at, next_part}
+use Rattle.py_statements.specs.Open.{a_try, a_def, a_case, SuiteStack}
+use Rattle.py_statements.specs.Machine.{Continuation, value, augmented, leaving, asserted, reason, arm_test, while_test, for_target, for_over, clause_kind, subject, guard, default, Place, Reading, Matching, FunctionWanted, ColonWanted, Span, State, at, next_part}
 use Rattle.py_parse.specs.Least.{ended, resumed, with_param, form}
 use Rattle.py_parse.proofs.Least.GrowthParts.{Under, arm_height, arm_nesting, clause_height, clause_nesting, case_height, case_nesting}
 use Rattle.py_parse.proofs.Least.GrowthForms.{pass_only, passed, core}
 use Rattle.py_parse.proofs.Least.GrowthEnding.{depth, suites_nesting}
-use Rattle.py_parse.specs.Levels.{is_start}
+use Rattle.py_statements.specs.Levels.{is_start}
 use Rattle.py_parse.proofs.Least.Weights.{tall, deep, inner, level}
 
 -- the second is hardly higher than the first, or than this, and no deeper

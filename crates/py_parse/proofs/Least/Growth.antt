@@ -12,9 +12,9 @@ use Rattle.py_grammar.specs.Machine as expression
 use Rattle.py_grammar.specs.Machine.{any, snoc, start, class}
 use Rattle.py_grammar.specs.Least.{least_name}
 use Rattle.py_parse_pattern.specs.Machine as pattern
-use Rattle.py_parse.specs.Open.{snoc_stmt, snoc_case, no_end, newline_end, both_end, SuiteOf, an_arm, a_while, a_for, a_clause, a_def, a_case, closed, SuiteStack, top, inside, add}
-use Rattle.py_parse.specs.Machine.{Continuation, value, augmented, leaving, asserted, reason, arm_test, while_test, for_target, for_over, clause_kind, subject, guard, default, Place, Reading, Matching, NameWanted, ParamWanted, ClauseBound, ColonWanted, MatchLine, Span, State, at, close, over_line, end_simple, end_header, begun_at, onward, reads, wanted, simple_place, compound_place, begin_simple, begin_line, line, in_place_op, assigned, left, after_value, after_default, resume, resume_pattern, after_name}
-use Rattle.py_parse.specs.Listed.{Listed, globals, imports, froms, listed, with_name}
+use Rattle.py_statements.specs.Open.{snoc_stmt, snoc_case, no_end, newline_end, both_end, SuiteOf, an_arm, a_while, a_for, a_clause, a_def, a_case, closed, SuiteStack, top, inside, add}
+use Rattle.py_statements.specs.Machine.{Continuation, value, augmented, leaving, asserted, reason, arm_test, while_test, for_target, for_over, clause_kind, subject, guard, default, Place, Reading, Matching, NameWanted, ParamWanted, ClauseBound, ColonWanted, MatchLine, Span, State, at, close, over_line, end_simple, end_header, begun_at, onward, reads, wanted, simple_place, compound_place, begin_simple, begin_line, line, in_place_op, assigned, left, after_value, after_default, resume, resume_pattern, after_name}
+use Rattle.py_statements.specs.Listed.{Listed, globals, imports, froms, listed, with_name}
 use Rattle.py_parse.specs.Least.{ended, chosen, ending, closing, Form, a_statement, a_header, a_match, resumed, form, complete, finished}
 use Rattle.py_parse.proofs.Least.GrowthParts.{Low, Under, low_same, low_trans, under_same, suite_under, ending_low, closing_low, added_low}
 use Rattle.py_parse.proofs.Least.GrowthForms.{passed, core, low_to, low_from, clause_under, case_under, resumed_under, target_under}

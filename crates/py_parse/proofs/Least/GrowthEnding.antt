@@ -6,8 +6,8 @@ use Rattle.py_syntax.specs.declared.stmt.LineEnd.{LineEnd}
 use Rattle.py_syntax.specs.Tree.{no_stmts, stmt, Suite, suite, no_suite, clause, StmtKind, if', while, for, try}
 use Rattle.py_syntax.specs.Normal.{height, heights, pattern_height}
 use Rattle.py_syntax.specs.Statements.{option_height, stmts_height, kind_height, suite_height, opt_height, arms_height, clauses_height, cases_height, stmts_nesting, kind_nesting, suite_nesting, opt_nesting, arms_nesting, clauses_nesting, cases_nesting}
-use Rattle.py_parse.specs.Open.{snoc_stmt, no_end, SuiteOf, an_arm, a_while, a_for, a_try, a_clause, an_else, a_finally, a_def, a_case, closed, SuiteStack, top, inside}
-use Rattle.py_parse.specs.Machine.{Span}
+use Rattle.py_statements.specs.Open.{snoc_stmt, no_end, SuiteOf, an_arm, a_while, a_for, a_try, a_clause, an_else, a_finally, a_def, a_case, closed, SuiteStack, top, inside}
+use Rattle.py_statements.specs.Machine.{Span}
 use Rattle.py_parse.specs.Least.{pass_line, ended, ending, closing, Form, complete}
 use Rattle.py_parse.proofs.Sound.Valid.{TakesElse, ValidSuiteOf, ValidLine, ValidSimple}
 use Rattle.py_parse.proofs.Least.GrowthParts.{snoc_height, snoc_nesting, arm_height, arm_nesting, clause_height, clause_nesting, case_height, case_nesting, under_same, ended_height, ended_nesting}

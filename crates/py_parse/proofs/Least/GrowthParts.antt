@@ -5,7 +5,7 @@ use Rattle.py_syntax.specs.Tree.{Text, Expr, Pattern}
 use Rattle.py_syntax.specs.Tree.{Stmts, no_stmts, stmt, Suite, suite, no_suite, Arms, no_arms, arm, Clauses, no_clauses, clause, Cases, no_cases, case, StmtKind, if', while, for, try}
 use Rattle.py_syntax.specs.Normal.{height, pattern_height}
 use Rattle.py_syntax.specs.Statements.{option_height, stmts_height, kind_height, suite_height, arms_height, clauses_height, cases_height, stmts_nesting, kind_nesting, suite_nesting, arms_nesting, clauses_nesting, cases_nesting}
-use Rattle.py_parse.specs.Open.{snoc_stmt, snoc_arm, snoc_clause, snoc_case, no_end, SuiteOf, an_arm, a_while, a_for, a_try, a_clause, an_else, a_finally, a_def, a_case, with_else, closed, SuiteStack, top, inside, add}
+use Rattle.py_statements.specs.Open.{snoc_stmt, snoc_arm, snoc_clause, snoc_case, no_end, SuiteOf, an_arm, a_while, a_for, a_try, a_clause, an_else, a_finally, a_def, a_case, with_else, closed, SuiteStack, top, inside, add}
 use Rattle.py_parse.specs.Least.{pass_line, ended, ending, closing}
 
 -- ---- one more at the end

@@ -14,9 +14,9 @@ use Rattle.py_grammar.specs.Least.{least_name}
 use Rattle.py_parse_pattern.specs.Machine as pattern
 use Rattle.py_grammar.proofs.LeastNeverFalls as rising
 use Rattle.py_parse_pattern.proofs.Least as pattern_least
-use Rattle.py_parse.specs.Open.{no_end, newline_end, semicolon_end, both_end, SuiteOf, a_clause, a_def, a_case, closed, SuiteStack, inside, add}
-use Rattle.py_parse.specs.Machine.{leaving, clause_kind, subject, default, Place, Reading, Matching, Simple, Semicolon, Leaving, NameWanted, NameRead, BoundWanted, BoundRead, ModuleWanted, ImportWanted, FunctionWanted, ParamsWanted, ParamWanted, ParamRead, Except, ClauseBound, ColonWanted, SuiteWanted, IndentWanted, MatchLine, MatchBlock, Span, State, Line, at, After, Choosing, Over, begun_at, onward, goal, wanted, line, next_part, is_whole, left, resume, resume_pattern, act, choose, at_line, on_line, plain_step, header_step, step}
-use Rattle.py_parse.specs.Listed.{is_some, froms, with_name, may_bind}
+use Rattle.py_statements.specs.Open.{no_end, newline_end, semicolon_end, both_end, SuiteOf, a_clause, a_def, a_case, closed, SuiteStack, inside, add}
+use Rattle.py_statements.specs.Machine.{leaving, clause_kind, subject, default, Place, Reading, Matching, Simple, Semicolon, Leaving, NameWanted, NameRead, BoundWanted, BoundRead, ModuleWanted, ImportWanted, FunctionWanted, ParamsWanted, ParamWanted, ParamRead, Except, ClauseBound, ColonWanted, SuiteWanted, IndentWanted, MatchLine, MatchBlock, Span, State, Line, at, After, Choosing, Over, begun_at, onward, goal, wanted, line, next_part, is_whole, left, resume, resume_pattern, act, choose, at_line, on_line, plain_step, header_step, step}
+use Rattle.py_statements.specs.Listed.{is_some, froms, with_name, may_bind}
 use Rattle.py_parse.specs.Least.{pass_line, ended, chosen, ending, closing, a_statement, a_header, resumed, form, complete, finished, least_height, least_nesting}
 use Rattle.py_parse.proofs.Least.GrowthParts.{case_height, case_nesting, Low, Under, low_same, low_trans, under_same, under_trans, under_ended, suite_under, ending_low, added_low}
 use Rattle.py_parse.proofs.Least.GrowthForms.{pass_only, passed, core, low_to, clause_under, case_under, resumed_under, param_under, default_under, GoesOn, next_goes_on}

@@ -14,16 +14,16 @@ use Rattle.py_grammar.specs.Machine.{any, one, snoc, start, class}
 use Rattle.py_grammar.specs.Least as expression_least
 use Rattle.py_grammar.specs.Least.{least_name}
 use Rattle.py_parse_pattern.specs.Machine as pattern
-use Rattle.py_parse.specs.Open.{no_end, newline_end, semicolon_end, both_end, SuiteOf, an_arm, a_while, a_for, a_clause, a_def, a_case, SuiteStack, top, inside, add}
-use Rattle.py_parse.specs.Machine.{Continuation, value, augmented, leaving, asserted, reason, arm_test, while_test, for_target, for_over, clause_kind, subject, guard, default, Place, Reading, Matching, Simple, Semicolon, Leaving, NameWanted, NameRead, BoundWanted, BoundRead, ModuleWanted, ImportWanted, FunctionWanted, ParamsWanted, ParamWanted, ParamRead, Except, ClauseBound, ColonWanted, SuiteWanted, IndentWanted, MatchLine, MatchBlock, Span, State, Line, at, After, Choosing, Over, over_line, end_simple, end_header, begun_at, onward, goal, reads, wanted, simple_place, compound_place, begin_simple, begin_line, line, in_place_op, assigned, left, after_value, after_default, resume, resume_pattern, after_name, is_whole, next_part, act, choose, at_line, on_line, plain_step, header_step, step}
-use Rattle.py_parse.specs.Listed.{Listed, globals, imports, froms, listed, with_name, may_bind, is_some}
+use Rattle.py_statements.specs.Open.{no_end, newline_end, semicolon_end, both_end, SuiteOf, an_arm, a_while, a_for, a_clause, a_def, a_case, SuiteStack, top, inside, add}
+use Rattle.py_statements.specs.Machine.{Continuation, value, augmented, leaving, asserted, reason, arm_test, while_test, for_target, for_over, clause_kind, subject, guard, default, Place, Reading, Matching, Simple, Semicolon, Leaving, NameWanted, NameRead, BoundWanted, BoundRead, ModuleWanted, ImportWanted, FunctionWanted, ParamsWanted, ParamWanted, ParamRead, Except, ClauseBound, ColonWanted, SuiteWanted, IndentWanted, MatchLine, MatchBlock, Span, State, Line, at, After, Choosing, Over, over_line, end_simple, end_header, begun_at, onward, goal, reads, wanted, simple_place, compound_place, begin_simple, begin_line, line, in_place_op, assigned, left, after_value, after_default, resume, resume_pattern, after_name, is_whole, next_part, act, choose, at_line, on_line, plain_step, header_step, step}
+use Rattle.py_statements.specs.Listed.{Listed, globals, imports, froms, listed, with_name, may_bind, is_some}
 use Rattle.py_parse.specs.Least.{chosen, Form, a_header, resumed, form}
 use Rattle.py_parse.proofs.Sound.Valid.{Valid, ValidPlace, ValidContinuation}
 use Rattle.py_parse.proofs.Least.GrowthParts.{clause_height, clause_nesting, case_height, case_nesting}
 use Rattle.py_parse.proofs.Least.GrowthForms.{pass_only, passed, core, resumed_under, clause_under, case_under}
 use Rattle.py_parse.proofs.Least.GrowthEnding.{Apt, closed_height, closed_nesting, suites_height, depth, suites_nesting, AptSuites, apt_line, apt_simple}
 use Rattle.py_parse.proofs.Least.GrowthEnding.{apt as apt_suite_of}
-use Rattle.py_parse.specs.Levels.{begins_at}
+use Rattle.py_statements.specs.Levels.{begins_at}
 use Rattle.py_parse.proofs.Least.ExprLeavesWithin.{LeavesWithin, step_within}
 use Rattle.py_parse.proofs.Least.PatternLeavesWithin as leaves_within
 use Rattle.py_parse.proofs.Least.Weights.{tall, deep, AptState, inner, level, GrowsWithin, grows_within_from, added_height, added_nesting, added_apt, close_grows_within, over_line_grows_within}

@@ -6,11 +6,11 @@ use Rattle.py_syntax.specs.Statements.{stmts_height, kind_height, stmts_nesting,
 use Rattle.py_grammar.specs.Machine as expression
 use Rattle.py_grammar.specs.Least as expression_least
 use Rattle.py_parse_pattern.specs.Machine as pattern
-use Rattle.py_parse.specs.Open.{snoc_case, no_end, a_case, SuiteStack, top, inside, add}
-use Rattle.py_parse.specs.Machine.{Continuation, arm_test, while_test, for_target, subject, Reading, Matching, Span, State, Line, at, After, Choosing, Over, close, over_line}
+use Rattle.py_statements.specs.Open.{snoc_case, no_end, a_case, SuiteStack, top, inside, add}
+use Rattle.py_statements.specs.Machine.{Continuation, arm_test, while_test, for_target, subject, Reading, Matching, Span, State, Line, at, After, Choosing, Over, close, over_line}
 use Rattle.py_parse.specs.Least.{ended, chosen, form, least_height, least_nesting}
-use Rattle.py_parse.specs.Levels as levels
-use Rattle.py_parse.specs.Levels.{is_start, begins_at, open_count}
+use Rattle.py_statements.specs.Levels as levels
+use Rattle.py_statements.specs.Levels.{is_start, begins_at, open_count}
 use Rattle.py_parse.proofs.Least.GrowthParts.{snoc_height, snoc_nesting, case_height, case_nesting, ended_height, ended_nesting}
 use Rattle.py_parse.proofs.Least.GrowthForms.{core}
 use Rattle.py_parse.proofs.Least.GrowthEnding.{closed_height, closed_nesting, suites_height, depth, suites_nesting, AptSuites, ending_height, ending_nesting, closing_height, closing_nesting, complete_height, complete_nesting}

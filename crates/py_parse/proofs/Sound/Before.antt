@@ -10,9 +10,9 @@ use Rattle.py_syntax.specs.Headers.{Marked, put, match_name}
 use Rattle.py_syntax.specs.Statements.{in_place_mark, target_tokens, as_tokens, param_tokens, case_name, stmts_tokens, kind_tokens, case_tokens}
 use Rattle.py_grammar.proofs.Sound as expression
 use Rattle.py_parse_pattern.proofs.Sound as pattern
-use Rattle.py_parse.specs.Open.{SuiteOf, an_arm, a_while, a_for, a_try, a_clause, an_else, a_finally, a_def, a_case, SuiteStack, top, inside}
-use Rattle.py_parse.specs.Machine.{Continuation, value, augmented, leaving, asserted, reason, arm_test, while_test, for_target, for_over, clause_kind, subject, guard, default, Place, Reading, Matching, Simple, Semicolon, Leaving, NameWanted, NameRead, BoundWanted, BoundRead, ModuleWanted, ImportWanted, FunctionWanted, ParamsWanted, ParamWanted, ParamRead, Except, ClauseBound, ColonWanted, SuiteWanted, IndentWanted, MatchLine, MatchBlock, State, Line, at, After, Choosing, Over}
-use Rattle.py_parse.specs.Listed.{Listed, globals, imports, froms, listed}
+use Rattle.py_statements.specs.Open.{SuiteOf, an_arm, a_while, a_for, a_try, a_clause, an_else, a_finally, a_def, a_case, SuiteStack, top, inside}
+use Rattle.py_statements.specs.Machine.{Continuation, value, augmented, leaving, asserted, reason, arm_test, while_test, for_target, for_over, clause_kind, subject, guard, default, Place, Reading, Matching, Simple, Semicolon, Leaving, NameWanted, NameRead, BoundWanted, BoundRead, ModuleWanted, ImportWanted, FunctionWanted, ParamsWanted, ParamWanted, ParamRead, Except, ClauseBound, ColonWanted, SuiteWanted, IndentWanted, MatchLine, MatchBlock, State, Line, at, After, Choosing, Over}
+use Rattle.py_statements.specs.Listed.{Listed, globals, imports, froms, listed}
 
 -- ---- the tokens of a header or a simple statement so far, and then others
 

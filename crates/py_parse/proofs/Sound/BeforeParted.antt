@@ -9,7 +9,7 @@ use Rattle.py_syntax.specs.Tokens.{strings, sign_mark, comparison, tokens, items
 use Rattle.py_syntax.specs.Headers.{Marked, put}
 use Rattle.py_syntax.specs.Statements.{in_place_mark, target_tokens, as_tokens, more_params, params_from, count, param_tokens, case_name}
 use Rattle.py_grammar.specs.TokenClasses.{operator_kind}
-use Rattle.py_grammar.specs.Machine.{one, targets, Opener, a_call, a_list, exprs_first, exprs_rest, cond_first, cond_test, cond_else, first, right, not_of, compare_first, compare_rest, unary_of, post_rest, in_items, index_first, in_index, slice_to, in_paren, in_key, in_value, Ctx, Outside, on}
+use Rattle.py_grammar.specs.Machine.{targets, Opener, a_call, a_list, exprs_first, exprs_rest, cond_first, cond_test, cond_else, first, right, not_of, compare_first, compare_rest, unary_of, post_rest, in_items, index_first, in_index, slice_to, in_paren, in_key, in_value, Ctx, Outside, on}
 use Rattle.py_grammar.specs.Machine as expression
 use Rattle.py_parse_pattern.specs.Machine as pattern
 use Rattle.py_parse_pattern.specs.Machine.{Frame, frame, Stack, stack, open_mark}
@@ -18,9 +18,9 @@ use Rattle.py_grammar.proofs.Sound as read_
 use Rattle.py_parse_pattern.proofs.Sound.{barred, before_row, before_closed, before_item}
 use Rattle.py_parse_pattern.proofs.Sound as pattern_read_
 use Rattle.py_parse_pattern.proofs.Exact as pattern_
-use Rattle.py_parse.specs.Open.{SuiteOf, an_arm, a_while, a_for, a_try, a_clause, an_else, a_finally, a_def, a_case}
-use Rattle.py_parse.specs.Machine.{Continuation, value, augmented, leaving, asserted, reason, arm_test, while_test, for_target, for_over, clause_kind, subject, guard, default, Place, Reading, Matching, Simple, Semicolon, Leaving, NameWanted, NameRead, BoundWanted, BoundRead, ModuleWanted, ImportWanted, FunctionWanted, ParamsWanted, ParamWanted, ParamRead, Except, ClauseBound, ColonWanted, SuiteWanted, IndentWanted, MatchLine, MatchBlock}
-use Rattle.py_parse.specs.Listed.{Listed, globals, imports, froms}
+use Rattle.py_statements.specs.Open.{SuiteOf, an_arm, a_while, a_for, a_try, a_clause, an_else, a_finally, a_def, a_case}
+use Rattle.py_statements.specs.Machine.{Continuation, value, augmented, leaving, asserted, reason, arm_test, while_test, for_target, for_over, clause_kind, subject, guard, default, Place, Reading, Matching, Simple, Semicolon, Leaving, NameWanted, NameRead, BoundWanted, BoundRead, ModuleWanted, ImportWanted, FunctionWanted, ParamsWanted, ParamWanted, ParamRead, Except, ClauseBound, ColonWanted, SuiteWanted, IndentWanted, MatchLine, MatchBlock}
+use Rattle.py_statements.specs.Listed.{Listed, globals, imports, froms}
 use Rattle.py_parse.proofs.Sound.Parted.{comma_parted, strings_parted, comparison_parted, fragments_parted, parted, items_parted, more_parted, entries_parted, links_parted, bound_parted, put_append}
 use Rattle.py_parse.proofs.Sound.Before.{commas, alias_commas, listing, def_open, front, guard_part, clause_part, head, inner}
 

@@ -13,9 +13,9 @@ use Rattle.py_grammar.specs.Machine.{any, one, start, class}
 use Rattle.py_parse_pattern.specs.Machine as pattern
 use Rattle.py_grammar.proofs.Sound as read_
 use Rattle.py_parse_pattern.proofs.Sound as pattern_read_
-use Rattle.py_parse.specs.Open.{SuiteStack, inside, add, no_end, both_end, semicolon_end}
-use Rattle.py_parse.specs.Machine.{leaving, clause_kind, subject, Place, Reading, Matching, Simple, Semicolon, Leaving, NameWanted, NameRead, BoundWanted, BoundRead, ModuleWanted, ImportWanted, FunctionWanted, ParamsWanted, ParamWanted, ParamRead, Except, ClauseBound, ColonWanted, SuiteWanted, IndentWanted, MatchLine, MatchBlock, Span, State, Line, at, After, Choosing, Over, wanted, onward, begun_at, begin_simple, left, after_name, after_default, act, choose, next_part, is_whole, at_line, on_line, plain_step, header_step, step, line}
-use Rattle.py_parse.specs.Listed.{Listed, globals, imports, froms, listed, with_name, may_bind}
+use Rattle.py_statements.specs.Open.{SuiteStack, inside, add, no_end, both_end, semicolon_end}
+use Rattle.py_statements.specs.Machine.{leaving, clause_kind, subject, Place, Reading, Matching, Simple, Semicolon, Leaving, NameWanted, NameRead, BoundWanted, BoundRead, ModuleWanted, ImportWanted, FunctionWanted, ParamsWanted, ParamWanted, ParamRead, Except, ClauseBound, ColonWanted, SuiteWanted, IndentWanted, MatchLine, MatchBlock, Span, State, Line, at, After, Choosing, Over, wanted, onward, begun_at, begin_simple, left, after_name, after_default, act, choose, next_part, is_whole, at_line, on_line, plain_step, header_step, step, line}
+use Rattle.py_statements.specs.Listed.{Listed, globals, imports, froms, listed, with_name, may_bind}
 use Rattle.py_parse.proofs.Sound.Parted.{put_append}
 use Rattle.py_parse.proofs.Sound.Before.{commas, alias_commas, listing, inner, outer, match_open, before_suites, before}
 use Rattle.py_parse.proofs.Sound.BeforeParted.{as_parted, plain}

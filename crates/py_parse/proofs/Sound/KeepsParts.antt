@@ -7,8 +7,8 @@ use Rattle.py_syntax.specs.Tree.{Stmts, no_stmts, stmt, Suite, suite, no_suite, 
 use Rattle.py_syntax.specs.Kinds.{Kind, Sign, Newline}
 use Rattle.py_syntax.specs.Normal.{NormalPattern}
 use Rattle.py_syntax.specs.Statements.{is_simple, begins_simple, EndsLine, EndLines, ShareLine, IsOption, NormalExpr, NormalClauseHead, NormalStmts, NormalKind, NormalSuite, NormalArms, NormalClauses, NormalCases}
-use Rattle.py_parse.specs.Open.{snoc_stmt, snoc_arm, snoc_clause, snoc_case, no_end, newline_end, semicolon_end, both_end, SuiteOf, an_arm, a_while, a_for, a_try, a_clause, an_else, a_finally, a_def, a_case, closed, SuiteStack, top, inside, add}
-use Rattle.py_parse.specs.Machine.{Span, State, close, over_line, end_simple, end_header}
+use Rattle.py_statements.specs.Open.{snoc_stmt, snoc_arm, snoc_clause, snoc_case, no_end, newline_end, semicolon_end, both_end, SuiteOf, an_arm, a_while, a_for, a_try, a_clause, an_else, a_finally, a_def, a_case, closed, SuiteStack, top, inside, add}
+use Rattle.py_statements.specs.Machine.{Span, State, close, over_line, end_simple, end_header}
 use Rattle.py_parse.specs.Least.{ended}
 use Rattle.py_parse.proofs.Sound.Valid.{ValidSuiteOf, with_pass, ValidLine, ValidSimple, Valid}
 

@@ -10,8 +10,8 @@ use Rattle.py_syntax.specs.Tokens.{comma_if, tokens, pattern_tokens}
 use Rattle.py_syntax.specs.Headers.{Marked, put}
 use Rattle.py_syntax.specs.Statements.{target_tokens, as_tokens, more_names, name_list, more_aliases, alias_list, more_params, params_from, count, param_tokens, except_tokens, case_name, guard_tokens, end_tokens, stmts_tokens, kind_tokens, suite_tokens, elif_tokens, clause_tokens, case_tokens}
 use Rattle.py_grammar.specs.Machine.{snoc}
-use Rattle.py_parse.specs.Open.{snoc_stmt, snoc_arm, snoc_clause, snoc_case}
-use Rattle.py_parse.specs.Listed.{Listed, globals, imports, froms, listed, with_name, may_bind}
+use Rattle.py_statements.specs.Open.{snoc_stmt, snoc_arm, snoc_clause, snoc_case}
+use Rattle.py_statements.specs.Listed.{Listed, globals, imports, froms, listed, with_name, may_bind}
 use Rattle.py_parse.proofs.Sound.Before.{commas, alias_commas, listing, match_open}
 
 -- ---- statements and suites

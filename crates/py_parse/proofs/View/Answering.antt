@@ -17,24 +17,24 @@ use Rattle.py_grammar.specs.Reading as reading_
 use Rattle.py_grammar.proofs.Places.{kinds_length}
 use Rattle.py_parse_pattern.specs.Machine as pattern
 use Rattle.py_parse_pattern.specs.Reads as pattern_reads
-use Rattle.py_parse.specs.declared.places.State as held_state
-use Rattle.py_parse.specs.declared.places.Turn.{Turn}
-use Rattle.py_parse.specs.declared.places.Turn.TheVariants as turn_
+use Rattle.py_statements.specs.declared.places.State as held_state
+use Rattle.py_statements.specs.declared.places.Turn.{Turn}
+use Rattle.py_statements.specs.declared.places.Turn.TheVariants as turn_
 use Rattle.py_parse_expr.specs.declared.exprs.ExprPart.{ExprPart}
 use Rattle.py_parse.specs.declared.progress.Progress.{Progress}
 use Rattle.py_parse.specs.declared.error.SyntaxError.{SyntaxError}
 use Rattle.py_parse.specs.declared.error.SyntaxError.TheVariants as error_
-use Rattle.py_parse.specs.Open.{SuiteStack}
-use Rattle.py_parse.specs.Machine.{Continuation, Span, State, Line, at, After, Choosing, Over, goal, resume, resume_pattern, done, onward, step}
-use Rattle.py_parse.specs.Levels.{level}
+use Rattle.py_statements.specs.Open.{SuiteStack}
+use Rattle.py_statements.specs.Machine.{Continuation, Span, State, Line, at, After, Choosing, Over, goal, resume, resume_pattern, done, onward, step}
+use Rattle.py_statements.specs.Levels.{level}
 use Rattle.py_parse.specs.Refusal.{IsUnexpected, HasDeepSuites, HasDeepExpressions, IsParsed, IsRefused}
-use Rattle.py_parse.specs.ViewStates.{kind_at, first_at, last_at, view_state, ActsAs, IsDone}
+use Rattle.py_statements.specs.ViewStates.{kind_at, first_at, last_at, view_state, ActsAs, IsDone}
 use Rattle.py_parse_expr.specs.ExprReads.{goal_of, FollowsMachine}
-use Rattle.py_parse.specs.ViewMarks.{header_at}
+use Rattle.py_statements.specs.ViewMarks.{header_at}
 use Rattle.py_parse.specs.Progress.{StandsAt, Turns, ReadsFrom, MatchesFrom, Resumes, Advances}
 use Rattle.py_parse.proofs.Exact.ReadsBetween.{first_place, taken, too_deep, stuck, expression_read, pattern_read, whole, too_short}
 use Rattle.py_parse.proofs.Exact.ReadsBetween as going
-use Rattle.py_parse.proofs.View.HeaderPlaces.{header_match}
+use Rattle.py_statements.proofs.View.HeaderPlaces.{header_match}
 use Rattle.py_parse.proofs.View.Turning.{turning, resuming, reading_turn, matching_turn}
 
 pub tokens_length : (tokens : List Token) → length (view_tokens tokens) ≡ length tokens

@@ -11,10 +11,10 @@ use Rattle.py_syntax.specs.Kinds.{Kind, bare_token, bare}
 use Rattle.py_grammar.specs.Machine as expression
 use Rattle.py_grammar.specs.Machine.{start, class}
 use Rattle.py_parse_pattern.specs.Machine as pattern
-use Rattle.py_parse.specs.Open.{SuiteStack}
-use Rattle.py_parse.specs.Machine.{Continuation, Matching, Span, State, goal, reads, act, step}
-use Rattle.py_parse.specs.ViewMarks.{header_at}
-use Rattle.py_parse.specs.ViewStates.{kind_at, first_at, last_at}
+use Rattle.py_statements.specs.Open.{SuiteStack}
+use Rattle.py_statements.specs.Machine.{Continuation, Matching, Span, State, goal, reads, act, step}
+use Rattle.py_statements.specs.ViewMarks.{header_at}
+use Rattle.py_statements.specs.ViewStates.{kind_at, first_at, last_at}
 use Rattle.py_parse.specs.Progress.{StandsAt, step_at, Turns, ReadsFrom, MatchesFrom, Resumes, last_there, line_before}
 use Rattle.py_parse.specs.Refusal.{line_of}
 

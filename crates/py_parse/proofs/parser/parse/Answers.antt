@@ -1,4 +1,4 @@
-use Rattle.py_parse.specs.ViewStates.{view_state}
+use Rattle.py_statements.specs.ViewStates.{view_state}
 use Rattle.py_parse.proofs.View.Answering.{unparsed}
 use Rattle.py_parse.proofs.parser.parse.Goals as goal
 

@@ -1,6 +1,6 @@
 use Rattle.std.proofs.Common.{◌-◌, length}
 use Rattle.py_token.specs.View.{view_tokens}
-use Rattle.py_parse.specs.ViewStates.{view_state}
+use Rattle.py_statements.specs.ViewStates.{view_state}
 use Rattle.py_parse.specs.Progress.{StandsAt}
 use Rattle.py_parse.proofs.parser.parse.Given as goal
 

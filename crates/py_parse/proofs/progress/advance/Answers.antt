@@ -1,4 +1,4 @@
-use Rattle.py_parse.specs.ViewStates.{view_state}
+use Rattle.py_statements.specs.ViewStates.{view_state}
 use Rattle.py_parse.proofs.View.Answering.{next_turns, stuck_turns}
 use Rattle.py_parse.proofs.progress.advance.Goals as goal
 

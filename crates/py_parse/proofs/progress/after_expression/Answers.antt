@@ -1,5 +1,5 @@
 use Rattle.py_syntax.specs.View.{plain_expr}
-use Rattle.py_parse.specs.ViewStates.{view_suites, view_span, view_continuation}
+use Rattle.py_statements.specs.ViewStates.{view_suites, view_span, view_continuation}
 use Rattle.py_parse.proofs.View.Answering.{expression_turns}
 use Rattle.py_parse.proofs.progress.after_expression.Goals as goal
 

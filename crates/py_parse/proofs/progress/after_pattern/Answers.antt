@@ -1,8 +1,8 @@
 use Rattle.std.proofs.Common.{subst, option_map, ◌≡◌}
 use Rattle.py_syntax.specs.declared.pattern.Pattern.{Pattern}
 use Rattle.py_syntax.specs.View.{plain_expr, plain_cases, plain_pattern}
-use Rattle.py_parse.specs.Machine.{resume_pattern}
-use Rattle.py_parse.specs.ViewStates.{kind_at, last_at, view_suites, view_span, view_state}
+use Rattle.py_statements.specs.Machine.{resume_pattern}
+use Rattle.py_statements.specs.ViewStates.{kind_at, last_at, view_suites, view_span, view_state}
 use Rattle.py_parse.proofs.View.Answering.{pattern_turns}
 use Rattle.py_parse.proofs.progress.after_pattern.Goals as goal
 

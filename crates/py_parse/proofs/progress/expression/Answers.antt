@@ -3,7 +3,7 @@ use Rattle.py_token.specs.View.{view_tokens}
 use Rattle.py_syntax.specs.View.{plain_expr}
 use Rattle.py_parse.specs.Refusal.{IsUnexpected, HasDeepExpressions}
 use Rattle.py_parse_expr.specs.ExprReads.{goal_of}
-use Rattle.py_parse.specs.ViewStates.{view_suites, view_span, view_continuation}
+use Rattle.py_statements.specs.ViewStates.{view_suites, view_span, view_continuation}
 use Rattle.py_parse.proofs.View.Answering.{after_expression, expression_unexpected, expression_too_high}
 use Rattle.py_parse.proofs.progress.expression.Goals as goal
 

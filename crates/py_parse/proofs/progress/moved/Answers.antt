@@ -1,7 +1,7 @@
 use Rattle.std.proofs.Common.{◌≡◌, ◌<◌, ◌≤◌, ℕ, Option, option_map, subst, arith}
 use Rattle.py_token.specs.View.{view_tokens}
-use Rattle.py_parse.specs.declared.places.State.{State}
-use Rattle.py_parse.specs.ViewStates.{view_state}
+use Rattle.py_statements.specs.declared.places.State.{State}
+use Rattle.py_statements.specs.ViewStates.{view_state}
 use Rattle.py_parse.specs.Progress.{Turns}
 use Rattle.py_parse.proofs.View.Answering.{moved_on, moved_deep, moved_nowhere}
 use Rattle.py_parse.proofs.progress.moved.Goals as goal

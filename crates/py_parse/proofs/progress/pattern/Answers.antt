@@ -2,7 +2,7 @@ use Rattle.std.proofs.Common.{sym, subst}
 use Rattle.py_token.specs.View.{view_tokens}
 use Rattle.py_syntax.specs.View.{plain_expr, plain_cases, plain_pattern}
 use Rattle.py_parse.specs.Refusal.{IsUnexpected, HasDeepExpressions}
-use Rattle.py_parse.specs.ViewStates.{view_suites, view_span}
+use Rattle.py_statements.specs.ViewStates.{view_suites, view_span}
 use Rattle.py_parse.proofs.View.Answering.{after_pattern, pattern_unexpected, pattern_too_high}
 use Rattle.py_parse.proofs.progress.pattern.Goals as goal
 

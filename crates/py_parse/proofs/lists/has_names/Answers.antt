@@ -1,6 +1,0 @@
-use Rattle.std.proofs.Common.{ap, ◌∙◌, not}
-use Rattle.py_parse.proofs.View.StmtKinds.{any_names}
-use Rattle.py_parse.proofs.lists.has_names.Goals as goal
-
-pub returns : goal.returns
-returns c = ap not c.is_empty.ensures ∙ any_names c.args.names.now

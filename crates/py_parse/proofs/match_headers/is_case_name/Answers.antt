@@ -1,6 +1,0 @@
-use Rattle.std.proofs.Common.{◌∙◌}
-use Rattle.py_parse.proofs.View.HeaderNames.{same_case}
-use Rattle.py_parse.proofs.match_headers.is_case_name.Goals as goal
-
-pub returns : goal.returns
-returns c = c.eq.ensures ∙ same_case c.args.name.now c.as_str.result.now c.as_str.ensures.bytes c.as_str.ensures.characters

@@ -1,8 +1,0 @@
-use Rattle.std.proofs.Common.{ap, ◌∙◌}
-use Rattle.py_syntax.specs.declared.stmt.Case as cases
-use Rattle.py_syntax.specs.View.{plain_cases}
-use Rattle.py_parse.proofs.View.OneMore.{cases_snoc}
-use Rattle.py_parse.proofs.suite_of.add_case.Goals as goal
-
-pub returns : goal.returns
-returns c = ap plain_cases c.in_ok-push.ensures.items ∙ cases_snoc c.args.cases.items _ ∙ search cases.the_lemmas

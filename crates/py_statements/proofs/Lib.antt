@@ -1,0 +1,2 @@
+mod HeaderRows
+pub mod View

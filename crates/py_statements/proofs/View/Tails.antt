@@ -1,0 +1,46 @@
+-- What a function hands on is what it is to make itself.
+use Rattle.std.proofs.Common.{◌≡◌, Option, Result, IfOk, sym, ap, subst}
+use Rattle.std.specs.declared.alloc.AllocError.{AllocError}
+use Rattle.py_token.specs.declared.token.Token.{Token}
+use Rattle.py_syntax.specs.declared.expr.Expr.{Expr as Node}
+use Rattle.py_syntax.specs.declared.stmt.StmtKind as kind
+use Rattle.py_syntax.specs.declared.stmt.StmtKind.{StmtKind as KindNode}
+use Rattle.py_syntax.specs.declared.stmt.Suite.{Suite as SuiteNode}
+use Rattle.py_syntax.specs.Tree.{Expr, StmtKind, expr}
+use Rattle.py_syntax.specs.View.{plain_expr, plain_kind, plain_suite}
+use Rattle.py_statements.specs.declared.places.Place as held_place
+use Rattle.py_statements.specs.declared.places.State as held_state
+use Rattle.py_statements.specs.declared.places.Turn.{Turn}
+use Rattle.py_statements.specs.declared.purposes.Continuation as held_continuation
+use Rattle.py_statements.specs.declared.suite_of.SuiteOf as held_suite_of
+use Rattle.py_statements.specs.declared.suite_stack.Span as held_span
+use Rattle.py_statements.specs.declared.suite_stack.SuiteStack as held_suites
+use Rattle.py_statements.specs.Open.{closed}
+use Rattle.py_statements.specs.Machine.{State, end_simple, resume}
+use Rattle.py_statements.specs.ViewSuiteOf.{view_suite_of}
+use Rattle.py_statements.specs.ViewStates.{view_place, view_continuation, ActsAt, Continues, Makes}
+
+-- at a place that was taken apart
+pub acts_at : (t : Token) (held made : held_place.Place) (n : held_span.Span) (b : held_suites.SuiteStack) (r : Result Turn AllocError) → held ≡ made → ActsAt t (view_place made) n b r → ActsAt t (view_place held) n b r
+acts_at t held made n b r is acts = subst (λ (p : held_place.Place). ActsAt t (view_place p) n b r) (sym is) acts
+
+-- after an expression whose purpose was taken apart
+pub resumes_so : (t : Token) (held made : held_continuation.Continuation) (e : Expr) (n : held_span.Span) (b : held_suites.SuiteStack) (r : Result (Option held_state.State) AllocError) → held ≡ made → Continues t (resume (view_continuation made) e) n b r → Continues t (resume (view_continuation held) e) n b r
+resumes_so t held made e n b r is goes = subst (λ (c : held_continuation.Continuation). Continues t (resume (view_continuation c) e) n b r) (sym is) goes
+
+-- after a simple statement
+pub ends_so : (t : Token) (k j : StmtKind) (n : held_span.Span) (b : held_suites.SuiteStack) (r : Result (Option held_state.State) AllocError) → k ≡ j → Continues t (end_simple k) n b r → Continues t (end_simple j) n b r
+ends_so t k j n b r is ends = subst (λ (x : StmtKind). Continues t (end_simple x) n b r) is ends
+
+pub makes_so : (o p : Option State) (r : Result (Option held_state.State) AllocError) → o ≡ p → Makes o r → Makes p r
+makes_so o p r is makes = subst (λ (x : Option State). Makes x r) is makes
+
+-- a suite whose owner was taken apart
+pub closed_of : (held made : held_suite_of.SuiteOf) (s : SuiteNode) → held ≡ made → closed (view_suite_of made) (plain_suite s) ≡ closed (view_suite_of held) (plain_suite s)
+closed_of held made s is = sym (ap (λ (o : held_suite_of.SuiteOf). closed (view_suite_of o) (plain_suite s)) is)
+
+pub closes_so : (r : Result KindNode AllocError) (k j : StmtKind) → k ≡ j → IfOk r (λ w. plain_kind w ≡ k) → IfOk r (λ w. plain_kind w ≡ j)
+closes_so r k j is h = subst (λ (x : StmtKind). IfOk r (λ w. plain_kind w ≡ x)) is h
+
+pub plain-Expr : (e : Node) → plain_kind (kind.Expr e) ≡ expr (plain_expr e)
+plain-Expr e = search kind.the_lemmas

@@ -1,0 +1,9 @@
+pub mod Open
+pub mod Listed
+pub mod Machine
+pub mod Levels
+pub mod ViewSuiteOf
+pub mod ViewStates
+pub mod ViewParts
+pub mod ViewMarks
+pub mod ViewLists
