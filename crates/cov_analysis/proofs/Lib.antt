@@ -1,2 +1,11 @@
 mod Rounding
 mod Sums
+mod Keeping
+mod Searching
+mod Raising
+mod Counting
+mod Branching
+mod Rising
+mod Ordered
+mod Telling
+mod Rows
