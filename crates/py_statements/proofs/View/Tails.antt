@@ -16,9 +16,9 @@ use Rattle.py_statements.specs.declared.suite_of.SuiteOf as held_suite_of
 use Rattle.py_statements.specs.declared.suite_stack.Span as held_span
 use Rattle.py_statements.specs.declared.suite_stack.SuiteStack as held_suites
 use Rattle.py_statements.specs.Open.{closed}
-use Rattle.py_statements.specs.Machine.{State, end_simple, resume}
+use Rattle.py_statements.specs.Machine.{end_simple, resume}
 use Rattle.py_statements.specs.ViewSuiteOf.{view_suite_of}
-use Rattle.py_statements.specs.ViewStates.{view_place, view_continuation, ActsAt, Continues, Makes}
+use Rattle.py_statements.specs.ViewStates.{view_place, view_continuation, ActsAt, Continues}
 
 -- at a place that was taken apart
 pub acts_at : (t : Token) (held made : held_place.Place) (n : held_span.Span) (b : held_suites.SuiteStack) (r : Result Turn AllocError) → held ≡ made → ActsAt t (view_place made) n b r → ActsAt t (view_place held) n b r
@@ -31,9 +31,6 @@ resumes_so t held made e n b r is goes = subst (λ (c : held_continuation.Contin
 -- after a simple statement
 pub ends_so : (t : Token) (k j : StmtKind) (n : held_span.Span) (b : held_suites.SuiteStack) (r : Result (Option held_state.State) AllocError) → k ≡ j → Continues t (end_simple k) n b r → Continues t (end_simple j) n b r
 ends_so t k j n b r is ends = subst (λ (x : StmtKind). Continues t (end_simple x) n b r) is ends
-
-pub makes_so : (o p : Option State) (r : Result (Option held_state.State) AllocError) → o ≡ p → Makes o r → Makes p r
-makes_so o p r is makes = subst (λ (x : Option State). Makes x r) is makes
 
 -- a suite whose owner was taken apart
 pub closed_of : (held made : held_suite_of.SuiteOf) (s : SuiteNode) → held ≡ made → closed (view_suite_of made) (plain_suite s) ≡ closed (view_suite_of held) (plain_suite s)
