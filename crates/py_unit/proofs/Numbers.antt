@@ -1,5 +1,5 @@
 -- The number of a name, a constant or a line stays where more of them come.
---     place_behind, place_added          places in lists that grow
+--     place_after, place_added          places in lists that grow
 --     Grows                              lists of a unit that grow
 --     stays                              an instruction by lists with what it names, and by all lists
 use Rattle.std.proofs.Common.{◌≡◌, ℕ, suc, ◌+◌, ◌<◌, ◌==◌, Bool, true, false, List, [], ◌∷◌, ◌++◌, length, refl, sym, ap, ◌∙◌, subst, arith, append_assoc}
@@ -25,17 +25,17 @@ chosen true l g h f = refl
 chosen false l g h f = f refl
 
 module _ {A : Type 0} (same : A → A → Bool) where
-  place_behind : (xs zs : List A) (x : A) → place_in same xs x < length xs → place_in same (xs ++ zs) x ≡ place_in same xs x
-  place_behind [] zs x lt = absurd (omega arith)
-  place_behind (y ∷ ys) zs x lt =
-      by_case (same x y) (place_in same (ys ++ zs) x) (place_in same ys x) (length ys) lt (place_behind ys zs x)
+  place_after : (xs zs : List A) (x : A) → place_in same xs x < length xs → place_in same (xs ++ zs) x ≡ place_in same xs x
+  place_after [] zs x lt = absurd (omega arith)
+  place_after (y ∷ ys) zs x lt =
+      by_case (same x y) (place_in same (ys ++ zs) x) (place_in same ys x) (length ys) lt (place_after ys zs x)
     where
       by_case : (b : Bool) (p q n : ℕ) → (if b then 0 else suc q) < suc n → (q < n → p ≡ q) → (if b then 0 else suc p) ≡ (if b then 0 else suc q)
       by_case true p q n lt f = refl
       by_case false p q n lt f = ap suc (f (omega arith))
 
   place_stays : (xs ys : List A) (x : A) → Extends xs ys → place_in same xs x < length xs → place_in same ys x ≡ place_in same xs x
-  place_stays xs ys x e lt = ap (λ zs. place_in same zs x) e.1 ∙ place_behind xs e.0 x lt
+  place_stays xs ys x e lt = ap (λ zs. place_in same zs x) e.1 ∙ place_after xs e.0 x lt
 
   extends_added : (xs : List A) (x : A) → Extends xs (add_new same xs x)
   extends_added [] x = (x ∷ [], refl)
@@ -228,7 +228,7 @@ same_instr t v (marks l) g h = ap Mark (kept_line t v l g h)
 same_instr t v (marks_again l) g h = ap Again (kept_line t v l g h)
 same_instr t v (plain i) g h = refl
 
--- behind all other cells an instruction is as it was
+-- after all other cells an instruction is as it was
 pub stays : (t : Tables) (op : Op) (cs : List Cell) → instr_of (tables_with t op) op ≡ instr_of (tables_of (tables_with t op) cs) op
 stays t op cs = sym (same_instr (tables_with t op) (tables_of (tables_with t op) cs) op (grows_all (tables_with t op) cs) (has t op))
 

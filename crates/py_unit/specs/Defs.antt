@@ -15,6 +15,7 @@ use Rattle.py_compile_expr.specs.Cells.{Cell}
 use Rattle.py_compile_expr.specs.Expressions.{count}
 use Rattle.py_unit.specs.declared.functions.Def.{Def}
 
+-- a `def` in memory as such
 abbrev pub definition_of : Def → Definition
 definition_of d = record {
   function = record {
@@ -26,18 +27,23 @@ definition_of d = record {
   defaults = count (plain_exprs d.defaults.now);
 }
 
+-- its line
 abbrev pub line_of : Definition → ℕ
 line_of d = d.function.line
 
+-- the local names of its function
 abbrev pub own_names : Definition → List Text
 own_names d = local_names d.function.params d.function.body
 
+-- the `def`s of a suite
 abbrev pub suite_definitions : Suite → List Definition
 suite_definitions (suite first last inline body) = definitions body
 
+-- the statements of a suite
 abbrev pub suite_body : Suite → Stmts
 suite_body (suite first last inline body) = body
 
+-- a `def` in a line, by its name, parameters, defaults and suite
 abbrev pub defined : (line : ℕ) → Text → (params : List Text) → Exprs → Suite → Definition
 defined line x params defaults s = record {
   function = record {

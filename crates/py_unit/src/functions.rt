@@ -108,7 +108,8 @@ fn function<'a>(
 ) -> Result<(), NoMemory>
     ensures { OnOk result (map definition_of found.new.items
         ≡ map definition_of found.old.items
-        ++ defined line name.now params.now (plain_exprs defaults.now) (plain_suite body.now) ∷ []) }
+        ++ defined line name.now params.now (plain_exprs defaults.now) (plain_suite body.now)
+        ∷ []) }
 {
     found.push(Def {
         line,

@@ -1,5 +1,5 @@
 //! Rows of units.
-use crate::{Def, Heading, body_unit, function_unit, functions_of, lines_of, unit_of};
+use crate::{Heading, body_unit, functions_of, lines_of, unit_of};
 use py_code::{Constant, Instr};
 use py_compile_expr::{Builder, Guard, Op};
 use py_syntax::{LineEnd, Module, Stmt, StmtKind, Suite};
@@ -103,27 +103,5 @@ fn units_of_a_module(rt: HostRuntime) -> Result<(), Fail> {
     for line in &lines {
         assert_eq!(rt; *line, 3);
     }
-    Ok(())
-}
-
-/// `def g(): ..` in line 7, of which the cells are known.
-#[test]
-fn the_unit_of_a_function(rt: HostRuntime) -> Result<(), Fail> {
-    let alloc = rt.alloc();
-    let mut out = Builder::new(alloc);
-    out.put(None, 0, Op::Constant(Constant::None))?;
-    out.put(None, 1, Op::Plain(Instr::Return))?;
-    let name = Text::from_str(alloc, "g")?;
-    let def = Def {
-        line: 7,
-        name: &name,
-        params: &[],
-        defaults: &[],
-        body: &[],
-    };
-    let unit = function_unit(alloc, &def, &[], out.cells())?;
-    assert_eq!(rt; unit.name.as_str(), "g");
-    assert_eq!(rt; unit.first, 7);
-    assert_eq!(rt; unit.instrs.len(), 2);
     Ok(())
 }
