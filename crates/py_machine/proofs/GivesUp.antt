@@ -19,7 +19,7 @@ use Rattle.py_machine.proofs.Grows.{grown_same, leaves, left_by, thrown_by}
 use Rattle.py_machine.proofs.Joins.{takes_then}
 use Rattle.py_machine.proofs.Throws.{and_told, told_twice}
 
--- a tracer that refused an event behind those that it took
+-- a tracer that refused an event after those that it took
 pub takes_some_then : {T R : Type 0} (moves : T → Event → T → Type 0) (recorded : T → R) (a b c : T) (es fs : List Event) → Takes moves a es b → TakesSome moves recorded b fs c → TakesSome moves recorded a (es ++ fs) c
 takes_some_then moves recorded a b c es fs h k = (k.0, takes_then moves a b k.0 es fs h k.1, k.2)
 
@@ -81,7 +81,7 @@ module _ {T R : Type 0} (moves : T → Event → T → Type 0) (recorded : T →
     unfolded : (o : Outside) → leaving o ≡ leave (by_slots ms) ms (plain_raised raised) m.top.code (plain_frame f ∷ map plain_frame fs) m.steps (effects_of s o)
     unfolded o = ap (λ x. leave (by_slots ms) ms (plain_raised raised) m.top.code (map plain_frame x) m.steps (effects_of s o)) cs
 
-    -- behind the frame
+    -- after the frame
     pub stays_left : (c d : T) → moves b Returned c → recorded d ≡ recorded c → GivenUp (λ es. TakesSome moves recorded a es d) s0 before
     stays_left c d h k =
         given_up_after moves recorded a b d p.events s0 s before leaving p.has_told p.is

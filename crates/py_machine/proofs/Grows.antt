@@ -78,7 +78,7 @@ module _ {L : Type 0} (locals : Locals L) (ms : List Module) (e : Effects) where
       let h = told_on e (escaped code w) (Throw raised.kind) (told_on e w Returned g) in
       lands (handler_at ms f.code f.place) _ raised true _ (leaves raised f.code fs n (told (Throw raised.kind) (escaped code w)) h) h
 
-  -- from behind a frame, and from where the exception was thrown once more
+  -- from after a frame, and from where the exception was thrown once more
   pub thrown_by : (raised : PlainRaised) (code : CodeId) (f : Frame L) (fs : List (Frame L)) (n : ℕ) (w : Effects) → Grown e (told (Throw raised.kind) (escaped code w)) → Grows e (leave locals ms raised code (f ∷ fs) n w)
   thrown_by raised code f fs n w h = lands (handler_at ms f.code f.place) _ raised true _ (leaves raised f.code fs n (told (Throw raised.kind) (escaped code w)) h) h
 
@@ -95,7 +95,7 @@ module _ {L : Type 0} (locals : Locals L) (ms : List Module) (e : Effects) where
   gives v [] n w g = record { holds = told_on e w Returned g }
   gives v (f ∷ fs) n w g = record { holds = told_on e w Returned g }
 
-  -- from behind the frame
+  -- from after the frame
   pub gives_from : (v : PlainValue) (fs : List (Frame L)) (n : ℕ) (w : Effects) → Grown e (told Returned w) → Grows e (give locals ms v fs n w)
   gives_from v [] n w h = record { holds = h }
   gives_from v (f ∷ fs) n w h = record { holds = h }

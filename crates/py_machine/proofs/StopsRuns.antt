@@ -68,9 +68,9 @@ module _ {T R : Type 0} (moves : T → Event → T → Type 0) (recorded : T →
   }
 
 -- a run that ended, but for its answer
-pub stops_behind : {T R : Type 0} (moves : T → Event → T → Type 0) (recorded : T → R) (a b : T) (said : Type 0) (o0 o1 : List ℕ) (tells : Type 0) (i0 i1 : List ℕ) (before : Outside → End) (how : Ending) (steps : ℕ) (s s1 : Store)
+pub stops_after_events : {T R : Type 0} (moves : T → Event → T → Type 0) (recorded : T → R) (a b : T) (said : Type 0) (o0 o1 : List ℕ) (tells : Type 0) (i0 i1 : List ℕ) (before : Outside → End) (how : Ending) (steps : ℕ) (s s1 : Store)
     → Heard tells i0 i1 (Ran (λ es. Takes moves a es b) (Wrote said o0 o1) before how steps s1) → HeardSome tells i0 i1 (Stopped (λ es. TakesSome moves recorded a es b) said o0 o1 s before)
-stops_behind moves recorded a b said o0 o1 tells i0 i1 before how steps s s1 r = record {
+stops_after_events moves recorded a b said o0 o1 tells i0 i1 before how steps s s1 r = record {
   heard = r.heard;
   told = λ t. (i1, r.told t, record { front = []; is = refl });
   holds = λ all rest f.

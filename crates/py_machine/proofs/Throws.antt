@@ -23,7 +23,7 @@ use Rattle.py_store.specs.Stores.{world_of}
 use Rattle.py_instructions.specs.View.{Slots, Outside, plain_frame, effects_of, seen, catching}
 use Rattle.py_machine.proofs.Joins.{takes_then}
 
--- events told one behind another
+-- events told one after another
 abbrev pub and_told : List Event → Outside → Outside
 and_told es o = record o { events = o.events ++ es }
 

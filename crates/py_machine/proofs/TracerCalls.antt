@@ -1,4 +1,4 @@
--- Calls of a tracer, one behind another.
+-- Calls of a tracer, one after another.
 use Rattle.std.proofs.Common.{◌≡◌, List, [], ◌∷◌, ◌++◌, Bool, true, false, refl, subst}
 use Rattle.cov_event.specs.declared.event.Event.{Event}
 use Rattle.cov_event.specs.declared.event.Event.TheVariants.{Return as Returned}

@@ -28,9 +28,10 @@ use Rattle.py_instructions.specs.declared.frame.State.{State}
 use Rattle.py_store.specs.declared.store.Store.{Store}
 use Rattle.py_instructions.specs.View.{Slots, Outside, plain_operands, effects_of}
 
--- It holds of every input that gives the answers which were read, and of what this input has left then. The bytes of a source that
--- tells them are one.
-pub record Heard (tells : Type 0) (before after : List ℕ) (P : List ℕ → List ℕ → Type 0) : Type 0 where
+-- It holds of every input that gives the answers which were read, and of what this input has left
+-- then. The bytes of a source that tells them are one.
+pub record Heard (tells : Type 0) (before after : List ℕ)
+    (P : List ℕ → List ℕ → Type 0) : Type 0 where
   pub heard : List (Option ℕ)
   pub told : tells → Fed heard before after
   pub holds : (all rest : List ℕ) → Fed heard all rest → P all rest
@@ -40,44 +41,60 @@ abbrev pub Went : Option Ending → Next Slots → Configuration Slots → Type 
 Went None n c = (n ≡ Goes c) ⊎ (n ≡ Ticks c)
 Went (Some how) n c = n ≡ halted (plain_ended how) c
 
+abbrev pub outside : List ℕ → List ℕ → List Event → Outside
+outside input out events = record { input = input; out = out; events = events }
+
 -- events that were told while this move was made
-pub record Tells (took : List Event → Type 0) (before : Outside → Next Slots) (now : Outside → Configuration Slots) (how : Option Ending) : Type 0 where
+pub record Tells (took : List Event → Type 0) (before : Outside → Next Slots)
+    (now : Outside → Configuration Slots) (how : Option Ending) : Type 0 where
   pub events : List Event
   pub has_told : took events
   pub is : (o : Outside) → Went how (before o) (now (record o { events = o.events ++ events }))
 
 -- events that were told, and bytes that were written, while this move was made with this input
-pub record Part (took : List Event → Type 0) (wrote : List ℕ → Type 0) (before : Outside → Next Slots) (now : Outside → Configuration Slots) (how : Option Ending) (all rest : List ℕ) : Type 0 where
+pub record Part (took : List Event → Type 0) (wrote : List ℕ → Type 0)
+    (before : Outside → Next Slots) (now : Outside → Configuration Slots) (how : Option Ending)
+    (all rest : List ℕ) : Type 0 where
   pub events : List Event
   pub out : List ℕ
   pub has_told : took events
   pub has_said : wrote out
-  pub is : (w : List ℕ) (es : List Event) → Went how (before (record { input = all; out = w; events = es })) (now (record { input = rest; out = w ++ out; events = es ++ events }))
+  pub is : (w : List ℕ) (es : List Event)
+      → Went how (before (outside all w es)) (now (outside rest (w ++ out) (es ++ events)))
 
 -- one instruction; there is an input that it can be made with
-pub record Step (tells : Type 0) (left after : List ℕ) (took : List Event → Type 0) (wrote : List ℕ → Type 0) (before : Outside → Next Slots) (now : Outside → Configuration Slots) (how : Option Ending) : Type 0 where
+pub record Step (tells : Type 0) (left after : List ℕ) (took : List Event → Type 0)
+    (wrote : List ℕ → Type 0) (before : Outside → Next Slots)
+    (now : Outside → Configuration Slots) (how : Option Ending) : Type 0 where
   pub does : Heard tells left after (Part took wrote before now how)
   pub can : (all rest : List ℕ) × Part took wrote before now how all rest
 
--- a run on its way: it goes on as one from another configuration, with these events told and bytes written in between
-pub record Reached (took : List Event → Type 0) (wrote : List ℕ → Type 0) (ms : List Module) (before now : Outside → Configuration Slots) (all rest : List ℕ) : Type 0 where
+-- a run on its way: it goes on as one from another configuration, with these events told and bytes
+-- written in between
+pub record Reached (took : List Event → Type 0) (wrote : List ℕ → Type 0) (ms : List Module)
+    (before now : Outside → Configuration Slots) (all rest : List ℕ) : Type 0 where
   pub events : List Event
   pub out : List ℕ
   pub has_told : took events
   pub has_said : wrote out
-  pub is : (w : List ℕ) (es : List Event) → go (machine (by_slots ms) ms) (before (record { input = all; out = w; events = es })) ≡ go (machine (by_slots ms) ms) (now (record { input = rest; out = w ++ out; events = es ++ events }))
+  pub is : (w : List ℕ) (es : List Event)
+      → go (machine (by_slots ms) ms) (before (outside all w es))
+      ≡ go (machine (by_slots ms) ms) (now (outside rest (w ++ out) (es ++ events)))
 
 -- what an end leaves
 abbrev pub ended : Ending → ℕ → Effects → End
 ended how steps e = record { how = plain_ended how; steps = steps; effects = e }
 
 -- a run that ended
-pub record Ran (took : List Event → Type 0) (wrote : List ℕ → Type 0) (before : Outside → End) (how : Ending) (steps : ℕ) (s : Store) (all rest : List ℕ) : Type 0 where
+pub record Ran (took : List Event → Type 0) (wrote : List ℕ → Type 0) (before : Outside → End)
+    (how : Ending) (steps : ℕ) (s : Store) (all rest : List ℕ) : Type 0 where
   pub events : List Event
   pub out : List ℕ
   pub has_told : took events
   pub has_said : wrote out
-  pub is : (w : List ℕ) (es : List Event) → before (record { input = all; out = w; events = es }) ≡ ended how steps (effects_of s (record { input = rest; out = w ++ out; events = es ++ events }))
+  pub is : (w : List ℕ) (es : List Event)
+      → before (outside all w es)
+      ≡ ended how steps (effects_of s (outside rest (w ++ out) (es ++ events)))
 
 -- the machine at the begin of a frame that nothing waits for
 pub record AtStart (ms : List Module) (m : State) : Type 0 where
@@ -107,36 +124,52 @@ pub record Grows {L : Type 0} (e : Effects) (n : Next L) : Type 0 where
   pub holds : GrowsTo e n
 
 -- these events were taken, and maybe one more was refused and not recorded
-abbrev pub TakesSome : {T R : Type 0} → (T → Event → T → Type 0) → (T → R) → T → List Event → T → Type 0
-TakesSome {T} moves recorded old events new = (mid : T) × Takes moves old events mid × (recorded new ≡ recorded mid)
+abbrev pub TakesSome : {T R : Type 0} → (T → Event → T → Type 0) → (T → R) → T → List Event → T
+    → Type 0
+TakesSome {T} moves recorded old events new =
+    (mid : T) × Takes moves old events mid × (recorded new ≡ recorded mid)
 
 -- by calls of `event`, each taken or refused
 abbrev pub CallsSome : {T R : Type 0} → (T → Event → T → Type 0) → (T → R) → T → T → Type 0
-CallsSome moves recorded old new = (calls : List (Event × Bool)) × Calls moves recorded old calls new
+CallsSome moves recorded old new =
+    (calls : List (Event × Bool)) × Calls moves recorded old calls new
 
 -- a move that was given up: the events that were told are those that the move begins with
-pub record GivenUp (took : List Event → Type 0) (s : Store) (before : Outside → Next Slots) : Type 0 where
+pub record GivenUp (took : List Event → Type 0) (s : Store)
+    (before : Outside → Next Slots) : Type 0 where
   pub events : List Event
   pub has_told : took events
-  pub is : (o : Outside) → Grows (effects_of s (record o { events = o.events ++ events })) (before o)
+  pub is : (o : Outside)
+      → Grows (effects_of s (record o { events = o.events ++ events })) (before o)
 
--- It holds of every input that gives the answers which were read before the last one. A source that tells its bytes lost a prefix of
--- them.
+-- It holds of every input that gives the answers which were read before the last one. A source that
+-- tells its bytes lost a prefix of them.
 pub record HeardSome (tells : Type 0) (before after : List ℕ) (P : List ℕ → Type 0) : Type 0 where
   pub heard : List (Option ℕ)
   pub told : tells → (mid : List ℕ) × Fed heard before mid × LosesPrefix mid after
   pub holds : (all rest : List ℕ) → Fed heard all rest → P all
 
--- a move that was given up with this input: what was told, and what was written, is what it begins with
-pub record Broken (took : List Event → Type 0) (said : Type 0) (o0 o1 : List ℕ) (s : Store) (before : Outside → Next Slots) (all : List ℕ) : Type 0 where
+-- a move that was given up with this input: what was told, and what was written, is what it begins
+-- with
+pub record Broken (took : List Event → Type 0) (said : Type 0) (o0 o1 : List ℕ) (s : Store)
+    (before : Outside → Next Slots) (all : List ℕ) : Type 0 where
   pub events : List Event
   pub has_told : took events
-  pub is : (w : List ℕ) (es : List Event) → Grows (effects_of s (record { input = all; out = w; events = es ++ events })) (before (record { input = all; out = w; events = es }))
-  pub wrote : said → (out : List ℕ) × (o1 ≡ o0 ++ out) × ((w : List ℕ) (es : List Event) → Grows (effects_of s (record { input = all; out = w ++ out; events = es })) (before (record { input = all; out = w; events = es })))
+  pub is : (w : List ℕ) (es : List Event)
+      → Grows (effects_of s (outside all w (es ++ events))) (before (outside all w es))
+  pub wrote : said
+      → (out : List ℕ) × (o1 ≡ o0 ++ out)
+      × ((w : List ℕ) (es : List Event)
+      → Grows (effects_of s (outside all (w ++ out) es)) (before (outside all w es)))
 
 -- a run that was given up with this input
-pub record Stopped (took : List Event → Type 0) (said : Type 0) (o0 o1 : List ℕ) (s : Store) (before : Outside → End) (all : List ℕ) : Type 0 where
+pub record Stopped (took : List Event → Type 0) (said : Type 0) (o0 o1 : List ℕ) (s : Store)
+    (before : Outside → End) (all : List ℕ) : Type 0 where
   pub events : List Event
   pub has_told : took events
-  pub is : (w : List ℕ) (es : List Event) → Grown (effects_of s (record { input = all; out = w; events = es ++ events })) (before (record { input = all; out = w; events = es })).effects
-  pub wrote : said → (out : List ℕ) × (o1 ≡ o0 ++ out) × ((w : List ℕ) (es : List Event) → Grown (effects_of s (record { input = all; out = w ++ out; events = es })) (before (record { input = all; out = w; events = es })).effects)
+  pub is : (w : List ℕ) (es : List Event)
+      → Grown (effects_of s (outside all w (es ++ events))) (before (outside all w es)).effects
+  pub wrote : said
+      → (out : List ℕ) × (o1 ≡ o0 ++ out)
+      × ((w : List ℕ) (es : List Event)
+      → Grown (effects_of s (outside all (w ++ out) es)) (before (outside all w es)).effects)

@@ -13,7 +13,7 @@ use Rattle.py_machine.specs.Told.{TakesSome}
 use Rattle.py_machine.proofs.AtOnce.{ran_as, reach_is}
 use Rattle.py_machine.proofs.TracerCalls.{calls_none}
 use Rattle.py_machine.proofs.StopsCalls.{call_stops, calling_first}
-use Rattle.py_machine.proofs.StopsRuns.{stops_as, stops_behind, stops_first}
+use Rattle.py_machine.proofs.StopsRuns.{stops_as, stops_after_events, stops_first}
 use Rattle.py_machine.proofs.Whole.{is_call}
 use Rattle.py_machine.proofs.calls.call.Goals as goal
 
@@ -46,7 +46,7 @@ returns-in_err-ended-clause-given_up g c =
 pub returns-in_err-called-clause-given_up : goal.returns-in_err-called-clause-given_up
 returns-in_err-called-clause-given_up g c =
     on_err _ _ (call_stops (λ es. TakesSome g.T.Tracer.moves g.T.Tracer.recorded c.args.tracer.now es c.finish.new.tracer) g.O.Sink.tells (g.O.Sink.contents c.args.out.now) (g.O.Sink.contents c.finish.new.out) (modules_of c.args.programs.now) c.args.store.now (request c.args.«module» (chars c.args.function.now) (plains c.args.args.now)) c.args.budget g.I.Source.tells (g.I.Source.left c.args.input.now) (g.I.Source.left c.finish.new.input)
-    (stops_behind g.T.Tracer.moves g.T.Tracer.recorded c.args.tracer.now c.finish.new.tracer g.O.Sink.tells (g.O.Sink.contents c.args.out.now) (g.O.Sink.contents c.finish.new.out) g.I.Source.tells (g.I.Source.left c.args.input.now) (g.I.Source.left c.finish.new.input) _ c.in_ok-ended.ended.ending c.in_ok-ended.ended.steps c.args.store.now c.finish.new.store
+    (stops_after_events g.T.Tracer.moves g.T.Tracer.recorded c.args.tracer.now c.finish.new.tracer g.O.Sink.tells (g.O.Sink.contents c.args.out.now) (g.O.Sink.contents c.finish.new.out) g.I.Source.tells (g.I.Source.left c.args.input.now) (g.I.Source.left c.finish.new.input) _ c.in_ok-ended.ended.ending c.in_ok-ended.ended.steps c.args.store.now c.finish.new.store
     (ran_as g.I.Source.tells (g.I.Source.left c.args.input.now) (g.I.Source.left c.finish.new.input) _ _ _ _ c.in_ok-ended.ended.ending c.in_ok-ended.ended.steps c.finish.new.store (λ o. ap (λ x. follows (by_slots (modules_of c.args.programs.now)) (modules_of c.args.programs.now) (outer_call (by_slots (modules_of c.args.programs.now)) (modules_of c.args.programs.now) x c.args.budget (effects_of c.args.store.now o))) (reach_is (modules_of c.args.programs.now) c.args.store.now c.args.«module» c.in_ok-name.name (chars c.args.function.now) (plains c.in_ok-values.values.items) (plains c.args.args.now) c.in_ok-reach.reach c.in_ok-name.ensures c.in_ok-values.ensures c.in_ok-reach.ensures.leads o)) c.in_ok-ended.ensures.ok)))
 
 pub returns-in_err-name-clause-calls : goal.returns-in_err-name-clause-calls

@@ -12,7 +12,7 @@ use Rattle.py_instructions.specs.View.{effects_of}
 use Rattle.py_machine.specs.Told.{TakesSome}
 use Rattle.py_machine.proofs.AtOnce.{ran_as}
 use Rattle.py_machine.proofs.StopsCalls.{run_stops}
-use Rattle.py_machine.proofs.StopsRuns.{stops_as, stops_behind}
+use Rattle.py_machine.proofs.StopsRuns.{stops_as, stops_after_events}
 use Rattle.py_machine.proofs.Whole.{is_run, script_unit}
 use Rattle.py_machine.proofs.runs.run.Goals as goal
 
@@ -37,7 +37,7 @@ returns-in_err-ended-clause-given_up g c =
 pub returns-in_err-outcome-clause-given_up : goal.returns-in_err-outcome-clause-given_up
 returns-in_err-outcome-clause-given_up g c =
     on_err _ _ (run_stops (λ es. TakesSome g.T.Tracer.moves g.T.Tracer.recorded c.args.tracer.now es c.begin.new.tracer) g.O.Sink.tells (g.O.Sink.contents c.args.out.now) (g.O.Sink.contents c.begin.new.out) (modules_of c.args.programs.now) c.args.store.now c.args.budget g.I.Source.tells (g.I.Source.left c.args.input.now) (g.I.Source.left c.begin.new.input)
-    (stops_behind g.T.Tracer.moves g.T.Tracer.recorded c.args.tracer.now c.begin.new.tracer g.O.Sink.tells (g.O.Sink.contents c.args.out.now) (g.O.Sink.contents c.begin.new.out) g.I.Source.tells (g.I.Source.left c.args.input.now) (g.I.Source.left c.begin.new.input) _ c.in_ok-ended.ended.ending c.in_ok-ended.ended.steps c.args.store.now c.begin.new.store
+    (stops_after_events g.T.Tracer.moves g.T.Tracer.recorded c.args.tracer.now c.begin.new.tracer g.O.Sink.tells (g.O.Sink.contents c.args.out.now) (g.O.Sink.contents c.begin.new.out) g.I.Source.tells (g.I.Source.left c.args.input.now) (g.I.Source.left c.begin.new.input) _ c.in_ok-ended.ended.ending c.in_ok-ended.ended.steps c.args.store.now c.begin.new.store
     (ran_as g.I.Source.tells (g.I.Source.left c.args.input.now) (g.I.Source.left c.begin.new.input) _ _ _ _ c.in_ok-ended.ended.ending c.in_ok-ended.ended.steps c.begin.new.store
     (λ o. ap (λ (vs : List PlainValue). follows (by_slots (modules_of c.args.programs.now)) (modules_of c.args.programs.now) (outermost (by_slots (modules_of c.args.programs.now)) (modules_of c.args.programs.now) script vs c.args.budget (effects_of c.args.store.now o))) (sym (ap plains c.new.ensures.items)))
     c.in_ok-ended.ensures.ok)))
