@@ -1,0 +1,26 @@
+use Rattle.std.proofs.Common.{◌≡◌, ◌+◌, ◌-◌, ◌*◌, ◌<◌, ◌≤◌, length}
+use Rattle.py_syntax.specs.Tree.{Text}
+use Rattle.py_meaning.specs.Loading.{folder_of}
+use Rattle.cov_run.specs.State.{state_of}
+use Rattle.cov_run.specs.Progress.{IsAt}
+use Rattle.cov_run.proofs.loading.Loading.import_all.Given as goal
+
+abbrev pub invariant-names : goal.invariant-names
+invariant-names g l =
+    let files = g.H.Shelf.files in
+    let faults = g.H.Shelf.faults in
+    record {
+      at :
+          g.H.Shelf.tells → (script name : Text) → IsAt (files l.fn.shelf) script name (state_of l.fn.self) 0 → l.folder ≡ folder_of script
+          → IsAt (files l.fn.shelf) script name (state_of l.self) l.at;
+      kept : g.H.Shelf.tells → files l.shelf ≡ files l.fn.shelf;
+      count : faults l.fn.shelf ≤ faults l.shelf;
+      few : length l.self.sources.items ≤ 256;
+      light : l.self.bytes ≤ 16777216;
+      last : l.count ≡ length l.self.names;
+      high : l.count < 18446744073709551616;
+    }
+
+-- each name either adds a module, of which there are few, or is one name less
+abbrev pub decreases-names : goal.decreases-names
+decreases-names g l = (256 - length l.self.sources.items) * 18446744073709551616 + (l.count - l.at)

@@ -1,0 +1,94 @@
+-- What loading keeps, and what one file adds to it.
+--     State, state_of          what is loaded so far
+--     Holds, IsFound           what a shelf told of a file
+--     Adds, Imports            one module more, and what an imported name comes to
+--     Grows                    the limits that are kept
+--     RefusesImport            why it adds none
+use Rattle.std.specs.Prelude.{◌≡◌, ◌⊎◌, ℕ, suc, ◌+◌, ◌≤◌, ◌<◌, true, false, List, [], ◌∷◌, ◌++◌, length, Option, Some, None, String}
+use Rattle.std.specs.declared.alloc.Global.{Global}
+use Rattle.cov_outside.specs.Files.{Files}
+use Rattle.py_syntax.specs.Names.{add_names}
+use Rattle.py_syntax.specs.Tree.{Text, Stmts}
+use Rattle.py_meaning.specs.Loading.{imported, file_of}
+use Rattle.py_meaning.specs.Modules.{LoadedModule}
+use Rattle.cov_words.specs.declared.why.Why.{Why}
+use Rattle.cov_words.specs.declared.why.Why.TheVariants as why
+use Rattle.cov_words.specs.declared.why.SyntaxKind.{SyntaxKind}
+use Rattle.cov_run.specs.declared.loading.File.{File}
+use Rattle.cov_run.specs.declared.loading.File.TheVariants.{Bytes, TooLarge}
+use Rattle.cov_run.specs.declared.loading.Loading.{Loading}
+use Rattle.cov_run.specs.Reading.{Reading, tree, Reads}
+use Rattle.cov_run.specs.Loading.{most_bytes, most_total, most_modules, file_bytes, has_file}
+use Rattle.cov_run.specs.Refusals.{fault_of, HasRoom, IsNamed, Refuses}
+use Rattle.cov_run.specs.View.{plain_sources}
+
+-- the modules, the names that their imports name, each once, and the bytes of their files in all
+pub record State : Type 0 where
+  pub modules : List LoadedModule
+  pub names : List Text
+  pub bytes : ℕ
+
+abbrev pub state_of : Loading → State
+state_of l = record { modules = plain_sources l.sources.items; names = l.names; bytes = l.bytes }
+
+-- nothing is loaded yet
+abbrev pub nothing : State
+nothing = record { modules = []; names = []; bytes = 0 }
+
+-- a file that is there has these bytes, or too many
+abbrev pub Holds : Option (List ℕ) → File → Type 0
+Holds content (Bytes v) = content ≡ Some v.items
+Holds content TooLarge = (bytes : List ℕ) × (content ≡ Some bytes) × (most_bytes < length bytes)
+
+-- it has few enough to be read
+abbrev pub IsSmall : File → Type 0
+IsSmall (Bytes v) = length v.items ≤ most_bytes
+IsSmall TooLarge = Unit {0}
+
+-- what a shelf tells of a file, which may not be there
+abbrev pub IsFound : Option (List ℕ) → Option File → Type 0
+IsFound content None = content ≡ None
+IsFound content (Some file) = Holds content file
+
+abbrev pub IsSmallFound : Option File → Type 0
+IsSmallFound None = Unit {0}
+IsSmallFound (Some file) = IsSmall file
+
+-- a module of this name is read from this file and added
+pub record Adds (content : Option (List ℕ)) (name path : Text) (old new : State) : Type 0 where
+  pub bytes : List ℕ
+  pub body : Stmts
+  pub room : HasRoom (length old.modules) old.bytes content bytes
+  pub read : Reads bytes (tree body)
+  pub modules : new.modules ≡ old.modules ++ record { name = name; path = path; body = body } ∷ []
+  pub names : new.names ≡ add_names old.names (imported body)
+  pub total : new.bytes ≡ old.bytes + length bytes
+
+-- an imported name adds the module of its file, where it has one
+abbrev pub Imports : Files → Text → Text → State → State → Type 0
+Imports files folder x old new =
+    ((has_file files folder x ≡ false) × (new ≡ old))
+    ⊎ ((has_file files folder x ≡ true) × Adds (file_bytes files (file_of folder x)) x (file_of folder x) old new)
+
+-- why it doesn't
+abbrev pub RefusesImport : Files → Text → Text → State → Why → Type 0
+RefusesImport files folder x old w =
+    (has_file files folder x ≡ true)
+    × Refuses (length old.modules) old.bytes (file_of folder x) (file_bytes files (file_of folder x)) w
+
+-- there is one module more, and the limits are kept
+abbrev pub Grows : Loading → Loading → Type 0
+Grows old new = (length new.sources.items ≡ suc (length old.sources.items)) × (length old.sources.items < most_modules) × (new.bytes ≤ most_total)
+
+-- the same, or nothing is new
+abbrev pub GrowsOrStays : Loading → Loading → Type 0
+GrowsOrStays old new = Grows old new ⊎ ((new.sources.items ≡ old.sources.items) × (new.names ≡ old.names) × (new.bytes ≡ old.bytes))
+
+-- an answer that names the file, and the line and kind of the fault of a reading
+pub record Tells (reading : Reading) (path : Text) (w : Why) : Type 0 where
+  pub name : String Global
+  pub line : ℕ
+  pub kind : SyntaxKind
+  pub fault : fault_of reading ≡ Some (line, kind)
+  pub named : IsNamed name path
+  pub is : w ≡ why.Syntax name line kind

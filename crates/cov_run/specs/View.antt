@@ -1,0 +1,12 @@
+-- What the types of the code stand for.
+use Rattle.std.specs.Prelude.{List, map}
+use Rattle.py_syntax.specs.View.{plain_module}
+use Rattle.py_meaning.specs.Modules.{LoadedModule}
+use Rattle.cov_run.specs.declared.loaded.LoadedSource.{LoadedSource}
+
+-- a loaded module: its name, its file and its tree
+abbrev pub plain_source : LoadedSource → LoadedModule
+plain_source s = record { name = s.name; path = s.path; body = plain_module s.module }
+
+abbrev pub plain_sources : List LoadedSource → List LoadedModule
+plain_sources = map plain_source

@@ -1,0 +1,145 @@
+//! The names that the imports of a module name, in the order of the text.
+
+ghost use Rattle.std.specs.Prelude.{◌≡◌, OnOk};
+ghost use Rattle.py_syntax.specs.Names.{add_name, add_names};
+ghost use Rattle.py_syntax.specs.View.{plain_aliases, plain_arms, plain_cases, plain_clauses, plain_kind, plain_opt_suite, plain_stmts, plain_suite};
+ghost use Rattle.py_meaning.specs.Loading.{imported, imported_in, alias_modules, opt_imported, arms_imported, clauses_imported, cases_imported};
+ghost use Rattle.cov_run.specs.Imports.{suite_imported};
+
+use crate::names::Names;
+use py_syntax::{Alias, Arm, Case, Clause, Stmt, StmtKind, Suite};
+use py_value::NoMemory;
+use std::alloc::Global;
+
+/// Adds the module names that the imports of these statements name.
+#[cycle(imports)]
+pub(crate) fn add_imported(alloc: Global, names: &mut Names, items: &[Stmt]) -> Result<(), NoMemory>
+    ensures { OnOk result (names.new
+        ≡ add_names names.old (imported (plain_stmts items.now))) }
+{
+    for s in items {
+        statement(alloc, names, &s.kind)?;
+    }
+    Ok(())
+}
+
+#[cycle(imports)]
+#[tactic(auto, unfolding(py_meaning::specs::Loading::imported_in))]
+fn statement(alloc: Global, names: &mut Names, kind: &StmtKind) -> Result<(), NoMemory>
+    ensures { OnOk result (names.new
+        ≡ add_names names.old (imported_in (plain_kind kind.now))) }
+{
+    match kind {
+        StmtKind::Expr(_)
+        | StmtKind::Assign { .. }
+        | StmtKind::AugAssign { .. }
+        | StmtKind::Pass
+        | StmtKind::Break
+        | StmtKind::Continue
+        | StmtKind::Return(_)
+        | StmtKind::Raise(_)
+        | StmtKind::Assert(_, _)
+        | StmtKind::Global(_) => Ok(()),
+        StmtKind::Import(modules) => aliases(alloc, names, modules),
+        StmtKind::From(module, _) => names.insert(alloc, module),
+        StmtKind::If {
+            arms: tests,
+            orelse,
+        } => {
+            arms(alloc, names, tests)?;
+            opt(alloc, names, orelse)
+        }
+        StmtKind::While {
+            body: turn,
+            orelse,
+            ..
+        } => {
+            suite(alloc, names, turn)?;
+            opt(alloc, names, orelse)
+        }
+        StmtKind::For {
+            body: turn,
+            orelse,
+            ..
+        } => {
+            suite(alloc, names, turn)?;
+            opt(alloc, names, orelse)
+        }
+        StmtKind::Try {
+            body: tried,
+            clauses: handlers,
+            orelse,
+            finally,
+        } => {
+            suite(alloc, names, tried)?;
+            clauses(alloc, names, handlers)?;
+            opt(alloc, names, orelse)?;
+            opt(alloc, names, finally)
+        }
+        StmtKind::Def { body, .. } => suite(alloc, names, body),
+        StmtKind::Match { cases: list, .. } => cases(alloc, names, list),
+    }
+}
+
+fn aliases(alloc: Global, names: &mut Names, items: &[Alias]) -> Result<(), NoMemory>
+    ensures { OnOk result (names.new
+        ≡ add_names names.old (alias_modules (plain_aliases items.now))) }
+{
+    for alias in items {
+        names.insert(alloc, &alias.name)?;
+    }
+    Ok(())
+}
+
+#[cycle(imports)]
+fn suite(alloc: Global, names: &mut Names, s: &Suite) -> Result<(), NoMemory>
+    ensures { OnOk result (names.new
+        ≡ add_names names.old (suite_imported (plain_suite s.now))) }
+{
+    add_imported(alloc, names, &s.body)
+}
+
+#[cycle(imports)]
+#[tactic(auto, unfolding(py_meaning::specs::Loading::opt_imported))]
+fn opt(alloc: Global, names: &mut Names, s: &Option<Suite>) -> Result<(), NoMemory>
+    ensures { OnOk result (names.new
+        ≡ add_names names.old (opt_imported (plain_opt_suite s.now))) }
+{
+    match s {
+        None => Ok(()),
+        Some(s) => suite(alloc, names, s),
+    }
+}
+
+#[cycle(imports)]
+fn arms(alloc: Global, names: &mut Names, items: &[Arm]) -> Result<(), NoMemory>
+    ensures { OnOk result (names.new
+        ≡ add_names names.old (arms_imported (plain_arms items.now))) }
+{
+    for arm in items {
+        suite(alloc, names, &arm.body)?;
+    }
+    Ok(())
+}
+
+#[cycle(imports)]
+fn clauses(alloc: Global, names: &mut Names, items: &[Clause]) -> Result<(), NoMemory>
+    ensures { OnOk result (names.new
+        ≡ add_names names.old (clauses_imported (plain_clauses items.now))) }
+{
+    for clause in items {
+        suite(alloc, names, &clause.body)?;
+    }
+    Ok(())
+}
+
+#[cycle(imports)]
+fn cases(alloc: Global, names: &mut Names, items: &[Case]) -> Result<(), NoMemory>
+    ensures { OnOk result (names.new
+        ≡ add_names names.old (cases_imported (plain_cases items.now))) }
+{
+    for case in items {
+        suite(alloc, names, &case.body)?;
+    }
+    Ok(())
+}

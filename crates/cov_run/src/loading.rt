@@ -1,0 +1,286 @@
+//! Loads the script and, in order, the modules that the loaded ones import.
+
+ghost use Rattle.std.specs.Prelude.{◌≡◌, ◌≢◌, ℕ, List, [], ◌∷◌, ◌++◌, Option, ◌<◌, ◌≤◌, length, Some, IfErr, IfOk, OnOk, IsErrOf};
+ghost use Rattle.std.specs.Str.{chars};
+ghost use Rattle.cov_outside.specs.Counts.{Rose};
+ghost use Rattle.py_scope.specs.Faults.{functions_of};
+ghost use Rattle.py_syntax.specs.Names.{add_names};
+ghost use Rattle.py_syntax.specs.Tree.{Text as Name};
+ghost use Rattle.py_syntax.specs.View.{plain_module};
+ghost use Rattle.py_meaning.specs.Loading.{folder_of, imported, loaded};
+ghost use Rattle.cov_run.specs.Loading.{IsLoaded, file_bytes, program_of};
+ghost use Rattle.cov_run.specs.Progress.{IsAt};
+ghost use Rattle.cov_run.specs.Refusals.{IsStopped, Refuses};
+ghost use Rattle.cov_run.specs.State.{Adds, Grows, GrowsOrStays, Holds, Imports, IsFound, IsSmall, IsSmallFound, RefusesImport, nothing, state_of};
+ghost use Rattle.cov_run.specs.View.{plain_sources};
+
+use crate::imports::add_imported;
+use crate::loaded::LoadedSource;
+use crate::names::Names;
+use crate::paths::{file_of, folder_of};
+use crate::refusals::{no_such_file, refused};
+use crate::source::{Source, read_source};
+use cov_outside::{Shelf, ShelfError};
+use cov_words::{LimitKind, Why};
+use py_value::{NoMemory, Text};
+use std::alloc::Global;
+
+/// The most bytes of a file, and of all files of a program.
+const MAX_BYTES: usize = 1_048_576;
+
+const MAX_TOTAL: usize = 16_777_216;
+
+/// The most modules of a program.
+const MAX_MODULES: usize = 256;
+
+/// Loads the script as the module `name`, and then in order the modules that the loaded ones
+/// import, each once, where its file is there: it lies in the script's folder and is named as the
+/// module, with `.py` after it. No file is read for `sys`. The first file that can't be loaded
+/// refuses the program. Of a shelf that doesn't tell its files no more is said than of its faults.
+pub fn load_sources<H: Shelf>(
+    alloc: Global,
+    script: &str,
+    name: &str,
+    shelf: &mut H,
+) -> Result<Vec<LoadedSource>, Why>
+    ensures loaded { H.tells → IfOk result (λ sources.
+        IsLoaded (H.files shelf.old) (chars script.now) (chars name.now)
+        (plain_sources sources.items)) }
+    // The meaning of the language loads the same modules from the trees of their files.
+    ensures meant { H.tells → IfOk result (λ sources.
+        loaded (program_of (chars script.now) (chars name.now) (plain_sources sources.items))
+        ≡ plain_sources sources.items) }
+    ensures refused { H.tells → IfErr result (λ w. w ≢ Why.NoMemory → w ≢ Why.ShelfFault
+        → IsStopped (H.files shelf.old) (chars script.now) (chars name.now) w) }
+    ensures fault { IsErrOf result Why.ShelfFault
+        → Rose (H.faults shelf.old) (H.faults shelf.new) }
+    ensures count { H.faults shelf.old ≤ H.faults shelf.new }
+    ensures kept { H.tells → H.files shelf.new ≡ H.files shelf.old }
+{
+    let Ok(folder) = folder_of(alloc, script) else {
+        return Err(Why::NoMemory);
+    };
+    let mut loading = begun(alloc, script, name, shelf)?;
+    loading.import_all(alloc, &folder, shelf)?;
+    Ok(loading.sources)
+}
+
+/// The script alone.
+fn begun<H: Shelf>(alloc: Global, script: &str, name: &str, shelf: &mut H) -> Result<Loading, Why>
+    ensures at { H.tells → IfOk result (λ l.
+        IsAt (H.files shelf.old) (chars script.now) (chars name.now) (state_of l) 0) }
+    ensures limits { IfOk result (λ l.
+        (length l.sources.items ≤ 256) × (l.bytes ≤ 16777216)) }
+    ensures refused { H.tells → IfErr result (λ w. w ≢ Why.NoMemory → w ≢ Why.ShelfFault
+        → IsStopped (H.files shelf.old) (chars script.now) (chars name.now) w) }
+    ensures fault { IsErrOf result Why.ShelfFault
+        → Rose (H.faults shelf.old) (H.faults shelf.new) }
+    ensures count { H.faults shelf.old ≤ H.faults shelf.new }
+    ensures kept { H.tells → H.files shelf.new ≡ H.files shelf.old }
+{
+    let Ok(path) = Text::from_str(alloc, script) else {
+        return Err(Why::NoMemory);
+    };
+    let Ok(name) = Text::from_str(alloc, name) else {
+        return Err(Why::NoMemory);
+    };
+    let mut loading = Loading::new(alloc);
+    match find(alloc, &path, shelf)? {
+        Some(file) => {
+            loading.add(alloc, name, path, file)?;
+            Ok(loading)
+        }
+        None => Err(no_such_file(alloc, &path)),
+    }
+}
+
+/// A file that is there: its bytes, or that they are too many.
+#[derive(Drop)]
+pub(crate) enum File {
+    Bytes(Vec<u8>),
+    TooLarge,
+}
+
+/// The file of this name, where there is one.
+fn find<H: Shelf>(alloc: Global, path: &Text, shelf: &mut H) -> Result<Option<File>, Why>
+    ensures found { H.tells → IfOk result (λ file.
+        IsFound (file_bytes (H.files shelf.old) path.now) file) }
+    ensures small { IfOk result (λ file. IsSmallFound file) }
+    ensures refused { IfErr result (λ w. w ≢ Why.NoMemory → w ≡ Why.ShelfFault) }
+    ensures fault { IsErrOf result Why.ShelfFault
+        → Rose (H.faults shelf.old) (H.faults shelf.new) }
+    ensures count { H.faults shelf.old ≤ H.faults shelf.new }
+    ensures kept { H.tells → H.files shelf.new ≡ H.files shelf.old }
+{
+    match shelf.read(alloc, path.as_str(), MAX_BYTES) {
+        Ok(bytes) => Ok(Some(File::Bytes(bytes))),
+        Err(ShelfError::Absent) => Ok(None),
+        Err(ShelfError::TooLarge) => Ok(Some(File::TooLarge)),
+        Err(ShelfError::Failed) => Err(Why::ShelfFault),
+        Err(ShelfError::NoMemory) => Err(Why::NoMemory),
+    }
+}
+
+/// The modules so far, the names that they import, and how many bytes their files have in all.
+#[derive(Drop)]
+pub(crate) struct Loading {
+    pub sources: Vec<LoadedSource>,
+    pub names: Names,
+    pub bytes: usize,
+}
+
+impl Loading {
+    fn new(alloc: Global) -> Loading
+        ensures { state_of result ≡ nothing }
+    {
+        Loading {
+            sources: Vec::new(alloc),
+            names: Names::new(alloc),
+            bytes: 0,
+        }
+    }
+
+    /// Loads what the modules import, and what that imports, until no more is wanted.
+    fn import_all<H: Shelf>(
+        &mut self,
+        alloc: Global,
+        folder: &Text,
+        shelf: &mut H,
+    ) -> Result<(), Why>
+        requires few { length self.old.sources.items ≤ 256 }
+        requires light { self.old.bytes ≤ 16777216 }
+        ensures loaded { H.tells → (script name : Name)
+            → IsAt (H.files shelf.old) script name (state_of self.old) 0
+            → folder.now ≡ folder_of script
+            → OnOk result (IsLoaded (H.files shelf.old) script name
+            (plain_sources self.new.sources.items)) }
+        ensures refused { H.tells → (script name : Name)
+            → IsAt (H.files shelf.old) script name (state_of self.old) 0
+            → folder.now ≡ folder_of script
+            → IfErr result (λ w. w ≢ Why.NoMemory → w ≢ Why.ShelfFault
+            → IsStopped (H.files shelf.old) script name w) }
+        ensures fault { IsErrOf result Why.ShelfFault
+            → Rose (H.faults shelf.old) (H.faults shelf.new) }
+        ensures count { H.faults shelf.old ≤ H.faults shelf.new }
+        ensures kept { H.tells → H.files shelf.new ≡ H.files shelf.old }
+    {
+        let mut at = 0;
+        let mut count = self.names.len();
+        'names: while at < count {
+            let Ok(name) = self.names.get(alloc, at) else {
+                return Err(Why::NoMemory);
+            };
+            self.import(alloc, folder, name, shelf)?;
+            at += 1;
+            count = self.names.len();
+        }
+        Ok(())
+    }
+
+    /// Loads an imported module, where it has a file.
+    fn import<H: Shelf>(
+        &mut self,
+        alloc: Global,
+        folder: &Text,
+        name: Text,
+        shelf: &mut H,
+    ) -> Result<(), Why>
+        requires { self.old.bytes ≤ 16777216 }
+        ensures imports { H.tells → OnOk result (Imports (H.files shelf.old) folder.now name
+            (state_of self.old) (state_of self.new)) }
+        ensures grows { OnOk result (GrowsOrStays self.old self.new) }
+        ensures refused { H.tells → IfErr result (λ w. w ≢ Why.NoMemory → w ≢ Why.ShelfFault
+            → RefusesImport (H.files shelf.old) folder.now name (state_of self.old) w) }
+        ensures fault { IsErrOf result Why.ShelfFault
+            → Rose (H.faults shelf.old) (H.faults shelf.new) }
+        ensures count { H.faults shelf.old ≤ H.faults shelf.new }
+        ensures kept { H.tells → H.files shelf.new ≡ H.files shelf.old }
+    {
+        if name.as_str() == "sys" {
+            return Ok(());
+        }
+        let Ok(path) = file_of(folder, &name) else {
+            return Err(Why::NoMemory);
+        };
+        match find(alloc, &path, shelf)? {
+            Some(file) => self.add(alloc, name, path, file),
+            None => Ok(()),
+        }
+    }
+
+    /// Adds the module of a file that is there.
+    fn add(&mut self, alloc: Global, name: Text, path: Text, file: File) -> Result<(), Why>
+        requires light { self.old.bytes ≤ 16777216 }
+        requires small { IsSmall file }
+        ensures added { (content : Option (List ℕ)) → Holds content file
+            → OnOk result (Adds content name path (state_of self.old) (state_of self.new)) }
+        ensures grows { OnOk result (Grows self.old self.new) }
+        ensures refused { (content : Option (List ℕ)) → Holds content file
+            → IfErr result (λ w. w ≢ Why.NoMemory → Refuses (length self.old.sources.items)
+            self.old.bytes path content w) }
+        ensures no_fault { IsErrOf result Why.ShelfFault → ⊥ }
+    {
+        if self.sources.len() >= MAX_MODULES {
+            return Err(Why::Limit(LimitKind::Modules, 257));
+        }
+        match file {
+            File::Bytes(bytes) => self.add_bytes(alloc, name, path, &bytes),
+            File::TooLarge => Err(Why::Limit(LimitKind::FileBytes, 1_048_577)),
+        }
+    }
+
+    /// Adds the module of a file of these bytes.
+    fn add_bytes(&mut self, alloc: Global, name: Text, path: Text, bytes: &[u8]) -> Result<(), Why>
+        requires few { length self.old.sources.items < 256 }
+        requires light { self.old.bytes ≤ 16777216 }
+        requires small { length bytes.now ≤ 1048576 }
+        ensures added { OnOk result (Adds (Some bytes.now) name path (state_of self.old)
+            (state_of self.new)) }
+        ensures grows { OnOk result (Grows self.old self.new) }
+        ensures refused { IfErr result (λ w. w ≢ Why.NoMemory
+            → Refuses (length self.old.sources.items) self.old.bytes path (Some bytes.now) w) }
+        ensures no_fault { IsErrOf result Why.ShelfFault → ⊥ }
+    {
+        let total = self.bytes + bytes.len();
+        if total > MAX_TOTAL {
+            return Err(Why::Limit(LimitKind::TotalBytes, total as u64));
+        }
+        match read_source(alloc, bytes) {
+            Ok(source) => match self.push(alloc, name, path, source) {
+                Ok(()) => {
+                    self.bytes = total;
+                    Ok(())
+                }
+                Err(_) => Err(Why::NoMemory),
+            },
+            Err(error) => Err(refused(alloc, &path, &error)),
+        }
+    }
+
+    /// Adds a module that was read, and the names that it imports.
+    fn push(
+        &mut self,
+        alloc: Global,
+        name: Text,
+        path: Text,
+        source: Source,
+    ) -> Result<(), NoMemory>
+        requires { source.scopes ≡ functions_of (plain_module source.module) }
+        ensures modules { OnOk result (plain_sources self.new.sources.items
+            ≡ plain_sources self.old.sources.items
+            ++ record { name = name; path = path; body = plain_module source.module } ∷ []) }
+        ensures names { OnOk result (self.new.names
+            ≡ add_names self.old.names (imported (plain_module source.module))) }
+        ensures bytes { self.new.bytes ≡ self.old.bytes }
+    {
+        add_imported(alloc, &mut self.names, &source.module.body)?;
+        let Source { module, scopes } = source;
+        self.sources.push(LoadedSource {
+            name,
+            path,
+            module,
+            scopes,
+        })?;
+        Ok(())
+    }
+}
