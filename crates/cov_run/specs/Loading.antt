@@ -36,7 +36,8 @@ is_there (Some bytes) = true
 
 -- whether a module of this name has a file in the folder; `sys` has none
 abbrev pub has_file : Files → Text → Text → Bool
-has_file files folder x = not (is_same_text x (codes "sys")) && is_there (file_bytes files (file_of folder x))
+has_file files folder x =
+    not (is_same_text x (codes "sys")) && is_there (file_bytes files (file_of folder x))
 
 -- how many bytes a file has
 abbrev pub size_of : Option (List ℕ) → ℕ
@@ -74,7 +75,8 @@ pub record AreLoaded (files : Files) (script name : Text) (ms : List LoadedModul
   pub first : (m : LoadedModule) → slice_get ms 0 ≡ Some m → (m.name ≡ name) × (m.path ≡ script)
   pub next :
       (i : ℕ) (m : LoadedModule) → slice_get ms (suc i) ≡ Some m
-      → (wanted files (folder_of script) (take (suc i) ms) ≡ Some m.name) × (m.path ≡ file_of (folder_of script) m.name)
+      → (wanted files (folder_of script) (take (suc i) ms) ≡ Some m.name)
+      × (m.path ≡ file_of (folder_of script) m.name)
   pub few : length ms ≤ most_modules
   pub light : total_bytes files ms ≤ most_total
 

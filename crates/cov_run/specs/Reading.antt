@@ -71,14 +71,16 @@ pub record HasTree (bytes : List ℕ) (m : Stmts) : Type 0 where
   pub low : stmts_height m ≤ HEIGHT
   pub few : stmts_nesting m ≤ NESTING
 
--- the checks in their order: text, lines, tokens, tree, scopes; want of memory is no fault of a source
+-- the checks in their order: text, lines, tokens, tree, scopes; want of memory is no fault of a
+-- source
 abbrev pub Reads : List ℕ → Reading → Type 0
 Reads bytes (no_text line) = ¬ (IsUtf8 bytes) × (line ≡ fault_line bytes)
 Reads bytes (long lines) = IsUtf8 bytes × (lines ≡ line_count (chars bytes)) × (most_lines < lines)
 Reads bytes (stuck token_error.NoMemory) = ⊥
 Reads bytes (stuck error) = AreShortText bytes × StuckAt (chars bytes) error
 Reads bytes (no_tree syntax_error.NoMemory) = ⊥
-Reads bytes (no_tree error) = (tokens : List PToken) × HasTokens bytes tokens × IsRefused tokens error
+Reads bytes (no_tree error) =
+    (tokens : List PToken) × HasTokens bytes tokens × IsRefused tokens error
 Reads bytes (ill_formed scope_error.NoMemory) = ⊥
 Reads bytes (ill_formed error) = (m : Stmts) × HasTree bytes m × IsFirst (faults_of m) error
 Reads bytes (tree m) = HasTree bytes m × IsWellFormed m

@@ -59,8 +59,9 @@ pub record HasRoom (modules total : ℕ) (file : Option (List ℕ)) (bytes : Lis
 abbrev pub IsNamed : String Global → Text → Type 0
 IsNamed file path = string_bytes file ≡ encode_utf8_all path
 
--- After so many modules, whose files have so many bytes in all, a file is refused so, as the first check that fails says:
--- that it is there; of its module and its bytes; of its text, lines, tokens, tree and scopes.
+-- After so many modules, whose files have so many bytes in all, a file is refused so, as the first
+-- check that fails says: that it is there; of its module and its bytes; of its text, lines, tokens,
+-- tree and scopes.
 abbrev pub Refuses : ℕ → ℕ → Text → Option (List ℕ) → Why → Type 0
 Refuses modules total path file why.Done = ⊥
 Refuses modules total path file (why.Program status) = ⊥
@@ -72,7 +73,8 @@ Refuses modules total path file (why.Syntax name line kind) =
     (bytes : List ℕ) × (reading : Reading) × HasRoom modules total file bytes × Reads bytes reading
     × (fault_of reading ≡ Some (line, kind)) × IsNamed name path
 Refuses modules total path file (why.Limit limits.FileBytes n) =
-    (bytes : List ℕ) × IsNext modules file bytes × (most_bytes < length bytes) × (n ≡ suc most_bytes)
+    (bytes : List ℕ) × IsNext modules file bytes × (most_bytes < length bytes)
+    × (n ≡ suc most_bytes)
 Refuses modules total path file (why.Limit limits.TotalBytes n) =
     (bytes : List ℕ) × IsNext modules file bytes × (length bytes ≤ most_bytes)
     × (most_total < total + length bytes) × (n ≡ total + length bytes)
@@ -107,7 +109,8 @@ Refuses modules total path file (why.ImportFailed name) = ⊥
 -- the file that is read after these modules
 abbrev pub next_file : Files → Text → List LoadedModule → Option Text
 next_file files script [] = Some script
-next_file files script (m ∷ ms) = option_map (file_of (folder_of script)) (wanted files (folder_of script) (m ∷ ms))
+next_file files script (m ∷ ms) =
+    option_map (file_of (folder_of script)) (wanted files (folder_of script) (m ∷ ms))
 
 -- a program isn't loaded: after some modules the next file is refused
 pub record IsStopped (files : Files) (script name : Text) (w : Why) : Type 0 where

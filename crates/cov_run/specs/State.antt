@@ -68,21 +68,28 @@ pub record Adds (content : Option (List ℕ)) (name path : Text) (old new : Stat
 abbrev pub Imports : Files → Text → Text → State → State → Type 0
 Imports files folder x old new =
     ((has_file files folder x ≡ false) × (new ≡ old))
-    ⊎ ((has_file files folder x ≡ true) × Adds (file_bytes files (file_of folder x)) x (file_of folder x) old new)
+    ⊎ ((has_file files folder x ≡ true)
+    × Adds (file_bytes files (file_of folder x)) x (file_of folder x) old new)
 
 -- why it doesn't
 abbrev pub RefusesImport : Files → Text → Text → State → Why → Type 0
 RefusesImport files folder x old w =
     (has_file files folder x ≡ true)
-    × Refuses (length old.modules) old.bytes (file_of folder x) (file_bytes files (file_of folder x)) w
+    × Refuses (length old.modules) old.bytes (file_of folder x)
+    (file_bytes files (file_of folder x)) w
 
 -- there is one module more, and the limits are kept
 abbrev pub Grows : Loading → Loading → Type 0
-Grows old new = (length new.sources.items ≡ suc (length old.sources.items)) × (length old.sources.items < most_modules) × (new.bytes ≤ most_total)
+Grows old new =
+    (length new.sources.items ≡ suc (length old.sources.items))
+    × (length old.sources.items < most_modules) × (new.bytes ≤ most_total)
 
 -- the same, or nothing is new
 abbrev pub GrowsOrStays : Loading → Loading → Type 0
-GrowsOrStays old new = Grows old new ⊎ ((new.sources.items ≡ old.sources.items) × (new.names ≡ old.names) × (new.bytes ≡ old.bytes))
+GrowsOrStays old new =
+    Grows old new
+    ⊎ ((new.sources.items ≡ old.sources.items) × (new.names ≡ old.names)
+    × (new.bytes ≡ old.bytes))
 
 -- an answer that names the file, and the line and kind of the fault of a reading
 pub record Tells (reading : Reading) (path : Text) (w : Why) : Type 0 where

@@ -63,8 +63,8 @@ pub(crate) struct Source {
     pub scopes: Scopes,
 }
 
-/// Reads the bytes of a source to its tree, or says why there is none. The checks come in the order of
-/// the variants of `SourceError`.
+/// Reads the bytes of a source to its tree, or says why there is none. The checks come in the order
+/// of the variants of `SourceError`.
 pub(crate) fn read_source(alloc: Global, bytes: &[u8]) -> Result<Source, SourceError>
     requires { length bytes.now ≤ 1048576 }
     ensures read { IfOk result (λ s. Reads bytes.now (tree (plain_module s.module))) }
