@@ -1,0 +1,89 @@
+-- The code of compound statements, at the places and by the ways that the code computes.
+use Rattle.std.proofs.Common.{◌≡◌, ℕ, ◌+◌, List, [], ◌∷◌, ◌++◌, Bool, Option, Result, OnOk, refl, sym, ap, ◌∙◌, append_assoc}
+use Rattle.py_compile_expr.proofs.Turns.{and_then, four}
+use Rattle.py_syntax.specs.Functions.{Function}
+use Rattle.py_syntax.specs.Tree.{Expr, Suite, OptSuite, has_suite, Arms, Clauses, Cases, while, for, try}
+use Rattle.py_code.specs.declared.instr.Instr.TheVariants.{Goto, Ending, Settle}
+use Rattle.py_compile_expr.specs.Cells.{marks, plain, Cell, put}
+use Rattle.py_compile_expr.specs.Expressions.{expr_size, expr_code}
+use Rattle.py_compile_expr.specs.Targets.{target_size, target_code}
+use Rattle.py_emit.specs.Parts.{suite_body, suite_size, while_begin, while_back, for_again, for_begin, for_back, try_end, try_begin, handlers_size, finally_ways, tried_ways, while_head, for_head, handlers_code, finally_code, if_code, match_code}
+use Rattle.py_compile.specs.Statements.{exits_code, stmts_code, kind_code, opt_size, opt_code, arms_size, arms_code, cases_size, cases_code}
+use Rattle.py_compile.specs.Ways.{Ways, under, in_loop, in_hand}
+use Rattle.py_emit.proofs.Forms.{while_form, for_form, try_form}
+
+-- ways out at other spellings of their places
+pub looped : (v w : Ways) (k e b f c : ℕ) → v ≡ in_loop w k e b → e ≡ f → b ≡ c → v ≡ in_loop w k f c
+looped v w k e b f c h x y = h ∙ ap (λ n. in_loop w k n b) x ∙ ap (λ n. in_loop w k f n) y
+
+pub while_node : (fs : List Function) (w : Ways) (p l : ℕ) (t : Expr) (s : Suite) (o : OptSuite) (rest again first third : ℕ) (inside : Ways)
+    → rest ≡ while_back (in_hand w) p t s + 1 → inside ≡ in_loop w 0 (rest + opt_size (in_hand w) o) (while_back (in_hand w) p t s) → again ≡ p + 2 → first ≡ while_begin p t → third ≡ rest
+    → kind_code fs w p l (while t s o) ≡ while_head w.guard p l t rest ++ (stmts_code fs inside first (suite_body s) ++ (put w.guard (plain (Goto again)) [] ++ opt_code fs w third o))
+while_node fs w p l t s o rest again first third inside r i a b d =
+    while_form fs w p l t s o
+    ∙ ap (λ n. while_head w.guard p l t n ++ (stmts_code fs (in_loop w 0 (n + opt_size (in_hand w) o) (while_back (in_hand w) p t s)) (while_begin p t) (suite_body s) ++ put w.guard (plain (Goto (p + 2))) (opt_code fs w n o))) (sym r)
+    ∙ ap (λ v. while_head w.guard p l t rest ++ (stmts_code fs v (while_begin p t) (suite_body s) ++ put w.guard (plain (Goto (p + 2))) (opt_code fs w rest o))) (sym i)
+    ∙ ap (λ n. while_head w.guard p l t rest ++ (stmts_code fs inside (while_begin p t) (suite_body s) ++ put w.guard (plain (Goto n)) (opt_code fs w rest o))) (sym a)
+    ∙ ap (λ n. while_head w.guard p l t rest ++ (stmts_code fs inside n (suite_body s) ++ put w.guard (plain (Goto again)) (opt_code fs w rest o))) (sym b)
+    ∙ ap (λ n. while_head w.guard p l t rest ++ (stmts_code fs inside first (suite_body s) ++ put w.guard (plain (Goto again)) (opt_code fs w n o))) (sym d)
+
+pub for_node : (fs : List Function) (w : Ways) (p l : ℕ) (t e : Expr) (s : Suite) (o : OptSuite) (rest again first second third : ℕ) (inside : Ways)
+    → again ≡ for_again p e → rest ≡ for_back (in_hand w) p t e s + 1 → inside ≡ in_loop (under w) 1 (rest + opt_size (in_hand w) o) (for_back (in_hand w) p t e s)
+    → first ≡ for_again p e + 2 → second ≡ for_begin p t e → third ≡ rest
+    → kind_code fs w p l (for t e s o) ≡ for_head w.guard p l e rest ++ (target_code w.guard first t ++ (stmts_code fs inside second (suite_body s) ++ (put w.guard (plain (Goto again)) [] ++ opt_code fs w third o)))
+for_node fs w p l t e s o rest again first second third inside a r i b c d =
+    let at = for_again p e + 2 in
+    for_form fs w p l t e s o
+    ∙ ap (λ n. for_head w.guard p l e n ++ (target_code w.guard at t ++ (stmts_code fs (in_loop (under w) 1 (n + opt_size (in_hand w) o) (for_back (in_hand w) p t e s)) (for_begin p t e) (suite_body s) ++ put w.guard (plain (Goto (for_again p e))) (opt_code fs w n o)))) (sym r)
+    ∙ ap (λ v. for_head w.guard p l e rest ++ (target_code w.guard at t ++ (stmts_code fs v (for_begin p t e) (suite_body s) ++ put w.guard (plain (Goto (for_again p e))) (opt_code fs w rest o)))) (sym i)
+    ∙ ap (λ n. for_head w.guard p l e rest ++ (target_code w.guard at t ++ (stmts_code fs inside (for_begin p t e) (suite_body s) ++ put w.guard (plain (Goto n)) (opt_code fs w rest o)))) (sym a)
+    ∙ ap (λ n. for_head w.guard p l e rest ++ (target_code w.guard n t ++ (stmts_code fs inside (for_begin p t e) (suite_body s) ++ put w.guard (plain (Goto again)) (opt_code fs w rest o)))) (sym b)
+    ∙ ap (λ n. for_head w.guard p l e rest ++ (target_code w.guard first t ++ (stmts_code fs inside n (suite_body s) ++ put w.guard (plain (Goto again)) (opt_code fs w rest o)))) (sym c)
+    ∙ ap (λ n. for_head w.guard p l e rest ++ (target_code w.guard first t ++ (stmts_code fs inside second (suite_body s) ++ put w.guard (plain (Goto again)) (opt_code fs w n o)))) (sym d)
+
+pub try_node : (fs : List Function) (w : Ways) (p l : ℕ) (s : Suite) (cs : Clauses) (o fin : OptSuite) (end first second third fourth : ℕ) (tried inside : Ways)
+    → end ≡ try_end (in_hand w) p s cs o → inside ≡ finally_ways fin w (end + 1) → tried ≡ tried_ways cs inside (try_begin (in_hand w) p s o)
+    → first ≡ p + 1 → second ≡ p + 1 + suite_size (in_hand w) s → third ≡ p + 1 + suite_size (in_hand w) s + opt_size (in_hand w) o → fourth ≡ end
+    → kind_code fs w p l (try s cs o fin)
+    ≡ put w.guard (marks l) [] ++ (stmts_code fs tried first (suite_body s) ++ (opt_code fs inside second o ++ (handlers_code fs inside third end cs ++ finally_code fs w fourth fin)))
+try_node fs w p l s cs o fin end first second third fourth tried inside e i t a b c d =
+    let q = p + 1 + suite_size (in_hand w) s in
+    let r = p + 1 + suite_size (in_hand w) s + opt_size (in_hand w) o in
+    let begin = try_begin (in_hand w) p s o in
+    let last : end ≡ fourth = sym d in
+    try_form fs w p l s cs o fin
+    ∙ ap (λ n. put w.guard (marks l) (stmts_code fs (tried_ways cs (finally_ways fin w (n + 1)) begin) (p + 1) (suite_body s) ++ (opt_code fs (finally_ways fin w (n + 1)) q o ++ (handlers_code fs (finally_ways fin w (n + 1)) r n cs ++ finally_code fs w n fin)))) (sym e)
+    ∙ ap (λ v. put w.guard (marks l) (stmts_code fs (tried_ways cs v begin) (p + 1) (suite_body s) ++ (opt_code fs v q o ++ (handlers_code fs v r end cs ++ finally_code fs w end fin)))) (sym i)
+    ∙ ap (λ v. put w.guard (marks l) (stmts_code fs v (p + 1) (suite_body s) ++ (opt_code fs inside q o ++ (handlers_code fs inside r end cs ++ finally_code fs w end fin)))) (sym t)
+    ∙ ap (λ n. put w.guard (marks l) (stmts_code fs tried n (suite_body s) ++ (opt_code fs inside q o ++ (handlers_code fs inside r end cs ++ finally_code fs w end fin)))) (sym a)
+    ∙ ap (λ n. put w.guard (marks l) (stmts_code fs tried first (suite_body s) ++ (opt_code fs inside n o ++ (handlers_code fs inside r end cs ++ finally_code fs w end fin)))) (sym b)
+    ∙ ap (λ n. put w.guard (marks l) (stmts_code fs tried first (suite_body s) ++ (opt_code fs inside second o ++ (handlers_code fs inside n end cs ++ finally_code fs w end fin)))) (sym c)
+    ∙ ap (λ n. put w.guard (marks l) (stmts_code fs tried first (suite_body s) ++ (opt_code fs inside second o ++ (handlers_code fs inside third end cs ++ finally_code fs w n fin)))) last
+
+-- ---- the suite of a `finally`
+
+pub finally_node : (fs : List Function) (w lower : Ways) (p first third : ℕ) (s : Suite) → lower ≡ under w → first ≡ p + 1 → third ≡ p + 1 + suite_size (in_hand w) s + 1
+    → finally_code fs w p (has_suite s) ≡ put w.guard (plain Ending) [] ++ (stmts_code fs lower first (suite_body s) ++ (put w.guard (plain Settle) [] ++ exits_code w third))
+finally_node fs w lower p first third s l a b =
+    ap (λ v. put w.guard (plain Ending) (stmts_code fs v (p + 1) (suite_body s) ++ put w.guard (plain Settle) (exits_code w (p + 1 + suite_size (in_hand w) s + 1)))) (sym l)
+    ∙ ap (λ n. put w.guard (plain Ending) (stmts_code fs lower n (suite_body s) ++ put w.guard (plain Settle) (exits_code w (p + 1 + suite_size (in_hand w) s + 1)))) (sym a)
+    ∙ ap (λ n. put w.guard (plain Ending) (stmts_code fs lower first (suite_body s) ++ put w.guard (plain Settle) (exits_code w n))) (sym b)
+
+-- ---- `if` and `match`
+
+pub if_node : (fs : List Function) (w : Ways) (p end second : ℕ) (arms : Arms) (o : OptSuite) → end ≡ p + arms_size (in_hand w) arms + opt_size (in_hand w) o → second ≡ p + arms_size (in_hand w) arms
+    → if_code fs w p arms o ≡ arms_code fs w p end arms ++ opt_code fs w second o
+if_node fs w p end second arms o e a =
+    ap (λ n. arms_code fs w p n arms ++ opt_code fs w (p + arms_size (in_hand w) arms) o) (sym e)
+    ∙ ap (λ n. arms_code fs w p end arms ++ opt_code fs w n o) (sym a)
+
+pub match_node : (fs : List Function) (w : Ways) (p l end first third : ℕ) (e : Expr) (cs : Cases) → end ≡ p + 1 + expr_size e + cases_size (in_hand w) cs → first ≡ p + 1 → third ≡ p + 1 + expr_size e
+    → match_code fs w p l e cs ≡ put w.guard (marks l) [] ++ (expr_code w.guard first e ++ cases_code fs w third end cs)
+match_node fs w p l end first third e cs is a b =
+    ap (λ n. put w.guard (marks l) (expr_code w.guard (p + 1) e ++ cases_code fs w (p + 1 + expr_size e) n cs)) (sym is)
+    ∙ ap (λ n. put w.guard (marks l) (expr_code w.guard n e ++ cases_code fs w (p + 1 + expr_size e) end cs)) (sym a)
+    ∙ ap (λ n. put w.guard (marks l) (expr_code w.guard first e ++ cases_code fs w n end cs)) (sym b)
+
+-- five parts in a row
+pub five : {A E R : Type 0} (r : Result R E) (s i j k m n v w x y z all : List A) → i ≡ s ++ v → j ≡ i ++ w → k ≡ j ++ x → m ≡ k ++ y → OnOk r (n ≡ m ++ z) → all ≡ v ++ (w ++ (x ++ (y ++ z))) → OnOk r (n ≡ s ++ all)
+five r s i j k m n v w x y z all c d e f h is = four r s j k m n (v ++ w) x y z all (and_then s i j v w (v ++ w) d c refl) e f h (is ∙ sym (append_assoc v w (x ++ (y ++ z))))

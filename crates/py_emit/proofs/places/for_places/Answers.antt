@@ -1,0 +1,36 @@
+use Rattle.std.proofs.Common.{◌+◌, ap, ◌∙◌, arith}
+use Rattle.py_syntax.specs.View.{plain_expr, plain_suite, plain_opt_suite}
+use Rattle.py_compile.specs.Statements.{opt_size}
+use Rattle.py_compile.specs.Ways.{in_hand, in_loop, under}
+use Rattle.py_emit.specs.Parts.{suite_size, for_back}
+use Rattle.py_emit.specs.WaysView.{plain_ways}
+use Rattle.py_emit.proofs.Loops.{looped}
+use Rattle.py_emit.proofs.places.for_places.Goals as goal
+
+pub returns-clause-rest : goal.returns-clause-rest
+returns-clause-rest c =
+    let one = c.in_ok-again.ensures in
+    let two = c.in_ok-expr_size.ensures in
+    let three = c.in_ok-over.ensures in
+    let first = c.in_ok-first.ensures in
+    let target = c.in_ok-target_size.ensures in
+    let four = c.in_ok-begin.ensures in
+    let five = c.in_ok-suite_size.ensures ∙ ap (λ h. suite_size h (plain_suite c.args.body.now)) c.in_hand-handled.ensures in
+    let six = c.in_ok-back.ensures in
+    let last = c.in_ok-rest.ensures in
+    omega (arith, one, two, three, first, target, four, five, six, last)
+
+pub returns-clause-inside : goal.returns-clause-inside
+returns-clause-inside c =
+    let one = c.in_ok-again.ensures in
+    let two = c.in_ok-expr_size.ensures in
+    let three = c.in_ok-over.ensures in
+    let first = c.in_ok-first.ensures in
+    let target = c.in_ok-target_size.ensures in
+    let four = c.in_ok-begin.ensures in
+    let five = c.in_ok-suite_size.ensures ∙ ap (λ h. suite_size h (plain_suite c.args.body.now)) c.in_hand-handled.ensures in
+    let six = c.in_ok-back.ensures in
+    let seven = c.in_ok-opt_size.ensures ∙ ap (λ h. opt_size h (plain_opt_suite c.args.orelse.now)) c.in_hand-handled.ensures in
+    let last = c.in_ok-end.ensures in
+    looped _ (under (plain_ways c.args.ways)) 1 c.in_ok-end.end c.in_ok-back.back _ _ (c.in_loop.ensures ∙ ap (λ w. in_loop w 1 c.in_ok-end.end c.in_ok-back.back) c.in_ok-lower.ensures)
+    (omega (arith, seven, last)) (omega (arith, one, two, three, first, target, four, five, six))

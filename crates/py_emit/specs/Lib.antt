@@ -1,0 +1,2 @@
+pub mod WaysView
+pub mod Parts

@@ -1,0 +1,115 @@
+// Emission of what a compound statement has several of: tests, clauses and cases.
+
+ghost use Rattle.std.specs.Prelude.{◌≡◌, ◌+◌, ◌++◌, IfOk, OnOk};
+ghost use Rattle.py_syntax.specs.View.{plain_arms, plain_clauses, plain_cases};
+ghost use Rattle.py_compile.specs.Statements.{arms_size, arms_code, clauses_size, clauses_code, cases_size, cases_code};
+ghost use Rattle.py_compile.specs.Ways.{in_hand};
+ghost use Rattle.py_emit.specs.Parts.{at_lines};
+ghost use Rattle.py_emit.specs.WaysView.{plain_ways};
+
+use crate::defs::Defs;
+use crate::heads::{put_arm_head, put_case_head, put_clause_end, put_clause_head};
+use crate::places::{arm_next, case_next, clause_places};
+use crate::statements::put_suite;
+use crate::ways::{Ways, in_clause, in_hand};
+use py_code::Instr;
+use py_compile_expr::{Builder, Op};
+use py_syntax::{Arm, Case, Clause};
+use py_value::NoMemory;
+
+/// Tests with their suites.
+#[cycle(statements)]
+pub(crate) fn put_arms(
+    out: &mut Builder,
+    defs: &Defs,
+    ways: Ways,
+    at: u32,
+    end: u32,
+    items: &[Arm],
+) -> Result<u32, NoMemory>
+    ensures cells { OnOk result (out.new
+        ≡ out.old ++ arms_code (at_lines defs.now) (plain_ways ways) at end
+        (plain_arms items.now)) }
+    ensures place { IfOk result (λ n.
+        n ≡ at + arms_size (in_hand (plain_ways ways)) (plain_arms items.now)) }
+{
+    let handled = in_hand(ways);
+    let mut to = at;
+    for arm in items {
+        let next = arm_next(handled, to, &arm.test, &arm.body)?;
+        let begin = put_arm_head(out, ways.guard, to, arm.body.first, next, &arm.test)?;
+        let jump = put_suite(out, defs, ways, begin, &arm.body)?;
+        to = out.put(ways.guard, jump, Op::Plain(Instr::Goto(end)))?;
+    }
+    Ok(to)
+}
+
+/// Clauses. The exception stays on top till one ends.
+#[cycle(statements)]
+pub(crate) fn put_clauses(
+    out: &mut Builder,
+    defs: &Defs,
+    ways: Ways,
+    at: u32,
+    end: u32,
+    items: &[Clause],
+) -> Result<u32, NoMemory>
+    ensures cells { OnOk result (out.new
+        ≡ out.old ++ clauses_code (at_lines defs.now) (plain_ways ways) at end
+        (plain_clauses items.now)) }
+    ensures place { IfOk result (λ n.
+        n ≡ at + clauses_size (in_hand (plain_ways ways)) (plain_clauses items.now)) }
+{
+    let inside = in_clause(ways)?;
+    let mut to = at;
+    for clause in items {
+        let places = clause_places(inside, to, &clause.kind, &clause.name, &clause.body)?;
+        let begin = put_clause_head(
+            out,
+            ways.guard,
+            to,
+            clause.body.first,
+            places.next,
+            &clause.kind,
+            &clause.name,
+        )?;
+        let left = put_suite(out, defs, places.inside, begin, &clause.body)?;
+        to = put_clause_end(out, ways, left, end, &clause.name)?;
+    }
+    out.put(ways.guard, to, Op::Plain(Instr::Uncaught))
+}
+
+/// Cases. The subject is on top till one is chosen.
+#[cycle(statements)]
+pub(crate) fn put_cases(
+    out: &mut Builder,
+    defs: &Defs,
+    ways: Ways,
+    at: u32,
+    end: u32,
+    items: &[Case],
+) -> Result<u32, NoMemory>
+    ensures cells { OnOk result (out.new
+        ≡ out.old ++ cases_code (at_lines defs.now) (plain_ways ways) at end
+        (plain_cases items.now)) }
+    ensures place { IfOk result (λ n.
+        n ≡ at + cases_size (in_hand (plain_ways ways)) (plain_cases items.now)) }
+{
+    let handled = in_hand(ways);
+    let mut to = at;
+    for case in items {
+        let next = case_next(handled, to, &case.pattern, &case.guard, &case.body)?;
+        let begin = put_case_head(
+            out,
+            ways.guard,
+            to,
+            case.body.first,
+            next,
+            &case.pattern,
+            &case.guard,
+        )?;
+        let jump = put_suite(out, defs, ways, begin, &case.body)?;
+        to = out.put(ways.guard, jump, Op::Plain(Instr::Goto(end)))?;
+    }
+    out.put(ways.guard, to, Op::Plain(Instr::Pop))
+}

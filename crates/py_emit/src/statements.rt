@@ -1,0 +1,170 @@
+// Emission of statements.
+
+ghost use Rattle.std.specs.Prelude.{◌≡◌, ◌+◌, ◌++◌, IfOk, OnOk};
+ghost use Rattle.py_syntax.specs.View.{plain_stmts, plain_kind, plain_suite, plain_opt_suite};
+ghost use Rattle.py_compile.specs.Statements.{stmts_size, stmts_code, kind_size, kind_code, opt_size, opt_code};
+ghost use Rattle.py_compile.specs.Ways.{in_hand};
+ghost use Rattle.py_emit.specs.Parts.{suite_body, suite_size, at_lines};
+ghost use Rattle.py_emit.specs.WaysView.{plain_ways};
+
+use crate::branches::{put_arms, put_cases};
+use crate::compound::{put_def, put_finally, put_handlers};
+use crate::defs::Defs;
+use crate::heads::{put_for_head, put_while_head};
+use crate::places::{for_places, if_end, match_end, try_places, while_places};
+use crate::simple::{
+    put_assert, put_assign, put_aug_assign, put_break, put_continue, put_from, put_import,
+    put_raise, put_return, put_value,
+};
+use crate::ways::{Ways, in_hand};
+use py_code::Instr;
+use py_compile_expr::{Builder, Op, put_expr, put_target};
+use py_syntax::{Stmt, StmtKind, Suite};
+use py_value::NoMemory;
+
+/// Adds the code of statements, from a place on.
+#[cycle(statements)]
+pub(crate) fn put_stmts(
+    out: &mut Builder,
+    defs: &Defs,
+    ways: Ways,
+    at: u32,
+    items: &[Stmt],
+) -> Result<u32, NoMemory>
+    ensures cells { OnOk result (out.new
+        ≡ out.old ++ stmts_code (at_lines defs.now) (plain_ways ways) at (plain_stmts items.now)) }
+    ensures place { IfOk result (λ n.
+        n ≡ at + stmts_size (in_hand (plain_ways ways)) (plain_stmts items.now)) }
+{
+    let mut to = at;
+    for s in items {
+        to = put_kind(out, defs, ways, to, s.first, &s.kind)?;
+    }
+    Ok(to)
+}
+
+/// Adds the code of a statement with this first line.
+#[cycle(statements)]
+fn put_kind(
+    out: &mut Builder,
+    defs: &Defs,
+    ways: Ways,
+    at: u32,
+    line: u32,
+    kind: &StmtKind,
+) -> Result<u32, NoMemory>
+    ensures cells { OnOk result (out.new
+        ≡ out.old ++ kind_code (at_lines defs.now) (plain_ways ways) at line
+        (plain_kind kind.now)) }
+    ensures place { IfOk result (λ n.
+        n ≡ at + kind_size (in_hand (plain_ways ways)) (plain_kind kind.now)) }
+{
+    match kind {
+        StmtKind::Expr(e) => put_value(out, ways, at, line, e),
+        StmtKind::Assign { targets, value } => put_assign(out, ways, at, line, targets, value),
+        StmtKind::AugAssign { place, op, value } => {
+            put_aug_assign(out, ways, at, line, place, *op, value)
+        }
+        StmtKind::Pass => out.put(ways.guard, at, Op::Mark(line)),
+        StmtKind::Break => put_break(out, ways, at, line),
+        StmtKind::Continue => put_continue(out, ways, at, line),
+        StmtKind::Return(e) => put_return(out, ways, at, line, e),
+        StmtKind::Raise(e) => put_raise(out, ways, at, line, e),
+        StmtKind::Assert(test, why) => put_assert(out, ways, at, line, test, why),
+        StmtKind::Global(_) => Ok(at),
+        StmtKind::Import(names) => put_import(out, ways, at, line, names),
+        StmtKind::From(of, names) => put_from(out, ways, at, line, of, names),
+        StmtKind::If { arms, orelse } => {
+            let end = if_end(in_hand(ways), at, arms, orelse)?;
+            let next = put_arms(out, defs, ways, at, end, arms)?;
+            put_opt(out, defs, ways, next, orelse)
+        }
+        StmtKind::While { test, body, orelse } => {
+            let places = while_places(ways, at, test, body, orelse)?;
+            let begin = put_while_head(out, ways.guard, at, line, test, places.rest)?;
+            let back = put_suite(out, defs, places.inside, begin, body)?;
+            let rest = out.put(ways.guard, back, Op::Plain(Instr::Goto(places.again)))?;
+            put_opt(out, defs, ways, rest, orelse)
+        }
+        StmtKind::For {
+            target,
+            over,
+            body,
+            orelse,
+        } => {
+            let places = for_places(ways, at, over, target, body, orelse)?;
+            let taken = put_for_head(out, ways.guard, at, line, over, places.rest)?;
+            let begin = put_target(out, ways.guard, taken, target)?;
+            let back = put_suite(out, defs, places.inside, begin, body)?;
+            let rest = out.put(ways.guard, back, Op::Plain(Instr::Goto(places.again)))?;
+            put_opt(out, defs, ways, rest, orelse)
+        }
+        StmtKind::Try {
+            body,
+            clauses,
+            orelse,
+            finally,
+        } => {
+            let places = try_places(ways, at, body, clauses, orelse, finally)?;
+            let begin = out.put(ways.guard, at, Op::Mark(line))?;
+            let normal = put_suite(out, defs, places.tried, begin, body)?;
+            let jump = put_opt(out, defs, places.inside, normal, orelse)?;
+            let end = put_handlers(out, defs, places.inside, jump, places.end, clauses)?;
+            put_finally(out, defs, ways, end, finally)
+        }
+        StmtKind::Def {
+            name,
+            params: _,
+            defaults,
+            comma: _,
+            body: _,
+        } => put_def(out, defs, ways.guard, at, line, name, defaults),
+        StmtKind::Match {
+            subject,
+            header_last: _,
+            cases,
+        } => {
+            let end = match_end(in_hand(ways), at, subject, cases)?;
+            let begin = out.put(ways.guard, at, Op::Mark(line))?;
+            let first = put_expr(out, ways.guard, begin, subject)?;
+            put_cases(out, defs, ways, first, end, cases)
+        }
+    }
+}
+
+#[cycle(statements)]
+pub(crate) fn put_suite(
+    out: &mut Builder,
+    defs: &Defs,
+    ways: Ways,
+    at: u32,
+    s: &Suite,
+) -> Result<u32, NoMemory>
+    ensures cells { OnOk result (out.new
+        ≡ out.old ++ stmts_code (at_lines defs.now) (plain_ways ways) at (suite_body
+        (plain_suite s.now))) }
+    ensures place { IfOk result (λ n.
+        n ≡ at + suite_size (in_hand (plain_ways ways)) (plain_suite s.now)) }
+{
+    put_stmts(out, defs, ways, at, &s.body)
+}
+
+/// The suite of an `else`, where there is one.
+#[cycle(statements)]
+pub(crate) fn put_opt(
+    out: &mut Builder,
+    defs: &Defs,
+    ways: Ways,
+    at: u32,
+    s: &Option<Suite>,
+) -> Result<u32, NoMemory>
+    ensures cells { OnOk result (out.new
+        ≡ out.old ++ opt_code (at_lines defs.now) (plain_ways ways) at (plain_opt_suite s.now)) }
+    ensures place { IfOk result (λ n.
+        n ≡ at + opt_size (in_hand (plain_ways ways)) (plain_opt_suite s.now)) }
+{
+    match s {
+        None => Ok(at),
+        Some(s) => put_suite(out, defs, ways, at, s),
+    }
+}
