@@ -1,16 +1,14 @@
 -- The code of compound statements by their parts, whatever their suites are.
-use Rattle.std.proofs.Common.{◌≡◌, ℕ, ◌+◌, List, [], ◌∷◌, ◌++◌, Bool, true, false, Option, Some, None, refl, sym, ap, ◌∙◌, arith, append_assoc}
+use Rattle.std.proofs.Common.{◌≡◌, ℕ, ◌+◌, List, [], ◌++◌, Bool, true, Option, Some, None, ap, ◌∙◌, arith, append_assoc}
 use Rattle.std.proofs.lemmas.List.{append-nil}
 use Rattle.py_syntax.specs.Functions.{Function}
 use Rattle.py_syntax.specs.Tree.{Text, Expr, Pattern, Suite, suite, OptSuite, no_suite, has_suite, Arms, arm, Clauses, no_clauses, clause, Cases, case, while, for, try}
-use Rattle.py_meaning.specs.Statements.{has_clauses}
-use Rattle.py_code.specs.declared.instr.Instr.TheVariants.{Pop, Goto, IfFalse}
+use Rattle.py_code.specs.declared.instr.Instr.TheVariants.{Goto}
 use Rattle.py_compile_expr.specs.Cells.{marks, plain, Cell, put}
-use Rattle.py_compile_expr.specs.Expressions.{expr_size, expr_code}
-use Rattle.py_compile_expr.specs.Patterns.{captured, pattern_size, names_size}
+use Rattle.py_compile_expr.specs.Expressions.{expr_size}
 use Rattle.py_compile_expr.specs.Targets.{target_size, target_code}
-use Rattle.py_emit.specs.Parts.{suite_body, suite_line, suite_size, try_end, try_begin, handlers_size, finally_size, named_size, clause_end_size, case_head_size, clause_begin, clause_next, case_begin, finally_ways, tried_ways, clause_ways, arm_head, while_head, for_head, clause_head, clause_end, case_head, handlers_code, finally_code}
-use Rattle.py_compile.specs.Statements.{caught_size, guard_size, tried_size, stmts_size, stmts_code, kind_size, kind_code, opt_size, opt_code, arms_size, arms_code, clauses_size, clauses_code, cases_size, cases_code}
+use Rattle.py_emit.specs.Parts.{suite_body, suite_line, suite_size, try_end, try_begin, handlers_size, finally_size, named_size, case_head_size, clause_begin, clause_next, case_begin, finally_ways, tried_ways, clause_ways, arm_head, while_head, for_head, clause_head, clause_end, case_head, handlers_code, finally_code}
+use Rattle.py_compile.specs.Statements.{caught_size, stmts_size, stmts_code, kind_size, kind_code, opt_size, opt_code, arms_size, arms_code, clauses_size, clauses_code, cases_size, cases_code}
 use Rattle.py_compile.specs.Ways.{Ways, under, in_loop, in_clause, in_finally, in_try, in_hand}
 
 -- ---- loops

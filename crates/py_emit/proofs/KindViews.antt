@@ -16,8 +16,8 @@ use Rattle.py_syntax.specs.declared.stmt.Stmt as stmts
 use Rattle.py_syntax.specs.declared.stmt.Suite.{Suite as SuiteNode, out-Suite}
 use Rattle.py_syntax.specs.declared.stmt.Suite as suites
 use Rattle.py_syntax.specs.Functions.{Function}
-use Rattle.py_syntax.specs.Tree.{Text, Stmts, stmt, Suite, suite, OptSuite, no_suite, has_suite, arm, Clauses, no_clauses, clause, case, if', while, for, try, def, match}
-use Rattle.py_syntax.specs.View.{plain_expr, plain_exprs, plain_pattern, plain_stmts, plain_kind, plain_suite, plain_opt_suite, plain_arms, plain_clauses, plain_cases}
+use Rattle.py_syntax.specs.Tree.{stmt, Suite, suite, OptSuite, no_suite, has_suite, arm, Clauses, no_clauses, clause, case, if', while, for, try, match}
+use Rattle.py_syntax.specs.View.{plain_expr, plain_pattern, plain_stmts, plain_kind, plain_suite, plain_opt_suite, plain_arms, plain_clauses, plain_cases}
 use Rattle.py_code.specs.declared.instr.Instr.TheVariants.{Goto}
 use Rattle.py_compile_expr.specs.Cells.{plain, put}
 use Rattle.py_compile.specs.Statements.{stmts_code, opt_size, opt_code, clauses_size, clauses_code}

@@ -1,10 +1,9 @@
 -- The code of statements by the lines of the module's `def`s.
-use Rattle.std.proofs.Common.{◌≡◌, ℕ, suc, ◌+◌, List, [], ◌∷◌, ◌++◌, map, Option, Some, None, Result, Ok, Err, IfOk, true, false, refl, sym, ap, ◌∙◌}
+use Rattle.std.proofs.Common.{◌≡◌, ℕ, suc, ◌+◌, List, [], ◌∷◌, ◌++◌, Some, None, Result, Ok, Err, IfOk, true, false, refl, sym, ap, ◌∙◌}
 use Rattle.std.specs.Prelude.{nat_eq, if◌then◌else◌}
 use Rattle.py_syntax.specs.Functions.{Function}
 use Rattle.py_syntax.specs.Tree.{Text, Exprs, Stmts, no_stmts, stmt, suite, OptSuite, no_suite, has_suite, Arms, no_arms, arm, Clauses, no_clauses, clause, Cases, no_cases, case, StmtKind, expr, assign, aug_assign, pass, break, continue, return, raise, assert, global, import, from, if', while, for, try, def, match}
 use Rattle.py_meaning.specs.Modules.{unit_at}
-use Rattle.py_meaning.specs.Statements.{has_clauses}
 use Rattle.py_code.specs.declared.instr.Instr.TheVariants.{Pop, Copy, Goto, IfFalse, Walk, Next, Return, Caught, Ending, Settle, Release}
 use Rattle.py_code.specs.declared.unit.Constant.TheVariants.{None as NoneConstant}
 use Rattle.py_compile_expr.specs.Cells.{constant, store, unset, marks, marks_again, plain, Cell, put}
@@ -14,7 +13,7 @@ use Rattle.py_compile_expr.specs.Targets.{target_size, target_code}
 use Rattle.py_compile.specs.Statements.{function_code, caught_size, caught_code, guard_size, guard_code, exits_code, tried_size, stmts_size, stmts_code, kind_size, kind_code, opt_size, opt_code, arms_size, arms_code, clauses_size, clauses_code, cases_size, cases_code}
 use Rattle.py_compile.specs.Units.{body_cells}
 use Rattle.py_compile.specs.Ways.{Ways, outermost, under, in_loop, in_clause, in_finally, in_try, in_hand}
-use Rattle.py_emit.specs.Parts.{at_line, at_lines, lines_of}
+use Rattle.py_emit.specs.Parts.{at_lines, lines_of}
 
 -- ---- units by lines
 

@@ -1,13 +1,13 @@
 -- The code of compound statements, at the places and by the ways that the code computes.
-use Rattle.std.proofs.Common.{◌≡◌, ℕ, ◌+◌, List, [], ◌∷◌, ◌++◌, Bool, Option, Result, OnOk, refl, sym, ap, ◌∙◌, append_assoc}
+use Rattle.std.proofs.Common.{◌≡◌, ℕ, ◌+◌, List, [], ◌++◌, Result, OnOk, refl, sym, ap, ◌∙◌, append_assoc}
 use Rattle.py_compile_expr.proofs.Turns.{and_then, four}
 use Rattle.py_syntax.specs.Functions.{Function}
 use Rattle.py_syntax.specs.Tree.{Expr, Suite, OptSuite, has_suite, Arms, Clauses, Cases, while, for, try}
 use Rattle.py_code.specs.declared.instr.Instr.TheVariants.{Goto, Ending, Settle}
-use Rattle.py_compile_expr.specs.Cells.{marks, plain, Cell, put}
+use Rattle.py_compile_expr.specs.Cells.{marks, plain, put}
 use Rattle.py_compile_expr.specs.Expressions.{expr_size, expr_code}
-use Rattle.py_compile_expr.specs.Targets.{target_size, target_code}
-use Rattle.py_emit.specs.Parts.{suite_body, suite_size, while_begin, while_back, for_again, for_begin, for_back, try_end, try_begin, handlers_size, finally_ways, tried_ways, while_head, for_head, handlers_code, finally_code, if_code, match_code}
+use Rattle.py_compile_expr.specs.Targets.{target_code}
+use Rattle.py_emit.specs.Parts.{suite_body, suite_size, while_begin, while_back, for_again, for_begin, for_back, try_end, try_begin, finally_ways, tried_ways, while_head, for_head, handlers_code, finally_code, if_code, match_code}
 use Rattle.py_compile.specs.Statements.{exits_code, stmts_code, kind_code, opt_size, opt_code, arms_size, arms_code, cases_size, cases_code}
 use Rattle.py_compile.specs.Ways.{Ways, under, in_loop, in_hand}
 use Rattle.py_emit.proofs.Forms.{while_form, for_form, try_form}

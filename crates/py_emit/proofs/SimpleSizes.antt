@@ -6,7 +6,7 @@ use Rattle.py_value.specs.declared.operator.BinOp.{BinOp}
 use Rattle.py_syntax.specs.Tree.{Text, Expr, index}
 use Rattle.py_syntax.specs.View.{plain_exprs, plain_aliases}
 use Rattle.py_code.specs.declared.instr.Instr.TheVariants.{List as MakeList, Function as MakeFunction, FunctionWith}
-use Rattle.py_compile_expr.specs.Cells.{plain, Guard, Cell, put}
+use Rattle.py_compile_expr.specs.Cells.{plain, Guard, put}
 use Rattle.py_compile_expr.specs.Patterns.{names_size}
 use Rattle.py_compile_expr.specs.Expressions.{count, expr_size, expr_code, each_size, each_code}
 use Rattle.py_compile.specs.Statements.{import_size, take_size, function_size, function_code, augment_code}

@@ -1,5 +1,5 @@
 -- Turns of loops over parts with a suite each: tests, clauses and cases. What a turn adds is a head, a suite and an end.
-use Rattle.std.proofs.Common.{◌≡◌, ℕ, ◌+◌, ◌<◌, List, [], ◌∷◌, ◌++◌, drop, length, get_or, Bool, true, Option, Some, None, refl, sym, ap, ◌∙◌, arith, append_assoc}
+use Rattle.std.proofs.Common.{◌≡◌, ℕ, ◌+◌, ◌<◌, List, [], ◌++◌, drop, length, get_or, Bool, true, Option, Some, None, refl, sym, ap, ◌∙◌, arith, append_assoc}
 use Rattle.std.specs.Option.{option_map}
 use Rattle.py_syntax.specs.Functions.{Function}
 use Rattle.py_syntax.specs.declared.stmt.Arm.{Arm as ArmNode, out-Arm}

@@ -7,7 +7,7 @@
 --     while_head .. case_head             code in front of suites and after them
 --     handlers_code, finally_code         what follows the suite of a `try`
 --     at_lines                            functions by the lines of their `def`s alone
-use Rattle.std.specs.Prelude.{ℕ, ◌+◌, Bool, true, false, List, [], ◌∷◌, ◌++◌, map, Option, Some, None}
+use Rattle.std.specs.Prelude.{ℕ, ◌+◌, Bool, true, List, [], ◌++◌, map, Option, Some, None}
 use Rattle.py_value.specs.declared.operator.BinOp.{BinOp}
 use Rattle.py_syntax.specs.Functions.{Function}
 use Rattle.py_syntax.specs.Tree.{Text, Expr, Exprs, Pattern, Stmts, no_stmts, Suite, suite, OptSuite, no_suite, has_suite, Arms, Clauses, no_clauses, clause, Cases}
@@ -21,14 +21,17 @@ use Rattle.py_meaning.specs.Statements.{has_clauses}
 use Rattle.py_compile.specs.Statements.{function_code, tried_size, caught_size, caught_code, guard_size, guard_code, exits_code, stmts_size, stmts_code, opt_size, opt_code, arms_size, arms_code, clauses_size, clauses_code, cases_size, cases_code}
 use Rattle.py_compile.specs.Ways.{Ways, under, in_finally, in_try, in_hand}
 
+-- the statements of a suite
 abbrev pub suite_body : Suite → Stmts
 suite_body (suite first last inline body) = body
 
+-- the line where the header of a suite begins
 abbrev pub suite_line : Suite → ℕ
 suite_line (suite first last inline body) = first
 
 -- ---- sizes
 
+-- the statements of a suite, where an exception is handled or not
 abbrev pub suite_size : Bool → Suite → ℕ
 suite_size h s = stmts_size h (suite_body s)
 
@@ -58,27 +61,31 @@ case_head_size q guard = 2 + pattern_size q + names_size (captured q) + guard_si
 
 -- ---- places
 
--- where the suite of a `while` begins and ends
+-- where the suite of a `while` begins
 abbrev pub while_begin : ℕ → Expr → ℕ
 while_begin p test = p + 3 + expr_size test + 1
 
+-- where it ends, with the jump back
 abbrev pub while_back : Bool → ℕ → Expr → Suite → ℕ
 while_back h p test s = p + 3 + expr_size test + 1 + suite_size h s
 
--- where a further turn of a `for` begins, its suite, and where that ends
+-- where a further turn of a `for` begins
 abbrev pub for_again : ℕ → Expr → ℕ
 for_again p items = p + 1 + expr_size items + 2
 
+-- where its suite begins
 abbrev pub for_begin : ℕ → (target items : Expr) → ℕ
 for_begin p target items = p + 1 + expr_size items + 2 + 2 + target_size target
 
+-- where its suite ends, with the jump back
 abbrev pub for_back : Bool → ℕ → (target items : Expr) → Suite → ℕ
 for_back h p target items s = p + 1 + expr_size items + 2 + 2 + target_size target + suite_size h s
 
--- where the clauses of a `try` begin, and where its suites end
+-- where the clauses of a `try` begin
 abbrev pub try_begin : Bool → ℕ → Suite → OptSuite → ℕ
 try_begin h p s orelse = p + 1 + suite_size h s + opt_size h orelse + 1
 
+-- where its suites end
 abbrev pub try_end : Bool → ℕ → Suite → Clauses → OptSuite → ℕ
 try_end h p s cs orelse =
     p + 1 + tried_size (has_clauses cs) (suite_size h s) (opt_size h orelse) (clauses_size h cs)
@@ -163,6 +170,7 @@ for_head g p l over rest =
     ++ put g (plain Walk) (put g (plain (Goto (again + 1)))
     (put g (marks_again l) (put g (plain (Next rest)) []))))
 
+-- the name that the exception is bound to, where there is one
 abbrev pub name_code : Option Guard → Option Text → List Cell
 name_code g None = []
 name_code g (Some x) = put g (plain Caught) (put g (store x) [])
@@ -218,5 +226,6 @@ lines_of = map (λ f. f.line)
 abbrev pub at_line : ℕ → Function
 at_line l = record { line = l; name = []; params = []; body = no_stmts }
 
+-- functions of which only the lines are known
 abbrev pub at_lines : List ℕ → List Function
 at_lines = map at_line

@@ -1,21 +1,18 @@
-use Rattle.std.proofs.Common.{◌≡◌, ◌+◌, ◌++◌, [], true, refl, sym, ap, ◌∙◌, arith}
+use Rattle.std.proofs.Common.{◌≡◌, ◌+◌, ◌++◌, true, refl, sym, ap, ◌∙◌, arith}
 use Rattle.std.proofs.lemmas.List.{append-nil}
 use Rattle.std.specs.Option.{option_map}
-use Rattle.py_syntax.specs.declared.stmt.Stmt.{out-Stmt}
 use Rattle.py_syntax.specs.declared.stmt.Arm.{out-Arm}
 use Rattle.py_syntax.specs.declared.stmt.Clause.{out-Clause}
 use Rattle.py_syntax.specs.declared.stmt.Case.{out-Case}
 use Rattle.py_syntax.specs.declared.stmt.Suite.{out-Suite}
-use Rattle.py_syntax.specs.Tree.{while, for, try}
 use Rattle.py_syntax.specs.View.{plain_expr, plain_pattern, plain_stmts, plain_kind, plain_suite, plain_opt_suite, plain_arms, plain_clauses, plain_cases}
 use Rattle.py_compile_expr.proofs.Turns.{then, three, four, the_number, none_added, none_counted}
 use Rattle.py_compile_expr.specs.Expressions.{expr_size}
-use Rattle.py_compile_expr.specs.Targets.{target_size}
-use Rattle.py_compile.specs.Statements.{kind_size, kind_code, opt_size, opt_code, arms_size, arms_code, clauses_size, clauses_code, cases_size, cases_code, stmts_size, stmts_code}
-use Rattle.py_compile.specs.Ways.{under, in_loop, in_hand, in_clause}
-use Rattle.py_emit.specs.Parts.{at_lines, suite_size, try_begin, try_end, tried_ways, clause_begin, clause_ways, case_begin, handlers_size, handlers_code}
+use Rattle.py_compile.specs.Statements.{kind_size, kind_code, opt_size, opt_code, arms_size, arms_code, cases_size, stmts_size, stmts_code}
+use Rattle.py_compile.specs.Ways.{in_hand}
+use Rattle.py_emit.specs.Parts.{at_lines, suite_size, try_begin, try_end, tried_ways, clause_begin, clause_ways, case_begin, handlers_size}
 use Rattle.py_emit.specs.WaysView.{plain_ways}
-use Rattle.py_emit.proofs.Ends.{kept, last_added, last_counted}
+use Rattle.py_emit.proofs.Ends.{kept}
 use Rattle.py_emit.proofs.Forms.{while_size, for_size, try_size, try_end-size}
 use Rattle.py_emit.proofs.KindViews.{body_is, line_is, opt_some_size, opt_some_code, if_shown, while_shown, for_shown, try_shown, match_shown, handlers_node, handlers_size-is, handlers_size-none, handlers_code-none, finally_hand, tried_hand}
 use Rattle.py_emit.proofs.Loops.{if_node, while_node, for_node, try_node, finally_node, match_node, five}

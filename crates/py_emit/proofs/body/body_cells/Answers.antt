@@ -1,4 +1,3 @@
-use Rattle.std.proofs.Common.{sym}
 use Rattle.py_emit.proofs.Lines.{body_by}
 use Rattle.py_emit.proofs.body.body_cells.Goals as goal
 

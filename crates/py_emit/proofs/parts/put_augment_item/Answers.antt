@@ -1,6 +1,5 @@
-use Rattle.std.proofs.Common.{◌+◌, arith}
 use Rattle.py_syntax.specs.View.{plain_expr}
-use Rattle.py_compile_expr.proofs.Turns.{three, the_number}
+use Rattle.py_compile_expr.proofs.Turns.{three}
 use Rattle.py_compile_expr.specs.CellView.{plain_guard}
 use Rattle.py_emit.proofs.SimpleSizes.{augment_node}
 use Rattle.py_emit.proofs.parts.put_augment_item.Goals as goal

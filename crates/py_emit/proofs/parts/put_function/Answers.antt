@@ -1,5 +1,4 @@
-use Rattle.std.proofs.Common.{◌+◌, ◌++◌, sym, ap, ◌∙◌, arith}
-use Rattle.py_syntax.specs.View.{plain_exprs}
+use Rattle.std.proofs.Common.{◌+◌, sym, ap, ◌∙◌, arith}
 use Rattle.py_compile_expr.proofs.Turns.{three, the_number}
 use Rattle.py_compile_expr.specs.CellView.{plain_guard}
 use Rattle.py_emit.proofs.Ends.{kept}

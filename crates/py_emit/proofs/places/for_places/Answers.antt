@@ -1,8 +1,8 @@
-use Rattle.std.proofs.Common.{◌+◌, ap, ◌∙◌, arith}
-use Rattle.py_syntax.specs.View.{plain_expr, plain_suite, plain_opt_suite}
+use Rattle.std.proofs.Common.{ap, ◌∙◌, arith}
+use Rattle.py_syntax.specs.View.{plain_suite, plain_opt_suite}
 use Rattle.py_compile.specs.Statements.{opt_size}
-use Rattle.py_compile.specs.Ways.{in_hand, in_loop, under}
-use Rattle.py_emit.specs.Parts.{suite_size, for_back}
+use Rattle.py_compile.specs.Ways.{in_loop, under}
+use Rattle.py_emit.specs.Parts.{suite_size}
 use Rattle.py_emit.specs.WaysView.{plain_ways}
 use Rattle.py_emit.proofs.Loops.{looped}
 use Rattle.py_emit.proofs.places.for_places.Goals as goal

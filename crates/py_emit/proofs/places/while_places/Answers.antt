@@ -1,8 +1,7 @@
-use Rattle.std.proofs.Common.{◌+◌, ap, ◌∙◌, arith}
-use Rattle.py_syntax.specs.View.{plain_expr, plain_suite, plain_opt_suite}
+use Rattle.std.proofs.Common.{ap, ◌∙◌, arith}
+use Rattle.py_syntax.specs.View.{plain_suite, plain_opt_suite}
 use Rattle.py_compile.specs.Statements.{opt_size}
-use Rattle.py_compile.specs.Ways.{in_hand}
-use Rattle.py_emit.specs.Parts.{suite_size, while_back}
+use Rattle.py_emit.specs.Parts.{suite_size}
 use Rattle.py_emit.specs.WaysView.{plain_ways}
 use Rattle.py_emit.proofs.Loops.{looped}
 use Rattle.py_emit.proofs.places.while_places.Goals as goal

@@ -1,4 +1,4 @@
-use Rattle.std.proofs.Common.{◌+◌, arith}
+use Rattle.std.proofs.Common.{arith}
 use Rattle.py_syntax.specs.View.{plain_pattern}
 use Rattle.py_compile_expr.proofs.Turns.{the_number}
 use Rattle.py_compile_expr.specs.Patterns.{captured}

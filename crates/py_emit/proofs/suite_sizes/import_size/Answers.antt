@@ -1,4 +1,3 @@
-use Rattle.std.proofs.Common.{ap, ◌∙◌, ◌*◌}
 use Rattle.py_compile_expr.proofs.Turns.{the_number}
 use Rattle.py_emit.proofs.SimpleSizes.{import_size-is}
 use Rattle.py_emit.proofs.suite_sizes.import_size.Goals as goal

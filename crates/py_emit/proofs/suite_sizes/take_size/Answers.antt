@@ -1,4 +1,4 @@
-use Rattle.std.proofs.Common.{ap, ◌∙◌, ◌*◌, ◌+◌}
+use Rattle.std.proofs.Common.{ap, ◌∙◌, ◌+◌}
 use Rattle.py_compile_expr.proofs.Turns.{the_number}
 use Rattle.py_emit.proofs.SimpleSizes.{take_size-is}
 use Rattle.py_emit.proofs.suite_sizes.take_size.Goals as goal
