@@ -43,7 +43,7 @@ cells_row [] (c ∷ cs) h = absurd h
 cells_row (v ∷ r) [] h = absurd h
 cells_row (v ∷ r) (c ∷ cs) h = λ i. cell_field v c h.0 i ∷ cells_row r cs h.1 i
 
-lists_rows : (rs : List order.Row) (lists : List (Vec Cell Global)) → AllZip AreCells rs lists → map (map field_of) rs ≡ rows lists
+pub lists_rows : (rs : List order.Row) (lists : List (Vec Cell Global)) → AllZip AreCells rs lists → map (map field_of) rs ≡ rows lists
 lists_rows [] [] h = refl
 lists_rows [] (l ∷ lists) h = absurd h
 lists_rows (r ∷ rs) [] h = absurd h

@@ -8,15 +8,16 @@ use Rattle.cov_sql.specs.declared.statements.StatementError.TheVariants.{Missing
 use Rattle.sqlite_schema.specs.Names.{table_named}
 use Rattle.cov_sql.specs.Tables.{Shape, IsUnhidden}
 use Rattle.cov_sql.specs.Declarations.{declared_coverage_schema, declared_meta, declared_file, declared_context, declared_line_bits, declared_arc, declared_tracer, declared_hits}
-use Rattle.cov_sql.specs.Written.{IsUnused, IsMade, Makes, Ran, WasAbsent}
-use Rattle.cov_sql.proofs.Creates.{IsCreate, makes, never_twice, never_absent}
+use Rattle.cov_sql.specs.Written.{IsUnused, IsMade, IsGrown, Makes, Ran, WasAbsent}
+use Rattle.cov_sql.proofs.Creates.{IsCreate, makes, never_twice}
+use Rattle.cov_sql.proofs.Growing.{grown, nothing_absent}
 
 -- a statement that runs such a text makes its table, and never twice
 module _ (text : List ℕ) (t : Shape) (table : ℕ → Table) (i : IsCreate text t.name table) (old new : State) where
   no_more : (r : Result (Unit {0}) StatementError) → OnOk r (Ran text [] old new) → (IsErrOf r Missing → WasAbsent text [] old new) → (at : ℕ) → table_named old.now.schema t.name ≡ Some at → IsUnhidden t old.now
       → (r ≡ Err Refused) ⊎ (r ≡ Err NoMemory)
   no_more (Ok v) ran absent at there no_view = absurd (never_twice text t.name table i old new at there no_view ran.0 ran.1)
-  no_more (Err Missing) ran absent at there no_view = absurd (never_absent text t.name table i old new at there no_view (absent refl))
+  no_more (Err Missing) ran absent at there no_view = absurd (nothing_absent text t.name table i old new no_view (absent refl))
   no_more (Err Refused) ran absent at there no_view = inl refl
   no_more (Err NoMemory) ran absent at there no_view = inr refl
 
@@ -24,9 +25,18 @@ module _ (text : List ℕ) (t : Shape) (table : ℕ → Table) (i : IsCreate tex
   made_then (Ok v) ran free = makes text t.name table i old new free.no_table free.no_view free.no_index free.sequenced ran.0 ran.1
   made_then (Err e) ran free = tt
 
+  grown_then : (r : Result (Unit {0}) StatementError) → OnOk r (Ran text [] old new) → IsUnhidden t old.now → OnOk r (IsGrown old.now.schema new.now.schema)
+  grown_then (Ok v) ran no_view = grown text t.name table i old new no_view ran.0 ran.1
+  grown_then (Err e) ran no_view = tt
+
   pub makes_table : (r : Result (Unit {0}) StatementError) → (HasCleanDisk new → IsTrue old.in_transaction → OnOk r (Ran text [] old new))
       → (HasCleanDisk new → IsTrue old.in_transaction → IsErrOf r Missing → WasAbsent text [] old new) → Makes t table old new r
-  makes_table r ran absent clean inside = record { made = made_then r (ran clean inside); once = no_more r (ran clean inside) (absent clean inside) }
+  makes_table r ran absent clean inside = record {
+    made = made_then r (ran clean inside);
+    once = no_more r (ran clean inside) (absent clean inside);
+    grown = grown_then r (ran clean inside);
+    never = λ no_view no. nothing_absent text t.name table i old new no_view (absent clean inside no);
+  }
 
 pub makes_coverage_schema : IsCreate (codes "CREATE TABLE coverage_schema (version integer)") (codes "coverage_schema") declared_coverage_schema
 unfolding everything

@@ -23,6 +23,7 @@ use Rattle.sqlite.specs.Effect.{Database}
 use Rattle.sqlite.specs.declared.error.Error.TheVariants.{SqlInputError}
 use Rattle.cov_sql.specs.Told.{IsAbsence}
 use Rattle.cov_sql.specs.Written.{IsMade, WasAbsent}
+use Rattle.cov_sql.proofs.Found.{either}
 use Rattle.cov_sql.proofs.Shows.{understood_as, never, no_fault}
 use Rattle.sqlite.specs.Change.{created, next_tree}
 use Rattle.sqlite_catalog.specs.Change.{KeepsRows}
@@ -44,7 +45,7 @@ pub record IsCreate (text : List ℕ) (name : Name) (table : ℕ → Table) : Ty
   pub uncomputed : (length (table 0).computed == length (table 0).stamps.places) ≡ true
 
 module _ (schema : Schema) (text : List ℕ) (name : Name) (table : ℕ → Table) (i : IsCreate text name table) where
-  abbrev made : Compiled
+  abbrev pub made : Compiled
   made = record { command = command.CreateTable; returning = None; names = []; formats = []; start = i.parsed.start; end = i.parsed.end; tail = i.parsed.tail }
 
   create_free : table_named schema name ≡ None → view_named schema name ≡ None → index_named schema name ≡ None → create_table schema [] i.def ≡ Ok command.CreateTable
@@ -68,6 +69,24 @@ module _ (schema : Schema) (text : List ℕ) (name : Name) (table : ℕ → Tabl
   unfolding compiled planned meaning timed returning compile.command
   is_taken at there no_view = rw (i.reads, i.is, i.no_names, i.no_formats, create_taken at there no_view) refl
 
+  -- nor where an index has the name
+  create_indexed : (at : ℕ) → index_named schema name ≡ Some at → view_named schema name ≡ None → create_table schema [] i.def ≡ Err Exists
+  unfolding create_table creates is_attached
+  create_indexed at there no_view = rw (i.named, no_view, i.plain.1, there) refl
+
+  is_indexed : (at : ℕ) → index_named schema name ≡ Some at → view_named schema name ≡ None → compiled schema text ≡ Err Exists
+  unfolding compiled planned meaning timed returning compile.command
+  is_indexed at there no_view = rw (i.reads, i.is, i.no_names, i.no_formats, create_indexed at there no_view) refl
+
+  pub verdict : view_named schema name ≡ None → ((table_named schema name ≡ None) × (index_named schema name ≡ None)) ⊎ (compiled schema text ≡ Err Exists)
+  verdict no_view = by (either (index_named schema name)) (either (table_named schema name))
+    where
+      by : ((at : ℕ) × (index_named schema name ≡ Some at)) ⊎ (index_named schema name ≡ None) → ((at : ℕ) × (table_named schema name ≡ Some at)) ⊎ (table_named schema name ≡ None)
+          → ((table_named schema name ≡ None) × (index_named schema name ≡ None)) ⊎ (compiled schema text ≡ Err Exists)
+      by (inl taken) other = inr (is_indexed taken.0 taken.1 no_view)
+      by (inr free) (inl taken) = inr (is_taken taken.0 taken.1 no_view)
+      by (inr free) (inr none) = inl (none, free)
+
 -- so it makes no table twice
 pub never_twice : (text : List ℕ) (name : Name) (table : ℕ → Table) → IsCreate text name table → (old new : State) (at : ℕ) → table_named old.now.schema name ≡ Some at → view_named old.now.schema name ≡ None
     → (count : ℕ) → ¬ Executes text [] old new (Ok count)
@@ -82,13 +101,10 @@ not_so e (inl which) fault one two = cc
 not_so e (inr which) fault one two = cc
 
 -- nor is a table missing then
-pub never_absent : (text : List ℕ) (name : Name) (table : ℕ → Table) → IsCreate text name table → (old new : State) (at : ℕ) → table_named old.now.schema name ≡ Some at → view_named old.now.schema name ≡ None → ¬ WasAbsent text [] old new
+pub never_taken : (text : List ℕ) (old new : State) → understood old.now.schema text ≡ Err Exists → ¬ WasAbsent text [] old new
 unfolding Rattle.sqlite.specs.State.ExecutesIn Rattle.sqlite.specs.State.IsNotRun
-never_absent text name table i old new at there no_view h = by h.2
+never_taken text old new refused h = by h.2
   where
-    refused : understood old.now.schema text ≡ Err Exists
-    refused = understood_as old.now.schema text _ (is_taken old.now.schema text name table i at there no_view) refl
-
     by : Executes text [] old new (Err (SqlInputError h.0)) → ⊥
     by (inl (inl (inl (fault, other, one), unchanged))) = not_so h.0 h.1 fault one (sym other ∙ refused)
     by (inl (inl (inr (c, other, more), unchanged))) = never old.now.schema text _ c refused other
@@ -97,11 +113,11 @@ never_absent text name table i old new at there no_view h = by h.2
 
 -- ---- what it makes
 
-went : {B E R : Type 0} {b : B} {Stops : E → Type 0} → ((stop : E) × Stops stop × (Ok b ≡ Err stop)) ⊎ R → R
+pub went : {B E R : Type 0} {b : B} {Stops : E → Type 0} → ((stop : E) × Stops stop × (Ok b ≡ Err stop)) ⊎ R → R
 went (inl stopped) = absurd (let e = stopped.2 in cc)
 went (inr on) = on
 
-same_value : {B E : Type 0} {a b : B} → ◌≡◌ {A = Result B E} (Ok a) (Ok b) → a ≡ b
+pub same_value : {B E : Type 0} {a b : B} → ◌≡◌ {A = Result B E} (Ok a) (Ok b) → a ≡ b
 same_value e = cc
 
 module _ (text : List ℕ) (name : Name) (table : ℕ → Table) (i : IsCreate text name table) (old new : State) where

@@ -11,7 +11,7 @@ use Rattle.sqlite.specs.Effect.{Database}
 use Rattle.sqlite.specs.State.{State, HasCleanDisk, Executes}
 use Rattle.cov_sql.specs.declared.statements.StatementError.{StatementError}
 use Rattle.cov_sql.specs.Tables.{Shape, table_in, places_in, rows_in}
-use Rattle.cov_sql.specs.Written.{IsFree, IsEmptied, Deletes, Ran, GoesOn}
+use Rattle.cov_sql.specs.Written.{IsFree, IsEmptied, Deletes, Ran}
 use Rattle.cov_sql.proofs.Found.{either}
 use Rattle.cov_sql.proofs.Deletes.{IsDelete, rowids, delete_is, removed_by}
 use Rattle.cov_sql.proofs.Empties.{emptied}
@@ -50,10 +50,6 @@ empties_table text t i old new free count ran =
 pub deletes : (text : List ℕ) (t : Shape) → IsDelete text t.name → (old new : State) (r : Result (Unit {0}) StatementError) → (HasCleanDisk new → IsTrue old.in_transaction → OnOk r (Ran text [] old new)) → Deletes t old new r
 deletes text t i old new (Ok v) ran clean inside free = let h = ran clean inside in empties_table text t i old new free h.0 h.1
 deletes text t i old new (Err e) ran clean inside free = tt
-
-pub goes_on : (text : List ℕ) (params : Row) (old new : State) (r : Result (Unit {0}) StatementError) → (HasCleanDisk new → IsTrue old.in_transaction → OnOk r (Ran text params old new)) → GoesOn old new r
-goes_on text params old new (Ok v) ran clean inside = (ran clean inside).2
-goes_on text params old new (Err e) ran clean inside = tt
 
 pub deletes_meta : IsDelete (codes "DELETE FROM meta") (codes "meta")
 unfolding everything

@@ -60,7 +60,7 @@ as_all P [] h i d low = absurd (omega (arith, low))
 as_all P (x ∷ xs) h zero d low = h.0
 as_all P (x ∷ xs) h (suc i) d low = as_all P xs h.1 i d (omega (arith, low))
 
-from_all : {X : Type 0} (P : X → Type 0) (xs : List X) → All P xs → AllByRecursion P xs
+pub from_all : {X : Type 0} (P : X → Type 0) (xs : List X) → All P xs → AllByRecursion P xs
 from_all P [] h = tt
 from_all P (x ∷ xs) h = (h 0 x (omega arith), from_all P xs (λ i d low. h (suc i) d (omega (arith, low))))
 

@@ -9,6 +9,7 @@ pub mod Deletes
 pub mod Empties
 pub mod DeleteTexts
 pub mod Creates
+pub mod Growing
 pub mod CreateTexts
 pub mod Inside
 pub mod CellLemmas
@@ -23,3 +24,13 @@ pub mod InsertIntoArc
 pub mod InsertIntoHits
 pub mod CellFields
 pub mod Seeking
+pub mod WrittenTexts
+pub mod Stepping
+pub mod Holding
+pub mod Filling
+pub mod Making
+pub mod Version
+pub mod Committing
+pub mod Contexts
+pub mod Denying
+pub mod Judging

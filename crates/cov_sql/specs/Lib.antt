@@ -1,5 +1,6 @@
 pub mod Tables
 pub mod Declarations
+pub mod ByName
 pub mod Cells
 pub mod Told
 pub mod Shown
@@ -8,3 +9,10 @@ pub mod SqlTexts
 pub mod Refusals
 pub mod Content
 pub mod Finds
+pub mod Works
+pub mod Failures
+pub mod Holding
+pub mod SavedRows
+pub mod Making
+pub mod SavedData
+pub mod Committed

@@ -1,5 +1,5 @@
 -- The texts of SQL that make, fill and empty the tables of coverage.py's schema 7 and the table of counts.
-use Rattle.std.specs.Prelude.{ℕ, List, codes}
+use Rattle.std.specs.Prelude.{◌≡◌, ℕ, List, [], ◌∷◌, Some, slice_get, codes}
 
 abbrev pub make_coverage_schema_text : List ℕ
 make_coverage_schema_text = codes "CREATE TABLE coverage_schema (version integer)"
@@ -66,3 +66,16 @@ delete_tracer_text = codes "DELETE FROM tracer"
 
 abbrev pub delete_hits_text : List ℕ
 delete_hits_text = codes "DELETE FROM hits"
+
+-- all of them
+abbrev pub written_texts : List (List ℕ)
+written_texts =
+    make_coverage_schema_text ∷ make_meta_text ∷ make_file_text ∷ make_context_text
+    ∷ make_line_bits_text ∷ make_arc_text ∷ make_tracer_text ∷ make_hits_text
+    ∷ insert_coverage_schema_text ∷ insert_meta_text ∷ insert_file_text
+    ∷ insert_context_text ∷ insert_line_bits_text ∷ insert_arc_text ∷ insert_hits_text
+    ∷ delete_meta_text ∷ delete_file_text ∷ delete_context_text ∷ delete_line_bits_text
+    ∷ delete_arc_text ∷ delete_tracer_text ∷ delete_hits_text ∷ []
+
+abbrev pub IsWritten : List ℕ → Type 0
+IsWritten text = (at : ℕ) × (slice_get written_texts at ≡ Some text)

@@ -2,11 +2,12 @@
 --     NothingActs, HasInteger      no foreign key acts where rows of a tree go; a row's rowid is an integer
 --     IsFree                       a table is there, its rows go alone, and their rowids are integers
 --     IsEmptied, Deletes           a table has no row left and every other is as before; so a call leaves it
---     IsUnused, IsMade, IsMaking, Makes      a name is free; its table was made; what a call that makes it does
+--     IsUnused, IsMade             a name is free; its table was made
+--     IsGrown, IsMaking, Makes     no table or view of a schema went; what a call that makes a table does
 --     IsDeclared, IsAdded, Inserts      a table is there as data files declare it; it has one row more; so a call leaves it
---     WasAbsent, Misses            a text was refused since a table or a column isn't there; so it is where a call answers so
---     Ran, GoesOn                  a text ran, and the transaction goes on; so a call leaves it
-use Rattle.std.specs.Prelude.{slice_get, ◌∷◌, IsPermutation, ◌≡◌, ◌≢◌, ◌⊎◌, ℕ, false, None, Err, ℤ, List, [], Some, Ok, Result, OnOk, IsErrOf, IsTrue}
+--     WasAbsent, Ran               a text was refused since a table or a column isn't there; one ran, and the transaction goes on
+--     IsRun, RunsIn                a call ran one text, and committed nothing
+use Rattle.std.specs.Prelude.{slice_get, ◌∷◌, IsPermutation, ◌≡◌, ◌≢◌, ◌⊎◌, ℕ, true, false, None, Err, ℤ, List, [], Some, Ok, Result, OnOk, IsErrOf, IsTrue}
 use Rattle.std.specs.List.{AllByRecursion}
 use Rattle.sqlite_value.specs.Order.{Row}
 use Rattle.sqlite_value.specs.declared.value.Value.TheVariants.{Int}
@@ -22,7 +23,7 @@ use Rattle.sqlite.specs.declared.error.Error.TheVariants.{SqlInputError}
 use Rattle.sqlite.specs.Change.{created, next_tree}
 use Rattle.sqlite.specs.Does.{lacks_sequence}
 use Rattle.sqlite.specs.Effect.{Database}
-use Rattle.sqlite.specs.State.{State, HasCleanDisk, Executes}
+use Rattle.sqlite.specs.State.{State, HasCleanDisk, Executes, Shows, KeepsCommit}
 use Rattle.cov_sql.specs.declared.statements.StatementError.{StatementError}
 use Rattle.cov_sql.specs.declared.statements.StatementError.TheVariants.{Missing, Refused, NoMemory}
 use Rattle.cov_sql.specs.Tables.{Shape, table_in, rows_in, IsUnhidden}
@@ -61,10 +62,17 @@ pub record IsMade (table : ℕ → Table) (old new : Database) : Type 0 where
   pub empty : new.trees (next_tree old.schema) ≡ []
   pub others : KeepsRows old.schema.tables old.trees new.trees
 
+pub record IsGrown (old new : Schema) : Type 0 where
+  pub tables : (name : List ℕ) (at : ℕ) → table_named old name ≡ Some at → table_named new name ≡ Some at
+  pub views : new.views ≡ old.views
+
 pub record IsMaking (t : Shape) (table : ℕ → Table) (old new : State) (r : Result (Unit {0}) StatementError) : Type 0 where
   pub made : IsUnused t table old.now → OnOk r (IsMade table old.now new.now)
   -- a table that is there is not made again
   pub once : (at : ℕ) → table_named old.now.schema t.name ≡ Some at → IsUnhidden t old.now → (r ≡ Err Refused) ⊎ (r ≡ Err NoMemory)
+  pub grown : IsUnhidden t old.now → OnOk r (IsGrown old.now.schema new.now.schema)
+  -- the text needs no other table
+  pub never : IsUnhidden t old.now → IsErrOf r Missing → ⊥
 
 abbrev pub Makes : Shape → (ℕ → Table) → State → State → Result (Unit {0}) StatementError → Type 0
 Makes t table old new r = HasCleanDisk new → IsTrue old.in_transaction → IsMaking t table old new r
@@ -88,12 +96,15 @@ Inserts t table row old new r = HasCleanDisk new → IsTrue old.in_transaction �
 abbrev pub WasAbsent : List ℕ → Row → State → State → Type 0
 WasAbsent text params old new = (e : CompileError) × IsAbsence e × Executes text params old new (Err (SqlInputError e))
 
-abbrev pub Misses : List ℕ → State → State → Result (Unit {0}) StatementError → Type 0
-Misses text old new r = HasCleanDisk new → IsTrue old.in_transaction → IsErrOf r Missing → (params : Row) × WasAbsent text params old new
-
+-- and what was committed stays so
 abbrev pub Ran : List ℕ → Row → State → State → Type 0
-Ran text params old new = (count : ℕ) × Executes text params old new (Ok count) × IsTrue new.in_transaction
+Ran text params old new = (count : ℕ) × Executes text params old new (Ok count) × Shows old new new.now old.committed true
 
--- the transaction goes on where the call was not refused
-abbrev pub GoesOn : State → State → Result (Unit {0}) StatementError → Type 0
-GoesOn old new r = HasCleanDisk new → IsTrue old.in_transaction → OnOk r (IsTrue new.in_transaction)
+pub record IsRun (text : List ℕ) (old new : State) (r : Result (Unit {0}) StatementError) : Type 0 where
+  pub ran : OnOk r ((params : Row) × Ran text params old new)
+  pub missing : IsErrOf r Missing → (params : Row) × WasAbsent text params old new
+  pub kept : KeepsCommit old new
+
+-- where the store is clean after the call, in a transaction
+abbrev pub RunsIn : List ℕ → State → State → Result (Unit {0}) StatementError → Type 0
+RunsIn text old new r = HasCleanDisk new → IsTrue old.in_transaction → IsRun text old new r

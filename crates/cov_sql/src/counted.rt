@@ -1,8 +1,8 @@
 //! The statements over the database itself.
-ghost use Rattle.std.specs.Prelude.{◌≡◌, ◌≤◌, false, [], IsTrue, IfOk, OnOk, IsErrOf};
+ghost use Rattle.std.specs.Prelude.{◌≡◌, ◌≤◌, false, [], IsTrue, IfOk, OnOk, OnErr, IsErrOf};
 ghost use Rattle.cov_outside.specs.Counts.{greatest, Rose};
 ghost use Rattle.sqlite.specs.Held.{state};
-ghost use Rattle.sqlite.specs.State.{HasCleanDisk, Survives, CommitsShowing};
+ghost use Rattle.sqlite.specs.State.{HasCleanDisk, Survives, CommitsShowing, KeepsCommit, Commits, IsRolledBack};
 ghost use Rattle.sqlite_resolve.specs.declared.error.CompileError.{CompileError};
 ghost use Rattle.sqlite.specs.declared.error.Error.TheVariants.{SqlInputError};
 ghost use Rattle.sqlite.specs.Values.{bound};
@@ -123,6 +123,9 @@ impl Counted {
             → IsErrOf result StatementError.Missing
             → WasAbsent sql.now (bound params.now) (state S.Store work.old.conn.now)
             (state S.Store work.new.conn.now) }
+        ensures kept { HasCleanDisk (state S.Store work.new.conn.now)
+            → IsTrue (state S.Store work.old.conn.now).in_transaction
+            → KeepsCommit (state S.Store work.old.conn.now) (state S.Store work.new.conn.now) }
         ensures survives { Survives (state S.Store work.old.conn.now)
             (state S.Store work.new.conn.now) (λ _. ⊥) }
         ensures same_reference { work.new.conn.ghost_name ≡ work.old.conn.ghost_name }
@@ -458,8 +461,12 @@ impl Statements for Counted {
 
     fn commit<S: Alter>(&mut self, work: Transaction<'_, S>) -> Result<(), StatementError>
         ensures told { HasCleanDisk (state S.Store work.exit.0.now)
-            → OnOk result ((state S.Store work.exit.0.now).committed
-            ≡ (state S.Store work.entry.conn.now).now) }
+            → OnOk result (Commits (state S.Store work.entry.conn.now)
+            (state S.Store work.exit.0.now)) }
+        ensures undone { HasCleanDisk (state S.Store work.exit.0.now)
+            → IsTrue (state S.Store work.entry.conn.now).in_transaction
+            → OnErr result (IsRolledBack (state S.Store work.entry.conn.now)
+            (state S.Store work.exit.0.now)) }
         ensures ended { work.exit.0.now.in_transaction ≡ false }
         ensures survives { Survives (state S.Store work.entry.conn.now)
             (state S.Store work.exit.0.now) (λ db.

@@ -1,15 +1,24 @@
-//! The statements on the tables of a data file of coverage.py's schema 7: `Statements` has a method for
-//! each, and `Counted` runs them and counts what the database refuses.
+//! Data files of coverage.py's schema 7: `read_data` and `write_data` turn them into data and back, and
+//! `FolderVault` keeps them in a folder. `Statements` has a method for each statement on their tables, and
+//! `Counted` runs them and counts what the database refuses.
 #![tactic(auto)]
 
 mod counted;
 mod errors;
+mod folder;
+mod inserting;
+mod preparing;
 mod reading;
+mod saved;
 mod statements;
+mod tables;
 mod values;
+mod writing;
 
 pub use counted::Counted;
 pub use cov_tables::Cell;
 pub use errors::SqlError;
+pub use folder::FolderVault;
 pub use reading::read_data;
 pub use statements::{StatementError, Statements};
+pub use writing::write_data;

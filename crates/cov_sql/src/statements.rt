@@ -1,11 +1,11 @@
 //! The statements on a data file.
-ghost use Rattle.std.specs.Prelude.{◌≡◌, [], ◌∷◌, ℕ, ◌≤◌, false, OnOk, IsErrOf};
+ghost use Rattle.std.specs.Prelude.{◌≡◌, [], ◌∷◌, ℕ, ◌≤◌, false, IsTrue, OnOk, OnErr, IsErrOf};
 ghost use Rattle.cov_outside.specs.Counts.{Rose};
 ghost use Rattle.sqlite.specs.Held.{state};
 ghost use Rattle.cov_sql.specs.Tables.{coverage_schema, meta, file, context, line_bits, arc, tracer, hits};
-ghost use Rattle.sqlite.specs.State.{HasCleanDisk, Survives};
+ghost use Rattle.sqlite.specs.State.{HasCleanDisk, Survives, Commits, IsRolledBack};
 ghost use Rattle.cov_sql.specs.Told.{Reads, LeavesAll};
-ghost use Rattle.cov_sql.specs.Written.{Deletes, Inserts, Makes, Misses, GoesOn};
+ghost use Rattle.cov_sql.specs.Written.{Deletes, Inserts, Makes, RunsIn};
 ghost use Rattle.cov_sql.specs.SqlTexts.{make_coverage_schema_text, make_meta_text, make_file_text, make_context_text, make_line_bits_text, make_arc_text, make_tracer_text, make_hits_text, insert_coverage_schema_text, insert_meta_text, insert_file_text, insert_context_text, insert_line_bits_text, insert_arc_text, insert_hits_text, delete_meta_text, delete_file_text, delete_context_text, delete_line_bits_text, delete_arc_text, delete_tracer_text, delete_hits_text};
 ghost use Rattle.sqlite_value.specs.declared.value.Value.TheVariants.{Int, Text, Blob};
 ghost use Rattle.cov_sql.specs.Declarations.{declared_coverage_schema, declared_meta, declared_file, declared_context, declared_line_bits, declared_arc, declared_tracer, declared_hits};
@@ -186,11 +186,9 @@ pub trait Statements {
         ensures told { tells self.old
             → Makes coverage_schema declared_coverage_schema (state S.Store work.old.conn.now)
             (state S.Store work.new.conn.now) result }
-        ensures missing { tells self.old
-            → Misses make_coverage_schema_text (state S.Store work.old.conn.now)
+        ensures ran { tells self.old
+            → RunsIn make_coverage_schema_text (state S.Store work.old.conn.now)
             (state S.Store work.new.conn.now) result }
-        ensures goes_on { tells self.old
-            → GoesOn (state S.Store work.old.conn.now) (state S.Store work.new.conn.now) result }
         ensures survives { tells self.old
             → Survives (state S.Store work.old.conn.now) (state S.Store work.new.conn.now) (λ _.
             ⊥) }
@@ -204,11 +202,9 @@ pub trait Statements {
         ensures told { tells self.old
             → Makes meta declared_meta (state S.Store work.old.conn.now)
             (state S.Store work.new.conn.now) result }
-        ensures missing { tells self.old
-            → Misses make_meta_text (state S.Store work.old.conn.now)
+        ensures ran { tells self.old
+            → RunsIn make_meta_text (state S.Store work.old.conn.now)
             (state S.Store work.new.conn.now) result }
-        ensures goes_on { tells self.old
-            → GoesOn (state S.Store work.old.conn.now) (state S.Store work.new.conn.now) result }
         ensures survives { tells self.old
             → Survives (state S.Store work.old.conn.now) (state S.Store work.new.conn.now) (λ _.
             ⊥) }
@@ -222,11 +218,9 @@ pub trait Statements {
         ensures told { tells self.old
             → Makes file declared_file (state S.Store work.old.conn.now)
             (state S.Store work.new.conn.now) result }
-        ensures missing { tells self.old
-            → Misses make_file_text (state S.Store work.old.conn.now)
+        ensures ran { tells self.old
+            → RunsIn make_file_text (state S.Store work.old.conn.now)
             (state S.Store work.new.conn.now) result }
-        ensures goes_on { tells self.old
-            → GoesOn (state S.Store work.old.conn.now) (state S.Store work.new.conn.now) result }
         ensures survives { tells self.old
             → Survives (state S.Store work.old.conn.now) (state S.Store work.new.conn.now) (λ _.
             ⊥) }
@@ -243,11 +237,9 @@ pub trait Statements {
         ensures told { tells self.old
             → Makes context declared_context (state S.Store work.old.conn.now)
             (state S.Store work.new.conn.now) result }
-        ensures missing { tells self.old
-            → Misses make_context_text (state S.Store work.old.conn.now)
+        ensures ran { tells self.old
+            → RunsIn make_context_text (state S.Store work.old.conn.now)
             (state S.Store work.new.conn.now) result }
-        ensures goes_on { tells self.old
-            → GoesOn (state S.Store work.old.conn.now) (state S.Store work.new.conn.now) result }
         ensures survives { tells self.old
             → Survives (state S.Store work.old.conn.now) (state S.Store work.new.conn.now) (λ _.
             ⊥) }
@@ -264,11 +256,9 @@ pub trait Statements {
         ensures told { tells self.old
             → Makes line_bits declared_line_bits (state S.Store work.old.conn.now)
             (state S.Store work.new.conn.now) result }
-        ensures missing { tells self.old
-            → Misses make_line_bits_text (state S.Store work.old.conn.now)
+        ensures ran { tells self.old
+            → RunsIn make_line_bits_text (state S.Store work.old.conn.now)
             (state S.Store work.new.conn.now) result }
-        ensures goes_on { tells self.old
-            → GoesOn (state S.Store work.old.conn.now) (state S.Store work.new.conn.now) result }
         ensures survives { tells self.old
             → Survives (state S.Store work.old.conn.now) (state S.Store work.new.conn.now) (λ _.
             ⊥) }
@@ -282,11 +272,9 @@ pub trait Statements {
         ensures told { tells self.old
             → Makes arc declared_arc (state S.Store work.old.conn.now)
             (state S.Store work.new.conn.now) result }
-        ensures missing { tells self.old
-            → Misses make_arc_text (state S.Store work.old.conn.now)
+        ensures ran { tells self.old
+            → RunsIn make_arc_text (state S.Store work.old.conn.now)
             (state S.Store work.new.conn.now) result }
-        ensures goes_on { tells self.old
-            → GoesOn (state S.Store work.old.conn.now) (state S.Store work.new.conn.now) result }
         ensures survives { tells self.old
             → Survives (state S.Store work.old.conn.now) (state S.Store work.new.conn.now) (λ _.
             ⊥) }
@@ -300,11 +288,9 @@ pub trait Statements {
         ensures told { tells self.old
             → Makes tracer declared_tracer (state S.Store work.old.conn.now)
             (state S.Store work.new.conn.now) result }
-        ensures missing { tells self.old
-            → Misses make_tracer_text (state S.Store work.old.conn.now)
+        ensures ran { tells self.old
+            → RunsIn make_tracer_text (state S.Store work.old.conn.now)
             (state S.Store work.new.conn.now) result }
-        ensures goes_on { tells self.old
-            → GoesOn (state S.Store work.old.conn.now) (state S.Store work.new.conn.now) result }
         ensures survives { tells self.old
             → Survives (state S.Store work.old.conn.now) (state S.Store work.new.conn.now) (λ _.
             ⊥) }
@@ -318,11 +304,9 @@ pub trait Statements {
         ensures told { tells self.old
             → Makes hits declared_hits (state S.Store work.old.conn.now)
             (state S.Store work.new.conn.now) result }
-        ensures missing { tells self.old
-            → Misses make_hits_text (state S.Store work.old.conn.now)
+        ensures ran { tells self.old
+            → RunsIn make_hits_text (state S.Store work.old.conn.now)
             (state S.Store work.new.conn.now) result }
-        ensures goes_on { tells self.old
-            → GoesOn (state S.Store work.old.conn.now) (state S.Store work.new.conn.now) result }
         ensures survives { tells self.old
             → Survives (state S.Store work.old.conn.now) (state S.Store work.new.conn.now) (λ _.
             ⊥) }
@@ -340,11 +324,9 @@ pub trait Statements {
         ensures told { tells self.old
             → Inserts coverage_schema declared_coverage_schema (Int version ∷ [])
             (state S.Store work.old.conn.now) (state S.Store work.new.conn.now) result }
-        ensures missing { tells self.old
-            → Misses insert_coverage_schema_text (state S.Store work.old.conn.now)
+        ensures ran { tells self.old
+            → RunsIn insert_coverage_schema_text (state S.Store work.old.conn.now)
             (state S.Store work.new.conn.now) result }
-        ensures goes_on { tells self.old
-            → GoesOn (state S.Store work.old.conn.now) (state S.Store work.new.conn.now) result }
         ensures survives { tells self.old
             → Survives (state S.Store work.old.conn.now) (state S.Store work.new.conn.now) (λ _.
             ⊥) }
@@ -363,11 +345,9 @@ pub trait Statements {
         ensures told { tells self.old
             → Inserts meta declared_meta (Text key.now ∷ Text value.now ∷ [])
             (state S.Store work.old.conn.now) (state S.Store work.new.conn.now) result }
-        ensures missing { tells self.old
-            → Misses insert_meta_text (state S.Store work.old.conn.now)
+        ensures ran { tells self.old
+            → RunsIn insert_meta_text (state S.Store work.old.conn.now)
             (state S.Store work.new.conn.now) result }
-        ensures goes_on { tells self.old
-            → GoesOn (state S.Store work.old.conn.now) (state S.Store work.new.conn.now) result }
         ensures survives { tells self.old
             → Survives (state S.Store work.old.conn.now) (state S.Store work.new.conn.now) (λ _.
             ⊥) }
@@ -385,11 +365,9 @@ pub trait Statements {
     ) -> Result<(), StatementError>
         ensures told { tells self.old → Inserts file declared_file (Int id ∷ Text path.now ∷ [])
             (state S.Store work.old.conn.now) (state S.Store work.new.conn.now) result }
-        ensures missing { tells self.old
-            → Misses insert_file_text (state S.Store work.old.conn.now)
+        ensures ran { tells self.old
+            → RunsIn insert_file_text (state S.Store work.old.conn.now)
             (state S.Store work.new.conn.now) result }
-        ensures goes_on { tells self.old
-            → GoesOn (state S.Store work.old.conn.now) (state S.Store work.new.conn.now) result }
         ensures survives { tells self.old
             → Survives (state S.Store work.old.conn.now) (state S.Store work.new.conn.now) (λ _.
             ⊥) }
@@ -408,11 +386,9 @@ pub trait Statements {
         ensures told { tells self.old
             → Inserts context declared_context (Int id ∷ Text text.now ∷ [])
             (state S.Store work.old.conn.now) (state S.Store work.new.conn.now) result }
-        ensures missing { tells self.old
-            → Misses insert_context_text (state S.Store work.old.conn.now)
+        ensures ran { tells self.old
+            → RunsIn insert_context_text (state S.Store work.old.conn.now)
             (state S.Store work.new.conn.now) result }
-        ensures goes_on { tells self.old
-            → GoesOn (state S.Store work.old.conn.now) (state S.Store work.new.conn.now) result }
         ensures survives { tells self.old
             → Survives (state S.Store work.old.conn.now) (state S.Store work.new.conn.now) (λ _.
             ⊥) }
@@ -433,11 +409,9 @@ pub trait Statements {
             → Inserts line_bits declared_line_bits
             (Int file_id ∷ Int context_id ∷ Blob numbits.now ∷ [])
             (state S.Store work.old.conn.now) (state S.Store work.new.conn.now) result }
-        ensures missing { tells self.old
-            → Misses insert_line_bits_text (state S.Store work.old.conn.now)
+        ensures ran { tells self.old
+            → RunsIn insert_line_bits_text (state S.Store work.old.conn.now)
             (state S.Store work.new.conn.now) result }
-        ensures goes_on { tells self.old
-            → GoesOn (state S.Store work.old.conn.now) (state S.Store work.new.conn.now) result }
         ensures survives { tells self.old
             → Survives (state S.Store work.old.conn.now) (state S.Store work.new.conn.now) (λ _.
             ⊥) }
@@ -458,11 +432,9 @@ pub trait Statements {
         ensures told { tells self.old
             → Inserts arc declared_arc (Int file_id ∷ Int context_id ∷ Int fromno ∷ Int tono ∷ [])
             (state S.Store work.old.conn.now) (state S.Store work.new.conn.now) result }
-        ensures missing { tells self.old
-            → Misses insert_arc_text (state S.Store work.old.conn.now)
+        ensures ran { tells self.old
+            → RunsIn insert_arc_text (state S.Store work.old.conn.now)
             (state S.Store work.new.conn.now) result }
-        ensures goes_on { tells self.old
-            → GoesOn (state S.Store work.old.conn.now) (state S.Store work.new.conn.now) result }
         ensures survives { tells self.old
             → Survives (state S.Store work.old.conn.now) (state S.Store work.new.conn.now) (λ _.
             ⊥) }
@@ -485,11 +457,9 @@ pub trait Statements {
             → Inserts hits declared_hits
             (Int file_id ∷ Int context_id ∷ Int fromno ∷ Int tono ∷ Int count ∷ [])
             (state S.Store work.old.conn.now) (state S.Store work.new.conn.now) result }
-        ensures missing { tells self.old
-            → Misses insert_hits_text (state S.Store work.old.conn.now)
+        ensures ran { tells self.old
+            → RunsIn insert_hits_text (state S.Store work.old.conn.now)
             (state S.Store work.new.conn.now) result }
-        ensures goes_on { tells self.old
-            → GoesOn (state S.Store work.old.conn.now) (state S.Store work.new.conn.now) result }
         ensures survives { tells self.old
             → Survives (state S.Store work.old.conn.now) (state S.Store work.new.conn.now) (λ _.
             ⊥) }
@@ -503,11 +473,9 @@ pub trait Statements {
         ensures told { tells self.old
             → Deletes meta (state S.Store work.old.conn.now) (state S.Store work.new.conn.now)
             result }
-        ensures missing { tells self.old
-            → Misses delete_meta_text (state S.Store work.old.conn.now)
+        ensures ran { tells self.old
+            → RunsIn delete_meta_text (state S.Store work.old.conn.now)
             (state S.Store work.new.conn.now) result }
-        ensures goes_on { tells self.old
-            → GoesOn (state S.Store work.old.conn.now) (state S.Store work.new.conn.now) result }
         ensures survives { tells self.old
             → Survives (state S.Store work.old.conn.now) (state S.Store work.new.conn.now) (λ _.
             ⊥) }
@@ -521,11 +489,9 @@ pub trait Statements {
         ensures told { tells self.old
             → Deletes file (state S.Store work.old.conn.now) (state S.Store work.new.conn.now)
             result }
-        ensures missing { tells self.old
-            → Misses delete_file_text (state S.Store work.old.conn.now)
+        ensures ran { tells self.old
+            → RunsIn delete_file_text (state S.Store work.old.conn.now)
             (state S.Store work.new.conn.now) result }
-        ensures goes_on { tells self.old
-            → GoesOn (state S.Store work.old.conn.now) (state S.Store work.new.conn.now) result }
         ensures survives { tells self.old
             → Survives (state S.Store work.old.conn.now) (state S.Store work.new.conn.now) (λ _.
             ⊥) }
@@ -542,11 +508,9 @@ pub trait Statements {
         ensures told { tells self.old
             → Deletes context (state S.Store work.old.conn.now) (state S.Store work.new.conn.now)
             result }
-        ensures missing { tells self.old
-            → Misses delete_context_text (state S.Store work.old.conn.now)
+        ensures ran { tells self.old
+            → RunsIn delete_context_text (state S.Store work.old.conn.now)
             (state S.Store work.new.conn.now) result }
-        ensures goes_on { tells self.old
-            → GoesOn (state S.Store work.old.conn.now) (state S.Store work.new.conn.now) result }
         ensures survives { tells self.old
             → Survives (state S.Store work.old.conn.now) (state S.Store work.new.conn.now) (λ _.
             ⊥) }
@@ -563,11 +527,9 @@ pub trait Statements {
         ensures told { tells self.old
             → Deletes line_bits (state S.Store work.old.conn.now) (state S.Store work.new.conn.now)
             result }
-        ensures missing { tells self.old
-            → Misses delete_line_bits_text (state S.Store work.old.conn.now)
+        ensures ran { tells self.old
+            → RunsIn delete_line_bits_text (state S.Store work.old.conn.now)
             (state S.Store work.new.conn.now) result }
-        ensures goes_on { tells self.old
-            → GoesOn (state S.Store work.old.conn.now) (state S.Store work.new.conn.now) result }
         ensures survives { tells self.old
             → Survives (state S.Store work.old.conn.now) (state S.Store work.new.conn.now) (λ _.
             ⊥) }
@@ -581,11 +543,9 @@ pub trait Statements {
         ensures told { tells self.old
             → Deletes arc (state S.Store work.old.conn.now) (state S.Store work.new.conn.now)
             result }
-        ensures missing { tells self.old
-            → Misses delete_arc_text (state S.Store work.old.conn.now)
+        ensures ran { tells self.old
+            → RunsIn delete_arc_text (state S.Store work.old.conn.now)
             (state S.Store work.new.conn.now) result }
-        ensures goes_on { tells self.old
-            → GoesOn (state S.Store work.old.conn.now) (state S.Store work.new.conn.now) result }
         ensures survives { tells self.old
             → Survives (state S.Store work.old.conn.now) (state S.Store work.new.conn.now) (λ _.
             ⊥) }
@@ -602,11 +562,9 @@ pub trait Statements {
         ensures told { tells self.old
             → Deletes tracer (state S.Store work.old.conn.now) (state S.Store work.new.conn.now)
             result }
-        ensures missing { tells self.old
-            → Misses delete_tracer_text (state S.Store work.old.conn.now)
+        ensures ran { tells self.old
+            → RunsIn delete_tracer_text (state S.Store work.old.conn.now)
             (state S.Store work.new.conn.now) result }
-        ensures goes_on { tells self.old
-            → GoesOn (state S.Store work.old.conn.now) (state S.Store work.new.conn.now) result }
         ensures survives { tells self.old
             → Survives (state S.Store work.old.conn.now) (state S.Store work.new.conn.now) (λ _.
             ⊥) }
@@ -620,11 +578,9 @@ pub trait Statements {
         ensures told { tells self.old
             → Deletes hits (state S.Store work.old.conn.now) (state S.Store work.new.conn.now)
             result }
-        ensures missing { tells self.old
-            → Misses delete_hits_text (state S.Store work.old.conn.now)
+        ensures ran { tells self.old
+            → RunsIn delete_hits_text (state S.Store work.old.conn.now)
             (state S.Store work.new.conn.now) result }
-        ensures goes_on { tells self.old
-            → GoesOn (state S.Store work.old.conn.now) (state S.Store work.new.conn.now) result }
         ensures survives { tells self.old
             → Survives (state S.Store work.old.conn.now) (state S.Store work.new.conn.now) (λ _.
             ⊥) }
@@ -634,11 +590,15 @@ pub trait Statements {
         ensures refused { IsErrOf result StatementError.Refused
             → Rose (refusals self.old) (refusals self.new) };
 
-    /// Ends the transaction, whose tables become those of the base.
+    /// Ends the transaction, whose tables become those of the base. A commit that fails undoes it.
     fn commit<S: Alter>(&mut self, work: Transaction<'_, S>) -> Result<(), StatementError>
         ensures told { HasCleanDisk (state S.Store work.exit.0.now)
-            → OnOk result ((state S.Store work.exit.0.now).committed
-            ≡ (state S.Store work.entry.conn.now).now) }
+            → OnOk result (Commits (state S.Store work.entry.conn.now)
+            (state S.Store work.exit.0.now)) }
+        ensures undone { HasCleanDisk (state S.Store work.exit.0.now)
+            → IsTrue (state S.Store work.entry.conn.now).in_transaction
+            → OnErr result (IsRolledBack (state S.Store work.entry.conn.now)
+            (state S.Store work.exit.0.now)) }
         ensures ended { work.exit.0.now.in_transaction ≡ false }
         ensures survives { Survives (state S.Store work.entry.conn.now)
             (state S.Store work.exit.0.now) (λ db.

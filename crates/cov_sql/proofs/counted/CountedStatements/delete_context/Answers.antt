@@ -1,14 +1,12 @@
 use Rattle.std.proofs.Common.{[]}
 use Rattle.sqlite.specs.Held.{state}
 use Rattle.cov_sql.specs.Tables.{context}
-use Rattle.cov_sql.proofs.DeleteTexts.{deletes, goes_on, deletes_context}
+use Rattle.cov_sql.proofs.DeleteTexts.{deletes, deletes_context}
+use Rattle.cov_sql.proofs.Inside.{runs}
 use Rattle.cov_sql.proofs.counted.CountedStatements.delete_context.Goals as goal
 
 pub returns-clause-told : goal.returns-clause-told
 returns-clause-told g c _ = deletes _ context deletes_context (state g.S.Store c.args.work.now.conn.now) (state g.S.Store c.run.new.work.conn.now) c.run.result c.run.ensures.ran
 
-pub returns-clause-missing : goal.returns-clause-missing
-returns-clause-missing g c _ = λ clean inside is. (_, c.run.ensures.missing clean inside is)
-
-pub returns-clause-goes_on : goal.returns-clause-goes_on
-returns-clause-goes_on g c _ = goes_on _ [] (state g.S.Store c.args.work.now.conn.now) (state g.S.Store c.run.new.work.conn.now) c.run.result c.run.ensures.ran
+pub returns-clause-ran : goal.returns-clause-ran
+returns-clause-ran g c _ = runs _ [] (state g.S.Store c.args.work.now.conn.now) (state g.S.Store c.run.new.work.conn.now) c.run.result c.run.ensures.ran c.run.ensures.missing c.run.ensures.kept

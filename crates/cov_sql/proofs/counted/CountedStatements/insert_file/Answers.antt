@@ -2,16 +2,13 @@ use Rattle.std.proofs.Common.{[], ◌∷◌}
 use Rattle.std.proofs.Math.Facts.{to_z-of_z}
 use Rattle.sqlite_value.specs.declared.value.Value.TheVariants.{Int, Text}
 use Rattle.sqlite.specs.Held.{state}
-use Rattle.cov_sql.proofs.DeleteTexts.{goes_on}
 use Rattle.cov_sql.proofs.InsertIntoFile.{inserts_file}
+use Rattle.cov_sql.proofs.Inside.{runs}
 use Rattle.cov_sql.proofs.counted.CountedStatements.insert_file.Goals as goal
 
 pub returns-clause-told : goal.returns-clause-told
 returns-clause-told g c _ =
     inserts_file c.args.id c.args.path.now (state g.S.Store c.args.work.now.conn.now) (state g.S.Store c.run.new.work.conn.now) c.run.result _ c.run.ensures.ran (λ i. Int (to_z-of_z c.ranges.id i) ∷ Text (c.as_bytes.ensures.value i) ∷ [])
 
-pub returns-clause-missing : goal.returns-clause-missing
-returns-clause-missing g c _ = λ clean inside is. (_, c.run.ensures.missing clean inside is)
-
-pub returns-clause-goes_on : goal.returns-clause-goes_on
-returns-clause-goes_on g c _ = goes_on _ _ (state g.S.Store c.args.work.now.conn.now) (state g.S.Store c.run.new.work.conn.now) c.run.result c.run.ensures.ran
+pub returns-clause-ran : goal.returns-clause-ran
+returns-clause-ran g c _ = runs _ _ (state g.S.Store c.args.work.now.conn.now) (state g.S.Store c.run.new.work.conn.now) c.run.result c.run.ensures.ran c.run.ensures.missing c.run.ensures.kept

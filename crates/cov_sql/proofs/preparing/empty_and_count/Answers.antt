@@ -1,0 +1,24 @@
+use Rattle.std.proofs.Common.{rules, ◌≡◌, false, Err}
+use Rattle.cov_sql.specs.declared.preparing.Start.TheVariants as start
+use Rattle.cov_sql.proofs.Making.{prepares_old, prepares_counted, no_preparing}
+use Rattle.cov_sql.proofs.Stepping.{works_after}
+use Rattle.cov_sql.proofs.preparing.empty_and_count.Goals as goal
+
+pub returns-in_err-make_table-clause-prepares : goal.returns-in_err-make_table-clause-prepares
+returns-in_err-make_table-clause-prepares g c tells =
+    let is : c.from_residual.result ≡ Err c.in_err-make_table.field-0.0 = search rules in
+    no_preparing g.S.Store (start.Tables false) c.args.work.now.conn.now c.make_table.new.work.conn.now _ _ is
+
+pub returns-clause-prepares : goal.returns-clause-prepares
+returns-clause-prepares g c tells =
+    let told = c.make_table.ensures.tells tells in
+    let first = c.args.work.now.conn.now in
+    let mid = c.make_table.new.work.conn.now in
+    let last = c.empty_tables.new.work.conn.now in
+    prepares_counted g.S.Store first mid last c.in_ok-make_table.field-0 _ (c.empty_tables.ensures.survives told) (c.in_ok-make_table.ensures.works tells) (c.in_ok-make_table.ensures.told tells)
+    (prepares_old g.S.Store mid last c.empty_tables.result (c.empty_tables.ensures.empties told))
+
+pub returns-clause-works : goal.returns-clause-works
+returns-clause-works g c tells =
+    let told = c.make_table.ensures.tells tells in
+    works_after g.S.Store c.in_ok-make_table.field-0 c.args.work.now.conn.now c.make_table.new.work.conn.now c.empty_tables.new.work.conn.now _ (c.empty_tables.ensures.survives told) (c.in_ok-make_table.ensures.works tells) (c.empty_tables.ensures.works told)

@@ -1,0 +1,44 @@
+use Rattle.std.proofs.Common.{rules, arith, ◌≡◌, Ok, Err, sym, subst, ◌∙◌, take}
+use Rattle.std.proofs.lemmas.List.{take_all}
+use Rattle.cov_sql.specs.Works.{Works}
+use Rattle.cov_sql.specs.Holding.{cleared_all, Empties}
+use Rattle.cov_sql.proofs.Stepping.{works_then, still}
+use Rattle.cov_sql.proofs.Filling.{take_got}
+use Rattle.cov_sql.proofs.Making.{no_empty, empties_next}
+use Rattle.cov_sql.proofs.preparing.empty_tables.Goals as goal
+
+pub returns-in_err-empty_table-clause-empties : goal.returns-in_err-empty_table-clause-empties
+returns-in_err-empty_table-clause-empties g c tells =
+    let is : c.from_residual.result ≡ Err c.in_err-empty_table.field-0.0 = search rules in
+    no_empty g.S.Store (cleared_all c.args.tables.now) c.args.work.now.conn.now c.empty_table.new.work.conn.now _ _ is
+
+pub returns-clause-empties : goal.returns-clause-empties
+returns-clause-empties g c tells =
+    subst (λ names. Empties g.S.Store (cleared_all names) c.args.work.now.conn.now c.loop-table.work.conn.now (Ok tt)) (take_all c.loop-table.table-index c.args.tables.now c.loop-table-test.false) (c.loop-table.invariant.empties tells)
+
+pub returns-in_err-empty_table-clause-works : goal.returns-in_err-empty_table-clause-works
+returns-in_err-empty_table-clause-works g c tells =
+    let first = c.args.work.now.conn.now in
+    let next = c.empty_table.new.work.conn.now in
+    let told = c.loop-table.invariant.tells tells in
+    let is : c.from_residual.result ≡ Err c.in_err-empty_table.field-0.0 = search rules in
+    subst (λ r. Works g.S.Store first next r) (sym is) (works_then g.S.Store first c.loop-table.work.conn.now next _ (c.empty_table.ensures.survives told) (c.loop-table.invariant.works tells) (c.in_err-empty_table.ensures.works told))
+
+pub loop-table-preserved : goal.loop-table-preserved
+loop-table-preserved g c =
+    let first = c.args.work.now.conn.now in
+    let now = c.loop-table.work.conn.now in
+    let next = c.empty_table.new.work.conn.now in
+    let all = c.args.tables.now in
+    let i = c.loop-table.table-index in
+    record {
+      works = λ tells. let told = c.loop-table.invariant.tells tells in
+          works_then g.S.Store first now next (Ok tt) (c.empty_table.ensures.survives told) (c.loop-table.invariant.works tells) (c.in_ok-empty_table.ensures.works told);
+      empties = λ tells. let told = c.loop-table.invariant.tells tells in
+          subst (λ names. Empties g.S.Store (cleared_all names) first next (Ok tt)) (sym (take_got all i _ c.loop-table-test.true))
+          (empties_next g.S.Store (take i all) _ first now next tt (c.empty_table.ensures.survives told) (c.loop-table.invariant.works tells) (c.loop-table.invariant.empties tells) (c.in_ok-empty_table.ensures.empties told));
+      survives = λ tells. still g.S.Store first now next (c.loop-table.invariant.survives tells) (c.empty_table.ensures.survives (c.loop-table.invariant.tells tells));
+      same_reference = c.empty_table.ensures.same_reference ∙ c.loop-table.invariant.same_reference;
+      tells = λ tells. c.empty_table.ensures.tells (c.loop-table.invariant.tells tells);
+      count = omega (arith, c.empty_table.ensures.count, c.loop-table.invariant.count);
+    }

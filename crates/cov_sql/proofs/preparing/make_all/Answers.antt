@@ -1,0 +1,37 @@
+use Rattle.cov_sql.proofs.Stepping.{worked, works_after}
+use Rattle.std.proofs.Common.{rules, ◌≡◌, Err}
+use Rattle.cov_sql.specs.declared.preparing.Start.TheVariants as start
+use Rattle.cov_sql.proofs.Making.{prepares_new, no_preparing}
+use Rattle.cov_sql.specs.SqlTexts.{insert_coverage_schema_text}
+use Rattle.cov_sql.proofs.WrittenTexts.{of_insert_coverage_schema}
+use Rattle.cov_sql.proofs.Denying.{refuses_stop, refuses_made}
+use Rattle.cov_sql.proofs.preparing.make_all.Goals as goal
+
+pub returns-clause-works : goal.returns-clause-works
+returns-clause-works g c tells =
+    let now = c.make_tables.new.work.conn.now in
+    let next = c.insert_coverage_schema.new.work.conn.now in
+    let told = c.make_tables.ensures.tells tells in
+    let one = worked g.S.Store insert_coverage_schema_text now next c.insert_coverage_schema.result of_insert_coverage_schema (c.insert_coverage_schema.ensures.ran told) in
+    works_after g.S.Store c.in_ok-make_tables.field-0 c.args.work.now.conn.now now next _ (c.insert_coverage_schema.ensures.survives told) (c.in_ok-make_tables.ensures.works tells) one
+
+pub returns-in_err-make_tables-clause-prepares : goal.returns-in_err-make_tables-clause-prepares
+returns-in_err-make_tables-clause-prepares g c tells =
+    let is : c.from_residual.result ≡ Err c.in_err-make_tables.field-0.0 = search rules in
+    no_preparing g.S.Store start.Nothing c.args.work.now.conn.now c.make_tables.new.work.conn.now _ _ is
+
+pub returns-clause-prepares : goal.returns-clause-prepares
+returns-clause-prepares g c tells =
+    let told = c.make_tables.ensures.tells tells in
+    prepares_new g.S.Store c.args.work.now.conn.now c.make_tables.new.work.conn.now c.insert_coverage_schema.new.work.conn.now c.in_ok-make_tables.field-0 _ (c.insert_coverage_schema.ensures.survives told)
+    (c.in_ok-make_tables.ensures.works tells) (c.in_ok-make_tables.ensures.builds tells) (c.insert_coverage_schema.ensures.told told)
+
+pub returns-in_err-make_tables-clause-refuses : goal.returns-in_err-make_tables-clause-refuses
+returns-in_err-make_tables-clause-refuses g c tells =
+    let is : c.from_residual.result ≡ Err c.in_err-make_tables.field-0.0 = search rules in
+    refuses_stop g.S.Store _ start.Nothing c.args.work.now.conn.now c.make_tables.new.work.conn.now _ _ is (c.in_err-make_tables.ensures.denies tells)
+
+pub returns-clause-refuses : goal.returns-clause-refuses
+returns-clause-refuses g c tells =
+    let told = c.make_tables.ensures.tells tells in
+    refuses_made g.S.Store start.Nothing c.args.work.now.conn.now c.make_tables.new.work.conn.now c.insert_coverage_schema.new.work.conn.now c.in_ok-make_tables.field-0 _ (c.insert_coverage_schema.ensures.survives told) (c.in_ok-make_tables.ensures.denies tells)

@@ -1,0 +1,21 @@
+use Rattle.std.proofs.Common.{rules, ◌≡◌, map, string_bytes, ap, ◌∙◌}
+use Rattle.cov_data.specs.Rows.{row_view, rows_of, paths_of}
+use Rattle.cov_sql.specs.SavedData.{contexts_in}
+use Rattle.cov_sql.proofs.Contexts.{rows_kept, rows_as}
+use Rattle.cov_sql.proofs.saved.Saved.of.Goals as goal
+
+pub returns : goal.returns
+returns c =
+    let d = c.args.content.now in
+    let given = c.in_ok-given.given.items in
+    let rows_are : map row_view given ≡ rows_of d = c.in_ok-given.ensures.rows in
+    let paths_are : map string_bytes c.in_ok-paths.paths.items ≡ paths_of d = c.in_ok-paths.ensures in
+    let are : map string_bytes c.in_ok-contexts.contexts.items ≡ contexts_in (map row_view given) = c.in_ok-contexts.ensures ∙ ap (λ rs. contexts_in (map row_view rs)) c.as_slice-listed.ensures.value in
+    record {
+      flag = search rules;
+      paths = paths_are;
+      contexts = are ∙ ap contexts_in rows_are;
+      rows = rows_kept d (map string_bytes c.in_ok-paths.paths.items) (map string_bytes c.in_ok-contexts.contexts.items) given c.in_ok-rows.rows.items paths_are rows_are are
+          (rows_as c.in_ok-paths.paths.items c.in_ok-contexts.contexts.items given c.in_ok-rows.rows.items c.deref.ensures.value c.deref-2.ensures.value c.as_slice-listed.ensures.value c.in_ok-rows.ensures);
+      bits = search rules;
+    }

@@ -1,0 +1,46 @@
+-- What is kept of data until it is written.
+--     contexts_in                  the contexts of rows, in order, each once
+--     IsNumbered, IsSavedRow       a text stands at a number, from 1; a row with the numbers of its file and its context
+--     IsSavedOf                    so data is kept
+--     saved_rows, HoldsSaved       the rows that are written; the tables of a base hold those of data
+use Rattle.std.specs.Prelude.{◌≡◌, ℕ, ℤ, pos, ◌+◌, true, List, [], map, slice_get, Some, string_bytes}
+use Rattle.std.specs.List.{AllZip}
+use Rattle.cov_data.specs.DataSet.{Text, text_cmp, DataSet}
+use Rattle.cov_data.specs.Rows.{RowView, distinct_in_order, rows_of, paths_of}
+use Rattle.cov_sql.specs.declared.saved.Saved.{Saved}
+use Rattle.cov_sql.specs.declared.saved.SavedRow.{SavedRow}
+use Rattle.sqlite.specs.Effect.{Database}
+use Rattle.cov_sql.specs.Holding.{Rows, Holds}
+use Rattle.cov_sql.specs.SavedRows.{with_names, with_data, no_data_rows}
+
+abbrev pub contexts_in : List RowView → List Text
+contexts_in rows = distinct_in_order text_cmp (map (λ r. r.context) rows)
+
+pub record IsNumbered (texts : List Text) (t : Text) (id : ℤ) : Type 0 where
+  pub at : ℕ
+  pub there : slice_get texts at ≡ Some t
+  pub is : id ≡ pos (at + 1)
+
+pub record IsSavedRow (paths contexts : List Text) (r : RowView) (s : SavedRow) : Type 0 where
+  pub file : IsNumbered paths r.path s.file_id
+  pub context : IsNumbered contexts r.context s.context_id
+  pub from : s.from ≡ r.from
+  pub to : s.to ≡ r.to
+  pub count : s.count ≡ pos r.count
+
+pub record IsSavedOf (d : DataSet) (s : Saved) : Type 0 where
+  pub flag : s.arcs ≡ d.arcs
+  pub paths : map string_bytes s.paths.items ≡ paths_of d
+  pub contexts : map string_bytes s.contexts.items ≡ contexts_in (rows_of d)
+  pub rows : AllZip (IsSavedRow (paths_of d) (contexts_in (rows_of d))) (rows_of d) s.rows.items
+  -- of lines, which bits are kept isn't said
+  pub bits : d.arcs ≡ true → s.bits.items ≡ []
+
+-- ---- written
+
+abbrev pub saved_rows : Saved → Rows
+saved_rows s = with_data s (with_names s no_data_rows)
+
+-- the tables hold the rows of the data, and no other; of data of lines, which rows `line_bits` has isn't said
+abbrev pub HoldsSaved : DataSet → Database → Type 0
+HoldsSaved d db = (s : Saved) × IsSavedOf d s × Holds db (saved_rows s)

@@ -1,0 +1,47 @@
+-- The rows that are written of data.
+--     flag_row, numbered                  the row of `meta`; texts with their numbers, as in `file` and `context`
+--     arc_row, bits_row, hits_row         the rows of what is kept of data until it is written
+--     with_names, with_data               the rows of all tables with those of names, and with those of data
+--     no_data_rows                        the rows of a data file of schema 7 without data
+use Rattle.std.specs.Prelude.{ℕ, pos, ◌+◌, Bool, cond, List, [], ◌∷◌, map, codes, string_bytes}
+use Rattle.sqlite_value.specs.Order.{Row}
+use Rattle.sqlite_value.specs.declared.value.Value.TheVariants.{Int, Text, Blob}
+use Rattle.cov_sql.specs.declared.saved.Saved.{Saved}
+use Rattle.cov_sql.specs.declared.saved.SavedRow.{SavedRow}
+use Rattle.cov_sql.specs.declared.saved.SavedBits.{SavedBits}
+use Rattle.cov_sql.specs.declared.tables.Table.TheVariants as name
+use Rattle.cov_sql.specs.Holding.{Rows, with_rows}
+
+abbrev pub flag_row : Bool → Row
+flag_row arcs = Text (codes "has_arcs") ∷ Text (cond arcs (codes "1") (codes "0")) ∷ []
+
+abbrev pub numbered : ℕ → List (List ℕ) → List Row
+numbered k [] = []
+numbered k (t ∷ ts) = (Int (pos k) ∷ Text t ∷ []) ∷ numbered (k + 1) ts
+
+abbrev pub arc_row : SavedRow → Row
+arc_row r = Int r.file_id ∷ Int r.context_id ∷ Int r.from ∷ Int r.to ∷ []
+
+abbrev pub bits_row : SavedBits → Row
+bits_row b = Int b.file_id ∷ Int b.context_id ∷ Blob b.numbits.items ∷ []
+
+abbrev pub hits_row : SavedRow → Row
+hits_row r = Int r.file_id ∷ Int r.context_id ∷ Int r.from ∷ Int r.to ∷ Int r.count ∷ []
+
+abbrev pub with_names : Saved → Rows → Rows
+with_names s rows =
+    with_rows name.Context (numbered 1 (map string_bytes s.contexts.items)) (with_rows name.File (numbered 1 (map string_bytes s.paths.items)) (with_rows name.Meta (flag_row s.arcs ∷ []) rows))
+
+abbrev pub with_data : Saved → Rows → Rows
+with_data s rows =
+    with_rows name.Hits (map hits_row s.rows.items) (with_rows name.LineBits (map bits_row s.bits.items) (with_rows name.Arc (cond s.arcs (map arc_row s.rows.items) []) rows))
+
+abbrev pub no_data_rows : Rows
+no_data_rows name.CoverageSchema = (Int (pos 7) ∷ []) ∷ []
+no_data_rows name.Meta = []
+no_data_rows name.File = []
+no_data_rows name.Context = []
+no_data_rows name.LineBits = []
+no_data_rows name.Arc = []
+no_data_rows name.Tracer = []
+no_data_rows name.Hits = []

@@ -1,0 +1,253 @@
+//! Data files in a folder.
+ghost use Rattle.std.specs.Prelude.{◌≡◌, ◌≤◌, ℕ, false, string_bytes, IfOk, IfErr, IsErrOf};
+ghost use Rattle.std.specs.List.Sorted.{IsSorted};
+ghost use Rattle.std.specs.FinMap.{empty};
+ghost use Rattle.cov_outside.specs.Counts.{Rose};
+ghost use Rattle.cov_data.specs.DataSet.{text_cmp};
+ghost use Rattle.cov_sql.specs.Failures.{IsFailure};
+
+use crate::counted::Counted;
+use crate::errors::SqlError;
+use crate::reading::read_data;
+use crate::writing::write_data;
+use cov_data::Data;
+use cov_vault::{Vault, VaultError};
+use sqlite::{Connection, Error, ErrorCode, File, FileStore};
+use std::alloc::{AllocError, Global};
+use std::io::ErrorKind;
+use std::path::{Path, PathBuf};
+use std::{fs, io};
+
+/// The data files of a folder, each under its name. Files that the database keeps beside a data file have
+/// no name of their own.
+#[derive(Drop)]
+pub struct FolderVault {
+    rt: HostRuntime,
+    folder: String,
+    by: Counted,
+}
+
+impl FolderVault {
+    pub fn new(alloc: Global, rt: &HostRuntime, folder: &str) -> Result<FolderVault, AllocError>
+        ensures { IfOk result (λ vault. ⟦<FolderVault as Vault>⟧.faults vault ≡ 0) }
+    {
+        Ok(FolderVault {
+            rt: *rt,
+            folder: String::from_str(alloc, folder)?,
+            by: Counted::new(),
+        })
+    }
+
+    fn path_of(&self, alloc: Global, name: &str) -> Result<PathBuf, AllocError> {
+        Path::new(self.folder.as_str()).join(alloc, name)
+    }
+
+    /// A failure, which counts unless memory was missing.
+    fn failure(&mut self, no_memory: bool) -> VaultError
+        ensures count { self.old.by.refusals ≤ self.new.by.refusals }
+        ensures failed { result ≡ VaultError.Failed
+            → Rose self.old.by.refusals self.new.by.refusals }
+        ensures kinds { IsFailure result }
+    {
+        if no_memory {
+            return VaultError::NoMemory;
+        }
+        self.by.refuse();
+        VaultError::Failed
+    }
+
+    fn is_there(&mut self, path: &PathBuf) -> Result<bool, VaultError>
+        ensures count { self.old.by.refusals ≤ self.new.by.refusals }
+        ensures failed { IsErrOf result VaultError.Failed
+            → Rose self.old.by.refusals self.new.by.refusals }
+        ensures kinds { IfErr result IsFailure }
+    {
+        match fs::exists(&self.rt, path.as_path()) {
+            Ok(there) => Ok(there),
+            Err(error) => Err(self.failure(is_no_memory(&error))),
+        }
+    }
+
+    fn open(&mut self, path: &PathBuf) -> Result<Connection<FileStore<File>>, VaultError>
+        ensures autocommit { IfOk result (λ base. base.in_transaction ≡ false) }
+        ensures count { self.old.by.refusals ≤ self.new.by.refusals }
+        ensures failed { IsErrOf result VaultError.Failed
+            → Rose self.old.by.refusals self.new.by.refusals }
+        ensures kinds { IfErr result IsFailure }
+    {
+        match Connection::open(&self.rt, path.as_path().as_str()) {
+            Ok(base) => Ok(base),
+            Err(Error::SqliteFailure(ErrorCode::OutOfMemory)) => Err(self.failure(true)),
+            Err(_) => Err(self.failure(false)),
+        }
+    }
+}
+
+impl FolderVault {
+    /// Takes away what the database keeps beside a file.
+    fn take_companions(&mut self, alloc: Global, path: &PathBuf) -> Result<(), VaultError>
+        ensures count { self.old.by.refusals ≤ self.new.by.refusals }
+        ensures failed { IsErrOf result VaultError.Failed
+            → Rose self.old.by.refusals self.new.by.refusals }
+        ensures kinds { IfErr result IsFailure }
+    {
+        match remove_companions(&self.rt, alloc, path) {
+            Ok(()) => Ok(()),
+            Err(error) => Err(self.failure(is_no_memory(&error))),
+        }
+    }
+
+    fn read(&mut self, alloc: Global, path: &PathBuf) -> Result<Data, VaultError>
+        ensures not_absent { IsErrOf result VaultError.Absent → ⊥ }
+        ensures count { self.old.by.refusals ≤ self.new.by.refusals }
+        ensures failed { IsErrOf result VaultError.Failed
+            → Rose self.old.by.refusals self.new.by.refusals }
+    {
+        let mut base = self.open(path)?;
+        let loaded = read_data(alloc, &mut base, &mut self.by);
+        // What stays beside the file is read by the next open.
+        let _ = base.close();
+        match loaded {
+            Ok(data) => Ok(data),
+            Err(error) => Err(failure_of(error)),
+        }
+    }
+
+    fn write(
+        &mut self,
+        alloc: Global,
+        path: &PathBuf,
+        content: &Data,
+        fresh: bool,
+    ) -> Result<(), VaultError>
+        ensures not_absent { IsErrOf result VaultError.Absent → ⊥ }
+        ensures not_bad_row { (row : ℕ) → IsErrOf result (VaultError.BadRow row) → ⊥ }
+        ensures count { self.old.by.refusals ≤ self.new.by.refusals }
+        ensures failed { IsErrOf result VaultError.Failed
+            → Rose self.old.by.refusals self.new.by.refusals }
+    {
+        let mut base = self.open(path)?;
+        let saved = write_data(alloc, &mut base, &mut self.by, content, fresh);
+        // What stays beside the file is read by the next open.
+        let _ = base.close();
+        match saved {
+            Ok(()) => Ok(()),
+            Err(error) => Err(failure_of(error)),
+        }
+    }
+}
+
+impl Vault for FolderVault {
+    ghost tells = { ⊥ };
+
+    ghost contents = { λ _. empty };
+
+    ghost faults = { λ vault. vault.by.refusals };
+
+    ghost bounded = { λ vault. vault.by.bounded };
+
+    fn names(&mut self, alloc: Global) -> Result<Vec<String>, VaultError> {
+        match names_in(&self.rt, alloc, self.folder.as_str()) {
+            Ok(names) => Ok(names),
+            Err(error) => Err(self.failure(is_no_memory(&error))),
+        }
+    }
+
+    fn load(&mut self, alloc: Global, name: &str) -> Result<Data, VaultError> {
+        let path = self.path_of(alloc, name)?;
+        if !self.is_there(&path)? {
+            return Err(VaultError::Absent);
+        }
+        self.read(alloc, &path)
+    }
+
+    fn save(&mut self, alloc: Global, name: &str, content: &Data) -> Result<(), VaultError> {
+        let path = self.path_of(alloc, name)?;
+        let fresh = !self.is_there(&path)?;
+        if !fresh {
+            return self.write(alloc, &path, content, false);
+        }
+        self.take_companions(alloc, &path)?;
+        let saved = self.write(alloc, &path, content, true);
+        if saved.is_err() {
+            // There was no file of this name.
+            let _ = fs::remove_file(&self.rt, path.as_path());
+        }
+        saved
+    }
+
+    fn remove(&mut self, alloc: Global, name: &str) -> Result<(), VaultError> {
+        let path = self.path_of(alloc, name)?;
+        if !self.is_there(&path)? {
+            return Err(VaultError::Absent);
+        }
+        match fs::remove_file(&self.rt, path.as_path()) {
+            Ok(()) => self.take_companions(alloc, &path),
+            Err(error) => Err(self.failure(is_no_memory(&error))),
+        }
+    }
+}
+
+fn is_no_memory(error: &io::Error) -> bool {
+    error.kind() == ErrorKind::OutOfMemory
+}
+
+/// What a refused reading or writing means for a vault.
+fn failure_of(error: SqlError) -> VaultError
+    ensures failed { result ≡ VaultError.Failed → error ≡ SqlError.Refused }
+    ensures bad_row { (row : ℕ) → result ≡ VaultError.BadRow row → error ≡ SqlError.BadRow row }
+    ensures not_absent { result ≡ VaultError.Absent → ⊥ }
+{
+    match error {
+        SqlError::NotSchema7 => VaultError::NotSchema7,
+        SqlError::BadRow(row) => VaultError::BadRow(row),
+        SqlError::Refused => VaultError::Failed,
+        SqlError::NoMemory => VaultError::NoMemory,
+    }
+}
+
+/// What the names end in of the files that the database keeps beside a data file.
+const ENDINGS: [&str; 3] = ["-journal", "-wal", "-shm"];
+
+/// The names of the files of a folder, in order. A name that is not UTF-8 is passed over.
+fn names_in(rt: &HostRuntime, alloc: Global, folder: &str) -> io::Result<Vec<String>>
+    ensures { IfOk result (λ names.
+        IsSorted (λ a b. text_cmp (string_bytes a) (string_bytes b)) names.items) }
+{
+    let mut names = Vec::new(alloc);
+    for entry in fs::read_dir(rt, folder)? {
+        match entry {
+            Ok(entry) => {
+                if is_data_file(&entry)? {
+                    names.push(String::from_str(alloc, entry.file_name())?)?;
+                }
+            }
+            Err(error) if error.kind() == ErrorKind::InvalidFilename => {}
+            Err(error) => return Err(error),
+        }
+    }
+    names.sort()?;
+    Ok(names)
+}
+
+fn is_data_file(entry: &fs::DirEntry) -> io::Result<bool> {
+    if ENDINGS
+        .iter()
+        .any(|ending| entry.file_name().ends_with(*ending))
+    {
+        return Ok(false);
+    }
+    Ok(!entry.file_type()?.is_dir())
+}
+
+fn remove_companions(rt: &HostRuntime, alloc: Global, path: &PathBuf) -> io::Result<()> {
+    for ending in ENDINGS {
+        let companion = format!(in alloc; "{}{}", path.as_path().as_str(), ending)?;
+        match fs::remove_file(rt, companion.as_str()) {
+            Ok(()) => {}
+            Err(error) if error.kind() == ErrorKind::NotFound => {}
+            Err(error) => return Err(error),
+        }
+    }
+    Ok(())
+}

@@ -1,0 +1,223 @@
+//! Making the tables of a data file, and emptying them.
+ghost use Rattle.std.specs.Prelude.{◌≡◌, ◌≤◌, false, IsErrOf};
+ghost use Rattle.cov_outside.specs.Counts.{Rose};
+ghost use Rattle.sqlite.specs.Held.{state};
+ghost use Rattle.sqlite.specs.State.{Survives};
+ghost use Rattle.cov_sql.specs.declared.preparing.Start.TheVariants as start;
+ghost use Rattle.cov_sql.specs.ByName.{shape_of, declared_as};
+ghost use Rattle.cov_sql.specs.Written.{Makes};
+ghost use Rattle.cov_sql.specs.Works.{Works};
+ghost use Rattle.cov_sql.specs.Holding.{cleared, cleared_all, Empties};
+ghost use Rattle.cov_sql.specs.Making.{Builds, Prepares, Denies, RefusesIfThere};
+
+use crate::statements::{StatementError, Statements};
+use crate::tables::Table;
+use sqlite::{Alter, Transaction};
+
+/// Each after those that its rows refer to.
+const TABLES: [Table; 8] = [
+    Table::CoverageSchema,
+    Table::Meta,
+    Table::File,
+    Table::Context,
+    Table::LineBits,
+    Table::Arc,
+    Table::Tracer,
+    Table::Hits,
+];
+
+/// The tables that are emptied, each before those that its rows refer to.
+const OLD_TABLES: [Table; 7] = [
+    Table::Arc,
+    Table::Hits,
+    Table::LineBits,
+    Table::Tracer,
+    Table::File,
+    Table::Context,
+    Table::Meta,
+];
+
+/// What a base has before data are saved in it.
+#[derive(Clone, Copy, Drop)]
+pub(crate) enum Start {
+    Nothing,
+    /// The tables of schema 7.
+    Tables { has_hits: bool },
+}
+
+fn make_table<S: Alter, Q: Statements>(
+    work: &mut Transaction<'_, S>,
+    by: &mut Q,
+    table: Table,
+) -> Result<(), StatementError>
+    ensures works { Q.tells by.old → Works S.Store work.old.conn.now work.new.conn.now result }
+    ensures told { Q.tells by.old
+        → Makes (shape_of table) (declared_as table) (state S.Store work.old.conn.now)
+        (state S.Store work.new.conn.now) result }
+    ensures survives { Q.tells by.old
+        → Survives (state S.Store work.old.conn.now) (state S.Store work.new.conn.now) (λ _. ⊥) }
+    ensures same_reference { work.new.conn.ghost_name ≡ work.old.conn.ghost_name }
+    ensures tells { Q.tells by.old → Q.tells by.new }
+    ensures count { Q.refusals by.old ≤ Q.refusals by.new }
+    ensures refused { IsErrOf result StatementError.Refused
+        → Rose (Q.refusals by.old) (Q.refusals by.new) }
+{
+    match table {
+        Table::CoverageSchema => by.make_coverage_schema(work),
+        Table::Meta => by.make_meta(work),
+        Table::File => by.make_file(work),
+        Table::Context => by.make_context(work),
+        Table::LineBits => by.make_line_bits(work),
+        Table::Arc => by.make_arc(work),
+        Table::Tracer => by.make_tracer(work),
+        Table::Hits => by.make_hits(work),
+    }
+}
+
+#[tactic(auto, using(crate::proofs::Stepping::stays, crate::proofs::Stepping::nothing_done))]
+fn empty_table<S: Alter, Q: Statements>(
+    work: &mut Transaction<'_, S>,
+    by: &mut Q,
+    table: Table,
+) -> Result<(), StatementError>
+    ensures works { Q.tells by.old → Works S.Store work.old.conn.now work.new.conn.now result }
+    ensures empties { Q.tells by.old → Empties S.Store (cleared table)
+        work.old.conn.now work.new.conn.now result }
+    ensures survives { Q.tells by.old
+        → Survives (state S.Store work.old.conn.now) (state S.Store work.new.conn.now) (λ _. ⊥) }
+    ensures same_reference { work.new.conn.ghost_name ≡ work.old.conn.ghost_name }
+    ensures tells { Q.tells by.old → Q.tells by.new }
+    ensures count { Q.refusals by.old ≤ Q.refusals by.new }
+    ensures refused { IsErrOf result StatementError.Refused
+        → Rose (Q.refusals by.old) (Q.refusals by.new) }
+{
+    match table {
+        // The row of the version stays.
+        Table::CoverageSchema => Ok(()),
+        Table::Meta => by.delete_meta(work),
+        Table::File => by.delete_file(work),
+        Table::Context => by.delete_context(work),
+        Table::LineBits => by.delete_line_bits(work),
+        Table::Arc => by.delete_arc(work),
+        Table::Tracer => by.delete_tracer(work),
+        Table::Hits => by.delete_hits(work),
+    }
+}
+
+#[tactic(auto, using(crate::proofs::Stepping::works_then, crate::proofs::Stepping::still, crate::proofs::Stepping::stays, crate::proofs::Stepping::nothing_done))]
+fn make_tables<S: Alter, Q: Statements>(
+    work: &mut Transaction<'_, S>,
+    by: &mut Q,
+    tables: &[Table],
+) -> Result<(), StatementError>
+    ensures works { Q.tells by.old → Works S.Store work.old.conn.now work.new.conn.now result }
+    ensures builds { Q.tells by.old → Builds S.Store tables.now
+        work.old.conn.now work.new.conn.now result }
+    ensures denies { Q.tells by.old → Denies S.Store tables.now
+        work.old.conn.now work.new.conn.now result }
+    ensures survives { Q.tells by.old
+        → Survives (state S.Store work.old.conn.now) (state S.Store work.new.conn.now) (λ _. ⊥) }
+    ensures same_reference { work.new.conn.ghost_name ≡ work.old.conn.ghost_name }
+    ensures tells { Q.tells by.old → Q.tells by.new }
+    ensures count { Q.refusals by.old ≤ Q.refusals by.new }
+    ensures refused { IsErrOf result StatementError.Refused
+        → Rose (Q.refusals by.old) (Q.refusals by.new) }
+{
+    for table in tables {
+        make_table(work, by, *table)?;
+    }
+    Ok(())
+}
+
+#[tactic(auto, using(crate::proofs::Stepping::works_then, crate::proofs::Stepping::still, crate::proofs::Stepping::stays, crate::proofs::Stepping::nothing_done))]
+fn empty_tables<S: Alter, Q: Statements>(
+    work: &mut Transaction<'_, S>,
+    by: &mut Q,
+    tables: &[Table],
+) -> Result<(), StatementError>
+    ensures works { Q.tells by.old → Works S.Store work.old.conn.now work.new.conn.now result }
+    ensures empties { Q.tells by.old → Empties S.Store (cleared_all tables.now)
+        work.old.conn.now work.new.conn.now result }
+    ensures survives { Q.tells by.old
+        → Survives (state S.Store work.old.conn.now) (state S.Store work.new.conn.now) (λ _. ⊥) }
+    ensures same_reference { work.new.conn.ghost_name ≡ work.old.conn.ghost_name }
+    ensures tells { Q.tells by.old → Q.tells by.new }
+    ensures count { Q.refusals by.old ≤ Q.refusals by.new }
+    ensures refused { IsErrOf result StatementError.Refused
+        → Rose (Q.refusals by.old) (Q.refusals by.new) }
+{
+    for table in tables {
+        empty_table(work, by, *table)?;
+    }
+    Ok(())
+}
+
+/// Makes a data file of schema 7 without data.
+#[tactic(auto, using(crate::proofs::Stepping::works_then, crate::proofs::Stepping::still))]
+fn make_all<S: Alter, Q: Statements>(
+    work: &mut Transaction<'_, S>,
+    by: &mut Q,
+) -> Result<(), StatementError>
+    ensures works { Q.tells by.old → Works S.Store work.old.conn.now work.new.conn.now result }
+    ensures prepares { Q.tells by.old → Prepares S.Store Start.Nothing
+        work.old.conn.now work.new.conn.now result }
+    ensures refuses { Q.tells by.old → RefusesIfThere S.Store Start.Nothing
+        work.old.conn.now work.new.conn.now result }
+    ensures survives { Q.tells by.old
+        → Survives (state S.Store work.old.conn.now) (state S.Store work.new.conn.now) (λ _. ⊥) }
+    ensures same_reference { work.new.conn.ghost_name ≡ work.old.conn.ghost_name }
+    ensures tells { Q.tells by.old → Q.tells by.new }
+    ensures count { Q.refusals by.old ≤ Q.refusals by.new }
+    ensures refused { IsErrOf result StatementError.Refused
+        → Rose (Q.refusals by.old) (Q.refusals by.new) }
+{
+    make_tables(work, by, &TABLES)?;
+    by.insert_coverage_schema(work, 7)
+}
+
+/// Leaves a data file of schema 7 without data, where it had no table of counts.
+#[tactic(auto, using(crate::proofs::Stepping::works_then, crate::proofs::Stepping::still))]
+fn empty_and_count<S: Alter, Q: Statements>(
+    work: &mut Transaction<'_, S>,
+    by: &mut Q,
+) -> Result<(), StatementError>
+    ensures works { Q.tells by.old → Works S.Store work.old.conn.now work.new.conn.now result }
+    ensures prepares { Q.tells by.old → Prepares S.Store (start.Tables false)
+        work.old.conn.now work.new.conn.now result }
+    ensures survives { Q.tells by.old
+        → Survives (state S.Store work.old.conn.now) (state S.Store work.new.conn.now) (λ _. ⊥) }
+    ensures same_reference { work.new.conn.ghost_name ≡ work.old.conn.ghost_name }
+    ensures tells { Q.tells by.old → Q.tells by.new }
+    ensures count { Q.refusals by.old ≤ Q.refusals by.new }
+    ensures refused { IsErrOf result StatementError.Refused
+        → Rose (Q.refusals by.old) (Q.refusals by.new) }
+{
+    make_table(work, by, Table::Hits)?;
+    empty_tables(work, by, &OLD_TABLES)
+}
+
+/// Leaves a data file of schema 7 without data.
+pub(crate) fn prepare<S: Alter, Q: Statements>(
+    work: &mut Transaction<'_, S>,
+    by: &mut Q,
+    start: Start,
+) -> Result<(), StatementError>
+    ensures works { Q.tells by.old → Works S.Store work.old.conn.now work.new.conn.now result }
+    ensures prepares { Q.tells by.old → Prepares S.Store start
+        work.old.conn.now work.new.conn.now result }
+    ensures refuses { Q.tells by.old → RefusesIfThere S.Store start
+        work.old.conn.now work.new.conn.now result }
+    ensures survives { Q.tells by.old
+        → Survives (state S.Store work.old.conn.now) (state S.Store work.new.conn.now) (λ _. ⊥) }
+    ensures same_reference { work.new.conn.ghost_name ≡ work.old.conn.ghost_name }
+    ensures tells { Q.tells by.old → Q.tells by.new }
+    ensures count { Q.refusals by.old ≤ Q.refusals by.new }
+    ensures refused { IsErrOf result StatementError.Refused
+        → Rose (Q.refusals by.old) (Q.refusals by.new) }
+{
+    match start {
+        Start::Nothing => make_all(work, by),
+        Start::Tables { has_hits: true } => empty_tables(work, by, &OLD_TABLES),
+        Start::Tables { has_hits: false } => empty_and_count(work, by),
+    }
+}
