@@ -11,8 +11,6 @@ mod places;
 mod simple;
 mod statements;
 mod suite_sizes;
-#[cfg(test)]
-mod tests;
 mod ways;
 
 pub use body::body_cells;

@@ -1,7 +1,7 @@
 //! Rows of cells.
-use crate::{Defs, body_cells};
 use py_code::Instr;
 use py_compile_expr::Op;
+use py_emit::{Defs, body_cells};
 use py_syntax::{Expr, LineEnd, Stmt, StmtKind, Suite};
 use py_value::{NoMemory, Text};
 use std::alloc::Global;
