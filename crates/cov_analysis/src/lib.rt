@@ -15,6 +15,3 @@ mod taken;
 pub use analysing::analyse;
 pub use analysis::{Analysis, total};
 pub use numbers::Numbers;
-
-#[cfg(test)]
-mod tests;

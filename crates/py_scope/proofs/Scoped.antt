@@ -1,11 +1,11 @@
 -- A name stands among others whether they are kept once each or as often as they occur.
-use Rattle.std.proofs.Common.{◌≡◌, List, [], ◌∷◌, ◌++◌, Bool, true, false, not, ◌||◌, ◌&&◌, refl, sym, ap, ◌∙◌, if◌then◌else◌}
+use Rattle.std.proofs.Common.{◌≡◌, List, [], ◌∷◌, ◌++◌, Bool, true, false, not, ◌||◌, ◌&&◌, filter, refl, sym, ap, ◌∙◌, if◌then◌else◌}
 use Rattle.std.proofs.lemmas.List.Folds.{list_any-append}
 use Rattle.std.proofs.lemmas.Slice.Eq.{bytes_eq-Decides}
 use Rattle.std.specs.Str.{bytes_eq}
 use Rattle.py_syntax.specs.Tree.{Text, Stmts}
-use Rattle.py_syntax.specs.Names.{is_among, add_name, add_names, distinct, assigned_names, declared_names, is_local as is_local_in}
-use Rattle.py_scope.specs.Scopes.{Names, is_local, is_global}
+use Rattle.py_syntax.specs.Names.{is_among, add_name, add_names, distinct, assigned_names, declared_names, local_names, is_local as is_local_in}
+use Rattle.py_scope.specs.Scopes.{Names, is_local, is_global, own_names}
 use Rattle.py_scope.specs.Faults.{names_of}
 use Rattle.py_scope.proofs.Gathering.{or_false}
 
@@ -43,3 +43,14 @@ local_of n params b x e =
 
 pub global_of : (n : Names) (params : List Text) (b : Stmts) (x : Text) → n ≡ names_of params b → is_global n x ≡ is_among (declared_names b) x
 global_of n params b x e = ap (λ (m : Names). is_global m x) e ∙ among-distinct (declared_names b) x
+
+alike : (p q : Text → Bool) → ((x : Text) → p x ≡ q x) → (xs : List Text) → filter p xs ≡ filter q xs
+alike p q h [] = refl
+alike p q h (x ∷ xs) = ap (λ b. if b then x ∷ filter p xs else filter p xs) (h x) ∙ ap (λ ys. if q x then x ∷ ys else ys) (alike p q h xs)
+
+-- its local names
+pub own_of : (n : Names) (params : List Text) (b : Stmts) → n ≡ names_of params b → own_names n ≡ local_names params b
+own_of n params b e =
+    ap own_names e
+    ∙ alike (λ x. not (is_among (distinct (declared_names b)) x)) (λ x. not (is_among (declared_names b) x))
+    (λ x. ap not (among-distinct (declared_names b) x)) (distinct (params ++ assigned_names b))

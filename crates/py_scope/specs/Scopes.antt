@@ -1,5 +1,5 @@
 -- What is told of a function.
-use Rattle.std.specs.Prelude.{Bool, not, ◌&&◌, List}
+use Rattle.std.specs.Prelude.{Bool, not, ◌&&◌, List, filter}
 use Rattle.py_syntax.specs.Tree.{Text}
 use Rattle.py_syntax.specs.Names.{is_among}
 
@@ -15,3 +15,7 @@ is_local n x = is_among n.assigned x && not (is_among n.globals x)
 -- it declares the name `global`
 abbrev pub is_global : Names → Text → Bool
 is_global n x = is_among n.globals x
+
+-- the names that are local in it, in the order of its assignments
+abbrev pub own_names : Names → List Text
+own_names n = filter (λ x. not (is_among n.globals x)) n.assigned

@@ -1,6 +1,6 @@
 // Sets of names in the order in which they came.
 
-ghost use Rattle.std.specs.Prelude.{◌≡◌, [], not, IfOk, OnOk, OnErr};
+ghost use Rattle.std.specs.Prelude.{◌≡◌, [], not, filter, IfOk, OnOk, OnErr};
 ghost use Rattle.py_syntax.specs.Names.{is_among, add_name};
 
 use indexmap::IndexSet;
@@ -55,5 +55,21 @@ impl NameSet {
         ensures { result ≡ is_among self.now name.now }
     {
         self.all.contains(name.as_str())
+    }
+
+    /// The names that other ones lack, in order.
+    pub(crate) fn without(&self, alloc: Global, others: &NameSet) -> Result<Vec<Text>, NoMemory>
+        ensures { IfOk result (λ v. v.items
+            ≡ filter (λ x. not (is_among others.now x)) self.now) }
+    {
+        let mut left = Vec::new(alloc);
+        let names = self.all.as_slice();
+        for name in names {
+            let text = Text::from_str(alloc, name.as_str())?;
+            if !others.contains(&text) {
+                left.push(text)?;
+            }
+        }
+        Ok(left)
     }
 }

@@ -1,13 +1,15 @@
 // The names of functions.
 
-ghost use Rattle.std.specs.Prelude.{◌≡◌, List, slice_get, length, option_copied};
+ghost use Rattle.std.specs.Prelude.{◌≡◌, List, slice_get, length, option_copied, IfOk};
 ghost use Rattle.py_syntax.specs.Names.{is_among, declared_names, is_local as is_local_in};
+ghost use Rattle.py_syntax.specs.Names.{local_names};
 ghost use Rattle.py_syntax.specs.Tree.{Text, Stmts};
 ghost use Rattle.py_scope.specs.Faults.{names_of};
-ghost use Rattle.py_scope.specs.Scopes.{is_local, is_global};
+ghost use Rattle.py_scope.specs.Scopes.{is_local, is_global, own_names};
 
 use crate::names::NameSet;
-use py_value::Text;
+use py_value::{NoMemory, Text};
+use std::alloc::Global;
 use std::marker::Model;
 
 /// The names of a function, seen as the list of those that it assigns and the list of those that it
@@ -44,6 +46,16 @@ impl FunctionNames {
             → result ≡ is_among (declared_names body) name.now }
     {
         self.globals.contains(name)
+    }
+
+    /// The local names of the function, in the order in which it first assigns them.
+    pub fn locals(&self, alloc: Global) -> Result<Vec<Text>, NoMemory>
+        ensures names { IfOk result (λ v. v.items ≡ own_names self.now) }
+        // In a function with these parameters and this body.
+        ensures function { (params : List Text) (body : Stmts) → self.now ≡ names_of params body
+            → IfOk result (λ v. v.items ≡ local_names params body) }
+    {
+        self.assigned.without(alloc, &self.globals)
     }
 }
 

@@ -8,8 +8,6 @@ mod keys;
 mod lines;
 mod names;
 mod numbering;
-#[cfg(test)]
-mod tests;
 mod unit;
 mod units;
 

@@ -1,8 +1,8 @@
 //! Rows of units.
-use crate::{Heading, body_unit, functions_of, lines_of, unit_of};
 use py_code::{Constant, Instr};
 use py_compile_expr::{Builder, Guard, Op};
 use py_syntax::{LineEnd, Module, Stmt, StmtKind, Suite};
+use py_unit::{Heading, body_unit, functions_of, lines_of, unit_of};
 use py_value::{NoMemory, Text};
 use std::alloc::Global;
 use std::test::Fail;

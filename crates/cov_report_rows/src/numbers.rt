@@ -1,7 +1,7 @@
 //! Rows of percentages and sums.
 ghost use Rattle.std.specs.Prelude.{◌≡◌};
 
-use crate::{Analysis, Numbers, total};
+use cov_analysis::{Analysis, Numbers, total};
 use std::alloc::Global;
 use std::test::Fail;
 

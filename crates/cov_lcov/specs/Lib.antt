@@ -1,0 +1,3 @@
+pub mod Annotated
+pub mod Lcov
+pub mod Views

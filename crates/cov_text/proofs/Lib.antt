@@ -1,0 +1,7 @@
+mod Items
+mod Lists
+mod Cells
+mod Percentages
+mod Totals
+mod Whole
+mod Rows

@@ -1,0 +1,4 @@
+pub mod Percentage
+pub mod Missing
+pub mod Report
+pub mod Stored

@@ -1,0 +1,2 @@
+mod NamesOfDefs
+mod Turns
