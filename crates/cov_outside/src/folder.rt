@@ -42,6 +42,7 @@ impl FolderShelf {
 
     /// What an error means, which counts as a fault unless memory was missing.
     fn count(&mut self, error: io::Error) -> ShelfError
+        ensures same { folder_of self.new ≡ folder_of self.old }
         ensures count { self.old.faults ≤ self.new.faults }
         ensures failed { result ≡ ShelfError.Failed → Rose self.old.faults self.new.faults }
         ensures not_absent { result ≡ ShelfError.Absent → ⊥ }
@@ -56,11 +57,19 @@ impl FolderShelf {
 }
 
 impl Shelf for FolderShelf {
+    ghost use Rattle.cov_outside.specs.Real.{ReadsFolder, PutsFolder};
+
     ghost tells = { ⊥ };
 
     ghost files = { λ _ _. None };
 
     ghost faults = { λ shelf. shelf.faults };
+
+    ghost reads = { ReadsFolder };
+
+    ghost puts = { PutsFolder };
+
+    ghost truthful = { λ no. absurd no };
 
     ghost bounded = { λ shelf. shelf.bounded };
 

@@ -88,7 +88,8 @@ impl MemShelf {
 impl Shelf for MemShelf {
     ghost use Rattle.cov_outside.specs.Calls.{FailsNext, after_call};
     ghost use Rattle.cov_outside.specs.Counts.{Rose};
-    ghost use Rattle.cov_outside.specs.Memory.{shelf_files, shelf_calls, shelf_faults};
+    ghost use Rattle.cov_outside.specs.Memory.{shelf_files, shelf_calls, shelf_faults, ReadsMemory, PutsMemory};
+    ghost use Rattle.cov_outside.specs.Reads.{bytes_read, refusal_of};
 
     ghost tells = { Unit {0} };
 
@@ -96,9 +97,17 @@ impl Shelf for MemShelf {
 
     ghost faults = { shelf_faults };
 
+    ghost reads = { ReadsMemory };
+
+    ghost puts = { PutsMemory };
+
+    ghost truthful = { λ _ _ _ _ _ _ moved. (moved.told, moved.kept) };
+
     ghost bounded = { λ shelf. shelf.failing.bounded };
 
     fn read(&mut self, alloc: Global, name: &str, most: usize) -> Result<Vec<u8>, ShelfError>
+        ensures moved { ReadsMemory self.old name.now most (bytes_read result) self.new }
+
         // Exactly the calls fail that the list names.
         ensures fails { IsErrOf result ShelfError.Failed ↔ FailsNext (shelf_calls self.old) }
         ensures calls { shelf_calls self.new ≡ after_call (shelf_calls self.old) }
@@ -122,6 +131,8 @@ impl Shelf for MemShelf {
     }
 
     fn put(&mut self, alloc: Global, name: &str, bytes: &[u8]) -> Result<(), ShelfError>
+        ensures moved { PutsMemory self.old name.now bytes.now (refusal_of result) self.new }
+
         // Exactly the calls fail that the list names.
         ensures fails { IsErrOf result ShelfError.Failed ↔ FailsNext (shelf_calls self.old) }
         ensures calls { shelf_calls self.new ≡ after_call (shelf_calls self.old) }
@@ -139,8 +150,10 @@ impl Shelf for MemShelf {
         if self.failing.fails() {
             return Err(ShelfError::Failed);
         }
-        self.entries.put(alloc, name, bytes)?;
-        Ok(())
+        match self.entries.put(alloc, name, bytes) {
+            Ok(()) => Ok(()),
+            Err(_) => Err(ShelfError::NoMemory),
+        }
     }
 }
 
@@ -162,11 +175,19 @@ impl SureShelf {
 }
 
 impl Shelf for SureShelf {
+    ghost use Rattle.cov_outside.specs.Memory.{sure_files, ReadsSure, PutsSure};
+
     ghost tells = { Unit {0} };
 
-    ghost files = { λ shelf. files_of (plain_pairs shelf.entries.pairs.items) };
+    ghost files = { sure_files };
 
     ghost faults = { λ _. 0 };
+
+    ghost reads = { ReadsSure };
+
+    ghost puts = { PutsSure };
+
+    ghost truthful = { λ _ _ _ _ _ _ moved. (moved.told, moved.kept) };
 
     ghost bounded = { λ _. lit≤ tt };
 

@@ -1,8 +1,10 @@
 // Where a program's files lie.
-ghost use Rattle.std.specs.Prelude.{◌≡◌, ℕ, ◌<◌, ◌≤◌, List, length, Some, None, IfOk, OnOk, OnErr, IsErrOf};
+ghost use Rattle.std.specs.Prelude.{◌≡◌, ℕ, ◌<◌, ◌≤◌, List, length, Option, Some, None, Result, IfOk, OnOk, OnErr, IsErrOf};
+ghost use Rattle.cov_outside.specs.declared.shelf.ShelfError.{ShelfError as Error};
 ghost use Rattle.cov_outside.specs.declared.shelf.ShelfError.TheVariants.{NoMemory};
 ghost use Rattle.cov_outside.specs.Counts.{greatest, Rose};
 ghost use Rattle.cov_outside.specs.Files.{Files, with_file};
+ghost use Rattle.cov_outside.specs.Reads.{IsTold, bytes_read, refusal_of};
 
 use std::alloc::{AllocError, Global};
 use thiserror::Error;
@@ -39,8 +41,21 @@ pub trait Shelf {
     // How often a call has failed.
     ghost faults: { Self → ℕ };
 
+    // A read of a name with at most so many bytes, and its answer, lead from one state to another.
+    ghost reads: { Self → List ℕ → ℕ → Result (List ℕ) Error → Self → Type 0 };
+
+    // So does a put of bytes under a name, and its refusal, where it was refused.
+    ghost puts: { Self → List ℕ → List ℕ → Option Error → Self → Type 0 };
+
+    // A shelf that tells its files answers by them, and reading leaves them as they are.
+    ghost truthful: { tells → (old : Self) (name : List ℕ) (most : ℕ)
+        (answer : Result (List ℕ) Error) (new : Self) → reads old name most answer new
+        → IsTold (files old name) most answer × (files new ≡ files old) };
+
     /// The whole file, where it has at most `most` bytes.
     fn read(&mut self, alloc: Global, name: &str, most: usize) -> Result<Vec<u8>, ShelfError>
+        ensures moved { reads self.old name.now most (bytes_read result) self.new }
+
         ensures found { tells → IfOk result (λ bytes. files self.old name.now ≡ Some bytes.items) }
         ensures fits { IfOk result (λ bytes. length bytes.items ≤ most) }
         ensures absent { tells → IsErrOf result ShelfError.Absent → files self.old name.now ≡ None }
@@ -55,6 +70,8 @@ pub trait Shelf {
     /// Sets the file of this name as a whole, whether there was one or not. After a refusal the files are
     /// as before.
     fn put(&mut self, alloc: Global, name: &str, bytes: &[u8]) -> Result<(), ShelfError>
+        ensures moved { puts self.old name.now bytes.now (refusal_of result) self.new }
+
         ensures ok { tells
             → OnOk result (files self.new ≡ with_file name.now bytes.now (files self.old)) }
         ensures err { tells → OnErr result (files self.new ≡ files self.old) }
