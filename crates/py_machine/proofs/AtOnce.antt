@@ -1,5 +1,5 @@
 -- Calls that end at once.
-use Rattle.std.proofs.Common.{◌≡◌, ℕ, List, [], ◌++◌, refl, sym, ap, ◌∙◌, subst, append-nil}
+use Rattle.std.proofs.Common.{◌≡◌, ℕ, List, [], ◌++◌, refl, sym, ap, ◌∙◌, append-nil}
 use Rattle.std.specs.Prelude.{Vec, Result, Ok, Err}
 use Rattle.std.specs.declared.alloc.Global.{Global}
 use Rattle.cov_event.specs.declared.event.Event.{Event}
@@ -15,7 +15,7 @@ use Rattle.py_builtins.specs.Attributes.{or_raise}
 use Rattle.py_builtins.specs.Builtins.{builtin_of}
 use Rattle.py_builtins.specs.Faults.{name_unknown}
 use Rattle.py_builtins.specs.World.{with_heap, global_of}
-use Rattle.py_builtins.specs.Inputs.{Fed, OnReads, Gives, Wrote}
+use Rattle.py_builtins.specs.Inputs.{OnReads, Gives, Wrote}
 use Rattle.py_code.specs.Configurations.{Effects, End}
 use Rattle.py_code.specs.Machine.{by_answer, by_done, outer_call, follows}
 use Rattle.py_code.specs.Slots.{by_slots}
@@ -30,42 +30,34 @@ use Rattle.py_machine.specs.declared.reach.Reach.{Reach as RawReach}
 use Rattle.py_machine.specs.declared.reach.Reach.TheVariants.{Gives as GivesValue, Raises, Asks}
 use Rattle.py_machine.specs.Reaching.{plain_reach}
 use Rattle.py_machine.specs.Told.{Heard, Ran, ended}
+use Rattle.py_machine.proofs.Hearing.{heard_as, heard_nothing, of_reads}
 use Rattle.py_machine.proofs.Joins.{at, wrote_none}
 
 -- the run is the same as another
 pub ran_as : (tells : Type 0) (i0 i1 : List ℕ) (took : List Event → Type 0) (wrote : List ℕ → Type 0) (before other : Outside → End) (how : Ending) (steps : ℕ) (s : Store)
     → ((o : Outside) → before o ≡ other o) → Heard tells i0 i1 (Ran took wrote other how steps s) → Heard tells i0 i1 (Ran took wrote before how steps s)
-ran_as tells i0 i1 took wrote before other how steps s h r = record {
-  heard = r.heard;
-  told = r.told;
-  holds = λ all rest f.
-      let x = r.holds all rest f in
-      record {
-        events = x.events;
-        out = x.out;
-        has_told = x.has_told;
-        has_said = x.has_said;
-        is = λ w es. h (record { input = all; out = w; events = es }) ∙ x.is w es;
-      };
-}
+ran_as tells i0 i1 took wrote before other how steps s h r =
+    heard_as tells i0 (λ rest. rest ≡ i1) (Ran took wrote other how steps s) (Ran took wrote before how steps s) (λ all rest x. record {
+      events = x.events;
+      out = x.out;
+      has_told = x.has_told;
+      has_said = x.has_said;
+      is = λ w es. h (record { input = all; out = w; events = es }) ∙ x.is w es;
+    }) r
 
 -- nothing is told, written and read
 pub ends_at_once : {T : Type 0} (moves : T → Event → T → Type 0) (a : T) (said : Type 0) (o0 : List ℕ) (tells : Type 0) (i0 : List ℕ) (before : Outside → End) (how : Ending) (steps : ℕ) (s : Store)
     → ((o : Outside) → before o ≡ ended how steps (effects_of s o)) → Heard tells i0 i0 (Ran (λ es. Takes moves a es a) (Wrote said o0 o0) before how steps s)
-ends_at_once moves a said o0 tells i0 before how steps s h = record {
-  heard = [];
-  told = λ t. refl;
-  holds = λ all rest f. record {
-    events = [];
-    out = [];
-    has_told = refl;
-    has_said = wrote_none said o0;
-    is = λ w es.
-        h (record { input = all; out = w; events = es })
-        ∙ ap (λ r. ended how steps (effects_of s (record { input = r; out = w; events = es }))) f
-        ∙ ap (λ o. ended how steps (effects_of s o)) (at rest _ _ _ _ (sym (append-nil w)) (sym (append-nil es)));
-  };
-}
+ends_at_once moves a said o0 tells i0 before how steps s h =
+    heard_nothing tells i0 (Ran (λ es. Takes moves a es a) (Wrote said o0 o0) before how steps s) (λ all. record {
+      events = [];
+      out = [];
+      has_told = refl;
+      has_said = wrote_none said o0;
+      is = λ w es.
+          h (record { input = all; out = w; events = es })
+          ∙ ap (λ o. ended how steps (effects_of s o)) (at all _ _ _ _ (sym (append-nil w)) (sym (append-nil es)));
+    })
 
 module _ {T : Type 0} (moves : T → Event → T → Type 0) (a : T) (said : Type 0) (o0 o1 : List ℕ) (tells : Type 0) (i0 i1 : List ℕ) (ms : List Module) (which : Builtin) (values : Vec Value Global) (budget : ℕ)
     (s s1 : Store) (answer : Answer) (how : Ending)
@@ -81,27 +73,24 @@ module _ {T : Type 0} (moves : T → Event → T → Type 0) (a : T) (said : Typ
   -- a built-in function
   pub asks_at_once : Heard tells i0 i1 (Ran (λ es. Takes moves a es a) (Wrote said o0 o1)
       (λ o. follows (by_slots ms) ms (outer_call (by_slots ms) ms (by_done (builtin_of which (plains values.items) (plain_heap s.heap) o.input) (effects_of s o)) budget (effects_of s o))) how budget s1)
-  asks_at_once = record {
-    heard = r.heard;
-    told = λ t. subst (λ x. Fed r.heard x i1) (r.told t).0 (subst (λ x. Fed r.heard r.input x) (r.told t).1 r.fed);
-    holds = λ all rest f.
-        let gives = r.holds all rest f in
-        let done = builtin_of which (plains values.items) (plain_heap s.heap) all in
-        record {
-          events = [];
-          out = done.written;
-          has_told = refl;
-          has_said = gives.1;
-          is = λ w es.
-              let first : Outside = record { input = all; out = w; events = es } in
-              let last : Outside = record { input = rest; out = w ++ done.written; events = es } in
-              ap (λ x. called x (effects_of s (record { input = done.left; out = w ++ done.written; events = es })) (effects_of s first)) (sym gives.0)
-              ∙ ap (λ x. called answer (effects_of s (record { input = x; out = w ++ done.written; events = es })) (effects_of s first)) (sym gives.2)
-              ∙ same answer (effects_of s last) (effects_of s first) (effects_of s last)
-              ∙ h last
-              ∙ ap (λ z. ended how budget (effects_of s1 (record { input = rest; out = w ++ done.written; events = z }))) (sym (append-nil es));
-        };
-  }
+  asks_at_once =
+      heard_as tells i0 (λ rest. rest ≡ i1) (λ all rest. Gives (builtin_of which (plains values.items) (plain_heap s.heap) all) answer (Wrote said o0 o1) rest) _ (λ all rest gives.
+      let done = builtin_of which (plains values.items) (plain_heap s.heap) all in
+      record {
+        events = [];
+        out = done.written;
+        has_told = refl;
+        has_said = gives.1;
+        is = λ w es.
+            let first : Outside = record { input = all; out = w; events = es } in
+            let last : Outside = record { input = rest; out = w ++ done.written; events = es } in
+            ap (λ x. called x (effects_of s (record { input = done.left; out = w ++ done.written; events = es })) (effects_of s first)) (sym gives.0)
+            ∙ ap (λ x. called answer (effects_of s (record { input = x; out = w ++ done.written; events = es })) (effects_of s first)) (sym gives.2)
+            ∙ same answer (effects_of s last) (effects_of s first) (effects_of s last)
+            ∙ h last
+            ∙ ap (λ z. ended how budget (effects_of s1 (record { input = rest; out = w ++ done.written; events = z }))) (sym (append-nil es));
+      })
+      (of_reads tells i0 i1 (λ all rest. Gives (builtin_of which (plains values.items) (plain_heap s.heap) all) answer (Wrote said o0 o1) rest) r)
 
 -- its value, or its exception
 module _ {T : Type 0} (moves : T → Event → T → Type 0) (a : T) (said : Type 0) (o0 o1 : List ℕ) (tells : Type 0) (i0 i1 : List ℕ) (ms : List Module) (which : Builtin) (values : Vec Value Global) (budget : ℕ)

@@ -1,5 +1,5 @@
 -- Where a run begins.
-use Rattle.std.proofs.Common.{◌≡◌, ℕ, suc, append_assoc, ◌<◌, List, [], ◌∷◌, ◌++◌, length, map, Some, refl, sym, ap, ◌∙◌, subst, append-nil}
+use Rattle.std.proofs.Common.{◌≡◌, ℕ, suc, append_assoc, ◌<◌, false, List, [], ◌∷◌, ◌++◌, length, map, Some, refl, sym, ap, ◌∙◌, subst, append-nil}
 use Rattle.std.specs.Prelude.{slice_get}
 use Rattle.cov_event.specs.declared.event.CodeId.{CodeId}
 use Rattle.cov_event.specs.declared.event.Event.{Event}
@@ -19,27 +19,23 @@ use Rattle.py_instructions.specs.declared.frame.State.{State}
 use Rattle.py_store.specs.declared.store.Store.{Store}
 use Rattle.py_machine.specs.declared.ending.Ending.{Ending}
 use Rattle.py_machine.specs.declared.ending.Ending.TheVariants.{Spent}
-use Rattle.py_machine.specs.Told.{Heard, Reached, Ran, AtStart, ended}
+use Rattle.py_machine.specs.Told.{Heard, Hears, Reached, Ran, AtStart, ended}
 use Rattle.py_store.specs.Stores.{world_of}
 use Rattle.py_instructions.specs.View.{Slots, Outside, plain_frame, effects_of, seen}
+use Rattle.py_machine.proofs.Hearing.{heard_as, heard_nothing, hears_nothing}
 use Rattle.py_machine.proofs.Joins.{StandAt, at, wrote_none}
 
 -- nothing happened yet
 pub begun : {T : Type 0} (moves : T → Event → T → Type 0) (a : T) (said : Type 0) (o0 : List ℕ) (tells : Type 0) (i0 : List ℕ) (ms : List Module) (m : State) (s : Store)
-    → Heard tells i0 i0 (Reached (λ es. Takes moves a es a) (Wrote said o0 o0) ms (seen m s) (seen m s))
-begun moves a said o0 tells i0 ms m s = record {
-  heard = [];
-  told = λ t. refl;
-  holds = λ all rest f. record {
-    events = [];
-    out = [];
-    has_told = refl;
-    has_said = wrote_none said o0;
-    is = λ w es.
-        ap (λ r. let o : Outside = record { input = r; out = w; events = es } in go (machine (by_slots ms) ms) (seen m s o)) f
-        ∙ ap (λ o. go (machine (by_slots ms) ms) (seen m s o)) (at rest _ _ _ _ (sym (append-nil w)) (sym (append-nil es)));
-  };
-}
+    → Hears tells i0 i0 false false (Reached (λ es. Takes moves a es a) (Wrote said o0 o0) ms (seen m s) (seen m s))
+begun moves a said o0 tells i0 ms m s =
+    hears_nothing tells false i0 (λ e. absurd (cc)) (Reached (λ es. Takes moves a es a) (Wrote said o0 o0) ms (seen m s) (seen m s)) (λ all. record {
+      events = [];
+      out = [];
+      has_told = refl;
+      has_said = wrote_none said o0;
+      is = λ w es. ap (λ o. go (machine (by_slots ms) ms) (seen m s o)) (at all _ _ _ _ (sym (append-nil w)) (sym (append-nil es)));
+    })
 
 -- the first frame stands
 pub starts : (ms : List Module) (some : 0 < length ms) (h : AreCodes ms) (m : State) (s : Store) → AtStart ms m
@@ -81,37 +77,28 @@ module _ (ms : List Module) (code : CodeId) (vs : List PlainValue) (m : State) (
 pub ran_after : {T : Type 0} (moves : T → Event → T → Type 0) (a b c : T) (event : Event) (wrote : List ℕ → Type 0) (tells : Type 0) (i0 i1 : List ℕ) (before other : Outside → End) (how : Ending) (steps : ℕ) (s : Store)
     → moves a event b → ((o : Outside) → before o ≡ other (record o { events = o.events ++ event ∷ [] }))
     → Heard tells i0 i1 (Ran (λ es. Takes moves b es c) wrote other how steps s) → Heard tells i0 i1 (Ran (λ es. Takes moves a es c) wrote before how steps s)
-ran_after moves a b c event wrote tells i0 i1 before other how steps s k h r = record {
-  heard = r.heard;
-  told = r.told;
-  holds = λ all rest f.
-      let x = r.holds all rest f in
-      record {
-        events = event ∷ x.events;
-        out = x.out;
-        has_told = (b, k, x.has_told);
-        has_said = x.has_said;
-        is = λ v es.
-            h (record { input = all; out = v; events = es })
-            ∙ x.is v (es ++ event ∷ [])
-            ∙ ap (λ z. ended how steps (effects_of s (record { input = rest; out = v ++ x.out; events = z }))) (append_assoc es (event ∷ []) x.events);
-      };
-}
+ran_after moves a b c event wrote tells i0 i1 before other how steps s k h r =
+    heard_as tells i0 (λ rest. rest ≡ i1) (Ran (λ es. Takes moves b es c) wrote other how steps s) (Ran (λ es. Takes moves a es c) wrote before how steps s) (λ all rest x. record {
+      events = event ∷ x.events;
+      out = x.out;
+      has_told = (b, k, x.has_told);
+      has_said = x.has_said;
+      is = λ v es.
+          h (record { input = all; out = v; events = es })
+          ∙ x.is v (es ++ event ∷ [])
+          ∙ ap (λ z. ended how steps (effects_of s (record { input = rest; out = v ++ x.out; events = z }))) (append_assoc es (event ∷ []) x.events);
+    }) r
 
 -- no step is left for the first frame
 pub spent_first : {T : Type 0} (moves : T → Event → T → Type 0) (a : T) (said : Type 0) (o0 : List ℕ) (tells : Type 0) (i0 : List ℕ) (ms : List Module) (code : CodeId) (vs : List PlainValue) (s : Store) (budget : ℕ)
     → budget ≡ 0 → Heard tells i0 i0 (Ran (λ es. Takes moves a es a) (Wrote said o0 o0) (λ o. follows (by_slots ms) ms (outermost (by_slots ms) ms code vs budget (effects_of s o))) Spent 0 s)
-spent_first moves a said o0 tells i0 ms code vs s budget e = record {
-  heard = [];
-  told = λ t. refl;
-  holds = λ all rest f. record {
-    events = [];
-    out = [];
-    has_told = refl;
-    has_said = wrote_none said o0;
-    is = λ w es.
-        ap (λ k. follows (by_slots ms) ms (outermost (by_slots ms) ms code vs k (effects_of s (record { input = all; out = w; events = es })))) e
-        ∙ ap (λ r. ended Spent 0 (effects_of s (record { input = r; out = w; events = es }))) f
-        ∙ ap (λ o. ended Spent 0 (effects_of s o)) (at rest _ _ _ _ (sym (append-nil w)) (sym (append-nil es)));
-  };
-}
+spent_first moves a said o0 tells i0 ms code vs s budget e =
+    heard_nothing tells i0 (Ran (λ es. Takes moves a es a) (Wrote said o0 o0) (λ o. follows (by_slots ms) ms (outermost (by_slots ms) ms code vs budget (effects_of s o))) Spent 0 s) (λ all. record {
+      events = [];
+      out = [];
+      has_told = refl;
+      has_said = wrote_none said o0;
+      is = λ w es.
+          ap (λ k. follows (by_slots ms) ms (outermost (by_slots ms) ms code vs k (effects_of s (record { input = all; out = w; events = es })))) e
+          ∙ ap (λ o. ended Spent 0 (effects_of s o)) (at all _ _ _ _ (sym (append-nil w)) (sym (append-nil es)));
+    })

@@ -1,10 +1,9 @@
 -- Parts of a run, one after another.
-use Rattle.std.proofs.Common.{◌≡◌, ℕ, ◌<◌, List, [], ◌∷◌, ◌++◌, Option, Some, None, sym, ap, ◌∙◌, subst, append_assoc, append-nil, inl, inr}
+use Rattle.std.proofs.Common.{◌≡◌, ℕ, ◌<◌, Bool, List, [], ◌∷◌, ◌++◌, Option, Some, None, sym, ap, ◌∙◌, subst, append_assoc, append-nil, inl, inr}
 use Rattle.cov_event.specs.declared.event.CodeId.{CodeId}
 use Rattle.cov_event.specs.declared.event.Event.{Event}
 use Rattle.cov_event.specs.Moves.{Takes}
 use Rattle.py_builtins.specs.Inputs.{Wrote}
-use Rattle.py_builtins.proofs.Feeding.{fed_then, fed_apart}
 use Rattle.py_code.specs.Configurations.{Configuration}
 use Rattle.py_code.specs.Machine.{move, machine}
 use Rattle.py_code.specs.Run.{go}
@@ -17,8 +16,9 @@ use Rattle.py_code.proofs.Steps.{ends}
 use Rattle.py_machine.specs.declared.ending.Ending.{Ending}
 use Rattle.py_instructions.specs.declared.frame.State.{State}
 use Rattle.py_store.specs.declared.store.Store.{Store}
-use Rattle.py_machine.specs.Told.{Heard, Went, Step, Reached, Ran, ended}
+use Rattle.py_machine.specs.Told.{Heard, Hears, Went, Part, Reached, Ran, ended}
 use Rattle.py_instructions.specs.View.{Slots, Outside, seen, effects_of}
+use Rattle.py_machine.proofs.Hearing.{hears_then}
 
 module _ {T : Type 0} (moves : T → Event → T → Type 0) where
   pub takes_then : (a b c : T) (es fs : List Event) → Takes moves a es b → Takes moves b fs c → Takes moves a (es ++ fs) c
@@ -43,72 +43,78 @@ module _ (ms : List Module) (depths : CodeId → List ℕ) (valid : AreValid ms 
   leads c d s (inl e) = goes_on (by_slots ms) ms depths valid c d s e
   leads c d s (inr e) = ticks_on (by_slots ms) ms depths valid c d s e
 
-  module _ {T : Type 0} (moves : T → Event → T → Type 0) (a b c : T) (said : Type 0) (o0 o1 o2 : List ℕ) (tells : Type 0) (i0 i1 i2 : List ℕ)
+  module _ {T : Type 0} (moves : T → Event → T → Type 0) (a b c : T) (said : Type 0) (o0 o1 o2 : List ℕ) (tells : Type 0) (i0 i1 i2 : List ℕ) (w0 w1 w2 : Bool)
       (m m1 m2 : State) (s s1 s2 : Store) (stand : StandAt m1 s1) where
+    abbrev Came : List ℕ → List ℕ → Type 0
+    Came = Reached (λ es. Takes moves a es b) (Wrote said o0 o1) ms (seen m s) (seen m1 s1)
+
     abbrev Was : Type 0
-    Was = Heard tells i0 i1 (Reached (λ es. Takes moves a es b) (Wrote said o0 o1) ms (seen m s) (seen m1 s1))
+    Was = Hears tells i0 i1 w0 w1 Came
+
+    abbrev Moved : Option Ending → List ℕ → List ℕ → Type 0
+    Moved how = Part (λ es. Takes moves b es c) (Wrote said o1 o2) (λ o. move (by_slots ms) ms (seen m1 s1 o)) (seen m2 s2) how
 
     abbrev Steps : Option Ending → Type 0
-    Steps how = Step tells i1 i2 (λ es. Takes moves b es c) (Wrote said o1 o2) (λ o. move (by_slots ms) ms (seen m1 s1 o)) (seen m2 s2) how
+    Steps how = Hears tells i1 i2 w1 w2 (Moved how)
+
+    abbrev Comes : List ℕ → List ℕ → Type 0
+    Comes = Reached (λ es. Takes moves a es c) (Wrote said o0 o2) ms (seen m s) (seen m2 s2)
+
+    abbrev Ended : Ending → List ℕ → List ℕ → Type 0
+    Ended how = Ran (λ es. Takes moves a es c) (Wrote said o0 o2) (λ o. go (machine (by_slots ms) ms) (seen m s o)) how m2.steps s2
+
+    further_one : (all mid rest : List ℕ) → Came all mid → Moved None mid rest → Comes all rest
+    further_one all mid rest x y = record {
+      events = x.events ++ y.events;
+      out = x.out ++ y.out;
+      has_told = takes_then moves a b c x.events y.events x.has_told y.has_told;
+      has_said = wrote_then said o0 o1 o2 x.out y.out x.has_said y.has_said;
+      is = λ w es.
+          x.is w es
+          ∙ (leads (seen m1 s1 (record { input = mid; out = w ++ x.out; events = es ++ x.events })) (seen m2 s2 (record { input = rest; out = (w ++ x.out) ++ y.out; events = (es ++ x.events) ++ y.events })) (stand _) (y.is (w ++ x.out) (es ++ x.events))).same
+          ∙ ap (λ o. go (machine (by_slots ms) ms) (seen m2 s2 o)) (at rest _ _ _ _ (append_assoc w x.out y.out) (append_assoc es x.events y.events));
+    }
 
     -- an instruction more of a run
-    further : Was → Steps None → Heard tells i0 i2 (Reached (λ es. Takes moves a es c) (Wrote said o0 o2) ms (seen m s) (seen m2 s2))
-    further r p = record {
-      heard = p.does.heard ++ r.heard;
-      told = λ t. fed_then r.heard p.does.heard i0 i1 i2 (r.told t) (p.does.told t);
-      holds = λ all rest f.
-          let cut = fed_apart r.heard p.does.heard all rest f in
-          let x = r.holds all cut.0 cut.1 in
-          let y = p.does.holds cut.0 rest cut.2 in
-          record {
-            events = x.events ++ y.events;
-            out = x.out ++ y.out;
-            has_told = takes_then moves a b c x.events y.events x.has_told y.has_told;
-            has_said = wrote_then said o0 o1 o2 x.out y.out x.has_said y.has_said;
-            is = λ w es.
-                x.is w es
-                ∙ (leads (seen m1 s1 (record { input = cut.0; out = w ++ x.out; events = es ++ x.events })) (seen m2 s2 (record { input = rest; out = (w ++ x.out) ++ y.out; events = (es ++ x.events) ++ y.events })) (stand _) (y.is (w ++ x.out) (es ++ x.events))).same
-                ∙ ap (λ o. go (machine (by_slots ms) ms) (seen m2 s2 o)) (at rest _ _ _ _ (append_assoc w x.out y.out) (append_assoc es x.events y.events));
-          };
+    further : Was → Steps None → Hears tells i0 i2 w0 w2 Comes
+    further r p = hears_then tells i0 i1 i2 w0 w1 w2 Came (Moved None) Comes further_one r p
+
+    last_one : (how : Ending) (all mid rest : List ℕ) → Came all mid → Moved (Some how) mid rest → Ended how all rest
+    last_one how all mid rest x y = record {
+      events = x.events ++ y.events;
+      out = x.out ++ y.out;
+      has_told = takes_then moves a b c x.events y.events x.has_told y.has_told;
+      has_said = wrote_then said o0 o1 o2 x.out y.out x.has_said y.has_said;
+      is = λ w es.
+          x.is w es
+          ∙ ends (machine (by_slots ms) ms) (seen m1 s1 (record { input = mid; out = w ++ x.out; events = es ++ x.events })) _ (y.is (w ++ x.out) (es ++ x.events))
+          ∙ ap (λ o. ended how m2.steps (effects_of s2 o)) (at rest _ _ _ _ (append_assoc w x.out y.out) (append_assoc es x.events y.events));
     }
 
     -- the last one
-    last : (how : Ending) → Was → Steps (Some how) → Heard tells i0 i2 (Ran (λ es. Takes moves a es c) (Wrote said o0 o2) (λ o. go (machine (by_slots ms) ms) (seen m s o)) how m2.steps s2)
-    last how r p = record {
-      heard = p.does.heard ++ r.heard;
-      told = λ t. fed_then r.heard p.does.heard i0 i1 i2 (r.told t) (p.does.told t);
-      holds = λ all rest f.
-          let cut = fed_apart r.heard p.does.heard all rest f in
-          let x = r.holds all cut.0 cut.1 in
-          let y = p.does.holds cut.0 rest cut.2 in
-          record {
-            events = x.events ++ y.events;
-            out = x.out ++ y.out;
-            has_told = takes_then moves a b c x.events y.events x.has_told y.has_told;
-            has_said = wrote_then said o0 o1 o2 x.out y.out x.has_said y.has_said;
-            is = λ w es.
-                x.is w es
-                ∙ ends (machine (by_slots ms) ms) (seen m1 s1 (record { input = cut.0; out = w ++ x.out; events = es ++ x.events })) _ (y.is (w ++ x.out) (es ++ x.events))
-                ∙ ap (λ o. ended how m2.steps (effects_of s2 o)) (at rest _ _ _ _ (append_assoc w x.out y.out) (append_assoc es x.events y.events));
-          };
-    }
+    last : (how : Ending) → Was → Steps (Some how) → Heard tells i0 i2 (Ended how)
+    last how r p = (hears_then tells i0 i1 i2 w0 w1 w2 Came (Moved (Some how)) (Ended how) (last_one how) r p).hears
 
     abbrev none : List ℕ → Outside
     none all = record { input = all; out = []; events = [] }
 
-    ahead : (p : Steps None) → LeadsTo (by_slots ms) ms depths valid (seen m1 s1 (none p.can.0)) (seen m2 s2 (record { input = p.can.1; out = p.can.2.out; events = p.can.2.events }))
-    ahead p = leads (seen m1 s1 (none p.can.0)) (seen m2 s2 (record { input = p.can.1; out = p.can.2.out; events = p.can.2.events })) (stand _) (p.can.2.is [] [])
+    -- the instruction with the input that there is
+    done : (how : Option Ending) (p : Steps how) → Moved how p.hears.input p.hears.rest
+    done how p = p.hears.holds p.hears.input p.hears.rest p.hears.fed
+
+    ahead : (all rest : List ℕ) (y : Moved None all rest) → LeadsTo (by_slots ms) ms depths valid (seen m1 s1 (none all)) (seen m2 s2 (record { input = rest; out = y.out; events = y.events }))
+    ahead all rest y = leads (seen m1 s1 (none all)) (seen m2 s2 (record { input = rest; out = y.out; events = y.events })) (stand _) (y.is [] [])
 
     nearer : Steps None → distance (by_slots ms) ms (seen m2 s2 (none [])) < distance (by_slots ms) ms (seen m1 s1 (none []))
-    nearer p = (ahead p).nearer
+    nearer p = (ahead p.hears.input p.hears.rest (done None p)).nearer
 
     stands : Steps None → StandAt m2 s2
-    stands p = λ o. record { top = (ahead p).stands.top; callers = (ahead p).stands.callers }
+    stands p = λ o. let l = ahead p.hears.input p.hears.rest (done None p) in record { top = l.stands.top; callers = l.stands.callers }
 
-    pub further_at : (how : Option Ending) → how ≡ None → Was → Steps how → Heard tells i0 i2 (Reached (λ es. Takes moves a es c) (Wrote said o0 o2) ms (seen m s) (seen m2 s2))
+    pub further_at : (how : Option Ending) → how ≡ None → Was → Steps how → Hears tells i0 i2 w0 w2 Comes
     further_at how e r p = further r (subst Steps e p)
 
-    pub last_at : (o : Option Ending) (how : Ending) → o ≡ Some how → Was → Steps o → Heard tells i0 i2 (Ran (λ es. Takes moves a es c) (Wrote said o0 o2) (λ o. go (machine (by_slots ms) ms) (seen m s o)) how m2.steps s2)
+    pub last_at : (o : Option Ending) (how : Ending) → o ≡ Some how → Was → Steps o → Heard tells i0 i2 (Ended how)
     last_at o how e r p = last how r (subst Steps e p)
 
     pub nearer_at : (how : Option Ending) → how ≡ None → Steps how → distance (by_slots ms) ms (seen m2 s2 (none [])) < distance (by_slots ms) ms (seen m1 s1 (none []))

@@ -1,3 +1,5 @@
+mod Hearing
+mod Following
 mod Grows
 mod Joins
 mod Throws

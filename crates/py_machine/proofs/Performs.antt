@@ -1,5 +1,5 @@
 -- What is left of an instruction.
-use Rattle.std.proofs.Common.{◌≡◌, ℕ, suc, List, [], ◌∷◌, ◌++◌, map, Option, None, refl, sym, ap, ◌∙◌, subst, append-nil, inl}
+use Rattle.std.proofs.Common.{◌≡◌, ℕ, suc, List, [], ◌∷◌, ◌++◌, Bool, map, Option, None, refl, sym, ap, ◌∙◌, subst, append-nil, inl}
 use Rattle.std.specs.Prelude.{Vec, Result, Ok, Err, OnErr}
 use Rattle.std.specs.declared.alloc.Global.{Global}
 use Rattle.cov_event.specs.declared.event.Event.{Event}
@@ -14,7 +14,7 @@ use Rattle.py_value.specs.View.{plain, plains, plain_raised, plain_outcome}
 use Rattle.py_value.specs.HeapView.{plain_heap}
 use Rattle.py_builtins.specs.Arguments.{Answer}
 use Rattle.py_builtins.specs.Builtins.{builtin_of}
-use Rattle.py_builtins.specs.Inputs.{Fed, OnReads, Gives, Wrote}
+use Rattle.py_builtins.specs.Inputs.{OnReads, Gives, Wrote}
 use Rattle.py_builtins.specs.World.{World, with_heap}
 use Rattle.py_code.specs.Configurations.{Effects, Configuration, Next}
 use Rattle.py_code.specs.Machine.{throw, calls, by_answer}
@@ -27,56 +27,53 @@ use Rattle.py_instructions.specs.declared.operand.Operand.{Operand as RawOperand
 use Rattle.py_instructions.specs.declared.operand.Operand.TheVariants.{Value as OfValue}
 use Rattle.py_store.specs.declared.store.Store.{Store}
 use Rattle.py_instructions.specs.declared.turn.Turn.TheVariants.{Asks}
-use Rattle.py_machine.specs.Told.{Went, Tells, Part, Step}
+use Rattle.py_machine.specs.Told.{Hears, IsAtEnd, Went, Tells, Part, Step}
 use Rattle.py_store.specs.Stores.{world_of}
 use Rattle.py_instructions.specs.View.{Slots, Outside, plain_operands, plain_frame, effects_of, seen, turned}
+use Rattle.py_machine.proofs.Hearing.{hears_as, hears_nothing}
 use Rattle.py_machine.proofs.Joins.{wrote_none}
+
+-- a built-in function answers so
+abbrev pub Given : Type 0 → List ℕ → List ℕ → Builtin → Vec Value Global → Store → Answer → List ℕ → List ℕ → Type 0
+Given said o0 o1 which values s answer all rest = Gives (builtin_of which (plains values.items) (plain_heap s.heap) all) answer (Wrote said o0 o1) rest
 
 abbrev outside : List ℕ → List ℕ → List Event → Outside
 outside rest w es = record { input = rest; out = w; events = es }
 
--- nothing was written and read
-unwritten : (all rest w : List ℕ) (es fs : List Event) → all ≡ rest → es ≡ fs → outside all w es ≡ outside rest (w ++ []) fs
-unwritten all rest w es fs e f = ap (λ r. outside r w es) e ∙ ap (λ v. outside rest v es) (sym (append-nil w)) ∙ ap (λ x. outside rest (w ++ []) x) f
-
-module _ {T : Type 0} (moves : T → Event → T → Type 0) (said : Type 0) (tells : Type 0) (before : Outside → Next Slots) (now : Outside → Configuration Slots) (how : Option Ending) where
+module _ {T : Type 0} (moves : T → Event → T → Type 0) (said : Type 0) (tells : Type 0) (was : Bool) (before : Outside → Next Slots) (now : Outside → Configuration Slots) (how : Option Ending) where
   -- a part that tells events alone
-  pub only_told : (a b : T) (o0 i0 : List ℕ) → Tells (λ es. Takes moves a es b) before now how → Step tells i0 i0 (λ es. Takes moves a es b) (Wrote said o0 o0) before now how
-  only_told a b o0 i0 p = record { does = record { heard = []; told = λ t. refl; holds = part }; can = ([], [], part [] [] refl) }
+  pub only_told : (a b : T) (o0 i0 : List ℕ) → IsAtEnd was tells i0 → Tells (λ es. Takes moves a es b) before now how → Step tells i0 i0 was was (λ es. Takes moves a es b) (Wrote said o0 o0) before now how
+  only_told a b o0 i0 over p = hears_nothing tells was i0 over (Part (λ es. Takes moves a es b) (Wrote said o0 o0) before now how) part
     where
-      part : (all rest : List ℕ) → all ≡ rest → Part (λ es. Takes moves a es b) (Wrote said o0 o0) before now how all rest
-      part all rest f = record {
+      part : (all : List ℕ) → Part (λ es. Takes moves a es b) (Wrote said o0 o0) before now how all all
+      part all = record {
         events = p.events;
         out = [];
         has_told = p.has_told;
         has_said = wrote_none said o0;
-        is = λ w es. subst (λ o. Went how (before (outside all w es)) (now o)) (unwritten all rest w (es ++ p.events) (es ++ p.events) f refl) (p.is (outside all w es));
+        is = λ w es. subst (λ o. Went how (before (outside all w es)) (now o)) (ap (λ v. outside all v (es ++ p.events)) (sym (append-nil w))) (p.is (outside all w es));
       }
 
   -- one that tells nothing
-  pub quiet : (a : T) (o0 i0 : List ℕ) → ((o : Outside) → Went how (before o) (now o)) → Step tells i0 i0 (λ es. Takes moves a es a) (Wrote said o0 o0) before now how
-  quiet a o0 i0 h =
-      only_told a a o0 i0 (record {
+  pub quiet : (a : T) (o0 i0 : List ℕ) → IsAtEnd was tells i0 → ((o : Outside) → Went how (before o) (now o)) → Step tells i0 i0 was was (λ es. Takes moves a es a) (Wrote said o0 o0) before now how
+  quiet a o0 i0 over h =
+      only_told a a o0 i0 over (record {
         events = [];
         has_told = refl;
         is = λ o. subst (λ x. Went how (before o) (now x)) (ap (λ z. outside o.input o.out z) (sym (append-nil o.events))) (h o);
       })
 
-module _ {T : Type 0} (moves : T → Event → T → Type 0) (said : Type 0) (tells : Type 0) (o0 o1 i0 i1 : List ℕ) (ms : List Module) (which : Builtin) (values : Vec Value Global) (m : State) (s : Store) where
-  abbrev OnAnswer : Answer → Type 0
-  OnAnswer answer = OnReads tells i0 i1 (λ all rest. Gives (builtin_of which (plains values.items) (plain_heap s.heap) all) answer (Wrote said o0 o1) rest)
-
+module _ {T : Type 0} (moves : T → Event → T → Type 0) (said : Type 0) (tells : Type 0) (o0 o1 i0 i1 : List ℕ) (was is : Bool) (ms : List Module) (which : Builtin) (values : Vec Value Global) (m : State) (s : Store) where
   abbrev asking : Outside → Next Slots
   asking o = turned ms (Asks which values) (seen m s o)
 
   abbrev effects : World → Outside → Effects
   effects v o = record { world = v; input = o.input; out = o.out; events = o.events }
 
-  module _ (answer : Answer) (r : OnAnswer answer) (a b : T) (now : Outside → Configuration Slots) (how : Option Ending) (events : List Event) (took : Takes moves a events b)
+  module _ (answer : Answer) (r : Hears tells i0 i1 was is (Given said o0 o1 which values s answer)) (a b : T) (now : Outside → Configuration Slots) (how : Option Ending) (events : List Event) (took : Takes moves a events b)
       (goes : (o : Outside) → Went how (calls (by_slots ms) ms (by_answer answer (effects (world_of s) o)) (plain_operands m.top.operands) (seen m s o)) (now (record o { events = o.events ++ events }))) where
-    part : (all rest : List ℕ) → Fed r.heard all rest → Part (λ es. Takes moves a es b) (Wrote said o0 o1) asking now how all rest
-    part all rest f =
-        let gives = r.holds all rest f in
+    part : (all rest : List ℕ) → Given said o0 o1 which values s answer all rest → Part (λ es. Takes moves a es b) (Wrote said o0 o1) asking now how all rest
+    part all rest gives =
         let done = builtin_of which (plains values.items) (plain_heap s.heap) all in
         record {
           events = events;
@@ -100,19 +97,13 @@ module _ {T : Type 0} (moves : T → Event → T → Type 0) (said : Type 0) (te
             → Went how (calls (by_slots ms) ms (by_answer answer (effects (world_of s) (outside rest (w ++ written) es))) (plain_operands m.top.operands) (seen m s (outside all w es))) (now (outside rest (w ++ written) (es ++ events)))
         change all w es rest written = subst (λ n. Went how n (now (outside rest (w ++ written) (es ++ events)))) (same answer all w es rest written) (goes (outside rest (w ++ written) es))
 
-    pub answered : Step tells i0 i1 (λ es. Takes moves a es b) (Wrote said o0 o1) asking now how
-    answered = record {
-      does = record { heard = r.heard; told = λ t. subst (λ x. Fed r.heard x i1) (r.told t).0 (subst (λ x. Fed r.heard r.input x) (r.told t).1 r.fed); holds = part };
-      can = (r.input, r.rest, part r.input r.rest r.fed);
-    }
+    pub answered : Step tells i0 i1 was is (λ es. Takes moves a es b) (Wrote said o0 o1) asking now how
+    answered = hears_as tells i0 i1 was is (Given said o0 o1 which values s answer) (Part (λ es. Takes moves a es b) (Wrote said o0 o1) asking now how) part r
 
 -- another move, that is the same
-pub step_as : (tells : Type 0) (i0 i1 : List ℕ) (took : List Event → Type 0) (wrote : List ℕ → Type 0) (before other : Outside → Next Slots) (now : Outside → Configuration Slots) (how : Option Ending)
-    → ((o : Outside) → before o ≡ other o) → Step tells i0 i1 took wrote other now how → Step tells i0 i1 took wrote before now how
-step_as tells i0 i1 took wrote before other now how h p = record {
-  does = record { heard = p.does.heard; told = p.does.told; holds = λ all rest f. part all rest (p.does.holds all rest f) };
-  can = (p.can.0, p.can.1, part p.can.0 p.can.1 p.can.2);
-}
+pub step_as : (tells : Type 0) (i0 i1 : List ℕ) (was is : Bool) (took : List Event → Type 0) (wrote : List ℕ → Type 0) (before other : Outside → Next Slots) (now : Outside → Configuration Slots) (how : Option Ending)
+    → ((o : Outside) → before o ≡ other o) → Step tells i0 i1 was is took wrote other now how → Step tells i0 i1 was is took wrote before now how
+step_as tells i0 i1 was is took wrote before other now how h p = hears_as tells i0 i1 was is (Part took wrote other now how) (Part took wrote before now how) part p
   where
     part : (all rest : List ℕ) → Part took wrote other now how all rest → Part took wrote before now how all rest
     part all rest x = record {
@@ -146,19 +137,22 @@ exception_thrown ms m s s2 r took now how w p o =
     subst (λ n. Went how n (now (record o { events = o.events ++ p.events }))) (ap (λ x. throw (by_slots ms) ms (plain_raised r) (seen_in m x o)) w) (p.is o)
 
 -- a built-in function that the top frame asks for
-module _ {T : Type 0} (moves : T → Event → T → Type 0) (said : Type 0) (tells : Type 0) (o0 o1 i0 i1 : List ℕ) (ms : List Module) (which : Builtin) (values : Vec Value Global) (m : State) (s s2 : Store)
-    (answer : Result Value Raised) (h : PlainHeap) (r : OnReads tells i0 i1 (λ all rest. Gives (builtin_of which (plains values.items) (plain_heap s.heap) all) (plain_outcome answer h) (Wrote said o0 o1) rest)) where
+module _ {T : Type 0} (moves : T → Event → T → Type 0) (said : Type 0) (tells : Type 0) (o0 o1 i0 i1 : List ℕ) (was is : Bool) (ms : List Module) (which : Builtin) (values : Vec Value Global) (m : State) (s s2 : Store)
+    (answer : Result Value Raised) (h : PlainHeap) (r : Hears tells i0 i1 was is (Given said o0 o1 which values s (plain_outcome answer h))) where
+  abbrev given : Result Value Raised → Type 0
+  given x = Hears tells i0 i1 was is (Given said o0 o1 which values s (plain_outcome x h))
+
   pub asked_gives : (a : T) (v : Value) → answer ≡ Ok v → world_of s2 ≡ with_heap h (world_of s) → (place : ℕ) → place ≡ suc m.top.place → (pushed : List RawOperand) → pushed ≡ OfValue v ∷ m.top.operands
-      → Step tells i0 i1 (λ es. Takes moves a es a) (Wrote said o0 o1) (λ o. turned ms (Asks which values) (seen m s o)) (seen (record m { top = record m.top { place = place; operands = pushed } }) s2) None
+      → Step tells i0 i1 was is (λ es. Takes moves a es a) (Wrote said o0 o1) (λ o. turned ms (Asks which values) (seen m s o)) (seen (record m { top = record m.top { place = place; operands = pushed } }) s2) None
   asked_gives a v e w place f pushed g =
-      answered moves said tells o0 o1 i0 i1 ms which values m s (Ok (plain v, h)) (subst (λ x. OnReads tells i0 i1 (λ all rest. Gives (builtin_of which (plains values.items) (plain_heap s.heap) all) (plain_outcome x h) (Wrote said o0 o1) rest)) e r)
+      answered moves said tells o0 o1 i0 i1 was is ms which values m s (Ok (plain v, h)) (subst given e r)
       a a (seen (record m { top = record m.top { place = place; operands = pushed } }) s2) None [] refl (value_pushed ms m s s2 v h place pushed w f g)
 
   pub asked_raises : (a b : T) (raised : Raised) → answer ≡ Err raised → world_of s2 ≡ world_of s → (now : Outside → Configuration Slots) (how : Option Ending)
       → Tells (λ es. Takes moves a es b) (λ o. throw (by_slots ms) ms (plain_raised raised) (seen m s2 o)) now how
-      → Step tells i0 i1 (λ es. Takes moves a es b) (Wrote said o0 o1) (λ o. turned ms (Asks which values) (seen m s o)) now how
+      → Step tells i0 i1 was is (λ es. Takes moves a es b) (Wrote said o0 o1) (λ o. turned ms (Asks which values) (seen m s o)) now how
   asked_raises a b raised e w now how p =
-      answered moves said tells o0 o1 i0 i1 ms which values m s (Err (plain_raised raised)) (subst (λ x. OnReads tells i0 i1 (λ all rest. Gives (builtin_of which (plains values.items) (plain_heap s.heap) all) (plain_outcome x h) (Wrote said o0 o1) rest)) e r)
+      answered moves said tells o0 o1 i0 i1 was is ms which values m s (Err (plain_raised raised)) (subst given e r)
       a b now how p.events p.has_told (exception_thrown ms m s s2 raised (λ es. Takes moves a es b) now how w p)
 
 -- a built-in function that raises leaves the world as it was
@@ -169,6 +163,10 @@ raised_keeps s h answer raised e k = ap (λ x. with_heap x (world_of s)) (subst 
 pub reads_of : (tells : Type 0) (i0 i1 : List ℕ) (which : Builtin) (h : PlainHeap) (answer : Answer) (wrote : List ℕ → Type 0) (xs ys : List Value) → xs ≡ ys
     → OnReads tells i0 i1 (λ all rest. Gives (builtin_of which (plains xs) h all) answer wrote rest) → OnReads tells i0 i1 (λ all rest. Gives (builtin_of which (plains ys) h all) answer wrote rest)
 reads_of tells i0 i1 which h answer wrote xs ys e r = subst (λ zs. OnReads tells i0 i1 (λ all rest. Gives (builtin_of which (plains zs) h all) answer wrote rest)) e r
+
+pub hears_of : (tells : Type 0) (i0 i1 : List ℕ) (was is : Bool) (which : Builtin) (h : PlainHeap) (answer : Answer) (wrote : List ℕ → Type 0) (xs ys : List Value) → xs ≡ ys
+    → Hears tells i0 i1 was is (λ all rest. Gives (builtin_of which (plains xs) h all) answer wrote rest) → Hears tells i0 i1 was is (λ all rest. Gives (builtin_of which (plains ys) h all) answer wrote rest)
+hears_of tells i0 i1 was is which h answer wrote xs ys e r = subst (λ zs. Hears tells i0 i1 was is (λ all rest. Gives (builtin_of which (plains zs) h all) answer wrote rest)) e r
 
 pub gains_of : (said : Type 0) (o0 o1 : List ℕ) (which : Builtin) (h : PlainHeap) (i0 : List ℕ) (xs ys : List Value) → xs ≡ ys
     → (said → GainsPrefix o0 o1 (builtin_of which (plains xs) h i0).written) → said → GainsPrefix o0 o1 (builtin_of which (plains ys) h i0).written

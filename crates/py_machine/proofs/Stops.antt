@@ -1,20 +1,17 @@
 -- Parts of a run that are given up.
-use Rattle.std.proofs.Common.{◌≡◌, ℕ, List, [], ◌∷◌, ◌++◌, refl, sym, ap, ◌∙◌, subst, append_assoc, append-nil}
+use Rattle.std.proofs.Common.{◌≡◌, ℕ, Bool, List, [], ◌++◌, refl, sym, ap, ◌∙◌, subst, append_assoc, append-nil}
 use Rattle.std.specs.Prelude.{Vec, Result, Ok, Err}
 use Rattle.std.specs.declared.alloc.Global.{Global}
 use Rattle.cov_event.specs.declared.event.Event.{Event}
 use Rattle.cov_outside.specs.Prefixes.{IsPrefix, GainsPrefix, LosesPrefix}
 use Rattle.py_value.specs.declared.builtin.Builtin.{Builtin}
-use Rattle.py_value.specs.declared.builtin.Builtin.TheVariants.{Print, Len, Range, Str, Repr, Int, Input, Exit}
 use Rattle.py_value.specs.declared.value.Raised.{Raised}
 use Rattle.py_value.specs.declared.value.Value.{Value}
 use Rattle.py_value.specs.HeapView.{plain_heap}
-use Rattle.py_value.specs.Plain.{PlainValue, PlainHeap, PlainRaised}
+use Rattle.py_value.specs.Plain.{PlainHeap}
 use Rattle.py_value.specs.View.{plains, plain_raised, plain_outcome}
 use Rattle.py_builtins.specs.Arguments.{Answer}
-use Rattle.py_builtins.specs.Builtins.{Done, builtin_of, printed, asked, str_texts}
-use Rattle.py_builtins.specs.Texts.{str_text}
-use Rattle.py_builtins.specs.Inputs.{Fed, OnReads, Gives, Wrote}
+use Rattle.py_builtins.specs.Builtins.{Done, builtin_of}
 use Rattle.py_code.specs.Configurations.{Effects, Configuration, Next}
 use Rattle.py_code.specs.Machine.{in_world, by_answer, calls, throw}
 use Rattle.py_code.specs.Run.{Goes, Ticks, Ends}
@@ -25,16 +22,14 @@ use Rattle.py_store.specs.Stores.{world_of}
 use Rattle.py_instructions.specs.declared.frame.State.{State}
 use Rattle.py_instructions.specs.declared.turn.Turn.TheVariants.{Asks}
 use Rattle.py_instructions.specs.View.{Slots, Outside, plain_operands, effects_of, seen, turned}
-use Rattle.py_machine.specs.Told.{Grown, Grows, TakesSome, GivenUp, Broken, HeardSome}
+use Rattle.py_machine.specs.Told.{IsAtEnd, Hears, Grown, Grows, TakesSome, GivenUp, Broken, HearsSome}
 use Rattle.py_builtins.specs.World.{with_heap}
 use Rattle.py_machine.proofs.Grows.{grown_same, prefix_then, called_at_once}
 use Rattle.py_machine.proofs.GivesUp.{takes_none, elsewhere}
-use Rattle.py_machine.proofs.Performs.{seen_in}
+use Rattle.py_machine.proofs.Hearing.{lost_none, hears_some_as, hears_some, hears_lost}
+use Rattle.py_machine.proofs.Following.{same_written}
+use Rattle.py_machine.proofs.Performs.{Given, seen_in}
 use Rattle.py_machine.proofs.Throws.{and_told}
-
--- nothing was lost
-pub lost_none : (xs : List ℕ) → LosesPrefix xs xs
-lost_none xs = record { front = []; is = refl }
 
 module _ (took : List Event → Type 0) (said : Type 0) (o0 : List ℕ) (s : Store) (before : Outside → Next Slots) where
   part_of : GivenUp took s before → (all : List ℕ) → Broken took said o0 o0 s before all
@@ -57,52 +52,26 @@ module _ (took : List Event → Type 0) (said : Type 0) (o0 : List ℕ) (s : Sto
           less_events (Ends r) h = record { holds = (front r.effects.events h.holds.0, h.holds.1) }
 
   -- a part that neither wrote nor read
-  pub only_given_up : (tells : Type 0) (i0 : List ℕ) → GivenUp took s before → HeardSome tells i0 i0 (Broken took said o0 o0 s before)
-  only_given_up tells i0 p = record { heard = []; told = λ t. (i0, refl, lost_none i0); holds = λ all rest f. part_of p all }
+  pub only_given_up : (tells : Type 0) (was : Bool) (i0 : List ℕ) → IsAtEnd was tells i0 → GivenUp took s before → HearsSome tells i0 i0 was (Broken took said o0 o0 s before)
+  only_given_up tells was i0 over p = hears_lost tells was i0 i0 over (λ t. lost_none i0) (Broken took said o0 o0 s before) (part_of p)
 
 -- another move, that is the same, on another store
-pub broken_as : (tells : Type 0) (i0 i1 : List ℕ) (took : List Event → Type 0) (said : Type 0) (o0 o1 : List ℕ) (s s1 : Store) (before other : Outside → Next Slots)
-    → ((o : Outside) → before o ≡ other o) → HeardSome tells i0 i1 (Broken took said o0 o1 s1 other) → HeardSome tells i0 i1 (Broken took said o0 o1 s before)
-broken_as tells i0 i1 took said o0 o1 s s1 before other h p = record {
-  heard = p.heard;
-  told = p.told;
-  holds = λ all rest f.
-      let x = p.holds all rest f in
-      record {
-        events = x.events;
-        has_told = x.has_told;
-        is = λ w es. same all w es _ (x.is w es);
-        wrote = λ t.
-            let y = x.wrote t in
-            (y.0, y.1, λ w es. same all w es _ (y.2 w es));
-      };
-}
+pub broken_as : (tells : Type 0) (i0 i1 : List ℕ) (was : Bool) (took : List Event → Type 0) (said : Type 0) (o0 o1 : List ℕ) (s s1 : Store) (before other : Outside → Next Slots)
+    → ((o : Outside) → before o ≡ other o) → HearsSome tells i0 i1 was (Broken took said o0 o1 s1 other) → HearsSome tells i0 i1 was (Broken took said o0 o1 s before)
+broken_as tells i0 i1 was took said o0 o1 s s1 before other h p =
+    hears_some_as tells i0 i1 was (Broken took said o0 o1 s1 other) (Broken took said o0 o1 s before) (λ all x. record {
+      events = x.events;
+      has_told = x.has_told;
+      is = λ w es. same all w es _ (x.is w es);
+      wrote = λ t.
+          let y = x.wrote t in
+          (y.0, y.1, λ w es. same all w es _ (y.2 w es));
+    }) p
   where
     same : (all w : List ℕ) (es : List Event) (o : Outside) → Grows (effects_of s1 o) (other (record { input = all; out = w; events = es })) → Grows (effects_of s o) (before (record { input = all; out = w; events = es }))
     same all w es o g = subst (λ n. Grows (effects_of s o) n) (sym (h (record { input = all; out = w; events = es }))) (elsewhere s1 s o _ g)
 
--- what a built-in function writes doesn't depend on the input
-same_printed : (r : Result (List (List ℕ)) PlainRaised) (h : PlainHeap) (a b : List ℕ) → (printed r h a).written ≡ (printed r h b).written
-same_printed (Ok ts) h a b = refl
-same_printed (Err raised) h a b = refl
-
-same_asked : (r : Result (List ℕ) PlainRaised) (h : PlainHeap) (a b : List ℕ) → (asked r h a).written ≡ (asked r h b).written
-same_asked (Ok prompt) h a b = refl
-same_asked (Err raised) h a b = refl
-
-pub same_written : (which : Builtin) (vs : List PlainValue) (h : PlainHeap) (a b : List ℕ) → (builtin_of which vs h a).written ≡ (builtin_of which vs h b).written
-same_written Print vs h a b = same_printed (str_texts vs h) h a b
-same_written Len vs h a b = refl
-same_written Range vs h a b = refl
-same_written Str vs h a b = refl
-same_written Repr vs h a b = refl
-same_written Int vs h a b = refl
-same_written Input [] h a b = refl
-same_written Input (p ∷ []) h a b = same_asked (str_text p h) h a b
-same_written Input (p ∷ (q ∷ ps)) h a b = refl
-same_written Exit vs h a b = refl
-
-module _ {T R : Type 0} (moves : T → Event → T → Type 0) (recorded : T → R) (said : Type 0) (tells : Type 0) (o0 o1 i0 i1 : List ℕ) (ms : List Module) (which : Builtin) (values : Vec Value Global) (m : State) (s : Store) where
+module _ {T R : Type 0} (moves : T → Event → T → Type 0) (recorded : T → R) (said : Type 0) (tells : Type 0) (o0 o1 i0 i1 : List ℕ) (was : Bool) (ms : List Module) (which : Builtin) (values : Vec Value Global) (m : State) (s : Store) where
   abbrev asking : Outside → Next Slots
   asking o = turned ms (Asks which values) (seen m s o)
 
@@ -125,25 +94,22 @@ module _ {T R : Type 0} (moves : T → Event → T → Type 0) (recorded : T →
       reach (Err raised) last c g = called_at_once (by_slots ms) ms (effects_of s (record { input = all; out = w ++ out; events = es })) (Err raised) last c.top.operands c g
 
   -- the function itself was given up
-  pub asks_some : (tells → LosesPrefix i0 i1) → (said → GainsPrefix o0 o1 (done_with i0).written) → (a : T) → HeardSome tells i0 i1 (Broken (λ es. TakesSome moves recorded a es a) said o0 o1 s asking)
-  asks_some lost gained a = record {
-    heard = [];
-    told = λ t. (i0, refl, lost t);
-    holds = λ all rest f. record {
-      events = [];
-      has_told = takes_none moves recorded a a refl;
-      is = λ w es. subst (λ z. Grows (effects_of s z) (asking (record { input = all; out = w; events = es }))) (both all w es) (asks all w [] es (record { rest = (done_with all).written; is = refl }));
-      wrote = λ t.
-          let g = gained t in
-          (g.front, g.is, λ w es. asks all w g.front es (subst (λ z. IsPrefix g.front z) (same_written which (plains values.items) (plain_heap s.heap) i0 all) g.prefix));
-    };
-  }
+  pub asks_some : IsAtEnd was tells i0 → (tells → LosesPrefix i0 i1) → (said → GainsPrefix o0 o1 (done_with i0).written) → (a : T) → HearsSome tells i0 i1 was (Broken (λ es. TakesSome moves recorded a es a) said o0 o1 s asking)
+  asks_some over lost gained a =
+      hears_lost tells was i0 i1 over lost (Broken (λ es. TakesSome moves recorded a es a) said o0 o1 s asking) (λ all. record {
+        events = [];
+        has_told = takes_none moves recorded a a refl;
+        is = λ w es. subst (λ z. Grows (effects_of s z) (asking (record { input = all; out = w; events = es }))) (both all w es) (asks all w [] es (record { rest = (done_with all).written; is = refl }));
+        wrote = λ t.
+            let g = gained t in
+            (g.front, g.is, λ w es. asks all w g.front es (subst (λ z. IsPrefix g.front z) (same_written which (plains values.items) (plain_heap s.heap) i0 all) g.prefix));
+      })
     where
       both : (all w : List ℕ) (es : List Event) → let x : Outside = record { input = all; out = w ++ []; events = es } in let y : Outside = record { input = all; out = w; events = es ++ [] } in x ≡ y
       both all w es =
           ap (λ z. let x : Outside = record { input = all; out = z; events = es } in x) (append-nil w) ∙ ap (λ z. let x : Outside = record { input = all; out = w; events = z } in x) (sym (append-nil es))
 
-  module _ (answer : Answer) (r : OnReads tells i0 i1 (λ all rest. Gives (done_with all) answer (Wrote said o0 o1) rest)) (a b : T) (events : List Event) (took : TakesSome moves recorded a events b)
+  module _ (answer : Answer) (is : Bool) (r : Hears tells i0 i1 was is (Given said o0 o1 which values s answer)) (a b : T) (events : List Event) (took : TakesSome moves recorded a events b)
       (goes : (o : Outside) → Grows (effects_of s (record o { events = o.events ++ events })) (calls (by_slots ms) ms (by_answer answer (effects_of s o)) (plain_operands m.top.operands) (seen m s o))) where
     abbrev after_call : Answer → Outside → Outside → Next Slots
     after_call x now then_seen = calls (by_slots ms) ms (by_answer x (effects_of s now)) (plain_operands m.top.operands) (seen m s then_seen)
@@ -152,36 +118,17 @@ module _ {T R : Type 0} (moves : T → Event → T → Type 0) (recorded : T →
     same (Ok p) now then_seen other = refl
     same (Err e) now then_seen other = refl
 
-    asked_is : (all rest : List ℕ) → Fed r.heard all rest → (w : List ℕ) (es : List Event)
+    asked_is : (all rest : List ℕ) → Given said o0 o1 which values s answer all rest → (w : List ℕ) (es : List Event)
         → let last : Outside = record { input = rest; out = w ++ (done_with all).written; events = es } in asking (record { input = all; out = w; events = es }) ≡ after_call answer last last
-    asked_is all rest f w es =
-        let gives = r.holds all rest f in
+    asked_is all rest gives w es =
         let first : Outside = record { input = all; out = w; events = es } in
         ap (λ x. after_call x (record { input = (done_with all).left; out = w ++ (done_with all).written; events = es }) first) (sym gives.0)
         ∙ ap (λ x. after_call answer (record { input = x; out = w ++ (done_with all).written; events = es }) first) (sym gives.2)
         ∙ same answer (record { input = rest; out = w ++ (done_with all).written; events = es }) first (record { input = rest; out = w ++ (done_with all).written; events = es })
 
     -- what followed the function was given up
-    pub asks_then_some : HeardSome tells i0 i1 (Broken (λ es. TakesSome moves recorded a es b) said o0 o1 s asking)
-    asks_then_some = record {
-      heard = r.heard;
-      told = λ t. (i1, subst (λ x. Fed r.heard x i1) (r.told t).0 (subst (λ x. Fed r.heard r.input x) (r.told t).1 r.fed), lost_none i1);
-      holds = λ all rest f.
-          let gives = r.holds all rest f in
-          let written = (done_with all).written in
-          record {
-            events = events;
-            has_told = took;
-            is = λ w es. subst (λ n. Grows (effects_of s (record { input = all; out = w; events = es ++ events })) n) (sym (asked_is all rest f w es))
-                (less all rest w es written _ (goes (record { input = rest; out = w ++ written; events = es })));
-            wrote = λ t. (
-              written,
-              gives.1 t,
-              λ w es. subst (λ n. Grows (effects_of s (record { input = all; out = w ++ written; events = es })) n) (sym (asked_is all rest f w es))
-                  (fewer all rest w es written _ (goes (record { input = rest; out = w ++ written; events = es }))),
-            );
-          };
-    }
+    pub asks_then_some : HearsSome tells i0 i1 was (Broken (λ es. TakesSome moves recorded a es b) said o0 o1 s asking)
+    asks_then_some = hears_some tells i0 i1 was is (Given said o0 o1 which values s answer) (Broken (λ es. TakesSome moves recorded a es b) said o0 o1 s asking) part r
       where
         fronts : {A : Type 0} (xs ys zs : List A) → IsPrefix (xs ++ ys) zs → IsPrefix xs zs
         fronts xs ys zs q = prefix_then xs (xs ++ ys) zs (record { rest = ys; is = refl }) q
@@ -198,6 +145,22 @@ module _ {T R : Type 0} (moves : T → Event → T → Type 0) (recorded : T →
         fewer all rest w es written (Ticks c) h = record { holds = (fronts es events c.effects.events h.holds.0, h.holds.1) }
         fewer all rest w es written (Ends c) h = record { holds = (fronts es events c.effects.events h.holds.0, h.holds.1) }
 
+        part : (all rest : List ℕ) → Given said o0 o1 which values s answer all rest → Broken (λ es. TakesSome moves recorded a es b) said o0 o1 s asking all
+        part all rest gives =
+            let written = (done_with all).written in
+            record {
+              events = events;
+              has_told = took;
+              is = λ w es. subst (λ n. Grows (effects_of s (record { input = all; out = w; events = es ++ events })) n) (sym (asked_is all rest gives w es))
+                  (less all rest w es written _ (goes (record { input = rest; out = w ++ written; events = es })));
+              wrote = λ t. (
+                written,
+                gives.1 t,
+                λ w es. subst (λ n. Grows (effects_of s (record { input = all; out = w ++ written; events = es })) n) (sym (asked_is all rest gives w es))
+                    (fewer all rest w es written _ (goes (record { input = rest; out = w ++ written; events = es }))),
+              );
+            }
+
 -- a built-in function that was done grows what its call begins with
 pub quiet_call : (ms : List Module) (m : State) (s : Store) (answer : Answer) (o : Outside)
     → Grows (effects_of s (record o { events = o.events ++ [] })) (calls (by_slots ms) ms (by_answer answer (effects_of s o)) (plain_operands m.top.operands) (seen m s o))
@@ -211,17 +174,17 @@ quiet_call ms m s answer o = by_case answer
     by_case (Err e) = called_at_once (by_slots ms) ms (effects_of s (record o { events = o.events ++ [] })) (Err e) (effects_of s o) (plain_operands m.top.operands) (seen m s o) same
 
 -- what followed a built-in function that the top frame asked for was given up
-module _ {T R : Type 0} (moves : T → Event → T → Type 0) (recorded : T → R) (said : Type 0) (tells : Type 0) (o0 o1 i0 i1 : List ℕ) (ms : List Module) (which : Builtin) (values : Vec Value Global) (m : State) (s : Store)
-    (answer : Result Value Raised) (h : PlainHeap) (r : OnReads tells i0 i1 (λ all rest. Gives (builtin_of which (plains values.items) (plain_heap s.heap) all) (plain_outcome answer h) (Wrote said o0 o1) rest)) where
+module _ {T R : Type 0} (moves : T → Event → T → Type 0) (recorded : T → R) (said : Type 0) (tells : Type 0) (o0 o1 i0 i1 : List ℕ) (was is : Bool) (ms : List Module) (which : Builtin) (values : Vec Value Global) (m : State) (s : Store)
+    (answer : Result Value Raised) (h : PlainHeap) (r : Hears tells i0 i1 was is (Given said o0 o1 which values s (plain_outcome answer h))) where
   -- for want of memory
-  pub asked_stops : (a : T) → HeardSome tells i0 i1 (Broken (λ es. TakesSome moves recorded a es a) said o0 o1 s (λ o. turned ms (Asks which values) (seen m s o)))
-  asked_stops a = asks_then_some moves recorded said tells o0 o1 i0 i1 ms which values m s (plain_outcome answer h) r a a [] (takes_none moves recorded a a refl) (quiet_call ms m s (plain_outcome answer h))
+  pub asked_stops : (a : T) → HearsSome tells i0 i1 was (Broken (λ es. TakesSome moves recorded a es a) said o0 o1 s (λ o. turned ms (Asks which values) (seen m s o)))
+  asked_stops a = asks_then_some moves recorded said tells o0 o1 i0 i1 was ms which values m s (plain_outcome answer h) is r a a [] (takes_none moves recorded a a refl) (quiet_call ms m s (plain_outcome answer h))
 
   -- as its exception was thrown
   pub thrown_stops : (a b : T) (raised : Raised) (s2 : Store) → answer ≡ Err raised → world_of s2 ≡ world_of s
       → GivenUp (λ es. TakesSome moves recorded a es b) s2 (λ o. throw (by_slots ms) ms (plain_raised raised) (seen m s2 o))
-      → HeardSome tells i0 i1 (Broken (λ es. TakesSome moves recorded a es b) said o0 o1 s (λ o. turned ms (Asks which values) (seen m s o)))
+      → HearsSome tells i0 i1 was (Broken (λ es. TakesSome moves recorded a es b) said o0 o1 s (λ o. turned ms (Asks which values) (seen m s o)))
   thrown_stops a b raised s2 e w p =
-      asks_then_some moves recorded said tells o0 o1 i0 i1 ms which values m s (Err (plain_raised raised)) (subst (λ x. OnReads tells i0 i1 (λ all rest. Gives (builtin_of which (plains values.items) (plain_heap s.heap) all) (plain_outcome x h) (Wrote said o0 o1) rest)) e r)
+      asks_then_some moves recorded said tells o0 o1 i0 i1 was ms which values m s (Err (plain_raised raised)) is (subst (λ x. Hears tells i0 i1 was is (Given said o0 o1 which values s (plain_outcome x h))) e r)
       a b p.events p.has_told
       (λ o. elsewhere s2 s (and_told p.events o) _ (subst (λ n. Grows (effects_of s2 (and_told p.events o)) n) (ap (λ x. throw (by_slots ms) ms (plain_raised raised) (seen_in m x o)) w) (p.is o)))

@@ -30,7 +30,8 @@ use Rattle.py_machine.specs.Runs.{StopsRun, StopsCall}
 use Rattle.py_machine.specs.Told.{Grown, TakesSome, HeardSome, Stopped}
 use Rattle.py_machine.proofs.GivesUp.{takes_none}
 use Rattle.py_machine.proofs.Grows.{grown_same, follows_grow, outermost_grows, outer_grows, global_reached}
-use Rattle.py_machine.proofs.Stops.{same_written}
+use Rattle.py_machine.proofs.Hearing.{heard_as, heard_lost}
+use Rattle.py_machine.proofs.Following.{same_written}
 
 -- a built-in function that nothing waits for, and that was given up
 module _ {T R : Type 0} (moves : T → Event → T → Type 0) (recorded : T → R) (said : Type 0) (tells : Type 0) (o0 o1 i0 i1 : List ℕ) (ms : List Module) (which : Builtin) (values : Vec Value Global) (budget : ℕ)
@@ -57,18 +58,15 @@ module _ {T R : Type 0} (moves : T → Event → T → Type 0) (recorded : T →
       at_end (Err raised) last g = g
 
   pub ask_stops : (tells → LosesPrefix i0 i1) → (said → GainsPrefix o0 o1 (done_with i0).written) → (a : T) → HeardSome tells i0 i1 (Stopped (λ es. TakesSome moves recorded a es a) said o0 o1 s (to reach))
-  ask_stops lost gained a = record {
-    heard = [];
-    told = λ t. (i0, refl, lost t);
-    holds = λ all rest f. record {
-      events = [];
-      has_told = takes_none moves recorded a a refl;
-      is = λ w es. subst (λ z. Grown (effects_of s z) (to reach (outside all w es)).effects) (both all w es) (begins all w [] es (record { rest = (done_with all).written; is = refl }));
-      wrote = λ t.
-          let g = gained t in
-          (g.front, g.is, λ w es. begins all w g.front es (subst (λ z. IsPrefix g.front z) (same_written which (plains values.items) (plain_heap s.heap) i0 all) g.prefix));
-    };
-  }
+  ask_stops lost gained a =
+      heard_lost tells i0 i1 lost (Stopped (λ es. TakesSome moves recorded a es a) said o0 o1 s (to reach)) (λ all. record {
+        events = [];
+        has_told = takes_none moves recorded a a refl;
+        is = λ w es. subst (λ z. Grown (effects_of s z) (to reach (outside all w es)).effects) (both all w es) (begins all w [] es (record { rest = (done_with all).written; is = refl }));
+        wrote = λ t.
+            let g = gained t in
+            (g.front, g.is, λ w es. begins all w g.front es (subst (λ z. IsPrefix g.front z) (same_written which (plains values.items) (plain_heap s.heap) i0 all) g.prefix));
+      })
     where
       both : (all w : List ℕ) (es : List Event) → outside all (w ++ []) es ≡ outside all w (es ++ [])
       both all w es = ap (λ z. outside all z es) (append-nil w) ∙ ap (λ z. outside all w z) (sym (append-nil es))
@@ -95,7 +93,7 @@ module _ (took : List Event → Type 0) (said : Type 0) (o0 o1 : List ℕ) (ms :
   }
 
   pub run_stops : (tells : Type 0) (i0 i1 : List ℕ) → HeardSome tells i0 i1 (Stopped took said o0 o1 s running) → HeardSome tells i0 i1 (StopsRun took said o0 o1 ms (world_of s) budget)
-  run_stops tells i0 i1 p = record { heard = p.heard; told = p.told; holds = λ all rest f. one_stopped all (p.holds all rest f) }
+  run_stops tells i0 i1 p = heard_as tells i0 (λ rest. LosesPrefix rest i1) (λ all rest. Stopped took said o0 o1 s running all) (λ all rest. StopsRun took said o0 o1 ms (world_of s) budget all) (λ all rest. one_stopped all) p
 
 -- a frame that nothing waits for begins with what there is
 pub outermost_first : (ms : List Module) (code : CodeId) (vs : List PlainValue) (budget : ℕ) (s : Store) (o : Outside) → Grown (effects_of s o) (follows (by_slots ms) ms (outermost (by_slots ms) ms code vs budget (effects_of s o))).effects
@@ -124,7 +122,7 @@ module _ (took : List Event → Type 0) (said : Type 0) (o0 o1 : List ℕ) (ms :
   }
 
   pub call_stops : (tells : Type 0) (i0 i1 : List ℕ) → HeardSome tells i0 i1 (Stopped took said o0 o1 s calling) → HeardSome tells i0 i1 (StopsCall took said o0 o1 ms (world_of s) r budget)
-  call_stops tells i0 i1 p = record { heard = p.heard; told = p.told; holds = λ all rest f. one_call_stopped all (p.holds all rest f) }
+  call_stops tells i0 i1 p = heard_as tells i0 (λ rest. LosesPrefix rest i1) (λ all rest. Stopped took said o0 o1 s calling all) (λ all rest. StopsCall took said o0 o1 ms (world_of s) r budget all) (λ all rest. one_call_stopped all) p
 
   -- it begins with what there is
   pub calling_first : (o : Outside) → Grown (effects_of s o) (calling o).effects

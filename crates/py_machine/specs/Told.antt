@@ -1,5 +1,7 @@
 -- What becomes of a tracer, a source and a sink in a part of a run.
---     Heard               what holds of every input that gives the answers which were read
+--     OnHeard             what holds of every input that gives the answers which were read
+--     Heard               the same, and what the source has left then
+--     Opens, Hears        the same of a part of a run, and whether the source was at its end
 --     Went                where a move leads
 --     Tells, Passed       a part that only tells events, and one that is left in the middle
 --     Part                any part
@@ -10,9 +12,10 @@
 --     TakesSome           a tracer that may have refused the last event
 --     CallsSome           a tracer that was called, whatever it did
 --     HeardSome           what holds of every input, where a read may have been given up
+--     HearsSome           the same of a part of a run
 --     GivenUp, Broken     a part of a run that was given up
 --     Stopped             a run that was given up
-use Rattle.std.specs.Prelude.{◌≡◌, ℕ, Bool, List, [], ◌++◌, Option, Some, None, ◌⊎◌}
+use Rattle.std.specs.Prelude.{◌≡◌, ℕ, Bool, true, false, List, [], ◌++◌, Option, Some, None, ◌⊎◌}
 use Rattle.cov_event.specs.declared.event.Event.{Event}
 use Rattle.cov_event.specs.Moves.{Takes, Calls}
 use Rattle.cov_outside.specs.Prefixes.{IsPrefix, LosesPrefix}
@@ -29,12 +32,40 @@ use Rattle.py_store.specs.declared.store.Store.{Store}
 use Rattle.py_instructions.specs.View.{Slots, Outside, plain_operands, effects_of}
 
 -- It holds of every input that gives the answers which were read, and of what this input has left
--- then. The bytes of a source that tells them are one.
-pub record Heard (tells : Type 0) (before after : List ℕ)
+-- then. There is such an input. The bytes of a source that tells them are one, and what it left of
+-- them is told.
+pub record OnHeard (tells : Type 0) (before : List ℕ) (left : List ℕ → Type 0)
     (P : List ℕ → List ℕ → Type 0) : Type 0 where
   pub heard : List (Option ℕ)
-  pub told : tells → Fed heard before after
+  pub input : List ℕ
+  pub rest : List ℕ
+  pub fed : Fed heard input rest
+  pub told : tells → (input ≡ before) × left rest
   pub holds : (all rest : List ℕ) → Fed heard all rest → P all rest
+
+-- a source that tells its bytes has these left
+abbrev pub Heard : Type 0 → List ℕ → List ℕ → (List ℕ → List ℕ → Type 0) → Type 0
+Heard tells before after P = OnHeard tells before (λ rest. rest ≡ after) P
+
+-- It holds also with these bytes in front of any others, which are left then. Either they are those
+-- that were read, or the end of the input was met.
+pub record Opens (P : List ℕ → List ℕ → Type 0) (input rest : List ℕ) : Type 0 where
+  pub bytes : List ℕ
+  pub holds : (more : List ℕ) → P (bytes ++ more) more
+  pub shape : (input ≡ bytes ++ rest) ⊎ (rest ≡ [])
+
+-- A part of a run, and whether the source was at its end before it and after it. At its end it
+-- gives no byte and stays there; before its end any bytes may follow.
+pub record Hears (tells : Type 0) (before after : List ℕ) (was is : Bool)
+    (P : List ℕ → List ℕ → Type 0) : Type 0 where
+  pub hears : Heard tells before after P
+  pub stays : was ≡ true → (hears.input ≡ []) × (is ≡ true)
+  pub closes : is ≡ true → hears.rest ≡ []
+  pub opens : is ≡ false → Opens P hears.input hears.rest
+
+-- a source that tells its bytes has none left at its end
+abbrev pub IsAtEnd : Bool → Type 0 → List ℕ → Type 0
+IsAtEnd is tells left = is ≡ true → tells → left ≡ []
 
 -- the move goes on to this configuration, or ends the run there
 abbrev pub Went : Option Ending → Next Slots → Configuration Slots → Type 0
@@ -62,12 +93,12 @@ pub record Part (took : List Event → Type 0) (wrote : List ℕ → Type 0)
   pub is : (w : List ℕ) (es : List Event)
       → Went how (before (outside all w es)) (now (outside rest (w ++ out) (es ++ events)))
 
--- one instruction; there is an input that it can be made with
-pub record Step (tells : Type 0) (left after : List ℕ) (took : List Event → Type 0)
-    (wrote : List ℕ → Type 0) (before : Outside → Next Slots)
-    (now : Outside → Configuration Slots) (how : Option Ending) : Type 0 where
-  pub does : Heard tells left after (Part took wrote before now how)
-  pub can : (all rest : List ℕ) × Part took wrote before now how all rest
+-- one instruction, and whether the source was at its end
+abbrev pub Step : Type 0 → List ℕ → List ℕ → Bool → Bool → (List Event → Type 0)
+    → (List ℕ → Type 0) → (Outside → Next Slots) → (Outside → Configuration Slots)
+    → Option Ending → Type 0
+Step tells left after was is took wrote before now how =
+    Hears tells left after was is (Part took wrote before now how)
 
 -- a run on its way: it goes on as one from another configuration, with these events told and bytes
 -- written in between
@@ -142,12 +173,17 @@ pub record GivenUp (took : List Event → Type 0) (s : Store)
   pub is : (o : Outside)
       → Grows (effects_of s (record o { events = o.events ++ events })) (before o)
 
--- It holds of every input that gives the answers which were read before the last one. A source that
--- tells its bytes lost a prefix of them.
-pub record HeardSome (tells : Type 0) (before after : List ℕ) (P : List ℕ → Type 0) : Type 0 where
-  pub heard : List (Option ℕ)
-  pub told : tells → (mid : List ℕ) × Fed heard before mid × LosesPrefix mid after
-  pub holds : (all rest : List ℕ) → Fed heard all rest → P all
+-- It holds of every input that gives the answers which were read before the last one. There is such
+-- an input, and the bytes of a source that tells them are one: it lost a prefix of them.
+abbrev pub HeardSome : Type 0 → List ℕ → List ℕ → (List ℕ → Type 0) → Type 0
+HeardSome tells before after P =
+    OnHeard tells before (λ rest. LosesPrefix rest after) (λ all rest. P all)
+
+-- a part of a run, and whether the source was at its end before it
+pub record HearsSome (tells : Type 0) (before after : List ℕ) (was : Bool)
+    (P : List ℕ → Type 0) : Type 0 where
+  pub hears : HeardSome tells before after P
+  pub stays : was ≡ true → hears.input ≡ []
 
 -- a move that was given up with this input: what was told, and what was written, is what it begins
 -- with

@@ -8,6 +8,7 @@ mod calls;
 mod ending;
 mod engine;
 mod exceptions;
+mod inputs;
 mod outcome;
 mod perform;
 mod reach;

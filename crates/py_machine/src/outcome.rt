@@ -4,6 +4,7 @@ ghost use Rattle.py_value.specs.HeapView.{plain_heap};
 ghost use Rattle.py_value.specs.View.{plain, plain_raised};
 ghost use Rattle.py_builtins.specs.Outcomes.{low_bits, shown, shown_raised, exit_of};
 ghost use Rattle.py_builtins.specs.Outcomes as outcomes;
+ghost use Rattle.py_code.specs.Laws.{IsOver};
 ghost use Rattle.py_code.specs.Programs.{outcome_by, returned_by};
 ghost use Rattle.py_machine.specs.Outcomes.{plain_outcome, plain_called};
 ghost use Rattle.py_machine.specs.Endings.{plain_ended};
@@ -100,6 +101,7 @@ fn exit_of(alloc: Global, arg: &Argument, heap: &Heap) -> Result<Outcome, NoMemo
 impl Ending {
     /// The outcome of a program that ended so.
     pub fn into_outcome(self, alloc: Global, heap: &Heap) -> Result<Outcome, NoMemory>
+        requires { IsOver (plain_ended self) }
         ensures { IfOk result (λ outcome.
             plain_outcome outcome ≡ outcome_by (plain_heap heap.now) (plain_ended self)) }
     {
@@ -118,12 +120,13 @@ impl Ending {
                 }
             }
             Ending::Spent => Ok(Outcome::Cut),
-            Ending::Stuck => Ok(Outcome::Cut),
+            Ending::Stuck => unreachable!(),
         }
     }
 
     /// The answer of a call that ended so.
     pub fn into_called(self, alloc: Global, heap: &Heap) -> Result<Called, NoMemory>
+        requires { IsOver (plain_ended self) }
         ensures { IfOk result (λ called.
             plain_called called ≡ returned_by (plain_heap heap.now) (plain_ended self)) }
     {
@@ -135,7 +138,7 @@ impl Ending {
                 Ok(Called::Raised(kind, text))
             }
             Ending::Spent => Ok(Called::Cut),
-            Ending::Stuck => Ok(Called::Cut),
+            Ending::Stuck => unreachable!(),
         }
     }
 }

@@ -7,21 +7,22 @@ ghost use Rattle.py_code.specs.Loaded.{modules_of};
 ghost use Rattle.py_code.specs.Machine.{move};
 ghost use Rattle.py_code.specs.Slots.{by_slots};
 ghost use Rattle.py_instructions.specs.declared.turn.Turn.TheVariants.{Asks};
-ghost use Rattle.py_machine.specs.Told.{Step, TakesSome, CallsSome, HeardSome, Broken};
+ghost use Rattle.py_machine.specs.Told.{IsAtEnd, Step, TakesSome, CallsSome, HearsSome, Broken};
 ghost use Rattle.py_instructions.specs.View.{seen, turned};
 
 use crate::ending::Ending;
 use crate::exceptions::{escape, give, throw};
+use crate::inputs::call_to_end;
 use cov_event::Tracer;
 use cov_outside::{Sink, Source};
-use py_builtins::{RunFault, call_builtin};
+use py_builtins::RunFault;
 use py_code::Programs;
 use py_instructions::{Operand, State, Turn};
 use py_store::Store;
 use py_value::{Builtin, Value};
 use std::alloc::Global;
 
-/// Calls a built-in function for the top frame.
+/// Calls a built-in function for the top frame. `at_end`: whether the input was found at its end.
 fn ask<T: Tracer, I: Source, O: Sink>(
     alloc: Global,
     which: Builtin,
@@ -30,16 +31,19 @@ fn ask<T: Tracer, I: Source, O: Sink>(
     store: &mut Store,
     programs: &Programs,
     tracer: &mut T,
+    at_end: &mut bool,
     input: &mut I,
     out: &mut O,
 ) -> Result<Option<Ending>, RunFault>
+    requires { IsAtEnd at_end.old I.tells (I.left input.old) }
     ensures ok { IfOk result (λ how. Step I.tells (I.left input.old) (I.left input.new)
+        at_end.old at_end.new
         (λ es. Takes T.moves tracer.old es tracer.new)
         (Wrote O.tells (O.contents out.old) (O.contents out.new))
         (λ o. turned (modules_of programs.now) (Asks which values) (seen m.old store.old o))
         (seen m.new store.new) how) }
-    ensures given_up { OnErr result (HeardSome I.tells (I.left input.old) (I.left input.new)
-        (Broken (λ es. TakesSome T.moves T.recorded tracer.old es tracer.new) O.tells
+    ensures given_up { OnErr result (HearsSome I.tells (I.left input.old) (I.left input.new)
+        at_end.old (Broken (λ es. TakesSome T.moves T.recorded tracer.old es tracer.new) O.tells
         (O.contents out.old) (O.contents out.new) store.old
         (λ o. turned (modules_of programs.now) (Asks which values) (seen m.old store.old o)))) }
     ensures calls { CallsSome T.moves T.recorded tracer.old tracer.new }
@@ -50,7 +54,8 @@ fn ask<T: Tracer, I: Source, O: Sink>(
     ensures write_fault { IsErrOf result RunFault.WriteFault
         → Rose (O.faults out.old) (O.faults out.new) }
 {
-    match call_builtin(alloc, which, &values, &mut store.heap, input, out)? {
+    let answer = call_to_end(alloc, which, &values, &mut store.heap, at_end, input, out)?;
+    match answer {
         Ok(value) => match m.top.place.checked_add(1) {
             None => {
                 drop(value);
@@ -74,16 +79,19 @@ fn perform<T: Tracer, I: Source, O: Sink>(
     store: &mut Store,
     programs: &Programs,
     tracer: &mut T,
+    at_end: &mut bool,
     input: &mut I,
     out: &mut O,
 ) -> Result<Option<Ending>, RunFault>
+    requires { IsAtEnd at_end.old I.tells (I.left input.old) }
     ensures ok { IfOk result (λ how. Step I.tells (I.left input.old) (I.left input.new)
+        at_end.old at_end.new
         (λ es. Takes T.moves tracer.old es tracer.new)
         (Wrote O.tells (O.contents out.old) (O.contents out.new))
         (λ o. turned (modules_of programs.now) turn (seen m.old store.old o))
         (seen m.new store.new) how) }
-    ensures given_up { OnErr result (HeardSome I.tells (I.left input.old) (I.left input.new)
-        (Broken (λ es. TakesSome T.moves T.recorded tracer.old es tracer.new) O.tells
+    ensures given_up { OnErr result (HearsSome I.tells (I.left input.old) (I.left input.new)
+        at_end.old (Broken (λ es. TakesSome T.moves T.recorded tracer.old es tracer.new) O.tells
         (O.contents out.old) (O.contents out.new) store.old
         (λ o. turned (modules_of programs.now) turn (seen m.old store.old o)))) }
     ensures calls { CallsSome T.moves T.recorded tracer.old tracer.new }
@@ -107,7 +115,7 @@ fn perform<T: Tracer, I: Source, O: Sink>(
         )?),
         Turn::Gives(value) => Ok(give(alloc, value, m, store, programs, tracer)?),
         Turn::Asks(which, values) => Ok(ask(
-            alloc, which, values, m, store, programs, tracer, input, out,
+            alloc, which, values, m, store, programs, tracer, at_end, input, out,
         )?),
         Turn::Spent => Ok(Some(Ending::Spent)),
         Turn::Stuck => Ok(Some(Ending::Stuck)),
@@ -121,17 +129,20 @@ pub fn step<T: Tracer, I: Source, O: Sink>(
     store: &mut Store,
     programs: &Programs,
     tracer: &mut T,
+    at_end: &mut bool,
     input: &mut I,
     out: &mut O,
 ) -> Result<Option<Ending>, RunFault>
-    requires { length (modules_of programs.now) ≤ 4294967295 }
+    requires few { length (modules_of programs.now) ≤ 4294967295 }
+    requires end { IsAtEnd at_end.old I.tells (I.left input.old) }
     ensures ok { IfOk result (λ how. Step I.tells (I.left input.old) (I.left input.new)
+        at_end.old at_end.new
         (λ es. Takes T.moves tracer.old es tracer.new)
         (Wrote O.tells (O.contents out.old) (O.contents out.new))
         (λ o. move (by_slots (modules_of programs.now)) (modules_of programs.now)
         (seen m.old store.old o)) (seen m.new store.new) how) }
-    ensures given_up { OnErr result (HeardSome I.tells (I.left input.old) (I.left input.new)
-        (Broken (λ es. TakesSome T.moves T.recorded tracer.old es tracer.new) O.tells
+    ensures given_up { OnErr result (HearsSome I.tells (I.left input.old) (I.left input.new)
+        at_end.old (Broken (λ es. TakesSome T.moves T.recorded tracer.old es tracer.new) O.tells
         (O.contents out.old) (O.contents out.new) store.old
         (λ o. move (by_slots (modules_of programs.now)) (modules_of programs.now)
         (seen m.old store.old o)))) }
@@ -144,5 +155,5 @@ pub fn step<T: Tracer, I: Source, O: Sink>(
         → Rose (O.faults out.old) (O.faults out.new) }
 {
     let turn = m.decide(alloc, store, programs)?;
-    Ok(perform(turn, alloc, m, store, programs, tracer, input, out)?)
+    Ok(perform(turn, alloc, m, store, programs, tracer, at_end, input, out)?)
 }

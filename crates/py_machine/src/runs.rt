@@ -190,8 +190,10 @@ fn go_on<T: Tracer, I: Source, O: Sink>(
     ensures write_fault { IsErrOf result RunFault.WriteFault
         → Rose (O.faults out.old) (O.faults out.new) }
 {
+    // Whether the input was found at its end. It isn't read again then.
+    let mut at_end = false;
     loop {
-        if let Some(ending) = step(alloc, m, store, programs, tracer, input, out)? {
+        if let Some(ending) = step(alloc, m, store, programs, tracer, &mut at_end, input, out)? {
             return Ok(ending);
         }
     }

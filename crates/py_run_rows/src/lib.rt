@@ -29,6 +29,8 @@ mod rows;
 #[cfg(test)]
 mod statements;
 #[cfg(test)]
+mod terminal;
+#[cfg(test)]
 mod worked;
 #[cfg(test)]
 mod writer;

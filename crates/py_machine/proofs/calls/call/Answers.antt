@@ -14,7 +14,7 @@ use Rattle.py_machine.proofs.AtOnce.{ran_as, reach_is}
 use Rattle.py_machine.proofs.TracerCalls.{calls_none}
 use Rattle.py_machine.proofs.StopsCalls.{call_stops, calling_first}
 use Rattle.py_machine.proofs.StopsRuns.{stops_as, stops_after_events, stops_first}
-use Rattle.py_machine.proofs.Whole.{is_call}
+use Rattle.py_machine.proofs.Whole.{is_call, called_over}
 use Rattle.py_machine.proofs.calls.call.Goals as goal
 
 pub returns-clause-ok : goal.returns-clause-ok
@@ -57,3 +57,8 @@ returns-in_err-values-clause-calls g c = calls_none g.T.Tracer.moves g.T.Tracer.
 
 pub returns-in_err-reach-clause-calls : goal.returns-in_err-reach-clause-calls
 returns-in_err-reach-clause-calls g c = calls_none g.T.Tracer.moves g.T.Tracer.recorded c.args.tracer.now
+
+pub into_called-requires : goal.into_called-requires
+into_called-requires g c =
+    called_over g.I.Source.tells (g.I.Source.left c.args.input.now) (g.I.Source.left c.finish.new.input) (λ es. Takes g.T.Tracer.moves c.args.tracer.now es c.finish.new.tracer) (Wrote g.O.Sink.tells (g.O.Sink.contents c.args.out.now) (g.O.Sink.contents c.finish.new.out)) (modules_of c.args.programs.now) c.requires.some c.are_valid.ensures c.args.store.now c.finish.new.store (request c.args.«module» (chars c.args.function.now) (plains c.args.args.now)) c.args.budget c.in_ok-ended.ended.steps c.in_ok-ended.ended.ending
+    (ran_as g.I.Source.tells (g.I.Source.left c.args.input.now) (g.I.Source.left c.finish.new.input) _ _ _ _ c.in_ok-ended.ended.ending c.in_ok-ended.ended.steps c.finish.new.store (λ o. ap (λ x. follows (by_slots (modules_of c.args.programs.now)) (modules_of c.args.programs.now) (outer_call (by_slots (modules_of c.args.programs.now)) (modules_of c.args.programs.now) x c.args.budget (effects_of c.args.store.now o))) (reach_is (modules_of c.args.programs.now) c.args.store.now c.args.«module» c.in_ok-name.name (chars c.args.function.now) (plains c.in_ok-values.values.items) (plains c.args.args.now) c.in_ok-reach.reach c.in_ok-name.ensures c.in_ok-values.ensures c.in_ok-reach.ensures.leads o)) c.in_ok-ended.ensures.ok)

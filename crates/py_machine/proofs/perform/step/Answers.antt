@@ -11,11 +11,11 @@ use Rattle.py_machine.proofs.Stops.{only_given_up, broken_as}
 use Rattle.py_machine.proofs.perform.step.Goals as goal
 
 pub returns-clause-ok : goal.returns-clause-ok
-returns-clause-ok g c = step_as _ _ _ _ _ _ _ _ c.in_ok-perform.field-0 c.in_ok-turn.ensures c.in_ok-perform.ensures.ok
+returns-clause-ok g c = step_as _ _ _ _ _ _ _ _ _ _ c.in_ok-perform.field-0 c.in_ok-turn.ensures c.in_ok-perform.ensures.ok
 
 pub returns-in_err-turn-clause-given_up : goal.returns-in_err-turn-clause-given_up
 returns-in_err-turn-clause-given_up g c =
-    on_err _ _ (only_given_up _ g.O.Sink.tells (g.O.Sink.contents c.args.out.now) c.args.store.now _ g.I.Source.tells (g.I.Source.left c.args.input.now)
+    on_err _ _ (only_given_up _ g.O.Sink.tells (g.O.Sink.contents c.args.out.now) c.args.store.now _ g.I.Source.tells c.args.at_end.now (g.I.Source.left c.args.input.now) c.requires.end
     (gives_up_first g.T.Tracer.moves g.T.Tracer.recorded c.args.tracer.now c.args.tracer.now c.args.store.now _ refl
     (λ o. moves_grow (by_slots (modules_of c.args.programs.now)) (modules_of c.args.programs.now) (seen c.args.m.now c.args.store.now o))))
 
@@ -24,4 +24,4 @@ returns-in_err-turn-clause-calls g c = calls_none g.T.Tracer.moves g.T.Tracer.re
 
 pub returns-in_err-perform-clause-given_up : goal.returns-in_err-perform-clause-given_up
 returns-in_err-perform-clause-given_up g c =
-    on_err _ _ (broken_as _ _ _ _ _ _ _ c.args.store.now c.decide.new.store _ _ c.in_ok-turn.ensures c.in_err-perform.ensures.given_up)
+    on_err _ _ (broken_as _ _ _ _ _ _ _ _ c.args.store.now c.decide.new.store _ _ c.in_ok-turn.ensures c.in_err-perform.ensures.given_up)

@@ -13,7 +13,7 @@ use Rattle.py_machine.specs.Told.{TakesSome}
 use Rattle.py_machine.proofs.AtOnce.{ran_as}
 use Rattle.py_machine.proofs.StopsCalls.{run_stops}
 use Rattle.py_machine.proofs.StopsRuns.{stops_as, stops_after_events}
-use Rattle.py_machine.proofs.Whole.{is_run, script_unit}
+use Rattle.py_machine.proofs.Whole.{is_run, ran_over, script_unit}
 use Rattle.py_machine.proofs.runs.run.Goals as goal
 
 pub begin-requires-clause-unit : goal.begin-requires-clause-unit
@@ -41,3 +41,10 @@ returns-in_err-outcome-clause-given_up g c =
     (ran_as g.I.Source.tells (g.I.Source.left c.args.input.now) (g.I.Source.left c.begin.new.input) _ _ _ _ c.in_ok-ended.ended.ending c.in_ok-ended.ended.steps c.begin.new.store
     (λ o. ap (λ (vs : List PlainValue). follows (by_slots (modules_of c.args.programs.now)) (modules_of c.args.programs.now) (outermost (by_slots (modules_of c.args.programs.now)) (modules_of c.args.programs.now) script vs c.args.budget (effects_of c.args.store.now o))) (sym (ap plains c.new.ensures.items)))
     c.in_ok-ended.ensures.ok)))
+
+pub into_outcome-requires : goal.into_outcome-requires
+into_outcome-requires g c =
+    ran_over g.I.Source.tells (g.I.Source.left c.args.input.now) (g.I.Source.left c.begin.new.input) (λ es. Takes g.T.Tracer.moves c.args.tracer.now es c.begin.new.tracer) (Wrote g.O.Sink.tells (g.O.Sink.contents c.args.out.now) (g.O.Sink.contents c.begin.new.out)) (modules_of c.args.programs.now) c.requires.some c.are_valid.ensures c.args.store.now c.begin.new.store c.args.budget c.in_ok-ended.ended.steps c.in_ok-ended.ended.ending
+    (ran_as g.I.Source.tells (g.I.Source.left c.args.input.now) (g.I.Source.left c.begin.new.input) _ _ _ _ c.in_ok-ended.ended.ending c.in_ok-ended.ended.steps c.begin.new.store
+    (λ o. ap (λ (vs : List PlainValue). follows (by_slots (modules_of c.args.programs.now)) (modules_of c.args.programs.now) (outermost (by_slots (modules_of c.args.programs.now)) (modules_of c.args.programs.now) script vs c.args.budget (effects_of c.args.store.now o))) (sym (ap plains c.new.ensures.items)))
+    c.in_ok-ended.ensures.ok)
