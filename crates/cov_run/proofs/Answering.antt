@@ -1,5 +1,5 @@
 -- What the answers of parts say of the whole.
-use Rattle.std.proofs.Common.{◌≡◌, ◌≢◌, inl, inr, ℕ, ◌≤◌, Bool, true, false, not, List, length, Option, Some, Result, Ok, Err, OnOk, IfErr, String, refl, sym, ap, ◌∙◌, subst, arith, codes, encode_utf8_all}
+use Rattle.std.proofs.Common.{◌≡◌, ◌≢◌, inl, inr, ℕ, ◌≤◌, Bool, true, false, not, List, length, Option, Some, None, Result, Ok, Err, OnOk, IfErr, String, refl, sym, ap, ◌∙◌, subst, arith, codes, encode_utf8_all}
 use Rattle.std.specs.declared.alloc.Global.{Global}
 use Rattle.std.specs.Str.{bytes_eq}
 use Rattle.std.proofs.lemmas.Bool.{and_from, and_left}
@@ -17,9 +17,9 @@ use Rattle.cov_run.specs.declared.loading.File.{File}
 use Rattle.cov_run.specs.declared.loading.Loading.{Loading}
 use Rattle.cov_run.specs.declared.loading.File.TheVariants.{Bytes, TooLarge}
 use Rattle.cov_run.specs.Reading.{Reading}
-use Rattle.cov_run.specs.Loading.{file_bytes, is_there, has_file}
+use Rattle.cov_run.specs.Loading.{is_there}
 use Rattle.cov_run.specs.Refusals.{fault_of, IsNamed, Refuses}
-use Rattle.cov_run.specs.State.{State, nothing, Holds, Adds, Imports, RefusesImport, Tells, GrowsOrStays}
+use Rattle.cov_run.specs.State.{State, nothing, Holds, Adds, Settles, Tells, GrowsOrStays}
 
 pub told : (reading : Reading) (path : Text) (line : ℕ) (kind : SyntaxKind) (w : Why) → fault_of reading ≡ Some (line, kind) → (name : String Global) × (w ≡ why.Syntax name line kind) × IsNamed name path → Tells reading path w
 told reading path line kind w e s = record { name = s.0; line = line; kind = kind; fault = e; named = s.2; is = s.1 }
@@ -29,7 +29,7 @@ told reading path line kind w e s = record { name = s.0; line = line; kind = kin
 apart : why.ShelfFault ≡ why.NoMemory → ⊥
 apart h = cc
 
-err_same : {A : Type 0} (v w : Why) → ◌≡◌ {A = Result A Why} (Err v) (Err w) → v ≡ w
+pub err_same : {A : Type 0} (v w : Why) → ◌≡◌ {A = Result A Why} (Err v) (Err w) → v ≡ w
 err_same {A} v w e = ap (λ (r : Result A Why). elim r as (λ (r : Result A Why). Why) [ Ok x ↦ v | Err u ↦ u ]) e
 
 pub no-fault : {A : Type 0} (modules total : ℕ) (path : Text) (file : Option (List ℕ)) (w : Why) → (w ≢ why.NoMemory → Refuses modules total path file w) → ◌≡◌ {A = Result A Why} (Err w) (Err why.ShelfFault) → ⊥
@@ -37,32 +37,19 @@ no-fault {A} modules total path file w h e =
     let is : w ≡ why.ShelfFault = err_same {A = A} w why.ShelfFault e in
     subst (Refuses modules total path file) is (h (λ k. apart (sym is ∙ k)))
 
--- ---- imported names
+pub memory-no-fault : {A : Type 0} → ◌≡◌ {A = Result A Why} (Err why.NoMemory) (Err why.ShelfFault) → ⊥
+memory-no-fault {A} e = apart (sym (err_same {A = A} why.NoMemory why.ShelfFault e))
 
-there : (content : Option (List ℕ)) (file : File) → Holds content file → is_there content ≡ true
+-- ---- files
+
+-- a file that is there was found
+pub there : (content : Option (List ℕ)) (file : File) → Holds content file → is_there content ≡ true
 there content (Bytes v) h = ap is_there h
 there content TooLarge h = ap is_there h.1
 
-pub has-file : (files : Files) (folder x path : Text) (file : File) → is_same_text x (codes "sys") ≡ false → path ≡ file_of folder x → Holds (file_bytes files path) file → has_file files folder x ≡ true
-has-file files folder x path file other is h =
-    and_from (not (is_same_text x (codes "sys"))) (is_there (file_bytes files (file_of folder x))) (ap not other) (ap (λ p. is_there (file_bytes files p)) (sym is) ∙ there (file_bytes files path) file h)
-
-pub built-in : (files : Files) (folder x : Text) → is_same_text x (codes "sys") ≡ true → has_file files folder x ≡ false
-built-in files folder x h = and_left (not (is_same_text x (codes "sys"))) (is_there (file_bytes files (file_of folder x))) (ap not h)
-
-pub imports-added : {A E : Type 0} (files : Files) (folder x path : Text) (file : File) (s t : State) (r : Result A E) → is_same_text x (codes "sys") ≡ false → path ≡ file_of folder x → Holds (file_bytes files path) file
-    → OnOk r (Adds (file_bytes files path) x path s t) → OnOk r (Imports files folder x s t)
-imports-added files folder x path file s t (Ok u) other is h a =
-    inr (has-file files folder x path file other is h, subst (λ (p : Text). Adds (file_bytes files p) x p s t) is a)
-imports-added files folder x path file s t (Err e) other is h a = a
-
-pub imports-refused : {A : Type 0} (files : Files) (folder x path : Text) (file : File) (s : State) (n : ℕ) (r : Result A Why) → n ≡ length s.modules → is_same_text x (codes "sys") ≡ false → path ≡ file_of folder x → Holds (file_bytes files path) file
-    → IfErr r (λ w. w ≢ why.NoMemory → Refuses n s.bytes path (file_bytes files path) w) → IfErr r (λ w. w ≢ why.NoMemory → w ≢ why.ShelfFault → RefusesImport files folder x s w)
-imports-refused files folder x path file s n (Ok u) len other is h a = a
-imports-refused files folder x path file s n (Err w) len other is h a = λ k l. (
-  has-file files folder x path file other is h,
-  subst (λ (p : Text). Refuses (length s.modules) s.bytes p (file_bytes files p) w) is (subst (λ m. Refuses m s.bytes path (file_bytes files path) w) len (a k)),
-)
+pub settles-added : {A E : Type 0} (content : Option (List ℕ)) (name path : Text) (s t : State) (r : Result A E) → OnOk r (Adds content name path s t) → OnOk r (Settles content name path s t)
+settles-added content name path s t (Ok u) a = inr a
+settles-added content name path s t (Err e) a = tt
 
 -- ---- the name `sys`
 
@@ -82,13 +69,23 @@ sys-tested name bytes r is tested = sym (tested ∙ ap (λ b. bytes_eq b (codes 
 pub refused-as : {A : Type 0} (r : Result A Why) (w : Why) (P : Why → Type 0) → r ≡ Err w → P w → IfErr r P
 refused-as r w P e p = subst (λ q. IfErr q P) (sym e) p
 
-pub script-refuses : (files : Files) (script path : Text) (n total : ℕ) (w : Why) → n ≡ 0 → total ≡ 0 → path ≡ script → Refuses n total path (file_bytes files path) w → Refuses 0 0 script (file_bytes files script) w
-script-refuses files script path n total w e f is h =
-    subst (λ p. Refuses 0 0 p (file_bytes files p) w) is (subst (λ t. Refuses 0 t path (file_bytes files path) w) f (subst (λ m. Refuses m total path (file_bytes files path) w) e h))
+pub script-refuses : (content : Option (List ℕ)) (script path : Text) (n total : ℕ) (w : Why) → n ≡ 0 → total ≡ 0 → path ≡ script → Refuses n total path content w → Refuses 0 0 script content w
+script-refuses content script path n total w e f is h =
+    subst (λ p. Refuses 0 0 p content w) is (subst (λ t. Refuses 0 t path content w) f (subst (λ m. Refuses m total path content w) e h))
 
-pub script-added : (files : Files) (script name path x : Text) (s t : State) → path ≡ script → x ≡ name → s ≡ nothing → Adds (file_bytes files path) x path s t → Adds (file_bytes files script) name script nothing t
-script-added files script name path x s t is named none a =
-    subst (λ (o : State). Adds (file_bytes files script) name script o t) none (subst (λ y. Adds (file_bytes files script) y script s t) named (subst (λ p. Adds (file_bytes files p) x p s t) is a))
+pub script-added : (content : Option (List ℕ)) (script name path x : Text) (s t : State) → path ≡ script → x ≡ name → s ≡ nothing → Adds content x path s t → Adds content name script nothing t
+script-added content script name path x s t is named none a =
+    subst (λ (o : State). Adds content name script o t) none (subst (λ y. Adds content y script s t) named (subst (λ p. Adds content x p s t) is a))
+
+-- the script isn't there
+pub absent-refuses : (content : Option (List ℕ)) (script path : Text) (w : Why) → path ≡ script → content ≡ None → (name : String Global) × (w ≡ why.NoSuchFile name) × IsNamed name path → Refuses 0 0 script content w
+absent-refuses content script path w is none s = subst (Refuses 0 0 script content) (sym s.1) (none, s.2 ∙ ap encode_utf8_all is)
+
+pub absent-no-fault : (path : Text) (w : Why) → (w ≢ why.NoMemory → (name : String Global) × (w ≡ why.NoSuchFile name) × IsNamed name path) → w ≡ why.ShelfFault → ⊥
+absent-no-fault path w h e = let s = h (λ k. apart (sym e ∙ k)) in other s.0 (sym e ∙ s.1)
+  where
+    other : (name : String Global) → why.ShelfFault ≡ why.NoSuchFile name → ⊥
+    other name q = cc
 
 -- ---- the limits
 

@@ -6,3 +6,6 @@ pub mod Readings
 pub mod Folders
 pub mod Walking
 pub mod Answering
+pub mod Telling
+pub mod Coming
+pub mod Compiling

@@ -12,7 +12,7 @@ use Rattle.py_syntax.specs.Tree.{Text, Stmts}
 use Rattle.py_meaning.specs.Loading.{Files as Trees, file_at, imported, folder_of, file_of, is_loaded, put_module, with_imports, on_module, load_from, loaded}
 use Rattle.py_meaning.specs.Modules.{LoadedModule}
 use Rattle.cov_run.specs.Reading.{tree, Reads}
-use Rattle.cov_run.specs.Loading.{file_bytes, is_there, all_imported, has_file, is_wanted, wanted, trees_of, program_of, IsRead, IsLoaded}
+use Rattle.cov_run.specs.Loading.{file_bytes, is_there, all_imported, has_file, is_wanted, wanted, told_by, trees_of, program_of, IsRead, IsLoaded}
 use Rattle.cov_run.proofs.Lists.{get-within, take-next, take-all, among-more, find-none, find-next}
 use Rattle.cov_run.proofs.Modules.{unwanted-before, unwanted-last, imported-more}
 
@@ -21,7 +21,7 @@ abbrev pub OneReading : Type 0
 OneReading = (bytes : List ℕ) (a b : Stmts) → Reads bytes (tree a) → Reads bytes (tree b) → a ≡ b
 
 abbrev AreRead : Files → List LoadedModule → Type 0
-AreRead files ms = (i : ℕ) (m : LoadedModule) → slice_get ms i ≡ Some m → IsRead files m
+AreRead files ms = (i : ℕ) (m : LoadedModule) → slice_get ms i ≡ Some m → IsRead (file_bytes files m.path) m
 
 -- ---- files
 
@@ -60,6 +60,11 @@ file-some one files (n ∷ ms) (suc j) m h k = by_first (is_same_text m.path n.p
         let same : s.bytes ≡ r.bytes = some_same s.bytes r.bytes (sym s.there ∙ ap (file_bytes files) (same_text m.path n.path e) ∙ r.there) in
         ap (λ b. if b then Some n.body else file_at (trees_of ms) m.path) e ∙ ap Some (one r.bytes n.body m.body r.read (subst (λ bytes. Reads bytes (tree m.body)) same s.read))
     by_first false e others = ap (λ b. if b then Some n.body else file_at (trees_of ms) m.path) e ∙ others
+
+-- each module was read from its file
+are-read : (files : Files) (script name : Text) (ms : List LoadedModule) → IsLoaded (told_by files script) script name ms → AreRead files ms
+are-read files script name ms h zero m k = subst (λ (c : Option (List ℕ)). IsRead c m) (ap (file_bytes files) (sym (h.loaded.first m k).1)) (h.loaded.read 0 m k)
+are-read files script name ms h (suc i) m k = h.loaded.read (suc i) m k
 
 -- ---- one name
 
@@ -120,7 +125,7 @@ record Comes (files : Files) (folder : Text) (ms : List LoadedModule) (done : Li
   pub at : Settled files folder ms done k
 
 -- the module of a wanted name is the next
-the-next : (files : Files) (script name : Text) (ms : List LoadedModule) (j : ℕ) (x : Text) → IsLoaded files script name ms → 1 ≤ j → wanted files (folder_of script) (take j ms) ≡ Some x
+the-next : (files : Files) (script name : Text) (ms : List LoadedModule) (j : ℕ) (x : Text) → IsLoaded (told_by files script) script name ms → 1 ≤ j → wanted files (folder_of script) (take j ms) ≡ Some x
     → (m : LoadedModule) × (slice_get ms j ≡ Some m) × (m.name ≡ x) × (m.path ≡ file_of (folder_of script) m.name)
 the-next files script name ms zero x h some w = absurd (omega arith)
 the-next files script name ms (suc i) x h some w = by_place (slice_get ms (suc i)) refl
@@ -135,7 +140,7 @@ the-next files script name ms (suc i) x h some w = by_place (slice_get ms (suc i
     by_place None e =
         absurd (none_some (sym h.all ∙ ap (wanted files (folder_of script)) (sym (take-all ms (suc i) (past ms (suc i) e))) ∙ w))
 
-names-loaded : OneReading → (files : Files) (script name : Text) (ms : List LoadedModule) → IsLoaded files script name ms → (xs done rest : List Text) (j : ℕ) → Settled files (folder_of script) ms done j
+names-loaded : OneReading → (files : Files) (script name : Text) (ms : List LoadedModule) → IsLoaded (told_by files script) script name ms → (xs done rest : List Text) (j : ℕ) → Settled files (folder_of script) ms done j
     → all_imported (take j ms) ≡ done ++ (xs ++ rest) → Comes files (folder_of script) ms (done ++ xs) j (with_imports (trees_of ms) (folder_of script) (take j ms) xs)
 unfolding with_imports
 names-loaded one files script name ms h [] done rest j s e =
@@ -163,7 +168,7 @@ names-loaded one files script name ms h (x ∷ xs) done rest j s e =
         → ((r : List Text) → Settled files (folder_of script) ms (done ++ x ∷ []) (suc j) → all_imported (take (suc j) ms) ≡ (done ++ x ∷ []) ++ (xs ++ r) → Comes files (folder_of script) ms ((done ++ x ∷ []) ++ xs) (suc j) (with_imports (trees_of ms) (folder_of script) (take (suc j) ms) xs))
         → Comes files (folder_of script) ms (done ++ (x ∷ xs)) j (with_imports (trees_of ms) (folder_of script) (take j ms) (x ∷ xs))
     by_test false w stay go =
-        same j (with_imports (trees_of ms) (folder_of script) (take j ms) xs) (with_imports (trees_of ms) (folder_of script) (take j ms) (x ∷ xs)) (omega arith) (omega arith) (passed-over files (folder_of script) ms (take j ms) x xs h.loaded.read w)
+        same j (with_imports (trees_of ms) (folder_of script) (take j ms) xs) (with_imports (trees_of ms) (folder_of script) (take j ms) (x ∷ xs)) (omega arith) (omega arith) (passed-over files (folder_of script) ms (take j ms) x xs (are-read files script name ms h) w)
         (stay (record {
           some = s.some;
           within = s.within;
@@ -179,7 +184,7 @@ names-loaded one files script name ms h (x ∷ xs) done rest j s e =
         let wants : is_wanted files (folder_of script) (take j ms) n.0.name ≡ true = ap (is_wanted files (folder_of script) (take j ms)) n.2 ∙ w in
         same (suc j) (with_imports (trees_of ms) (folder_of script) (take (suc j) ms) xs) (with_imports (trees_of ms) (folder_of script) (take j ms) (x ∷ xs)) (omega arith) (omega arith)
         (ap (λ y. with_imports (trees_of ms) (folder_of script) (take j ms) (y ∷ xs)) (sym n.2)
-        ∙ taken files (folder_of script) (trees_of ms) (take j ms) n.0 xs wants (file-some one files ms j n.0 h.loaded.read n.1) n.3
+        ∙ taken files (folder_of script) (trees_of ms) (take j ms) n.0 xs wants (file-some one files ms j n.0 (are-read files script name ms h) n.1) n.3
         ∙ ap (λ ns. with_imports (trees_of ms) (folder_of script) ns xs) (sym grown))
         (go (rest ++ imported n.0.body) (record {
           some = omega arith;
@@ -221,7 +226,7 @@ has-place (m ∷ ms) zero l = (m, refl)
 has-place (m ∷ ms) (suc k) l = has-place ms k (omega arith)
 
 -- nothing that they import is wanted any more, so they are all
-all-there : (files : Files) (script name : Text) (ms : List LoadedModule) (j : ℕ) → IsLoaded files script name ms → 1 ≤ j → wanted files (folder_of script) (take j ms) ≡ None → take j ms ≡ ms
+all-there : (files : Files) (script name : Text) (ms : List LoadedModule) (j : ℕ) → IsLoaded (told_by files script) script name ms → 1 ≤ j → wanted files (folder_of script) (take j ms) ≡ None → take j ms ≡ ms
 all-there files script name ms zero h some none = absurd (omega arith)
 all-there files script name ms (suc i) h some none =
     elim (cases_lt (suc i) (length ms)) [
@@ -229,7 +234,7 @@ all-there files script name ms (suc i) h some none =
       | inr l ↦ take-all ms (suc i) l
     ]
 
-from-there : OneReading → (files : Files) (script name : Text) (ms : List LoadedModule) → IsLoaded files script name ms → (n k j : ℕ) → k ≤ j → length ms ≤ k + n
+from-there : OneReading → (files : Files) (script name : Text) (ms : List LoadedModule) → IsLoaded (told_by files script) script name ms → (n k j : ℕ) → k ≤ j → length ms ≤ k + n
     → Settled files (folder_of script) ms (all_imported (take k ms)) j → load_from n (trees_of ms) (folder_of script) k (take j ms) ≡ ms
 unfolding load_from
 from-there one files script name ms h zero k j l fuel s = let w = s.within in take-all ms j (omega arith)
@@ -257,11 +262,11 @@ trees-length : (ms : List LoadedModule) → length (trees_of ms) ≡ length ms
 trees-length [] = refl
 trees-length (m ∷ ms) = ap suc (trees-length ms)
 
-pub loaded-from : OneReading → (files : Files) (script name : Text) (ms : List LoadedModule) → IsLoaded files script name ms → loaded (program_of script name ms) ≡ ms
+pub loaded-from : OneReading → (files : Files) (script name : Text) (ms : List LoadedModule) → IsLoaded (told_by files script) script name ms → loaded (program_of script name ms) ≡ ms
 loaded-from one files script name ms h =
     let p = has-place ms 0 h.some in
     let first = h.loaded.first p.0 p.1 in
-    let there : file_at (trees_of ms) script ≡ Some p.0.body = ap (file_at (trees_of ms)) (sym first.1) ∙ file-some one files ms 0 p.0 h.loaded.read p.1 in
+    let there : file_at (trees_of ms) script ≡ Some p.0.body = ap (file_at (trees_of ms)) (sym first.1) ∙ file-some one files ms 0 p.0 (are-read files script name ms h) p.1 in
     let some = h.some in
     let l = trees-length ms in
     ap (λ o. load_from (suc (length (trees_of ms))) (trees_of ms) (folder_of script) 0 (put_module name script [] o)) there

@@ -1,6 +1,6 @@
 -- Which modules are loaded, and what their files and imports come to.
-use Rattle.std.proofs.Common.{◌≡◌, inl, inr, ℕ, suc, ◌+◌, ◌<◌, Bool, true, false, not, ◌||◌, if◌then◌else◌, List, [], ◌∷◌, ◌++◌, length, Option, Some, None, refl, sym, ap, ◌∙◌, arith, append-nil}
-use Rattle.std.specs.List.{slice_get}
+use Rattle.std.proofs.Common.{◌≡◌, inl, inr, ℕ, zero, suc, ◌+◌, ◌<◌, Bool, true, false, not, ◌||◌, if◌then◌else◌, List, [], ◌∷◌, ◌++◌, length, Option, Some, None, refl, sym, ap, ◌∙◌, arith, append-nil}
+use Rattle.std.specs.List.{slice_get, sum_by}
 use Rattle.std.proofs.lemmas.Bool.{or_left, or_right, or_cases, and_left, and_right, and_cases, and_from, not_from_true, not_from_false, false≢true}
 use Rattle.std.proofs.lemmas.List.Concat.{flat_map-append}
 use Rattle.std.proofs.lemmas.List.Sums.{sum_by-append}
@@ -8,9 +8,10 @@ use Rattle.cov_outside.specs.Files.{Files}
 use Rattle.py_value.specs.Keys.{is_same_text}
 use Rattle.py_value.proofs.KeyLaws.{same_text, text_is_same}
 use Rattle.py_syntax.specs.Tree.{Text}
-use Rattle.py_meaning.specs.Loading.{imported, is_loaded}
+use Rattle.py_meaning.specs.Loading.{imported, file_of, is_loaded}
 use Rattle.py_meaning.specs.Modules.{LoadedModule, number_from}
-use Rattle.cov_run.specs.Loading.{file_bytes, size_of, total_bytes, all_imported, has_file, is_wanted}
+use Rattle.cov_run.specs.Asking.{has_own_file}
+use Rattle.cov_run.specs.Loading.{Told, file_bytes, content_at, is_there, size_of, total_bytes, all_imported, has_file, is_wanted}
 
 -- ---- modules by name
 
@@ -103,12 +104,39 @@ wanted-new files folder ms x h k = and_from (has_file files folder x) (not (is_l
 pub imported-more : (ms : List LoadedModule) (m : LoadedModule) → all_imported (ms ++ m ∷ []) ≡ all_imported ms ++ imported m.body
 imported-more ms m = flat_map-append (λ n. imported n.body) ms (m ∷ []) ∙ ap (λ t. all_imported ms ++ t) (append-nil (imported m.body))
 
-pub bytes-more : (files : Files) (ms : List LoadedModule) (m : LoadedModule) (bytes : List ℕ) → file_bytes files m.path ≡ Some bytes → total_bytes files (ms ++ m ∷ []) ≡ total_bytes files ms + length bytes
-bytes-more files ms m bytes h =
-    let one : size_of (file_bytes files m.path) ≡ length bytes = ap size_of h in
-    let all : total_bytes files (ms ++ m ∷ []) ≡ total_bytes files ms + total_bytes files (m ∷ []) = sum_by-append (λ n. size_of (file_bytes files n.path)) ms (m ∷ []) in
-    let last : total_bytes files (m ∷ []) ≡ 0 + size_of (file_bytes files m.path) = refl in
+abbrev bytes_of : Files → List LoadedModule → ℕ
+bytes_of files = sum_by (λ n. size_of (file_bytes files n.path))
+
+pub bytes-more : (told : Told) (ms : List LoadedModule) (m : LoadedModule) (bytes : List ℕ) → 0 < length ms → file_bytes told.modules m.path ≡ Some bytes → total_bytes told (ms ++ m ∷ []) ≡ total_bytes told ms + length bytes
+bytes-more told [] m bytes some h = absurd (omega arith)
+bytes-more told (s ∷ ms) m bytes some h =
+    let one : size_of (file_bytes told.modules m.path) ≡ length bytes = ap size_of h in
+    let all : bytes_of told.modules (ms ++ m ∷ []) ≡ bytes_of told.modules ms + bytes_of told.modules (m ∷ []) = sum_by-append (λ n. size_of (file_bytes told.modules n.path)) ms (m ∷ []) in
+    let last : bytes_of told.modules (m ∷ []) ≡ 0 + size_of (file_bytes told.modules m.path) = refl in
     omega (arith, one, all, last)
+
+-- the script alone has its own bytes
+pub bytes-script : (told : Told) (m : LoadedModule) (bytes : List ℕ) → told.script ≡ Some bytes → total_bytes told (m ∷ []) ≡ length bytes
+bytes-script told m bytes h =
+    let one : size_of told.script ≡ length bytes = ap size_of h in
+    let all : total_bytes told (m ∷ []) ≡ size_of told.script + 0 = refl in
+    omega (arith, one, all)
+
+-- a module after the script has its own file
+pub content-later : (told : Told) (n : ℕ) (path : Text) → 0 < n → content_at told n path ≡ file_bytes told.modules path
+content-later told zero path h = absurd (omega arith)
+content-later told (suc n) path h = refl
+
+-- ---- names that have a file
+
+pub file-there : (files : Files) (folder x : Text) → has_own_file x ≡ true → is_there (file_bytes files (file_of folder x)) ≡ true → has_file files folder x ≡ true
+file-there files folder x own there = and_from (has_own_file x) (is_there (file_bytes files (file_of folder x))) own there
+
+pub file-absent : (files : Files) (folder x : Text) → file_bytes files (file_of folder x) ≡ None → has_file files folder x ≡ false
+file-absent files folder x absent = and_right (has_own_file x) (is_there (file_bytes files (file_of folder x))) (ap is_there absent)
+
+pub file-none : (files : Files) (folder x : Text) → has_own_file x ≡ false → has_file files folder x ≡ false
+file-none files folder x own = and_left (has_own_file x) (is_there (file_bytes files (file_of folder x))) own
 
 pub length-more : {X : Type 0} (xs : List X) (x : X) → length (xs ++ x ∷ []) ≡ suc (length xs)
 length-more [] x = refl

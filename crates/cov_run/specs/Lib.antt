@@ -4,4 +4,6 @@ pub mod Refusals
 pub mod Imports
 pub mod View
 pub mod State
+pub mod Asking
 pub mod Progress
+pub mod Loads

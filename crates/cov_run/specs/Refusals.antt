@@ -19,7 +19,7 @@ use Rattle.cov_words.specs.declared.why.SyntaxKind.{SyntaxKind}
 use Rattle.cov_words.specs.declared.why.SyntaxKind.TheVariants as kinds
 use Rattle.cov_words.specs.declared.why.LimitKind.TheVariants as limits
 use Rattle.cov_run.specs.Reading.{Reading, no_text, long, stuck, no_tree, ill_formed, tree, unread, Reads}
-use Rattle.cov_run.specs.Loading.{most_bytes, most_total, most_modules, file_bytes, total_bytes, wanted, AreLoaded}
+use Rattle.cov_run.specs.Loading.{most_bytes, most_total, most_modules, Told, content_at, total_bytes, wanted, AreLoaded}
 
 -- what is wrong with a source that comes to this reading, and in which line
 abbrev pub fault_of : Reading → Option (ℕ × SyntaxKind)
@@ -113,9 +113,10 @@ next_file files script (m ∷ ms) =
     option_map (file_of (folder_of script)) (wanted files (folder_of script) (m ∷ ms))
 
 -- a program isn't loaded: after some modules the next file is refused
-pub record IsStopped (files : Files) (script name : Text) (w : Why) : Type 0 where
+pub record IsStopped (told : Told) (script name : Text) (w : Why) : Type 0 where
   pub ms : List LoadedModule
-  pub loaded : AreLoaded files script name ms
+  pub loaded : AreLoaded told script name ms
   pub path : Text
-  pub next : next_file files script ms ≡ Some path
-  pub refuses : Refuses (length ms) (total_bytes files ms) path (file_bytes files path) w
+  pub next : next_file told.modules script ms ≡ Some path
+  pub refuses :
+      Refuses (length ms) (total_bytes told ms) path (content_at told (length ms) path) w

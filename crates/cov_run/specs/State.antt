@@ -1,15 +1,17 @@
 -- What loading keeps, and what one file adds to it.
 --     State, state_of          what is loaded so far
 --     Holds, IsFound           what a shelf told of a file
---     Adds, Imports            one module more, and what an imported name comes to
+--     Finds                    a read of a file, and what was found
+--     Adds, Settles            one module more, and what a file comes to
 --     Grows                    the limits that are kept
---     RefusesImport            why it adds none
-use Rattle.std.specs.Prelude.{◌≡◌, ◌⊎◌, ℕ, suc, ◌+◌, ◌≤◌, ◌<◌, true, false, List, [], ◌∷◌, ◌++◌, length, Option, Some, None, String}
+use Rattle.std.specs.Prelude.{◌≡◌, ◌⊎◌, ℕ, suc, ◌+◌, ◌≤◌, ◌<◌, List, [], ◌∷◌, ◌++◌, length, Option, Some, None, Result, Err, IfOk, IsErrOf, String, encode_utf8_all}
 use Rattle.std.specs.declared.alloc.Global.{Global}
-use Rattle.cov_outside.specs.Files.{Files}
+use Rattle.cov_outside.specs.declared.shelf.ShelfError.{ShelfError}
+use Rattle.cov_outside.specs.declared.shelf.ShelfError.TheVariants.{Failed}
+use Rattle.cov_outside.specs.Reads.{IsTold}
 use Rattle.py_syntax.specs.Names.{add_names}
 use Rattle.py_syntax.specs.Tree.{Text, Stmts}
-use Rattle.py_meaning.specs.Loading.{imported, file_of}
+use Rattle.py_meaning.specs.Loading.{imported}
 use Rattle.py_meaning.specs.Modules.{LoadedModule}
 use Rattle.cov_words.specs.declared.why.Why.{Why}
 use Rattle.cov_words.specs.declared.why.Why.TheVariants as why
@@ -18,8 +20,8 @@ use Rattle.cov_run.specs.declared.loading.File.{File}
 use Rattle.cov_run.specs.declared.loading.File.TheVariants.{Bytes, TooLarge}
 use Rattle.cov_run.specs.declared.loading.Loading.{Loading}
 use Rattle.cov_run.specs.Reading.{Reading, tree, Reads}
-use Rattle.cov_run.specs.Loading.{most_bytes, most_total, most_modules, file_bytes, has_file}
-use Rattle.cov_run.specs.Refusals.{fault_of, HasRoom, IsNamed, Refuses}
+use Rattle.cov_run.specs.Loading.{most_bytes, most_total, most_modules}
+use Rattle.cov_run.specs.Refusals.{fault_of, HasRoom, IsNamed}
 use Rattle.cov_run.specs.View.{plain_sources}
 
 -- the modules, the names that their imports name, each once, and the bytes of their files in all
@@ -64,19 +66,22 @@ pub record Adds (content : Option (List ℕ)) (name path : Text) (old new : Stat
   pub names : new.names ≡ add_names old.names (imported body)
   pub total : new.bytes ≡ old.bytes + length bytes
 
--- an imported name adds the module of its file, where it has one
-abbrev pub Imports : Files → Text → Text → State → State → Type 0
-Imports files folder x old new =
-    ((has_file files folder x ≡ false) × (new ≡ old))
-    ⊎ ((has_file files folder x ≡ true)
-    × Adds (file_bytes files (file_of folder x)) x (file_of folder x) old new)
+-- a file of this content adds the module of this name, or isn't there
+abbrev pub Settles : Option (List ℕ) → Text → Text → State → State → Type 0
+Settles content name path old new =
+    ((content ≡ None) × (new ≡ old)) ⊎ Adds content name path old new
 
--- why it doesn't
-abbrev pub RefusesImport : Files → Text → Text → State → Why → Type 0
-RefusesImport files folder x old w =
-    (has_file files folder x ≡ true)
-    × Refuses (length old.modules) old.bytes (file_of folder x)
-    (file_bytes files (file_of folder x)) w
+-- a file was read, and whatever content agrees with the answer is what was found
+pub record Finds {H : Type 0}
+    (moves : H → List ℕ → ℕ → Result (List ℕ) ShelfError → H → Type 0) (old : H) (path : Text)
+    (found : Result (Option File) Why) (new : H) : Type 0 where
+  pub answer : Result (List ℕ) ShelfError
+  pub led : moves old (encode_utf8_all path) most_bytes answer new
+  pub fits : IfOk answer (λ bytes. length bytes ≤ most_bytes)
+  pub finds :
+      (content : Option (List ℕ)) → IsTold content most_bytes answer
+      → IfOk found (λ file. IsFound content file)
+  pub failed : IsErrOf found why.ShelfFault → answer ≡ Err Failed
 
 -- there is one module more, and the limits are kept
 abbrev pub Grows : Loading → Loading → Type 0

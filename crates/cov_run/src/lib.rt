@@ -1,5 +1,5 @@
-//! Loads a program: reads the script and the modules that it imports, each from its file, to
-//! well-formed trees. Its one public call is `load_sources`.
+//! Loads a program: reads the script and the modules that it imports, each from its file, and
+//! compiles them. `load` gives code and trees, `load_sources` the trees alone.
 #![tactic(auto)]
 
 mod bytes;
@@ -8,8 +8,10 @@ mod loaded;
 mod loading;
 mod names;
 mod paths;
+mod programs;
 mod refusals;
 mod source;
 
 pub use loaded::LoadedSource;
 pub use loading::load_sources;
+pub use programs::{Loaded, load};

@@ -1,7 +1,7 @@
 //! A module that was loaded.
 
 ghost use Rattle.std.specs.Prelude.{◌≡◌};
-ghost use Rattle.py_scope.specs.Faults.{functions_of};
+ghost use Rattle.py_scope.specs.Faults.{IsWellFormed, functions_of};
 ghost use Rattle.py_syntax.specs.View.{plain_module};
 
 use py_scope::Scopes;
@@ -15,5 +15,6 @@ pub struct LoadedSource {
     pub path: Text,
     pub module: Module,
     pub scopes: Scopes,
+    ghost well_formed: { IsWellFormed (plain_module «module») },
     ghost names_told: { scopes ≡ functions_of (plain_module «module») },
 }

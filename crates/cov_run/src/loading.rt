@@ -1,17 +1,19 @@
 //! Loads the script and, in order, the modules that the loaded ones import.
 
-ghost use Rattle.std.specs.Prelude.{◌≡◌, ◌≢◌, ℕ, List, [], ◌∷◌, ◌++◌, Option, ◌<◌, ◌≤◌, length, Some, IfErr, IfOk, OnOk, IsErrOf};
+ghost use Rattle.std.specs.Prelude.{◌≡◌, ◌≢◌, ℕ, suc, List, [], ◌∷◌, ◌++◌, Option, ◌<◌, ◌≤◌, length, slice_get, Some, IfErr, IfOk, OnOk, IsErrOf};
 ghost use Rattle.std.specs.Str.{chars};
 ghost use Rattle.cov_outside.specs.Counts.{Rose};
-ghost use Rattle.py_scope.specs.Faults.{functions_of};
+ghost use Rattle.py_scope.specs.Faults.{IsWellFormed, functions_of};
 ghost use Rattle.py_syntax.specs.Names.{add_names};
 ghost use Rattle.py_syntax.specs.Tree.{Text as Name};
 ghost use Rattle.py_syntax.specs.View.{plain_module};
 ghost use Rattle.py_meaning.specs.Loading.{folder_of, imported, loaded};
-ghost use Rattle.cov_run.specs.Loading.{IsLoaded, file_bytes, program_of};
-ghost use Rattle.cov_run.specs.Progress.{IsAt};
-ghost use Rattle.cov_run.specs.Refusals.{IsStopped, Refuses};
-ghost use Rattle.cov_run.specs.State.{Adds, Grows, GrowsOrStays, Holds, Imports, IsFound, IsSmall, IsSmallFound, RefusesImport, nothing, state_of};
+ghost use Rattle.cov_run.specs.Asking.{EndsFailed};
+ghost use Rattle.cov_run.specs.Loading.{program_of, told_by};
+ghost use Rattle.cov_run.specs.Loads.{EndsWith, Loads, LoadsTo, loading_of_sources, program};
+ghost use Rattle.cov_run.specs.Progress.{HasCome};
+ghost use Rattle.cov_run.specs.Refusals.{Refuses};
+ghost use Rattle.cov_run.specs.State.{Adds, Finds, Grows, GrowsOrStays, Holds, IsSmall, IsSmallFound, nothing, state_of};
 ghost use Rattle.cov_run.specs.View.{plain_sources};
 
 use crate::imports::add_imported;
@@ -36,22 +38,23 @@ const MAX_MODULES: usize = 256;
 /// Loads the script as the module `name`, and then in order the modules that the loaded ones
 /// import, each once, where its file is there: it lies in the script's folder and is named as the
 /// module, with `.py` after it. No file is read for `sys`. The first file that can't be loaded
-/// refuses the program. Of a shelf that doesn't tell its files no more is said than of its faults.
+/// refuses the program.
 pub fn load_sources<H: Shelf>(
     alloc: Global,
     script: &str,
     name: &str,
     shelf: &mut H,
 ) -> Result<Vec<LoadedSource>, Why>
-    ensures loaded { H.tells → IfOk result (λ sources.
-        IsLoaded (H.files shelf.old) (chars script.now) (chars name.now)
-        (plain_sources sources.items)) }
+    ensures told { H.tells → LoadsTo (told_by (H.files shelf.old) (chars script.now))
+        (chars script.now) (chars name.now) (loading_of_sources result) }
     // The meaning of the language loads the same modules from the trees of their files.
     ensures meant { H.tells → IfOk result (λ sources.
         loaded (program_of (chars script.now) (chars name.now) (plain_sources sources.items))
         ≡ plain_sources sources.items) }
-    ensures refused { H.tells → IfErr result (λ w. w ≢ Why.NoMemory → w ≢ Why.ShelfFault
-        → IsStopped (H.files shelf.old) (chars script.now) (chars name.now) w) }
+    // What a shelf answers is passed on as it came.
+    ensures loads { Loads H.reads shelf.old (chars script.now) (chars name.now)
+        (loading_of_sources result) shelf.new }
+    ensures failed { IsErrOf result Why.ShelfFault → EndsFailed H.reads shelf.old shelf.new }
     ensures fault { IsErrOf result Why.ShelfFault
         → Rose (H.faults shelf.old) (H.faults shelf.new) }
     ensures count { H.faults shelf.old ≤ H.faults shelf.new }
@@ -67,16 +70,15 @@ pub fn load_sources<H: Shelf>(
 
 /// The script alone.
 fn begun<H: Shelf>(alloc: Global, script: &str, name: &str, shelf: &mut H) -> Result<Loading, Why>
-    ensures at { H.tells → IfOk result (λ l.
-        IsAt (H.files shelf.old) (chars script.now) (chars name.now) (state_of l) 0) }
+    ensures come { IfOk result (λ l. HasCome H.reads shelf.old (chars script.now)
+        (chars name.now) (state_of l) 0 shelf.new) }
     ensures limits { IfOk result (λ l.
         (length l.sources.items ≤ 256) × (l.bytes ≤ 16777216)) }
-    ensures refused { H.tells → IfErr result (λ w. w ≢ Why.NoMemory → w ≢ Why.ShelfFault
-        → IsStopped (H.files shelf.old) (chars script.now) (chars name.now) w) }
+    ensures ends { IfErr result (λ w.
+        EndsWith H.reads shelf.old (chars script.now) (chars name.now) w shelf.new) }
     ensures fault { IsErrOf result Why.ShelfFault
         → Rose (H.faults shelf.old) (H.faults shelf.new) }
     ensures count { H.faults shelf.old ≤ H.faults shelf.new }
-    ensures kept { H.tells → H.files shelf.new ≡ H.files shelf.old }
 {
     let Ok(path) = Text::from_str(alloc, script) else {
         return Err(Why::NoMemory);
@@ -103,14 +105,12 @@ pub(crate) enum File {
 
 /// The file of this name, where there is one.
 fn find<H: Shelf>(alloc: Global, path: &Text, shelf: &mut H) -> Result<Option<File>, Why>
-    ensures found { H.tells → IfOk result (λ file.
-        IsFound (file_bytes (H.files shelf.old) path.now) file) }
+    ensures found { Finds H.reads shelf.old path.now result shelf.new }
     ensures small { IfOk result (λ file. IsSmallFound file) }
     ensures refused { IfErr result (λ w. w ≢ Why.NoMemory → w ≡ Why.ShelfFault) }
     ensures fault { IsErrOf result Why.ShelfFault
         → Rose (H.faults shelf.old) (H.faults shelf.new) }
     ensures count { H.faults shelf.old ≤ H.faults shelf.new }
-    ensures kept { H.tells → H.files shelf.new ≡ H.files shelf.old }
 {
     match shelf.read(alloc, path.as_str(), MAX_BYTES) {
         Ok(bytes) => Ok(Some(File::Bytes(bytes))),
@@ -149,20 +149,18 @@ impl Loading {
     ) -> Result<(), Why>
         requires few { length self.old.sources.items ≤ 256 }
         requires light { self.old.bytes ≤ 16777216 }
-        ensures loaded { H.tells → (script name : Name)
-            → IsAt (H.files shelf.old) script name (state_of self.old) 0
+        ensures loads { (start : H) (script called : Name)
+            → HasCome H.reads start script called (state_of self.old) 0 shelf.old
             → folder.now ≡ folder_of script
-            → OnOk result (IsLoaded (H.files shelf.old) script name
-            (plain_sources self.new.sources.items)) }
-        ensures refused { H.tells → (script name : Name)
-            → IsAt (H.files shelf.old) script name (state_of self.old) 0
+            → OnOk result (Loads H.reads start script called
+            (program (plain_sources self.new.sources.items)) shelf.new) }
+        ensures ends { (start : H) (script called : Name)
+            → HasCome H.reads start script called (state_of self.old) 0 shelf.old
             → folder.now ≡ folder_of script
-            → IfErr result (λ w. w ≢ Why.NoMemory → w ≢ Why.ShelfFault
-            → IsStopped (H.files shelf.old) script name w) }
+            → IfErr result (λ w. EndsWith H.reads start script called w shelf.new) }
         ensures fault { IsErrOf result Why.ShelfFault
             → Rose (H.faults shelf.old) (H.faults shelf.new) }
         ensures count { H.faults shelf.old ≤ H.faults shelf.new }
-        ensures kept { H.tells → H.files shelf.new ≡ H.files shelf.old }
     {
         let mut at = 0;
         let mut count = self.names.len();
@@ -186,15 +184,19 @@ impl Loading {
         shelf: &mut H,
     ) -> Result<(), Why>
         requires { self.old.bytes ≤ 16777216 }
-        ensures imports { H.tells → OnOk result (Imports (H.files shelf.old) folder.now name
-            (state_of self.old) (state_of self.new)) }
+        ensures come { (start : H) (script called : Name) (at : ℕ)
+            → HasCome H.reads start script called (state_of self.old) at shelf.old
+            → folder.now ≡ folder_of script → slice_get (state_of self.old).names at ≡ Some name
+            → OnOk result (HasCome H.reads start script called (state_of self.new) (suc at)
+            shelf.new) }
+        ensures ends { (start : H) (script called : Name) (at : ℕ)
+            → HasCome H.reads start script called (state_of self.old) at shelf.old
+            → folder.now ≡ folder_of script → slice_get (state_of self.old).names at ≡ Some name
+            → IfErr result (λ w. EndsWith H.reads start script called w shelf.new) }
         ensures grows { OnOk result (GrowsOrStays self.old self.new) }
-        ensures refused { H.tells → IfErr result (λ w. w ≢ Why.NoMemory → w ≢ Why.ShelfFault
-            → RefusesImport (H.files shelf.old) folder.now name (state_of self.old) w) }
         ensures fault { IsErrOf result Why.ShelfFault
             → Rose (H.faults shelf.old) (H.faults shelf.new) }
         ensures count { H.faults shelf.old ≤ H.faults shelf.new }
-        ensures kept { H.tells → H.files shelf.new ≡ H.files shelf.old }
     {
         if name.as_str() == "sys" {
             return Ok(());
@@ -265,7 +267,8 @@ impl Loading {
         path: Text,
         source: Source,
     ) -> Result<(), NoMemory>
-        requires { source.scopes ≡ functions_of (plain_module source.module) }
+        requires well_formed { IsWellFormed (plain_module source.module) }
+        requires names { source.scopes ≡ functions_of (plain_module source.module) }
         ensures modules { OnOk result (plain_sources self.new.sources.items
             ≡ plain_sources self.old.sources.items
             ++ record { name = name; path = path; body = plain_module source.module } ∷ []) }

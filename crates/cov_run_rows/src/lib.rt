@@ -7,6 +7,8 @@ mod limits;
 #[cfg(test)]
 mod modules;
 #[cfg(test)]
+mod programs;
+#[cfg(test)]
 mod refused;
 #[cfg(test)]
 mod rows;

@@ -1,7 +1,7 @@
 //! Loads the files of a row.
 
 use cov_outside::MemShelf;
-use cov_run::{LoadedSource, load_sources};
+use cov_run::{Loaded, LoadedSource, load, load_sources};
 use std::alloc::Global;
 use std::process::Abort;
 use std::test::Fail;
@@ -40,6 +40,32 @@ impl Files {
             Err(why) => Ok(format!(in alloc; "{why:?}")?),
         }
     }
+
+    /// The same with the code: how many units each program has, and how many statements its tree.
+    pub(crate) fn compile(self, alloc: Global, script: &str) -> Result<String, Fail> {
+        let mut shelf = MemShelf::new(alloc, self.pairs, Vec::new(alloc));
+        match load(alloc, script, "__main__", &mut shelf) {
+            Ok(loaded) => compiled(alloc, &loaded),
+            Err(why) => Ok(format!(in alloc; "{why:?}")?),
+        }
+    }
+}
+
+fn compiled(alloc: Global, loaded: &Loaded) -> Result<String, Fail> {
+    let mut text = String::new(alloc);
+    for program in &loaded.programs.modules {
+        let units = program.code.units().len();
+        let name = program.name.as_str();
+        let path = program.path.as_str();
+        let line = format!(in alloc; "{name} {path} units={units}\n")?;
+        text.push_str(line.as_str())?;
+    }
+    for module in &loaded.modules {
+        let statements = module.body.len();
+        let line = format!(in alloc; "statements={statements}\n")?;
+        text.push_str(line.as_str())?;
+    }
+    Ok(text)
 }
 
 fn listed(alloc: Global, sources: &[LoadedSource]) -> Result<String, Fail> {
@@ -68,6 +94,23 @@ pub(crate) fn assert_refused(
     Ok(())
 }
 
+/// Files, each with its source.
+fn files_of(alloc: Global, sources: &[(&str, &str)]) -> Result<Files, Fail> {
+    let mut files = Files::new(alloc);
+    for (name, source) in sources {
+        files.text(alloc, name, source)?;
+    }
+    Ok(files)
+}
+
+/// The name of the first file, which is the script.
+fn script_of<'a>(sources: &[(&'a str, &'a str)]) -> &'a str {
+    match sources {
+        [] => "",
+        [(name, _), ..] => *name,
+    }
+}
+
 /// A row of files, each with its source, of which the first is the script.
 pub(crate) fn assert_loads(
     rt: &impl Abort,
@@ -77,15 +120,22 @@ pub(crate) fn assert_loads(
     failing: &[u64],
     answer: &str,
 ) -> Result<(), Fail> {
-    let mut files = Files::new(alloc);
-    let mut script = "";
-    for (name, source) in sources {
-        if script.is_empty() {
-            script = *name;
-        }
-        files.text(alloc, name, source)?;
-    }
-    let told = files.load(alloc, script, failing)?;
+    let files = files_of(alloc, sources)?;
+    let told = files.load(alloc, script_of(sources), failing)?;
+    assert_eq!(rt; told.as_str(), answer, "{title}");
+    Ok(())
+}
+
+/// The same of a program with its code.
+pub(crate) fn assert_compiles(
+    rt: &impl Abort,
+    alloc: Global,
+    title: &str,
+    sources: &[(&str, &str)],
+    answer: &str,
+) -> Result<(), Fail> {
+    let files = files_of(alloc, sources)?;
+    let told = files.compile(alloc, script_of(sources))?;
     assert_eq!(rt; told.as_str(), answer, "{title}");
     Ok(())
 }

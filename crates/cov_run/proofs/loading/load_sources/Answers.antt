@@ -1,38 +1,116 @@
-use Rattle.std.proofs.Common.{◌≡◌, ◌≢◌, Err, sym, subst, rules}
+use Rattle.std.proofs.Common.{◌≡◌, Result, Ok, Err, Vec, Global, sym, ◌∙◌, subst, rules}
 use Rattle.std.specs.Str.{chars}
+use Rattle.cov_words.specs.declared.why.Why.{Why}
 use Rattle.cov_words.specs.declared.why.Why.TheVariants as why
-use Rattle.cov_run.specs.Loading.{IsLoaded}
-use Rattle.cov_run.specs.Progress.{IsAt}
-use Rattle.cov_run.specs.Refusals.{IsStopped}
-use Rattle.cov_run.specs.State.{state_of}
+use Rattle.cov_run.specs.declared.loaded.LoadedSource.{LoadedSource}
+use Rattle.cov_run.specs.Loads.{Loads, ending_of, loading_of_sources, program}
 use Rattle.cov_run.specs.View.{plain_sources}
-use Rattle.cov_run.proofs.Answering.{refused-as}
+use Rattle.cov_run.proofs.Answering.{err_same}
+use Rattle.cov_run.proofs.Coming.{nothing-read, loads-told}
 use Rattle.cov_run.proofs.Meaning.{loaded-from}
 use Rattle.cov_run.proofs.Readings.{one-reading}
 use Rattle.cov_run.proofs.loading.load_sources.Goals as goal
 
-pub returns-in_err-import_all-clause-refused : goal.returns-in_err-import_all-clause-refused
-returns-in_err-import_all-clause-refused g c = λ t.
-    let files = g.H.Shelf.files c.args.shelf.now in
-    let kept = c.in_ok-loading.ensures.kept t in
-    let at : IsAt (g.H.Shelf.files c.begun.new.shelf) (chars c.args.script.now) (chars c.args.name.now) (state_of c.in_ok-loading.loading) 0 =
-    subst (λ f. IsAt f (chars c.args.script.now) (chars c.args.name.now) (state_of c.in_ok-loading.loading) 0) (sym kept) (c.in_ok-loading.ensures.at t) in
-    let is : c.from_residual-in_err-import_all.result ≡ Err c.in_err-import_all.field-0.0 = search rules in
-    refused-as c.from_residual-in_err-import_all.result c.in_err-import_all.field-0.0 (λ v. v ≢ why.NoMemory → v ≢ why.ShelfFault → IsStopped files (chars c.args.script.now) (chars c.args.name.now) v) is
-    (λ h k. subst (λ f. IsStopped f (chars c.args.script.now) (chars c.args.name.now) c.in_err-import_all.field-0.0) kept
-    (c.in_err-import_all.ensures.refused t (chars c.args.script.now) (chars c.args.name.now) at c.in-Ok.ensures h k))
+pub returns-in_default-clause-loads : goal.returns-in_default-clause-loads
+returns-in_default-clause-loads g c = nothing-read g.H.Shelf.reads c.args.shelf.now (chars c.args.script.now) (chars c.args.name.now)
 
-pub returns-clause-loaded : goal.returns-clause-loaded
-returns-clause-loaded g c = λ t.
-    let kept = c.in_ok-loading.ensures.kept t in
-    let at : IsAt (g.H.Shelf.files c.begun.new.shelf) (chars c.args.script.now) (chars c.args.name.now) (state_of c.in_ok-loading.loading) 0 =
-    subst (λ f. IsAt f (chars c.args.script.now) (chars c.args.name.now) (state_of c.in_ok-loading.loading) 0) (sym kept) (c.in_ok-loading.ensures.at t) in
-    subst (λ f. IsLoaded f (chars c.args.script.now) (chars c.args.name.now) (plain_sources c.import_all.new.self.sources.items)) kept
-    (c.in_ok-import_all.ensures.loaded t (chars c.args.script.now) (chars c.args.name.now) at c.in-Ok.ensures)
+pub returns-in_err-loading-clause-told : goal.returns-in_err-loading-clause-told
+returns-in_err-loading-clause-told g c = λ t.
+    let script = chars c.args.script.now in
+    let name = chars c.args.name.now in
+    let e = c.in_err-loading.ensures.ends in
+    let is : c.from_residual.result ≡ Err c.in_err-loading.field-0.0 = search rules in
+    let l : Loads g.H.Shelf.reads c.args.shelf.now (chars c.args.script.now) (chars c.args.name.now) (loading_of_sources c.from_residual.result) c.begun.new.shelf =
+    subst (λ (r : Result (Vec LoadedSource Global) Why). Loads g.H.Shelf.reads c.args.shelf.now (chars c.args.script.now) (chars c.args.name.now) (loading_of_sources r) c.begun.new.shelf) (sym is) e.loads in
+    (loads-told g.H.Shelf.reads g.H.Shelf.files (g.H.Shelf.truthful t) c.args.shelf.now c.begun.new.shelf script name (loading_of_sources c.from_residual.result) l).0
+
+pub returns-in_err-loading-clause-loads : goal.returns-in_err-loading-clause-loads
+returns-in_err-loading-clause-loads g c =
+    let script = chars c.args.script.now in
+    let name = chars c.args.name.now in
+    let e = c.in_err-loading.ensures.ends in
+    let is : c.from_residual.result ≡ Err c.in_err-loading.field-0.0 = search rules in
+    let l : Loads g.H.Shelf.reads c.args.shelf.now (chars c.args.script.now) (chars c.args.name.now) (loading_of_sources c.from_residual.result) c.begun.new.shelf =
+    subst (λ (r : Result (Vec LoadedSource Global) Why). Loads g.H.Shelf.reads c.args.shelf.now (chars c.args.script.now) (chars c.args.name.now) (loading_of_sources r) c.begun.new.shelf) (sym is) e.loads in
+    l
+
+pub returns-in_err-loading-clause-failed : goal.returns-in_err-loading-clause-failed
+returns-in_err-loading-clause-failed g c = λ same.
+    let e = c.in_err-loading.ensures.ends in
+    let is : c.from_residual.result ≡ Err c.in_err-loading.field-0.0 = search rules in
+    e.failed (err_same {A = Vec LoadedSource Global} c.in_err-loading.field-0.0 why.ShelfFault (sym is ∙ same))
+
+pub returns-in_err-loading-clause-kept : goal.returns-in_err-loading-clause-kept
+returns-in_err-loading-clause-kept g c = λ t.
+    let script = chars c.args.script.now in
+    let name = chars c.args.name.now in
+    let e = c.in_err-loading.ensures.ends in
+    let is : c.from_residual.result ≡ Err c.in_err-loading.field-0.0 = search rules in
+    let l : Loads g.H.Shelf.reads c.args.shelf.now (chars c.args.script.now) (chars c.args.name.now) (loading_of_sources c.from_residual.result) c.begun.new.shelf =
+    subst (λ (r : Result (Vec LoadedSource Global) Why). Loads g.H.Shelf.reads c.args.shelf.now (chars c.args.script.now) (chars c.args.name.now) (loading_of_sources r) c.begun.new.shelf) (sym is) e.loads in
+    (loads-told g.H.Shelf.reads g.H.Shelf.files (g.H.Shelf.truthful t) c.args.shelf.now c.begun.new.shelf script name (loading_of_sources c.from_residual.result) l).1
+
+pub returns-in_err-import_all-clause-told : goal.returns-in_err-import_all-clause-told
+returns-in_err-import_all-clause-told g c = λ t.
+    let script = chars c.args.script.now in
+    let name = chars c.args.name.now in
+    let e = c.in_err-import_all.ensures.ends c.args.shelf.now (chars c.args.script.now) (chars c.args.name.now) c.in_ok-loading.ensures.come c.in-Ok.ensures in
+    let is : c.from_residual-in_err-import_all.result ≡ Err c.in_err-import_all.field-0.0 = search rules in
+    let l : Loads g.H.Shelf.reads c.args.shelf.now (chars c.args.script.now) (chars c.args.name.now) (loading_of_sources c.from_residual-in_err-import_all.result) c.import_all.new.shelf =
+    subst (λ (r : Result (Vec LoadedSource Global) Why). Loads g.H.Shelf.reads c.args.shelf.now (chars c.args.script.now) (chars c.args.name.now) (loading_of_sources r) c.import_all.new.shelf) (sym is) e.loads in
+    (loads-told g.H.Shelf.reads g.H.Shelf.files (g.H.Shelf.truthful t) c.args.shelf.now c.import_all.new.shelf script name (loading_of_sources c.from_residual-in_err-import_all.result) l).0
+
+pub returns-in_err-import_all-clause-loads : goal.returns-in_err-import_all-clause-loads
+returns-in_err-import_all-clause-loads g c =
+    let script = chars c.args.script.now in
+    let name = chars c.args.name.now in
+    let e = c.in_err-import_all.ensures.ends c.args.shelf.now (chars c.args.script.now) (chars c.args.name.now) c.in_ok-loading.ensures.come c.in-Ok.ensures in
+    let is : c.from_residual-in_err-import_all.result ≡ Err c.in_err-import_all.field-0.0 = search rules in
+    let l : Loads g.H.Shelf.reads c.args.shelf.now (chars c.args.script.now) (chars c.args.name.now) (loading_of_sources c.from_residual-in_err-import_all.result) c.import_all.new.shelf =
+    subst (λ (r : Result (Vec LoadedSource Global) Why). Loads g.H.Shelf.reads c.args.shelf.now (chars c.args.script.now) (chars c.args.name.now) (loading_of_sources r) c.import_all.new.shelf) (sym is) e.loads in
+    l
+
+pub returns-in_err-import_all-clause-failed : goal.returns-in_err-import_all-clause-failed
+returns-in_err-import_all-clause-failed g c = λ same.
+    let e = c.in_err-import_all.ensures.ends c.args.shelf.now (chars c.args.script.now) (chars c.args.name.now) c.in_ok-loading.ensures.come c.in-Ok.ensures in
+    let is : c.from_residual-in_err-import_all.result ≡ Err c.in_err-import_all.field-0.0 = search rules in
+    e.failed (err_same {A = Vec LoadedSource Global} c.in_err-import_all.field-0.0 why.ShelfFault (sym is ∙ same))
+
+pub returns-in_err-import_all-clause-kept : goal.returns-in_err-import_all-clause-kept
+returns-in_err-import_all-clause-kept g c = λ t.
+    let script = chars c.args.script.now in
+    let name = chars c.args.name.now in
+    let e = c.in_err-import_all.ensures.ends c.args.shelf.now (chars c.args.script.now) (chars c.args.name.now) c.in_ok-loading.ensures.come c.in-Ok.ensures in
+    let is : c.from_residual-in_err-import_all.result ≡ Err c.in_err-import_all.field-0.0 = search rules in
+    let l : Loads g.H.Shelf.reads c.args.shelf.now (chars c.args.script.now) (chars c.args.name.now) (loading_of_sources c.from_residual-in_err-import_all.result) c.import_all.new.shelf =
+    subst (λ (r : Result (Vec LoadedSource Global) Why). Loads g.H.Shelf.reads c.args.shelf.now (chars c.args.script.now) (chars c.args.name.now) (loading_of_sources r) c.import_all.new.shelf) (sym is) e.loads in
+    (loads-told g.H.Shelf.reads g.H.Shelf.files (g.H.Shelf.truthful t) c.args.shelf.now c.import_all.new.shelf script name (loading_of_sources c.from_residual-in_err-import_all.result) l).1
+
+pub returns-clause-told : goal.returns-clause-told
+returns-clause-told g c = λ t.
+    let script = chars c.args.script.now in
+    let name = chars c.args.name.now in
+    let l = c.in_ok-import_all.ensures.loads c.args.shelf.now (chars c.args.script.now) (chars c.args.name.now) c.in_ok-loading.ensures.come c.in-Ok.ensures in
+    (loads-told g.H.Shelf.reads g.H.Shelf.files (g.H.Shelf.truthful t) c.args.shelf.now c.import_all.new.shelf script name (program (plain_sources c.import_all.new.self.sources.items)) l).0
 
 pub returns-clause-meant : goal.returns-clause-meant
 returns-clause-meant g c = λ t.
-    let at : IsAt (g.H.Shelf.files c.begun.new.shelf) (chars c.args.script.now) (chars c.args.name.now) (state_of c.in_ok-loading.loading) 0 =
-    subst (λ f. IsAt f (chars c.args.script.now) (chars c.args.name.now) (state_of c.in_ok-loading.loading) 0) (sym (c.in_ok-loading.ensures.kept t)) (c.in_ok-loading.ensures.at t) in
-    loaded-from one-reading (g.H.Shelf.files c.begun.new.shelf) (chars c.args.script.now) (chars c.args.name.now) (plain_sources c.import_all.new.self.sources.items)
-    (c.in_ok-import_all.ensures.loaded t (chars c.args.script.now) (chars c.args.name.now) at c.in-Ok.ensures)
+    let script = chars c.args.script.now in
+    let name = chars c.args.name.now in
+    let l = c.in_ok-import_all.ensures.loads c.args.shelf.now (chars c.args.script.now) (chars c.args.name.now) c.in_ok-loading.ensures.come c.in-Ok.ensures in
+    loaded-from one-reading (g.H.Shelf.files c.args.shelf.now) script name (plain_sources c.import_all.new.self.sources.items)
+    (loads-told g.H.Shelf.reads g.H.Shelf.files (g.H.Shelf.truthful t) c.args.shelf.now c.import_all.new.shelf script name (program (plain_sources c.import_all.new.self.sources.items)) l).0
+
+pub returns-clause-loads : goal.returns-clause-loads
+returns-clause-loads g c =
+    let script = chars c.args.script.now in
+    let name = chars c.args.name.now in
+    let l = c.in_ok-import_all.ensures.loads c.args.shelf.now (chars c.args.script.now) (chars c.args.name.now) c.in_ok-loading.ensures.come c.in-Ok.ensures in
+    l
+
+pub returns-clause-kept : goal.returns-clause-kept
+returns-clause-kept g c = λ t.
+    let script = chars c.args.script.now in
+    let name = chars c.args.name.now in
+    let l = c.in_ok-import_all.ensures.loads c.args.shelf.now (chars c.args.script.now) (chars c.args.name.now) c.in_ok-loading.ensures.come c.in-Ok.ensures in
+    (loads-told g.H.Shelf.reads g.H.Shelf.files (g.H.Shelf.truthful t) c.args.shelf.now c.import_all.new.shelf script name (program (plain_sources c.import_all.new.self.sources.items)) l).1

@@ -2,18 +2,16 @@ use Rattle.std.proofs.Common.{◌≡◌, ◌+◌, ◌-◌, ◌*◌, ◌<◌, ◌
 use Rattle.py_syntax.specs.Tree.{Text}
 use Rattle.py_meaning.specs.Loading.{folder_of}
 use Rattle.cov_run.specs.State.{state_of}
-use Rattle.cov_run.specs.Progress.{IsAt}
+use Rattle.cov_run.specs.Progress.{HasCome}
 use Rattle.cov_run.proofs.loading.Loading.import_all.Given as goal
 
 abbrev pub invariant-names : goal.invariant-names
 invariant-names g l =
-    let files = g.H.Shelf.files in
     let faults = g.H.Shelf.faults in
     record {
-      at :
-          g.H.Shelf.tells → (script name : Text) → IsAt (files l.fn.shelf) script name (state_of l.fn.self) 0 → l.folder ≡ folder_of script
-          → IsAt (files l.fn.shelf) script name (state_of l.self) l.at;
-      kept : g.H.Shelf.tells → files l.shelf ≡ files l.fn.shelf;
+      come :
+          (start : g.row.H.Denot) (script called : Text) → HasCome g.H.Shelf.reads start script called (state_of l.fn.self) 0 l.fn.shelf → l.folder ≡ folder_of script
+          → HasCome g.H.Shelf.reads start script called (state_of l.self) l.at l.shelf;
       count : faults l.fn.shelf ≤ faults l.shelf;
       few : length l.self.sources.items ≤ 256;
       light : l.self.bytes ≤ 16777216;
