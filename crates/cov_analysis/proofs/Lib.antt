@@ -1,5 +1,7 @@
 mod Rounding
+mod Percentages
 mod Sums
+mod Totals
 mod Keeping
 mod Searching
 mod Raising
@@ -9,3 +11,6 @@ mod Rising
 mod Ordered
 mod Telling
 mod Rows
+mod Leaving
+mod Many
+mod Reporting

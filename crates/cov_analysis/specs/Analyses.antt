@@ -4,7 +4,8 @@
 --     AnalysisView, analysis_view     an analysis as lists
 --     analysis_of                     the analysis of a source and what runs took of it
 --     IsInOrder                       lists that rise
-use Rattle.std.specs.Prelude.{ℕ, Bool, if◌then◌else◌, List, [], length, map, string_bytes}
+--     IsReportable                    what reports ask of an analysis
+use Rattle.std.specs.Prelude.{◌≡◌, ℕ, Bool, if◌then◌else◌, List, [], length, map, string_bytes}
 use Rattle.std.specs.List.{count_by}
 use Rattle.std.specs.List.Sorted.{IsStrictlySortedBy}
 use Rattle.py_syntax.specs.Marks.{statement_lines}
@@ -15,6 +16,7 @@ use Rattle.cov_data.specs.Rows.{lines_of, file_rows}
 use Rattle.cov_exclude.specs.Sources.{excluded_in, no_branch_in}
 use Rattle.cov_exclude.specs.Touched.{IsRising}
 use Rattle.cov_analysis.specs.Lines.{is_among, without}
+use Rattle.cov_analysis.specs.Counts.{IsCounted}
 use Rattle.cov_analysis.specs.Branches.{Branch, branch_cmp, branches_of, missing_branches_of}
 use Rattle.cov_analysis.specs.Hits.{line_count, is_taken, branch_count, line_hits, branch_hits}
 use Rattle.cov_analysis.specs.declared.analysis.Analysis.{Analysis}
@@ -129,3 +131,9 @@ pub record IsInOrder (a : AnalysisView) : Type 0 where
   pub missing : IsRising a.missing
   pub branches : IsStrictlySortedBy branch_cmp a.branches
   pub missing_branches : IsStrictlySortedBy branch_cmp a.missing_branches
+
+-- possible numbers, with hits for each statement and for each branch
+pub record IsReportable (a : AnalysisView) : Type 0 where
+  pub numbers : IsCounted a.numbers
+  pub hits : length a.hits ≡ length a.statements
+  pub branch_hits : length a.branch_hits ≡ length a.branches

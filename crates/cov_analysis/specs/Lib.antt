@@ -1,4 +1,5 @@
 pub mod Percent
+pub mod Percentage
 pub mod Counts
 pub mod Lines
 pub mod Branches

@@ -1,11 +1,12 @@
 //! Making the analysis of a source.
 ghost use Rattle.std.specs.Prelude.{◌≡◌, ◌≤◌, IfOk, length, if◌then◌else◌, []};
 ghost use Rattle.std.specs.List.{count_by};
+ghost use Rattle.py_syntax.specs.Marks.{statement_lines};
 ghost use Rattle.py_syntax.specs.View.{plain_module};
 ghost use Rattle.cov_exclude.specs.Touched.{IsRising};
-ghost use Rattle.cov_analysis.specs.Lines.{is_among};
+ghost use Rattle.cov_analysis.specs.Lines.{is_among, AreLines};
 ghost use Rattle.cov_analysis.specs.Branches.{branches_of};
-ghost use Rattle.cov_analysis.specs.Analyses.{analysis_view, analysis_of, source_of, taken_of, IsInOrder};
+ghost use Rattle.cov_analysis.specs.Analyses.{analysis_view, analysis_of, source_of, taken_of, IsInOrder, IsReportable};
 ghost use Rattle.cov_analysis.specs.Views.{source_view, taken_view};
 
 use crate::analysis::Analysis;
@@ -24,7 +25,7 @@ use std::alloc::Global;
 
 /// The analysis of the source at a path, whose tree is the module, by what was recorded of the path.
 /// Lines that `exclude` matches are excluded, and those that `partial` matches needn't take all of
-/// their branches.
+/// their branches. Of a module that is read from a text of at most 65,535 lines, reports take it.
 pub fn analyse(
     alloc: Global,
     module: &Module,
@@ -39,6 +40,9 @@ pub fn analyse(
         (source_of exclude.now partial.now (plain_module «module».now) source.now)
         (taken_of taken.now path.now)) }
     ensures in_order { IfOk result (λ analysis. IsInOrder (analysis_view analysis)) }
+    ensures reportable { IfOk result (λ analysis.
+        AreLines (statement_lines (plain_module «module».now))
+        → IsReportable (analysis_view analysis)) }
 {
     let text = source_of(alloc, module, source, exclude, partial)?;
     let recorded = taken_of(alloc, taken, path)?;

@@ -1,6 +1,6 @@
 //! The analysis of a source, and the sums of several.
-ghost use Rattle.std.specs.Prelude.{◌≡◌, ◌+◌, min, map};
-ghost use Rattle.cov_analysis.specs.Counts.{MOST, numbers_of, total_of, added_to};
+ghost use Rattle.std.specs.Prelude.{◌≡◌, ◌+◌, All, min, map};
+ghost use Rattle.cov_analysis.specs.Counts.{MOST, IsCounted, numbers_of, total_of, added_to};
 
 use crate::numbers::Numbers;
 
@@ -28,7 +28,8 @@ pub struct Analysis {
 
 /// The sums of all files. Each stops at 2^56 - 1.
 pub fn total(all: &[Analysis]) -> Numbers
-    ensures { result ≡ total_of (map numbers_of all.now) }
+    ensures sums { result ≡ total_of (map numbers_of all.now) }
+    ensures counted { All (λ file. IsCounted (numbers_of file)) all.now → IsCounted result }
 {
     let mut sums = Numbers {
         statements: 0,

@@ -2,6 +2,7 @@
 ghost use Rattle.std.specs.Prelude.{◌≡◌, ◌≢◌, ◌≤◌, ◌<◌, ◌^◌, ◌*◌, ◌⊎◌, ◌↔◌, IsTrue};
 ghost use Rattle.cov_analysis.specs.Counts.{IsCounted, covered_of, all_of};
 ghost use Rattle.cov_analysis.specs.Percent.{IsNearest, IsPercent, RoundsUp};
+ghost use Rattle.cov_analysis.specs.Percentage.{percent};
 
 /// What a report counts, of a file or of all.
 #[derive(Clone, Copy, Debug, PartialEq, Eq)]
@@ -36,7 +37,8 @@ impl Numbers {
     /// is 0 only where nothing was covered, and 100 only where all was.
     pub fn percent(&self) -> u32
         requires { IsCounted self.now }
-        ensures { IsPercent (covered_of self.now) (all_of self.now) result }
+        ensures nearest { IsPercent (covered_of self.now) (all_of self.now) result }
+        ensures is { result ≡ percent self.now }
     {
         percent_of(self.covered(), self.all())
     }

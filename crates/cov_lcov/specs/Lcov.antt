@@ -1,26 +1,18 @@
 -- A report in LCOV's format. (manual page of geninfo, "FILES"; coverage.py documentation, "LCOV
 -- reporting"; the field `exit` and the order of branches are this project's)
---     IsReportable                            what a report asks of an analysis
 --     statement_row, statement_rows           a statement and its hits; those of a file
 --     Entry, entry_of, entry_cmp, entries_of  branches with their hits, in the order of a report
 --     is_missing, leaves_covered              a branch is missing; a line has one that isn't
 --     taken_text, destination_text            the parts of a branch's row
 --     branch_row, branch_rows, branch_part    the rows of branches
 --     file_bytes, lcov_bytes                  the record of a file, and a report
-use Rattle.std.specs.Prelude.{◌≡◌, ℕ, ℤ, pos, negsuc, nat_eq, ◌-◌, ◌&&◌, Bool, true, false, not, if◌then◌else◌, List, [], ◌++◌, length, map, codes, decimal}
+use Rattle.std.specs.Prelude.{ℕ, ℤ, pos, negsuc, nat_eq, ◌-◌, ◌&&◌, Bool, true, false, not, if◌then◌else◌, List, [], ◌++◌, map, codes, decimal}
 use Rattle.std.specs.declared.cmp.Ordering.{Ordering}
 use Rattle.std.specs.BTreeSet.{insert_key}
 use Rattle.std.specs.List.{flat_map, fold, list_any, zip}
 use Rattle.std.specs.Ordering.{bool_cmp, nat_cmp, int_cmp, ordering_then}
 use Rattle.cov_analysis.specs.Branches.{Branch, same_branch}
-use Rattle.cov_analysis.specs.Counts.{IsCounted}
 use Rattle.cov_analysis.specs.Analyses.{AnalysisView}
-
--- an analysis with possible numbers, with hits for each statement and for each branch
-pub record IsReportable (file : AnalysisView) : Type 0 where
-  pub numbers : IsCounted file.numbers
-  pub hits : length file.hits ≡ length file.statements
-  pub branch_hits : length file.branch_hits ≡ length file.branches
 
 -- a statement and how often it was executed
 abbrev pub statement_row : ℕ × ℕ → List ℕ

@@ -3,9 +3,9 @@ ghost use Rattle.std.specs.Prelude.{◌≡◌, ℕ, [], ◌&&◌, ◌||◌, nat_
 ghost use Rattle.std.specs.BTreeSet.{contains, insert_key};
 ghost use Rattle.std.specs.List.{flat_map, fold, list_any, zip};
 ghost use Rattle.std.specs.Ordering.{nat_cmp};
-ghost use Rattle.cov_analysis.specs.Analyses.{analysis_view};
+ghost use Rattle.cov_analysis.specs.Analyses.{IsReportable, analysis_view};
 ghost use Rattle.cov_analysis.specs.Branches.{Branch, branch_cmp, same_branch};
-ghost use Rattle.cov_lcov.specs.Lcov.{IsReportable, branch_part, branch_row, branch_rows, destination_text, entry_cmp, entry_of, is_exit, leaves_covered, taken_text};
+ghost use Rattle.cov_lcov.specs.Lcov.{branch_part, branch_row, branch_rows, destination_text, entry_cmp, entry_of, is_exit, leaves_covered, taken_text};
 
 use cov_analysis::Analysis;
 use py_value::NoMemory;

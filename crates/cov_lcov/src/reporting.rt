@@ -1,8 +1,8 @@
 //! A report in LCOV's format.
 ghost use Rattle.std.specs.Prelude.{◌≡◌, [], length, map, if◌then◌else◌, IfOk, string_bytes};
 ghost use Rattle.std.specs.List.{All, flat_map, zip};
-ghost use Rattle.cov_analysis.specs.Analyses.{analysis_view};
-ghost use Rattle.cov_lcov.specs.Lcov.{IsReportable, branch_part, file_bytes, lcov_bytes, statement_row};
+ghost use Rattle.cov_analysis.specs.Analyses.{IsReportable, analysis_view};
+ghost use Rattle.cov_lcov.specs.Lcov.{branch_part, file_bytes, lcov_bytes, statement_row};
 
 use crate::branches::branch_part;
 use cov_analysis::Analysis;

@@ -1,7 +1,6 @@
 //! Rows of reports and of annotated sources.
 ghost use Rattle.std.specs.Prelude.{IfOk};
-ghost use Rattle.cov_analysis.specs.Analyses.{analysis_view};
-ghost use Rattle.cov_lcov.specs.Lcov.{IsReportable};
+ghost use Rattle.cov_analysis.specs.Analyses.{IsReportable, analysis_view};
 
 use cov_analysis::{Analysis, Numbers};
 use cov_lcov::{annotate, lcov_report};

@@ -3,8 +3,12 @@
 #![tactic(auto)]
 
 #[cfg(test)]
+mod json;
+#[cfg(test)]
 mod lcov;
 #[cfg(test)]
 mod numbers;
 #[cfg(test)]
 mod text;
+#[cfg(test)]
+mod whole;

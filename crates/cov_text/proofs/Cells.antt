@@ -6,7 +6,7 @@ use Rattle.std.specs.List.{repeat}
 use lib.Utf8.{encode}
 use Rattle.std.specs.Str.{chars}
 use Rattle.cov_analysis.specs.declared.numbers.Numbers.{Numbers}
-use Rattle.cov_text.specs.Percentage.{percent}
+use Rattle.cov_analysis.specs.Percentage.{percent}
 use Rattle.cov_text.specs.Report.{right, cells, line}
 
 padded_right : (w : ℕ) (numeral : List ℕ) → padded_integral (format_spec 32 3 0 w 18446744073709551615) false [] numeral ≡ repeat (w - length numeral) (codes " ") ++ numeral

@@ -1,4 +1,3 @@
-pub mod Percentage
 pub mod Missing
 pub mod Report
 pub mod Stored

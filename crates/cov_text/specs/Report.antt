@@ -11,7 +11,7 @@ use Rattle.cov_analysis.specs.Analyses.{AnalysisView}
 use Rattle.cov_analysis.specs.Counts.{total_of}
 use Rattle.cov_analysis.specs.declared.numbers.Numbers.{Numbers}
 use Rattle.cov_text.specs.Missing.{missing_text}
-use Rattle.cov_text.specs.Percentage.{percent}
+use Rattle.cov_analysis.specs.Percentage.{percent}
 
 -- cells are ASCII
 abbrev pub right : List ℕ → List ℕ

@@ -1,8 +1,9 @@
 use Rattle.std.proofs.Common.{◌≡◌, sym, ap, ap₂, subst, ◌∙◌}
 use Rattle.py_syntax.specs.View.{plain_module}
 use Rattle.cov_exclude.specs.Touched.{IsRising}
-use Rattle.cov_analysis.specs.Analyses.{Source, analysis_of, IsInOrder}
+use Rattle.cov_analysis.specs.Analyses.{Source, analysis_of, IsInOrder, IsReportable}
 use Rattle.cov_analysis.proofs.Ordered.{rises_of}
+use Rattle.cov_analysis.proofs.Reporting.{reportable_of}
 use Rattle.cov_analysis.proofs.Rising.{excluded_in-rises, no_branch_in-rises}
 use Rattle.cov_analysis.proofs.analysing.analyse.Goals as goal
 
@@ -19,3 +20,8 @@ pub returns-clause-in_order : goal.returns-clause-in_order
 returns-clause-in_order c =
     subst IsInOrder (sym (c.in_ok-analysis.ensures ∙ ap₂ (analysis_of c.args.path.now) c.in_ok-text.ensures c.in_ok-recorded.ensures.taken))
     (rises_of c.args.path.now c.args.exclude.now c.args.partial.now (plain_module c.args.module.now) c.args.source.now _)
+
+pub returns-clause-reportable : goal.returns-clause-reportable
+returns-clause-reportable c = λ lines.
+    subst IsReportable (sym (c.in_ok-analysis.ensures ∙ ap₂ (analysis_of c.args.path.now) c.in_ok-text.ensures c.in_ok-recorded.ensures.taken))
+    (reportable_of c.args.path.now c.args.exclude.now c.args.partial.now (plain_module c.args.module.now) c.args.source.now _ lines)

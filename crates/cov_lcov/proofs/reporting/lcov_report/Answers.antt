@@ -1,7 +1,7 @@
 use Rattle.std.proofs.Common.{◌<◌, ◌∙◌, ap, map, length, arith, sym, subst}
 use Rattle.std.proofs.lemmas.List.{length-map}
-use Rattle.cov_analysis.specs.Analyses.{analysis_view}
-use Rattle.cov_lcov.specs.Lcov.{IsReportable, file_bytes}
+use Rattle.cov_analysis.specs.Analyses.{IsReportable, analysis_view}
+use Rattle.cov_lcov.specs.Lcov.{file_bytes}
 use Rattle.cov_lcov.proofs.Pieces.{item_of, pieces_more}
 use Rattle.cov_lcov.proofs.reporting.lcov_report.Goals as goal
 

@@ -2,17 +2,15 @@ use Rattle.std.proofs.Common.{◌≡◌, ◌++◌, ◌≤◌, ℕ, List, IfOk, s
 use Rattle.std.specs.Fmt.{styled_decimal}
 use Rattle.cov_analysis.specs.Counts.{covered_of, all_of}
 use Rattle.cov_text.specs.Report.{right}
-use Rattle.cov_text.specs.Percentage.{percent}
+use Rattle.cov_analysis.specs.Percentage.{percent}
 use Rattle.cov_text.proofs.Cells.{number_right, percent_right, cells_of_arcs, cells_of_lines}
-use Rattle.cov_text.proofs.Percentages.{percentage_is}
 use Rattle.cov_text.proofs.columns.cells.Goals as goal
 
 pub returns-then-arcs : goal.returns-then-arcs
 returns-then-arcs c =
     let n = c.args.numbers in
     let p = c.percent-percent.result in
-    let within : covered_of n ≤ all_of n = omega arith in
-    let percent-is : p ≡ percent n = percentage_is (covered_of n) (all_of n) p within c.percent-percent.ensures in
+    let percent-is : p ≡ percent n = c.percent-percent.ensures.is in
     let same =
     cells_of_arcs c.args.arcs n (styled_decimal c.laid_out.result n.statements) (styled_decimal c.laid_out-then-arcs.result n.missing) (styled_decimal c.laid_out-then-arcs-2.result n.branches) (styled_decimal c.laid_out-then-arcs-3.result n.partial) (styled_decimal c.laid_out-then-arcs-4.result p)
     c.if-arcs.true
@@ -28,8 +26,7 @@ pub returns : goal.returns
 returns c =
     let n = c.args.numbers in
     let p = c.percent-percent.result in
-    let within : covered_of n ≤ all_of n = omega arith in
-    let percent-is : p ≡ percent n = percentage_is (covered_of n) (all_of n) p within c.percent-percent.ensures in
+    let percent-is : p ≡ percent n = c.percent-percent.ensures.is in
     let same =
     cells_of_lines c.args.arcs n (styled_decimal c.laid_out-2.result n.statements) (styled_decimal c.laid_out-3.result n.missing) (styled_decimal c.laid_out-4.result p)
     c.if-arcs.false

@@ -4,7 +4,7 @@ use Rattle.std.proofs.Math.Nat.{div-add-mod}
 use borrow.Author.Tests.{ltb-true, ltb-false, eqb-true, eqb-false}
 use Rattle.cov_analysis.specs.Percent as relation
 use Rattle.cov_analysis.specs.Percent.{IsEven, IsNearest, IsPercent}
-use Rattle.cov_text.specs.Percentage.{nearest, percentage}
+use Rattle.cov_analysis.specs.Percentage.{nearest, percentage}
 
 not_odd : (n : ℕ) → IsEven n → n % 2 ≡ 1 → ⊥
 not_odd n half odd = omega (arith, div-add-mod n 2, half.1)

@@ -1,0 +1,4 @@
+mod Searching
+mod Objects
+mod Floats
+mod Rows
