@@ -1,21 +1,5 @@
-pub mod Names
-pub mod Globals
-pub mod Standing
-pub mod Evals
-pub mod Tests
-pub mod Printing
-pub mod Growth
-pub mod Reaching
-pub mod Nodes
-pub mod Simple
-pub mod Loops
-pub mod Turns
-pub mod Choices
-pub mod ErrTexts
-pub mod Walked
-pub mod Loading
-pub mod Endings
-pub mod Answering
-pub mod OneOf
-pub mod Parts
-pub mod Earliest
+mod Firsts
+mod KindNames
+mod Lines
+mod Showing
+mod Stepping

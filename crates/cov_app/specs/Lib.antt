@@ -1,10 +1,6 @@
-pub mod Names
-pub mod Forms
-pub mod Least
-pub mod Walked
-pub mod Walk
-pub mod Reading
-pub mod Command
-pub mod Answer
-pub mod Step
+pub mod Messages
+pub mod Listing
 pub mod Runs
+pub mod Kept
+pub mod Endings
+pub mod Step

@@ -1,51 +1,75 @@
--- What the run of a module shows, in the words of the code.
-use Rattle.std.specs.Prelude.{◌≡◌, ℕ, List, [], ◌++◌, Option, Some, None, Result, Ok, Err}
-use Rattle.std.specs.BTreeSet.{insert_key}
+-- What the run of a program comes to, with the arcs that are listed after its output.
+--     path_of, AreProgramsOf      programs in memory beside the modules that they are code of
+--     Shown, shown_by             what a run shows
+--     Stream                      what a call did to an input or an output
+--     EndsAs, GivesUp             a run that ended, and one that was given up
+use Rattle.std.specs.Prelude.{◌≡◌, ℕ, List, ◌++◌, map, string_bytes, encode_utf8_all}
 use Rattle.cov_outside.specs.Prefixes.{GainsPrefix}
-use Rattle.py_syntax.specs.Tree.{Text, Stmts}
-use Rattle.py_meaning.specs.Crossings.{by_lines, shown_line}
-use Rattle.py_builtins.specs.Outcomes.{outcome_of, err_of}
-use Rattle.py_meaning.specs.Program.{Run}
-use Rattle.cov_app.specs.declared.walk.Raised.{Raised}
-use Rattle.cov_app.specs.declared.walk.RunFault.{RunFault}
-use Rattle.cov_app.specs.declared.walk.Left.{Left}
-use Rattle.cov_app.specs.declared.walk.Left.TheVariants as left
-use Rattle.cov_app.specs.declared.walk.Walk.{Walk}
-use Rattle.cov_app.specs.Walk.{raised_of}
-use Rattle.cov_app.specs.Answer.{Answer, program, budget}
-use Rattle.cov_app.specs.Step.{Arc, budget_of_runs, ended_by, shown_by}
-use Rattle.py_builtins.specs.Faults.{name_unknown}
+use Rattle.py_syntax.specs.Tree.{Text}
+use Rattle.py_builtins.specs.Outcomes.{Outcome}
+use Rattle.py_code.specs.Loaded.{modules_of}
+use Rattle.py_code.specs.declared.code.Program.{Program}
+use Rattle.py_code.specs.declared.code.Programs.{Programs}
+use Rattle.py_compile.specs.ProgramRuns.{AreFaithful}
+use Rattle.py_machine.specs.Told.{Heard, HeardSome}
+use Rattle.py_meaning.specs.Modules.{LoadedModule}
+use Rattle.py_meaning.specs.Program.{Run, run_modules}
+use Rattle.py_trace.specs.Traces.{AreWellFormed}
+use Rattle.cov_app.specs.Listing.{module_arcs, listing}
 
--- the answer to a module that was left so
-abbrev pub answer_left : Left → Answer
-answer_left left.End = program 0
-answer_left (left.Raised x) = program 1
-answer_left left.Cut = budget budget_of_runs
+abbrev pub path_of : Program → List ℕ
+path_of p = string_bytes p.path
 
--- what an exception writes to `err` where it ends a program
-abbrev pub raised_line : Raised → List ℕ
-raised_line x = err_of (outcome_of [] (Err (raised_of x)))
+-- the programs are faithful code of these modules, and lie on the same paths
+pub record AreProgramsOf (ps : Programs) (ms : List LoadedModule) : Type 0 where
+  pub faithful : AreFaithful (modules_of ps) ms
+  pub well_formed : AreWellFormed ms
+  pub paths : map path_of ps.modules.items ≡ map (λ m. encode_utf8_all m.path) ms
 
--- the same of a name that isn't set
-abbrev pub line_unset : Text → List ℕ
-line_unset x = err_of (outcome_of [] (Err (name_unknown x)))
+-- what a run shows: how it ends, the bytes for `out`, and what is left of the input
+pub record Shown : Type 0 where
+  pub outcome : Outcome
+  pub out : List ℕ
+  pub left : List ℕ
 
-abbrev pub ending_left : Left → List ℕ
-ending_left left.End = []
-ending_left (left.Raised x) = raised_line x
-ending_left left.Cut = []
+-- its output, and then its arcs
+abbrev pub shown_by : List LoadedModule → Run → Shown
+shown_by ms r = record {
+  outcome = r.outcome;
+  out = r.out ++ listing (module_arcs ms r.items);
+  left = r.input;
+}
 
--- the arcs at the end: with that of leaving, unless the run was cut
-abbrev pub last_arcs : Left → Walk → List Arc
-last_arcs left.Cut w = w.arcs.keys
-last_arcs l w = insert_key by_lines w.arcs.keys (shown_line 1 w.kept, shown_line 1 0)
+-- what modules show that are run with these words and this input, within a budget
+abbrev pub shown : List LoadedModule → List Text → ℕ → List ℕ → Shown
+shown ms words budget input = shown_by ms (run_modules ms words input budget)
 
-abbrev pub ending_of : Option Raised → List ℕ
-ending_of None = []
-ending_of (Some x) = raised_line x
+-- the bytes of an input or an output before a call and after it, where it tells them
+pub record Stream : Type 1 where
+  pub tells : Type 0
+  pub before : List ℕ
+  pub after : List ℕ
 
--- the run was left as it ends, and its sink gained what it shows; after a fault a prefix of that
-abbrev pub Shows : List ℕ → Stmts → Run → Result Left RunFault → Type 0 → List ℕ → List ℕ → Type 0
-Shows path t r (Ok l) tells before after =
-    (ended_by r.outcome ≡ answer_left l) × (err_of r.outcome ≡ ending_left l) × (tells → after ≡ before ++ shown_by path t r)
-Shows path t r (Err fault) tells before after = tells → GainsPrefix before after (shown_by path t r)
+-- the output gained these bytes
+abbrev pub Gained : Stream → List ℕ → Type 0
+Gained out bytes = out.tells → out.after ≡ out.before ++ bytes
+
+-- it gained the first of them
+abbrev pub GainedSome : Stream → List ℕ → Type 0
+GainedSome out bytes = out.tells → GainsPrefix out.before out.after bytes
+
+-- the run ended so, with all that it shows, and this rest of the input is left
+pub record Ends (how : Outcome) (output : Stream) (rest : List ℕ) (s : Shown) : Type 0 where
+  pub outcome : how ≡ s.outcome
+  pub out : Gained output s.out
+  pub left : rest ≡ s.left
+
+-- So it is with every input that gives what was read.
+abbrev pub EndsAs : Outcome → (input out : Stream) → (List ℕ → Shown) → Type 0
+EndsAs outcome input out show =
+    Heard input.tells input.before input.after (λ all rest. Ends outcome out rest (show all))
+
+-- The run was given up: of what it shows the first bytes were written.
+abbrev pub GivesUp : (input out : Stream) → (List ℕ → Shown) → Type 0
+GivesUp input out show =
+    HeardSome input.tells input.before input.after (λ all. GainedSome out (show all).out)

@@ -1,188 +1,179 @@
--- The step of a command: what its words and the files make of it.
-use Rattle.std.specs.Prelude.{◌≡◌, ℕ, if◌then◌else◌, List, [], ◌∷◌, ◌++◌, ℤ, Option, Some, None, Result, Ok, Err, length, nat_lt, codes}
-use Rattle.std.specs.Fmt.{signed_decimal}
+-- The step of a command: what its words make of the files, the input and the outputs.
+--     Effect                    what a call did
+--     answer_to, IsRunAnswer    the answer to the ending of a program, and all answers of a run
+--     ShelfLoads                how a shelf leads to what loading comes to
+--     DoesNothing               an answer that leaves input and output as they were
+--     Runs, Follows             what `arcs` does with what loading came to
+--     Arcs, Does                the commands
+--     TakesStep, StepTaken      the step of the words
+use Rattle.std.specs.Prelude.{◌≡◌, ℕ, Bool, true, false, List, [], ◌∷◌, map, Option, Some, None, Result, codes}
 use Rattle.std.specs.Str.{chars}
+use Rattle.cov_outside.specs.declared.shelf.ShelfError.{ShelfError}
 use Rattle.cov_outside.specs.Files.{Files}
-use Rattle.cov_outside.specs.Prefixes.{GainsPrefix}
-use Rattle.py_syntax.specs.Tree.{Text, Stmts}
-use Rattle.py_meaning.specs.Crossings.{crossings, lines_crossed}
-use Rattle.py_meaning.specs.Loading as loading
-use Rattle.py_meaning.specs.Loading.{loaded}
+use Rattle.py_syntax.specs.Tree.{Text}
 use Rattle.py_builtins.specs.Outcomes.{Outcome, finished, exited, raised, cut, err_of}
-use Rattle.py_meaning.specs.Program.{Run, meaning}
-use Rattle.py_token.specs.declared.error.TokenError.{TokenError}
-use Rattle.py_token.specs.declared.error.TokenError.TheVariants as token_error
-use Rattle.py_parse.specs.declared.error.DepthKind.TheVariants as depth
-use Rattle.py_parse.specs.declared.error.SyntaxError.{SyntaxError}
-use Rattle.py_parse.specs.declared.error.SyntaxError.TheVariants as syntax_error
-use Rattle.py_scope.specs.declared.error.ScopeError.{ScopeError}
-use Rattle.py_scope.specs.declared.error.ScopeError.TheVariants as scope_error
-use Rattle.cov_app.specs.declared.answer.Why.{Why}
-use Rattle.cov_app.specs.declared.answer.Why.TheVariants as why
+use Rattle.py_meaning.specs.Modules.{LoadedModule}
+use Rattle.cov_words.specs.Commands.{PlainCommand, arcs, run, combine, report, json, lcov, annotate, erase, script, make, suite, select, mutate, IsCommand, StopsAfter}
+use Rattle.cov_words.specs.Values.{Word}
+use Rattle.cov_words.specs.declared.why.Why.{Why}
+use Rattle.cov_words.specs.declared.why.Why.TheVariants as why
+use Rattle.cov_run.specs.Loading.{told_by}
+use Rattle.cov_run.specs.Loads.{Loading, program, refused, unread, Loads, LoadsTo}
 use Rattle.cov_app.specs.declared.answer.Told.{Told}
-use Rattle.cov_app.specs.declared.answer.Told.TheVariants as told_variants
-use Rattle.cov_app.specs.declared.answer.SyntaxKind.TheVariants as kinds
-use Rattle.cov_app.specs.declared.answer.LimitKind.TheVariants.{FileBytes, Lines, Expressions, Suites}
-use Rattle.cov_app.specs.Command.{command}
-use Rattle.cov_app.specs.Answer.{Answer, program, budget, usage, no_such_file, syntax, limit, no_memory, answer_of, message_of}
-use Rattle.cov_app.specs.Reading.{Reading, no_text, long, stuck, no_tree, ill_formed, unbuilt, tree, unread, Reads}
+use Rattle.cov_app.specs.Messages.{message_of, IsWritten}
+use Rattle.cov_app.specs.Runs.{Stream, Gained, shown, EndsAs, GivesUp}
 
--- ---- the run
+-- the steps that a run may take where the words say nothing of it
+abbrev pub usual_budget : ℕ
+usual_budget = 1000000
 
--- a pair of neighbouring lines, where -1 stands for the outside of the module
-abbrev pub Arc : Type 0
-Arc = ℤ × ℤ
-
-abbrev pub arc_line : List ℕ → Arc → List ℕ
-arc_line path a = path ++ (codes " " ++ (signed_decimal a.0 ++ (codes " " ++ (signed_decimal a.1 ++ codes "\n"))))
-
-abbrev pub arc_lines : List ℕ → List Arc → List ℕ
-arc_lines path [] = []
-arc_lines path (a ∷ rest) = arc_line path a ++ arc_lines path rest
-
--- the steps that a run may take
-abbrev pub budget_of_runs : ℕ
-budget_of_runs = 1000000
-
--- the most bytes of a file
-abbrev pub most_bytes : ℕ
-most_bytes = 1048576
-
--- what a command does: its answer, the bytes that its program's ending writes to `err`, and the bytes for `out`
-pub record Stepped : Type 0 where
-  pub answer : Answer
-  pub ending : List ℕ
-  pub out : List ℕ
-
-abbrev pub refusal : Answer → Stepped
-refusal a = record { answer = a; ending = []; out = [] }
-
-abbrev pub ended_by : Outcome → Answer
-ended_by finished = program 0
-ended_by (exited status text) = program status
-ended_by (raised kind text) = program 1
-ended_by cut = budget budget_of_runs
+abbrev pub budget_in : Option ℕ → ℕ
+budget_in None = usual_budget
+budget_in (Some n) = n
 
 -- the name of a script's module
 abbrev pub main_name : Text
-main_name = codes "__main__"
+main_name = chars (codes "__main__")
 
--- the program of a script: no built form imports, so its file is the only one
-abbrev pub program_of : List ℕ → Stmts → loading.Program
-program_of path t = record { files = (chars path, t) ∷ []; script = chars path; name = main_name }
+-- the answer to an ending of a program, within a budget
+abbrev pub answer_to : ℕ → Outcome → Why
+answer_to budget finished = why.Program 0
+answer_to budget (exited status text) = why.Program status
+answer_to budget (raised kind text) = why.Program 1
+answer_to budget cut = why.Budget budget
 
--- the run of a script by the meaning of the language; its own name is the first of its words
-abbrev pub run_of : List ℕ → Stmts → List ℕ → Run
-run_of path t input = meaning (program_of path t) (chars path ∷ []) input budget_of_runs
+-- an answer that a run of a program can give
+abbrev pub IsRunAnswer : Why → Type 0
+IsRunAnswer why.Done = ⊥
+IsRunAnswer (why.Program n) = Unit {0}
+IsRunAnswer (why.Budget n) = Unit {0}
+IsRunAnswer (why.Under covered all) = ⊥
+IsRunAnswer (why.Usage i) = ⊥
+IsRunAnswer (why.NoSuchFile name) = ⊥
+IsRunAnswer (why.Syntax file line kind) = ⊥
+IsRunAnswer (why.Limit kind n) = ⊥
+IsRunAnswer (why.BadConfig key) = ⊥
+IsRunAnswer (why.BadPattern i) = ⊥
+IsRunAnswer (why.PatternSize i) = ⊥
+IsRunAnswer (why.NoFunction name) = ⊥
+IsRunAnswer (why.NoData name) = ⊥
+IsRunAnswer (why.Mixed a b) = ⊥
+IsRunAnswer (why.BadData name kind) = ⊥
+IsRunAnswer (why.NoSource path) = ⊥
+IsRunAnswer why.ReadFault = Unit {0}
+IsRunAnswer why.WriteFault = Unit {0}
+IsRunAnswer why.ShelfFault = ⊥
+IsRunAnswer why.VaultFault = ⊥
+IsRunAnswer why.NoMemory = Unit {0}
+IsRunAnswer (why.Tests passed failed cuts) = ⊥
+IsRunAnswer (why.ImportFailed file) = ⊥
 
--- what a run prints, and then its arcs
-abbrev pub shown_by : List ℕ → Stmts → Run → List ℕ
-shown_by path t r = r.out ++ arc_lines path (lines_crossed (crossings (loaded (program_of path t)) 0 r.items))
+-- whether an answer says that the outside failed, or that memory was wanting
+abbrev pub is_fault : Why → Bool
+is_fault why.Done = false
+is_fault (why.Program n) = false
+is_fault (why.Budget n) = false
+is_fault (why.Under covered all) = false
+is_fault (why.Usage i) = false
+is_fault (why.NoSuchFile name) = false
+is_fault (why.Syntax file line kind) = false
+is_fault (why.Limit kind n) = false
+is_fault (why.BadConfig key) = false
+is_fault (why.BadPattern i) = false
+is_fault (why.PatternSize i) = false
+is_fault (why.NoFunction name) = false
+is_fault (why.NoData name) = false
+is_fault (why.Mixed a b) = false
+is_fault (why.BadData name kind) = false
+is_fault (why.NoSource path) = false
+is_fault why.ReadFault = true
+is_fault why.WriteFault = true
+is_fault why.ShelfFault = true
+is_fault why.VaultFault = true
+is_fault why.NoMemory = true
+is_fault (why.Tests passed failed cuts) = false
+is_fault (why.ImportFailed file) = false
 
-abbrev pub step_of : List ℕ → Stmts → List ℕ → Stepped
-step_of path t input =
-    let r = run_of path t input in
-    record { answer = ended_by r.outcome; ending = err_of r.outcome; out = shown_by path t r }
-
--- ---- the command
-
--- the answer to a text that no tokens spell
-abbrev pub stuck_answer : List ℕ → TokenError → Answer
-stuck_answer path (token_error.BadCharacter line) = syntax path line kinds.BadCharacter
-stuck_answer path (token_error.BadIndent line) = syntax path line kinds.BadIndent
-stuck_answer path (token_error.OpenString line) = syntax path line kinds.OpenString
-stuck_answer path (token_error.OpenBracket line) = syntax path line kinds.OpenBracket
-stuck_answer path (token_error.WideNumber line) = syntax path line kinds.WideNumber
-stuck_answer path token_error.NoMemory = no_memory
-
--- the answer to tokens that no tree spells within the limits
-abbrev pub no_tree_answer : List ℕ → SyntaxError → Answer
-no_tree_answer path (syntax_error.Unexpected line) = syntax path line kinds.Unexpected
-no_tree_answer path (syntax_error.TooDeep depth.Expressions line) = limit Expressions 201
-no_tree_answer path (syntax_error.TooDeep depth.Suites line) = limit Suites 65
-no_tree_answer path syntax_error.NoMemory = no_memory
-
--- the answer to a module that isn't well formed
-abbrev pub ill_formed_answer : List ℕ → ScopeError → Answer
-ill_formed_answer path (scope_error.BreakOutside line) = syntax path line kinds.BreakOutside
-ill_formed_answer path (scope_error.ReturnOutside line) = syntax path line kinds.ReturnOutside
-ill_formed_answer path (scope_error.GlobalAfterUse line) = syntax path line kinds.GlobalAfterUse
-ill_formed_answer path (scope_error.NestedFunction line) = syntax path line kinds.NestedFunction
-ill_formed_answer path (scope_error.EarlyIrrefutable line) = syntax path line kinds.EarlyIrrefutable
-ill_formed_answer path (scope_error.TwiceNamed line) = syntax path line kinds.TwiceNamed
-ill_formed_answer path scope_error.NoMemory = no_memory
-
-abbrev pub of_reading : List ℕ → List ℕ → Reading → Stepped
-of_reading path input (no_text line) = refusal (syntax path line kinds.BadCharacter)
-of_reading path input (long lines) = refusal (limit Lines lines)
-of_reading path input (stuck error) = refusal (stuck_answer path error)
-of_reading path input (no_tree error) = refusal (no_tree_answer path error)
-of_reading path input (ill_formed error) = refusal (ill_formed_answer path error)
-of_reading path input (unbuilt line) = refusal (syntax path line kinds.Unbuilt)
-of_reading path input (tree t) = step_of path t input
-of_reading path input unread = refusal no_memory
-
-abbrev pub of_file : List ℕ → Option (List ℕ) → List ℕ → Reading → Stepped
-of_file path None input reading = refusal (no_such_file path)
-of_file path (Some bytes) input reading =
-    if nat_lt most_bytes (length bytes) then refusal (limit FileBytes 1048577) else of_reading path input reading
-
-abbrev pub of_command : Result (List ℕ) ℕ → Files → List ℕ → Reading → Stepped
-of_command (Err i) files input reading = refusal (usage i)
-of_command (Ok path) files input reading = of_file path (files path) input reading
-
--- the step of the words over the files and the input, where the script was read so
-abbrev pub step : List (List ℕ) → Files → List ℕ → Reading → Stepped
-step words files input reading = of_command (command words) files input reading
-
--- a fault cuts the bytes for `out` short; any other answer is the step's
-abbrev pub Meets : Stepped → Why → List ℕ → Type 0 → List ℕ → List ℕ → Type 0
-Meets s why.WriteFault e tells before after = tells → GainsPrefix before after s.out
-Meets s why.ShelfFault e tells before after = tells → GainsPrefix before after s.out
-Meets s why.NoMemory e tells before after = tells → GainsPrefix before after s.out
-Meets s w e tells before after = (answer_of w ≡ s.answer) × (e ≡ s.ending) × (tells → after ≡ before ++ s.out)
-
--- the answer is that of the step, and `out` gained its bytes
-pub record Answers (words : List (List ℕ)) (files : Files) (input : List ℕ) (w : Why) (e : List ℕ) (tells : Type 0) (before after : List ℕ) : Type 0 where
-  pub reading : Reading
-  pub read : (path bytes : List ℕ) → command words ≡ Ok path → files path ≡ Some bytes → Reads bytes reading
-  pub met : Meets (step words files input reading) w e tells before after
-
--- the same over some files, such as the shelf gave
-pub record AnswersGiven (words : List (List ℕ)) (input : List ℕ) (w : Why) (e : List ℕ) (tells : Type 0) (before after : List ℕ) : Type 0 where
-  pub files : Files
-  pub answers : Answers words files input w e tells before after
-
--- what became of a text for `err`
-abbrev pub IsTold : Told → List ℕ → List ℕ → List ℕ → Type 0
-IsTold told_variants.Whole text before after = after ≡ before ++ text
-IsTold told_variants.Failed text before after = GainsPrefix before after text
-IsTold told_variants.NoMemory text before after = GainsPrefix before after text
-
--- the whole command: the answer is the step's over some files, over the shelf's own where it tells them, and `err` gained its text
-pub record TakesStep (words : List (List ℕ)) (shelf_tells : Type 0) (files : Files) (input : List ℕ) (w : Why) (t : Told) (out_tells : Type 0) (out_before out_after : List ℕ) (err_tells : Type 0) (err_before err_after : List ℕ) : Type 0 where
+-- what a call did: its answer, the bytes that its program's ending writes to `err`, and what became of
+-- input and output
+pub record Effect : Type 1 where
+  pub answer : Why
   pub ending : List ℕ
-  pub answers : shelf_tells → Answers words files input w ending out_tells out_before out_after
-  pub given : AnswersGiven words input w ending out_tells out_before out_after
-  pub told : err_tells → IsTold t (message_of (answer_of w) ending) err_before err_after
+  pub input : Stream
+  pub out : Stream
 
--- the part of a script, and that of its bytes
-pub record AnswersScript (path : List ℕ) (files : Files) (input : List ℕ) (w : Why) (e : List ℕ) (tells : Type 0) (before after : List ℕ) : Type 0 where
-  pub reading : Reading
-  pub read : (bytes : List ℕ) → files path ≡ Some bytes → Reads bytes reading
-  pub met : Meets (of_file path (files path) input reading) w e tells before after
+-- nothing was read and nothing written
+pub record DoesNothing (e : Effect) : Type 0 where
+  pub ending : e.ending ≡ []
+  pub input : e.input.tells → e.input.after ≡ e.input.before
+  pub out : Gained e.out []
 
--- the part of a script over some files
-pub record AnswersScriptGiven (path input : List ℕ) (w : Why) (e : List ℕ) (tells : Type 0) (before after : List ℕ) : Type 0 where
-  pub files : Files
-  pub answers : AnswersScript path files input w e tells before after
+-- An answer to a run of modules with these words. The run ended, and the answer says how; or it was
+-- given up.
+pub record Runs (ms : List LoadedModule) (words : List Text) (budget : ℕ) (e : Effect) : Type 0 where
+  pub ended :
+      is_fault e.answer ≡ false
+      → (outcome : Outcome) × (e.answer ≡ answer_to budget outcome) × (e.ending ≡ err_of outcome)
+      × EndsAs outcome e.input e.out (shown ms words budget)
+  pub given_up : is_fault e.answer ≡ true → GivesUp e.input e.out (shown ms words budget)
 
-pub record AnswersSource (path bytes input : List ℕ) (w : Why) (e : List ℕ) (tells : Type 0) (before after : List ℕ) : Type 0 where
-  pub reading : Reading
-  pub read : Reads bytes reading
-  pub met : Meets (of_reading path input reading) w e tells before after
+-- The answers of a shelf lead to what loading comes to. Where the shelf tells its files, these do.
+pub record ShelfLoads {H : Type 0}
+    (moves : H → List ℕ → ℕ → Result (List ℕ) ShelfError → H → Type 0) (tells : Type 0)
+    (files : Files) (old new : H) (script name : Text) (loading : Loading) : Type 0 where
+  pub loads : Loads moves old script name loading new
+  pub told : tells → LoadsTo (told_by files script) script name loading
 
--- the answer, where memory sufficed
-abbrev pub OrNoMemory : Why → Answer → Type 0
-OrNoMemory why.NoMemory a = Unit {0}
-OrNoMemory w a = answer_of w ≡ a
+-- What follows what loading came to: a program is run, where the engine is true; a refusal is the
+-- answer; and so are a fault and want of memory.
+abbrev pub Follows : Type 0 → List Text → ℕ → Effect → Loading → Type 0
+Follows faithful words budget e (program ms) = faithful → Runs ms words budget e
+Follows faithful words budget e (refused w) = (e.answer ≡ w) × DoesNothing e
+Follows faithful words budget e unread = (is_fault e.answer ≡ true) × DoesNothing e
+
+-- `arcs`: the script is loaded, and its own name is the first of its words
+pub record Arcs (loads : Text → Text → Loading → Type 0) (faithful : Type 0) (budget : Option ℕ)
+    (file : Word) (args : List Word) (e : Effect) : Type 0 where
+  pub loading : Loading
+  pub loaded : loads (chars file) main_name loading
+  pub follows : Follows faithful (chars file ∷ map chars args) (budget_in budget) e loading
+
+-- a command that isn't built is none
+pub record Unbuilt (e : Effect) : Type 0 where
+  pub answer : e.answer ≡ why.Usage 0
+  pub nothing : DoesNothing e
+
+-- what a command does
+abbrev pub Does : (Text → Text → Loading → Type 0) → Type 0 → Effect → PlainCommand → Type 0
+Does loads faithful e (arcs budget file args) = Arcs loads faithful budget file args e
+Does loads faithful e (run branch append context budget hook data_file rcfile file args) = Unbuilt e
+Does loads faithful e (combine append keep data_file rcfile names) = Unbuilt e
+Does loads faithful e (report show_missing fail_under data_file rcfile) = Unbuilt e
+Does loads faithful e (json name fail_under data_file rcfile) = Unbuilt e
+Does loads faithful e (lcov name fail_under data_file rcfile) = Unbuilt e
+Does loads faithful e (annotate data_file rcfile file) = Unbuilt e
+Does loads faithful e (erase data_file rcfile) = Unbuilt e
+Does loads faithful e (script file) = Unbuilt e
+Does loads faithful e (make seed size) = Unbuilt e
+Does loads faithful e (suite branch budget data_file rcfile file) = Unbuilt e
+Does loads faithful e (select budget old new) = Unbuilt e
+Does loads faithful e (mutate budget file) = Unbuilt e
+
+-- The step of the words: that of the command that they are; or they are none, and the answer says how
+-- many of them begin one; or memory was wanting.
+pub data TakesStep (loads : Text → Text → Loading → Type 0) (faithful : Type 0) (words : List Word)
+    (e : Effect) : Type 0 where
+  does : (c : PlainCommand) → IsCommand c words → Does loads faithful e c
+      → TakesStep loads faithful words e
+  no_command : (i : ℕ) → ((c : PlainCommand) → IsCommand c words → ⊥) → StopsAfter words i
+      → e.answer ≡ why.Usage i → DoesNothing e → TakesStep loads faithful words e
+  starved : e.answer ≡ why.NoMemory → DoesNothing e → TakesStep loads faithful words e
+
+-- The step of the words was taken: this answer, and what became of input, output and `err`.
+pub record StepTaken (loads : Text → Text → Loading → Type 0) (faithful : Type 0) (words : List Word)
+    (answer : Why) (what : Told) (input out err : Stream) : Type 0 where
+  pub ending : List ℕ
+  pub step :
+      TakesStep loads faithful words
+      (record { answer = answer; ending = ending; input = input; out = out })
+  pub told : err.tells → IsWritten what (message_of answer ending) err.before err.after

@@ -2,12 +2,12 @@
 #![tactic(auto)]
 
 mod answer;
-mod command;
-mod front;
+mod arcs;
+mod endings;
+mod listing;
 mod messages;
-mod script;
+mod running;
 mod step;
-mod walk;
 
-pub use answer::{End, LimitKind, SyntaxKind, Told, Why};
+pub use answer::{End, Told};
 pub use step::coverage;

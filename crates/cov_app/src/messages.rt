@@ -1,36 +1,80 @@
-// The text of an answer on `err`.
-ghost use Rattle.std.specs.Prelude.{◌≡◌, ◌≤◌, IfOk, []};
-ghost use Rattle.std.specs.String.{string_bytes};
+//! The exit status of an answer, and its text on `err`.
+ghost use Rattle.std.specs.Prelude.{◌≡◌, ◌≤◌, IfOk, string_bytes};
 ghost use Rattle.cov_outside.specs.Counts.{Rose};
-ghost use Rattle.cov_app.specs.Answer.{syntax, answer_of, message_of, kind_text, limit_text};
-ghost use Rattle.cov_app.specs.Runs.{ending_of, raised_line, line_unset};
-ghost use Rattle.cov_app.specs.Step.{IsTold};
+ghost use Rattle.cov_app.specs.Endings.{ending_of};
+ghost use Rattle.cov_app.specs.Messages.{IsWritten, bad_data_text, kind_text, limit_text, message_of, rows_text, setting_text, status_of, status_of_tests};
 
-use crate::answer::{LimitKind, SyntaxKind, Told, Why};
-use crate::walk::Raised;
+use crate::answer::Told;
+use crate::endings::ending_of;
 use cov_outside::{Sink, SinkError};
-use py_value::{NoMemory, Text};
+use cov_words::{BadKind, LimitKind, SyntaxKind, Why};
+use py_machine::Outcome;
+use py_value::NoMemory;
 use std::alloc::Global;
 
-/// The most characters of a name that the text of its exception can hold: that text adds 22.
-const MOST_NAME_CHARS: usize = 1_048_554;
+/// The exit status of an answer.
+pub(crate) fn status_of(why: &Why) -> u8
+    ensures { result ≡ status_of why.now }
+{
+    match why {
+        Why::Done => 0,
+        Why::Program(status) => *status,
+        Why::Budget(_) => 75,
+        Why::Under(..) => 2,
+        Why::Usage(_)
+        | Why::NoSuchFile(_)
+        | Why::Syntax(..)
+        | Why::Limit(..)
+        | Why::BadConfig(_)
+        | Why::BadPattern(_)
+        | Why::PatternSize(_)
+        | Why::NoFunction(_)
+        | Why::NoData(_)
+        | Why::Mixed(..)
+        | Why::BadData(..)
+        | Why::NoSource(_)
+        | Why::ImportFailed(_) => 1,
+        Why::ReadFault | Why::WriteFault | Why::ShelfFault | Why::VaultFault => 74,
+        Why::NoMemory => 70,
+        Why::Tests(_, failed, cut) => status_of_tests(*failed, *cut),
+    }
+}
+
+fn status_of_tests(failed: u64, cut: u64) -> u8
+    ensures { result ≡ status_of_tests failed cut }
+{
+    if failed == 0 && cut == 0 { 0 } else { 1 }
+}
 
 /// Writes the text of the answer to `err`.
-pub(crate) fn tell<E: Sink>(alloc: Global, err: &mut E, why: &Why, raised: &Option<Raised>) -> Told
+pub(crate) fn tell<E: Sink>(
+    alloc: Global,
+    err: &mut E,
+    why: &Why,
+    outcome: &Option<Outcome>,
+) -> Told
     ensures told { E.tells
-        → IsTold result (message_of (answer_of why.now) (ending_of raised.now)) (E.contents err.old)
+        → IsWritten result (message_of why.now (ending_of outcome.now)) (E.contents err.old)
         (E.contents err.new) }
     ensures count { E.faults err.old ≤ E.faults err.new }
     ensures failed { result ≡ Told.Failed → Rose (E.faults err.old) (E.faults err.new) }
 {
-    match err_line(alloc, why, raised) {
+    match line_of(alloc, why, outcome) {
         Ok(line) => say(alloc, err, line.as_str()),
         Err(_) => Told::NoMemory,
     }
 }
 
+fn line_of(alloc: Global, why: &Why, outcome: &Option<Outcome>) -> Result<String, NoMemory>
+    ensures { IfOk result (λ line.
+        string_bytes line ≡ message_of why.now (ending_of outcome.now)) }
+{
+    let ending = ending_of(alloc, outcome)?;
+    message_of(alloc, why, ending.as_str())
+}
+
 fn say<E: Sink>(alloc: Global, err: &mut E, text: &str) -> Told
-    ensures told { E.tells → IsTold result text.now (E.contents err.old) (E.contents err.new) }
+    ensures told { E.tells → IsWritten result text.now (E.contents err.old) (E.contents err.new) }
     ensures count { E.faults err.old ≤ E.faults err.new }
     ensures failed { result ≡ Told.Failed → Rose (E.faults err.old) (E.faults err.new) }
 {
@@ -44,31 +88,69 @@ fn say<E: Sink>(alloc: Global, err: &mut E, text: &str) -> Told
     }
 }
 
-fn err_line(alloc: Global, why: &Why, raised: &Option<Raised>) -> Result<String, NoMemory>
-    ensures { IfOk result (λ line.
-        string_bytes line ≡ message_of (answer_of why.now) (ending_of raised.now)) }
+fn message_of(alloc: Global, why: &Why, ending: &str) -> Result<String, NoMemory>
+    ensures { IfOk result (λ line. string_bytes line ≡ message_of why.now ending.now) }
 {
     match why {
-        Why::Program(_) => program_line(alloc, raised),
+        Why::Done | Why::Tests(..) => Ok(String::new(alloc)),
+        Why::Program(_) => String::from_str(alloc, ending),
         Why::Budget(n) => format!(in alloc; "coverage: budget of {n} steps is spent\n"),
+        Why::Under(covered, all) => {
+            format!(in alloc; "coverage: {covered} of {all} covered is under {ending} percent\n")
+        }
         Why::Usage(i) => format!(in alloc; "coverage: usage: stopped after {i} words\n"),
         Why::NoSuchFile(name) => format!(in alloc; "coverage: no file {name}\n"),
-        Why::Syntax(file, line, kind) => syntax_line(alloc, file.as_str(), *line, *kind),
+        Why::Syntax(file, line, kind) => {
+            let kind = kind_text(*kind);
+            format!(in alloc; "coverage: {file}:{line}: {kind}\n")
+        }
         Why::Limit(kind, n) => {
             let kind = limit_text(*kind);
             format!(in alloc; "coverage: limit {kind} passed: {n}\n")
         }
+        Why::BadConfig(key) => setting_text(alloc, key.as_str()),
+        Why::BadPattern(i) => format!(in alloc; "coverage: bad pattern {i}\n"),
+        Why::PatternSize(i) => format!(in alloc; "coverage: pattern {i} is too large\n"),
+        Why::NoFunction(name) => format!(in alloc; "coverage: no function {name}\n"),
+        Why::NoData(name) => format!(in alloc; "coverage: no data {name}\n"),
+        Why::Mixed(one, other) => {
+            let (one, other) = (rows_text(*one), rows_text(*other));
+            format!(in alloc; "coverage: cannot join {one} with {other}\n")
+        }
+        Why::BadData(name, kind) => bad_data(alloc, name.as_str(), *kind),
+        Why::NoSource(path) => format!(in alloc; "coverage: no source {path}\n"),
+        Why::ReadFault => String::from_str(alloc, "coverage: reading input failed\n"),
         Why::WriteFault => String::from_str(alloc, "coverage: writing output failed\n"),
         Why::ShelfFault => String::from_str(alloc, "coverage: files failed\n"),
+        Why::VaultFault => String::from_str(alloc, "coverage: data store failed\n"),
         Why::NoMemory => String::from_str(alloc, "coverage: no memory\n"),
+        Why::ImportFailed(file) => format!(in alloc; "coverage: import of {file} ended early\n"),
     }
 }
 
-fn syntax_line(alloc: Global, file: &str, line: u32, kind: SyntaxKind) -> Result<String, NoMemory>
-    ensures { IfOk result (λ text. string_bytes text ≡ message_of (syntax file.now line kind) []) }
+fn setting_text(alloc: Global, key: &str) -> Result<String, NoMemory>
+    ensures { IfOk result (λ line. string_bytes line ≡ setting_text key.now) }
 {
-    let kind = kind_text(kind);
-    format!(in alloc; "coverage: {file}:{line}: {kind}\n")
+    if key.is_empty() {
+        return String::from_str(alloc, "coverage: bad settings file\n");
+    }
+    format!(in alloc; "coverage: bad setting {key}\n")
+}
+
+fn bad_data(alloc: Global, name: &str, kind: BadKind) -> Result<String, NoMemory>
+    ensures { IfOk result (λ line.
+        string_bytes line ≡ bad_data_text name.now kind) }
+{
+    match kind {
+        BadKind::NotSchema7 => format!(in alloc; "coverage: bad data {name}: not schema 7\n"),
+        BadKind::BadRow(i) => format!(in alloc; "coverage: bad data {name}: row {i}\n"),
+    }
+}
+
+fn rows_text(arcs: bool) -> &'static str
+    ensures { result.now ≡ rows_text arcs }
+{
+    if arcs { "arcs" } else { "lines" }
 }
 
 fn kind_text(kind: SyntaxKind) -> &'static str
@@ -87,7 +169,6 @@ fn kind_text(kind: SyntaxKind) -> &'static str
         SyntaxKind::NestedFunction => "NestedFunction",
         SyntaxKind::EarlyIrrefutable => "EarlyIrrefutable",
         SyntaxKind::TwiceNamed => "TwiceNamed",
-        SyntaxKind::Unbuilt => "Unbuilt",
     }
 }
 
@@ -96,39 +177,12 @@ fn limit_text(kind: LimitKind) -> &'static str
 {
     match kind {
         LimitKind::FileBytes => "FileBytes",
+        LimitKind::TotalBytes => "TotalBytes",
         LimitKind::Lines => "Lines",
+        LimitKind::Modules => "Modules",
         LimitKind::Expressions => "Expressions",
         LimitKind::Suites => "Suites",
+        LimitKind::Patterns => "Patterns",
+        LimitKind::PatternBytes => "PatternBytes",
     }
-}
-
-/// The line of an uncaught exception, or nothing.
-fn program_line(alloc: Global, raised: &Option<Raised>) -> Result<String, NoMemory>
-    ensures { IfOk result (λ line. string_bytes line ≡ ending_of raised.now) }
-{
-    match raised {
-        None => Ok(String::new(alloc)),
-        Some(raised) => exception_line(alloc, raised),
-    }
-}
-
-fn exception_line(alloc: Global, raised: &Raised) -> Result<String, NoMemory>
-    ensures { IfOk result (λ line. string_bytes line ≡ raised_line raised.now) }
-{
-    match raised {
-        Raised::UnsetName(name) => unset_name_line(alloc, name),
-        Raised::TooLarge => String::from_str(alloc, "OverflowError: integer too large\n"),
-        Raised::Unbuilt => String::from_str(alloc, "TypeError: unsupported operand\n"),
-    }
-}
-
-/// The text of an exception has no more characters than a text may have; a longer one is left out.
-fn unset_name_line(alloc: Global, name: &Text) -> Result<String, NoMemory>
-    ensures { IfOk result (λ line. string_bytes line ≡ line_unset name.now) }
-{
-    if name.len() > MOST_NAME_CHARS {
-        return String::from_str(alloc, "NameError\n");
-    }
-    let name = name.as_str();
-    format!(in alloc; "NameError: name '{name}' is not defined\n")
 }

@@ -3,6 +3,7 @@
 
 use cov_app::coverage;
 use cov_outside::{FolderShelf, StdSink, StdSource, Stream};
+use py_machine::Machine;
 use std::alloc::AllocError;
 use std::process::ExitCode;
 use std::{env, io};
@@ -13,11 +14,14 @@ const NO_MEMORY: u8 = 70;
 const HELP: &str = "\
 usage: coverage COMMAND
 
-  arcs SCRIPT   run a Python program, and print its output and then its jumps
+  arcs [--budget N] SCRIPT [ARG..]
+                run a Python program, and print its output and then its jumps;
+                it is cut after N steps, or 1000000
   --help        print this text
   --version     print the version
 
-A jump is a line SCRIPT FROM TO, where -1 stands for the outside of the program.
+A jump is a line PATH FROM TO. A body's outside is its first line, negative: -1
+for a module, and -5 for a function whose `def` stands in line 5.
 
 example: coverage arcs examples/countdown.py
 ";
@@ -49,8 +53,11 @@ fn run(rt: &HostRuntime) -> Result<u8, AllocError> {
         &mut input,
         &mut out,
         &mut err,
+        &mut Machine,
     );
-    Ok(end.status)
+    let status = end.status;
+    drop(end);
+    Ok(status)
 }
 
 fn shown(written: io::Result<()>) -> u8 {

@@ -1,5 +1,24 @@
-//! The worked rows of the documents, as tests of the command over objects in memory.
+//! Worked rows of the command, as tests. They stand in a crate of their own so that the library is proved
+//! once and not a second time with its tests.
 #![tactic(auto)]
 
 #[cfg(test)]
-mod commands;
+mod engines;
+#[cfg(test)]
+mod faults;
+#[cfg(test)]
+mod harness;
+#[cfg(test)]
+mod limits;
+#[cfg(test)]
+mod programs;
+#[cfg(test)]
+mod refused;
+#[cfg(test)]
+mod rows;
+#[cfg(test)]
+mod values;
+#[cfg(test)]
+mod words;
+#[cfg(test)]
+mod worked;

@@ -1,14 +1,13 @@
-use Rattle.cov_app.proofs.Answering.{no_command, of_script, given_command, given_script}
+use Rattle.std.proofs.Common.{refl}
+use Rattle.cov_words.specs.Plain.{command_view}
+use Rattle.cov_app.specs.Step.{does, no_command}
+use Rattle.cov_app.proofs.Stepping.{nothing-done, no-words}
 use Rattle.cov_app.proofs.step.answer.Goals as goal
 
-pub returns-in-Err-clause-answers : goal.returns-in-Err-clause-answers
-returns-in-Err-clause-answers g c = λ input t. no_command _ _ input c.in-Err.i _ _ c.in-Err.ensures
+pub returns-in-Ok-clause-step : goal.returns-in-Ok-clause-step
+returns-in-Ok-clause-step g c = does (command_view c.in-Ok.command) c.in-Ok.ensures c.run_command.ensures.does
 
-pub returns-in-Ok-clause-answers : goal.returns-in-Ok-clause-answers
-returns-in-Ok-clause-answers g c = λ input t. of_script _ c.in-Ok.script.now _ input _ _ _ _ _ c.in-Ok.ensures (c.run_script.ensures.answers input t)
-
-pub returns-in-Err-clause-given : goal.returns-in-Err-clause-given
-returns-in-Err-clause-given g c = λ input. given_command _ input c.in-Err.i _ _ c.in-Err.ensures
-
-pub returns-in-Ok-clause-given : goal.returns-in-Ok-clause-given
-returns-in-Ok-clause-given g c = λ input. given_script _ c.in-Ok.script.now input _ _ _ _ _ c.in-Ok.ensures (c.run_script.ensures.given input)
+pub returns-in-Err-Usage-clause-step : goal.returns-in-Err-Usage-clause-step
+returns-in-Err-Usage-clause-step g c =
+    let none = no-words _ c.in-Err-Usage.field-0 _ c.in-Err-Usage.field-0-is c.in-Err-Usage.ensures in
+    rw c.in-Err-Usage.field-0-is (no_command c.in-Err-Usage.i none.0 none.1 refl (nothing-done _ _ _ refl refl))

@@ -1,0 +1,48 @@
+//! An engine that isn't true: the arcs that are listed are those that it told.
+
+use crate::harness::{NONE, answer_by, shelf_of};
+use cov_event::{CodeId, Event, Tracer};
+use cov_outside::{Sink, Source};
+use py_builtins::RunFault;
+use py_code::Programs;
+use py_machine::{Engine, Outcome, Ran, Store};
+use std::alloc::Global;
+use std::test::Fail;
+
+/// Tells that the first line of the script was run, and runs nothing.
+#[derive(Drop)]
+struct Brief;
+
+impl Engine for Brief {
+    ghost faithful = { ⊥ };
+
+    fn run<T: Tracer, I: Source, O: Sink>(
+        &mut self,
+        alloc: Global,
+        _programs: &Programs,
+        _store: &mut Store,
+        _budget: u64,
+        tracer: &mut T,
+        _input: &mut I,
+        _out: &mut O,
+    ) -> Result<Ran, RunFault> {
+        tracer.event(alloc, &Event::Call(CodeId { module: 0, unit: 0 }))?;
+        tracer.event(alloc, &Event::Line(1))?;
+        tracer.event(alloc, &Event::Return)?;
+        Ok(Ran {
+            outcome: Outcome::Finished,
+            steps: 1,
+        })
+    }
+}
+
+#[test]
+fn another_engine(rt: HostRuntime) -> Result<(), Fail> {
+    let alloc = rt.alloc();
+    let source = "x = 1\nif x:\n    print(x)\nelse:\n    print(0)\n";
+    let files = shelf_of(alloc, &[("a.py", source)])?;
+    let found = answer_by(alloc, "arcs a.py", files, "", NONE, &mut Brief)?;
+    assert_eq!(&rt; found.status, 0);
+    assert_eq!(&rt; found.out.as_str(), "a.py -1 1\na.py 1 -1\n");
+    Ok(())
+}

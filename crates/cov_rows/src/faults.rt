@@ -1,0 +1,138 @@
+//! Commands over objects whose calls fail.
+
+use crate::harness::{Failing, NONE, answer_to};
+use cov_app::Told;
+use std::test::Fail;
+
+const FIRST_RUN: &str = "x = 1\nif x:\n    print(x)\nelse:\n    print(0)\n";
+
+const ASKS: &str = "print(1)\nprint(input())\n";
+
+/// A script with calls that fail, and what must come of it.
+struct Row {
+    title: &'static str,
+    source: &'static str,
+    failing: Failing,
+    status: u8,
+    out: &'static str,
+    err: &'static str,
+    told: Told,
+    left: usize,
+}
+
+static ROWS: [Row; 7] = [
+    Row {
+        title: "A shelf whose first call fails",
+        source: FIRST_RUN,
+        failing: Failing {
+            shelf: &[0],
+            input: &[],
+            out: &[],
+            err: &[],
+        },
+        status: 74,
+        out: "",
+        err: "coverage: files failed\n",
+        told: Told::Whole,
+        left: 4,
+    },
+    Row {
+        title: "A shelf that fails at a module",
+        source: "import m\nprint(1)\n",
+        failing: Failing {
+            shelf: &[1],
+            input: &[],
+            out: &[],
+            err: &[],
+        },
+        status: 74,
+        out: "",
+        err: "coverage: files failed\n",
+        told: Told::Whole,
+        left: 4,
+    },
+    Row {
+        title: "An output whose first call fails",
+        source: FIRST_RUN,
+        failing: Failing {
+            shelf: &[],
+            input: &[],
+            out: &[0],
+            err: &[],
+        },
+        status: 74,
+        out: "",
+        err: "coverage: writing output failed\n",
+        told: Told::Whole,
+        left: 4,
+    },
+    Row {
+        title: "An output that fails at the arcs",
+        source: "x = 1\n",
+        failing: Failing {
+            shelf: &[],
+            input: &[],
+            out: &[0],
+            err: &[],
+        },
+        status: 74,
+        out: "",
+        err: "coverage: writing output failed\n",
+        told: Told::Whole,
+        left: 4,
+    },
+    Row {
+        title: "An input that fails in the middle of its line",
+        source: ASKS,
+        failing: Failing {
+            shelf: &[],
+            input: &[1],
+            out: &[],
+            err: &[],
+        },
+        status: 74,
+        out: "1\n",
+        err: "coverage: reading input failed\n",
+        told: Told::Whole,
+        left: 3,
+    },
+    Row {
+        title: "An `err` that fails",
+        source: "x = y\n",
+        failing: Failing {
+            shelf: &[],
+            input: &[],
+            out: &[],
+            err: &[0],
+        },
+        status: 1,
+        out: "s.py -1 1\ns.py 1 -1\n",
+        err: "",
+        told: Told::Failed,
+        left: 4,
+    },
+    Row {
+        title: "No call that fails",
+        source: ASKS,
+        failing: NONE,
+        status: 0,
+        out: "1\nab\ns.py -1 1\ns.py 1 2\ns.py 2 -1\n",
+        err: "",
+        told: Told::Whole,
+        left: 1,
+    },
+];
+
+#[test]
+fn faults(rt: HostRuntime) -> Result<(), Fail> {
+    for row in &ROWS {
+        let files = [("s.py", row.source), ("m.py", "")];
+        let found = answer_to(rt.alloc(), "arcs s.py", &files, "ab\nc", row.failing)?;
+        assert_eq!(&rt; found.status, row.status, "{}", row.title);
+        assert_eq!(&rt; found.told, row.told, "{}", row.title);
+        assert_eq!(&rt; found.out.as_str(), row.out, "{}", row.title);
+        assert_eq!(&rt; found.err.as_str(), row.err, "{}", row.title);
+        assert_eq!(&rt; found.left, row.left, "{}", row.title);
+    }
+    Ok(())
+}

@@ -1,0 +1,127 @@
+//! Sources at the edges of the limits.
+
+use crate::harness::{Answer, NONE, answer_by};
+use py_machine::Machine;
+use std::alloc::{AllocError, Global};
+use std::test::Fail;
+
+/// What comes of `arcs s.py`, where the file holds these bytes.
+fn answer_to_bytes(alloc: Global, source: Vec<u8>) -> Result<Answer, Fail> {
+    let mut files = Vec::new(alloc);
+    files.push((String::from_str(alloc, "s.py")?, source))?;
+    answer_by(alloc, "arcs s.py", files, "", NONE, &mut Machine)
+}
+
+/// A zero in that many pairs of parentheses.
+fn nested_zero(alloc: Global, pairs: usize) -> Result<Vec<u8>, AllocError> {
+    let mut source = vec![in alloc; b'('; pairs]?;
+    source.push(b'0')?;
+    for _ in 0..pairs {
+        source.push(b')')?;
+    }
+    Ok(source)
+}
+
+/// That many suites inside each other.
+fn nested_suites(alloc: Global, suites: usize) -> Result<Vec<u8>, AllocError> {
+    let mut source = Vec::new(alloc);
+    for depth in 0..suites {
+        for _ in 0..depth {
+            source.push(b' ')?;
+        }
+        source.extend_from_slice(b"if 1:\n")?;
+    }
+    for _ in 0..suites {
+        source.push(b' ')?;
+    }
+    source.extend_from_slice(b"x = 1\n")?;
+    Ok(source)
+}
+
+#[test]
+fn depth_has_limits(rt: HostRuntime) -> Result<(), Fail> {
+    let alloc = rt.alloc();
+    for (source, status, wanted) in [
+        (nested_zero(alloc, 199)?, 0, ""),
+        (
+            nested_zero(alloc, 200)?,
+            1,
+            "coverage: limit Expressions passed: 201\n",
+        ),
+        (
+            nested_zero(alloc, 500_000)?,
+            1,
+            "coverage: limit Expressions passed: 201\n",
+        ),
+        (nested_suites(alloc, 64)?, 0, ""),
+        (
+            nested_suites(alloc, 65)?,
+            1,
+            "coverage: limit Suites passed: 65\n",
+        ),
+    ] {
+        let found = answer_to_bytes(alloc, source)?;
+        assert_eq!(&rt; found.status, status);
+        assert_eq!(&rt; found.err.as_str(), wanted);
+    }
+    Ok(())
+}
+
+#[test]
+fn files_and_lines_have_limits(rt: HostRuntime) -> Result<(), Fail> {
+    let alloc = rt.alloc();
+    for (byte, count, status, text) in [
+        (b'#', 1_048_576, 0, ""),
+        (
+            b'#',
+            1_048_577,
+            1,
+            "coverage: limit FileBytes passed: 1048577\n",
+        ),
+        (b'\n', 65_535, 0, ""),
+        (b'\n', 65_536, 1, "coverage: limit Lines passed: 65536\n"),
+    ] {
+        let found = answer_to_bytes(alloc, vec![in alloc; byte; count]?)?;
+        assert_eq!(&rt; found.status, status);
+        assert_eq!(&rt; found.err.as_str(), text);
+    }
+    Ok(())
+}
+
+#[test]
+fn many_statements_in_one_line(rt: HostRuntime) -> Result<(), Fail> {
+    let alloc = rt.alloc();
+    let mut source = Vec::from_slice(alloc, b"x=1")?;
+    for _ in 1..262_144 {
+        source.extend_from_slice(b";x=1")?;
+    }
+    assert_eq!(&rt; source.len(), 1_048_575);
+    let found = answer_to_bytes(alloc, source)?;
+    assert_eq!(&rt; found.status, 0);
+    assert_eq!(&rt; found.out.as_str(), "s.py -1 1\ns.py 1 -1\n");
+    Ok(())
+}
+
+/// A script that imports that many empty modules.
+fn many_modules(alloc: Global, count: usize) -> Result<Answer, Fail> {
+    let mut script = Vec::new(alloc);
+    let mut files = Vec::new(alloc);
+    for at in 0..count {
+        let import = format!(in alloc; "import m{at}\n")?;
+        script.extend_from_slice(import.as_bytes())?;
+        files.push((format!(in alloc; "m{at}.py")?, Vec::new(alloc)))?;
+    }
+    files.push((String::from_str(alloc, "s.py")?, script))?;
+    answer_by(alloc, "arcs s.py", files, "", NONE, &mut Machine)
+}
+
+#[test]
+fn modules_have_a_limit(rt: HostRuntime) -> Result<(), Fail> {
+    let alloc = rt.alloc();
+    let found = many_modules(alloc, 255)?;
+    assert_eq!(&rt; found.status, 0);
+    let found = many_modules(alloc, 256)?;
+    assert_eq!(&rt; found.status, 1);
+    assert_eq!(&rt; found.err.as_str(), "coverage: limit Modules passed: 257\n");
+    Ok(())
+}

@@ -1,0 +1,72 @@
+//! Words that are a command, and words that are none.
+
+use crate::harness::{NONE, answer_to};
+use std::test::Fail;
+
+/// Words that are refused, and how many of them begin a command.
+const REFUSED: [(&str, &str, &str); 9] = [
+    ("No words", "", "0"),
+    ("No such command", "trace s.py", "0"),
+    ("No script", "arcs", "1"),
+    ("No such option", "arcs -x s.py", "1"),
+    ("A budget that is no number", "arcs --budget=x s.py", "1"),
+    ("A budget without its number", "arcs --budget", "2"),
+    (
+        "A budget that is too great",
+        "arcs --budget 1000000001 s.py",
+        "2",
+    ),
+    ("A command that isn't built", "run s.py", "0"),
+    ("A report, which isn't built", "report", "0"),
+];
+
+#[test]
+fn refused_words(rt: HostRuntime) -> Result<(), Fail> {
+    let alloc = rt.alloc();
+    for (title, words, wanted) in REFUSED {
+        let found = answer_to(alloc, words, &[("s.py", "x = 1\n")], "", NONE)?;
+        let wanted = format!(in alloc; "coverage: usage: stopped after {wanted} words\n")?;
+        assert_eq!(&rt; found.status, 1, "{title}");
+        assert_eq!(&rt; found.out.as_str(), "", "{title}");
+        assert_eq!(&rt; found.err.as_str(), wanted.as_str(), "{title}");
+    }
+    Ok(())
+}
+
+const ARGUMENTS: &str = "\
+import sys
+for word in sys.argv: print(word)
+";
+
+const LISTED: &str = "\
+s.py -1 1
+s.py 1 2
+s.py 2 -1
+s.py 2 2
+";
+
+/// Words after the script belong to it, whatever they look like.
+#[test]
+fn words_of_the_script(rt: HostRuntime) -> Result<(), Fail> {
+    let alloc = rt.alloc();
+    for (words, printed) in [
+        ("arcs s.py", "s.py\n"),
+        ("arcs s.py --budget=0 -x", "s.py\n--budget=0\n-x\n"),
+        ("arcs --budget 9 s.py arcs", "s.py\narcs\n"),
+    ] {
+        let found = answer_to(alloc, words, &[("s.py", ARGUMENTS)], "", NONE)?;
+        let wanted = format!(in alloc; "{printed}{LISTED}")?;
+        assert_eq!(&rt; found.status, 0, "{words}");
+        assert_eq!(&rt; found.out.as_str(), wanted.as_str(), "{words}");
+    }
+    Ok(())
+}
+
+#[test]
+fn no_such_file(rt: HostRuntime) -> Result<(), Fail> {
+    let alloc = rt.alloc();
+    let found = answer_to(alloc, "arcs t.py", &[("s.py", "")], "", NONE)?;
+    assert_eq!(&rt; found.status, 1);
+    assert_eq!(&rt; found.err.as_str(), "coverage: no file t.py\n");
+    Ok(())
+}
