@@ -20,13 +20,13 @@ rose_after before mid after grows (inl more) = inl (omega (arith, grows, more))
 rose_after before mid after grows (inr most) = inr most
 
 -- the cause at a place, in a call whose count was no greater before
-pub cause-of : (texts : List (List ℕ)) (place : ℕ) (text : List ℕ) (before mid after : ℕ) (e : PatternError) → place < length texts → slice_get texts place ≡ Some text → before ≤ mid
-    → ArePatternsBefore texts place → IsCauseAt place text mid after e → IsCauseOf texts before after e
-cause-of texts place text before mid after (BadPattern at) within found grows earlier (is, none) =
+pub cause-of : (texts : List (List ℕ)) (place : ℕ) (text : List ℕ) (large : List ℕ → Type 0) (before mid after : ℕ) (e : PatternError) → slice_get texts place ≡ Some text → before ≤ mid
+    → ArePatternsBefore texts place → IsCauseAt place text large mid after e → IsCauseOf texts large before after e
+cause-of texts place text large before mid after (BadPattern at) found grows earlier (is, none) =
     (subst (ArePatternsBefore texts) (sym is) earlier, subst (λ o. IsSomeAnd o IsNoPattern) (sym (ap (slice_get texts) is ∙ found)) none)
-cause-of texts place text before mid after (PatternSize at) within found grows earlier (is, rose) =
-    (subst (ArePatternsBefore texts) (sym is) earlier, omega (arith, is, within), rose_after before mid after grows rose)
-cause-of texts place text before mid after NoMemory within found grows earlier h = tt
+cause-of texts place text large before mid after (PatternSize at) found grows earlier (is, was, rose) =
+    (subst (ArePatternsBefore texts) (sym is) earlier, subst (λ o. IsSomeAnd o large) (sym (ap (slice_get texts) is ∙ found)) was, rose_after before mid after grows rose)
+cause-of texts place text large before mid after NoMemory found grows earlier h = tt
 
 is-pattern : (made : Regex) → IsPlainlyMade made → IsPatternText (regex_source made)
 is-pattern made plainly = subst (λ config. IsPattern config (regex_source made)) plainly.config (_, _, plainly.read)

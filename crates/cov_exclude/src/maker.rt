@@ -1,5 +1,5 @@
 //! What makes patterns of texts.
-ghost use Rattle.std.specs.Prelude.{◌≡◌, ℕ, ◌≤◌, IfOk, IfErr};
+ghost use Rattle.std.specs.Prelude.{◌≡◌, ℕ, ◌≤◌, List, IfOk, IfErr};
 ghost use Rattle.cov_outside.specs.Counts.{Rose};
 ghost use Rattle.cov_exclude.specs.Texts.{IsNoPattern, IsMadeOf};
 
@@ -23,7 +23,12 @@ pub trait Maker {
     // How many patterns were too large.
     ghost sizes: { Self → ℕ };
 
+    // A call on a text that found it too large leads from one state to another.
+    ghost too_large: { Self → List ℕ → Self → Type 0 };
+
     fn make(&mut self, alloc: Global, text: &str) -> Result<Regex, MakeError>
+        ensures large { IfErr result (λ e.
+            e ≡ MakeError.Size → too_large self.old text.now self.new) }
         ensures made { IfOk result (IsMadeOf text.now) }
         ensures no_pattern { IfErr result (λ e. e ≡ MakeError.NoPattern → IsNoPattern text.now) }
         ensures size { IfErr result (λ e.
@@ -64,6 +69,8 @@ impl RegexMaker {
 
 impl Maker for RegexMaker {
     ghost sizes = { λ maker. maker.sizes };
+
+    ghost too_large = { λ old _ new. Rose old.sizes new.sizes };
 
     fn make(&mut self, alloc: Global, text: &str) -> Result<Regex, MakeError> {
         made(alloc, text, &mut self.sizes)
@@ -114,11 +121,15 @@ impl Maker for MemMaker {
 
     ghost sizes = { maker_sizes };
 
+    ghost too_large = { λ old _ new. Rose (maker_sizes old) (maker_sizes new) };
+
     fn make(&mut self, alloc: Global, text: &str) -> Result<Regex, MakeError>
         // The calls that the list names find a pattern too large.
         ensures fails { FailsNext (maker_calls self.old) → IsErrOf result MakeError.Size }
         ensures calls { maker_calls self.new ≡ after_call (maker_calls self.old) }
 
+        ensures large { IfErr result (λ e.
+            e ≡ MakeError.Size → Rose (maker_sizes self.old) (maker_sizes self.new)) }
         ensures made { IfOk result (IsMadeOf text.now) }
         ensures no_pattern { IfErr result (λ e. e ≡ MakeError.NoPattern → IsNoPattern text.now) }
         ensures size { IfErr result (λ e.

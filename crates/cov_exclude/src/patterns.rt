@@ -1,7 +1,7 @@
 //! Patterns that are made of texts.
 ghost use Rattle.std.specs.Prelude.{◌≡◌, ℕ, ◌≤◌, List, [], ◌∷◌, ◌++◌, map, string_bytes, IfOk, IfErr, OnOk};
 ghost use Rattle.cov_exclude.specs.Texts.{IsMadeOf, ArePlainlyMade, texts_of, matched_lines};
-ghost use Rattle.cov_exclude.specs.Refusals.{IsCauseOf, IsCauseAt};
+ghost use Rattle.cov_exclude.specs.Refusals.{FoundLarge, IsCauseOf, IsCauseAt};
 
 use crate::lines;
 use crate::maker::{MakeError, Maker};
@@ -56,7 +56,8 @@ impl Patterns {
     ) -> Result<Patterns, PatternError>
         ensures built { IfOk result (λ patterns. patterns ≡ map string_bytes texts.now) }
         ensures refused { IfErr result
-            (IsCauseOf (map string_bytes texts.now) (M.sizes maker.old) (M.sizes maker.new)) }
+            (IsCauseOf (map string_bytes texts.now) (FoundLarge M.too_large maker.new)
+            (M.sizes maker.old) (M.sizes maker.new)) }
         ensures count { M.sizes maker.old ≤ M.sizes maker.new }
     {
         let mut made = Vec::new(alloc);
@@ -90,7 +91,8 @@ fn made_at<M: Maker>(
     maker: &mut M,
 ) -> Result<Regex, PatternError>
     ensures made { IfOk result (IsMadeOf text.now) }
-    ensures refused { IfErr result (IsCauseAt at text.now (M.sizes maker.old) (M.sizes maker.new)) }
+    ensures refused { IfErr result (IsCauseAt at text.now (FoundLarge M.too_large maker.new)
+        (M.sizes maker.old) (M.sizes maker.new)) }
     ensures count { M.sizes maker.old ≤ M.sizes maker.new }
 {
     match maker.make(alloc, text) {
