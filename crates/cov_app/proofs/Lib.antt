@@ -1,3 +1,4 @@
+mod Built
 mod Firsts
 mod KindNames
 mod Lines

@@ -1,7 +1,7 @@
 -- What the run of a program comes to, with the arcs that are listed after its output.
 --     path_of, AreProgramsOf      programs in memory beside the modules that they are code of
 --     Shown, shown_by             what a run shows
---     Stream                      what a call did to an input or an output
+--     Stream, became              what a call did to an input or an output
 --     EndsAs, GivesUp             a run that ended, and one that was given up
 use Rattle.std.specs.Prelude.{◌≡◌, ℕ, List, ◌++◌, map, string_bytes, encode_utf8_all}
 use Rattle.cov_outside.specs.Prefixes.{GainsPrefix}
@@ -49,6 +49,10 @@ pub record Stream : Type 1 where
   pub tells : Type 0
   pub before : List ℕ
   pub after : List ℕ
+
+-- what became of it in a call
+abbrev pub became : Type 0 → (before after : List ℕ) → Stream
+became tells before after = record { tells = tells; before = before; after = after }
 
 -- the output gained these bytes
 abbrev pub Gained : Stream → List ℕ → Type 0

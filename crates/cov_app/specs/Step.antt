@@ -1,10 +1,11 @@
 -- The step of a command: what its words make of the files, the input and the outputs.
---     Effect                    what a call did
+--     Effect, effect            what a call did
 --     answer_to, IsRunAnswer    the answer to the ending of a program, and all answers of a run
+--     IsUnread                  the answers where files can't be read on
 --     ShelfLoads                how a shelf leads to what loading comes to
 --     DoesNothing               an answer that leaves input and output as they were
 --     Runs, Follows             what `arcs` does with what loading came to
---     Arcs, Does                the commands
+--     Arcs, NoCommand, Does     the commands
 --     TakesStep, StepTaken      the step of the words
 use Rattle.std.specs.Prelude.{◌≡◌, ℕ, Bool, true, false, List, [], ◌∷◌, map, Option, Some, None, Result, codes}
 use Rattle.std.specs.Str.{chars}
@@ -13,13 +14,14 @@ use Rattle.cov_outside.specs.Files.{Files}
 use Rattle.py_syntax.specs.Tree.{Text}
 use Rattle.py_builtins.specs.Outcomes.{Outcome, finished, exited, raised, cut, err_of}
 use Rattle.py_meaning.specs.Modules.{LoadedModule}
-use Rattle.cov_words.specs.Commands.{PlainCommand, arcs, run, combine, report, json, lcov, annotate, erase, script, make, suite, select, mutate, IsCommand, StopsAfter}
+use Rattle.cov_words.specs.Commands.{PlainCommand, arcs, run, combine, report, json, lcov, annotate, erase, script, make, suite, select, mutate, IsCommand}
 use Rattle.cov_words.specs.Values.{Word}
 use Rattle.cov_words.specs.declared.why.Why.{Why}
 use Rattle.cov_words.specs.declared.why.Why.TheVariants as why
 use Rattle.cov_run.specs.Loading.{told_by}
 use Rattle.cov_run.specs.Loads.{Loading, program, refused, unread, Loads, LoadsTo}
 use Rattle.cov_app.specs.declared.answer.Told.{Told}
+use Rattle.cov_app.specs.Built.{BuiltStopsAfter}
 use Rattle.cov_app.specs.Messages.{message_of, IsWritten}
 use Rattle.cov_app.specs.Runs.{Stream, Gained, shown, EndsAs, GivesUp}
 
@@ -68,6 +70,32 @@ IsRunAnswer why.NoMemory = Unit {0}
 IsRunAnswer (why.Tests passed failed cuts) = ⊥
 IsRunAnswer (why.ImportFailed file) = ⊥
 
+-- an answer of loading that couldn't read on
+abbrev pub IsUnread : Why → Type 0
+IsUnread why.Done = ⊥
+IsUnread (why.Program n) = ⊥
+IsUnread (why.Budget n) = ⊥
+IsUnread (why.Under covered all) = ⊥
+IsUnread (why.Usage i) = ⊥
+IsUnread (why.NoSuchFile name) = ⊥
+IsUnread (why.Syntax file line kind) = ⊥
+IsUnread (why.Limit kind n) = ⊥
+IsUnread (why.BadConfig key) = ⊥
+IsUnread (why.BadPattern i) = ⊥
+IsUnread (why.PatternSize i) = ⊥
+IsUnread (why.NoFunction name) = ⊥
+IsUnread (why.NoData name) = ⊥
+IsUnread (why.Mixed a b) = ⊥
+IsUnread (why.BadData name kind) = ⊥
+IsUnread (why.NoSource path) = ⊥
+IsUnread why.ReadFault = ⊥
+IsUnread why.WriteFault = ⊥
+IsUnread why.ShelfFault = Unit {0}
+IsUnread why.VaultFault = ⊥
+IsUnread why.NoMemory = Unit {0}
+IsUnread (why.Tests passed failed cuts) = ⊥
+IsUnread (why.ImportFailed file) = ⊥
+
 -- whether an answer says that the outside failed, or that memory was wanting
 abbrev pub is_fault : Why → Bool
 is_fault why.Done = false
@@ -102,6 +130,11 @@ pub record Effect : Type 1 where
   pub input : Stream
   pub out : Stream
 
+-- what a call did that answered so, with the text of its program's ending
+abbrev pub effect : Why → List ℕ → (input out : Stream) → Effect
+effect answer ending input out =
+    record { answer = answer; ending = ending; input = input; out = out }
+
 -- nothing was read and nothing written
 pub record DoesNothing (e : Effect) : Type 0 where
   pub ending : e.ending ≡ []
@@ -124,12 +157,13 @@ pub record ShelfLoads {H : Type 0}
   pub loads : Loads moves old script name loading new
   pub told : tells → LoadsTo (told_by files script) script name loading
 
--- What follows what loading came to: a program is run, where the engine is true; a refusal is the
--- answer; and so are a fault and want of memory.
+-- What follows what loading came to: the answer of a run, which is that of the program where the
+-- engine is true; a refusal is the answer; and so are a fault of the shelf and want of memory.
 abbrev pub Follows : Type 0 → List Text → ℕ → Effect → Loading → Type 0
-Follows faithful words budget e (program ms) = faithful → Runs ms words budget e
+Follows faithful words budget e (program ms) =
+    IsRunAnswer e.answer × (faithful → Runs ms words budget e)
 Follows faithful words budget e (refused w) = (e.answer ≡ w) × DoesNothing e
-Follows faithful words budget e unread = (is_fault e.answer ≡ true) × DoesNothing e
+Follows faithful words budget e unread = IsUnread e.answer × DoesNothing e
 
 -- `arcs`: the script is loaded, and its own name is the first of its words
 pub record Arcs (loads : Text → Text → Loading → Type 0) (faithful : Type 0) (budget : Option ℕ)
@@ -139,33 +173,33 @@ pub record Arcs (loads : Text → Text → Loading → Type 0) (faithful : Type 
   pub follows : Follows faithful (chars file ∷ map chars args) (budget_in budget) e loading
 
 -- a command that isn't built is none
-pub record Unbuilt (e : Effect) : Type 0 where
+pub record NoCommand (e : Effect) : Type 0 where
   pub answer : e.answer ≡ why.Usage 0
   pub nothing : DoesNothing e
 
 -- what a command does
 abbrev pub Does : (Text → Text → Loading → Type 0) → Type 0 → Effect → PlainCommand → Type 0
 Does loads faithful e (arcs budget file args) = Arcs loads faithful budget file args e
-Does loads faithful e (run branch append context budget hook data_file rcfile file args) = Unbuilt e
-Does loads faithful e (combine append keep data_file rcfile names) = Unbuilt e
-Does loads faithful e (report show_missing fail_under data_file rcfile) = Unbuilt e
-Does loads faithful e (json name fail_under data_file rcfile) = Unbuilt e
-Does loads faithful e (lcov name fail_under data_file rcfile) = Unbuilt e
-Does loads faithful e (annotate data_file rcfile file) = Unbuilt e
-Does loads faithful e (erase data_file rcfile) = Unbuilt e
-Does loads faithful e (script file) = Unbuilt e
-Does loads faithful e (make seed size) = Unbuilt e
-Does loads faithful e (suite branch budget data_file rcfile file) = Unbuilt e
-Does loads faithful e (select budget old new) = Unbuilt e
-Does loads faithful e (mutate budget file) = Unbuilt e
+Does loads faithful e (run branch append context budget hook data_file rcfile file args) = NoCommand e
+Does loads faithful e (combine append keep data_file rcfile names) = NoCommand e
+Does loads faithful e (report show_missing fail_under data_file rcfile) = NoCommand e
+Does loads faithful e (json name fail_under data_file rcfile) = NoCommand e
+Does loads faithful e (lcov name fail_under data_file rcfile) = NoCommand e
+Does loads faithful e (annotate data_file rcfile file) = NoCommand e
+Does loads faithful e (erase data_file rcfile) = NoCommand e
+Does loads faithful e (script file) = NoCommand e
+Does loads faithful e (make seed size) = NoCommand e
+Does loads faithful e (suite branch budget data_file rcfile file) = NoCommand e
+Does loads faithful e (select budget old new) = NoCommand e
+Does loads faithful e (mutate budget file) = NoCommand e
 
 -- The step of the words: that of the command that they are; or they are none, and the answer says how
--- many of them begin one; or memory was wanting.
+-- many of them begin one that is built; or memory was wanting.
 pub data TakesStep (loads : Text → Text → Loading → Type 0) (faithful : Type 0) (words : List Word)
     (e : Effect) : Type 0 where
   does : (c : PlainCommand) → IsCommand c words → Does loads faithful e c
       → TakesStep loads faithful words e
-  no_command : (i : ℕ) → ((c : PlainCommand) → IsCommand c words → ⊥) → StopsAfter words i
+  no_command : (i : ℕ) → ((c : PlainCommand) → IsCommand c words → ⊥) → BuiltStopsAfter words i
       → e.answer ≡ why.Usage i → DoesNothing e → TakesStep loads faithful words e
   starved : e.answer ≡ why.NoMemory → DoesNothing e → TakesStep loads faithful words e
 
@@ -175,5 +209,5 @@ pub record StepTaken (loads : Text → Text → Loading → Type 0) (faithful : 
   pub ending : List ℕ
   pub step :
       TakesStep loads faithful words
-      (record { answer = answer; ending = ending; input = input; out = out })
+      (effect answer ending input out)
   pub told : err.tells → IsWritten what (message_of answer ending) err.before err.after

@@ -6,7 +6,8 @@ ghost use Rattle.py_machine.specs.Outcomes.{plain_outcome};
 ghost use Rattle.cov_run.specs.Asking.{EndsFailed};
 ghost use Rattle.cov_run.specs.Loads.{IsCompiled, loaded_modules};
 ghost use Rattle.cov_app.specs.Endings.{ending_of};
-ghost use Rattle.cov_app.specs.Step.{Arcs, IsRunAnswer, Runs, ShelfLoads, answer_to, budget_in};
+ghost use Rattle.cov_app.specs.Runs.{became};
+ghost use Rattle.cov_app.specs.Step.{Arcs, IsRunAnswer, Runs, ShelfLoads, answer_to, budget_in, effect};
 
 use crate::running::run_programs;
 use cov_outside::{Shelf, Sink, Source};
@@ -32,17 +33,11 @@ pub(crate) fn arcs<H: Shelf, I: Source, O: Sink, G: Engine>(
     out: &mut O,
     engine: &mut G,
 ) -> (Why, Option<Outcome>)
-    ensures arcs { Arcs (ShelfLoads H.reads H.tells (H.files shelf.old) shelf.old shelf.new) G.faithful budget
-        (string_bytes script) (map string_bytes args.items) (record {
-          answer = result.0;
-          ending = ending_of result.1;
-          input = record { tells = I.tells; before = I.left input.old; after = I.left input.new };
-          out = record {
-            tells = O.tells;
-            before = O.contents out.old;
-            after = O.contents out.new;
-          };
-        }) }
+    ensures arcs { Arcs (ShelfLoads H.reads H.tells (H.files shelf.old) shelf.old shelf.new)
+        G.faithful budget (string_bytes script) (map string_bytes args.items)
+        (effect result.0 (ending_of result.1)
+        (became I.tells (I.left input.old) (I.left input.new))
+        (became O.tells (O.contents out.old) (O.contents out.new))) }
     ensures read_fault { result.0 ≡ Why.ReadFault → Rose (I.faults input.old) (I.faults input.new) }
     ensures write_fault { result.0 ≡ Why.WriteFault → Rose (O.faults out.old) (O.faults out.new) }
     ensures shelf_fault { result.0 ≡ Why.ShelfFault
@@ -70,16 +65,9 @@ fn run_loaded<I: Source, O: Sink, G: Engine>(
     requires { IsCompiled loaded }
     ensures runs { G.faithful → Runs (loaded_modules loaded)
         (chars (string_bytes script) ∷ map chars (map string_bytes args.items))
-        (budget_in budget) (record {
-          answer = result.0;
-          ending = ending_of result.1;
-          input = record { tells = I.tells; before = I.left input.old; after = I.left input.new };
-          out = record {
-            tells = O.tells;
-            before = O.contents out.old;
-            after = O.contents out.new;
-          };
-        }) }
+        (budget_in budget) (effect result.0 (ending_of result.1)
+        (became I.tells (I.left input.old) (I.left input.new))
+        (became O.tells (O.contents out.old) (O.contents out.new))) }
     ensures answer { IsRunAnswer result.0 }
     ensures read_fault { result.0 ≡ Why.ReadFault → Rose (I.faults input.old) (I.faults input.new) }
     ensures write_fault { result.0 ≡ Why.WriteFault → Rose (O.faults out.old) (O.faults out.new) }

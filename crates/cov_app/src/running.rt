@@ -10,7 +10,7 @@ ghost use Rattle.py_machine.specs.Outcomes.{plain_outcome};
 ghost use Rattle.py_meaning.specs.Modules.{LoadedModule};
 ghost use Rattle.cov_app.specs.Kept.{EndedKept, first_lines, kept_in, lines_of, words_in};
 ghost use Rattle.cov_app.specs.Listing.{listing};
-ghost use Rattle.cov_app.specs.Runs.{AreProgramsOf, EndsAs, GivesUp, shown};
+ghost use Rattle.cov_app.specs.Runs.{AreProgramsOf, EndsAs, GivesUp, became, shown};
 
 use crate::listing::listing;
 use cov_arcs::{Arcs, told_arcs_of_modules};
@@ -37,13 +37,13 @@ pub(crate) fn run_programs<I: Source, O: Sink, G: Engine>(
     requires few { length (modules_of programs.now) ≤ 4294967295 }
     ensures ended { (ms : List LoadedModule) → AreProgramsOf programs.now ms → G.faithful
         → IfOk result (λ o. EndsAs (plain_outcome o)
-        (record { tells = I.tells; before = I.left input.old; after = I.left input.new })
-        (record { tells = O.tells; before = O.contents out.old; after = O.contents out.new })
+        (became I.tells (I.left input.old) (I.left input.new))
+        (became O.tells (O.contents out.old) (O.contents out.new))
         (shown ms (words_in words.now) budget)) }
     ensures given_up { (ms : List LoadedModule) → AreProgramsOf programs.now ms → G.faithful
         → OnErr result (GivesUp
-        (record { tells = I.tells; before = I.left input.old; after = I.left input.new })
-        (record { tells = O.tells; before = O.contents out.old; after = O.contents out.new })
+        (became I.tells (I.left input.old) (I.left input.new))
+        (became O.tells (O.contents out.old) (O.contents out.new))
         (shown ms (words_in words.now) budget)) }
     ensures reads { I.faults input.old ≤ I.faults input.new }
     ensures writes { O.faults out.old ≤ O.faults out.new }
@@ -87,8 +87,8 @@ fn run_kept<I: Source, O: Sink, G: Engine>(
         (Wrote O.tells (O.contents out.old) (O.contents out.new))) }
     ensures given_up { (ms : List LoadedModule) → AreProgramsOf programs.now ms → G.faithful
         → OnErr result (GivesUp
-        (record { tells = I.tells; before = I.left input.old; after = I.left input.new })
-        (record { tells = O.tells; before = O.contents out.old; after = O.contents out.new })
+        (became I.tells (I.left input.old) (I.left input.new))
+        (became O.tells (O.contents out.old) (O.contents out.new))
         (shown ms (words_in words.now) budget)) }
     ensures reads { I.faults input.old ≤ I.faults input.new }
     ensures writes { O.faults out.old ≤ O.faults out.new }

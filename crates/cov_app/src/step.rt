@@ -1,11 +1,14 @@
 //! The top call: one command over a shelf, an input and two sinks.
 ghost use Rattle.std.specs.Prelude.{◌≡◌, map, string_bytes};
 ghost use Rattle.cov_outside.specs.Counts.{Rose};
+ghost use Rattle.cov_words.specs.Commands.{StopsAfter};
 ghost use Rattle.cov_words.specs.Plain.{command_view};
 ghost use Rattle.cov_run.specs.Asking.{EndsFailed};
+ghost use Rattle.cov_app.specs.Built.{BuiltStopsAfter};
 ghost use Rattle.cov_app.specs.Endings.{ending_of};
 ghost use Rattle.cov_app.specs.Messages.{status_of};
-ghost use Rattle.cov_app.specs.Step.{Does, ShelfLoads, StepTaken, TakesStep};
+ghost use Rattle.cov_app.specs.Runs.{became};
+ghost use Rattle.cov_app.specs.Step.{Does, ShelfLoads, StepTaken, TakesStep, effect};
 
 use crate::answer::{End, Told};
 use crate::arcs::arcs;
@@ -15,10 +18,10 @@ use cov_words::{Command, Why, WordsError, read_words};
 use py_machine::{Engine, Outcome};
 use std::alloc::Global;
 
-/// Runs the command that the words spell, over the files of a shelf and by an engine. `arcs SCRIPT` runs
-/// the script, and writes its output and then its arcs to `out`, one line `PATH FROM TO` each. The
-/// outside of a body is its first line, negative. An uncaught exception, the text of an exit, or the
-/// line of a refusal goes to `err`.
+/// Runs the command that the words spell, over the files of a shelf and by an engine. `arcs SCRIPT`
+/// runs the script, and writes its output and then its arcs to `out`, one line `PATH FROM TO` each.
+/// The outside of a body is its first line, negative. An uncaught exception, the text of an exit,
+/// or the line of a refusal goes to `err`.
 pub fn coverage<H: Shelf, I: Source, O: Sink, E: Sink, G: Engine>(
     alloc: Global,
     words: &[String],
@@ -29,11 +32,11 @@ pub fn coverage<H: Shelf, I: Source, O: Sink, E: Sink, G: Engine>(
     engine: &mut G,
 ) -> End
     // The answer, the bytes, and the input that is left are those of the step of the words.
-    ensures step { StepTaken (ShelfLoads H.reads H.tells (H.files shelf.old) shelf.old shelf.new) G.faithful
-        (map string_bytes words.now) result.why result.told
-        (record { tells = I.tells; before = I.left input.old; after = I.left input.new })
-        (record { tells = O.tells; before = O.contents out.old; after = O.contents out.new })
-        (record { tells = E.tells; before = E.contents err.old; after = E.contents err.new }) }
+    ensures step { StepTaken (ShelfLoads H.reads H.tells (H.files shelf.old) shelf.old shelf.new)
+        G.faithful (map string_bytes words.now) result.why result.told
+        (became I.tells (I.left input.old) (I.left input.new))
+        (became O.tells (O.contents out.old) (O.contents out.new))
+        (became E.tells (E.contents err.old) (E.contents err.new)) }
     ensures status { result.status ≡ status_of result.why }
 
     // For every shelf, input, sink and engine.
@@ -63,17 +66,10 @@ fn answer<H: Shelf, I: Source, O: Sink, G: Engine>(
     out: &mut O,
     engine: &mut G,
 ) -> (Why, Option<Outcome>)
-    ensures step { TakesStep (ShelfLoads H.reads H.tells (H.files shelf.old) shelf.old shelf.new) G.faithful
-        (map string_bytes words.now) (record {
-          answer = result.0;
-          ending = ending_of result.1;
-          input = record { tells = I.tells; before = I.left input.old; after = I.left input.new };
-          out = record {
-            tells = O.tells;
-            before = O.contents out.old;
-            after = O.contents out.new;
-          };
-        }) }
+    ensures step { TakesStep (ShelfLoads H.reads H.tells (H.files shelf.old) shelf.old shelf.new)
+        G.faithful (map string_bytes words.now) (effect result.0 (ending_of result.1)
+        (became I.tells (I.left input.old) (I.left input.new))
+        (became O.tells (O.contents out.old) (O.contents out.new))) }
     ensures read_fault { result.0 ≡ Why.ReadFault → Rose (I.faults input.old) (I.faults input.new) }
     ensures write_fault { result.0 ≡ Why.WriteFault → Rose (O.faults out.old) (O.faults out.new) }
     ensures shelf_fault { result.0 ≡ Why.ShelfFault
@@ -83,8 +79,20 @@ fn answer<H: Shelf, I: Source, O: Sink, G: Engine>(
 {
     match read_words(alloc, words) {
         Ok(command) => run_command(alloc, command, shelf, input, out, engine),
-        Err(WordsError::Usage(i)) => (Why::Usage(i), None),
+        Err(WordsError::Usage(passed)) => (Why::Usage(begun(words, passed)), None),
         Err(WordsError::NoMemory) => (Why::NoMemory, None),
+    }
+}
+
+/// How many of the words begin a command that is built, where so many begin one. The word of any
+/// other command is none.
+fn begun(words: &[String], passed: usize) -> usize
+    requires { StopsAfter (map string_bytes words.now) passed }
+    ensures { BuiltStopsAfter (map string_bytes words.now) result }
+{
+    match words.first() {
+        None => 0,
+        Some(word) => { if word.as_str() == "arcs" { passed } else { 0 } }
     }
 }
 
@@ -97,16 +105,10 @@ fn run_command<H: Shelf, I: Source, O: Sink, G: Engine>(
     out: &mut O,
     engine: &mut G,
 ) -> (Why, Option<Outcome>)
-    ensures does { Does (ShelfLoads H.reads H.tells (H.files shelf.old) shelf.old shelf.new) G.faithful (record {
-      answer = result.0;
-      ending = ending_of result.1;
-      input = record { tells = I.tells; before = I.left input.old; after = I.left input.new };
-      out = record {
-        tells = O.tells;
-        before = O.contents out.old;
-        after = O.contents out.new;
-      };
-    }) (command_view command) }
+    ensures does { Does (ShelfLoads H.reads H.tells (H.files shelf.old) shelf.old shelf.new)
+        G.faithful (effect result.0 (ending_of result.1)
+        (became I.tells (I.left input.old) (I.left input.new))
+        (became O.tells (O.contents out.old) (O.contents out.new))) (command_view command) }
     ensures read_fault { result.0 ≡ Why.ReadFault → Rose (I.faults input.old) (I.faults input.new) }
     ensures write_fault { result.0 ≡ Why.WriteFault → Rose (O.faults out.old) (O.faults out.new) }
     ensures shelf_fault { result.0 ≡ Why.ShelfFault

@@ -8,6 +8,14 @@ const FIRST_RUN: &str = "x = 1\nif x:\n    print(x)\nelse:\n    print(0)\n";
 
 const ASKS: &str = "print(1)\nprint(input())\n";
 
+const UNCAUGHT: &str = "\
+def g():
+    raise ValueError(\"no\")
+def f():
+    g()
+f()
+";
+
 /// A script with calls that fail, and what must come of it.
 struct Row {
     title: &'static str,
@@ -20,7 +28,7 @@ struct Row {
     left: usize,
 }
 
-static ROWS: [Row; 7] = [
+static ROWS: [Row; 8] = [
     Row {
         title: "A shelf whose first call fails",
         source: FIRST_RUN,
@@ -120,6 +128,30 @@ static ROWS: [Row; 7] = [
         err: "",
         told: Told::Whole,
         left: 1,
+    },
+    Row {
+        title: "An uncaught exception, and an `err` that fails",
+        source: UNCAUGHT,
+        failing: Failing {
+            shelf: &[],
+            input: &[],
+            out: &[],
+            err: &[0],
+        },
+        status: 1,
+        out: "\
+s.py -3 4
+s.py -1 1
+s.py -1 2
+s.py 1 3
+s.py 2 -1
+s.py 3 5
+s.py 4 -3
+s.py 5 -1
+",
+        err: "",
+        told: Told::Failed,
+        left: 4,
     },
 ];
 

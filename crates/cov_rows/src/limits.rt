@@ -5,11 +5,11 @@ use py_machine::Machine;
 use std::alloc::{AllocError, Global};
 use std::test::Fail;
 
-/// What comes of `arcs s.py`, where the file holds these bytes.
-fn answer_to_bytes(alloc: Global, source: Vec<u8>) -> Result<Answer, Fail> {
+/// What comes of the words, where the file `s.py` holds these bytes.
+fn answer_to_bytes(alloc: Global, words: &str, source: Vec<u8>) -> Result<Answer, Fail> {
     let mut files = Vec::new(alloc);
     files.push((String::from_str(alloc, "s.py")?, source))?;
-    answer_by(alloc, "arcs s.py", files, "", NONE, &mut Machine)
+    answer_by(alloc, words, files, "", NONE, &mut Machine)
 }
 
 /// A zero in that many pairs of parentheses.
@@ -60,7 +60,7 @@ fn depth_has_limits(rt: HostRuntime) -> Result<(), Fail> {
             "coverage: limit Suites passed: 65\n",
         ),
     ] {
-        let found = answer_to_bytes(alloc, source)?;
+        let found = answer_to_bytes(alloc, "arcs s.py", source)?;
         assert_eq!(&rt; found.status, status);
         assert_eq!(&rt; found.err.as_str(), wanted);
     }
@@ -81,7 +81,7 @@ fn files_and_lines_have_limits(rt: HostRuntime) -> Result<(), Fail> {
         (b'\n', 65_535, 0, ""),
         (b'\n', 65_536, 1, "coverage: limit Lines passed: 65536\n"),
     ] {
-        let found = answer_to_bytes(alloc, vec![in alloc; byte; count]?)?;
+        let found = answer_to_bytes(alloc, "arcs s.py", vec![in alloc; byte; count]?)?;
         assert_eq!(&rt; found.status, status);
         assert_eq!(&rt; found.err.as_str(), text);
     }
@@ -96,9 +96,12 @@ fn many_statements_in_one_line(rt: HostRuntime) -> Result<(), Fail> {
         source.extend_from_slice(b";x=1")?;
     }
     assert_eq!(&rt; source.len(), 1_048_575);
-    let found = answer_to_bytes(alloc, source)?;
+    let again = source.clone()?;
+    let found = answer_to_bytes(alloc, "arcs --budget=262145 s.py", source)?;
     assert_eq!(&rt; found.status, 0);
     assert_eq!(&rt; found.out.as_str(), "s.py -1 1\ns.py 1 -1\n");
+    let found = answer_to_bytes(alloc, "arcs --budget=262144 s.py", again)?;
+    assert_eq!(&rt; found.status, 75);
     Ok(())
 }
 
@@ -123,5 +126,33 @@ fn modules_have_a_limit(rt: HostRuntime) -> Result<(), Fail> {
     let found = many_modules(alloc, 256)?;
     assert_eq!(&rt; found.status, 1);
     assert_eq!(&rt; found.err.as_str(), "coverage: limit Modules passed: 257\n");
+    Ok(())
+}
+
+/// A script that imports sixteen modules: with it they hold 16,777,216 bytes, and the last one so many more.
+fn many_bytes(alloc: Global, more: usize) -> Result<Answer, Fail> {
+    let mut script = Vec::new(alloc);
+    let mut files = Vec::new(alloc);
+    for at in 0..16 {
+        let import = format!(in alloc; "import m{at}\n")?;
+        script.extend_from_slice(import.as_bytes())?;
+        let count = if at < 15 { 1_048_576 } else { more };
+        files.push((format!(in alloc; "m{at}.py")?, vec![in alloc; b'#'; count]?))?;
+    }
+    while script.len() < 1_048_576 {
+        script.push(b'#')?;
+    }
+    files.push((String::from_str(alloc, "s.py")?, script))?;
+    answer_by(alloc, "arcs s.py", files, "", NONE, &mut Machine)
+}
+
+#[test]
+fn bytes_have_a_limit(rt: HostRuntime) -> Result<(), Fail> {
+    let alloc = rt.alloc();
+    let found = many_bytes(alloc, 0)?;
+    assert_eq!(&rt; found.status, 0);
+    let found = many_bytes(alloc, 1)?;
+    assert_eq!(&rt; found.status, 1);
+    assert_eq!(&rt; found.err.as_str(), "coverage: limit TotalBytes passed: 16777217\n");
     Ok(())
 }

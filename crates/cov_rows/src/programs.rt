@@ -12,9 +12,10 @@ struct Row {
     out: &'static str,
     status: u8,
     err: &'static str,
+    steps: u64,
 }
 
-static ROWS: [Row; 10] = [
+static ROWS: [Row; 11] = [
     Row {
         title: "Ordinary use",
         script: "test_calc.py",
@@ -48,6 +49,7 @@ test_calc.py 8 -1
 ",
         status: 0,
         err: "",
+        steps: 14,
     },
     Row {
         title: "A script that imports itself: both modules have one path",
@@ -69,6 +71,7 @@ s.py 5 -1
 ",
         status: 0,
         err: "",
+        steps: 8,
     },
     Row {
         title: "A module whose body raised is begun again",
@@ -99,6 +102,7 @@ s.py 5 1
 ",
         status: 0,
         err: "",
+        steps: 18,
     },
     Row {
         title: "A module that isn't begun has no arcs",
@@ -108,6 +112,7 @@ s.py 5 1
         out: "s.py -1 1\ns.py 1 -1\n",
         status: 0,
         err: "",
+        steps: 2,
     },
     Row {
         title: "A script in a folder",
@@ -128,6 +133,7 @@ d/s.py 2 -1
 ",
         status: 0,
         err: "",
+        steps: 5,
     },
     Row {
         title: "Input, and its end",
@@ -137,6 +143,17 @@ d/s.py 2 -1
         out: "ab\ns.py -1 1\ns.py 1 2\ns.py 2 -1\n",
         status: 1,
         err: "EOFError: no input\n",
+        steps: 3,
+    },
+    Row {
+        title: "Input that is empty",
+        script: "s.py",
+        files: &[("s.py", "input()\n")],
+        input: "",
+        out: "s.py -1 1\ns.py 1 -1\n",
+        status: 1,
+        err: "EOFError: no input\n",
+        steps: 2,
     },
     Row {
         title: "A status above 255",
@@ -146,6 +163,7 @@ d/s.py 2 -1
         out: "s.py -1 1\ns.py 1 2\ns.py 2 -1\n",
         status: 2,
         err: "",
+        steps: 3,
     },
     Row {
         title: "An exit that is raised without a value",
@@ -155,6 +173,7 @@ d/s.py 2 -1
         out: "s.py -1 1\ns.py 1 -1\n",
         status: 0,
         err: "",
+        steps: 2,
     },
     Row {
         title: "An exit with a text",
@@ -164,6 +183,7 @@ d/s.py 2 -1
         out: "s.py -1 1\ns.py 1 2\ns.py 2 -1\n",
         status: 1,
         err: "x\n",
+        steps: 3,
     },
     Row {
         title: "An exception without a text",
@@ -173,19 +193,25 @@ d/s.py 2 -1
         out: "s.py -1 1\ns.py 1 -1\n",
         status: 1,
         err: "ValueError\n",
+        steps: 2,
     },
 ];
 
+/// Each row with just as many steps as it takes, and with one fewer.
 #[test]
 fn programs(rt: HostRuntime) -> Result<(), Fail> {
     let alloc = rt.alloc();
     for row in &ROWS {
-        let words = format!(in alloc; "arcs {}", row.script)?;
-        let found = answer_to(alloc, words.as_str(), row.files, row.input, NONE)?;
+        let enough = format!(in alloc; "arcs --budget={} {}", row.steps, row.script)?;
+        let found = answer_to(alloc, enough.as_str(), row.files, row.input, NONE)?;
         assert_eq!(&rt; found.status, row.status, "{}", row.title);
         assert_eq!(&rt; found.out.as_str(), row.out, "{}", row.title);
         assert_eq!(&rt; found.err.as_str(), row.err, "{}", row.title);
         assert_eq!(&rt; found.left, 0, "{}", row.title);
+        let fewer = row.steps.saturating_sub(1);
+        let fewer = format!(in alloc; "arcs --budget={fewer} {}", row.script)?;
+        let found = answer_to(alloc, fewer.as_str(), row.files, row.input, NONE)?;
+        assert_eq!(&rt; found.status, 75, "{}", row.title);
     }
     Ok(())
 }

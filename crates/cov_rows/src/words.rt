@@ -4,7 +4,7 @@ use crate::harness::{NONE, answer_to};
 use std::test::Fail;
 
 /// Words that are refused, and how many of them begin a command.
-const REFUSED: [(&str, &str, &str); 9] = [
+const REFUSED: [(&str, &str, &str); 12] = [
     ("No words", "", "0"),
     ("No such command", "trace s.py", "0"),
     ("No script", "arcs", "1"),
@@ -18,6 +18,9 @@ const REFUSED: [(&str, &str, &str); 9] = [
     ),
     ("A command that isn't built", "run s.py", "0"),
     ("A report, which isn't built", "report", "0"),
+    ("Options of one that isn't built", "run --branch", "0"),
+    ("No option of one that isn't built", "report --frob", "0"),
+    ("An operand of one that isn't built", "make 1", "0"),
 ];
 
 #[test]

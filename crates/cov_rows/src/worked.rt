@@ -3,7 +3,7 @@
 use crate::rows::{Row, assert_row};
 use std::test::Fail;
 
-static ROWS: [Row; 19] = [
+static ROWS: [Row; 20] = [
     Row {
         title: "First run",
         source: "\
@@ -27,6 +27,15 @@ else:
         status: 0,
         err: "",
         steps: 1,
+    },
+    Row {
+        title: "Numbers",
+        source: "x = 0\nif x:\n    print(x)\n",
+        out: "",
+        arcs: "-1 1; 1 2; 2 -1",
+        status: 0,
+        err: "",
+        steps: 3,
     },
     Row {
         title: "Docstring alone",

@@ -7,7 +7,7 @@ pub returns-in-Ok-clause-arcs : goal.returns-in-Ok-clause-arcs
 returns-in-Ok-clause-arcs g c = record {
   loading = program (loaded_modules c.in-Ok.loaded);
   loaded = loads-named g.H.Shelf.reads g.H.Shelf.tells (g.H.Shelf.files c.args.shelf.now) c.args.shelf.now c.load.new.shelf c.as_str.result.now (string_bytes c.args.script) _ _ c.as_str.ensures.value c.in-Ok.ensures.loads (λ t. c.in-Ok.ensures.told t);
-  follows = λ true. c.run_loaded.ensures.runs true;
+  follows = (c.run_loaded.ensures.answer, λ true. c.run_loaded.ensures.runs true);
 }
 
 pub returns-in-Err-clause-arcs : goal.returns-in-Err-clause-arcs

@@ -10,4 +10,4 @@ returns-in-Ok-clause-step g c = does (command_view c.in-Ok.command) c.in-Ok.ensu
 pub returns-in-Err-Usage-clause-step : goal.returns-in-Err-Usage-clause-step
 returns-in-Err-Usage-clause-step g c =
     let none = no-words _ c.in-Err-Usage.field-0 _ c.in-Err-Usage.field-0-is c.in-Err-Usage.ensures in
-    rw c.in-Err-Usage.field-0-is (no_command c.in-Err-Usage.i none.0 none.1 refl (nothing-done _ _ _ refl refl))
+    no_command c.begun.result none.0 c.begun.ensures refl (nothing-done _ _ _ refl refl)
