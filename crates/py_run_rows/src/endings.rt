@@ -34,7 +34,7 @@ sys.exit('x')
         out: "",
         end: "exit 1: x",
         steps: 3,
-        events: "",
+        events: "0.0( 1 2 !SystemExit )",
         arcs: "",
     },
     Row {

@@ -59,7 +59,7 @@ print(l)
 ",
         out: "[2]\n",
         end: "finished",
-        steps: 0,
+        steps: 8,
         events: "",
         arcs: "",
     },
@@ -79,7 +79,7 @@ print(a, b, a == b)
 [1] [1] True
 ",
         end: "finished",
-        steps: 0,
+        steps: 8,
         events: "",
         arcs: "",
     },
@@ -108,7 +108,7 @@ print(not g(0), not 'a')
 True False
 ",
         end: "finished",
-        steps: 0,
+        steps: 32,
         events: "",
         arcs: "",
     },
@@ -125,7 +125,7 @@ print(True + True, True * 5, 3 - False)
 2 5 3
 ",
         end: "finished",
-        steps: 0,
+        steps: 4,
         events: "",
         arcs: "",
     },
@@ -142,7 +142,7 @@ abab (0, 0) [1, 2, 1, 2]  []
 True True True True True
 ",
         end: "finished",
-        steps: 0,
+        steps: 4,
         events: "",
         arcs: "",
     },
@@ -160,7 +160,7 @@ True True True True True
 True True True False True
 ",
         end: "finished",
-        steps: 0,
+        steps: 5,
         events: "",
         arcs: "",
     },
@@ -187,7 +187,7 @@ print(d, len(d), (), [], {})
 {'a': 3, 'b': 2} 2 () [] {}
 ",
         end: "finished",
-        steps: 0,
+        steps: 29,
         events: "",
         arcs: "",
     },
@@ -212,7 +212,7 @@ bc ab ef abcdef ef ab  ab def
 [0, 8, 2, 3] [9, 1, 2, 3]
 ",
         end: "finished",
-        steps: 0,
+        steps: 11,
         events: "",
         arcs: "",
     },
@@ -243,7 +243,7 @@ print(n)
 2
 ",
         end: "finished",
-        steps: 0,
+        steps: 18,
         events: "",
         arcs: "",
     },
@@ -262,7 +262,7 @@ None 4 3 []
 ['a', 'b', '', 'c'] ['a', 'b'] x-y True
 ",
         end: "finished",
-        steps: 0,
+        steps: 6,
         events: "",
         arcs: "",
     },
@@ -277,7 +277,7 @@ print(str(12) + '!', repr('a'), int(' -7 '), int('0012'), int(True))
 12! 'a' -7 12 1
 ",
         end: "finished",
-        steps: 0,
+        steps: 3,
         events: "",
         arcs: "",
     },
@@ -296,7 +296,7 @@ print(\"it's\", [\"it's\", 'a\"b', '\\n', 'a\\'b\"'], None, True)
 it's [\"it's\", 'a\"b', '\\n', 'a\\'b\"'] None True
 ",
         end: "finished",
-        steps: 0,
+        steps: 7,
         events: "",
         arcs: "",
     },
@@ -315,7 +315,7 @@ print(x, f'{x}{[x]}{None}', f'{1, 2}', f'{{}}', 'a' f'b' 'c')
 1-2 1-2['1-2']None (1, 2) {} abc
 ",
         end: "finished",
-        steps: 0,
+        steps: 10,
         events: "",
         arcs: "",
     },
@@ -354,7 +354,7 @@ print(match * case)
 ",
         out: "6\n",
         end: "finished",
-        steps: 0,
+        steps: 4,
         events: "",
         arcs: "",
     },

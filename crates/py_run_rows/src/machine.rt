@@ -189,3 +189,18 @@ fn a_new_store_is_a_new_run(rt: HostRuntime) -> Result<(), Fail> {
     }
     Ok(())
 }
+
+/// As many statements as a file can hold, in one line.
+#[test]
+fn many_statements(rt: HostRuntime) -> Result<(), Fail> {
+    let alloc = rt.alloc();
+    let mut source = String::from_str(alloc, "x=1")?;
+    for _ in 1..262_144 {
+        source.push_str(";x=1")?;
+    }
+    let told = run_alone(alloc, source.as_str(), unlimited())?;
+    assert_eq!(rt; told.end.as_str(), "finished");
+    assert_eq!(rt; told.steps, 262_145);
+    assert_eq!(rt; told.events.as_str(), "0.0( 1 )");
+    Ok(())
+}

@@ -3,7 +3,7 @@
 use crate::rows::{Row, wrong};
 use std::test::Fail;
 
-pub(crate) static ROWS: [Row; 35] = [
+pub(crate) static ROWS: [Row; 36] = [
     Row {
         title: "First run",
         source: "\
@@ -27,6 +27,15 @@ else:
         steps: 1,
         events: "0.0( )",
         arcs: "-1 -1",
+    },
+    Row {
+        title: "Numbers",
+        source: "x = 0\nif x:\n    print(x)\n",
+        out: "",
+        end: "finished",
+        steps: 3,
+        events: "0.0( 1 2 )",
+        arcs: "",
     },
     Row {
         title: "Docstring alone",
@@ -221,8 +230,8 @@ test_b()
         source: "print(not 1 == 2)\n",
         out: "True\n",
         end: "finished",
-        steps: 0,
-        events: "",
+        steps: 2,
+        events: "0.0( 1 )",
         arcs: "",
     },
     Row {
@@ -230,8 +239,8 @@ test_b()
         source: "print(-7 // 2, -7 % 2, 7 // -2, 7 % -2)\n",
         out: "-4 1 -4 -1\n",
         end: "finished",
-        steps: 0,
-        events: "",
+        steps: 2,
+        events: "0.0( 1 )",
         arcs: "",
     },
     Row {
@@ -239,8 +248,8 @@ test_b()
         source: "print(1 < 2 < 3, 0 or 'a', [] and 1)\n",
         out: "True a []\n",
         end: "finished",
-        steps: 0,
-        events: "",
+        steps: 2,
+        events: "0.0( 1 )",
         arcs: "",
     },
     Row {
@@ -248,8 +257,8 @@ test_b()
         source: "print([1, 'b', None], (1,), {'k': 2})\n",
         out: "[1, 'b', None] (1,) {'k': 2}\n",
         end: "finished",
-        steps: 0,
-        events: "",
+        steps: 2,
+        events: "0.0( 1 )",
         arcs: "",
     },
     Row {
@@ -257,8 +266,8 @@ test_b()
         source: "print('abcd'[1:3], 'abcd'[-1])\n",
         out: "bc d\n",
         end: "finished",
-        steps: 0,
-        events: "",
+        steps: 2,
+        events: "0.0( 1 )",
         arcs: "",
     },
     Row {
@@ -279,7 +288,7 @@ print(t)
         out: "0\n",
         end: "finished",
         steps: 3,
-        events: "",
+        events: "0.0( 1 2 )",
         arcs: "-1 1; 1 2; 2 -1",
     },
     Row {
@@ -293,7 +302,7 @@ print(t)
         out: "0\n",
         end: "finished",
         steps: 4,
-        events: "",
+        events: "0.0( 1 2 4 )",
         arcs: "-1 1; 1 2; 2 4; 4 -1",
     },
     Row {
@@ -306,8 +315,8 @@ print(l)
 ",
         out: "[5, 2]\n",
         end: "finished",
-        steps: 0,
-        events: "",
+        steps: 5,
+        events: "0.0( 1 2 3 4 )",
         arcs: "",
     },
     Row {
@@ -319,8 +328,8 @@ print(l)
 ",
         out: "[1]\n",
         end: "finished",
-        steps: 0,
-        events: "",
+        steps: 4,
+        events: "0.0( 1 2 3 )",
         arcs: "",
     },
     Row {
@@ -328,8 +337,8 @@ print(l)
         source: "print('a b'.split())\n",
         out: "['a', 'b']\n",
         end: "finished",
-        steps: 0,
-        events: "",
+        steps: 2,
+        events: "0.0( 1 )",
         arcs: "",
     },
     Row {
@@ -412,7 +421,7 @@ f 1
         out: "",
         end: "finished",
         steps: 2,
-        events: "",
+        events: "0.0( 1 )",
         arcs: "-1 1; 1 -1",
     },
     Row {
@@ -423,8 +432,8 @@ print(f'{x}+{x + 1}={{{x * 2 + 1}}}')
 ",
         out: "3+4={7}\n",
         end: "finished",
-        steps: 0,
-        events: "",
+        steps: 3,
+        events: "0.0( 1 2 )",
         arcs: "",
     },
     Row {
@@ -435,8 +444,8 @@ print('<' f\"{d['k']}\" '>')
 ",
         out: "<[1]>\n",
         end: "finished",
-        steps: 0,
-        events: "",
+        steps: 3,
+        events: "0.0( 1 2 )",
         arcs: "",
     },
     Row {
@@ -452,7 +461,7 @@ print(fs[0](10), fs[1](10), f(1, 2))
         out: "10 11 3\n",
         end: "finished",
         steps: 16,
-        events: "",
+        events: "0.0( 1 2 3 5 2 3 5 2 6 0.1( 4 ) 0.1( 4 ) 0.1( 4 ) )",
         arcs: "-3 4; -1 1; 1 2; 2 3; 2 6; 3 5; 4 -3; 5 2; 6 -1",
     },
     Row {
@@ -479,8 +488,8 @@ print(f(), f())
 ",
         out: "1 2\n",
         end: "finished",
-        steps: 0,
-        events: "",
+        steps: 10,
+        events: "0.0( 1 2 5 0.1( 3 4 ) 0.1( 3 4 ) )",
         arcs: "",
     },
 ];
