@@ -2,7 +2,7 @@ mod Rounding
 mod Percentages
 mod Sums
 mod Totals
-mod Keeping
+pub mod Keeping
 mod Searching
 mod Raising
 mod Counting
@@ -11,6 +11,11 @@ mod Rising
 mod Ordered
 mod Telling
 mod Rows
+mod Among
+mod LastLines
+mod FirstLines
+mod NextLines
+mod Bodies
 mod Leaving
 mod Many
-mod Reporting
+pub mod Reporting

@@ -1,16 +1,16 @@
 -- How many branches and lines a source can have.
-use Rattle.std.proofs.Common.{◌≡◌, ◌≤◌, ◌<◌, ◌<ℤ◌, ℕ, zero, suc, ◌+◌, ◌*◌, ◌-◌, ℤ, pos, negsuc, Bool, true, false, cond, List, [], ◌∷◌, ◌++◌, length, refl, arith}
+use Rattle.std.proofs.Common.{◌≡◌, ◌≤◌, ◌<◌, ◌<ℤ◌, ℕ, ◌+◌, ◌*◌, ◌-◌, ℤ, pos, negsuc, Bool, true, false, cond, List, [], ◌∷◌, ◌++◌, length, refl, arith}
 use Rattle.std.specs.declared.cmp.Ordering.{Ordering}
 use Rattle.std.specs.declared.cmp.Ordering.TheVariants.{Less, Equal, Greater}
 use Rattle.std.specs.Prelude.{filter}
 use Rattle.std.specs.Cmp.{int_ranks}
-use Rattle.std.specs.List.{AllByRecursion, count_by}
+use Rattle.std.specs.List.{AllByRecursion}
 use Rattle.std.specs.List.Sorted.{IsStrictlySortedBy}
 use Rattle.std.specs.Ordering.{MatchOrdering, nat_cmp, int_cmp, ordering_then}
 use Rattle.std.proofs.lemmas.Cmp.{ranked}
 use Rattle.std.proofs.lemmas.Int.{ints}
 use Rattle.py_syntax.specs.Prediction.{Arc}
-use Rattle.cov_analysis.specs.Branches.{Branch, branch_cmp, is_open, open_branches, leaves, forks, branches_of}
+use Rattle.cov_analysis.specs.Branches.{Branch, branch_cmp, is_open, open_branches, branches_of}
 use Rattle.cov_analysis.proofs.Leaving.{EndIn, ArcIn}
 
 -- a line of a source

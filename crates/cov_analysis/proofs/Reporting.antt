@@ -1,16 +1,18 @@
 -- An analysis meets what reports ask of it.
-use Rattle.std.proofs.Common.{◌≤◌, ℕ, suc, Bool, true, false, not, cond, if◌then◌else◌, List, [], ◌∷◌, length, map, arith}
+use Rattle.std.proofs.Common.{◌≤◌, ℕ, suc, Bool, true, false, not, cond, if◌then◌else◌, List, [], ◌∷◌, length, arith}
 use Rattle.std.specs.Prelude.{filter}
 use Rattle.std.specs.List.{AllByRecursion}
 use Rattle.std.proofs.lemmas.List.{length-map}
-use Rattle.std.proofs.lemmas.List.Elements.{All-tail}
+use Rattle.std.proofs.lemmas.List.Elements.{All-map, All-tail, All-weaker}
 use Rattle.py_syntax.specs.Marks.{statement_lines}
-use Rattle.py_syntax.specs.Prediction.{predicted}
 use Rattle.py_syntax.specs.Tree.{Stmts}
-use Rattle.cov_analysis.specs.Lines.{is_among, AreLines}
+use Rattle.py_lines.specs.Lines.{IsLine}
+use Rattle.py_lines.proofs.Laws.{lines_law}
+use Rattle.cov_analysis.specs.Counts.{IsCounted, numbers_of}
+use Rattle.cov_analysis.specs.Lines.{is_among, AreLines, IsOfText}
 use Rattle.cov_analysis.specs.Branches.{branches_of, is_covered}
 use Rattle.cov_analysis.specs.Hits.{line_hits, branch_hits}
-use Rattle.cov_analysis.specs.Analyses.{Source, Taken, source_of, analysis_of, statements_in, branches_in, IsReportable}
+use Rattle.cov_analysis.specs.Analyses.{Source, Taken, source_of, analysis_view, analysis_of, statements_in, branches_in, IsReportable, ReportsLaw}
 use Rattle.cov_analysis.proofs.Leaving.{predicted-at}
 use Rattle.cov_analysis.proofs.Many.{IsSmall, IsLow, few_lines, few_branches, kept, low_branches}
 use Rattle.cov_analysis.proofs.Ordered.{rises_of}
@@ -45,3 +47,11 @@ reportable_of path exclude partial m text taken lines =
       hits = length-map (statements_in source) (line_hits taken.executed taken.line_count);
       branch_hits = length-map (branches_in source taken) (branch_hits source.no_branch taken.is_taken taken.branch_count);
     }
+
+-- the statement lines of a module that is read from a text
+pub lines_of_text : (m : Stmts) → IsOfText m → AreLines (statement_lines m)
+lines_of_text m text = All-weaker IsLine (λ line. line ≤ 65535) (λ line is. is.1) (statement_lines m) (lines_law m text.tokens text.on_lines text.spelled)
+
+pub reports_law : ReportsLaw
+reports_law files each =
+    (All-weaker (λ file. IsReportable (analysis_view file)) (λ file. IsCounted (numbers_of file)) (λ file is. is.numbers) files each, All-map IsReportable analysis_view files each)

@@ -2,7 +2,7 @@
 use Rattle.std.proofs.Common.{◌≡◌, ℕ, ℤ, Bool, true, false, List, [], ◌∷◌, pos, negsuc, refl}
 use Rattle.cov_data.specs.Rows.{RowView}
 use Rattle.cov_analysis.specs.Hits.{line_count, is_taken, branch_count}
-use Rattle.cov_analysis.specs.Analyses.{Source, Taken, analysis_of, AnalysisView}
+use Rattle.cov_analysis.specs.Analyses.{Source, Taken, analysis_of}
 
 abbrev row : ℤ → ℤ → ℕ → RowView
 row from to count = record { path = []; context = []; from = from; to = to; count = count }

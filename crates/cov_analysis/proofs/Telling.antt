@@ -1,5 +1,5 @@
 -- What data tell of a path, and the analysis as a whole.
-use Rattle.std.proofs.Common.{◌≡◌, ℕ, Bool, if◌then◌else◌, List, [], length, map, ap, ap₂, ◌∙◌}
+use Rattle.std.proofs.Common.{◌≡◌, ℕ, Bool, List, length, map, ap, ◌∙◌}
 use Rattle.std.specs.List.{count_by}
 use Rattle.cov_data.specs.DataSet.{DataSet, file_of}
 use Rattle.cov_data.specs.Rows.{RowView, lines_of, file_rows}

@@ -4,8 +4,9 @@
 --     AnalysisView, analysis_view     an analysis as lists
 --     analysis_of                     the analysis of a source and what runs took of it
 --     IsInOrder                       lists that rise
---     IsReportable                    what reports ask of an analysis
-use Rattle.std.specs.Prelude.{◌≡◌, ℕ, Bool, if◌then◌else◌, List, [], length, map, string_bytes}
+--     IsReportable, AreReportable     what reports ask of an analysis; of each of several
+--     ReportsLaw                      such analyses are what each report asks for
+use Rattle.std.specs.Prelude.{◌≡◌, ℕ, Bool, if◌then◌else◌, List, [], length, map, string_bytes, All}
 use Rattle.std.specs.List.{count_by}
 use Rattle.std.specs.List.Sorted.{IsStrictlySortedBy}
 use Rattle.py_syntax.specs.Marks.{statement_lines}
@@ -16,7 +17,7 @@ use Rattle.cov_data.specs.Rows.{lines_of, file_rows}
 use Rattle.cov_exclude.specs.Sources.{excluded_in, no_branch_in}
 use Rattle.cov_exclude.specs.Touched.{IsRising}
 use Rattle.cov_analysis.specs.Lines.{is_among, without}
-use Rattle.cov_analysis.specs.Counts.{IsCounted}
+use Rattle.cov_analysis.specs.Counts.{IsCounted, numbers_of}
 use Rattle.cov_analysis.specs.Branches.{Branch, branch_cmp, branches_of, missing_branches_of}
 use Rattle.cov_analysis.specs.Hits.{line_count, is_taken, branch_count, line_hits, branch_hits}
 use Rattle.cov_analysis.specs.declared.analysis.Analysis.{Analysis}
@@ -137,3 +138,13 @@ pub record IsReportable (a : AnalysisView) : Type 0 where
   pub numbers : IsCounted a.numbers
   pub hits : length a.hits ≡ length a.statements
   pub branch_hits : length a.branch_hits ≡ length a.branches
+
+-- and of each of several analyses
+abbrev pub AreReportable : List Analysis → Type 0
+AreReportable files = All (λ file. IsReportable (analysis_view file)) files
+
+-- Reports ask it in two forms: some of the numbers of each file, others of the views of the files.
+abbrev pub ReportsLaw : Type 0
+ReportsLaw =
+    (files : List Analysis) → AreReportable files
+    → All (λ file. IsCounted (numbers_of file)) files × All IsReportable (map analysis_view files)

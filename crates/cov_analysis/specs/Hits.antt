@@ -3,7 +3,7 @@
 --     goes_to, line_count             of the rows that go to a line
 --     takes, is_taken, branch_count   of the rows that take a branch
 --     line_hits, branch_hits          how often, at least once where it was executed or taken
-use Rattle.std.specs.Prelude.{ℕ, ℤ, pos, min, max, ◌&&◌, Bool, if◌then◌else◌, List}
+use Rattle.std.specs.Prelude.{ℕ, pos, min, max, ◌&&◌, Bool, if◌then◌else◌, List}
 use Rattle.std.specs.List.{list_any, sum_by}
 use Rattle.std.specs.Ordering.{int_eq}
 use Rattle.cov_data.specs.Rows.{RowView}

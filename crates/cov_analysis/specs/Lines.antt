@@ -1,6 +1,10 @@
 -- Lists of lines.
 use Rattle.std.specs.Prelude.{◌≤◌, ℕ, nat_eq, Bool, not, List, All, filter}
 use Rattle.std.specs.List.{list_any}
+use Rattle.py_token.specs.OnLines.{AreOnLines}
+use Rattle.py_token.specs.Plain.{PToken}
+use Rattle.py_syntax.specs.Spelling.{Spells}
+use Rattle.py_syntax.specs.Tree.{Stmts}
 
 -- whether a line is one of these
 abbrev pub is_among : List ℕ → ℕ → Bool
@@ -9,6 +13,12 @@ is_among lines line = list_any (nat_eq line) lines
 -- lines of a text of at most 65,535
 abbrev pub AreLines : List ℕ → Type 0
 AreLines lines = All (λ line. line ≤ 65535) lines
+
+-- a module that is read from such a text: tokens that keep its lines spell the module
+pub record IsOfText (m : Stmts) : Type 0 where
+  pub tokens : List PToken
+  pub on_lines : AreOnLines tokens
+  pub spelled : Spells m tokens
 
 -- the lines that are none of the others
 abbrev pub without : List ℕ → List ℕ → List ℕ

@@ -4,7 +4,7 @@ ghost use Rattle.std.specs.List.{count_by};
 ghost use Rattle.py_syntax.specs.Marks.{statement_lines};
 ghost use Rattle.py_syntax.specs.View.{plain_module};
 ghost use Rattle.cov_exclude.specs.Touched.{IsRising};
-ghost use Rattle.cov_analysis.specs.Lines.{is_among, AreLines};
+ghost use Rattle.cov_analysis.specs.Lines.{is_among, AreLines, IsOfText};
 ghost use Rattle.cov_analysis.specs.Branches.{branches_of};
 ghost use Rattle.cov_analysis.specs.Analyses.{analysis_view, analysis_of, source_of, taken_of, IsInOrder, IsReportable};
 ghost use Rattle.cov_analysis.specs.Views.{source_view, taken_view};
@@ -43,6 +43,8 @@ pub fn analyse(
     ensures reportable { IfOk result (λ analysis.
         AreLines (statement_lines (plain_module «module».now))
         → IsReportable (analysis_view analysis)) }
+    ensures of_text { IfOk result (λ analysis.
+        IsOfText (plain_module «module».now) → IsReportable (analysis_view analysis)) }
 {
     let text = source_of(alloc, module, source, exclude, partial)?;
     let recorded = taken_of(alloc, taken, path)?;

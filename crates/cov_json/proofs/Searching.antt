@@ -1,13 +1,7 @@
 -- Lists, item by item.
-use Rattle.std.proofs.Common.{◌≡◌, ℕ, ◌+◌, ◌<◌, Bool, true, false, cond, ◌||◌, List, [], ◌∷◌, ◌++◌, length, take, get_or, sym, ap, ◌∙◌, append-nil}
+use Rattle.std.proofs.Common.{◌≡◌, ℕ, ◌+◌, ◌<◌, Bool, true, false, cond, List, [], ◌∷◌, ◌++◌, length, take, get_or, sym, ap, ◌∙◌, append-nil}
 use Rattle.std.specs.Prelude.{filter}
-use Rattle.std.specs.List.{list_any}
 use Rattle.std.proofs.lemmas.List.Elements.{filter_more}
-use Rattle.std.proofs.lemmas.List.Folds.{list_any_more}
-
--- whether one of the items so far passes, and one more
-pub any_more : {X : Type 0} (p : X → Bool) (xs : List X) (at : ℕ) (d : X) (old new : Bool) → at < length xs → old ≡ list_any p (take at xs) → new ≡ (old || p (get_or xs at d)) → new ≡ list_any p (take (at + 1) xs)
-any_more p xs at d old new within before after = after ∙ ap (λ b. b || p (get_or xs at d)) before ∙ sym (list_any_more p xs at d within)
 
 -- those of the items so far that pass, and one more that does
 pub kept_more : {X : Type 0} (p : X → Bool) (xs : List X) (at : ℕ) (d : X) (old new : List X) → at < length xs → p (get_or xs at d) ≡ true → old ≡ filter p (take at xs) → new ≡ old ++ get_or xs at d ∷ []

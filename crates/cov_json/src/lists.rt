@@ -1,15 +1,13 @@
 //! Lists of lines and of branches.
-ghost use Rattle.std.specs.Prelude.{◌≡◌, ◌||◌, ℕ, not, filter, IfOk, OnOk};
+ghost use Rattle.std.specs.Prelude.{◌≡◌, not, filter, IfOk};
 ghost use Rattle.std.specs.BTreeSet.{contains};
-ghost use Rattle.std.specs.List.{list_any};
 ghost use Rattle.std.specs.Ordering.{nat_cmp};
 ghost use Rattle.serde_json.specs.View.{view};
 ghost use Rattle.cov_analysis.specs.Analyses.{analysis_view};
-ghost use Rattle.cov_analysis.specs.Branches.{Branch, branch_cmp, same_branch};
-ghost use Rattle.cov_analysis.specs.Lines.{is_among};
+ghost use Rattle.cov_analysis.specs.Branches.{branch_cmp};
 ghost use Rattle.cov_json.specs.Json.{lines, branch, branches, executed_lines, executed_branches};
 
-use cov_analysis::Analysis;
+use cov_analysis::{Analysis, branch_set, line_set};
 use py_value::NoMemory;
 use serde_json::{Value, json};
 use std::alloc::Global;
@@ -33,13 +31,6 @@ pub(crate) fn executed_lines(alloc: Global, file: &Analysis) -> Result<Value, No
     let missing = line_set(alloc, &file.missing)?;
     let executed = lines_outside(alloc, &file.statements, &missing)?;
     lines(alloc, &executed)
-}
-
-fn line_set(alloc: Global, all: &[u32]) -> Result<BTreeSet<u32>, NoMemory>
-    ensures { IfOk result (λ set.
-        (line : ℕ) → contains nat_cmp set line ≡ is_among all.now line) }
-{
-    all.iter().copied().collect(alloc)
 }
 
 /// The lines that a set doesn't have.
@@ -81,25 +72,6 @@ pub(crate) fn executed_branches(alloc: Global, file: &Analysis) -> Result<Value,
     let missing = branch_set(alloc, &file.missing_branches)?;
     let executed = branches_outside(alloc, &file.branches, &missing)?;
     branches(alloc, &executed)
-}
-
-fn branch_set(alloc: Global, all: &[(u32, i32)]) -> Result<BTreeSet<(u32, i32)>, NoMemory>
-    ensures { IfOk result (λ set. (query : Branch)
-        → contains branch_cmp set query ≡ list_any (same_branch query) all.now) }
-{
-    let mut set = BTreeSet::new(alloc);
-    for one in all {
-        add_branch(&mut set, *one)?;
-    }
-    Ok(set)
-}
-
-fn add_branch(set: &mut BTreeSet<(u32, i32)>, one: (u32, i32)) -> Result<(), NoMemory>
-    ensures { OnOk result ((query : Branch) → contains branch_cmp set.new query
-        ≡ (contains branch_cmp set.old query || same_branch query one)) }
-{
-    set.insert(one)?;
-    Ok(())
 }
 
 /// The branches that a set doesn't have.

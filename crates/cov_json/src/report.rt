@@ -23,7 +23,9 @@ pub fn json_report(alloc: Global, files: &[Analysis], arcs: bool) -> Result<Stri
         string_bytes text ≡ json_bytes (map analysis_view files.now) arcs) }
 {
     let value = report(alloc, files, arcs)?;
-    value.to_string(alloc)
+    let text = value.to_string(alloc);
+    drop(value);
+    text
 }
 
 fn report(alloc: Global, files: &[Analysis], arcs: bool) -> Result<Value, NoMemory>

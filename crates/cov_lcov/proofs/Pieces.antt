@@ -1,5 +1,5 @@
 -- Texts that are put together piece by piece.
-use Rattle.std.proofs.Common.{◌≡◌, ℕ, ◌+◌, ◌<◌, ◌≤◌, List, [], ◌∷◌, ◌++◌, length, take, drop, get_or, ap, sym, ◌∙◌, append_assoc, drop-cons, add-one, Bool, ◌||◌, pos, map, arith, Result, Ok, Err, IfOk, codes, decimal, ◌-◌}
+use Rattle.std.proofs.Common.{◌≡◌, ℕ, ◌+◌, ◌<◌, ◌≤◌, List, [], ◌∷◌, ◌++◌, length, take, drop, get_or, ap, sym, ◌∙◌, append_assoc, drop-cons, add-one, Bool, pos, map, arith, Result, Ok, Err, IfOk, codes, decimal, ◌-◌}
 use Rattle.std.specs.BTreeSet.{contains}
 use Rattle.std.specs.Ordering.{nat_cmp}
 use Rattle.cov_analysis.specs.Lines.{is_among}
@@ -7,8 +7,7 @@ use Rattle.cov_analysis.specs.Analyses.{AnalysisView}
 use Rattle.cov_lcov.specs.declared.annotating.Marks.{Marks}
 use Rattle.std.specs.Borrow.{Bor}
 use Rattle.std.specs.BTreeSet.{insert_key}
-use Rattle.std.specs.List.{flat_map, fold, list_any, zip}
-use Rattle.std.proofs.lemmas.List.Folds.{list_any_more}
+use Rattle.std.specs.List.{flat_map, fold, zip}
 use Rattle.std.proofs.lemmas.List.Sums.{fold-append}
 use Rattle.std.proofs.lemmas.Slice.Zip.{length-zip, get_or-zip}
 use Rattle.cov_analysis.specs.Branches.{Branch}
@@ -50,10 +49,6 @@ lines_end mark texts at text was le h = sym (append-nil text) ∙ ap (λ ts. tex
 pub marks_as : (marks : Marks) (file : AnalysisView) → ((line : ℕ) → contains nat_cmp marks.missing line ≡ is_among file.missing line) → ((line : ℕ) → contains nat_cmp marks.statements line ≡ is_among file.statements line)
     → ((line : ℕ) → contains nat_cmp marks.excluded line ≡ is_among file.excluded line) → mark_in marks ≡ mark_of file
 marks_as marks file m s x i = mark_by (λ line. m line i) (λ line. s line i) (λ line. x line i)
-
--- whether one of the items so far passes, and one more
-pub any_more : {X : Type 0} (p : X → Bool) (xs : List X) (at : ℕ) (d : X) (old new : Bool) → at < length xs → old ≡ list_any p (take at xs) → new ≡ (old || p (get_or xs at d)) → new ≡ list_any p (take (at + 1) xs)
-any_more p xs at d old new within before after = after ∙ ap (λ b. b || p (get_or xs at d)) before ∙ sym (list_any_more p xs at d within)
 
 -- the pairs of two lists so far, and one more
 pub pairs_more : {A B : Type 0} (xs : List A) (ys : List B) (at : ℕ) (a : A) (b : B) → length ys ≡ length xs → at < length xs → take (at + 1) (zip xs ys) ≡ take at (zip xs ys) ++ (get_or xs at a, get_or ys at b) ∷ []

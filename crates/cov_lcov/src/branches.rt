@@ -1,13 +1,13 @@
 //! The branches of a file in LCOV's format.
 ghost use Rattle.std.specs.Prelude.{◌≡◌, ℕ, [], ◌&&◌, ◌||◌, nat_eq, length, map, IfOk, OnOk, string_bytes};
 ghost use Rattle.std.specs.BTreeSet.{contains, insert_key};
-ghost use Rattle.std.specs.List.{flat_map, fold, list_any, zip};
+ghost use Rattle.std.specs.List.{flat_map, fold, zip};
 ghost use Rattle.std.specs.Ordering.{nat_cmp};
 ghost use Rattle.cov_analysis.specs.Analyses.{IsReportable, analysis_view};
-ghost use Rattle.cov_analysis.specs.Branches.{Branch, branch_cmp, same_branch};
+ghost use Rattle.cov_analysis.specs.Branches.{branch_cmp};
 ghost use Rattle.cov_lcov.specs.Lcov.{branch_part, branch_row, branch_rows, destination_text, entry_cmp, entry_of, is_exit, leaves_covered, taken_text};
 
-use cov_analysis::Analysis;
+use cov_analysis::{Analysis, branch_set};
 use py_value::NoMemory;
 use std::alloc::Global;
 use std::collections::BTreeSet;
@@ -30,29 +30,10 @@ fn branch_rows(alloc: Global, file: &Analysis) -> Result<String, NoMemory>
     requires { IsReportable (analysis_view file.now) }
     ensures { IfOk result (λ text. string_bytes text ≡ branch_rows (analysis_view file.now)) }
 {
-    let missing = set_of(alloc, &file.missing_branches)?;
+    let missing = branch_set(alloc, &file.missing_branches)?;
     let covered = covered_lines(alloc, &file.branches, &missing)?;
     let entries = entries(alloc, &file.branches, &file.branch_hits)?;
     rows(alloc, &missing, &covered, &entries)
-}
-
-fn set_of(alloc: Global, branches: &[(u32, i32)]) -> Result<BTreeSet<(u32, i32)>, NoMemory>
-    ensures { IfOk result (λ set. (branch : Branch)
-        → contains branch_cmp set branch ≡ list_any (same_branch branch) branches.now) }
-{
-    let mut set = BTreeSet::new(alloc);
-    for branch in branches {
-        add_branch(&mut set, *branch)?;
-    }
-    Ok(set)
-}
-
-fn add_branch(set: &mut BTreeSet<(u32, i32)>, branch: (u32, i32)) -> Result<(), NoMemory>
-    ensures { OnOk result ((query : Branch) → contains branch_cmp set.new query
-        ≡ (contains branch_cmp set.old query || same_branch query branch)) }
-{
-    set.insert(branch)?;
-    Ok(())
 }
 
 /// The lines that some covered branch leaves.

@@ -1,65 +1,87 @@
-//! Rows of reports and of annotated sources.
-ghost use Rattle.std.specs.Prelude.{IfOk};
-ghost use Rattle.cov_analysis.specs.Analyses.{IsReportable, analysis_view};
+//! Rows of reports in LCOV's format and of annotated sources.
 
-use cov_analysis::{Analysis, Numbers};
-use cov_lcov::{annotate, lcov_report};
-use py_value::NoMemory;
-use std::alloc::Global;
+use crate::sources::{
+    EMPTY, FIRST_RUN, Form, ONE_LINE, ONE_LINE_LOOP, OTHER_ENDS, PRAGMA, TWO_RUNS, Wanted,
+    analysis_of, wrong,
+};
+use cov_lcov::annotate;
 use std::test::Fail;
 
-/// Of a file in which line 5, and the way to it, is missing.
-fn first_run(alloc: Global) -> Result<Analysis, NoMemory>
-    ensures { IfOk result (λ file. IsReportable (analysis_view file)) }
-{
-    Ok(Analysis {
-        path: String::from_str(alloc, "a.py")?,
-        statements: vec![in alloc; 1, 2, 3, 5]?,
-        excluded: Vec::new(alloc),
-        missing: vec![in alloc; 5]?,
-        branches: vec![in alloc; (2, 3), (2, 5)]?,
-        missing_branches: vec![in alloc; (2, 5)]?,
-        hits: vec![in alloc; 1, 1, 1, 0]?,
-        branch_hits: vec![in alloc; 1, 0]?,
-        numbers: Numbers {
-            statements: 4,
-            missing: 1,
-            excluded: 0,
-            branches: 2,
-            missing_branches: 1,
-            partial: 1,
-        },
-    })
-}
+static RECORDS: [Wanted; 4] = [
+    Wanted {
+        title: "LCOV of it",
+        file: FIRST_RUN,
+        report: "SF:a.py\nDA:1,1\nDA:2,1\nDA:3,1\nDA:5,0\nLF:4\nLH:3\n\
+         BRDA:2,0,jump to line 3,1\nBRDA:2,0,jump to line 5,0\nBRF:2\nBRH:1\n\
+         end_of_record\n",
+    },
+    Wanted {
+        title: "Counts of a one-line loop",
+        file: ONE_LINE_LOOP,
+        report: "SF:n.py\nDA:1,1\nDA:2,4\nLF:2\nLH:2\n\
+         BRDA:2,0,jump to line 2,3\nBRDA:2,0,exit,1\nBRF:2\nBRH:2\nend_of_record\n",
+    },
+    Wanted {
+        title: "Counts of two runs",
+        file: TWO_RUNS,
+        report: "SF:n.py\nDA:1,2\nDA:2,8\nLF:2\nLH:2\n\
+         BRDA:2,0,jump to line 2,6\nBRDA:2,0,exit,2\nBRF:2\nBRH:2\nend_of_record\n",
+    },
+    Wanted {
+        title: "Pragma",
+        file: PRAGMA,
+        report: "SF:p.py\nDA:1,1\nDA:5,1\nDA:6,1\nDA:7,1\nLF:4\nLH:4\nBRF:0\nBRH:0\n\
+         end_of_record\n",
+    },
+];
+
+static SOURCES: [Wanted; 4] = [
+    Wanted {
+        title: "annotated source of it",
+        file: FIRST_RUN,
+        report: "> x = 1\n> if x:\n>     print(x)\n  else:\n!     print(0)\n",
+    },
+    Wanted {
+        title: "line ends with a carriage return, and no end of the last line",
+        file: OTHER_ENDS,
+        report: "> x = 1\n> if x:\n>     print(x)\n  else:\n!     print(0)\n",
+    },
+    Wanted {
+        title: "Pragma",
+        file: PRAGMA,
+        report: "> debug = False\n- if debug:  # pragma: no cover\n-     print(1)\n  else:\n\
+         >     print(2)\n> while True:\n>     break\n",
+    },
+    Wanted {
+        title: "Empty file",
+        file: EMPTY,
+        report: "",
+    },
+];
 
 #[test]
 fn reports(rt: HostRuntime) -> Result<(), Fail> {
-    let alloc = rt.alloc();
-    let file = first_run(alloc)?;
-    let report = lcov_report(alloc, &[file], true)?;
-    assert_eq!(rt;
-        report.as_str(),
-        "SF:a.py\nDA:1,1\nDA:2,1\nDA:3,1\nDA:5,0\nLF:4\nLH:3\n\
-        BRDA:2,0,jump to line 3,1\nBRDA:2,0,jump to line 5,0\nBRF:2\nBRH:1\nend_of_record\n"
-    );
+    let found = wrong(rt.alloc(), &RECORDS, Form::Lcov)?;
+    assert_eq!(rt; found.as_str(), "");
     Ok(())
 }
 
 #[test]
 fn annotated_sources(rt: HostRuntime) -> Result<(), Fail> {
+    let found = wrong(rt.alloc(), &SOURCES, Form::Annotated)?;
+    assert_eq!(rt; found.as_str(), "");
+    Ok(())
+}
+
+#[test]
+fn one_line_of_a_megabyte(rt: HostRuntime) -> Result<(), Fail> {
     let alloc = rt.alloc();
-    let file = first_run(alloc)?;
-    for (title, source, wanted) in [
-        (
-            "a branch",
-            "x = 1\nif x:\n    print(x)\nelse:\n    print(0)\n",
-            "> x = 1\n> if x:\n>     print(x)\n  else:\n!     print(0)\n",
-        ),
-        ("other line ends", "x = 1\r\n# end", "> x = 1\n> # end\n"),
-        ("no line", "", ""),
-    ] {
-        let text = annotate(alloc, &file, source)?;
-        assert_eq!(rt; text.as_str(), wanted, "{title}");
-    }
+    let letters = "a".repeat(alloc, 1_048_567)?;
+    let source = format!(in alloc; "x = 1  # {letters}")?;
+    let wanted = format!(in alloc; "> {source}\n")?;
+    let analysis = analysis_of(alloc, &ONE_LINE, true)?;
+    let text = annotate(alloc, &analysis, source.as_str())?;
+    drop(analysis);
+    assert!(rt; text.as_str() == wanted.as_str(), "the line with its mark");
     Ok(())
 }

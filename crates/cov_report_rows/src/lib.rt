@@ -9,6 +9,6 @@ mod lcov;
 #[cfg(test)]
 mod numbers;
 #[cfg(test)]
-mod text;
+mod sources;
 #[cfg(test)]
-mod whole;
+mod text;

@@ -1,50 +1,170 @@
-//! Rows of reports.
+//! Rows of text reports.
 ghost use Rattle.std.specs.Prelude.{IfOk};
 ghost use Rattle.cov_analysis.specs.Counts.{IsCounted, numbers_of};
 
+use crate::sources::{
+    CALC, EMPTY, FIRST_RUN, Form, HANDLERS, LINES, Measured, PRAGMA, TEST_CALC, Wanted, text_of,
+    wrong,
+};
 use cov_analysis::{Analysis, Numbers};
 use cov_text::{NoMemory, text_report};
 use std::alloc::Global;
 use std::test::Fail;
 
-const MOST: u64 = 72_057_594_037_927_935;
+/// Of arcs, with what is missing.
+static ARCS: [Wanted; 4] = [
+    Wanted {
+        title: "Report of it",
+        file: FIRST_RUN,
+        report: "Name    Stmts   Miss Branch BrPart  Cover   Missing\n\
+         ---------------------------------------------------\n\
+         a.py        4      1      2      1    67%   5\n\
+         ---------------------------------------------------\n\
+         TOTAL       4      1      2      1    67%\n",
+    },
+    Wanted {
+        title: "Empty file",
+        file: EMPTY,
+        report: "Name    Stmts   Miss Branch BrPart  Cover   Missing\n\
+         ---------------------------------------------------\n\
+         e.py        0      0      0      0   100%\n\
+         ---------------------------------------------------\n\
+         TOTAL       0      0      0      0   100%\n",
+    },
+    Wanted {
+        title: "Handlers",
+        file: HANDLERS,
+        report: "Name    Stmts   Miss Branch BrPart  Cover   Missing\n\
+         ---------------------------------------------------\n\
+         t.py        7      1      2      1    78%   4\n\
+         ---------------------------------------------------\n\
+         TOTAL       7      1      2      1    78%\n",
+    },
+    Wanted {
+        title: "Pragma",
+        file: PRAGMA,
+        report: "Name    Stmts   Miss Branch BrPart  Cover   Missing\n\
+         ---------------------------------------------------\n\
+         p.py        4      0      0      0   100%\n\
+         ---------------------------------------------------\n\
+         TOTAL       4      0      0      0   100%\n",
+    },
+];
 
-/// A path, the statements, the missing ones and the missing branches, then how many branches there
-/// are and how many are partial.
-#[derive(Clone, Copy)]
-struct File(
-    &'static str,
-    &'static [u32],
-    &'static [u32],
-    &'static [(u32, i32)],
-    u8,
-    u8,
-);
+/// Of arcs, without it.
+static PLAIN_ARCS: [Wanted; 1] = [Wanted {
+    title: "Report of it, without what is missing",
+    file: FIRST_RUN,
+    report: "Name    Stmts   Miss Branch BrPart  Cover\n\
+         -----------------------------------------\n\
+         a.py        4      1      2      1    67%\n\
+         -----------------------------------------\n\
+         TOTAL       4      1      2      1    67%\n",
+}];
 
-const FIRST_RUN: File = File("a.py", &[1, 2, 3, 5], &[5], &[(2, 5)], 2, 1);
+/// Of lines, with what is missing.
+static LINE_DATA: [Wanted; 1] = [Wanted {
+    title: "a path of six characters",
+    file: Measured("é/é.py", "", &[]),
+    report: "Name     Stmts   Miss  Cover   Missing\n\
+         --------------------------------------\n\
+         é/é.py       0      0   100%\n\
+         --------------------------------------\n\
+         TOTAL        0      0   100%\n",
+}];
 
-const LINES: File = File("b.py", &[1, 2, 3], &[3], &[], 0, 0);
+/// Of lines, without it.
+static PLAIN_LINES: [Wanted; 1] = [Wanted {
+    title: "Numbers",
+    file: LINES,
+    report: "Name    Stmts   Miss  Cover\n\
+         ---------------------------\n\
+         b.py        3      1    67%\n\
+         ---------------------------\n\
+         TOTAL       3      1    67%\n",
+}];
 
-const CALC: File = File("calc.py", &[1, 2, 3, 4, 6, 7], &[3, 7], &[(2, 3)], 2, 1);
+#[test]
+fn reports_of_arcs(rt: HostRuntime) -> Result<(), Fail> {
+    let form = Form::Text {
+        arcs: true,
+        missing: true,
+    };
+    let found = wrong(rt.alloc(), &ARCS, form)?;
+    assert_eq!(rt; found.as_str(), "");
+    Ok(())
+}
 
-const TEST_CALC: File = File("test_calc.py", &[1, 3, 4, 6, 7, 8], &[], &[(6, -1)], 2, 1);
+#[test]
+fn reports_of_arcs_without_what_is_missing(rt: HostRuntime) -> Result<(), Fail> {
+    let form = Form::Text {
+        arcs: true,
+        missing: false,
+    };
+    let found = wrong(rt.alloc(), &PLAIN_ARCS, form)?;
+    assert_eq!(rt; found.as_str(), "");
+    Ok(())
+}
 
-fn analysis(alloc: Global, file: &File) -> Result<Analysis, NoMemory>
-    ensures { IfOk result (λ analysis. IsCounted (numbers_of analysis)) }
+#[test]
+fn reports_of_lines(rt: HostRuntime) -> Result<(), Fail> {
+    let form = Form::Text {
+        arcs: false,
+        missing: true,
+    };
+    let found = wrong(rt.alloc(), &LINE_DATA, form)?;
+    assert_eq!(rt; found.as_str(), "");
+    Ok(())
+}
+
+#[test]
+fn reports_of_lines_without_what_is_missing(rt: HostRuntime) -> Result<(), Fail> {
+    let form = Form::Text {
+        arcs: false,
+        missing: false,
+    };
+    let found = wrong(rt.alloc(), &PLAIN_LINES, form)?;
+    assert_eq!(rt; found.as_str(), "");
+    Ok(())
+}
+
+#[test]
+fn ordinary_use(rt: HostRuntime) -> Result<(), Fail> {
+    let text = text_of(rt.alloc(), &[CALC, TEST_CALC], true, true)?;
+    assert_eq!(rt;
+        text.as_str(),
+        "Name           Stmts   Miss Branch BrPart  Cover   Missing\n\
+         ----------------------------------------------------------\n\
+         calc.py            6      2      2      1    62%   3, 7\n\
+         test_calc.py       6      0      2      1    88%   6->exit\n\
+         ----------------------------------------------------------\n\
+         TOTAL             12      2      4      2    75%\n"
+    );
+    Ok(())
+}
+
+/// Ranges over lines that are no statements, and several branches of one line.
+fn ranges(alloc: Global) -> Result<Analysis, NoMemory>
+    ensures { IfOk result (λ file. IsCounted (numbers_of file)) }
 {
-    let path = String::from_str(alloc, file.0)?;
-    let statements = Vec::from_slice(alloc, file.1)?;
-    let missing = Vec::from_slice(alloc, file.2)?;
-    let missing_branches = Vec::from_slice(alloc, file.3)?;
-    let all = (statements.len() as u64).min(MOST);
-    let branches = u64::from(file.4);
+    let path = String::from_str(alloc, "r.py")?;
+    let statements: Vec<u32> = vec![in alloc; 1, 2, 5, 6, 9, 11, 12, 14]?;
+    let missing: Vec<u32> = vec![in alloc; 5, 6, 9, 11, 14]?;
+    let missing_branches: Vec<(u32, i32)> = vec![in alloc;
+        (1, -1),
+        (1, 9),
+        (1, 10),
+        (1, 2),
+        (1, 12),
+        (12, 14),
+    ]?;
     let numbers = Numbers {
-        statements: all,
-        missing: (missing.len() as u64).min(all),
+        statements: 8,
+        missing: 5,
         excluded: 0,
-        branches,
-        missing_branches: (missing_branches.len() as u64).min(branches),
-        partial: u64::from(file.5),
+        branches: 6,
+        missing_branches: 6,
+        partial: 6,
     };
     Ok(Analysis {
         path,
@@ -60,93 +180,16 @@ fn analysis(alloc: Global, file: &File) -> Result<Analysis, NoMemory>
 }
 
 #[test]
-fn reports_of_one_file(rt: HostRuntime) -> Result<(), Fail> {
-    for (title, file, arcs, missing, wanted) in [
-        (
-            "report of it",
-            FIRST_RUN,
-            true,
-            true,
-            "Name    Stmts   Miss Branch BrPart  Cover   Missing\n\
-             ---------------------------------------------------\n\
-             a.py        4      1      2      1    67%   5\n\
-             ---------------------------------------------------\n\
-             TOTAL       4      1      2      1    67%\n",
-        ),
-        (
-            "the same without what is missing",
-            FIRST_RUN,
-            true,
-            false,
-            "Name    Stmts   Miss Branch BrPart  Cover\n\
-             -----------------------------------------\n\
-             a.py        4      1      2      1    67%\n\
-             -----------------------------------------\n\
-             TOTAL       4      1      2      1    67%\n",
-        ),
-        (
-            "numbers of lines",
-            LINES,
-            false,
-            false,
-            "Name    Stmts   Miss  Cover\n\
-             ---------------------------\n\
-             b.py        3      1    67%\n\
-             ---------------------------\n\
-             TOTAL       3      1    67%\n",
-        ),
-        (
-            "empty file, and a path of six characters",
-            File("é/é.py", &[], &[], &[], 0, 0),
-            false,
-            true,
-            "Name     Stmts   Miss  Cover   Missing\n\
-             --------------------------------------\n\
-             é/é.py       0      0   100%\n\
-             --------------------------------------\n\
-             TOTAL        0      0   100%\n",
-        ),
-        (
-            "ranges, and branches by their bytes",
-            File(
-                "r.py",
-                &[1, 2, 5, 6, 9, 11, 12, 14],
-                &[5, 6, 9, 11, 14],
-                &[(1, -1), (1, 9), (1, 10), (1, 2), (1, 12), (12, 14)],
-                6,
-                6,
-            ),
-            true,
-            true,
-            "Name    Stmts   Miss Branch BrPart  Cover   Missing\n\
-             ---------------------------------------------------\n\
-             r.py        8      5      6      6    21%   1->10, 1->12, 1->2, 1->exit, 5-11, 14\n\
-             ---------------------------------------------------\n\
-             TOTAL       8      5      6      6    21%\n",
-        ),
-    ] {
-        let files = [analysis(rt.alloc(), &file)?];
-        let text = text_report(rt.alloc(), &files, arcs, missing)?;
-        assert_eq!(rt; text.as_str(), wanted, "{title}");
-    }
-    Ok(())
-}
-
-#[test]
-fn ordinary_use(rt: HostRuntime) -> Result<(), Fail> {
-    let files = [
-        analysis(rt.alloc(), &CALC)?,
-        analysis(rt.alloc(), &TEST_CALC)?,
-    ];
+fn branches_come_by_their_bytes(rt: HostRuntime) -> Result<(), Fail> {
+    let files = [ranges(rt.alloc())?];
     let text = text_report(rt.alloc(), &files, true, true)?;
     assert_eq!(rt;
         text.as_str(),
-        "Name           Stmts   Miss Branch BrPart  Cover   Missing\n\
-         ----------------------------------------------------------\n\
-         calc.py            6      2      2      1    62%   3, 7\n\
-         test_calc.py       6      0      2      1    88%   6->exit\n\
-         ----------------------------------------------------------\n\
-         TOTAL             12      2      4      2    75%\n"
+        "Name    Stmts   Miss Branch BrPart  Cover   Missing\n\
+         ---------------------------------------------------\n\
+         r.py        8      5      6      6    21%   1->10, 1->12, 1->2, 1->exit, 5-11, 14\n\
+         ---------------------------------------------------\n\
+         TOTAL       8      5      6      6    21%\n"
     );
     Ok(())
 }

@@ -1,14 +1,13 @@
 //! The text of the column `Missing`.
-ghost use Rattle.std.specs.Prelude.{◌≡◌, ◌∷◌, [], ℕ, map, string_bytes, IfOk, OnOk};
+ghost use Rattle.std.specs.Prelude.{◌≡◌, ◌∷◌, [], map, string_bytes, IfOk, OnOk};
 ghost use Rattle.std.specs.BTreeSet.{contains, insert_key};
 ghost use Rattle.std.specs.Ordering.{nat_cmp};
 ghost use Rattle.cov_analysis.specs.Analyses.{analysis_view};
-ghost use Rattle.cov_analysis.specs.Lines.{is_among};
 ghost use Rattle.cov_text.specs.Missing.{missing_text, item_cmp, with_items, runs, run_items, range_items, goes_on, is_listed, end_text, branch_item, branch_items, joined};
 ghost use Rattle.cov_text.specs.Stored.{items_of};
 
 use crate::NoMemory;
-use cov_analysis::Analysis;
+use cov_analysis::{Analysis, line_set};
 use std::alloc::Global;
 use std::collections::BTreeSet;
 
@@ -16,7 +15,7 @@ use std::collections::BTreeSet;
 pub(crate) fn missing_text(alloc: Global, file: &Analysis) -> Result<String, NoMemory>
     ensures { IfOk result (λ text. string_bytes text ≡ missing_text (analysis_view file.now)) }
 {
-    let missing = set_of(alloc, file.missing.as_slice())?;
+    let missing = line_set(alloc, file.missing.as_slice())?;
     let mut items = BTreeSet::new(alloc);
     add_ranges(alloc, &mut items, file.statements.as_slice(), &missing)?;
     add_branches(
@@ -26,13 +25,6 @@ pub(crate) fn missing_text(alloc: Global, file: &Analysis) -> Result<String, NoM
         &missing,
     )?;
     joined(alloc, &items)
-}
-
-fn set_of(alloc: Global, lines: &[u32]) -> Result<BTreeSet<u32>, NoMemory>
-    ensures { IfOk result (λ set.
-        (line : ℕ) → contains nat_cmp set line ≡ is_among lines.now line) }
-{
-    lines.iter().copied().collect(alloc)
 }
 
 /// Adds the missing lines, as ranges with no other statement in them.

@@ -4,7 +4,7 @@ use Rattle.std.specs.Ordering.{nat_cmp}
 use Rattle.std.proofs.lemmas.List.{take_all}
 use Rattle.cov_analysis.specs.Branches.{branch_cmp}
 use Rattle.cov_lcov.specs.Lcov.{leaves_covered}
-use Rattle.cov_lcov.proofs.Pieces.{any_more}
+use Rattle.cov_analysis.proofs.Keeping.{any_more}
 use Rattle.cov_lcov.proofs.branches.covered_lines.Goals as goal
 
 pub loop-branch-preserved : goal.loop-branch-preserved

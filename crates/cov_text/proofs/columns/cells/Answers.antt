@@ -1,6 +1,5 @@
-use Rattle.std.proofs.Common.{◌≡◌, ◌++◌, ◌≤◌, ℕ, List, IfOk, string_bytes, codes, decimal, subst, ap, ◌∙◌, arith}
+use Rattle.std.proofs.Common.{◌≡◌, ◌++◌, ℕ, List, IfOk, string_bytes, codes, decimal, subst, ap, ◌∙◌}
 use Rattle.std.specs.Fmt.{styled_decimal}
-use Rattle.cov_analysis.specs.Counts.{covered_of, all_of}
 use Rattle.cov_text.specs.Report.{right}
 use Rattle.cov_analysis.specs.Percentage.{percent}
 use Rattle.cov_text.proofs.Cells.{number_right, percent_right, cells_of_arcs, cells_of_lines}

@@ -1,4 +1,4 @@
-use Rattle.std.proofs.Common.{◌≡◌, ℕ, List, IfOk, length, string_bytes, codes, subst, ap, sym, ◌∙◌, rules}
+use Rattle.std.proofs.Common.{◌≡◌, ℕ, List, IfOk, length, string_bytes, codes, subst, ap, ◌∙◌, rules}
 use Rattle.std.specs.List.{repeat}
 use Rattle.cov_text.specs.Report.{rule}
 use Rattle.cov_text.proofs.Whole.{whole_is}

@@ -1,6 +1,5 @@
-use Rattle.std.proofs.Common.{◌≤◌, ◌≡◌, ap₂, ◌∙◌, subst, arith}
+use Rattle.std.proofs.Common.{◌≤◌, ap₂, ◌∙◌, arith}
 use Rattle.cov_analysis.specs.Counts.{covered_of, all_of}
-use Rattle.cov_analysis.specs.Percent.{IsPercent}
 use Rattle.cov_analysis.specs.Percentage.{percentage}
 use Rattle.cov_analysis.proofs.Percentages.{percentage_is}
 use Rattle.cov_analysis.proofs.numbers.Numbers.percent.Goals as goal

@@ -2,8 +2,8 @@ use Rattle.std.proofs.Common.{◌∙◌, ap, pos}
 use Rattle.std.specs.List.{list_any}
 use Rattle.std.proofs.lemmas.List.{take_all}
 use Rattle.cov_analysis.specs.Branches.{same_branch}
-use Rattle.cov_lcov.proofs.Pieces.{any_more}
-use Rattle.cov_lcov.proofs.branches.set_of.Goals as goal
+use Rattle.cov_analysis.proofs.Keeping.{any_more}
+use Rattle.cov_analysis.proofs.sets.branch_set.Goals as goal
 
 pub loop-branch-preserved : goal.loop-branch-preserved
 loop-branch-preserved c = λ branch.
