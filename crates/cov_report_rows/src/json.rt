@@ -1,9 +1,9 @@
 //! Rows of reports in JSON.
 
-use crate::sources::{FIRST_RUN, Form, LINES, Measured, PRAGMA, Wanted, json_of, wrong};
+use crate::sources::{EMPTY, FIRST_RUN, Form, LINES, Measured, PRAGMA, Wanted, json_of, wrong};
 use std::test::Fail;
 
-static ARCS: [Wanted; 2] = [
+static ARCS: [Wanted; 3] = [
     Wanted {
         title: "JSON of it",
         file: FIRST_RUN,
@@ -30,6 +30,20 @@ static ARCS: [Wanted; 2] = [
          \"totals\":{\"covered_branches\":0,\"covered_lines\":4,\"excluded_lines\":2,\
          \"missing_branches\":0,\"missing_lines\":0,\"num_branches\":0,\
          \"num_partial_branches\":0,\"num_statements\":4,\
+         \"percent_covered_display\":\"100\"}}",
+    },
+    Wanted {
+        title: "Empty file",
+        file: EMPTY,
+        report: "{\"files\":{\"e.py\":{\"excluded_lines\":[],\"executed_branches\":[],\
+         \"executed_lines\":[],\"missing_branches\":[],\"missing_lines\":[],\
+         \"summary\":{\"covered_branches\":0,\"covered_lines\":0,\"excluded_lines\":0,\
+         \"missing_branches\":0,\"missing_lines\":0,\"num_branches\":0,\
+         \"num_partial_branches\":0,\"num_statements\":0,\
+         \"percent_covered_display\":\"100\"}}},\"meta\":{\"branch_coverage\":true},\
+         \"totals\":{\"covered_branches\":0,\"covered_lines\":0,\"excluded_lines\":0,\
+         \"missing_branches\":0,\"missing_lines\":0,\"num_branches\":0,\
+         \"num_partial_branches\":0,\"num_statements\":0,\
          \"percent_covered_display\":\"100\"}}",
     },
 ];

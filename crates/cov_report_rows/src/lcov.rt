@@ -1,13 +1,13 @@
 //! Rows of reports in LCOV's format and of annotated sources.
 
 use crate::sources::{
-    EMPTY, FIRST_RUN, Form, ONE_LINE, ONE_LINE_LOOP, OTHER_ENDS, PRAGMA, TWO_RUNS, Wanted,
-    analysis_of, wrong,
+    EMPTY, FIRST_RUN, Form, Measured, ONE_LINE_LOOP, OTHER_ENDS, PRAGMA, TWO_RUNS, Wanted,
+    analysed, data_of, wrong,
 };
 use cov_lcov::annotate;
 use std::test::Fail;
 
-static RECORDS: [Wanted; 4] = [
+static RECORDS: [Wanted; 6] = [
     Wanted {
         title: "LCOV of it",
         file: FIRST_RUN,
@@ -32,6 +32,16 @@ static RECORDS: [Wanted; 4] = [
         file: PRAGMA,
         report: "SF:p.py\nDA:1,1\nDA:5,1\nDA:6,1\nDA:7,1\nLF:4\nLH:4\nBRF:0\nBRH:0\n\
          end_of_record\n",
+    },
+    Wanted {
+        title: "Empty file",
+        file: EMPTY,
+        report: "SF:e.py\nLF:0\nLH:0\nBRF:0\nBRH:0\nend_of_record\n",
+    },
+    Wanted {
+        title: "a path past ASCII",
+        file: Measured("d é/ä.py", "", &[]),
+        report: "SF:d é/ä.py\nLF:0\nLH:0\nBRF:0\nBRH:0\nend_of_record\n",
     },
 ];
 
@@ -79,7 +89,8 @@ fn one_line_of_a_megabyte(rt: HostRuntime) -> Result<(), Fail> {
     let letters = "a".repeat(alloc, 1_048_567)?;
     let source = format!(in alloc; "x = 1  # {letters}")?;
     let wanted = format!(in alloc; "> {source}\n")?;
-    let analysis = analysis_of(alloc, &ONE_LINE, true)?;
+    let data = data_of(alloc, "a.py", true, &[(-1, 1, 1), (1, -1, 1)])?;
+    let analysis = analysed(alloc, "a.py", source.as_str(), &data)?;
     let text = annotate(alloc, &analysis, source.as_str())?;
     drop(analysis);
     assert!(rt; text.as_str() == wanted.as_str(), "the line with its mark");

@@ -128,7 +128,19 @@ pub(crate) const TWO_RUNS: Measured = Measured(
     &[(-1, 1, 2), (1, 2, 2), (2, 2, 6), (2, -1, 2)],
 );
 
-pub(crate) const ONE_LINE: Measured = Measured("a.py", "x = 1", &[(-1, 1, 1), (1, -1, 1)]);
+/// A function that is never called, with an excluded line in it.
+pub(crate) const UNCALLED: Measured = Measured(
+    "r.py",
+    "def f():\n    a = 1\n    b = 2  # pragma: no cover\n    c = 3\nf = 0\n",
+    &[(-1, 1, 1), (1, 5, 1), (5, -1, 1)],
+);
+
+/// A function in the last line, where the run was cut.
+pub(crate) const TWO_EXITS: Measured = Measured(
+    "q.py",
+    "x = 1\ndef f(): return x\n",
+    &[(-1, 1, 1), (1, 2, 1)],
+);
 
 pub(crate) const EMPTY: Measured = Measured("e.py", "", &[(-1, -1, 1)]);
 
@@ -223,20 +235,26 @@ fn analyses_of(alloc: Global, files: &[Measured], arcs: bool) -> Result<Vec<Anal
 }
 
 /// The analysis of a file with the default patterns.
-pub(crate) fn analysis_of(alloc: Global, file: &Measured, arcs: bool) -> Result<Analysis, Fail>
+fn analysis_of(alloc: Global, file: &Measured, arcs: bool) -> Result<Analysis, Fail>
     ensures { IfOk result (λ analysis. IsReportable (analysis_view analysis)) }
 {
     let data = data_of(alloc, file.0, arcs, file.2)?;
-    analysed(alloc, file, &data)
+    analysed(alloc, file.0, file.1, &data)
 }
 
-fn analysed(alloc: Global, file: &Measured, data: &Data) -> Result<Analysis, Fail>
+/// The analysis of a source by data, with the default patterns.
+pub(crate) fn analysed(
+    alloc: Global,
+    path: &str,
+    source: &str,
+    data: &Data,
+) -> Result<Analysis, Fail>
     ensures { IfOk result (λ analysis. IsReportable (analysis_view analysis)) }
 {
-    let module = module_of(alloc, file.1)?;
+    let module = module_of(alloc, source)?;
     let exclude = patterns_of(alloc, &EXCLUDE)?;
     let partial = patterns_of(alloc, &PARTIAL)?;
-    let analysis = analyse(alloc, &module, file.1, &exclude, &partial, data, file.0)?;
+    let analysis = analyse(alloc, &module, source, &exclude, &partial, data, path)?;
     Ok(analysis)
 }
 
@@ -290,7 +308,12 @@ fn owned(alloc: Global, texts: &[&str]) -> Result<Vec<String>, Fail> {
 }
 
 /// Data of one path.
-fn data_of(alloc: Global, path: &str, arcs: bool, rows: &[(i32, i32, u32)]) -> Result<Data, Fail> {
+pub(crate) fn data_of(
+    alloc: Global,
+    path: &str,
+    arcs: bool,
+    rows: &[(i32, i32, u32)],
+) -> Result<Data, Fail> {
     let mut data = Data::new(alloc, arcs);
     for (from, to, count) in rows {
         let path = String::from_str(alloc, path)?;

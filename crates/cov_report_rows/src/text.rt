@@ -3,8 +3,8 @@ ghost use Rattle.std.specs.Prelude.{IfOk};
 ghost use Rattle.cov_analysis.specs.Counts.{IsCounted, numbers_of};
 
 use crate::sources::{
-    CALC, EMPTY, FIRST_RUN, Form, HANDLERS, LINES, Measured, PRAGMA, TEST_CALC, Wanted, text_of,
-    wrong,
+    CALC, EMPTY, FIRST_RUN, Form, HANDLERS, LINES, Measured, PRAGMA, TEST_CALC, TWO_EXITS,
+    UNCALLED, Wanted, text_of, wrong,
 };
 use cov_analysis::{Analysis, Numbers};
 use cov_text::{NoMemory, text_report};
@@ -12,7 +12,7 @@ use std::alloc::Global;
 use std::test::Fail;
 
 /// Of arcs, with what is missing.
-static ARCS: [Wanted; 4] = [
+static ARCS: [Wanted; 6] = [
     Wanted {
         title: "Report of it",
         file: FIRST_RUN,
@@ -48,6 +48,24 @@ static ARCS: [Wanted; 4] = [
          p.py        4      0      0      0   100%\n\
          ---------------------------------------------------\n\
          TOTAL       4      0      0      0   100%\n",
+    },
+    Wanted {
+        title: "a range over an excluded line",
+        file: UNCALLED,
+        report: "Name    Stmts   Miss Branch BrPart  Cover   Missing\n\
+         ---------------------------------------------------\n\
+         r.py        4      2      0      0    50%   2-4\n\
+         ---------------------------------------------------\n\
+         TOTAL       4      2      0      0    50%\n",
+    },
+    Wanted {
+        title: "two exits of one line",
+        file: TWO_EXITS,
+        report: "Name    Stmts   Miss Branch BrPart  Cover   Missing\n\
+         ---------------------------------------------------\n\
+         q.py        2      0      2      2    50%   2->exit, 2->exit\n\
+         ---------------------------------------------------\n\
+         TOTAL       2      0      2      2    50%\n",
     },
 ];
 
@@ -139,6 +157,29 @@ fn ordinary_use(rt: HostRuntime) -> Result<(), Fail> {
          test_calc.py       6      0      2      1    88%   6->exit\n\
          ----------------------------------------------------------\n\
          TOTAL             12      2      4      2    75%\n"
+    );
+    Ok(())
+}
+
+/// Three files, in the byte order of their paths.
+#[test]
+fn files_in_order(rt: HostRuntime) -> Result<(), Fail> {
+    const ROWS: &[(i32, i32, u32)] = &[(-1, 1, 1), (1, -1, 1)];
+    let files = [
+        Measured("a.py", "x = 1", ROWS),
+        Measured("a10.py", "x = 1", ROWS),
+        Measured("a2.py", "x = 1", ROWS),
+    ];
+    let text = text_of(rt.alloc(), &files, true, true)?;
+    assert_eq!(rt;
+        text.as_str(),
+        "Name     Stmts   Miss Branch BrPart  Cover   Missing\n\
+         ----------------------------------------------------\n\
+         a.py         1      0      0      0   100%\n\
+         a10.py       1      0      0      0   100%\n\
+         a2.py        1      0      0      0   100%\n\
+         ----------------------------------------------------\n\
+         TOTAL        3      0      0      0   100%\n"
     );
     Ok(())
 }

@@ -1,11 +1,11 @@
 -- What stands in the column `Missing`. (coverage.py documentation, "Reporting": `report -m`)
---     Item, item_cmp, in_order      a first line and its text; by line, then by the bytes of the text
+--     Item, item_cmp, in_order      a first line, its text and its end; by line, then by the bytes of the text
 --     runs, range_items             missing lines without other statements between them, as `5-11`
 --     is_listed, branch_items       branches whose ends aren't missing, as `2->9` or `2->exit`
 --     missing_text                  the items in order, with `, ` between them
 use Rattle.std.specs.Prelude.{ℕ, ℤ, pos, negsuc, Bool, true, not, ◌&&◌, List, [], ◌∷◌, ◌++◌, map, filter, length, fold, flat_map, codes, decimal, slice_index_or}
 use Rattle.std.specs.declared.cmp.Ordering.{Ordering}
-use Rattle.std.specs.Ordering.{nat_cmp, ordering_then}
+use Rattle.std.specs.Ordering.{nat_cmp, int_cmp, ordering_then}
 use Rattle.std.specs.Cmp.Lexicographic.{slice_cmp}
 use Rattle.std.specs.List.{slice_split, join_by}
 use Rattle.std.specs.BTreeSet.{insert_key}
@@ -13,12 +13,13 @@ use Rattle.cov_analysis.specs.Analyses.{AnalysisView}
 use Rattle.cov_analysis.specs.Branches.{Branch}
 use Rattle.cov_analysis.specs.Lines.{is_among}
 
--- a first line and a text
+-- a first line, a text, and where a branch goes, which tells two exits of one line apart
 abbrev pub Item : Type 0
-Item = ℕ × List ℕ
+Item = ℕ × List ℕ × ℤ
 
 abbrev pub item_cmp : Item → Item → Ordering
-item_cmp a b = ordering_then (nat_cmp a.0 b.0) (slice_cmp nat_cmp a.1 b.1)
+item_cmp a b =
+    ordering_then (ordering_then (nat_cmp a.0 b.0) (slice_cmp nat_cmp a.1 b.1)) (int_cmp a.2 b.2)
 
 -- further items, each once and at its place in the order
 abbrev pub with_items : List Item → List Item → List Item
@@ -34,10 +35,10 @@ runs is_missing statements = slice_split (λ line. not (is_missing line)) statem
 -- a run as its first and its last line, or as the only one
 abbrev pub run_items : List ℕ → List Item
 run_items [] = []
-run_items (line ∷ []) = (line, decimal line) ∷ []
+run_items (line ∷ []) = (line, decimal line, pos 0) ∷ []
 run_items (first ∷ second ∷ rest) =
     let last = slice_index_or (second ∷ rest) (length rest) first in
-    (first, decimal first ++ (codes "-" ++ decimal last)) ∷ []
+    (first, decimal first ++ (codes "-" ++ decimal last), pos 0) ∷ []
 
 -- the missing statements as ranges
 abbrev pub range_items : (ℕ → Bool) → List ℕ → List Item
@@ -58,7 +59,7 @@ end_text (pos line) = decimal line
 end_text (negsuc n) = codes "exit"
 
 abbrev pub branch_item : Branch → Item
-branch_item branch = (branch.0, decimal branch.0 ++ (codes "->" ++ end_text branch.1))
+branch_item branch = (branch.0, decimal branch.0 ++ (codes "->" ++ end_text branch.1), branch.1)
 
 abbrev pub branch_items : (ℕ → Bool) → List Branch → List Item
 branch_items is_missing branches = map branch_item (filter (is_listed is_missing) branches)

@@ -30,7 +30,7 @@ pub(crate) fn missing_text(alloc: Global, file: &Analysis) -> Result<String, NoM
 /// Adds the missing lines, as ranges with no other statement in them.
 fn add_ranges(
     alloc: Global,
-    items: &mut BTreeSet<(u32, String)>,
+    items: &mut BTreeSet<(u32, String, i32)>,
     statements: &[u32],
     missing: &BTreeSet<u32>,
 ) -> Result<(), NoMemory>
@@ -60,7 +60,7 @@ fn runs<'s>(
 
 fn add_range(
     alloc: Global,
-    items: &mut BTreeSet<(u32, String)>,
+    items: &mut BTreeSet<(u32, String, i32)>,
     run: &[u32],
 ) -> Result<(), NoMemory>
     ensures { OnOk result (items_of items.new.keys
@@ -68,15 +68,15 @@ fn add_range(
 {
     match run {
         [] => Ok(()),
-        [line] => add(items, *line, format!(in alloc; "{line}")?),
-        [first, .., last] => add(items, *first, format!(in alloc; "{first}-{last}")?),
+        [line] => add(items, *line, format!(in alloc; "{line}")?, 0),
+        [first, .., last] => add(items, *first, format!(in alloc; "{first}-{last}")?, 0),
     }
 }
 
 /// Adds the missing branches between lines that aren't missing.
 fn add_branches(
     alloc: Global,
-    items: &mut BTreeSet<(u32, String)>,
+    items: &mut BTreeSet<(u32, String, i32)>,
     branches: &[(u32, i32)],
     missing: &BTreeSet<u32>,
 ) -> Result<(), NoMemory>
@@ -92,7 +92,7 @@ fn add_branches(
 
 fn add_branch(
     alloc: Global,
-    items: &mut BTreeSet<(u32, String)>,
+    items: &mut BTreeSet<(u32, String, i32)>,
     branch: (u32, i32),
     missing: &BTreeSet<u32>,
 ) -> Result<(), NoMemory>
@@ -104,8 +104,8 @@ fn add_branch(
     if missing.contains(&line) || !goes_on(missing, end) {
         return Ok(());
     }
-    let end = end_text(alloc, end)?;
-    add(items, line, format!(in alloc; "{line}->{end}")?)
+    let text = end_text(alloc, end)?;
+    add(items, line, format!(in alloc; "{line}->{text}")?, end)
 }
 
 fn goes_on(missing: &BTreeSet<u32>, end: i32) -> bool
@@ -126,20 +126,25 @@ fn end_text(alloc: Global, end: i32) -> Result<String, NoMemory>
     format!(in alloc; "{end}")
 }
 
-fn add(items: &mut BTreeSet<(u32, String)>, line: u32, text: String) -> Result<(), NoMemory>
+fn add(
+    items: &mut BTreeSet<(u32, String, i32)>,
+    line: u32,
+    text: String,
+    end: i32,
+) -> Result<(), NoMemory>
     ensures { OnOk result (items_of items.new.keys
-        ≡ insert_key item_cmp (items_of items.old.keys) (line, string_bytes text)) }
+        ≡ insert_key item_cmp (items_of items.old.keys) (line, string_bytes text, end)) }
 {
-    items.insert((line, text))?;
+    items.insert((line, text, end))?;
     Ok(())
 }
 
 /// The texts, with `, ` between them.
-fn joined(alloc: Global, items: &BTreeSet<(u32, String)>) -> Result<String, NoMemory>
+fn joined(alloc: Global, items: &BTreeSet<(u32, String, i32)>) -> Result<String, NoMemory>
     ensures { IfOk result (λ text. string_bytes text ≡ joined (items_of items.now.keys)) }
 {
     let mut texts = Vec::new(alloc);
-    for (_line, text) in items {
+    for (_line, text, _end) in items {
         texts.push(text.as_str())?;
     }
     texts.join(alloc, ", ")
