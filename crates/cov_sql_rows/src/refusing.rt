@@ -175,7 +175,12 @@ fn assert_refused(
     assert_eq!(rt; run(base, row.base), Ok(()), "{}", row.title);
     assert_held(rt, alloc, base, row)?;
     let before = objects(base);
-    assert_eq!(rt; save(alloc, base, content, row.fresh), Err(row.error), "{}", row.title);
+    assert_eq!(rt;
+        save(alloc, base, content, row.fresh),
+        Err(row.error),
+        "{}",
+        row.title
+    );
     assert_held(rt, alloc, base, row)?;
     assert_eq!(rt; objects(base), before, "{}", row.title);
     Ok(())
@@ -213,7 +218,10 @@ fn assert_limited(
     } else {
         "arcs;a.py . 1 2 1;"
     };
-    assert!(rt; answer.is_ok() || answer == Err(SqlError::Refused), "{limit}");
+    assert!(rt;
+        answer.is_ok() || answer == Err(SqlError::Refused),
+        "{limit}"
+    );
     assert_eq!(rt; found.as_str(), wanted, "{limit}");
     Ok(answer.is_ok())
 }
