@@ -1,5 +1,8 @@
+//! The rows of each table, as its statement reads them.
+
+use crate::bases::run;
 use cov_sql::{Cell, Counted, StatementError, Statements};
-use sqlite::{Connection, Error, MemStore};
+use sqlite::{Connection, MemStore};
 use std::alloc::{AllocError, Global};
 use std::process::Abort;
 use std::test::Fail;
@@ -31,12 +34,6 @@ INSERT INTO arc VALUES (1, 1, -1, 2);
 INSERT INTO arc VALUES (2, 1, 1.5, 'x');
 INSERT INTO tracer VALUES (1, 'none');
 INSERT INTO hits VALUES (1, 1, -1, 2, 4294967295)";
-
-pub(crate) fn made(alloc: Global, sql: &str) -> Result<Connection<MemStore>, Error> {
-    let mut base = Connection::open_in_memory(alloc)?;
-    base.execute_batch(sql)?;
-    Ok(base)
-}
 
 fn read(
     by: &mut Counted,
@@ -79,7 +76,7 @@ fn rows_text(alloc: Global, rows: &[Vec<Cell>]) -> Result<String, AllocError> {
     Ok(text)
 }
 
-pub(crate) fn assert_table(
+fn assert_table(
     rt: &impl Abort,
     alloc: Global,
     base: &mut Connection<MemStore>,
@@ -99,56 +96,84 @@ pub(crate) fn assert_table(
     Ok(())
 }
 
+/// The base has these rows, each table's as a text.
+pub(crate) fn assert_tables(
+    rt: &impl Abort,
+    alloc: Global,
+    base: &mut Connection<MemStore>,
+    title: &str,
+    tables: &[(&str, &str)],
+) -> Result<(), AllocError> {
+    for (table, expected) in tables {
+        assert_table(rt, alloc, base, title, (*table, Ok(*expected)))?;
+    }
+    Ok(())
+}
+
+static OF_FILE: [(&str, &str); 8] = [
+    ("coverage_schema", "7 |"),
+    ("meta", "'has_arcs' '1' |'version' ? |"),
+    ("file", "1 'a.py' |2 [233] |"),
+    ("context", "1 'é' |"),
+    ("line_bits", "1 1 [2, 3] |"),
+    ("arc", "1 1 -1 2 |2 1 ? 'x' |"),
+    ("tracer", "1 'none' |"),
+    ("hits", "1 1 -1 2 4294967295 |"),
+];
+
 #[test]
 fn each_table_is_read(rt: HostRuntime) -> Result<(), Fail> {
     let alloc = rt.alloc();
-    let mut base = made(alloc, FILE)?;
-    for (table, expected) in [
-        ("coverage_schema", "7 |"),
-        ("meta", "'has_arcs' '1' |'version' ? |"),
-        ("file", "1 'a.py' |2 [233] |"),
-        ("context", "1 'é' |"),
-        ("line_bits", "1 1 [2, 3] |"),
-        ("arc", "1 1 -1 2 |2 1 ? 'x' |"),
-        ("tracer", "1 'none' |"),
-        ("hits", "1 1 -1 2 4294967295 |"),
-    ] {
-        assert_table(&rt, alloc, &mut base, "Each kind", (table, Ok(expected)))?;
-    }
-    Ok(())
+    let mut base = Connection::open_in_memory(alloc)?;
+    assert_eq!(rt; run(&mut base, &[FILE]), Ok(()));
+    let done = assert_tables(&rt, alloc, &mut base, "Each kind", &OF_FILE);
+    drop(base);
+    Ok(done?)
+}
+
+/// A title, a text that makes a base, a table, and what is read of it.
+static TOLD: [(&str, &str, &str, Result<&str, StatementError>); 4] = [
+    (
+        "No table",
+        "CREATE TABLE meta (key text)",
+        "arc",
+        Err(StatementError::Missing),
+    ),
+    (
+        "Missing column",
+        "CREATE TABLE arc (file_id integer, context_id integer, fromno integer)",
+        "arc",
+        Err(StatementError::Missing),
+    ),
+    (
+        "Other case and order",
+        "CREATE TABLE FILE (Path text, ID integer primary key); INSERT INTO file VALUES ('p', 3)",
+        "file",
+        Ok("3 'p' |"),
+    ),
+    (
+        "A view in place of a table",
+        "CREATE VIEW context AS SELECT 1 AS id, 'v' AS context",
+        "context",
+        Ok("1 'v' |"),
+    ),
+];
+
+fn assert_read(
+    rt: &impl Abort,
+    alloc: Global,
+    (title, text, table, expected): (&str, &str, &str, Result<&str, StatementError>),
+) -> Result<(), AllocError> {
+    let mut base = Connection::open_in_memory(alloc)?;
+    assert_eq!(rt; run(&mut base, &[text]), Ok(()), "{title}");
+    assert_table(rt, alloc, &mut base, title, (table, expected))
 }
 
 #[test]
 fn what_is_missing_is_told(rt: HostRuntime) -> Result<(), Fail> {
     let alloc = rt.alloc();
-    for (title, sql, table, expected) in [
-        (
-            "No table",
-            "CREATE TABLE meta (key text)",
-            "arc",
-            Err(StatementError::Missing),
-        ),
-        (
-            "Missing column",
-            "CREATE TABLE arc (file_id integer, context_id integer, fromno integer)",
-            "arc",
-            Err(StatementError::Missing),
-        ),
-        (
-            "Other case and order",
-            "CREATE TABLE FILE (Path text, ID integer primary key); INSERT INTO file VALUES ('p', 3)",
-            "file",
-            Ok("3 'p' |"),
-        ),
-        (
-            "A view in place of a table",
-            "CREATE VIEW context AS SELECT 1 AS id, 'v' AS context",
-            "context",
-            Ok("1 'v' |"),
-        ),
-    ] {
-        let mut base = made(alloc, sql)?;
-        assert_table(&rt, alloc, &mut base, title, (table, expected))?;
+    for row in &TOLD {
+        assert_read(&rt, alloc, *row)?;
     }
     Ok(())
 }
