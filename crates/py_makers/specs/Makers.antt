@@ -29,5 +29,5 @@ AreOnOwnLines (m ∷ ms) = HaveOwnLines (functions m.body) × AreOnOwnLines ms
 -- unit has defaults, and no jump and no handler leads there.
 abbrev pub CodeMakes : Type 0
 CodeMakes =
-    (cs : List Module) (ms : List LoadedModule) → AreFaithful cs ms → AreWellFormed ms → AreOnOwnLines ms
-    → AreMakers cs
+    (cs : List Module) (ms : List LoadedModule) → AreFaithful cs ms → AreWellFormed ms
+    → AreOnOwnLines ms → AreMakers cs
