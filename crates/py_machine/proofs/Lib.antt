@@ -12,3 +12,4 @@ mod Stops
 mod StopsRuns
 mod StopsCalls
 mod TracerCalls
+mod Fitted

@@ -4,3 +4,4 @@ pub mod Ends
 pub mod Reaching
 pub mod Told
 pub mod Runs
+pub mod Fitting

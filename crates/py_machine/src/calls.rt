@@ -9,6 +9,7 @@ ghost use Rattle.py_code.specs.Loaded.{modules_of};
 ghost use Rattle.py_code.specs.Machine.{outer_call, follows};
 ghost use Rattle.py_code.specs.Slots.{by_slots};
 ghost use Rattle.py_code.specs.Valid.{AreCodes};
+ghost use Rattle.py_machine.specs.Fitting.{CallFits};
 ghost use Rattle.py_machine.specs.Reaching.{plain_reach, BeginsUnit};
 ghost use Rattle.py_machine.specs.Runs.{IsCall, StopsCall, request};
 ghost use Rattle.py_machine.specs.Told.{Heard, Ran as Ends, TakesSome, CallsSome, HeardSome, Stopped};
@@ -48,6 +49,8 @@ pub fn call<T: Tracer, I: Source, O: Sink>(
         (Wrote O.tells (O.contents out.old) (O.contents out.new)) (modules_of programs.now)
         (world_of store.old) (request «module» (chars function.now) (plains args.now)) budget
         answer (world_of store.new))) }
+    ensures fits { IfOk result (λ answer. CallFits (modules_of programs.now) (world_of store.old)
+        (plains args.now) answer.called (world_of store.new)) }
     ensures given_up { OnErr result (HeardSome I.tells (I.left input.old) (I.left input.new)
         (StopsCall (λ es. TakesSome T.moves T.recorded tracer.old es tracer.new) O.tells
         (O.contents out.old) (O.contents out.new) (modules_of programs.now)

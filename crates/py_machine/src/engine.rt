@@ -4,6 +4,7 @@ ghost use Rattle.cov_event.specs.Moves.{Takes};
 ghost use Rattle.cov_outside.specs.Counts.{Rose};
 ghost use Rattle.py_builtins.specs.Inputs.{Wrote};
 ghost use Rattle.py_code.specs.Loaded.{modules_of};
+ghost use Rattle.py_machine.specs.Fitting.{RunFits};
 ghost use Rattle.py_machine.specs.Runs.{IsRun, StopsRun};
 ghost use Rattle.py_machine.specs.Told.{Heard, TakesSome, CallsSome, HeardSome};
 ghost use Rattle.py_store.specs.Stores.{world_of};
@@ -39,6 +40,9 @@ pub trait Engine {
             (IsRun (λ es. Takes T.moves tracer.old es tracer.new)
             (Wrote O.tells (O.contents out.old) (O.contents out.new)) (modules_of programs.now)
             (world_of store.old) budget ran (world_of store.new))) }
+        ensures fits { faithful
+            → IfOk result (λ ran. RunFits (modules_of programs.now) (world_of store.old)
+            (world_of store.new)) }
         ensures given_up { faithful
             → OnErr result (HeardSome I.tells (I.left input.old) (I.left input.new)
             (StopsRun (λ es. TakesSome T.moves T.recorded tracer.old es tracer.new) O.tells

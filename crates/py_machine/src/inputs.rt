@@ -1,5 +1,5 @@
 // Built-in functions on an input that is read up to its end, and never after it.
-ghost use Rattle.std.specs.Prelude.{◌≡◌, ◌≤◌, [], IfOk, OnErr, IsErrOf};
+ghost use Rattle.std.specs.Prelude.{◌≡◌, ◌≤◌, true, [], IfOk, OnErr, IsErrOf};
 ghost use Rattle.cov_outside.specs.Counts.{Rose};
 ghost use Rattle.cov_outside.specs.Prefixes.{GainsPrefix, LosesPrefix};
 ghost use Rattle.py_value.specs.HeapView.{plain_heap};
@@ -54,6 +54,7 @@ pub fn call_to_end<I: Source, O: Sink>(
         (λ all rest. Gives (builtin_of which (plains args.now) (plain_heap heap.old) all)
         (plain_outcome answer (plain_heap heap.new))
         (Wrote O.tells (O.contents out.old) (O.contents out.new)) rest)) }
+    ensures unread { at_end.old ≡ true → input.new ≡ input.old }
     ensures raised { RaiseKeeps result heap.old heap.new }
     ensures gained { O.tells
         → OnErr result (GainsPrefix (O.contents out.old) (O.contents out.new)

@@ -1,5 +1,5 @@
 // What is left of an instruction: events, output and input.
-ghost use Rattle.std.specs.Prelude.{◌≡◌, ◌≤◌, length, IfOk, OnErr, IsErrOf};
+ghost use Rattle.std.specs.Prelude.{◌≡◌, ◌≤◌, true, length, IfOk, OnErr, IsErrOf};
 ghost use Rattle.cov_event.specs.Moves.{Takes};
 ghost use Rattle.cov_outside.specs.Counts.{Rose};
 ghost use Rattle.py_builtins.specs.Inputs.{Wrote};
@@ -46,6 +46,7 @@ fn ask<T: Tracer, I: Source, O: Sink>(
         at_end.old (Broken (λ es. TakesSome T.moves T.recorded tracer.old es tracer.new) O.tells
         (O.contents out.old) (O.contents out.new) store.old
         (λ o. turned (modules_of programs.now) (Asks which values) (seen m.old store.old o)))) }
+    ensures unread { at_end.old ≡ true → input.new ≡ input.old }
     ensures calls { CallsSome T.moves T.recorded tracer.old tracer.new }
     ensures reads { I.faults input.old ≤ I.faults input.new }
     ensures writes { O.faults out.old ≤ O.faults out.new }
@@ -94,6 +95,7 @@ fn perform<T: Tracer, I: Source, O: Sink>(
         at_end.old (Broken (λ es. TakesSome T.moves T.recorded tracer.old es tracer.new) O.tells
         (O.contents out.old) (O.contents out.new) store.old
         (λ o. turned (modules_of programs.now) turn (seen m.old store.old o)))) }
+    ensures unread { at_end.old ≡ true → input.new ≡ input.old }
     ensures calls { CallsSome T.moves T.recorded tracer.old tracer.new }
     ensures reads { I.faults input.old ≤ I.faults input.new }
     ensures writes { O.faults out.old ≤ O.faults out.new }
@@ -146,6 +148,7 @@ pub fn step<T: Tracer, I: Source, O: Sink>(
         (O.contents out.old) (O.contents out.new) store.old
         (λ o. move (by_slots (modules_of programs.now)) (modules_of programs.now)
         (seen m.old store.old o)))) }
+    ensures unread { at_end.old ≡ true → input.new ≡ input.old }
     ensures calls { CallsSome T.moves T.recorded tracer.old tracer.new }
     ensures reads { I.faults input.old ≤ I.faults input.new }
     ensures writes { O.faults out.old ≤ O.faults out.new }

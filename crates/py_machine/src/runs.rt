@@ -9,6 +9,7 @@ ghost use Rattle.py_code.specs.Machine.{machine, new_frame, outermost, follows};
 ghost use Rattle.py_code.specs.Run.{go};
 ghost use Rattle.py_code.specs.Slots.{by_slots};
 ghost use Rattle.py_code.specs.Valid.{AreCodes};
+ghost use Rattle.py_machine.specs.Fitting.{RunFits};
 ghost use Rattle.py_machine.specs.Runs.{IsRun, StopsRun};
 ghost use Rattle.py_machine.specs.Told.{Heard, Ran as Ends, AtStart, TakesSome, CallsSome, HeardSome, Stopped};
 ghost use Rattle.py_machine.specs.Reaching.{HasUnit};
@@ -43,6 +44,8 @@ pub fn run<T: Tracer, I: Source, O: Sink>(
         (IsRun (λ es. Takes T.moves tracer.old es tracer.new)
         (Wrote O.tells (O.contents out.old) (O.contents out.new)) (modules_of programs.now)
         (world_of store.old) budget ran (world_of store.new))) }
+    ensures fits { IfOk result (λ ran. RunFits (modules_of programs.now) (world_of store.old)
+        (world_of store.new)) }
     ensures given_up { OnErr result (HeardSome I.tells (I.left input.old) (I.left input.new)
         (StopsRun (λ es. TakesSome T.moves T.recorded tracer.old es tracer.new) O.tells
         (O.contents out.old) (O.contents out.new) (modules_of programs.now)

@@ -10,7 +10,9 @@ use Rattle.py_code.specs.Slots.{by_slots}
 use Rattle.py_instructions.specs.View.{effects_of}
 use Rattle.py_machine.specs.Runs.{request}
 use Rattle.py_machine.specs.Told.{TakesSome}
+use Rattle.py_store.specs.Stores.{world_of}
 use Rattle.py_machine.proofs.AtOnce.{ran_as, reach_is}
+use Rattle.py_machine.proofs.Fitted.{call_fits}
 use Rattle.py_machine.proofs.TracerCalls.{calls_none}
 use Rattle.py_machine.proofs.StopsCalls.{call_stops, calling_first}
 use Rattle.py_machine.proofs.StopsRuns.{stops_as, stops_after_events, stops_first}
@@ -22,6 +24,11 @@ returns-clause-ok g c =
     is_call g.I.Source.tells (g.I.Source.left c.args.input.now) (g.I.Source.left c.finish.new.input) (λ es. Takes g.T.Tracer.moves c.args.tracer.now es c.finish.new.tracer) (Wrote g.O.Sink.tells (g.O.Sink.contents c.args.out.now) (g.O.Sink.contents c.finish.new.out)) (modules_of c.args.programs.now) c.args.store.now c.finish.new.store (request c.args.«module» (chars c.args.function.now) (plains c.args.args.now)) c.args.budget c.in_ok-ended.ended.steps c.saturating_sub-steps.result c.in_ok-ended.ended.ending c.in_ok-called.called
     (ran_as g.I.Source.tells (g.I.Source.left c.args.input.now) (g.I.Source.left c.finish.new.input) _ _ _ _ c.in_ok-ended.ended.ending c.in_ok-ended.ended.steps c.finish.new.store (λ o. ap (λ x. follows (by_slots (modules_of c.args.programs.now)) (modules_of c.args.programs.now) (outer_call (by_slots (modules_of c.args.programs.now)) (modules_of c.args.programs.now) x c.args.budget (effects_of c.args.store.now o))) (reach_is (modules_of c.args.programs.now) c.args.store.now c.args.«module» c.in_ok-name.name (chars c.args.function.now) (plains c.in_ok-values.values.items) (plains c.args.args.now) c.in_ok-reach.reach c.in_ok-name.ensures c.in_ok-values.ensures c.in_ok-reach.ensures.leads o)) c.in_ok-ended.ensures.ok)
     c.in_ok-called.ensures c.saturating_sub-steps.ensures
+
+pub returns-clause-fits : goal.returns-clause-fits
+returns-clause-fits g c =
+    call_fits (modules_of c.args.programs.now) c.are_valid.ensures g.I.Source.tells (g.I.Source.left c.args.input.now) (g.I.Source.left c.finish.new.input) (λ es. Takes g.T.Tracer.moves c.args.tracer.now es c.finish.new.tracer) (Wrote g.O.Sink.tells (g.O.Sink.contents c.args.out.now) (g.O.Sink.contents c.finish.new.out)) (world_of c.args.store.now) (world_of c.finish.new.store) c.args.budget
+    (request c.args.«module» (chars c.args.function.now) (plains c.args.args.now)) (record { called = c.in_ok-called.called; steps = c.saturating_sub-steps.result }) (returns-clause-ok g c)
 
 pub returns-in_err-name-clause-given_up : goal.returns-in_err-name-clause-given_up
 returns-in_err-name-clause-given_up g c =

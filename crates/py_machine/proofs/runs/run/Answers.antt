@@ -10,7 +10,9 @@ use Rattle.py_code.specs.Programs.{script}
 use Rattle.py_code.specs.Slots.{by_slots}
 use Rattle.py_instructions.specs.View.{effects_of}
 use Rattle.py_machine.specs.Told.{TakesSome}
+use Rattle.py_store.specs.Stores.{world_of}
 use Rattle.py_machine.proofs.AtOnce.{ran_as}
+use Rattle.py_machine.proofs.Fitted.{run_fits}
 use Rattle.py_machine.proofs.StopsCalls.{run_stops}
 use Rattle.py_machine.proofs.StopsRuns.{stops_as, stops_after_events}
 use Rattle.py_machine.proofs.Whole.{is_run, ran_over, script_unit}
@@ -26,6 +28,11 @@ returns-clause-ok g c =
     (λ o. ap (λ (vs : List PlainValue). follows (by_slots (modules_of c.args.programs.now)) (modules_of c.args.programs.now) (outermost (by_slots (modules_of c.args.programs.now)) (modules_of c.args.programs.now) script vs c.args.budget (effects_of c.args.store.now o))) (sym (ap plains c.new.ensures.items)))
     c.in_ok-ended.ensures.ok)
     c.in_ok-outcome.ensures c.saturating_sub-steps.ensures
+
+pub returns-clause-fits : goal.returns-clause-fits
+returns-clause-fits g c =
+    run_fits (modules_of c.args.programs.now) c.are_valid.ensures g.I.Source.tells (g.I.Source.left c.args.input.now) (g.I.Source.left c.begin.new.input) (λ es. Takes g.T.Tracer.moves c.args.tracer.now es c.begin.new.tracer) (Wrote g.O.Sink.tells (g.O.Sink.contents c.args.out.now) (g.O.Sink.contents c.begin.new.out)) (world_of c.args.store.now) (world_of c.begin.new.store) c.args.budget
+    (record { outcome = c.in_ok-outcome.outcome; steps = c.saturating_sub-steps.result }) (returns-clause-ok g c)
 
 pub returns-in_err-ended-clause-given_up : goal.returns-in_err-ended-clause-given_up
 returns-in_err-ended-clause-given_up g c =

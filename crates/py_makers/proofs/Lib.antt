@@ -1,0 +1,16 @@
+pub mod Places
+pub mod Leaves
+pub mod Lengths
+pub mod Parts
+pub mod Suites
+pub mod Forms
+pub mod Simple
+pub mod Branches
+pub mod Tries
+pub mod Matches
+pub mod Defaults
+pub mod AllStatements
+pub mod Nested
+pub mod Bodies
+pub mod Law
+pub mod Rows
