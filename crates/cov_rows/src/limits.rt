@@ -153,6 +153,9 @@ fn bytes_have_a_limit(rt: HostRuntime) -> Result<(), Fail> {
     assert_eq!(&rt; found.status, 0);
     let found = many_bytes(alloc, 1)?;
     assert_eq!(&rt; found.status, 1);
-    assert_eq!(&rt; found.err.as_str(), "coverage: limit TotalBytes passed: 16777217\n");
+    assert_eq!(&rt;
+        found.err.as_str(),
+        "coverage: limit TotalBytes passed: 16777217\n"
+    );
     Ok(())
 }
