@@ -33,4 +33,6 @@ pub mod Version
 pub mod Committing
 pub mod Contexts
 pub mod Denying
+pub mod Never
+pub mod Lacking
 pub mod Judging

@@ -182,7 +182,11 @@ impl Vault for FolderVault {
             return Err(VaultError::Absent);
         }
         match fs::remove_file(&self.rt, path.as_path()) {
-            Ok(()) => self.take_companions(alloc, &path),
+            Ok(()) => {
+                // The name is gone. What stays beside it counts, and the next save of this name takes it.
+                let _ = self.take_companions(alloc, &path);
+                Ok(())
+            }
             Err(error) => Err(self.failure(is_no_memory(&error))),
         }
     }

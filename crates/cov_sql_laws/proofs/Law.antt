@@ -1,5 +1,5 @@
 -- Data that are saved are read again.
-use Rattle.std.proofs.Common.{◌≡◌, Bool, true, false, refl, ap, sym, ◌∙◌}
+use Rattle.std.proofs.Common.{◌≡◌, inl, Bool, true, false, refl, ap, sym, ◌∙◌}
 use Rattle.sqlite_trees.specs.declared.store.Store.{Ghosts}
 use Rattle.sqlite.specs.Effect.{Database}
 use Rattle.sqlite.specs.Held.{state}
@@ -11,7 +11,7 @@ use Rattle.cov_sql.specs.Content.{content_in}
 use Rattle.cov_sql.specs.Holding.{Holds}
 use Rattle.cov_sql.specs.SavedData.{contexts_in, IsSavedOf, saved_rows}
 use Rattle.cov_sql.proofs.Judging.{seven}
-use Rattle.cov_sql_laws.specs.Laws.{ArcsAreRead, LinesAreRead, SavedIsSchema7, SavesAreRead}
+use Rattle.cov_sql_laws.specs.Laws.{ArcsAreRead, LinesAreRead, SavedIsSchema7, SavedIsReady, SavesAreRead}
 use Rattle.cov_sql_laws.proofs.Places.{kept}
 use Rattle.cov_sql_laws.proofs.Arcs.{arcs_content}
 use Rattle.cov_sql_laws.proofs.Lines.{lines_content}
@@ -38,6 +38,11 @@ saved_is_schema_7 d db (s, same, h) none =
     let ps = paths_of d in
     let cs = contexts_in (rows_of d) in
     seven (kept d.arcs ps cs s.rows.items s.bits.items) refl (sym (held_so d db s d.arcs same refl h) ∙ none)
+
+-- ---- and again
+
+pub saved_is_ready : SavedIsReady
+saved_is_ready d db (s, same, h) = (inl h.base, h.base.unhidden)
 
 -- ---- after a save
 

@@ -2,7 +2,7 @@
 //! below do nothing, and each stands for the law that its contract states.
 #![tactic(auto)]
 
-ghost use Rattle.cov_sql_laws.specs.Laws.{ArcsAreRead, LinesAreRead, SavedIsSchema7, SavesAreRead};
+ghost use Rattle.cov_sql_laws.specs.Laws.{ArcsAreRead, LinesAreRead, SavedIsSchema7, SavedIsReady, SavesAreRead};
 
 use sqlite::Alter;
 
@@ -19,6 +19,11 @@ pub fn lines_are_read()
 /// A base that holds data as saved is a data file of schema 7, whatever its blobs have.
 pub fn saved_is_schema_7()
     ensures { SavedIsSchema7 }
+{}
+
+/// Data may be saved over it again, and no view hides its tables.
+pub fn saved_is_ready()
+    ensures { SavedIsReady }
 {}
 
 /// Once `write_data` has saved data of arcs in a base that was ready for them, the base holds them.
