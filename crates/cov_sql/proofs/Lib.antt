@@ -32,6 +32,10 @@ pub mod Making
 pub mod Version
 pub mod Committing
 pub mod Contexts
+pub mod Rising
+pub mod RowOrder
+pub mod KeptOrder
+pub mod Grouping
 pub mod Denying
 pub mod Never
 pub mod Lacking

@@ -3,6 +3,7 @@
 //! `Counted` runs them and counts what the database refuses.
 #![tactic(auto)]
 
+mod bits;
 mod counted;
 mod errors;
 mod folder;

@@ -19,12 +19,13 @@ use Rattle.cov_tables.proofs.Columns.{entry_cmp-total, entry_cmp-same}
 use Rattle.cov_sql_laws.specs.Kept.{SavedRow}
 use Rattle.cov_sql_laws.specs.Kept.{SavedBits}
 use Rattle.cov_sql.specs.SavedData.{contexts_in, IsSavedRow}
-use Rattle.cov_sql_laws.specs.Blobs.{spot_of}
-use Rattle.cov_sql_laws.proofs.Rising.{Rise, in_order-rise}
-use Rattle.cov_sql_laws.proofs.Rows.{rows_rise, paths_rise, contexts_rise, IsSoundRow, rows_sound}
+use Rattle.cov_sql.specs.Blobs.{spot_of}
+use Rattle.cov_sql.proofs.Rising.{Rise, in_order-rise}
+use Rattle.cov_sql.proofs.RowOrder.{rows_rise, paths_rise, contexts_rise, IsSoundRow, rows_sound}
+use Rattle.cov_sql.proofs.KeptOrder.{kept_cmp, kept_rise}
 use Rattle.cov_sql_laws.proofs.Again.{made_again}
 use Rattle.cov_sql_laws.proofs.Numbered.{numbered_fields, paths_numbered, texts_numbered}
-use Rattle.cov_sql_laws.proofs.Places.{arc_fields, hits_fields, kept, kept_cmp, kept_rise, each_counted, IsAt, rows_at, read_so}
+use Rattle.cov_sql_laws.proofs.Places.{arc_fields, hits_fields, kept, each_counted, IsAt, rows_at, read_so}
 
 pub less_then : (a b c d x : Ordering) → ordering_then a (ordering_then b (ordering_then c d)) ≡ Less → ordering_then a (ordering_then b (ordering_then c (ordering_then d x))) ≡ Less
 less_then Less b c d x h = refl

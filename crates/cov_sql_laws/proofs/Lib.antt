@@ -1,5 +1,3 @@
-pub mod Rising
-pub mod Rows
 pub mod Again
 pub mod Numbered
 pub mod Places

@@ -20,12 +20,13 @@ use Rattle.cov_tables.proofs.Columns.{entry_cmp-total, entry_cmp-same}
 use Rattle.cov_sql_laws.specs.Kept.{SavedRow}
 use Rattle.cov_sql_laws.specs.Kept.{SavedBits}
 use Rattle.cov_sql.specs.SavedData.{IsNumbered, contexts_in, IsSavedRow}
-use Rattle.cov_sql_laws.specs.Blobs.{line_spot, spots_in, bits_cmp, IsPacked, AreBitsOf}
-use Rattle.cov_sql_laws.proofs.Rising.{rise_from, map_rise, in_order-rise}
-use Rattle.cov_sql_laws.proofs.Rows.{rows_rise, paths_rise, contexts_rise, IsSoundRow, rows_sound}
+use Rattle.cov_sql.specs.Blobs.{line_spot, spots_in, bits_cmp, IsPacked, AreBitsOf}
+use Rattle.cov_sql.proofs.Rising.{rise_from, map_rise, in_order-rise}
+use Rattle.cov_sql.proofs.RowOrder.{rows_rise, paths_rise, contexts_rise, IsSoundRow, rows_sound}
+use Rattle.cov_sql.proofs.KeptOrder.{kept_rise}
 use Rattle.cov_sql_laws.proofs.Again.{made_again}
 use Rattle.cov_sql_laws.proofs.Numbered.{numbered_fields, paths_numbered, texts_numbered}
-use Rattle.cov_sql_laws.proofs.Places.{bits_fields, hits_fields, kept, kept_rise, each_counted, IsAt, rows_at, read_so}
+use Rattle.cov_sql_laws.proofs.Places.{bits_fields, hits_fields, kept, each_counted, IsAt, rows_at, read_so}
 use Rattle.cov_sql_laws.proofs.Arcs.{is_true, a_row}
 
 -- ---- the text of a number

@@ -1,22 +1,18 @@
--- Texts that are numbered: each is the one of its number, and numbers stand in the order of texts that rise.
+-- Texts that are numbered: each is the one of its number.
 --     numbered_fields       the rows of texts with their numbers
 --     texts_numbered        the texts of a number
 --     paths_numbered        the texts of all rows
---     ids_cmp               two numbers stand as their texts do
-use Rattle.std.proofs.Common.{◌≡◌, ℕ, zero, suc, ◌+◌, ◌<◌, ℤ, pos, nat_abs, true, false, cond, List, [], ◌∷◌, ◌++◌, slice_get, Some, refl, ap, sym, ◌∙◌, arith, lt-ltb}
-use Rattle.std.specs.Prelude.{nat_lt}
+use Rattle.std.proofs.Common.{◌≡◌, ℕ, zero, suc, ◌+◌, ◌<◌, ℤ, pos, nat_abs, true, false, cond, List, [], ◌∷◌, ◌++◌, slice_get, Some, refl, ap, sym, ◌∙◌, arith}
 use Rattle.std.specs.declared.cmp.Ordering.TheVariants.{Less, Equal, Greater}
-use Rattle.std.specs.Ordering.{is_eq, int_cmp, ordering_reverse}
+use Rattle.std.specs.Ordering.{is_eq, int_cmp}
 use Rattle.std.specs.Cmp.{int_cmp_total, tied_itself}
 use Rattle.std.proofs.lemmas.Map.Lookups.{exact_signed}
 use Rattle.std.proofs.lemmas.Option.{same_Some}
-use Rattle.cov_data.specs.DataSet.{Text, text_cmp}
-use Rattle.cov_data.proofs.FileViews.{text_cmp_total}
+use Rattle.cov_data.specs.DataSet.{Text}
 use Rattle.cov_tables.specs.Fields.{Row, whole, text}
 use Rattle.cov_tables.specs.Joins.{same_whole, texts_of}
 use Rattle.cov_tables.specs.Content.{paths_in}
 use Rattle.cov_sql.specs.SavedData.{IsNumbered}
-use Rattle.cov_sql_laws.proofs.Rising.{all_at, Rise}
 
 abbrev pub numbered_fields : ℕ → List Text → List Row
 numbered_fields k [] = []
@@ -55,26 +51,3 @@ texts_at (u ∷ ts) k j (suc i) t e at =
 
 pub texts_numbered : (ts : List Text) (t : Text) (id : ℤ) → IsNumbered ts t id → texts_of (numbered_fields 1 ts) id ≡ t ∷ []
 texts_numbered ts t id n = ap (texts_of (numbered_fields 1 ts)) n.is ∙ texts_at ts 1 (n.at + 1) n.at t (omega arith) n.there
-
--- ---- the order of numbers
-
-less_id : (i j : ℕ) → i < j → int_cmp (pos i) (pos j) ≡ Less
-less_id i j lt = ap (λ b. cond b Less (cond (nat_lt j i) Greater Equal)) (lt-ltb i j lt)
-
-greater_id : (i j : ℕ) → j < i → int_cmp (pos i) (pos j) ≡ Greater
-greater_id i j lt = int_cmp_total.antisymm (pos i) (pos j) ∙ ap ordering_reverse (less_id j i lt)
-
-places_cmp : (ts : List Text) → Rise text_cmp ts → (k i j a b : ℕ) (t u : Text) → i ≡ k + a → j ≡ k + b → slice_get ts a ≡ Some t → slice_get ts b ≡ Some u → int_cmp (pos i) (pos j) ≡ text_cmp t u
-places_cmp [] h k i j a b t u p q at there = absurd cc
-places_cmp (x ∷ xs) h k i j zero zero t u p q at there =
-    let same : i ≡ j = omega (arith, p, q) in
-    ap (λ n. int_cmp (pos i) (pos n)) (sym same) ∙ tied_itself int_cmp_total (pos i) ∙ sym (tied_itself text_cmp_total x) ∙ (λ s. text_cmp (same_Some x t at s) (same_Some x u there s))
-places_cmp (x ∷ xs) h k i j zero (suc b) t u p q at there =
-    less_id i j (omega (arith, p, q)) ∙ sym (all_at (λ y. text_cmp x y ≡ Less) xs h.0 b u there) ∙ ap (λ y. text_cmp y u) (same_Some x t at)
-places_cmp (x ∷ xs) h k i j (suc a) zero t u p q at there =
-    greater_id i j (omega (arith, p, q))
-    ∙ sym (text_cmp_total.antisymm t u ∙ ap ordering_reverse (ap (λ y. text_cmp y t) (sym (same_Some x u there)) ∙ all_at (λ y. text_cmp x y ≡ Less) xs h.0 a t at))
-places_cmp (x ∷ xs) h k i j (suc a) (suc b) t u p q at there = places_cmp xs h.1 (k + 1) i j a b t u (omega (arith, p)) (omega (arith, q)) at there
-
-pub ids_cmp : (ts : List Text) → Rise text_cmp ts → (t u : Text) (x y : ℤ) → IsNumbered ts t x → IsNumbered ts u y → int_cmp x y ≡ text_cmp t u
-ids_cmp ts h t u x y a b = (λ s. int_cmp (a.is s) (b.is s)) ∙ places_cmp ts h 1 (a.at + 1) (b.at + 1) a.at b.at t u (omega arith) (omega arith) a.there b.there

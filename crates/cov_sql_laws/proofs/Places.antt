@@ -1,16 +1,14 @@
--- Rows that are kept of data: they rise as the rows do, and `hits` has the count of each.
+-- Rows that are kept of data: `hits` has the count of each.
 --     arc_fields, bits_fields, hits_fields, kept      the fields of kept rows; the tables with them
---     kept_cmp, kept_rise                             the order of kept rows; they rise
 --     IsAt, rows_at                                   a row of data stands at a spot, and is counted there; all do
 --     none_bad, read_so                               entries without a bad one; what is read of them
 use Rattle.std.proofs.Common.{◌≡◌, ℕ, ◌+◌, ◌<◌, ◌≤◌, ℤ, pos, Bool, true, false, cond, List, [], ◌∷◌, ◌++◌, map, codes, Option, Some, None, refl, ap, ◌∙◌, lt-ltb, le-leb}
 use Rattle.std.specs.Prelude.{◌&&◌}
-use Rattle.std.specs.declared.cmp.Ordering.{Ordering}
 use Rattle.std.specs.declared.cmp.Ordering.TheVariants.{Less}
-use Rattle.std.specs.Ordering.{is_eq, int_cmp, ordering_then, ordering_reverse}
+use Rattle.std.specs.Ordering.{is_eq, ordering_reverse}
 use Rattle.std.specs.Cmp.{IsTotalOrder, then_total, on_total, int_cmp_total, tied_itself}
 use Rattle.std.specs.List.{AllByRecursion, AllZip, fold, flat_map, position_from}
-use Rattle.cov_data.specs.DataSet.{Text, text_cmp, DataSet}
+use Rattle.cov_data.specs.DataSet.{Text, DataSet}
 use Rattle.cov_data.specs.Rows.{RowView, with_row}
 use Rattle.cov_vault.specs.declared.vault.Content.TheVariants.{Good}
 use Rattle.cov_tables.specs.Fields.{Row, whole, text, blob}
@@ -20,10 +18,11 @@ use Rattle.cov_tables.specs.Content.{Tables, unless_bad, read_entries}
 use Rattle.cov_sql_laws.specs.Kept.{SavedRow}
 use Rattle.cov_sql_laws.specs.Kept.{SavedBits}
 use Rattle.cov_sql.specs.SavedData.{IsNumbered, IsSavedRow}
-use Rattle.cov_sql_laws.specs.Blobs.{spot_of}
-use Rattle.cov_sql_laws.proofs.Rising.{Rise}
-use Rattle.cov_sql_laws.proofs.Rows.{row_cmp, IsSoundRow}
-use Rattle.cov_sql_laws.proofs.Numbered.{numbered_fields, ids_cmp}
+use Rattle.cov_sql.specs.Blobs.{spot_of}
+use Rattle.cov_sql.proofs.Rising.{Rise}
+use Rattle.cov_sql.proofs.RowOrder.{IsSoundRow}
+use Rattle.cov_sql.proofs.KeptOrder.{kept_cmp}
+use Rattle.cov_sql_laws.proofs.Numbered.{numbered_fields}
 
 abbrev pub arc_fields : SavedRow → Row
 arc_fields r = whole r.file_id ∷ whole r.context_id ∷ whole r.from ∷ whole r.to ∷ []
@@ -44,31 +43,6 @@ kept arcs paths contexts rows blobs = record {
   arc = cond arcs (map arc_fields rows) [];
   hits = map hits_fields rows;
 }
-
--- ---- they rise
-
-abbrev pub kept_cmp : SavedRow → SavedRow → Ordering
-kept_cmp s t = spot_cmp (spot_of s) (spot_of t)
-
-module _ (ps cs : List Text) (up : Rise text_cmp ps) (rise : Rise text_cmp cs) where
-  kept_less : (r q : RowView) (s t : SavedRow) → IsSavedRow ps cs r s → IsSavedRow ps cs q t → row_cmp r q ≡ Less → kept_cmp s t ≡ Less
-  kept_less r q s t h g lt =
-      (λ i. ordering_then (ids_cmp ps up r.path q.path s.file_id t.file_id h.file g.file i)
-      (ordering_then (ids_cmp cs rise r.context q.context s.context_id t.context_id h.context g.context i)
-      (ordering_then (int_cmp (h.from i) (g.from i)) (int_cmp (h.to i) (g.to i)))))
-      ∙ lt
-
-  kept_below : (r : RowView) (s : SavedRow) (rs : List RowView) (ss : List SavedRow) → IsSavedRow ps cs r s → AllZip (IsSavedRow ps cs) rs ss → AllByRecursion (λ q. row_cmp r q ≡ Less) rs → AllByRecursion (λ t. kept_cmp s t ≡ Less) ss
-  kept_below r s [] [] one h lt = tt
-  kept_below r s [] (t ∷ ss) one h lt = absurd h
-  kept_below r s (q ∷ rs) [] one h lt = tt
-  kept_below r s (q ∷ rs) (t ∷ ss) one h lt = (kept_less r q s t one h.0 lt.0, kept_below r s rs ss one h.1 lt.1)
-
-  pub kept_rise : (rs : List RowView) (ss : List SavedRow) → AllZip (IsSavedRow ps cs) rs ss → Rise row_cmp rs → Rise kept_cmp ss
-  kept_rise [] [] h lt = tt
-  kept_rise [] (s ∷ ss) h lt = absurd h
-  kept_rise (r ∷ rs) [] h lt = tt
-  kept_rise (r ∷ rs) (s ∷ ss) h lt = (kept_below r s rs ss h.0 h.1 lt.0, kept_rise rs ss h.1 lt.1)
 
 -- ---- their counts
 

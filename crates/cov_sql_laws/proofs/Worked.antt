@@ -5,7 +5,7 @@ use Rattle.cov_data.specs.Numbits.{lines_of_bits}
 use Rattle.cov_tables.specs.Hits.{Spot}
 use Rattle.cov_sql_laws.specs.Kept.{SavedRow}
 use Rattle.cov_sql_laws.specs.Kept.{SavedBits}
-use Rattle.cov_sql_laws.specs.Blobs.{spot_of, spots_in}
+use Rattle.cov_sql.specs.Blobs.{spot_of, spots_in}
 
 abbrev row : ℕ → SavedRow
 row n = record { file_id = pos 2; context_id = pos 1; from = pos n; to = pos n; count = pos 3 }

@@ -18,7 +18,7 @@ use Rattle.cov_data.proofs.FileViews.{text_cmp_total, place_cmp_total}
 use Rattle.cov_data.proofs.RowLists.{get-each}
 use Rattle.cov_data.proofs.Distinct.{distinct_in_order-Rises}
 use Rattle.cov_sql.specs.SavedData.{contexts_in}
-use Rattle.cov_sql_laws.proofs.Rising.{all_append, Rise, keys_below, entries_rise, map_rise, append_rise, rises_rise}
+use Rattle.cov_sql.proofs.Rising.{all_append, Rise, keys_below, entries_rise, map_rise, append_rise, rises_rise}
 
 -- by path, then context, from and to
 abbrev pub row_cmp : RowView → RowView → Ordering

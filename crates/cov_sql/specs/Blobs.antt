@@ -10,8 +10,8 @@ use Rattle.std.specs.List.{AllByRecursion, flat_map}
 use Rattle.std.specs.List.Sorted.{IsStrictlySortedBy}
 use Rattle.cov_data.specs.Numbits.{IsNumbits, lines_of_bits}
 use Rattle.cov_tables.specs.Hits.{Spot}
-use Rattle.cov_sql_laws.specs.Kept.{SavedRow}
-use Rattle.cov_sql_laws.specs.Kept.{SavedBits}
+use Rattle.cov_sql.specs.declared.saved.SavedRow.{SavedRow}
+use Rattle.cov_sql.specs.declared.saved.SavedBits.{SavedBits}
 
 abbrev pub spot_of : SavedRow → Spot
 spot_of r = record { file_id = r.file_id; context_id = r.context_id; from = r.from; to = r.to }

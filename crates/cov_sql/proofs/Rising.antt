@@ -1,7 +1,7 @@
 -- Lists that rise: each element is less than those after it.
 --     all_append, all_at       what holds of each element
 --     Rise                     a list that rises
---     entries_rise, map_rise, append_rise, rises_rise, rise_from    such lists
+--     entries_rise, map_rise, append_rise, rises_rise, rise_from, sorted_from    such lists
 --     in_order-rise            one stands in order
 use Rattle.std.proofs.Common.{◌≡◌, ℕ, zero, suc, List, [], ◌∷◌, ◌++◌, map, slice_get, Some, ap, sym, subst, ◌∙◌}
 use Rattle.std.specs.declared.cmp.Ordering.{Ordering}
@@ -37,6 +37,11 @@ pub rise_from : {K : Type 0} (R : K → K → Ordering) (xs : List K) → IsStri
 unfolding IsStrictlySortedBy
 rise_from R [] h = tt
 rise_from R (x ∷ xs) h = (h.0, rise_from R xs h.1)
+
+pub sorted_from : {K : Type 0} (R : K → K → Ordering) (xs : List K) → Rise R xs → IsStrictlySortedBy R xs
+unfolding IsStrictlySortedBy
+sorted_from R [] h = tt
+sorted_from R (x ∷ xs) h = (h.0, sorted_from R xs h.1)
 
 module _ {K X : Type 0} (R : K → K → Ordering) where
   pub keys_below : (x : K) (es : List (K × X)) → T (below_all R x es) → AllByRecursion (λ e. R x e.0 ≡ Less) es
