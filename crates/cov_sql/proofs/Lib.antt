@@ -40,3 +40,4 @@ pub mod Denying
 pub mod Never
 pub mod Lacking
 pub mod Judging
+pub mod Bases

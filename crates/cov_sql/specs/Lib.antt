@@ -18,3 +18,4 @@ pub mod SavedRows
 pub mod Making
 pub mod SavedData
 pub mod Committed
+pub mod Bases

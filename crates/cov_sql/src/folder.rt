@@ -197,7 +197,7 @@ fn is_no_memory(error: &io::Error) -> bool {
 }
 
 /// What a refused reading or writing means for a vault.
-fn failure_of(error: SqlError) -> VaultError
+pub(crate) fn failure_of(error: SqlError) -> VaultError
     ensures failed { result ≡ VaultError.Failed → error ≡ SqlError.Refused }
     ensures bad_row { (row : ℕ) → result ≡ VaultError.BadRow row → error ≡ SqlError.BadRow row }
     ensures not_absent { result ≡ VaultError.Absent → ⊥ }
