@@ -14,6 +14,7 @@ use Rattle.sqlite.specs.Kind.TheVariants.{Integer}
 use Rattle.sqlite.specs.Cast.{cast}
 use Rattle.sqlite_rules.specs.Edit.{is_taken}
 use Rattle.sqlite.specs.Effect.{Database}
+use Rattle.cov_sql.specs.Written.{HasInteger}
 
 either : (b : Bool) (x : Value) → cond b x x ≡ x
 either true x = refl
@@ -57,3 +58,14 @@ put_at Greater row r rs not_same h = IsPermutation-refl (row ∷ r ∷ rs)
 pub put_new : (row : Row) (rows : List Row) → is_taken rows row ≡ false → IsPermutation (row ∷ rows) (put_row row rows)
 put_new row [] h = IsPermutation-refl (row ∷ [])
 put_new row (r ∷ rs) h = put_at (value_cmp (rowid r) (rowid row)) row r rs (neither _ (is_taken rs row) h).0 (put_new row rs (neither (is_eq (value_cmp (rowid r) (rowid row))) _ h).1)
+
+integers_at : (o : Ordering) (row r : Row) (rs : List Row) → HasInteger row → HasInteger r → AllByRecursion HasInteger rs → AllByRecursion HasInteger (put_row row rs)
+    → AllByRecursion HasInteger (match_ordering o (r ∷ put_row row rs) (row ∷ rs) (row ∷ r ∷ rs))
+integers_at Less row r rs new first rest put = (first, put)
+integers_at Equal row r rs new first rest put = (new, rest)
+integers_at Greater row r rs new first rest put = (new, (first, rest))
+
+-- rowids that are integers stay so
+pub put_integers : (row : Row) (rows : List Row) → HasInteger row → AllByRecursion HasInteger rows → AllByRecursion HasInteger (put_row row rows)
+put_integers row [] new h = (new, tt)
+put_integers row (r ∷ rs) new h = integers_at (value_cmp (rowid r) (rowid row)) row r rs new h.0 h.1 (put_integers row rs new h.1)

@@ -16,7 +16,7 @@ use Rattle.cov_sql.proofs.Growing.{grown, nothing_absent}
 module _ (text : List ℕ) (t : Shape) (table : ℕ → Table) (i : IsCreate text t.name table) (old new : State) where
   no_more : (r : Result (Unit {0}) StatementError) → OnOk r (Ran text [] old new) → (IsErrOf r Missing → WasAbsent text [] old new) → (at : ℕ) → table_named old.now.schema t.name ≡ Some at → IsUnhidden t old.now
       → (r ≡ Err Refused) ⊎ (r ≡ Err NoMemory)
-  no_more (Ok v) ran absent at there no_view = absurd (never_twice text t.name table i old new at there no_view ran.0 ran.1)
+  no_more (Ok v) ran absent at there no_view = absurd (never_twice text t.name table i [] old new at there no_view ran.0 ran.1)
   no_more (Err Missing) ran absent at there no_view = absurd (nothing_absent text t.name table i old new no_view (absent refl))
   no_more (Err Refused) ran absent at there no_view = inl refl
   no_more (Err NoMemory) ran absent at there no_view = inr refl

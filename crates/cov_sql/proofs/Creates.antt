@@ -1,6 +1,7 @@
 -- What CREATE TABLE is, under any schema.
 use Rattle.std.proofs.Common.{◌≡◌, ◌⊎◌, inl, inr, ℕ, ◌==◌, List, [], length, true, false, is_some, Some, None, Ok, Err, Result, refl, sym, ap, subst, ◌∙◌}
 use Rattle.std.proofs.lemmas.Bool.{cases_Bool}
+use Rattle.sqlite_value.specs.Order.{Row}
 use Rattle.sqlite_ast.specs.declared.CreateTable.{CreateTable}
 use Rattle.sqlite_ast.specs.declared.Statement.TheVariants as written
 use Rattle.sqlite_syntax.specs.declared.statement.Parsed.{Parsed}
@@ -88,10 +89,10 @@ module _ (schema : Schema) (text : List ℕ) (name : Name) (table : ℕ → Tabl
       by (inr free) (inr none) = inl (none, free)
 
 -- so it makes no table twice
-pub never_twice : (text : List ℕ) (name : Name) (table : ℕ → Table) → IsCreate text name table → (old new : State) (at : ℕ) → table_named old.now.schema name ≡ Some at → view_named old.now.schema name ≡ None
-    → (count : ℕ) → ¬ Executes text [] old new (Ok count)
+pub never_twice : (text : List ℕ) (name : Name) (table : ℕ → Table) → IsCreate text name table → (params : Row) (old new : State) (at : ℕ) → table_named old.now.schema name ≡ Some at → view_named old.now.schema name ≡ None
+    → (count : ℕ) → ¬ Executes text params old new (Ok count)
 unfolding Rattle.sqlite.specs.State.ExecutesIn
-never_twice text name table i old new at there no_view count h =
+never_twice text name table i params old new at there no_view count h =
     let refused = understood_as old.now.schema text _ (is_taken old.now.schema text name table i at there no_view) refl in
     let both : ◌≡◌ {A = Result Compiled CompileError} (Ok h.0) (Err Exists) = sym h.1.is ∙ refused in
     cc
@@ -101,11 +102,11 @@ not_so e (inl which) fault one two = cc
 not_so e (inr which) fault one two = cc
 
 -- nor is a table missing then
-pub never_taken : (text : List ℕ) (old new : State) → understood old.now.schema text ≡ Err Exists → ¬ WasAbsent text [] old new
+pub never_taken : (text : List ℕ) (params : Row) (old new : State) → understood old.now.schema text ≡ Err Exists → ¬ WasAbsent text params old new
 unfolding Rattle.sqlite.specs.State.ExecutesIn Rattle.sqlite.specs.State.IsNotRun
-never_taken text old new refused h = by h.2
+never_taken text params old new refused h = by h.2
   where
-    by : Executes text [] old new (Err (SqlInputError h.0)) → ⊥
+    by : Executes text params old new (Err (SqlInputError h.0)) → ⊥
     by (inl (inl (inl (fault, other, one), unchanged))) = not_so h.0 h.1 fault one (sym other ∙ refused)
     by (inl (inl (inr (c, other, more), unchanged))) = never old.now.schema text _ c refused other
     by (inl (inr fault)) = no_fault old new h.0 fault

@@ -27,7 +27,7 @@ use Rattle.cov_sql.proofs.Growing.{grown_then}
 use Rattle.cov_sql.proofs.Holding.{all_names, at_each}
 use Rattle.cov_sql.proofs.Making.{each_then}
 
-hidden_of : (n : Name) (db : Database) → AreUnhidden db → IsUnhidden (shape_of n) db
+pub hidden_of : (n : Name) (db : Database) → AreUnhidden db → IsUnhidden (shape_of n) db
 hidden_of name.CoverageSchema db h = h.coverage_schema
 hidden_of name.Meta db h = h.meta
 hidden_of name.File db h = h.file

@@ -24,7 +24,7 @@ use Rattle.cov_sql.proofs.Holding.{added, is_declared}
 -- the same rows in another order
 pub holds_as : (db : Database) (rows more : Rows) → ((n : Name) → IsPermutation (more n) (rows n)) → Holds db rows → Holds db more
 holds_as db rows more same h = record {
-  stands = h.stands;
+  base = h.base;
   each = λ n. let one = h.each n in record { all = one.all; shown = one.shown; same = IsPermutation-trans (more n) (rows n) one.all (same n) one.same };
 }
 
@@ -64,7 +64,7 @@ module _ {S : Type 0} (g : Ghosts S) where
 
   -- a statement that adds a row
   pub fills_one : (n : Name) (row : Row) (a b : Held S) (r : Result (Unit {0}) StatementError) → Inserts (shape_of n) (declared_as n) row (state g a) (state g b) r → Fills g (with_rows n (row ∷ [])) a b r
-  fills_one n row a b r told clean inside rows h = on_ok r (added n row (state g a).now (state g b).now rows h) (told clean inside (is_declared n (state g a).now h.stands))
+  fills_one n row a b r told clean inside rows h = on_ok r (added n row (state g a).now (state g b).now rows h) (told clean inside (is_declared n (state g a).now h.base.stands))
 
   -- a step after one that went on
   pub fills_then : (f k : Rows → Rows) (a b c : Held S) (v : Unit {0}) (r : Result (Unit {0}) StatementError) → Survives (state g b) (state g c) (λ _. ⊥)

@@ -78,7 +78,7 @@ no_sequence false db e stop h is = cc
 
 -- ---- each text that makes a table
 
-faultless : {U : Type 0} (old new : State) (e : CompileError) → Fails old new U (SqlInputError e) → ⊥
+pub faultless : {U : Type 0} (old new : State) (e : CompileError) → Fails old new U (SqlInputError e) → ⊥
 faultless old new e (OutOfMemory, h, cause, undone, told) = cc
 faultless old new e (Io, h, cause, undone, told) = cc
 faultless old new e (Corrupt, h, cause, undone, told) = cc
@@ -140,5 +140,5 @@ module _ (text : List ℕ) (name : Name) (table : ℕ → Table) (i : IsCreate t
           ran (inr fault) = faultless old new e fault
 
       by : ((table_named schema name ≡ None) × (index_named schema name ≡ None)) ⊎ (compiled schema text ≡ Err Exists) → ⊥
-      by (inr taken) = never_taken text old new (understood_as schema text _ taken refl) (e, which, h)
+      by (inr taken) = never_taken text [] old new (understood_as schema text _ taken refl) (e, which, h)
       by (inl free) = found (understood_as schema text _ (create_is schema text name table i free.0 no_view free.1) refl) h

@@ -17,6 +17,7 @@ use Rattle.cov_sql.specs.declared.tables.Table.TheVariants as name
 use Rattle.cov_sql.specs.Tables.{Shape, table_in, places_in, rows_in}
 use Rattle.cov_sql.specs.Written.{HasInteger, IsFree, IsEmptied, IsAdded, IsDeclared}
 use Rattle.cov_sql.specs.ByName.{shape_of, declared_as}
+use Rattle.cov_sql.specs.Content.{AreUnhidden}
 use Rattle.cov_sql.specs.Holding.{number_of, same_table, Rows, with_rows, without, IsThere, Stands, HoldsOf, Holds, IsReplaceable}
 
 -- ---- the tables by number
@@ -98,8 +99,8 @@ found n k schema t = rw (t.named, t.is) refl
 abbrev pub rows_of : (db : Database) → Stands db.schema → Rows
 rows_of db s n = shown_by n (db.trees (s.tree n))
 
-pub holds_all : (db : Database) (s : Stands db.schema) → Holds db (rows_of db s)
-holds_all db s = record { stands = s; each = λ n. record { all = _; shown = rows_at n (s.tree n) db (s.there n); same = IsPermutation-refl _ } }
+pub holds_all : (db : Database) (r : IsReplaceable db) → Holds db (rows_of db r.stands)
+holds_all db r = record { base = r; each = λ n. record { all = _; shown = rows_at n (r.stands.tree n) db (r.stands.there n); same = IsPermutation-refl _ } }
 
 pub is_declared : (n : Name) (db : Database) → Stands db.schema → IsDeclared (shape_of n) (declared_as n) db
 is_declared n db s = let t = s.there n in (t.at, s.tree n, t.named, t.is)
@@ -132,10 +133,49 @@ module _ (n : Name) (old new : Database) (s : Stands old.schema) (others : Other
         same = h.same;
       }
 
+-- ---- a base of the same schema
+
+abbrev stands_as : (old new : Database) → new.schema ≡ old.schema → (s : Stands old.schema) → Stands new.schema
+stands_as old new is s = record { tree = s.tree; there = λ m. subst (IsThere m (s.tree m)) (sym is) (s.there m); apart = s.apart }
+
+unhidden_as : (old new : Database) → new.schema ≡ old.schema → AreUnhidden old → AreUnhidden new
+unhidden_as old new is h = record {
+  coverage_schema = rw is h.coverage_schema;
+  meta = rw is h.meta;
+  file = rw is h.file;
+  context = rw is h.context;
+  line_bits = rw is h.line_bits;
+  arc = rw is h.arc;
+  tracer = rw is h.tracer;
+  hits = rw is h.hits;
+}
+
+replaceable_as : (old new : Database) → new.schema ≡ old.schema → (r : IsReplaceable old) → ((m : Name) → AllByRecursion HasInteger (new.trees (r.stands.tree m))) → IsReplaceable new
+replaceable_as old new is r rowids = record { stands = stands_as old new is r.stands; acts = λ m. rw is (r.acts m); rowids = rowids; unhidden = unhidden_as old new is r.unhidden }
+
 -- ---- a row more
 
+module _ (n : Name) (row : Row) (old new : Database) (r : IsReplaceable old) (a : IsAdded (shape_of n) row old new) where
+  abbrev tree : ℕ
+  tree = r.stands.tree n
+
+  integers_here : AllByRecursion HasInteger (new.trees tree)
+  integers_here =
+      let was : AllByRecursion HasInteger (old.trees (declared_as n tree).tree) = subst (λ k. AllByRecursion HasInteger (old.trees k)) (sym (tree_is n tree)) (r.rowids n) in
+      subst (λ k. AllByRecursion HasInteger (new.trees k)) (tree_is n tree) (a.rowids (declared_as n tree) (found n tree old.schema (r.stands.there n)) was)
+
+  integers : (m : Name) → AllByRecursion HasInteger (new.trees (r.stands.tree m))
+  integers m = by (tells m n)
+    where
+      by : Told m n → AllByRecursion HasInteger (new.trees (r.stands.tree m))
+      by (inl (is, same)) = subst (λ k. AllByRecursion HasInteger (new.trees (r.stands.tree k))) (sym same) integers_here
+      by (inr (is, other)) = subst (AllByRecursion HasInteger) (sym (tree_kept n old new r.stands a.others m other)) (r.rowids m)
+
+  replaceable_more : IsReplaceable new
+  replaceable_more = replaceable_as old new a.schema r integers
+
 pub added : (n : Name) (row : Row) (old new : Database) (rows : Rows) → Holds old rows → IsAdded (shape_of n) row old new → Holds new (with_rows n (row ∷ []) rows)
-added n row old new rows h a = record { stands = subst Stands (sym a.schema) h.stands; each = λ m. by m (tells m n) }
+added n row old new rows h a = record { base = replaceable_more n row old new h.base a; each = λ m. by m (tells m n) }
   where
     here : HoldsOf n new (row ∷ rows n)
     here =
@@ -145,7 +185,7 @@ added n row old new rows h a = record { stands = subst Stands (sym a.schema) h.s
 
     by : (m : Name) → Told m n → HoldsOf m new (with_rows n (row ∷ []) rows m)
     by m (inl (is, same)) = rw is (subst (λ k. HoldsOf k new (row ∷ rows k)) (sym same) here)
-    by m (inr (is, other)) = rw is (kept n old new h.stands a.others a.schema m other (rows m) (h.each m))
+    by m (inr (is, other)) = rw is (kept n old new h.base.stands a.others a.schema m other (rows m) (h.each m))
 
 -- ---- a table emptied
 
@@ -160,13 +200,6 @@ module _ (n : Name) (old new : Database) (s : Stands old.schema) (e : IsEmptied 
       let now = rows_at n (s.tree n) new (subst (IsThere n (s.tree n)) (sym e.schema) (s.there n)) in
       no_row _ (new.trees (s.tree n)) (same_Some _ _ (sym now ∙ none))
 
-  pub emptied : (rows : Rows) → Holds old rows → Holds new (without n rows)
-  emptied rows h = record { stands = subst Stands (sym e.schema) s; each = λ m. by m (tells m n) }
-    where
-      by : (m : Name) → Told m n → HoldsOf m new (without n rows m)
-      by m (inl (is, same)) = rw is (subst (λ k. HoldsOf k new []) (sym same) (record { all = []; shown = e.rows _ (rows_at n (s.tree n) old (s.there n)); same = IsPermutation-refl [] }))
-      by m (inr (is, other)) = rw is (kept n old new s e.others e.schema m other (rows m) (h.each m))
-
   rowids_then : (m : Name) → AllByRecursion HasInteger (old.trees (s.tree m)) → AllByRecursion HasInteger (new.trees (s.tree m))
   rowids_then m each = by (tells m n)
     where
@@ -175,15 +208,14 @@ module _ (n : Name) (old new : Database) (s : Stands old.schema) (e : IsEmptied 
       by (inr (is, other)) = rw (tree_kept n old new s e.others m other) each
 
 pub replaceable_then : (n : Name) (old new : Database) → IsReplaceable old → IsEmptied (shape_of n) old new → IsReplaceable new
-replaceable_then n old new r e = record {
-  stands = record {
-    tree = r.stands.tree;
-    there = λ m. subst (IsThere m (r.stands.tree m)) (sym e.schema) (r.stands.there m);
-    apart = r.stands.apart;
-  };
-  acts = λ m. rw e.schema (r.acts m);
-  rowids = λ m. rowids_then n old new r.stands e m (r.rowids m);
-}
+replaceable_then n old new r e = replaceable_as old new e.schema r (λ m. rowids_then n old new r.stands e m (r.rowids m))
+
+pub emptied : (n : Name) (old new : Database) → IsEmptied (shape_of n) old new → (rows : Rows) → Holds old rows → Holds new (without n rows)
+emptied n old new e rows h = record { base = replaceable_then n old new h.base e; each = λ m. by m (tells m n) }
+  where
+    by : (m : Name) → Told m n → HoldsOf m new (without n rows m)
+    by m (inl (is, same)) = rw is (subst (λ k. HoldsOf k new []) (sym same) (record { all = []; shown = e.rows _ (rows_at n (h.base.stands.tree n) old (h.base.stands.there n)); same = IsPermutation-refl [] }))
+    by m (inr (is, other)) = rw is (kept n old new h.base.stands e.others e.schema m other (rows m) (h.each m))
 
 pub is_free : (n : Name) (db : Database) → IsReplaceable db → IsFree (shape_of n) db
 is_free n db r = let k = r.stands.tree n in record {

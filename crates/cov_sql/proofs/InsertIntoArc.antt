@@ -26,11 +26,11 @@ use Rattle.sqlite.proofs.Callers.{IsPlain, command_of, runs_as, one_step}
 use Rattle.cov_sql.specs.declared.statements.StatementError.{StatementError}
 use Rattle.cov_sql.proofs.Shows.{understood_as}
 use Rattle.cov_sql.proofs.Inserts.{IsInsert, insert_is}
-use Rattle.cov_sql.proofs.Adds.{cast_null, cast_int, went, same_value, Adds, free, put_new}
+use Rattle.cov_sql.proofs.Adds.{cast_null, cast_int, went, same_value, Adds, free, put_new, put_integers}
 use Rattle.cov_sql.specs.Tables.{table_in, rows_in}
 use Rattle.cov_sql.specs.Tables as tables
 use Rattle.cov_sql.proofs.DeleteTexts.{same_table}
-use Rattle.cov_sql.specs.Written.{IsDeclared, IsAdded, Inserts, Ran}
+use Rattle.cov_sql.specs.Written.{HasInteger, IsDeclared, IsAdded, Inserts, Ran}
 use Rattle.cov_sql.specs.Declarations.{declared_arc}
 
 abbrev the_text : List ℕ
@@ -39,7 +39,7 @@ the_text = codes "INSERT INTO arc (file_id, context_id, fromno, tono) VALUES (?1
 abbrev terms : List Term
 terms = lit Null ∷ col 0 0 ∷ col 0 1 ∷ col 0 2 ∷ col 0 3 ∷ []
 
-inserts : IsInsert the_text (codes "arc") declared_arc 4 (Values terms 5)
+pub inserts : IsInsert the_text (codes "arc") declared_arc 4 (Values terms 5)
 unfolding everything
 inserts = record {
   parsed = _;
@@ -103,6 +103,9 @@ module _ (file_id : ℤ) (context_id : ℤ) (fromno : ℤ) (tono : ℤ) where
         was = rw (named, is) refl;
         is = rw (h.schema, named, is, h.rows) refl;
         more = IsPermutation-map show (row ∷ old.trees tree) (put_row row (old.trees tree)) (put_new row (old.trees tree) h.is_new);
+        rowids = λ u found each. let same : declared_arc tree ≡ u = same_table (declared_arc tree) u (sym there ∙ found) in
+            subst (λ (x : Table). AllByRecursion HasInteger (old.trees x.tree) → AllByRecursion HasInteger (new.trees x.tree)) same
+            (λ here. subst (AllByRecursion HasInteger) (sym h.rows) (put_integers row (old.trees tree) (next_rowid (old.trees tree), refl) here)) each;
         others = λ u found. let same : declared_arc tree ≡ u = same_table (declared_arc tree) u (sym there ∙ found) in
             subst (λ (x : Table). AllByRecursion (λ v. v.tree ≢ x.tree → new.trees v.tree ≡ old.trees v.tree) old.schema.tables) same h.others;
       }

@@ -26,11 +26,11 @@ use Rattle.sqlite.proofs.Callers.{IsPlain, command_of, runs_as, one_step}
 use Rattle.cov_sql.specs.declared.statements.StatementError.{StatementError}
 use Rattle.cov_sql.proofs.Shows.{understood_as}
 use Rattle.cov_sql.proofs.Inserts.{IsInsert, insert_is}
-use Rattle.cov_sql.proofs.Adds.{cast_null, cast_int, went, same_value, Adds, free, put_new}
+use Rattle.cov_sql.proofs.Adds.{cast_null, cast_int, went, same_value, Adds, free, put_new, put_integers}
 use Rattle.cov_sql.specs.Tables.{table_in, rows_in}
 use Rattle.cov_sql.specs.Tables as tables
 use Rattle.cov_sql.proofs.DeleteTexts.{same_table}
-use Rattle.cov_sql.specs.Written.{IsDeclared, IsAdded, Inserts, Ran}
+use Rattle.cov_sql.specs.Written.{HasInteger, IsDeclared, IsAdded, Inserts, Ran}
 use Rattle.cov_sql.specs.Declarations.{declared_coverage_schema}
 
 abbrev the_text : List ℕ
@@ -39,7 +39,7 @@ the_text = codes "INSERT INTO coverage_schema (version) VALUES (?1)"
 abbrev terms : List Term
 terms = lit Null ∷ col 0 0 ∷ []
 
-inserts : IsInsert the_text (codes "coverage_schema") declared_coverage_schema 1 (Values terms 2)
+pub inserts : IsInsert the_text (codes "coverage_schema") declared_coverage_schema 1 (Values terms 2)
 unfolding everything
 inserts = record {
   parsed = _;
@@ -103,6 +103,9 @@ module _ (version : ℤ) where
         was = rw (named, is) refl;
         is = rw (h.schema, named, is, h.rows) refl;
         more = IsPermutation-map show (row ∷ old.trees tree) (put_row row (old.trees tree)) (put_new row (old.trees tree) h.is_new);
+        rowids = λ u found each. let same : declared_coverage_schema tree ≡ u = same_table (declared_coverage_schema tree) u (sym there ∙ found) in
+            subst (λ (x : Table). AllByRecursion HasInteger (old.trees x.tree) → AllByRecursion HasInteger (new.trees x.tree)) same
+            (λ here. subst (AllByRecursion HasInteger) (sym h.rows) (put_integers row (old.trees tree) (next_rowid (old.trees tree), refl) here)) each;
         others = λ u found. let same : declared_coverage_schema tree ≡ u = same_table (declared_coverage_schema tree) u (sym there ∙ found) in
             subst (λ (x : Table). AllByRecursion (λ v. v.tree ≢ x.tree → new.trees v.tree ≡ old.trees v.tree) old.schema.tables) same h.others;
       }

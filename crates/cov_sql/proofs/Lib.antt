@@ -32,5 +32,12 @@ pub mod Making
 pub mod Version
 pub mod Committing
 pub mod Contexts
+pub mod Rising
+pub mod RowOrder
+pub mod KeptOrder
+pub mod Grouping
 pub mod Denying
+pub mod Never
+pub mod Lacking
 pub mod Judging
+pub mod Bases

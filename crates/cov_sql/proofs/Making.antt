@@ -1,9 +1,11 @@
 -- One table made after the other, and a data file without data.
-use Rattle.std.proofs.Common.{◌≡◌, ◌⊎◌, inl, inr, ℕ, zero, suc, pos, arith, true, false, List, [], ◌∷◌, ◌++◌, map, Some, None, slice_get, Option, Result, Ok, Err, OnOk, refl, sym, ap, subst, ◌∙◌}
+use Rattle.std.proofs.Common.{◌≡◌, IsTrue, ◌⊎◌, inl, inr, ℕ, zero, suc, pos, arith, true, false, List, [], ◌∷◌, ◌++◌, map, Some, None, slice_get, Option, Result, Ok, Err, OnOk, refl, sym, ap, subst, ◌∙◌}
 use Rattle.std.specs.List.{AllByRecursion}
 use Rattle.std.specs.Option.{unwrap_or}
 use Rattle.sqlite_value.specs.Order.{column}
-use Rattle.sqlite_schema.specs.Names.{table_named}
+use Rattle.sqlite_schema.specs.Names.{table_named, view_named}
+use Rattle.sqlite_schema.specs.declared.schema.Keys.TheVariants.{Enforced}
+use Rattle.sqlite_rules.specs.Action.{works}
 use Rattle.std.proofs.lemmas.List.Sums.{fold-append}
 use Rattle.std.specs.List.Sorted.{IsPermutation}
 use Rattle.std.proofs.lemmas.List.Sorted.{IsPermutation-refl}
@@ -23,7 +25,7 @@ use Rattle.sqlite.specs.State.{HasCleanDisk, Survives}
 use Rattle.cov_sql.specs.declared.statements.StatementError.{StatementError}
 use Rattle.cov_sql.specs.declared.tables.Table.{Table as Name}
 use Rattle.cov_sql.specs.declared.tables.Table.TheVariants as name
-use Rattle.cov_sql.specs.Written.{IsUnused, IsMade, Makes, Inserts, Deletes}
+use Rattle.cov_sql.specs.Written.{NothingActs, HasInteger, IsUnused, IsMade, Makes, Inserts, Deletes}
 use Rattle.cov_sql.specs.ByName.{shape_of, declared_as}
 use Rattle.cov_sql.specs.Works.{Works}
 use Rattle.cov_sql.specs.declared.saved.Saved.{Saved}
@@ -32,13 +34,14 @@ use Rattle.cov_sql.specs.declared.preparing.Start.TheVariants as start
 use Rattle.cov_sql.specs.Tables.{Shape, places_in, rows_in}
 use Rattle.cov_sql.proofs.Found.{either, found_at}
 use Rattle.cov_sql.proofs.Growing.{grown_created}
-use Rattle.cov_sql.specs.Holding.{Rows, with_rows, without, cleared, cleared_all, IsThere, Stands, HoldsOf, Holds, Fills, Empties}
+use Rattle.cov_sql.specs.Holding.{Rows, with_rows, without, cleared, cleared_all, IsThere, HoldsOf, Holds, IsReplaceable, Fills, Empties}
 use Rattle.cov_sql.specs.SavedRows.{no_data_rows, with_names, with_data}
-use Rattle.cov_sql.specs.Making.{IsFreeName, AreFree, made, IsBlank, Builds, Prepares, Saves}
+use Rattle.cov_sql.specs.Content.{AreUnhidden}
+use Rattle.cov_sql.specs.Making.{IsFreeName, AreFree, made, IsBlank, IsBare, Builds, Prepares, Saves}
 use Rattle.cov_sql.proofs.Holding.{at_each, rows_at, all_names, tree_is, shown_by, rows_of, holds_all, emptied, replaceable_then, is_free}
 use Rattle.cov_sql.proofs.Filling.{holds_as, fills_one}
 
-unused : (n : Name) (db : Database) → IsFreeName n db.schema → IsUnused (shape_of n) (declared_as n) db
+pub unused : (n : Name) (db : Database) → IsFreeName n db.schema → IsUnused (shape_of n) (declared_as n) db
 unused n db f = record { no_table = f.no_table; no_view = f.no_view; no_index = f.no_index; sequenced = f.sequenced }
 
 split : (s : Schema) (ns : List Name) (n : Name) → AreFree s (ns ++ n ∷ []) → AreFree s ns × IsFreeName n (made s ns)
@@ -182,18 +185,59 @@ there name.Arc = record { at = 5; named = refl; is = refl }
 there name.Tracer = record { at = 6; named = refl; is = refl }
 there name.Hits = record { at = 7; named = refl; is = refl }
 
-stands : Stands whole
-stands = record { tree = tree_of; there = there; apart = λ m n same. sym (in_its_tree m) ∙ ap in_tree same ∙ in_its_tree n }
+-- no foreign key of these tables acts
+no_act : (tree : ℕ) (olds : List Row) → works whole Enforced 0 tree olds [] ≡ []
+unfolding everything whole nothing
+no_act tree olds = refl
 
-holds_nothing : (db : Database) → db.schema ≡ whole → IsBlank db → Holds db (λ _. [])
-holds_nothing db is none = record { stands = subst Stands (sym is) stands; each = λ n. by n }
-  where
-    by : (n : Name) → HoldsOf n db []
-    by n =
-        let t : IsThere n (tree_of n) db.schema = subst (IsThere n (tree_of n)) (sym is) (there n) in
-        let here = at_each (λ v. db.trees v.tree ≡ []) db.schema.tables t.at (declared_as n (tree_of n)) none t.is in
-        let empty : db.trees (tree_of n) ≡ [] = subst (λ k. db.trees k ≡ []) (tree_is n (tree_of n)) here in
-        record { all = []; shown = rows_at n (tree_of n) db t ∙ ap (λ rs. Some (shown_by n rs)) empty; same = IsPermutation-refl [] }
+no_view : (name : List ℕ) → view_named whole name ≡ None
+unfolding everything whole nothing
+no_view name = refl
+
+unhidden_by : (db : Database) → ((n : Name) → view_named db.schema (shape_of n).name ≡ None) → AreUnhidden db
+unhidden_by db none = record {
+  coverage_schema = none name.CoverageSchema;
+  meta = none name.Meta;
+  file = none name.File;
+  context = none name.Context;
+  line_bits = none name.LineBits;
+  arc = none name.Arc;
+  tracer = none name.Tracer;
+  hits = none name.Hits;
+}
+
+none_bare : (name : List ℕ) → view_named nothing name ≡ None
+unfolding everything nothing
+none_bare name = refl
+
+-- a base without tables hides none
+pub bare_hidden : (db : Database) → IsBare db → AreUnhidden db
+unfolding nothing
+bare_hidden db bare = unhidden_by db (λ n. subst (λ (s : Schema). view_named s (shape_of n).name ≡ None) (sym bare) (none_bare (shape_of n).name))
+
+module _ (db : Database) (is : db.schema ≡ whole) (none : IsBlank db) where
+  there_now : (n : Name) → IsThere n (tree_of n) db.schema
+  there_now n = subst (IsThere n (tree_of n)) (sym is) (there n)
+
+  empty_now : (n : Name) → db.trees (tree_of n) ≡ []
+  empty_now n =
+      let t = there_now n in
+      let here = at_each (λ v. db.trees v.tree ≡ []) db.schema.tables t.at (declared_as n (tree_of n)) none t.is in
+      subst (λ k. db.trees k ≡ []) (tree_is n (tree_of n)) here
+
+  base_of_nothing : IsReplaceable db
+  base_of_nothing = record {
+    stands = record { tree = tree_of; there = there_now; apart = λ m n same. sym (in_its_tree m) ∙ ap in_tree same ∙ in_its_tree n };
+    acts = λ n. subst (λ (s : Schema). NothingActs s (tree_of n)) (sym is) (no_act (tree_of n));
+    rowids = λ n. subst (AllByRecursion HasInteger) (sym (empty_now n)) tt;
+    unhidden = unhidden_by db (λ n. subst (λ (s : Schema). view_named s (shape_of n).name ≡ None) (sym is) (no_view (shape_of n).name));
+  }
+
+  holds_nothing : Holds db (λ _. [])
+  holds_nothing = record {
+    base = base_of_nothing;
+    each = λ n. record { all = []; shown = rows_at n (tree_of n) db (there_now n) ∙ ap (λ rs. Some (shown_by n rs)) (empty_now n); same = IsPermutation-refl [] };
+  }
 
 abbrev version : Row
 version = Int (pos 7) ∷ []
@@ -225,19 +269,24 @@ left_of rows name.Tracer same = IsPermutation-refl _
 left_of rows name.Hits same = IsPermutation-refl _
 
 module _ {S : Type 0} (g : Ghosts S) where
-  pub prepares_new : (a b c : Held S) (v : Unit {0}) (r : Result (Unit {0}) StatementError) → Survives (state g b) (state g c) (λ _. ⊥) → Works g a b (Ok v)
-      → Builds g all_names a b (Ok v) → Inserts (shape_of name.CoverageSchema) (declared_as name.CoverageSchema) version (state g b) (state g c) r → Prepares g start.Nothing a c r
+  -- all tables were made, and none has a row
+  pub built : (a b : Held S) (v : Unit {0}) → HasCleanDisk (state g b) → IsTrue (state g a).in_transaction → IsBare (state g a).now → Builds g all_names a b (Ok v) → Holds (state g b).now (λ _. [])
   unfolding nothing whole
-  prepares_new a b c v r s works one told clean inside bare =
-      let before : HasCleanDisk (state g b) = omega (arith, clean, s.clean) in
+  built a b v clean inside bare one =
       let free : AreFree (state g a).now.schema all_names = subst (λ sc. AreFree sc all_names) (sym bare) all_free in
       let blank : IsBlank (state g a).now = subst (λ (sc : Schema). AllByRecursion (λ t. (state g a).now.trees t.tree ≡ []) sc.tables) (sym bare) tt in
-      let m = one before inside free blank in
-      let h = holds_nothing (state g b).now (m.0 ∙ ap (λ sc. made sc all_names) bare) m.1 in
+      let m = one clean inside free blank in
+      holds_nothing (state g b).now (m.0 ∙ ap (λ sc. made sc all_names) bare) m.1
+
+  pub prepares_new : (a b c : Held S) (v : Unit {0}) (r : Result (Unit {0}) StatementError) → Survives (state g b) (state g c) (λ _. ⊥) → Works g a b (Ok v)
+      → Builds g all_names a b (Ok v) → Inserts (shape_of name.CoverageSchema) (declared_as name.CoverageSchema) version (state g b) (state g c) r → Prepares g start.Nothing a c r
+  prepares_new a b c v r s works one told clean inside bare =
+      let before : HasCleanDisk (state g b) = omega (arith, clean, s.clean) in
+      let h = built a b v before inside bare one in
       on_ok r (holds_as (state g c).now _ no_data_rows only_version) (fills_one g name.CoverageSchema version b c r told clean ((works before inside).goes_on) (λ _. []) h)
 
   pub empties_one : (n : Name) (a b : Held S) (r : Result (Unit {0}) StatementError) → Deletes (shape_of n) (state g a) (state g b) r → Empties g (without n) a b r
-  empties_one n a b r told clean inside rep rows h = on_ok r (λ e. (replaceable_then n (state g a).now (state g b).now rep e, emptied n (state g a).now (state g b).now rep.stands e rows h)) (told clean inside (is_free n (state g a).now rep))
+  empties_one n a b r told clean inside rep rows h = on_ok r (λ e. (replaceable_then n (state g a).now (state g b).now rep e, emptied n (state g a).now (state g b).now e rows h)) (told clean inside (is_free n (state g a).now rep))
 
   pub empties_none : (a : Held S) → Empties g (λ rows. rows) a a (Ok tt)
   empties_none a clean inside rep rows h = (rep, h)
@@ -259,7 +308,7 @@ module _ {S : Type 0} (g : Ghosts S) where
       let all = rows_of db rep.stands in
       let had = same_Some _ _ (sym (rows_at name.CoverageSchema (rep.stands.tree name.CoverageSchema) db (rep.stands.there name.CoverageSchema)) ∙ version_is.shown) in
       let same : IsPermutation (version ∷ []) (all name.CoverageSchema) = subst (IsPermutation (version ∷ [])) (sym had) version_is.same in
-      on_ok r (λ both. holds_as (state g b).now (cleared_all emptied_names all) no_data_rows (λ n. left_of all n same) both.1) (told clean inside rep all (holds_all db rep.stands))
+      on_ok r (λ both. holds_as (state g b).now (cleared_all emptied_names all) no_data_rows (λ n. left_of all n same) both.1) (told clean inside rep all (holds_all db rep))
 
   -- the table of counts is made first
   pub prepares_counted : (a b c : Held S) (v : Unit {0}) (r : Result (Unit {0}) StatementError) → Survives (state g b) (state g c) (λ _. ⊥)

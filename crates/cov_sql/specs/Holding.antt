@@ -3,8 +3,8 @@
 --     Rows, with_rows, without     the rows of each table; with rows more of one table, and without those of one
 --     cleared, cleared_all         the rows once a table is emptied; once several are
 --     IsThere, Stands              a table is there as it is declared, in this tree; all are, each in a tree of its own
---     HoldsOf, Holds               a table holds these rows, in some order; the tables stand, and each holds its rows
---     IsReplaceable                the tables stand, no foreign key acts where their rows go, and their rowids are integers
+--     IsReplaceable                the tables stand and no view hides one, no foreign key acts where their rows go, and their rowids are integers
+--     HoldsOf, Holds               a table holds these rows, in some order; all do, in a base whose rows may go
 --     Fills, Empties               a step adds rows to a table; a step takes the rows of a table
 use Rattle.std.specs.Prelude.{◌≡◌, ℕ, Bool, nat_eq, cond, List, [], ◌++◌, Some, Result, OnOk, IsTrue, IsPermutation, slice_get}
 use Rattle.std.specs.List.{AllByRecursion, fold}
@@ -21,6 +21,7 @@ use Rattle.cov_sql.specs.declared.tables.Table.TheVariants as name
 use Rattle.cov_sql.specs.Tables.{rows_in}
 use Rattle.cov_sql.specs.Written.{NothingActs, HasInteger}
 use Rattle.cov_sql.specs.ByName.{shape_of, declared_as}
+use Rattle.cov_sql.specs.Content.{AreUnhidden}
 
 abbrev pub number_of : Name → ℕ
 number_of name.CoverageSchema = 0
@@ -68,19 +69,20 @@ pub record Stands (schema : Schema) : Type 0 where
   pub there : (n : Name) → IsThere n (tree n) schema
   pub apart : (m n : Name) → tree m ≡ tree n → m ≡ n
 
+pub record IsReplaceable (db : Database) : Type 0 where
+  pub stands : Stands db.schema
+  pub acts : (n : Name) → NothingActs db.schema (stands.tree n)
+  pub rowids : (n : Name) → AllByRecursion HasInteger (db.trees (stands.tree n))
+  pub unhidden : AreUnhidden db
+
 pub record HoldsOf (n : Name) (db : Database) (rows : List Row) : Type 0 where
   pub all : List Row
   pub shown : rows_in (shape_of n) db ≡ Some all
   pub same : IsPermutation rows all
 
 pub record Holds (db : Database) (rows : Rows) : Type 0 where
-  pub stands : Stands db.schema
+  pub base : IsReplaceable db
   pub each : (n : Name) → HoldsOf n db (rows n)
-
-pub record IsReplaceable (db : Database) : Type 0 where
-  pub stands : Stands db.schema
-  pub acts : (n : Name) → NothingActs db.schema (stands.tree n)
-  pub rowids : (n : Name) → AllByRecursion HasInteger (db.trees (stands.tree n))
 
 -- where the store is clean after the step, in a transaction
 abbrev pub Fills : {S : Type 0} → Ghosts S → (Rows → Rows) → Held S → Held S → Result (Unit {0}) StatementError → Type 0

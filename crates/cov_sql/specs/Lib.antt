@@ -12,7 +12,10 @@ pub mod Finds
 pub mod Works
 pub mod Failures
 pub mod Holding
+pub mod Blobs
+pub mod Groups
 pub mod SavedRows
 pub mod Making
 pub mod SavedData
 pub mod Committed
+pub mod Bases

@@ -7,6 +7,7 @@
 --     Builds, Prepares, Saves  so a step makes tables; so one leaves a data file without data; so one leaves saved data
 --     IsDenied, Denies         no table that is made was there; so a step ends
 --     IsRefusedIfThere, RefusesIfThere      a base that has a table is refused where it should have none; so a step ends
+--     NeverLacks               on a base that is ready a step lacks no table
 use Rattle.std.specs.Prelude.{◌≡◌, ◌⊎◌, ℕ, pos, true, false, List, [], ◌∷◌, None, Some, Result, Err, OnOk, IsErrOf, IsTrue}
 use Rattle.std.specs.List.{AllByRecursion, fold}
 use Rattle.sqlite_value.specs.declared.value.Value.TheVariants.{Int}
@@ -91,3 +92,7 @@ IsRefusedIfThere schema r = (n : Name) (at : ℕ) → table_named schema (shape_
 abbrev pub RefusesIfThere : {S : Type 0} → Ghosts S → Start → Held S → Held S → Result (Unit {0}) StatementError → Type 0
 RefusesIfThere g begins old new r = HasCleanDisk (state g new) → IsTrue (state g old).in_transaction → AreUnhidden (state g old).now → begins ≡ start.Nothing
     → IsRefusedIfThere (state g old).now.schema r
+
+-- where the store is clean after the step, in a transaction
+abbrev pub NeverLacks : {S : Type 0} → Ghosts S → Start → Held S → Held S → Result (Unit {0}) StatementError → Type 0
+NeverLacks g begins old new r = HasCleanDisk (state g new) → IsTrue (state g old).in_transaction → IsReady begins (state g old).now → IsErrOf r Missing → ⊥

@@ -3,13 +3,14 @@
 --     IsNumbered, IsSavedRow       a text stands at a number, from 1; a row with the numbers of its file and its context
 --     IsSavedOf                    so data is kept
 --     saved_rows, HoldsSaved       the rows that are written; the tables of a base hold those of data
-use Rattle.std.specs.Prelude.{◌≡◌, ℕ, ℤ, pos, ◌+◌, true, List, [], map, slice_get, Some, string_bytes}
+use Rattle.std.specs.Prelude.{◌≡◌, ℕ, ℤ, pos, ◌+◌, true, false, List, [], map, slice_get, Some, string_bytes}
 use Rattle.std.specs.List.{AllZip}
 use Rattle.cov_data.specs.DataSet.{Text, text_cmp, DataSet}
 use Rattle.cov_data.specs.Rows.{RowView, distinct_in_order, rows_of, paths_of}
 use Rattle.cov_sql.specs.declared.saved.Saved.{Saved}
 use Rattle.cov_sql.specs.declared.saved.SavedRow.{SavedRow}
 use Rattle.sqlite.specs.Effect.{Database}
+use Rattle.cov_sql.specs.Blobs.{AreBitsOf}
 use Rattle.cov_sql.specs.Holding.{Rows, Holds}
 use Rattle.cov_sql.specs.SavedRows.{with_names, with_data, no_data_rows}
 
@@ -33,14 +34,15 @@ pub record IsSavedOf (d : DataSet) (s : Saved) : Type 0 where
   pub paths : map string_bytes s.paths.items ≡ paths_of d
   pub contexts : map string_bytes s.contexts.items ≡ contexts_in (rows_of d)
   pub rows : AllZip (IsSavedRow (paths_of d) (contexts_in (rows_of d))) (rows_of d) s.rows.items
-  -- of lines, which bits are kept isn't said
+  -- of arcs none; of lines those of the rows
   pub bits : d.arcs ≡ true → s.bits.items ≡ []
+  pub blobs : d.arcs ≡ false → AreBitsOf s.rows.items s.bits.items
 
 -- ---- written
 
 abbrev pub saved_rows : Saved → Rows
 saved_rows s = with_data s (with_names s no_data_rows)
 
--- the tables hold the rows of the data, and no other; of data of lines, which rows `line_bits` has isn't said
+-- the tables hold the rows of the data, and no other
 abbrev pub HoldsSaved : DataSet → Database → Type 0
 HoldsSaved d db = (s : Saved) × IsSavedOf d s × Holds db (saved_rows s)

@@ -80,7 +80,7 @@ Makes t table old new r = HasCleanDisk new → IsTrue old.in_transaction → IsM
 abbrev pub IsDeclared : Shape → (ℕ → Table) → Database → Type 0
 IsDeclared t table db = (at : ℕ) × (tree : ℕ) × (table_named db.schema t.name ≡ Some at) × (slice_get db.schema.tables at ≡ Some (table tree))
 
--- and every other table is as before
+-- its rowids stay integers, and every other table is as before
 pub record IsAdded (t : Shape) (row : Row) (old new : Database) : Type 0 where
   pub schema : new.schema ≡ old.schema
   pub before : List Row
@@ -88,6 +88,7 @@ pub record IsAdded (t : Shape) (row : Row) (old new : Database) : Type 0 where
   pub was : rows_in t old ≡ Some before
   pub is : rows_in t new ≡ Some after
   pub more : IsPermutation (row ∷ before) after
+  pub rowids : (u : Table) → table_in old.schema t.name ≡ Some u → AllByRecursion HasInteger (old.trees u.tree) → AllByRecursion HasInteger (new.trees u.tree)
   pub others : (u : Table) → table_in old.schema t.name ≡ Some u → AllByRecursion (λ v. v.tree ≢ u.tree → new.trees v.tree ≡ old.trees v.tree) old.schema.tables
 
 abbrev pub Inserts : Shape → (ℕ → Table) → Row → State → State → Result (Unit {0}) StatementError → Type 0

@@ -182,7 +182,11 @@ impl Vault for FolderVault {
             return Err(VaultError::Absent);
         }
         match fs::remove_file(&self.rt, path.as_path()) {
-            Ok(()) => self.take_companions(alloc, &path),
+            Ok(()) => {
+                // The name is gone. What stays beside it counts, and the next save of this name takes it.
+                let _ = self.take_companions(alloc, &path);
+                Ok(())
+            }
             Err(error) => Err(self.failure(is_no_memory(&error))),
         }
     }
@@ -193,7 +197,7 @@ fn is_no_memory(error: &io::Error) -> bool {
 }
 
 /// What a refused reading or writing means for a vault.
-fn failure_of(error: SqlError) -> VaultError
+pub(crate) fn failure_of(error: SqlError) -> VaultError
     ensures failed { result ≡ VaultError.Failed → error ≡ SqlError.Refused }
     ensures bad_row { (row : ℕ) → result ≡ VaultError.BadRow row → error ≡ SqlError.BadRow row }
     ensures not_absent { result ≡ VaultError.Absent → ⊥ }

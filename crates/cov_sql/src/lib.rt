@@ -1,12 +1,14 @@
-//! Data files of coverage.py's schema 7: `read_data` and `write_data` turn them into data and back, and
-//! `FolderVault` keeps them in a folder. `Statements` has a method for each statement on their tables, and
-//! `Counted` runs them and counts what the database refuses.
+//! Data files of coverage.py's schema 7: `read_data` and `write_data` turn them into data and back.
+//! `FolderVault` keeps them in a folder, and `SqlVault` in memory. `Statements` has a method for each
+//! statement on their tables, and `Counted` runs them and counts what the database refuses.
 #![tactic(auto)]
 
+mod bits;
 mod counted;
 mod errors;
 mod folder;
 mod inserting;
+mod memory;
 mod preparing;
 mod reading;
 mod saved;
@@ -19,6 +21,7 @@ pub use counted::Counted;
 pub use cov_tables::Cell;
 pub use errors::SqlError;
 pub use folder::FolderVault;
+pub use memory::SqlVault;
 pub use reading::read_data;
 pub use statements::{StatementError, Statements};
 pub use writing::write_data;

@@ -8,7 +8,7 @@ ghost use Rattle.cov_sql.specs.ByName.{shape_of, declared_as};
 ghost use Rattle.cov_sql.specs.Written.{Makes};
 ghost use Rattle.cov_sql.specs.Works.{Works};
 ghost use Rattle.cov_sql.specs.Holding.{cleared, cleared_all, Empties};
-ghost use Rattle.cov_sql.specs.Making.{Builds, Prepares, Denies, RefusesIfThere};
+ghost use Rattle.cov_sql.specs.Making.{Builds, Prepares, Denies, RefusesIfThere, NeverLacks};
 
 use crate::statements::{StatementError, Statements};
 use crate::tables::Table;
@@ -163,6 +163,8 @@ fn make_all<S: Alter, Q: Statements>(
         work.old.conn.now work.new.conn.now result }
     ensures refuses { Q.tells by.old → RefusesIfThere S.Store Start.Nothing
         work.old.conn.now work.new.conn.now result }
+    ensures never { Q.tells by.old → NeverLacks S.Store Start.Nothing
+        work.old.conn.now work.new.conn.now result }
     ensures survives { Q.tells by.old
         → Survives (state S.Store work.old.conn.now) (state S.Store work.new.conn.now) (λ _. ⊥) }
     ensures same_reference { work.new.conn.ghost_name ≡ work.old.conn.ghost_name }
@@ -183,6 +185,8 @@ fn empty_and_count<S: Alter, Q: Statements>(
 ) -> Result<(), StatementError>
     ensures works { Q.tells by.old → Works S.Store work.old.conn.now work.new.conn.now result }
     ensures prepares { Q.tells by.old → Prepares S.Store (start.Tables false)
+        work.old.conn.now work.new.conn.now result }
+    ensures never { Q.tells by.old → NeverLacks S.Store (start.Tables false)
         work.old.conn.now work.new.conn.now result }
     ensures survives { Q.tells by.old
         → Survives (state S.Store work.old.conn.now) (state S.Store work.new.conn.now) (λ _. ⊥) }
@@ -206,6 +210,8 @@ pub(crate) fn prepare<S: Alter, Q: Statements>(
     ensures prepares { Q.tells by.old → Prepares S.Store start
         work.old.conn.now work.new.conn.now result }
     ensures refuses { Q.tells by.old → RefusesIfThere S.Store start
+        work.old.conn.now work.new.conn.now result }
+    ensures never { Q.tells by.old → NeverLacks S.Store start
         work.old.conn.now work.new.conn.now result }
     ensures survives { Q.tells by.old
         → Survives (state S.Store work.old.conn.now) (state S.Store work.new.conn.now) (λ _. ⊥) }

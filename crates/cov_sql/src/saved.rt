@@ -1,10 +1,13 @@
 //! The rows that a data file has of data.
-ghost use Rattle.std.specs.Prelude.{◌≡◌, true, [], map, string_bytes, IfOk, IfSome};
+ghost use Rattle.std.specs.Prelude.{◌≡◌, true, false, [], map, string_bytes, IfOk, IfSome};
 ghost use Rattle.std.specs.List.{AllZip};
 ghost use Rattle.cov_data.specs.Rows.{row_view};
+ghost use Rattle.cov_sql.specs.Blobs.{AreBitsOf};
+ghost use Rattle.cov_sql.specs.Groups.{AreLines};
 ghost use Rattle.cov_sql.specs.SavedData.{contexts_in, IsNumbered, IsSavedRow, IsSavedOf};
 
-use cov_data::{Data, Row, numbits_of};
+use crate::bits::bits_of;
+use cov_data::{Data, Row};
 use std::alloc::{AllocError, Global};
 use std::collections::BTreeSet;
 
@@ -124,41 +127,12 @@ fn numbered(
 }
 
 fn bits_if(alloc: Global, arcs: bool, rows: &[SavedRow]) -> Result<Vec<SavedBits>, AllocError>
-    ensures { IfOk result (λ bits. arcs ≡ true → bits.items ≡ []) }
+    ensures none { IfOk result (λ bits. arcs ≡ true → bits.items ≡ []) }
+    ensures all { arcs ≡ false → AreLines rows.now
+        → IfOk result (λ bits. AreBitsOf rows.now bits.items) }
 {
     if arcs {
         return Ok(Vec::new(alloc));
     }
     bits_of(alloc, rows)
-}
-
-/// The lines of each file in each context, where rows of both stand side by side.
-fn bits_of(alloc: Global, rows: &[SavedRow]) -> Result<Vec<SavedBits>, AllocError> {
-    let mut all = Vec::new(alloc);
-    let mut lines = Vec::new(alloc);
-    for (at, row) in rows.iter().enumerate() {
-        // The numbers of lines are positive.
-        if let Ok(line) = u32::try_from(row.from) {
-            lines.push(line)?;
-        }
-        if is_last_of(rows, at) {
-            all.push(SavedBits {
-                file_id: row.file_id,
-                context_id: row.context_id,
-                numbits: numbits_of(alloc, &lines)?,
-            })?;
-            lines.clear();
-        }
-    }
-    Ok(all)
-}
-
-/// Whether the row after this place is of another file or another context.
-fn is_last_of(rows: &[SavedRow], at: usize) -> bool {
-    match (rows.get(at), rows.get(at.saturating_add(1))) {
-        (Some(row), Some(next)) => {
-            row.file_id != next.file_id || row.context_id != next.context_id
-        }
-        _ => true,
-    }
 }

@@ -7,8 +7,8 @@ ghost use Rattle.cov_vault.specs.declared.vault.Content.TheVariants.{NotSchema7}
 ghost use Rattle.cov_sql.specs.Content.{content_in, AreUnhidden};
 ghost use Rattle.cov_sql.specs.Finds.{LeavesFile};
 ghost use Rattle.cov_sql.specs.Works.{Works};
-ghost use Rattle.cov_sql.specs.Making.{Saves, RefusesIfThere};
-ghost use Rattle.cov_sql.specs.Committed.{HasTable, Judges, EndsSaved, LacksInWork, LeavesSaved};
+ghost use Rattle.cov_sql.specs.Making.{Saves, RefusesIfThere, NeverLacks};
+ghost use Rattle.cov_sql.specs.Committed.{IsReadyFor, HasTable, Judges, EndsSaved, LacksInWork, LeavesSaved};
 
 use crate::errors::SqlError;
 use crate::inserting::insert_all;
@@ -32,6 +32,8 @@ fn write_all<S: Alter, Q: Statements>(
     ensures saves { Q.tells by.old → Saves S.Store start saved.now
         work.old.conn.now work.new.conn.now result }
     ensures refuses { Q.tells by.old → RefusesIfThere S.Store start
+        work.old.conn.now work.new.conn.now result }
+    ensures never { Q.tells by.old → NeverLacks S.Store start
         work.old.conn.now work.new.conn.now result }
     ensures survives { Q.tells by.old
         → Survives (state S.Store work.old.conn.now) (state S.Store work.new.conn.now) (λ _. ⊥) }
@@ -99,6 +101,10 @@ pub fn write_data<S: Alter, Q: Statements>(
         → AreUnhidden (state S.Store base.old).now → IsErrOf result SqlError.NotSchema7
         → ((fresh ≡ false) × (content_in (state S.Store base.old).now ≡ NotSchema7))
         ⊎ LacksInWork S.Store base.old }
+    ensures only_schema { Q.tells by.old → HasCleanDisk (state S.Store base.new)
+        → AreUnhidden (state S.Store base.old).now
+        → IsReadyFor fresh (state S.Store base.old).now → IsErrOf result SqlError.NotSchema7
+        → (fresh ≡ false) × (content_in (state S.Store base.old).now ≡ NotSchema7) }
     ensures not_bad_row { (row : ℕ) → IsErrOf result (SqlError.BadRow row) → ⊥ }
     ensures once { Q.tells by.old → HasCleanDisk (state S.Store base.new)
         → AreUnhidden (state S.Store base.old).now → fresh ≡ true

@@ -2,6 +2,7 @@ use Rattle.std.proofs.Common.{rules, ◌≡◌, false, Err}
 use Rattle.cov_sql.specs.declared.preparing.Start.TheVariants as start
 use Rattle.cov_sql.proofs.Making.{prepares_old, prepares_counted, no_preparing}
 use Rattle.cov_sql.proofs.Stepping.{works_after}
+use Rattle.cov_sql.proofs.Lacking.{never_counting, never_uncounted}
 use Rattle.cov_sql.proofs.preparing.empty_and_count.Goals as goal
 
 pub returns-in_err-make_table-clause-prepares : goal.returns-in_err-make_table-clause-prepares
@@ -22,3 +23,14 @@ pub returns-clause-works : goal.returns-clause-works
 returns-clause-works g c tells =
     let told = c.make_table.ensures.tells tells in
     works_after g.S.Store c.in_ok-make_table.field-0 c.args.work.now.conn.now c.make_table.new.work.conn.now c.empty_tables.new.work.conn.now _ (c.empty_tables.ensures.survives told) (c.in_ok-make_table.ensures.works tells) (c.empty_tables.ensures.works told)
+
+pub returns-in_err-make_table-clause-never : goal.returns-in_err-make_table-clause-never
+returns-in_err-make_table-clause-never g c tells =
+    let is : c.from_residual.result ≡ Err c.in_err-make_table.field-0.0 = search rules in
+    never_uncounted g.S.Store c.args.work.now.conn.now c.make_table.new.work.conn.now _ _ is (c.in_err-make_table.ensures.told tells)
+
+pub returns-clause-never : goal.returns-clause-never
+returns-clause-never g c tells =
+    let told = c.make_table.ensures.tells tells in
+    never_counting g.S.Store c.args.work.now.conn.now c.make_table.new.work.conn.now c.empty_tables.new.work.conn.now c.in_ok-make_table.field-0 _ (c.empty_tables.ensures.survives told)
+    (c.in_ok-make_table.ensures.works tells) (c.in_ok-make_table.ensures.told tells) (c.empty_tables.ensures.works told)

@@ -5,6 +5,7 @@ use Rattle.cov_sql.proofs.Making.{prepares_new, no_preparing}
 use Rattle.cov_sql.specs.SqlTexts.{insert_coverage_schema_text}
 use Rattle.cov_sql.proofs.WrittenTexts.{of_insert_coverage_schema}
 use Rattle.cov_sql.proofs.Denying.{refuses_stop, refuses_made}
+use Rattle.cov_sql.proofs.Lacking.{never_denied, never_new}
 use Rattle.cov_sql.proofs.preparing.make_all.Goals as goal
 
 pub returns-clause-works : goal.returns-clause-works
@@ -35,3 +36,16 @@ pub returns-clause-refuses : goal.returns-clause-refuses
 returns-clause-refuses g c tells =
     let told = c.make_tables.ensures.tells tells in
     refuses_made g.S.Store start.Nothing c.args.work.now.conn.now c.make_tables.new.work.conn.now c.insert_coverage_schema.new.work.conn.now c.in_ok-make_tables.field-0 _ (c.insert_coverage_schema.ensures.survives told) (c.in_ok-make_tables.ensures.denies tells)
+
+pub returns-in_err-make_tables-clause-never : goal.returns-in_err-make_tables-clause-never
+returns-in_err-make_tables-clause-never g c tells =
+    let is : c.from_residual.result ≡ Err c.in_err-make_tables.field-0.0 = search rules in
+    never_denied g.S.Store _ c.args.work.now.conn.now c.make_tables.new.work.conn.now _ _ is (c.in_err-make_tables.ensures.denies tells)
+
+pub returns-clause-never : goal.returns-clause-never
+returns-clause-never g c tells =
+    let now = c.make_tables.new.work.conn.now in
+    let next = c.insert_coverage_schema.new.work.conn.now in
+    let told = c.make_tables.ensures.tells tells in
+    let one = worked g.S.Store insert_coverage_schema_text now next c.insert_coverage_schema.result of_insert_coverage_schema (c.insert_coverage_schema.ensures.ran told) in
+    never_new g.S.Store c.args.work.now.conn.now now next c.in_ok-make_tables.field-0 _ (c.insert_coverage_schema.ensures.survives told) (c.in_ok-make_tables.ensures.works tells) (c.in_ok-make_tables.ensures.builds tells) one

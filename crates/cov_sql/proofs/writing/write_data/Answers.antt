@@ -5,6 +5,7 @@ use Rattle.cov_sql.specs.declared.statements.StatementError.TheVariants.{Missing
 use Rattle.cov_sql.proofs.Stepping.{keeps_itself, stays, refused_as, on_error}
 use Rattle.cov_sql.proofs.Committing.{keeps_all, read_only, only_read, undone, saved_in, committed, ends_saved}
 use Rattle.cov_sql.proofs.Denying.{answered, answered_else, in_work, not_in_work}
+use Rattle.cov_sql.proofs.Lacking.{never_in_work}
 use Rattle.cov_sql.proofs.writing.write_data.Goals as goal
 
 -- ---- nothing was read yet
@@ -54,6 +55,19 @@ returns-in_err-write_all-clause-not_schema g c tells clean hidden is =
     let missing : c.in_err-write_all.field-0.0 ≡ Missing = refused_as c.in_err-write_all.field-0.0 (search rules) in
     let w = (rw starts at (c.in_err-write_all.ensures.works told)) before refl in
     inr (b, (c.in_ok-start.ensures.told tells read hidden).same, w.missing (ap Err missing))
+
+pub returns-in_err-write_all-clause-only_schema : goal.returns-in_err-write_all-clause-only_schema
+returns-in_err-write_all-clause-only_schema g c tells clean hidden ready is =
+    let b = c.judged.new.base in
+    let mid = c.write_all.new.work.conn.now in
+    let told = c.may_begin.ensures.tells (c.judged.ensures.tells tells) in
+    let starts = c.transaction-work.ensures.begun in
+    let end = c.base-1.given.0 in
+    let left : Survives (state g.S.Store mid) (state g.S.Store end) (λ _. ⊥) = search rules in
+    let worked = rw starts at (c.write_all.ensures.survives told) in
+    let before : HasCleanDisk (state g.S.Store mid) = omega (arith, clean, left.clean) in
+    let missing : c.in_err-write_all.field-0.0 ≡ Missing = refused_as c.in_err-write_all.field-0.0 (search rules) in
+    never_in_work g.S.Store c.args.fresh c.in_ok-start.start c.args.base.now b mid c.in_err-write_all.field-0.0 (c.in_ok-start.ensures.told tells) worked (rw starts at (c.in_err-write_all.ensures.never told)) before hidden ready missing
 
 pub returns-in_err-write_all-clause-once : goal.returns-in_err-write_all-clause-once
 returns-in_err-write_all-clause-once g c tells clean hidden is there =
