@@ -139,9 +139,8 @@ fn many_bytes(alloc: Global, more: usize) -> Result<Answer, Fail> {
         let count = if at < 15 { 1_048_576 } else { more };
         files.push((format!(in alloc; "m{at}.py")?, vec![in alloc; b'#'; count]?))?;
     }
-    while script.len() < 1_048_576 {
-        script.push(b'#')?;
-    }
+    let left = 1_048_576_usize.saturating_sub(script.len());
+    script.extend_from_slice(&vec![in alloc; b'#'; left]?)?;
     files.push((String::from_str(alloc, "s.py")?, script))?;
     answer_by(alloc, "arcs s.py", files, "", NONE, &mut Machine)
 }
