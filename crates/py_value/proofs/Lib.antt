@@ -4,6 +4,7 @@ pub mod TextLaws
 pub mod Climb
 pub mod DistinctKeys
 pub mod Hashing
+pub mod InPlace
 pub mod KeyLaws
 pub mod Levels
 pub mod Lists

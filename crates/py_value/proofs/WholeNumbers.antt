@@ -1,50 +1,16 @@
--- Operators on two whole numbers.
-use Rattle.std.proofs.Common.{◌≡◌, ℤ, Bool, nat_eq, Result, Ok, Err, SFits, w64, of_z, to_z, to_z-of_z, refl, ap, sym, ◌∙◌}
+-- Comparisons of two whole numbers.
+use Rattle.std.proofs.Common.{◌≡◌, ℤ, Bool, nat_eq, Result, Ok, SFits, w64, of_z, to_z, to_z-of_z, refl, ap, sym, ◌∙◌}
 use Rattle.std.proofs.lemmas.Bool.{eqb-true, eq-eqb}
 use Rattle.std.proofs.lemmas.Bool.Decides.{Decides-int_eq}
 use Rattle.std.specs.declared.cmp.Ordering.{Ordering}
 use Rattle.std.specs.Ordering.{int_eq, int_cmp}
-use Rattle.py_value.specs.declared.operator.BinOp.{BinOp}
-use Rattle.py_value.specs.declared.operator.BinOp.TheVariants.{Add, Sub, Mul, Floor, Mod}
 use Rattle.py_value.specs.declared.operator.CmpOp.{CmpOp}
 use Rattle.py_value.specs.declared.cause.Cause.{Cause}
-use Rattle.py_value.specs.declared.value.Value.{Value}
 use Rattle.py_value.specs.Answers.{◌>>=◌}
 use Rattle.py_value.specs.Plain.{PlainHeap, int_value}
-use Rattle.py_value.specs.View.{after_step, IsNumberOf}
-use Rattle.py_value.specs.Numbers.{arithmetic}
 use Rattle.py_value.specs.Comparison.{equal_within, order_within, most_levels}
-use Rattle.py_value.specs.Operators.{Answer, gives, binary_answer, in_place_answer, compare_answer}
+use Rattle.py_value.specs.Operators.{compare_answer}
 use Rattle.py_value.proofs.KeyLaws.{same_answer}
-
--- a number, with the heap as it was
-abbrev number_given : PlainHeap → Result ℤ Cause → Answer
-number_given h r = r >>= λ n. gives h (int_value n)
-
-binary-numbers : (op : BinOp) (x y : ℤ) (h : PlainHeap) → number_given h (arithmetic op x y) ≡ binary_answer op (int_value x) (int_value y) h
-binary-numbers Add x y h = refl
-binary-numbers Sub x y h = refl
-binary-numbers Mul x y h = refl
-binary-numbers Floor x y h = refl
-binary-numbers Mod x y h = refl
-
-after-number : (step : Result Value Cause) (number : Result ℤ Cause) (h : PlainHeap) → IsNumberOf step number → after_step step h ≡ number_given h number
-after-number (Ok v) number h w = ap (λ u. let a : Answer = Ok (u, h) in a) w.2 ∙ sym (ap (number_given h) w.1)
-after-number (Err cause) number h e = sym (ap (number_given h) e)
-
--- what an arithmetic operator answers
-pub number-step : (op : BinOp) (x y : ℤ) (step : Result Value Cause) (h : PlainHeap) → IsNumberOf step (arithmetic op x y) → after_step step h ≡ binary_answer op (int_value x) (int_value y) h
-number-step op x y step h w = after-number step (arithmetic op x y) h w ∙ binary-numbers op x y h
-
-in_place-numbers : (op : BinOp) (x y : ℤ) (h : PlainHeap) → binary_answer op (int_value x) (int_value y) h ≡ in_place_answer op (int_value x) (int_value y) h
-in_place-numbers Add x y h = refl
-in_place-numbers Sub x y h = refl
-in_place-numbers Mul x y h = refl
-in_place-numbers Floor x y h = refl
-in_place-numbers Mod x y h = refl
-
-pub number-step-in_place : (op : BinOp) (x y : ℤ) (step : Result Value Cause) (h : PlainHeap) → IsNumberOf step (arithmetic op x y) → after_step step h ≡ in_place_answer op (int_value x) (int_value y) h
-number-step-in_place op x y step h w = number-step op x y step h w ∙ in_place-numbers op x y h
 
 -- numbers of 64 bits are equal where their bits are
 same-bits : (x y : ℤ) → SFits w64 x → SFits w64 y → nat_eq (of_z w64 x) (of_z w64 y) ≡ int_eq x y

@@ -6,6 +6,7 @@ use Rattle.py_value.specs.declared.exception.ExcKind.{ExcKind}
 use Rattle.py_value.specs.declared.exception.ExcKind.TheVariants.{ValueError, ZeroDivisionError, KeyError, EOFError, MemoryError, IndexError, RuntimeError, RecursionError, TypeError, OverflowError}
 use Rattle.py_value.specs.Plain.{PlainValue, str_value, no_argument, argument, PlainRaised, may_nest}
 
+-- the kind of exception of a cause
 abbrev pub kind_of : Cause → ExcKind
 kind_of UnsupportedOperand = TypeError
 kind_of NotCallable = TypeError
@@ -68,4 +69,5 @@ raised_by cause = record { kind = kind_of cause; arg = argument (str_value (text
 
 -- a `KeyError` with the key as its argument, where that may be an argument
 abbrev pub key_error : PlainValue → PlainRaised
-key_error key = if may_nest key then record { kind = KeyError; arg = argument key } else raised_by TooDeep
+key_error key =
+    if may_nest key then record { kind = KeyError; arg = argument key } else raised_by TooDeep

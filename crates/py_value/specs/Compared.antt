@@ -19,6 +19,7 @@ is_answer v none_value = Ok (is_none_value v)
 is_answer v (bool_value b) = Ok (is_bool_value b v)
 is_answer v w = Err (raised_by UnsupportedOperand)
 
+-- a comparison of two values
 abbrev pub compared : Comparison → PlainValue → PlainValue → PlainHeap → Result Bool PlainRaised
 compared (relates op) v w h = compare_of op v w h
 compared is_it v w h = is_answer v w

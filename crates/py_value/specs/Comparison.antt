@@ -1,5 +1,5 @@
--- Equality and order of values (Python Language Reference, 6.10): walks from left to right, through at most
--- 200 values inside each other.
+-- Equality and order of values (Python Language Reference, 6.10): walks from left to right, through
+-- at most 200 values inside each other.
 --     are_equal, are_equal_dicts, are_equal_arguments     what two values hold, part by part
 --     is_same_atom                                        two values that hold no others
 --     equal_step, equal_within                            `==`
@@ -30,47 +30,60 @@ if_same true rest = rest
 if_same false rest = Ok false
 
 -- item by item
-abbrev pub are_equal_items : (PlainValue → PlainValue → Result Bool Cause) → List PlainValue → List PlainValue → Result Bool Cause
+abbrev pub are_equal_items : (PlainValue → PlainValue → Result Bool Cause) → List PlainValue
+    → List PlainValue → Result Bool Cause
 are_equal_items equal [] ys = Ok true
 are_equal_items equal (x ∷ xs) [] = Ok true
-are_equal_items equal (x ∷ xs) (y ∷ ys) = equal x y >>= λ same. if_same same (are_equal_items equal xs ys)
+are_equal_items equal (x ∷ xs) (y ∷ ys) =
+    equal x y >>= λ same. if_same same (are_equal_items equal xs ys)
 
 -- sequences of unequal length differ before any item is compared
-abbrev pub are_equal : (PlainValue → PlainValue → Result Bool Cause) → List PlainValue → List PlainValue → Result Bool Cause
+abbrev pub are_equal : (PlainValue → PlainValue → Result Bool Cause) → List PlainValue
+    → List PlainValue → Result Bool Cause
 are_equal equal xs ys = if_same (length xs == length ys) (are_equal_items equal xs ys)
 
 -- a value and the one at the same key
-abbrev pub is_equal_at : (PlainValue → PlainValue → Result Bool Cause) → PlainValue → Option PlainValue → Result Bool Cause
+abbrev pub is_equal_at : (PlainValue → PlainValue → Result Bool Cause) → PlainValue
+    → Option PlainValue → Result Bool Cause
 is_equal_at equal v None = Ok false
 is_equal_at equal v (Some w) = equal v w
 
 -- the pairs of one dict in another, whatever their order
-abbrev pub are_equal_pairs : (PlainValue → PlainValue → Result Bool Cause) → List (PlainValue × PlainValue) → List (PlainValue × PlainValue) → Result Bool Cause
+abbrev pub are_equal_pairs : (PlainValue → PlainValue → Result Bool Cause)
+    → List (PlainValue × PlainValue) → List (PlainValue × PlainValue) → Result Bool Cause
 are_equal_pairs equal [] qs = Ok true
-are_equal_pairs equal (p ∷ ps) qs = is_equal_at equal p.1 (value_at p.0 qs) >>= λ same. if_same same (are_equal_pairs equal ps qs)
+are_equal_pairs equal (p ∷ ps) qs =
+    is_equal_at equal p.1 (value_at p.0 qs) >>= λ same. if_same same (are_equal_pairs equal ps qs)
 
 -- dicts of unequal length differ before any pair is compared
-abbrev pub are_equal_dicts : (PlainValue → PlainValue → Result Bool Cause) → List (PlainValue × PlainValue) → List (PlainValue × PlainValue) → Result Bool Cause
+abbrev pub are_equal_dicts : (PlainValue → PlainValue → Result Bool Cause)
+    → List (PlainValue × PlainValue) → List (PlainValue × PlainValue) → Result Bool Cause
 are_equal_dicts equal ps qs = if_same (length ps == length qs) (are_equal_pairs equal ps qs)
 
-abbrev pub are_equal_arguments : (PlainValue → PlainValue → Result Bool Cause) → PlainArgument → PlainArgument → Result Bool Cause
+-- arguments of exceptions
+abbrev pub are_equal_arguments : (PlainValue → PlainValue → Result Bool Cause) → PlainArgument
+    → PlainArgument → Result Bool Cause
 are_equal_arguments equal no_argument no_argument = Ok true
 are_equal_arguments equal (argument v) (argument w) = equal v w
 are_equal_arguments equal _ _ = Ok false
 
+-- one function
 abbrev pub is_same_function : FuncId → FuncId → Bool
 is_same_function f g = nat_eq f.module g.module && nat_eq f.unit g.unit
 
+-- one place, or none
 abbrev pub is_same_place : Option ℕ → Option ℕ → Bool
 is_same_place None None = true
 is_same_place (Some a) (Some b) = nat_eq a b
 is_same_place _ _ = false
 
+-- one module
 abbrev pub is_same_module : ModId → ModId → Bool
 is_same_module (Loaded m) (Loaded n) = nat_eq m n
 is_same_module Sys Sys = true
 is_same_module _ _ = false
 
+-- the number of a built-in function
 abbrev pub builtin_number : Builtin → ℕ
 builtin_number Print = 0
 builtin_number Len = 1
@@ -81,9 +94,11 @@ builtin_number Int = 5
 builtin_number Input = 6
 builtin_number Exit = 7
 
+-- one built-in function
 abbrev pub is_same_builtin : Builtin → Builtin → Bool
 is_same_builtin f g = nat_eq (builtin_number f) (builtin_number g)
 
+-- numbers of one value
 abbrev pub is_same_number : Option ℤ → Option ℤ → Bool
 is_same_number (Some x) (Some y) = int_eq x y
 is_same_number _ _ = false
@@ -98,12 +113,14 @@ is_same_atom (builtin_value f) (builtin_value g) = is_same_builtin f g
 is_same_atom a b = is_same_number (number_of a) (number_of b)
 
 -- `==` of two values, where `equal` compares the values inside them
-abbrev pub equal_step : (PlainValue → PlainValue → Result Bool Cause) → PlainHeap → PlainValue → PlainValue → Result Bool Cause
+abbrev pub equal_step : (PlainValue → PlainValue → Result Bool Cause) → PlainHeap → PlainValue
+    → PlainValue → Result Bool Cause
 equal_step equal h (str_value s) (str_value t) = Ok (is_same_text s t)
 equal_step equal h (tuple_value vs) (tuple_value ws) = are_equal equal (listed vs) (listed ws)
 equal_step equal h (list_at a) (list_at b) = are_equal equal (list_items h a) (list_items h b)
 equal_step equal h (dict_at a) (dict_at b) = are_equal_dicts equal (dict_pairs h a) (dict_pairs h b)
-equal_step equal h (exc_value k a) (exc_value l b) = if_same (is_same_kind k l) (are_equal_arguments equal a b)
+equal_step equal h (exc_value k a) (exc_value l b) =
+    if_same (is_same_kind k l) (are_equal_arguments equal a b)
 equal_step equal h a b = Ok (is_same_atom a b)
 
 -- `==`, going through at most so many values inside each other
@@ -119,21 +136,29 @@ order_of_texts (c ∷ cs) [] = Greater
 order_of_texts (c ∷ cs) (d ∷ ds) = if nat_eq c d then order_of_texts cs ds else nat_cmp c d
 
 -- by the first unequal item, else by length
-abbrev pub order_of_items : (PlainValue → PlainValue → Result Bool Cause) → (PlainValue → PlainValue → Result Ordering Cause) → List PlainValue → List PlainValue → Result Ordering Cause
+abbrev pub order_of_items : (PlainValue → PlainValue → Result Bool Cause)
+    → (PlainValue → PlainValue → Result Ordering Cause) → List PlainValue → List PlainValue
+    → Result Ordering Cause
 order_of_items equal order [] [] = Ok Equal
 order_of_items equal order [] (y ∷ ys) = Ok Less
 order_of_items equal order (x ∷ xs) [] = Ok Greater
-order_of_items equal order (x ∷ xs) (y ∷ ys) = equal x y >>= λ same. if same then order_of_items equal order xs ys else order x y
+order_of_items equal order (x ∷ xs) (y ∷ ys) =
+    equal x y >>= λ same. if same then order_of_items equal order xs ys else order x y
 
+-- the order of two numbers
 abbrev pub order_of_numbers : Option ℤ → Option ℤ → Result Ordering Cause
 order_of_numbers (Some x) (Some y) = Ok (int_cmp x y)
 order_of_numbers _ _ = Err UnsupportedOperand
 
 -- the order of two values, where `equal` and `order` compare the values inside them
-abbrev pub order_step : (PlainValue → PlainValue → Result Bool Cause) → (PlainValue → PlainValue → Result Ordering Cause) → PlainHeap → PlainValue → PlainValue → Result Ordering Cause
+abbrev pub order_step : (PlainValue → PlainValue → Result Bool Cause)
+    → (PlainValue → PlainValue → Result Ordering Cause) → PlainHeap → PlainValue → PlainValue
+    → Result Ordering Cause
 order_step equal order h (str_value s) (str_value t) = Ok (order_of_texts s t)
-order_step equal order h (tuple_value vs) (tuple_value ws) = order_of_items equal order (listed vs) (listed ws)
-order_step equal order h (list_at a) (list_at b) = order_of_items equal order (list_items h a) (list_items h b)
+order_step equal order h (tuple_value vs) (tuple_value ws) =
+    order_of_items equal order (listed vs) (listed ws)
+order_step equal order h (list_at a) (list_at b) =
+    order_of_items equal order (list_items h a) (list_items h b)
 order_step equal order h a b = order_of_numbers (number_of a) (number_of b)
 
 -- the order, going through at most so many values inside each other
@@ -146,6 +171,7 @@ abbrev pub most_levels : ℕ
 most_levels = 200
 
 -- whether some item equals a value
-abbrev pub is_item : (PlainValue → PlainValue → Result Bool Cause) → PlainValue → List PlainValue → Result Bool Cause
+abbrev pub is_item : (PlainValue → PlainValue → Result Bool Cause) → PlainValue → List PlainValue
+    → Result Bool Cause
 is_item equal v [] = Ok false
 is_item equal v (x ∷ xs) = equal v x >>= λ same. if same then Ok true else is_item equal v xs

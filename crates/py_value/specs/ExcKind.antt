@@ -51,6 +51,7 @@ kind_number RecursionError = 18
 kind_number TypeError = 19
 kind_number ValueError = 20
 
+-- one kind
 abbrev pub is_same_kind : ExcKind → ExcKind → Bool
 is_same_kind a b = nat_eq (kind_number a) (kind_number b)
 
@@ -58,7 +59,8 @@ is_same_kind a b = nat_eq (kind_number a) (kind_number b)
 abbrev pub is_met : ℕ → Option ExcKind → ExcKind → Bool
 is_met steps None other = false
 is_met zero (Some kind) other = false
-is_met (suc steps) (Some kind) other = is_same_kind kind other || is_met steps (parent_of kind) other
+is_met (suc steps) (Some kind) other =
+    is_same_kind kind other || is_met steps (parent_of kind) other
 
 -- whether the first kind is the second or stands under it; the tree is four kinds high
 abbrev pub is_or_under : ExcKind → ExcKind → Bool

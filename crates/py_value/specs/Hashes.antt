@@ -7,6 +7,7 @@ use Rattle.py_value.specs.Keys.{is_same_key}
 abbrev pub mixed : ℕ → ℕ → ℕ
 mixed hash n = (hash * 31 % 2 ^ 64 + n) % 2 ^ 64
 
+-- a hash with numbers mixed in, one by one
 abbrev pub mixed_all : ℕ → List ℕ → ℕ
 mixed_all hash [] = hash
 mixed_all hash (n ∷ ns) = mixed_all (mixed hash n) ns
@@ -40,18 +41,23 @@ is_among i (k ∷ ks) = nat_eq i k || is_among i ks
 abbrev pub named : List (List ℕ) → ℕ → List ℕ
 named index hash = get_or index (hash % length index) []
 
+-- an index with one more place
 abbrev pub with_place : List (List ℕ) → ℕ → ℕ → List (List ℕ)
 with_place index hash place = set index (hash % length index) (named index hash ++ place ∷ [])
 
 -- that an index, unless it is empty, names each pair's place for its key's hash
 abbrev pub IsIndex : List (List ℕ) → List (PlainValue × PlainValue) → Type 0
-IsIndex index pairs = 0 < length index → (i : ℕ) (p : PlainValue × PlainValue) → slice_get pairs i ≡ Some p → IsTrue (is_among i (named index (hash_of p.0)))
+IsIndex index pairs =
+    0 < length index → (i : ℕ) (p : PlainValue × PlainValue) → slice_get pairs i ≡ Some p
+    → IsTrue (is_among i (named index (hash_of p.0)))
 
--- the first of these places whose pair has the key
+-- whether a pair, where there is one, has the key
 abbrev pub has_key : PlainValue → Option (PlainValue × PlainValue) → Bool
 has_key key None = false
 has_key key (Some p) = is_same_key key p.0
 
+-- the first of these places whose pair has the key
 abbrev pub first_with : PlainValue → List (PlainValue × PlainValue) → List ℕ → Option ℕ
 first_with key pairs [] = None
-first_with key pairs (i ∷ is) = if has_key key (slice_get pairs i) then Some i else first_with key pairs is
+first_with key pairs (i ∷ is) =
+    if has_key key (slice_get pairs i) then Some i else first_with key pairs is

@@ -8,19 +8,24 @@ abbrev pub items_of : PlainObject → List PlainValue
 items_of (list_object vs) = vs
 items_of (dict_object ps) = []
 
+-- the pairs of a dict
 abbrev pub pairs_of : PlainObject → List (PlainValue × PlainValue)
 pairs_of (list_object vs) = []
 pairs_of (dict_object ps) = ps
 
+-- the object at an address
 abbrev pub object_at : PlainHeap → ℕ → PlainObject
 object_at h a = slice_index_or h a (list_object [])
 
+-- the items of the list at an address
 abbrev pub list_items : PlainHeap → ℕ → List PlainValue
 list_items h a = items_of (object_at h a)
 
+-- the pairs of the dict at an address
 abbrev pub dict_pairs : PlainHeap → ℕ → List (PlainValue × PlainValue)
 dict_pairs h a = pairs_of (object_at h a)
 
+-- the keys of the dict at an address
 abbrev pub dict_keys : PlainHeap → ℕ → List PlainValue
 dict_keys h a = map (λ p. p.0) (dict_pairs h a)
 
@@ -34,7 +39,9 @@ abbrev pub with_items : (List PlainValue → List PlainValue) → PlainObject �
 with_items f (list_object vs) = list_object (f vs)
 with_items f (dict_object ps) = dict_object ps
 
-abbrev pub with_pairs : (List (PlainValue × PlainValue) → List (PlainValue × PlainValue)) → PlainObject → PlainObject
+-- a dict with its pairs changed
+abbrev pub with_pairs : (List (PlainValue × PlainValue) → List (PlainValue × PlainValue))
+    → PlainObject → PlainObject
 with_pairs f (list_object vs) = list_object vs
 with_pairs f (dict_object ps) = dict_object (f ps)
 
@@ -42,16 +49,20 @@ with_pairs f (dict_object ps) = dict_object (f ps)
 abbrev pub change : PlainHeap → ℕ → (PlainObject → PlainObject) → PlainHeap
 change h a f = slice_set h a (f (object_at h a))
 
+-- a heap with the list at an address changed
 abbrev pub change_list : PlainHeap → ℕ → (List PlainValue → List PlainValue) → PlainHeap
 change_list h a f = slice_set h a (with_items f (object_at h a))
 
-abbrev pub change_dict : PlainHeap → ℕ → (List (PlainValue × PlainValue) → List (PlainValue × PlainValue)) → PlainHeap
+-- a heap with the dict at an address changed
+abbrev pub change_dict : PlainHeap → ℕ
+    → (List (PlainValue × PlainValue) → List (PlainValue × PlainValue)) → PlainHeap
 change_dict h a f = slice_set h a (with_pairs f (object_at h a))
 
 -- the heap with a new object at its end
 abbrev pub with_object : PlainHeap → PlainObject → PlainHeap
 with_object h o = h ++ o ∷ []
 
+-- whether an object is a list
 abbrev pub is_list_object : PlainObject → Bool
 is_list_object (list_object vs) = true
 is_list_object (dict_object ps) = false

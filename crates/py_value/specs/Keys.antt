@@ -38,14 +38,17 @@ abbrev mutual
 -- the place of a key, and its value
 abbrev pub place_of_key : PlainValue → List (PlainValue × PlainValue) → Option ℕ
 place_of_key key [] = None
-place_of_key key (p ∷ ps) = if is_same_key key p.0 then Some 0 else option_map (λ i. suc i) (place_of_key key ps)
+place_of_key key (p ∷ ps) =
+    if is_same_key key p.0 then Some 0 else option_map (λ i. suc i) (place_of_key key ps)
 
+-- the value of a key
 abbrev pub value_at : PlainValue → List (PlainValue × PlainValue) → Option PlainValue
 value_at key [] = None
 value_at key (p ∷ ps) = if is_same_key key p.0 then Some p.1 else value_at key ps
 
 -- the pairs with a key's value set: a present key keeps its place, and a new one goes last
-abbrev pub with_value : PlainValue → PlainValue → List (PlainValue × PlainValue) → List (PlainValue × PlainValue)
+abbrev pub with_value : PlainValue → PlainValue → List (PlainValue × PlainValue)
+    → List (PlainValue × PlainValue)
 with_value key v [] = (key, v) ∷ []
 with_value key v (p ∷ ps) = if is_same_key key p.0 then (p.0, v) ∷ ps else p ∷ with_value key v ps
 
@@ -54,6 +57,7 @@ abbrev pub has_none_same : PlainValue → List (PlainValue × PlainValue) → Bo
 has_none_same key [] = true
 has_none_same key (p ∷ ps) = not (is_same_key p.0 key) && has_none_same key ps
 
+-- whether no key stands twice
 abbrev pub has_distinct_keys : List (PlainValue × PlainValue) → Bool
 has_distinct_keys [] = true
 has_distinct_keys (p ∷ ps) = has_none_same p.0 ps && has_distinct_keys ps
@@ -63,6 +67,7 @@ abbrev pub has_only_keys : List (PlainValue × PlainValue) → Bool
 has_only_keys [] = true
 has_only_keys (p ∷ ps) = is_key p.0 && has_only_keys ps
 
+-- whether the keys of a dict are keys, each once
 abbrev pub is_sound_object : PlainObject → Bool
 is_sound_object (list_object vs) = true
 is_sound_object (dict_object ps) = has_only_keys ps && has_distinct_keys ps

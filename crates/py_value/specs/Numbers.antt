@@ -6,6 +6,7 @@ use Rattle.py_value.specs.declared.cause.Cause.{Cause}
 use Rattle.py_value.specs.declared.cause.Cause.TheVariants.{DivisionByZero, IntegerTooLarge}
 use Rattle.py_value.specs.Plain.{PlainValue, bool_value, int_value}
 
+-- a truth as a number
 abbrev pub number_of_bool : Bool → ℤ
 number_of_bool true = pos 1
 number_of_bool false = pos 0
@@ -16,6 +17,7 @@ number_of (bool_value b) = Some (number_of_bool b)
 number_of (int_value n) = Some n
 number_of _ = None
 
+-- whether a number fits 64 bits
 abbrev pub fits_64_bits : ℤ → Bool
 fits_64_bits (pos n) = nat_lt n (2 ^ 63)
 fits_64_bits (negsuc n) = nat_lt n (2 ^ 63)
@@ -36,6 +38,7 @@ floor_div (negsuc a) (negsuc b) = pos (suc a / suc b)
 abbrev pub floor_mod : ℤ → ℤ → ℤ
 floor_mod x y = x -ℤ y *ℤ floor_div x y
 
+-- whether a number is zero
 abbrev pub is_zero : ℤ → Bool
 is_zero (pos zero) = true
 is_zero _ = false

@@ -36,6 +36,7 @@ abbrev pub listed : PlainValues → List PlainValue
 listed no_values = []
 listed (value_then v vs) = v ∷ listed vs
 
+-- a list as the items of a tuple
 abbrev pub packed : List PlainValue → PlainValues
 packed [] = no_values
 packed (v ∷ vs) = value_then v (packed vs)

@@ -1,4 +1,11 @@
 -- How plain values are told from each other: a code for each, by which a proof knows it again.
+--     number_at                                   the number of a code
+--     kind_at, builtin_at                         a kind of exceptions and a built-in by its number
+--     code_bool .. code_module, bool_at ..        the parts of a value, and back
+--     code_value, code_values, code_argument      a value, the items of a tuple, an argument
+--     value_at, values_at, argument_at            what has a code
+--     value_back, values_back, argument_back      each is what has its code
+--     coded_values, coded_argument                the codes of tuples and of arguments
 use Rattle.std.specs.Prelude.{◌≡◌, ℕ, zero, suc, nat_eq, ℤ, pos, negsuc, Bool, true, false, if◌then◌else◌, List, [], ◌∷◌, Option, Some, None}
 use Rattle.std.proofs.Common.{refl, ap, sym, ◌∙◌}
 use base.Stored.{Gv, gnil, gnum, gcons, Coded}
@@ -19,7 +26,27 @@ number_at (gcons a b) = 0
 
 -- the kind with a number
 abbrev pub kind_at : ℕ → ExcKind
-kind_at n = if nat_eq n 0 then BaseException else (if nat_eq n 1 then SystemExit else (if nat_eq n 2 then Exception else (if nat_eq n 3 then ArithmeticError else (if nat_eq n 4 then ZeroDivisionError else (if nat_eq n 5 then OverflowError else (if nat_eq n 6 then AssertionError else (if nat_eq n 7 then AttributeError else (if nat_eq n 8 then EOFError else (if nat_eq n 9 then ImportError else (if nat_eq n 10 then ModuleNotFoundError else (if nat_eq n 11 then LookupError else (if nat_eq n 12 then IndexError else (if nat_eq n 13 then KeyError else (if nat_eq n 14 then MemoryError else (if nat_eq n 15 then NameError else (if nat_eq n 16 then UnboundLocalError else (if nat_eq n 17 then RuntimeError else (if nat_eq n 18 then RecursionError else (if nat_eq n 19 then TypeError else ValueError)))))))))))))))))))
+kind_at n =
+    if nat_eq n 0 then BaseException else
+    (if nat_eq n 1 then SystemExit else
+    (if nat_eq n 2 then Exception else
+    (if nat_eq n 3 then ArithmeticError else
+    (if nat_eq n 4 then ZeroDivisionError else
+    (if nat_eq n 5 then OverflowError else
+    (if nat_eq n 6 then AssertionError else
+    (if nat_eq n 7 then AttributeError else
+    (if nat_eq n 8 then EOFError else
+    (if nat_eq n 9 then ImportError else
+    (if nat_eq n 10 then ModuleNotFoundError else
+    (if nat_eq n 11 then LookupError else
+    (if nat_eq n 12 then IndexError else
+    (if nat_eq n 13 then KeyError else
+    (if nat_eq n 14 then MemoryError else
+    (if nat_eq n 15 then NameError else
+    (if nat_eq n 16 then UnboundLocalError else
+    (if nat_eq n 17 then RuntimeError else
+    (if nat_eq n 18 then RecursionError else
+    (if nat_eq n 19 then TypeError else ValueError)))))))))))))))))))
 
 kind_back : (k : ExcKind) → kind_at (kind_number k) ≡ k
 kind_back BaseException = refl
@@ -44,7 +71,7 @@ kind_back RecursionError = refl
 kind_back TypeError = refl
 kind_back ValueError = refl
 
--- the built-in function with a number
+-- the number of a built-in function
 abbrev pub number_of_builtin : Builtin → ℕ
 number_of_builtin Print = 0
 number_of_builtin Len = 1
@@ -55,8 +82,15 @@ number_of_builtin Int = 5
 number_of_builtin Input = 6
 number_of_builtin Exit = 7
 
+-- the built-in function with a number
 abbrev pub builtin_at : ℕ → Builtin
-builtin_at n = if nat_eq n 0 then Print else (if nat_eq n 1 then Len else (if nat_eq n 2 then Range else (if nat_eq n 3 then Str else (if nat_eq n 4 then Repr else (if nat_eq n 5 then Int else (if nat_eq n 6 then Input else Exit))))))
+builtin_at n =
+    if nat_eq n 0 then Print else
+    (if nat_eq n 1 then Len else
+    (if nat_eq n 2 then Range else
+    (if nat_eq n 3 then Str else
+    (if nat_eq n 4 then Repr else
+    (if nat_eq n 5 then Int else (if nat_eq n 6 then Input else Exit))))))
 
 builtin_back : (b : Builtin) → builtin_at (number_of_builtin b) ≡ b
 builtin_back Print = refl
@@ -73,6 +107,7 @@ abbrev pub code_bool : Bool → Gv
 code_bool false = gnil
 code_bool true = gnum 0
 
+-- a truth of its code
 abbrev pub bool_at : Gv → Bool
 bool_at (gnum n) = true
 bool_at _ = false
@@ -81,10 +116,12 @@ bool_back : (b : Bool) → bool_at (code_bool b) ≡ b
 bool_back false = refl
 bool_back true = refl
 
+-- a number
 abbrev pub code_int : ℤ → Gv
 code_int (pos n) = gcons gnil (gnum n)
 code_int (negsuc n) = gnum n
 
+-- a number of its code
 abbrev pub int_at : Gv → ℤ
 int_at (gcons a g) = pos (number_at g)
 int_at (gnum n) = negsuc n
@@ -94,10 +131,12 @@ int_back : (n : ℤ) → int_at (code_int n) ≡ n
 int_back (pos n) = refl
 int_back (negsuc n) = refl
 
+-- a list of characters
 abbrev pub code_numbers : List ℕ → Gv
 code_numbers [] = gnil
 code_numbers (n ∷ ns) = gcons (gnum n) (code_numbers ns)
 
+-- a list of characters of its code
 abbrev pub numbers_at : Gv → List ℕ
 numbers_at (gcons a g) = number_at a ∷ numbers_at g
 numbers_at _ = []
@@ -106,10 +145,12 @@ numbers_back : (ns : List ℕ) → numbers_at (code_numbers ns) ≡ ns
 numbers_back [] = refl
 numbers_back (n ∷ ns) = ap (λ ms. n ∷ ms) (numbers_back ns)
 
+-- an address, where there is one
 abbrev pub code_place : Option ℕ → Gv
 code_place None = gnil
 code_place (Some n) = gnum n
 
+-- an address of its code
 abbrev pub place_at : Gv → Option ℕ
 place_at (gnum n) = Some n
 place_at _ = None
@@ -118,10 +159,12 @@ place_back : (p : Option ℕ) → place_at (code_place p) ≡ p
 place_back None = refl
 place_back (Some n) = refl
 
+-- a module
 abbrev pub code_module : ModId → Gv
 code_module Sys = gnil
 code_module (Loaded m) = gnum m
 
+-- a module of its code
 abbrev pub module_at : Gv → ModId
 module_at (gnum m) = Loaded m
 module_at _ = Sys
@@ -140,7 +183,8 @@ abbrev mutual
   code_value (tuple_value vs) = gcons (gnum 3) (code_values vs)
   code_value (list_at a) = gcons (gnum 4) (gnum a)
   code_value (dict_at a) = gcons (gnum 5) (gnum a)
-  code_value (func_value f a) = gcons (gnum 6) (gcons (gcons (gnum f.module) (gnum f.unit)) (code_place a))
+  code_value (func_value f a) =
+      gcons (gnum 6) (gcons (gcons (gnum f.module) (gnum f.unit)) (code_place a))
   code_value (module_value m) = gcons (gnum 7) (code_module m)
   code_value (kind_value k) = gcons (gnum 8) (gnum (kind_number k))
   code_value (exc_value k a) = gcons (gnum 9) (gcons (gnum (kind_number k)) (code_argument a))
@@ -162,10 +206,14 @@ abbrev mutual
   value_at (gcons (gnum (suc (suc (suc zero)))) g) = tuple_value (values_at g)
   value_at (gcons (gnum (suc (suc (suc (suc zero))))) g) = list_at (number_at g)
   value_at (gcons (gnum (suc (suc (suc (suc (suc zero)))))) g) = dict_at (number_at g)
-  value_at (gcons (gnum (suc (suc (suc (suc (suc (suc zero))))))) (gcons (gcons m u) a)) = func_value (record { «module» = number_at m; unit = number_at u }) (place_at a)
-  value_at (gcons (gnum (suc (suc (suc (suc (suc (suc (suc zero)))))))) g) = module_value (module_at g)
-  value_at (gcons (gnum (suc (suc (suc (suc (suc (suc (suc (suc zero))))))))) g) = kind_value (kind_at (number_at g))
-  value_at (gcons (gnum (suc (suc (suc (suc (suc (suc (suc (suc (suc zero)))))))))) (gcons k g)) = exc_value (kind_at (number_at k)) (argument_at g)
+  value_at (gcons (gnum (suc (suc (suc (suc (suc (suc zero))))))) (gcons (gcons m u) a)) =
+      func_value (record { «module» = number_at m; unit = number_at u }) (place_at a)
+  value_at (gcons (gnum (suc (suc (suc (suc (suc (suc (suc zero)))))))) g) =
+      module_value (module_at g)
+  value_at (gcons (gnum (suc (suc (suc (suc (suc (suc (suc (suc zero))))))))) g) =
+      kind_value (kind_at (number_at g))
+  value_at (gcons (gnum (suc (suc (suc (suc (suc (suc (suc (suc (suc zero)))))))))) (gcons k g)) =
+      exc_value (kind_at (number_at k)) (argument_at g)
   value_at (gcons gnil g) = builtin_value (builtin_at (number_at g))
   value_at _ = none_value
 
@@ -189,19 +237,31 @@ mutual
   value_back (func_value f a) = ap (λ p. func_value f p) (place_back a)
   value_back (module_value m) = ap module_value (module_back m)
   value_back (kind_value k) = ap kind_value (kind_back k)
-  value_back (exc_value k a) = ap (λ l. exc_value l (argument_at (code_argument a))) (kind_back k) ∙ ap (λ b. exc_value k b) (argument_back a)
+  value_back (exc_value k a) =
+      ap (λ l. exc_value l (argument_at (code_argument a))) (kind_back k)
+      ∙ ap (λ b. exc_value k b) (argument_back a)
   value_back (builtin_value b) = ap builtin_value (builtin_back b)
 
   pub values_back : (vs : PlainValues) → values_at (code_values vs) ≡ vs
   values_back no_values = refl
-  values_back (value_then v vs) = ap (λ w. value_then w (values_at (code_values vs))) (value_back v) ∙ ap (λ ws. value_then v ws) (values_back vs)
+  values_back (value_then v vs) =
+      ap (λ w. value_then w (values_at (code_values vs))) (value_back v)
+      ∙ ap (λ ws. value_then v ws) (values_back vs)
 
   pub argument_back : (a : PlainArgument) → argument_at (code_argument a) ≡ a
   argument_back no_argument = refl
   argument_back (argument v) = ap argument (value_back v)
 
+-- the codes of tuples tell them apart
 abbrev pub coded_values : Coded PlainValues
-coded_values = record { code = code_values; inj = λ x y e. sym (values_back x) ∙ ap values_at e ∙ values_back y }
+coded_values = record {
+  code = code_values;
+  inj = λ x y e. sym (values_back x) ∙ ap values_at e ∙ values_back y;
+}
 
+-- the codes of arguments tell them apart
 abbrev pub coded_argument : Coded PlainArgument
-coded_argument = record { code = code_argument; inj = λ x y e. sym (argument_back x) ∙ ap argument_at e ∙ argument_back y }
+coded_argument = record {
+  code = code_argument;
+  inj = λ x y e. sym (argument_back x) ∙ ap argument_at e ∙ argument_back y;
+}

@@ -3,6 +3,7 @@ use Rattle.std.specs.Prelude.{ℕ, zero, suc, ◌-◌, ◌*◌, nat_lt, nat_le, 
 use Rattle.py_value.specs.declared.cause.Cause.{Cause}
 use Rattle.py_value.specs.declared.cause.Cause.TheVariants.{TooManyItems}
 
+-- the most items of a list, and characters of a text
 abbrev pub most_items : ℕ
 most_items = 1048576
 
@@ -10,6 +11,7 @@ most_items = 1048576
 abbrev pub within_limit : {A : Type 0} → List A → Result (List A) Cause
 within_limit xs = if nat_le (length xs) most_items then Ok xs else Err TooManyItems
 
+-- one list after another
 abbrev pub joined : {A : Type 0} → List A → List A → Result (List A) Cause
 joined xs ys = within_limit (xs ++ ys)
 
@@ -18,13 +20,17 @@ abbrev pub times : ℤ → ℕ
 times (pos n) = n
 times (negsuc n) = 0
 
+-- a list so many times
 abbrev pub repeat : {A : Type 0} → ℕ → List A → List A
 repeat zero xs = []
 repeat (suc n) xs = xs ++ repeat n xs
 
+-- a list so many times, where it is not too long
 abbrev pub repeated : {A : Type 0} → ℤ → List A → Result (List A) Cause
 repeated n [] = Ok []
-repeated n (x ∷ xs) = if nat_le (times n * length (x ∷ xs)) most_items then Ok (repeat (times n) (x ∷ xs)) else Err TooManyItems
+repeated n (x ∷ xs) =
+    if nat_le (times n * length (x ∷ xs)) most_items then Ok (repeat (times n) (x ∷ xs)) else
+    Err TooManyItems
 
 -- the place that an index names among so many items, from the end where it is negative
 abbrev pub place_among : ℕ → ℤ → Option ℕ
@@ -36,10 +42,12 @@ abbrev pub bound_among : ℕ → ℤ → ℕ
 bound_among count (pos i) = min i count
 bound_among count (negsuc i) = count - suc i
 
+-- where a slice begins
 abbrev pub first_bound : ℕ → Option ℤ → ℕ
 first_bound count None = 0
 first_bound count (Some i) = bound_among count i
 
+-- where a slice ends
 abbrev pub last_bound : ℕ → Option ℤ → ℕ
 last_bound count None = count
 last_bound count (Some i) = bound_among count i
@@ -56,6 +64,7 @@ begins [] ds = true
 begins (c ∷ cs) [] = false
 begins (c ∷ cs) (d ∷ ds) = nat_eq c d && begins cs ds
 
+-- whether a text stands in another
 abbrev pub is_part : List ℕ → List ℕ → Bool
 is_part cs [] = begins cs []
 is_part cs (d ∷ ds) = begins cs (d ∷ ds) || is_part cs ds

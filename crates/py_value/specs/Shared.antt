@@ -1,4 +1,10 @@
--- The plain view of values, level by level: what a tuple and an exception hold is seen plainly already.
+-- The plain view of values, level by level: what a tuple and an exception hold is seen plainly
+-- already.
+--     place_of, plain, plains                   an address, a value and a list of values
+--     plain_held, items_view, argument_view     what the items of a tuple and an argument are
+--     most_nested, nesting_of_argument          how deep they nest
+--     ItemsAreSound, ArgumentIsSound            what is kept with them is right
+--     size_of_value .. size_of_argument         how much they hold
 use Rattle.std.specs.Prelude.{◌≡◌, ℕ, suc, ◌+◌, min, List, map, Option, Some, None}
 use Rattle.std.specs.Option.{option_map}
 use Rattle.py_value.specs.declared.value.Value.{Value}
@@ -13,6 +19,7 @@ use Rattle.py_value.specs.Keys.{are_keys}
 use Rattle.py_value.specs.Hashes.{hash_of_items}
 use Rattle.py_value.specs.Plain.{PlainValue, none_value, bool_value, int_value, str_value, tuple_value, list_at, dict_at, func_value, module_value, kind_value, exc_value, builtin_value, PlainValues, no_values, value_then, packed, PlainArgument, no_argument, argument, nesting_of, nesting_of_items}
 
+-- the place that an address names
 abbrev pub place_of : Addr → ℕ
 place_of a = a.place
 
@@ -44,6 +51,7 @@ plain_held (Some rc) = argument (plain rc.value.value)
 abbrev pub items_view : ItemsInside → PlainValues
 items_view a = packed (plains a.row.value.items.items)
 
+-- the argument that is held
 abbrev pub argument_view : ArgumentInside → PlainArgument
 argument_view a = plain_held a.held
 
@@ -63,10 +71,12 @@ ItemsAreSound a =
     × (a.row.value.are_keys ≡ are_keys (items_view a))
     × (a.row.value.hash ≡ hash_of_items 1 (items_view a))
 
+-- that the depth kept with an argument is that of its value
 abbrev pub HeldIsSound : Option (Rc Held Global) → Type 0
 HeldIsSound None = Unit {0}
 HeldIsSound (Some rc) = rc.value.depth ≡ min most_nested (nesting_of (plain rc.value.value))
 
+-- that the depth kept by an argument is right
 abbrev pub ArgumentIsSound : ArgumentInside → Type 0
 ArgumentIsSound a = HeldIsSound a.held
 

@@ -27,16 +27,21 @@ deep_value (Kind k) = omega arith
 deep_value (Exc k a) = omega arith
 deep_value (Builtin b) = omega arith
 
-pub smaller_items : (vs : List Value) → most (λ v. deep-Value v) vs ≤ size_of_values (packed (plains vs))
+-- what the items of a tuple hold
+pub smaller_items : (vs : List Value)
+    → most (λ v. deep-Value v) vs ≤ size_of_values (packed (plains vs))
 smaller_items [] = omega arith
 smaller_items (v ∷ vs) = omega (arith, deep_value v, smaller_items vs)
 
+-- the argument with this inside
 abbrev inside : Option (Rc Held Global) → Inside
 inside o = record { held = o }
 
-smaller_held : (o : Option (Rc Held Global)) → deep-Argument (inside o) ≤ size_of_argument (plain_held o)
+smaller_held : (o : Option (Rc Held Global))
+    → deep-Argument (inside o) ≤ size_of_argument (plain_held o)
 smaller_held None = omega arith
 smaller_held (Some rc) = omega (arith, deep_value rc.value.value)
 
+-- what an argument holds
 pub smaller_argument : (a : Inside) → deep-Argument a ≤ size_of_argument (argument_view a)
 smaller_argument a = smaller_held a.held

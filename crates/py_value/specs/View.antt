@@ -16,20 +16,25 @@ abbrev pub plain_answer : {A : Type 0} → Result A Raised → Result A PlainRai
 plain_answer (Ok x) = Ok x
 plain_answer (Err r) = Err (plain_raised r)
 
+-- the same where the answer is a value
 abbrev pub plain_value_answer : Result Value Raised → Result PlainValue PlainRaised
 plain_value_answer (Ok v) = Ok (plain v)
 plain_value_answer (Err r) = Err (plain_raised r)
 
-abbrev pub plain_outcome : Result Value Raised → PlainHeap → Result (PlainValue × PlainHeap) PlainRaised
+-- a value with the heap after it
+abbrev pub plain_outcome : Result Value Raised → PlainHeap
+    → Result (PlainValue × PlainHeap) PlainRaised
 plain_outcome (Ok v) h = Ok (plain v, h)
 plain_outcome (Err r) h = Err (plain_raised r)
 
+-- the heap after a change
 abbrev pub plain_stored : Result (Unit {0}) Raised → PlainHeap → Result PlainHeap PlainRaised
 plain_stored (Ok u) h = Ok h
 plain_stored (Err r) h = Err (plain_raised r)
 
 -- what an operation makes of its target, and the heap after it
-abbrev pub plain_update : Result (Unit {0}) Raised → PlainValue → PlainHeap → Result (PlainValue × PlainHeap) PlainRaised
+abbrev pub plain_update : Result (Unit {0}) Raised → PlainValue → PlainHeap
+    → Result (PlainValue × PlainHeap) PlainRaised
 plain_update (Ok u) v h = Ok (v, h)
 plain_update (Err r) v h = Err (plain_raised r)
 
@@ -38,10 +43,12 @@ abbrev pub after_change : {A : Type 0} → Result (Unit {0}) Cause → A → Res
 after_change (Ok u) x = Ok x
 after_change (Err cause) x = Err cause
 
+-- a value with the heap after it
 abbrev pub after_step : Result Value Cause → PlainHeap → Result (PlainValue × PlainHeap) Cause
 after_step (Ok v) h = Ok (plain v, h)
 after_step (Err cause) h = Err cause
 
+-- the items that were made
 abbrev pub plain_items : Result (Vec Value Global) Cause → Result (List PlainValue) Cause
 plain_items (Ok vs) = Ok (plains vs.items)
 plain_items (Err cause) = Err cause

@@ -1,7 +1,8 @@
 // The arithmetic operators.
 
-ghost use Rattle.std.specs.Prelude.{◌≡◌, IfOk, OnErr, Some, None};
-ghost use Rattle.py_value.specs.View.{plain, plains, plain_outcome, after_step, IsNumberOf};
+ghost use Rattle.std.specs.Prelude.{◌≡◌, OnErr, Some, None};
+ghost use Rattle.py_value.specs.View.{plain, plains, IsNumberOf};
+ghost use Rattle.py_value.specs.Answering.{Answers, AnswersStep, RaiseKeeps};
 ghost use Rattle.py_value.specs.HeapView.{plain_heap};
 ghost use Rattle.py_value.specs.Numbers.{number_of, arithmetic};
 ghost use Rattle.py_value.specs.Operators.{number_result, repeated_sequence, binary_answer, binary_of};
@@ -24,11 +25,9 @@ pub fn binary(
     right: &Value,
     heap: &mut Heap,
 ) -> Result<Result<Value, Raised>, NoMemory>
-    ensures answer { IfOk result (λ answer.
-        plain_outcome answer (plain_heap heap.new)
-        ≡ binary_of op (plain left.now) (plain right.now) (plain_heap heap.old)) }
-    ensures raised { IfOk result (λ answer.
-        OnErr answer (plain_heap heap.new ≡ plain_heap heap.old)) }
+    ensures answer { Answers result heap.new
+        (binary_of op (plain left.now) (plain right.now) (plain_heap heap.old)) }
+    ensures raised { RaiseKeeps result heap.old heap.new }
     ensures err { OnErr result (plain_heap heap.new ≡ plain_heap heap.old) }
 {
     match operation(alloc, op, left, right, heap)? {
@@ -38,17 +37,16 @@ pub fn binary(
 }
 
 /// `left op right`, with the cause of what it raises.
-pub fn operation(
+fn operation(
     alloc: Global,
     op: BinOp,
     left: &Value,
     right: &Value,
     heap: &mut Heap,
 ) -> Result<Result<Value, Cause>, NoMemory>
-    ensures answer { IfOk result (λ step.
-        after_step step (plain_heap heap.new)
-        ≡ binary_answer op (plain left.now) (plain right.now) (plain_heap heap.old)) }
-    ensures raised { IfOk result (λ step. OnErr step (plain_heap heap.new ≡ plain_heap heap.old)) }
+    ensures answer { AnswersStep result heap.new
+        (binary_answer op (plain left.now) (plain right.now) (plain_heap heap.old)) }
+    ensures raised { RaiseKeeps result heap.old heap.new }
     ensures err { OnErr result (plain_heap heap.new ≡ plain_heap heap.old) }
 {
     if let Value::Int(x) = left
@@ -80,7 +78,7 @@ fn numbers(op: BinOp, left: &Value, right: &Value) -> Result<Value, Cause>
 
 /// `left op right` of two whole numbers.
 #[inline]
-pub fn of_whole_numbers(op: BinOp, left: i64, right: i64) -> Result<Value, Cause>
+fn of_whole_numbers(op: BinOp, left: i64, right: i64) -> Result<Value, Cause>
     ensures { IsNumberOf result (arithmetic op left right) }
 {
     match arithmetic(op, left, right) {
@@ -95,10 +93,9 @@ fn add(
     right: &Value,
     heap: &mut Heap,
 ) -> Result<Result<Value, Cause>, NoMemory>
-    ensures answer { IfOk result (λ step.
-        after_step step (plain_heap heap.new)
-        ≡ binary_answer BinOp.Add (plain left.now) (plain right.now) (plain_heap heap.old)) }
-    ensures raised { IfOk result (λ step. OnErr step (plain_heap heap.new ≡ plain_heap heap.old)) }
+    ensures answer { AnswersStep result heap.new
+        (binary_answer BinOp.Add (plain left.now) (plain right.now) (plain_heap heap.old)) }
+    ensures raised { RaiseKeeps result heap.old heap.new }
     ensures err { OnErr result (plain_heap heap.new ≡ plain_heap heap.old) }
 {
     match left {
@@ -133,10 +130,9 @@ fn multiply(
     right: &Value,
     heap: &mut Heap,
 ) -> Result<Result<Value, Cause>, NoMemory>
-    ensures answer { IfOk result (λ step.
-        after_step step (plain_heap heap.new)
-        ≡ binary_answer BinOp.Mul (plain left.now) (plain right.now) (plain_heap heap.old)) }
-    ensures raised { IfOk result (λ step. OnErr step (plain_heap heap.new ≡ plain_heap heap.old)) }
+    ensures answer { AnswersStep result heap.new
+        (binary_answer BinOp.Mul (plain left.now) (plain right.now) (plain_heap heap.old)) }
+    ensures raised { RaiseKeeps result heap.old heap.new }
     ensures err { OnErr result (plain_heap heap.new ≡ plain_heap heap.old) }
 {
     match left {
@@ -158,11 +154,10 @@ fn repeat_sequence(
     count: &Value,
     heap: &mut Heap,
 ) -> Result<Result<Value, Cause>, NoMemory>
-    ensures answer { IfOk result (λ step.
-        after_step step (plain_heap heap.new)
-        ≡ repeated_sequence (plain_heap heap.old) (plain sequence.now)
+    ensures answer { AnswersStep result heap.new
+        (repeated_sequence (plain_heap heap.old) (plain sequence.now)
         (number_of (plain count.now))) }
-    ensures raised { IfOk result (λ step. OnErr step (plain_heap heap.new ≡ plain_heap heap.old)) }
+    ensures raised { RaiseKeeps result heap.old heap.new }
     ensures err { OnErr result (plain_heap heap.new ≡ plain_heap heap.old) }
 {
     match count.number() {

@@ -114,7 +114,8 @@ fn copy_objects(alloc: Global, objects: &[Object]) -> Result<Vec<Object>, NoMemo
     Ok(copies)
 }
 
-/// The place after so many objects. An address has 32 bits, and more objects count as want of memory.
+/// The place after so many objects. An address has 32 bits, and more objects count as want of
+/// memory.
 fn place_after(count: usize) -> Result<u32, NoMemory>
     ensures { IfOk result (λ place. place ≡ count) }
 {

@@ -32,7 +32,6 @@ impl Index {
     }
 
     /// With so many buckets, all empty.
-    #[tactic(auto, using(crate::proofs::Lists::one_more_empty))]
     pub fn with_buckets(alloc: Global, count: usize) -> Result<Index, NoMemory>
         ensures { IfOk result (λ index. index ≡ replicate count []) }
     {

@@ -1,9 +1,10 @@
-//! Turns an operator and its operands, with the heap of lists and dicts behind them, into the value and
-//! the heap that Python's table of operators gives, or into the exception that it raises.
+//! Turns an operator and its operands, with the heap of lists and dicts behind them, into the value
+//! and the heap that Python's table of operators gives, or into the exception that it raises.
 //!
 //! A caller makes a `Heap` by `Heap::new` and values by `Text::from_str`, `Heap::make_list` and
-//! `Heap::make_dict`. The operators are `binary`, `in_place`, `update`, `compare`, `truth`, `index`,
-//! `slice` and `store`. `Value::copy` and `Heap::copy` give equal ones, and `Heap`'s calls read and change its lists.
+//! `Heap::make_dict`. The operators are `binary`, `in_place`, `update`, `compare`, `truth`,
+//! `index`, `slice` and `store`. `Value::copy` and `Heap::copy` give equal ones, and `Heap`'s calls
+//! read and change its lists.
 #![tactic(auto)]
 
 mod arithmetic;

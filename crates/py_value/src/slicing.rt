@@ -1,7 +1,8 @@
 // Parts of sequences.
 
 ghost use Rattle.std.specs.Prelude.{◌≡◌, IfOk, OnErr};
-ghost use Rattle.py_value.specs.View.{plain, plains, plain_outcome};
+ghost use Rattle.py_value.specs.View.{plain, plains};
+ghost use Rattle.py_value.specs.Answering.{Answers, RaiseKeeps};
 ghost use Rattle.py_value.specs.HeapView.{plain_heap};
 ghost use Rattle.py_value.specs.Sequences.{part};
 ghost use Rattle.py_value.specs.Operators.{slice_of};
@@ -23,11 +24,9 @@ pub fn slice(
     to: Option<i64>,
     heap: &mut Heap,
 ) -> Result<Result<Value, Raised>, NoMemory>
-    ensures answer { IfOk result (λ answer.
-        plain_outcome answer (plain_heap heap.new)
-        ≡ slice_of (plain of.now) from to (plain_heap heap.old)) }
-    ensures raised { IfOk result (λ answer.
-        OnErr answer (plain_heap heap.new ≡ plain_heap heap.old)) }
+    ensures answer { Answers result heap.new
+        (slice_of (plain of.now) from to (plain_heap heap.old)) }
+    ensures raised { RaiseKeeps result heap.old heap.new }
     ensures err { OnErr result (plain_heap heap.new ≡ plain_heap heap.old) }
 {
     match of {

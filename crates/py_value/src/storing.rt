@@ -2,6 +2,7 @@
 
 ghost use Rattle.std.specs.Prelude.{◌≡◌, IfOk, OnErr};
 ghost use Rattle.py_value.specs.View.{plain, plain_stored, after_change};
+ghost use Rattle.py_value.specs.Answering.{RaiseKeeps};
 ghost use Rattle.py_value.specs.HeapView.{plain_heap};
 ghost use Rattle.py_value.specs.Operators.{store_of, store_answer, stored_item, stored_value};
 ghost use Rattle.py_value.specs.Numbers.{number_of};
@@ -26,8 +27,7 @@ pub fn store(
     ensures answer { IfOk result (λ answer.
         plain_stored answer (plain_heap heap.new)
         ≡ store_of (plain of.now) (plain at.now) (plain value) (plain_heap heap.old)) }
-    ensures raised { IfOk result (λ answer.
-        OnErr answer (plain_heap heap.new ≡ plain_heap heap.old)) }
+    ensures raised { RaiseKeeps result heap.old heap.new }
     ensures err { OnErr result (plain_heap heap.new ≡ plain_heap heap.old) }
 {
     let stored = match of {
@@ -68,8 +68,7 @@ fn store_value(
     ensures answer { IfOk result (λ stored.
         after_change stored (plain_heap heap.new)
         ≡ stored_value dict.place (plain key.now) (plain value) (plain_heap heap.old)) }
-    ensures raised { IfOk result (λ stored.
-        OnErr stored (plain_heap heap.new ≡ plain_heap heap.old)) }
+    ensures raised { RaiseKeeps result heap.old heap.new }
     ensures err { OnErr result (plain_heap heap.new ≡ plain_heap heap.old) }
 {
     if !is_key(key) {

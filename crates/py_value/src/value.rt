@@ -31,7 +31,8 @@ pub enum ModId {
     Sys,
 }
 
-/// A value. Lists and dicts stand in the heap; a function with defaults names the list that holds them.
+/// A value. Lists and dicts stand in the heap; a function with defaults names the list that holds
+/// them.
 #[cycle(value)]
 pub enum Value {
     None,
