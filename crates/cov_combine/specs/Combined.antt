@@ -1,5 +1,5 @@
 -- Combined data.
-use Rattle.std.specs.Prelude.{◌≡◌, Bool, true, false, not, List, [], ◌∷◌, is_some}
+use Rattle.std.specs.Prelude.{◌≡◌, ◌↔◌, Bool, true, false, not, List, [], ◌∷◌, is_some, Contains}
 use Rattle.std.specs.Bool.{beq}
 use Rattle.std.specs.List.{fold, list_any}
 use Rattle.std.specs.FinMap.{entries, get}
@@ -24,10 +24,20 @@ has_both_kinds ds = list_any (λ d. not (beq d.arcs (flag_of ds))) ds
 abbrev pub combined : (Text → Text) → List DataSet → DataSet
 combined alias ds = fold (with_renamed alias) (no_data (flag_of ds)) ds
 
--- what combining is refused for besides memory: the flag of the first input and the other, where both kinds are there
+-- what combining is refused for besides memory: the flag of the first input and the other, where
+-- both kinds are there
 abbrev pub IsMixture : List DataSet → CombineError → Type 0
 IsMixture ds NoMemory = Unit {0}
-IsMixture ds (Mixed first other) = (first ≡ flag_of ds) × (other ≡ not (flag_of ds)) × (has_both_kinds ds ≡ true)
+IsMixture ds (Mixed first other) =
+    (first ≡ flag_of ds) × (other ≡ not (flag_of ds)) × (has_both_kinds ds ≡ true)
+
+-- the same data are among both, in whatever order and however often
+abbrev pub HaveSameMembers : List DataSet → List DataSet → Type 0
+HaveSameMembers some others = (d : DataSet) → Contains some d ↔ Contains others d
+
+-- each path of these data is its own alias
+abbrev pub HasOwnAliases : (Text → Text) → DataSet → Type 0
+HasOwnAliases alias d = (p : Text) → has_path d p ≡ true → alias p ≡ p
 
 -- whether data hold a row, whatever its count
 abbrev pub has_row : DataSet → Text → Place → Bool

@@ -4,6 +4,7 @@ use Rattle.std.specs.FinMap.{from_entries, contains_key, insert}
 use Rattle.cov_data.specs.DataSet.{Text, rekeyed}
 use Rattle.cov_combine.specs.Aliases.{Rule, Rules}
 
+-- the rules of the entries of a tree
 abbrev pub rules_by_name : {Y : Type 0} → List (String Y × Rule) → Rules
 rules_by_name es = from_entries (rekeyed string_bytes es)
 

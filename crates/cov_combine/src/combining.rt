@@ -1,8 +1,8 @@
 //! Data of several runs as one.
-ghost use Rattle.std.specs.Prelude.{◌≡◌, ◌<◌, ◌↔◌, ◌∷◌, ◌++◌, ℕ, List, true, not, length, Contains, IsPermutation, IfOk, IfErr, IsErrOf};
-ghost use Rattle.cov_data.specs.DataSet.{DataSet, has_path};
+ghost use Rattle.std.specs.Prelude.{◌≡◌, ◌<◌, ◌∷◌, ◌++◌, List, true, not, length, IsPermutation, IfOk, IfErr, IsErrOf};
+ghost use Rattle.cov_data.specs.DataSet.{DataSet};
 ghost use Rattle.cov_combine.specs.Aliases.{alias_of};
-ghost use Rattle.cov_combine.specs.Combined.{with_renamed, flag_of, has_both_kinds, combined, HoldsAlike, IsMixture};
+ghost use Rattle.cov_combine.specs.Combined.{with_renamed, flag_of, has_both_kinds, combined, HaveSameMembers, HasOwnAliases, HoldsAlike, IsMixture};
 
 use crate::NoMemory;
 use crate::aliases::AliasRules;
@@ -35,17 +35,18 @@ pub fn combine(alloc: Global, inputs: &[Data], rules: &AliasRules) -> Result<Dat
         → IsErrOf result (CombineError.Mixed (flag_of inputs.now) (not (flag_of inputs.now))) }
     ensures refused { IfErr result (IsMixture inputs.now) }
 
-    // The order of the inputs does not matter, repeats change no more than counts, and a combination
-    // may be combined with further inputs where its paths are their own aliases.
+    // The order of the inputs does not matter, repeats change no more than counts, and a
+    // combination may be combined with further inputs where its paths are their own aliases.
     ensures any_order { IfOk result (λ all.
         (others : List DataSet) → IsPermutation inputs.now others
         → all ≡ combined (alias_of rules.now) others) }
-    ensures repeats { IfOk result (λ all. (others : List DataSet)
-        → ((d : DataSet) → Contains inputs.now d ↔ Contains others d) → HoldsAlike all (combined (alias_of rules.now) others)) }
+    ensures repeats { IfOk result (λ all.
+        (others : List DataSet) → HaveSameMembers inputs.now others
+        → HoldsAlike all (combined (alias_of rules.now) others)) }
     ensures groups { IfOk result (λ all.
-        (more : List DataSet)
-        → ((path : List ℕ) → has_path all path ≡ true → alias_of rules.now path ≡ path)
-        → combined (alias_of rules.now) (all ∷ more) ≡ combined (alias_of rules.now) (inputs.now ++ more)) }
+        (more : List DataSet) → HasOwnAliases (alias_of rules.now) all
+        → combined (alias_of rules.now) (all ∷ more)
+        ≡ combined (alias_of rules.now) (inputs.now ++ more)) }
 {
     let first = inputs[0].is_arcs();
     for input in inputs {

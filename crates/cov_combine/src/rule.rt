@@ -23,7 +23,8 @@ impl Model for PathRule {
 
     ghost coded = { rule_code };
 
-    ghost view = { λ r. (string_bytes r.place, map (λ p. map string_bytes p.items) r.patterns.items) };
+    ghost view = { λ r.
+        (string_bytes r.place, map (λ p. map string_bytes p.items) r.patterns.items) };
 }
 
 impl PathRule {

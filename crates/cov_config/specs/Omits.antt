@@ -39,8 +39,10 @@ widened pattern =
     (if starts_with nat_eq pattern (codes "*/") then codes "*" else [])
     ++ (pattern ++ (if ends_with nat_eq pattern (codes "/*") then codes "*" else []))
 
+-- the parts of a path between /
 abbrev pub components : Text → List Text
 components text = slice_split (λ b. b == 47) text
 
+-- whether a pattern omits a path
 abbrev pub omits : Text → Text → Bool
 omits pattern path = covers (components (widened pattern)) (components path)

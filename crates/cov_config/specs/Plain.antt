@@ -7,12 +7,15 @@ use Rattle.cov_config.specs.declared.config.ConfigError.TheVariants.{BadConfig, 
 use Rattle.cov_config.specs.Forms.{Text}
 use Rattle.cov_config.specs.Settings.{Settings}
 
+-- the bytes of texts
 abbrev pub texts_view : Vec (String Global) Global → List Text
 texts_view v = map string_bytes v.items
 
+-- the bytes of a file and a name
 abbrev pub hook_view : Option (String Global × String Global) → Option (Text × Text)
 hook_view hook = option_map (λ h. (string_bytes h.0, string_bytes h.1)) hook
 
+-- the bytes of names and of their texts
 abbrev pub rules_view : List (String Global × Vec (String Global) Global) → List (Text × List Text)
 rules_view rules = map (λ r. (string_bytes r.0, texts_view r.1)) rules
 
@@ -38,8 +41,8 @@ settings_view c = record {
   paths = rules_view c.paths.items;
 }
 
--- the answer is what is meant, seen by `view`: the value, or the whole name of the bad key. Only want
--- of memory is free
+-- the answer is what is meant, seen by `view`: the value, or the whole name of the bad key. Only
+-- want of memory is free
 abbrev pub Answers : {T A : Type 0} → (T → A) → Result A Text → Result T ConfigError → Type 0
 Answers view meaning (Ok value) = meaning ≡ Ok (view value)
 Answers view meaning (Err (BadConfig key)) = meaning ≡ Err (string_bytes key)

@@ -5,6 +5,7 @@ use Rattle.cov_config.specs.declared.sections.ReportKeys.{ReportKeys}
 use Rattle.cov_config.specs.Plain.{texts_view, hook_view}
 use Rattle.cov_config.specs.Settings.{RunSettings, ReportSettings}
 
+-- what the keys of `run` hold
 abbrev pub run_view : RunKeys → RunSettings
 run_view k = record {
   branch = k.branch;
@@ -15,6 +16,7 @@ run_view k = record {
   hook = hook_view k.hook;
 }
 
+-- what the keys of `report` hold
 abbrev pub report_view : ReportKeys → ReportSettings
 report_view k = record {
   fail_under = k.fail_under;

@@ -1,8 +1,9 @@
 -- The settings that a TOML document means, key by key: coverage.py, "Configuration reference".
---     setting                the value of a key
---     in_order               members in the byte order of their names
---     run_of, report_of, paths_of   the three sections
---     settings_of, meaning_of       the settings of a document, and of bytes
+--     section, setting, key_name        the values of a section, that of a key, and its whole name
+--     reading, next                     what a key sets; the first bad key ends the reading
+--     run_of, report_of, paths_of       the three sections
+--     in_order                          members in the byte order of their names
+--     settings_of, meaning_of           the settings of a document, and of bytes
 use Rattle.std.specs.Prelude.{ℕ, Bool, false, if◌then◌else◌, List, [], ◌∷◌, ◌++◌, codes, Option, Some, None, option_and_then, Result, Ok, Err}
 use Rattle.std.specs.Cmp.Lexicographic.{slice_cmp}
 use Rattle.std.specs.Option.{ok_or}
@@ -14,8 +15,11 @@ use Rattle.cov_config.specs.Forms.{Text, or_default, filled, test_function, up_t
 
 -- `tool.coverage.SECTION`. What is no table has no keys
 abbrev pub section : Text → Members → Option Data
-section name ms = option_and_then (get name) (option_and_then (get (codes "coverage")) (get_member (codes "tool") ms))
+section name ms =
+    option_and_then (get name)
+    (option_and_then (get (codes "coverage")) (get_member (codes "tool") ms))
 
+-- the value of a key in a section
 abbrev pub setting : Text → Text → Members → Option Data
 setting in_section key ms = option_and_then (get key) (section in_section ms)
 
@@ -32,6 +36,7 @@ abbrev pub next : {A B : Type 0} → Result A Text → (A → Result B Text) →
 next (Ok a) f = f a
 next (Err bad) f = Err bad
 
+-- what the section `run` sets
 pub record RunSettings : Type 0 where
   pub branch : Bool
   pub context : Text
@@ -40,13 +45,17 @@ pub record RunSettings : Type 0 where
   pub budget : ℕ
   pub hook : Option (Text × Text)
 
+-- the settings of `run`, or the first bad key
 abbrev pub run_of : Members → Result RunSettings Text
 run_of ms =
     next (reading ms (codes "run") (codes "branch") (or_default false as_bool)) (λ branch.
     next (reading ms (codes "run") (codes "context") (or_default [] as_str)) (λ context.
-    next (reading ms (codes "run") (codes "data_file") (or_default (codes ".coverage") filled)) (λ data_file.
-    next (reading ms (codes "run") (codes "dynamic_context") (or_default false test_function)) (λ dynamic_context.
-    next (reading ms (codes "run") (codes "budget") (or_default 1000000 (up_to 1000000000))) (λ budget.
+    next (reading ms (codes "run") (codes "data_file")
+    (or_default (codes ".coverage") filled)) (λ data_file.
+    next (reading ms (codes "run") (codes "dynamic_context")
+    (or_default false test_function)) (λ dynamic_context.
+    next (reading ms (codes "run") (codes "budget")
+    (or_default 1000000 (up_to 1000000000))) (λ budget.
     next (reading ms (codes "run") (codes "hook") (or_default None hook_text)) (λ hook.
     Ok (record {
       branch = branch;
@@ -57,13 +66,15 @@ run_of ms =
       hook = hook;
     })))))))
 
--- the patterns of `# pragma: no cover` and of `# pragma: no branch`
+-- the pattern of `# pragma: no cover`
 abbrev pub no_cover : Text
 no_cover = codes "#\\s*(pragma|PRAGMA)[:\\s]?\\s*(no|NO)\\s*(cover|COVER)"
 
+-- the pattern of `# pragma: no branch`
 abbrev pub no_branch : Text
 no_branch = codes "#\\s*(pragma|PRAGMA)[:\\s]?\\s*(no|NO)\\s*(branch|BRANCH)"
 
+-- what the section `report` sets
 pub record ReportSettings : Type 0 where
   pub fail_under : ℕ
   pub show_missing : Bool
@@ -72,14 +83,19 @@ pub record ReportSettings : Type 0 where
   pub exclude_also : List Text
   pub partial_branches : List Text
 
+-- the settings of `report`, or the first bad key
 abbrev pub report_of : Members → Result ReportSettings Text
 report_of ms =
-    next (reading ms (codes "report") (codes "fail_under") (or_default 0 (up_to 100))) (λ fail_under.
-    next (reading ms (codes "report") (codes "show_missing") (or_default false as_bool)) (λ show_missing.
+    next (reading ms (codes "report") (codes "fail_under")
+    (or_default 0 (up_to 100))) (λ fail_under.
+    next (reading ms (codes "report") (codes "show_missing")
+    (or_default false as_bool)) (λ show_missing.
     next (reading ms (codes "report") (codes "omit") (or_default [] texts)) (λ omit.
-    next (reading ms (codes "report") (codes "exclude_lines") (or_default (no_cover ∷ []) texts)) (λ exclude_lines.
+    next (reading ms (codes "report") (codes "exclude_lines")
+    (or_default (no_cover ∷ []) texts)) (λ exclude_lines.
     next (reading ms (codes "report") (codes "exclude_also") (or_default [] texts)) (λ exclude_also.
-    next (reading ms (codes "report") (codes "partial_branches") (or_default (no_branch ∷ []) texts)) (λ partial_branches.
+    next (reading ms (codes "report") (codes "partial_branches")
+    (or_default (no_branch ∷ []) texts)) (λ partial_branches.
     Ok (record {
       fail_under = fail_under;
       show_missing = show_missing;
@@ -92,7 +108,9 @@ report_of ms =
 -- a member at its place by the byte order of names
 abbrev pub placed : Text → Data → Members → Members
 placed name d no_members = member name d no_members
-placed name d (member first e ms) = if is_lt (slice_cmp nat_cmp name first) then member name d (member first e ms) else member first e (placed name d ms)
+placed name d (member first e ms) =
+    if is_lt (slice_cmp nat_cmp name first) then member name d (member first e ms)
+    else member first e (placed name d ms)
 
 -- the members in the byte order of their names
 abbrev pub in_order : Members → Members
@@ -107,13 +125,16 @@ rules_in (member name d ms) =
     next (rules_in ms) (λ rules.
     Ok ((name, rule) ∷ rules)))
 
+-- the rules of a table in the byte order of their names; none where there is no table
 abbrev pub rules_of : Option Members → Result (List (Text × List Text)) Text
 rules_of None = Ok []
 rules_of (Some ms) = rules_in (in_order ms)
 
+-- the rules of the section `paths`, or the first bad key
 abbrev pub paths_of : Members → Result (List (Text × List Text)) Text
 paths_of ms = rules_of (option_and_then as_table (section (codes "paths") ms))
 
+-- what a document sets
 pub record Settings : Type 0 where
   pub run : RunSettings
   pub report : ReportSettings
@@ -132,5 +153,6 @@ abbrev pub meaning_of_document : Option Members → Result Settings Text
 meaning_of_document None = Err []
 meaning_of_document (Some ms) = settings_of ms
 
+-- the settings of a file's bytes, or the first bad key
 abbrev pub meaning_of : List ℕ → Result Settings Text
 meaning_of bytes = meaning_of_document (if is_utf8 bytes then parse_document bytes else None)

@@ -1,10 +1,11 @@
 -- Data as definitions see them: a flag, and for each path the counts of its rows.
 --     Text, text_cmp                    texts as bytes, in byte order
 --     Place, place_cmp                  where a row stands in its file: by context, from, to
---     File, Files, DataSet              a file's counts by place; the files by path; the flag and the files
---     has_path, file_of, count_at       what data hold: a path, a path's counts, the count of a row, 0 where it is absent
+--     File, Files, DataSet              a file's counts by place; files by path; a flag with files
 --     add_counts                        counts are added, and stop at the greatest
---     with_path, with_file, union       data with a path more; with a file's rows more; the union of two
+--     has_path, file_of, count_at       a path, a path's counts, the count of a row
+--     with_path, with_file, union       data with a path more; with a file's rows; two data as one
+--     AddsCounts                        each row's count is the sum of those in two data
 --     IsInRange, IsSound                what a row's numbers and count may be; that all rows are so
 use Rattle.std.specs.Prelude.{◌≡◌, ◌≢◌, ℕ, ℤ, pos, negsuc, ◌+◌, ◌<◌, ◌≤◌, ◌<ℤ◌, ◌≤ℤ◌, min, Bool, false, List, map, Option, Some, None, refl}
 use Rattle.std.specs.declared.cmp.Ordering.{Ordering}
@@ -15,6 +16,7 @@ use Rattle.std.specs.Cmp.Lexicographic.{slice_cmp}
 use Rattle.std.specs.FinMap.{FinMap, empty, get, insert, entries, contains_key, code}
 use Rattle.std.specs.Coded.{Coded, code_by, coded×, coded_list, coded_ℕ, coded_ℤ, coded_bool}
 
+-- the bytes of a text
 abbrev pub Text : Type 0
 Text = List ℕ
 
@@ -32,8 +34,11 @@ rekeyed f es = map (λ e. (f e.0, e.1)) es
 
 -- by context, then from, then to
 abbrev pub place_cmp : Place → Place → Ordering
-place_cmp a b = ordering_then (text_cmp a.0 b.0) (ordering_then (int_cmp a.1.0 b.1.0) (int_cmp a.1.1 b.1.1))
+place_cmp a b =
+    ordering_then (text_cmp a.0 b.0)
+    (ordering_then (int_cmp a.1.0 b.1.0) (int_cmp a.1.1 b.1.1))
 
+-- places, coded by their texts and numbers
 abbrev pub place_code : Coded Place
 place_code = coded× (coded_list coded_ℕ) (coded× coded_ℤ coded_ℤ)
 
@@ -41,6 +46,7 @@ place_code = coded× (coded_list coded_ℕ) (coded× coded_ℤ coded_ℤ)
 abbrev pub File : Type 0
 File = FinMap place_cmp ℕ
 
+-- files, coded by their entries
 abbrev pub file_code : Coded File
 file_code = code place_code coded_ℕ
 
@@ -48,6 +54,7 @@ file_code = code place_code coded_ℕ
 abbrev pub Files : Type 0
 Files = FinMap text_cmp File
 
+-- files by path, coded likewise
 abbrev pub files_code : Coded Files
 files_code = code (coded_list coded_ℕ) file_code
 
@@ -56,8 +63,11 @@ pub record DataSet : Type 0 where
   pub arcs : Bool
   pub files : Files
 
+-- data, coded by their flag and files
 abbrev pub data_code : Coded DataSet
-data_code = code_by (Bool × Files) (coded× coded_bool files_code) (λ d. (d.arcs, d.files)) (λ p. record { arcs = p.0; files = p.1 }) (λ _. refl)
+data_code =
+    code_by (Bool × Files) (coded× coded_bool files_code) (λ d. (d.arcs, d.files))
+    (λ p. record { arcs = p.0; files = p.1 }) (λ _. refl)
 
 -- counts are added, and stop at the greatest
 abbrev pub add_counts : ℕ → ℕ → ℕ
@@ -68,9 +78,11 @@ abbrev pub joined_count : Option ℕ → ℕ → ℕ
 joined_count None n = n
 joined_count (Some m) n = add_counts m n
 
+-- a file without rows
 abbrev pub no_rows : File
 no_rows = empty
 
+-- a count more at a place, added to the one that is there
 abbrev pub add_count : File → Place → ℕ → File
 add_count f k n = insert f k (joined_count (get f k) n)
 
@@ -78,6 +90,7 @@ add_count f k n = insert f k (joined_count (get f k) n)
 unfoldable pub merged : File → File → File
 merged f g = fold (λ h e. add_count h e.0 e.1) f (entries g)
 
+-- no path
 abbrev pub no_files : Files
 no_files = empty
 
@@ -105,6 +118,7 @@ all_files a b = fold (λ m e. add_file m e.0 e.1) a (entries b)
 abbrev pub has_path : DataSet → Text → Bool
 has_path d p = contains_key d.files p
 
+-- the counts of a path: none where it is absent
 abbrev pub file_of : DataSet → Text → File
 file_of d p = file_in d.files p
 
@@ -116,15 +130,23 @@ count_at d p context from to = unwrap_or (get (file_of d p) (context, (from, to)
 abbrev pub no_data : Bool → DataSet
 no_data arcs = record { arcs = arcs; files = no_files }
 
+-- data with a path more, which may have no row
 abbrev pub with_path : DataSet → Text → DataSet
 with_path d p = record d { files = add_path d.files p }
 
+-- data with a path more, and the rows of a file
 abbrev pub with_file : DataSet → Text → File → DataSet
 with_file d p f = record d { files = add_file d.files p f }
 
 -- the paths and rows of both, where the counts of one row are added
 abbrev pub union : DataSet → DataSet → DataSet
 union a b = record a { files = all_files a.files b.files }
+
+-- each row's count in `new` is that in `old` and that in `other`, added
+abbrev pub AddsCounts : DataSet → DataSet → DataSet → Type 0
+AddsCounts old other new = (path context : Text) (from to : ℤ)
+    → count_at new path context from to
+    ≡ add_counts (count_at old path context from to) (count_at other path context from to)
 
 -- a number of a row: not 0, and within 65,535 either way
 abbrev pub IsNumber : ℤ → Type 0
@@ -139,7 +161,9 @@ pub record IsInRange (arcs : Bool) (from to : ℤ) (count : ℕ) : Type 0 where
 
 -- a file's rows are in range, and no count is beyond the greatest
 abbrev pub IsSoundFile : Bool → File → Type 0
-IsSoundFile arcs f = (k : Place) (n : ℕ) → get f k ≡ Some n → IsInRange arcs k.1.0 k.1.1 n × (n ≤ 4294967295)
+IsSoundFile arcs f = (k : Place) (n : ℕ) → get f k ≡ Some n
+    → IsInRange arcs k.1.0 k.1.1 n × (n ≤ 4294967295)
 
+-- the rows of all files are in range
 abbrev pub IsSound : DataSet → Type 0
 IsSound d = (p : Text) → IsSoundFile d.arcs (file_of d p)

@@ -7,6 +7,7 @@ use Rattle.std.specs.Prelude.{◌≡◌, ℕ, ◌+◌, ◌*◌, ◌/◌, ◌%◌
 use Rattle.std.specs.Int.{bit_at}
 use Rattle.std.specs.List.{fold, list_any, range_with_len}
 
+-- whether the bit of this line is set
 abbrev pub has_line : List ℕ → ℕ → Bool
 has_line bytes n = nat_eq (bit_at (slice_index bytes (n / 8)) (n % 8)) 1
 
@@ -19,5 +20,6 @@ pub record IsNumbits (lines bytes : List ℕ) : Type 0 where
   pub size : length bytes ≡ bytes_needed lines
   pub bits : (n : ℕ) → has_line bytes n ≡ list_any (nat_eq n) lines
 
+-- the lines whose bits are set, which rise
 abbrev pub lines_of_bits : List ℕ → List ℕ
 lines_of_bits bytes = filter (has_line bytes) (range_with_len 0 (8 * length bytes))

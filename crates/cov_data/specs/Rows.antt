@@ -1,9 +1,10 @@
 -- Rows, and the lists that data give.
---     RowView, row_view           a row with its two texts as bytes
---     rows_of, paths_of, lines_of, arcs_of      the lists that data give
---     with_row                    data with a row more
---     distinct_in_order           a list's elements in order, without repeats
---     file_rows, file_lines, file_arcs      a path's rows in order; the positive numbers of its rows; their pairs of numbers
+--     RowView, row_view                       a row with its two texts as bytes
+--     with_row                                data with a row more
+--     distinct_in_order                       a list's elements in order, without repeats
+--     file_rows, file_lines, file_arcs        a path's rows, their lines, their pairs of numbers
+--     rows_of, paths_of, lines_of, arcs_of    the lists that data give
+--     IsMixture                               why a union is refused
 use Rattle.std.specs.Prelude.{◌≡◌, ◌≢◌, ℕ, ℤ, pos, negsuc, cond, nat_eq, List, [], ◌∷◌, ◌++◌, map, string_bytes}
 use Rattle.std.specs.declared.cmp.Ordering.{Ordering}
 use Rattle.std.specs.Ordering.{nat_cmp, int_cmp, ordering_then}
@@ -15,6 +16,7 @@ use Rattle.cov_data.specs.declared.dataset.DataError.{DataError}
 use Rattle.cov_data.specs.declared.dataset.DataError.TheVariants.{Mixed, NoMemory}
 use Rattle.cov_data.specs.DataSet.{Text, Place, File, Files, DataSet, file_of, add_row}
 
+-- a row, with its two texts as bytes
 pub record RowView : Type 0 where
   pub path : Text
   pub context : Text
@@ -22,8 +24,15 @@ pub record RowView : Type 0 where
   pub to : ℤ
   pub count : ℕ
 
+-- what a row of the code stands for
 abbrev pub row_view : Row → RowView
-row_view r = record { path = string_bytes r.path; context = string_bytes r.context; from = r.from; to = r.to; count = r.count }
+row_view r = record {
+  path = string_bytes r.path;
+  context = string_bytes r.context;
+  from = r.from;
+  to = r.to;
+  count = r.count;
+}
 
 -- the row of a path with this place and count
 abbrev pub row_of : Text → Place × ℕ → RowView
@@ -50,6 +59,7 @@ lines_in (negsuc n) = []
 abbrev pub place_lines : Place → List ℕ
 place_lines k = lines_in k.1.0 ++ lines_in k.1.1
 
+-- the lines of a file's rows, which rise, each once
 abbrev pub file_lines : File → List ℕ
 file_lines f = distinct_in_order nat_cmp (flat_map (λ e. place_lines e.0) (entries f))
 
@@ -57,6 +67,7 @@ file_lines f = distinct_in_order nat_cmp (flat_map (λ e. place_lines e.0) (entr
 abbrev pub arc_cmp : ℤ × ℤ → ℤ × ℤ → Ordering
 arc_cmp a b = ordering_then (int_cmp a.0 b.0) (int_cmp a.1 b.1)
 
+-- the pairs of numbers of a file's rows in order, each once
 abbrev pub file_arcs : File → List (ℤ × ℤ)
 file_arcs f = distinct_in_order arc_cmp (map (λ e. e.0.1) (entries f))
 
@@ -64,6 +75,7 @@ file_arcs f = distinct_in_order arc_cmp (map (λ e. e.0.1) (entries f))
 abbrev pub files_rows : Files → List RowView
 files_rows m = flat_map (λ e. file_rows e.0 e.1) (entries m)
 
+-- the paths in byte order
 abbrev pub paths_of : DataSet → List Text
 paths_of d = keys d.files
 

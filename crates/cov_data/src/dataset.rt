@@ -1,6 +1,6 @@
 //! Measured data: what was executed, in which context and how often.
-ghost use Rattle.std.specs.Prelude.{◌≡◌, ◌≢◌, ◌||◌, ℕ, ℤ, List, map, string_bytes, All, IsTrue, ◌↔◌, IsErrOf, IfOk, IfErr, OnOk, OnErr};
-ghost use Rattle.cov_data.specs.DataSet.{no_data, has_path, file_of, count_at, add_counts, with_path, with_file, union, IsNumber, IsInRange, IsSound};
+ghost use Rattle.std.specs.Prelude.{◌≡◌, ◌≢◌, ◌||◌, ℕ, List, map, string_bytes, All, IsTrue, ◌↔◌, IsErrOf, IfOk, IfErr, OnOk, OnErr};
+ghost use Rattle.cov_data.specs.DataSet.{no_data, has_path, file_of, with_path, with_file, union, AddsCounts, IsNumber, IsInRange, IsSound};
 
 use crate::NoMemory;
 use crate::file::Place;
@@ -170,8 +170,7 @@ impl Data {
         ensures ok { OnOk result (self.new ≡ union self.old other.now) }
         ensures paths { OnOk result ((path : List ℕ)
             → has_path self.new path ≡ (has_path self.old path || has_path other.now path)) }
-        ensures counts { OnOk result ((path context : List ℕ) (from to : ℤ)
-            → count_at self.new path context from to ≡ add_counts (count_at self.old path context from to) (count_at other.now path context from to)) }
+        ensures counts { OnOk result (AddsCounts self.old other.now self.new) }
 
         ensures mixed { self.old.arcs ≢ other.now.arcs
             → IsErrOf result (DataError.Mixed self.old.arcs other.now.arcs) }

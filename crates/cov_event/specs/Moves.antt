@@ -6,9 +6,14 @@ use Rattle.cov_event.specs.declared.event.Event.{Event}
 -- these events, each of them taken, lead a tracer from the old state to the new one
 abbrev pub Takes : {T : Type 0} → (T → Event → T → Type 0) → T → List Event → T → Type 0
 Takes moves old [] new = new ≡ old
-Takes {T} moves old (event ∷ events) new = (mid : T) × moves old event mid × Takes moves mid events new
+Takes {T} moves old (event ∷ events) new =
+    (mid : T) × moves old event mid × Takes moves mid events new
 
--- so do calls with these events, of which those with `true` were taken, and the others refused and not recorded
-abbrev pub Calls : {T R : Type 0} → (T → Event → T → Type 0) → (T → R) → T → List (Event × Bool) → T → Type 0
+-- so do calls with these events, of which those with `true` were taken, and the others refused and
+-- not recorded
+abbrev pub Calls : {T R : Type 0} → (T → Event → T → Type 0) → (T → R) → T → List (Event × Bool)
+    → T → Type 0
 Calls moves recorded old [] new = new ≡ old
-Calls {T} moves recorded old (call ∷ calls) new = (mid : T) × MatchBool call.1 (moves old call.0 mid) (recorded mid ≡ recorded old) × Calls moves recorded mid calls new
+Calls {T} moves recorded old (call ∷ calls) new =
+    (mid : T) × MatchBool call.1 (moves old call.0 mid) (recorded mid ≡ recorded old)
+    × Calls moves recorded mid calls new

@@ -34,7 +34,9 @@ struct AfterFirst {
 }
 
 impl ContextPlugin for AfterFirst {
-    ghost moves = { λ old _ function verdict new. (verdict ≡ (if old.has_begun then Label (chars function) else Quiet)) × (new.has_begun ≡ true) };
+    ghost moves = { λ old _ function verdict new.
+        (verdict ≡ (if old.has_begun then Label (chars function) else Quiet))
+        × (new.has_begun ≡ true) };
 
     fn context(
         &mut self,

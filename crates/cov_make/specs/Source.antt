@@ -23,13 +23,16 @@ digit_of q = 48 + q / 4 % 7
 abbrev pub block : Form → ℕ → List ℕ
 block If k = codes "if t % 3 == " ++ k ∷ [] ++ codes ":\n    t = t + 1\nelse:\n    t = t + 2\n"
 block For k = codes "for i in range(" ++ k ∷ [] ++ codes "):\n    t = t + i\n"
-block Try k = codes "try:\n    t = t // " ++ k ∷ [] ++ codes "\nexcept ZeroDivisionError:\n    t = t + 5\n"
+block Try k =
+    codes "try:\n    t = t // " ++ k ∷ [] ++ codes "\nexcept ZeroDivisionError:\n    t = t + 5\n"
 block While k = codes "while t > " ++ k ∷ [] ++ codes " * 10:\n    t = t - 7\n"
 
 -- the blocks of so many draws, where s was the number before them
 unfoldable pub blocks : ℕ → ℕ → List ℕ
 blocks s zero = []
-blocks s (suc n) = let q = drawn (number_after s) in block (form_of q) (digit_of q) ++ blocks (number_after s) n
+blocks s (suc n) =
+    let q = drawn (number_after s) in
+    block (form_of q) (digit_of q) ++ blocks (number_after s) n
 
 -- the source of a seed and a size
 abbrev pub source : ℕ → ℕ → List ℕ

@@ -81,131 +81,140 @@ fn whole(alloc: Global, short: &str) -> Result<String, Fail> {
 
 const DEFAULTS: &str = "false <> <.coverage> false 1000000 - 0 false  COVER  BRANCH ";
 
+/// Settings and what they mean.
+static GOOD: [(&str, &str, &str); 13] = [
+    ("an empty file", "", DEFAULTS),
+    (
+        "keys of other names",
+        "x = 1\n[tool.coverage.run]\nsource = 3\n[tool.coverage.xml]\na = 1\n",
+        DEFAULTS,
+    ),
+    ("a tool that is no table", "tool = 1\n", DEFAULTS),
+    (
+        "sections that are no tables",
+        "[tool]\ncoverage = { run = 1, report = [], paths = \"x\" }\n",
+        DEFAULTS,
+    ),
+    (
+        "every key of run",
+        "[tool.coverage.run]\nbranch = true\ncontext = \"c\"\ndata_file = \"d\"\ndynamic_context = \"test_function\"\nbudget = 7\nhook = \"a:b.py:f\"\n",
+        "true <c> <d> true 7 a:b.py+f 0 false  COVER  BRANCH ",
+    ),
+    (
+        "every key of report",
+        "[tool.coverage.report]\nfail_under = 7\nshow_missing = true\nomit = [\"a\", \"\"]\nexclude_lines = [\"b\"]\nexclude_also = [\"c\"]\npartial_branches = [\"d\", \"e\"]\n",
+        "false <> <.coverage> false 1000000 - 7 true <a><> <b> <c> <d><e> ",
+    ),
+    (
+        "an empty context",
+        "tool.coverage.run.context = \"\"",
+        DEFAULTS,
+    ),
+    (
+        "the greatest numbers",
+        "[tool.coverage]\nrun.budget = 1_000_000_000\nreport.fail_under = 100\n",
+        "false <> <.coverage> false 1000000000 - 100 false  COVER  BRANCH ",
+    ),
+    (
+        "the least numbers, with a sign",
+        "[tool.coverage]\nrun.budget = -0\nreport.fail_under = +0\n",
+        "false <> <.coverage> false 0 - 0 false  COVER  BRANCH ",
+    ),
+    (
+        "a number with a plus",
+        "tool.coverage.run.budget = +12",
+        "false <> <.coverage> false 12 - 0 false  COVER  BRANCH ",
+    ),
+    (
+        "lists without a text",
+        "[tool.coverage.report]\nexclude_lines = []\npartial_branches = []\n",
+        "false <> <.coverage> false 1000000 - 0 false     ",
+    ),
+    (
+        "what is added leaves the default",
+        "tool.coverage.report.exclude_also = [\"x\"]",
+        "false <> <.coverage> false 1000000 - 0 false  COVER <x> BRANCH ",
+    ),
+    (
+        "rules in the byte order of their names",
+        "[tool.coverage.paths]\nsource = [\"src\", \"*/src\"]\nB = [\"b\"]\n",
+        "false <> <.coverage> false 1000000 - 0 false  COVER  BRANCH B=<b> source=<src><*/src> ",
+    ),
+];
+
 #[test]
 fn good_values(rt: HostRuntime) -> Result<(), Fail> {
-    for (title, settings, wanted) in [
-        ("an empty file", "", DEFAULTS),
-        (
-            "keys of other names",
-            "x = 1\n[tool.coverage.run]\nsource = 3\n[tool.coverage.xml]\na = 1\n",
-            DEFAULTS,
-        ),
-        ("a tool that is no table", "tool = 1\n", DEFAULTS),
-        (
-            "sections that are no tables",
-            "[tool]\ncoverage = { run = 1, report = [], paths = \"x\" }\n",
-            DEFAULTS,
-        ),
-        (
-            "every key of run",
-            "[tool.coverage.run]\nbranch = true\ncontext = \"c\"\ndata_file = \"d\"\ndynamic_context = \"test_function\"\nbudget = 7\nhook = \"a:b.py:f\"\n",
-            "true <c> <d> true 7 a:b.py+f 0 false  COVER  BRANCH ",
-        ),
-        (
-            "every key of report",
-            "[tool.coverage.report]\nfail_under = 7\nshow_missing = true\nomit = [\"a\", \"\"]\nexclude_lines = [\"b\"]\nexclude_also = [\"c\"]\npartial_branches = [\"d\", \"e\"]\n",
-            "false <> <.coverage> false 1000000 - 7 true <a><> <b> <c> <d><e> ",
-        ),
-        (
-            "an empty context",
-            "tool.coverage.run.context = \"\"",
-            DEFAULTS,
-        ),
-        (
-            "the greatest numbers",
-            "[tool.coverage]\nrun.budget = 1_000_000_000\nreport.fail_under = 100\n",
-            "false <> <.coverage> false 1000000000 - 100 false  COVER  BRANCH ",
-        ),
-        (
-            "the least numbers, with a sign",
-            "[tool.coverage]\nrun.budget = -0\nreport.fail_under = +0\n",
-            "false <> <.coverage> false 0 - 0 false  COVER  BRANCH ",
-        ),
-        (
-            "a number with a plus",
-            "tool.coverage.run.budget = +12",
-            "false <> <.coverage> false 12 - 0 false  COVER  BRANCH ",
-        ),
-        (
-            "lists without a text",
-            "[tool.coverage.report]\nexclude_lines = []\npartial_branches = []\n",
-            "false <> <.coverage> false 1000000 - 0 false     ",
-        ),
-        (
-            "what is added leaves the default",
-            "tool.coverage.report.exclude_also = [\"x\"]",
-            "false <> <.coverage> false 1000000 - 0 false  COVER <x> BRANCH ",
-        ),
-        (
-            "rules in the byte order of their names",
-            "[tool.coverage.paths]\nsource = [\"src\", \"*/src\"]\nB = [\"b\"]\n",
-            "false <> <.coverage> false 1000000 - 0 false  COVER  BRANCH B=<b> source=<src><*/src> ",
-        ),
-    ] {
+    for row in &GOOD {
         let alloc = rt.alloc();
-        let config = read(alloc, settings.as_bytes())?;
-        let wanted = whole(alloc, wanted)?;
-        assert_eq!(rt; config.as_str(), wanted.as_str(), "{title}");
+        let found = read(alloc, row.1.as_bytes())?;
+        let wanted = whole(alloc, row.2)?;
+        assert_eq!(rt; found.as_str(), wanted.as_str(), "{}", row.0);
     }
     Ok(())
 }
+
+/// Settings of which one is bad, and its key.
+static BAD: [(&str, &str); 31] = [
+    ("run.branch = 1", "run.branch"),
+    ("run.context = 1", "run.context"),
+    ("run.data_file = []", "run.data_file"),
+    ("run.data_file = \"\"", "run.data_file"),
+    ("run.dynamic_context = true", "run.dynamic_context"),
+    ("run.dynamic_context = \"none\"", "run.dynamic_context"),
+    ("run.budget = \"1\"", "run.budget"),
+    ("run.budget = 1.0", "run.budget"),
+    ("run.budget = 1000000001", "run.budget"),
+    ("run.budget = -1", "run.budget"),
+    ("run.hook = 1", "run.hook"),
+    ("run.hook = \"f\"", "run.hook"),
+    ("run.hook = \":f\"", "run.hook"),
+    ("run.hook = \"a.py:\"", "run.hook"),
+    ("report.fail_under = \"x\"", "report.fail_under"),
+    ("report.fail_under = 101", "report.fail_under"),
+    ("report.fail_under = -1", "report.fail_under"),
+    ("report.show_missing = \"true\"", "report.show_missing"),
+    ("report.omit = \"a\"", "report.omit"),
+    ("report.omit = [\"a\", 1]", "report.omit"),
+    ("report.exclude_lines = 1", "report.exclude_lines"),
+    ("report.exclude_also = {}", "report.exclude_also"),
+    ("report.partial_branches = [[]]", "report.partial_branches"),
+    ("paths.a = []", "paths.a"),
+    ("paths.a = [\"x\", \"\"]", "paths.a"),
+    ("paths.a = \"x\"", "paths.a"),
+    ("paths.\"a.b\" = 1", "paths.a.b"),
+    ("paths.b = 1\npaths.B = 2", "paths.B"),
+    ("report.omit = 1\nrun.hook = 2", "run.hook"),
+    (
+        "paths.a = 1\nreport.partial_branches = 2",
+        "report.partial_branches",
+    ),
+    ("run.context = 2\nrun.branch = 1", "run.branch"),
+];
 
 #[test]
 fn bad_values(rt: HostRuntime) -> Result<(), Fail> {
-    for (settings, key) in [
-        ("run.branch = 1", "run.branch"),
-        ("run.context = 1", "run.context"),
-        ("run.data_file = []", "run.data_file"),
-        ("run.data_file = \"\"", "run.data_file"),
-        ("run.dynamic_context = true", "run.dynamic_context"),
-        ("run.dynamic_context = \"none\"", "run.dynamic_context"),
-        ("run.budget = \"1\"", "run.budget"),
-        ("run.budget = 1.0", "run.budget"),
-        ("run.budget = 1000000001", "run.budget"),
-        ("run.budget = -1", "run.budget"),
-        ("run.hook = 1", "run.hook"),
-        ("run.hook = \"f\"", "run.hook"),
-        ("run.hook = \":f\"", "run.hook"),
-        ("run.hook = \"a.py:\"", "run.hook"),
-        ("report.fail_under = \"x\"", "report.fail_under"),
-        ("report.fail_under = 101", "report.fail_under"),
-        ("report.fail_under = -1", "report.fail_under"),
-        ("report.show_missing = \"true\"", "report.show_missing"),
-        ("report.omit = \"a\"", "report.omit"),
-        ("report.omit = [\"a\", 1]", "report.omit"),
-        ("report.exclude_lines = 1", "report.exclude_lines"),
-        ("report.exclude_also = {}", "report.exclude_also"),
-        ("report.partial_branches = [[]]", "report.partial_branches"),
-        ("paths.a = []", "paths.a"),
-        ("paths.a = [\"x\", \"\"]", "paths.a"),
-        ("paths.a = \"x\"", "paths.a"),
-        ("paths.\"a.b\" = 1", "paths.a.b"),
-        ("paths.b = 1\npaths.B = 2", "paths.B"),
-        ("report.omit = 1\nrun.hook = 2", "run.hook"),
-        (
-            "paths.a = 1\nreport.partial_branches = 2",
-            "report.partial_branches",
-        ),
-        ("run.context = 2\nrun.branch = 1", "run.branch"),
-    ] {
+    for row in &BAD {
         let alloc = rt.alloc();
-        let text = format!(in alloc; "[tool.coverage]\n{settings}\n")?;
-        let answer = read(alloc, text.as_str().as_bytes())?;
-        let wanted = format!(in alloc; "bad tool.coverage.{key}")?;
-        assert_eq!(rt; answer.as_str(), wanted.as_str(), "{settings}");
+        let text = format!(in alloc; "[tool.coverage]\n{}\n", row.0)?;
+        let found = read(alloc, text.as_str().as_bytes())?;
+        let wanted = format!(in alloc; "bad tool.coverage.{}", row.1)?;
+        assert_eq!(rt; found.as_str(), wanted.as_str(), "{}", row.0);
     }
     Ok(())
 }
 
+/// Bytes that are no document.
+static NO_DOCUMENT: [(&str, &[u8]); 3] = [
+    ("no TOML", b"[tool"),
+    ("a key twice", b"a = 1\na = 2\n"),
+    ("bytes that are no text", b"a = \"\xff\"\n"),
+];
+
 #[test]
 fn no_document(rt: HostRuntime) -> Result<(), Fail> {
-    for (title, bytes) in [
-        ("no TOML", b"[tool".as_slice()),
-        ("a key twice", b"a = 1\na = 2\n".as_slice()),
-        ("bytes that are no text", b"a = \"\xff\"\n".as_slice()),
-    ] {
-        let answer = read(rt.alloc(), bytes)?;
-        assert_eq!(rt; answer.as_str(), "bad ", "{title}");
+    for row in &NO_DOCUMENT {
+        let found = read(rt.alloc(), row.1)?;
+        assert_eq!(rt; found.as_str(), "bad ", "{}", row.0);
     }
     Ok(())
 }

@@ -26,7 +26,7 @@ fn shown(alloc: Global, line: &str) -> Result<String, Fail> {
 }
 
 /// Words that are no command, and how many of them begin one.
-const NO_COMMAND: [(&str, &str); 36] = [
+static NO_COMMAND: [(&str, &str); 36] = [
     ("", "Usage(0)"),
     ("frob", "Usage(0)"),
     ("arcs", "Usage(1)"),
@@ -66,7 +66,7 @@ const NO_COMMAND: [(&str, &str); 36] = [
 ];
 
 /// Words that are a command, with its fields.
-const COMMANDS: [(&str, &str); 17] = [
+static COMMANDS: [(&str, &str); 17] = [
     (
         "arcs a.py",
         "Arcs { budget: None, script: \"a.py\", args: [] }",
@@ -133,16 +133,18 @@ const COMMANDS: [(&str, &str); 17] = [
 
 #[test]
 fn words_that_are_no_command(rt: HostRuntime) -> Result<(), Fail> {
-    for (line, answer) in NO_COMMAND {
-        assert_eq!(rt; shown(rt.alloc(), line)?.as_str(), answer, "{line}");
+    for row in &NO_COMMAND {
+        let found = shown(rt.alloc(), row.0)?;
+        assert_eq!(rt; found.as_str(), row.1, "{}", row.0);
     }
     Ok(())
 }
 
 #[test]
 fn words_that_are_a_command(rt: HostRuntime) -> Result<(), Fail> {
-    for (line, answer) in COMMANDS {
-        assert_eq!(rt; shown(rt.alloc(), line)?.as_str(), answer, "{line}");
+    for row in &COMMANDS {
+        let found = shown(rt.alloc(), row.0)?;
+        assert_eq!(rt; found.as_str(), row.1, "{}", row.0);
     }
     Ok(())
 }

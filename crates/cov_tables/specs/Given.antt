@@ -3,6 +3,7 @@ use Rattle.cov_tables.specs.Fields.{rows}
 use Rattle.cov_tables.specs.Content.{Tables}
 use Rattle.cov_tables.specs.declared.content.Tables.{Tables as Read}
 
+-- what the lists of the code hold
 abbrev pub tables : Read → Tables
 tables t = record {
   coverage_schema = rows t.coverage_schema.items;

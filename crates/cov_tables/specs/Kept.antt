@@ -21,13 +21,16 @@ use Rattle.cov_tables.specs.declared.names.Names.{Names}
 use Rattle.cov_tables.specs.declared.hits.Hits.{Hits}
 use Rattle.cov_tables.specs.declared.entries.Key.{Key as StoredKey}
 
+-- the texts that are kept, if any
 abbrev pub texts_in : Option (Vec (String Global) Global) → List Text
 texts_in None = []
 texts_in (Some v) = map string_bytes v.items
 
+-- the texts of an id
 abbrev pub texts_at : Names → ℤ → List Text
 texts_at names id = texts_in (get int_cmp names.texts id)
 
+-- the count that is kept of a spot
 abbrev pub kept_at : Hits → Spot → Option ℕ
 kept_at hits s = get spot_cmp hits.counts s
 
@@ -36,30 +39,46 @@ abbrev pub with_count : Option ℕ → ℕ → ℕ
 with_count None n = n
 with_count (Some m) n = 1
 
+-- what a list of counts makes of the one that is kept
 abbrev pub with_counts : Option ℕ → List (Option ℤ) → Option ℕ
 with_counts o [] = o
 with_counts o (c ∷ cs) = Some (with_count o (counted c))
 
+-- the count of a spot: 1 where none is kept
 abbrev pub count_at : Hits → Spot → ℕ
 count_at hits s = unwrap_or (kept_at hits s) 1
 
+-- what a key of the code stands for
 abbrev pub key_view : StoredKey → Key
-key_view k = record { file = k.file_id; context = k.context_id; first = column_view k.first; second = column_view k.second }
+key_view k = record {
+  file = k.file_id;
+  context = k.context_id;
+  first = column_view k.first;
+  second = column_view k.second;
+}
 
 -- entries and texts, as definitions see them
 abbrev pub seen : List StoredEntry → List Entry
 seen es = map entry_view es
 
+-- the bytes of texts
 abbrev pub texts : List (String Global) → List Text
 texts ss = map string_bytes ss
 
--- the rows with the texts of their ids, in order
+-- rows of `arc` with the texts of their ids, in order
 abbrev pub arcs_named : Names → Names → List Row → List Entry
-arcs_named files contexts rs = in_order entry_cmp (flat_map (λ r. joined_if (arc_key r) (texts_at files) (texts_at contexts)) rs)
+arcs_named files contexts rs =
+    in_order entry_cmp
+    (flat_map (λ r. joined_if (arc_key r) (texts_at files) (texts_at contexts)) rs)
 
+-- the same of rows of `line_bits`
 abbrev pub bits_named : Names → Names → List Row → List Entry
-bits_named files contexts rs = in_order entry_cmp (flat_map (λ r. joined_if (bits_key r) (texts_at files) (texts_at contexts)) rs)
+bits_named files contexts rs =
+    in_order entry_cmp
+    (flat_map (λ r. joined_if (bits_key r) (texts_at files) (texts_at contexts)) rs)
 
 -- what is kept of a spot, after a row of another one
 abbrev pub kept_after : Hits → Spot → ℕ → Spot → Option ℕ
-kept_after hits s count other = cond (is_eq (spot_cmp other s)) (Some (with_count (kept_at hits s) count)) (kept_at hits other)
+kept_after hits s count other =
+    cond (is_eq (spot_cmp other s)) (Some (with_count (kept_at hits s) count))
+    (kept_at hits other)

@@ -9,5 +9,6 @@ abbrev pub put_in : {K : Type 0} → (K → K → Ordering) → List K → K →
 put_in R [] x = x ∷ []
 put_in R (y ∷ ys) x = match_ordering (R x y) (x ∷ y ∷ ys) (x ∷ y ∷ ys) (y ∷ put_in R ys x)
 
+-- the elements in order
 abbrev pub in_order : {K : Type 0} → (K → K → Ordering) → List K → List K
 in_order R xs = fold (put_in R) [] xs

@@ -3,7 +3,7 @@ ghost use Rattle.std.specs.Prelude.{◌≡◌, ◌<◌, true, false, nat_eq, tak
 ghost use Rattle.std.specs.List.{fold, flat_map, list_all};
 ghost use Rattle.cov_data.specs.DataSet.{IsInRange};
 ghost use Rattle.cov_data.specs.Rows.{with_row};
-ghost use Rattle.cov_tables.specs.Content.{is_number, is_set, is_bad_arc, is_bad_bits, row_with, line_row, arc_rows, bits_rows, unless_bad, read_entries};
+ghost use Rattle.cov_tables.specs.Content.{is_number, is_set, is_bad_arc, is_bad, row_with, line_row, arc_rows, bits_rows, rows_said, unless_bad, read_entries};
 ghost use Rattle.cov_tables.specs.Entries.{column_view, entry_view};
 ghost use Rattle.cov_tables.specs.Hits.{Spot as Spots};
 ghost use Rattle.cov_tables.specs.Kept.{count_at, seen};
@@ -151,16 +151,29 @@ impl Entry {
         }
     }
 
-    fn is_bad_arc(&self) -> bool
-        ensures { result ≡ is_bad_arc (entry_view self.now) }
+    /// Whether it can't be read: by its numbers as an arc, or else by its blob.
+    fn is_bad(&self, arcs: bool) -> bool
+        ensures { result ≡ is_bad arcs (entry_view self.now) }
     {
-        !(self.first.is_number() && self.second.is_number())
+        if arcs {
+            !(self.first.is_number() && self.second.is_number())
+        } else {
+            !self.first.is_set()
+        }
     }
 
-    fn is_bad_bits(&self) -> bool
-        ensures { result ≡ is_bad_bits (entry_view self.now) }
+    /// Adds the arc, or else the lines of the blob.
+    fn add_rows(&self, alloc: Global, hits: &Hits, data: &mut Data) -> Result<(), AllocError>
+        requires good { is_bad data.old.arcs (entry_view self.now) ≡ false }
+        requires counted { (spot : Spots) → 0 < count_at hits.now spot }
+        ensures { OnOk result (data.new ≡ fold with_row data.old
+            (rows_said data.old.arcs (count_at hits.now) (entry_view self.now))) }
     {
-        !self.first.is_set()
+        if data.is_arcs() {
+            self.add_arc(alloc, hits, data)
+        } else {
+            self.add_bits(alloc, hits, data)
+        }
     }
 }
 
@@ -190,47 +203,25 @@ fn are_zero(bytes: &[u8]) -> bool
     bytes.iter().all(|byte| *byte == 0)
 }
 
-/// Adds the rows of arcs up to the first bad one, whose number it gives.
-pub(crate) fn add_arcs(
+/// Adds the rows of entries up to the first bad one, whose number it gives.
+pub(crate) fn add_entries(
     alloc: Global,
     entries: &[Entry],
     hits: &Hits,
     data: &mut Data,
 ) -> Result<Option<u64>, AllocError>
-    requires arcs { data.old.arcs ≡ true }
-    requires counted { (spot : Spots) → 0 < count_at hits.now spot }
-    ensures { IfOk result (λ bad. unless_bad bad data.new
-        ≡ read_entries is_bad_arc (arc_rows (count_at hits.now)) (seen entries.now) data.old) }
+    requires { (spot : Spots) → 0 < count_at hits.now spot }
+    ensures { let arcs = data.old.arcs in IfOk result (λ bad. unless_bad bad data.new
+        ≡ read_entries (is_bad arcs) (rows_said arcs (count_at hits.now)) (seen entries.now)
+        data.old) }
 {
+    let arcs = data.is_arcs();
     let mut at: u64 = 0;
     for entry in entries {
-        if entry.is_bad_arc() {
+        if entry.is_bad(arcs) {
             return Ok(Some(at));
         }
-        entry.add_arc(alloc, hits, data)?;
-        at += 1;
-    }
-    Ok(None)
-}
-
-/// The same of lines.
-pub(crate) fn add_bits(
-    alloc: Global,
-    entries: &[Entry],
-    hits: &Hits,
-    data: &mut Data,
-) -> Result<Option<u64>, AllocError>
-    requires lines { data.old.arcs ≡ false }
-    requires counted { (spot : Spots) → 0 < count_at hits.now spot }
-    ensures { IfOk result (λ bad. unless_bad bad data.new
-        ≡ read_entries is_bad_bits (bits_rows (count_at hits.now)) (seen entries.now) data.old) }
-{
-    let mut at: u64 = 0;
-    for entry in entries {
-        if entry.is_bad_bits() {
-            return Ok(Some(at));
-        }
-        entry.add_bits(alloc, hits, data)?;
+        entry.add_rows(alloc, hits, data)?;
         at += 1;
     }
     Ok(None)

@@ -7,7 +7,7 @@ ghost use Rattle.cov_tables.specs.Fields.{row, rows, text_at};
 ghost use Rattle.cov_tables.specs.Content.{is_schema_7, names_arcs, says_arcs, is_arcs, paths_in, paths_only, unless_bad, arc_content, bits_content, content};
 ghost use Rattle.cov_tables.specs.Given.{tables};
 
-use crate::adding::{add_arcs, add_bits};
+use crate::adding::add_entries;
 use crate::cells::{Cell, holds, text_at, whole_at};
 use crate::entries::{arc_entries, bits_entries};
 use crate::hits::Hits;
@@ -16,7 +16,8 @@ use cov_data::Data;
 use cov_vault::Content;
 use std::alloc::{AllocError, Global};
 
-/// What was read of a data file: the rows of each table, as lists of cells in the order of its columns.
+/// What was read of a data file: the rows of each table, as lists of cells in the order of its
+/// columns.
 #[derive(Drop)]
 pub struct Tables {
     pub coverage_schema: Vec<Vec<Cell>>,
@@ -103,7 +104,7 @@ fn arc_content(alloc: Global, given: &Tables) -> Result<Content, AllocError>
     let hits = Hits::of(alloc, &given.hits)?;
     let entries = arc_entries(alloc, &files, &contexts, &given.arc)?;
     let mut whole = paths_only(alloc, true, &given.file)?;
-    let bad = add_arcs(alloc, &entries, &hits, &mut whole)?;
+    let bad = add_entries(alloc, &entries, &hits, &mut whole)?;
     Ok(unless_bad(bad, whole))
 }
 
@@ -115,7 +116,7 @@ fn bits_content(alloc: Global, given: &Tables) -> Result<Content, AllocError>
     let hits = Hits::of(alloc, &given.hits)?;
     let entries = bits_entries(alloc, &files, &contexts, &given.line_bits)?;
     let mut whole = paths_only(alloc, false, &given.file)?;
-    let bad = add_bits(alloc, &entries, &hits, &mut whole)?;
+    let bad = add_entries(alloc, &entries, &hits, &mut whole)?;
     Ok(unless_bad(bad, whole))
 }
 
@@ -128,8 +129,8 @@ fn unless_bad(bad: Option<u64>, whole: Data) -> Content
     }
 }
 
-/// What a data file with these tables holds: its data, or why it holds none. Rows are joined with their
-/// file and context, counted from 0 in the order of their ids and numbers.
+/// What a data file with these tables holds: its data, or why it holds none. Rows are joined with
+/// their file and context, counted from 0 in the order of their ids and numbers.
 pub fn content_of(alloc: Global, given: &Tables) -> Result<Content, AllocError>
     ensures { IfOk result (λ held. held ≡ content (tables given.now)) }
 {

@@ -1,4 +1,7 @@
 -- The operands of the commands: what follows the options.
+--     begins_option, is_name     a word that is an option, and one that is a name
+--     Shape, shape_of            how many operands a command takes, and of which form
+--     fit                        whether words are the operands of a shape
 use Rattle.std.specs.Prelude.{Bool, true, false, ◌&&◌, not, ◌==◌, List, [], ◌∷◌}
 use Rattle.std.specs.List.{list_all}
 use Rattle.std.specs.Option.{is_some}
@@ -20,6 +23,7 @@ pub data Shape : Type 0 where
   two_names : Shape
   a_seed_and_size : Shape
 
+-- what operands a command takes
 abbrev pub shape_of : CommandName → Shape
 shape_of Arcs = a_script
 shape_of Run = a_script
@@ -35,9 +39,11 @@ shape_of Suite = a_name
 shape_of Select = two_names
 shape_of Mutate = a_name
 
+-- whether a word is a name
 abbrev pub is_name : Word → Bool
 is_name w = not (begins_option w)
 
+-- whether all words are names
 abbrev pub are_names : List Word → Bool
 are_names ws = list_all is_name ws
 
@@ -46,11 +52,13 @@ abbrev pub begin_with_script : List Word → Bool
 begin_with_script [] = false
 begin_with_script (w ∷ ws) = is_name w
 
+-- whether it is one name
 abbrev pub are_one : List Word → Bool
 are_one [] = false
 are_one (w ∷ []) = is_name w
 are_one (w ∷ x ∷ ws) = false
 
+-- whether it is two names
 abbrev pub are_two : List Word → Bool
 are_two [] = false
 are_two (w ∷ []) = false
@@ -64,6 +72,7 @@ are_seed_and_size (w ∷ []) = false
 are_seed_and_size (w ∷ x ∷ []) = is_some (whole_number w) && is_some (number_up_to 16000 x)
 are_seed_and_size (w ∷ x ∷ y ∷ ws) = false
 
+-- whether there is no word
 abbrev pub are_none : List Word → Bool
 are_none [] = true
 are_none (w ∷ ws) = false

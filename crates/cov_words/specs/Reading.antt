@@ -25,6 +25,7 @@ pub data Found : Type 0 where
   whole : OptionName → Value → Found
   half : OptionName → Found
 
+-- an option alone, whose value comes next where it takes one
 abbrev pub by_form : Form → OptionName → Found
 by_form no_value o = whole o on
 by_form any_text o = half o
@@ -35,6 +36,7 @@ by_form a_file_and_name o = half o
 abbrev pub is_equals : ℕ → Bool
 is_equals b = b == 61
 
+-- an option with its value, where the word is one
 abbrev pub with_value : OptionName → Option Value → Found
 with_value o None = nowhere
 with_value o (Some v) = whole o v
@@ -49,10 +51,12 @@ abbrev pub cut : Word → Option (Word × Word)
 cut [] = None
 cut (b ∷ bs) = if is_equals b then Some ([], bs) else option_map (λ p. (b ∷ p.0, p.1)) (cut bs)
 
+-- the option of a word with an `=`
 abbrev pub found_cut : Option (Word × Word) → Found
 found_cut None = nowhere
 found_cut (Some p) = found_before (option_named p.0) p.1
 
+-- the option that the whole word spells, or else the part before `=`
 abbrev pub found_whole : Option OptionName → Word → Found
 found_whole None w = found_cut (cut w)
 found_whole (Some o) w = by_form (form_of o) o
@@ -61,10 +65,14 @@ found_whole (Some o) w = by_form (form_of o) o
 abbrev pub found : Word → Found
 found w = found_whole (option_named w) w
 
+-- what an option makes of a reading
 abbrev pub next : Reading → Found → Option Reading
 next r nowhere = None
-next r (whole o v) = if may_take r.command r.given o then Some (record r { given = r.given ++ ((o, v) ∷ []) }) else None
-next r (half o) = if may_take r.command r.given o then Some (record r { awaiting = Some o }) else None
+next r (whole o v) =
+    if may_take r.command r.given o then Some (record r { given = r.given ++ ((o, v) ∷ []) })
+    else None
+next r (half o) =
+    if may_take r.command r.given o then Some (record r { awaiting = Some o }) else None
 
 -- whether a word may follow these operands
 abbrev pub extends : Shape → List Word → Word → Bool
@@ -81,9 +89,13 @@ extends a_seed_and_size [] w = is_some (whole_number w)
 extends a_seed_and_size (x ∷ []) w = is_some (number_up_to 16000 w)
 extends a_seed_and_size (x ∷ y ∷ xs) w = false
 
+-- what an operand makes of it
 abbrev pub with_operand : Reading → Word → Option Reading
-with_operand r w = if extends (shape_of r.command) r.operands w then Some (record r { operands = r.operands ++ (w ∷ []) }) else None
+with_operand r w =
+    if extends (shape_of r.command) r.operands w
+    then Some (record r { operands = r.operands ++ (w ∷ []) }) else None
 
+-- whether no operand was read yet
 abbrev pub is_first : List Word → Bool
 is_first [] = true
 is_first (w ∷ ws) = false
@@ -92,10 +104,12 @@ is_first (w ∷ ws) = false
 abbrev pub fresh : Reading → Word → Option Reading
 fresh r w = if is_first r.operands && begins_option w then next r (found w) else with_operand r w
 
+-- what a value makes of it
 abbrev pub with_given : Reading → OptionName → Option Value → Option Reading
 with_given r o None = None
 with_given r o (Some v) = Some (record r { given = r.given ++ ((o, v) ∷ []); awaiting = None })
 
+-- a word is the value of an option, or else it stands for itself
 abbrev pub step_in : Reading → Option OptionName → Word → Option Reading
 step_in r None w = fresh r w
 step_in r (Some o) w = with_given r o (value_of (form_of o) w)
@@ -106,13 +120,16 @@ step r w = step_in r r.awaiting w
 
 -- a command alone
 abbrev pub begun : Word → Option Reading
-begun w = option_map (λ c. record { command = c; given = []; awaiting = None; operands = [] }) (command_named w)
+begun w =
+    option_map (λ c. record { command = c; given = []; awaiting = None; operands = [] })
+    (command_named w)
 
 -- what further words make of it
 abbrev pub run : List Word → Reading → Option Reading
 run [] r = Some r
 run (w ∷ ws) r = option_and_then (run ws) (step r w)
 
+-- a word more where it can be read
 abbrev pub passed_by : (Reading → ℕ) → Option Reading → ℕ
 passed_by count None = zero
 passed_by count (Some r) = suc (count r)
@@ -122,10 +139,12 @@ abbrev pub passed : List Word → Reading → ℕ
 passed [] r = zero
 passed (w ∷ ws) r = passed_by (passed ws) (step r w)
 
+-- what the words make, where all can be read
 abbrev pub read : List Word → Option Reading
 read [] = None
 read (w ∷ ws) = option_and_then (run ws) (begun w)
 
+-- how many words begin a command
 abbrev pub passed_words : List Word → ℕ
 passed_words [] = zero
 passed_words (w ∷ ws) = passed_by (passed ws) (begun w)
@@ -135,6 +154,7 @@ abbrev pub ended : Reading → Option OptionName → Option PlainCommand
 ended r None = command_of r.command r.given r.operands
 ended r (Some o) = None
 
+-- the command of what was read
 abbrev pub command_read : Option Reading → Option PlainCommand
 command_read None = None
 command_read (Some r) = ended r r.awaiting

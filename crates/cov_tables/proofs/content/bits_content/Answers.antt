@@ -6,16 +6,13 @@ use Rattle.cov_tables.specs.Entries.{entry_view, entry_cmp}
 use Rattle.cov_tables.specs.Hits.{counts_at, count_of}
 use Rattle.cov_tables.specs.Joins.{texts_of, bits_key, joined_if}
 use Rattle.cov_tables.specs.Order.{in_order}
-use Rattle.cov_tables.specs.Content.{paths_in, paths_only}
+use Rattle.cov_tables.specs.Content.{is_bad, rows_said, paths_in, paths_only, read_entries}
 use Rattle.cov_tables.specs.Kept.{texts_at, count_at}
 use Rattle.cov_tables.proofs.Whole.{paths_kind, counts_any, bits_whole}
 use Rattle.cov_tables.proofs.content.bits_content.Goals as goal
 
-pub add_bits-requires-clause-lines : goal.add_bits-requires-clause-lines
-add_bits-requires-clause-lines c = ap (λ d. d.arcs) c.in_ok-whole.ensures ∙ paths_kind (no_data false) (paths_in (rows c.deref-5.result.now))
-
-pub add_bits-requires-clause-counted : goal.add_bits-requires-clause-counted
-add_bits-requires-clause-counted c = λ s. subst (λ (n : ℕ). 0 < n) (sym (c.in_ok-hits.ensures s)) (counts_any (counts_at (rows c.deref-3.result.now) s))
+pub add_entries-requires : goal.add_entries-requires
+add_entries-requires c = λ s. subst (λ (n : ℕ). 0 < n) (sym (c.in_ok-hits.ensures s)) (counts_any (counts_at (rows c.deref-3.result.now) s))
 
 pub returns : goal.returns
 returns c =
@@ -23,7 +20,9 @@ returns c =
     let files = texts_at c.in_ok-files.files in
     let contexts = texts_at c.in_ok-contexts.contexts in
     let counts = count_at c.in_ok-hits.hits in
+    let kind = ap (λ d. d.arcs) c.in_ok-whole.ensures ∙ paths_kind (no_data false) (paths_in (rows c.deref-5.result.now)) in
     c.unless_bad.ensures ∙ c.in_ok-bad.ensures
+    ∙ ap (λ b. read_entries (is_bad b) (rows_said b counts) (map entry_view c.deref-6.result.now) c.in_ok-whole.whole) kind
     ∙ bits_whole (rows given.file.items) (rows given.context.items) (rows given.line_bits.items) (rows given.hits.items) files contexts counts
     (λ id. c.in_ok-files.ensures id ∙ ap (λ vs. texts_of (rows vs) id) c.deref.ensures.value)
     (λ id. c.in_ok-contexts.ensures id ∙ ap (λ vs. texts_of (rows vs) id) c.deref-2.ensures.value)
