@@ -6,6 +6,7 @@ use Rattle.py_syntax.specs.Tree.{Stmts, no_stmts, stmt, Suite, suite, OptSuite, 
 use Rattle.cov_predict.specs.Walk.{body_walk}
 
 abbrev mutual
+  -- of statements in a row
   pub stmts_defs : Bool → Stmts → List Arc
   stmts_defs any no_stmts = []
   stmts_defs any (stmt l m k e rest) = kind_defs any l k ++ stmts_defs any rest
@@ -27,25 +28,31 @@ abbrev mutual
   kind_defs any l (if' arms o) = arms_defs any arms ++ opt_defs any o
   kind_defs any l (while t b o) = suite_defs any b ++ opt_defs any o
   kind_defs any l (for t e b o) = suite_defs any b ++ opt_defs any o
-  kind_defs any l (try b cs o f) = suite_defs any b ++ (clauses_defs any cs ++ (opt_defs any o ++ opt_defs any f))
+  kind_defs any l (try b cs o f) =
+      suite_defs any b ++ (clauses_defs any cs ++ (opt_defs any o ++ opt_defs any f))
   kind_defs any l (def x ps ds c b) = function_defs any l b
   kind_defs any l (match e last cs) = cases_defs any cs
 
+  -- of a suite
   pub suite_defs : Bool → Suite → List Arc
   suite_defs any (suite f g inline b) = stmts_defs any b
 
+  -- of the suite of an `else` or a `finally`, which may be missing
   pub opt_defs : Bool → OptSuite → List Arc
   opt_defs any no_suite = []
   opt_defs any (has_suite s) = suite_defs any s
 
+  -- of the tests of an `if`
   pub arms_defs : Bool → Arms → List Arc
   arms_defs any no_arms = []
   arms_defs any (arm t s rest) = suite_defs any s ++ arms_defs any rest
 
+  -- of the clauses of a `try`
   pub clauses_defs : Bool → Clauses → List Arc
   clauses_defs any no_clauses = []
   clauses_defs any (clause k x s rest) = suite_defs any s ++ clauses_defs any rest
 
+  -- of the cases of a `match`
   pub cases_defs : Bool → Cases → List Arc
   cases_defs any no_cases = []
   cases_defs any (case p g s rest) = suite_defs any s ++ cases_defs any rest

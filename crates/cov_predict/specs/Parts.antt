@@ -6,12 +6,14 @@ use Rattle.py_syntax.specs.Prediction.{Arc}
 use Rattle.py_syntax.specs.Tree.{Suite, suite, OptSuite, Clauses, Cases}
 use Rattle.cov_predict.specs.Walk.{Target, Targets, arcs_to, entering, in_loop, united, header_line, unless, own_walk, suite_walk, opt_walk, cases_walk}
 
+-- the last marks of a suite
 abbrev pub suite_last : Bool → Way → Suite → List ℕ
 suite_last any w (suite f g inline b) = stmts_last any w b
 
 -- the suite of a loop
 abbrev pub turns_last : Bool → Way → ℕ → Suite → List ℕ
-turns_last any w l (suite f g inline b) = may_raise any w l ++ past_loop w (stmts_last any breaking b) (stmts_last any w b)
+turns_last any w l (suite f g inline b) =
+    may_raise any w l ++ past_loop w (stmts_last any breaking b) (stmts_last any w b)
 
 -- a loop up to its `else`, whose test may be one that always holds
 abbrev pub turning_walk : Bool → Bool → Targets → ℕ → Suite → OptSuite → List Arc
@@ -19,6 +21,7 @@ turning_walk any constant t l s o =
     suite_walk any t (in_loop (pos l) t) l s
     ++ unless constant (arcs_to (pos l) (entering (opt_first o) (opt_empty o) t.onward))
 
+-- its last marks
 abbrev pub turning_last : Bool → Bool → Way → ℕ → Suite → OptSuite → List ℕ
 turning_last any constant w l s o =
     turns_last any w l s ++ onward_only w (only (not constant && opt_empty o) (l ∷ []))
@@ -27,8 +30,10 @@ turning_last any constant w l s o =
 abbrev pub loop_walk : Bool → Bool → Targets → ℕ → Suite → OptSuite → List Arc
 loop_walk any constant t l s o =
     suite_walk any t (in_loop (pos l) t) l s
-    ++ (unless constant (arcs_to (pos l) (entering (opt_first o) (opt_empty o) t.onward)) ++ opt_walk any t o)
+    ++ (unless constant (arcs_to (pos l) (entering (opt_first o) (opt_empty o) t.onward))
+    ++ opt_walk any t o)
 
+-- its last marks
 abbrev pub loop_last : Bool → Bool → Way → ℕ → Suite → OptSuite → List ℕ
 loop_last any constant w l s o =
     may_raise any w l
@@ -38,17 +43,21 @@ loop_last any constant w l s o =
 -- a `match`
 abbrev pub match_walk : Bool → Targets → ℕ → Cases → List Arc
 match_walk any t l cs =
-    own_walk any t (pos l) (entering (cases_first cs) (not (has_case cs)) t.onward) ++ cases_walk any t cs
+    own_walk any t (pos l) (entering (cases_first cs) (not (has_case cs)) t.onward)
+    ++ cases_walk any t cs
 
+-- its last marks
 abbrev pub match_last : Bool → Way → ℕ → Cases → List ℕ
 match_last any w l cs =
     may_raise any w l ++ (onward_only w (only (not (has_case cs)) (l ∷ [])) ++ cases_last any w cs)
 
--- a header with its suite, which leads past it unless it is sure, and whether it so leaves the statement
+-- a header with its suite, which leads past it unless it is sure, and whether it so leaves the
+-- statement
 abbrev pub headed_walk : Bool → Targets → Suite → Bool → List Target → List Arc
 headed_walk any t s sure after =
     suite_walk any t t (header_line s) s ++ unless sure (arcs_to (pos (header_line s)) after)
 
+-- its last marks
 abbrev pub headed_last : Bool → Way → Suite → Bool → List ℕ
 headed_last any w (suite f g inline b) leaves =
     may_raise any w f ++ (onward_only w (past f b ++ only leaves (f ∷ [])) ++ stmts_last any w b)
@@ -56,7 +65,8 @@ headed_last any w (suite f g inline b) leaves =
 -- the suite of a `try`
 abbrev pub ended_last : Bool → Way → ℕ → Suite → Clauses → OptSuite → List ℕ
 ended_last any w l (suite f g inline b) cs o =
-    past_try w (has_clause cs) (opt_empty o) (stmts_last any onward b ++ past l b) (stmts_last any w b)
+    past_try w (has_clause cs) (opt_empty o) (stmts_last any onward b ++ past l b)
+    (stmts_last any w b)
 
 -- a `finally`, with the ways that came to it
 abbrev pub finally_walk : Bool → Targets → (Way → Bool) → OptSuite → List Arc

@@ -16,13 +16,16 @@ use Rattle.cov_predict.specs.declared.jumps.Jump.{Jump}
 use Rattle.cov_predict.specs.declared.jumps.Jumps.{Jumps}
 use Rattle.cov_predict.specs.declared.ways.Ways.{Ways}
 
--- the first mark of statements in a row, of an `else` or a `finally`, and of clauses
+-- the first mark of statements in a row
 abbrev pub FirstIn : List StmtNode → Option ℕ → Type 0
-FirstIn items first = IsFirst first (stmts_first (plain_stmts items)) (stmts_empty (plain_stmts items))
+FirstIn items first =
+    IsFirst first (stmts_first (plain_stmts items)) (stmts_empty (plain_stmts items))
 
+-- of an `else` or a `finally`
 abbrev pub FirstOfElse : OptSuite → Option ℕ → Type 0
 FirstOfElse o first = IsFirst first (opt_first o) (opt_empty o)
 
+-- of clauses
 abbrev pub FirstClause : Clauses → Option ℕ → Type 0
 FirstClause cs first = IsFirst first (clauses_first cs) (not (has_clause cs))
 
@@ -93,13 +96,15 @@ LeavesLoop a result = (f : Way → List ℕ)
 
 -- out of the suite of a `try`, which may be empty
 abbrev pub LeavesTry : Bool → Bool → Bool → Ways → Ways → Type 0
-LeavesTry empty tried passed a result = (l : ℕ) (f : Way → List ℕ)
-    → IsLeft a f → IsLeft result (λ w. past_try w tried passed (f onward ++ only empty (l ∷ [])) (f w))
+LeavesTry empty tried passed a result =
+    (l : ℕ) (f : Way → List ℕ) → IsLeft a f
+    → IsLeft result (λ w. past_try w tried passed (f onward ++ only empty (l ∷ [])) (f w))
 
 -- through a `finally` suite
 abbrev pub GoesThrough : Bool → Ways → Ways → Ways → Type 0
-GoesThrough empty came left result = (f g : Way → List ℕ)
-    → IsLeft came f → IsLeft left g → IsLeft result (λ w. past_finally w empty (f w) (g onward) (g w))
+GoesThrough empty came left result =
+    (f g : Way → List ℕ) → IsLeft came f → IsLeft left g
+    → IsLeft result (λ w. past_finally w empty (f w) (g onward) (g w))
 
 -- the ways after a `finally`, with those that came to it, and those by which its suite is left
 abbrev pub IsPastFinally : Ways → OptSuite → Ways → Ways → Type 0
@@ -110,9 +115,13 @@ IsPastFinally came fin left result = (any : Bool) (f : Way → List ℕ)
 -- ---- parts of statements
 
 -- what the end of a loop by its test adds, with the first mark of the `else`
-abbrev pub Ends : {X E : Type 0} → Result X E → Bool → ℕ → Option ℕ → Targets → List Arc → List Arc → Type 0
-Ends result constant l orelse t before after = (o : OptSuite) → FirstOfElse o orelse
-    → OnOk result (after ≡ before ++ unless constant (arcs_to (pos l) (entering (opt_first o) (opt_empty o) t.onward)))
+abbrev pub Ends : {X E : Type 0} → Result X E → Bool → ℕ → Option ℕ → Targets → List Arc → List Arc
+    → Type 0
+Ends result constant l orelse t before after =
+    (o : OptSuite) → FirstOfElse o orelse
+    → OnOk result
+    (after
+    ≡ before ++ unless constant (arcs_to (pos l) (entering (opt_first o) (opt_empty o) t.onward)))
 
 -- the ways by which a loop ends so
 abbrev pub IsEnd : ℕ → Bool → Option ℕ → Ways → Type 0
@@ -121,10 +130,12 @@ IsEnd l constant orelse result = (o : OptSuite) → FirstOfElse o orelse
 
 -- the ways of what stands in front of an `else`, and those of the `else`
 abbrev pub JoinsElse : Bool → Ways → OptSuite → Ways → Type 0
-JoinsElse any left o result = (f : Way → List ℕ) → IsLeft left f → IsLeft result (λ w. f w ++ opt_last any w o)
+JoinsElse any left o result =
+    (f : Way → List ℕ) → IsLeft left f → IsLeft result (λ w. f w ++ opt_last any w o)
 
 -- the arcs of arms, with what comes first after them
-abbrev pub AddsArms : {X E : Type 0} → Result X E → Bool → Targets → Arms → Option ℕ → List Arc → List Arc → Type 0
+abbrev pub AddsArms : {X E : Type 0} → Result X E → Bool → Targets → Arms → Option ℕ → List Arc
+    → List Arc → Type 0
 AddsArms result any t arms orelse before after = (ms : List ℕ) (e : Bool)
     → IsFirst orelse ms e → OnOk result (after ≡ before ++ arms_walk any t arms ms e)
 

@@ -1,12 +1,17 @@
--- The arcs of a module by a walk that knows where each way out of a part leads. (Python Language Reference, 7 and 8)
+-- The arcs of a module by a walk that knows where each way out of a part leads. (Python Language
+-- Reference, 7 and 8)
 --
 -- Where `any` is true, everything that marks may raise at its mark; else `raise` alone raises.
---     Target, Targets                        where a mark leads, and where each way out of a part does
---     arcs_to, raises, unless                the arcs from a line to targets, those of an exception, and those that may be none
+--     Target, Targets                        where a mark leads, and where each way out of a part
+--                                            does
+--     arcs_to, raises, unless                the arcs from a line to targets, those of an
+--                                            exception, and those that may be none
 --     entering, before                       the targets in front of a part
 --     with_target, united                    targets each once
---     in_loop, before_finally, in_try        the targets in a loop, in front of a `finally`, and in a `try` suite
---     stmts_walk, kind_walk, opt_walk        the arcs of statements; suite_walk and the like for what stands in them
+--     in_loop, before_finally, in_try        the targets in a loop, in front of a `finally`, and in
+--                                            a `try` suite
+--     stmts_walk, kind_walk, opt_walk        the arcs of statements; suite_walk and the like for
+--                                            what stands in them
 --     body_walk, functions_walk, module_walk     those of bodies
 use Rattle.std.specs.Prelude.{ℕ, Bool, true, false, not, if◌then◌else◌, ◌&&◌, List, [], ◌∷◌, ◌++◌, map, ℤ, neg_ℤ, pos}
 use Rattle.std.specs.List.{list_any}
@@ -32,9 +37,11 @@ pub record Targets : Type 0 where
   pub returning : List Target
   pub raising : List Target
 
+-- the arc from a line to a target, but from a line to its own mark where that is none
 abbrev pub arc_to : ℤ → Target → List Arc
 arc_to l t = if int_eq l t.0 && not t.1 then [] else (l, t.0) ∷ []
 
+-- the arcs from a line to targets
 abbrev pub arcs_to : ℤ → List Target → List Arc
 arcs_to l [] = []
 arcs_to l (t ∷ ts) = arc_to l t ++ arcs_to l ts
@@ -43,6 +50,7 @@ arcs_to l (t ∷ ts) = arc_to l t ++ arcs_to l ts
 abbrev pub raises : Bool → Targets → ℤ → List Arc
 raises any t l = if any then arcs_to l t.raising else []
 
+-- arcs, or none where something holds
 abbrev pub unless : Bool → List Arc → List Arc
 unless b arcs = if b then [] else arcs
 
@@ -56,9 +64,16 @@ turn header = (header, true) ∷ []
 
 -- in the suite of a loop
 abbrev pub in_loop : ℤ → Targets → Targets
-in_loop header t = record { onward = turn header; breaking = t.onward; continuing = turn header; returning = t.returning; raising = t.raising }
+in_loop header t = record {
+  onward = turn header;
+  breaking = t.onward;
+  continuing = turn header;
+  returning = t.returning;
+  raising = t.raising;
+}
 
--- in front of a part, with that part's first mark, and whether it is empty: of an `else`, which is entered onward alone
+-- in front of a part, with that part's first mark, and whether it is empty: of an `else`, which is
+-- entered onward alone
 abbrev pub before : List ℕ → Bool → Targets → Targets
 before firsts empty t = record t { onward = entering firsts empty t.onward }
 
@@ -79,9 +94,11 @@ in_try cs o t = record t {
   raising = entering (clauses_first cs) (not (has_clause cs)) t.raising;
 }
 
+-- whether two targets are one
 abbrev pub same_target : Target → Target → Bool
 same_target t u = int_eq t.0 u.0 && beq t.1 u.1
 
+-- targets and one more, each once
 abbrev pub with_target : List Target → Target → List Target
 with_target ts t = if list_any (λ u. same_target u t) ts then ts else ts ++ t ∷ []
 
@@ -90,16 +107,24 @@ abbrev pub with_targets : List Target → List Target → List Target
 with_targets ts [] = ts
 with_targets ts (u ∷ us) = with_targets (with_target ts u) us
 
+-- targets and those of a way, where that came
 abbrev pub with_way : Bool → List Target → List Target → List Target
 with_way came ts us = if came then with_targets ts us else ts
 
 -- where a `finally` suite goes on at its end: where the ways lead by which it was entered
 abbrev pub united : (Way → Bool) → Targets → List Target
-united came t = with_way (came raising) (with_way (came returning) (with_way (came continuing) (with_way (came breaking) (with_way (came onward) [] t.onward) t.breaking) t.continuing) t.returning) t.raising
+united came t =
+    with_way (came raising)
+    (with_way (came returning)
+    (with_way (came continuing)
+    (with_way (came breaking) (with_way (came onward) [] t.onward) t.breaking) t.continuing)
+    t.returning) t.raising
 
 -- the last marks of what stands in front of a `finally`
 abbrev pub came_last : Bool → ℕ → Suite → Clauses → OptSuite → Way → List ℕ
-came_last any l (suite f g inline b) cs o w = past_try w (has_clause cs) (opt_empty o) (stmts_last any onward b ++ past l b) (stmts_last any w b) ++ (clauses_last any w cs ++ opt_last any w o)
+came_last any l (suite f g inline b) cs o w =
+    past_try w (has_clause cs) (opt_empty o) (stmts_last any onward b ++ past l b)
+    (stmts_last any w b) ++ (clauses_last any w cs ++ opt_last any w o)
 
 -- the line of the header in front of a suite
 abbrev pub header_line : Suite → ℕ
@@ -110,9 +135,11 @@ abbrev pub own_walk : Bool → Targets → ℤ → List Target → List Arc
 own_walk any t l to = arcs_to l to ++ raises any t l
 
 abbrev mutual
+  -- of statements in a row
   pub stmts_walk : Bool → Targets → Stmts → List Arc
   stmts_walk any t no_stmts = []
-  stmts_walk any t (stmt l m k e rest) = kind_walk any (before (stmts_first rest) (stmts_empty rest) t) l k ++ stmts_walk any t rest
+  stmts_walk any t (stmt l m k e rest) =
+      kind_walk any (before (stmts_first rest) (stmts_empty rest) t) l k ++ stmts_walk any t rest
 
   -- of a statement with this first line
   pub kind_walk : Bool → Targets → ℕ → StmtKind → List Arc
@@ -128,25 +155,33 @@ abbrev mutual
   kind_walk any t l (global xs) = []
   kind_walk any t l (import names) = own_walk any t (pos l) t.onward
   kind_walk any t l (from m names) = own_walk any t (pos l) t.onward
-  kind_walk any t l (if' arms o) = arms_walk any t arms (opt_first o) (opt_empty o) ++ opt_walk any t o
+  kind_walk any t l (if' arms o) =
+      arms_walk any t arms (opt_first o) (opt_empty o) ++ opt_walk any t o
   kind_walk any t l (while e b o) =
       suite_walk any t (in_loop (pos l) t) l b
-      ++ (unless (is_constant e) (arcs_to (pos l) (entering (opt_first o) (opt_empty o) t.onward)) ++ opt_walk any t o)
+      ++ (unless (is_constant e) (arcs_to (pos l) (entering (opt_first o) (opt_empty o) t.onward))
+      ++ opt_walk any t o)
   kind_walk any t l (for x e b o) =
       suite_walk any t (in_loop (pos l) t) l b
-      ++ (unless false (arcs_to (pos l) (entering (opt_first o) (opt_empty o) t.onward)) ++ opt_walk any t o)
+      ++ (unless false (arcs_to (pos l) (entering (opt_first o) (opt_empty o) t.onward))
+      ++ opt_walk any t o)
   kind_walk any t l (try b cs o fin) =
       suite_walk any t (in_try cs o (before_finally fin t)) l b
       ++ (clauses_walk any (before_finally fin t) cs
       ++ (opt_walk any (before_finally fin t) o
       ++ opt_walk any (record t { onward = united (λ w. comes (came_last any l b cs o w)) t }) fin))
   kind_walk any t l (def x ps ds c b) = own_walk any t (pos l) t.onward
-  kind_walk any t l (match e header cs) = own_walk any t (pos l) (entering (cases_first cs) (not (has_case cs)) t.onward) ++ cases_walk any t cs
+  kind_walk any t l (match e header cs) =
+      own_walk any t (pos l) (entering (cases_first cs) (not (has_case cs)) t.onward)
+      ++ cases_walk any t cs
 
   -- of a header that leads into its suite, and of the suite, in which other jumps hold
   pub suite_walk : Bool → Targets → Targets → ℕ → Suite → List Arc
-  suite_walk any t within l (suite f g inline b) = own_walk any t (pos l) (entering (stmts_first b) (stmts_empty b) within.onward) ++ stmts_walk any within b
+  suite_walk any t within l (suite f g inline b) =
+      own_walk any t (pos l) (entering (stmts_first b) (stmts_empty b) within.onward)
+      ++ stmts_walk any within b
 
+  -- of the suite of an `else` or a `finally`, which may be missing
   pub opt_walk : Bool → Targets → OptSuite → List Arc
   opt_walk any t no_suite = []
   opt_walk any t (has_suite (suite f g inline b)) = stmts_walk any t b
@@ -156,23 +191,38 @@ abbrev mutual
   arms_walk any t no_arms orelse passed = []
   arms_walk any t (arm e s rest) orelse passed =
       suite_walk any t t (header_line s) s
-      ++ (unless false (arcs_to (pos (header_line s)) (entering (arms_first rest orelse) (arms_empty rest passed) t.onward)) ++ arms_walk any t rest orelse passed)
+      ++ (unless false
+      (arcs_to (pos (header_line s))
+      (entering (arms_first rest orelse) (arms_empty rest passed) t.onward))
+      ++ arms_walk any t rest orelse passed)
 
+  -- of the clauses of a `try`
   pub clauses_walk : Bool → Targets → Clauses → List Arc
   clauses_walk any t no_clauses = []
   clauses_walk any t (clause k x s rest) =
       suite_walk any t t (header_line s) s
-      ++ (unless (not (names_kind k)) (arcs_to (pos (header_line s)) (entering (clauses_first rest) (not (has_clause rest)) [])) ++ clauses_walk any t rest)
+      ++ (unless (not (names_kind k))
+      (arcs_to (pos (header_line s)) (entering (clauses_first rest) (not (has_clause rest)) []))
+      ++ clauses_walk any t rest)
 
+  -- of the cases of a `match`
   pub cases_walk : Bool → Targets → Cases → List Arc
   cases_walk any t no_cases = []
   cases_walk any t (case p guard s rest) =
       suite_walk any t t (header_line s) s
-      ++ (unless (is_sure p guard) (arcs_to (pos (header_line s)) (entering (cases_first rest) (not (has_case rest)) t.onward)) ++ cases_walk any t rest)
+      ++ (unless (is_sure p guard)
+      (arcs_to (pos (header_line s)) (entering (cases_first rest) (not (has_case rest)) t.onward))
+      ++ cases_walk any t rest)
 
 -- outside a body: no loop is there to leave
 abbrev pub leaving : ℤ → Targets
-leaving out = record { onward = (out, true) ∷ []; breaking = []; continuing = []; returning = (out, true) ∷ []; raising = (out, true) ∷ [] }
+leaving out = record {
+  onward = (out, true) ∷ [];
+  breaking = [];
+  continuing = [];
+  returning = (out, true) ∷ [];
+  raising = (out, true) ∷ [];
+}
 
 -- of a body without its docstring, from outside it and back
 abbrev pub body_walk : Bool → ℕ → Stmts → List Arc
@@ -181,9 +231,12 @@ body_walk any first b =
     ++ ((if stmts_empty b then (neg_ℤ (pos first), neg_ℤ (pos first)) ∷ [] else [])
     ++ stmts_walk any (leaving (neg_ℤ (pos first))) b)
 
+-- of functions
 abbrev pub functions_walk : Bool → List Function → List Arc
 functions_walk any [] = []
-functions_walk any (f ∷ fs) = body_walk any f.line (without_docstring f.body) ++ functions_walk any fs
+functions_walk any (f ∷ fs) =
+    body_walk any f.line (without_docstring f.body) ++ functions_walk any fs
 
+-- of a module and its functions
 abbrev pub module_walk : Bool → Stmts → List Arc
 module_walk any m = body_walk any 1 (without_docstring m) ++ functions_walk any (functions m)

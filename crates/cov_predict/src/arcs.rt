@@ -7,8 +7,8 @@ ghost use Rattle.cov_predict.specs.ArcSets.{IsInOrder};
 use py_value::NoMemory;
 use std::marker::Model;
 
-/// A set of arcs: two neighbouring lines of a run, where the outside of a body is its first line, negative.
-/// An arc's place is its number in the order of from and then to, counted from 0.
+/// A set of arcs: two neighbouring lines of a run, where the outside of a body is its first line,
+/// negative. An arc's place is its number in the order of from and then to, counted from 0.
 #[derive(Drop)]
 pub struct ArcSet {
     arcs: Vec<(i32, i32)>,
@@ -51,7 +51,8 @@ impl ArcSet {
         self.arcs.len() as u64
     }
 
-    /// The place of an arc, if it is in the set. Takes no memory, and time of the logarithm of its size.
+    /// The place of an arc, if it is in the set. Takes no memory, and time of the logarithm of its
+    /// size.
     pub fn place(&self, from: i32, to: i32) -> Option<u64>
         ensures some { IfSome result (λ place. slice_get self.now place ≡ Some (from, to)) }
         ensures none { IfNone result (Contains self.now (from, to) → ⊥) }

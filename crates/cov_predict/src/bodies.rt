@@ -45,7 +45,8 @@ fn out_of<'a>(first: u32) -> Jumps<'a>
     leaving(outside(first))
 }
 
-/// Adds the arc into a body with this first line and this first mark, or the one arc of a body without a mark.
+/// Adds the arc into a body with this first line and this first mark, or the one arc of a body
+/// without a mark.
 fn enter(out: &mut Vec<(i32, i32)>, first: u32, mark: Option<u32>) -> Result<(), NoMemory>
     ensures { OnOk result (out.new.items ≡ out.old.items ++ entry (neg_ℤ (pos first)) mark ∷ []) }
 {
@@ -82,18 +83,10 @@ fn in_statement(
         ++ kind_defs rules.any line (plain_kind kind.now)) }
 {
     match kind {
-        StmtKind::Expr(_)
-        | StmtKind::Assign { .. }
-        | StmtKind::AugAssign { .. }
-        | StmtKind::Pass
-        | StmtKind::Break
-        | StmtKind::Continue
-        | StmtKind::Return(_)
-        | StmtKind::Raise(_)
-        | StmtKind::Assert(_, _)
-        | StmtKind::Global(_)
-        | StmtKind::Import(_)
-        | StmtKind::From(_, _) => Ok(()),
+        StmtKind::Expr(_) | StmtKind::Assign { .. } | StmtKind::AugAssign { .. } => Ok(()),
+        StmtKind::Pass | StmtKind::Break | StmtKind::Continue => Ok(()),
+        StmtKind::Return(_) | StmtKind::Raise(_) | StmtKind::Assert(_, _) => Ok(()),
+        StmtKind::Global(_) | StmtKind::Import(_) | StmtKind::From(_, _) => Ok(()),
         StmtKind::If { arms, orelse } => {
             in_arms(out, rules, arms)?;
             in_optional(out, rules, orelse)

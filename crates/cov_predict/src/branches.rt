@@ -87,7 +87,8 @@ fn alternatives(
     Ok(left)
 }
 
-/// Adds the arcs of a header with its suite, past which it leads unless it is sure. By that the statement may be left.
+/// Adds the arcs of a header with its suite, past which it leads unless it is sure. By that the
+/// statement may be left.
 #[cycle(walk)]
 pub(crate) fn headed(
     out: &mut Vec<(i32, i32)>,

@@ -8,7 +8,8 @@ ghost use Rattle.cov_predict.specs.Leaving.{plain_option};
 
 use py_syntax::{Expr, Pattern};
 
-/// Whether a test of a `while` always holds: `True`, or a whole number other than 0, without parentheses.
+/// Whether a test of a `while` always holds: `True`, or a whole number other than 0, without
+/// parentheses.
 pub(crate) fn is_constant(test: &Expr) -> bool
     ensures { result ≡ is_constant (plain_expr test.now) }
 {

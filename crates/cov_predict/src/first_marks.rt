@@ -22,7 +22,8 @@ pub(crate) fn first_of(items: &[Stmt]) -> Option<u32>
     None
 }
 
-/// After a statement, of which is known what comes first from it on. So a row of statements that mark nothing is passed once.
+/// After a statement, of which is known what comes first from it on. So a row of statements that
+/// mark nothing is passed once.
 pub(crate) fn first_after(s: &Stmt, from: Option<u32>, rest: &[Stmt]) -> Option<u32>
     ensures { FirstIn (s.now ∷ rest.now) from → FirstIn rest.now result }
 {

@@ -67,7 +67,8 @@ pub(crate) fn handlers(
     Ok(left)
 }
 
-/// Adds the arcs of a `finally`, and tells by which ways the `try` is left, of those that came to its end.
+/// Adds the arcs of a `finally`, and tells by which ways the `try` is left, of those that came to
+/// its end.
 #[cycle(walk)]
 pub(crate) fn finish(
     out: &mut Vec<(i32, i32)>,

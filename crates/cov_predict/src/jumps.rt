@@ -1,11 +1,12 @@
-//! Where the marks of a part lead: the jumps out of it, by each way. Those of a suite are on the stack of the calls that walk it.
+//! Where the marks of a part lead: the jumps out of it, by each way. Those of a suite are on the
+//! stack of the calls that walk it.
 ghost use Rattle.std.specs.Prelude.{◌≡◌, ◌++◌, OnOk, IfOk};
-ghost use Rattle.cov_predict.specs.Leaving.{list_of, targets_of, way_of};
+ghost use Rattle.cov_predict.specs.Leaving.{list_of, targets_of, targets_by, plain_way, way_of};
 ghost use Rattle.cov_predict.specs.Steps.{Enters, IsBefore, IsBeforeFinally, IsInTry};
 ghost use Rattle.cov_predict.specs.Walk.{arc_to, arcs_to, in_loop, leaving, with_target, with_targets, with_way, united};
 
 use crate::lines::{add_arc, end_of};
-use crate::ways::Ways;
+use crate::ways::{Way, Ways};
 use py_value::NoMemory;
 use std::alloc::Global;
 
@@ -28,6 +29,20 @@ pub(crate) struct Jumps<'a> {
     pub(crate) continuing: Jump<'a>,
     pub(crate) returning: Jump<'a>,
     pub(crate) raising: Jump<'a>,
+}
+
+impl<'a> Jumps<'a> {
+    /// Where a mark that is left by a way leads.
+    pub(crate) fn by(self, way: Way) -> Jump<'a>
+        ensures { list_of result ≡ targets_by (targets_of self.entry) (plain_way way) }
+    {
+        match way {
+            Way::Onward => self.onward,
+            Way::Breaking => self.breaking,
+            Way::Continuing => self.continuing,
+            Way::Returning => self.returning,
+        }
+    }
 }
 
 /// Out of a body. No loop is there to leave.

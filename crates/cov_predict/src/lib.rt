@@ -1,5 +1,6 @@
-//! What a reader of a module can tell of its runs: `statements`, the lines that can be executed, `predict` and `possible`,
-//! the arcs that its runs can take, and `ArcSet`, a set of arcs whose places count from 0 in the order of from and to.
+//! What a reader of a module can tell of its runs: `statements`, the lines that can be executed,
+//! `predict` and `possible`, the arcs that its runs can take, and `ArcSet`, a set of arcs whose
+//! places count from 0 in the order of from and to.
 #![tactic(auto)]
 
 mod arcs;

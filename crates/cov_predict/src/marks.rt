@@ -8,7 +8,8 @@ use py_docstrings::is_docstring;
 use py_syntax::{Arm, Case, Clause, Stmt, StmtKind, Suite};
 use py_value::NoMemory;
 
-/// Adds the lines of the body of a module or a function, where these statements lead one, and else their own.
+/// Adds the lines of the body of a module or a function, where these statements lead one, and else
+/// their own.
 #[cycle(marks)]
 pub(crate) fn statements(out: &mut Vec<u32>, leads: bool, items: &[Stmt]) -> Result<(), NoMemory>
     ensures { OnOk result (out.new.items ≡ out.old.items

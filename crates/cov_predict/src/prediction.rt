@@ -10,9 +10,9 @@ use py_syntax::Module;
 use py_value::NoMemory;
 use std::alloc::Global;
 
-/// The arcs that a reader of the text can predict: those of neighbours in the ways from an entry, a statement or a clause
-/// on, where `raise` alone raises.
-/// A tree with a line past `i32::MAX`, which no text has, finds no room in a set: that is want of memory too.
+/// The arcs that a reader of the text can predict: those of neighbours in the ways from an entry, a
+/// statement or a clause on, where `raise` alone raises. A tree with a line past `i32::MAX`, which
+/// no text has, finds no room in a set: that is want of memory too.
 pub fn predict(alloc: Global, module: &Module) -> Result<ArcSet, NoMemory>
     ensures { IfOk result (λ arcs. arcs ≡ predicted (plain_module «module».now)) }
 {

@@ -1,13 +1,13 @@
 //! The arcs of simple statements and of headers.
 ghost use Rattle.std.specs.Prelude.{◌≡◌, ◌++◌, pos, OnOk, IfOk};
-ghost use Rattle.py_syntax.specs.LastMarks.{onward, breaking, continuing, returning, raising, own_way};
-ghost use Rattle.cov_predict.specs.Leaving.{list_of, targets_of, IsLeft};
+ghost use Rattle.py_syntax.specs.LastMarks.{raising, own_way};
+ghost use Rattle.cov_predict.specs.Leaving.{list_of, targets_of, targets_by, plain_way, IsLeft};
 ghost use Rattle.cov_predict.specs.Walk.{arcs_to, own_walk, unless};
 
 use crate::jumps::{Jump, Jumps, arcs_to};
 use crate::lines::end_of;
 use crate::walk::Rules;
-use crate::ways::Ways;
+use crate::ways::{Way, Ways};
 use py_value::NoMemory;
 
 /// Adds the arcs of a mark that leads there, or is left by an exception.
@@ -29,63 +29,25 @@ pub(crate) fn own(
     arcs_to(out, line, jumps.raising)
 }
 
-pub(crate) fn goes_on(
+/// Adds the arcs of a statement that is left by one way, or by an exception, and tells its ways.
+pub(crate) fn leaves(
     out: &mut Vec<(i32, i32)>,
     rules: Rules,
     jumps: Jumps,
     line: u32,
-) -> Result<Ways, NoMemory>
-    ensures arcs { OnOk result (out.new.items ≡ out.old.items
-        ++ own_walk rules.any (targets_of jumps.entry) (pos line) (list_of jumps.entry.onward)) }
-    ensures ways { IfOk result (λ left. IsLeft left (λ w. own_way onward rules.any w line)) }
-{
-    own(out, rules, jumps, line, jumps.onward)?;
-    Ok(Ways::of_plain(rules.any))
-}
-
-pub(crate) fn breaks(
-    out: &mut Vec<(i32, i32)>,
-    rules: Rules,
-    jumps: Jumps,
-    line: u32,
-) -> Result<Ways, NoMemory>
-    ensures arcs { OnOk result (out.new.items ≡ out.old.items
-        ++ own_walk rules.any (targets_of jumps.entry) (pos line) (list_of jumps.entry.breaking)) }
-    ensures ways { IfOk result (λ left. IsLeft left (λ w. own_way breaking rules.any w line)) }
-{
-    own(out, rules, jumps, line, jumps.breaking)?;
-    Ok(Ways::of_break(rules.any))
-}
-
-pub(crate) fn continues(
-    out: &mut Vec<(i32, i32)>,
-    rules: Rules,
-    jumps: Jumps,
-    line: u32,
+    way: Way,
 ) -> Result<Ways, NoMemory>
     ensures arcs { OnOk result (out.new.items ≡ out.old.items
         ++ own_walk rules.any (targets_of jumps.entry) (pos line)
-        (list_of jumps.entry.continuing)) }
-    ensures ways { IfOk result (λ left. IsLeft left (λ w. own_way continuing rules.any w line)) }
+        (targets_by (targets_of jumps.entry) (plain_way way))) }
+    ensures ways { IfOk result (λ left.
+        IsLeft left (λ w. own_way (plain_way way) rules.any w line)) }
 {
-    own(out, rules, jumps, line, jumps.continuing)?;
-    Ok(Ways::of_continue(rules.any))
+    own(out, rules, jumps, line, jumps.by(way))?;
+    Ok(Ways::own(rules.any, way))
 }
 
-pub(crate) fn returns(
-    out: &mut Vec<(i32, i32)>,
-    rules: Rules,
-    jumps: Jumps,
-    line: u32,
-) -> Result<Ways, NoMemory>
-    ensures arcs { OnOk result (out.new.items ≡ out.old.items
-        ++ own_walk rules.any (targets_of jumps.entry) (pos line) (list_of jumps.entry.returning)) }
-    ensures ways { IfOk result (λ left. IsLeft left (λ w. own_way returning rules.any w line)) }
-{
-    own(out, rules, jumps, line, jumps.returning)?;
-    Ok(Ways::of_return(rules.any))
-}
-
+/// Adds the arcs of a `raise`, and tells its ways.
 pub(crate) fn raises(
     out: &mut Vec<(i32, i32)>,
     rules: Rules,

@@ -1,4 +1,5 @@
-//! The arcs of statements, by one walk that knows where each way out of a statement leads, and tells by which ways it is left.
+//! The arcs of statements, by one walk that knows where each way out of a statement leads, and
+//! tells by which ways it is left.
 ghost use Rattle.std.specs.Prelude.{◌≡◌, ◌++◌, OnOk, IfOk};
 ghost use Rattle.py_syntax.specs.LastMarks.{stmts_last, kind_last, opt_last};
 ghost use Rattle.py_syntax.specs.View.{plain_stmts, plain_kind, plain_suite, plain_opt_suite};
@@ -13,8 +14,8 @@ use crate::first_marks::{first_after, first_in, first_of};
 use crate::handlers::{attempt, finish, handlers};
 use crate::jumps::{Jumps, ahead, before_finally, entering};
 use crate::loops::looped;
-use crate::simple::{self, own};
-use crate::ways::Ways;
+use crate::simple::{leaves, own, raises};
+use crate::ways::{Way, Ways};
 use py_syntax::{Stmt, StmtKind, Suite};
 use py_value::NoMemory;
 use std::alloc::Global;
@@ -68,14 +69,14 @@ fn statement(
 {
     match kind {
         StmtKind::Expr(_) | StmtKind::Assign { .. } | StmtKind::AugAssign { .. } | StmtKind::Pass =>
-            simple::goes_on(out, rules, jumps, line),
-        StmtKind::Break => simple::breaks(out, rules, jumps, line),
-        StmtKind::Continue => simple::continues(out, rules, jumps, line),
-        StmtKind::Return(_) => simple::returns(out, rules, jumps, line),
-        StmtKind::Raise(_) => simple::raises(out, rules, jumps, line),
-        StmtKind::Assert(_, _) => simple::goes_on(out, rules, jumps, line),
+            leaves(out, rules, jumps, line, Way::Onward),
+        StmtKind::Break => leaves(out, rules, jumps, line, Way::Breaking),
+        StmtKind::Continue => leaves(out, rules, jumps, line, Way::Continuing),
+        StmtKind::Return(_) => leaves(out, rules, jumps, line, Way::Returning),
+        StmtKind::Raise(_) => raises(out, rules, jumps, line),
+        StmtKind::Assert(_, _) => leaves(out, rules, jumps, line, Way::Onward),
         StmtKind::Global(_) => Ok(Ways::none()),
-        StmtKind::Import(_) | StmtKind::From(_, _) => simple::goes_on(out, rules, jumps, line),
+        StmtKind::Import(_) | StmtKind::From(_, _) => leaves(out, rules, jumps, line, Way::Onward),
         StmtKind::If { arms, orelse } => {
             let left = tests(out, rules, jumps, arms, first_in(orelse))?;
             with_else(out, rules, jumps, left, orelse)
@@ -100,7 +101,7 @@ fn statement(
             let others = optional(out, rules, inner, orelse)?;
             finish(out, rules, jumps, ended.or(handled.or(others)), finally)
         }
-        StmtKind::Def { .. } => simple::goes_on(out, rules, jumps, line),
+        StmtKind::Def { .. } => leaves(out, rules, jumps, line, Way::Onward),
         StmtKind::Match { cases, .. } => matched(out, rules, jumps, line, cases),
     }
 }
@@ -141,8 +142,8 @@ pub(crate) fn optional(
     }
 }
 
-/// Adds the arcs of a header that leads into its suite, and of the suite, in which other jumps hold. Tells by which ways the suite
-/// is left.
+/// Adds the arcs of a header that leads into its suite, and of the suite, in which other jumps
+/// hold. Tells by which ways the suite is left.
 #[cycle(walk)]
 pub(crate) fn entered(
     out: &mut Vec<(i32, i32)>,

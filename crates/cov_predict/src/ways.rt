@@ -1,7 +1,16 @@
 //! The ways by which a part is left.
 ghost use Rattle.std.specs.Prelude.{◌≡◌, ◌||◌, ◌&&◌};
-ghost use Rattle.py_syntax.specs.LastMarks.{onward, breaking, continuing, returning};
+ghost use Rattle.cov_predict.specs.Leaving.{plain_way};
 ghost use Rattle.cov_predict.specs.Steps.{IsNoWay, IsOwn, IsRaise, MayRaise, Unites, GoesOnward, PassesRest, LeavesLoop, LeavesTry, GoesThrough};
+
+/// How a mark is left, if not by an exception.
+#[derive(Clone, Copy)]
+pub(crate) enum Way {
+    Onward,
+    Breaking,
+    Continuing,
+    Returning,
+}
 
 /// Whether something leads onward, and out by `break`, `continue`, `return` and an exception.
 #[derive(Clone, Copy)]
@@ -45,40 +54,28 @@ impl Ways {
         }
     }
 
-    /// Of a statement that goes on.
-    pub(crate) fn of_plain(any: bool) -> Ways
-        ensures { IsOwn any onward result }
+    /// Of a mark that is left by one way, or by an exception.
+    pub(crate) fn own(any: bool, way: Way) -> Ways
+        ensures { IsOwn any (plain_way way) result }
     {
-        Ways {
-            onward: true,
-            ..Ways::raising(any)
-        }
-    }
-
-    pub(crate) fn of_break(any: bool) -> Ways
-        ensures { IsOwn any breaking result }
-    {
-        Ways {
-            breaking: true,
-            ..Ways::raising(any)
-        }
-    }
-
-    pub(crate) fn of_continue(any: bool) -> Ways
-        ensures { IsOwn any continuing result }
-    {
-        Ways {
-            continuing: true,
-            ..Ways::raising(any)
-        }
-    }
-
-    pub(crate) fn of_return(any: bool) -> Ways
-        ensures { IsOwn any returning result }
-    {
-        Ways {
-            returning: true,
-            ..Ways::raising(any)
+        let raising = Ways::raising(any);
+        match way {
+            Way::Onward => Ways {
+                onward: true,
+                ..raising
+            },
+            Way::Breaking => Ways {
+                breaking: true,
+                ..raising
+            },
+            Way::Continuing => Ways {
+                continuing: true,
+                ..raising
+            },
+            Way::Returning => Ways {
+                returning: true,
+                ..raising
+            },
         }
     }
 
@@ -124,7 +121,8 @@ impl Ways {
         }
     }
 
-    /// Out of a `try` suite, which may be empty: whether clauses follow it, and no mark of an `else`.
+    /// Out of a `try` suite, which may be empty: whether clauses follow it, and no mark of an
+    /// `else`.
     pub(crate) fn past_try(self, empty: bool, tried: bool, passed: bool) -> Ways
         ensures { LeavesTry empty tried passed self result }
     {
@@ -135,7 +133,8 @@ impl Ways {
         }
     }
 
-    /// Through a `finally` suite, which may be empty, of the ways by which it was entered and is left.
+    /// Through a `finally` suite, which may be empty, of the ways by which it was entered and is
+    /// left.
     pub(crate) fn through(self, empty: bool, left: Ways) -> Ways
         ensures { GoesThrough empty self left result }
     {

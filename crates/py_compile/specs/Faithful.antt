@@ -6,9 +6,10 @@ use Rattle.py_code.specs.Units.{Code}
 use Rattle.py_compile_expr.specs.Stands.{HasAt}
 use Rattle.py_compile.specs.Units.{body_cells}
 
--- It has the function's name, first line and parameters, n defaults, these names in its slots, and the code of its body from
--- place 0 on, and no further instruction.
-pub record IsFaithful (fs : List Function) (f : Function) (n : ℕ) (own : List Text) (u : Code) : Type 0 where
+-- It has the function's name, first line and parameters, n defaults, these names in its slots, and
+-- the code of its body from place 0 on, and no further instruction.
+pub record IsFaithful (fs : List Function) (f : Function) (n : ℕ) (own : List Text) (u : Code) :
+    Type 0 where
   pub name : u.name ≡ f.name
   pub first : u.first ≡ f.line
   pub params : u.params ≡ f.params

@@ -1,9 +1,11 @@
--- What is called: a method by the name after a dot, or else the value of an expression (Python Language Reference, 6.3.4, "Calls").
+-- What is called: a method by the name after a dot, or else the value of an expression (Python
+-- Language Reference, 6.3.4, "Calls").
 use Rattle.std.specs.Prelude.{ℕ, List, [], ◌++◌, Option}
 use Rattle.py_syntax.specs.Tree.{Expr, name, int, str, fstr, none, bool, tuple, list, dict, paren, not', and, or, unary, binary, compare, cond, call, index, slice, attr}
 use Rattle.py_compile_expr.specs.Cells.{method, Guard, Cell, put}
 use Rattle.py_compile_expr.specs.Expressions.{expr_code}
 
+-- what is called, from a place on, with the handler that holds there
 abbrev pub callee_code : Option Guard → ℕ → Expr → List Cell
 callee_code g p (name x) = expr_code g p (name x)
 callee_code g p (int n) = expr_code g p (int n)

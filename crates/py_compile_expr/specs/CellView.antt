@@ -36,4 +36,9 @@ plain_cell c = record { op = plain_op c.op; guard = plain_guard c.guard }
 
 -- where a pattern stands
 abbrev pub plain_site : SiteNode → Site
-plain_site s = record { guard = plain_guard s.guard; waiting = s.waiting; fail = s.fail; extra = s.extra }
+plain_site s = record {
+  guard = plain_guard s.guard;
+  waiting = s.waiting;
+  fail = s.fail;
+  extra = s.extra;
+}

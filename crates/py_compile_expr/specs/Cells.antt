@@ -12,8 +12,9 @@ use Rattle.py_code.specs.declared.instr.Instr.TheVariants.{Constant as ConstantA
 use Rattle.py_code.specs.declared.unit.Constant.{Constant}
 use Rattle.py_code.specs.declared.unit.Constant.TheVariants.{None as NoneConstant, Bool as BoolConstant, Int as IntConstant, Str as StrConstant}
 
--- a constant, a name that is loaded, stored or unset, an attribute, a method, an import, the module of a name, a name of a module, a
--- line that is marked or marked again; or an instruction that knows neither names nor lines
+-- a constant, a name that is loaded, stored or unset, an attribute, a method, an import, the module
+-- of a name, a name of a module, a line that is marked or marked again; or an instruction that
+-- knows neither names nor lines
 pub data Op : Type 0 where
   constant : (k : Constant) → Op
   load : (x : Text) → Op
@@ -33,10 +34,12 @@ pub record Guard : Type 0 where
   pub target : ℕ
   pub depth : ℕ
 
+-- an instruction with the handler of its place, if there is one
 pub record Cell : Type 0 where
   pub op : Op
   pub guard : Option Guard
 
+-- a cell by its parts
 abbrev pub cell : Option Guard → Op → Cell
 cell g op = record { op = op; guard = g }
 
@@ -51,6 +54,7 @@ abbrev pub place_in : {A : Type 0} → (A → A → Bool) → List A → A → �
 place_in same [] x = 0
 place_in same (y ∷ ys) x = if same x y then 0 else suc (place_in same ys x)
 
+-- whether two constants are one: of one kind, and equal
 abbrev pub is_same_constant : Constant → Constant → Bool
 is_same_constant NoneConstant NoneConstant = true
 is_same_constant NoneConstant (BoolConstant b) = false
@@ -81,17 +85,27 @@ pub record Tables : Type 0 where
   pub constants : List Constant
   pub lines : List ℕ
 
+-- the place of a name among those that are no slots
 abbrev pub name_at : Tables → Text → ℕ
 name_at t x = place_in is_same_text t.names x
 
+-- the place of a line
 abbrev pub line_at : Tables → ℕ → ℕ
 line_at t l = place_in (λ a b. a == b) t.lines l
 
+-- the instruction that a symbolic one is, by the lists of its unit
 abbrev pub instr_of : Tables → Op → Instr
 instr_of t (constant k) = ConstantAt (place_in is_same_constant t.constants k)
-instr_of t (load x) = if is_among t.own x then LoadLocal (place_in is_same_text t.own x) else LoadGlobal (name_at t x)
-instr_of t (store x) = if is_among t.own x then StoreLocal (place_in is_same_text t.own x) else StoreGlobal (name_at t x)
-instr_of t (unset x) = if is_among t.own x then UnsetLocal (place_in is_same_text t.own x) else UnsetGlobal (name_at t x)
+instr_of t (load x) =
+    if is_among t.own x then LoadLocal (place_in is_same_text t.own x) else LoadGlobal (name_at t x)
+instr_of t (store x) =
+    if is_among t.own x
+    then StoreLocal (place_in is_same_text t.own x)
+    else StoreGlobal (name_at t x)
+instr_of t (unset x) =
+    if is_among t.own x
+    then UnsetLocal (place_in is_same_text t.own x)
+    else UnsetGlobal (name_at t x)
 instr_of t (attribute x) = Attribute (name_at t x)
 instr_of t (method x) = Method (name_at t x)
 instr_of t (imports x) = Import (name_at t x)
@@ -103,8 +117,10 @@ instr_of t (plain i) = i
 
 -- a name, unless it is one of the unit's own
 abbrev pub with_global_name : Tables → Text → Tables
-with_global_name t x = if is_among t.own x then t else record t { names = add_new is_same_text t.names x }
+with_global_name t x =
+    if is_among t.own x then t else record t { names = add_new is_same_text t.names x }
 
+-- the lists with a name that is no slot
 abbrev pub with_name : Tables → Text → Tables
 with_name t x = record t { names = add_new is_same_text t.names x }
 
@@ -123,6 +139,7 @@ tables_with t (marks l) = record t { lines = add_new (λ a b. a == b) t.lines l 
 tables_with t (marks_again l) = record t { lines = add_new (λ a b. a == b) t.lines l }
 tables_with t (plain i) = t
 
+-- the lists with what cells need, one after the other
 abbrev pub tables_of : Tables → List Cell → Tables
 tables_of t [] = t
 tables_of t (c ∷ cs) = tables_of (tables_with t c.op) cs

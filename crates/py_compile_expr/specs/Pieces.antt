@@ -11,6 +11,7 @@ use Rattle.py_code.specs.declared.unit.Constant.TheVariants.{Bool as BoolConstan
 use Rattle.py_compile_expr.specs.Cells.{constant, plain, Guard, Cell, put}
 use Rattle.py_compile_expr.specs.Patterns.{Site, pattern_size, pattern_code}
 
+-- characters after the text on top
 abbrev pub chars_code : Option Guard → Text → List Cell
 chars_code g x = put g (constant (StrConstant x)) (put g (plain Extend) [])
 
@@ -20,20 +21,28 @@ link_instr q end left = if left == 1 then Compare q else Link q end
 
 -- ---- pieces of patterns
 
--- the size of an alternative whose pattern takes so many instructions, where so many are left, this one among them
+-- the size of an alternative whose pattern takes so many instructions, where so many are left, this
+-- one among them
 abbrev pub alternative_size : (own left : ℕ) → ℕ
 alternative_size own left = if left == 1 then own else own + 3
 
 -- no alternative matches
 abbrev pub none_code : Site → List Cell
-none_code s = put s.guard (plain Pop) (put s.guard (constant (BoolConstant false)) (put s.guard (plain (Unless s.extra s.fail)) []))
+none_code s =
+    put s.guard (plain Pop)
+    (put s.guard (constant (BoolConstant false)) (put s.guard (plain (Unless s.extra s.fail)) []))
 
 -- an alternative that others follow matches a copy
 abbrev pub alternative_code : Site → ℕ → (end : ℕ) → Pattern → List Cell
 alternative_code s p end q =
     put s.guard (plain (Copy 0))
-    (pattern_code (record { guard = s.guard; waiting = 1 + s.waiting; fail = p + 1 + pattern_size q + 2; extra = 0 }) (p + 1) q
-    ++ put s.guard (plain Pop) (put s.guard (plain (Goto end)) []))
+    (pattern_code
+    (record {
+      guard = s.guard;
+      waiting = 1 + s.waiting;
+      fail = p + 1 + pattern_size q + 2;
+      extra = 0;
+    }) (p + 1) q ++ put s.guard (plain Pop) (put s.guard (plain (Goto end)) []))
 
 -- an alternative, where so many are left, this one among them
 abbrev pub choice_code : Site → ℕ → (end left : ℕ) → Pattern → List Cell

@@ -10,6 +10,7 @@ use Rattle.py_code.specs.declared.unit.Handler.{Handler}
 use Rattle.py_code.specs.Units.{Code, handler_of}
 use Rattle.py_compile_expr.specs.Cells.{Op, constant, load, store, unset, attribute, method, imports, module_named, takes, marks, marks_again, plain, Guard, Cell, Tables, place_in, is_same_constant, instr_of}
 
+-- the lists of a unit
 abbrev pub tables_in : Code → Tables
 tables_in u = record { own = u.locals; names = u.names; constants = u.constants; lines = u.lines }
 
@@ -22,6 +23,7 @@ abbrev pub HasVariable : Bool → Tables → Text → Type 0
 HasVariable true t x = Finds is_same_text t.own x
 HasVariable false t x = Finds is_same_text t.names x
 
+-- what an instruction names stands in the lists of its unit
 abbrev pub IsKnown : Tables → Op → Type 0
 IsKnown t (constant k) = Finds is_same_constant t.constants k
 IsKnown t (load x) = HasVariable (is_among t.own x) t x
@@ -36,17 +38,20 @@ IsKnown t (marks l) = Finds (λ a b. a == b) t.lines l
 IsKnown t (marks_again l) = Finds (λ a b. a == b) t.lines l
 IsKnown t (plain i) = Unit {0}
 
+-- a handler of the table is the one of a cell
 abbrev pub Guards : Option Guard → Option Handler → Type 0
 Guards None None = Unit {0}
 Guards None (Some h) = ⊥
 Guards (Some g) None = ⊥
 Guards (Some g) (Some h) = (h.target ≡ g.target) × (h.depth ≡ g.depth)
 
+-- a cell stands at a place of a unit
 pub record StandsAt (u : Code) (p : ℕ) (c : Cell) : Type 0 where
   pub instr : slice_get u.instrs p ≡ Some (instr_of (tables_in u) c.op)
   pub knows : IsKnown (tables_in u) c.op
   pub guard : Guards c.guard (handler_of p u.handlers)
 
+-- cells stand in a unit, from a place on
 abbrev pub HasAt : Code → ℕ → List Cell → Type 0
 HasAt u p [] = Unit {0}
 HasAt u p (c ∷ cs) = StandsAt u p c × HasAt u (p + 1) cs

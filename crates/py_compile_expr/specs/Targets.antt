@@ -1,4 +1,8 @@
--- The code of targets, which take the value on top (Python Language Reference, 7.2, "Assignment statements").
+-- The code of targets, which take the value on top (Python Language Reference, 7.2, "Assignment
+-- statements").
+--     no_target_code                  what is no target
+--     target_size, target_code        a target; targets_size and targets_code of several in a row
+--     all_size, all_code              one value to each of several targets
 use Rattle.std.specs.Prelude.{ℕ, ◌+◌, List, [], ◌++◌, Option}
 use Rattle.py_syntax.specs.Tree.{Expr, name, int, str, fstr, none, bool, tuple, list, dict, paren, not', and, or, unary, binary, compare, cond, call, index, slice, attr, Exprs, no_exprs, exprs}
 use Rattle.py_code.specs.declared.instr.Instr.TheVariants.{Pop, Copy, Index, StoreIndex, Unpack}
@@ -8,9 +12,13 @@ use Rattle.py_compile_expr.specs.Expressions.{count, expr_size, expr_code}
 
 -- what is no target raises as None has no items
 abbrev pub no_target_code : Option Guard → List Cell
-no_target_code g = put g (constant NoneConstant) (put g (constant NoneConstant) (put g (plain Index) (put g (plain Pop) (put g (plain Pop) []))))
+no_target_code g =
+    put g (constant NoneConstant)
+    (put g (constant NoneConstant)
+    (put g (plain Index) (put g (plain Pop) (put g (plain Pop) []))))
 
 abbrev mutual
+  -- how many instructions a target takes
   pub target_size : Expr → ℕ
   target_size (name x) = 1
   target_size (int n) = 5
@@ -34,11 +42,13 @@ abbrev mutual
   target_size (slice of low high) = 5
   target_size (attr of x) = 5
 
+  -- targets in a row
   pub targets_size : Exprs → ℕ
   targets_size no_exprs = 0
   targets_size (exprs t ts) = target_size t + targets_size ts
 
 abbrev mutual
+  -- a target, from a place on
   pub target_code : Option Guard → ℕ → Expr → List Cell
   target_code g p (name x) = put g (store x) []
   target_code g p (int n) = no_target_code g
@@ -58,7 +68,8 @@ abbrev mutual
   target_code g p (compare a ls) = no_target_code g
   target_code g p (cond b t o) = no_target_code g
   target_code g p (call f es comma) = no_target_code g
-  target_code g p (index of at) = expr_code g p of ++ (expr_code g (p + expr_size of) at ++ put g (plain StoreIndex) [])
+  target_code g p (index of at) =
+      expr_code g p of ++ (expr_code g (p + expr_size of) at ++ put g (plain StoreIndex) [])
   target_code g p (slice of low high) = no_target_code g
   target_code g p (attr of x) = no_target_code g
 
@@ -72,6 +83,8 @@ abbrev pub all_size : Exprs → ℕ
 all_size no_exprs = 1
 all_size (exprs t ts) = 1 + target_size t + all_size ts
 
+-- their code, from a place on
 abbrev pub all_code : Option Guard → ℕ → Exprs → List Cell
 all_code g p no_exprs = put g (plain Pop) []
-all_code g p (exprs t ts) = put g (plain (Copy 0)) (target_code g (p + 1) t ++ all_code g (p + 1 + target_size t) ts)
+all_code g p (exprs t ts) =
+    put g (plain (Copy 0)) (target_code g (p + 1) t ++ all_code g (p + 1 + target_size t) ts)

@@ -27,7 +27,8 @@ pub enum Op {
     Plain(Instr),
 }
 
-// Written out, and not derived, so that letting an instruction go is one call wherever that happens.
+// Written out, and not derived, so that letting an instruction go is one call wherever that
+// happens.
 impl Drop for Op {
     fn drop(self) {
         match self {
@@ -103,7 +104,8 @@ impl Builder {
         &self.cells
     }
 
-    /// Adds an instruction at a place, with the handler that holds there. Answers the place after it.
+    /// Adds an instruction at a place, with the handler that holds there. Answers the place after
+    /// it.
     pub fn put(&mut self, guard: Option<Guard>, at: u32, op: Op) -> Result<u32, NoMemory>
         ensures cells { OnOk result (self.new
             ≡ self.old ++ put (plain_guard guard) (plain_op op) []) }

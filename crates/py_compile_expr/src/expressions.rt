@@ -15,7 +15,8 @@ use py_code::{Constant, Instr};
 use py_syntax::{Expr, FormatPart, Fragment, Link, Pair};
 use py_value::NoMemory;
 
-/// Adds the code of an expression at a place, with the handler that holds there. Answers the place after it.
+/// Adds the code of an expression at a place, with the handler that holds there. Answers the place
+/// after it.
 #[cycle(expressions)]
 pub fn put_expr(out: &mut Builder, guard: Option<Guard>, at: u32, e: &Expr) -> Result<u32, NoMemory>
     ensures cells { OnOk result (out.new
@@ -145,38 +146,18 @@ fn put_callee(
     ensures place { IfOk result (λ n. n ≡ at + expr_size (plain_expr callee.now)) }
 {
     match callee {
-        Expr::Name(_)
-        | Expr::Int(_)
-        | Expr::Str(_)
-        | Expr::FStr(_)
-        | Expr::None
-        | Expr::Bool(_)
-        | Expr::Tuple { items: _, comma: _ }
-        | Expr::List { items: _, comma: _ }
-        | Expr::Dict { items: _, comma: _ }
-        | Expr::Paren(_)
-        | Expr::Not(_)
-        | Expr::And(_, _)
-        | Expr::Or(_, _)
-        | Expr::Unary(_, _)
-        | Expr::Binary(_, _, _)
-        | Expr::Compare(_, _)
-        | Expr::Cond {
-            body: _,
-            test: _,
-            orelse: _,
+        Expr::Name(_) | Expr::Int(_) | Expr::Str(_) | Expr::FStr(_) | Expr::None | Expr::Bool(_) =>
+            put_expr(out, guard, at, callee),
+        Expr::Tuple { .. } | Expr::List { .. } | Expr::Dict { .. } | Expr::Paren(_) => {
+            put_expr(out, guard, at, callee)
         }
-        | Expr::Call {
-            callee: _,
-            args: _,
-            comma: _,
+        Expr::Not(_) | Expr::And(_, _) | Expr::Or(_, _) | Expr::Unary(_, _) => {
+            put_expr(out, guard, at, callee)
         }
-        | Expr::Index(_, _)
-        | Expr::Slice {
-            of: _,
-            from: _,
-            to: _,
-        } => put_expr(out, guard, at, callee),
+        Expr::Binary(_, _, _) | Expr::Compare(_, _) | Expr::Cond { .. } | Expr::Call { .. } => {
+            put_expr(out, guard, at, callee)
+        }
+        Expr::Index(_, _) | Expr::Slice { .. } => put_expr(out, guard, at, callee),
         Expr::Attr(of, name) => {
             let name = name.copy()?;
             let at = put_expr(out, guard, at, of)?;
@@ -284,10 +265,10 @@ fn put_fragments(
 {
     let mut to = at;
     for fragment in items {
-        match fragment {
-            Fragment::Plain(text) => to = put_chars(out, guard, to, text)?,
-            Fragment::Format(parts) => to = put_parts(out, guard, to, parts)?,
-        }
+        to = match fragment {
+            Fragment::Plain(text) => put_chars(out, guard, to, text)?,
+            Fragment::Format(parts) => put_parts(out, guard, to, parts)?,
+        };
     }
     Ok(to)
 }

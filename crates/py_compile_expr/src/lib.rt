@@ -7,7 +7,6 @@ mod expressions;
 mod operators;
 mod patterns;
 mod site;
-mod tables;
 mod targets;
 mod texts;
 
@@ -20,7 +19,6 @@ pub use expressions::{over, put_each, put_expr};
 pub use operators::{count, number};
 pub use patterns::{captures, pattern_size, push_captured, put_names, put_pattern};
 pub use site::Site;
-pub use tables::{LineList, NameList};
 pub use targets::{all_size, put_all, put_target, target_size};
 
 /// Code is as long as its size says.

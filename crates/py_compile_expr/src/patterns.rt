@@ -1,4 +1,5 @@
-// Emission of patterns: each takes the value on top, and leaves the values of the names that it captures.
+// Emission of patterns: each takes the value on top, and leaves the values of the names that it
+// captures.
 
 ghost use Rattle.std.specs.Prelude.{◌≡◌, ◌+◌, length, [], ◌∷◌, ◌++◌, IfOk, OnOk};
 ghost use Rattle.std.specs.Prelude.{neg_ℤ};
@@ -181,7 +182,8 @@ fn one_size(items: &[Pattern]) -> Result<u32, NoMemory>
     Ok(size)
 }
 
-/// The size of an alternative whose pattern takes so many instructions, where so many are left, this one among them.
+/// The size of an alternative whose pattern takes so many instructions, where so many are left,
+/// this one among them.
 fn alternative_size(own: u32, left: usize) -> Result<u32, NoMemory>
     ensures { IfOk result (λ n. n ≡ alternative_size own left) }
 {

@@ -7,8 +7,8 @@ ghost use Rattle.py_compile_expr.specs.Patterns.{behind, with_captured};
 use crate::cells::{Guard, sum};
 use py_value::NoMemory;
 
-/// Where a pattern stands: the handler, how many values wait below its value, and where a failed match goes on, with how many
-/// operands less, after the value itself.
+/// Where a pattern stands: the handler, how many values wait below its value, and where a failed
+/// match goes on, with how many operands less, after the value itself.
 #[derive(Clone, Copy)]
 pub struct Site {
     pub guard: Option<Guard>,

@@ -23,7 +23,7 @@ pub fn target_size(e: &Expr) -> Result<u32, NoMemory>
         Expr::Int(_) | Expr::Str(_) | Expr::FStr(_) | Expr::None | Expr::Bool(_) => Ok(5),
         Expr::Tuple { items, comma: _ } => sum(targets_size(items)?, 1),
         Expr::List { items, comma: _ } => sum(targets_size(items)?, 1),
-        Expr::Dict { items: _, comma: _ } => Ok(5),
+        Expr::Dict { .. } => Ok(5),
         Expr::Paren(inner) => target_size(inner),
         Expr::Not(_)
         | Expr::And(_, _)
@@ -31,23 +31,10 @@ pub fn target_size(e: &Expr) -> Result<u32, NoMemory>
         | Expr::Unary(_, _)
         | Expr::Binary(_, _, _)
         | Expr::Compare(_, _)
-        | Expr::Cond {
-            body: _,
-            test: _,
-            orelse: _,
-        }
-        | Expr::Call {
-            callee: _,
-            args: _,
-            comma: _,
-        } => Ok(5),
+        | Expr::Cond { .. }
+        | Expr::Call { .. } => Ok(5),
         Expr::Index(of, at) => both(expr_size(of)?, expr_size(at)?),
-        Expr::Slice {
-            of: _,
-            from: _,
-            to: _,
-        }
-        | Expr::Attr(_, _) => Ok(5),
+        Expr::Slice { .. } | Expr::Attr(_, _) => Ok(5),
     }
 }
 
@@ -115,7 +102,7 @@ pub fn put_target(
             let at = out.put(guard, at, Op::Plain(Instr::Unpack(size)))?;
             put_targets(out, guard, at, items)
         }
-        Expr::Dict { items: _, comma: _ } => put_no_target(out, guard, at),
+        Expr::Dict { .. } => put_no_target(out, guard, at),
         Expr::Paren(inner) => put_target(out, guard, at, inner),
         Expr::Not(_)
         | Expr::And(_, _)
@@ -123,27 +110,14 @@ pub fn put_target(
         | Expr::Unary(_, _)
         | Expr::Binary(_, _, _)
         | Expr::Compare(_, _)
-        | Expr::Cond {
-            body: _,
-            test: _,
-            orelse: _,
-        }
-        | Expr::Call {
-            callee: _,
-            args: _,
-            comma: _,
-        } => put_no_target(out, guard, at),
+        | Expr::Cond { .. }
+        | Expr::Call { .. } => put_no_target(out, guard, at),
         Expr::Index(of, index) => {
             let at = put_expr(out, guard, at, of)?;
             let at = put_expr(out, guard, at, index)?;
             out.put(guard, at, Op::Plain(Instr::StoreIndex))
         }
-        Expr::Slice {
-            of: _,
-            from: _,
-            to: _,
-        }
-        | Expr::Attr(_, _) => put_no_target(out, guard, at),
+        Expr::Slice { .. } | Expr::Attr(_, _) => put_no_target(out, guard, at),
     }
 }
 
@@ -152,18 +126,17 @@ pub fn put_target(
 fn put_targets(
     out: &mut Builder,
     guard: Option<Guard>,
-    at: u32,
+    mut at: u32,
     items: &[Expr],
 ) -> Result<u32, NoMemory>
     ensures cells { OnOk result (out.new
         ≡ out.old ++ targets_code (plain_guard guard) at (plain_exprs items.now)) }
     ensures place { IfOk result (λ n. n ≡ at + targets_size (plain_exprs items.now)) }
 {
-    let mut to = at;
     for e in items {
-        to = put_target(out, guard, to, e)?;
+        at = put_target(out, guard, at, e)?;
     }
-    Ok(to)
+    Ok(at)
 }
 
 /// Gives the value on top to each of these targets, and takes it away.

@@ -33,10 +33,9 @@ pub(crate) fn put_arms(
     ensures place { IfOk result (λ n.
         n ≡ at + arms_size (in_hand (plain_ways ways)) (plain_arms items.now)) }
 {
-    let handled = in_hand(ways);
     let mut to = at;
     for arm in items {
-        let next = arm_next(handled, to, &arm.test, &arm.body)?;
+        let next = arm_next(in_hand(ways), to, &arm.test, &arm.body)?;
         let begin = put_arm_head(out, ways.guard, to, arm.body.first, next, &arm.test)?;
         let jump = put_suite(out, defs, ways, begin, &arm.body)?;
         to = out.put(ways.guard, jump, Op::Plain(Instr::Goto(end)))?;

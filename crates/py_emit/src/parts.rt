@@ -248,38 +248,20 @@ pub(crate) fn put_augment(
 {
     match place {
         Expr::Name(variable) => put_augment_name(out, guard, at, variable, op, e),
-        Expr::Int(_)
-        | Expr::Str(_)
-        | Expr::FStr(_)
-        | Expr::None
-        | Expr::Bool(_)
-        | Expr::Tuple { items: _, comma: _ }
-        | Expr::List { items: _, comma: _ }
-        | Expr::Dict { items: _, comma: _ }
-        | Expr::Paren(_)
-        | Expr::Not(_)
-        | Expr::And(_, _)
-        | Expr::Or(_, _)
-        | Expr::Unary(_, _)
-        | Expr::Binary(_, _, _)
-        | Expr::Compare(_, _)
-        | Expr::Cond {
-            body: _,
-            test: _,
-            orelse: _,
+        Expr::Int(_) | Expr::Str(_) | Expr::FStr(_) | Expr::None | Expr::Bool(_) => {
+            put_no_place(out, guard, at)
         }
-        | Expr::Call {
-            callee: _,
-            args: _,
-            comma: _,
-        } => put_no_place(out, guard, at),
+        Expr::Tuple { .. } | Expr::List { .. } | Expr::Dict { .. } | Expr::Paren(_) => {
+            put_no_place(out, guard, at)
+        }
+        Expr::Not(_) | Expr::And(_, _) | Expr::Or(_, _) | Expr::Unary(_, _) => {
+            put_no_place(out, guard, at)
+        }
+        Expr::Binary(_, _, _) | Expr::Compare(_, _) | Expr::Cond { .. } | Expr::Call { .. } => {
+            put_no_place(out, guard, at)
+        }
         Expr::Index(of, key) => put_augment_item(out, guard, at, of, key, op, e),
-        Expr::Slice {
-            of: _,
-            from: _,
-            to: _,
-        }
-        | Expr::Attr(_, _) => put_no_place(out, guard, at),
+        Expr::Slice { .. } | Expr::Attr(_, _) => put_no_place(out, guard, at),
     }
 }
 
@@ -405,13 +387,11 @@ pub(crate) fn put_guard(
         ≡ out.old ++ guard_code (plain_guard handler) at next (option_map plain_expr guard.now)) }
     ensures place { IfOk result (λ n. n ≡ at + guard_size (option_map plain_expr guard.now)) }
 {
-    match guard {
-        None => Ok(at),
-        Some(e) => {
-            let at = put_expr(out, handler, at, e)?;
-            out.put(handler, at, Op::Plain(Instr::IfFalse(next)))
-        }
-    }
+    let Some(test) = guard else {
+        return Ok(at);
+    };
+    let at = put_expr(out, handler, at, test)?;
+    out.put(handler, at, Op::Plain(Instr::IfFalse(next)))
 }
 
 /// The ways after a suite that each way out goes through: by `break`, by `continue` and by

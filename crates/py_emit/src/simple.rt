@@ -4,6 +4,8 @@ ghost use Rattle.std.specs.Prelude.{◌≡◌, ◌+◌, ◌++◌, [], IfOk, OnOk
 ghost use Rattle.std.specs.Option.{option_map};
 ghost use Rattle.py_syntax.specs.Tree.{expr, assign, aug_assign, break, continue, return, raise, assert, import, from};
 ghost use Rattle.py_syntax.specs.View.{plain_expr, plain_exprs, plain_aliases};
+ghost use Rattle.py_compile_expr.specs.Cells.{marks, plain, put};
+ghost use Rattle.py_compile_expr.specs.CellView.{plain_guard};
 ghost use Rattle.py_compile.specs.Statements.{kind_size, kind_code};
 ghost use Rattle.py_compile.specs.Ways.{in_hand};
 ghost use Rattle.py_emit.specs.WaysView.{plain_ways};
@@ -14,7 +16,7 @@ use crate::parts::{
 use crate::suite_sizes::assert_size;
 use crate::ways::{Ways, break_exit, continue_exit, return_exit};
 use py_code::Instr;
-use py_compile_expr::{Builder, Op, over, put_all, put_expr, sum};
+use py_compile_expr::{Builder, Guard, Op, over, put_all, put_expr, sum};
 use py_syntax::{Alias, Expr};
 use py_value::{BinOp, NoMemory, Text};
 
@@ -85,8 +87,7 @@ pub(crate) fn put_break(out: &mut Builder, ways: Ways, at: u32, line: u32) -> Re
     ensures place { IfOk result (λ n. n ≡ at + kind_size (in_hand (plain_ways ways)) break) }
 {
     let instr = break_exit(ways.on_break, sum(at, 2)?);
-    let at = out.put(ways.guard, at, Op::Mark(line))?;
-    out.put(ways.guard, at, Op::Plain(instr))
+    put_marked(out, ways.guard, at, line, instr)
 }
 
 /// `continue`, as `break`.
@@ -101,8 +102,24 @@ pub(crate) fn put_continue(
     ensures place { IfOk result (λ n. n ≡ at + kind_size (in_hand (plain_ways ways)) continue) }
 {
     let instr = continue_exit(ways.on_continue, sum(at, 2)?);
-    let at = out.put(ways.guard, at, Op::Mark(line))?;
-    out.put(ways.guard, at, Op::Plain(instr))
+    put_marked(out, ways.guard, at, line, instr)
+}
+
+/// The mark of a line, and an instruction.
+fn put_marked(
+    out: &mut Builder,
+    guard: Option<Guard>,
+    at: u32,
+    line: u32,
+    instr: Instr,
+) -> Result<u32, NoMemory>
+    ensures cells { OnOk result (out.new
+        ≡ out.old ++ put (plain_guard guard) (marks line) (put (plain_guard guard) (plain instr)
+        [])) }
+    ensures place { IfOk result (λ n. n ≡ at + 2) }
+{
+    let at = out.put(guard, at, Op::Mark(line))?;
+    out.put(guard, at, Op::Plain(instr))
 }
 
 /// `return`.

@@ -67,38 +67,13 @@ fn augment_size(place: &Expr, e: &Expr) -> Result<u32, NoMemory>
 {
     match place {
         Expr::Name(_) => sum(expr_size(e)?, 3),
-        Expr::Int(_)
-        | Expr::Str(_)
-        | Expr::FStr(_)
-        | Expr::None
-        | Expr::Bool(_)
-        | Expr::Tuple { items: _, comma: _ }
-        | Expr::List { items: _, comma: _ }
-        | Expr::Dict { items: _, comma: _ }
-        | Expr::Paren(_)
-        | Expr::Not(_)
-        | Expr::And(_, _)
-        | Expr::Or(_, _)
-        | Expr::Unary(_, _)
-        | Expr::Binary(_, _, _)
-        | Expr::Compare(_, _)
-        | Expr::Cond {
-            body: _,
-            test: _,
-            orelse: _,
-        }
-        | Expr::Call {
-            callee: _,
-            args: _,
-            comma: _,
-        } => Ok(4),
+        Expr::Int(_) | Expr::Str(_) | Expr::FStr(_) | Expr::None | Expr::Bool(_) => Ok(4),
+        Expr::Tuple { .. } | Expr::List { .. } | Expr::Dict { .. } | Expr::Paren(_) => Ok(4),
+        Expr::Not(_) | Expr::And(_, _) | Expr::Or(_, _) | Expr::Unary(_, _) => Ok(4),
+        Expr::Binary(_, _, _) | Expr::Compare(_, _) => Ok(4),
+        Expr::Cond { .. } | Expr::Call { .. } => Ok(4),
         Expr::Index(of, key) => augment_item_size(of, key, e),
-        Expr::Slice {
-            of: _,
-            from: _,
-            to: _,
-        }
-        | Expr::Attr(_, _) => Ok(4),
+        Expr::Slice { .. } | Expr::Attr(_, _) => Ok(4),
     }
 }
 

@@ -6,6 +6,6 @@ use Rattle.py_compile_expr.proofs.targets.+targets.Given as goal
 
 abbrev pub invariant-put_targets-loop-e : goal.invariant-put_targets-loop-e
 invariant-put_targets-loop-e l = record {
-  cells : l.out ++ targets_code (plain_guard l.guard) l.to (plain_exprs (drop l.e-index l.items)) ≡ l.initial.out ++ targets_code (plain_guard l.guard) l.initial.to (plain_exprs l.items);
-  place : l.to + targets_size (plain_exprs (drop l.e-index l.items)) ≡ l.initial.to + targets_size (plain_exprs l.items);
+  cells : l.out ++ targets_code (plain_guard l.guard) l.at (plain_exprs (drop l.e-index l.items)) ≡ l.initial.out ++ targets_code (plain_guard l.guard) l.initial.at (plain_exprs l.items);
+  place : l.at + targets_size (plain_exprs (drop l.e-index l.items)) ≡ l.initial.at + targets_size (plain_exprs l.items);
 }
