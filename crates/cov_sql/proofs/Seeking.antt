@@ -1,21 +1,24 @@
 -- One step of reading after the other.
-use Rattle.std.proofs.Common.{arith, ◌≡◌, ◌≢◌, inl, inr, Bool, List, [], Vec, is_some, Option, Some, None, Result, Ok, Err, IsErrOf, sym, ap, subst, ◌∙◌}
+use Rattle.std.proofs.Common.{◌≡◌, ◌≢◌, inl, inr, Bool, List, [], Vec, is_some, Option, Some, None, Result, Ok, Err, IsErrOf, sym, ap, subst, ◌∙◌}
 use Rattle.std.specs.Prelude.{option_map}
 use Rattle.std.specs.declared.alloc.Global.{Global}
 use Rattle.std.specs.Option.{unwrap_or}
 use Rattle.cov_tables.specs.declared.cells.Cell.{Cell}
 use Rattle.sqlite.specs.Effect.{Database}
-use Rattle.sqlite.specs.State.{State, HasCleanDisk, IsUnchanged, IsRolledBack}
+use Rattle.sqlite.specs.State.{State, IsUnchanged, IsRolledBack}
 use Rattle.sqlite.proofs.Callers.{unchanged_then}
-use Rattle.sqlite.proofs.StateLemmas.{survives_then, survives_weaker}
 use Rattle.cov_sql.specs.declared.errors.SqlError.{SqlError}
 use Rattle.cov_sql.specs.declared.errors.SqlError.TheVariants.{NotSchema7}
 use Rattle.sqlite_value.specs.Order.{Row}
-use Rattle.cov_sql.specs.Tables.{Shape, rows_in, IsUnhidden, hits}
+use Rattle.cov_sql.specs.Tables.{Shape, rows_in, hits}
 use Rattle.cov_sql.specs.Cells.{AreRowsIn}
 use Rattle.cov_sql.specs.Content.{AreUnhidden, AreCounts}
-use Rattle.cov_sql.specs.Told.{Lists, LeavesAll}
-use Rattle.cov_sql.specs.Finds.{EndsAs, Finds, HoldsCounts, LeavesFile}
+use Rattle.cov_sql.specs.declared.statements.StatementError.{StatementError}
+use Rattle.cov_sql.specs.declared.statements.StatementError.TheVariants.{Missing}
+use Rattle.cov_sql.specs.Refusals.{refusal}
+use Rattle.cov_sql.specs.Told.{Lists, Answers}
+use Rattle.cov_sql.specs.Finds.{EndsAs, Finds, HoldsRows, HoldsCounts, LacksTable}
+use Rattle.cov_sql.proofs.Stepping.{refused_as}
 
 pub now_is : (a b : State) → IsUnchanged a b → b.now ≡ a.now
 now_is a b u = u.0.now_is
@@ -62,13 +65,17 @@ module _ {X : Type 0} (Holds : Database → X → Type 0) (Lacks : Database → 
 pub still_hidden : (a b : State) → IsUnchanged a b → AreUnhidden a.now → AreUnhidden b.now
 still_hidden a b u h = subst AreUnhidden (sym (now_is a b u)) h
 
--- what a crash may leave after one step and then another
-pub leaves_one : (t : Shape) (a b : State) → (AreUnhidden a.now → IsUnhidden t a.now) → LeavesAll t a b → LeavesFile a b
-leaves_one t a b of s = survives_weaker a b (λ _. ¬ IsUnhidden t a.now) (λ _. ¬ AreUnhidden a.now) (λ _ db no all. no (of all)) s
+-- what a statement that reads tells, as a step of reading
+pub sought : (t : Shape) (a b : State) (v : Lists) → Answers t a b (Ok v) → Finds (HoldsRows t) (LacksTable t) a b (Ok v)
+sought t a b v told = record { rows = told.rows; missing = λ no. absurd cc; kept = told.kept; ends = told.ends }
 
-pub leaves_both : (a b c : State) → (HasCleanDisk b → AreUnhidden a.now → IsUnchanged a b) → LeavesFile a b → LeavesFile b c → LeavesFile a c
-leaves_both a b c same s t = survives_then a b c (λ _. ¬ AreUnhidden a.now) (λ _. ¬ AreUnhidden b.now) (λ _. ¬ AreUnhidden a.now) (λ _ db no. no)
-    (λ clean db no all. no (still_hidden a b (same (omega (arith, clean, t.clean)) all) all)) s t
+pub unsought : (t : Shape) (a b : State) (e : StatementError) → Answers t a b (Err e) → Finds (HoldsRows t) (LacksTable t) a b (Err (refusal e))
+unsought t a b e told = record {
+  rows = tt;
+  missing = λ no. let is : e ≡ Missing = refused_as e (let same : refusal e ≡ NotSchema7 = cc in same) in (told.missing (ap Err is), told.unfound (ap Err is));
+  kept = tt;
+  ends = told.ends;
+}
 
 -- the rows of the table of counts, or none
 pub counts_given : (db : Database) (b : Bool) (o : Option Lists) (items : List (Vec Cell Global)) → b ≡ is_some o → items ≡ unwrap_or (option_map (λ v. v.items) o) [] → HoldsCounts db o → AreCounts db b items

@@ -1,8 +1,10 @@
 -- What the blobs of `line_bits` have of the rows of data of lines.
---     spot_of                    where a row that is kept stands: its file, its context and its two numbers
+--     spot_of                    where a row that is kept stands: its file, its context and its two
+--                                numbers
 --     line_spot, spots_in        where a line of a blob stands; so all lines of one
 --     bits_cmp                   by file, then context
---     IsPacked, AreBitsOf        a blob has a line, and no byte too many; blobs have the lines of rows, one blob for each file and context
+--     IsPacked, AreBitsOf        a blob has a line, and no byte too many; blobs have the lines of
+--                                rows, one blob for each file and context
 use Rattle.std.specs.Prelude.{◌≡◌, ◌≢◌, ℕ, pos, List, [], map}
 use Rattle.std.specs.declared.cmp.Ordering.{Ordering}
 use Rattle.std.specs.Ordering.{int_cmp, ordering_then}
@@ -27,7 +29,8 @@ abbrev pub bits_cmp : SavedBits → SavedBits → Ordering
 bits_cmp a b = ordering_then (int_cmp a.file_id b.file_id) (int_cmp a.context_id b.context_id)
 
 abbrev pub IsPacked : SavedBits → Type 0
-IsPacked b = (lines_of_bits b.numbits.items ≢ []) × IsNumbits (lines_of_bits b.numbits.items) b.numbits.items
+IsPacked b = (lines_of_bits b.numbits.items ≢ [])
+    × IsNumbits (lines_of_bits b.numbits.items) b.numbits.items
 
 pub record AreBitsOf (rows : List SavedRow) (blobs : List SavedBits) : Type 0 where
   pub lines : flat_map spots_in blobs ≡ map spot_of rows

@@ -12,9 +12,11 @@ use Rattle.cov_sql.specs.Tables.{Shape, rows_in}
 
 -- a text, where its bytes are UTF-8
 abbrev pub IsTextCell : List ℕ → Cell → Type 0
-IsTextCell t c = ((s : String Global) × (c ≡ Text s) × (string_bytes s ≡ t)) ⊎ ((c ≡ Other) × ¬ IsUtf8 t)
+IsTextCell t c = ((s : String Global) × (c ≡ Text s) × (string_bytes s ≡ t))
+    ⊎ ((c ≡ Other) × ¬ IsUtf8 t)
 
--- a whole number, a text or a blob as it is; a text that is not UTF-8 and every other value as `Other`
+-- a whole number, a text or a blob as it is; a text that is not UTF-8 and every other value as
+-- `Other`
 abbrev pub IsCell : Value → Cell → Type 0
 IsCell value.Null c = c ≡ Other
 IsCell (value.Int n) c = c ≡ Int n
@@ -28,4 +30,5 @@ AreCells row cells = AllZip IsCell row cells.items
 
 -- the rows of a table, in some order
 abbrev pub AreRowsIn : Shape → Database → List (Vec Cell Global) → Type 0
-AreRowsIn t db lists = (all : List Row) × (shown : List Row) × (rows_in t db ≡ Some all) × IsPermutation all shown × AllZip AreCells shown lists
+AreRowsIn t db lists = (all : List Row) × (shown : List Row) × (rows_in t db ≡ Some all)
+    × IsPermutation all shown × AllZip AreCells shown lists

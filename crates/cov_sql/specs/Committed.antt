@@ -1,11 +1,14 @@
 -- What a save finds and what it leaves.
---     IsReadyFor               a base that data may be written to: without tables, or with those of a data file, whose rows may go
+--     IsReadyFor               a base that data may be written to: without tables, or with those of
+--                              a data file, whose rows may go
 --     HasTable                 a base has one of the tables
 --     ShowsSame                two states show the same tables
 --     IsJudged, Judges         what a base has, where data may be saved over what it holds
 --     begun                    a base as a transaction begins in it
---     IsSaved, EndsSaved       a base that one transaction made of another, with the rows of data; so a save leaves its base
---     LacksInWork              in such a transaction the database named a table or a column as not there
+--     IsSaved, EndsSaved       a base that one transaction made of another, with the rows of data;
+--                              so a save leaves its base
+--     LacksInWork              in such a transaction the database named a table or a column as not
+--                              there
 --     LeavesSaved              a crash may leave what it could leave before, or the saved base
 use Rattle.std.specs.Prelude.{◌≡◌, ◌≢◌, ◌⊎◌, ℕ, Bool, true, false, Some, Result, Ok, IfOk, OnOk, IsErrOf, IsTrue}
 use Rattle.sqlite_trees.specs.declared.store.Store.{Ghosts}
@@ -53,7 +56,8 @@ abbrev pub begun : {S : Type 0} → Held S → Held S
 begun h = record h { in_transaction = true }
 
 -- the texts of writing ran in a transaction, of which nothing was committed yet
-pub record IsSaved {S : Type 0} (g : Ghosts S) (d : DataSet) (fresh : Bool) (old : Held S) (db : Database) : Type 0 where
+pub record IsSaved {S : Type 0} (g : Ghosts S) (d : DataSet) (fresh : Bool) (old : Held S)
+    (db : Database) : Type 0 where
   -- the base once it was read
   pub read : Held S
   pub same : ShowsSame (state g old) (state g read)
@@ -68,10 +72,13 @@ pub record IsSaved {S : Type 0} (g : Ghosts S) (d : DataSet) (fresh : Bool) (old
   pub holds : IsReadyFor fresh (state g old).now → HoldsSaved d db
 
 abbrev pub EndsSaved : {S : Type 0} → Ghosts S → DataSet → Bool → Held S → Held S → Type 0
-EndsSaved g d fresh old new = IsSaved g d fresh old (state g new).committed × ((state g new).now ≡ (state g new).committed)
+EndsSaved g d fresh old new = IsSaved g d fresh old (state g new).committed
+    × ((state g new).now ≡ (state g new).committed)
 
 abbrev pub LacksInWork : {S : Type 0} → Ghosts S → Held S → Type 0
-LacksInWork {S} g old = (read : Held S) × ShowsSame (state g old) (state g read) × NamesAbsent g (begun read)
+LacksInWork {S} g old = (read : Held S) × ShowsSame (state g old) (state g read)
+    × NamesAbsent g (begun read)
 
 abbrev pub LeavesSaved : {S : Type 0} → Ghosts S → DataSet → Bool → Held S → Held S → Type 0
-LeavesSaved g d fresh old new = Survives (state g old) (state g new) (λ trees. (db : Database) × (trees ≡ db.trees) × IsSaved g d fresh old db)
+LeavesSaved g d fresh old new = Survives (state g old) (state g new)
+    (λ trees. (db : Database) × (trees ≡ db.trees) × IsSaved g d fresh old db)

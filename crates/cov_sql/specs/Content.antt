@@ -1,8 +1,11 @@
 -- What a base holds as a data file.
---     field_of, fields_in        a value as a field; the rows of a table as fields, where it is there
---     tables_in, content_in      the tables by their rows, if those of schema 7 are there; what the base holds
+--     field_of, fields_in        a value as a field; the rows of a table as fields, where it is
+--                                there
+--     tables_in, content_in      the tables by their rows, if those of schema 7 are there; what the
+--                                base holds
 --     AreUnhidden                no view has the name of one of the tables
---     AreCounts, IsFound         the rows that were read of each table, in some order; without the table of counts, none
+--     AreCounts, IsFound         the rows that were read of each table, in some order; without the
+--                                table of counts, none
 use Rattle.std.specs.Prelude.{◌≡◌, ◌≢◌, Bool, true, false, cond, Vec, List, [], map, Option, Some, None, option_map, option_and_then}
 use Rattle.std.specs.declared.alloc.Global.{Global}
 use Rattle.std.specs.Option.{unwrap_or}
@@ -31,15 +34,26 @@ abbrev pub fields_in : Shape → Database → Option (List Row)
 fields_in t db = option_map (map (map field_of)) (rows_in t db)
 
 -- all but the last have to be there
-abbrev pub tables_with : (version meta file context line_bits arc tracer hits : Option (List Row)) → Option Tables
+abbrev pub tables_with : (version meta file context line_bits arc tracer hits : Option (List Row))
+    → Option Tables
 tables_with version meta file context line_bits arc tracer hits =
-    option_and_then (λ v. option_and_then (λ m. option_and_then (λ f. option_and_then (λ c. option_and_then (λ l. option_and_then (λ a. option_map (λ t.
-    record { coverage_schema = v; meta = m; file = f; context = c; line_bits = l; arc = a; hits = unwrap_or hits [] }
+    option_and_then (λ v. option_and_then (λ m. option_and_then (λ f. option_and_then (λ c.
+    option_and_then (λ l. option_and_then (λ a. option_map (λ t.
+    record {
+      coverage_schema = v;
+      meta = m;
+      file = f;
+      context = c;
+      line_bits = l;
+      arc = a;
+      hits = unwrap_or hits [];
+    }
     ) tracer) arc) line_bits) context) file) meta) version
 
 abbrev pub tables_in : Database → Option Tables
 tables_in db =
-    tables_with (fields_in coverage_schema db) (fields_in meta db) (fields_in file db) (fields_in context db)
+    tables_with (fields_in coverage_schema db) (fields_in meta db) (fields_in file db)
+    (fields_in context db)
     (fields_in line_bits db) (fields_in arc db) (fields_in tracer db) (fields_in hits db)
 
 abbrev pub content_if : Option Tables → Content

@@ -1,8 +1,10 @@
 -- What the steps of reading a data file give.
---     Finds, EndsAs             what was sought, or it is missing; the base is as it was, or a transaction was undone
---     Seeks, SeeksCounts        so a step finds a table; the table of counts, which may be missing
+--     Finds, EndsAs             what was sought, or it is missing; the base is as it was, or a
+--                               transaction was undone
+--     SeeksCounts               so a step finds the table of counts, which may be missing
 --     FindsNamed, FindsMeasured, FindsAll      the first four tables; the others; all of them
---     LeavesFile                a crash may leave what it could leave before, unless a view has the name of a table
+--     LeavesFile                a crash may leave what it could leave before, unless a view has the
+--                               name of a table
 use Rattle.std.specs.Prelude.{◌≡◌, ◌≢◌, ◌⊎◌, None, Some, Option, Result, IfOk, OnOk, IsErrOf}
 use Rattle.sqlite.specs.Effect.{Database}
 use Rattle.sqlite.specs.State.{State, HasCleanDisk, IsUnchanged, IsRolledBack, Survives}
@@ -19,7 +21,8 @@ use Rattle.cov_sql.specs.Content.{tables_in, AreUnhidden, IsFound}
 abbrev pub EndsAs : State → State → Type 0
 EndsAs old new = IsUnchanged old new ⊎ IsRolledBack old new
 
-pub record Finds {X : Type 0} (Holds : Database → X → Type 0) (Lacks : Database → Type 0) (old new : State) (r : Result X SqlError) : Type 0 where
+pub record Finds {X : Type 0} (Holds : Database → X → Type 0) (Lacks : Database → Type 0)
+    (old new : State) (r : Result X SqlError) : Type 0 where
   pub rows : IfOk r (Holds old.now)
   pub missing : IsErrOf r NotSchema7 → Lacks old.now × IsUnchanged old new
   pub kept : OnOk r (IsUnchanged old new)
@@ -31,16 +34,14 @@ HoldsRows t db lists = AreRowsIn t db lists.items
 abbrev pub LacksTable : Shape → Database → Type 0
 LacksTable t db = rows_in t db ≡ None
 
--- where the store is clean after the step and no view has the table's name
-abbrev pub Seeks : Shape → State → State → Result Lists SqlError → Type 0
-Seeks t old new r = HasCleanDisk new → IsUnhidden t old.now → Finds (HoldsRows t) (LacksTable t) old new r
-
 abbrev pub HoldsCounts : Database → Option Lists → Type 0
 HoldsCounts db None = LacksTable hits db
 HoldsCounts db (Some lists) = HoldsRows hits db lists
 
+-- where the store is clean after the step and no view has the table's name
 abbrev pub SeeksCounts : State → State → Result (Option Lists) SqlError → Type 0
-SeeksCounts old new r = HasCleanDisk new → IsUnhidden hits old.now → Finds HoldsCounts (λ db. ⊥) old new r
+SeeksCounts old new r = HasCleanDisk new → IsUnhidden hits old.now
+    → Finds HoldsCounts (λ db. ⊥) old new r
 
 pub record IsNamed (db : Database) (n : Named) : Type 0 where
   pub coverage_schema : HoldsRows coverage_schema db n.coverage_schema
@@ -62,7 +63,8 @@ abbrev pub FindsNamed : State → State → Result Named SqlError → Type 0
 FindsNamed old new r = HasCleanDisk new → AreUnhidden old.now → Finds IsNamed LacksOne old new r
 
 abbrev pub FindsMeasured : State → State → Result Measured SqlError → Type 0
-FindsMeasured old new r = HasCleanDisk new → AreUnhidden old.now → Finds IsMeasured LacksOne old new r
+FindsMeasured old new r = HasCleanDisk new → AreUnhidden old.now
+    → Finds IsMeasured LacksOne old new r
 
 abbrev pub FindsAll : State → State → Result Found SqlError → Type 0
 FindsAll old new r = HasCleanDisk new → AreUnhidden old.now → Finds IsFound LacksOne old new r

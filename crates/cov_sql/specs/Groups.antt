@@ -1,7 +1,8 @@
 -- Rows of data of lines in groups, each of one file and one context.
 --     GroupView, group_view           a group; one as it is kept
 --     line_in                         the line in a number
---     same_ids, is_of                 two groups are of one file and one context; a row is of a group's
+--     same_ids, is_of                 two groups are of one file and one context; a row is of a
+--                                     group's
 --     one_line, with_line             a group of one row; one with a row more
 --     groups_from, groups             the groups of rows, where a group is begun; those of all rows
 --     IsBlobOf                        a blob has the lines of a group
@@ -42,11 +43,16 @@ abbrev pub one_line : SavedRow → GroupView
 one_line r = record { file_id = r.file_id; context_id = r.context_id; lines = line_in r.from ∷ [] }
 
 abbrev pub with_line : GroupView → SavedRow → GroupView
-with_line g r = record { file_id = g.file_id; context_id = g.context_id; lines = g.lines ++ line_in r.from ∷ [] }
+with_line g r = record {
+  file_id = g.file_id;
+  context_id = g.context_id;
+  lines = g.lines ++ line_in r.from ∷ [];
+}
 
 unfoldable pub groups_from : GroupView → List SavedRow → List GroupView
 groups_from g [] = g ∷ []
-groups_from g (r ∷ rs) = cond (is_of g r) (groups_from (with_line g r) rs) (g ∷ groups_from (one_line r) rs)
+groups_from g (r ∷ rs) = cond (is_of g r) (groups_from (with_line g r) rs)
+    (g ∷ groups_from (one_line r) rs)
 
 abbrev pub groups : List SavedRow → List GroupView
 groups [] = []

@@ -1,10 +1,14 @@
 -- Which rows the tables of a base hold while a data file is written.
 --     number_of, same_table        the tables by number; whether two are one
---     Rows, with_rows, without     the rows of each table; with rows more of one table, and without those of one
+--     Rows, with_rows, without     the rows of each table; with rows more of one table, and without
+--                                  those of one
 --     cleared, cleared_all         the rows once a table is emptied; once several are
---     IsThere, Stands              a table is there as it is declared, in this tree; all are, each in a tree of its own
---     IsReplaceable                the tables stand and no view hides one, no foreign key acts where their rows go, and their rowids are integers
---     HoldsOf, Holds               a table holds these rows, in some order; all do, in a base whose rows may go
+--     IsThere, Stands              a table is there as it is declared, in this tree; all are, each
+--                                  in a tree of its own
+--     IsReplaceable                the tables stand and no view hides one, no foreign key acts
+--                                  where their rows go, and their rowids are integers
+--     HoldsOf, Holds               a table holds these rows, in some order; all do, in a base whose
+--                                  rows may go
 --     Fills, Empties               a step adds rows to a table; a step takes the rows of a table
 use Rattle.std.specs.Prelude.{◌≡◌, ℕ, Bool, nat_eq, cond, List, [], ◌++◌, Some, Result, OnOk, IsTrue, IsPermutation, slice_get}
 use Rattle.std.specs.List.{AllByRecursion, fold}
@@ -85,10 +89,14 @@ pub record Holds (db : Database) (rows : Rows) : Type 0 where
   pub each : (n : Name) → HoldsOf n db (rows n)
 
 -- where the store is clean after the step, in a transaction
-abbrev pub Fills : {S : Type 0} → Ghosts S → (Rows → Rows) → Held S → Held S → Result (Unit {0}) StatementError → Type 0
-Fills g change old new r = HasCleanDisk (state g new) → IsTrue (state g old).in_transaction → (rows : Rows) → Holds (state g old).now rows
+abbrev pub Fills : {S : Type 0} → Ghosts S → (Rows → Rows) → Held S → Held S
+    → Result (Unit {0}) StatementError → Type 0
+Fills g change old new r = HasCleanDisk (state g new) → IsTrue (state g old).in_transaction
+    → (rows : Rows) → Holds (state g old).now rows
     → OnOk r (Holds (state g new).now (change rows))
 
-abbrev pub Empties : {S : Type 0} → Ghosts S → (Rows → Rows) → Held S → Held S → Result (Unit {0}) StatementError → Type 0
-Empties g change old new r = HasCleanDisk (state g new) → IsTrue (state g old).in_transaction → IsReplaceable (state g old).now → (rows : Rows) → Holds (state g old).now rows
+abbrev pub Empties : {S : Type 0} → Ghosts S → (Rows → Rows) → Held S → Held S
+    → Result (Unit {0}) StatementError → Type 0
+Empties g change old new r = HasCleanDisk (state g new) → IsTrue (state g old).in_transaction
+    → IsReplaceable (state g old).now → (rows : Rows) → Holds (state g old).now rows
     → OnOk r (IsReplaceable (state g new).now × Holds (state g new).now (change rows))

@@ -6,6 +6,7 @@ pub mod Told
 pub mod Shown
 pub mod Written
 pub mod SqlTexts
+pub mod Calls
 pub mod Refusals
 pub mod Content
 pub mod Finds

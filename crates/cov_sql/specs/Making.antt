@@ -1,12 +1,16 @@
 -- How a base comes to have the tables of a data file, and no data.
---     IsFreeName, AreFree      a table's name is free in a schema; those of all are, each once the tables before it are made
+--     IsFreeName, AreFree      a table's name is free in a schema; those of all are, each once the
+--                              tables before it are made
 --     made, IsBlank            a schema with tables more; no table has a row
 --     IsBare                   a base without a table, an index or a view
---     LacksCounts, HoldsVersion      a base to which the table of counts may be added; one has the row of its version
+--     LacksCounts, HoldsVersion      a base to which the table of counts may be added; one has the
+--                                    row of its version
 --     IsReady                  a base that data may be written to
---     Builds, Prepares, Saves  so a step makes tables; so one leaves a data file without data; so one leaves saved data
+--     Builds, Prepares, Saves  so a step makes tables; so one leaves a data file without data; so
+--                              one leaves saved data
 --     IsDenied, Denies         no table that is made was there; so a step ends
---     IsRefusedIfThere, RefusesIfThere      a base that has a table is refused where it should have none; so a step ends
+--     IsRefusedIfThere, RefusesIfThere      a base that has a table is refused where it should have
+--                                           none; so a step ends
 --     NeverLacks               on a base that is ready a step lacks no table
 use Rattle.std.specs.Prelude.{◌≡◌, ◌⊎◌, ℕ, pos, true, false, List, [], ◌∷◌, None, Some, Result, Err, OnOk, IsErrOf, IsTrue}
 use Rattle.std.specs.List.{AllByRecursion, fold}
@@ -66,33 +70,49 @@ IsReady (start.Tables true) db = IsReplaceable db × HoldsVersion db
 IsReady (start.Tables false) db = LacksCounts db × HoldsVersion db
 
 -- where the store is clean after the step, in a transaction
-abbrev pub Builds : {S : Type 0} → Ghosts S → List Name → Held S → Held S → Result (Unit {0}) StatementError → Type 0
-Builds g names old new r = HasCleanDisk (state g new) → IsTrue (state g old).in_transaction → AreFree (state g old).now.schema names → IsBlank (state g old).now
-    → OnOk r (((state g new).now.schema ≡ made (state g old).now.schema names) × IsBlank (state g new).now)
+abbrev pub Builds : {S : Type 0} → Ghosts S → List Name → Held S → Held S
+    → Result (Unit {0}) StatementError → Type 0
+Builds g names old new r = HasCleanDisk (state g new) → IsTrue (state g old).in_transaction
+    → AreFree (state g old).now.schema names → IsBlank (state g old).now
+    → OnOk r (((state g new).now.schema ≡ made (state g old).now.schema names)
+    × IsBlank (state g new).now)
 
-abbrev pub Prepares : {S : Type 0} → Ghosts S → Start → Held S → Held S → Result (Unit {0}) StatementError → Type 0
-Prepares g start old new r = HasCleanDisk (state g new) → IsTrue (state g old).in_transaction → IsReady start (state g old).now → OnOk r (Holds (state g new).now no_data_rows)
+abbrev pub Prepares : {S : Type 0} → Ghosts S → Start → Held S → Held S
+    → Result (Unit {0}) StatementError → Type 0
+Prepares g start old new r = HasCleanDisk (state g new) → IsTrue (state g old).in_transaction
+    → IsReady start (state g old).now → OnOk r (Holds (state g new).now no_data_rows)
 
-abbrev pub Saves : {S : Type 0} → Ghosts S → Start → Saved → Held S → Held S → Result (Unit {0}) StatementError → Type 0
-Saves g start saved old new r = HasCleanDisk (state g new) → IsTrue (state g old).in_transaction → IsReady start (state g old).now
+abbrev pub Saves : {S : Type 0} → Ghosts S → Start → Saved → Held S → Held S
+    → Result (Unit {0}) StatementError → Type 0
+Saves g start saved old new r = HasCleanDisk (state g new) → IsTrue (state g old).in_transaction
+    → IsReady start (state g old).now
     → OnOk r (Holds (state g new).now (with_data saved (with_names saved no_data_rows)))
 
-pub record IsDenied (names : List Name) (old new : Schema) (r : Result (Unit {0}) StatementError) : Type 0 where
+pub record IsDenied (names : List Name) (old new : Schema)
+    (r : Result (Unit {0}) StatementError) : Type 0 where
   pub absent : OnOk r (AllByRecursion (λ n. table_named old (shape_of n).name ≡ None) names)
   pub grown : OnOk r (IsGrown old new)
   pub never : IsErrOf r Missing → ⊥
 
 -- where no view has a table's name
-abbrev pub Denies : {S : Type 0} → Ghosts S → List Name → Held S → Held S → Result (Unit {0}) StatementError → Type 0
-Denies g names old new r = HasCleanDisk (state g new) → IsTrue (state g old).in_transaction → AreUnhidden (state g old).now → IsDenied names (state g old).now.schema (state g new).now.schema r
+abbrev pub Denies : {S : Type 0} → Ghosts S → List Name → Held S → Held S
+    → Result (Unit {0}) StatementError → Type 0
+Denies g names old new r = HasCleanDisk (state g new) → IsTrue (state g old).in_transaction
+    → AreUnhidden (state g old).now
+    → IsDenied names (state g old).now.schema (state g new).now.schema r
 
 abbrev pub IsRefusedIfThere : Schema → Result (Unit {0}) StatementError → Type 0
-IsRefusedIfThere schema r = (n : Name) (at : ℕ) → table_named schema (shape_of n).name ≡ Some at → (r ≡ Err Refused) ⊎ (r ≡ Err NoMemory)
+IsRefusedIfThere schema r = (n : Name) (at : ℕ) → table_named schema (shape_of n).name ≡ Some at
+    → (r ≡ Err Refused) ⊎ (r ≡ Err NoMemory)
 
-abbrev pub RefusesIfThere : {S : Type 0} → Ghosts S → Start → Held S → Held S → Result (Unit {0}) StatementError → Type 0
-RefusesIfThere g begins old new r = HasCleanDisk (state g new) → IsTrue (state g old).in_transaction → AreUnhidden (state g old).now → begins ≡ start.Nothing
+abbrev pub RefusesIfThere : {S : Type 0} → Ghosts S → Start → Held S → Held S
+    → Result (Unit {0}) StatementError → Type 0
+RefusesIfThere g begins old new r = HasCleanDisk (state g new) → IsTrue (state g old).in_transaction
+    → AreUnhidden (state g old).now → begins ≡ start.Nothing
     → IsRefusedIfThere (state g old).now.schema r
 
 -- where the store is clean after the step, in a transaction
-abbrev pub NeverLacks : {S : Type 0} → Ghosts S → Start → Held S → Held S → Result (Unit {0}) StatementError → Type 0
-NeverLacks g begins old new r = HasCleanDisk (state g new) → IsTrue (state g old).in_transaction → IsReady begins (state g old).now → IsErrOf r Missing → ⊥
+abbrev pub NeverLacks : {S : Type 0} → Ghosts S → Start → Held S → Held S
+    → Result (Unit {0}) StatementError → Type 0
+NeverLacks g begins old new r = HasCleanDisk (state g new) → IsTrue (state g old).in_transaction
+    → IsReady begins (state g old).now → IsErrOf r Missing → ⊥

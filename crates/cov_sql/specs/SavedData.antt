@@ -1,8 +1,10 @@
 -- What is kept of data until it is written.
 --     contexts_in                  the contexts of rows, in order, each once
---     IsNumbered, IsSavedRow       a text stands at a number, from 1; a row with the numbers of its file and its context
+--     IsNumbered, IsSavedRow       a text stands at a number, from 1; a row with the numbers of its
+--                                  file and its context
 --     IsSavedOf                    so data is kept
---     saved_rows, HoldsSaved       the rows that are written; the tables of a base hold those of data
+--     saved_rows, HoldsSaved       the rows that are written; the tables of a base hold those of
+--                                  data
 use Rattle.std.specs.Prelude.{◌≡◌, ℕ, ℤ, pos, ◌+◌, true, false, List, [], map, slice_get, Some, string_bytes}
 use Rattle.std.specs.List.{AllZip}
 use Rattle.cov_data.specs.DataSet.{Text, text_cmp, DataSet}

@@ -1,7 +1,9 @@
 -- The rows that are written of data.
---     flag_row, numbered                  the row of `meta`; texts with their numbers, as in `file` and `context`
+--     flag_row, numbered                  the row of `meta`; texts with their numbers, as in `file`
+--                                         and `context`
 --     arc_row, bits_row, hits_row         the rows of what is kept of data until it is written
---     with_names, with_data               the rows of all tables with those of names, and with those of data
+--     with_names, with_data, with_all     the rows of all tables with those of names, with those of
+--                                         data, and with both
 --     no_data_rows                        the rows of a data file of schema 7 without data
 use Rattle.std.specs.Prelude.{ℕ, pos, ◌+◌, Bool, cond, List, [], ◌∷◌, map, codes, string_bytes}
 use Rattle.sqlite_value.specs.Order.{Row}
@@ -30,11 +32,18 @@ hits_row r = Int r.file_id ∷ Int r.context_id ∷ Int r.from ∷ Int r.to ∷ 
 
 abbrev pub with_names : Saved → Rows → Rows
 with_names s rows =
-    with_rows name.Context (numbered 1 (map string_bytes s.contexts.items)) (with_rows name.File (numbered 1 (map string_bytes s.paths.items)) (with_rows name.Meta (flag_row s.arcs ∷ []) rows))
+    with_rows name.Context (numbered 1 (map string_bytes s.contexts.items))
+    (with_rows name.File (numbered 1 (map string_bytes s.paths.items))
+    (with_rows name.Meta (flag_row s.arcs ∷ []) rows))
 
 abbrev pub with_data : Saved → Rows → Rows
 with_data s rows =
-    with_rows name.Hits (map hits_row s.rows.items) (with_rows name.LineBits (map bits_row s.bits.items) (with_rows name.Arc (cond s.arcs (map arc_row s.rows.items) []) rows))
+    with_rows name.Hits (map hits_row s.rows.items)
+    (with_rows name.LineBits (map bits_row s.bits.items)
+    (with_rows name.Arc (cond s.arcs (map arc_row s.rows.items) []) rows))
+
+abbrev pub with_all : Saved → Rows → Rows
+with_all s rows = with_data s (with_names s rows)
 
 abbrev pub no_data_rows : Rows
 no_data_rows name.CoverageSchema = (Int (pos 7) ∷ []) ∷ []

@@ -11,12 +11,15 @@ use Rattle.cov_sql.specs.Told.{Lists, IsAbsence}
 
 -- the rows that the text shows, as cells
 abbrev pub ShowsCells : List ℕ → State → State → Lists → Type 0
-ShowsCells text old new lists = (rows : List Row) × Shown text [] old new rows × AllZip AreCells rows lists.items
+ShowsCells text old new lists = (rows : List Row) × Shown text [] old new rows
+    × AllZip AreCells rows lists.items
 
 -- the text was refused since a table or a column isn't there
 abbrev pub IsRefusedAsAbsent : List ℕ → State → State → Type 0
-IsRefusedAsAbsent text old new = (e : CompileError) × IsAbsence e × FailsToQuery text [] old new (SqlInputError e)
+IsRefusedAsAbsent text old new = (e : CompileError) × IsAbsence e
+    × FailsToQuery text [] old new (SqlInputError e)
 
 -- the text was asked, with or without an answer
 abbrev pub IsAsked : List ℕ → State → State → Type 0
-IsAsked text old new = ((rows : List Row) × Shown text [] old new rows) ⊎ ((e : Error) × FailsToQuery text [] old new e)
+IsAsked text old new = ((rows : List Row) × Shown text [] old new rows)
+    ⊎ ((e : Error) × FailsToQuery text [] old new e)

@@ -1,4 +1,8 @@
--- The texts of SQL that make, fill and empty the tables of coverage.py's schema 7 and the table of counts.
+-- The texts of SQL that write the tables of coverage.py's schema 7 and the table of counts.
+--     make_.._text                 makes the table
+--     insert_.._text               inserts a row, whose values are the parameters
+--     delete_.._text               deletes its rows
+--     written_texts, IsWritten     all of these texts; a text is one of them
 use Rattle.std.specs.Prelude.{◌≡◌, ℕ, List, [], ◌∷◌, Some, slice_get, codes}
 
 abbrev pub make_coverage_schema_text : List ℕ
@@ -11,19 +15,24 @@ abbrev pub make_file_text : List ℕ
 make_file_text = codes "CREATE TABLE file (id integer primary key, path text, unique (path))"
 
 abbrev pub make_context_text : List ℕ
-make_context_text = codes "CREATE TABLE context (id integer primary key, context text, unique (context))"
+make_context_text =
+    codes "CREATE TABLE context (id integer primary key, context text, unique (context))"
 
 abbrev pub make_line_bits_text : List ℕ
-make_line_bits_text = codes "CREATE TABLE line_bits (file_id integer, context_id integer, numbits blob, foreign key (file_id) references file (id), foreign key (context_id) references context (id), unique (file_id, context_id))"
+make_line_bits_text =
+    codes "CREATE TABLE line_bits (file_id integer, context_id integer, numbits blob, foreign key (file_id) references file (id), foreign key (context_id) references context (id), unique (file_id, context_id))"
 
 abbrev pub make_arc_text : List ℕ
-make_arc_text = codes "CREATE TABLE arc (file_id integer, context_id integer, fromno integer, tono integer, foreign key (file_id) references file (id), foreign key (context_id) references context (id), unique (file_id, context_id, fromno, tono))"
+make_arc_text =
+    codes "CREATE TABLE arc (file_id integer, context_id integer, fromno integer, tono integer, foreign key (file_id) references file (id), foreign key (context_id) references context (id), unique (file_id, context_id, fromno, tono))"
 
 abbrev pub make_tracer_text : List ℕ
-make_tracer_text = codes "CREATE TABLE tracer (file_id integer primary key, tracer text, foreign key (file_id) references file (id))"
+make_tracer_text =
+    codes "CREATE TABLE tracer (file_id integer primary key, tracer text, foreign key (file_id) references file (id))"
 
 abbrev pub make_hits_text : List ℕ
-make_hits_text = codes "CREATE TABLE hits (file_id integer, context_id integer, fromno integer, tono integer, count integer, unique (file_id, context_id, fromno, tono))"
+make_hits_text =
+    codes "CREATE TABLE hits (file_id integer, context_id integer, fromno integer, tono integer, count integer, unique (file_id, context_id, fromno, tono))"
 
 abbrev pub insert_coverage_schema_text : List ℕ
 insert_coverage_schema_text = codes "INSERT INTO coverage_schema (version) VALUES (?1)"
@@ -38,13 +47,16 @@ abbrev pub insert_context_text : List ℕ
 insert_context_text = codes "INSERT INTO context (id, context) VALUES (?1, ?2)"
 
 abbrev pub insert_line_bits_text : List ℕ
-insert_line_bits_text = codes "INSERT INTO line_bits (file_id, context_id, numbits) VALUES (?1, ?2, ?3)"
+insert_line_bits_text =
+    codes "INSERT INTO line_bits (file_id, context_id, numbits) VALUES (?1, ?2, ?3)"
 
 abbrev pub insert_arc_text : List ℕ
-insert_arc_text = codes "INSERT INTO arc (file_id, context_id, fromno, tono) VALUES (?1, ?2, ?3, ?4)"
+insert_arc_text =
+    codes "INSERT INTO arc (file_id, context_id, fromno, tono) VALUES (?1, ?2, ?3, ?4)"
 
 abbrev pub insert_hits_text : List ℕ
-insert_hits_text = codes "INSERT INTO hits (file_id, context_id, fromno, tono, count) VALUES (?1, ?2, ?3, ?4, ?5)"
+insert_hits_text =
+    codes "INSERT INTO hits (file_id, context_id, fromno, tono, count) VALUES (?1, ?2, ?3, ?4, ?5)"
 
 abbrev pub delete_meta_text : List ℕ
 delete_meta_text = codes "DELETE FROM meta"
@@ -67,7 +79,7 @@ delete_tracer_text = codes "DELETE FROM tracer"
 abbrev pub delete_hits_text : List ℕ
 delete_hits_text = codes "DELETE FROM hits"
 
--- all of them
+-- each text once
 abbrev pub written_texts : List (List ℕ)
 written_texts =
     make_coverage_schema_text ∷ make_meta_text ∷ make_file_text ∷ make_context_text

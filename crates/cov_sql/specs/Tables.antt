@@ -1,8 +1,12 @@
 -- The tables of a base, by the names of their columns.
 --     table_in, places_in      a table of a schema; where its rows have the values of some columns
---     rows_of                  the rows of a table in some columns, or none where it is missing or lacks one of them
---     Shape, rows_in           a table of a data file by its name and columns, and its rows in a base
---     coverage_schema, meta, file, context, line_bits, arc, tracer, hits      the tables of schema 7, and that of counts
+--     rows_of                  the rows of a table in some columns, or none where it is missing or
+--                              lacks one of them
+--     Shape, rows_in           a table of a data file by its name and columns, and its rows in a
+--                              base
+--     coverage_schema, meta, file, context,
+--     line_bits, arc, tracer   the tables of schema 7
+--     hits                     the table of counts
 --     IsUnhidden               no view has the table's name
 use Rattle.std.specs.Prelude.{◌≡◌, ℕ, List, [], ◌∷◌, map, Option, Some, None, option_map, option_and_then, slice_get, codes}
 use Rattle.sqlite_value.specs.Order.{Row, column}
@@ -17,10 +21,13 @@ table_in schema name = option_and_then (slice_get schema.tables) (table_named sc
 -- where a row has the values of these columns, if the table has them all
 abbrev pub places_in : Table → List (List ℕ) → Option (List ℕ)
 places_in t [] = Some []
-places_in t (n ∷ ns) = option_and_then (λ k. option_map (λ ps. place_of t k ∷ ps) (places_in t ns)) (column_named t n)
+places_in t (n ∷ ns) = option_and_then (λ k. option_map (λ ps. place_of t k ∷ ps) (places_in t ns))
+    (column_named t n)
 
 abbrev pub rows_of : List ℕ → List (List ℕ) → Database → Option (List Row)
-rows_of name names db = option_and_then (λ t. option_map (λ ps. map (λ r. map (column r) ps) (db.trees t.tree)) (places_in t names)) (table_in db.schema name)
+rows_of name names db = option_and_then (λ t.
+    option_map (λ ps. map (λ r. map (column r) ps) (db.trees t.tree)) (places_in t names))
+    (table_in db.schema name)
 
 pub record Shape : Type 0 where
   pub name : List ℕ
@@ -48,13 +55,23 @@ abbrev pub context : Shape
 context = record { name = codes "context"; columns = codes "id" ∷ codes "context" ∷ [] }
 
 abbrev pub line_bits : Shape
-line_bits = record { name = codes "line_bits"; columns = codes "file_id" ∷ codes "context_id" ∷ codes "numbits" ∷ [] }
+line_bits = record {
+  name = codes "line_bits";
+  columns = codes "file_id" ∷ codes "context_id" ∷ codes "numbits" ∷ [];
+}
 
 abbrev pub arc : Shape
-arc = record { name = codes "arc"; columns = codes "file_id" ∷ codes "context_id" ∷ codes "fromno" ∷ codes "tono" ∷ [] }
+arc = record {
+  name = codes "arc";
+  columns = codes "file_id" ∷ codes "context_id" ∷ codes "fromno" ∷ codes "tono" ∷ [];
+}
 
 abbrev pub tracer : Shape
 tracer = record { name = codes "tracer"; columns = codes "file_id" ∷ codes "tracer" ∷ [] }
 
 abbrev pub hits : Shape
-hits = record { name = codes "hits"; columns = codes "file_id" ∷ codes "context_id" ∷ codes "fromno" ∷ codes "tono" ∷ codes "count" ∷ [] }
+hits = record {
+  name = codes "hits";
+  columns = codes "file_id" ∷ codes "context_id" ∷ codes "fromno" ∷ codes "tono"
+      ∷ codes "count" ∷ [];
+}

@@ -1,6 +1,8 @@
 -- What reading statements tell.
---     Answers      a statement gave the rows of its table, or it is missing, and nothing changed; else a transaction may have been undone
---     Reads        so it is where the store is clean after the call and no view has the table's name
+--     Answers      a statement gave the rows of its table, or it is missing, and nothing changed;
+--                  else a transaction may have been undone
+--     Reads        so it is where the store is clean after the call and no view has the table's
+--                  name
 --     LeavesAll    a crash may leave what it could leave before, unless a view has the table's name
 --     IsAbsence    the causes that say that a table or one of its columns isn't there
 use Rattle.std.specs.Prelude.{◌≡◌, ◌⊎◌, None, Vec, Result, IfOk, OnOk, IsErrOf}

@@ -1,7 +1,10 @@
 -- What the steps of writing a data file do, in one transaction.
---     Step, RanAll, Reaches    a text that ran; texts of writing ran one after the other; a state is reached so
---     NamesAbsent              after such texts the database named a table or a column of the next one as not there
---     WorkEnds, Works          what a step leaves; so it is where the store is clean, in a transaction
+--     Step, RanAll, Reaches    a text that ran; texts of writing ran one after the other; a state
+--                              is reached so
+--     NamesAbsent              after such texts the database named a table or a column of the next
+--                              one as not there
+--     WorkEnds, Works          what a step leaves; so it is where the store is clean, in a
+--                              transaction
 use Rattle.std.specs.Prelude.{◌≡◌, ℕ, List, [], ◌∷◌, Result, OnOk, IsErrOf, IsTrue}
 use Rattle.sqlite_value.specs.Order.{Row}
 use Rattle.sqlite_trees.specs.declared.store.Store.{Ghosts}
@@ -20,7 +23,8 @@ pub record Step (S : Type 0) : Type 0 where
 
 abbrev pub RanAll : {S : Type 0} → Ghosts S → Held S → List (Step S) → Held S → Type 0
 RanAll g old [] new = old ≡ new
-RanAll g old (s ∷ ss) new = IsWritten s.text × Ran s.text s.params (state g old) (state g s.next) × RanAll g s.next ss new
+RanAll g old (s ∷ ss) new = IsWritten s.text × Ran s.text s.params (state g old) (state g s.next)
+    × RanAll g s.next ss new
 
 abbrev pub Reaches : {S : Type 0} → Ghosts S → Held S → Held S → Type 0
 Reaches {S} g old new = (steps : List (Step S)) × RanAll g old steps new
@@ -35,11 +39,14 @@ pub record NamesAbsent {S : Type 0} (g : Ghosts S) (old : Held S) : Type 0 where
   pub clean : HasCleanDisk (state g new)
   pub absent : WasAbsent text params (state g last) (state g new)
 
-pub record WorkEnds {S : Type 0} (g : Ghosts S) (old new : Held S) (r : Result (Unit {0}) StatementError) : Type 0 where
+pub record WorkEnds {S : Type 0} (g : Ghosts S) (old new : Held S)
+    (r : Result (Unit {0}) StatementError) : Type 0 where
   pub goes_on : OnOk r (IsTrue (state g new).in_transaction)
   pub reached : OnOk r (Reaches g old new)
   pub missing : IsErrOf r Missing → NamesAbsent g old
   pub kept : KeepsCommit (state g old) (state g new)
 
-abbrev pub Works : {S : Type 0} → Ghosts S → Held S → Held S → Result (Unit {0}) StatementError → Type 0
-Works g old new r = HasCleanDisk (state g new) → IsTrue (state g old).in_transaction → WorkEnds g old new r
+abbrev pub Works : {S : Type 0} → Ghosts S → Held S → Held S → Result (Unit {0}) StatementError
+    → Type 0
+Works g old new r = HasCleanDisk (state g new) → IsTrue (state g old).in_transaction
+    → WorkEnds g old new r

@@ -1,11 +1,17 @@
 -- What writing statements tell.
---     NothingActs, HasInteger      no foreign key acts where rows of a tree go; a row's rowid is an integer
---     IsFree                       a table is there, its rows go alone, and their rowids are integers
---     IsEmptied, Deletes           a table has no row left and every other is as before; so a call leaves it
+--     NothingActs, HasInteger      no foreign key acts where rows of a tree go; a row's rowid is an
+--                                  integer
+--     IsFree                       a table is there, its rows go alone, and their rowids are
+--                                  integers
+--     IsEmptied, Deletes           a table has no row left and every other is as before; so a call
+--                                  leaves it
 --     IsUnused, IsMade             a name is free; its table was made
---     IsGrown, IsMaking, Makes     no table or view of a schema went; what a call that makes a table does
---     IsDeclared, IsAdded, Inserts      a table is there as data files declare it; it has one row more; so a call leaves it
---     WasAbsent, Ran               a text was refused since a table or a column isn't there; one ran, and the transaction goes on
+--     IsGrown, IsMaking, Makes     no table or view of a schema went; what a call that makes a
+--                                  table does
+--     IsDeclared, IsAdded, Inserts      a table is there as data files declare it; it has one row
+--                                       more; so a call leaves it
+--     WasAbsent, Ran               a text was refused since a table or a column isn't there; one
+--                                  ran, and the transaction goes on
 --     IsRun, RunsIn                a call ran one text, and committed nothing
 use Rattle.std.specs.Prelude.{slice_get, ◌∷◌, IsPermutation, ◌≡◌, ◌≢◌, ◌⊎◌, ℕ, true, false, None, Err, ℤ, List, [], Some, Ok, Result, OnOk, IsErrOf, IsTrue}
 use Rattle.std.specs.List.{AllByRecursion}
@@ -44,10 +50,13 @@ pub record IsFree (t : Shape) (db : Database) : Type 0 where
 pub record IsEmptied (t : Shape) (old new : Database) : Type 0 where
   pub schema : new.schema ≡ old.schema
   pub rows : (all : List Row) → rows_in t old ≡ Some all → rows_in t new ≡ Some []
-  pub others : (u : Table) → table_in old.schema t.name ≡ Some u → AllByRecursion (λ v. v.tree ≢ u.tree → new.trees v.tree ≡ old.trees v.tree) old.schema.tables
+  pub others : (u : Table) → table_in old.schema t.name ≡ Some u
+      → AllByRecursion (λ v. v.tree ≢ u.tree → new.trees v.tree ≡ old.trees v.tree)
+      old.schema.tables
 
 abbrev pub Deletes : Shape → State → State → Result (Unit {0}) StatementError → Type 0
-Deletes t old new r = HasCleanDisk new → IsTrue old.in_transaction → IsFree t old.now → OnOk r (IsEmptied t old.now new.now)
+Deletes t old new r = HasCleanDisk new → IsTrue old.in_transaction → IsFree t old.now
+    → OnOk r (IsEmptied t old.now new.now)
 
 pub record IsUnused (t : Shape) (table : ℕ → Table) (db : Database) : Type 0 where
   pub no_table : table_named db.schema t.name ≡ None
@@ -63,13 +72,16 @@ pub record IsMade (table : ℕ → Table) (old new : Database) : Type 0 where
   pub others : KeepsRows old.schema.tables old.trees new.trees
 
 pub record IsGrown (old new : Schema) : Type 0 where
-  pub tables : (name : List ℕ) (at : ℕ) → table_named old name ≡ Some at → table_named new name ≡ Some at
+  pub tables : (name : List ℕ) (at : ℕ) → table_named old name ≡ Some at
+      → table_named new name ≡ Some at
   pub views : new.views ≡ old.views
 
-pub record IsMaking (t : Shape) (table : ℕ → Table) (old new : State) (r : Result (Unit {0}) StatementError) : Type 0 where
+pub record IsMaking (t : Shape) (table : ℕ → Table) (old new : State)
+    (r : Result (Unit {0}) StatementError) : Type 0 where
   pub made : IsUnused t table old.now → OnOk r (IsMade table old.now new.now)
   -- a table that is there is not made again
-  pub once : (at : ℕ) → table_named old.now.schema t.name ≡ Some at → IsUnhidden t old.now → (r ≡ Err Refused) ⊎ (r ≡ Err NoMemory)
+  pub once : (at : ℕ) → table_named old.now.schema t.name ≡ Some at → IsUnhidden t old.now
+      → (r ≡ Err Refused) ⊎ (r ≡ Err NoMemory)
   pub grown : IsUnhidden t old.now → OnOk r (IsGrown old.now.schema new.now.schema)
   -- the text needs no other table
   pub never : IsUnhidden t old.now → IsErrOf r Missing → ⊥
@@ -78,7 +90,8 @@ abbrev pub Makes : Shape → (ℕ → Table) → State → State → Result (Uni
 Makes t table old new r = HasCleanDisk new → IsTrue old.in_transaction → IsMaking t table old new r
 
 abbrev pub IsDeclared : Shape → (ℕ → Table) → Database → Type 0
-IsDeclared t table db = (at : ℕ) × (tree : ℕ) × (table_named db.schema t.name ≡ Some at) × (slice_get db.schema.tables at ≡ Some (table tree))
+IsDeclared t table db = (at : ℕ) × (tree : ℕ) × (table_named db.schema t.name ≡ Some at)
+    × (slice_get db.schema.tables at ≡ Some (table tree))
 
 -- its rowids stay integers, and every other table is as before
 pub record IsAdded (t : Shape) (row : Row) (old new : Database) : Type 0 where
@@ -88,20 +101,28 @@ pub record IsAdded (t : Shape) (row : Row) (old new : Database) : Type 0 where
   pub was : rows_in t old ≡ Some before
   pub is : rows_in t new ≡ Some after
   pub more : IsPermutation (row ∷ before) after
-  pub rowids : (u : Table) → table_in old.schema t.name ≡ Some u → AllByRecursion HasInteger (old.trees u.tree) → AllByRecursion HasInteger (new.trees u.tree)
-  pub others : (u : Table) → table_in old.schema t.name ≡ Some u → AllByRecursion (λ v. v.tree ≢ u.tree → new.trees v.tree ≡ old.trees v.tree) old.schema.tables
+  pub rowids : (u : Table) → table_in old.schema t.name ≡ Some u
+      → AllByRecursion HasInteger (old.trees u.tree) → AllByRecursion HasInteger (new.trees u.tree)
+  pub others : (u : Table) → table_in old.schema t.name ≡ Some u
+      → AllByRecursion (λ v. v.tree ≢ u.tree → new.trees v.tree ≡ old.trees v.tree)
+      old.schema.tables
 
-abbrev pub Inserts : Shape → (ℕ → Table) → Row → State → State → Result (Unit {0}) StatementError → Type 0
-Inserts t table row old new r = HasCleanDisk new → IsTrue old.in_transaction → IsDeclared t table old.now → OnOk r (IsAdded t row old.now new.now)
+abbrev pub Inserts : Shape → (ℕ → Table) → Row → State → State → Result (Unit {0}) StatementError
+    → Type 0
+Inserts t table row old new r = HasCleanDisk new → IsTrue old.in_transaction
+    → IsDeclared t table old.now → OnOk r (IsAdded t row old.now new.now)
 
 abbrev pub WasAbsent : List ℕ → Row → State → State → Type 0
-WasAbsent text params old new = (e : CompileError) × IsAbsence e × Executes text params old new (Err (SqlInputError e))
+WasAbsent text params old new = (e : CompileError) × IsAbsence e
+    × Executes text params old new (Err (SqlInputError e))
 
 -- and what was committed stays so
 abbrev pub Ran : List ℕ → Row → State → State → Type 0
-Ran text params old new = (count : ℕ) × Executes text params old new (Ok count) × Shows old new new.now old.committed true
+Ran text params old new = (count : ℕ) × Executes text params old new (Ok count)
+    × Shows old new new.now old.committed true
 
-pub record IsRun (text : List ℕ) (old new : State) (r : Result (Unit {0}) StatementError) : Type 0 where
+pub record IsRun (text : List ℕ) (old new : State)
+    (r : Result (Unit {0}) StatementError) : Type 0 where
   pub ran : OnOk r ((params : Row) × Ran text params old new)
   pub missing : IsErrOf r Missing → (params : Row) × WasAbsent text params old new
   pub kept : KeepsCommit old new

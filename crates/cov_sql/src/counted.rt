@@ -6,6 +6,7 @@ ghost use Rattle.sqlite.specs.State.{HasCleanDisk, Survives, CommitsShowing, Kee
 ghost use Rattle.sqlite_resolve.specs.declared.error.CompileError.{CompileError};
 ghost use Rattle.sqlite.specs.declared.error.Error.TheVariants.{SqlInputError};
 ghost use Rattle.sqlite.specs.Values.{bound};
+ghost use Rattle.cov_sql.specs.Calls.{Counts, IsRefused, LeavesNoMore};
 ghost use Rattle.cov_sql.specs.Told.{IsAbsence};
 ghost use Rattle.cov_sql.specs.Written.{Ran, WasAbsent};
 ghost use Rattle.cov_sql.specs.Shown.{ShowsCells, IsRefusedAsAbsent, IsAsked};
@@ -34,9 +35,8 @@ impl Counted {
 
     /// What an error means, which counts unless a table, a column or memory is missing.
     fn count(&mut self, error: Error) -> StatementError
-        ensures count { self.old.refusals ≤ self.new.refusals }
-        ensures refused { result ≡ StatementError.Refused
-            → Rose self.old.refusals self.new.refusals }
+        ensures counts { Counts self.old.refusals self.new.refusals
+            (result ≡ StatementError.Refused) }
         ensures missing { result ≡ StatementError.Missing
             → (e : CompileError) × IsAbsence e × (error ≡ SqlInputError e) }
     {
@@ -61,9 +61,8 @@ impl Counted {
 
     /// What an error at the end of a transaction means, which counts unless memory is missing.
     fn count_end(&mut self, error: Error) -> StatementError
-        ensures count { self.old.refusals ≤ self.new.refusals }
-        ensures refused { result ≡ StatementError.Refused
-            → Rose self.old.refusals self.new.refusals }
+        ensures counts { Counts self.old.refusals self.new.refusals
+            (result ≡ StatementError.Refused) }
         ensures not_missing { result ≡ StatementError.Missing → ⊥ }
     {
         match error {
@@ -92,9 +91,7 @@ impl Counted {
         ensures survives { Survives (state S.Store base.old) (state S.Store base.new)
             (CommitsShowing sql.now [] (state S.Store base.old)) }
         ensures mode { base.old.in_transaction ≡ false → base.new.in_transaction ≡ false }
-        ensures count { self.old.refusals ≤ self.new.refusals }
-        ensures refused { IsErrOf result StatementError.Refused
-            → Rose self.old.refusals self.new.refusals }
+        ensures counts { Counts self.old.refusals self.new.refusals (IsRefused result) }
     {
         match base.query_all(sql, &[]) {
             Ok(rows) => match lists_of(alloc, &rows) {
@@ -126,12 +123,9 @@ impl Counted {
         ensures kept { HasCleanDisk (state S.Store work.new.conn.now)
             → IsTrue (state S.Store work.old.conn.now).in_transaction
             → KeepsCommit (state S.Store work.old.conn.now) (state S.Store work.new.conn.now) }
-        ensures survives { Survives (state S.Store work.old.conn.now)
-            (state S.Store work.new.conn.now) (λ _. ⊥) }
+        ensures survives { LeavesNoMore S.Store work.old.conn.now work.new.conn.now }
         ensures same_reference { work.new.conn.ghost_name ≡ work.old.conn.ghost_name }
-        ensures count { self.old.refusals ≤ self.new.refusals }
-        ensures refused { IsErrOf result StatementError.Refused
-            → Rose self.old.refusals self.new.refusals }
+        ensures counts { Counts self.old.refusals self.new.refusals (IsRefused result) }
     {
         match work.execute(sql, params) {
             Ok(_) => Ok(()),

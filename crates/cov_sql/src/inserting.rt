@@ -1,12 +1,10 @@
 //! Inserting the rows of data into the tables of a data file.
-ghost use Rattle.std.specs.Prelude.{◌≡◌, ◌≤◌, [], ◌∷◌, map, cond, codes, string_bytes, IsErrOf};
-ghost use Rattle.cov_outside.specs.Counts.{Rose};
-ghost use Rattle.sqlite.specs.Held.{state};
-ghost use Rattle.sqlite.specs.State.{Survives};
+ghost use Rattle.std.specs.Prelude.{◌≡◌, [], ◌∷◌, map, cond, codes, string_bytes};
 ghost use Rattle.cov_sql.specs.declared.tables.Table.TheVariants as name;
+ghost use Rattle.cov_sql.specs.Calls.{IsRefused, GoesOn, LeavesNoMore};
 ghost use Rattle.cov_sql.specs.Works.{Works};
 ghost use Rattle.cov_sql.specs.Holding.{with_rows, Fills};
-ghost use Rattle.cov_sql.specs.SavedRows.{flag_row, numbered, arc_row, bits_row, hits_row, with_names, with_data};
+ghost use Rattle.cov_sql.specs.SavedRows.{flag_row, numbered, arc_row, bits_row, hits_row, with_names, with_data, with_all};
 
 use crate::saved::{Saved, SavedBits, SavedRow};
 use crate::statements::{StatementError, Statements};
@@ -21,12 +19,9 @@ fn insert_flag<S: Alter, Q: Statements>(
     ensures fills { Q.tells by.old → Fills S.Store (with_rows name.Meta (flag_row arcs ∷ []))
         work.old.conn.now work.new.conn.now result }
     ensures survives { Q.tells by.old
-        → Survives (state S.Store work.old.conn.now) (state S.Store work.new.conn.now) (λ _. ⊥) }
+        → LeavesNoMore S.Store work.old.conn.now work.new.conn.now }
     ensures same_reference { work.new.conn.ghost_name ≡ work.old.conn.ghost_name }
-    ensures tells { Q.tells by.old → Q.tells by.new }
-    ensures count { Q.refusals by.old ≤ Q.refusals by.new }
-    ensures refused { IsErrOf result StatementError.Refused
-        → Rose (Q.refusals by.old) (Q.refusals by.new) }
+    ensures goes_on { GoesOn Q.tells Q.refusals by.old by.new (IsRefused result) }
 {
     by.insert_meta(work, "has_arcs", flag_text(arcs))
 }
@@ -48,12 +43,9 @@ fn insert_files<S: Alter, Q: Statements>(
         → Fills S.Store (with_rows name.File (numbered 1 (map string_bytes paths.now)))
         work.old.conn.now work.new.conn.now result }
     ensures survives { Q.tells by.old
-        → Survives (state S.Store work.old.conn.now) (state S.Store work.new.conn.now) (λ _. ⊥) }
+        → LeavesNoMore S.Store work.old.conn.now work.new.conn.now }
     ensures same_reference { work.new.conn.ghost_name ≡ work.old.conn.ghost_name }
-    ensures tells { Q.tells by.old → Q.tells by.new }
-    ensures count { Q.refusals by.old ≤ Q.refusals by.new }
-    ensures refused { IsErrOf result StatementError.Refused
-        → Rose (Q.refusals by.old) (Q.refusals by.new) }
+    ensures goes_on { GoesOn Q.tells Q.refusals by.old by.new (IsRefused result) }
 {
     let mut number: i64 = 0;
     for text in paths {
@@ -74,12 +66,9 @@ fn insert_contexts<S: Alter, Q: Statements>(
         → Fills S.Store (with_rows name.Context (numbered 1 (map string_bytes contexts.now)))
         work.old.conn.now work.new.conn.now result }
     ensures survives { Q.tells by.old
-        → Survives (state S.Store work.old.conn.now) (state S.Store work.new.conn.now) (λ _. ⊥) }
+        → LeavesNoMore S.Store work.old.conn.now work.new.conn.now }
     ensures same_reference { work.new.conn.ghost_name ≡ work.old.conn.ghost_name }
-    ensures tells { Q.tells by.old → Q.tells by.new }
-    ensures count { Q.refusals by.old ≤ Q.refusals by.new }
-    ensures refused { IsErrOf result StatementError.Refused
-        → Rose (Q.refusals by.old) (Q.refusals by.new) }
+    ensures goes_on { GoesOn Q.tells Q.refusals by.old by.new (IsRefused result) }
 {
     let mut number: i64 = 0;
     for text in contexts {
@@ -99,12 +88,9 @@ fn insert_arcs<S: Alter, Q: Statements>(
     ensures fills { Q.tells by.old → Fills S.Store (with_rows name.Arc (map arc_row rows.now))
         work.old.conn.now work.new.conn.now result }
     ensures survives { Q.tells by.old
-        → Survives (state S.Store work.old.conn.now) (state S.Store work.new.conn.now) (λ _. ⊥) }
+        → LeavesNoMore S.Store work.old.conn.now work.new.conn.now }
     ensures same_reference { work.new.conn.ghost_name ≡ work.old.conn.ghost_name }
-    ensures tells { Q.tells by.old → Q.tells by.new }
-    ensures count { Q.refusals by.old ≤ Q.refusals by.new }
-    ensures refused { IsErrOf result StatementError.Refused
-        → Rose (Q.refusals by.old) (Q.refusals by.new) }
+    ensures goes_on { GoesOn Q.tells Q.refusals by.old by.new (IsRefused result) }
 {
     for row in rows {
         by.insert_arc(work, row.file_id, row.context_id, row.from, row.to)?;
@@ -122,12 +108,9 @@ fn insert_bits<S: Alter, Q: Statements>(
     ensures fills { Q.tells by.old → Fills S.Store (with_rows name.LineBits (map bits_row bits.now))
         work.old.conn.now work.new.conn.now result }
     ensures survives { Q.tells by.old
-        → Survives (state S.Store work.old.conn.now) (state S.Store work.new.conn.now) (λ _. ⊥) }
+        → LeavesNoMore S.Store work.old.conn.now work.new.conn.now }
     ensures same_reference { work.new.conn.ghost_name ≡ work.old.conn.ghost_name }
-    ensures tells { Q.tells by.old → Q.tells by.new }
-    ensures count { Q.refusals by.old ≤ Q.refusals by.new }
-    ensures refused { IsErrOf result StatementError.Refused
-        → Rose (Q.refusals by.old) (Q.refusals by.new) }
+    ensures goes_on { GoesOn Q.tells Q.refusals by.old by.new (IsRefused result) }
 {
     for set in bits {
         by.insert_line_bits(work, set.file_id, set.context_id, &set.numbits)?;
@@ -145,12 +128,9 @@ fn insert_counts<S: Alter, Q: Statements>(
     ensures fills { Q.tells by.old → Fills S.Store (with_rows name.Hits (map hits_row rows.now))
         work.old.conn.now work.new.conn.now result }
     ensures survives { Q.tells by.old
-        → Survives (state S.Store work.old.conn.now) (state S.Store work.new.conn.now) (λ _. ⊥) }
+        → LeavesNoMore S.Store work.old.conn.now work.new.conn.now }
     ensures same_reference { work.new.conn.ghost_name ≡ work.old.conn.ghost_name }
-    ensures tells { Q.tells by.old → Q.tells by.new }
-    ensures count { Q.refusals by.old ≤ Q.refusals by.new }
-    ensures refused { IsErrOf result StatementError.Refused
-        → Rose (Q.refusals by.old) (Q.refusals by.new) }
+    ensures goes_on { GoesOn Q.tells Q.refusals by.old by.new (IsRefused result) }
 {
     for row in rows {
         by.insert_hits(
@@ -175,12 +155,9 @@ fn insert_names<S: Alter, Q: Statements>(
     ensures fills { Q.tells by.old → Fills S.Store (with_names saved.now)
         work.old.conn.now work.new.conn.now result }
     ensures survives { Q.tells by.old
-        → Survives (state S.Store work.old.conn.now) (state S.Store work.new.conn.now) (λ _. ⊥) }
+        → LeavesNoMore S.Store work.old.conn.now work.new.conn.now }
     ensures same_reference { work.new.conn.ghost_name ≡ work.old.conn.ghost_name }
-    ensures tells { Q.tells by.old → Q.tells by.new }
-    ensures count { Q.refusals by.old ≤ Q.refusals by.new }
-    ensures refused { IsErrOf result StatementError.Refused
-        → Rose (Q.refusals by.old) (Q.refusals by.new) }
+    ensures goes_on { GoesOn Q.tells Q.refusals by.old by.new (IsRefused result) }
 {
     insert_flag(work, by, saved.arcs)?;
     let paths = saved.paths.as_slice();
@@ -198,15 +175,13 @@ fn insert_arcs_of<S: Alter, Q: Statements>(
 ) -> Result<(), StatementError>
     ensures works { Q.tells by.old → Works S.Store work.old.conn.now work.new.conn.now result }
     ensures fills { Q.tells by.old
-        → Fills S.Store (with_rows name.Arc (cond saved.now.arcs (map arc_row saved.now.rows.items) []))
+        → Fills S.Store
+        (with_rows name.Arc (cond saved.now.arcs (map arc_row saved.now.rows.items) []))
         work.old.conn.now work.new.conn.now result }
     ensures survives { Q.tells by.old
-        → Survives (state S.Store work.old.conn.now) (state S.Store work.new.conn.now) (λ _. ⊥) }
+        → LeavesNoMore S.Store work.old.conn.now work.new.conn.now }
     ensures same_reference { work.new.conn.ghost_name ≡ work.old.conn.ghost_name }
-    ensures tells { Q.tells by.old → Q.tells by.new }
-    ensures count { Q.refusals by.old ≤ Q.refusals by.new }
-    ensures refused { IsErrOf result StatementError.Refused
-        → Rose (Q.refusals by.old) (Q.refusals by.new) }
+    ensures goes_on { GoesOn Q.tells Q.refusals by.old by.new (IsRefused result) }
 {
     if !saved.arcs {
         return Ok(());
@@ -225,12 +200,9 @@ fn insert_rows<S: Alter, Q: Statements>(
     ensures fills { Q.tells by.old → Fills S.Store (with_data saved.now)
         work.old.conn.now work.new.conn.now result }
     ensures survives { Q.tells by.old
-        → Survives (state S.Store work.old.conn.now) (state S.Store work.new.conn.now) (λ _. ⊥) }
+        → LeavesNoMore S.Store work.old.conn.now work.new.conn.now }
     ensures same_reference { work.new.conn.ghost_name ≡ work.old.conn.ghost_name }
-    ensures tells { Q.tells by.old → Q.tells by.new }
-    ensures count { Q.refusals by.old ≤ Q.refusals by.new }
-    ensures refused { IsErrOf result StatementError.Refused
-        → Rose (Q.refusals by.old) (Q.refusals by.new) }
+    ensures goes_on { GoesOn Q.tells Q.refusals by.old by.new (IsRefused result) }
 {
     insert_arcs_of(work, by, saved)?;
     let bits = saved.bits.as_slice();
@@ -247,15 +219,12 @@ pub(crate) fn insert_all<S: Alter, Q: Statements>(
     saved: &Saved,
 ) -> Result<(), StatementError>
     ensures works { Q.tells by.old → Works S.Store work.old.conn.now work.new.conn.now result }
-    ensures fills { Q.tells by.old → Fills S.Store (λ rows. with_data saved.now (with_names saved.now rows))
+    ensures fills { Q.tells by.old → Fills S.Store (with_all saved.now)
         work.old.conn.now work.new.conn.now result }
     ensures survives { Q.tells by.old
-        → Survives (state S.Store work.old.conn.now) (state S.Store work.new.conn.now) (λ _. ⊥) }
+        → LeavesNoMore S.Store work.old.conn.now work.new.conn.now }
     ensures same_reference { work.new.conn.ghost_name ≡ work.old.conn.ghost_name }
-    ensures tells { Q.tells by.old → Q.tells by.new }
-    ensures count { Q.refusals by.old ≤ Q.refusals by.new }
-    ensures refused { IsErrOf result StatementError.Refused
-        → Rose (Q.refusals by.old) (Q.refusals by.new) }
+    ensures goes_on { GoesOn Q.tells Q.refusals by.old by.new (IsRefused result) }
 {
     insert_names(work, by, saved)?;
     insert_rows(work, by, saved)

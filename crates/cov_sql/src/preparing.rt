@@ -1,11 +1,10 @@
 //! Making the tables of a data file, and emptying them.
-ghost use Rattle.std.specs.Prelude.{◌≡◌, ◌≤◌, false, IsErrOf};
-ghost use Rattle.cov_outside.specs.Counts.{Rose};
+ghost use Rattle.std.specs.Prelude.{◌≡◌, false};
 ghost use Rattle.sqlite.specs.Held.{state};
-ghost use Rattle.sqlite.specs.State.{Survives};
 ghost use Rattle.cov_sql.specs.declared.preparing.Start.TheVariants as start;
 ghost use Rattle.cov_sql.specs.ByName.{shape_of, declared_as};
 ghost use Rattle.cov_sql.specs.Written.{Makes};
+ghost use Rattle.cov_sql.specs.Calls.{IsRefused, GoesOn, LeavesNoMore};
 ghost use Rattle.cov_sql.specs.Works.{Works};
 ghost use Rattle.cov_sql.specs.Holding.{cleared, cleared_all, Empties};
 ghost use Rattle.cov_sql.specs.Making.{Builds, Prepares, Denies, RefusesIfThere, NeverLacks};
@@ -55,12 +54,9 @@ fn make_table<S: Alter, Q: Statements>(
         → Makes (shape_of table) (declared_as table) (state S.Store work.old.conn.now)
         (state S.Store work.new.conn.now) result }
     ensures survives { Q.tells by.old
-        → Survives (state S.Store work.old.conn.now) (state S.Store work.new.conn.now) (λ _. ⊥) }
+        → LeavesNoMore S.Store work.old.conn.now work.new.conn.now }
     ensures same_reference { work.new.conn.ghost_name ≡ work.old.conn.ghost_name }
-    ensures tells { Q.tells by.old → Q.tells by.new }
-    ensures count { Q.refusals by.old ≤ Q.refusals by.new }
-    ensures refused { IsErrOf result StatementError.Refused
-        → Rose (Q.refusals by.old) (Q.refusals by.new) }
+    ensures goes_on { GoesOn Q.tells Q.refusals by.old by.new (IsRefused result) }
 {
     match table {
         Table::CoverageSchema => by.make_coverage_schema(work),
@@ -84,12 +80,9 @@ fn empty_table<S: Alter, Q: Statements>(
     ensures empties { Q.tells by.old → Empties S.Store (cleared table)
         work.old.conn.now work.new.conn.now result }
     ensures survives { Q.tells by.old
-        → Survives (state S.Store work.old.conn.now) (state S.Store work.new.conn.now) (λ _. ⊥) }
+        → LeavesNoMore S.Store work.old.conn.now work.new.conn.now }
     ensures same_reference { work.new.conn.ghost_name ≡ work.old.conn.ghost_name }
-    ensures tells { Q.tells by.old → Q.tells by.new }
-    ensures count { Q.refusals by.old ≤ Q.refusals by.new }
-    ensures refused { IsErrOf result StatementError.Refused
-        → Rose (Q.refusals by.old) (Q.refusals by.new) }
+    ensures goes_on { GoesOn Q.tells Q.refusals by.old by.new (IsRefused result) }
 {
     match table {
         // The row of the version stays.
@@ -116,12 +109,9 @@ fn make_tables<S: Alter, Q: Statements>(
     ensures denies { Q.tells by.old → Denies S.Store tables.now
         work.old.conn.now work.new.conn.now result }
     ensures survives { Q.tells by.old
-        → Survives (state S.Store work.old.conn.now) (state S.Store work.new.conn.now) (λ _. ⊥) }
+        → LeavesNoMore S.Store work.old.conn.now work.new.conn.now }
     ensures same_reference { work.new.conn.ghost_name ≡ work.old.conn.ghost_name }
-    ensures tells { Q.tells by.old → Q.tells by.new }
-    ensures count { Q.refusals by.old ≤ Q.refusals by.new }
-    ensures refused { IsErrOf result StatementError.Refused
-        → Rose (Q.refusals by.old) (Q.refusals by.new) }
+    ensures goes_on { GoesOn Q.tells Q.refusals by.old by.new (IsRefused result) }
 {
     for table in tables {
         make_table(work, by, *table)?;
@@ -139,12 +129,9 @@ fn empty_tables<S: Alter, Q: Statements>(
     ensures empties { Q.tells by.old → Empties S.Store (cleared_all tables.now)
         work.old.conn.now work.new.conn.now result }
     ensures survives { Q.tells by.old
-        → Survives (state S.Store work.old.conn.now) (state S.Store work.new.conn.now) (λ _. ⊥) }
+        → LeavesNoMore S.Store work.old.conn.now work.new.conn.now }
     ensures same_reference { work.new.conn.ghost_name ≡ work.old.conn.ghost_name }
-    ensures tells { Q.tells by.old → Q.tells by.new }
-    ensures count { Q.refusals by.old ≤ Q.refusals by.new }
-    ensures refused { IsErrOf result StatementError.Refused
-        → Rose (Q.refusals by.old) (Q.refusals by.new) }
+    ensures goes_on { GoesOn Q.tells Q.refusals by.old by.new (IsRefused result) }
 {
     for table in tables {
         empty_table(work, by, *table)?;
@@ -166,12 +153,9 @@ fn make_all<S: Alter, Q: Statements>(
     ensures never { Q.tells by.old → NeverLacks S.Store Start.Nothing
         work.old.conn.now work.new.conn.now result }
     ensures survives { Q.tells by.old
-        → Survives (state S.Store work.old.conn.now) (state S.Store work.new.conn.now) (λ _. ⊥) }
+        → LeavesNoMore S.Store work.old.conn.now work.new.conn.now }
     ensures same_reference { work.new.conn.ghost_name ≡ work.old.conn.ghost_name }
-    ensures tells { Q.tells by.old → Q.tells by.new }
-    ensures count { Q.refusals by.old ≤ Q.refusals by.new }
-    ensures refused { IsErrOf result StatementError.Refused
-        → Rose (Q.refusals by.old) (Q.refusals by.new) }
+    ensures goes_on { GoesOn Q.tells Q.refusals by.old by.new (IsRefused result) }
 {
     make_tables(work, by, &TABLES)?;
     by.insert_coverage_schema(work, 7)
@@ -189,12 +173,9 @@ fn empty_and_count<S: Alter, Q: Statements>(
     ensures never { Q.tells by.old → NeverLacks S.Store (start.Tables false)
         work.old.conn.now work.new.conn.now result }
     ensures survives { Q.tells by.old
-        → Survives (state S.Store work.old.conn.now) (state S.Store work.new.conn.now) (λ _. ⊥) }
+        → LeavesNoMore S.Store work.old.conn.now work.new.conn.now }
     ensures same_reference { work.new.conn.ghost_name ≡ work.old.conn.ghost_name }
-    ensures tells { Q.tells by.old → Q.tells by.new }
-    ensures count { Q.refusals by.old ≤ Q.refusals by.new }
-    ensures refused { IsErrOf result StatementError.Refused
-        → Rose (Q.refusals by.old) (Q.refusals by.new) }
+    ensures goes_on { GoesOn Q.tells Q.refusals by.old by.new (IsRefused result) }
 {
     make_table(work, by, Table::Hits)?;
     empty_tables(work, by, &OLD_TABLES)
@@ -214,12 +195,9 @@ pub(crate) fn prepare<S: Alter, Q: Statements>(
     ensures never { Q.tells by.old → NeverLacks S.Store start
         work.old.conn.now work.new.conn.now result }
     ensures survives { Q.tells by.old
-        → Survives (state S.Store work.old.conn.now) (state S.Store work.new.conn.now) (λ _. ⊥) }
+        → LeavesNoMore S.Store work.old.conn.now work.new.conn.now }
     ensures same_reference { work.new.conn.ghost_name ≡ work.old.conn.ghost_name }
-    ensures tells { Q.tells by.old → Q.tells by.new }
-    ensures count { Q.refusals by.old ≤ Q.refusals by.new }
-    ensures refused { IsErrOf result StatementError.Refused
-        → Rose (Q.refusals by.old) (Q.refusals by.new) }
+    ensures goes_on { GoesOn Q.tells Q.refusals by.old by.new (IsRefused result) }
 {
     match start {
         Start::Nothing => make_all(work, by),

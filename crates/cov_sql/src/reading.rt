@@ -8,8 +8,9 @@ ghost use Rattle.sqlite.specs.State.{HasCleanDisk, IsUnchanged};
 ghost use Rattle.cov_vault.specs.declared.vault.Content.TheVariants.{Good, NotSchema7, BadRow};
 ghost use Rattle.cov_sql.specs.Tables.{coverage_schema, meta, file, context, line_bits, arc, tracer, hits};
 ghost use Rattle.cov_sql.specs.Told.{LeavesAll};
+ghost use Rattle.cov_sql.specs.Calls.{IsFault, GoesOn, Asks};
 ghost use Rattle.cov_sql.specs.Content.{content_in, AreUnhidden, IsFound};
-ghost use Rattle.cov_sql.specs.Finds.{EndsAs, Seeks, SeeksCounts, IsNamed, IsMeasured, FindsNamed, FindsMeasured, FindsAll, LeavesFile};
+ghost use Rattle.cov_sql.specs.Finds.{EndsAs, SeeksCounts, IsNamed, IsMeasured, FindsNamed, FindsMeasured, FindsAll, LeavesFile};
 
 use crate::errors::SqlError;
 use crate::statements::{StatementError, Statements};
@@ -44,146 +45,6 @@ pub(crate) struct Measured {
     pub(crate) hits: Option<Vec<Vec<Cell>>>,
 }
 
-fn coverage_schema_rows<S: Alter, Q: Statements>(
-    alloc: Global,
-    base: &mut Connection<S>,
-    by: &mut Q,
-) -> Result<Vec<Vec<Cell>>, SqlError>
-    ensures told { Q.tells by.old
-        → Seeks coverage_schema (state S.Store base.old) (state S.Store base.new) result }
-    ensures survives { Q.tells by.old
-        → LeavesAll coverage_schema (state S.Store base.old) (state S.Store base.new) }
-    ensures not_bad_row { (row : ℕ) → IsErrOf result (SqlError.BadRow row) → ⊥ }
-    ensures tells { Q.tells by.old → Q.tells by.new }
-    ensures clean { HasCleanDisk (state S.Store base.new) → HasCleanDisk (state S.Store base.old) }
-    ensures mode { base.old.in_transaction ≡ false → base.new.in_transaction ≡ false }
-    ensures count { Q.refusals by.old ≤ Q.refusals by.new }
-    ensures refused { IsErrOf result SqlError.Refused
-        → Rose (Q.refusals by.old) (Q.refusals by.new) }
-{
-    Ok(by.read_coverage_schema(alloc, base)?)
-}
-
-fn meta_rows<S: Alter, Q: Statements>(
-    alloc: Global,
-    base: &mut Connection<S>,
-    by: &mut Q,
-) -> Result<Vec<Vec<Cell>>, SqlError>
-    ensures told { Q.tells by.old
-        → Seeks meta (state S.Store base.old) (state S.Store base.new) result }
-    ensures survives { Q.tells by.old
-        → LeavesAll meta (state S.Store base.old) (state S.Store base.new) }
-    ensures not_bad_row { (row : ℕ) → IsErrOf result (SqlError.BadRow row) → ⊥ }
-    ensures tells { Q.tells by.old → Q.tells by.new }
-    ensures clean { HasCleanDisk (state S.Store base.new) → HasCleanDisk (state S.Store base.old) }
-    ensures mode { base.old.in_transaction ≡ false → base.new.in_transaction ≡ false }
-    ensures count { Q.refusals by.old ≤ Q.refusals by.new }
-    ensures refused { IsErrOf result SqlError.Refused
-        → Rose (Q.refusals by.old) (Q.refusals by.new) }
-{
-    Ok(by.read_meta(alloc, base)?)
-}
-
-fn file_rows<S: Alter, Q: Statements>(
-    alloc: Global,
-    base: &mut Connection<S>,
-    by: &mut Q,
-) -> Result<Vec<Vec<Cell>>, SqlError>
-    ensures told { Q.tells by.old
-        → Seeks file (state S.Store base.old) (state S.Store base.new) result }
-    ensures survives { Q.tells by.old
-        → LeavesAll file (state S.Store base.old) (state S.Store base.new) }
-    ensures not_bad_row { (row : ℕ) → IsErrOf result (SqlError.BadRow row) → ⊥ }
-    ensures tells { Q.tells by.old → Q.tells by.new }
-    ensures clean { HasCleanDisk (state S.Store base.new) → HasCleanDisk (state S.Store base.old) }
-    ensures mode { base.old.in_transaction ≡ false → base.new.in_transaction ≡ false }
-    ensures count { Q.refusals by.old ≤ Q.refusals by.new }
-    ensures refused { IsErrOf result SqlError.Refused
-        → Rose (Q.refusals by.old) (Q.refusals by.new) }
-{
-    Ok(by.read_file(alloc, base)?)
-}
-
-fn context_rows<S: Alter, Q: Statements>(
-    alloc: Global,
-    base: &mut Connection<S>,
-    by: &mut Q,
-) -> Result<Vec<Vec<Cell>>, SqlError>
-    ensures told { Q.tells by.old
-        → Seeks context (state S.Store base.old) (state S.Store base.new) result }
-    ensures survives { Q.tells by.old
-        → LeavesAll context (state S.Store base.old) (state S.Store base.new) }
-    ensures not_bad_row { (row : ℕ) → IsErrOf result (SqlError.BadRow row) → ⊥ }
-    ensures tells { Q.tells by.old → Q.tells by.new }
-    ensures clean { HasCleanDisk (state S.Store base.new) → HasCleanDisk (state S.Store base.old) }
-    ensures mode { base.old.in_transaction ≡ false → base.new.in_transaction ≡ false }
-    ensures count { Q.refusals by.old ≤ Q.refusals by.new }
-    ensures refused { IsErrOf result SqlError.Refused
-        → Rose (Q.refusals by.old) (Q.refusals by.new) }
-{
-    Ok(by.read_context(alloc, base)?)
-}
-
-fn line_bits_rows<S: Alter, Q: Statements>(
-    alloc: Global,
-    base: &mut Connection<S>,
-    by: &mut Q,
-) -> Result<Vec<Vec<Cell>>, SqlError>
-    ensures told { Q.tells by.old
-        → Seeks line_bits (state S.Store base.old) (state S.Store base.new) result }
-    ensures survives { Q.tells by.old
-        → LeavesAll line_bits (state S.Store base.old) (state S.Store base.new) }
-    ensures not_bad_row { (row : ℕ) → IsErrOf result (SqlError.BadRow row) → ⊥ }
-    ensures tells { Q.tells by.old → Q.tells by.new }
-    ensures clean { HasCleanDisk (state S.Store base.new) → HasCleanDisk (state S.Store base.old) }
-    ensures mode { base.old.in_transaction ≡ false → base.new.in_transaction ≡ false }
-    ensures count { Q.refusals by.old ≤ Q.refusals by.new }
-    ensures refused { IsErrOf result SqlError.Refused
-        → Rose (Q.refusals by.old) (Q.refusals by.new) }
-{
-    Ok(by.read_line_bits(alloc, base)?)
-}
-
-fn arc_rows<S: Alter, Q: Statements>(
-    alloc: Global,
-    base: &mut Connection<S>,
-    by: &mut Q,
-) -> Result<Vec<Vec<Cell>>, SqlError>
-    ensures told { Q.tells by.old
-        → Seeks arc (state S.Store base.old) (state S.Store base.new) result }
-    ensures survives { Q.tells by.old
-        → LeavesAll arc (state S.Store base.old) (state S.Store base.new) }
-    ensures not_bad_row { (row : ℕ) → IsErrOf result (SqlError.BadRow row) → ⊥ }
-    ensures tells { Q.tells by.old → Q.tells by.new }
-    ensures clean { HasCleanDisk (state S.Store base.new) → HasCleanDisk (state S.Store base.old) }
-    ensures mode { base.old.in_transaction ≡ false → base.new.in_transaction ≡ false }
-    ensures count { Q.refusals by.old ≤ Q.refusals by.new }
-    ensures refused { IsErrOf result SqlError.Refused
-        → Rose (Q.refusals by.old) (Q.refusals by.new) }
-{
-    Ok(by.read_arc(alloc, base)?)
-}
-
-fn tracer_rows<S: Alter, Q: Statements>(
-    alloc: Global,
-    base: &mut Connection<S>,
-    by: &mut Q,
-) -> Result<Vec<Vec<Cell>>, SqlError>
-    ensures told { Q.tells by.old
-        → Seeks tracer (state S.Store base.old) (state S.Store base.new) result }
-    ensures survives { Q.tells by.old
-        → LeavesAll tracer (state S.Store base.old) (state S.Store base.new) }
-    ensures not_bad_row { (row : ℕ) → IsErrOf result (SqlError.BadRow row) → ⊥ }
-    ensures tells { Q.tells by.old → Q.tells by.new }
-    ensures clean { HasCleanDisk (state S.Store base.new) → HasCleanDisk (state S.Store base.old) }
-    ensures mode { base.old.in_transaction ≡ false → base.new.in_transaction ≡ false }
-    ensures count { Q.refusals by.old ≤ Q.refusals by.new }
-    ensures refused { IsErrOf result SqlError.Refused
-        → Rose (Q.refusals by.old) (Q.refusals by.new) }
-{
-    Ok(by.read_tracer(alloc, base)?)
-}
-
 fn hits_rows<S: Alter, Q: Statements>(
     alloc: Global,
     base: &mut Connection<S>,
@@ -195,12 +56,8 @@ fn hits_rows<S: Alter, Q: Statements>(
     ensures survives { Q.tells by.old
         → LeavesAll hits (state S.Store base.old) (state S.Store base.new) }
     ensures not_bad_row { (row : ℕ) → IsErrOf result (SqlError.BadRow row) → ⊥ }
-    ensures tells { Q.tells by.old → Q.tells by.new }
-    ensures clean { HasCleanDisk (state S.Store base.new) → HasCleanDisk (state S.Store base.old) }
-    ensures mode { base.old.in_transaction ≡ false → base.new.in_transaction ≡ false }
-    ensures count { Q.refusals by.old ≤ Q.refusals by.new }
-    ensures refused { IsErrOf result SqlError.Refused
-        → Rose (Q.refusals by.old) (Q.refusals by.new) }
+    ensures asks { Asks S.Store base.old base.new }
+    ensures goes_on { GoesOn Q.tells Q.refusals by.old by.new (IsFault result) }
 {
     match by.read_hits(alloc, base) {
         Ok(rows) => Ok(Some(rows)),
@@ -220,17 +77,13 @@ fn read_named<S: Alter, Q: Statements>(
     ensures survives { Q.tells by.old
         → LeavesFile (state S.Store base.old) (state S.Store base.new) }
     ensures not_bad_row { (row : ℕ) → IsErrOf result (SqlError.BadRow row) → ⊥ }
-    ensures tells { Q.tells by.old → Q.tells by.new }
-    ensures clean { HasCleanDisk (state S.Store base.new) → HasCleanDisk (state S.Store base.old) }
-    ensures mode { base.old.in_transaction ≡ false → base.new.in_transaction ≡ false }
-    ensures count { Q.refusals by.old ≤ Q.refusals by.new }
-    ensures refused { IsErrOf result SqlError.Refused
-        → Rose (Q.refusals by.old) (Q.refusals by.new) }
+    ensures asks { Asks S.Store base.old base.new }
+    ensures goes_on { GoesOn Q.tells Q.refusals by.old by.new (IsFault result) }
 {
-    let coverage_schema = coverage_schema_rows(alloc, base, by)?;
-    let meta = meta_rows(alloc, base, by)?;
-    let file = file_rows(alloc, base, by)?;
-    let context = context_rows(alloc, base, by)?;
+    let coverage_schema = by.read_coverage_schema(alloc, base)?;
+    let meta = by.read_meta(alloc, base)?;
+    let file = by.read_file(alloc, base)?;
+    let context = by.read_context(alloc, base)?;
     Ok(Named {
         coverage_schema,
         meta,
@@ -249,16 +102,12 @@ fn read_measured<S: Alter, Q: Statements>(
     ensures survives { Q.tells by.old
         → LeavesFile (state S.Store base.old) (state S.Store base.new) }
     ensures not_bad_row { (row : ℕ) → IsErrOf result (SqlError.BadRow row) → ⊥ }
-    ensures tells { Q.tells by.old → Q.tells by.new }
-    ensures clean { HasCleanDisk (state S.Store base.new) → HasCleanDisk (state S.Store base.old) }
-    ensures mode { base.old.in_transaction ≡ false → base.new.in_transaction ≡ false }
-    ensures count { Q.refusals by.old ≤ Q.refusals by.new }
-    ensures refused { IsErrOf result SqlError.Refused
-        → Rose (Q.refusals by.old) (Q.refusals by.new) }
+    ensures asks { Asks S.Store base.old base.new }
+    ensures goes_on { GoesOn Q.tells Q.refusals by.old by.new (IsFault result) }
 {
-    let line_bits = line_bits_rows(alloc, base, by)?;
-    let arc = arc_rows(alloc, base, by)?;
-    let _tracer = tracer_rows(alloc, base, by)?;
+    let line_bits = by.read_line_bits(alloc, base)?;
+    let arc = by.read_arc(alloc, base)?;
+    let _tracer = by.read_tracer(alloc, base)?;
     let hits = hits_rows(alloc, base, by)?;
     Ok(Measured {
         line_bits,
@@ -278,12 +127,8 @@ pub(crate) fn read_tables<S: Alter, Q: Statements>(
     ensures survives { Q.tells by.old
         → LeavesFile (state S.Store base.old) (state S.Store base.new) }
     ensures not_bad_row { (row : ℕ) → IsErrOf result (SqlError.BadRow row) → ⊥ }
-    ensures tells { Q.tells by.old → Q.tells by.new }
-    ensures clean { HasCleanDisk (state S.Store base.new) → HasCleanDisk (state S.Store base.old) }
-    ensures mode { base.old.in_transaction ≡ false → base.new.in_transaction ≡ false }
-    ensures count { Q.refusals by.old ≤ Q.refusals by.new }
-    ensures refused { IsErrOf result SqlError.Refused
-        → Rose (Q.refusals by.old) (Q.refusals by.new) }
+    ensures asks { Asks S.Store base.old base.new }
+    ensures goes_on { GoesOn Q.tells Q.refusals by.old by.new (IsFault result) }
 {
     let named = read_named(alloc, base, by)?;
     let measured = read_measured(alloc, base, by)?;
@@ -340,10 +185,12 @@ pub fn read_data<S: Alter, Q: Statements>(
         → IfOk result (λ loaded. content_in (state S.Store base.old).now ≡ Good loaded) }
     ensures not_schema { Q.tells by.old → HasCleanDisk (state S.Store base.new)
         → AreUnhidden (state S.Store base.old).now
-        → IsErrOf result SqlError.NotSchema7 → content_in (state S.Store base.old).now ≡ NotSchema7 }
+        → IsErrOf result SqlError.NotSchema7
+        → content_in (state S.Store base.old).now ≡ NotSchema7 }
     ensures bad_row { Q.tells by.old → HasCleanDisk (state S.Store base.new)
         → AreUnhidden (state S.Store base.old).now
-        → (row : ℕ) → IsErrOf result (SqlError.BadRow row) → content_in (state S.Store base.old).now ≡ BadRow row }
+        → (row : ℕ) → IsErrOf result (SqlError.BadRow row)
+        → content_in (state S.Store base.old).now ≡ BadRow row }
     ensures kept { Q.tells by.old → HasCleanDisk (state S.Store base.new)
         → AreUnhidden (state S.Store base.old).now
         → OnOk result (IsUnchanged (state S.Store base.old) (state S.Store base.new)) }

@@ -2,10 +2,11 @@
 ghost use Rattle.std.specs.Prelude.{◌≡◌, ◌≢◌, ◌≤◌, ◌⊎◌, ℕ, true, false, Err, OnOk, OnErr, IsErrOf};
 ghost use Rattle.cov_outside.specs.Counts.{Rose};
 ghost use Rattle.sqlite.specs.Held.{state};
-ghost use Rattle.sqlite.specs.State.{HasCleanDisk, Survives, KeepsCommit};
+ghost use Rattle.sqlite.specs.State.{HasCleanDisk, KeepsCommit};
 ghost use Rattle.cov_vault.specs.declared.vault.Content.TheVariants.{NotSchema7};
 ghost use Rattle.cov_sql.specs.Content.{content_in, AreUnhidden};
 ghost use Rattle.cov_sql.specs.Finds.{LeavesFile};
+ghost use Rattle.cov_sql.specs.Calls.{IsRefused, IsFault, GoesOn, Asks, LeavesNoMore};
 ghost use Rattle.cov_sql.specs.Works.{Works};
 ghost use Rattle.cov_sql.specs.Making.{Saves, RefusesIfThere, NeverLacks};
 ghost use Rattle.cov_sql.specs.Committed.{IsReadyFor, HasTable, Judges, EndsSaved, LacksInWork, LeavesSaved};
@@ -36,12 +37,9 @@ fn write_all<S: Alter, Q: Statements>(
     ensures never { Q.tells by.old → NeverLacks S.Store start
         work.old.conn.now work.new.conn.now result }
     ensures survives { Q.tells by.old
-        → Survives (state S.Store work.old.conn.now) (state S.Store work.new.conn.now) (λ _. ⊥) }
+        → LeavesNoMore S.Store work.old.conn.now work.new.conn.now }
     ensures same_reference { work.new.conn.ghost_name ≡ work.old.conn.ghost_name }
-    ensures tells { Q.tells by.old → Q.tells by.new }
-    ensures count { Q.refusals by.old ≤ Q.refusals by.new }
-    ensures refused { IsErrOf result StatementError.Refused
-        → Rose (Q.refusals by.old) (Q.refusals by.new) }
+    ensures goes_on { GoesOn Q.tells Q.refusals by.old by.new (IsRefused result) }
 {
     prepare(work, by, start)?;
     insert_all(work, by, saved)
@@ -59,12 +57,8 @@ fn judged<S: Alter, Q: Statements>(
     ensures survives { Q.tells by.old
         → LeavesFile (state S.Store base.old) (state S.Store base.new) }
     ensures not_bad_row { (row : ℕ) → IsErrOf result (SqlError.BadRow row) → ⊥ }
-    ensures tells { Q.tells by.old → Q.tells by.new }
-    ensures clean { HasCleanDisk (state S.Store base.new) → HasCleanDisk (state S.Store base.old) }
-    ensures mode { base.old.in_transaction ≡ false → base.new.in_transaction ≡ false }
-    ensures count { Q.refusals by.old ≤ Q.refusals by.new }
-    ensures refused { IsErrOf result SqlError.Refused
-        → Rose (Q.refusals by.old) (Q.refusals by.new) }
+    ensures asks { Asks S.Store base.old base.new }
+    ensures goes_on { GoesOn Q.tells Q.refusals by.old by.new (IsFault result) }
 {
     if fresh {
         return Ok(Start::Nothing);
@@ -78,9 +72,9 @@ fn judged<S: Alter, Q: Statements>(
     })
 }
 
-/// Saves data in place of those that the base holds, in one transaction. A `fresh` base has none of the
-/// tables, and they are made. After an error the base is out of any transaction, so its tables are those
-/// that were committed.
+/// Saves data in place of those that the base holds, in one transaction. A `fresh` base has none of
+/// the tables, and they are made. After an error the base is out of any transaction, so its tables
+/// are those that were committed.
 #[tactic(auto, using(crate::proofs::Stepping::refused_as))]
 pub fn write_data<S: Alter, Q: Statements>(
     alloc: Global,

@@ -13,11 +13,11 @@ returns-in_err-insert_names-clause-fills g c tells =
 pub returns-clause-fills : goal.returns-clause-fills
 returns-clause-fills g c tells =
     let saved = c.args.saved.now in
-    let told = c.insert_names.ensures.tells tells in
+    let told = c.insert_names.ensures.goes_on.tells tells in
     fills_then g.S.Store (with_names saved) (with_data saved) c.args.work.now.conn.now c.insert_names.new.work.conn.now c.insert_rows.new.work.conn.now c.in_ok-insert_names.field-0 _
     (c.insert_rows.ensures.survives told) (c.in_ok-insert_names.ensures.works tells) (c.in_ok-insert_names.ensures.fills tells) (c.insert_rows.ensures.fills told)
 
 pub returns-clause-works : goal.returns-clause-works
 returns-clause-works g c tells =
-    let told = c.insert_names.ensures.tells tells in
+    let told = c.insert_names.ensures.goes_on.tells tells in
     works_after g.S.Store c.in_ok-insert_names.field-0 c.args.work.now.conn.now c.insert_names.new.work.conn.now c.insert_rows.new.work.conn.now _ (c.insert_rows.ensures.survives told) (c.in_ok-insert_names.ensures.works tells) (c.insert_rows.ensures.works told)

@@ -23,9 +23,9 @@ returns-in_err-insert_arc-clause-works g c tells =
     let now = c.loop-row.work.conn.now in
     let next = c.insert_arc.new.work.conn.now in
     let told = c.loop-row.invariant.tells tells in
-    let one = worked g.S.Store insert_arc_text now next (Err c.in_err-insert_arc.field-0.0) of_insert_arc (c.in_err-insert_arc.ensures.ran told) in
+    let one = worked g.S.Store insert_arc_text now next (Err c.in_err-insert_arc.field-0.0) of_insert_arc (c.in_err-insert_arc.ensures.works told).ran in
     let is : c.from_residual.result ≡ Err c.in_err-insert_arc.field-0.0 = search rules in
-    subst (λ r. Works g.S.Store first next r) (sym is) (works_then g.S.Store first now next _ (c.insert_arc.ensures.survives told) (c.loop-row.invariant.works tells) one)
+    subst (λ r. Works g.S.Store first next r) (sym is) (works_then g.S.Store first now next _ (c.insert_arc.ensures.works told).survives (c.loop-row.invariant.works tells) one)
 
 pub returns-in_err-insert_arc-clause-fills : goal.returns-in_err-insert_arc-clause-fills
 returns-in_err-insert_arc-clause-fills g c tells =
@@ -51,14 +51,14 @@ loop-row-preserved g c =
     let to_fits : SFits w64 it.to = search rules in
     record {
       works = λ tells. let told = c.loop-row.invariant.tells tells in
-          works_then g.S.Store first now next (Ok tt) (c.insert_arc.ensures.survives told) (c.loop-row.invariant.works tells) (worked g.S.Store insert_arc_text now next (Ok tt) of_insert_arc (c.in_ok-insert_arc.ensures.ran told));
+          works_then g.S.Store first now next (Ok tt) (c.insert_arc.ensures.works told).survives (c.loop-row.invariant.works tells) (worked g.S.Store insert_arc_text now next (Ok tt) of_insert_arc (c.in_ok-insert_arc.ensures.works told).ran);
       fills = λ tells.
           subst (λ rows. Fills g.S.Store (with_rows name.Arc rows) first next (Ok tt)) (sym (map_got arc_row all i zero c.loop-row-test.true))
-          (fills_next g.S.Store name.Arc (map arc_row (take i all)) (arc_row it) first now next tt (c.insert_arc.ensures.survives (c.loop-row.invariant.tells tells)) (c.loop-row.invariant.works tells) (c.loop-row.invariant.fills tells)
+          (fills_next g.S.Store name.Arc (map arc_row (take i all)) (arc_row it) first now next tt (c.insert_arc.ensures.works (c.loop-row.invariant.tells tells)).survives (c.loop-row.invariant.works tells) (c.loop-row.invariant.fills tells)
           (subst (λ r. Inserts (shape_of name.Arc) (declared_as name.Arc) r (state g.S.Store now) (state g.S.Store next) (Ok tt)) (λ k. Int (to_z-of_z file_id_fits k) ∷ Int (to_z-of_z context_id_fits k) ∷ Int (to_z-of_z from_fits k) ∷ Int (to_z-of_z to_fits k) ∷ [])
-          (c.in_ok-insert_arc.ensures.told (c.loop-row.invariant.tells tells))));
-      survives = λ tells. still g.S.Store first now next (c.loop-row.invariant.survives tells) (c.insert_arc.ensures.survives (c.loop-row.invariant.tells tells));
+          (c.in_ok-insert_arc.ensures.works (c.loop-row.invariant.tells tells)).told));
+      survives = λ tells. still g.S.Store first now next (c.loop-row.invariant.survives tells) (c.insert_arc.ensures.works (c.loop-row.invariant.tells tells)).survives;
       same_reference = c.insert_arc.ensures.same_reference ∙ c.loop-row.invariant.same_reference;
-      tells = λ tells. c.insert_arc.ensures.tells (c.loop-row.invariant.tells tells);
-      count = omega (arith, c.insert_arc.ensures.count, c.loop-row.invariant.count);
+      tells = λ tells. c.insert_arc.ensures.goes_on.tells (c.loop-row.invariant.tells tells);
+      count = omega (arith, c.insert_arc.ensures.goes_on.count, c.loop-row.invariant.count);
     }

@@ -22,9 +22,9 @@ returns-in_err-insert_line_bits-clause-works g c tells =
     let now = c.loop-set.work.conn.now in
     let next = c.insert_line_bits.new.work.conn.now in
     let told = c.loop-set.invariant.tells tells in
-    let one = worked g.S.Store insert_line_bits_text now next (Err c.in_err-insert_line_bits.field-0.0) of_insert_line_bits (c.in_err-insert_line_bits.ensures.ran told) in
+    let one = worked g.S.Store insert_line_bits_text now next (Err c.in_err-insert_line_bits.field-0.0) of_insert_line_bits (c.in_err-insert_line_bits.ensures.works told).ran in
     let is : c.from_residual.result ≡ Err c.in_err-insert_line_bits.field-0.0 = search rules in
-    subst (λ r. Works g.S.Store first next r) (sym is) (works_then g.S.Store first now next _ (c.insert_line_bits.ensures.survives told) (c.loop-set.invariant.works tells) one)
+    subst (λ r. Works g.S.Store first next r) (sym is) (works_then g.S.Store first now next _ (c.insert_line_bits.ensures.works told).survives (c.loop-set.invariant.works tells) one)
 
 pub returns-in_err-insert_line_bits-clause-fills : goal.returns-in_err-insert_line_bits-clause-fills
 returns-in_err-insert_line_bits-clause-fills g c tells =
@@ -46,14 +46,14 @@ loop-set-preserved g c =
     let context_id_fits : SFits w64 c.set-item.result.context_id = search rules in
     record {
       works = λ tells. let told = c.loop-set.invariant.tells tells in
-          works_then g.S.Store first now next (Ok tt) (c.insert_line_bits.ensures.survives told) (c.loop-set.invariant.works tells) (worked g.S.Store insert_line_bits_text now next (Ok tt) of_insert_line_bits (c.in_ok-insert_line_bits.ensures.ran told));
+          works_then g.S.Store first now next (Ok tt) (c.insert_line_bits.ensures.works told).survives (c.loop-set.invariant.works tells) (worked g.S.Store insert_line_bits_text now next (Ok tt) of_insert_line_bits (c.in_ok-insert_line_bits.ensures.works told).ran);
       fills = λ tells.
           subst (λ rows. Fills g.S.Store (with_rows name.LineBits rows) first next (Ok tt)) (sym (map_at bits_row all i c.set-item.result c.loop-set-test.true c.set-item.is))
-          (fills_next g.S.Store name.LineBits (map bits_row (take i all)) (bits_row c.set-item.result) first now next tt (c.insert_line_bits.ensures.survives (c.loop-set.invariant.tells tells)) (c.loop-set.invariant.works tells) (c.loop-set.invariant.fills tells)
+          (fills_next g.S.Store name.LineBits (map bits_row (take i all)) (bits_row c.set-item.result) first now next tt (c.insert_line_bits.ensures.works (c.loop-set.invariant.tells tells)).survives (c.loop-set.invariant.works tells) (c.loop-set.invariant.fills tells)
           (subst (λ r. Inserts (shape_of name.LineBits) (declared_as name.LineBits) r (state g.S.Store now) (state g.S.Store next) (Ok tt)) (λ k. Int (to_z-of_z file_id_fits k) ∷ Int (to_z-of_z context_id_fits k) ∷ Blob (c.deref.ensures.value k) ∷ [])
-          (c.in_ok-insert_line_bits.ensures.told (c.loop-set.invariant.tells tells))));
-      survives = λ tells. still g.S.Store first now next (c.loop-set.invariant.survives tells) (c.insert_line_bits.ensures.survives (c.loop-set.invariant.tells tells));
+          (c.in_ok-insert_line_bits.ensures.works (c.loop-set.invariant.tells tells)).told));
+      survives = λ tells. still g.S.Store first now next (c.loop-set.invariant.survives tells) (c.insert_line_bits.ensures.works (c.loop-set.invariant.tells tells)).survives;
       same_reference = c.insert_line_bits.ensures.same_reference ∙ c.loop-set.invariant.same_reference;
-      tells = λ tells. c.insert_line_bits.ensures.tells (c.loop-set.invariant.tells tells);
-      count = omega (arith, c.insert_line_bits.ensures.count, c.loop-set.invariant.count);
+      tells = λ tells. c.insert_line_bits.ensures.goes_on.tells (c.loop-set.invariant.tells tells);
+      count = omega (arith, c.insert_line_bits.ensures.goes_on.count, c.loop-set.invariant.count);
     }

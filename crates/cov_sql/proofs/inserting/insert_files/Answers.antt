@@ -20,9 +20,9 @@ returns-in_err-insert_file-clause-works g c tells =
     let now = c.loop-text.work.conn.now in
     let next = c.insert_file.new.work.conn.now in
     let told = c.loop-text.invariant.tells tells in
-    let one = worked g.S.Store insert_file_text now next (Err c.in_err-insert_file.field-0.0) of_insert_file (c.in_err-insert_file.ensures.ran told) in
+    let one = worked g.S.Store insert_file_text now next (Err c.in_err-insert_file.field-0.0) of_insert_file (c.in_err-insert_file.ensures.works told).ran in
     let is : c.from_residual.result ≡ Err c.in_err-insert_file.field-0.0 = search rules in
-    subst (λ r. Works g.S.Store first next r) (sym is) (works_then g.S.Store first now next _ (c.insert_file.ensures.survives told) (c.loop-text.invariant.works tells) one)
+    subst (λ r. Works g.S.Store first next r) (sym is) (works_then g.S.Store first now next _ (c.insert_file.ensures.works told).survives (c.loop-text.invariant.works tells) one)
 
 pub returns-in_err-insert_file-clause-fills : goal.returns-in_err-insert_file-clause-fills
 returns-in_err-insert_file-clause-fills g c tells =
@@ -43,14 +43,14 @@ loop-text-preserved g c =
     record {
       number_is = search rules;
       works = λ tells. let told = c.loop-text.invariant.tells tells in
-          works_then g.S.Store first now next (Ok tt) (c.insert_file.ensures.survives told) (c.loop-text.invariant.works tells) (worked g.S.Store insert_file_text now next (Ok tt) of_insert_file (c.in_ok-insert_file.ensures.ran told));
+          works_then g.S.Store first now next (Ok tt) (c.insert_file.ensures.works told).survives (c.loop-text.invariant.works tells) (worked g.S.Store insert_file_text now next (Ok tt) of_insert_file (c.in_ok-insert_file.ensures.works told).ran);
       fills = λ tells.
           let it = c.text-item.result in
           let number_is = c.loop-text.invariant.number_is in
           subst (λ rows. Fills g.S.Store (with_rows name.File rows) first next (Ok tt)) (sym (numbered_at all i it c.loop-text-test.true c.text-item.is))
-          (fills_next g.S.Store name.File (numbered 1 (map string_bytes (take i all))) (Int (pos (i + 1)) ∷ Text (string_bytes it) ∷ []) first now next tt (c.insert_file.ensures.survives (c.loop-text.invariant.tells tells)) (c.loop-text.invariant.works tells) (c.loop-text.invariant.fills tells) (as_row file declared_file (state g.S.Store now) (state g.S.Store next) (Ok tt) (pos (i + 1)) (string_bytes it) (c.in_ok-insert_file.ensures.told (c.loop-text.invariant.tells tells)) (search rules) c.as_str.ensures.value));
-      survives = λ tells. still g.S.Store first now next (c.loop-text.invariant.survives tells) (c.insert_file.ensures.survives (c.loop-text.invariant.tells tells));
+          (fills_next g.S.Store name.File (numbered 1 (map string_bytes (take i all))) (Int (pos (i + 1)) ∷ Text (string_bytes it) ∷ []) first now next tt (c.insert_file.ensures.works (c.loop-text.invariant.tells tells)).survives (c.loop-text.invariant.works tells) (c.loop-text.invariant.fills tells) (as_row file declared_file (state g.S.Store now) (state g.S.Store next) (Ok tt) (pos (i + 1)) (string_bytes it) (c.in_ok-insert_file.ensures.works (c.loop-text.invariant.tells tells)).told (search rules) c.as_str.ensures.value));
+      survives = λ tells. still g.S.Store first now next (c.loop-text.invariant.survives tells) (c.insert_file.ensures.works (c.loop-text.invariant.tells tells)).survives;
       same_reference = c.insert_file.ensures.same_reference ∙ c.loop-text.invariant.same_reference;
-      tells = λ tells. c.insert_file.ensures.tells (c.loop-text.invariant.tells tells);
-      count = omega (arith, c.insert_file.ensures.count, c.loop-text.invariant.count);
+      tells = λ tells. c.insert_file.ensures.goes_on.tells (c.loop-text.invariant.tells tells);
+      count = omega (arith, c.insert_file.ensures.goes_on.count, c.loop-text.invariant.count);
     }

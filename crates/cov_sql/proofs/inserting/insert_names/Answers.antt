@@ -24,8 +24,8 @@ returns-clause-fills g c tells =
     let one = c.insert_flag.new.work.conn.now in
     let two = c.insert_files.new.work.conn.now in
     let last = c.insert_contexts.new.work.conn.now in
-    let told = c.insert_flag.ensures.tells tells in
-    let still_told = c.insert_files.ensures.tells told in
+    let told = c.insert_flag.ensures.goes_on.tells tells in
+    let still_told = c.insert_files.ensures.goes_on.tells told in
     let flag = with_rows name.Meta (flag_row s.arcs ∷ []) in
     let files = with_rows name.File (numbered 1 (map string_bytes s.paths.items)) in
     let contexts = with_rows name.Context (numbered 1 (map string_bytes s.contexts.items)) in
@@ -40,7 +40,7 @@ returns-in_err-insert_files-clause-works g c tells =
     let first = c.args.work.now.conn.now in
     let one = c.insert_flag.new.work.conn.now in
     let two = c.insert_files.new.work.conn.now in
-    let told = c.insert_flag.ensures.tells tells in
+    let told = c.insert_flag.ensures.goes_on.tells tells in
     let is : c.from_residual-in_err-insert_files.result ≡ Err c.in_err-insert_files.field-0.0 = search rules in
     subst (λ r. Works g.S.Store first two r) (sym is) (works_after g.S.Store c.in_ok-insert_flag.field-0 first one two _ (c.insert_files.ensures.survives told) (c.in_ok-insert_flag.ensures.works tells) (c.in_err-insert_files.ensures.works told))
 
@@ -50,7 +50,7 @@ returns-clause-works g c tells =
     let one = c.insert_flag.new.work.conn.now in
     let two = c.insert_files.new.work.conn.now in
     let last = c.insert_contexts.new.work.conn.now in
-    let told = c.insert_flag.ensures.tells tells in
-    let still_told = c.insert_files.ensures.tells told in
+    let told = c.insert_flag.ensures.goes_on.tells tells in
+    let still_told = c.insert_files.ensures.goes_on.tells told in
     let both = works_after g.S.Store c.in_ok-insert_flag.field-0 first one two (Ok c.in_ok-insert_files.field-0) (c.insert_files.ensures.survives told) (c.in_ok-insert_flag.ensures.works tells) (c.in_ok-insert_files.ensures.works told) in
     works_after g.S.Store c.in_ok-insert_files.field-0 first two last _ (c.insert_contexts.ensures.survives still_told) both (c.insert_contexts.ensures.works still_told)

@@ -24,8 +24,8 @@ returns-clause-fills g c tells =
     let one = c.insert_arcs_of.new.work.conn.now in
     let two = c.insert_bits.new.work.conn.now in
     let last = c.insert_counts.new.work.conn.now in
-    let told = c.insert_arcs_of.ensures.tells tells in
-    let still_told = c.insert_bits.ensures.tells told in
+    let told = c.insert_arcs_of.ensures.goes_on.tells tells in
+    let still_told = c.insert_bits.ensures.goes_on.tells told in
     let arcs = with_rows name.Arc (cond s.arcs (map arc_row s.rows.items) []) in
     let bits = with_rows name.LineBits (map bits_row s.bits.items) in
     let counts = with_rows name.Hits (map hits_row s.rows.items) in
@@ -40,7 +40,7 @@ returns-in_err-insert_bits-clause-works g c tells =
     let first = c.args.work.now.conn.now in
     let one = c.insert_arcs_of.new.work.conn.now in
     let two = c.insert_bits.new.work.conn.now in
-    let told = c.insert_arcs_of.ensures.tells tells in
+    let told = c.insert_arcs_of.ensures.goes_on.tells tells in
     let is : c.from_residual-in_err-insert_bits.result ≡ Err c.in_err-insert_bits.field-0.0 = search rules in
     subst (λ r. Works g.S.Store first two r) (sym is) (works_after g.S.Store c.in_ok-insert_arcs_of.field-0 first one two _ (c.insert_bits.ensures.survives told) (c.in_ok-insert_arcs_of.ensures.works tells) (c.in_err-insert_bits.ensures.works told))
 
@@ -50,7 +50,7 @@ returns-clause-works g c tells =
     let one = c.insert_arcs_of.new.work.conn.now in
     let two = c.insert_bits.new.work.conn.now in
     let last = c.insert_counts.new.work.conn.now in
-    let told = c.insert_arcs_of.ensures.tells tells in
-    let still_told = c.insert_bits.ensures.tells told in
+    let told = c.insert_arcs_of.ensures.goes_on.tells tells in
+    let still_told = c.insert_bits.ensures.goes_on.tells told in
     let both = works_after g.S.Store c.in_ok-insert_arcs_of.field-0 first one two (Ok c.in_ok-insert_bits.field-0) (c.insert_bits.ensures.survives told) (c.in_ok-insert_arcs_of.ensures.works tells) (c.in_ok-insert_bits.ensures.works told) in
     works_after g.S.Store c.in_ok-insert_bits.field-0 first two last _ (c.insert_counts.ensures.survives still_told) both (c.insert_counts.ensures.works still_told)

@@ -12,7 +12,7 @@ returns-in_err-make_table-clause-prepares g c tells =
 
 pub returns-clause-prepares : goal.returns-clause-prepares
 returns-clause-prepares g c tells =
-    let told = c.make_table.ensures.tells tells in
+    let told = c.make_table.ensures.goes_on.tells tells in
     let first = c.args.work.now.conn.now in
     let mid = c.make_table.new.work.conn.now in
     let last = c.empty_tables.new.work.conn.now in
@@ -21,7 +21,7 @@ returns-clause-prepares g c tells =
 
 pub returns-clause-works : goal.returns-clause-works
 returns-clause-works g c tells =
-    let told = c.make_table.ensures.tells tells in
+    let told = c.make_table.ensures.goes_on.tells tells in
     works_after g.S.Store c.in_ok-make_table.field-0 c.args.work.now.conn.now c.make_table.new.work.conn.now c.empty_tables.new.work.conn.now _ (c.empty_tables.ensures.survives told) (c.in_ok-make_table.ensures.works tells) (c.empty_tables.ensures.works told)
 
 pub returns-in_err-make_table-clause-never : goal.returns-in_err-make_table-clause-never
@@ -31,6 +31,6 @@ returns-in_err-make_table-clause-never g c tells =
 
 pub returns-clause-never : goal.returns-clause-never
 returns-clause-never g c tells =
-    let told = c.make_table.ensures.tells tells in
+    let told = c.make_table.ensures.goes_on.tells tells in
     never_counting g.S.Store c.args.work.now.conn.now c.make_table.new.work.conn.now c.empty_tables.new.work.conn.now c.in_ok-make_table.field-0 _ (c.empty_tables.ensures.survives told)
     (c.in_ok-make_table.ensures.works tells) (c.in_ok-make_table.ensures.told tells) (c.empty_tables.ensures.works told)

@@ -8,60 +8,60 @@ use Rattle.cov_sql.proofs.WrittenTexts.{of_delete_arc, of_delete_context, of_del
 use Rattle.cov_sql.proofs.preparing.empty_table.Goals as goal
 
 pub returns-in-Meta-clause-works : goal.returns-in-Meta-clause-works
-returns-in-Meta-clause-works g c tells = worked g.S.Store delete_meta_text c.args.work.now.conn.now c.delete_meta.new.work.conn.now _ of_delete_meta (c.delete_meta.ensures.ran tells)
+returns-in-Meta-clause-works g c tells = worked g.S.Store delete_meta_text c.args.work.now.conn.now c.delete_meta.new.work.conn.now _ of_delete_meta (c.delete_meta.ensures.works tells).ran
 
 pub returns-in-File-clause-works : goal.returns-in-File-clause-works
-returns-in-File-clause-works g c tells = worked g.S.Store delete_file_text c.args.work.now.conn.now c.delete_file.new.work.conn.now _ of_delete_file (c.delete_file.ensures.ran tells)
+returns-in-File-clause-works g c tells = worked g.S.Store delete_file_text c.args.work.now.conn.now c.delete_file.new.work.conn.now _ of_delete_file (c.delete_file.ensures.works tells).ran
 
 pub returns-in-Context-clause-works : goal.returns-in-Context-clause-works
-returns-in-Context-clause-works g c tells = worked g.S.Store delete_context_text c.args.work.now.conn.now c.delete_context.new.work.conn.now _ of_delete_context (c.delete_context.ensures.ran tells)
+returns-in-Context-clause-works g c tells = worked g.S.Store delete_context_text c.args.work.now.conn.now c.delete_context.new.work.conn.now _ of_delete_context (c.delete_context.ensures.works tells).ran
 
 pub returns-in-LineBits-clause-works : goal.returns-in-LineBits-clause-works
-returns-in-LineBits-clause-works g c tells = worked g.S.Store delete_line_bits_text c.args.work.now.conn.now c.delete_line_bits.new.work.conn.now _ of_delete_line_bits (c.delete_line_bits.ensures.ran tells)
+returns-in-LineBits-clause-works g c tells = worked g.S.Store delete_line_bits_text c.args.work.now.conn.now c.delete_line_bits.new.work.conn.now _ of_delete_line_bits (c.delete_line_bits.ensures.works tells).ran
 
 pub returns-in-Arc-clause-works : goal.returns-in-Arc-clause-works
-returns-in-Arc-clause-works g c tells = worked g.S.Store delete_arc_text c.args.work.now.conn.now c.delete_arc.new.work.conn.now _ of_delete_arc (c.delete_arc.ensures.ran tells)
+returns-in-Arc-clause-works g c tells = worked g.S.Store delete_arc_text c.args.work.now.conn.now c.delete_arc.new.work.conn.now _ of_delete_arc (c.delete_arc.ensures.works tells).ran
 
 pub returns-in-Tracer-clause-works : goal.returns-in-Tracer-clause-works
-returns-in-Tracer-clause-works g c tells = worked g.S.Store delete_tracer_text c.args.work.now.conn.now c.delete_tracer.new.work.conn.now _ of_delete_tracer (c.delete_tracer.ensures.ran tells)
+returns-in-Tracer-clause-works g c tells = worked g.S.Store delete_tracer_text c.args.work.now.conn.now c.delete_tracer.new.work.conn.now _ of_delete_tracer (c.delete_tracer.ensures.works tells).ran
 
 pub returns-in-Hits-clause-works : goal.returns-in-Hits-clause-works
-returns-in-Hits-clause-works g c tells = worked g.S.Store delete_hits_text c.args.work.now.conn.now c.delete_hits.new.work.conn.now _ of_delete_hits (c.delete_hits.ensures.ran tells)
+returns-in-Hits-clause-works g c tells = worked g.S.Store delete_hits_text c.args.work.now.conn.now c.delete_hits.new.work.conn.now _ of_delete_hits (c.delete_hits.ensures.works tells).ran
 
 pub returns-in-Meta-clause-empties : goal.returns-in-Meta-clause-empties
 returns-in-Meta-clause-empties g c tells =
     subst (λ t. Empties g.S.Store (cleared t) c.args.work.now.conn.now c.delete_meta.new.work.conn.now c.delete_meta.result) (sym c.in-Meta.is)
-    (empties_one g.S.Store name.Meta c.args.work.now.conn.now c.delete_meta.new.work.conn.now c.delete_meta.result (c.delete_meta.ensures.told tells))
+    (empties_one g.S.Store name.Meta c.args.work.now.conn.now c.delete_meta.new.work.conn.now c.delete_meta.result (c.delete_meta.ensures.works tells).told)
 
 pub returns-in-File-clause-empties : goal.returns-in-File-clause-empties
 returns-in-File-clause-empties g c tells =
     subst (λ t. Empties g.S.Store (cleared t) c.args.work.now.conn.now c.delete_file.new.work.conn.now c.delete_file.result) (sym c.in-File.is)
-    (empties_one g.S.Store name.File c.args.work.now.conn.now c.delete_file.new.work.conn.now c.delete_file.result (c.delete_file.ensures.told tells))
+    (empties_one g.S.Store name.File c.args.work.now.conn.now c.delete_file.new.work.conn.now c.delete_file.result (c.delete_file.ensures.works tells).told)
 
 pub returns-in-Context-clause-empties : goal.returns-in-Context-clause-empties
 returns-in-Context-clause-empties g c tells =
     subst (λ t. Empties g.S.Store (cleared t) c.args.work.now.conn.now c.delete_context.new.work.conn.now c.delete_context.result) (sym c.in-Context.is)
-    (empties_one g.S.Store name.Context c.args.work.now.conn.now c.delete_context.new.work.conn.now c.delete_context.result (c.delete_context.ensures.told tells))
+    (empties_one g.S.Store name.Context c.args.work.now.conn.now c.delete_context.new.work.conn.now c.delete_context.result (c.delete_context.ensures.works tells).told)
 
 pub returns-in-LineBits-clause-empties : goal.returns-in-LineBits-clause-empties
 returns-in-LineBits-clause-empties g c tells =
     subst (λ t. Empties g.S.Store (cleared t) c.args.work.now.conn.now c.delete_line_bits.new.work.conn.now c.delete_line_bits.result) (sym c.in-LineBits.is)
-    (empties_one g.S.Store name.LineBits c.args.work.now.conn.now c.delete_line_bits.new.work.conn.now c.delete_line_bits.result (c.delete_line_bits.ensures.told tells))
+    (empties_one g.S.Store name.LineBits c.args.work.now.conn.now c.delete_line_bits.new.work.conn.now c.delete_line_bits.result (c.delete_line_bits.ensures.works tells).told)
 
 pub returns-in-Arc-clause-empties : goal.returns-in-Arc-clause-empties
 returns-in-Arc-clause-empties g c tells =
     subst (λ t. Empties g.S.Store (cleared t) c.args.work.now.conn.now c.delete_arc.new.work.conn.now c.delete_arc.result) (sym c.in-Arc.is)
-    (empties_one g.S.Store name.Arc c.args.work.now.conn.now c.delete_arc.new.work.conn.now c.delete_arc.result (c.delete_arc.ensures.told tells))
+    (empties_one g.S.Store name.Arc c.args.work.now.conn.now c.delete_arc.new.work.conn.now c.delete_arc.result (c.delete_arc.ensures.works tells).told)
 
 pub returns-in-Tracer-clause-empties : goal.returns-in-Tracer-clause-empties
 returns-in-Tracer-clause-empties g c tells =
     subst (λ t. Empties g.S.Store (cleared t) c.args.work.now.conn.now c.delete_tracer.new.work.conn.now c.delete_tracer.result) (sym c.in-Tracer.is)
-    (empties_one g.S.Store name.Tracer c.args.work.now.conn.now c.delete_tracer.new.work.conn.now c.delete_tracer.result (c.delete_tracer.ensures.told tells))
+    (empties_one g.S.Store name.Tracer c.args.work.now.conn.now c.delete_tracer.new.work.conn.now c.delete_tracer.result (c.delete_tracer.ensures.works tells).told)
 
 pub returns-in-Hits-clause-empties : goal.returns-in-Hits-clause-empties
 returns-in-Hits-clause-empties g c tells =
     subst (λ t. Empties g.S.Store (cleared t) c.args.work.now.conn.now c.delete_hits.new.work.conn.now c.delete_hits.result) (sym c.in-Hits.is)
-    (empties_one g.S.Store name.Hits c.args.work.now.conn.now c.delete_hits.new.work.conn.now c.delete_hits.result (c.delete_hits.ensures.told tells))
+    (empties_one g.S.Store name.Hits c.args.work.now.conn.now c.delete_hits.new.work.conn.now c.delete_hits.result (c.delete_hits.ensures.works tells).told)
 
 pub returns-in-CoverageSchema-clause-empties : goal.returns-in-CoverageSchema-clause-empties
 returns-in-CoverageSchema-clause-empties g c tells =

@@ -12,9 +12,9 @@ pub returns-clause-works : goal.returns-clause-works
 returns-clause-works g c tells =
     let now = c.make_tables.new.work.conn.now in
     let next = c.insert_coverage_schema.new.work.conn.now in
-    let told = c.make_tables.ensures.tells tells in
-    let one = worked g.S.Store insert_coverage_schema_text now next c.insert_coverage_schema.result of_insert_coverage_schema (c.insert_coverage_schema.ensures.ran told) in
-    works_after g.S.Store c.in_ok-make_tables.field-0 c.args.work.now.conn.now now next _ (c.insert_coverage_schema.ensures.survives told) (c.in_ok-make_tables.ensures.works tells) one
+    let told = c.make_tables.ensures.goes_on.tells tells in
+    let one = worked g.S.Store insert_coverage_schema_text now next c.insert_coverage_schema.result of_insert_coverage_schema (c.insert_coverage_schema.ensures.works told).ran in
+    works_after g.S.Store c.in_ok-make_tables.field-0 c.args.work.now.conn.now now next _ (c.insert_coverage_schema.ensures.works told).survives (c.in_ok-make_tables.ensures.works tells) one
 
 pub returns-in_err-make_tables-clause-prepares : goal.returns-in_err-make_tables-clause-prepares
 returns-in_err-make_tables-clause-prepares g c tells =
@@ -23,9 +23,9 @@ returns-in_err-make_tables-clause-prepares g c tells =
 
 pub returns-clause-prepares : goal.returns-clause-prepares
 returns-clause-prepares g c tells =
-    let told = c.make_tables.ensures.tells tells in
-    prepares_new g.S.Store c.args.work.now.conn.now c.make_tables.new.work.conn.now c.insert_coverage_schema.new.work.conn.now c.in_ok-make_tables.field-0 _ (c.insert_coverage_schema.ensures.survives told)
-    (c.in_ok-make_tables.ensures.works tells) (c.in_ok-make_tables.ensures.builds tells) (c.insert_coverage_schema.ensures.told told)
+    let told = c.make_tables.ensures.goes_on.tells tells in
+    prepares_new g.S.Store c.args.work.now.conn.now c.make_tables.new.work.conn.now c.insert_coverage_schema.new.work.conn.now c.in_ok-make_tables.field-0 _ (c.insert_coverage_schema.ensures.works told).survives
+    (c.in_ok-make_tables.ensures.works tells) (c.in_ok-make_tables.ensures.builds tells) (c.insert_coverage_schema.ensures.works told).told
 
 pub returns-in_err-make_tables-clause-refuses : goal.returns-in_err-make_tables-clause-refuses
 returns-in_err-make_tables-clause-refuses g c tells =
@@ -34,8 +34,8 @@ returns-in_err-make_tables-clause-refuses g c tells =
 
 pub returns-clause-refuses : goal.returns-clause-refuses
 returns-clause-refuses g c tells =
-    let told = c.make_tables.ensures.tells tells in
-    refuses_made g.S.Store start.Nothing c.args.work.now.conn.now c.make_tables.new.work.conn.now c.insert_coverage_schema.new.work.conn.now c.in_ok-make_tables.field-0 _ (c.insert_coverage_schema.ensures.survives told) (c.in_ok-make_tables.ensures.denies tells)
+    let told = c.make_tables.ensures.goes_on.tells tells in
+    refuses_made g.S.Store start.Nothing c.args.work.now.conn.now c.make_tables.new.work.conn.now c.insert_coverage_schema.new.work.conn.now c.in_ok-make_tables.field-0 _ (c.insert_coverage_schema.ensures.works told).survives (c.in_ok-make_tables.ensures.denies tells)
 
 pub returns-in_err-make_tables-clause-never : goal.returns-in_err-make_tables-clause-never
 returns-in_err-make_tables-clause-never g c tells =
@@ -46,6 +46,6 @@ pub returns-clause-never : goal.returns-clause-never
 returns-clause-never g c tells =
     let now = c.make_tables.new.work.conn.now in
     let next = c.insert_coverage_schema.new.work.conn.now in
-    let told = c.make_tables.ensures.tells tells in
-    let one = worked g.S.Store insert_coverage_schema_text now next c.insert_coverage_schema.result of_insert_coverage_schema (c.insert_coverage_schema.ensures.ran told) in
-    never_new g.S.Store c.args.work.now.conn.now now next c.in_ok-make_tables.field-0 _ (c.insert_coverage_schema.ensures.survives told) (c.in_ok-make_tables.ensures.works tells) (c.in_ok-make_tables.ensures.builds tells) one
+    let told = c.make_tables.ensures.goes_on.tells tells in
+    let one = worked g.S.Store insert_coverage_schema_text now next c.insert_coverage_schema.result of_insert_coverage_schema (c.insert_coverage_schema.ensures.works told).ran in
+    never_new g.S.Store c.args.work.now.conn.now now next c.in_ok-make_tables.field-0 _ (c.insert_coverage_schema.ensures.works told).survives (c.in_ok-make_tables.ensures.works tells) (c.in_ok-make_tables.ensures.builds tells) one

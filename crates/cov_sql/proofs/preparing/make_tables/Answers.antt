@@ -67,6 +67,6 @@ loop-table-preserved g c =
           (denies_next g.S.Store (take i all) _ first now next tt (c.make_table.ensures.survives told) (c.loop-table.invariant.works tells) (c.loop-table.invariant.denies tells) (c.in_ok-make_table.ensures.told told));
       survives = λ tells. still g.S.Store first now next (c.loop-table.invariant.survives tells) (c.make_table.ensures.survives (c.loop-table.invariant.tells tells));
       same_reference = c.make_table.ensures.same_reference ∙ c.loop-table.invariant.same_reference;
-      tells = λ tells. c.make_table.ensures.tells (c.loop-table.invariant.tells tells);
-      count = omega (arith, c.make_table.ensures.count, c.loop-table.invariant.count);
+      tells = λ tells. c.make_table.ensures.goes_on.tells (c.loop-table.invariant.tells tells);
+      count = omega (arith, c.make_table.ensures.goes_on.count, c.loop-table.invariant.count);
     }

@@ -12,7 +12,7 @@ returns-in_err-prepare-clause-saves g c tells =
 
 pub returns-clause-saves : goal.returns-clause-saves
 returns-clause-saves g c tells =
-    let told = c.prepare.ensures.tells tells in
+    let told = c.prepare.ensures.goes_on.tells tells in
     saves_then g.S.Store c.args.start c.args.saved.now c.args.work.now.conn.now c.prepare.new.work.conn.now c.insert_all.new.work.conn.now c.in_ok-prepare.field-0 _
     (c.insert_all.ensures.survives told) (c.in_ok-prepare.ensures.works tells) (c.in_ok-prepare.ensures.prepares tells) (c.insert_all.ensures.fills told)
 
@@ -23,12 +23,12 @@ returns-in_err-prepare-clause-refuses g c tells =
 
 pub returns-clause-refuses : goal.returns-clause-refuses
 returns-clause-refuses g c tells =
-    let told = c.prepare.ensures.tells tells in
+    let told = c.prepare.ensures.goes_on.tells tells in
     refuses_then g.S.Store c.args.start c.args.work.now.conn.now c.prepare.new.work.conn.now c.insert_all.new.work.conn.now c.in_ok-prepare.field-0 _ (c.insert_all.ensures.survives told) (c.in_ok-prepare.ensures.refuses tells)
 
 pub returns-clause-works : goal.returns-clause-works
 returns-clause-works g c tells =
-    let told = c.prepare.ensures.tells tells in
+    let told = c.prepare.ensures.goes_on.tells tells in
     works_after g.S.Store c.in_ok-prepare.field-0 c.args.work.now.conn.now c.prepare.new.work.conn.now c.insert_all.new.work.conn.now _ (c.insert_all.ensures.survives told) (c.in_ok-prepare.ensures.works tells) (c.insert_all.ensures.works told)
 
 pub returns-in_err-prepare-clause-never : goal.returns-in_err-prepare-clause-never
@@ -38,6 +38,6 @@ returns-in_err-prepare-clause-never g c tells =
 
 pub returns-clause-never : goal.returns-clause-never
 returns-clause-never g c tells =
-    let told = c.prepare.ensures.tells tells in
+    let told = c.prepare.ensures.goes_on.tells tells in
     never_saving g.S.Store c.args.start c.args.work.now.conn.now c.prepare.new.work.conn.now c.insert_all.new.work.conn.now c.in_ok-prepare.field-0 _
     (c.insert_all.ensures.survives told) (c.in_ok-prepare.ensures.works tells) (c.in_ok-prepare.ensures.prepares tells) (c.insert_all.ensures.works told)

@@ -45,7 +45,7 @@ pub returns-in_err-write_all-clause-not_schema : goal.returns-in_err-write_all-c
 returns-in_err-write_all-clause-not_schema g c tells clean hidden is =
     let b = c.judged.new.base in
     let mid = c.write_all.new.work.conn.now in
-    let told = c.may_begin.ensures.tells (c.judged.ensures.tells tells) in
+    let told = c.may_begin.ensures.goes_on.tells (c.judged.ensures.goes_on.tells tells) in
     let starts = c.transaction-work.ensures.begun in
     let end = c.base-1.given.0 in
     let left : Survives (state g.S.Store mid) (state g.S.Store end) (λ _. ⊥) = search rules in
@@ -60,7 +60,7 @@ pub returns-in_err-write_all-clause-only_schema : goal.returns-in_err-write_all-
 returns-in_err-write_all-clause-only_schema g c tells clean hidden ready is =
     let b = c.judged.new.base in
     let mid = c.write_all.new.work.conn.now in
-    let told = c.may_begin.ensures.tells (c.judged.ensures.tells tells) in
+    let told = c.may_begin.ensures.goes_on.tells (c.judged.ensures.goes_on.tells tells) in
     let starts = c.transaction-work.ensures.begun in
     let end = c.base-1.given.0 in
     let left : Survives (state g.S.Store mid) (state g.S.Store end) (λ _. ⊥) = search rules in
@@ -73,7 +73,7 @@ pub returns-in_err-write_all-clause-once : goal.returns-in_err-write_all-clause-
 returns-in_err-write_all-clause-once g c tells clean hidden is there =
     let b = c.judged.new.base in
     let mid = c.write_all.new.work.conn.now in
-    let told = c.may_begin.ensures.tells (c.judged.ensures.tells tells) in
+    let told = c.may_begin.ensures.goes_on.tells (c.judged.ensures.goes_on.tells tells) in
     let starts = c.transaction-work.ensures.begun in
     let end = c.base-1.given.0 in
     let left : Survives (state g.S.Store mid) (state g.S.Store end) (λ _. ⊥) = search rules in
@@ -86,7 +86,7 @@ pub returns-in_err-write_all-clause-kept : goal.returns-in_err-write_all-clause-
 returns-in_err-write_all-clause-kept g c tells clean hidden =
     let b = c.judged.new.base in
     let mid = c.write_all.new.work.conn.now in
-    let told = c.may_begin.ensures.tells (c.judged.ensures.tells tells) in
+    let told = c.may_begin.ensures.goes_on.tells (c.judged.ensures.goes_on.tells tells) in
     let starts = c.transaction-work.ensures.begun in
     let end = c.base-1.given.0 in
     let left : Survives (state g.S.Store mid) (state g.S.Store end) (λ _. ⊥) = search rules in
@@ -101,7 +101,7 @@ pub returns-in_err-write_all-clause-crash : goal.returns-in_err-write_all-clause
 returns-in_err-write_all-clause-crash g c tells hidden =
     let b = c.judged.new.base in
     let mid = c.write_all.new.work.conn.now in
-    let told = c.may_begin.ensures.tells (c.judged.ensures.tells tells) in
+    let told = c.may_begin.ensures.goes_on.tells (c.judged.ensures.goes_on.tells tells) in
     let starts = c.transaction-work.ensures.begun in
     let end = c.base-1.given.0 in
     let left : Survives (state g.S.Store mid) (state g.S.Store end) (λ _. ⊥) = search rules in
@@ -114,7 +114,7 @@ pub returns-in_err-commit-clause-once : goal.returns-in_err-commit-clause-once
 returns-in_err-commit-clause-once g c tells clean hidden is there =
     let b = c.judged.new.base in
     let mid = c.write_all.new.work.conn.now in
-    let told = c.may_begin.ensures.tells (c.judged.ensures.tells tells) in
+    let told = c.may_begin.ensures.goes_on.tells (c.judged.ensures.goes_on.tells tells) in
     let starts = c.transaction-work.ensures.begun in
     let end = c.base-2-1.given.0 in
     let same : c.commit.new.work.0 ≡ end = search rules in
@@ -128,7 +128,7 @@ pub returns-in_err-commit-clause-crash : goal.returns-in_err-commit-clause-crash
 returns-in_err-commit-clause-crash g c tells hidden =
     let b = c.judged.new.base in
     let mid = c.write_all.new.work.conn.now in
-    let told = c.may_begin.ensures.tells (c.judged.ensures.tells tells) in
+    let told = c.may_begin.ensures.goes_on.tells (c.judged.ensures.goes_on.tells tells) in
     let starts = c.transaction-work.ensures.begun in
     let end = c.base-2-1.given.0 in
     let same : c.commit.new.work.0 ≡ end = search rules in
@@ -143,7 +143,7 @@ pub returns-clause-once : goal.returns-clause-once
 returns-clause-once g c tells clean hidden is there =
     let b = c.judged.new.base in
     let mid = c.write_all.new.work.conn.now in
-    let told = c.may_begin.ensures.tells (c.judged.ensures.tells tells) in
+    let told = c.may_begin.ensures.goes_on.tells (c.judged.ensures.goes_on.tells tells) in
     let starts = c.transaction-work.ensures.begun in
     let end = c.base-2-1.given.0 in
     let same : c.commit.new.work.0 ≡ end = search rules in
@@ -157,7 +157,7 @@ pub returns-clause-crash : goal.returns-clause-crash
 returns-clause-crash g c tells hidden =
     let b = c.judged.new.base in
     let mid = c.write_all.new.work.conn.now in
-    let told = c.may_begin.ensures.tells (c.judged.ensures.tells tells) in
+    let told = c.may_begin.ensures.goes_on.tells (c.judged.ensures.goes_on.tells tells) in
     let starts = c.transaction-work.ensures.begun in
     let end = c.base-2-1.given.0 in
     let same : c.commit.new.work.0 ≡ end = search rules in
@@ -172,7 +172,7 @@ pub returns-in_err-commit-clause-kept : goal.returns-in_err-commit-clause-kept
 returns-in_err-commit-clause-kept g c tells clean hidden =
     let b = c.judged.new.base in
     let mid = c.write_all.new.work.conn.now in
-    let told = c.may_begin.ensures.tells (c.judged.ensures.tells tells) in
+    let told = c.may_begin.ensures.goes_on.tells (c.judged.ensures.goes_on.tells tells) in
     let starts = c.transaction-work.ensures.begun in
     let end = c.base-2-1.given.0 in
     let same : c.commit.new.work.0 ≡ end = search rules in
@@ -191,7 +191,7 @@ pub returns-clause-saved : goal.returns-clause-saved
 returns-clause-saved g c tells clean hidden =
     let b = c.judged.new.base in
     let mid = c.write_all.new.work.conn.now in
-    let told = c.may_begin.ensures.tells (c.judged.ensures.tells tells) in
+    let told = c.may_begin.ensures.goes_on.tells (c.judged.ensures.goes_on.tells tells) in
     let starts = c.transaction-work.ensures.begun in
     let end = c.base-2-1.given.0 in
     let same : c.commit.new.work.0 ≡ end = search rules in

@@ -5,8 +5,9 @@ use Rattle.cov_sql.proofs.DeleteTexts.{deletes, deletes_file}
 use Rattle.cov_sql.proofs.Inside.{runs}
 use Rattle.cov_sql.proofs.counted.CountedStatements.delete_file.Goals as goal
 
-pub returns-clause-told : goal.returns-clause-told
-returns-clause-told g c _ = deletes _ file deletes_file (state g.S.Store c.args.work.now.conn.now) (state g.S.Store c.run.new.work.conn.now) c.run.result c.run.ensures.ran
-
-pub returns-clause-ran : goal.returns-clause-ran
-returns-clause-ran g c _ = runs _ [] (state g.S.Store c.args.work.now.conn.now) (state g.S.Store c.run.new.work.conn.now) c.run.result c.run.ensures.ran c.run.ensures.missing c.run.ensures.kept
+pub returns-clause-works : goal.returns-clause-works
+returns-clause-works g c _ = record {
+  told = deletes _ file deletes_file (state g.S.Store c.args.work.now.conn.now) (state g.S.Store c.run.new.work.conn.now) c.run.result c.run.ensures.ran;
+  ran = runs _ [] (state g.S.Store c.args.work.now.conn.now) (state g.S.Store c.run.new.work.conn.now) c.run.result c.run.ensures.ran c.run.ensures.missing c.run.ensures.kept;
+  survives = c.run.ensures.survives;
+}

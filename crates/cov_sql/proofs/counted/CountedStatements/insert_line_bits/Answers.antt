@@ -6,9 +6,9 @@ use Rattle.cov_sql.proofs.InsertIntoLineBits.{inserts_line_bits}
 use Rattle.cov_sql.proofs.Inside.{runs}
 use Rattle.cov_sql.proofs.counted.CountedStatements.insert_line_bits.Goals as goal
 
-pub returns-clause-told : goal.returns-clause-told
-returns-clause-told g c _ =
-    inserts_line_bits c.args.file_id c.args.context_id c.args.numbits.now (state g.S.Store c.args.work.now.conn.now) (state g.S.Store c.run.new.work.conn.now) c.run.result _ c.run.ensures.ran (λ i. Int (to_z-of_z c.ranges.file_id i) ∷ Int (to_z-of_z c.ranges.context_id i) ∷ Blob c.args.numbits.now ∷ [])
-
-pub returns-clause-ran : goal.returns-clause-ran
-returns-clause-ran g c _ = runs _ _ (state g.S.Store c.args.work.now.conn.now) (state g.S.Store c.run.new.work.conn.now) c.run.result c.run.ensures.ran c.run.ensures.missing c.run.ensures.kept
+pub returns-clause-works : goal.returns-clause-works
+returns-clause-works g c _ = record {
+  told = inserts_line_bits c.args.file_id c.args.context_id c.args.numbits.now (state g.S.Store c.args.work.now.conn.now) (state g.S.Store c.run.new.work.conn.now) c.run.result _ c.run.ensures.ran (λ i. Int (to_z-of_z c.ranges.file_id i) ∷ Int (to_z-of_z c.ranges.context_id i) ∷ Blob c.args.numbits.now ∷ []);
+  ran = runs _ _ (state g.S.Store c.args.work.now.conn.now) (state g.S.Store c.run.new.work.conn.now) c.run.result c.run.ensures.ran c.run.ensures.missing c.run.ensures.kept;
+  survives = c.run.ensures.survives;
+}

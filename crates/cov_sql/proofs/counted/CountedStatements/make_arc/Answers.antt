@@ -6,9 +6,9 @@ use Rattle.cov_sql.proofs.CreateTexts.{makes_table, makes_arc}
 use Rattle.cov_sql.proofs.Inside.{runs}
 use Rattle.cov_sql.proofs.counted.CountedStatements.make_arc.Goals as goal
 
-pub returns-clause-told : goal.returns-clause-told
-returns-clause-told g c _ =
-    makes_table _ arc declared_arc makes_arc (state g.S.Store c.args.work.now.conn.now) (state g.S.Store c.run.new.work.conn.now) c.run.result c.run.ensures.ran c.run.ensures.missing
-
-pub returns-clause-ran : goal.returns-clause-ran
-returns-clause-ran g c _ = runs _ [] (state g.S.Store c.args.work.now.conn.now) (state g.S.Store c.run.new.work.conn.now) c.run.result c.run.ensures.ran c.run.ensures.missing c.run.ensures.kept
+pub returns-clause-works : goal.returns-clause-works
+returns-clause-works g c _ = record {
+  told = makes_table _ arc declared_arc makes_arc (state g.S.Store c.args.work.now.conn.now) (state g.S.Store c.run.new.work.conn.now) c.run.result c.run.ensures.ran c.run.ensures.missing;
+  ran = runs _ [] (state g.S.Store c.args.work.now.conn.now) (state g.S.Store c.run.new.work.conn.now) c.run.result c.run.ensures.ran c.run.ensures.missing c.run.ensures.kept;
+  survives = c.run.ensures.survives;
+}

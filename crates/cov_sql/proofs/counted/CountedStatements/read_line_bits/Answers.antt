@@ -4,11 +4,11 @@ use Rattle.cov_sql.specs.Tables.{line_bits}
 use Rattle.cov_sql.proofs.ReadTexts.{tells, leaves, reads_line_bits}
 use Rattle.cov_sql.proofs.counted.CountedStatements.read_line_bits.Goals as goal
 
-pub returns-clause-told : goal.returns-clause-told
-returns-clause-told g c _ = tells _ line_bits reads_line_bits (state g.S.Store c.args.base.now) (state g.S.Store c.read_rows.new.base) c.read_rows.result c.read_rows.ensures.shown c.read_rows.ensures.missing c.read_rows.ensures.asked
+pub returns-clause-reads : goal.returns-clause-reads
+returns-clause-reads g c _ = record {
+  told = tells _ line_bits reads_line_bits (state g.S.Store c.args.base.now) (state g.S.Store c.read_rows.new.base) c.read_rows.result c.read_rows.ensures.shown c.read_rows.ensures.missing c.read_rows.ensures.asked;
+  survives = leaves _ line_bits reads_line_bits (state g.S.Store c.args.base.now) (state g.S.Store c.read_rows.new.base) c.read_rows.ensures.survives;
+}
 
-pub returns-clause-survives : goal.returns-clause-survives
-returns-clause-survives g c _ = leaves _ line_bits reads_line_bits (state g.S.Store c.args.base.now) (state g.S.Store c.read_rows.new.base) c.read_rows.ensures.survives
-
-pub returns-clause-clean : goal.returns-clause-clean
-returns-clause-clean g c clean = omega (arith, clean, c.read_rows.ensures.survives.clean)
+pub returns-clause-asks : goal.returns-clause-asks
+returns-clause-asks g c = record { clean = λ clean. omega (arith, clean, c.read_rows.ensures.survives.clean); mode = c.read_rows.ensures.mode }
