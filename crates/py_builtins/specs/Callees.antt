@@ -1,4 +1,5 @@
--- What stands in front of a call's arguments, and names of modules (Python Language Reference, 6.3.4 and 7.11).
+-- What stands in front of a call's arguments, and names of modules (Python Language Reference,
+-- 6.3.4 and 7.11).
 use Rattle.std.specs.Prelude.{ℕ, List, Option, Some, None, Result, Ok, Err}
 use Rattle.py_value.specs.declared.builtin.Method.{Method}
 use Rattle.py_value.specs.Plain.{PlainValue, module_value, PlainRaised}

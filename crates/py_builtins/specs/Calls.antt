@@ -35,7 +35,9 @@ prompt_of _ h = Err (raised_by WrongArgumentCount)
 abbrev pub bytes_read : List ℕ → Result (List ℕ) Cause × List ℕ
 bytes_read [] = (Err NoInput, [])
 bytes_read (b ∷ bs) =
-    if nat_lt most_items (length (first_line (b ∷ bs))) then (Err TooManyItems, drop (suc most_items) (b ∷ bs)) else (Ok (first_line (b ∷ bs)), after_line (b ∷ bs))
+    if nat_lt most_items (length (first_line (b ∷ bs)))
+    then (Err TooManyItems, drop (suc most_items) (b ∷ bs)) else
+    (Ok (first_line (b ∷ bs)), after_line (b ∷ bs))
 
 -- the characters that these bytes are
 abbrev pub decoded : List ℕ → Result (List ℕ) Cause

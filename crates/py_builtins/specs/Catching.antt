@@ -1,4 +1,5 @@
--- Exceptions that clauses catch and that assertions raise (Python Language Reference, 8.4.1 and 7.3).
+-- Exceptions that clauses catch and that assertions raise (Python Language Reference, 8.4.1 and
+-- 7.3).
 use Rattle.std.specs.Prelude.{Bool, false, ◌||◌, if◌then◌else◌, Result, Ok, Err}
 use Rattle.py_value.specs.declared.cause.Cause.TheVariants.{NotExceptionKind, TooDeep}
 use Rattle.py_value.specs.declared.exception.ExcKind.{ExcKind}
@@ -11,7 +12,8 @@ use Rattle.py_value.specs.Plain.{PlainValue, tuple_value, kind_value, PlainValue
 -- whether the kinds in a Tuple catch a kind of exceptions; each item must be a kind
 abbrev pub some_catches : PlainValues → ExcKind → Result Bool PlainRaised
 some_catches no_values kind = Ok false
-some_catches (value_then (kind_value k) vs) kind = some_catches vs kind >>= λ b. Ok (is_or_under kind k || b)
+some_catches (value_then (kind_value k) vs) kind =
+    some_catches vs kind >>= λ b. Ok (is_or_under kind k || b)
 some_catches (value_then v vs) kind = Err (raised_by NotExceptionKind)
 
 -- whether the value of a clause's expression does
@@ -22,4 +24,6 @@ catches v kind = Err (raised_by NotExceptionKind)
 
 -- the exception of an assertion with this value
 abbrev pub assertion_error : PlainValue → Result PlainRaised PlainRaised
-assertion_error v = if may_nest v then Ok (record { kind = AssertionError; arg = argument v }) else Err (raised_by TooDeep)
+assertion_error v =
+    if may_nest v then Ok (record { kind = AssertionError; arg = argument v }) else
+    Err (raised_by TooDeep)

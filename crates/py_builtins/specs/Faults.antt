@@ -18,4 +18,5 @@ abbrev pub no_module : List ℕ → PlainRaised
 no_module m = fault ModuleNotFoundError (codes "No module named '" ++ m ++ codes "'")
 
 abbrev pub no_import : List ℕ → List ℕ → PlainRaised
-no_import m x = fault ImportError (codes "cannot import name '" ++ x ++ codes "' from '" ++ m ++ codes "'")
+no_import m x =
+    fault ImportError (codes "cannot import name '" ++ x ++ codes "' from '" ++ m ++ codes "'")

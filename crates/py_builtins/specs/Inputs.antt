@@ -1,13 +1,14 @@
 -- What a call read, byte by byte, and what this says of the input, its answer and its output.
---     Fed, AsksOnce     what the answers of reads say of the input, and that its end is asked for once at most
+--     Fed, AsksOnce     what the answers of reads say of the input, and that its end is asked for
+--                       once at most
 --     OnReads           what holds of every input that gives the answers which were read
 --     Gives, Wrote      what a call of the table gives and writes, and what it leaves of the input
 use Rattle.std.specs.Prelude.{◌≡◌, ℕ, List, [], ◌∷◌, ◌++◌, Option, Some, None}
 use Rattle.py_builtins.specs.Arguments.{Answer}
 use Rattle.py_builtins.specs.Builtins.{Done}
 
--- reads that gave these answers, the newest in front, lead from all bytes to the rest of them: each byte was the next
--- one, and none is the end of the input
+-- reads that gave these answers, the newest in front, lead from all bytes to the rest of them: each
+-- byte was the next one, and none is the end of the input
 abbrev pub Fed : List (Option ℕ) → List ℕ → List ℕ → Type 0
 Fed [] all rest = all ≡ rest
 Fed (Some b ∷ reads) all rest = Fed reads all (b ∷ rest)
@@ -23,9 +24,10 @@ abbrev pub AsksOnce : List (Option ℕ) → Type 0
 AsksOnce [] = Unit {0}
 AsksOnce (answer ∷ reads) = AreBytes reads
 
--- It holds of every input that gives the answers which were read, and of what this input has left then. There is such
--- an input, and the bytes of a source that tells them are one.
-pub record OnReads (tells : Type 0) (before after : List ℕ) (P : List ℕ → List ℕ → Type 0) : Type 0 where
+-- It holds of every input that gives the answers which were read, and of what this input has left
+-- then. There is such an input, and the bytes of a source that tells them are one.
+pub record OnReads (tells : Type 0) (before after : List ℕ)
+    (P : List ℕ → List ℕ → Type 0) : Type 0 where
   pub heard : List (Option ℕ)
   pub input : List ℕ
   pub rest : List ℕ

@@ -1,4 +1,5 @@
--- The items of values, as assignments to several targets and loops take them (Python Language Reference, 7.2 and 8.3), and patterns (8.6.4).
+-- The items of values, as assignments to several targets and loops take them (Python Language
+-- Reference, 7.2 and 8.3), and patterns (8.6.4).
 --     items_in                   the items of a value that has some
 --     unpacked                   exactly so many of them
 --     walk_length, item_of       what a loop over a value begins with, and what each turn takes
@@ -21,7 +22,8 @@ items_in v h = items_or (items_to_append h v)
 
 -- exactly so many items
 abbrev pub unpacked : ℕ → PlainValue → PlainHeap → Result (List PlainValue) PlainRaised
-unpacked n v h = items_in v h >>= λ vs. if nat_eq (length vs) n then Ok vs else Err (raised_by WrongValueCount)
+unpacked n v h =
+    items_in v h >>= λ vs. if nat_eq (length vs) n then Ok vs else Err (raised_by WrongValueCount)
 
 -- the number of items at the start; what has no items can't be walked
 abbrev pub walk_length : PlainValue → PlainHeap → Result ℕ PlainRaised
@@ -34,7 +36,9 @@ has_changed v n h = false
 
 -- the item of a turn, as the value is then, where it had so many at the start; none at the end
 abbrev pub item_of : PlainValue → ℕ → ℕ → PlainHeap → Result (Option PlainValue) PlainRaised
-item_of v n i h = if has_changed v n h then Err (raised_by DictChangedSize) else items_in v h >>= λ vs. Ok (slice_get vs i)
+item_of v n i h =
+    if has_changed v n h then Err (raised_by DictChangedSize) else
+    items_in v h >>= λ vs. Ok (slice_get vs i)
 
 -- the items that a sequence pattern looks at: those of a List or Tuple
 abbrev pub sequence_items : PlainValue → PlainHeap → Option (List PlainValue)

@@ -1,4 +1,5 @@
--- Values that expressions and statements make (Python Language Reference, 6.2.5 to 6.2.7, 6.3.3, 6.10, 2.4.3).
+-- Values that expressions and statements make (Python Language Reference, 6.2.5 to 6.2.7, 6.3.3,
+-- 6.10, 2.4.3).
 --     extended                a text with another after it
 --     new_tuple, new_dict     displays
 --     stored                  `of[at] = v`
@@ -24,7 +25,9 @@ may_all_nest (v ∷ vs) = may_nest v && may_all_nest vs
 
 -- the tuple of these values
 abbrev pub new_tuple : List PlainValue → Result PlainValue PlainRaised
-new_tuple vs = if may_all_nest vs then in_words raised_by (within_limit vs >>= λ ws. Ok (tuple_of ws)) else Err (raised_by TooDeep)
+new_tuple vs =
+    if may_all_nest vs then in_words raised_by (within_limit vs >>= λ ws. Ok (tuple_of ws)) else
+    Err (raised_by TooDeep)
 
 -- a new dict without keys
 abbrev pub new_dict : PlainHeap → Result (PlainValue × PlainHeap) PlainRaised
@@ -34,7 +37,8 @@ abbrev pub with_unit : PlainHeap → Unit {0} × PlainHeap
 with_unit h = (tt, h)
 
 -- `of[at] = v`
-abbrev pub stored : PlainValue → PlainValue → PlainValue → PlainHeap → Result (Unit {0} × PlainHeap) PlainRaised
+abbrev pub stored : PlainValue → PlainValue → PlainValue → PlainHeap
+    → Result (Unit {0} × PlainHeap) PlainRaised
 stored of at v h = store_of of at v h >>= λ k. Ok (with_unit k)
 
 -- a bound of a slice: a number, or left out
@@ -46,5 +50,6 @@ abbrev pub slice_bound : Option PlainValue → Result (Option ℤ) PlainRaised
 slice_bound None = Ok None
 slice_bound (Some v) = number_or NotSubscriptable (number_of v)
 
-abbrev pub sliced : PlainValue → Option PlainValue → Option PlainValue → PlainHeap → Result (PlainValue × PlainHeap) PlainRaised
+abbrev pub sliced : PlainValue → Option PlainValue → Option PlainValue → PlainHeap
+    → Result (PlainValue × PlainHeap) PlainRaised
 sliced v from to h = slice_bound from >>= λ a. slice_bound to >>= λ b. slice_of v a b h

@@ -39,7 +39,8 @@ abbrev pub exit_by : PlainHeap → PlainValue → Option ℤ → Outcome
 exit_by h v None = exited 1 (Some (shown h v))
 exit_by h v (Some n) = exited (low_bits n) None
 
--- `SystemExit` with this argument: none and None give 0, a number its low eight bits, and anything else 1 with its text
+-- `SystemExit` with this argument: none and None give 0, a number its low eight bits, and anything
+-- else 1 with its text
 abbrev pub exit_of : PlainHeap → PlainArgument → Outcome
 exit_of h no_argument = exited 0 None
 exit_of h (argument none_value) = exited 0 None
@@ -47,7 +48,8 @@ exit_of h (argument v) = exit_by h v (number_of v)
 
 abbrev pub outcome_of : PlainHeap → Result PlainValue PlainRaised → Outcome
 outcome_of h (Ok v) = finished
-outcome_of h (Err e) = if is_same_kind e.kind SystemExit then exit_of h e.arg else raised e.kind (shown_raised h e)
+outcome_of h (Err e) =
+    if is_same_kind e.kind SystemExit then exit_of h e.arg else raised e.kind (shown_raised h e)
 
 -- the status of an ending
 abbrev pub status_of : Outcome → ℕ

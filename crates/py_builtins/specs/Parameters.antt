@@ -1,4 +1,5 @@
--- The values of a function's parameters in a call, and the frames on each other (Python Language Reference, 6.3.4 and 8.7).
+-- The values of a function's parameters in a call, and the frames on each other (Python Language
+-- Reference, 6.3.4 and 8.7).
 use Rattle.std.specs.Prelude.{ℕ, ◌+◌, ◌-◌, nat_le, ◌&&◌, if◌then◌else◌, List, [], ◌++◌, length, drop, Option, Some, None, ◌∷◌}
 use Rattle.py_value.specs.Heaps.{list_items}
 use Rattle.py_value.specs.Plain.{PlainValue, PlainHeap, list_at}
@@ -8,7 +9,8 @@ use Rattle.py_builtins.specs.World.{Names}
 abbrev pub most_frames : ℕ
 most_frames = 1000
 
--- the values of the parameters: those given, and for the last ones the defaults; none where they don't fit
+-- the values of the parameters: those given, and for the last ones the defaults; none where they
+-- don't fit
 abbrev pub arguments : List (List ℕ) → List PlainValue → List PlainValue → Option (List PlainValue)
 arguments params defaults vs =
     if nat_le (length params) (length vs + length defaults) && nat_le (length vs) (length params)

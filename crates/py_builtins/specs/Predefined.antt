@@ -1,5 +1,5 @@
--- Names that no module sets: the built-in functions and the kinds of exceptions (Python Library Reference, "Built-in
--- Functions", "Built-in Exceptions").
+-- Names that no module sets: the built-in functions and the kinds of exceptions (Python Library
+-- Reference, "Built-in Functions", "Built-in Exceptions").
 use Rattle.std.specs.Prelude.{ℕ, List, [], ◌∷◌, ◌++◌, map}
 use Rattle.py_value.specs.declared.builtin.Builtin.{Builtin}
 use Rattle.py_value.specs.declared.builtin.Builtin.TheVariants.{Print, Len, Range, Str, Repr, Int, Input}
@@ -16,9 +16,10 @@ builtins = Print ∷ Len ∷ Range ∷ Str ∷ Repr ∷ Int ∷ Input ∷ []
 -- the kinds of exceptions
 abbrev pub kinds : List ExcKind
 kinds =
-    BaseException ∷ SystemExit ∷ Exception ∷ ArithmeticError ∷ ZeroDivisionError ∷ OverflowError ∷ AssertionError ∷ AttributeError ∷
-    EOFError ∷ ImportError ∷ ModuleNotFoundError ∷ LookupError ∷ IndexError ∷ KeyError ∷ MemoryError ∷ NameError ∷ UnboundLocalError ∷
-    RuntimeError ∷ RecursionError ∷ TypeError ∷ ValueError ∷ []
+    BaseException ∷ SystemExit ∷ Exception ∷ ArithmeticError ∷ ZeroDivisionError ∷
+    OverflowError ∷ AssertionError ∷ AttributeError ∷ EOFError ∷ ImportError ∷
+    ModuleNotFoundError ∷ LookupError ∷ IndexError ∷ KeyError ∷ MemoryError ∷ NameError ∷
+    UnboundLocalError ∷ RuntimeError ∷ RecursionError ∷ TypeError ∷ ValueError ∷ []
 
 abbrev pub builtin_pair : Builtin → List ℕ × PlainValue
 builtin_pair f = (builtin_name f, builtin_value f)

@@ -15,13 +15,21 @@ unfoldable pub display_within : ℕ → PlainHeap → List ℕ → PlainValue �
 display_within zero h inside v = broken []
 display_within (suc n) h inside v = display_step (display_within n h) h inside v
 
--- the text of an exception: empty without an argument, the display of the argument of a `KeyError`, and else the argument's text
-abbrev pub exception_text : (PlainValue → Writing) → (PlainValue → Writing) → ExcKind → PlainArgument → Writing
+-- the display of a value, going through at most so many values inside it
+abbrev pub display_around : ℕ → PlainHeap → List ℕ → PlainValue → Writing
+display_around levels h inside v = display_step (display_within levels h) h inside v
+
+-- the text of an exception: empty without an argument, the display of the argument of a `KeyError`,
+-- and else the argument's text
+abbrev pub exception_text : (PlainValue → Writing) → (PlainValue → Writing) → ExcKind
+    → PlainArgument → Writing
 exception_text text show kind no_argument = whole []
 exception_text text show kind (argument v) = if is_same_kind kind KeyError then show v else text v
 
--- the text of a value, where `text` and `show` write the values inside it; that of any other value but a text is its display
-abbrev pub text_step : (PlainValue → Writing) → (List ℕ → PlainValue → Writing) → PlainHeap → PlainValue → Writing
+-- the text of a value, where `text` and `show` write the values inside it; that of any other value
+-- but a text is its display
+abbrev pub text_step : (PlainValue → Writing) → (List ℕ → PlainValue → Writing) → PlainHeap
+    → PlainValue → Writing
 text_step text show h (str_value s) = whole s
 text_step text show h (exc_value kind a) = exception_text text (show []) kind a
 text_step text show h v = display_step show h [] v

@@ -22,8 +22,9 @@ use cov_outside::{Sink, Source};
 use py_value::{Builtin, Cause, ExcKind, Heap, NoMemory, Raised, Value};
 use std::alloc::Global;
 
-/// A built-in, called with these arguments. It writes and reads also where it raises. What `answer` says
-/// of two calls holds of both one after the other: their reads are one list, the newest in front.
+/// A built-in, called with these arguments. It writes and reads also where it raises. What `answer`
+/// says of two calls holds of both one after the other: their reads are one list, the newest in
+/// front.
 pub fn call_builtin<I: Source, O: Sink>(
     alloc: Global,
     which: Builtin,

@@ -136,7 +136,6 @@ pub(crate) fn list_keys(
     Ok(Ok(Value::List(made)))
 }
 
-#[tactic(auto, using(crate::proofs::Lists::key_on, crate::proofs::Lists::keys_end))]
 fn copy_keys(alloc: Global, dict: Addr, heap: &Heap) -> Result<Vec<Value>, NoMemory>
     ensures { IfOk result (λ keys. plains keys.items ≡ dict_keys (plain_heap heap.now) dict.place) }
 {

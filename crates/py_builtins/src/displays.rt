@@ -4,8 +4,8 @@ ghost use Rattle.std.specs.Prelude.{◌≡◌, ◌++◌, ◌∷◌, [], OnOk, co
 ghost use Rattle.py_value.specs.View.{plain, plains};
 ghost use Rattle.py_value.specs.HeapView.{plain_heap};
 ghost use Rattle.py_value.specs.Plain.{list_at};
-ghost use Rattle.py_builtins.specs.Displays.{has, separated, display_step, tuple_display, kind_name, builtin_name, exception_display, argument_display};
-ghost use Rattle.py_builtins.specs.Texts.{display_within};
+ghost use Rattle.py_builtins.specs.Displays.{has, separated, tuple_display, kind_name, builtin_name, exception_display, argument_display};
+ghost use Rattle.py_builtins.specs.Texts.{display_around, display_within};
 ghost use Rattle.py_builtins.specs.Writing.{whole};
 ghost use Rattle.py_builtins.specs.Written.{IsWritten};
 
@@ -14,7 +14,8 @@ use crate::pairs::display_dict;
 use crate::writer::{Stop, Writer};
 use py_value::{Addr, Argument, Builtin, Cause, ExcKind, Heap, Value};
 
-/// Writes the display of a value that stands inside the lists and dicts at these places of the heap.
+/// Writes the display of a value that stands inside the lists and dicts at these places of the
+/// heap.
 #[cycle(display)]
 pub(crate) fn display(
     levels: u32,
@@ -42,8 +43,7 @@ fn display_inside(
     out: &mut Writer,
 ) -> Result<(), Stop>
     ensures written { IsWritten result out.old.text out.new.text
-        (display_step (display_within levels (plain_heap heap.now)) (plain_heap heap.now)
-        inside.old.items (plain value.now)) }
+        (display_around levels (plain_heap heap.now) inside.old.items (plain value.now)) }
     ensures inside { OnOk result (inside.new.items ≡ inside.old.items) }
 {
     match value {
@@ -114,8 +114,7 @@ fn display_list(
     out: &mut Writer,
 ) -> Result<(), Stop>
     ensures written { IsWritten result out.old.text out.new.text
-        (display_step (display_within levels (plain_heap heap.now)) (plain_heap heap.now)
-        inside.old.items (list_at list.place)) }
+        (display_around levels (plain_heap heap.now) inside.old.items (list_at list.place)) }
     ensures inside { OnOk result (inside.new.items ≡ inside.old.items) }
 {
     if is_among(list.place as usize, inside) {

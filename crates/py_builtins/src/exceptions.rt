@@ -8,7 +8,8 @@ use crate::arguments::{are_none, only};
 use py_value::{Argument, Cause, ExcKind, NoMemory, Raised, Value};
 use std::alloc::Global;
 
-/// A kind called with these arguments: an exception with the value as its argument, where it is given one.
+/// A kind called with these arguments: an exception with the value as its argument, where it is
+/// given one.
 pub fn exception_of(
     alloc: Global,
     kind: ExcKind,

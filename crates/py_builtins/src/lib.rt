@@ -1,13 +1,14 @@
 //! Gives what Python's built-in functions and methods give, and the texts of values.
 //!
-//! `call_builtin` calls a built-in function over a `Source` and a `Sink`: it answers the value and changes
-//! the heap, or answers the exception and leaves the heap as it was, and after a `RunFault` the heap is as
-//! it was too. `call_method` does so for the methods of lists, dicts and texts; `has_method` says whether a
-//! value has a method, which a caller asks before it evaluates the arguments. `exception_of` calls a kind of
-//! exceptions. `str_of` gives the text that `str` gives, and `repr_of` that of `repr`.
+//! `call_builtin` calls a built-in function over a `Source` and a `Sink`: it answers the value and
+//! changes the heap, or answers the exception and leaves the heap as it was, and after a `RunFault`
+//! the heap is as it was too. `call_method` does so for the methods of lists, dicts and texts;
+//! `has_method` says whether a value has a method, which a caller asks before it evaluates the
+//! arguments. `exception_of` calls a kind of exceptions. `str_of` gives the text that `str` gives,
+//! and `repr_of` that of `repr`.
 //!
-//! `specs/` defines the whole table of calls, and the world of a program: the globals of its modules, which
-//! of these were begun, the heap, and the list of its words.
+//! `specs/` defines the whole table of calls, and the world of a program: the globals of its
+//! modules, which of these were begun, the heap, and the list of its words.
 #![tactic(auto)]
 
 mod arguments;

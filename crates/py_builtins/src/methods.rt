@@ -4,15 +4,16 @@ ghost use Rattle.std.specs.Prelude.{◌≡◌, IfOk, OnErr};
 ghost use Rattle.py_value.specs.View.{plain, plains, plain_raised};
 ghost use Rattle.py_value.specs.HeapView.{plain_heap};
 ghost use Rattle.py_builtins.specs.Answering.{Answers, RaiseKeeps};
-ghost use Rattle.py_builtins.specs.Methods.{method_name, absent_text, no_attribute, list_method, dict_method, text_method, method_of, is_list_method, is_dict_method, is_text_method, has_method};
+ghost use Rattle.py_builtins.specs.Methods.{method_name, absent_text, no_attribute, method_of, is_list_method, is_dict_method, is_text_method, has_method};
 
 use crate::dict_methods::{get_value, list_keys, pop_value};
 use crate::list_methods::{append, pop_item};
 use crate::text_methods::{join_list, split, test_start};
-use py_value::{Addr, Argument, ExcKind, Heap, Method, NoMemory, Raised, Text, Value};
+use py_value::{Argument, ExcKind, Heap, Method, NoMemory, Raised, Text, Value};
 use std::alloc::Global;
 
-/// A method of a value, called with these arguments. A value without the method raises `AttributeError`.
+/// A method of a value, called with these arguments. A value without the method raises
+/// `AttributeError`.
 pub fn call_method(
     alloc: Global,
     which: Method,
@@ -26,79 +27,30 @@ pub fn call_method(
     ensures err { OnErr result (plain_heap heap.new ≡ plain_heap heap.old) }
 {
     match on {
-        Value::List(addr) => list_method(alloc, which, *addr, args, heap),
-        Value::Dict(addr) => dict_method(alloc, which, *addr, args, heap),
-        Value::Str(text) => text_method(alloc, which, text, args, heap),
+        Value::List(list) => match which {
+            Method::Append => append(alloc, *list, args, heap),
+            Method::Pop => pop_item(alloc, *list, args, heap),
+            Method::Get | Method::Keys | Method::StartsWith | Method::Join | Method::Split => {
+                Ok(Err(no_attribute(alloc, which)?))
+            }
+        },
+        Value::Dict(dict) => match which {
+            Method::Pop => pop_value(alloc, *dict, args, heap),
+            Method::Get => get_value(alloc, *dict, args, heap),
+            Method::Keys => list_keys(alloc, *dict, args, heap),
+            Method::Append | Method::StartsWith | Method::Join | Method::Split => {
+                Ok(Err(no_attribute(alloc, which)?))
+            }
+        },
+        Value::Str(text) => match which {
+            Method::StartsWith => test_start(alloc, text, args, heap),
+            Method::Join => join_list(alloc, text, args, heap),
+            Method::Split => split(alloc, text, args, heap),
+            Method::Append | Method::Pop | Method::Get | Method::Keys => {
+                Ok(Err(no_attribute(alloc, which)?))
+            }
+        },
         _ => Ok(Err(no_attribute(alloc, which)?)),
-    }
-}
-
-fn list_method(
-    alloc: Global,
-    which: Method,
-    list: Addr,
-    args: &[Value],
-    heap: &mut Heap,
-) -> Result<Result<Value, Raised>, NoMemory>
-    ensures answer { Answers result heap.new
-        (list_method which list.place (plains args.now) (plain_heap heap.old)) }
-    ensures raised { RaiseKeeps result heap.old heap.new }
-    ensures err { OnErr result (plain_heap heap.new ≡ plain_heap heap.old) }
-{
-    match which {
-        Method::Append => append(alloc, list, args, heap),
-        Method::Pop => pop_item(alloc, list, args, heap),
-        Method::Get => Ok(Err(no_attribute(alloc, which)?)),
-        Method::Keys => Ok(Err(no_attribute(alloc, which)?)),
-        Method::StartsWith => Ok(Err(no_attribute(alloc, which)?)),
-        Method::Join => Ok(Err(no_attribute(alloc, which)?)),
-        Method::Split => Ok(Err(no_attribute(alloc, which)?)),
-    }
-}
-
-fn dict_method(
-    alloc: Global,
-    which: Method,
-    dict: Addr,
-    args: &[Value],
-    heap: &mut Heap,
-) -> Result<Result<Value, Raised>, NoMemory>
-    ensures answer { Answers result heap.new
-        (dict_method which dict.place (plains args.now) (plain_heap heap.old)) }
-    ensures raised { RaiseKeeps result heap.old heap.new }
-    ensures err { OnErr result (plain_heap heap.new ≡ plain_heap heap.old) }
-{
-    match which {
-        Method::Pop => pop_value(alloc, dict, args, heap),
-        Method::Get => get_value(alloc, dict, args, heap),
-        Method::Keys => list_keys(alloc, dict, args, heap),
-        Method::Append => Ok(Err(no_attribute(alloc, which)?)),
-        Method::StartsWith => Ok(Err(no_attribute(alloc, which)?)),
-        Method::Join => Ok(Err(no_attribute(alloc, which)?)),
-        Method::Split => Ok(Err(no_attribute(alloc, which)?)),
-    }
-}
-
-fn text_method(
-    alloc: Global,
-    which: Method,
-    text: &Text,
-    args: &[Value],
-    heap: &mut Heap,
-) -> Result<Result<Value, Raised>, NoMemory>
-    ensures answer { Answers result heap.new
-        (text_method which text.now (plains args.now) (plain_heap heap.old)) }
-    ensures raised { RaiseKeeps result heap.old heap.new }
-    ensures err { OnErr result (plain_heap heap.new ≡ plain_heap heap.old) }
-{
-    match which {
-        Method::StartsWith => test_start(alloc, text, args, heap),
-        Method::Join => join_list(alloc, text, args, heap),
-        Method::Split => split(alloc, text, args, heap),
-        Method::Append => Ok(Err(no_attribute(alloc, which)?)),
-        Method::Pop => Ok(Err(no_attribute(alloc, which)?)),
-        Method::Get => Ok(Err(no_attribute(alloc, which)?)),
-        Method::Keys => Ok(Err(no_attribute(alloc, which)?)),
     }
 }
 

@@ -4,8 +4,8 @@ ghost use Rattle.std.specs.Prelude.{◌≡◌, ◌<◌, ℕ, OnOk, Some, length,
 ghost use Rattle.py_value.specs.HeapView.{plain_heap};
 ghost use Rattle.py_value.specs.Heaps.{dict_pairs};
 ghost use Rattle.py_value.specs.Plain.{PlainValue, dict_at};
-ghost use Rattle.py_builtins.specs.Displays.{separated, pair_display, display_step};
-ghost use Rattle.py_builtins.specs.Texts.{display_within};
+ghost use Rattle.py_builtins.specs.Displays.{separated, pair_display};
+ghost use Rattle.py_builtins.specs.Texts.{display_around, display_within};
 ghost use Rattle.py_builtins.specs.Written.{IsWritten};
 
 use crate::displays::{display, is_among};
@@ -21,8 +21,7 @@ pub(crate) fn display_dict(
     out: &mut Writer,
 ) -> Result<(), Stop>
     ensures written { IsWritten result out.old.text out.new.text
-        (display_step (display_within levels (plain_heap heap.now)) (plain_heap heap.now)
-        inside.old.items (dict_at dict.place)) }
+        (display_around levels (plain_heap heap.now) inside.old.items (dict_at dict.place)) }
     ensures inside { OnOk result (inside.new.items ≡ inside.old.items) }
 {
     if is_among(dict.place as usize, inside) {
@@ -68,7 +67,8 @@ fn display_pair(
     requires { at < length (dict_pairs (plain_heap heap.now) dict.place) }
     ensures written { (p : PlainValue × PlainValue)
         → slice_get (dict_pairs (plain_heap heap.now) dict.place) at ≡ Some p
-        → IsWritten result out.old.text out.new.text (pair_display (display_within levels (plain_heap heap.now) inside.old.items) p) }
+        → IsWritten result out.old.text out.new.text
+        (pair_display (display_within levels (plain_heap heap.now) inside.old.items) p) }
     ensures inside { OnOk result (inside.new.items ≡ inside.old.items) }
 {
     let key = heap.key(dict, at)?;

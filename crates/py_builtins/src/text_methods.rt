@@ -6,7 +6,7 @@ ghost use Rattle.py_value.specs.View.{plain, plains};
 ghost use Rattle.py_value.specs.HeapView.{plain_heap};
 ghost use Rattle.py_value.specs.Sequences.{most_items};
 ghost use Rattle.py_builtins.specs.Answering.{Answers, RaiseKeeps};
-ghost use Rattle.py_builtins.specs.Methods.{new_list, starts_with, starts_with_of, each_after, each_length, is_text, are_texts, characters_in, joined_texts, join_items, join, join_of, is_white, white_parts, nonempty, parts_between, texts, split_at, split_of};
+ghost use Rattle.py_builtins.specs.Methods.{new_list, starts_with, starts_with_of, each_after, each_length, is_text, are_texts, characters_in, joined_texts, join_items, join_of, is_white, white_parts, nonempty, parts_between, texts, split_at, split_of};
 
 use crate::arguments::{are_none, only};
 use crate::char_lists::{MOST_ITEMS, characters_of};
@@ -58,23 +58,12 @@ pub(crate) fn join_list(
         (join_of between.now (plains args.now) (plain_heap heap.now)) }
 {
     match only(args) {
-        Some(list) => join(alloc, between, list, heap),
+        Some(list) => match list {
+            Value::List(addr) => join_items(alloc, between, heap.items(*addr), heap),
+            Value::Tuple(items) => join_items(alloc, between, items.as_slice(), heap),
+            _ => Ok(Err(Raised::of(alloc, Cause::BadArgument)?)),
+        },
         None => Ok(Err(Raised::of(alloc, Cause::WrongArgumentCount)?)),
-    }
-}
-
-fn join(
-    alloc: Global,
-    between: &Text,
-    list: &Value,
-    heap: &Heap,
-) -> Result<Result<Value, Raised>, NoMemory>
-    ensures { Answers result heap.now (join between.now (plain list.now) (plain_heap heap.now)) }
-{
-    match list {
-        Value::List(addr) => join_items(alloc, between, heap.items(*addr), heap),
-        Value::Tuple(items) => join_items(alloc, between, items.as_slice(), heap),
-        _ => Ok(Err(Raised::of(alloc, Cause::BadArgument)?)),
     }
 }
 
@@ -93,7 +82,6 @@ fn join_items(
     }
 }
 
-#[tactic(auto, using(crate::proofs::Lists::length_each_after))]
 fn joined_texts(
     alloc: Global,
     between: &Text,
@@ -172,7 +160,6 @@ fn fit_after(start: usize, between: usize, items: &[Value]) -> bool
     true
 }
 
-#[tactic(auto, using(crate::proofs::Lists::text_on))]
 fn with_rest(alloc: Global, first: Text, between: &Text, items: &[Value]) -> Result<Text, NoMemory>
     ensures { IfOk result (λ text.
         text ≡ first ++ each_after between.now (map characters_in (plains items.now))) }
@@ -258,7 +245,6 @@ fn is_white(c: char) -> bool
     ('\t'..='\r').contains(&c) || c == ' '
 }
 
-#[tactic(auto, using(crate::proofs::Splitting::put_nothing, crate::proofs::Splitting::white_closes, crate::proofs::Splitting::white_skips, crate::proofs::Splitting::white_goes_on, crate::proofs::Splitting::white_ends, crate::proofs::Splitting::white_ended))]
 fn nonempty_parts(alloc: Global, characters: &[char]) -> Result<Vec<Value>, NoMemory>
     ensures { IfOk result (λ parts.
         plains parts.items ≡ texts (nonempty (white_parts characters.now))) }

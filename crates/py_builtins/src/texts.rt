@@ -70,7 +70,8 @@ fn exception_text(
     out: &mut Writer,
 ) -> Result<(), Stop>
     ensures { IsWritten result out.old.text out.new.text
-        (exception_text (text_within levels (plain_heap heap.now)) (display_within levels (plain_heap heap.now) []) kind arg.now) }
+        (exception_text (text_within levels (plain_heap heap.now))
+        (display_within levels (plain_heap heap.now) []) kind arg.now) }
 {
     match arg.value() {
         None => Ok(()),

@@ -41,10 +41,13 @@ IsTree goal front = (e : Expr) × HasTokens goal e front
 -- The expression has the tokens in front, and the one after them goes on with none.
 abbrev pub IsExpr : Goal → ℕ → Expr → List Kind → List Kind → Type 0
 IsExpr goal limit e front [] = ⊥
-IsExpr goal limit e front (t ∷ rest) = IsOf goal e × (tokens e [] ≡ front) × (height e ≤ limit) × (BeginsExpr goal (front ++ t ∷ []) → ⊥)
+IsExpr goal limit e front (t ∷ rest) =
+    IsOf goal e × (tokens e [] ≡ front) × (height e ≤ limit)
+    × (BeginsExpr goal (front ++ t ∷ []) → ⊥)
 
--- A token that is refused also after an expression, since only an operand can begin with it: an f-string where a string
--- or a comma stands in front of it, and `not` or a sign after a comma of what a `for` assigns to.
+-- A token that is refused also after an expression, since only an operand can begin with it: an
+-- f-string where a string or a comma stands in front of it, and `not` or a sign after a comma of
+-- what a `for` assigns to.
 abbrev pub IsRefused : Goal → Kind → Type 0
 IsRefused g (FString ps) = Unit {0}
 IsRefused target (Word word.Not) = Unit {0}
@@ -52,13 +55,16 @@ IsRefused target (Sign mark.Plus) = Unit {0}
 IsRefused target (Sign mark.Minus) = Unit {0}
 IsRefused g t = ⊥
 
--- The tokens in front begin such an expression, and begin none with the one after them; where they are one, that token
--- is refused. Or the list ends.
+-- The tokens in front begin such an expression, and begin none with the one after them; where they
+-- are one, that token is refused. Or the list ends.
 abbrev pub IsUnexpected : Goal → ℕ → List Kind → List Kind → Type 0
 IsUnexpected goal limit front [] = BeginsWithin goal limit front
-IsUnexpected goal limit front (t ∷ rest) = BeginsWithin goal limit front × (BeginsExpr goal (front ++ t ∷ []) → ⊥) × (IsTree goal front → IsRefused goal t)
+IsUnexpected goal limit front (t ∷ rest) =
+    BeginsWithin goal limit front × (BeginsExpr goal (front ++ t ∷ []) → ⊥)
+    × (IsTree goal front → IsRefused goal t)
 
--- With the token after them, the tokens in front begin only expressions that are higher than the limit.
+-- With the token after them, the tokens in front begin only expressions that are higher than the
+-- limit.
 abbrev pub IsTooDeep : Goal → ℕ → List Kind → List Kind → Type 0
 IsTooDeep goal limit front rest = IsTooDeepAfter (HasTokens goal) (IsWithin limit) front rest
 

@@ -45,7 +45,8 @@ wants (on f k) = false
 abbrev pub fit : Ctx → Expr → Expr
 fit k e = target_if (wants k) e
 
--- The expression that comes of a stack with this one in its hole, where nothing is added but what has to be.
+-- The expression that comes of a stack with this one in its hole, where nothing is added but what
+-- has to be.
 abbrev pub whole : Ctx → Expr → Expr
 whole (Outside (targets f es)) e = tuple (exprs f (snoc es (as_target e))) false
 whole (Outside g) e = target_if (targets_so_far g) e

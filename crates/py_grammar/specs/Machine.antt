@@ -1,8 +1,10 @@
 -- The reader of expressions as a machine: a stack of what is open, and a step for each token.
 --     at_most, same_level                     levels of the grammar
---     snoc .. strings_of                      lists with one more at the end, and strings side by side
+--     snoc .. strings_of                      lists with one more at the end, and strings side by
+--                                             side
 --     Goal, Opener, Frame, Ctx                what is read towards, and what is open
---     State, Out                              a place in an expression, and what a token makes of it
+--     State, Out                              a place in an expression, and what a token makes of
+--                                             it
 --     upto_exprs .. upto                      the frames from one level up to another
 --     begin, leave, give, step, start         the steps
 --     ended, format_class, class .. parts     the class of a token, and the fields of f-strings
@@ -71,8 +73,8 @@ strings_of fs = cond (has_format fs) (fstr fs) (str (texts fs))
 
 -- ---- the stack
 
--- What the whole is to be: any `exprs`, one `expr`, or the target of a `for`, of which the items before a comma
--- are kept.
+-- What the whole is to be: any `exprs`, one `expr`, or the target of a `for`, of which the items
+-- before a comma are kept.
 pub data Goal : Type 0 where
   any : Goal
   one : Goal
@@ -209,8 +211,12 @@ begin lev k (t_bool b) = Next (Have (bool b) (upto lev LPost k))
 begin lev k (t_string x) = Next (Strings (plain x no_fragments) (upto lev LPost k))
 begin lev k (t_format ps) = Next (Strings (format ps no_fragments) (upto lev LPost k))
 begin lev k t_not = cond (at_most lev LNot) (Next (Want LNot (on not_of (upto lev LNot k)))) Stuck
-begin lev k (t_operator (b_op op_.Add)) = cond (at_most lev LUnary) (Next (Want LUnary (on (unary_of sign_.Plus) (upto lev LUnary k)))) Stuck
-begin lev k (t_operator (b_op op_.Sub)) = cond (at_most lev LUnary) (Next (Want LUnary (on (unary_of sign_.Minus) (upto lev LUnary k)))) Stuck
+begin lev k (t_operator (b_op op_.Add)) =
+    cond (at_most lev LUnary) (Next (Want LUnary (on (unary_of sign_.Plus) (upto lev LUnary k))))
+    Stuck
+begin lev k (t_operator (b_op op_.Sub)) =
+    cond (at_most lev LUnary) (Next (Want LUnary (on (unary_of sign_.Minus) (upto lev LUnary k))))
+    Stuck
 begin lev k t_left_paren = Next (AfterOpen (upto_term lev k))
 begin lev k t_left_bracket = Next (ItemsOpen a_list (upto_term lev k))
 begin lev k t_left_brace = Next (DictOpen (upto_term lev k))
@@ -243,16 +249,22 @@ give e (on cond_first k) t = give e k t
 give e (on (cond_test b) k) t_else = Next (Want LExpr (on (cond_else b e) k))
 give e (on (cond_test b) k) t = Stuck
 give e (on (cond_else b c) k) t = give (tree_.cond b c e) k t
-give e (on (first l) k) (t_operator j) = cond (same_level l (operator_level j)) (Next (Want (operator_right j) (on (right j e) k))) (give e k (t_operator j))
+give e (on (first l) k) (t_operator j) =
+    cond (same_level l (operator_level j)) (Next (Want (operator_right j) (on (right j e) k)))
+    (give e k (t_operator j))
 give e (on (first l) k) t = give e k t
-give e (on (right i a) k) (t_operator j) = cond (same_level (operator_level i) (operator_level j)) (Next (Want (operator_right j) (on (right j (joined i a e)) k))) (give (joined i a e) k (t_operator j))
+give e (on (right i a) k) (t_operator j) =
+    cond (same_level (operator_level i) (operator_level j))
+    (Next (Want (operator_right j) (on (right j (joined i a e)) k)))
+    (give (joined i a e) k (t_operator j))
 give e (on (right i a) k) t = give (joined i a e) k t
 give e (on not_of k) t = give (not' e) k t
 give e (on compare_first k) (t_compare op) = Next (Want LSum (on (compare_rest e no_links op) k))
 give e (on compare_first k) t_not = Next (AfterNot e no_links k)
 give e (on compare_first k) t_is = Next (AfterIs e no_links k)
 give e (on compare_first k) t = give e k t
-give e (on (compare_rest a ls p) k) (t_compare op) = Next (Want LSum (on (compare_rest a (snoc_link ls (Op p) e) op) k))
+give e (on (compare_rest a ls p) k) (t_compare op) =
+    Next (Want LSum (on (compare_rest a (snoc_link ls (Op p) e) op) k))
 give e (on (compare_rest a ls p) k) t_not = Next (AfterNot a (snoc_link ls (Op p) e) k)
 give e (on (compare_rest a ls p) k) t_is = Next (AfterIs a (snoc_link ls (Op p) e) k)
 give e (on (compare_rest a ls p) k) t = give (compare a (snoc_link ls (Op p) e)) k t
@@ -269,14 +281,16 @@ give e (on (index_first f) k) t_right_bracket = Next (Have (index f e) (on post_
 give e (on (index_first f) k) t = Stuck
 give e (on (in_index f) k) t_right_bracket = Next (Have (index f e) (on post_rest k))
 give e (on (in_index f) k) t = Stuck
-give e (on (slice_to f from) k) t_right_bracket = Next (Have (slice f from (present e)) (on post_rest k))
+give e (on (slice_to f from) k) t_right_bracket =
+    Next (Have (slice f from (present e)) (on post_rest k))
 give e (on (slice_to f from) k) t = Stuck
 give e (on in_paren k) t_right_paren = Next (Have (paren e) (on post_rest k))
 give e (on in_paren k) t = Stuck
 give e (on (in_key ps) k) t_colon = Next (Want LExpr (on (in_value ps e) k))
 give e (on (in_key ps) k) t = Stuck
 give e (on (in_value ps key) k) t_comma = Next (DictComma (snoc_pair ps key e) k)
-give e (on (in_value ps key) k) t_right_brace = Next (Have (dict (snoc_pair ps key e) false) (on post_rest k))
+give e (on (in_value ps key) k) t_right_brace =
+    Next (Have (dict (snoc_pair ps key e) false) (on post_rest k))
 give e (on (in_value ps key) k) t = Stuck
 
 abbrev pub step : State → TokenClass → Out
@@ -288,9 +302,12 @@ step (Strings fs k) (t_bad_format ps) = Stuck
 step (Strings fs k) t = give (strings_of fs) k t
 step (AfterOpen k) t_right_paren = Next (Have (tuple no_exprs false) (on post_rest k))
 step (AfterOpen k) t = begin LExprs (on in_paren k) t
-step (AfterComma f es k) t = cond (begins t) (begin LExpr (on (exprs_rest f es) k) t) (give (tuple (exprs f es) true) k t)
-step (AfterTarget f es) t = cond (begins t) (begin LPost (Outside (targets f es)) t) (Left (tuple (exprs f es) true))
-step (ItemsOpen o k) t = close_items o no_exprs false k t (begin LExpr (on (in_items o no_exprs) k) t)
+step (AfterComma f es k) t =
+    cond (begins t) (begin LExpr (on (exprs_rest f es) k) t) (give (tuple (exprs f es) true) k t)
+step (AfterTarget f es) t =
+    cond (begins t) (begin LPost (Outside (targets f es)) t) (Left (tuple (exprs f es) true))
+step (ItemsOpen o k) t =
+    close_items o no_exprs false k t (begin LExpr (on (in_items o no_exprs) k) t)
 step (ItemsComma o es k) t = close_items o es true k t (begin LExpr (on (in_items o es) k) t)
 step (DictOpen k) t_right_brace = Next (Have (dict no_pairs false) (on post_rest k))
 step (DictOpen k) t = begin LExpr (on (in_key no_pairs) k) t
@@ -326,7 +343,9 @@ start (targets f es) = AfterTarget f es
 
 -- the expression that a state has, where no more comes
 abbrev pub ended : State → Option Expr
-ended s = elim (step s (t_other End)) as (λ (o : Out). Option Expr) [ Next n ↦ None | Stuck ↦ None | Left e ↦ Some e ]
+ended s =
+    elim (step s (t_other End)) as (λ (o : Out). Option Expr)
+    [ Next n ↦ None | Stuck ↦ None | Left e ↦ Some e ]
 
 abbrev pub format_class : Pieces → Option Parts → TokenClass
 format_class ps (Some qs) = t_format qs
@@ -379,11 +398,15 @@ abbrev mutual
   pub parts : Pieces → Option Parts
   parts no_pieces = Some no_parts
   parts (chars_piece x ps) = option_map (λ qs. text x qs) (parts ps)
-  parts (field_piece ks ps) = elim (field_expr (start any) ks) as (λ (o : Option Expr). Option Parts) [ None ↦ None | Some e ↦ option_map (λ qs. field e qs) (parts ps) ]
+  parts (field_piece ks ps) =
+      elim (field_expr (start any) ks) as (λ (o : Option Expr). Option Parts)
+      [ None ↦ None | Some e ↦ option_map (λ qs. field e qs) (parts ps) ]
 
   pub field_expr : State → Kinds → Option Expr
   field_expr s no_kinds = ended s
-  field_expr s (kinds t ts) = elim (step s (class t)) as (λ (o : Out). Option Expr) [ Next n ↦ field_expr n ts | Stuck ↦ None | Left e ↦ None ]
+  field_expr s (kinds t ts) =
+      elim (step s (class t)) as (λ (o : Out). Option Expr)
+      [ Next n ↦ field_expr n ts | Stuck ↦ None | Left e ↦ None ]
 
 -- ---- reading a list
 
@@ -394,4 +417,6 @@ pub data Verdict : Type 0 where
 
 abbrev pub run : State → List Kind → Verdict
 run s [] = Refused []
-run s (t ∷ ts) = elim (step s (class t)) as (λ (o : Out). Verdict) [ Next n ↦ run n ts | Stuck ↦ Refused (t ∷ ts) | Left e ↦ Leaves e (t ∷ ts) ]
+run s (t ∷ ts) =
+    elim (step s (class t)) as (λ (o : Out). Verdict)
+    [ Next n ↦ run n ts | Stuck ↦ Refused (t ∷ ts) | Left e ↦ Leaves e (t ∷ ts) ]

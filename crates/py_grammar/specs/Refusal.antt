@@ -25,11 +25,13 @@ IsViableWithin limit front = BeginsWithin Spells (IsWithin limit) front
 
 -- no tree at all begins with one token more, or the list ends too early
 abbrev pub IsUnexpected : ℕ → List Kind → ℕ → Type 0
-IsUnexpected limit ts place = whole.IsUnexpected Spells (IsWithin limit) (λ e. Spells e ts) (λ n. take n ts) (length ts) place
+IsUnexpected limit ts place =
+    whole.IsUnexpected Spells (IsWithin limit) (λ e. Spells e ts) (λ n. take n ts) (length ts) place
 
 -- only trees that are too high begin with one token more
 abbrev pub IsTooDeep : ℕ → List Kind → ℕ → Type 0
-IsTooDeep limit ts place = whole.IsTooDeep Spells (IsWithin limit) (λ e. Spells e ts) (λ n. take n ts) (length ts) place
+IsTooDeep limit ts place =
+    whole.IsTooDeep Spells (IsWithin limit) (λ e. Spells e ts) (λ n. take n ts) (length ts) place
 
 -- a list spells one expression at most
 abbrev pub OneTree : Type 0

@@ -26,7 +26,6 @@ pub fn one_target()
 {}
 
 /// Where the reading of an expression ends under a limit, and how, is what all its trees say.
-#[tactic(auto, using(crate::proofs::ExprPlaces::is_exact))]
 pub fn exact_ends()
     ensures { IsExactEverywhere }
 {}

@@ -1,5 +1,6 @@
-//! The grammar of expressions: a machine that takes one token at a time, what it says of all trees, and the laws of the
-//! grammar. It reads nothing itself: the crates that read expressions, fields and patterns stand on it.
+//! The grammar of expressions: a machine that takes one token at a time, what it says of all trees,
+//! and the laws of the grammar. It reads nothing itself: the crates that read expressions, fields
+//! and patterns stand on it.
 #![tactic(auto)]
 
 mod error;

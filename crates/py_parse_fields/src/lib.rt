@@ -6,6 +6,6 @@ mod fields;
 mod frames;
 mod reader;
 mod replies;
-mod token_classes;
+pub mod token_classes;
 
 pub use fields::is_spelled;

@@ -221,7 +221,6 @@ fn entries(frames: Vec<Frame>, class: TokenClass) -> Result<Turn, NoMemory>
 }
 
 /// After a comma of a tuple.
-#[tactic(auto, using(crate::proofs::Offers::given_open))]
 fn after_comma(frames: Vec<Frame>, class: TokenClass) -> Result<Turn, NoMemory>
     ensures { Steps Progress.AfterComma frames.items class result }
 {
@@ -232,7 +231,6 @@ fn after_comma(frames: Vec<Frame>, class: TokenClass) -> Result<Turn, NoMemory>
 }
 
 /// After what stands after `is`.
-#[tactic(auto, using(crate::proofs::Offers::given_open))]
 fn linked(frames: Vec<Frame>, class: TokenClass) -> Result<Turn, NoMemory>
     ensures { Steps Progress.Linked frames.items class result }
 {
@@ -249,7 +247,6 @@ fn linked(frames: Vec<Frame>, class: TokenClass) -> Result<Turn, NoMemory>
 }
 
 /// After a string, or several.
-#[tactic(auto, using(crate::proofs::Offers::given_open))]
 fn strings(frames: Vec<Frame>, class: TokenClass) -> Result<Turn, NoMemory>
     ensures { Steps Progress.Strings frames.items class result }
 {

@@ -26,7 +26,6 @@ pub enum Reply {
 }
 
 /// After an operand that may be the left one of an operator of that level.
-#[tactic(auto, using(crate::proofs::Offers::given))]
 fn join(precedence: Precedence, class: TokenClass) -> Reply
     ensures first { Offers (first (view_precedence precedence)) (view_class class) result }
     ensures right { (j : classes_.BinaryOperator) → operator_level j ≡ view_precedence precedence
@@ -47,7 +46,6 @@ fn join(precedence: Precedence, class: TokenClass) -> Reply
 }
 
 /// After an operand of a chain of comparisons.
-#[tactic(auto, using(crate::proofs::Offers::given))]
 fn chain(class: TokenClass) -> Reply
     ensures first { Offers compare_first (view_class class) result }
     ensures rest { (op : CmpOp)
@@ -136,7 +134,6 @@ fn entry(class: TokenClass) -> Reply
 }
 
 /// After an `expr` that may be one of several.
-#[tactic(auto, using(crate::proofs::Offers::given))]
 fn several(class: TokenClass) -> Reply
     ensures first { Offers exprs_first (view_class class) result }
     ensures rest { Offers (exprs_rest least_name no_exprs) (view_class class) result }

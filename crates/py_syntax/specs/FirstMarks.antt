@@ -1,8 +1,9 @@
--- What a run of a part of a tree may pass without a mark, and the mark that comes first in it. A mark is told by its line.
--- (Python Language Reference, 7 and 8)
+-- What a run of a part of a tree may pass without a mark, and the mark that comes first in it. A
+-- mark is told by its line. (Python Language Reference, 7 and 8)
 --     only                                   marks that count only where something holds
 --     stmts_empty, kind_empty, opt_empty     whether a part has no mark
---     stmts_first, kind_first, opt_first     the mark that comes first, if any; arms_first and the like for what stands in statements
+--     stmts_first, kind_first, opt_first     the mark that comes first, if any; arms_first and the
+--                                            like for what stands in statements
 use Rattle.std.specs.Prelude.{ℕ, Bool, true, false, ◌&&◌, List, [], ◌∷◌, ◌++◌}
 use Rattle.py_syntax.specs.Tree.{Stmts, no_stmts, stmt, suite, OptSuite, no_suite, has_suite, Arms, no_arms, arm, Clauses, no_clauses, clause, Cases, no_cases, case, StmtKind, expr, assign, aug_assign, pass, break, continue, return, raise, assert, global, import, from, if', while, for, try, def, match}
 
@@ -16,7 +17,8 @@ abbrev pub arms_empty : Arms → Bool → Bool
 arms_empty no_arms orelse = orelse
 arms_empty (arm t s rest) orelse = false
 
--- Of the simple statements `global` alone marks nothing. After a suite of these alone a run goes on as if it weren't there.
+-- Of the simple statements `global` alone marks nothing. After a suite of these alone a run goes on
+-- as if it weren't there.
 unfoldable mutual
   pub stmts_empty : Stmts → Bool
   stmts_empty no_stmts = true

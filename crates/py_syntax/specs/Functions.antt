@@ -1,4 +1,5 @@
--- The functions of a text, and the docstrings of bodies (Python Language Reference, 8.7, and its Glossary, "docstring").
+-- The functions of a text, and the docstrings of bodies (Python Language Reference, 8.7, and its
+-- Glossary, "docstring").
 --     Function, functions            the functions of statements, in the order of the text
 --     is_docstring                   a statement that does nothing where it leads a body
 --     without_docstring              a body without it
@@ -35,8 +36,10 @@ unfoldable mutual
   functions_in l (if' arms o) = arms_functions arms ++ opt_functions o
   functions_in l (while t (suite f g inline b) o) = functions b ++ opt_functions o
   functions_in l (for t e (suite f g inline b) o) = functions b ++ opt_functions o
-  functions_in l (try (suite f g inline b) cs o fin) = functions b ++ (clauses_functions cs ++ (opt_functions o ++ opt_functions fin))
-  functions_in l (def x ps ds comma (suite f g inline b)) = record { line = l; name = x; params = ps; body = b } ∷ []
+  functions_in l (try (suite f g inline b) cs o fin) =
+      functions b ++ (clauses_functions cs ++ (opt_functions o ++ opt_functions fin))
+  functions_in l (def x ps ds comma (suite f g inline b)) =
+      record { line = l; name = x; params = ps; body = b } ∷ []
   functions_in l (match e header cs) = cases_functions cs
 
   pub opt_functions : OptSuite → List Function
@@ -102,4 +105,5 @@ is_docstring (match e last cs) = false
 -- the body of a module or a function without the docstring that may lead it
 abbrev pub without_docstring : Stmts → Stmts
 without_docstring no_stmts = no_stmts
-without_docstring (stmt first last k e rest) = if is_docstring k then rest else stmt first last k e rest
+without_docstring (stmt first last k e rest) =
+    if is_docstring k then rest else stmt first last k e rest

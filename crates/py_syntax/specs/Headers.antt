@@ -39,13 +39,15 @@ abbrev pub is_colon : Kind → Bool
 is_colon (Sign mark.Colon) = true
 is_colon k = false
 
--- Whether the last token before `Newline` is a colon; the first argument says whether the token before these is one.
+-- Whether the last token before `Newline` is a colon; the first argument says whether the token
+-- before these is one.
 abbrev pub ends_in_colon : Bool → List Kind → Bool
 ends_in_colon colon [] = false
 ends_in_colon colon (Newline ∷ ks) = colon
 ends_in_colon colon (k ∷ ks) = ends_in_colon (is_colon k) ks
 
--- The tokens after the name `match` make its logical line a header: one stands there, and the last after it is a colon.
+-- The tokens after the name `match` make its logical line a header: one stands there, and the last
+-- after it is a colon.
 abbrev pub is_header : List Kind → Bool
 is_header [] = false
 is_header (Newline ∷ ks) = false
@@ -58,10 +60,13 @@ ends_line Indent = true
 ends_line Dedent = true
 ends_line k = false
 
--- The tokens with the headers among their logical lines; the first argument says whether a line begins here.
+-- The tokens with the headers among their logical lines; the first argument says whether a line
+-- begins here.
 abbrev pub marked_from : Bool → List Kind → List Marked
 marked_from begins [] = []
-marked_from begins (k ∷ ks) = record { kind = k; header = begins && (is_match k && is_header ks) } ∷ marked_from (ends_line k) ks
+marked_from begins (k ∷ ks) =
+    record { kind = k; header = begins && (is_match k && is_header ks) }
+    ∷ marked_from (ends_line k) ks
 
 -- the tokens of a source, with the headers among its logical lines
 abbrev pub marked : List Kind → List Marked

@@ -1,6 +1,7 @@
 -- The lines of a module that its execution marks.
 --     in_order                   lines in their order
---     stmts_marks, kind_marks    the marks of statements; suite_marks and the like for what stands in them
+--     stmts_marks, kind_marks    the marks of statements; suite_marks and the like for what stands
+--                                in them
 --     body_marks                 of the body of a module or a function
 --     statement_lines            the lines of a module, in order
 use Rattle.std.specs.Prelude.{ℕ, nat_eq, nat_lt, if◌then◌else◌, List, [], ◌∷◌, ◌++◌}
@@ -10,14 +11,16 @@ use Rattle.py_syntax.specs.Tree.{Stmts, no_stmts, stmt, Suite, suite, OptSuite, 
 -- lines put in their order, each once
 abbrev pub with_line : ℕ → List ℕ → List ℕ
 with_line l [] = l ∷ []
-with_line l (k ∷ ks) = if nat_lt l k then l ∷ k ∷ ks else (if nat_eq l k then k ∷ ks else k ∷ with_line l ks)
+with_line l (k ∷ ks) =
+    if nat_lt l k then l ∷ k ∷ ks else (if nat_eq l k then k ∷ ks else k ∷ with_line l ks)
 
 abbrev pub in_order : List ℕ → List ℕ
 in_order [] = []
 in_order (l ∷ ls) = with_line l (in_order ls)
 
--- The first lines of all that marks, in the order of the text: simple statements but `global`, each `def`, each `try`, the tests
--- of `if`, `elif` and loops, `for` headers, clauses, subjects and cases. A string that leads a module or a function marks nothing.
+-- The first lines of all that marks, in the order of the text: simple statements but `global`, each
+-- `def`, each `try`, the tests of `if`, `elif` and loops, `for` headers, clauses, subjects and
+-- cases. A string that leads a module or a function marks nothing.
 abbrev mutual
   pub stmts_marks : Stmts → List ℕ
   stmts_marks no_stmts = []
@@ -40,7 +43,8 @@ abbrev mutual
   kind_marks first (if' arms o) = arms_marks arms ++ opt_marks o
   kind_marks first (while t b o) = first ∷ (suite_marks b ++ opt_marks o)
   kind_marks first (for t e b o) = first ∷ (suite_marks b ++ opt_marks o)
-  kind_marks first (try b cs o f) = first ∷ (suite_marks b ++ (clauses_marks cs ++ (opt_marks o ++ opt_marks f)))
+  kind_marks first (try b cs o f) =
+      first ∷ (suite_marks b ++ (clauses_marks cs ++ (opt_marks o ++ opt_marks f)))
   kind_marks first (def x ps ds c b) = first ∷ function_marks b
   kind_marks first (match e last cs) = first ∷ cases_marks cs
 
@@ -57,7 +61,8 @@ abbrev mutual
 
   pub clauses_marks : Clauses → List ℕ
   clauses_marks no_clauses = []
-  clauses_marks (clause e x (suite first last inline b) cs) = first ∷ (stmts_marks b ++ clauses_marks cs)
+  clauses_marks (clause e x (suite first last inline b) cs) =
+      first ∷ (stmts_marks b ++ clauses_marks cs)
 
   pub cases_marks : Cases → List ℕ
   cases_marks no_cases = []
@@ -69,7 +74,8 @@ abbrev mutual
   -- of the body of a module or a function
   pub body_marks : Stmts → List ℕ
   body_marks no_stmts = []
-  body_marks (stmt first last k e ss) = if is_docstring k then stmts_marks ss else kind_marks first k ++ stmts_marks ss
+  body_marks (stmt first last k e ss) =
+      if is_docstring k then stmts_marks ss else kind_marks first k ++ stmts_marks ss
 
 -- the statement lines of a module, in order, each once
 abbrev pub statement_lines : Stmts → List ℕ

@@ -1,9 +1,11 @@
--- The names that a body of a module or a function assigns, and those that it declares `global`. The body of a function that it
--- defines is none of it. (Python Language Reference, "Naming and binding")
+-- The names that a body of a module or a function assigns, and those that it declares `global`. The
+-- body of a function that it defines is none of it. (Python Language Reference, "Naming and
+-- binding")
 --     is_among, add_name, distinct           lists of names
 --     target_names, pattern_names            what a target and a pattern assign
 --     alias_name                             what an import assigns
---     Binding, bindings, kind_bindings       what statements bind; suite_bindings and the like for what stands in them
+--     Binding, bindings, kind_bindings       what statements bind; suite_bindings and the like for
+--                                            what stands in them
 --     assigned_names, declared_names         what statements assign, and what they declare `global`
 --     local_names, global_names, is_local    the names of a function
 use Rattle.std.specs.Prelude.{Bool, not, ◌&&◌, if◌then◌else◌, List, [], ◌∷◌, ◌++◌, map, filter, bytes_eq, unwrap_or, option_to_list}
@@ -119,8 +121,10 @@ abbrev mutual
   kind_bindings (from m names) = assigning_all (map alias_name names)
   kind_bindings (if' arms o) = arms_bindings arms ++ opt_bindings o
   kind_bindings (while t b o) = suite_bindings b ++ opt_bindings o
-  kind_bindings (for t e b o) = assigning_all (target_names t) ++ (suite_bindings b ++ opt_bindings o)
-  kind_bindings (try b cs o f) = suite_bindings b ++ (clauses_bindings cs ++ (opt_bindings o ++ opt_bindings f))
+  kind_bindings (for t e b o) =
+      assigning_all (target_names t) ++ (suite_bindings b ++ opt_bindings o)
+  kind_bindings (try b cs o f) =
+      suite_bindings b ++ (clauses_bindings cs ++ (opt_bindings o ++ opt_bindings f))
   kind_bindings (def x ps ds c b) = assigns x ∷ []
   kind_bindings (match e last cs) = cases_bindings cs
 
@@ -137,11 +141,13 @@ abbrev mutual
 
   pub clauses_bindings : Clauses → List Binding
   clauses_bindings no_clauses = []
-  clauses_bindings (clause e x b cs) = assigning_all (option_to_list x) ++ (suite_bindings b ++ clauses_bindings cs)
+  clauses_bindings (clause e x b cs) =
+      assigning_all (option_to_list x) ++ (suite_bindings b ++ clauses_bindings cs)
 
   pub cases_bindings : Cases → List Binding
   cases_bindings no_cases = []
-  cases_bindings (case p g b cs) = assigning_all (pattern_names p) ++ (suite_bindings b ++ cases_bindings cs)
+  cases_bindings (case p g b cs) =
+      assigning_all (pattern_names p) ++ (suite_bindings b ++ cases_bindings cs)
 
 -- those that are assigned
 abbrev pub assigned_in : List Binding → List Text
@@ -165,10 +171,11 @@ declared_names b = declared_in (bindings b)
 
 -- ---- the names of a function with these parameters and this body
 
--- The local ones: those that it assigns and doesn't declare `global`, each once, in the order of their first assignments;
--- a parameter is assigned first.
+-- The local ones: those that it assigns and doesn't declare `global`, each once, in the order of
+-- their first assignments; a parameter is assigned first.
 abbrev pub local_names : List Text → Stmts → List Text
-local_names params b = filter (λ x. not (is_among (declared_names b) x)) (distinct (params ++ assigned_names b))
+local_names params b =
+    filter (λ x. not (is_among (declared_names b) x)) (distinct (params ++ assigned_names b))
 
 -- The ones that it declares `global`, each once.
 abbrev pub global_names : Stmts → List Text

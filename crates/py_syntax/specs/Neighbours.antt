@@ -1,9 +1,12 @@
--- Which marks can follow each other in a run of a part of a tree. (Python Language Reference, 7 and 8)
+-- Which marks can follow each other in a run of a part of a tree. (Python Language Reference, 7 and
+-- 8)
 --
 -- Where `any` is true, everything that marks may raise at its mark; else `raise` alone raises.
---     joined, turned                         marks with those that follow them, and with the header of their loop
+--     joined, turned                         marks with those that follow them, and with the header
+--                                            of their loop
 --     by_each_way                            the last marks of what stands in front of a `finally`
---     stmts_pairs, kind_pairs, opt_pairs     the pairs of neighbouring marks; arms_pairs and the like for what stands in statements
+--     stmts_pairs, kind_pairs, opt_pairs     the pairs of neighbouring marks; arms_pairs and the
+--                                            like for what stands in statements
 use Rattle.std.specs.Prelude.{ℕ, nat_eq, Bool, true, false, not, if◌then◌else◌, List, [], ◌∷◌, ◌++◌, Option, Some, None, map}
 use Rattle.py_syntax.specs.Constants.{is_constant}
 use Rattle.py_syntax.specs.FirstMarks.{only, opt_empty, stmts_first, opt_first, arms_first, clauses_first, cases_first}
@@ -30,7 +33,8 @@ turned header ls = map (λ l. (l, header)) ls
 
 -- the marks by whatever way
 abbrev pub by_each_way : (Way → List ℕ) → List ℕ
-by_each_way last = last onward ++ (last breaking ++ (last continuing ++ (last returning ++ last raising)))
+by_each_way last =
+    last onward ++ (last breaking ++ (last continuing ++ (last returning ++ last raising)))
 
 -- a clause that names a kind of exception, and so may not match
 abbrev pub names_kind : {E : Type 0} → Option E → Bool
@@ -40,7 +44,9 @@ names_kind (Some e) = true
 unfoldable mutual
   pub stmts_pairs : Bool → Stmts → List Pair
   stmts_pairs any no_stmts = []
-  stmts_pairs any (stmt f l k e rest) = kind_pairs any f k ++ (joined (kind_last any onward f k) (stmts_first rest) ++ stmts_pairs any rest)
+  stmts_pairs any (stmt f l k e rest) =
+      kind_pairs any f k
+      ++ (joined (kind_last any onward f k) (stmts_first rest) ++ stmts_pairs any rest)
 
   -- of a statement with this first line
   pub kind_pairs : Bool → ℕ → StmtKind → List Pair
@@ -71,7 +77,11 @@ unfoldable mutual
       joined (l ∷ []) (stmts_first b)
       ++ (joined (stmts_last any raising b) (clauses_first cs)
       ++ (joined (stmts_last any onward b ++ past l b) (opt_first o)
-      ++ (joined (by_each_way (λ w. past_try w (has_clause cs) (opt_empty o) (stmts_last any onward b ++ past l b) (stmts_last any w b) ++ (clauses_last any w cs ++ opt_last any w o))) (opt_first fin)
+      ++ (joined
+      (by_each_way (λ w.
+      past_try w (has_clause cs) (opt_empty o) (stmts_last any onward b ++ past l b)
+      (stmts_last any w b) ++ (clauses_last any w cs ++ opt_last any w o)))
+      (opt_first fin)
       ++ (stmts_pairs any b ++ (clauses_pairs any cs ++ (opt_pairs any o ++ opt_pairs any fin))))))
   kind_pairs any l (def x ps ds c b) = []
   kind_pairs any l (match e header cs) = joined (l ∷ []) (cases_first cs) ++ cases_pairs any cs

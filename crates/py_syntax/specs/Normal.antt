@@ -1,7 +1,10 @@
--- Normal expressions and patterns: the trees that the grammar spells, each in one way. And their heights.
---     Level, rank, op_level, right_level, level     the levels of the grammar, and those of operators and expressions
+-- Normal expressions and patterns: the trees that the grammar spells, each in one way. And their
+-- heights.
+--     Level, rank, op_level, right_level, level     the levels of the grammar, and those of
+--                                                   operators and expressions
 --     At, IsConstant, Compared, HasFormat           what may stand in a place
---     Normal                                        an expression that the grammar spells; NormalItems and the like for what stands in it
+--     Normal                                        an expression that the grammar spells;
+--                                                   NormalItems and the like for what stands in it
 --     is_target, is_place                           the forms that can be assigned to
 --     height                                        how high an expression is
 --     pattern_rank, NormalConstant, NormalPattern   the same for patterns
@@ -16,7 +19,8 @@ use Rattle.py_syntax.specs.Tree.{Text, Expr, name, int, str, fstr, none, bool, t
 use Rattle.py_syntax.specs.Tree.{Constant, c_int, c_str, c_none, c_bool, Pattern, literal, capture, wild, member, sequence, p_or, p_as, p_paren, Patterns, no_patterns, patterns}
 use Rattle.py_syntax.specs.Tokens.{underscore}
 
--- The levels of the grammar, from the loosest. LEnd is that of a token that goes on with no expression.
+-- The levels of the grammar, from the loosest. LEnd is that of a token that goes on with no
+-- expression.
 pub data Level : Type 0 where
   LEnd : Level
   LExprs : Level
@@ -151,7 +155,8 @@ abbrev mutual
   Normal (unary s e) = At LUnary e × Normal e
   Normal (binary op a b) = At (op_level op) a × Normal a × At (right_level op) b × Normal b
   Normal (compare a no_links) = ⊥
-  Normal (compare a (link op e ls)) = At LSum a × Normal a × Compared op e × Normal e × NormalLinks ls
+  Normal (compare a (link op e ls)) =
+      At LSum a × Normal a × Compared op e × Normal e × NormalLinks ls
   Normal (cond b t o) = At LOr b × Normal b × At LOr t × Normal t × At LExpr o × Normal o
   Normal (call f es c) = At LPost f × Normal f × NormalItems es c
   Normal (index f e) = At LPost f × Normal f × Normal e
@@ -304,7 +309,8 @@ abbrev mutual
   height_parts (text x ps) = height_parts ps
   height_parts (field e ps) = max (height e) (height_parts ps)
 
--- The levels of patterns: a list with commas, one pattern with its `as`, alternatives, a closed pattern.
+-- The levels of patterns: a list with commas, one pattern with its `as`, alternatives, a closed
+-- pattern.
 abbrev pub pattern_rank : Pattern → ℕ
 pattern_rank (literal minus c) = 3
 pattern_rank (capture x) = 3
@@ -332,13 +338,17 @@ abbrev mutual
   NormalPattern wild = Unit {0}
   NormalPattern (member m x) = Unit {0}
   NormalPattern (sequence Round no_patterns c) = c ≡ false
-  NormalPattern (sequence Round (patterns p no_patterns) c) = (1 ≤ pattern_rank p) × NormalPattern p × (c ≡ true)
-  NormalPattern (sequence Round (patterns p (patterns q ps)) c) = (1 ≤ pattern_rank p) × NormalPattern p × EachPattern 1 (patterns q ps)
+  NormalPattern (sequence Round (patterns p no_patterns) c) =
+      (1 ≤ pattern_rank p) × NormalPattern p × (c ≡ true)
+  NormalPattern (sequence Round (patterns p (patterns q ps)) c) =
+      (1 ≤ pattern_rank p) × NormalPattern p × EachPattern 1 (patterns q ps)
   NormalPattern (sequence Square no_patterns c) = c ≡ false
   NormalPattern (sequence Square (patterns p ps) c) = EachPattern 1 (patterns p ps)
   NormalPattern (sequence Bare no_patterns c) = ⊥
-  NormalPattern (sequence Bare (patterns p no_patterns) c) = (1 ≤ pattern_rank p) × NormalPattern p × (c ≡ true)
-  NormalPattern (sequence Bare (patterns p (patterns q ps)) c) = (1 ≤ pattern_rank p) × NormalPattern p × EachPattern 1 (patterns q ps)
+  NormalPattern (sequence Bare (patterns p no_patterns) c) =
+      (1 ≤ pattern_rank p) × NormalPattern p × (c ≡ true)
+  NormalPattern (sequence Bare (patterns p (patterns q ps)) c) =
+      (1 ≤ pattern_rank p) × NormalPattern p × EachPattern 1 (patterns q ps)
   NormalPattern (p_or no_patterns) = ⊥
   NormalPattern (p_or (patterns p no_patterns)) = ⊥
   NormalPattern (p_or (patterns p (patterns q ps))) = EachPattern 3 (patterns p (patterns q ps))

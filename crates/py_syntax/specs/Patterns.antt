@@ -2,7 +2,8 @@
 use Rattle.std.specs.Prelude.{Bool, true, false, ◌||◌}
 use Rattle.py_syntax.specs.Tree.{Pattern, literal, capture, wild, member, sequence, p_or, p_as, p_paren, Patterns, no_patterns, patterns}
 
--- a name, `_`, one of these with `as` or in parentheses, or alternatives of which one matches everything
+-- a name, `_`, one of these with `as` or in parentheses, or alternatives of which one matches
+-- everything
 abbrev mutual
   pub is_irrefutable : Pattern → Bool
   is_irrefutable (literal minus c) = false

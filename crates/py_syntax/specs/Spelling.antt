@@ -1,10 +1,13 @@
 -- Which tree a list of tokens spells, lines included, and which prefixes begin one.
 --     first_line, last_line                     the lines of tokens
---     test_head .. behind                      headers, and what stands behind one
---     KeepsLines, KindLines                     the lines that a tree keeps; SuiteLines and the like for what stands in it
---     module_tokens, IsNormal, Spells           the tokens of a module, a normal one, and the tree that a list spells
+--     test_head .. behind                       headers, and what stands behind one
+--     KeepsLines, KindLines                     the lines that a tree keeps; SuiteLines and the
+--                                               like for what stands in it
+--     module_tokens, IsNormal, Spells           the tokens of a module, a normal one, and the tree
+--                                               that a list spells
 --     HEIGHT, NESTING                           the limits
---     HasTokens, IsWithin                       the tokens of a tree with its headers marked, and the limits of one
+--     HasTokens, IsWithin                       the tokens of a tree with its headers marked, and
+--                                               the limits of one
 --     IsViable, IsViableWithin                  the prefixes that begin a tree
 use Rattle.std.specs.Prelude.{◌≡◌, ℕ, ◌+◌, ◌≤◌, true, false, List, [], ◌∷◌, ◌++◌, length, take, drop}
 use Rattle.py_token.specs.declared.token.Keyword.{Keyword}
@@ -50,13 +53,15 @@ past before ts = drop (length before) ts
 abbrev pub behind : List Kind → Suite → List PToken → List PToken
 behind head s ts = drop (length head + length (suite_tokens s [])) ts
 
--- The lines that the nodes keep are those of their first and last tokens in the list, which begins with theirs.
+-- The lines that the nodes keep are those of their first and last tokens in the list, which begins
+-- with theirs.
 abbrev mutual
   -- statements in a row
   pub KeepsLines : Stmts → List PToken → Type 0
   KeepsLines no_stmts ts = Unit {0}
   KeepsLines (stmt first last k e ss) ts =
-      (first ≡ first_line ts) × (last ≡ last_line (take (length (kind_tokens k [])) ts)) × KindLines k ts
+      (first ≡ first_line ts) × (last ≡ last_line (take (length (kind_tokens k [])) ts))
+      × KindLines k ts
       × KeepsLines ss (drop (length (kind_tokens k []) + length (end_tokens e)) ts)
 
   -- a statement
@@ -76,22 +81,36 @@ abbrev mutual
   KindLines (if' no_arms o) ts = Unit {0}
   KindLines (if' (arm t b arms) o) ts =
       SuiteLines b (test_head word.If t) ts × ArmLines arms (behind (test_head word.If t) b ts)
-      × OptLines o (word_head word.Else) (past (elif_tokens arms []) (behind (test_head word.If t) b ts))
-  KindLines (while t b o) ts = SuiteLines b (test_head word.While t) ts × OptLines o (word_head word.Else) (behind (test_head word.While t) b ts)
-  KindLines (for t e b o) ts = SuiteLines b (for_head t e) ts × OptLines o (word_head word.Else) (behind (for_head t e) b ts)
+      × OptLines o (word_head word.Else)
+      (past (elif_tokens arms []) (behind (test_head word.If t) b ts))
+  KindLines (while t b o) ts =
+      SuiteLines b (test_head word.While t) ts
+      × OptLines o (word_head word.Else) (behind (test_head word.While t) b ts)
+  KindLines (for t e b o) ts =
+      SuiteLines b (for_head t e) ts × OptLines o (word_head word.Else) (behind (for_head t e) b ts)
   KindLines (try b cs o f) ts =
       SuiteLines b (word_head word.Try) ts × ClauseLines cs (behind (word_head word.Try) b ts)
-      × OptLines o (word_head word.Else) (past (clause_tokens cs []) (behind (word_head word.Try) b ts))
-      × OptLines f (word_head word.Finally) (past (clause_tokens cs (else_tokens o [])) (behind (word_head word.Try) b ts))
-  KindLines (def x ps ds c b) ts = SuiteLines b (Word word.Def ∷ Name x ∷ Sign mark.LeftParen ∷ param_tokens ps ds c (Sign mark.RightParen ∷ Sign mark.Colon ∷ [])) ts
+      × OptLines o (word_head word.Else)
+      (past (clause_tokens cs []) (behind (word_head word.Try) b ts))
+      × OptLines f (word_head word.Finally)
+      (past (clause_tokens cs (else_tokens o [])) (behind (word_head word.Try) b ts))
+  KindLines (def x ps ds c b) ts =
+      SuiteLines b
+      (Word word.Def ∷ Name x ∷ Sign mark.LeftParen
+      ∷ param_tokens ps ds c (Sign mark.RightParen ∷ Sign mark.Colon ∷ [])) ts
   KindLines (match e last cs) ts =
       (last ≡ last_line (take (length (Name match_name ∷ tokens e (Sign mark.Colon ∷ []))) ts))
-      × CaseLines cs (drop (length (Name match_name ∷ tokens e (Sign mark.Colon ∷ Newline ∷ Indent ∷ []))) ts)
+      × CaseLines cs
+      (drop (length (Name match_name ∷ tokens e (Sign mark.Colon ∷ Newline ∷ Indent ∷ []))) ts)
 
   -- a suite keeps the lines of the header in front of it
   pub SuiteLines : Suite → List Kind → List PToken → Type 0
-  SuiteLines (suite first last true b) head ts = (first ≡ first_line ts) × (last ≡ last_line (take (length head) ts)) × KeepsLines b (drop (length head) ts)
-  SuiteLines (suite first last false b) head ts = (first ≡ first_line ts) × (last ≡ last_line (take (length head) ts)) × KeepsLines b (drop (length head + 2) ts)
+  SuiteLines (suite first last true b) head ts =
+      (first ≡ first_line ts) × (last ≡ last_line (take (length head) ts))
+      × KeepsLines b (drop (length head) ts)
+  SuiteLines (suite first last false b) head ts =
+      (first ≡ first_line ts) × (last ≡ last_line (take (length head) ts))
+      × KeepsLines b (drop (length head + 2) ts)
 
   pub OptLines : OptSuite → List Kind → List PToken → Type 0
   OptLines no_suite head ts = Unit {0}
@@ -99,16 +118,19 @@ abbrev mutual
 
   pub ArmLines : Arms → List PToken → Type 0
   ArmLines no_arms ts = Unit {0}
-  ArmLines (arm t b arms) ts = SuiteLines b (test_head word.Elif t) ts × ArmLines arms (behind (test_head word.Elif t) b ts)
+  ArmLines (arm t b arms) ts =
+      SuiteLines b (test_head word.Elif t) ts × ArmLines arms (behind (test_head word.Elif t) b ts)
 
   pub ClauseLines : Clauses → List PToken → Type 0
   ClauseLines no_clauses ts = Unit {0}
-  ClauseLines (clause e x b cs) ts = SuiteLines b (except_tokens e x) ts × ClauseLines cs (behind (except_tokens e x) b ts)
+  ClauseLines (clause e x b cs) ts =
+      SuiteLines b (except_tokens e x) ts × ClauseLines cs (behind (except_tokens e x) b ts)
 
   pub CaseLines : Cases → List PToken → Type 0
   CaseLines no_cases ts = Unit {0}
   CaseLines (case p g b cs) ts =
-      SuiteLines b (Name case_name ∷ pattern_tokens p (guard_tokens g)) ts × CaseLines cs (behind (Name case_name ∷ pattern_tokens p (guard_tokens g)) b ts)
+      SuiteLines b (Name case_name ∷ pattern_tokens p (guard_tokens g)) ts
+      × CaseLines cs (behind (Name case_name ∷ pattern_tokens p (guard_tokens g)) b ts)
 
 -- ---- a module
 
@@ -116,9 +138,11 @@ abbrev mutual
 abbrev pub module_tokens : Stmts → List Marked
 module_tokens m = stmts_tokens m (put (End ∷ []) [])
 
--- A normal module: its parts are, and a logical line of it has the form of a `match` header exactly where it is one.
+-- A normal module: its parts are, and a logical line of it has the form of a `match` header exactly
+-- where it is one.
 abbrev pub IsNormal : Stmts → Type 0
-IsNormal m = EndLines m × NormalStmts m × (marked (kinds_marked (module_tokens m)) ≡ module_tokens m)
+IsNormal m =
+    EndLines m × NormalStmts m × (marked (kinds_marked (module_tokens m)) ≡ module_tokens m)
 
 -- the list is that of this tree, which keeps its lines
 abbrev pub Spells : Stmts → List PToken → Type 0

@@ -1,9 +1,13 @@
--- The tokens of statements, and then others, with the headers of `match` statements marked; and normal statements.
+-- The tokens of statements, and then others, with the headers of `match` statements marked; and
+-- normal statements.
 --     in_place_mark .. end_tokens              the tokens of what isn't a statement
---     stmts_tokens, kind_tokens                the tokens of statements; suite_tokens and the like for what stands in them
---     is_simple, EndLines, ShareLine           where a statement may end, in a block and on one line
+--     stmts_tokens, kind_tokens                the tokens of statements; suite_tokens and the like
+--                                              for what stands in them
+--     is_simple, EndLines, ShareLine           where a statement may end, in a block and on one
+--                                              line
 --     IsOption .. AreSome                      what the parts of statements may be
---     NormalStmts, NormalKind                  statements that the grammar spells; NormalSuite and the like for what stands in them
+--     NormalStmts, NormalKind                  statements that the grammar spells; NormalSuite and
+--                                              the like for what stands in them
 --     stmts_height, kind_height                how high the highest expression or pattern is
 --     stmts_nesting, kind_nesting              how many suites stand inside each other
 use Rattle.std.specs.Prelude.{◌≡◌, ℕ, zero, suc, ◌-◌, ◌≤◌, max, Bool, true, false, List, [], ◌∷◌, length, Option, Some, None}
@@ -72,15 +76,18 @@ alias_list (a ∷ rest) = Name a.name ∷ as_tokens a.bound (more_aliases rest)
 abbrev pub more_params : ℕ → List Text → Exprs → Bool → List Kind → List Kind
 more_params n [] ds c rest = comma_if c rest
 more_params (suc n) (x ∷ xs) ds c rest = Sign mark.Comma ∷ Name x ∷ more_params n xs ds c rest
-more_params zero (x ∷ xs) no_exprs c rest = Sign mark.Comma ∷ Name x ∷ more_params zero xs no_exprs c rest
-more_params zero (x ∷ xs) (exprs d ds) c rest = Sign mark.Comma ∷ Name x ∷ Sign mark.Equal ∷ tokens d (more_params zero xs ds c rest)
+more_params zero (x ∷ xs) no_exprs c rest =
+    Sign mark.Comma ∷ Name x ∷ more_params zero xs no_exprs c rest
+more_params zero (x ∷ xs) (exprs d ds) c rest =
+    Sign mark.Comma ∷ Name x ∷ Sign mark.Equal ∷ tokens d (more_params zero xs ds c rest)
 
 -- parameters, of which so many have no default
 abbrev pub params_from : ℕ → List Text → Exprs → Bool → List Kind → List Kind
 params_from n [] ds c rest = rest
 params_from (suc n) (x ∷ xs) ds c rest = Name x ∷ more_params n xs ds c rest
 params_from zero (x ∷ xs) no_exprs c rest = Name x ∷ more_params zero xs no_exprs c rest
-params_from zero (x ∷ xs) (exprs d ds) c rest = Name x ∷ Sign mark.Equal ∷ tokens d (more_params zero xs ds c rest)
+params_from zero (x ∷ xs) (exprs d ds) c rest =
+    Name x ∷ Sign mark.Equal ∷ tokens d (more_params zero xs ds c rest)
 
 -- how many expressions stand in a row
 abbrev pub count : Exprs → ℕ
@@ -107,7 +114,9 @@ guard_tokens (Some e) = Word word.If ∷ tokens e (Sign mark.Colon ∷ [])
 
 -- what stands after a statement on its line
 abbrev pub end_tokens : LineEnd → List Kind
-end_tokens e = elim (e.semicolon) [ true ↦ Sign mark.Semicolon ∷ newline_if e.newline | false ↦ newline_if e.newline ]
+end_tokens e =
+    elim (e.semicolon)
+    [ true ↦ Sign mark.Semicolon ∷ newline_if e.newline | false ↦ newline_if e.newline ]
   where
     newline_if : Bool → List Kind
     newline_if true = Newline ∷ []
@@ -117,7 +126,8 @@ abbrev mutual
   -- statements in a row
   pub stmts_tokens : Stmts → List Marked → List Marked
   stmts_tokens no_stmts rest = rest
-  stmts_tokens (stmt first last k e ss) rest = kind_tokens k (put (end_tokens e) (stmts_tokens ss rest))
+  stmts_tokens (stmt first last k e ss) rest =
+      kind_tokens k (put (end_tokens e) (stmts_tokens ss rest))
 
   -- a statement
   pub kind_tokens : StmtKind → List Marked → List Marked
@@ -132,19 +142,34 @@ abbrev mutual
   kind_tokens (assert e w) rest = put (Word word.Assert ∷ tokens e (assert_tokens w)) rest
   kind_tokens (global xs) rest = put (Word word.Global ∷ name_list xs) rest
   kind_tokens (import names) rest = put (Word word.Import ∷ alias_list names) rest
-  kind_tokens (from m names) rest = put (Word word.From ∷ Name m ∷ Word word.Import ∷ alias_list names) rest
+  kind_tokens (from m names) rest =
+      put (Word word.From ∷ Name m ∷ Word word.Import ∷ alias_list names) rest
   kind_tokens (if' no_arms o) rest = rest
-  kind_tokens (if' (arm t b arms) o) rest = put (Word word.If ∷ tokens t (Sign mark.Colon ∷ [])) (suite_tokens b (elif_tokens arms (else_tokens o rest)))
-  kind_tokens (while t b o) rest = put (Word word.While ∷ tokens t (Sign mark.Colon ∷ [])) (suite_tokens b (else_tokens o rest))
-  kind_tokens (for t e b o) rest = put (Word word.For ∷ tokens t (Word word.In ∷ tokens e (Sign mark.Colon ∷ []))) (suite_tokens b (else_tokens o rest))
-  kind_tokens (try b cs o f) rest = put (Word word.Try ∷ Sign mark.Colon ∷ []) (suite_tokens b (clause_tokens cs (else_tokens o (finally_tokens f rest))))
-  kind_tokens (def x ps ds c b) rest = put (Word word.Def ∷ Name x ∷ Sign mark.LeftParen ∷ param_tokens ps ds c (Sign mark.RightParen ∷ Sign mark.Colon ∷ [])) (suite_tokens b rest)
-  kind_tokens (match e last cs) rest = record { kind = Name match_name; header = true } ∷ put (tokens e (Sign mark.Colon ∷ Newline ∷ Indent ∷ [])) (case_tokens cs (put (Dedent ∷ []) rest))
+  kind_tokens (if' (arm t b arms) o) rest =
+      put (Word word.If ∷ tokens t (Sign mark.Colon ∷ []))
+      (suite_tokens b (elif_tokens arms (else_tokens o rest)))
+  kind_tokens (while t b o) rest =
+      put (Word word.While ∷ tokens t (Sign mark.Colon ∷ [])) (suite_tokens b (else_tokens o rest))
+  kind_tokens (for t e b o) rest =
+      put (Word word.For ∷ tokens t (Word word.In ∷ tokens e (Sign mark.Colon ∷ [])))
+      (suite_tokens b (else_tokens o rest))
+  kind_tokens (try b cs o f) rest =
+      put (Word word.Try ∷ Sign mark.Colon ∷ [])
+      (suite_tokens b (clause_tokens cs (else_tokens o (finally_tokens f rest))))
+  kind_tokens (def x ps ds c b) rest =
+      put
+      (Word word.Def ∷ Name x ∷ Sign mark.LeftParen
+      ∷ param_tokens ps ds c (Sign mark.RightParen ∷ Sign mark.Colon ∷ [])) (suite_tokens b rest)
+  kind_tokens (match e last cs) rest =
+      record { kind = Name match_name; header = true }
+      ∷ put (tokens e (Sign mark.Colon ∷ Newline ∷ Indent ∷ []))
+      (case_tokens cs (put (Dedent ∷ []) rest))
 
   -- a suite, on the line of its header or as a block
   pub suite_tokens : Suite → List Marked → List Marked
   suite_tokens (suite first last true b) rest = stmts_tokens b rest
-  suite_tokens (suite first last false b) rest = put (Newline ∷ Indent ∷ []) (stmts_tokens b (put (Dedent ∷ []) rest))
+  suite_tokens (suite first last false b) rest =
+      put (Newline ∷ Indent ∷ []) (stmts_tokens b (put (Dedent ∷ []) rest))
 
   pub else_tokens : OptSuite → List Marked → List Marked
   else_tokens no_suite rest = rest
@@ -152,19 +177,25 @@ abbrev mutual
 
   pub finally_tokens : OptSuite → List Marked → List Marked
   finally_tokens no_suite rest = rest
-  finally_tokens (has_suite s) rest = put (Word word.Finally ∷ Sign mark.Colon ∷ []) (suite_tokens s rest)
+  finally_tokens (has_suite s) rest =
+      put (Word word.Finally ∷ Sign mark.Colon ∷ []) (suite_tokens s rest)
 
   pub elif_tokens : Arms → List Marked → List Marked
   elif_tokens no_arms rest = rest
-  elif_tokens (arm t b arms) rest = put (Word word.Elif ∷ tokens t (Sign mark.Colon ∷ [])) (suite_tokens b (elif_tokens arms rest))
+  elif_tokens (arm t b arms) rest =
+      put (Word word.Elif ∷ tokens t (Sign mark.Colon ∷ []))
+      (suite_tokens b (elif_tokens arms rest))
 
   pub clause_tokens : Clauses → List Marked → List Marked
   clause_tokens no_clauses rest = rest
-  clause_tokens (clause e x b cs) rest = put (except_tokens e x) (suite_tokens b (clause_tokens cs rest))
+  clause_tokens (clause e x b cs) rest =
+      put (except_tokens e x) (suite_tokens b (clause_tokens cs rest))
 
   pub case_tokens : Cases → List Marked → List Marked
   case_tokens no_cases rest = rest
-  case_tokens (case p g b cs) rest = put (Name case_name ∷ pattern_tokens p (guard_tokens g)) (suite_tokens b (case_tokens cs rest))
+  case_tokens (case p g b cs) rest =
+      put (Name case_name ∷ pattern_tokens p (guard_tokens g))
+      (suite_tokens b (case_tokens cs rest))
 
 -- ---- normal statements
 
@@ -194,10 +225,12 @@ abbrev pub begins_simple : Stmts → Bool
 begins_simple no_stmts = false
 begins_simple (stmt first last k e ss) = is_simple k
 
--- A compound statement has nothing after it. A simple one has a line end, or a semicolon and a simple one on its line.
+-- A compound statement has nothing after it. A simple one has a line end, or a semicolon and a
+-- simple one on its line.
 abbrev pub EndsLine : Bool → LineEnd → Stmts → Type 0
 EndsLine false e ss = (e.semicolon ≡ false) × (e.newline ≡ false)
-EndsLine true e ss = elim (e.newline) [ true ↦ Unit {0} | false ↦ (e.semicolon ≡ true) × (begins_simple ss ≡ true) ]
+EndsLine true e ss =
+    elim (e.newline) [ true ↦ Unit {0} | false ↦ (e.semicolon ≡ true) × (begins_simple ss ≡ true) ]
 
 -- statements of a block or a module
 abbrev pub EndLines : Stmts → Type 0
@@ -208,7 +241,9 @@ EndLines (stmt first last k e ss) = EndsLine (is_simple k) e ss × EndLines ss
 abbrev pub ShareLine : Stmts → Type 0
 ShareLine no_stmts = Unit {0}
 ShareLine (stmt first last k e no_stmts) = (is_simple k ≡ true) × (e.newline ≡ true)
-ShareLine (stmt first last k e (stmt first' last' k' e' ss)) = (is_simple k ≡ true) × (e.newline ≡ false) × (e.semicolon ≡ true) × ShareLine (stmt first' last' k' e' ss)
+ShareLine (stmt first last k e (stmt first' last' k' e' ss)) =
+    (is_simple k ≡ true) × (e.newline ≡ false) × (e.semicolon ≡ true)
+    × ShareLine (stmt first' last' k' e' ss)
 
 -- what holds of an expression, where there is one
 abbrev pub IsOption : (Expr → Type 0) → Option Expr → Type 0
@@ -273,8 +308,10 @@ abbrev mutual
   NormalKind (if' no_arms o) = ⊥
   NormalKind (if' (arm t b arms) o) = NormalArms (arm t b arms) × NormalOpt o
   NormalKind (while t b o) = NormalExpr t × NormalSuite b × NormalOpt o
-  NormalKind (for t e b o) = Normal t × (is_target t ≡ true) × Normal e × NormalSuite b × NormalOpt o
-  NormalKind (try b cs o f) = NormalTry cs o f × NormalSuite b × NormalClauses cs × NormalOpt o × NormalOpt f
+  NormalKind (for t e b o) =
+      Normal t × (is_target t ≡ true) × Normal e × NormalSuite b × NormalOpt o
+  NormalKind (try b cs o f) =
+      NormalTry cs o f × NormalSuite b × NormalClauses cs × NormalOpt o × NormalOpt f
   NormalKind (def x ps ds c b) = NormalParams ps ds c × NormalSuite b
   NormalKind (match e last no_cases) = ⊥
   NormalKind (match e last (case p g b cs)) = Normal e × NormalCases (case p g b cs)
@@ -282,8 +319,10 @@ abbrev mutual
   -- a suite isn't empty
   pub NormalSuite : Suite → Type 0
   NormalSuite (suite first last inline no_stmts) = ⊥
-  NormalSuite (suite first last true (stmt f l k e ss)) = ShareLine (stmt f l k e ss) × NormalStmts (stmt f l k e ss)
-  NormalSuite (suite first last false (stmt f l k e ss)) = EndLines (stmt f l k e ss) × NormalStmts (stmt f l k e ss)
+  NormalSuite (suite first last true (stmt f l k e ss)) =
+      ShareLine (stmt f l k e ss) × NormalStmts (stmt f l k e ss)
+  NormalSuite (suite first last false (stmt f l k e ss)) =
+      EndLines (stmt f l k e ss) × NormalStmts (stmt f l k e ss)
 
   pub NormalOpt : OptSuite → Type 0
   NormalOpt no_suite = Unit {0}
@@ -299,7 +338,8 @@ abbrev mutual
 
   pub NormalCases : Cases → Type 0
   NormalCases no_cases = Unit {0}
-  NormalCases (case p g b cs) = NormalPattern p × IsOption NormalExpr g × NormalSuite b × NormalCases cs
+  NormalCases (case p g b cs) =
+      NormalPattern p × IsOption NormalExpr g × NormalSuite b × NormalCases cs
 
 -- ---- limits
 
@@ -330,7 +370,8 @@ abbrev mutual
   kind_height (if' arms o) = max (arms_height arms) (opt_height o)
   kind_height (while t b o) = max (height t) (max (suite_height b) (opt_height o))
   kind_height (for t e b o) = max (max (height t) (height e)) (max (suite_height b) (opt_height o))
-  kind_height (try b cs o f) = max (max (suite_height b) (clauses_height cs)) (max (opt_height o) (opt_height f))
+  kind_height (try b cs o f) =
+      max (max (suite_height b) (clauses_height cs)) (max (opt_height o) (opt_height f))
   kind_height (def x ps ds c b) = max (heights ds) (suite_height b)
   kind_height (match e last cs) = max (height e) (cases_height cs)
 
@@ -347,11 +388,13 @@ abbrev mutual
 
   pub clauses_height : Clauses → ℕ
   clauses_height no_clauses = 0
-  clauses_height (clause e x b cs) = max (max (option_height e) (suite_height b)) (clauses_height cs)
+  clauses_height (clause e x b cs) =
+      max (max (option_height e) (suite_height b)) (clauses_height cs)
 
   pub cases_height : Cases → ℕ
   cases_height no_cases = 0
-  cases_height (case p g b cs) = max (max (pattern_height p) (option_height g)) (max (suite_height b) (cases_height cs))
+  cases_height (case p g b cs) =
+      max (max (pattern_height p) (option_height g)) (max (suite_height b) (cases_height cs))
 
 -- How many suites stand inside each other. The cases of a `match` are no suite of their own.
 abbrev mutual
@@ -375,7 +418,8 @@ abbrev mutual
   kind_nesting (if' arms o) = max (arms_nesting arms) (opt_nesting o)
   kind_nesting (while t b o) = max (suite_nesting b) (opt_nesting o)
   kind_nesting (for t e b o) = max (suite_nesting b) (opt_nesting o)
-  kind_nesting (try b cs o f) = max (max (suite_nesting b) (clauses_nesting cs)) (max (opt_nesting o) (opt_nesting f))
+  kind_nesting (try b cs o f) =
+      max (max (suite_nesting b) (clauses_nesting cs)) (max (opt_nesting o) (opt_nesting f))
   kind_nesting (def x ps ds c b) = suite_nesting b
   kind_nesting (match e last cs) = cases_nesting cs
 

@@ -1,9 +1,9 @@
 -- The tokens of an expression or a pattern, and then others.
---     comma_if, strings, bool_word, operator, sign_mark, comparison     the tokens of what isn't an expression
---     tokens                                                            the tokens of an expression; items, entries, links, bound,
---                                                                       fragments and pieces are those of what stands in one
---     underscore, minus_if, constant                                    the tokens of what isn't a pattern
---     pattern_tokens                                                    the tokens of a pattern; pattern_items and alternatives
+--     comma_if .. comparison            the tokens of what isn't an expression
+--     tokens                            the tokens of an expression; items, entries, links, bound,
+--                                       fragments and pieces are those of what stands in one
+--     underscore, minus_if, constant    the tokens of what isn't a pattern
+--     pattern_tokens                    the tokens of a pattern; pattern_items and alternatives
 use Rattle.std.specs.Prelude.{Bool, true, false, List, [], ◌∷◌}
 use Rattle.py_value.specs.declared.operator.BinOp.{BinOp}
 use Rattle.py_value.specs.declared.operator.BinOp.TheVariants as op_
@@ -82,9 +82,14 @@ abbrev mutual
   tokens (binary op a b) rest = tokens a (Sign (operator op) ∷ tokens b rest)
   tokens (compare a ls) rest = tokens a (links ls rest)
   tokens (cond b t o) rest = tokens b (Word word.If ∷ tokens t (Word word.Else ∷ tokens o rest))
-  tokens (call f es c) rest = tokens f (Sign mark.LeftParen ∷ items es c (Sign mark.RightParen ∷ rest))
-  tokens (index f e) rest = tokens f (Sign mark.LeftBracket ∷ tokens e (Sign mark.RightBracket ∷ rest))
-  tokens (slice f from to) rest = tokens f (Sign mark.LeftBracket ∷ bound from (Sign mark.Colon ∷ bound to (Sign mark.RightBracket ∷ rest)))
+  tokens (call f es c) rest =
+      tokens f (Sign mark.LeftParen ∷ items es c (Sign mark.RightParen ∷ rest))
+  tokens (index f e) rest =
+      tokens f (Sign mark.LeftBracket ∷ tokens e (Sign mark.RightBracket ∷ rest))
+  tokens (slice f from to) rest =
+      tokens f
+      (Sign mark.LeftBracket
+      ∷ bound from (Sign mark.Colon ∷ bound to (Sign mark.RightBracket ∷ rest)))
   tokens (attr f x) rest = tokens f (Sign mark.Dot ∷ Name x ∷ rest)
 
   -- items with commas between them, and whether one stands after the last
@@ -105,7 +110,8 @@ abbrev mutual
   -- the entries after the first
   pub more_entries : Pairs → Bool → List Kind → List Kind
   more_entries no_pairs c rest = comma_if c rest
-  more_entries (pair k v ps) c rest = Sign mark.Comma ∷ tokens k (Sign mark.Colon ∷ tokens v (more_entries ps c rest))
+  more_entries (pair k v ps) c rest =
+      Sign mark.Comma ∷ tokens k (Sign mark.Colon ∷ tokens v (more_entries ps c rest))
 
   -- each operator with its right operand
   pub links : Links → List Kind → List Kind
@@ -152,13 +158,16 @@ abbrev mutual
   pattern_tokens (capture x) rest = Name x ∷ rest
   pattern_tokens wild rest = Name underscore ∷ rest
   pattern_tokens (member m x) rest = Name m ∷ Sign mark.Dot ∷ Name x ∷ rest
-  pattern_tokens (sequence Round ps c) rest = Sign mark.LeftParen ∷ pattern_items ps c (Sign mark.RightParen ∷ rest)
-  pattern_tokens (sequence Square ps c) rest = Sign mark.LeftBracket ∷ pattern_items ps c (Sign mark.RightBracket ∷ rest)
+  pattern_tokens (sequence Round ps c) rest =
+      Sign mark.LeftParen ∷ pattern_items ps c (Sign mark.RightParen ∷ rest)
+  pattern_tokens (sequence Square ps c) rest =
+      Sign mark.LeftBracket ∷ pattern_items ps c (Sign mark.RightBracket ∷ rest)
   pattern_tokens (sequence Bare ps c) rest = pattern_items ps c rest
   pattern_tokens (p_or no_patterns) rest = rest
   pattern_tokens (p_or (patterns p ps)) rest = pattern_tokens p (alternatives ps rest)
   pattern_tokens (p_as p x) rest = pattern_tokens p (Word word.As ∷ Name x ∷ rest)
-  pattern_tokens (p_paren p) rest = Sign mark.LeftParen ∷ pattern_tokens p (Sign mark.RightParen ∷ rest)
+  pattern_tokens (p_paren p) rest =
+      Sign mark.LeftParen ∷ pattern_tokens p (Sign mark.RightParen ∷ rest)
 
   -- patterns with commas between them, and whether one stands after the last
   pub pattern_items : Patterns → Bool → List Kind → List Kind
@@ -168,7 +177,8 @@ abbrev mutual
   -- the patterns after the first
   pub more_patterns : Patterns → Bool → List Kind → List Kind
   more_patterns no_patterns c rest = comma_if c rest
-  more_patterns (patterns p ps) c rest = Sign mark.Comma ∷ pattern_tokens p (more_patterns ps c rest)
+  more_patterns (patterns p ps) c rest =
+      Sign mark.Comma ∷ pattern_tokens p (more_patterns ps c rest)
 
   -- the alternatives after the first
   pub alternatives : Patterns → List Kind → List Kind

@@ -1,10 +1,12 @@
--- The plain view of the trees: lists in place of vectors, and nothing of memory. All definitions of the language
--- stand on it.
+-- The plain view of the trees: lists in place of vectors, and nothing of memory. All definitions of
+-- the language stand on it.
 --     Text                                       the characters of a text
---     Expr                                       expressions, with Exprs, Pairs, Links, OptExpr, Fragments and Parts for what stands in them
+--     Expr                                       expressions, with Exprs, Pairs, Links, OptExpr,
+--                                                Fragments and Parts for what stands in them
 --     Constant, Pattern, Patterns                the patterns of a `case`
 --     Alias                                      an imported name
---     Stmts, StmtKind                            statements, with Suite, OptSuite, Arms, Clauses and Cases for what stands in them
+--     Stmts, StmtKind                            statements, with Suite, OptSuite, Arms, Clauses
+--                                                and Cases for what stands in them
 use Rattle.std.specs.Prelude.{ℕ, ℤ, Bool, List, Option}
 use Rattle.py_value.specs.declared.operator.BinOp.{BinOp}
 use Rattle.py_syntax.specs.declared.expr.Comparison.{Comparison}
@@ -150,5 +152,6 @@ mutual
     while : (test : Expr) (body : Suite) (orelse : OptSuite) → StmtKind
     for : (target over : Expr) (body : Suite) (orelse : OptSuite) → StmtKind
     try : (body : Suite) (clauses : Clauses) (orelse finally : OptSuite) → StmtKind
-    def : (x : Text) (params : List Text) (defaults : Exprs) (comma : Bool) (body : Suite) → StmtKind
+    def : (x : Text) (params : List Text) (defaults : Exprs) (comma : Bool) (body : Suite)
+        → StmtKind
     match : (subject : Expr) (header_last : ℕ) (cases : Cases) → StmtKind

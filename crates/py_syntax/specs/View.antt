@@ -1,10 +1,12 @@
 -- From a tree to its plain view.
 --     PlainPair .. PlainPart, exprs_of .. opt_of     the parts of an expression, as plain lists
---     plain_expr                                     an expression; plain_exprs and the like for its parts
+--     plain_expr                                     an expression; plain_exprs and the like for
+--                                                    its parts
 --     plain_constant, plain_pattern                  patterns
 --     plain_alias                                    imported names
 --     PlainStmt .. PlainCase, stmts_of .. cases_of   the parts of a statement, as plain lists
---     plain_kind, plain_suite, plain_stmts           statements; plain_arms and the like for their parts
+--     plain_kind, plain_suite, plain_stmts           statements; plain_arms and the like for their
+--                                                    parts
 --     plain_module                                   a module
 use Rattle.std.specs.Prelude.{ℕ, List, [], ◌∷◌, Option, Some, None, map, option_map}
 use Rattle.py_syntax.specs.declared.expr.Comparison.{Comparison}
@@ -100,14 +102,16 @@ expr_step (open_.Compare a ls) = compare a.value (links_of ls.items)
 expr_step (open_.Cond b t o) = cond b.value t.value o.value
 expr_step (open_.Call f es c) = call f.value (exprs_of es.items) c
 expr_step (open_.Index a b) = index a.value b.value
-expr_step (open_.Slice a f t) = slice a.value (opt_of (option_map (λ b. b.value) f)) (opt_of (option_map (λ b. b.value) t))
+expr_step (open_.Slice a f t) =
+    slice a.value (opt_of (option_map (λ b. b.value) f)) (opt_of (option_map (λ b. b.value) t))
 expr_step (open_.Attr a x) = attr a.value x
 
 abbrev part_step : open_.FormatPart-F Expr PlainPart PlainFragment PlainLink PlainPair → PlainPart
 part_step (open_.Chars x) = a_text x
 part_step (open_.Field e) = a_field e
 
-abbrev fragment_step : open_.Fragment-F Expr PlainPart PlainFragment PlainLink PlainPair → PlainFragment
+abbrev fragment_step : open_.Fragment-F Expr PlainPart PlainFragment PlainLink PlainPair
+    → PlainFragment
 fragment_step (open_.Plain x) = a_plain x
 fragment_step (open_.Format ps) = a_format (parts_of ps.items)
 
@@ -119,7 +123,9 @@ pair_step p = record { key = p.key; value = p.value }
 
 -- an expression
 abbrev pub plain_expr : Node → Expr
-plain_expr = fold-Expr Expr PlainPart PlainFragment PlainLink PlainPair expr_step part_step fragment_step link_step pair_step
+plain_expr =
+    fold-Expr Expr PlainPart PlainFragment PlainLink PlainPair expr_step part_step fragment_step
+    link_step pair_step
 
 -- expressions in a row
 abbrev pub plain_exprs : List Node → Exprs
@@ -127,7 +133,9 @@ plain_exprs es = exprs_of (map plain_expr es)
 
 -- a key with its value
 abbrev plain_pair : Pair → PlainPair
-plain_pair = fold-Pair Expr PlainPart PlainFragment PlainLink PlainPair expr_step part_step fragment_step link_step pair_step
+plain_pair =
+    fold-Pair Expr PlainPart PlainFragment PlainLink PlainPair expr_step part_step fragment_step
+    link_step pair_step
 
 -- keys with their values
 abbrev pub plain_pairs : List Pair → Pairs
@@ -135,7 +143,9 @@ plain_pairs ps = pairs_of (map plain_pair ps)
 
 -- one comparison of a chain
 abbrev plain_link : Link → PlainLink
-plain_link = fold-Link Expr PlainPart PlainFragment PlainLink PlainPair expr_step part_step fragment_step link_step pair_step
+plain_link =
+    fold-Link Expr PlainPart PlainFragment PlainLink PlainPair expr_step part_step fragment_step
+    link_step pair_step
 
 -- the comparisons of a chain
 abbrev pub plain_links : List Link → Links
@@ -143,7 +153,9 @@ plain_links ls = links_of (map plain_link ls)
 
 -- one of neighbouring strings
 abbrev plain_fragment : Fragment → PlainFragment
-plain_fragment = fold-Fragment Expr PlainPart PlainFragment PlainLink PlainPair expr_step part_step fragment_step link_step pair_step
+plain_fragment =
+    fold-Fragment Expr PlainPart PlainFragment PlainLink PlainPair expr_step part_step fragment_step
+    link_step pair_step
 
 -- neighbouring strings
 abbrev pub plain_fragments : List Fragment → Fragments
@@ -151,7 +163,9 @@ plain_fragments fs = fragments_of (map plain_fragment fs)
 
 -- a part of an f-string
 abbrev plain_part : FormatPart → PlainPart
-plain_part = fold-FormatPart Expr PlainPart PlainFragment PlainLink PlainPair expr_step part_step fragment_step link_step pair_step
+plain_part =
+    fold-FormatPart Expr PlainPart PlainFragment PlainLink PlainPair expr_step part_step
+    fragment_step link_step pair_step
 
 -- the parts of an f-string
 abbrev pub plain_parts : List FormatPart → Parts
@@ -247,7 +261,8 @@ opt_suite_of None = no_suite
 opt_suite_of (Some s) = has_suite s
 
 -- one statement, with the plain views of its parts in their places
-abbrev kind_step : open_stmt.StmtKind-F StmtKind PlainArm PlainCase PlainClause PlainStmt Suite → StmtKind
+abbrev kind_step : open_stmt.StmtKind-F StmtKind PlainArm PlainCase PlainClause PlainStmt Suite
+    → StmtKind
 kind_step (open_stmt.Expr e) = expr (plain_expr e)
 kind_step (open_stmt.Assign ts e) = assign (plain_exprs ts.items) (plain_expr e)
 kind_step (open_stmt.AugAssign t op e) = aug_assign (plain_expr t) op (plain_expr e)
@@ -270,25 +285,37 @@ kind_step (open_stmt.Match e l cs) = match (plain_expr e) l (cases_of cs.items)
 abbrev arm_step : open_stmt.Arm-F StmtKind PlainArm PlainCase PlainClause PlainStmt Suite → PlainArm
 arm_step a = record { test = plain_expr a.test; body = a.body }
 
-abbrev case_step : open_stmt.Case-F StmtKind PlainArm PlainCase PlainClause PlainStmt Suite → PlainCase
-case_step c = record { pattern = plain_pattern c.pattern; guard = option_map plain_expr c.guard; body = c.body }
+abbrev case_step : open_stmt.Case-F StmtKind PlainArm PlainCase PlainClause PlainStmt Suite
+    → PlainCase
+case_step c = record {
+  pattern = plain_pattern c.pattern;
+  guard = option_map plain_expr c.guard;
+  body = c.body;
+}
 
-abbrev clause_step : open_stmt.Clause-F StmtKind PlainArm PlainCase PlainClause PlainStmt Suite → PlainClause
+abbrev clause_step : open_stmt.Clause-F StmtKind PlainArm PlainCase PlainClause PlainStmt Suite
+    → PlainClause
 clause_step c = record { kind = option_map plain_expr c.kind; name = c.name; body = c.body }
 
-abbrev stmt_step : open_stmt.Stmt-F StmtKind PlainArm PlainCase PlainClause PlainStmt Suite → PlainStmt
+abbrev stmt_step : open_stmt.Stmt-F StmtKind PlainArm PlainCase PlainClause PlainStmt Suite
+    → PlainStmt
 stmt_step s = record { first = s.first; last = s.last; kind = s.kind; end = s.end }
 
-abbrev suite_step : open_stmt.Suite-F StmtKind PlainArm PlainCase PlainClause PlainStmt Suite → Suite
+abbrev suite_step : open_stmt.Suite-F StmtKind PlainArm PlainCase PlainClause PlainStmt Suite
+    → Suite
 suite_step s = suite s.first s.last s.inline (stmts_of s.body.items)
 
 -- a statement without its lines
 abbrev pub plain_kind : KindNode → StmtKind
-plain_kind = fold-StmtKind StmtKind PlainArm PlainCase PlainClause PlainStmt Suite kind_step arm_step case_step clause_step stmt_step suite_step
+plain_kind =
+    fold-StmtKind StmtKind PlainArm PlainCase PlainClause PlainStmt Suite kind_step arm_step
+    case_step clause_step stmt_step suite_step
 
 -- a suite
 abbrev pub plain_suite : SuiteNode → Suite
-plain_suite = fold-Suite StmtKind PlainArm PlainCase PlainClause PlainStmt Suite kind_step arm_step case_step clause_step stmt_step suite_step
+plain_suite =
+    fold-Suite StmtKind PlainArm PlainCase PlainClause PlainStmt Suite kind_step arm_step case_step
+    clause_step stmt_step suite_step
 
 -- the suite of an `else` or a `finally`
 abbrev pub plain_opt_suite : Option SuiteNode → OptSuite
@@ -296,7 +323,9 @@ plain_opt_suite o = opt_suite_of (option_map plain_suite o)
 
 -- a statement with its lines
 abbrev plain_stmt : Stmt → PlainStmt
-plain_stmt = fold-Stmt StmtKind PlainArm PlainCase PlainClause PlainStmt Suite kind_step arm_step case_step clause_step stmt_step suite_step
+plain_stmt =
+    fold-Stmt StmtKind PlainArm PlainCase PlainClause PlainStmt Suite kind_step arm_step case_step
+    clause_step stmt_step suite_step
 
 -- statements in a row
 abbrev pub plain_stmts : List Stmt → Stmts
@@ -304,7 +333,9 @@ plain_stmts ss = stmts_of (map plain_stmt ss)
 
 -- a test with its suite
 abbrev plain_arm : Arm → PlainArm
-plain_arm = fold-Arm StmtKind PlainArm PlainCase PlainClause PlainStmt Suite kind_step arm_step case_step clause_step stmt_step suite_step
+plain_arm =
+    fold-Arm StmtKind PlainArm PlainCase PlainClause PlainStmt Suite kind_step arm_step case_step
+    clause_step stmt_step suite_step
 
 -- tests with their suites
 abbrev pub plain_arms : List Arm → Arms
@@ -312,7 +343,9 @@ plain_arms rest = arms_of (map plain_arm rest)
 
 -- an `except` clause
 abbrev plain_clause : Clause → PlainClause
-plain_clause = fold-Clause StmtKind PlainArm PlainCase PlainClause PlainStmt Suite kind_step arm_step case_step clause_step stmt_step suite_step
+plain_clause =
+    fold-Clause StmtKind PlainArm PlainCase PlainClause PlainStmt Suite kind_step arm_step case_step
+    clause_step stmt_step suite_step
 
 -- `except` clauses
 abbrev pub plain_clauses : List Clause → Clauses
@@ -320,7 +353,9 @@ plain_clauses cs = clauses_of (map plain_clause cs)
 
 -- a case
 abbrev plain_case : Case → PlainCase
-plain_case = fold-Case StmtKind PlainArm PlainCase PlainClause PlainStmt Suite kind_step arm_step case_step clause_step stmt_step suite_step
+plain_case =
+    fold-Case StmtKind PlainArm PlainCase PlainClause PlainStmt Suite kind_step arm_step case_step
+    clause_step stmt_step suite_step
 
 -- cases
 abbrev pub plain_cases : List Case → Cases

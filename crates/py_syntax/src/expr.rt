@@ -2,8 +2,8 @@
 
 use py_value::{BinOp, CmpOp, Text};
 
-/// An expression, as it was written: a parenthesis is a node, and `comma` says whether a comma stands after
-/// the last item.
+/// An expression, as it was written: a parenthesis is a node, and `comma` says whether a comma
+/// stands after the last item.
 #[cycle(expr)]
 pub enum Expr {
     Name(Text),

@@ -4,8 +4,9 @@ use crate::expr::Expr;
 use crate::pattern::Pattern;
 use py_value::{BinOp, Text};
 
-/// A statement with the first line of its first token and the last line of its last one, counted from 1.
-/// The last line of a statement with a block suite is that of the line after it: nothing should use it.
+/// A statement with the first line of its first token and the last line of its last one, counted
+/// from 1. The last line of a statement with a block suite is that of the line after it: nothing
+/// should use it.
 #[cycle(stmt)]
 #[derive(Drop)]
 pub struct Stmt {

@@ -1,0 +1,5 @@
+use Rattle.py_grammar.proofs.ExprPlaces.{is_exact}
+use Rattle.py_grammar.proofs.laws.exact_ends.Goals as goal
+
+pub returns : goal.returns
+returns c = is_exact

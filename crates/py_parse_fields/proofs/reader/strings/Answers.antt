@@ -1,0 +1,6 @@
+use Rattle.std.proofs.Common.{arith}
+use Rattle.py_parse_fields.proofs.Offers.{given_open}
+use Rattle.py_parse_fields.proofs.reader.strings.Goals as goal
+
+pub returns-in_default : goal.returns-in_default
+returns-in_default c = grind (arith, given_open)
