@@ -80,8 +80,8 @@ pub not-loaded : (faithful : Type 0) (words : List Text) (budget : ℕ) (w : Why
 not-loaded faithful words budget (why.NoSuchFile name) input out h same none = (refl, nothing-done (why.NoSuchFile name) input out same none)
 not-loaded faithful words budget (why.Syntax file line kind) input out h same none = (refl, nothing-done (why.Syntax file line kind) input out same none)
 not-loaded faithful words budget (why.Limit kind n) input out h same none = (refl, nothing-done (why.Limit kind n) input out same none)
-not-loaded faithful words budget why.ShelfFault input out h same none = (tt, nothing-done why.ShelfFault input out same none)
-not-loaded faithful words budget why.NoMemory input out h same none = (tt, nothing-done why.NoMemory input out same none)
+not-loaded faithful words budget why.ShelfFault input out h same none = (refl, nothing-done why.ShelfFault input out same none)
+not-loaded faithful words budget why.NoMemory input out h same none = (refl, nothing-done why.NoMemory input out same none)
 not-loaded faithful words budget w input out h same none = absurd h
 
 -- ---- the words of a program

@@ -29,13 +29,15 @@ abbrev pub keys_if_any : Option (Bor (BTreeSet Arc)) → List Arc
 keys_if_any None = []
 keys_if_any (Some set) = set.now.keys
 
--- the first lines of units, and of those of a module
+-- the first lines of units
 abbrev pub lines_of : List Code → List ℕ
 lines_of us = map (λ u. u.first) us
 
+-- the first lines of the units of a module
 abbrev pub first_lines : Module → List ℕ
 first_lines m = lines_of m.units
 
+-- the characters of a program's words
 abbrev pub words_in : List (String Global) → List Text
 words_in words = map (λ w. chars (string_bytes w)) words
 
@@ -48,8 +50,8 @@ pub record RanKept (ms : List LoadedModule) (ps : Programs) (r : Run) (kept : Ke
   pub left : rest ≡ r.input
 
 -- So it is with every input that gives what was read.
-abbrev pub EndedKept : List LoadedModule → Programs → List Text → ℕ → Kept → Type 0 → List ℕ → List ℕ
-    → (List ℕ → Type 0) → Type 0
+abbrev pub EndedKept : List LoadedModule → Programs → List Text → ℕ → Kept → Type 0 → List ℕ
+    → List ℕ → (List ℕ → Type 0) → Type 0
 EndedKept ms ps words budget kept tells before after wrote =
     Heard tells before after
     (λ all rest. RanKept ms ps (run_modules ms words all budget) kept wrote rest)

@@ -19,10 +19,12 @@ use Rattle.py_meaning.specs.Modules.{LoadedModule}
 abbrev pub Arc : Type 0
 Arc = ℤ × ℤ
 
+-- the line of an arc
 abbrev pub arc_line : List ℕ → Arc → List ℕ
 arc_line path a =
     path ++ (codes " " ++ (signed_decimal a.0 ++ (codes " " ++ (signed_decimal a.1 ++ codes "\n"))))
 
+-- a line for each arc
 abbrev pub arc_lines : List ℕ → List Arc → List ℕ
 arc_lines path [] = []
 arc_lines path (a ∷ rest) = arc_line path a ++ arc_lines path rest
@@ -43,6 +45,7 @@ arcs_if path m = if bytes_eq m.0 path then m.1 else []
 abbrev pub arcs_on : List PathArcs → List ℕ → List Arc
 arcs_on ms path = ordered [] (flat_map (arcs_if path) ms)
 
+-- the lines of all paths
 abbrev pub listing : List PathArcs → List ℕ
 listing ms = flat_map (λ path. arc_lines path (arcs_on ms path)) (paths_in ms)
 
@@ -52,6 +55,7 @@ arcs_from all items k [] = []
 arcs_from all items k (m ∷ ms) =
     (encode_utf8_all m.path, lines_crossed (crossings all k items)) ∷ arcs_from all items (suc k) ms
 
+-- The arcs that these items cross in each module.
 abbrev pub module_arcs : List LoadedModule → Items → List PathArcs
 module_arcs ms items = arcs_from ms items 0 ms
 

@@ -1,8 +1,10 @@
 -- Exit statuses of answers, and their texts on `err`.
---     status_of                 the status
---     kind_text, limit_text     what is wrong with a source, and what has a limit
---     message_of                the text
---     IsWritten                 what became of it
+--     status_of                   the status
+--     kind_text, limit_text       what is wrong with a source, and what has a limit
+--     setting_text, rows_text     the texts of a bad setting, and of a kind of data
+--     bad_text, bad_data_text     why data can't be read
+--     message_of                  the text
+--     IsWritten                   what became of it
 use Rattle.std.specs.Prelude.{◌≡◌, ℕ, Bool, true, false, if◌then◌else◌, ◌&&◌, ◌==◌, List, [], ◌∷◌, ◌++◌, codes, decimal, string_bytes}
 use Rattle.cov_outside.specs.Prefixes.{GainsPrefix}
 use Rattle.cov_words.specs.declared.why.Why.{Why}
@@ -46,6 +48,7 @@ status_of why.NoMemory = 70
 status_of (why.Tests passed failed cut) = status_of_tests failed cut
 status_of (why.ImportFailed file) = 1
 
+-- what is wrong with a source
 abbrev pub kind_text : SyntaxKind → List ℕ
 kind_text kind.BadCharacter = codes "BadCharacter"
 kind_text kind.BadIndent = codes "BadIndent"
@@ -60,6 +63,7 @@ kind_text kind.NestedFunction = codes "NestedFunction"
 kind_text kind.EarlyIrrefutable = codes "EarlyIrrefutable"
 kind_text kind.TwiceNamed = codes "TwiceNamed"
 
+-- what has a limit
 abbrev pub limit_text : LimitKind → List ℕ
 limit_text limit.FileBytes = codes "FileBytes"
 limit_text limit.TotalBytes = codes "TotalBytes"
@@ -73,7 +77,8 @@ limit_text limit.PatternBytes = codes "PatternBytes"
 -- `FILE:LINE: KIND`
 abbrev pub syntax_text : List ℕ → ℕ → SyntaxKind → List ℕ
 syntax_text file line k =
-    codes "coverage: " ++ (file ++ (codes ":" ++ (decimal line ++ (codes ": " ++ (kind_text k ++ codes "\n")))))
+    codes "coverage: " ++ (file ++ (codes ":" ++ (decimal line
+    ++ (codes ": " ++ (kind_text k ++ codes "\n")))))
 
 -- an empty key stands for the whole file of settings
 abbrev pub setting_text : List ℕ → List ℕ
@@ -85,35 +90,42 @@ abbrev pub rows_text : Bool → List ℕ
 rows_text false = codes "lines"
 rows_text true = codes "arcs"
 
+-- why data can't be read
 abbrev pub bad_text : BadKind → List ℕ
 bad_text bad.NotSchema7 = codes "not schema 7"
 bad_text (bad.BadRow i) = codes "row " ++ decimal i
 
+-- the line that says so
 abbrev pub bad_data_text : List ℕ → BadKind → List ℕ
 bad_data_text name k =
     codes "coverage: bad data " ++ (name ++ (codes ": " ++ (bad_text k ++ codes "\n")))
 
--- What an answer writes to `err`. The other bytes are those that the ending of its program writes, or
--- the percent that was asked for.
+-- What an answer writes to `err`. The other bytes are those that the ending of its program writes,
+-- or the percent that was asked for.
 abbrev pub message_of : Why → List ℕ → List ℕ
 message_of why.Done e = []
 message_of (why.Program n) e = e
-message_of (why.Budget n) e = codes "coverage: budget of " ++ (decimal n ++ codes " steps is spent\n")
+message_of (why.Budget n) e =
+    codes "coverage: budget of " ++ (decimal n ++ codes " steps is spent\n")
 message_of (why.Under covered all) e =
     codes "coverage: " ++ (decimal covered ++ (codes " of " ++ (decimal all
     ++ (codes " covered is under " ++ (e ++ codes " percent\n")))))
-message_of (why.Usage i) e = codes "coverage: usage: stopped after " ++ (decimal i ++ codes " words\n")
+message_of (why.Usage i) e =
+    codes "coverage: usage: stopped after " ++ (decimal i ++ codes " words\n")
 message_of (why.NoSuchFile name) e = codes "coverage: no file " ++ (string_bytes name ++ codes "\n")
 message_of (why.Syntax file line k) e = syntax_text (string_bytes file) line k
 message_of (why.Limit k n) e =
     codes "coverage: limit " ++ (limit_text k ++ (codes " passed: " ++ (decimal n ++ codes "\n")))
 message_of (why.BadConfig key) e = setting_text (string_bytes key)
 message_of (why.BadPattern i) e = codes "coverage: bad pattern " ++ (decimal i ++ codes "\n")
-message_of (why.PatternSize i) e = codes "coverage: pattern " ++ (decimal i ++ codes " is too large\n")
-message_of (why.NoFunction name) e = codes "coverage: no function " ++ (string_bytes name ++ codes "\n")
+message_of (why.PatternSize i) e =
+    codes "coverage: pattern " ++ (decimal i ++ codes " is too large\n")
+message_of (why.NoFunction name) e =
+    codes "coverage: no function " ++ (string_bytes name ++ codes "\n")
 message_of (why.NoData name) e = codes "coverage: no data " ++ (string_bytes name ++ codes "\n")
 message_of (why.Mixed a b) e =
-    codes "coverage: cannot join " ++ (rows_text a ++ (codes " with " ++ (rows_text b ++ codes "\n")))
+    codes "coverage: cannot join "
+    ++ (rows_text a ++ (codes " with " ++ (rows_text b ++ codes "\n")))
 message_of (why.BadData name k) e = bad_data_text (string_bytes name) k
 message_of (why.NoSource path) e = codes "coverage: no source " ++ (string_bytes path ++ codes "\n")
 message_of why.ReadFault e = codes "coverage: reading input failed\n"

@@ -17,6 +17,7 @@ use Rattle.py_meaning.specs.Program.{Run, run_modules}
 use Rattle.py_trace.specs.Traces.{AreWellFormed}
 use Rattle.cov_app.specs.Listing.{module_arcs, listing}
 
+-- the path of a program's file
 abbrev pub path_of : Program → List ℕ
 path_of p = string_bytes p.path
 

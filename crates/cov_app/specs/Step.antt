@@ -19,7 +19,7 @@ use Rattle.cov_words.specs.Values.{Word}
 use Rattle.cov_words.specs.declared.why.Why.{Why}
 use Rattle.cov_words.specs.declared.why.Why.TheVariants as why
 use Rattle.cov_run.specs.Loading.{told_by}
-use Rattle.cov_run.specs.Loads.{Loading, program, refused, unread, Loads, LoadsTo}
+use Rattle.cov_run.specs.Loads.{Loading, program, refused, unread, ending_of, Loads, LoadsTo}
 use Rattle.cov_app.specs.declared.answer.Told.{Told}
 use Rattle.cov_app.specs.Built.{BuiltStopsAfter}
 use Rattle.cov_app.specs.Messages.{message_of, IsWritten}
@@ -29,6 +29,7 @@ use Rattle.cov_app.specs.Runs.{Stream, Gained, shown, EndsAs, GivesUp}
 abbrev pub usual_budget : ℕ
 usual_budget = 1000000
 
+-- the steps that a run may take: those that the words name, or the usual ones
 abbrev pub budget_in : Option ℕ → ℕ
 budget_in None = usual_budget
 budget_in (Some n) = n
@@ -70,31 +71,9 @@ IsRunAnswer why.NoMemory = Unit {0}
 IsRunAnswer (why.Tests passed failed cuts) = ⊥
 IsRunAnswer (why.ImportFailed file) = ⊥
 
--- an answer of loading that couldn't read on
+-- an answer of loading that couldn't read on: a fault of the shelf, or want of memory
 abbrev pub IsUnread : Why → Type 0
-IsUnread why.Done = ⊥
-IsUnread (why.Program n) = ⊥
-IsUnread (why.Budget n) = ⊥
-IsUnread (why.Under covered all) = ⊥
-IsUnread (why.Usage i) = ⊥
-IsUnread (why.NoSuchFile name) = ⊥
-IsUnread (why.Syntax file line kind) = ⊥
-IsUnread (why.Limit kind n) = ⊥
-IsUnread (why.BadConfig key) = ⊥
-IsUnread (why.BadPattern i) = ⊥
-IsUnread (why.PatternSize i) = ⊥
-IsUnread (why.NoFunction name) = ⊥
-IsUnread (why.NoData name) = ⊥
-IsUnread (why.Mixed a b) = ⊥
-IsUnread (why.BadData name kind) = ⊥
-IsUnread (why.NoSource path) = ⊥
-IsUnread why.ReadFault = ⊥
-IsUnread why.WriteFault = ⊥
-IsUnread why.ShelfFault = Unit {0}
-IsUnread why.VaultFault = ⊥
-IsUnread why.NoMemory = Unit {0}
-IsUnread (why.Tests passed failed cuts) = ⊥
-IsUnread (why.ImportFailed file) = ⊥
+IsUnread w = ending_of w ≡ unread
 
 -- whether an answer says that the outside failed, or that memory was wanting
 abbrev pub is_fault : Why → Bool
@@ -122,8 +101,8 @@ is_fault why.NoMemory = true
 is_fault (why.Tests passed failed cuts) = false
 is_fault (why.ImportFailed file) = false
 
--- what a call did: its answer, the bytes that its program's ending writes to `err`, and what became of
--- input and output
+-- what a call did: its answer, the bytes that its program's ending writes to `err`, and what became
+-- of input and output
 pub record Effect : Type 1 where
   pub answer : Why
   pub ending : List ℕ
@@ -143,7 +122,8 @@ pub record DoesNothing (e : Effect) : Type 0 where
 
 -- An answer to a run of modules with these words. The run ended, and the answer says how; or it was
 -- given up.
-pub record Runs (ms : List LoadedModule) (words : List Text) (budget : ℕ) (e : Effect) : Type 0 where
+pub record Runs (ms : List LoadedModule) (words : List Text) (budget : ℕ) (e : Effect)
+    : Type 0 where
   pub ended :
       is_fault e.answer ≡ false
       → (outcome : Outcome) × (e.answer ≡ answer_to budget outcome) × (e.ending ≡ err_of outcome)
@@ -180,7 +160,8 @@ pub record NoCommand (e : Effect) : Type 0 where
 -- what a command does
 abbrev pub Does : (Text → Text → Loading → Type 0) → Type 0 → Effect → PlainCommand → Type 0
 Does loads faithful e (arcs budget file args) = Arcs loads faithful budget file args e
-Does loads faithful e (run branch append context budget hook data_file rcfile file args) = NoCommand e
+Does loads faithful e (run branch append context budget hook data_file rcfile file args) =
+    NoCommand e
 Does loads faithful e (combine append keep data_file rcfile names) = NoCommand e
 Does loads faithful e (report show_missing fail_under data_file rcfile) = NoCommand e
 Does loads faithful e (json name fail_under data_file rcfile) = NoCommand e
@@ -193,8 +174,8 @@ Does loads faithful e (suite branch budget data_file rcfile file) = NoCommand e
 Does loads faithful e (select budget old new) = NoCommand e
 Does loads faithful e (mutate budget file) = NoCommand e
 
--- The step of the words: that of the command that they are; or they are none, and the answer says how
--- many of them begin one that is built; or memory was wanting.
+-- The step of the words: that of the command that they are; or they are none, and the answer says
+-- how many of them begin one that is built; or memory was wanting.
 pub data TakesStep (loads : Text → Text → Loading → Type 0) (faithful : Type 0) (words : List Word)
     (e : Effect) : Type 0 where
   does : (c : PlainCommand) → IsCommand c words → Does loads faithful e c
@@ -204,10 +185,8 @@ pub data TakesStep (loads : Text → Text → Loading → Type 0) (faithful : Ty
   starved : e.answer ≡ why.NoMemory → DoesNothing e → TakesStep loads faithful words e
 
 -- The step of the words was taken: this answer, and what became of input, output and `err`.
-pub record StepTaken (loads : Text → Text → Loading → Type 0) (faithful : Type 0) (words : List Word)
-    (answer : Why) (what : Told) (input out err : Stream) : Type 0 where
+pub record StepTaken (loads : Text → Text → Loading → Type 0) (faithful : Type 0)
+    (words : List Word) (answer : Why) (what : Told) (input out err : Stream) : Type 0 where
   pub ending : List ℕ
-  pub step :
-      TakesStep loads faithful words
-      (effect answer ending input out)
+  pub step : TakesStep loads faithful words (effect answer ending input out)
   pub told : err.tells → IsWritten what (message_of answer ending) err.before err.after

@@ -1,4 +1,5 @@
-//! Runs one command: from its words to what it prints and how it ends. Its one public call is `coverage`.
+//! Runs one command: from its words to what it prints and how it ends. Its one public call is
+//! `coverage`.
 #![tactic(auto)]
 
 mod answer;

@@ -28,11 +28,12 @@ unit_lines m = 1 ∷ map (λ f. f.line) (functions m.body)
 abbrev pub firsts_of : List LoadedModule → List (List ℕ)
 firsts_of ms = map unit_lines ms
 
--- In each module, each once and in order: the events of these items tell the arcs that the items cross,
--- and a tracer that took the events keeps these arcs.
+-- In each module, each once and in order: the events of these items tell the arcs that the items
+-- cross, and a tracer that took the events keeps these arcs.
 pub record ArcsAgree (ms : List LoadedModule) (items : Items) : Type 0 where
   pub told : (m : ℕ) →
-      ordered [] (arcs_told (firsts_of ms) m [] (events_in items)) ≡ lines_crossed (crossings ms m items)
+      ordered [] (arcs_told (firsts_of ms) m [] (events_in items))
+      ≡ lines_crossed (crossings ms m items)
   pub kept : (new : Tracing) → Takes IsNext (at_first (firsts_of ms)) (events_in items) new →
       (m : ℕ) → m < length ms → slice_get new.arcs m ≡ Some (lines_crossed (crossings ms m items))
 

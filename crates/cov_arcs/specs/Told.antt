@@ -1,5 +1,5 @@
--- The arcs that a list of events tells: each open frame has a line, and a line event or a return closes
--- an arc from it (coverage.py documentation, "Branch coverage measurement").
+-- The arcs that a list of events tells: each open frame has a line, and a line event or a return
+-- closes an arc from it (coverage.py documentation, "Branch coverage measurement").
 --     first_line        of a unit, by a table
 --     after             the open frames after an event
 --     closed            the arc that an event closes
@@ -67,7 +67,7 @@ abbrev pub in_module : ℕ → Option (ℕ × (ℤ × ℤ)) → List (ℤ × ℤ
 in_module m None = []
 in_module m (Some arc) = if nat_eq arc.0 m then arc.1 ∷ [] else []
 
--- the arcs in a module that events close where these frames are open; an arc that stays open isn't one
+-- the arcs in a module that events close where these frames are open, without those left open
 unfoldable pub arcs_told : List (List ℕ) → ℕ → List Frame → List Event → List (ℤ × ℤ)
 arcs_told firsts m frames [] = []
 arcs_told firsts m frames (event ∷ rest) =

@@ -44,12 +44,13 @@ next t event = record {
 abbrev pub IsNext : Tracing → Event → Tracing → Type 0
 IsNext old event new = new ≡ next old event
 
--- What is kept after events, in each module of the table, are the arcs that they told, and those that
--- were kept before them.
+-- What is kept after events, in each module of the table, are the arcs that they told, and those
+-- that were kept before them.
 pub record TracingLaw : Type 0 where
   pub from_first : (firsts : List (List ℕ)) (events : List Event) (new : Tracing) →
       Takes IsNext (at_first firsts) events new → (m : ℕ) → m < length firsts →
       slice_get new.arcs m ≡ Some (ordered [] (arcs_told firsts m [] events))
   pub from_any : (old : Tracing) (events : List Event) (new : Tracing) →
-      Takes IsNext old events new → (m : ℕ) (found : List (ℤ × ℤ)) → slice_get old.arcs m ≡ Some found →
+      Takes IsNext old events new → (m : ℕ) (found : List (ℤ × ℤ)) →
+      slice_get old.arcs m ≡ Some found →
       slice_get new.arcs m ≡ Some (ordered found (arcs_told old.firsts m old.frames events))

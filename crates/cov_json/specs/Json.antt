@@ -19,9 +19,11 @@ use Rattle.cov_analysis.specs.Lines.{without}
 use Rattle.cov_analysis.specs.Percentage.{percent}
 use Rattle.cov_analysis.specs.declared.numbers.Numbers.{Numbers}
 
+-- a whole number
 abbrev pub whole : ℕ → Data
 whole n = number (unsigned n)
 
+-- a list of lines
 abbrev pub lines : List ℕ → Data
 lines all = array (items_of (map whole all))
 
@@ -29,13 +31,15 @@ lines all = array (items_of (map whole all))
 abbrev pub branch : Branch → Data
 branch (line, to) = array (item (whole line) (item (number (of_integer to)) no_items))
 
+-- a list of branches
 abbrev pub branches : List Branch → Data
 branches all = array (items_of (map branch all))
 
--- the statements and the branches that aren't missing
+-- the statements that aren't missing
 abbrev pub executed_lines : AnalysisView → List ℕ
 executed_lines file = without file.statements file.missing
 
+-- the branches that aren't missing
 abbrev pub executed_branches : AnalysisView → List Branch
 executed_branches file =
     filter (λ b. not (list_any (same_branch b) file.missing_branches)) file.branches
@@ -57,6 +61,7 @@ summary arcs n = object
     (member (codes "num_statements") (whole n.statements)
     (member (codes "percent_covered_display") (string (decimal (percent n))) no_members)))))))))
 
+-- the object of a file
 abbrev pub file_value : Bool → AnalysisView → Data
 file_value arcs file = object
     (member (codes "excluded_lines") (lines file.excluded)
@@ -71,12 +76,15 @@ file_value arcs file = object
 abbrev pub with_file : Bool → Members → AnalysisView → Members
 with_file arcs members file = put file.path (file_value arcs file) members
 
+-- the object of all files
 abbrev pub files_value : Bool → List AnalysisView → Data
 files_value arcs files = object (fold (with_file arcs) no_members files)
 
+-- what the data are
 abbrev pub meta : Bool → Data
 meta arcs = object (member (codes "branch_coverage") (boolean arcs) no_members)
 
+-- the value of a report
 abbrev pub report : List AnalysisView → Bool → Data
 report files arcs = object
     (member (codes "files") (files_value arcs files)

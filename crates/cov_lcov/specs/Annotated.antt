@@ -11,6 +11,7 @@ mark_by is_missing is_statement is_excluded line =
     if is_missing line then codes "!" else if is_statement line then codes ">"
     else if is_excluded line then codes "-" else codes " "
 
+-- the mark of a line by its analysis
 abbrev pub mark_of : AnalysisView → ℕ → List ℕ
 mark_of file = mark_by (is_among file.missing) (is_among file.statements) (is_among file.excluded)
 

@@ -23,10 +23,12 @@ statement_row (line, hits) =
 abbrev pub Entry : Type 0
 Entry = ℕ × Bool × ℤ × ℕ
 
+-- whether a destination is the outside
 abbrev pub is_exit : ℤ → Bool
 is_exit (pos line) = false
 is_exit (negsuc n) = true
 
+-- a branch with its hits
 abbrev pub entry_of : Branch × ℕ → Entry
 entry_of (branch, hits) = (branch.0, is_exit branch.1, branch.1, hits)
 
@@ -41,6 +43,7 @@ entry_cmp a b =
 abbrev pub entries_of : AnalysisView → List Entry
 entries_of file = fold (insert_key entry_cmp) [] (map entry_of (zip file.branches file.branch_hits))
 
+-- whether a branch is missing
 abbrev pub is_missing : AnalysisView → Branch → Bool
 is_missing file branch = list_any (same_branch branch) file.missing_branches
 
@@ -54,15 +57,18 @@ abbrev pub taken_text : (Branch → Bool) → (ℕ → Bool) → Branch → ℕ 
 taken_text missing has_covered branch hits =
     if missing branch then if has_covered branch.0 then codes "0" else codes "-" else decimal hits
 
+-- where a branch leads
 abbrev pub destination_text : ℤ → List ℕ
 destination_text (pos line) = codes "jump to line " ++ decimal line
 destination_text (negsuc n) = codes "exit"
 
+-- a branch, and whether it was taken
 abbrev pub branch_row : (Branch → Bool) → (ℕ → Bool) → Entry → List ℕ
 branch_row missing has_covered (line, exit, to, hits) =
     codes "BRDA:" ++ (decimal line ++ (codes ",0," ++ (destination_text to
     ++ (codes "," ++ (taken_text missing has_covered (line, to) hits ++ codes "\n")))))
 
+-- the rows of the branches of a file
 abbrev pub branch_rows : AnalysisView → List ℕ
 branch_rows file =
     let missing = is_missing file in
@@ -75,6 +81,7 @@ branch_part file =
     branch_rows file ++ (codes "BRF:" ++ (decimal n.branches
     ++ (codes "\nBRH:" ++ (decimal (n.branches - n.missing_branches) ++ codes "\n"))))
 
+-- the rows of its statements
 abbrev pub statement_rows : AnalysisView → List ℕ
 statement_rows file = flat_map statement_row (zip file.statements file.hits)
 

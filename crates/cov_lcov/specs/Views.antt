@@ -6,6 +6,7 @@ use Rattle.std.specs.Ordering.{nat_cmp}
 use Rattle.cov_lcov.specs.Annotated.{mark_by}
 use Rattle.cov_lcov.specs.declared.annotating.Marks.{Marks}
 
+-- the bytes of texts
 abbrev pub texts_view : List (Bor (List ℕ)) → List (List ℕ)
 texts_view texts = map (λ text. text.now) texts
 
