@@ -23,14 +23,16 @@ use Rattle.cov_analysis.specs.Hits.{line_count, is_taken, branch_count, line_hit
 use Rattle.cov_analysis.specs.declared.analysis.Analysis.{Analysis}
 use Rattle.cov_analysis.specs.declared.numbers.Numbers.{Numbers}
 
--- the statement lines of a source, those that are excluded, those that needn't take all of their branches, and the predicted arcs
+-- the statement lines of a source, those that are excluded, those that needn't take all of their
+-- branches, and the predicted arcs
 pub record Source : Type 0 where
   pub lines : List ℕ
   pub excluded : List ℕ
   pub no_branch : List ℕ
   pub arcs : List Arc
 
--- of a module with this text, by the texts of the patterns that exclude a line, and of those that free its branches
+-- of a module with this text, by the texts of the patterns that exclude a line, and of those that
+-- free its branches
 abbrev pub source_of : List (List ℕ) → List (List ℕ) → Stmts → List ℕ → Source
 source_of exclude partial m text = record {
   lines = statement_lines m;
@@ -39,8 +41,8 @@ source_of exclude partial m text = record {
   arcs = predicted m;
 }
 
--- what runs took of it: whether arcs were recorded, the executed lines, how often rows go to a line, which branches rows take,
--- and how often
+-- what runs took of it: whether arcs were recorded, the executed lines, how often rows go to a
+-- line, which branches rows take, and how often
 pub record Taken : Type 0 where
   pub arcs : Bool
   pub executed : List ℕ
@@ -58,6 +60,7 @@ taken_of d path = record {
   branch_count = branch_count (file_rows path (file_of d path));
 }
 
+-- an analysis as lists and functions
 pub record AnalysisView : Type 0 where
   pub path : List ℕ
   pub statements : List ℕ
@@ -69,6 +72,7 @@ pub record AnalysisView : Type 0 where
   pub branch_hits : List ℕ
   pub numbers : Numbers
 
+-- an analysis in memory as such
 abbrev pub analysis_view : Analysis → AnalysisView
 analysis_view a = record {
   path = string_bytes a.path;
@@ -94,13 +98,17 @@ missing_in source taken = without (statements_in source) taken.executed
 abbrev pub branches_in : Source → Taken → List Branch
 branches_in source taken = if taken.arcs then branches_of source.excluded source.arcs else []
 
+-- the branches that count as missing
 abbrev pub missing_branches_in : Source → Taken → List Branch
-missing_branches_in source taken = missing_branches_of source.no_branch taken.is_taken (branches_in source taken)
+missing_branches_in source taken =
+    missing_branches_of source.no_branch taken.is_taken (branches_in source taken)
 
 -- the missing branches of executed lines
 abbrev pub partial_in : Source → Taken → ℕ
-partial_in source taken = count_by (λ branch. is_among taken.executed branch.0) (missing_branches_in source taken)
+partial_in source taken =
+    count_by (λ branch. is_among taken.executed branch.0) (missing_branches_in source taken)
 
+-- its numbers
 abbrev pub numbers_in : Source → Taken → Numbers
 numbers_in source taken = record {
   statements = length (statements_in source);
@@ -121,7 +129,9 @@ analysis_of path source taken = record {
   branches = branches_in source taken;
   missing_branches = missing_branches_in source taken;
   hits = map (line_hits taken.executed taken.line_count) (statements_in source);
-  branch_hits = map (branch_hits source.no_branch taken.is_taken taken.branch_count) (branches_in source taken);
+  branch_hits =
+      map (branch_hits source.no_branch taken.is_taken taken.branch_count)
+      (branches_in source taken);
   numbers = numbers_in source taken;
 }
 

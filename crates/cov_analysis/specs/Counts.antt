@@ -18,9 +18,11 @@ pub record IsCounted (n : Numbers) : Type 0 where
 abbrev pub covered_of : Numbers → ℕ
 covered_of n = (n.statements - n.missing) + (n.branches - n.missing_branches)
 
+-- how many things may be covered: statements and branches
 abbrev pub all_of : Numbers → ℕ
 all_of n = n.statements + n.branches
 
+-- the numbers of an analysis
 abbrev pub numbers_of : Analysis → Numbers
 numbers_of a = a.numbers
 
@@ -28,6 +30,7 @@ numbers_of a = a.numbers
 abbrev pub total_of_all : (Numbers → ℕ) → List Numbers → ℕ
 total_of_all field all = min (sum (map field all)) MOST
 
+-- the sum of several numbers
 abbrev pub total_of : List Numbers → Numbers
 total_of all = record {
   statements = total_of_all (λ n. n.statements) all;

@@ -18,6 +18,7 @@ count_where passes rows = min (sum_by (λ row. if passes row then row.count else
 abbrev pub goes_to : ℕ → RowView → Bool
 goes_to line row = int_eq row.to (pos line)
 
+-- how often rows go to a line
 abbrev pub line_count : List RowView → ℕ → ℕ
 line_count rows line = count_where (goes_to line) rows
 
@@ -25,16 +26,21 @@ line_count rows line = count_where (goes_to line) rows
 abbrev pub takes : Branch → RowView → Bool
 takes branch row = int_eq row.from (pos branch.0) && int_eq row.to branch.1
 
+-- whether a row takes a branch
 abbrev pub is_taken : List RowView → Branch → Bool
 is_taken rows branch = list_any (takes branch) rows
 
+-- how often rows take a branch
 abbrev pub branch_count : List RowView → Branch → ℕ
 branch_count rows branch = count_where (takes branch) rows
 
--- A line that no run executed has none, and an executed one at least one: the outside may have been left from it.
+-- A line that no run executed has none, and an executed one at least one: the outside may have been
+-- left from it.
 abbrev pub line_hits : List ℕ → (ℕ → ℕ) → ℕ → ℕ
 line_hits executed count line = if is_among executed line then max 1 (count line) else 0
 
--- A missing branch has none, and a covered one at least one: its line may be one that needn't take it.
+-- A missing branch has none, and a covered one at least one: its line may be one that needn't take
+-- it.
 abbrev pub branch_hits : List ℕ → (Branch → Bool) → (Branch → ℕ) → Branch → ℕ
-branch_hits no_branch is_taken count branch = if is_covered no_branch is_taken branch then max 1 (count branch) else 0
+branch_hits no_branch is_taken count branch =
+    if is_covered no_branch is_taken branch then max 1 (count branch) else 0

@@ -18,6 +18,7 @@ count_in counts line = unwrap_or (get nat_cmp counts line) 0
 abbrev pub is_counted : BTreeMap Branch ℕ → Branch → Bool
 is_counted counts branch = is_some (get branch_cmp counts branch)
 
+-- the count of a branch, or 0
 abbrev pub branch_count_in : BTreeMap Branch ℕ → Branch → ℕ
 branch_count_in counts branch = unwrap_or (get branch_cmp counts branch) 0
 

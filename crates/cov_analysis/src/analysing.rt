@@ -23,9 +23,10 @@ use py_syntax::Module;
 use py_value::NoMemory;
 use std::alloc::Global;
 
-/// The analysis of the source at a path, whose tree is the module, by what was recorded of the path.
-/// Lines that `exclude` matches are excluded, and those that `partial` matches needn't take all of
-/// their branches. Of a module that is read from a text of at most 65,535 lines, reports take it.
+/// The analysis of the source at a path, whose tree is the module, by what was recorded of the
+/// path. Lines that `exclude` matches are excluded, and those that `partial` matches needn't take
+/// all of their branches. Of a module that is read from a text of at most 65,535 lines, reports
+/// take it.
 pub fn analyse(
     alloc: Global,
     module: &Module,

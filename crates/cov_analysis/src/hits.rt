@@ -60,7 +60,8 @@ fn add_to_branch(counts: &mut BTreeMap<(u32, i32), u32>, row: &Row) -> Result<()
         ≡ (is_counted counts.old branch || takes branch (row_view row.now))) }
     ensures count { OnOk result ((branch : Branch)
         → branch_count_in counts.new branch
-        ≡ raised (takes branch (row_view row.now)) (branch_count_in counts.old branch) row.now.count) }
+        ≡ raised (takes branch (row_view row.now)) (branch_count_in counts.old branch)
+        row.now.count) }
 {
     match line_of(row.from) {
         Some(line) => raise_branch(counts, (line, row.to), row.count),
@@ -105,7 +106,8 @@ pub(crate) fn branch_hits(
 ) -> Result<Vec<u32>, NoMemory>
     requires { IsRising no_branch.now }
     ensures { IfOk result (λ hits. hits.items
-        ≡ map (branch_hits no_branch.now (is_counted counts.now) (branch_count_in counts.now)) branches.now) }
+        ≡ map (branch_hits no_branch.now (is_counted counts.now) (branch_count_in counts.now))
+        branches.now) }
 {
     let mut hits = Vec::new(alloc);
     for branch in branches {

@@ -1,6 +1,6 @@
-//! What a report tells of a source by recorded data: `analyse` makes an `Analysis`, `total` adds the
-//! `Numbers` of several, and `Numbers::percent` is the percentage. `line_set` and `branch_set` are
-//! sets for look-ups in an analysis.
+//! What a report tells of a source by recorded data: `analyse` makes an `Analysis`, `total` adds
+//! the `Numbers` of several, and `Numbers::percent` is the percentage. `line_set` and `branch_set`
+//! are sets for look-ups in an analysis.
 //!
 //! `reportable_files` does nothing when it runs, and stands for the law that its contract states.
 #![tactic(auto)]

@@ -14,8 +14,8 @@ ArePatternsBefore texts at = All IsPatternText (take at texts)
 abbrev pub FoundLarge : {M : Type 0} → (M → List ℕ → M → Type 0) → M → List ℕ → Type 0
 FoundLarge {M} leads new text = (mid : M) × leads mid text new
 
--- Of these texts, with what was found too large at last, and the maker's counts before and after: those
--- before the named one are patterns; it is none, or it is what was found too large.
+-- Of these texts, with what was found too large at last, and the maker's counts before and after:
+-- those before the named one are patterns; it is none, or it is what was found too large.
 abbrev pub IsCauseOf : List (List ℕ) → (List ℕ → Type 0) → ℕ → ℕ → PatternError → Type 0
 IsCauseOf texts large before after (BadPattern at) =
     ArePatternsBefore texts at × IsSomeAnd (slice_get texts at) IsNoPattern
@@ -26,5 +26,6 @@ IsCauseOf texts large before after NoMemory = Unit {0}
 -- of the text at a place
 abbrev pub IsCauseAt : ℕ → List ℕ → (List ℕ → Type 0) → ℕ → ℕ → PatternError → Type 0
 IsCauseAt place text large before after (BadPattern at) = (at ≡ place) × IsNoPattern text
-IsCauseAt place text large before after (PatternSize at) = (at ≡ place) × large text × Rose before after
+IsCauseAt place text large before after (PatternSize at) =
+    (at ≡ place) × large text × Rose before after
 IsCauseAt place text large before after NoMemory = Unit {0}

@@ -14,7 +14,8 @@ use py_syntax::Module;
 use py_value::NoMemory;
 use std::alloc::Global;
 
-/// The statement lines that are excluded, counted from 1: each once, in order. The module is the tree of the source.
+/// The statement lines that are excluded, counted from 1: each once, in order. The module is the
+/// tree of the source.
 pub fn excluded(
     alloc: Global,
     patterns: &Patterns,
@@ -28,8 +29,8 @@ pub fn excluded(
     excluded_by(alloc, module, &matched)
 }
 
-/// The statement lines that needn't take all of their branches, counted from 1: each once, in order. The module is the tree of
-/// the source.
+/// The statement lines that needn't take all of their branches, counted from 1: each once, in
+/// order. The module is the tree of the source.
 pub fn no_branch(
     alloc: Global,
     patterns: &Patterns,

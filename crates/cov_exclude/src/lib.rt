@@ -1,5 +1,5 @@
-//! Which lines of a module are excluded, and which needn't take all of their branches: `excluded` and
-//! `no_branch`, by the `Patterns` that match a line. A `Maker` builds the patterns.
+//! Which lines of a module are excluded, and which needn't take all of their branches: `excluded`
+//! and `no_branch`, by the `Patterns` that match a line. A `Maker` builds the patterns.
 #![tactic(auto)]
 
 mod exclusion;

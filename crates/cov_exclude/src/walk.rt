@@ -30,7 +30,8 @@ fn is_whole(rule: Rule<'_>, whole: bool, first: u32, last: u32) -> bool
     whole || (rule.spreads && rule.matched.touches(first, last))
 }
 
-/// Adds the marks of statements, all of them where `whole` says so. Where they lead a body, the first may be a docstring.
+/// Adds the marks of statements, all of them where `whole` says so. Where they lead a body, the
+/// first may be a docstring.
 #[cycle(walk)]
 pub(crate) fn statements(
     out: &mut Vec<u32>,
@@ -138,8 +139,8 @@ fn matched(
     ensures { OnOk result (out.new.items
         ≡ out.old.items
         ++ (mark_if (is_gathered (rule_view rule.entry) whole line header_last) line
-        ++ cases_walk (rule_view rule.entry) (is_whole (rule_view rule.entry) whole line header_last)
-        (plain_cases list.now))) }
+        ++ cases_walk (rule_view rule.entry)
+        (is_whole (rule_view rule.entry) whole line header_last) (plain_cases list.now))) }
 {
     let all = is_whole(rule, whole, line, header_last);
     mark(out, rule, whole, line, line, header_last)?;

@@ -1,5 +1,6 @@
 -- What stands in the column `Missing`. (coverage.py documentation, "Reporting": `report -m`)
---     Item, item_cmp, in_order      a first line, its text and its end; by line, then by the bytes of the text
+--     Item, item_cmp, in_order      a first line, its text and its end; by line, then by the bytes
+--                                   of the text
 --     runs, range_items             missing lines without other statements between them, as `5-11`
 --     is_listed, branch_items       branches whose ends aren't missing, as `2->9` or `2->exit`
 --     missing_text                  the items in order, with `, ` between them
@@ -17,6 +18,7 @@ use Rattle.cov_analysis.specs.Lines.{is_among}
 abbrev pub Item : Type 0
 Item = ℕ × List ℕ × ℤ
 
+-- the order of items: by line, then by the bytes of the text, then by the end
 abbrev pub item_cmp : Item → Item → Ordering
 item_cmp a b =
     ordering_then (ordering_then (nat_cmp a.0 b.0) (slice_cmp nat_cmp a.1 b.1)) (int_cmp a.2 b.2)
@@ -25,6 +27,7 @@ item_cmp a b =
 abbrev pub with_items : List Item → List Item → List Item
 with_items items more = fold (insert_key item_cmp) items more
 
+-- items each once, in order
 abbrev pub in_order : List Item → List Item
 in_order items = with_items [] items
 
@@ -58,12 +61,15 @@ abbrev pub end_text : ℤ → List ℕ
 end_text (pos line) = decimal line
 end_text (negsuc n) = codes "exit"
 
+-- a branch as an item
 abbrev pub branch_item : Branch → Item
 branch_item branch = (branch.0, decimal branch.0 ++ (codes "->" ++ end_text branch.1), branch.1)
 
+-- the missing branches that are listed
 abbrev pub branch_items : (ℕ → Bool) → List Branch → List Item
 branch_items is_missing branches = map branch_item (filter (is_listed is_missing) branches)
 
+-- the items of a file
 abbrev pub items_in : AnalysisView → List Item
 items_in file =
     let is_missing = is_among file.missing in
@@ -74,5 +80,6 @@ items_in file =
 abbrev pub joined : List Item → List ℕ
 joined items = join_by (λ item. item.1) (codes ", ") items
 
+-- what stands in the column of a file
 abbrev pub missing_text : AnalysisView → List ℕ
 missing_text file = joined (items_in file)

@@ -29,6 +29,7 @@ headings arcs =
     flat_map right
     (chosen arcs (codes "Stmts") (codes "Miss") (codes "Branch") (codes "BrPart") (codes "Cover"))
 
+-- the cells of numbers
 abbrev pub cells : Bool → Numbers → List ℕ
 cells arcs n =
     let covered = decimal (percent n) ++ codes "%" in
@@ -54,13 +55,16 @@ abbrev pub line : ℕ → List ℕ → List ℕ → List ℕ → List ℕ
 line width name cells note =
     name ++ (repeat (width - length (chars name)) (codes " ") ++ (cells ++ noted note))
 
+-- the header
 abbrev pub header : ℕ → Bool → Bool → List ℕ
 header width arcs missing =
     line width (codes "Name") (headings arcs) (if missing then codes "Missing" else [])
 
+-- the line of a name and its numbers
 abbrev pub row : ℕ → Bool → List ℕ → Numbers → List ℕ → List ℕ
 row width arcs name numbers note = line width name (cells arcs numbers) note
 
+-- the note of a file, where what is missing is asked for
 abbrev pub note : Bool → AnalysisView → List ℕ
 note missing file = if missing then missing_text file else []
 
@@ -73,9 +77,11 @@ file_row width arcs missing file =
 abbrev pub rule : List ℕ → List ℕ
 rule header = repeat (length header) (codes "-")
 
+-- the lines of files
 abbrev pub rows : ℕ → Bool → Bool → List AnalysisView → List ℕ
 rows width arcs missing files = flat_map (file_row width arcs missing) files
 
+-- the line of all files
 abbrev pub total_row : ℕ → Bool → List AnalysisView → List ℕ
 total_row width arcs files =
     row width arcs (codes "TOTAL") (total_of (map (λ file. file.numbers) files)) []

@@ -27,7 +27,9 @@ use Rattle.py_compile_expr.specs.Expressions.{expr_size, expr_code}
 use Rattle.py_compile_expr.specs.Runs.{Spot, conf, from as going, on_top, Fits, Matches, part_of, CallsRun}
 use Rattle.py_compile_expr.specs.Stands.{StandsAt, HasAt}
 use Rattle.py_compile_expr.specs.Targets.{target_size, target_code}
-use Rattle.py_compile_expr.proofs.ExpressionRuns.{unchanged, part_at, eval_runs}
+use Rattle.py_compile_expr.proofs.InstructionRuns.{unchanged}
+use Rattle.py_compile_expr.proofs.PartRuns.{part_at}
+use Rattle.py_compile_expr.proofs.ExpressionRuns.{eval_runs}
 use Rattle.py_compile_expr.proofs.Places.{has_front, has_at}
 use Rattle.py_compile_expr.proofs.Simulation.{fits_less, at_most, led, asks}
 use Rattle.py_compile_expr.proofs.Sizes.{expr_length, target_length}

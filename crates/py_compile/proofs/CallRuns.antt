@@ -29,7 +29,7 @@ use Rattle.py_value.specs.Keys.{is_same_text}
 use Rattle.py_compile_expr.specs.Cells.{constant, plain, Guard, put as put_cell}
 use Rattle.py_compile_expr.specs.Runs.{Spot, effects_of, conf, from as going, thrown, after, on_top, IsLike, Matches, part_of, CallsRun}
 use Rattle.py_compile_expr.specs.Stands.{HasAt, Guards}
-use Rattle.py_compile_expr.proofs.ExpressionRuns.{constant_runs}
+use Rattle.py_compile_expr.proofs.InstructionRuns.{constant_runs}
 use Rattle.py_compile_expr.proofs.Places.{has_front, has_behind, has_at}
 use Rattle.py_compile.specs.Definitions.{Definition, function_of, definitions}
 use Rattle.py_compile.specs.Faithful.{IsFaithful}

@@ -29,7 +29,7 @@ use Rattle.py_code.specs.Units.{Code, Module, unit_at, imported_number as number
 use Rattle.py_compile_expr.specs.Cells.{imports, module_named, plain, Guard, cell, name_at}
 use Rattle.py_compile_expr.specs.Runs.{Spot, conf, from as going, after, on_top, Fits, IsLike, Matches, part_of, CallsRun}
 use Rattle.py_compile_expr.specs.Stands.{tables_in, StandsAt, HasAt}
-use Rattle.py_compile_expr.proofs.ExpressionRuns.{ends_at, unchanged, then_asks, frame_runs}
+use Rattle.py_compile_expr.proofs.InstructionRuns.{ends_at, unchanged, then_asks, frame_runs}
 use Rattle.py_compile_expr.proofs.Simulation.{fits_less, fits_more, Any, holds_any, at_most, thrown_over, runs_on, threw, asks}
 use Rattle.py_compile.specs.StatementRuns.{NamesMatch}
 use Rattle.py_compile.specs.Statements.{import_size, import_code, take_size, take_code}

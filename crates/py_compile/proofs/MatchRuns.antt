@@ -21,7 +21,8 @@ use Rattle.py_compile_expr.specs.Expressions.{expr_size, expr_code}
 use Rattle.py_compile_expr.specs.Patterns.{captured, pattern_size, Site, pattern_code, names_size, names_code}
 use Rattle.py_compile_expr.specs.Runs.{Spot, conf, from as going, on_top, Fits, Matches, part_of, CallsRun}
 use Rattle.py_compile_expr.specs.Stands.{HasAt}
-use Rattle.py_compile_expr.proofs.ExpressionRuns.{part_at, eval_runs}
+use Rattle.py_compile_expr.proofs.PartRuns.{part_at}
+use Rattle.py_compile_expr.proofs.ExpressionRuns.{eval_runs}
 use Rattle.py_compile_expr.proofs.Places.{has_front, has_at}
 use Rattle.py_compile_expr.proofs.Pushed.{pushed, drop_pushed, length_pushed}
 use Rattle.py_compile_expr.proofs.Simulation.{fits_less, fits_more, at_most, led, thrown_over}

@@ -28,7 +28,8 @@ use Rattle.py_compile_expr.specs.Cells.{plain, Guard, cell}
 use Rattle.py_compile_expr.specs.Patterns.{kept_constant, constant_question, captured, captured_each, pattern_size, items_size, one_size, Site, behind, with_captured, pattern_code, items_code, one_code}
 use Rattle.py_compile_expr.specs.Runs.{Spot, conf, from as going, thrown, after, on_top, Fits, Matches, part_of, CallsRun}
 use Rattle.py_compile_expr.specs.Stands.{StandsAt, HasAt}
-use Rattle.py_compile_expr.proofs.ExpressionRuns.{constant_runs, name_runs, over_values, part_at}
+use Rattle.py_compile_expr.proofs.InstructionRuns.{constant_runs, name_runs}
+use Rattle.py_compile_expr.proofs.PartRuns.{over_values, part_at}
 use Rattle.py_compile_expr.proofs.Places.{has_front, has_at}
 use Rattle.py_compile_expr.proofs.Pushed.{pushed}
 use Rattle.py_compile_expr.proofs.Simulation.{fits_less, fits_more, truth_on_top, thrown_over, led, answered}

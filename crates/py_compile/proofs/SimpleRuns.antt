@@ -34,7 +34,9 @@ use Rattle.py_compile_expr.specs.Expressions.{count, expr_size, expr_code, each_
 use Rattle.py_compile_expr.specs.Runs.{Spot, conf, from as going, after, on_top, Fits, Matches, part_of, CallsRun}
 use Rattle.py_compile_expr.specs.Stands.{StandsAt, HasAt}
 use Rattle.py_compile_expr.specs.Targets.{all_size}
-use Rattle.py_compile_expr.proofs.ExpressionRuns.{each_counts, ends_at, then_value, unchanged, then_works, constant_runs, part_at, eval_runs, each_runs}
+use Rattle.py_compile_expr.proofs.InstructionRuns.{each_counts, ends_at, then_value, unchanged, then_works, constant_runs}
+use Rattle.py_compile_expr.proofs.PartRuns.{part_at}
+use Rattle.py_compile_expr.proofs.ExpressionRuns.{eval_runs, each_runs}
 use Rattle.py_compile_expr.proofs.Places.{has_front}
 use Rattle.py_compile_expr.proofs.Pushed.{pushed, many_pushed}
 use Rattle.py_compile_expr.proofs.Simulation.{fits_less, at_most, runs_on, works}

@@ -33,7 +33,9 @@ use Rattle.py_compile_expr.specs.Expressions.{count, expr_size, expr_code}
 use Rattle.py_compile_expr.specs.Runs.{Spot, conf, from as going, thrown, after, on_top, Fits, Matches, part_of, CallsRun}
 use Rattle.py_compile_expr.specs.Stands.{tables_in, HasVariable, StandsAt, HasAt}
 use Rattle.py_compile_expr.specs.Targets.{no_target_code, target_size, targets_size, target_code, targets_code, all_size, all_code}
-use Rattle.py_compile_expr.proofs.ExpressionRuns.{ends_at, then_value, unchanged, then_asks, then_works, constant_runs, name_runs, part_at, eval_runs}
+use Rattle.py_compile_expr.proofs.InstructionRuns.{ends_at, then_value, unchanged, then_asks, then_works, constant_runs, name_runs}
+use Rattle.py_compile_expr.proofs.PartRuns.{part_at}
+use Rattle.py_compile_expr.proofs.ExpressionRuns.{eval_runs}
 use Rattle.py_compile_expr.proofs.Places.{has_front, has_at}
 use Rattle.py_compile_expr.proofs.Simulation.{fits_less, fits_more, Holds, Any, holds_any, at_most, thrown_over, runs_on, threw, asks, works}
 use Rattle.py_compile_expr.proofs.Sizes.{expr_length, target_length}

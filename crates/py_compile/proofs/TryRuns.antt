@@ -21,7 +21,8 @@ use Rattle.py_compile_expr.specs.Cells.{plain, Cell, put as put_cell}
 use Rattle.py_compile_expr.specs.Expressions.{expr_size, expr_code}
 use Rattle.py_compile_expr.specs.Runs.{Spot, from as going, thrown, after, on_top, Fits, Matches, part_of, CallsRun}
 use Rattle.py_compile_expr.specs.Stands.{HasAt}
-use Rattle.py_compile_expr.proofs.ExpressionRuns.{part_at, eval_runs}
+use Rattle.py_compile_expr.proofs.PartRuns.{part_at}
+use Rattle.py_compile_expr.proofs.ExpressionRuns.{eval_runs}
 use Rattle.py_compile_expr.proofs.Places.{has_front, has_at}
 use Rattle.py_compile_expr.proofs.Simulation.{fits_less, fits_more, truth_on_top, at_most, led, answered, thrown_over}
 use Rattle.py_compile_expr.proofs.Sizes.{expr_length}

@@ -2,6 +2,8 @@ pub mod Sizes
 pub mod Places
 pub mod Pushed
 pub mod Simulation
+pub mod InstructionRuns
+pub mod PartRuns
 pub mod ExpressionRuns
 pub mod Turns
 pub mod Chains

@@ -2,7 +2,7 @@
 use Rattle.std.proofs.Common.{◌≡◌, ℕ, suc, ◌+◌, ◌==◌, nat_eq, Result, Ok, Err, OnOk, List, [], ◌∷◌, ◌++◌, map, Bool, true, false, cond, ◌||◌, refl, sym, ap, ◌∙◌, arith, String, Global, string_bytes}
 use Rattle.std.specs.Prelude.{if◌then◌else◌, encode_utf8_all}
 use Rattle.std.specs.List.{list_any, position_or_len}
-use Rattle.std.specs.Str.{chars, bytes_eq, IsUtf8}
+use Rattle.std.specs.Str.{chars}
 use Rattle.std.specs.String.{string_eq}
 use Rattle.std.proofs.lemmas.List.Recursion.{is_position_or_len}
 use Rattle.std.proofs.lemmas.Slice.Eq.{bytes_eq-Decides}

@@ -1,4 +1,5 @@
--- The events of an activation, in order: it is called, its lines begin, exceptions are thrown, and it returns.
+-- The events of an activation, in order: it is called, its lines begin, exceptions are thrown, and
+-- it returns.
 use Rattle.std.specs.Prelude.{ℕ, Bool, true, false, List, [], ◌∷◌, ◌++◌}
 use Rattle.cov_event.specs.declared.event.Event.{Event}
 use Rattle.cov_event.specs.declared.event.Event.TheVariants.{Call, Line, Throw, Return}
@@ -9,6 +10,7 @@ abbrev pub line_unless : Bool → ℕ → List Event → List Event
 line_unless true l events = events
 line_unless false l events = events ++ Line l ∷ []
 
+-- with a return, where an activation ended
 abbrev pub return_if : Bool → List Event → List Event
 return_if true events = events ++ Return ∷ []
 return_if false events = events
@@ -24,8 +26,10 @@ unfoldable mutual
 
   -- those of an activation
   pub told_of : List Event → Activation → List Event
-  told_of events (activation code items ended) = return_if ended (told (events ++ Call code ∷ []) items)
+  told_of events (activation code items ended) =
+      return_if ended (told (events ++ Call code ∷ []) items)
 
+-- the events of an activation
 abbrev pub events_of : Activation → List Event
 events_of a = told_of [] a
 

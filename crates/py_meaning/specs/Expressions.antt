@@ -23,9 +23,10 @@ use Rattle.py_value.specs.Compared.{compared}
 abbrev pub gives : {A : Type 0} → A → M (Ans A)
 gives a = give (Ok a)
 
--- Operands come from left to right; an object before its index, a callee before its arguments, a key before its value, and the
--- test of a conditional expression first (6.16, "Evaluation order").
+-- Operands come from left to right; an object before its index, a callee before its arguments, a
+-- key before its value, and the test of a conditional expression first (6.16, "Evaluation order").
 unfoldable mutual
+  -- an expression
   pub eval : Calls → Place → Expr → M (Ans PlainValue)
   -- 6.2, atoms
   eval c p (name x) = ask (fetched p.scope x)
@@ -39,39 +40,52 @@ unfoldable mutual
   eval c p (dict ps comma) = value (work new_dict) (λ d. eval_pairs c p ps d)
   eval c p (paren e) = eval c p e
   -- 6.11, boolean operations
-  eval c p (not' e) = value (eval c p e) (λ v. branch v (gives (bool_value false)) (gives (bool_value true)))
+  eval c p (not' e) =
+      value (eval c p e) (λ v. branch v (gives (bool_value false)) (gives (bool_value true)))
   eval c p (and a b) = value (eval c p a) (λ v. branch v (eval c p b) (gives v))
   eval c p (or a b) = value (eval c p a) (λ v. branch v (gives v) (eval c p b))
   -- 6.6, 6.7, 6.10, 6.13: operators, comparisons, conditional expressions
   eval c p (unary s e) = value (eval c p e) (λ v. work (signed s v))
-  eval c p (binary op a b) = value (eval c p a) (λ v. value (eval c p b) (λ w. work (binary_of op v w)))
+  eval c p (binary op a b) =
+      value (eval c p a) (λ v. value (eval c p b) (λ w. work (binary_of op v w)))
   eval c p (compare a links) = value (eval c p a) (λ v. eval_links c p links v)
-  eval c p (cond body test orelse) = value (eval c p test) (λ v. branch v (eval c p body) (eval c p orelse))
+  eval c p (cond body test orelse) =
+      value (eval c p test) (λ v. branch v (eval c p body) (eval c p orelse))
   -- 6.3, primaries
   eval c p (call (attr e x) es comma) =
-      value (eval c p e) (λ v. value (ask (callee_in v x)) (λ f. value (eval_each c p es) (λ vs. call_of c p.modules f vs)))
-  eval c p (call e es comma) = value (eval c p e) (λ f. value (eval_each c p es) (λ vs. call_of c p.modules (a_value f) vs))
-  eval c p (index of at) = value (eval c p of) (λ v. value (eval c p at) (λ i. ask (λ w. index_of v i w.world.heap)))
-  eval c p (slice of from to) = value (eval c p of) (λ v. value (eval_opt c p from) (λ a. value (eval_opt c p to) (λ b. work (sliced v a b))))
+      value (eval c p e) (λ v.
+      value (ask (callee_in v x)) (λ f. value (eval_each c p es) (λ vs. call_of c p.modules f vs)))
+  eval c p (call e es comma) =
+      value (eval c p e) (λ f. value (eval_each c p es) (λ vs. call_of c p.modules (a_value f) vs))
+  eval c p (index of at) =
+      value (eval c p of) (λ v. value (eval c p at) (λ i. ask (λ w. index_of v i w.world.heap)))
+  eval c p (slice of from to) =
+      value (eval c p of) (λ v.
+      value (eval_opt c p from) (λ a. value (eval_opt c p to) (λ b. work (sliced v a b))))
   eval c p (attr e x) = value (eval c p e) (λ v. ask (λ w. attribute v x w.world))
 
   -- the values in order
   pub eval_each : Calls → Place → Exprs → M (Ans (List PlainValue))
   eval_each c p no_exprs = gives []
-  eval_each c p (exprs e es) = value (eval c p e) (λ v. value (eval_each c p es) (λ vs. gives (v ∷ vs)))
+  eval_each c p (exprs e es) =
+      value (eval c p e) (λ v. value (eval_each c p es) (λ vs. gives (v ∷ vs)))
 
   -- the keys of a dict set in order
   pub eval_pairs : Calls → Place → Pairs → PlainValue → M (Ans PlainValue)
   eval_pairs c p no_pairs d = gives d
   eval_pairs c p (pair key e rest) d =
-      value (eval c p key) (λ k. value (eval c p e) (λ v. value (work (stored d k v)) (λ u. eval_pairs c p rest d)))
+      value (eval c p key) (λ k.
+      value (eval c p e) (λ v. value (work (stored d k v)) (λ u. eval_pairs c p rest d)))
 
   -- the comparisons after the operand v; the first false one ends the chain
   pub eval_links : Calls → Place → Links → PlainValue → M (Ans PlainValue)
   eval_links c p no_links v = gives (bool_value true)
   eval_links c p (link op e rest) v =
-      value (eval c p e) (λ w. value (ask (λ s. compared (asked op) v w s.world.heap)) (λ b. if b then eval_links c p rest w else gives (bool_value false)))
+      value (eval c p e) (λ w.
+      value (ask (λ s. compared (asked op) v w s.world.heap)) (λ b.
+      if b then eval_links c p rest w else gives (bool_value false)))
 
+  -- a bound of a slice, where there is one
   pub eval_opt : Calls → Place → OptExpr → M (Ans (Option PlainValue))
   eval_opt c p absent = gives None
   eval_opt c p (present e) = value (eval c p e) (λ v. gives (Some v))
@@ -80,10 +94,14 @@ unfoldable mutual
   pub eval_fragments : Calls → Place → Fragments → Text → M (Ans Text)
   eval_fragments c p no_fragments x = gives x
   eval_fragments c p (plain y rest) x = value (give (extended x y)) (λ z. eval_fragments c p rest z)
-  eval_fragments c p (format parts rest) x = value (eval_parts c p parts x) (λ z. eval_fragments c p rest z)
+  eval_fragments c p (format parts rest) x =
+      value (eval_parts c p parts x) (λ z. eval_fragments c p rest z)
 
+  -- the parts of an f-string, each after a text
   pub eval_parts : Calls → Place → Parts → Text → M (Ans Text)
   eval_parts c p no_parts x = gives x
   eval_parts c p (text y rest) x = value (give (extended x y)) (λ z. eval_parts c p rest z)
   eval_parts c p (field e rest) x =
-      value (eval c p e) (λ v. value (ask (λ w. str_text v w.world.heap)) (λ y. value (give (extended x y)) (λ z. eval_parts c p rest z)))
+      value (eval c p e) (λ v.
+      value (ask (λ w. str_text v w.world.heap)) (λ y.
+      value (give (extended x y)) (λ z. eval_parts c p rest z)))

@@ -1,4 +1,5 @@
--- Values by the words of a text: neighbouring strings and signs (Python Language Reference, 2.4.2 and 6.6).
+-- Values by the words of a text: neighbouring strings and signs (Python Language Reference, 2.4.2
+-- and 6.6).
 use Rattle.std.specs.Prelude.{List, [], ◌∷◌, ◌++◌, pos, Result}
 use Rattle.py_value.specs.declared.operator.BinOp.{BinOp}
 use Rattle.py_value.specs.declared.operator.BinOp.TheVariants.{Add, Sub}
@@ -18,5 +19,6 @@ abbrev pub sign_operator : Sign → BinOp
 sign_operator Minus = Sub
 sign_operator Plus = Add
 
+-- a signed value is 0 and the value, subtracted or added
 abbrev pub signed : Sign → PlainValue → PlainHeap → Result (PlainValue × PlainHeap) PlainRaised
 signed s v h = binary_of (sign_operator s) (int_value (pos 0)) v h

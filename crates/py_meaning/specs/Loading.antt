@@ -12,20 +12,24 @@ use Rattle.py_meaning.specs.Modules.{LoadedModule, imported_number}
 abbrev pub Files : Type 0
 Files = List (Text × Stmts)
 
+-- the tree of a file, where it is there
 unfoldable pub file_at : Files → Text → Option Stmts
 file_at [] x = None
 file_at (f ∷ fs) x = if is_same_text x f.0 then Some f.1 else file_at fs x
 
+-- the modules that an `import` names
 abbrev pub alias_modules : List Alias → List Text
 alias_modules [] = []
 alias_modules (a ∷ rest) = a.name ∷ alias_modules rest
 
 -- the module names that the imports name, in the order of the text
 unfoldable mutual
+  -- those of statements in a row
   pub imported : Stmts → List Text
   imported no_stmts = []
   imported (stmt first last k end rest) = imported_in k ++ imported rest
 
+  -- those of a statement
   pub imported_in : StmtKind → List Text
   imported_in (expr e) = []
   imported_in (assign ts e) = []
@@ -42,22 +46,27 @@ unfoldable mutual
   imported_in (if' arms o) = arms_imported arms ++ opt_imported o
   imported_in (while t (suite f g inline b) o) = imported b ++ opt_imported o
   imported_in (for t e (suite f g inline b) o) = imported b ++ opt_imported o
-  imported_in (try (suite f g inline b) cs o fin) = imported b ++ (clauses_imported cs ++ (opt_imported o ++ opt_imported fin))
+  imported_in (try (suite f g inline b) cs o fin) =
+      imported b ++ (clauses_imported cs ++ (opt_imported o ++ opt_imported fin))
   imported_in (def x ps ds comma (suite f g inline b)) = imported b
   imported_in (match e header cs) = cases_imported cs
 
+  -- of the suite of an `else` or a `finally`, which may be missing
   pub opt_imported : OptSuite → List Text
   opt_imported no_suite = []
   opt_imported (has_suite (suite f g inline b)) = imported b
 
+  -- of the tests of an `if`
   pub arms_imported : Arms → List Text
   arms_imported no_arms = []
   arms_imported (arm t (suite f g inline b) rest) = imported b ++ arms_imported rest
 
+  -- of the clauses of a `try`
   pub clauses_imported : Clauses → List Text
   clauses_imported no_clauses = []
   clauses_imported (clause k x (suite f g inline b) rest) = imported b ++ clauses_imported rest
 
+  -- of the cases of a `match`
   pub cases_imported : Cases → List Text
   cases_imported no_cases = []
   cases_imported (case p g (suite f l inline b) rest) = imported b ++ cases_imported rest
@@ -75,6 +84,7 @@ folder_of (c ∷ cs) = with_front (nat_eq c 47) (folder_of cs)
 abbrev pub file_of : Text → Text → Text
 file_of folder x = folder ++ x ++ codes ".py"
 
+-- whether a module is loaded, and can be imported
 abbrev pub is_loaded : List LoadedModule → Text → Bool
 is_loaded ms x = is_found (imported_number ms x)
   where
@@ -82,26 +92,34 @@ is_loaded ms x = is_found (imported_number ms x)
     is_found None = false
     is_found (Some m) = true
 
+-- the modules with one more, where its file is there
 abbrev pub put_module : Text → Text → List LoadedModule → Option Stmts → List LoadedModule
 put_module x path ms None = ms
 put_module x path ms (Some body) = ms ++ record { name = x; path = path; body = body } ∷ []
 
--- the loaded modules with those that these names add: a file is loaded once, where it is there, and none for `sys`
+-- the loaded modules with those that these names add: a file is loaded once, where it is there, and
+-- none for `sys`
 unfoldable pub with_imports : Files → Text → List LoadedModule → List Text → List LoadedModule
 with_imports files folder ms [] = ms
 with_imports files folder ms (x ∷ xs) =
-    if is_same_text x (codes "sys") || is_loaded ms x then with_imports files folder ms xs
-    else with_imports files folder (put_module x (file_of folder x) ms (file_at files (file_of folder x))) xs
+    if is_same_text x (codes "sys") || is_loaded ms x
+    then with_imports files folder ms xs
+    else with_imports files folder
+    (put_module x (file_of folder x) ms (file_at files (file_of folder x))) xs
 
-abbrev pub on_module : Option LoadedModule → List LoadedModule → (LoadedModule → List LoadedModule) → List LoadedModule
+-- goes on with a module, where it is there
+abbrev pub on_module : Option LoadedModule → List LoadedModule → (LoadedModule → List LoadedModule)
+    → List LoadedModule
 on_module None ms f = ms
 on_module (Some m) ms f = f m
 
--- The modules with those that the ones from a number on import, in turn. After the script each file is loaded at most once.
+-- The modules with those that the ones from a number on import, in turn. After the script each file
+-- is loaded at most once.
 unfoldable pub load_from : ℕ → Files → Text → ℕ → List LoadedModule → List LoadedModule
 load_from zero files folder k ms = ms
 load_from (suc n) files folder k ms =
-    on_module (slice_get ms k) ms (λ m. load_from n files folder (suc k) (with_imports files folder ms (imported m.body)))
+    on_module (slice_get ms k) ms (λ m.
+    load_from n files folder (suc k) (with_imports files folder ms (imported m.body)))
 
 -- the files of a program, which of them is its script, and the name of the script's module
 pub record Program : Type 0 where

@@ -16,11 +16,13 @@ pub record LoadedModule : Type 0 where
   pub path : Text
   pub body : Stmts
 
--- The number, from 1, of the function whose `def` begins at a line. Of two in one line, which no text spells, it is the first.
+-- The number, from 1, of the function whose `def` begins at a line. Of two in one line, which no
+-- text spells, it is the first.
 unfoldable pub unit_at : ℕ → List Function → ℕ
 unit_at l [] = 0
 unit_at l (f ∷ fs) = if nat_eq f.line l then 1 else suc (unit_at l fs)
 
+-- the body of a module, where there is one
 abbrev pub module_body : Option LoadedModule → Stmts
 module_body None = no_stmts
 module_body (Some m) = m.body
@@ -29,17 +31,21 @@ module_body (Some m) = m.body
 abbrev pub body_of : List LoadedModule → ℕ → Stmts
 body_of ms m = module_body (slice_get ms m)
 
+-- its name
 abbrev pub module_name : Option LoadedModule → Text
 module_name None = []
 module_name (Some m) = m.name
 
+-- the name of the module with a number
 abbrev pub name_of : List LoadedModule → ℕ → Text
 name_of ms m = module_name (slice_get ms m)
 
+-- a function, or else the body of a module as one
 abbrev pub function_or : Stmts → Option Function → Function
 function_or b None = record { line = 1; name = []; params = []; body = b }
 function_or b (Some f) = f
 
+-- the unit with a number among those of a body
 abbrev pub unit_in : Stmts → ℕ → Function
 unit_in b zero = function_or b None
 unit_in b (suc k) = function_or b (slice_get (functions b) k)
@@ -48,6 +54,7 @@ unit_in b (suc k) = function_or b (slice_get (functions b) k)
 abbrev pub unit_of : List LoadedModule → CodeId → Function
 unit_of ms code = unit_in (body_of ms code.module) code.unit
 
+-- the function of a unit, where its module has it
 abbrev pub function_in : Option LoadedModule → ℕ → Option Function
 function_in None k = None
 function_in (Some m) zero = Some (function_or m.body None)

@@ -20,6 +20,7 @@ use Rattle.py_builtins.specs.Items.{sequence_items, of_length}
 abbrev pub Match : Type 0
 Match = Option Names
 
+-- a match that binds nothing, where something holds
 abbrev pub match_if : Bool → Match
 match_if true = Some []
 match_if false = None
@@ -33,6 +34,7 @@ and_then (Some names) rest = rest >>= λ found. Ok (joined_to names found)
     joined_to names None = None
     joined_to names (Some more) = Some (names ++ more)
 
+-- a match, or else another one
 abbrev pub or_else : Match → Ans Match → Ans Match
 or_else None rest = rest
 or_else (Some names) rest = Ok (Some names)
@@ -49,22 +51,28 @@ constant_matches minus (c_str pieces) v h = compare_of Eq v (str_value (run_toge
 constant_matches minus c_none v h = Ok (is_none_value v)
 constant_matches minus (c_bool b) v h = Ok (is_bool_value b v)
 
+-- how many patterns there are
 abbrev pub pattern_count : Patterns → ℕ
 pattern_count no_patterns = 0
 pattern_count (patterns p ps) = suc (pattern_count ps)
 
+-- goes on with items, where there are so many
 abbrev pub on_items : Option (List PlainValue) → (List PlainValue → Ans Match) → Ans Match
 on_items None f = Ok None
 on_items (Some vs) f = f vs
 
 unfoldable mutual
+  -- a pattern
   pub matched : Scope → Setting → Pattern → PlainValue → Ans Match
   matched p w (literal minus c) v = constant_matches minus c v w.world.heap >>= λ b. Ok (match_if b)
   matched p w (capture x) v = Ok (Some ((x, v) ∷ []))
   matched p w wild v = Ok (Some [])
   matched p w (member m x) v =
-      fetched p m w >>= λ of. attribute of x w.world >>= λ u. compare_of Eq v u w.world.heap >>= λ b. Ok (match_if b)
-  matched p w (sequence brackets qs comma) v = on_items (of_length (pattern_count qs) (sequence_items v w.world.heap)) (λ vs. matched_each p w qs vs)
+      fetched p m w >>= λ of. attribute of x w.world >>= λ u.
+      compare_of Eq v u w.world.heap >>= λ b. Ok (match_if b)
+  matched p w (sequence brackets qs comma) v =
+      on_items (of_length (pattern_count qs) (sequence_items v w.world.heap)) (λ vs.
+      matched_each p w qs vs)
   matched p w (p_or qs) v = matched_one p w qs v
   matched p w (p_as q x) v = matched p w q v >>= λ found. and_then found (Ok (Some ((x, v) ∷ [])))
   matched p w (p_paren q) v = matched p w q v
@@ -73,12 +81,14 @@ unfoldable mutual
   pub matched_each : Scope → Setting → Patterns → List PlainValue → Ans Match
   matched_each p w no_patterns vs = Ok (Some [])
   matched_each p w (patterns q qs) [] = Ok None
-  matched_each p w (patterns q qs) (v ∷ vs) = matched p w q v >>= λ found. and_then found (matched_each p w qs vs)
+  matched_each p w (patterns q qs) (v ∷ vs) =
+      matched p w q v >>= λ found. and_then found (matched_each p w qs vs)
 
   -- the first alternative that matches
   pub matched_one : Scope → Setting → Patterns → PlainValue → Ans Match
   matched_one p w no_patterns v = Ok None
-  matched_one p w (patterns q qs) v = matched p w q v >>= λ found. or_else found (matched_one p w qs v)
+  matched_one p w (patterns q qs) v =
+      matched p w q v >>= λ found. or_else found (matched_one p w qs v)
 
 -- the names bound, in order
 abbrev pub bind_all : Scope → Names → Setting → Setting

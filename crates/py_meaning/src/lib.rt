@@ -1,13 +1,14 @@
-//! What programs of the language mean: what they write, how they end, their steps, and the lines, arcs and events of
-//! their activations. There are definitions and laws over them, and no call that a program makes: each function below does
-//! nothing, and stands for the law that its contract states.
+//! What programs of the language mean: what they write, how they end, their steps, and the lines,
+//! arcs and events of their activations. There are definitions and laws over them, and no call that
+//! a program makes: each function below does nothing, and stands for the law that its contract
+//! states.
 #![tactic(auto)]
 
 ghost use Rattle.py_builtins.specs.NameLaws.{NameLaw};
 ghost use Rattle.py_meaning.specs.Laws.{ProgramBudgetLaw, ModulesBudgetLaw, CallBudgetLaw, ProgramPrefixLaw, ModulesPrefixLaw, CallPrefixLaw, StepsLaw, SteadyLaw, UncutLaw, EventsLaw};
 
-/// A larger budget changes nothing: where a program isn't cut, its run is the same with every budget of at least the
-/// steps that it took, and is cut with every smaller one.
+/// A larger budget changes nothing: where a program isn't cut, its run is the same with every
+/// budget of at least the steps that it took, and is cut with every smaller one.
 pub fn larger_budget()
     ensures { ProgramBudgetLaw }
 {}
@@ -22,7 +23,8 @@ pub fn larger_budget_of_call()
     ensures { CallBudgetLaw }
 {}
 
-/// What a program writes and tells within a budget is the beginning of what it writes and tells within a larger one.
+/// What a program writes and tells within a budget is the beginning of what it writes and tells
+/// within a larger one.
 pub fn smaller_budget()
     ensures { ProgramPrefixLaw }
 {}

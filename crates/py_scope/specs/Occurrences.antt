@@ -1,9 +1,11 @@
--- The occurrences of names in a body of a module or a function, in the order of the text. The body of a function that it defines
--- is none of it; the defaults of that function's parameters are.
---     in_expr                               of an expression; in_exprs and the like for what stands in it
+-- The occurrences of names in a body of a module or a function, in the order of the text. The body
+-- of a function that it defines is none of it; the defaults of that function's parameters are.
+--     in_expr                               of an expression; in_exprs and the like for what stands
+--                                           in it
 --     in_target, in_pattern                 of what is assigned to
 --     assigning, in_aliases, declaring      names as occurrences
---     occurrences, in_kind                  of statements; in_suite and the like for what stands in them
+--     occurrences, in_kind                  of statements; in_suite and the like for what stands in
+--                                           them
 use Rattle.std.specs.Prelude.{ℕ, List, [], ◌∷◌, ◌++◌, map, Option, Some, None}
 use Rattle.py_syntax.specs.Tree.{Text, Expr, name, int, str, fstr, none, bool, tuple, list, dict, paren, not', and, or, unary, binary, compare, cond, call, index, slice, attr, Exprs, no_exprs, exprs, Pairs, no_pairs, pair, Links, no_links, link, OptExpr, absent, present, Fragments, no_fragments, plain, format, Parts, no_parts, text, field}
 use Rattle.py_syntax.specs.Tree.{Alias, Pattern, literal, capture, wild, member, sequence, p_or, p_as, p_paren, Patterns, no_patterns, patterns}
@@ -37,27 +39,33 @@ abbrev mutual
   in_expr (slice a f t) = in_expr a ++ (in_optional f ++ in_optional t)
   in_expr (attr a x) = in_expr a
 
+  -- of expressions in a row
   pub in_exprs : Exprs → List Occurrence
   in_exprs no_exprs = []
   in_exprs (exprs e es) = in_expr e ++ in_exprs es
 
+  -- of the pairs of a dict
   pub in_pairs : Pairs → List Occurrence
   in_pairs no_pairs = []
   in_pairs (pair k v ps) = in_expr k ++ (in_expr v ++ in_pairs ps)
 
+  -- of the comparisons of a chain
   pub in_links : Links → List Occurrence
   in_links no_links = []
   in_links (link op e ls) = in_expr e ++ in_links ls
 
+  -- of a bound of a slice, where there is one
   pub in_optional : OptExpr → List Occurrence
   in_optional absent = []
   in_optional (present e) = in_expr e
 
+  -- of neighbouring strings
   pub in_fragments : Fragments → List Occurrence
   in_fragments no_fragments = []
   in_fragments (plain x fs) = in_fragments fs
   in_fragments (format ps fs) = in_parts ps ++ in_fragments fs
 
+  -- of the parts of an f-string
   pub in_parts : Parts → List Occurrence
   in_parts no_parts = []
   in_parts (text x ps) = in_parts ps
@@ -70,6 +78,7 @@ in_option (Some e) = in_expr e
 
 -- of a target
 abbrev mutual
+  -- a name is assigned; in an item its object and its index are used
   pub in_target : Expr → List Occurrence
   in_target (name x) = Assigns x ∷ []
   in_target (int n) = in_expr (int n)
@@ -93,12 +102,14 @@ abbrev mutual
   in_target (slice a f t) = in_expr (slice a f t)
   in_target (attr a x) = in_expr (attr a x)
 
+  -- of targets in a row
   pub in_targets : Exprs → List Occurrence
   in_targets no_exprs = []
   in_targets (exprs e es) = in_target e ++ in_targets es
 
 -- of a pattern; `m.x` Uses m
 abbrev mutual
+  -- the names that are captured are assigned
   pub in_pattern : Pattern → List Occurrence
   in_pattern (literal minus c) = []
   in_pattern (capture x) = Assigns x ∷ []
@@ -109,6 +120,7 @@ abbrev mutual
   in_pattern (p_as p x) = in_pattern p ++ Assigns x ∷ []
   in_pattern (p_paren p) = in_pattern p
 
+  -- of patterns in a row
   pub in_patterns : Patterns → List Occurrence
   in_patterns no_patterns = []
   in_patterns (patterns p ps) = in_pattern p ++ in_patterns ps
@@ -157,21 +169,26 @@ abbrev mutual
   in_kind line (def x ps ds c b) = Assigns x ∷ in_exprs ds
   in_kind line (match e last cs) = in_expr e ++ in_cases cs
 
+  -- of a suite
   pub in_suite : Suite → List Occurrence
   in_suite (suite first last inline b) = occurrences b
 
+  -- of the suite of an `else` or a `finally`, which may be missing
   pub in_opt : OptSuite → List Occurrence
   in_opt no_suite = []
   in_opt (has_suite s) = in_suite s
 
+  -- of the tests of an `if`
   pub in_arms : Arms → List Occurrence
   in_arms no_arms = []
   in_arms (arm t b arms) = in_expr t ++ (in_suite b ++ in_arms arms)
 
+  -- of the clauses of a `try`
   pub in_clauses : Clauses → List Occurrence
   in_clauses no_clauses = []
   in_clauses (clause e x b cs) = in_option e ++ (in_bound x ++ (in_suite b ++ in_clauses cs))
 
+  -- of the cases of a `match`
   pub in_cases : Cases → List Occurrence
   in_cases no_cases = []
   in_cases (case p g b cs) = in_pattern p ++ (in_option g ++ (in_suite b ++ in_cases cs))

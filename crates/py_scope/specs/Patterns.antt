@@ -1,7 +1,8 @@
 -- What a pattern may be blamed for.
 --     repeats_in, has_repeats      names that stand twice
 --     is_early, has_early          patterns that match everything and stand before others
---     binds, alternative_binds     patterns that bind a name, and those with an alternative that does
+--     binds, alternative_binds     patterns that bind a name, and those with an alternative that
+--                                  does
 --     is_twice_named               patterns that bind a name twice
 use Rattle.std.specs.Prelude.{Bool, true, false, not, ◌&&◌, ◌||◌, List, [], ◌∷◌}
 use Rattle.py_syntax.specs.Tree.{Text, Pattern, literal, capture, wild, member, sequence, p_or, p_as, p_paren, Patterns, no_patterns, patterns}
@@ -29,6 +30,7 @@ is_early (patterns p ps) = (is_irrefutable p && not (is_last ps)) || is_early ps
 
 -- Somewhere in it an irrefutable alternative stands before the last of its list.
 abbrev mutual
+  -- in a pattern
   pub has_early : Pattern → Bool
   has_early (literal minus c) = false
   has_early (capture x) = false
@@ -39,12 +41,14 @@ abbrev mutual
   has_early (p_as p x) = has_early p
   has_early (p_paren p) = has_early p
 
+  -- in one of these patterns
   pub some_early : Patterns → Bool
   some_early no_patterns = false
   some_early (patterns p ps) = has_early p || some_early ps
 
 -- It binds a name.
 abbrev mutual
+  -- a pattern binds one
   pub binds : Pattern → Bool
   binds (literal minus c) = false
   binds (capture x) = true
@@ -55,12 +59,14 @@ abbrev mutual
   binds (p_as p x) = true
   binds (p_paren p) = binds p
 
+  -- one of these patterns does
   pub some_binds : Patterns → Bool
   some_binds no_patterns = false
   some_binds (patterns p ps) = binds p || some_binds ps
 
 -- Somewhere in it an alternative binds a name.
 abbrev mutual
+  -- in a pattern
   pub alternative_binds : Pattern → Bool
   alternative_binds (literal minus c) = false
   alternative_binds (capture x) = false
@@ -71,6 +77,7 @@ abbrev mutual
   alternative_binds (p_as p x) = alternative_binds p
   alternative_binds (p_paren p) = alternative_binds p
 
+  -- in one of these patterns
   pub some_alternative_binds : Patterns → Bool
   some_alternative_binds no_patterns = false
   some_alternative_binds (patterns p ps) = alternative_binds p || some_alternative_binds ps

@@ -3,7 +3,8 @@ use Rattle.std.specs.Prelude.{Bool, not, ◌&&◌, List, filter}
 use Rattle.py_syntax.specs.Tree.{Text}
 use Rattle.py_syntax.specs.Names.{is_among}
 
--- the names that it assigns, parameters first, and those that it declares `global`, each once, in the order of the text
+-- the names that it assigns, parameters first, and those that it declares `global`, each once, in
+-- the order of the text
 pub record Names : Type 0 where
   pub assigned : List Text
   pub globals : List Text

@@ -1,6 +1,6 @@
 // Sets of names in the order in which they came.
 
-ghost use Rattle.std.specs.Prelude.{◌≡◌, [], not, filter, IfOk, OnOk, OnErr};
+ghost use Rattle.std.specs.Prelude.{◌≡◌, ◌<◌, ◌^◌, [], length, slice_get, Some, not, filter, IfOk, OnOk, OnErr};
 ghost use Rattle.py_syntax.specs.Names.{is_among, add_name};
 
 use indexmap::IndexSet;
@@ -32,7 +32,7 @@ impl Model for NameSet {
 }
 
 impl NameSet {
-    pub(crate) fn new(alloc: Global) -> NameSet
+    pub fn new(alloc: Global) -> NameSet
         ensures { result ≡ [] }
     {
         NameSet {
@@ -41,7 +41,7 @@ impl NameSet {
     }
 
     /// Adds a name, and tells whether it is new.
-    pub(crate) fn insert(&mut self, alloc: Global, name: &Text) -> Result<bool, NoMemory>
+    pub fn insert(&mut self, alloc: Global, name: &Text) -> Result<bool, NoMemory>
         ensures added { OnOk result (self.new ≡ add_name self.old name.now) }
         ensures is_new { IfOk result (λ b. b ≡ not (is_among self.old name.now)) }
         ensures err { OnErr result (self.new ≡ self.old) }
@@ -55,6 +55,23 @@ impl NameSet {
         ensures { result ≡ is_among self.now name.now }
     {
         self.all.contains(name.as_str())
+    }
+
+    /// How many names there are.
+    pub fn len(&self) -> usize
+        ensures len { result ≡ length self.now }
+        ensures small { result < 2 ^ 63 }
+    {
+        self.all.len()
+    }
+
+    /// The name of this number, counted from 0.
+    pub fn get(&self, alloc: Global, at: usize) -> Result<Text, NoMemory>
+        requires { at < length self.now }
+        ensures { IfOk result (λ name. slice_get self.now at ≡ Some name) }
+    {
+        let name = &self.all.as_slice()[at];
+        Text::from_str(alloc, name.as_str())
     }
 
     /// The names that other ones lack, in order.

@@ -1,18 +1,28 @@
 -- The lists of a unit.
 --     plain_lists                    the lists in memory as such
+--     variable_of                    where the value of a name is kept
 --     instrs_of                      the instructions of cells
 --     plain_heading                  what stands at the head of a function
-use Rattle.std.specs.Prelude.{List, map}
+use Rattle.std.specs.Prelude.{if◌then◌else◌, List, map}
+use Rattle.py_value.specs.Keys.{is_same_text}
 use Rattle.py_syntax.specs.Functions.{Function}
-use Rattle.py_syntax.specs.Tree.{no_stmts}
+use Rattle.py_syntax.specs.Names.{is_among}
+use Rattle.py_syntax.specs.Tree.{Text, no_stmts}
 use Rattle.py_code.specs.declared.instr.Instr.{Instr}
-use Rattle.py_compile_expr.specs.Cells.{Cell, Tables, instr_of}
+use Rattle.py_compile_expr.specs.Cells.{Cell, Tables, place_in, name_at, instr_of}
 use Rattle.py_unit.specs.declared.numbering.Lists.{Lists}
+use Rattle.py_unit.specs.declared.numbering.Variable.{Variable}
+use Rattle.py_unit.specs.declared.numbering.Variable.TheVariants.{Local, Global}
 use Rattle.py_unit.specs.declared.unit.Heading.{Heading}
 
 -- the lists in memory as such
 abbrev pub plain_lists : Lists → Tables
 plain_lists l = record { own = l.own; names = l.names; constants = l.constants; lines = l.lines }
+
+-- the slot of a name that is the unit's own, and the place of another one among the names
+abbrev pub variable_of : Tables → Text → Variable
+variable_of t x =
+    if is_among t.own x then Local (place_in is_same_text t.own x) else Global (name_at t x)
 
 -- the instructions of cells by the lists of their unit
 abbrev pub instrs_of : Tables → List Cell → List Instr

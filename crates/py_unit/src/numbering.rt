@@ -1,10 +1,9 @@
 // Instructions by the lists of their unit.
 
 ghost use Rattle.std.specs.Prelude.{◌≡◌, map, IfOk, OnOk};
-ghost use Rattle.py_compile_expr.specs.Cells.{load, store, unset, instr_of, with_global_name};
-ghost use Rattle.py_compile_expr.specs.Cells.{tables_with, tables_of};
+ghost use Rattle.py_compile_expr.specs.Cells.{instr_of, with_global_name, tables_with, tables_of};
 ghost use Rattle.py_compile_expr.specs.CellView.{plain_op, plain_cell};
-ghost use Rattle.py_unit.specs.Lists.{plain_lists, instrs_of};
+ghost use Rattle.py_unit.specs.Lists.{plain_lists, variable_of, instrs_of};
 
 use crate::constants::Constants;
 use crate::lines::Lines;
@@ -21,6 +20,13 @@ pub(crate) struct Lists {
     pub names: Names,
     pub constants: Constants,
     pub lines: Lines,
+}
+
+/// A name of a unit: its slot where it is the unit's own, and else its place among other names.
+#[derive(Clone, Copy)]
+pub(crate) enum Variable {
+    Local(u32),
+    Global(u32),
 }
 
 /// The instructions of cells, whose names, constants and lines are added to the lists.
@@ -55,83 +61,46 @@ fn numbered_one(alloc: Global, lists: &mut Lists, op: &Op) -> Result<Instr, NoMe
             let place = lists.constants.place(alloc, constant)?;
             Ok(Instr::Constant(place))
         }
-        Op::Load(name) => load(alloc, lists, name),
-        Op::Store(name) => store(alloc, lists, name),
-        Op::Unset(name) => unset(alloc, lists, name),
-        Op::Attribute(name) => {
-            let place = lists.names.place(alloc, name)?;
-            Ok(Instr::Attribute(place))
-        }
-        Op::Method(name) => {
-            let place = lists.names.place(alloc, name)?;
-            Ok(Instr::Method(place))
-        }
-        Op::Import(name) => {
-            let place = lists.names.place(alloc, name)?;
-            Ok(Instr::Import(place))
-        }
-        Op::Module(name) => {
-            let place = lists.names.place(alloc, name)?;
-            Ok(Instr::Module(place))
-        }
+        Op::Load(name) => match variable_of(alloc, lists, name)? {
+            Variable::Local(place) => Ok(Instr::LoadLocal(place)),
+            Variable::Global(place) => Ok(Instr::LoadGlobal(place)),
+        },
+        Op::Store(name) => match variable_of(alloc, lists, name)? {
+            Variable::Local(place) => Ok(Instr::StoreLocal(place)),
+            Variable::Global(place) => Ok(Instr::StoreGlobal(place)),
+        },
+        Op::Unset(name) => match variable_of(alloc, lists, name)? {
+            Variable::Local(place) => Ok(Instr::UnsetLocal(place)),
+            Variable::Global(place) => Ok(Instr::UnsetGlobal(place)),
+        },
+        Op::Attribute(name) => Ok(Instr::Attribute(lists.names.place(alloc, name)?)),
+        Op::Method(name) => Ok(Instr::Method(lists.names.place(alloc, name)?)),
+        Op::Import(name) => Ok(Instr::Import(lists.names.place(alloc, name)?)),
+        Op::Module(name) => Ok(Instr::Module(lists.names.place(alloc, name)?)),
         Op::Take(of, name) => {
             let first = lists.names.place(alloc, of)?;
             let second = lists.names.place(alloc, name)?;
             Ok(Instr::Take(first, second))
         }
-        Op::Mark(line) => {
-            let place = lists.lines.place(*line)?;
-            Ok(Instr::Mark(place))
-        }
-        Op::Again(line) => {
-            let place = lists.lines.place(*line)?;
-            Ok(Instr::Again(place))
-        }
+        Op::Mark(line) => Ok(Instr::Mark(lists.lines.place(*line)?)),
+        Op::Again(line) => Ok(Instr::Again(lists.lines.place(*line)?)),
         Op::Plain(instr) => Ok(*instr),
     }
 }
 
-fn load(alloc: Global, lists: &mut Lists, name: &Text) -> Result<Instr, NoMemory>
+/// Where the value of a name is kept: in a slot, or under the name in its module. The lists have
+/// the name from then on.
+fn variable_of(alloc: Global, lists: &mut Lists, name: &Text) -> Result<Variable, NoMemory>
     ensures lists { OnOk result (plain_lists lists.new
         ≡ with_global_name (plain_lists lists.old) name.now) }
-    ensures instr { IfOk result (λ i. i
-        ≡ instr_of (with_global_name (plain_lists lists.old) name.now) (load name.now)) }
+    ensures variable { IfOk result (λ v. v
+        ≡ variable_of (with_global_name (plain_lists lists.old) name.now) name.now) }
 {
     if lists.own.contains(name) {
         let place = lists.own.place(alloc, name)?;
-        Ok(Instr::LoadLocal(place))
+        Ok(Variable::Local(place))
     } else {
         let place = lists.names.place(alloc, name)?;
-        Ok(Instr::LoadGlobal(place))
-    }
-}
-
-fn store(alloc: Global, lists: &mut Lists, name: &Text) -> Result<Instr, NoMemory>
-    ensures lists { OnOk result (plain_lists lists.new
-        ≡ with_global_name (plain_lists lists.old) name.now) }
-    ensures instr { IfOk result (λ i. i
-        ≡ instr_of (with_global_name (plain_lists lists.old) name.now) (store name.now)) }
-{
-    if lists.own.contains(name) {
-        let place = lists.own.place(alloc, name)?;
-        Ok(Instr::StoreLocal(place))
-    } else {
-        let place = lists.names.place(alloc, name)?;
-        Ok(Instr::StoreGlobal(place))
-    }
-}
-
-fn unset(alloc: Global, lists: &mut Lists, name: &Text) -> Result<Instr, NoMemory>
-    ensures lists { OnOk result (plain_lists lists.new
-        ≡ with_global_name (plain_lists lists.old) name.now) }
-    ensures instr { IfOk result (λ i. i
-        ≡ instr_of (with_global_name (plain_lists lists.old) name.now) (unset name.now)) }
-{
-    if lists.own.contains(name) {
-        let place = lists.own.place(alloc, name)?;
-        Ok(Instr::UnsetLocal(place))
-    } else {
-        let place = lists.names.place(alloc, name)?;
-        Ok(Instr::UnsetGlobal(place))
+        Ok(Variable::Global(place))
     }
 }
