@@ -12,7 +12,7 @@ use Rattle.py_code.specs.Units.{Code}
 use Rattle.py_compile.specs.Definitions.{Definition, function_of, definitions, definitions_in}
 use Rattle.py_compile.specs.ProgramRuns.{HasFunctions}
 use Rattle.py_fits.specs.Making.{defaults_in}
-use Rattle.py_makers.specs.Makers.{NoneAt, HaveOwnLines}
+use Rattle.py_own_lines.specs.OwnLines.{NoneAt, HaveOwnLines}
 use Rattle.py_makers.proofs.Leaves.{own_number, other_number}
 
 abbrev pub Answered : List Code → List Function → Definition → Type 0

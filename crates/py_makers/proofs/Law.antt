@@ -15,7 +15,8 @@ use Rattle.py_compile.specs.ProgramRuns.{HasFunctions, HasUnits, AreFaithful, Ar
 use Rattle.py_compile.specs.Units.{body_function}
 use Rattle.py_fits.specs.Making.{MakesFunctions}
 use Rattle.py_trace.specs.Traces.{AreWellFormed, HavePremises}
-use Rattle.py_makers.specs.Makers.{HaveOwnLines, AreOnOwnLines, CodeMakes}
+use Rattle.py_own_lines.specs.OwnLines.{HaveOwnLines}
+use Rattle.py_makers.specs.Makers.{AreOnOwnLines, CodeMakes}
 use Rattle.py_makers.proofs.Bodies.{unit_makes}
 use Rattle.py_makers.proofs.Defaults.{AllAnswered, numbered}
 use Rattle.py_makers.proofs.Nested.{AreFlat, back_none, flat}

@@ -9,7 +9,7 @@ use Rattle.py_meaning.proofs.Sources.{num, items, line, end}
 use Rattle.py_code.specs.Units.{Module}
 use Rattle.py_compile.specs.Units.{units_code}
 use Rattle.py_fits.proofs.Checking.{are_makers}
-use Rattle.py_makers.specs.Makers.{HaveOwnLines}
+use Rattle.py_own_lines.specs.OwnLines.{HaveOwnLines}
 
 abbrev pass_on : ℕ → T.Suite
 pass_on l = T.suite l l true (line l T.pass end)
