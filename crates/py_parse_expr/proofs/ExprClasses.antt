@@ -1,16 +1,19 @@
 -- The classes of tokens where all f-strings are one.
 use Rattle.std.proofs.Common.{◌≡◌, Option, Some, None, refl, ap, ◌∙◌}
 use Rattle.std.specs.Global.{Vec}
+use Rattle.py_token.specs.declared.token.Mark.{Mark}
+use Rattle.py_token.specs.declared.token.Mark.TheVariants as mark
 use Rattle.py_token.specs.declared.token.Piece.{Piece}
 use Rattle.py_token.specs.declared.token.TokenKind.TheVariants as kind_
 use Rattle.py_token.specs.Plain.{piece_row}
 use Rattle.py_token.specs.View.{view_kind, view_pieces}
 use Rattle.py_token.proofs.Views.{plain-fstring}
 use Rattle.py_syntax.specs.Tree.{Parts}
-use Rattle.py_syntax.specs.Kinds.{End, Pieces, bare_kind, bare_pieces}
+use Rattle.py_syntax.specs.Kinds.{Sign, End, Pieces, bare_kind, bare_pieces}
 use Rattle.py_grammar.specs.TokenClasses.{t_other}
 use Rattle.py_grammar.specs.Machine.{format_class, class, parts}
-use Rattle.py_parse_expr.specs.ExprViews.{plain_class}
+use Rattle.py_parse_fields.specs.Frames.{bare_class}
+use Rattle.py_parse_expr.specs.ExprViews.{plain_class, symbol_class}
 
 plain_format : (ps : Pieces) (o : Option Parts) → plain_class (format_class ps o) ≡ t_other End
 plain_format ps (Some qs) = refl
@@ -20,3 +23,8 @@ pub plain_fstring : (ps : Vec Piece) → plain_class (class (bare_kind (view_kin
 plain_fstring ps =
     let qs = bare_pieces (piece_row (view_pieces ps.items)) in
     ap (λ k. plain_class (class (bare_kind k))) (plain-fstring ps) ∙ plain_format qs (parts qs)
+
+-- a mark holds nothing and is no expression
+pub mark_symbol : (m : Mark) → symbol_class (bare_class (class (Sign m))) ≡ plain_class (class (Sign m))
+mark_symbol mark.Comma = refl
+mark_symbol m = refl

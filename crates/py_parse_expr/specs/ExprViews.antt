@@ -1,7 +1,7 @@
 -- Classes of tokens and expressions as the code holds them.
 --     view_precedence, view_operator          precedences and operators
 --     view_fields, view_class, ValidClass     the class of a token
---     plain_class, mark_class, word_class     its class without what it holds
+--     plain_class .. word_class               its class without what it holds
 --     capped, view_measured, IsMeasured       an expression with its height
 --     view_row .. AreFields                   lists of such expressions
 --     plains, view_strings, ValidStrings      strings side by side
@@ -82,6 +82,18 @@ plain_class (t_format ps) = t_other End
 plain_class (t_bad_format ps) = t_other End
 plain_class (t_other k) = t_other End
 plain_class r = r
+
+-- a class where all that hold something or are expressions are one
+abbrev pub symbol_class : TokenClass → TokenClass
+symbol_class (t_name x) = t_other End
+symbol_class (t_int n) = t_other End
+symbol_class t_none = t_other End
+symbol_class (t_bool b) = t_other End
+symbol_class (t_string x) = t_other End
+symbol_class (t_format ps) = t_other End
+symbol_class (t_bad_format ps) = t_other End
+symbol_class (t_other k) = t_other End
+symbol_class r = r
 
 abbrev pub mark_class : Mark → TokenClass
 mark_class m = plain_class (class (Sign m))

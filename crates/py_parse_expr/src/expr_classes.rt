@@ -6,9 +6,11 @@ ghost use Rattle.py_syntax.specs.Kinds.{bare_kind};
 ghost use Rattle.py_syntax.specs.Normal.{rank};
 ghost use Rattle.py_grammar.specs.TokenClasses.{operator_level, operator_right, begins};
 ghost use Rattle.py_grammar.specs.Machine.{at_most, same_level, class};
-ghost use Rattle.py_parse_expr.specs.ExprViews.{view_precedence, view_operator, view_class, word_class, mark_class, plain_class};
+ghost use Rattle.py_parse_fields.specs.Frames as bare_;
+ghost use Rattle.py_parse_expr.specs.ExprViews.{view_precedence, view_operator, view_class, word_class, mark_class, plain_class, symbol_class};
 
 use crate::expr_nodes::Fields;
+use py_parse_fields::token_classes;
 use py_token::{Keyword, Mark, TokenKind};
 use py_value::{BinOp, CmpOp, NoMemory, Text};
 
@@ -141,39 +143,52 @@ fn word_class(word: Keyword) -> TokenClass
     }
 }
 
+fn held_operator(operator: token_classes::BinaryOperator) -> BinaryOperator
+    ensures { view_operator result ≡ bare_.view_operator operator }
+{
+    match operator {
+        token_classes::BinaryOperator::Or => BinaryOperator::Or,
+        token_classes::BinaryOperator::And => BinaryOperator::And,
+        token_classes::BinaryOperator::Op(op) => BinaryOperator::Op(op),
+    }
+}
+
+/// The class of a token that holds neither a text nor a tree and is no expression; all others are
+/// one.
+fn symbol(class: token_classes::TokenClass) -> TokenClass
+    ensures { view_class result ≡ symbol_class (bare_.view_class class) }
+{
+    match class {
+        token_classes::TokenClass::Name => TokenClass::Other,
+        token_classes::TokenClass::Number => TokenClass::Other,
+        token_classes::TokenClass::Constant => TokenClass::Other,
+        token_classes::TokenClass::Text => TokenClass::Other,
+        token_classes::TokenClass::BadFormat => TokenClass::Other,
+        token_classes::TokenClass::Not => TokenClass::Not,
+        token_classes::TokenClass::Is => TokenClass::Is,
+        token_classes::TokenClass::If => TokenClass::If,
+        token_classes::TokenClass::Else => TokenClass::Else,
+        token_classes::TokenClass::Compare(op) => TokenClass::Compare(op),
+        token_classes::TokenClass::BinaryOperator(operator) => {
+            TokenClass::BinaryOperator(held_operator(operator))
+        }
+        token_classes::TokenClass::Comma => TokenClass::Comma,
+        token_classes::TokenClass::Colon => TokenClass::Colon,
+        token_classes::TokenClass::Dot => TokenClass::Dot,
+        token_classes::TokenClass::LeftParen => TokenClass::LeftParen,
+        token_classes::TokenClass::RightParen => TokenClass::RightParen,
+        token_classes::TokenClass::LeftBracket => TokenClass::LeftBracket,
+        token_classes::TokenClass::RightBracket => TokenClass::RightBracket,
+        token_classes::TokenClass::LeftBrace => TokenClass::LeftBrace,
+        token_classes::TokenClass::RightBrace => TokenClass::RightBrace,
+        token_classes::TokenClass::Other => TokenClass::Other,
+    }
+}
+
 fn operator_class(mark: Mark) -> TokenClass
     ensures { view_class result ≡ mark_class mark }
 {
-    match mark {
-        Mark::EqualEqual => TokenClass::Compare(CmpOp::Eq),
-        Mark::NotEqual => TokenClass::Compare(CmpOp::Ne),
-        Mark::Less => TokenClass::Compare(CmpOp::Lt),
-        Mark::LessEqual => TokenClass::Compare(CmpOp::Le),
-        Mark::Greater => TokenClass::Compare(CmpOp::Gt),
-        Mark::GreaterEqual => TokenClass::Compare(CmpOp::Ge),
-        Mark::Plus => TokenClass::BinaryOperator(BinaryOperator::Op(BinOp::Add)),
-        Mark::Minus => TokenClass::BinaryOperator(BinaryOperator::Op(BinOp::Sub)),
-        Mark::Star => TokenClass::BinaryOperator(BinaryOperator::Op(BinOp::Mul)),
-        Mark::DoubleSlash => TokenClass::BinaryOperator(BinaryOperator::Op(BinOp::Floor)),
-        Mark::Percent => TokenClass::BinaryOperator(BinaryOperator::Op(BinOp::Mod)),
-        Mark::Comma => TokenClass::Comma,
-        Mark::Colon => TokenClass::Colon,
-        Mark::Dot => TokenClass::Dot,
-        Mark::LeftParen => TokenClass::LeftParen,
-        Mark::RightParen => TokenClass::RightParen,
-        Mark::LeftBracket => TokenClass::LeftBracket,
-        Mark::RightBracket => TokenClass::RightBracket,
-        Mark::LeftBrace => TokenClass::LeftBrace,
-        Mark::RightBrace => TokenClass::RightBrace,
-        Mark::DoubleSlashEqual => TokenClass::Other,
-        Mark::PlusEqual => TokenClass::Other,
-        Mark::MinusEqual => TokenClass::Other,
-        Mark::StarEqual => TokenClass::Other,
-        Mark::PercentEqual => TokenClass::Other,
-        Mark::Equal => TokenClass::Other,
-        Mark::Semicolon => TokenClass::Other,
-        Mark::Bar => TokenClass::Other,
-    }
+    symbol(token_classes::mark_class(mark))
 }
 
 /// The class of a token that is no f-string; an f-string has the one of a token that stands in no

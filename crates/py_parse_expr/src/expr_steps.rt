@@ -3,20 +3,17 @@
 ghost use Rattle.std.specs.Prelude.{◌≡◌, false};
 ghost use Rattle.py_syntax.specs.View.{plain_expr};
 ghost use Rattle.py_syntax.specs.Normal.{height, is_target};
-ghost use Rattle.py_grammar.specs.Machine.{snoc_link, Linked, Next, Have, step};
-ghost use Rattle.py_parse_expr.specs.ExprViews.{view_class, view_measured, view_links, IsMeasured, AreMeasured, AreEntries, IsChain, ValidOpener, ValidBound, ValidClass, ValidStrings};
+ghost use Rattle.py_grammar.specs.Machine.{Next, Have};
+ghost use Rattle.py_parse_expr.specs.ExprViews.{IsMeasured, ValidClass, ValidStrings};
 ghost use Rattle.py_parse_expr.specs.ExprStacks.{upto_post, upto_bracket, ValidGoal, ValidItems, ValidFrame, Valid};
-ghost use Rattle.py_parse_expr.specs.ExprTurns.{view_at, ValidAt, prefixed, begin_in, in_bracket, in_braces, Stays, Leaves, Moves, Steps};
+ghost use Rattle.py_parse_expr.specs.ExprTurns.{view_at, ValidAt, prefixed, begin_in, Leaves, Moves, Steps};
 
 use crate::expr_classes::{BinaryOperator, Precedence, TokenClass};
-use crate::expr_frames::{closes, link};
-use crate::expr_nodes::{
-    Chain, Entries, Measured, Opener, Row, Strings, attribute, dict, made, slice, tuple,
-};
+use crate::expr_nodes::{Measured, Opener, Row, Strings, attribute, tuple};
 use crate::expr_stack::{Frame, Goal, Stack};
 use crate::expr_turns::{FrameStep, Progress, Turn};
-use py_syntax::{Comparison, Expr, Sign};
-use py_value::{BinOp, CmpOp, NoMemory};
+use py_syntax::{Expr, Sign};
+use py_value::{BinOp, NoMemory};
 use std::alloc::Global;
 
 /// The outermost expression is whole, and is to be the target of a `for`, or its first item.
@@ -234,7 +231,7 @@ pub fn begin(
 }
 
 /// An expression of that level begins in a frame of its own.
-fn begin_in(
+pub fn begin_in(
     alloc: Global,
     stack: &mut Stack,
     frame: Frame,
@@ -279,21 +276,6 @@ pub fn in_strings(
                 Err(error)
             }
         },
-    }
-}
-
-pub fn after_open(alloc: Global, stack: &mut Stack, class: TokenClass) -> Result<Turn, NoMemory>
-    requires valid { Valid stack.old.limit stack.old }
-    requires class { ValidClass class }
-    ensures { Steps Progress.AfterOpen class stack.old stack.new result }
-{
-    match class {
-        TokenClass::RightParen => {
-            stack.push(Frame::PostRest)?;
-            let measured = tuple(alloc, Row::new(alloc), false)?;
-            Ok(Turn::Next(Progress::Have(measured)))
-        }
-        rest => begin_in(alloc, stack, Frame::InParen, Precedence::Exprs, rest),
     }
 }
 
@@ -345,105 +327,6 @@ pub fn after_target(
     begin(alloc, stack, Precedence::Post, class)
 }
 
-/// A bracket with items is closed, or another item begins.
-pub fn in_items(
-    alloc: Global,
-    stack: &mut Stack,
-    opener: Opener,
-    items: Row,
-    comma: bool,
-    class: TokenClass,
-) -> Result<Turn, NoMemory>
-    requires valid { Valid stack.old.limit stack.old }
-    requires opener { ValidOpener opener }
-    requires items { AreMeasured items }
-    requires class { ValidClass class }
-    ensures { Moves (in_bracket opener items comma class) stack.old stack.new result }
-{
-    if closes(&opener, &class) {
-        drop(class);
-        let measured = made(alloc, opener, items, comma)?;
-        stack.push(Frame::PostRest)?;
-        return Ok(Turn::Next(Progress::Have(measured)));
-    }
-    begin_in(
-        alloc,
-        stack,
-        Frame::InItems(opener, items),
-        Precedence::Expr,
-        class,
-    )
-}
-
-/// The bracket of a dict is closed, or another entry begins.
-pub fn in_dict(
-    alloc: Global,
-    stack: &mut Stack,
-    entries: Entries,
-    comma: bool,
-    class: TokenClass,
-) -> Result<Turn, NoMemory>
-    requires valid { Valid stack.old.limit stack.old }
-    requires entries { AreEntries entries }
-    requires class { ValidClass class }
-    ensures { Moves (in_braces entries comma class) stack.old stack.new result }
-{
-    match class {
-        TokenClass::RightBrace => {
-            stack.push(Frame::PostRest)?;
-            let measured = dict(alloc, entries, comma)?;
-            Ok(Turn::Next(Progress::Have(measured)))
-        }
-        rest => begin_in(alloc, stack, Frame::InKey(entries), Precedence::Expr, rest),
-    }
-}
-
-pub fn index_open(
-    alloc: Global,
-    stack: &mut Stack,
-    of: Measured,
-    class: TokenClass,
-) -> Result<Turn, NoMemory>
-    requires valid { Valid stack.old.limit stack.old }
-    requires of { IsMeasured of }
-    requires class { ValidClass class }
-    ensures { Steps (Progress.IndexOpen of) class stack.old stack.new result }
-{
-    match class {
-        TokenClass::Colon => Ok(Turn::Next(Progress::SliceColon(of, None))),
-        rest => begin_in(alloc, stack, Frame::IndexFirst(of), Precedence::Expr, rest),
-    }
-}
-
-pub fn slice_colon(
-    alloc: Global,
-    stack: &mut Stack,
-    of: Measured,
-    from: Option<Measured>,
-    class: TokenClass,
-) -> Result<Turn, NoMemory>
-    requires valid { Valid stack.old.limit stack.old }
-    requires of { IsMeasured of }
-    requires from { ValidBound from }
-    requires class { ValidClass class }
-    ensures { Steps (Progress.SliceColon of from) class stack.old stack.new result }
-{
-    match class {
-        TokenClass::RightBracket => {
-            let measured = slice(alloc, of, from, None)?;
-            stack.push(Frame::PostRest)?;
-            Ok(Turn::Next(Progress::Have(measured)))
-        }
-        rest => begin_in(
-            alloc,
-            stack,
-            Frame::SliceTo(of, from),
-            Precedence::Expr,
-            rest,
-        ),
-    }
-}
-
 pub fn after_dot(
     alloc: Global,
     stack: &mut Stack,
@@ -464,102 +347,5 @@ pub fn after_dot(
             drop(other);
             Ok(Turn::Stuck)
         }
-    }
-}
-
-pub fn after_not(stack: &mut Stack, chain: Chain, class: TokenClass) -> Result<Turn, NoMemory>
-    requires valid { Valid stack.old.limit stack.old }
-    requires chain { IsChain chain }
-    ensures { Steps (Progress.AfterNot chain) class stack.old stack.new result }
-{
-    match class {
-        TokenClass::Compare(CmpOp::In) => {
-            stack.push(Frame::CompareRest(chain, CmpOp::NotIn))?;
-            Ok(Turn::Next(Progress::Want(Precedence::Sum)))
-        }
-        other => {
-            drop(other);
-            Ok(Turn::Stuck)
-        }
-    }
-}
-
-/// After `is` or `is not`, a word stands that is an expression.
-fn constant(chain: Chain, op: Comparison, measured: Measured) -> Result<Turn, NoMemory>
-    requires chain { IsChain chain }
-    requires measured { IsMeasured measured }
-    ensures { Stays (λ k. Next (Linked (plain_expr chain.first.value)
-        (snoc_link (view_links chain) op (view_measured measured)) k)) result }
-{
-    Ok(Turn::Next(Progress::Linked(chain.with(op, measured)?)))
-}
-
-pub fn after_is(alloc: Global, chain: Chain, class: TokenClass) -> Result<Turn, NoMemory>
-    requires { IsChain chain }
-    ensures { Stays (λ k. step (view_at (Progress.AfterIs chain) k) (view_class class)) result }
-{
-    match class {
-        TokenClass::Not => Ok(Turn::Next(Progress::AfterIsNot(chain))),
-        TokenClass::NoneWord => {
-            let measured = Measured::low(alloc, Expr::None)?;
-            constant(chain, Comparison::Is, measured)
-        }
-        TokenClass::Bool(truth) => {
-            let measured = Measured::low(alloc, Expr::Bool(truth))?;
-            constant(chain, Comparison::Is, measured)
-        }
-        other => {
-            drop(other);
-            Ok(Turn::Stuck)
-        }
-    }
-}
-
-pub fn after_is_not(alloc: Global, chain: Chain, class: TokenClass) -> Result<Turn, NoMemory>
-    requires { IsChain chain }
-    ensures { Stays (λ k. step (view_at (Progress.AfterIsNot chain) k) (view_class class)) result }
-{
-    match class {
-        TokenClass::NoneWord => {
-            let measured = Measured::low(alloc, Expr::None)?;
-            constant(chain, Comparison::IsNot, measured)
-        }
-        TokenClass::Bool(truth) => {
-            let measured = Measured::low(alloc, Expr::Bool(truth))?;
-            constant(chain, Comparison::IsNot, measured)
-        }
-        other => {
-            drop(other);
-            Ok(Turn::Stuck)
-        }
-    }
-}
-
-pub fn linked(
-    alloc: Global,
-    stack: &mut Stack,
-    chain: Chain,
-    class: TokenClass,
-) -> Result<Turn, NoMemory>
-    requires valid { Valid stack.old.limit stack.old }
-    requires chain { IsChain chain }
-    requires class { ValidClass class }
-    ensures { Steps (Progress.Linked chain) class stack.old stack.new result }
-{
-    match link(alloc, chain, &class)? {
-        FrameStep::Next(progress) => {
-            drop(class);
-            Ok(Turn::Next(progress))
-        }
-        FrameStep::Opens(frame, progress) => {
-            drop(class);
-            stack.push(frame)?;
-            Ok(Turn::Next(progress))
-        }
-        FrameStep::Stuck => {
-            drop(class);
-            Ok(Turn::Stuck)
-        }
-        FrameStep::Passes(measured) => have(alloc, stack, measured, class),
     }
 }

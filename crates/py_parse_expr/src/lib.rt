@@ -2,6 +2,8 @@
 //! next, and `parse_expr` a whole list.
 #![tactic(auto)]
 
+mod expr_brackets;
+mod expr_chains;
 mod expr_classes;
 mod expr_fields;
 mod expr_frames;

@@ -2,7 +2,7 @@ use Rattle.std.proofs.Common.{subst, sym, ap, ◌∙◌}
 use Rattle.py_grammar.specs.Machine.{Ctx, Out, Next}
 use Rattle.py_parse_expr.specs.ExprStacks.{view_stack}
 use Rattle.py_parse_expr.specs.ExprTurns.{view_at, Acts}
-use Rattle.py_parse_expr.proofs.expr_steps.linked.Goals as goal
+use Rattle.py_parse_expr.proofs.expr_chains.linked.Goals as goal
 
 pub returns-in-Next : goal.returns-in-Next
 returns-in-Next c = let h = rw c.in-Next.is at (c.in_ok-progress.ensures (view_stack c.args.stack.now)) in (h.0, h.1, c.requires.valid)

@@ -6,7 +6,7 @@ use Rattle.py_grammar.specs.Machine.{Ctx, snoc_link, Linked, Next}
 use Rattle.py_parse_expr.specs.ExprViews.{view_links}
 use Rattle.py_parse_expr.specs.ExprTurns.{Stays}
 use Rattle.py_parse_expr.proofs.ExprNodes.{none_is, bool_is}
-use Rattle.py_parse_expr.proofs.expr_steps.after_is.Goals as goal
+use Rattle.py_parse_expr.proofs.expr_chains.after_is.Goals as goal
 
 pub returns-in_ok-measured-in-NoneWord : goal.returns-in_ok-measured-in-NoneWord
 returns-in_ok-measured-in-NoneWord c = rw c.in-NoneWord.is (subst (λ (e : Expr). Stays (λ (k : Ctx). Next (Linked (plain_expr c.args.chain.first.value) (snoc_link (view_links c.args.chain) Is e) k)) c.constant.result) (c.in_ok-measured-in-NoneWord.ensures.is ∙ none_is) c.constant.ensures)
