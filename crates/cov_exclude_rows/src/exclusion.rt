@@ -1,31 +1,12 @@
 // Sources with pragmas, and the lines that they exclude or free of their branches.
 
-use cov_exclude::{Patterns, RegexMaker, excluded, no_branch};
+use crate::texts::{BRANCH, COVER, IF, WHILE, patterns_of};
+use cov_exclude::{Patterns, excluded, no_branch};
 use py_parse::parse;
 use py_syntax::Module;
 use py_token::{count_lines, tokens};
 use std::alloc::Global;
 use std::test::Fail;
-
-const COVER: &str = r"#\s*(pragma|PRAGMA)[:\s]?\s*(no|NO)\s*(cover|COVER)";
-
-const BRANCH: &str = r"#\s*(pragma|PRAGMA)[:\s]?\s*(no|NO)\s*(branch|BRANCH)";
-
-const WHILE: &str = "while (True|1|False|0):";
-
-const IF: &str = "if (True|1|False|0):";
-
-/// The patterns of these texts.
-fn patterns_of(alloc: Global, texts: &[&str]) -> Result<Patterns, Fail> {
-    let mut owned = Vec::new(alloc);
-    for text in texts {
-        owned.push(String::from_str(alloc, text)?)?;
-    }
-    match Patterns::build(alloc, &owned, &mut RegexMaker::new()) {
-        Ok(patterns) => Ok(patterns),
-        Err(_) => Err(Fail::new("a pattern isn't made")),
-    }
-}
 
 /// The module of a source.
 fn read(alloc: Global, source: &str) -> Result<Module, Fail> {
@@ -50,8 +31,22 @@ fn listed(alloc: Global, lines: &[u32]) -> Result<String, Fail> {
     Ok(text)
 }
 
+/// The lines of a source that patterns exclude.
+fn excluded_by(alloc: Global, patterns: &Patterns, source: &str) -> Result<String, Fail> {
+    let module = read(alloc, source)?;
+    let lines = excluded(alloc, patterns, &module, source)?;
+    listed(alloc, &lines)
+}
+
+/// The lines of a source that patterns free of their branches.
+fn freed_by(alloc: Global, patterns: &Patterns, source: &str) -> Result<String, Fail> {
+    let module = read(alloc, source)?;
+    let lines = no_branch(alloc, patterns, &module, source)?;
+    listed(alloc, &lines)
+}
+
 /// A title, a source, and the lines that the default pattern excludes.
-const EXCLUDED: [(&str, &str, &str); 27] = [
+static EXCLUDED: [(&str, &str, &str); 27] = [
     (
         "Pragma",
         "debug = False\nif debug:  # pragma: no cover\n    print(1)\nelse:\n    print(2)\nwhile True:\n    break\n",
@@ -185,16 +180,15 @@ const EXCLUDED: [(&str, &str, &str); 27] = [
 fn a_pragma_excludes_its_own_suite(rt: HostRuntime) -> Result<(), Fail> {
     let alloc = rt.alloc();
     let patterns = patterns_of(alloc, &[COVER])?;
-    for (title, source, wanted) in EXCLUDED {
-        let module = read(alloc, source)?;
-        let lines = excluded(alloc, &patterns, &module, source)?;
-        assert_eq!(rt; listed(alloc, &lines)?.as_str(), wanted, "{title}");
+    for row in &EXCLUDED {
+        let found = excluded_by(alloc, &patterns, row.1)?;
+        assert_eq!(rt; found.as_str(), row.2, "{}", row.0);
     }
     Ok(())
 }
 
 /// A title, a source, and its no-branch lines by the default patterns.
-const FREED: [(&str, &str, &str); 8] = [
+static FREED: [(&str, &str, &str); 8] = [
     (
         "if",
         "if a:  # pragma: no branch\n    b\nelif c:\n    d\n",
@@ -233,10 +227,9 @@ const FREED: [(&str, &str, &str); 8] = [
 fn a_partial_pattern_frees_its_own_line(rt: HostRuntime) -> Result<(), Fail> {
     let alloc = rt.alloc();
     let patterns = patterns_of(alloc, &[BRANCH, WHILE, IF])?;
-    for (title, source, wanted) in FREED {
-        let module = read(alloc, source)?;
-        let lines = no_branch(alloc, &patterns, &module, source)?;
-        assert_eq!(rt; listed(alloc, &lines)?.as_str(), wanted, "{title}");
+    for row in &FREED {
+        let found = freed_by(alloc, &patterns, row.1)?;
+        assert_eq!(rt; found.as_str(), row.2, "{}", row.0);
     }
     Ok(())
 }
@@ -246,7 +239,7 @@ fn a_line_is_matched_without_its_end(rt: HostRuntime) -> Result<(), Fail> {
     let alloc = rt.alloc();
     let source = "a = 1  # no\r\nb = 2  # no more\r\nc = 3  # no";
     let patterns = patterns_of(alloc, &["no$", "never"])?;
-    let lines = excluded(alloc, &patterns, &read(alloc, source)?, source)?;
-    assert_eq!(rt; listed(alloc, &lines)?.as_str(), " 1 3");
+    let found = excluded_by(alloc, &patterns, source)?;
+    assert_eq!(rt; found.as_str(), " 1 3");
     Ok(())
 }

@@ -1,24 +1,8 @@
 // What makers make of texts, and what they refuse.
 
+use crate::texts::{BRANCH, COVER, IF, WHILE, texts_of};
 use cov_exclude::{MakeError, Maker, MemMaker, PatternError, Patterns, RegexMaker};
-use std::alloc::Global;
 use std::test::Fail;
-
-const COVER: &str = r"#\s*(pragma|PRAGMA)[:\s]?\s*(no|NO)\s*(cover|COVER)";
-
-const BRANCH: &str = r"#\s*(pragma|PRAGMA)[:\s]?\s*(no|NO)\s*(branch|BRANCH)";
-
-const WHILE: &str = "while (True|1|False|0):";
-
-const IF: &str = "if (True|1|False|0):";
-
-fn texts_of(alloc: Global, texts: &[&str]) -> Result<Vec<String>, Fail> {
-    let mut owned = Vec::new(alloc);
-    for text in texts {
-        owned.push(String::from_str(alloc, text)?)?;
-    }
-    Ok(owned)
-}
 
 #[test]
 fn a_maker_says_why_there_is_no_pattern(rt: HostRuntime) -> Result<(), Fail> {
