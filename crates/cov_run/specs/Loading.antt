@@ -19,9 +19,11 @@ use Rattle.cov_run.specs.Reading.{tree, Reads}
 abbrev pub most_bytes : ℕ
 most_bytes = 1048576
 
+-- the most bytes of all files of a program
 abbrev pub most_total : ℕ
 most_total = 16777216
 
+-- the most modules of a program
 abbrev pub most_modules : ℕ
 most_modules = 256
 
@@ -46,6 +48,7 @@ abbrev pub content_at : Told → ℕ → Text → Option (List ℕ)
 content_at told zero path = told.script
 content_at told (suc i) path = file_bytes told.modules path
 
+-- whether a file is there
 abbrev pub is_there : Option (List ℕ) → Bool
 is_there None = false
 is_there (Some bytes) = true

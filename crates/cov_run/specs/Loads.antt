@@ -44,6 +44,7 @@ loaded_pairs [] ms = []
 loaded_pairs (p ∷ ps) [] = []
 loaded_pairs (p ∷ ps) (m ∷ ms) = loaded_module p m ∷ loaded_pairs ps ms
 
+-- the modules of a loaded program
 abbrev pub loaded_modules : Loaded → List LoadedModule
 loaded_modules l = loaded_pairs l.programs.modules.items l.modules.items
 
@@ -81,6 +82,7 @@ ending_of why.NoMemory = unread
 ending_of (why.Tests passed failed cut) = refused (why.Tests passed failed cut)
 ending_of (why.ImportFailed name) = refused (why.ImportFailed name)
 
+-- what loading came to, by its answer
 abbrev pub loading_of : Result Loaded Why → Loading
 loading_of (Ok l) = program (loaded_modules l)
 loading_of (Err w) = ending_of w

@@ -30,6 +30,7 @@ pub record State : Type 0 where
   pub names : List Text
   pub bytes : ℕ
 
+-- the state that a loading in memory keeps
 abbrev pub state_of : Loading → State
 state_of l = record { modules = plain_sources l.sources.items; names = l.names; bytes = l.bytes }
 
@@ -52,6 +53,7 @@ abbrev pub IsFound : Option (List ℕ) → Option File → Type 0
 IsFound content None = content ≡ None
 IsFound content (Some file) = Holds content file
 
+-- a file that was found has no more bytes than a file may have
 abbrev pub IsSmallFound : Option File → Type 0
 IsSmallFound None = Unit {0}
 IsSmallFound (Some file) = IsSmall file

@@ -8,5 +8,6 @@ use Rattle.cov_run.specs.declared.loaded.LoadedSource.{LoadedSource}
 abbrev pub plain_source : LoadedSource → LoadedModule
 plain_source s = record { name = s.name; path = s.path; body = plain_module s.module }
 
+-- the modules of loaded sources
 abbrev pub plain_sources : List LoadedSource → List LoadedModule
 plain_sources = map plain_source

@@ -6,14 +6,18 @@ ghost use Rattle.py_syntax.specs.View.{plain_aliases, plain_arms, plain_cases, p
 ghost use Rattle.py_meaning.specs.Loading.{imported, imported_in, alias_modules, opt_imported, arms_imported, clauses_imported, cases_imported};
 ghost use Rattle.cov_run.specs.Imports.{suite_imported};
 
-use crate::names::Names;
+use py_scope::NameSet;
 use py_syntax::{Alias, Arm, Case, Clause, Stmt, StmtKind, Suite};
 use py_value::NoMemory;
 use std::alloc::Global;
 
 /// Adds the module names that the imports of these statements name.
 #[cycle(imports)]
-pub(crate) fn add_imported(alloc: Global, names: &mut Names, items: &[Stmt]) -> Result<(), NoMemory>
+pub(crate) fn add_imported(
+    alloc: Global,
+    names: &mut NameSet,
+    items: &[Stmt],
+) -> Result<(), NoMemory>
     ensures { OnOk result (names.new
         ≡ add_names names.old (imported (plain_stmts items.now))) }
 {
@@ -25,7 +29,7 @@ pub(crate) fn add_imported(alloc: Global, names: &mut Names, items: &[Stmt]) -> 
 
 #[cycle(imports)]
 #[tactic(auto, unfolding(py_meaning::specs::Loading::imported_in))]
-fn statement(alloc: Global, names: &mut Names, kind: &StmtKind) -> Result<(), NoMemory>
+fn statement(alloc: Global, names: &mut NameSet, kind: &StmtKind) -> Result<(), NoMemory>
     ensures { OnOk result (names.new
         ≡ add_names names.old (imported_in (plain_kind kind.now))) }
 {
@@ -41,7 +45,10 @@ fn statement(alloc: Global, names: &mut Names, kind: &StmtKind) -> Result<(), No
         | StmtKind::Assert(_, _)
         | StmtKind::Global(_) => Ok(()),
         StmtKind::Import(modules) => aliases(alloc, names, modules),
-        StmtKind::From(module, _) => names.insert(alloc, module),
+        StmtKind::From(module, _) => {
+            names.insert(alloc, module)?;
+            Ok(())
+        }
         StmtKind::If {
             arms: tests,
             orelse,
@@ -81,7 +88,7 @@ fn statement(alloc: Global, names: &mut Names, kind: &StmtKind) -> Result<(), No
     }
 }
 
-fn aliases(alloc: Global, names: &mut Names, items: &[Alias]) -> Result<(), NoMemory>
+fn aliases(alloc: Global, names: &mut NameSet, items: &[Alias]) -> Result<(), NoMemory>
     ensures { OnOk result (names.new
         ≡ add_names names.old (alias_modules (plain_aliases items.now))) }
 {
@@ -92,7 +99,7 @@ fn aliases(alloc: Global, names: &mut Names, items: &[Alias]) -> Result<(), NoMe
 }
 
 #[cycle(imports)]
-fn suite(alloc: Global, names: &mut Names, s: &Suite) -> Result<(), NoMemory>
+fn suite(alloc: Global, names: &mut NameSet, s: &Suite) -> Result<(), NoMemory>
     ensures { OnOk result (names.new
         ≡ add_names names.old (suite_imported (plain_suite s.now))) }
 {
@@ -101,7 +108,7 @@ fn suite(alloc: Global, names: &mut Names, s: &Suite) -> Result<(), NoMemory>
 
 #[cycle(imports)]
 #[tactic(auto, unfolding(py_meaning::specs::Loading::opt_imported))]
-fn opt(alloc: Global, names: &mut Names, s: &Option<Suite>) -> Result<(), NoMemory>
+fn opt(alloc: Global, names: &mut NameSet, s: &Option<Suite>) -> Result<(), NoMemory>
     ensures { OnOk result (names.new
         ≡ add_names names.old (opt_imported (plain_opt_suite s.now))) }
 {
@@ -112,7 +119,7 @@ fn opt(alloc: Global, names: &mut Names, s: &Option<Suite>) -> Result<(), NoMemo
 }
 
 #[cycle(imports)]
-fn arms(alloc: Global, names: &mut Names, items: &[Arm]) -> Result<(), NoMemory>
+fn arms(alloc: Global, names: &mut NameSet, items: &[Arm]) -> Result<(), NoMemory>
     ensures { OnOk result (names.new
         ≡ add_names names.old (arms_imported (plain_arms items.now))) }
 {
@@ -123,7 +130,7 @@ fn arms(alloc: Global, names: &mut Names, items: &[Arm]) -> Result<(), NoMemory>
 }
 
 #[cycle(imports)]
-fn clauses(alloc: Global, names: &mut Names, items: &[Clause]) -> Result<(), NoMemory>
+fn clauses(alloc: Global, names: &mut NameSet, items: &[Clause]) -> Result<(), NoMemory>
     ensures { OnOk result (names.new
         ≡ add_names names.old (clauses_imported (plain_clauses items.now))) }
 {
@@ -134,7 +141,7 @@ fn clauses(alloc: Global, names: &mut Names, items: &[Clause]) -> Result<(), NoM
 }
 
 #[cycle(imports)]
-fn cases(alloc: Global, names: &mut Names, items: &[Case]) -> Result<(), NoMemory>
+fn cases(alloc: Global, names: &mut NameSet, items: &[Case]) -> Result<(), NoMemory>
     ensures { OnOk result (names.new
         ≡ add_names names.old (cases_imported (plain_cases items.now))) }
 {

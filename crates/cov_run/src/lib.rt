@@ -6,7 +6,6 @@ mod bytes;
 mod imports;
 mod loaded;
 mod loading;
-mod names;
 mod paths;
 mod programs;
 mod refusals;

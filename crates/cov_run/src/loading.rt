@@ -18,12 +18,12 @@ ghost use Rattle.cov_run.specs.View.{plain_sources};
 
 use crate::imports::add_imported;
 use crate::loaded::LoadedSource;
-use crate::names::Names;
 use crate::paths::{file_of, folder_of};
 use crate::refusals::{no_such_file, refused};
 use crate::source::{Source, read_source};
 use cov_outside::{Shelf, ShelfError};
 use cov_words::{LimitKind, Why};
+use py_scope::NameSet;
 use py_value::{NoMemory, Text};
 use std::alloc::Global;
 
@@ -125,7 +125,7 @@ fn find<H: Shelf>(alloc: Global, path: &Text, shelf: &mut H) -> Result<Option<Fi
 #[derive(Drop)]
 pub(crate) struct Loading {
     pub sources: Vec<LoadedSource>,
-    pub names: Names,
+    pub names: NameSet,
     pub bytes: usize,
 }
 
@@ -135,7 +135,7 @@ impl Loading {
     {
         Loading {
             sources: Vec::new(alloc),
-            names: Names::new(alloc),
+            names: NameSet::new(alloc),
             bytes: 0,
         }
     }
