@@ -18,4 +18,5 @@ pub mod SavedRows
 pub mod Making
 pub mod SavedData
 pub mod Committed
+pub mod Laws
 pub mod Bases
