@@ -41,3 +41,13 @@ pub mod Never
 pub mod Lacking
 pub mod Judging
 pub mod Bases
+pub mod Again
+pub mod Numbered
+pub mod Places
+pub mod Arcs
+pub mod Lines
+pub mod Fields
+pub mod ReadAgain
+pub mod Worked
+pub mod BaseContents
+pub mod BaseCalls

@@ -19,4 +19,5 @@ pub mod SavedRows
 pub mod Making
 pub mod SavedData
 pub mod Committed
+pub mod Laws
 pub mod Bases

@@ -138,7 +138,7 @@ impl FolderVault {
 }
 
 impl Vault for FolderVault {
-    ghost tells = { ⊥ };
+    ghost tells = { λ _. ⊥ };
 
     ghost contents = { λ _. empty };
 
@@ -200,6 +200,7 @@ fn is_no_memory(error: &io::Error) -> bool {
 pub(crate) fn failure_of(error: SqlError) -> VaultError
     ensures failed { result ≡ VaultError.Failed → error ≡ SqlError.Refused }
     ensures bad_row { (row : ℕ) → result ≡ VaultError.BadRow row → error ≡ SqlError.BadRow row }
+    ensures not_schema { result ≡ VaultError.NotSchema7 → error ≡ SqlError.NotSchema7 }
     ensures not_absent { result ≡ VaultError.Absent → ⊥ }
 {
     match error {

@@ -1,19 +1,19 @@
 //! Data files in memory.
-ghost use Rattle.std.specs.Prelude.{◌≡◌, ◌≤◌, ℕ, false, All, IsErrOf, position, string_bytes};
+ghost use Rattle.std.specs.Prelude.{◌≡◌, ◌≤◌, ℕ, false, None, [], ◌∷◌, ◌++◌, All, OnOk, OnErr, IsErrOf, position, string_bytes};
 ghost use Rattle.std.specs.Str.{bytes_eq};
-ghost use Rattle.std.specs.FinMap.{empty};
+ghost use Rattle.std.specs.FinMap.{insert};
 ghost use Rattle.cov_outside.specs.Counts.{Rose};
-ghost use Rattle.cov_sql.specs.Bases.{IsIdle};
+ghost use Rattle.cov_vault.specs.declared.vault.Content.TheVariants.{Good};
+ghost use Rattle.cov_sql.specs.Bases.{IsIdle, kept_in, IsAsDeclared, AreAsDeclared, bases_contents, Loads, IsSavable, SavesIn};
 
 use crate::counted::Counted;
 use crate::folder::failure_of;
 use crate::reading::read_data;
 use crate::writing::write_data;
 use cov_data::Data;
-use cov_vault::{Vault, VaultError};
+use cov_vault::{Vault, VaultError, first_named, names_of};
 use sqlite::{Connection, MemStore};
 use std::alloc::{AllocError, Global};
-use std::collections::BTreeSet;
 
 /// Data files over bases in memory, each under its name. Of two bases with one name the first counts.
 #[derive(Drop)]
@@ -27,7 +27,9 @@ impl SqlVault {
     /// No base has an open transaction.
     pub fn new(bases: Vec<(String, Connection<MemStore>)>) -> SqlVault
         requires { All IsIdle bases.items }
-        ensures { ⟦<SqlVault as Vault>⟧.faults result ≡ 0 }
+        ensures contents { ⟦<SqlVault as Vault>⟧.contents result ≡ bases_contents bases.items }
+        ensures tells { AreAsDeclared bases.items → ⟦<SqlVault as Vault>⟧.tells result }
+        ensures faults { ⟦<SqlVault as Vault>⟧.faults result ≡ 0 }
     {
         SqlVault {
             bases,
@@ -35,28 +37,43 @@ impl SqlVault {
         }
     }
 
-    /// The place of the first base of this name.
-    fn find(&self, name: &str) -> Option<usize>
-        ensures { result ≡ position (λ base.
-            bytes_eq (string_bytes base.0) name.now) self.now.bases.items }
-    {
-        self.bases.iter().position(|base| base.0.as_str() == name)
-    }
-
     fn add(&mut self, name: String, base: Connection<MemStore>) -> Result<(), AllocError>
         requires { base.in_transaction ≡ false }
-        ensures { self.new.by.refusals ≡ self.old.by.refusals }
+        ensures ok { OnOk result (self.new.bases.items ≡ self.old.bases.items ++ (name, base) ∷ []) }
+        ensures err { OnErr result (self.new.bases.items ≡ self.old.bases.items) }
+        ensures count { self.new.by.refusals ≡ self.old.by.refusals }
     {
         self.bases.push((name, base))?;
         Ok(())
     }
+
+    /// Saves data under a name that isn't there.
+    fn save_new(&mut self, alloc: Global, name: &str, content: &Data) -> Result<(), VaultError>
+        requires { position (λ base.
+            bytes_eq (string_bytes base.0) name.now) self.old.bases.items ≡ None }
+        ensures ok { OnOk result (bases_contents self.new.bases.items
+            ≡ insert (bases_contents self.old.bases.items) name.now (Good content.now)) }
+        ensures tells { AreAsDeclared self.old.bases.items → AreAsDeclared self.new.bases.items }
+        ensures err { OnErr result (self.new.bases.items ≡ self.old.bases.items) }
+        ensures not_schema { IsErrOf result VaultError.NotSchema7 → ⊥ }
+        ensures not_absent { IsErrOf result VaultError.Absent → ⊥ }
+        ensures not_bad_row { (row : ℕ) → IsErrOf result (VaultError.BadRow row) → ⊥ }
+        ensures count { self.old.by.refusals ≤ self.new.by.refusals }
+        ensures failed { IsErrOf result VaultError.Failed
+            → Rose self.old.by.refusals self.new.by.refusals }
+    {
+        let name = String::from_str(alloc, name)?;
+        let mut base = Connection::open_in_memory(alloc)?;
+        write_base(alloc, &mut base, &mut self.by, content, true)?;
+        Ok(self.add(name, base)?)
+    }
 }
 
 impl Vault for SqlVault {
-    // What the bases hold isn't told yet.
-    ghost tells = { ⊥ };
+    // Where its bases have the tables of data files as they are declared.
+    ghost tells = { λ vault. AreAsDeclared vault.bases.items };
 
-    ghost contents = { λ _. empty };
+    ghost contents = { λ vault. bases_contents vault.bases.items };
 
     ghost faults = { λ vault. vault.by.refusals };
 
@@ -67,46 +84,26 @@ impl Vault for SqlVault {
     }
 
     fn load(&mut self, alloc: Global, name: &str) -> Result<Data, VaultError> {
-        let Some(place) = self.find(name) else {
+        let Some(place) = first_named(&self.bases, name) else {
             return Err(VaultError::Absent);
         };
         read_base(alloc, &mut self.bases[place].1, &mut self.by)
     }
 
     fn save(&mut self, alloc: Global, name: &str, content: &Data) -> Result<(), VaultError> {
-        if let Some(place) = self.find(name) {
-            return write_base(
-                alloc,
-                &mut self.bases[place].1,
-                &mut self.by,
-                content,
-                false,
-            );
-        }
-        let name = String::from_str(alloc, name)?;
-        let mut base = Connection::open_in_memory(alloc)?;
-        write_base(alloc, &mut base, &mut self.by, content, true)?;
-        Ok(self.add(name, base)?)
+        let Some(at) = first_named(&self.bases, name) else {
+            return self.save_new(alloc, name, content);
+        };
+        write_base(alloc, &mut self.bases[at].1, &mut self.by, content, false)
     }
 
     fn remove(&mut self, _alloc: Global, name: &str) -> Result<(), VaultError> {
-        let Some(_first) = self.find(name) else {
+        let Some(_first) = first_named(&self.bases, name) else {
             return Err(VaultError::Absent);
         };
         self.bases.retain(|base| base.0.as_str() != name);
         Ok(())
     }
-}
-
-fn names_of(
-    alloc: Global,
-    bases: &[(String, Connection<MemStore>)],
-) -> Result<Vec<String>, AllocError> {
-    let mut names = BTreeSet::new(alloc);
-    for base in bases {
-        names.insert(base.0.clone()?)?;
-    }
-    names.into_iter().collect(alloc)
 }
 
 fn read_base(
@@ -115,11 +112,15 @@ fn read_base(
     by: &mut Counted,
 ) -> Result<Data, VaultError>
     requires { base.old.in_transaction ≡ false }
+    ensures loads { IsAsDeclared (kept_in base.old)
+        → Loads (kept_in base.old) (kept_in base.new) result }
     ensures idle { base.new.in_transaction ≡ false }
     ensures not_absent { IsErrOf result VaultError.Absent → ⊥ }
     ensures count { by.old.refusals ≤ by.new.refusals }
     ensures failed { IsErrOf result VaultError.Failed → Rose by.old.refusals by.new.refusals }
 {
+    // Outside of a transaction a base shows what was committed.
+    prove!(base.is_autocommit());
     match read_data(alloc, base, by) {
         Ok(loaded) => Ok(loaded),
         Err(error) => Err(failure_of(error)),
@@ -134,12 +135,17 @@ fn write_base(
     fresh: bool,
 ) -> Result<(), VaultError>
     requires { base.old.in_transaction ≡ false }
+    ensures saves { IsSavable fresh (kept_in base.old)
+        → SavesIn fresh content.now (kept_in base.old) (kept_in base.new) result }
     ensures idle { base.new.in_transaction ≡ false }
     ensures not_absent { IsErrOf result VaultError.Absent → ⊥ }
     ensures not_bad_row { (row : ℕ) → IsErrOf result (VaultError.BadRow row) → ⊥ }
     ensures count { by.old.refusals ≤ by.new.refusals }
     ensures failed { IsErrOf result VaultError.Failed → Rose by.old.refusals by.new.refusals }
 {
+    // Outside of a transaction a base shows what was committed.
+    prove!(base.is_autocommit());
+    let _sound = content.is_arcs();
     match write_data(alloc, base, by, content, fresh) {
         Ok(()) => Ok(()),
         Err(error) => Err(failure_of(error)),

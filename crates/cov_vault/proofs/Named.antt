@@ -193,10 +193,10 @@ replaced_at name content pairs i pair copy found is holds =
 pub copy_is : (d : DataSet) (arcs : Bool) → arcs ≡ d.arcs → union (no_data arcs) d ≡ d
 copy_is d arcs is = λ i. record { arcs = is i; files = all_files-none d.files i }
 
-pub next_pair : (pairs : List Pair) (i : ℕ) (pair : Pair) → i < length pairs → pair ≡ get_or pairs i pair → drop i pairs ≡ pair ∷ drop (i + 1) pairs
+pub next_pair : {X : Type 0} (pairs : List X) (i : ℕ) (pair : X) → i < length pairs → pair ≡ get_or pairs i pair → drop i pairs ≡ pair ∷ drop (i + 1) pairs
 next_pair pairs i pair low is = let e : suc i ≡ i + 1 = omega arith in drop-cons pairs i pair low ∙ (λ k. sym is k ∷ drop (e k) pairs)
 
-pub no_pairs : (pairs : List Pair) (i : ℕ) → length pairs ≤ i → drop i pairs ≡ []
+pub no_pairs : {X : Type 0} (pairs : List X) (i : ℕ) → length pairs ≤ i → drop i pairs ≡ []
 no_pairs [] zero h = refl
 no_pairs [] (suc i) h = refl
 no_pairs (p ∷ pairs) zero h = absurd (omega arith)
@@ -206,3 +206,8 @@ pub names_listed : {E : Type 0} (r : Result (Vec (String Global) Global) E) (ks 
     → IfOk r (λ list. list.items ≡ ks) → IfOk r (λ list. map string_bytes list.items ≡ texts)
 names_listed (Ok list) ks texts all is = ap (map string_bytes) is ∙ all
 names_listed (Err e) ks texts all is = tt
+
+pub names_so : {E : Type 0} (r : Result (Vec (String Global) Global) E) (one other : List Text) → one ≡ other
+    → IfOk r (λ list. map string_bytes list.items ≡ one) → IfOk r (λ list. map string_bytes list.items ≡ other)
+names_so (Ok list) one other same is = is ∙ same
+names_so (Err e) one other same is = tt

@@ -4,10 +4,10 @@ ghost use Rattle.std.specs.Str.{bytes_eq};
 ghost use Rattle.std.specs.FinMap as finite;
 ghost use Rattle.cov_vault.specs.Contents.{contents_of};
 
+use crate::names::{first_named, names_of};
 use crate::vault::{Content, VaultError};
 use cov_data::Data;
 use std::alloc::{AllocError, Global};
-use std::collections::BTreeSet;
 
 /// Of two pairs with one name the first counts.
 #[derive(Drop)]
@@ -16,23 +16,11 @@ pub struct Entries {
 }
 
 impl Entries {
-    /// The place of the first pair of this name.
-    fn find(&self, name: &str) -> Option<usize>
-        ensures { result ≡ position (λ pair.
-            bytes_eq (string_bytes pair.0) name.now) self.now.pairs.items }
-    {
-        self.pairs.iter().position(|pair| pair.0.as_str() == name)
-    }
-
     pub fn names(&self, alloc: Global) -> Result<Vec<String>, AllocError>
         ensures { IfOk result (λ names.
             map string_bytes names.items ≡ finite.keys (contents_of self.now.pairs.items)) }
     {
-        let mut names = BTreeSet::new(alloc);
-        for pair in &self.pairs {
-            names.insert(pair.0.clone()?)?;
-        }
-        listed(alloc, names)
+        names_of(alloc, &self.pairs)
     }
 
     pub fn load(&self, alloc: Global, name: &str) -> Result<Data, VaultError>
@@ -46,7 +34,7 @@ impl Entries {
             → finite.get (contents_of self.now.pairs.items) name.now ≡ Some (Content.BadRow row) }
         ensures not_failed { IsErrOf result VaultError.Failed → ⊥ }
     {
-        let Some(place) = self.find(name) else {
+        let Some(place) = first_named(&self.pairs, name) else {
             return Err(VaultError::Absent);
         };
         match &self.pairs[place].1 {
@@ -69,7 +57,7 @@ impl Entries {
         ensures not_bad_row { (row : ℕ) → IsErrOf result (VaultError.BadRow row) → ⊥ }
         ensures not_failed { IsErrOf result VaultError.Failed → ⊥ }
     {
-        let Some(at) = self.find(name) else {
+        let Some(at) = first_named(&self.pairs, name) else {
             return Ok(self.add(alloc, name, content)?);
         };
         if is_not_schema(&self.pairs[at].1) {
@@ -105,18 +93,12 @@ impl Entries {
             × (finite.get (contents_of self.old.pairs.items) name.now ≡ None)) }
         ensures err { OnErr result (self.new.pairs.items ≡ self.old.pairs.items) }
     {
-        let Some(_first) = self.find(name) else {
+        let Some(_first) = first_named(&self.pairs, name) else {
             return Err(VaultError::Absent);
         };
         self.pairs.retain(|pair| pair.0.as_str() != name);
         Ok(())
     }
-}
-
-fn listed(alloc: Global, names: BTreeSet<String>) -> Result<Vec<String>, AllocError>
-    ensures { IfOk result (λ list. list.items ≡ names.keys) }
-{
-    names.into_iter().collect(alloc)
 }
 
 fn is_not_schema(content: &Content) -> bool

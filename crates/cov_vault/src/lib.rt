@@ -8,7 +8,9 @@
 mod entries;
 mod failing;
 mod memory;
+mod names;
 mod vault;
 
 pub use memory::{MemVault, SureVault};
+pub use names::{first_named, names_of};
 pub use vault::{Content, Vault, VaultError};

@@ -39,7 +39,7 @@ impl Vault for MemVault {
     ghost use Rattle.cov_outside.specs.Counts.{Rose};
     ghost use Rattle.cov_vault.specs.Memory.{vault_contents, vault_calls, vault_faults};
 
-    ghost tells = { Unit {0} };
+    ghost tells = { λ _. Unit {0} };
 
     ghost contents = { vault_contents };
 
@@ -162,7 +162,7 @@ impl SureVault {
 }
 
 impl Vault for SureVault {
-    ghost tells = { Unit {0} };
+    ghost tells = { λ _. Unit {0} };
 
     ghost contents = { λ vault. contents_of vault.entries.pairs.items };
 

@@ -45,7 +45,7 @@ impl From<AllocError> for VaultError {
 /// Data by name.
 pub trait Vault {
     // Whether the vault tells its contents.
-    ghost tells: { Type 0 };
+    ghost tells: { Self → Type 0 };
 
     // What its names hold, where that is told.
     ghost contents: { Self → Contents };
@@ -55,63 +55,68 @@ pub trait Vault {
 
     /// The names in byte order.
     fn names(&mut self, alloc: Global) -> Result<Vec<String>, VaultError>
-        ensures names { tells
+        ensures names { tells self.old
             → IfOk result (λ names.
             map string_bytes names.items ≡ finite.keys (contents self.old)) }
-        ensures kept { tells → contents self.new ≡ contents self.old }
+        ensures kept { tells self.old → contents self.new ≡ contents self.old }
         ensures not_absent { IsErrOf result VaultError.Absent → ⊥ }
         ensures not_schema { IsErrOf result VaultError.NotSchema7 → ⊥ }
         ensures not_bad_row { (row : ℕ) → IsErrOf result (VaultError.BadRow row) → ⊥ }
 
+        ensures tells { tells self.old → tells self.new }
         ensures count { faults self.old ≤ faults self.new }
         ensures failed { IsErrOf result VaultError.Failed
             → Rose (faults self.old) (faults self.new) };
 
     /// The data that a name holds.
     fn load(&mut self, alloc: Global, name: &str) -> Result<Data, VaultError>
-        ensures found { tells
+        ensures found { tells self.old
             → IfOk result (λ loaded.
             finite.get (contents self.old) name.now ≡ Some (Content.Good loaded)) }
-        ensures absent { tells → IsErrOf result VaultError.Absent
+        ensures absent { tells self.old → IsErrOf result VaultError.Absent
             → finite.get (contents self.old) name.now ≡ None }
-        ensures not_schema { tells → IsErrOf result VaultError.NotSchema7
+        ensures not_schema { tells self.old → IsErrOf result VaultError.NotSchema7
             → finite.get (contents self.old) name.now ≡ Some Content.NotSchema7 }
-        ensures bad_row { tells → (row : ℕ) → IsErrOf result (VaultError.BadRow row)
+        ensures bad_row { tells self.old → (row : ℕ) → IsErrOf result (VaultError.BadRow row)
             → finite.get (contents self.old) name.now ≡ Some (Content.BadRow row) }
-        ensures kept { tells → contents self.new ≡ contents self.old }
+        ensures kept { tells self.old → contents self.new ≡ contents self.old }
 
+        ensures tells { tells self.old → tells self.new }
         ensures count { faults self.old ≤ faults self.new }
         ensures failed { IsErrOf result VaultError.Failed
             → Rose (faults self.old) (faults self.new) };
 
     /// Sets what a name holds, unless that is no data file of schema 7. A refused call keeps the contents.
     fn save(&mut self, alloc: Global, name: &str, content: &Data) -> Result<(), VaultError>
-        ensures ok { tells
+        ensures ok { tells self.old
             → OnOk result (contents self.new
             ≡ finite.insert (contents self.old) name.now (Content.Good content.now)) }
-        ensures replaces { tells
+        ensures replaces { tells self.old
             → OnOk result (finite.get (contents self.old) name.now ≢ Some Content.NotSchema7) }
-        ensures not_schema { tells → IsErrOf result VaultError.NotSchema7
+        ensures not_schema { tells self.old → IsErrOf result VaultError.NotSchema7
             → finite.get (contents self.old) name.now ≡ Some Content.NotSchema7 }
-        ensures err { tells → OnErr result (contents self.new ≡ contents self.old) }
+        ensures err { tells self.old → OnErr result (contents self.new ≡ contents self.old) }
         ensures not_absent { IsErrOf result VaultError.Absent → ⊥ }
         ensures not_bad_row { (row : ℕ) → IsErrOf result (VaultError.BadRow row) → ⊥ }
 
+        ensures tells { tells self.old → tells self.new }
         ensures count { faults self.old ≤ faults self.new }
         ensures failed { IsErrOf result VaultError.Failed
             → Rose (faults self.old) (faults self.new) };
 
     /// Removes a name and what it holds. A refused call keeps the contents.
     fn remove(&mut self, alloc: Global, name: &str) -> Result<(), VaultError>
-        ensures ok { tells
+        ensures ok { tells self.old
             → OnOk result (contents self.new ≡ finite.remove (contents self.old) name.now) }
-        ensures removes { tells → OnOk result (finite.get (contents self.old) name.now ≢ None) }
-        ensures absent { tells → IsErrOf result VaultError.Absent
+        ensures removes { tells self.old
+            → OnOk result (finite.get (contents self.old) name.now ≢ None) }
+        ensures absent { tells self.old → IsErrOf result VaultError.Absent
             → finite.get (contents self.old) name.now ≡ None }
-        ensures err { tells → OnErr result (contents self.new ≡ contents self.old) }
+        ensures err { tells self.old → OnErr result (contents self.new ≡ contents self.old) }
         ensures not_schema { IsErrOf result VaultError.NotSchema7 → ⊥ }
         ensures not_bad_row { (row : ℕ) → IsErrOf result (VaultError.BadRow row) → ⊥ }
 
+        ensures tells { tells self.old → tells self.new }
         ensures count { faults self.old ≤ faults self.new }
         ensures failed { IsErrOf result VaultError.Failed
             → Rose (faults self.old) (faults self.new) };

@@ -1,33 +1,14 @@
-use Rattle.std.proofs.Common.{rules, ◌≡◌, ◌+◌, ◌<◌, ◌≤◌, map, drop, ap, sym, ◌∙◌, string_bytes, length, get_or}
-use Rattle.std.specs.List.{fold}
-use Rattle.std.specs.BTreeSet.{insert_key}
-use Rattle.std.specs.FinMap.{keys}
+use Rattle.std.proofs.Common.{rules, ◌≡◌, map, string_bytes, ap, ◌∙◌}
 use Rattle.cov_data.specs.DataSet.{Text, text_cmp}
-use Rattle.cov_vault.specs.Contents.{contents_of}
-use Rattle.cov_vault.proofs.Named.{Pair, names-insert_key, names_in_order, next_pair, no_pairs, names_listed}
+use Rattle.cov_data.specs.Rows.{distinct_in_order}
+use Rattle.cov_vault.proofs.Named.{Pair, names_in_order, names_so}
 use Rattle.cov_vault.proofs.entries.Entries.names.Goals as goal
 
 abbrev name_of : Pair → Text
 name_of e = string_bytes e.0
 
-pub loop-pair-preserved : goal.loop-pair-preserved
-loop-pair-preserved c =
-    let i = c.loop-pair.pair-index in
-    let pairs = c.args.self.now.pairs.items in
-    let had = map string_bytes c.loop-pair.names.keys in
-    let later = map name_of (drop (i + 1) pairs) in
-    let low : i < length pairs = search (rules, c.loop-pair-test.true, c.deref-pair-items.ensures.value) in
-    let item : c.pair-item.result ≡ get_or pairs i c.pair-item.result = search (rules, c.pair-item.is, c.deref-pair-items.ensures.value) in
-    ap (λ ks. fold (insert_key text_cmp) (map string_bytes ks) later) c.in_ok-insert.ensures.keys
-    ∙ ap (λ ks. fold (insert_key text_cmp) ks later) (names-insert_key c.in_ok-clone.field-0 c.loop-pair.names.keys)
-    ∙ ap (λ k. fold (insert_key text_cmp) (insert_key text_cmp had k) later) (search rules)
-    ∙ ap (λ ps. fold (insert_key text_cmp) had (map name_of ps)) (sym (next_pair pairs i c.pair-item.result low item)) ∙ c.loop-pair.invariant
-
 pub returns : goal.returns
 returns c =
     let pairs = c.args.self.now.pairs.items in
-    let i = c.loop-pair.pair-index in
-    let end : length pairs ≤ i = search (rules, c.loop-pair-test.false, c.deref-pair-items.ensures.value) in
-    let all : map string_bytes c.loop-pair.names.keys ≡ keys (contents_of pairs) =
-    ap (λ ps. fold (insert_key text_cmp) (map string_bytes c.loop-pair.names.keys) (map name_of ps)) (sym (no_pairs pairs i end)) ∙ c.loop-pair.invariant ∙ names_in_order pairs in
-    names_listed c.listed.result c.loop-pair.names.keys _ all c.listed.ensures
+    let same : c.deref.result.now ≡ pairs = search rules in
+    names_so c.names_of.result _ _ (ap (λ ps. distinct_in_order text_cmp (map name_of ps)) same ∙ names_in_order pairs) c.names_of.ensures
