@@ -1,11 +1,11 @@
 -- Loops over the items and the keys of a call.
-use Rattle.std.proofs.Common.{◌≡◌, ℕ, zero, suc, ◌+◌, ◌<◌, ◌≤◌, List, [], ◌∷◌, ◌++◌, length, map, drop, get_or, Option, Some, None, refl, ap, sym, ◌∙◌, arith, append_assoc, length-append}
-use Rattle.std.proofs.lemmas.List.{at_drop_more, at_drop_all, append-nil, map-append}
+use Rattle.std.proofs.Common.{◌≡◌, ℕ, zero, suc, ◌+◌, List, [], ◌∷◌, ◌++◌, length, drop, Option, Some, None, refl, ap, sym, ◌∙◌, arith, append_assoc, length-append}
+use Rattle.std.proofs.lemmas.List.{map-append}
 use Rattle.std.specs.List.{slice_get}
 use Rattle.py_value.specs.declared.value.Value.{Value}
 use Rattle.py_value.specs.View.{plain, plains}
 use Rattle.py_value.specs.Plain.{PlainValue}
-use Rattle.py_builtins.specs.Methods.{each_after, each_length, characters_in}
+use Rattle.py_builtins.specs.Methods.{each_after, each_length}
 
 -- a list with an item at a place, from there on
 pub drop_at : {A : Type 0} (ks : List A) (i : ℕ) (v : A) → slice_get ks i ≡ Some v → drop i ks ≡ v ∷ drop (suc i) ks
@@ -27,24 +27,8 @@ pub key_pushed : (ks : List PlainValue) (old new : List Value) (key : Value) (i 
 key_pushed ks old new key i n e h =
     ap (λ (vs : List Value). plains vs ++ drop (i + 1) ks) n ∙ ap (λ zs. zs ++ drop (i + 1) ks) (map-append plain old (key ∷ [])) ∙ key_on ks (plains old) i (plain key) e h
 
-pub keys_end : (ks now : List PlainValue) (i : ℕ) → length ks ≤ i → now ++ drop i ks ≡ ks → now ≡ ks
-keys_end ks now i l h = sym (append-nil now) ∙ ap (λ zs. now ++ zs) (sym (at_drop_all (λ zs. zs) ks i l)) ∙ h
-
 -- the characters of some texts, each with another text before it
 pub length_each_after : (b : List ℕ) (ts : List (List ℕ)) → length (each_after b ts) ≡ each_length (length b) ts
 length_each_after b [] = refl
 length_each_after b (t ∷ ts) =
     length-append b (t ++ each_after b ts) ∙ ap (λ n. length b + n) (length-append t (each_after b ts) ∙ ap (λ n. length t + n) (length_each_after b ts))
-
-abbrev pub rest_of : List ℕ → List Value → List ℕ
-rest_of b items = each_after b (map characters_in (plains items))
-
--- one more text, with the other text before it
-pub text_on : (b now next last want : List ℕ) (items : List Value) (i : ℕ) (item : Value) → i < length items → item ≡ get_or items i item → next ≡ now ++ b → last ≡ next ++ characters_in (plain item) → now ++ rest_of b (drop i items) ≡ want
-    → last ++ rest_of b (drop (i + 1) items) ≡ want
-text_on b now next last want items i item l e f g h =
-    ap (λ t. t ++ rest_of b (drop (i + 1) items)) (g ∙ ap (λ t. t ++ characters_in (plain item)) f)
-    ∙ append_assoc (now ++ b) (characters_in (plain item)) (rest_of b (drop (i + 1) items))
-    ∙ append_assoc now b (characters_in (plain item) ++ rest_of b (drop (i + 1) items))
-    ∙ ap (λ (x : Value). now ++ (b ++ (characters_in (plain x) ++ rest_of b (drop (i + 1) items)))) e
-    ∙ ap (λ t. now ++ t) (sym (at_drop_more (rest_of b) items i item l)) ∙ h

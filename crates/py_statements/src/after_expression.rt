@@ -40,7 +40,6 @@ fn in_place_op(token: &Token) -> Option<BinOp>
 }
 
 /// An expression more.
-#[tactic(auto, using(crate::proofs::View::OneMore::exprs_snoc))]
 fn add_expr(exprs: Vec<Expr>, expr: Expr) -> Result<Vec<Expr>, NoMemory>
     ensures { IfOk result (λ r.
         plain_exprs r.items ≡ snoc (plain_exprs exprs.items) (plain_expr expr)) }

@@ -125,7 +125,6 @@ fn after_try_else(
 }
 
 /// An `else` after the clauses of a `try`, where it has any.
-#[tactic(auto, using(crate::proofs::View::StmtKinds::try_else_rules))]
 fn try_else(alloc: Global, partial_try: PartialTry) -> Result<Part, NoMemory>
     ensures { IsPart (try_of partial_try no_suite no_suite) (Word word.Else) result }
 {
@@ -210,7 +209,6 @@ pub fn next_part(alloc: Global, kind: Box<StmtKind>, token: &Token) -> Result<Pa
 }
 
 /// Whether a statement has all that it needs: a `try` needs a clause or a `finally`.
-#[tactic(auto, using(crate::proofs::View::StmtKinds::whole_try))]
 pub fn is_whole(kind: &StmtKind) -> bool
     ensures { result ≡ is_whole (plain_kind kind.now) }
 {

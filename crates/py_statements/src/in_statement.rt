@@ -36,7 +36,6 @@ pub fn turn(state: Option<State>) -> Turn
 }
 
 /// After the semicolon of a simple statement.
-#[tactic(auto, using(crate::proofs::View::Acts::semicolon_rules))]
 pub fn after_semicolon(
     alloc: Global,
     kind: Box<StmtKind>,
@@ -63,7 +62,6 @@ pub fn after_semicolon(
 }
 
 /// After `return` or `raise`.
-#[tactic(auto, using(crate::proofs::View::Acts::leaving_reads))]
 pub fn after_leaving(
     alloc: Global,
     raises: bool,
@@ -134,7 +132,6 @@ pub fn after_listed(
 }
 
 /// After the `as` of a listed name.
-#[tactic(auto, using(crate::proofs::View::Acts::bound_rules))]
 pub fn at_bound(
     names: Listed,
     name: Text,
@@ -221,7 +218,6 @@ pub fn at_params(alloc: Global, name: Text, span: Span, suites: SuiteStack, toke
 }
 
 /// Where a parameter may come.
-#[tactic(auto, using(crate::proofs::View::Acts::new_param_rules))]
 pub fn at_param(
     alloc: Global,
     signature: Signature,
@@ -272,7 +268,6 @@ pub fn after_except(
 }
 
 /// After the `as` of a clause.
-#[tactic(auto, using(crate::proofs::View::Acts::clause_rules))]
 pub fn at_clause_name(
     alloc: Global,
     partial_try: PartialTry,
@@ -295,7 +290,6 @@ pub fn at_clause_name(
 }
 
 /// After the colon of a header.
-#[tactic(auto, using(crate::proofs::View::Acts::suite_rules))]
 pub fn at_suite(
     alloc: Global,
     suite_of: Box<SuiteOf>,
@@ -313,7 +307,6 @@ pub fn at_suite(
 }
 
 /// Where a block is wanted.
-#[tactic(auto, using(crate::proofs::View::Acts::block_rules))]
 pub fn at_block(
     alloc: Global,
     suite_of: Box<SuiteOf>,

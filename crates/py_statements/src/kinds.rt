@@ -37,7 +37,6 @@ pub fn unboxed(expr: Option<Box<Expr>>) -> Option<Expr>
 }
 
 /// An assignment, or an expression statement where it has no targets.
-#[tactic(auto, using(crate::proofs::View::StmtKinds::assign_rules))]
 pub fn assigned(
     alloc: Global,
     targets: Vec<Expr>,

@@ -36,7 +36,6 @@ fn is_match(kind: &TokenKind) -> bool
 }
 
 /// Whether the last token before the end of the line is a colon, in the tokens from a place on.
-#[tactic(auto, using(crate::proofs::View::HeaderPlaces::line_end_rules))]
 fn ends_in_colon(tokens: &[Token], from: usize) -> bool
     ensures { result ≡ ends_in_colon false (drop from (kinds_of tokens.now)) }
 {
@@ -54,7 +53,6 @@ fn ends_in_colon(tokens: &[Token], from: usize) -> bool
 }
 
 /// Whether a logical line may begin at the place.
-#[tactic(auto, using(crate::proofs::View::HeaderPlaces::begins_there))]
 fn begins_line(tokens: &[Token], at: usize) -> bool
     requires { at < length tokens.now }
     ensures { result ≡ begins_from true (kinds_of tokens.now) at }
@@ -80,7 +78,6 @@ fn heads_line(tokens: &[Token], at: usize) -> bool
 }
 
 /// Whether the header of a `match` statement begins at the place.
-#[tactic(auto, using(crate::proofs::View::HeaderPlaces::no_header_rules))]
 pub fn is_header(tokens: &[Token], at: usize) -> bool
     requires { at < length tokens.now }
     ensures { result ≡ header_at (kinds_of tokens.now) at }

@@ -24,7 +24,6 @@ pub fn may_bind(names: &Listed) -> bool
 }
 
 /// After a listed name and what it is bound to.
-#[tactic(auto, using(crate::proofs::View::Acts::name_rules))]
 pub fn after_name(
     alloc: Global,
     names: Listed,

@@ -181,7 +181,6 @@ impl Listed {
     }
 
     /// A name more, with what it is bound to where `as` says so.
-    #[tactic(auto, using(crate::proofs::View::OneMore::aliases_snoc))]
     pub fn with_name(self, name: Text, bound: Option<Text>) -> Result<Listed, NoMemory>
         ensures { IfOk result (λ l. view_listed l ≡ with_name (view_listed self) name bound) }
     {
@@ -360,7 +359,6 @@ impl State {
 
     /// How many suites are open, with the one that a compound statement opens where it has just
     /// begun.
-    #[tactic(auto, using(crate::proofs::View::OneMore::open_count_is))]
     pub fn level(&self) -> usize
         ensures { result ≡ level (view_state self.now) }
     {

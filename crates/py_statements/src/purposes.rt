@@ -69,7 +69,6 @@ impl Drop for Continuation {
 
 impl Continuation {
     /// Whether a compound statement has just begun, where the expression begins.
-    #[tactic(auto, using(crate::proofs::View::StmtKinds::begins_arms))]
     pub fn begins(&self) -> bool
         ensures { result ≡ begins_at (wanted (view_continuation self.now)) }
     {

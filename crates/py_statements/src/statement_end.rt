@@ -16,7 +16,6 @@ use py_value::NoMemory;
 use std::alloc::Global;
 
 /// A suite ends with a token whose last line is this.
-#[tactic(auto, using(crate::proofs::View::Acts::close_rules))]
 pub fn close(alloc: Global, suites: SuiteStack, last: u32) -> Result<State, NoMemory>
     ensures { IfOk result (λ s. view_state s ≡ close (view_suites suites) last) }
 {
@@ -42,7 +41,6 @@ pub fn close(alloc: Global, suites: SuiteStack, last: u32) -> Result<State, NoMe
 }
 
 /// A line ends, and a suite that shares it.
-#[tactic(auto, using(crate::proofs::View::Acts::line_over_rules))]
 fn over_line(alloc: Global, suites: SuiteStack, last: u32) -> Result<State, NoMemory>
     ensures { IfOk result (λ s. view_state s ≡ over_line (view_suites suites) last) }
 {

@@ -61,7 +61,6 @@ pub fn choose(
 }
 
 /// A compound statement is put into its block, where it has all that it needs.
-#[tactic(auto, using(crate::proofs::View::Stepping::put_rules))]
 pub fn put(
     kind: Box<StmtKind>,
     first: u32,
@@ -87,7 +86,6 @@ pub fn put(
 }
 
 /// The token after a suite.
-#[tactic(auto, using(crate::proofs::View::Stepping::part_rules))]
 pub fn after(
     alloc: Global,
     kind: Box<StmtKind>,
@@ -116,7 +114,6 @@ pub fn after(
 }
 
 /// The header of a `match` begins with the token.
-#[tactic(auto, using(crate::proofs::View::Stepping::header_rules))]
 fn header_step(state: State, token: &Token) -> Result<Turn, NoMemory>
     requires { is_match (kind_at token.now) ≡ true }
     ensures { Steps token.now (header_step (at_line (view_state state))) result }
@@ -131,7 +128,6 @@ fn header_step(state: State, token: &Token) -> Result<Turn, NoMemory>
 }
 
 /// A step, where it is known whether the header of a `match` begins with the token.
-#[tactic(auto, using(crate::proofs::View::Stepping::step_rules))]
 pub fn step(alloc: Global, state: State, token: &Token, header: bool) -> Result<Turn, NoMemory>
     requires { header ≡ true → is_match (kind_at token.now) ≡ true }
     ensures { Steps token.now (step_marked (view_state state) header) result }

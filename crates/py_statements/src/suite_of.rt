@@ -159,7 +159,6 @@ fn add_case(
 
 impl ElseOf {
     /// The statement with its `else` suite.
-    #[tactic(auto, using(crate::proofs::View::StmtKinds::else_rules))]
     fn with_else(self, suite: Suite) -> StmtKind
         ensures { plain_kind result ≡ with_else (view_else_of self) (plain_suite suite) }
     {
@@ -185,7 +184,6 @@ impl ElseOf {
 }
 
 /// A `for` with its suite.
-#[tactic(auto, using(crate::proofs::View::StmtKinds::looped_is))]
 fn looped(target: Box<Expr>, over: Box<Expr>, body: Suite) -> StmtKind
     ensures { plain_kind result
         ≡ closed (a_for (boxed_expr target) (boxed_expr over)) (plain_suite body) }

@@ -77,7 +77,6 @@ pub fn add(
 }
 
 /// A suite opens.
-#[tactic(auto, using(crate::proofs::View::OneMore::block_opened))]
 pub fn opened(
     alloc: Global,
     suites: SuiteStack,
@@ -103,7 +102,6 @@ pub fn opened(
 }
 
 /// The innermost of the suites that are open.
-#[tactic(auto, using(crate::proofs::View::OneMore::block_popped))]
 pub fn innermost(body: &[Stmt], others: &mut Vec<Open>) -> Option<Open>
     ensures { Opens (plain_stmts body.now) others.old.items others.new.items result }
 {
@@ -112,7 +110,6 @@ pub fn innermost(body: &[Stmt], others: &mut Vec<Open>) -> Option<Open>
 
 impl SuiteStack {
     /// Whether the innermost suite stands on the line of its header.
-    #[tactic(auto, using(crate::proofs::View::OneMore::line_shared))]
     pub fn shares_line(&self) -> bool
         ensures { SharesLine (view_suites self.now) result }
     {
@@ -123,7 +120,6 @@ impl SuiteStack {
     }
 
     /// Whether the innermost suite is a block with a statement.
-    #[tactic(auto, using(crate::proofs::View::OneMore::block_ends))]
     pub fn ends(&self) -> bool
         ensures { result ≡ is_closable (view_suites self.now) }
     {
@@ -134,7 +130,6 @@ impl SuiteStack {
     }
 
     /// Whether no suite is open.
-    #[tactic(auto, using(crate::proofs::View::OneMore::block_top))]
     pub fn is_top(&self) -> bool
         ensures { result ≡ is_top (view_suites self.now) }
     {
