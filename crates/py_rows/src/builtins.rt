@@ -1,7 +1,8 @@
-// Rows of the table of built-in functions. The expected values are those of the Python Standard Library Reference,
-// but for lists from `range` and the words of exceptions, which are the language's own.
+// Rows of the table of built-in functions. The expected values are those of the Python Standard
+// Library Reference, but for lists from `range` and the words of exceptions, which are the language's
+// own.
 
-use crate::methods::{Lit, make};
+use crate::literals::{Lit, make};
 use cov_outside::{MemSink, MemSource, Source};
 use py_builtins::{RunFault, call_builtin, call_method, exception_of, str_of};
 use py_value::{Builtin, ExcKind, Heap, Items, Method, NoMemory, Raised, Text, Value};
@@ -91,28 +92,28 @@ fn is_as_the_row_says(
     left: &[u8],
 ) -> Result<bool, RunFault> {
     let mut heap = Heap::new(alloc);
-    let args = arguments(alloc, call.1, &mut heap)?;
+    let args = arguments(alloc, call.2, &mut heap)?;
     let mut input = source(alloc, given, Vec::new(alloc))?;
     let mut out = sink(alloc, Vec::new(alloc));
-    let answer = call_builtin(alloc, call.0, &args, &mut heap, &mut input, &mut out)?;
-    let answered = is_wanted(alloc, answer, call.2, &heap)?;
+    let answer = call_builtin(alloc, call.1, &args, &mut heap, &mut input, &mut out)?;
+    let answered = is_wanted(alloc, answer, call.3, &heap)?;
     let written = out.into_bytes();
     Ok(answered && written.as_slice() == wanted.as_bytes() && has_left(&mut input, left))
 }
 
 #[test]
 fn built_ins_answer_as_the_table_says(rt: HostRuntime) {
-    for (i, call) in CALLS.iter().enumerate() {
+    for call in &CALLS {
         let same = is_as_the_row_says(rt.alloc(), call, b"ab", "", b"ab");
-        assert!(rt; same == Ok(true), "row {i}");
+        assert!(rt; same == Ok(true), "{}", call.0);
     }
 }
 
 #[test]
 fn print_and_input_do_as_the_table_says(rt: HostRuntime) {
-    for (i, talk) in TALKS.iter().enumerate() {
+    for talk in &TALKS {
         let same = is_as_the_row_says(rt.alloc(), &talk.0, talk.1, talk.2, talk.3);
-        assert!(rt; same == Ok(true), "row {i}");
+        assert!(rt; same == Ok(true), "{}", talk.0.0);
     }
 }
 

@@ -1,31 +1,10 @@
 // Rows of the table of methods. The expected values are those of the Python Standard Library Reference.
 
+use crate::literals::Lit::{self, Bool, Dict, Int, Str, TextTuple, Texts};
+use crate::literals::Want::{self, Gives, Raises};
+use crate::literals::{is_made, is_wanted, make};
 use py_builtins::{call_method, has_method};
-use py_value::{ExcKind, Heap, Items, Method, NoMemory, Raised, Text, Value, store};
-use std::alloc::Global;
-
-/// A value to be made in a heap.
-#[derive(Clone, Copy)]
-pub(crate) enum Lit {
-    None,
-    Bool(bool),
-    Int(i64),
-    Str(&'static str),
-    Texts(&'static [&'static str]),
-    Tuple(&'static [&'static str]),
-    Dict(&'static [(&'static str, i64)]),
-}
-
-use Lit::{Bool, Dict, Int, Str, Texts, Tuple};
-
-/// What a call answers.
-#[derive(Clone, Copy)]
-enum Want {
-    Gives(Lit),
-    Raises(ExcKind, &'static str),
-}
-
-use Want::{Gives, Raises};
+use py_value::{ExcKind, Heap, Method, Value};
 
 const WRONG_COUNT: Want = Raises(ExcKind::TypeError, "wrong number of arguments");
 
@@ -35,111 +14,13 @@ const UNHASHABLE: Want = Raises(ExcKind::TypeError, "unhashable key");
 
 const OUTSIDE: Want = Raises(ExcKind::IndexError, "pop index out of range");
 
-fn text(alloc: Global, s: &str) -> Result<Value, NoMemory> {
-    Ok(Value::Str(Text::from_str(alloc, s)?))
-}
-
-fn texts(alloc: Global, items: &[&str]) -> Result<Vec<Value>, NoMemory> {
-    let mut values = Vec::new(alloc);
-    for item in items {
-        values.push(text(alloc, item)?)?;
-    }
-    Ok(values)
-}
-
-pub(crate) fn make(alloc: Global, lit: Lit, heap: &mut Heap) -> Result<Value, NoMemory> {
-    match lit {
-        Lit::None => Ok(Value::None),
-        Lit::Bool(b) => Ok(Value::Bool(b)),
-        Lit::Int(n) => Ok(Value::Int(n)),
-        Lit::Str(s) => text(alloc, s),
-        Lit::Texts(items) => Ok(Value::List(heap.make_list(texts(alloc, items)?)?)),
-        Lit::Tuple(items) => Ok(Value::Tuple(Items::new(alloc, texts(alloc, items)?)?)),
-        Lit::Dict(pairs) => {
-            let dict = Value::Dict(heap.make_dict()?);
-            for (key, n) in pairs {
-                let key = text(alloc, key)?;
-                let _ = store(alloc, &dict, &key, Value::Int(*n), heap)?;
-            }
-            Ok(dict)
-        }
-    }
-}
-
-fn is_text(value: &Value, wanted: &str) -> bool {
-    match value {
-        Value::Str(text) => text.as_str() == wanted,
-        _ => false,
-    }
-}
-
-fn are_texts(items: &[Value], wanted: &[&str]) -> bool {
-    if items.len() != wanted.len() {
-        return false;
-    }
-    for i in 0..items.len() {
-        if !is_text(&items[i], wanted[i]) {
-            return false;
-        }
-    }
-    true
-}
-
-fn is_made(value: &Value, wanted: Lit, heap: &Heap) -> bool {
-    match wanted {
-        Lit::None => matches!(value, Value::None),
-        Lit::Bool(b) => match value {
-            Value::Bool(c) => *c == b,
-            _ => false,
-        },
-        Lit::Int(n) => match value {
-            Value::Int(m) => *m == n,
-            _ => false,
-        },
-        Lit::Str(s) => is_text(value, s),
-        Lit::Texts(wanted) => match value {
-            Value::List(list) => are_texts(heap.items(*list), wanted),
-            _ => false,
-        },
-        Lit::Tuple(wanted) => match value {
-            Value::Tuple(items) => are_texts(items.as_slice(), wanted),
-            _ => false,
-        },
-        Lit::Dict(pairs) => match value {
-            Value::Dict(dict) => heap.len(*dict) == pairs.len(),
-            _ => false,
-        },
-    }
-}
-
-fn is_raised(raised: &Raised, kind: ExcKind, said: &str) -> bool {
-    if !raised.kind.is_same(kind) {
-        return false;
-    }
-    match raised.arg.value() {
-        None => said.is_empty(),
-        Some(arg) => is_text(arg, said),
-    }
-}
-
-fn is_wanted(answer: &Result<Value, Raised>, want: Want, heap: &Heap) -> bool {
-    match answer {
-        Ok(value) => match want {
-            Gives(wanted) => is_made(value, wanted, heap),
-            Raises(_, _) => false,
-        },
-        Err(raised) => match want {
-            Gives(_) => false,
-            Raises(kind, said) => is_raised(raised, kind, said),
-        },
-    }
-}
-
-/// A method of a value, called with these arguments; what it answers, and the value after it.
-struct Call(Method, Lit, &'static [Lit], Want, Lit);
+/// A call as Python writes it; a method of a value, called with these arguments; what it answers, and
+/// the value after it.
+struct Call(&'static str, Method, Lit, &'static [Lit], Want, Lit);
 
 static CALLS: [Call; 44] = [
     Call(
+        "' a  bc\\n'.split()",
         Method::Split,
         Str(" a  bc\n"),
         &[],
@@ -147,6 +28,7 @@ static CALLS: [Call; 44] = [
         Str(" a  bc\n"),
     ),
     Call(
+        "'a b'.split()",
         Method::Split,
         Str("a b"),
         &[],
@@ -154,14 +36,23 @@ static CALLS: [Call; 44] = [
         Str("a b"),
     ),
     Call(
+        "'\\t\\r\\n'.split()",
         Method::Split,
         Str("\t\r\n"),
         &[],
         Gives(Texts(&[])),
         Str("\t\r\n"),
     ),
-    Call(Method::Split, Str(""), &[], Gives(Texts(&[])), Str("")),
     Call(
+        "''.split()",
+        Method::Split,
+        Str(""),
+        &[],
+        Gives(Texts(&[])),
+        Str(""),
+    ),
+    Call(
+        "'é è'.split()",
         Method::Split,
         Str("é è"),
         &[],
@@ -169,6 +60,7 @@ static CALLS: [Call; 44] = [
         Str("é è"),
     ),
     Call(
+        "'a,,b,'.split(',')",
         Method::Split,
         Str("a,,b,"),
         &[Str(",")],
@@ -176,6 +68,7 @@ static CALLS: [Call; 44] = [
         Str("a,,b,"),
     ),
     Call(
+        "''.split(',')",
         Method::Split,
         Str(""),
         &[Str(",")],
@@ -183,6 +76,7 @@ static CALLS: [Call; 44] = [
         Str(""),
     ),
     Call(
+        "'aaa'.split('aa')",
         Method::Split,
         Str("aaa"),
         &[Str("aa")],
@@ -190,6 +84,7 @@ static CALLS: [Call; 44] = [
         Str("aaa"),
     ),
     Call(
+        "'abab'.split('ba')",
         Method::Split,
         Str("abab"),
         &[Str("ba")],
@@ -197,6 +92,7 @@ static CALLS: [Call; 44] = [
         Str("abab"),
     ),
     Call(
+        "' a '.split(' ')",
         Method::Split,
         Str(" a "),
         &[Str(" ")],
@@ -204,6 +100,7 @@ static CALLS: [Call; 44] = [
         Str(" a "),
     ),
     Call(
+        "'a'.split('')",
         Method::Split,
         Str("a"),
         &[Str("")],
@@ -211,6 +108,7 @@ static CALLS: [Call; 44] = [
         Str("a"),
     ),
     Call(
+        "'a'.split(None)",
         Method::Split,
         Str("a"),
         &[Lit::None],
@@ -218,6 +116,7 @@ static CALLS: [Call; 44] = [
         Str("a"),
     ),
     Call(
+        "'a'.split('a', 1)",
         Method::Split,
         Str("a"),
         &[Str("a"), Int(1)],
@@ -225,6 +124,7 @@ static CALLS: [Call; 44] = [
         Str("a"),
     ),
     Call(
+        "', '.join(['a', 'b', 'c'])",
         Method::Join,
         Str(", "),
         &[Texts(&["a", "b", "c"])],
@@ -232,13 +132,15 @@ static CALLS: [Call; 44] = [
         Str(", "),
     ),
     Call(
+        "'-'.join(('x',))",
         Method::Join,
         Str("-"),
-        &[Tuple(&["x"])],
+        &[TextTuple(&["x"])],
         Gives(Str("x")),
         Str("-"),
     ),
     Call(
+        "'-'.join([])",
         Method::Join,
         Str("-"),
         &[Texts(&[])],
@@ -246,22 +148,39 @@ static CALLS: [Call; 44] = [
         Str("-"),
     ),
     Call(
+        "''.join(('é', '', 'b'))",
         Method::Join,
         Str(""),
-        &[Tuple(&["é", "", "b"])],
+        &[TextTuple(&["é", "", "b"])],
         Gives(Str("éb")),
         Str(""),
     ),
-    Call(Method::Join, Str("-"), &[Str("ab")], BAD_ARGUMENT, Str("-")),
     Call(
+        "'-'.join('ab')",
+        Method::Join,
+        Str("-"),
+        &[Str("ab")],
+        BAD_ARGUMENT,
+        Str("-"),
+    ),
+    Call(
+        "'-'.join({'a': 1})",
         Method::Join,
         Str("-"),
         &[Dict(&[("a", 1)])],
         BAD_ARGUMENT,
         Str("-"),
     ),
-    Call(Method::Join, Str("-"), &[], WRONG_COUNT, Str("-")),
     Call(
+        "'-'.join()",
+        Method::Join,
+        Str("-"),
+        &[],
+        WRONG_COUNT,
+        Str("-"),
+    ),
+    Call(
+        "'abc'.startswith('ab')",
         Method::StartsWith,
         Str("abc"),
         &[Str("ab")],
@@ -269,6 +188,7 @@ static CALLS: [Call; 44] = [
         Str("abc"),
     ),
     Call(
+        "'abc'.startswith('')",
         Method::StartsWith,
         Str("abc"),
         &[Str("")],
@@ -276,6 +196,7 @@ static CALLS: [Call; 44] = [
         Str("abc"),
     ),
     Call(
+        "'a'.startswith('ab')",
         Method::StartsWith,
         Str("a"),
         &[Str("ab")],
@@ -283,6 +204,7 @@ static CALLS: [Call; 44] = [
         Str("a"),
     ),
     Call(
+        "'ba'.startswith('a')",
         Method::StartsWith,
         Str("ba"),
         &[Str("a")],
@@ -290,6 +212,7 @@ static CALLS: [Call; 44] = [
         Str("ba"),
     ),
     Call(
+        "'a'.startswith(1)",
         Method::StartsWith,
         Str("a"),
         &[Int(1)],
@@ -297,6 +220,7 @@ static CALLS: [Call; 44] = [
         Str("a"),
     ),
     Call(
+        "['a'].append('b')",
         Method::Append,
         Texts(&["a"]),
         &[Str("b")],
@@ -304,6 +228,7 @@ static CALLS: [Call; 44] = [
         Texts(&["a", "b"]),
     ),
     Call(
+        "['a'].append()",
         Method::Append,
         Texts(&["a"]),
         &[],
@@ -311,6 +236,7 @@ static CALLS: [Call; 44] = [
         Texts(&["a"]),
     ),
     Call(
+        "['a', 'b', 'c'].pop()",
         Method::Pop,
         Texts(&["a", "b", "c"]),
         &[],
@@ -318,6 +244,7 @@ static CALLS: [Call; 44] = [
         Texts(&["a", "b"]),
     ),
     Call(
+        "['a', 'b', 'c'].pop(0)",
         Method::Pop,
         Texts(&["a", "b", "c"]),
         &[Int(0)],
@@ -325,6 +252,7 @@ static CALLS: [Call; 44] = [
         Texts(&["b", "c"]),
     ),
     Call(
+        "['a', 'b', 'c'].pop(-2)",
         Method::Pop,
         Texts(&["a", "b", "c"]),
         &[Int(-2)],
@@ -332,6 +260,7 @@ static CALLS: [Call; 44] = [
         Texts(&["a", "c"]),
     ),
     Call(
+        "['a', 'b', 'c'].pop(True)",
         Method::Pop,
         Texts(&["a", "b", "c"]),
         &[Bool(true)],
@@ -339,6 +268,7 @@ static CALLS: [Call; 44] = [
         Texts(&["a", "c"]),
     ),
     Call(
+        "['a'].pop(1)",
         Method::Pop,
         Texts(&["a"]),
         &[Int(1)],
@@ -346,14 +276,23 @@ static CALLS: [Call; 44] = [
         Texts(&["a"]),
     ),
     Call(
+        "['a'].pop(-2)",
         Method::Pop,
         Texts(&["a"]),
         &[Int(-2)],
         OUTSIDE,
         Texts(&["a"]),
     ),
-    Call(Method::Pop, Texts(&[]), &[], OUTSIDE, Texts(&[])),
     Call(
+        "[].pop()",
+        Method::Pop,
+        Texts(&[]),
+        &[],
+        OUTSIDE,
+        Texts(&[]),
+    ),
+    Call(
+        "['a'].pop('0')",
         Method::Pop,
         Texts(&["a"]),
         &[Str("0")],
@@ -361,6 +300,7 @@ static CALLS: [Call; 44] = [
         Texts(&["a"]),
     ),
     Call(
+        "{'a': 1, 'b': 2}.pop('a')",
         Method::Pop,
         Dict(&[("a", 1), ("b", 2)]),
         &[Str("a")],
@@ -368,6 +308,7 @@ static CALLS: [Call; 44] = [
         Dict(&[("b", 2)]),
     ),
     Call(
+        "{'a': 1}.pop('b')",
         Method::Pop,
         Dict(&[("a", 1)]),
         &[Str("b")],
@@ -375,6 +316,7 @@ static CALLS: [Call; 44] = [
         Dict(&[("a", 1)]),
     ),
     Call(
+        "{'a': 1}.pop('b', 9)",
         Method::Pop,
         Dict(&[("a", 1)]),
         &[Str("b"), Int(9)],
@@ -382,6 +324,7 @@ static CALLS: [Call; 44] = [
         Dict(&[("a", 1)]),
     ),
     Call(
+        "{'a': 1}.pop(True, 9)",
         Method::Pop,
         Dict(&[("a", 1)]),
         &[Bool(true), Int(9)],
@@ -389,6 +332,7 @@ static CALLS: [Call; 44] = [
         Dict(&[("a", 1)]),
     ),
     Call(
+        "{'a': 1}.get('a')",
         Method::Get,
         Dict(&[("a", 1)]),
         &[Str("a")],
@@ -396,6 +340,7 @@ static CALLS: [Call; 44] = [
         Dict(&[("a", 1)]),
     ),
     Call(
+        "{'a': 1}.get('b')",
         Method::Get,
         Dict(&[("a", 1)]),
         &[Str("b")],
@@ -403,6 +348,7 @@ static CALLS: [Call; 44] = [
         Dict(&[("a", 1)]),
     ),
     Call(
+        "{'a': 1}.get('b', 9)",
         Method::Get,
         Dict(&[("a", 1)]),
         &[Str("b"), Int(9)],
@@ -410,6 +356,7 @@ static CALLS: [Call; 44] = [
         Dict(&[("a", 1)]),
     ),
     Call(
+        "{'b': 2, 'a': 1}.keys()",
         Method::Keys,
         Dict(&[("b", 2), ("a", 1)]),
         &[],
@@ -417,6 +364,7 @@ static CALLS: [Call; 44] = [
         Dict(&[("a", 1), ("b", 2)]),
     ),
     Call(
+        "['a'].keys()",
         Method::Keys,
         Texts(&["a"]),
         &[],
@@ -427,18 +375,18 @@ static CALLS: [Call; 44] = [
 
 #[test]
 fn methods_answer_as_the_table_says(rt: HostRuntime) {
-    for (i, call) in CALLS.iter().enumerate() {
+    for call in &CALLS {
         let alloc = rt.alloc();
         let mut heap = Heap::new(alloc);
-        let on = make(alloc, call.1, &mut heap).expect(&rt, "memory");
+        let on = make(alloc, call.2, &mut heap).expect(&rt, "memory");
         let mut args = Vec::new(alloc);
-        for arg in call.2 {
+        for arg in call.3 {
             let arg = make(alloc, *arg, &mut heap).expect(&rt, "memory");
             args.push(arg).expect(&rt, "memory");
         }
-        let answer = call_method(alloc, call.0, &on, &args, &mut heap).expect(&rt, "memory");
-        assert!(rt; is_wanted(&answer, call.3, &heap), "row {i}");
-        assert!(rt; is_made(&on, call.4, &heap), "row {i}");
+        let answer = call_method(alloc, call.1, &on, &args, &mut heap).expect(&rt, "memory");
+        assert!(rt; is_wanted(&answer, call.4, &heap), "{}", call.0);
+        assert!(rt; is_made(&on, call.5, &heap), "{}", call.0);
     }
 }
 

@@ -1,209 +1,91 @@
 // Rows of the table of operators. The expected values are those of the Python Language Reference.
 
+use crate::literals::Lit::{Dict, Int, List, Str};
+use crate::literals::Want::Raises;
+use crate::literals::{is_made, is_wanted, make};
 use py_value::{
-    BinOp, CmpOp, ExcKind, Heap, Items, NoMemory, Raised, Text, Value, binary, compare, in_place,
-    index, slice, store, truth, update,
+    BinOp, CmpOp, ExcKind, Heap, Value, binary, compare, in_place, index, slice, store, truth,
+    update,
 };
-use std::alloc::Global;
-
-/// A value to be made in a heap.
-#[derive(Clone, Copy)]
-enum Lit {
-    None,
-    Bool(bool),
-    Int(i64),
-    Str(&'static str),
-    Tuple(&'static [i64]),
-    List(&'static [i64]),
-    Dict(&'static [(&'static str, i64)]),
-}
-
-use Lit::{Bool, Dict, Int, List, Str, Tuple};
-
-/// What an operation answers.
-#[derive(Clone, Copy)]
-enum Want {
-    Gives(Lit),
-    Raises(ExcKind, &'static str),
-}
-
-use Want::{Gives, Raises};
 
 mod rows;
 
 use rows::{AUGMENTED, BINARY, COMPARED, INDEXED, SLICED, TRUTHS};
 
-fn numbers(alloc: Global, items: &[i64]) -> Result<Vec<Value>, NoMemory> {
-    let mut values = Vec::new(alloc);
-    for n in items {
-        values.push(Value::Int(*n))?;
-    }
-    Ok(values)
-}
-
-fn make(alloc: Global, lit: Lit, heap: &mut Heap) -> Result<Value, NoMemory> {
-    match lit {
-        Lit::None => Ok(Value::None),
-        Lit::Bool(b) => Ok(Value::Bool(b)),
-        Lit::Int(n) => Ok(Value::Int(n)),
-        Lit::Str(s) => Ok(Value::Str(Text::from_str(alloc, s)?)),
-        Lit::Tuple(items) => Ok(Value::Tuple(Items::new(alloc, numbers(alloc, items)?)?)),
-        Lit::List(items) => Ok(Value::List(heap.make_list(numbers(alloc, items)?)?)),
-        Lit::Dict(pairs) => {
-            let dict = Value::Dict(heap.make_dict()?);
-            for (key, n) in pairs {
-                let key = Value::Str(Text::from_str(alloc, key)?);
-                let _ = store(alloc, &dict, &key, Value::Int(*n), heap)?;
-            }
-            Ok(dict)
-        }
-    }
-}
-
-fn are_numbers(items: &[Value], wanted: &[i64]) -> bool {
-    if items.len() != wanted.len() {
-        return false;
-    }
-    for i in 0..items.len() {
-        match &items[i] {
-            Value::Int(n) => {
-                if *n != wanted[i] {
-                    return false;
-                }
-            }
-            _ => return false,
-        }
-    }
-    true
-}
-
-fn is_made(value: &Value, wanted: Lit, heap: &Heap) -> bool {
-    match wanted {
-        Lit::None => matches!(value, Value::None),
-        Lit::Bool(b) => match value {
-            Value::Bool(c) => *c == b,
-            _ => false,
-        },
-        Lit::Int(n) => match value {
-            Value::Int(m) => *m == n,
-            _ => false,
-        },
-        Lit::Str(s) => match value {
-            Value::Str(text) => text.as_str() == s,
-            _ => false,
-        },
-        Lit::Tuple(wanted) => match value {
-            Value::Tuple(items) => are_numbers(items.as_slice(), wanted),
-            _ => false,
-        },
-        Lit::List(wanted) => match value {
-            Value::List(list) => are_numbers(heap.items(*list), wanted),
-            _ => false,
-        },
-        Lit::Dict(_) => matches!(value, Value::Dict(_)),
-    }
-}
-
-fn is_raised(raised: &Raised, kind: ExcKind, text: &str) -> bool {
-    if !raised.kind.is_same(kind) {
-        return false;
-    }
-    match raised.arg.value() {
-        None => text.is_empty(),
-        Some(arg) => match arg {
-            Value::Str(said) => said.as_str() == text,
-            _ => false,
-        },
-    }
-}
-
-fn is_wanted(answer: &Result<Value, Raised>, want: Want, heap: &Heap) -> bool {
-    match answer {
-        Ok(value) => match want {
-            Gives(wanted) => is_made(value, wanted, heap),
-            Raises(_, _) => false,
-        },
-        Err(raised) => match want {
-            Gives(_) => false,
-            Raises(kind, text) => is_raised(raised, kind, text),
-        },
-    }
-}
-
 #[test]
 fn binary_operators(rt: HostRuntime) {
-    for (i, row) in BINARY.iter().enumerate() {
+    for row in &BINARY {
         let alloc = rt.alloc();
         let mut heap = Heap::new(alloc);
-        let left = make(alloc, row.1, &mut heap).expect(&rt, "memory");
-        let right = make(alloc, row.2, &mut heap).expect(&rt, "memory");
-        let answer = binary(alloc, row.0, &left, &right, &mut heap).expect(&rt, "memory");
-        assert!(rt; is_wanted(&answer, row.3, &heap), "row {i}");
-        assert!(rt; is_made(&left, row.1, &heap), "row {i}");
+        let left = make(alloc, row.2, &mut heap).expect(&rt, "memory");
+        let right = make(alloc, row.3, &mut heap).expect(&rt, "memory");
+        let answer = binary(alloc, row.1, &left, &right, &mut heap).expect(&rt, "memory");
+        assert!(rt; is_wanted(&answer, row.4, &heap), "{}", row.0);
+        assert!(rt; is_made(&left, row.2, &heap), "{}", row.0);
     }
 }
 
 #[test]
 fn augmented_operators(rt: HostRuntime) {
-    for (i, row) in AUGMENTED.iter().enumerate() {
+    for row in &AUGMENTED {
         let alloc = rt.alloc();
         let mut heap = Heap::new(alloc);
-        let left = make(alloc, row.1, &mut heap).expect(&rt, "memory");
-        let right = make(alloc, row.2, &mut heap).expect(&rt, "memory");
-        let answer = in_place(alloc, row.0, &left, &right, &mut heap).expect(&rt, "memory");
-        assert!(rt; is_wanted(&answer, row.3, &heap), "row {i}");
+        let left = make(alloc, row.2, &mut heap).expect(&rt, "memory");
+        let right = make(alloc, row.3, &mut heap).expect(&rt, "memory");
+        let answer = in_place(alloc, row.1, &left, &right, &mut heap).expect(&rt, "memory");
+        assert!(rt; is_wanted(&answer, row.4, &heap), "{}", row.0);
     }
 }
 
 #[test]
 fn updated_values(rt: HostRuntime) {
-    for (i, row) in AUGMENTED.iter().enumerate() {
+    for row in &AUGMENTED {
         let alloc = rt.alloc();
         let mut heap = Heap::new(alloc);
-        let mut target = make(alloc, row.1, &mut heap).expect(&rt, "memory");
-        let right = make(alloc, row.2, &mut heap).expect(&rt, "memory");
-        let answer = update(alloc, row.0, &mut target, &right, &mut heap).expect(&rt, "memory");
+        let mut target = make(alloc, row.2, &mut heap).expect(&rt, "memory");
+        let right = make(alloc, row.3, &mut heap).expect(&rt, "memory");
+        let answer = update(alloc, row.1, &mut target, &right, &mut heap).expect(&rt, "memory");
         let answer = match answer {
             Ok(()) => Ok(target),
             Err(raised) => Err(raised),
         };
-        assert!(rt; is_wanted(&answer, row.3, &heap), "row {i}");
+        assert!(rt; is_wanted(&answer, row.4, &heap), "{}", row.0);
     }
 }
 
 #[test]
 fn comparisons(rt: HostRuntime) {
-    for (i, row) in COMPARED.iter().enumerate() {
+    for row in &COMPARED {
         let alloc = rt.alloc();
         let mut heap = Heap::new(alloc);
-        let left = make(alloc, row.1, &mut heap).expect(&rt, "memory");
-        let right = make(alloc, row.2, &mut heap).expect(&rt, "memory");
-        let answer = compare(alloc, row.0, &left, &right, &heap).expect(&rt, "memory");
+        let left = make(alloc, row.2, &mut heap).expect(&rt, "memory");
+        let right = make(alloc, row.3, &mut heap).expect(&rt, "memory");
+        let answer = compare(alloc, row.1, &left, &right, &heap).expect(&rt, "memory");
         let answer = answer.map(Value::Bool);
-        assert!(rt; is_wanted(&answer, row.3, &heap), "row {i}");
+        assert!(rt; is_wanted(&answer, row.4, &heap), "{}", row.0);
     }
 }
 
 #[test]
 fn items_and_parts(rt: HostRuntime) {
     let alloc = rt.alloc();
-    for (i, row) in INDEXED.iter().enumerate() {
+    for row in &INDEXED {
         let mut heap = Heap::new(alloc);
-        let of = make(alloc, row.0, &mut heap).expect(&rt, "memory");
-        let at = make(alloc, row.1, &mut heap).expect(&rt, "memory");
+        let of = make(alloc, row.1, &mut heap).expect(&rt, "memory");
+        let at = make(alloc, row.2, &mut heap).expect(&rt, "memory");
         let answer = index(alloc, &of, &at, &heap).expect(&rt, "memory");
-        assert!(rt; is_wanted(&answer, row.2, &heap), "index row {i}");
+        assert!(rt; is_wanted(&answer, row.3, &heap), "{}", row.0);
     }
-    for (i, row) in SLICED.iter().enumerate() {
+    for row in &SLICED {
         let mut heap = Heap::new(alloc);
-        let of = make(alloc, row.0, &mut heap).expect(&rt, "memory");
-        let answer = slice(alloc, &of, row.1, row.2, &mut heap).expect(&rt, "memory");
-        assert!(rt; is_wanted(&answer, row.3, &heap), "slice row {i}");
+        let of = make(alloc, row.1, &mut heap).expect(&rt, "memory");
+        let answer = slice(alloc, &of, row.2, row.3, &mut heap).expect(&rt, "memory");
+        assert!(rt; is_wanted(&answer, row.4, &heap), "{}", row.0);
     }
-    for (i, row) in TRUTHS.iter().enumerate() {
+    for row in &TRUTHS {
         let mut heap = Heap::new(alloc);
-        let value = make(alloc, row.0, &mut heap).expect(&rt, "memory");
-        assert!(rt; truth(&value, &heap) == row.1, "truth row {i}");
+        let value = make(alloc, row.1, &mut heap).expect(&rt, "memory");
+        assert!(rt; truth(&value, &heap) == row.2, "{}", row.0);
     }
 }
 
