@@ -4,7 +4,7 @@ use Rattle.std.specs.List.Sorted.{IsPermutation}
 use Rattle.sqlite_value.specs.Order.{Row}
 use Rattle.sqlite_trees.specs.Tree.{Trees}
 use Rattle.sqlite_resolve.specs.declared.error.CompileError.{CompileError}
-use Rattle.sqlite_resolve.specs.declared.error.CompileError.TheVariants.{NoSuchTable, NoSuchColumn}
+use Rattle.sqlite_resolve.specs.declared.error.CompileError.TheVariants.{NoSuchTable}
 use Rattle.sqlite_resolve.specs.Lowering.{max_budget}
 use Rattle.sqlite_resolve.specs.Compile.{compiled}
 use Rattle.sqlite_tied.specs.Compute.{everything}
@@ -22,7 +22,7 @@ use Rattle.cov_sql.proofs.Found.{AreOrdinary}
 use Rattle.cov_sql.proofs.Shows.{Verdict, no_table, no_column, mistyped, reads, verdict, never, no_fault, gives_rows, misses, Reading}
 use Rattle.cov_sql.specs.declared.statements.StatementError.{StatementError}
 use Rattle.cov_sql.specs.declared.statements.StatementError.TheVariants.{Missing}
-use Rattle.cov_sql.specs.Told.{Lists, Reads, LeavesAll}
+use Rattle.cov_sql.specs.Told.{Lists, Reads, LeavesAll, IsUnread}
 use Rattle.cov_sql.specs.Shown.{ShowsCells, IsRefusedAsAbsent, IsAsked}
 
 -- the text reads the table, whatever else a base has
@@ -36,7 +36,7 @@ module _ (text : List ℕ) (t : Shape) (is : IsReading text t) (old new : State)
   pub gives : (rows : List Row) → Shown text [] old new rows → ((all : List Row) × (rows_in t old.now ≡ Some all) × IsPermutation all rows) × IsUnchanged old new
   gives = gives_rows text t.name t.columns is.plain is.ordinary is.cheap is.unlisted old new no_view
 
-  pub is_missing : (e : CompileError) → (e ≡ NoSuchTable) ⊎ (e ≡ NoSuchColumn) → FailsToQuery text [] old new (SqlInputError e) → rows_in t old.now ≡ None
+  pub is_missing : (e : CompileError) → IsUnread e → FailsToQuery text [] old new (SqlInputError e) → rows_in t old.now ≡ None
   is_missing = misses text t.name t.columns is.plain is.ordinary is.cheap is.unlisted old new no_view
 
   pub commits_nothing : (db : Trees) → ¬ CommitsShowing text [] old db

@@ -22,6 +22,7 @@ use Rattle.sqlite.specs.declared.error.Error.TheVariants.{SqlInputError}
 use Rattle.sqlite.specs.State.{State, IsUnchanged, Shown, Fails, FailsToQuery, IsNotRun}
 use Rattle.sqlite.proofs.Callers.{IsPlain, command_of, reads_as}
 use Rattle.cov_sql.specs.Tables.{rows_of, places_in}
+use Rattle.cov_sql.specs.Told.{IsUnread}
 use Rattle.cov_sql.proofs.Selects.{AreFound, IsLacking, Affords, Spends}
 use Rattle.cov_sql.proofs.Texts.{IsPlainText, made, select_is, no_table_is, no_column_is}
 use Rattle.cov_sql.proofs.Found.{AreOrdinary, either, found_at, splits}
@@ -101,8 +102,9 @@ module _ (text : List ℕ) (name : Name) (names : List Name) (plain : IsPlainTex
           let unchanged : IsUnchanged old new = (rw (same, returning) at h.2).3 in
           ((map (λ r. map (column r) (map (λ p. place_of t p.0) ps)) (old.now.trees t.tree), rw (named, is, places) refl, answer_rows t ps old.now.trees rows it.answer), unchanged)
 
-wrong : (e fault : CompileError) → (e ≡ NoSuchTable) ⊎ (e ≡ NoSuchColumn) → SqlInputError e ≡ SqlInputError fault → ◌≡◌ {A = Reading} (Err fault) (Err Mismatch) → ⊥
-wrong e fault (inl which) one two = cc
+wrong : (e fault : CompileError) → IsUnread e → SqlInputError e ≡ SqlInputError fault → ◌≡◌ {A = Reading} (Err fault) (Err Mismatch) → ⊥
+wrong e fault (inl (inl which)) one two = cc
+wrong e fault (inl (inr which)) one two = cc
 wrong e fault (inr which) one two = cc
 
 refusal : (limit : Option ℕ) (db : Database) (p : Program) (params : Row) (e : CompileError) → ¬ RefusesQuery limit db p params (SqlInputError e)
@@ -122,7 +124,7 @@ no_fault old new e (Unstorable, h, cause, undone, told) = absurd (let same = h i
 module _ (text : List ℕ) (name : Name) (names : List Name) (plain : IsPlainText text name names) (ordinary : AreOrdinary names) (cheap : Spends names max_budget) (unlisted : compiled listing_schema text ≡ Err NoSuchTable)
     (old new : State) (no_view : view_named old.now.schema name ≡ None) where
   -- the text is refused so only where the table is missing
-  pub misses : (e : CompileError) → (e ≡ NoSuchTable) ⊎ (e ≡ NoSuchColumn) → FailsToQuery text [] old new (SqlInputError e) → rows_of name names old.now ≡ None
+  pub misses : (e : CompileError) → IsUnread e → FailsToQuery text [] old new (SqlInputError e) → rows_of name names old.now ≡ None
   unfolding FailsToQuery IsNotRun
   misses e which h = by (verdict text name names plain ordinary cheap unlisted old.now.schema no_view) h
     where

@@ -7,16 +7,16 @@ use Rattle.sqlite.specs.declared.error.Error.{Error}
 use Rattle.sqlite.specs.declared.error.Error.TheVariants.{SqlInputError}
 use Rattle.sqlite_resolve.specs.declared.error.CompileError.{CompileError}
 use Rattle.cov_sql.specs.Cells.{AreCells}
-use Rattle.cov_sql.specs.Told.{Lists, IsAbsence}
+use Rattle.cov_sql.specs.Told.{Lists, IsUnread}
 
 -- the rows that the text shows, as cells
 abbrev pub ShowsCells : List ℕ → State → State → Lists → Type 0
 ShowsCells text old new lists = (rows : List Row) × Shown text [] old new rows
     × AllZip AreCells rows lists.items
 
--- the text was refused since a table or a column isn't there
+-- the text was refused since a table or a column isn't there, or can't be used
 abbrev pub IsRefusedAsAbsent : List ℕ → State → State → Type 0
-IsRefusedAsAbsent text old new = (e : CompileError) × IsAbsence e
+IsRefusedAsAbsent text old new = (e : CompileError) × IsUnread e
     × FailsToQuery text [] old new (SqlInputError e)
 
 -- the text was asked, with or without an answer

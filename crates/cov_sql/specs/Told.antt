@@ -5,11 +5,12 @@
 --                  name
 --     LeavesAll    a crash may leave what it could leave before, unless a view has the table's name
 --     IsAbsence    the causes that say that a table or one of its columns isn't there
+--     IsUnread     those that say so where a table is read: one that can't be used isn't there
 use Rattle.std.specs.Prelude.{◌≡◌, ◌⊎◌, None, Vec, Result, IfOk, OnOk, IsErrOf}
 use Rattle.std.specs.declared.alloc.Global.{Global}
 use Rattle.sqlite.specs.State.{State, HasCleanDisk, IsUnchanged, IsRolledBack, Survives}
 use Rattle.sqlite_resolve.specs.declared.error.CompileError.{CompileError}
-use Rattle.sqlite_resolve.specs.declared.error.CompileError.TheVariants.{NoSuchTable, NoSuchColumn}
+use Rattle.sqlite_resolve.specs.declared.error.CompileError.TheVariants.{NoSuchTable, NoSuchColumn, Unsupported}
 use Rattle.cov_tables.specs.declared.cells.Cell.{Cell}
 use Rattle.cov_sql.specs.declared.statements.StatementError.{StatementError}
 use Rattle.cov_sql.specs.declared.statements.StatementError.TheVariants.{Missing}
@@ -34,3 +35,6 @@ LeavesAll t old new = Survives old new (λ _. ¬ IsUnhidden t old.now)
 
 abbrev pub IsAbsence : CompileError → Type 0
 IsAbsence e = (e ≡ NoSuchTable) ⊎ (e ≡ NoSuchColumn)
+
+abbrev pub IsUnread : CompileError → Type 0
+IsUnread e = IsAbsence e ⊎ (e ≡ Unsupported)

@@ -7,7 +7,7 @@ ghost use Rattle.sqlite_resolve.specs.declared.error.CompileError.{CompileError}
 ghost use Rattle.sqlite.specs.declared.error.Error.TheVariants.{SqlInputError};
 ghost use Rattle.sqlite.specs.Values.{bound};
 ghost use Rattle.cov_sql.specs.Calls.{Counts, IsRefused, LeavesNoMore};
-ghost use Rattle.cov_sql.specs.Told.{IsAbsence};
+ghost use Rattle.cov_sql.specs.Told.{IsAbsence, IsUnread};
 ghost use Rattle.cov_sql.specs.Written.{Ran, WasAbsent};
 ghost use Rattle.cov_sql.specs.Shown.{ShowsCells, IsRefusedAsAbsent, IsAsked};
 
@@ -49,6 +49,19 @@ impl Counted {
                 self.refuse();
                 StatementError::Refused
             }
+        }
+    }
+
+    /// The same where a table was read: one that the database can't use counts as missing.
+    fn count_reading(&mut self, error: Error) -> StatementError
+        ensures counts { Counts self.old.refusals self.new.refusals
+            (result ≡ StatementError.Refused) }
+        ensures missing { result ≡ StatementError.Missing
+            → (e : CompileError) × IsUnread e × (error ≡ SqlInputError e) }
+    {
+        match error {
+            Error::SqlInputError(CompileError::Unsupported) => StatementError::Missing,
+            other => self.count(other),
         }
     }
 
@@ -98,7 +111,7 @@ impl Counted {
                 Ok(all) => Ok(all),
                 Err(_) => Err(StatementError::NoMemory),
             },
-            Err(error) => Err(self.count(error)),
+            Err(error) => Err(self.count_reading(error)),
         }
     }
 }

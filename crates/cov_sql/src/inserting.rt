@@ -32,7 +32,6 @@ fn flag_text(arcs: bool) -> &'static str
     if arcs { "1" } else { "0" }
 }
 
-#[tactic(auto, using(crate::proofs::Stepping::still, crate::proofs::Stepping::stays, crate::proofs::Stepping::nothing_done))]
 fn insert_files<S: Alter, Q: Statements>(
     work: &mut Transaction<'_, S>,
     by: &mut Q,
@@ -55,7 +54,6 @@ fn insert_files<S: Alter, Q: Statements>(
     Ok(())
 }
 
-#[tactic(auto, using(crate::proofs::Stepping::still, crate::proofs::Stepping::stays, crate::proofs::Stepping::nothing_done))]
 fn insert_contexts<S: Alter, Q: Statements>(
     work: &mut Transaction<'_, S>,
     by: &mut Q,
@@ -78,7 +76,6 @@ fn insert_contexts<S: Alter, Q: Statements>(
     Ok(())
 }
 
-#[tactic(auto, using(crate::proofs::Stepping::still, crate::proofs::Stepping::stays, crate::proofs::Stepping::nothing_done))]
 fn insert_arcs<S: Alter, Q: Statements>(
     work: &mut Transaction<'_, S>,
     by: &mut Q,
@@ -98,7 +95,6 @@ fn insert_arcs<S: Alter, Q: Statements>(
     Ok(())
 }
 
-#[tactic(auto, using(crate::proofs::Stepping::still, crate::proofs::Stepping::stays, crate::proofs::Stepping::nothing_done))]
 fn insert_bits<S: Alter, Q: Statements>(
     work: &mut Transaction<'_, S>,
     by: &mut Q,
@@ -118,7 +114,6 @@ fn insert_bits<S: Alter, Q: Statements>(
     Ok(())
 }
 
-#[tactic(auto, using(crate::proofs::Stepping::still, crate::proofs::Stepping::stays, crate::proofs::Stepping::nothing_done))]
 fn insert_counts<S: Alter, Q: Statements>(
     work: &mut Transaction<'_, S>,
     by: &mut Q,
@@ -145,7 +140,6 @@ fn insert_counts<S: Alter, Q: Statements>(
     Ok(())
 }
 
-#[tactic(auto, using(crate::proofs::Stepping::works_then, crate::proofs::Stepping::still))]
 fn insert_names<S: Alter, Q: Statements>(
     work: &mut Transaction<'_, S>,
     by: &mut Q,
@@ -190,7 +184,6 @@ fn insert_arcs_of<S: Alter, Q: Statements>(
     insert_arcs(work, by, rows)
 }
 
-#[tactic(auto, using(crate::proofs::Stepping::works_then, crate::proofs::Stepping::still))]
 fn insert_rows<S: Alter, Q: Statements>(
     work: &mut Transaction<'_, S>,
     by: &mut Q,
@@ -212,7 +205,6 @@ fn insert_rows<S: Alter, Q: Statements>(
 }
 
 /// Fills the tables, which have no data.
-#[tactic(auto, using(crate::proofs::Stepping::works_then, crate::proofs::Stepping::still))]
 pub(crate) fn insert_all<S: Alter, Q: Statements>(
     work: &mut Transaction<'_, S>,
     by: &mut Q,

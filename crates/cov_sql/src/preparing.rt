@@ -70,7 +70,6 @@ fn make_table<S: Alter, Q: Statements>(
     }
 }
 
-#[tactic(auto, using(crate::proofs::Stepping::stays, crate::proofs::Stepping::nothing_done))]
 fn empty_table<S: Alter, Q: Statements>(
     work: &mut Transaction<'_, S>,
     by: &mut Q,
@@ -97,7 +96,6 @@ fn empty_table<S: Alter, Q: Statements>(
     }
 }
 
-#[tactic(auto, using(crate::proofs::Stepping::works_then, crate::proofs::Stepping::still, crate::proofs::Stepping::stays, crate::proofs::Stepping::nothing_done))]
 fn make_tables<S: Alter, Q: Statements>(
     work: &mut Transaction<'_, S>,
     by: &mut Q,
@@ -119,7 +117,6 @@ fn make_tables<S: Alter, Q: Statements>(
     Ok(())
 }
 
-#[tactic(auto, using(crate::proofs::Stepping::works_then, crate::proofs::Stepping::still, crate::proofs::Stepping::stays, crate::proofs::Stepping::nothing_done))]
 fn empty_tables<S: Alter, Q: Statements>(
     work: &mut Transaction<'_, S>,
     by: &mut Q,
@@ -140,7 +137,6 @@ fn empty_tables<S: Alter, Q: Statements>(
 }
 
 /// Makes a data file of schema 7 without data.
-#[tactic(auto, using(crate::proofs::Stepping::works_then, crate::proofs::Stepping::still))]
 fn make_all<S: Alter, Q: Statements>(
     work: &mut Transaction<'_, S>,
     by: &mut Q,
@@ -162,7 +158,6 @@ fn make_all<S: Alter, Q: Statements>(
 }
 
 /// Leaves a data file of schema 7 without data, where it had no table of counts.
-#[tactic(auto, using(crate::proofs::Stepping::works_then, crate::proofs::Stepping::still))]
 fn empty_and_count<S: Alter, Q: Statements>(
     work: &mut Transaction<'_, S>,
     by: &mut Q,

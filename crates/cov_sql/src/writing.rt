@@ -22,7 +22,6 @@ use cov_tables::is_schema_7;
 use sqlite::{Alter, Connection, Transaction};
 use std::alloc::Global;
 
-#[tactic(auto, using(crate::proofs::Stepping::works_then, crate::proofs::Stepping::still))]
 fn write_all<S: Alter, Q: Statements>(
     work: &mut Transaction<'_, S>,
     by: &mut Q,

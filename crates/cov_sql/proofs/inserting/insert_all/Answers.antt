@@ -1,6 +1,6 @@
 use Rattle.std.proofs.Common.{rules, ◌≡◌, Err}
 use Rattle.cov_sql.specs.SavedRows.{with_names, with_data}
-use Rattle.cov_sql.proofs.Stepping.{works_after}
+use Rattle.cov_sql.proofs.Stepping.{works_after, still}
 use Rattle.cov_sql.proofs.Filling.{no_fill, fills_then}
 use Rattle.cov_sql.proofs.inserting.insert_all.Goals as goal
 
@@ -21,3 +21,7 @@ pub returns-clause-works : goal.returns-clause-works
 returns-clause-works g c tells =
     let told = c.insert_names.ensures.goes_on.tells tells in
     works_after g.S.Store c.in_ok-insert_names.field-0 c.args.work.now.conn.now c.insert_names.new.work.conn.now c.insert_rows.new.work.conn.now _ (c.insert_rows.ensures.survives told) (c.in_ok-insert_names.ensures.works tells) (c.insert_rows.ensures.works told)
+
+pub returns-clause-survives : goal.returns-clause-survives
+returns-clause-survives g c tells =
+    still g.S.Store c.args.work.now.conn.now c.insert_names.new.work.conn.now c.insert_rows.new.work.conn.now (c.insert_names.ensures.survives tells) (c.insert_rows.ensures.survives (c.insert_names.ensures.goes_on.tells tells))

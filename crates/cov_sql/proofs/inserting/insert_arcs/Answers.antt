@@ -1,4 +1,4 @@
-use Rattle.std.proofs.Common.{rules, arith, ◌≡◌, pos, [], ◌∷◌, Ok, Err, sym, subst, ◌∙◌, map, take, get_or, w64}
+use Rattle.std.proofs.Common.{rules, arith, ◌≡◌, pos, [], ◌∷◌, Ok, Err, sym, subst, ◌∙◌, map, take, get_or, w64, refl}
 use mir.Val.{SFits}
 use Rattle.std.proofs.Math.Facts.{to_z-of_z}
 use Rattle.std.proofs.lemmas.List.{take_all}
@@ -11,8 +11,8 @@ use Rattle.cov_sql.specs.Written.{Inserts}
 use Rattle.sqlite.specs.Held.{state}
 use Rattle.cov_sql.specs.Holding.{with_rows, Fills}
 use Rattle.cov_sql.specs.SavedRows.{arc_row}
-use Rattle.cov_sql.proofs.Stepping.{worked, works_then, still}
-use Rattle.cov_sql.proofs.Filling.{no_fill, fills_next, map_got}
+use Rattle.cov_sql.proofs.Stepping.{worked, works_then, still, stays, nothing_done}
+use Rattle.cov_sql.proofs.Filling.{no_fill, fills_next, map_got, fills_none}
 use Rattle.cov_sql.specs.SqlTexts.{insert_arc_text}
 use Rattle.cov_sql.proofs.WrittenTexts.{of_insert_arc}
 use Rattle.cov_sql.proofs.inserting.insert_arcs.Goals as goal
@@ -35,6 +35,22 @@ returns-in_err-insert_arc-clause-fills g c tells =
 pub returns-clause-fills : goal.returns-clause-fills
 returns-clause-fills g c tells =
     subst (λ rows. Fills g.S.Store (with_rows name.Arc (map arc_row rows)) c.args.work.now.conn.now c.loop-row.work.conn.now (Ok tt)) (take_all c.loop-row.row-index c.args.rows.now c.loop-row-test.false) (c.loop-row.invariant.fills tells)
+
+pub returns-in_err-insert_arc-clause-survives : goal.returns-in_err-insert_arc-clause-survives
+returns-in_err-insert_arc-clause-survives g c tells =
+    still g.S.Store c.args.work.now.conn.now c.loop-row.work.conn.now c.insert_arc.new.work.conn.now (c.loop-row.invariant.survives tells) (c.insert_arc.ensures.works (c.loop-row.invariant.tells tells)).survives
+
+pub loop-row-init : goal.loop-row-init
+loop-row-init g c =
+    let first = c.args.work.now.conn.now in
+    record {
+      works = λ tells. nothing_done g.S.Store first (Ok tt) refl;
+      fills = λ tells. fills_none g.S.Store name.Arc first;
+      survives = λ tells. stays g.S.Store first;
+      same_reference = refl;
+      tells = λ tells. tells;
+      count = omega arith;
+    }
 
 pub loop-row-preserved : goal.loop-row-preserved
 loop-row-preserved g c =

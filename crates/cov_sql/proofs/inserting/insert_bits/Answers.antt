@@ -1,4 +1,4 @@
-use Rattle.std.proofs.Common.{rules, arith, ◌≡◌, [], ◌∷◌, Ok, Err, sym, subst, ◌∙◌, map, take, w64}
+use Rattle.std.proofs.Common.{rules, arith, ◌≡◌, [], ◌∷◌, Ok, Err, sym, subst, ◌∙◌, map, take, w64, refl}
 use mir.Val.{SFits}
 use Rattle.std.proofs.Math.Facts.{to_z-of_z}
 use Rattle.std.proofs.lemmas.List.{take_all}
@@ -10,8 +10,8 @@ use Rattle.cov_sql.specs.Written.{Inserts}
 use Rattle.sqlite.specs.Held.{state}
 use Rattle.cov_sql.specs.Holding.{with_rows, Fills}
 use Rattle.cov_sql.specs.SavedRows.{bits_row}
-use Rattle.cov_sql.proofs.Stepping.{worked, works_then, still}
-use Rattle.cov_sql.proofs.Filling.{no_fill, fills_next, map_at}
+use Rattle.cov_sql.proofs.Stepping.{worked, works_then, still, stays, nothing_done}
+use Rattle.cov_sql.proofs.Filling.{no_fill, fills_next, map_at, fills_none}
 use Rattle.cov_sql.specs.SqlTexts.{insert_line_bits_text}
 use Rattle.cov_sql.proofs.WrittenTexts.{of_insert_line_bits}
 use Rattle.cov_sql.proofs.inserting.insert_bits.Goals as goal
@@ -34,6 +34,22 @@ returns-in_err-insert_line_bits-clause-fills g c tells =
 pub returns-clause-fills : goal.returns-clause-fills
 returns-clause-fills g c tells =
     subst (λ rows. Fills g.S.Store (with_rows name.LineBits (map bits_row rows)) c.args.work.now.conn.now c.loop-set.work.conn.now (Ok tt)) (take_all c.loop-set.set-index c.args.bits.now c.loop-set-test.false) (c.loop-set.invariant.fills tells)
+
+pub returns-in_err-insert_line_bits-clause-survives : goal.returns-in_err-insert_line_bits-clause-survives
+returns-in_err-insert_line_bits-clause-survives g c tells =
+    still g.S.Store c.args.work.now.conn.now c.loop-set.work.conn.now c.insert_line_bits.new.work.conn.now (c.loop-set.invariant.survives tells) (c.insert_line_bits.ensures.works (c.loop-set.invariant.tells tells)).survives
+
+pub loop-set-init : goal.loop-set-init
+loop-set-init g c =
+    let first = c.args.work.now.conn.now in
+    record {
+      works = λ tells. nothing_done g.S.Store first (Ok tt) refl;
+      fills = λ tells. fills_none g.S.Store name.LineBits first;
+      survives = λ tells. stays g.S.Store first;
+      same_reference = refl;
+      tells = λ tells. tells;
+      count = omega arith;
+    }
 
 pub loop-set-preserved : goal.loop-set-preserved
 loop-set-preserved g c =

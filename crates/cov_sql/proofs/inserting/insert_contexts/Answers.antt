@@ -1,4 +1,4 @@
-use Rattle.std.proofs.Common.{rules, arith, ◌≡◌, ◌+◌, pos, [], ◌∷◌, Ok, Err, sym, subst, ◌∙◌, map, take, string_bytes}
+use Rattle.std.proofs.Common.{rules, arith, ◌≡◌, ◌+◌, pos, [], ◌∷◌, Ok, Err, sym, subst, ◌∙◌, map, take, string_bytes, refl}
 use Rattle.std.proofs.lemmas.List.{take_all}
 use Rattle.sqlite_value.specs.declared.value.Value.TheVariants.{Int, Text}
 use Rattle.cov_sql.specs.declared.tables.Table.TheVariants as name
@@ -8,8 +8,8 @@ use Rattle.cov_sql.specs.Works.{Works}
 use Rattle.sqlite.specs.Held.{state}
 use Rattle.cov_sql.specs.Holding.{with_rows, Fills}
 use Rattle.cov_sql.specs.SavedRows.{numbered}
-use Rattle.cov_sql.proofs.Stepping.{worked, works_then, still}
-use Rattle.cov_sql.proofs.Filling.{no_fill, fills_next, numbered_at, as_row}
+use Rattle.cov_sql.proofs.Stepping.{worked, works_then, still, stays, nothing_done}
+use Rattle.cov_sql.proofs.Filling.{no_fill, fills_next, numbered_at, as_row, fills_none}
 use Rattle.cov_sql.specs.SqlTexts.{insert_context_text}
 use Rattle.cov_sql.proofs.WrittenTexts.{of_insert_context}
 use Rattle.cov_sql.proofs.inserting.insert_contexts.Goals as goal
@@ -32,6 +32,23 @@ returns-in_err-insert_context-clause-fills g c tells =
 pub returns-clause-fills : goal.returns-clause-fills
 returns-clause-fills g c tells =
     subst (λ rows. Fills g.S.Store (with_rows name.Context (numbered 1 (map string_bytes rows))) c.args.work.now.conn.now c.loop-text.work.conn.now (Ok tt)) (take_all c.loop-text.text-index c.args.contexts.now c.loop-text-test.false) (c.loop-text.invariant.fills tells)
+
+pub returns-in_err-insert_context-clause-survives : goal.returns-in_err-insert_context-clause-survives
+returns-in_err-insert_context-clause-survives g c tells =
+    still g.S.Store c.args.work.now.conn.now c.loop-text.work.conn.now c.insert_context.new.work.conn.now (c.loop-text.invariant.survives tells) (c.insert_context.ensures.works (c.loop-text.invariant.tells tells)).survives
+
+pub loop-text-init : goal.loop-text-init
+loop-text-init g c =
+    let first = c.args.work.now.conn.now in
+    record {
+      number_is = search rules;
+      works = λ tells. nothing_done g.S.Store first (Ok tt) refl;
+      fills = λ tells. fills_none g.S.Store name.Context first;
+      survives = λ tells. stays g.S.Store first;
+      same_reference = refl;
+      tells = λ tells. tells;
+      count = omega arith;
+    }
 
 pub loop-text-preserved : goal.loop-text-preserved
 loop-text-preserved g c =

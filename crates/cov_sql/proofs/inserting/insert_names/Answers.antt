@@ -3,7 +3,7 @@ use Rattle.cov_sql.specs.declared.tables.Table.TheVariants as name
 use Rattle.cov_sql.specs.Holding.{with_rows, Fills}
 use Rattle.cov_sql.specs.SavedRows.{flag_row, numbered, with_names}
 use Rattle.cov_sql.specs.Works.{Works}
-use Rattle.cov_sql.proofs.Stepping.{works_after}
+use Rattle.cov_sql.proofs.Stepping.{works_after, still}
 use Rattle.cov_sql.proofs.Filling.{no_fill, fills_then}
 use Rattle.cov_sql.proofs.inserting.insert_names.Goals as goal
 
@@ -54,3 +54,14 @@ returns-clause-works g c tells =
     let still_told = c.insert_files.ensures.goes_on.tells told in
     let both = works_after g.S.Store c.in_ok-insert_flag.field-0 first one two (Ok c.in_ok-insert_files.field-0) (c.insert_files.ensures.survives told) (c.in_ok-insert_flag.ensures.works tells) (c.in_ok-insert_files.ensures.works told) in
     works_after g.S.Store c.in_ok-insert_files.field-0 first two last _ (c.insert_contexts.ensures.survives still_told) both (c.insert_contexts.ensures.works still_told)
+
+pub returns-in_err-insert_files-clause-survives : goal.returns-in_err-insert_files-clause-survives
+returns-in_err-insert_files-clause-survives g c tells =
+    still g.S.Store c.args.work.now.conn.now c.insert_flag.new.work.conn.now c.insert_files.new.work.conn.now (c.insert_flag.ensures.survives tells) (c.insert_files.ensures.survives (c.insert_flag.ensures.goes_on.tells tells))
+
+pub returns-clause-survives : goal.returns-clause-survives
+returns-clause-survives g c tells =
+    let told = c.insert_flag.ensures.goes_on.tells tells in
+    let first = c.args.work.now.conn.now in
+    let two = c.insert_files.new.work.conn.now in
+    still g.S.Store first two c.insert_contexts.new.work.conn.now (still g.S.Store first c.insert_flag.new.work.conn.now two (c.insert_flag.ensures.survives tells) (c.insert_files.ensures.survives told)) (c.insert_contexts.ensures.survives (c.insert_files.ensures.goes_on.tells told))

@@ -3,7 +3,7 @@ use Rattle.cov_sql.specs.declared.tables.Table.TheVariants as name
 use Rattle.cov_sql.specs.Holding.{with_rows, Fills}
 use Rattle.cov_sql.specs.SavedRows.{arc_row, bits_row, hits_row, with_data}
 use Rattle.cov_sql.specs.Works.{Works}
-use Rattle.cov_sql.proofs.Stepping.{works_after}
+use Rattle.cov_sql.proofs.Stepping.{works_after, still}
 use Rattle.cov_sql.proofs.Filling.{no_fill, fills_then}
 use Rattle.cov_sql.proofs.inserting.insert_rows.Goals as goal
 
@@ -54,3 +54,14 @@ returns-clause-works g c tells =
     let still_told = c.insert_bits.ensures.goes_on.tells told in
     let both = works_after g.S.Store c.in_ok-insert_arcs_of.field-0 first one two (Ok c.in_ok-insert_bits.field-0) (c.insert_bits.ensures.survives told) (c.in_ok-insert_arcs_of.ensures.works tells) (c.in_ok-insert_bits.ensures.works told) in
     works_after g.S.Store c.in_ok-insert_bits.field-0 first two last _ (c.insert_counts.ensures.survives still_told) both (c.insert_counts.ensures.works still_told)
+
+pub returns-in_err-insert_bits-clause-survives : goal.returns-in_err-insert_bits-clause-survives
+returns-in_err-insert_bits-clause-survives g c tells =
+    still g.S.Store c.args.work.now.conn.now c.insert_arcs_of.new.work.conn.now c.insert_bits.new.work.conn.now (c.insert_arcs_of.ensures.survives tells) (c.insert_bits.ensures.survives (c.insert_arcs_of.ensures.goes_on.tells tells))
+
+pub returns-clause-survives : goal.returns-clause-survives
+returns-clause-survives g c tells =
+    let told = c.insert_arcs_of.ensures.goes_on.tells tells in
+    let first = c.args.work.now.conn.now in
+    let two = c.insert_bits.new.work.conn.now in
+    still g.S.Store first two c.insert_counts.new.work.conn.now (still g.S.Store first c.insert_arcs_of.new.work.conn.now two (c.insert_arcs_of.ensures.survives tells) (c.insert_bits.ensures.survives told)) (c.insert_counts.ensures.survives (c.insert_bits.ensures.goes_on.tells told))

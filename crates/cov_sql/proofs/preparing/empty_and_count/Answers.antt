@@ -1,7 +1,7 @@
 use Rattle.std.proofs.Common.{rules, ◌≡◌, false, Err}
 use Rattle.cov_sql.specs.declared.preparing.Start.TheVariants as start
 use Rattle.cov_sql.proofs.Making.{prepares_old, prepares_counted, no_preparing}
-use Rattle.cov_sql.proofs.Stepping.{works_after}
+use Rattle.cov_sql.proofs.Stepping.{works_after, still}
 use Rattle.cov_sql.proofs.Lacking.{never_counting, never_uncounted}
 use Rattle.cov_sql.proofs.preparing.empty_and_count.Goals as goal
 
@@ -34,3 +34,7 @@ returns-clause-never g c tells =
     let told = c.make_table.ensures.goes_on.tells tells in
     never_counting g.S.Store c.args.work.now.conn.now c.make_table.new.work.conn.now c.empty_tables.new.work.conn.now c.in_ok-make_table.field-0 _ (c.empty_tables.ensures.survives told)
     (c.in_ok-make_table.ensures.works tells) (c.in_ok-make_table.ensures.told tells) (c.empty_tables.ensures.works told)
+
+pub returns-clause-survives : goal.returns-clause-survives
+returns-clause-survives g c tells =
+    still g.S.Store c.args.work.now.conn.now c.make_table.new.work.conn.now c.empty_tables.new.work.conn.now (c.make_table.ensures.survives tells) (c.empty_tables.ensures.survives (c.make_table.ensures.goes_on.tells tells))

@@ -1,8 +1,8 @@
-use Rattle.std.proofs.Common.{Ok, sym, subst}
+use Rattle.std.proofs.Common.{Ok, sym, subst, refl}
 use Rattle.cov_sql.specs.Holding.{cleared, Empties}
 use Rattle.cov_sql.specs.declared.tables.Table.TheVariants as name
 use Rattle.cov_sql.proofs.Making.{empties_one, empties_none}
-use Rattle.cov_sql.proofs.Stepping.{worked}
+use Rattle.cov_sql.proofs.Stepping.{worked, stays, nothing_done}
 use Rattle.cov_sql.specs.SqlTexts.{delete_arc_text, delete_context_text, delete_file_text, delete_hits_text, delete_line_bits_text, delete_meta_text, delete_tracer_text}
 use Rattle.cov_sql.proofs.WrittenTexts.{of_delete_arc, of_delete_context, of_delete_file, of_delete_hits, of_delete_line_bits, of_delete_meta, of_delete_tracer}
 use Rattle.cov_sql.proofs.preparing.empty_table.Goals as goal
@@ -66,3 +66,9 @@ returns-in-Hits-clause-empties g c tells =
 pub returns-in-CoverageSchema-clause-empties : goal.returns-in-CoverageSchema-clause-empties
 returns-in-CoverageSchema-clause-empties g c tells =
     subst (λ t. Empties g.S.Store (cleared t) c.args.work.now.conn.now c.args.work.now.conn.now (Ok tt)) (sym c.in-CoverageSchema.is) (empties_none g.S.Store c.args.work.now.conn.now)
+
+pub returns-in-CoverageSchema-clause-works : goal.returns-in-CoverageSchema-clause-works
+returns-in-CoverageSchema-clause-works g c tells = nothing_done g.S.Store c.args.work.now.conn.now (Ok tt) refl
+
+pub returns-in-CoverageSchema-clause-survives : goal.returns-in-CoverageSchema-clause-survives
+returns-in-CoverageSchema-clause-survives g c tells = stays g.S.Store c.args.work.now.conn.now

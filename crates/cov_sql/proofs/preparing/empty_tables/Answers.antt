@@ -1,10 +1,10 @@
-use Rattle.std.proofs.Common.{rules, arith, ◌≡◌, Ok, Err, sym, subst, ◌∙◌, take}
+use Rattle.std.proofs.Common.{rules, arith, ◌≡◌, Ok, Err, sym, subst, ◌∙◌, take, refl}
 use Rattle.std.proofs.lemmas.List.{take_all}
 use Rattle.cov_sql.specs.Works.{Works}
 use Rattle.cov_sql.specs.Holding.{cleared_all, Empties}
-use Rattle.cov_sql.proofs.Stepping.{works_then, still}
+use Rattle.cov_sql.proofs.Stepping.{works_then, still, stays, nothing_done}
 use Rattle.cov_sql.proofs.Filling.{take_got}
-use Rattle.cov_sql.proofs.Making.{no_empty, empties_next}
+use Rattle.cov_sql.proofs.Making.{no_empty, empties_next, empties_none}
 use Rattle.cov_sql.proofs.preparing.empty_tables.Goals as goal
 
 pub returns-in_err-empty_table-clause-empties : goal.returns-in_err-empty_table-clause-empties
@@ -23,6 +23,22 @@ returns-in_err-empty_table-clause-works g c tells =
     let told = c.loop-table.invariant.tells tells in
     let is : c.from_residual.result ≡ Err c.in_err-empty_table.field-0.0 = search rules in
     subst (λ r. Works g.S.Store first next r) (sym is) (works_then g.S.Store first c.loop-table.work.conn.now next _ (c.empty_table.ensures.survives told) (c.loop-table.invariant.works tells) (c.in_err-empty_table.ensures.works told))
+
+pub returns-in_err-empty_table-clause-survives : goal.returns-in_err-empty_table-clause-survives
+returns-in_err-empty_table-clause-survives g c tells =
+    still g.S.Store c.args.work.now.conn.now c.loop-table.work.conn.now c.empty_table.new.work.conn.now (c.loop-table.invariant.survives tells) (c.empty_table.ensures.survives (c.loop-table.invariant.tells tells))
+
+pub loop-table-init : goal.loop-table-init
+loop-table-init g c =
+    let first = c.args.work.now.conn.now in
+    record {
+      works = λ tells. nothing_done g.S.Store first (Ok tt) refl;
+      empties = λ tells. empties_none g.S.Store first;
+      survives = λ tells. stays g.S.Store first;
+      same_reference = refl;
+      tells = λ tells. tells;
+      count = omega arith;
+    }
 
 pub loop-table-preserved : goal.loop-table-preserved
 loop-table-preserved g c =

@@ -1,4 +1,4 @@
-use Rattle.cov_sql.proofs.Stepping.{worked, works_after}
+use Rattle.cov_sql.proofs.Stepping.{worked, works_after, still}
 use Rattle.std.proofs.Common.{rules, ◌≡◌, Err}
 use Rattle.cov_sql.specs.declared.preparing.Start.TheVariants as start
 use Rattle.cov_sql.proofs.Making.{prepares_new, no_preparing}
@@ -49,3 +49,7 @@ returns-clause-never g c tells =
     let told = c.make_tables.ensures.goes_on.tells tells in
     let one = worked g.S.Store insert_coverage_schema_text now next c.insert_coverage_schema.result of_insert_coverage_schema (c.insert_coverage_schema.ensures.works told).ran in
     never_new g.S.Store c.args.work.now.conn.now now next c.in_ok-make_tables.field-0 _ (c.insert_coverage_schema.ensures.works told).survives (c.in_ok-make_tables.ensures.works tells) (c.in_ok-make_tables.ensures.builds tells) one
+
+pub returns-clause-survives : goal.returns-clause-survives
+returns-clause-survives g c tells =
+    still g.S.Store c.args.work.now.conn.now c.make_tables.new.work.conn.now c.insert_coverage_schema.new.work.conn.now (c.make_tables.ensures.survives tells) (c.insert_coverage_schema.ensures.works (c.make_tables.ensures.goes_on.tells tells)).survives

@@ -36,6 +36,10 @@ returns-in_err-make_table-clause-works g c tells =
     let is : c.from_residual.result ≡ Err c.in_err-make_table.field-0.0 = search rules in
     subst (λ r. Works g.S.Store first next r) (sym is) (works_then g.S.Store first c.loop-table.work.conn.now next _ (c.make_table.ensures.survives told) (c.loop-table.invariant.works tells) (c.in_err-make_table.ensures.works told))
 
+pub returns-in_err-make_table-clause-survives : goal.returns-in_err-make_table-clause-survives
+returns-in_err-make_table-clause-survives g c tells =
+    still g.S.Store c.args.work.now.conn.now c.loop-table.work.conn.now c.make_table.new.work.conn.now (c.loop-table.invariant.survives tells) (c.make_table.ensures.survives (c.loop-table.invariant.tells tells))
+
 pub loop-table-init : goal.loop-table-init
 loop-table-init g c =
     let first = c.args.work.now.conn.now in

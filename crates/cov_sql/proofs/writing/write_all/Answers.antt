@@ -1,5 +1,5 @@
 use Rattle.std.proofs.Common.{rules, ◌≡◌, Err}
-use Rattle.cov_sql.proofs.Stepping.{works_after}
+use Rattle.cov_sql.proofs.Stepping.{works_after, still}
 use Rattle.cov_sql.proofs.Making.{no_saving, saves_then}
 use Rattle.cov_sql.proofs.Denying.{refuses_then, refuses_same}
 use Rattle.cov_sql.proofs.Lacking.{never_saving, never_as}
@@ -41,3 +41,7 @@ returns-clause-never g c tells =
     let told = c.prepare.ensures.goes_on.tells tells in
     never_saving g.S.Store c.args.start c.args.work.now.conn.now c.prepare.new.work.conn.now c.insert_all.new.work.conn.now c.in_ok-prepare.field-0 _
     (c.insert_all.ensures.survives told) (c.in_ok-prepare.ensures.works tells) (c.in_ok-prepare.ensures.prepares tells) (c.insert_all.ensures.works told)
+
+pub returns-clause-survives : goal.returns-clause-survives
+returns-clause-survives g c tells =
+    still g.S.Store c.args.work.now.conn.now c.prepare.new.work.conn.now c.insert_all.new.work.conn.now (c.prepare.ensures.survives tells) (c.insert_all.ensures.survives (c.prepare.ensures.goes_on.tells tells))
