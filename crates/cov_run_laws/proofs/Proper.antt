@@ -22,6 +22,6 @@ pub proper_law : {H : Type 0} → LinesLaw → (moves : H → List ℕ → ℕ �
 proper_law lines moves old new script name ms loads =
     all_proper ms
     (λ i m is.
-      let file = reading moves old new script name ms loads i m is in
-      let tree = file.read.0 in
-      record { well_formed = file.read.1; numbered = numbered (statement_lines m.body) (lines m.body tree.tokens tree.read.on_lines tree.spelled) })
+    let file = reading moves old new script name ms loads i m is in
+    let tree = file.read.0 in
+    record { well_formed = file.read.1; numbered = numbered (statement_lines m.body) (lines m.body tree.tokens tree.read.on_lines tree.spelled) })
