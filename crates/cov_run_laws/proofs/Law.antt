@@ -9,7 +9,8 @@ use Rattle.py_code.specs.Loaded.{modules_of}
 use Rattle.py_own_lines.specs.OwnLines.{HaveOwnLines, OwnLinesLaw}
 use Rattle.py_makers.specs.Makers.{AreOnOwnLines, CodeMakes}
 use Rattle.cov_run.specs.Loads.{loaded_modules}
-use Rattle.cov_run_laws.specs.LoadedMakes.{LoadedMakes}
+use Rattle.cov_run_laws.specs.LoadedPrograms.{LoadedMakes}
+use Rattle.cov_run_laws.proofs.Readings.{reading}
 
 all_own : (ms : List LoadedModule) → ((i : ℕ) (m : LoadedModule) → slice_get ms i ≡ Some m → HaveOwnLines (functions m.body)) → AreOnOwnLines ms
 all_own [] each = tt
@@ -17,8 +18,5 @@ all_own (m ∷ ms) each = (each 0 m refl, all_own ms (λ i n is. each (suc i) n 
 
 pub law : {H : Type 0} → OwnLinesLaw → CodeMakes → (moves : H → List ℕ → ℕ → Result (List ℕ) ShelfError → H → Type 0) → LoadedMakes moves
 law own makes moves old new script name l loads compiled =
-    let told = loads.some in
-    let come = loads.comes told.0 told.1 in
-    let read = come.0.loaded.read in
     makes (modules_of l.programs) (loaded_modules l) compiled.faithful compiled.well_formed
-    (all_own (loaded_modules l) (λ i m is. let file = read i m is in let tree = file.read.0 in own (chars file.bytes) tree.tokens m.body tree.read.spelled tree.spelled))
+    (all_own (loaded_modules l) (λ i m is. let file = reading moves old new script name (loaded_modules l) loads i m is in let tree = file.read.0 in own (chars file.bytes) tree.tokens m.body tree.read.spelled tree.spelled))

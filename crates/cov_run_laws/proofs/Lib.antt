@@ -1,1 +1,3 @@
+pub mod Readings
 pub mod Law
+pub mod Proper

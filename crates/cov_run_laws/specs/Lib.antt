@@ -1,1 +1,1 @@
-pub mod LoadedMakes
+pub mod LoadedPrograms

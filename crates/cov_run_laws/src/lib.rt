@@ -1,10 +1,12 @@
-//! That the code of each loaded program makes functions as its units ask: a law over what `load` of
-//! `cov_run` answers. The function below does nothing, and stands for the law that its contract states.
+//! What holds of each loaded program, since its modules were read from texts: laws over what `load`
+//! of `cov_run` answers. The functions below do nothing, and each stands for the law that its
+//! contract states.
 #![tactic(auto)]
 
-ghost use Rattle.cov_run_laws.specs.LoadedMakes.{LoadedMakes};
+ghost use Rattle.cov_run_laws.specs.LoadedPrograms.{LoadedAreProper, LoadedMakes};
 
 use cov_outside::Shelf;
+use py_lines::lines_of_texts;
 use py_makers::code_makes;
 use py_own_lines::own_lines;
 
@@ -15,4 +17,12 @@ pub fn loaded_makes<H: Shelf>()
 {
     code_makes();
     own_lines();
+}
+
+/// Its modules are such as the laws of `py_sound` ask for. So the arcs of its runs and calls are
+/// foreseen.
+pub fn loaded_are_proper<H: Shelf>()
+    ensures { LoadedAreProper H.reads }
+{
+    lines_of_texts();
 }
