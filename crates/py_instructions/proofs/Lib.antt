@@ -2,3 +2,4 @@ mod Reversed
 mod Taken
 mod TakenValues
 mod Nested
+mod Leading

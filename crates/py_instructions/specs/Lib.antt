@@ -1,3 +1,4 @@
 pub mod Operands
 pub mod Locals
 pub mod View
+pub mod Reaching

@@ -11,6 +11,7 @@ use Rattle.py_instructions.specs.declared.operand.Way.TheVariants.{On, Break, Co
 use Rattle.py_instructions.specs.declared.operand.Operand.{Operand as RawOperand}
 use Rattle.py_instructions.specs.declared.operand.Operand.TheVariants.{Value as OfValue, Method as OfMethod, Walk as OfWalk, Way as OfWay}
 
+-- a way out of a suite
 abbrev pub plain_way : RawWay → Way
 plain_way On = on
 plain_way Break = by_break
@@ -18,11 +19,13 @@ plain_way Continue = by_continue
 plain_way (Return v) = by_return (plain v)
 plain_way (Raise e is_thrown) = by_raise (plain_raised e) is_thrown
 
+-- what stands on the operands
 abbrev pub plain_operand : RawOperand → Operand
 plain_operand (OfValue v) = of_value (plain v)
 plain_operand (OfMethod m v) = of_method m (plain v)
 plain_operand (OfWalk v n i) = of_walk (plain v) n i
 plain_operand (OfWay w) = of_way (plain_way w)
 
+-- the value that is walked over, its number of items at the start, and the place of the next one
 abbrev pub plain_walk : Walk → PlainValue × ℕ × ℕ
 plain_walk w = (plain w.value, w.count, w.place)

@@ -1,25 +1,26 @@
 // Calls, and frames that begin.
-ghost use Rattle.std.specs.Prelude.{◌≡◌, ◌<◌, List, IfOk, option_map};
+ghost use Rattle.std.specs.Prelude.{◌≡◌, ◌<◌, IfOk, option_map};
 ghost use Rattle.py_value.specs.View.{place_of, plain, plains};
-ghost use Rattle.py_builtins.specs.Methods.{method_of};
+ghost use Rattle.py_builtins.specs.Callees.{a_method};
 ghost use Rattle.py_builtins.specs.Parameters.{address_of};
 ghost use Rattle.py_code.specs.declared.instr.Instr.TheVariants.{Call, Return, Function, FunctionWith};
 ghost use Rattle.py_code.specs.Loaded.{modules_of};
-ghost use Rattle.py_code.specs.Machine.{calls, enter, new_frame, code_of, to_function, reach, by_answer, heap_of};
+ghost use Rattle.py_code.specs.Machine.{enter, new_frame, reach, reach_callee};
 ghost use Rattle.py_code.specs.Slots.{by_slots};
-ghost use Rattle.py_code.specs.Units.{Module, unit_at, plain_unit};
-ghost use Rattle.py_store.specs.declared.store.Store.{Store as Kept};
-ghost use Rattle.py_instructions.specs.View.{Outside, plain_operands, plain_frame, effects_of, seen, turned, Acts};
+ghost use Rattle.py_code.specs.Units.{plain_unit};
+ghost use Rattle.py_instructions.specs.Reaching.{plain_reach};
+ghost use Rattle.py_instructions.specs.View.{plain_frame, Does, Calls, Acts, ActsAlone};
 
 use crate::frame::{Frame, State};
 use crate::operand::Operand;
+use crate::reach::Reach;
 use crate::slots::Slots;
 use crate::stack::Stack;
-use crate::turn::Turn;
+use crate::turn::{Acted, Turn};
 use cov_event::{CodeId, Event};
-use py_builtins::{call_method, exception_of};
+use py_builtins::call_method;
 use py_code::{Programs, Unit};
-use py_store::{Callee, Store, arguments, unit_in};
+use py_store::{Callee, Store, unit_in};
 use py_value::value::FuncId;
 use py_value::{Addr, Cause, Method, NoMemory, Raised, Value};
 use std::alloc::Global;
@@ -35,7 +36,7 @@ impl State {
         n: u32,
         store: &mut Store,
         programs: &Programs,
-    ) -> Result<Turn, NoMemory>
+    ) -> Acted
         requires { self.old.top.place < usize.MAX }
         ensures { IfOk result (λ t.
             Acts (modules_of programs.now) (plain_unit unit.now) (Call n) self.old store.old
@@ -63,18 +64,14 @@ impl State {
         values: Vec<Value>,
         store: &mut Store,
         programs: &Programs,
-    ) -> Result<Turn, NoMemory>
+    ) -> Acted
         requires { self.old.top.place < usize.MAX }
-        ensures { IfOk result (λ t. (o : Outside) →
-            calls (by_slots (modules_of programs.now)) (modules_of programs.now) (by_answer (method_of method (plain on) (plains values.items) (heap_of (seen self.old store.old o))) (effects_of store.old o)) (plain_operands self.old.top.operands) (seen self.old store.old o)
-            ≡ turned (modules_of programs.now) t (seen self.new store.new o)) }
+        ensures { IfOk result (Calls (modules_of programs.now)
+            (reach_callee (modules_of programs.now) (a_method method (plain on))
+            (plains values.items)) self.old store.old self.new store.new) }
     {
         match call_method(alloc, method, &on, &values, &mut store.heap)? {
-            Ok(value) => {
-                self.top.operands.push(Operand::Value(value))?;
-                self.top.place += 1;
-                Ok(Turn::Goes)
-            }
+            Ok(value) => self.push(Operand::Value(value)),
             Err(raised) => Ok(Turn::Throws(raised)),
         }
     }
@@ -87,65 +84,33 @@ impl State {
         values: Vec<Value>,
         store: &mut Store,
         programs: &Programs,
-    ) -> Result<Turn, NoMemory>
+    ) -> Acted
         requires { self.old.top.place < usize.MAX }
-        ensures { IfOk result (λ t. (o : Outside) →
-            calls (by_slots (modules_of programs.now)) (modules_of programs.now) (reach (modules_of programs.now) (plain value) (plains values.items) (effects_of store.old o)) (plain_operands self.old.top.operands) (seen self.old store.old o)
-            ≡ turned (modules_of programs.now) t (seen self.new store.new o)) }
+        ensures { IfOk result (Calls (modules_of programs.now)
+            (reach (modules_of programs.now) (plain value) (plains values.items)) self.old
+            store.old self.new store.new) }
     {
-        match &value {
-            Value::Func(function, defaults) => self.call_function(
-                alloc, *function, *defaults, values, store, programs,
-            ),
-            Value::Kind(kind) => match exception_of(alloc, *kind, &values)? {
-                Ok(value) => {
-                    self.top.operands.push(Operand::Value(value))?;
-                    self.top.place += 1;
-                    Ok(Turn::Goes)
-                }
-                Err(raised) => Ok(Turn::Throws(raised)),
-            },
-            Value::Builtin(which) => Ok(Turn::Asks(*which, values)),
-            _ => {
-                drop(values);
-                Ok(Turn::Throws(Raised::of(alloc, Cause::NotCallable)?))
-            }
-        }
+        let reach = Reach::of_value(alloc, &value, values, store, programs)?;
+        self.lead_to(alloc, reach, store, programs)
     }
 
-    /// Calls a function.
-    fn call_function(
+    /// Does what a call leads to.
+    fn lead_to(
         &mut self,
         alloc: Global,
-        function: FuncId,
-        defaults: Option<Addr>,
-        values: Vec<Value>,
+        reach: Reach,
         store: &mut Store,
         programs: &Programs,
-    ) -> Result<Turn, NoMemory>
-        ensures { IfOk result (λ t. (o : Outside) →
-            calls (by_slots (modules_of programs.now)) (modules_of programs.now) (to_function (unit_at (modules_of programs.now) (code_of function)) function (option_map place_of defaults) (plains values.items) (effects_of store.old o)) (plain_operands self.old.top.operands) (seen self.old store.old o)
-            ≡ turned (modules_of programs.now) t (seen self.new store.new o)) }
+    ) -> Acted
+        requires { self.old.top.place < usize.MAX }
+        ensures { IfOk result (Calls (modules_of programs.now) (plain_reach reach) self.old
+            store.old self.new store.new) }
     {
-        let code = CodeId {
-            module: function.module,
-            unit: function.unit,
-        };
-        match unit_in(programs, code) {
-            None => {
-                drop(values);
-                Ok(Turn::Throws(Raised::of(alloc, Cause::NotCallable)?))
-            }
-            Some(callee) => match arguments(
-                alloc,
-                callee.params.len(),
-                values,
-                defaults,
-                &store.heap,
-            )? {
-                None => Ok(Turn::Throws(Raised::of(alloc, Cause::WrongArgumentCount)?)),
-                Some(values) => self.enter(alloc, code, values, store, programs),
-            },
+        match reach {
+            Reach::Gives(value) => self.push(Operand::Value(value)),
+            Reach::Raises(raised) => Ok(Turn::Throws(raised)),
+            Reach::Begins(code, values) => self.enter(alloc, code, values, store, programs),
+            Reach::Asks(which, values) => Ok(Turn::Asks(which, values)),
         }
     }
 
@@ -157,10 +122,10 @@ impl State {
         values: Vec<Value>,
         store: &mut Store,
         programs: &Programs,
-    ) -> Result<Turn, NoMemory>
-        ensures { IfOk result (λ t. (o : Outside) →
-            enter (by_slots (modules_of programs.now)) (modules_of programs.now) code (plains values.items) (plain_operands self.old.top.operands) (seen self.old store.old o)
-            ≡ turned (modules_of programs.now) t (seen self.new store.new o)) }
+    ) -> Acted
+        ensures { IfOk result (Does (modules_of programs.now)
+            (enter (by_slots (modules_of programs.now)) (modules_of programs.now) code
+            (plains values.items)) self.old store.old self.new store.new) }
     {
         if self.top.depth >= MOST_FRAMES {
             drop(values);
@@ -180,8 +145,7 @@ impl State {
     }
 
     pub fn give_back(&mut self, unit: &Unit) -> Turn
-        ensures { (ms : List Module) (s : Kept)
-            → Acts ms (plain_unit unit.now) Return self.old s self.new s result }
+        ensures { ActsAlone unit.now Return self.old self.new result }
     {
         match self.top.operands.pop() {
             None => Turn::Stuck,
@@ -189,28 +153,20 @@ impl State {
         }
     }
 
-    pub fn function(&mut self, unit: &Unit, k: u32) -> Result<Turn, NoMemory>
+    pub fn function(&mut self, unit: &Unit, k: u32) -> Acted
         requires { self.old.top.place < usize.MAX }
-        ensures { IfOk result (λ t.
-            (ms : List Module) (s : Kept)
-            → Acts ms (plain_unit unit.now) (Function k) self.old s self.new s t) }
+        ensures { IfOk result (ActsAlone unit.now (Function k) self.old self.new) }
     {
         let function = FuncId {
             module: self.top.code.module,
             unit: k,
         };
-        self.top
-            .operands
-            .push(Operand::Value(Value::Func(function, None)))?;
-        self.top.place += 1;
-        Ok(Turn::Goes)
+        self.push(Operand::Value(Value::Func(function, None)))
     }
 
-    pub fn function_with(&mut self, unit: &Unit, k: u32) -> Result<Turn, NoMemory>
+    pub fn function_with(&mut self, unit: &Unit, k: u32) -> Acted
         requires { self.old.top.place < usize.MAX }
-        ensures { IfOk result (λ t.
-            (ms : List Module) (s : Kept)
-            → Acts ms (plain_unit unit.now) (FunctionWith k) self.old s self.new s t) }
+        ensures { IfOk result (ActsAlone unit.now (FunctionWith k) self.old self.new) }
     {
         let Some(x) = self.top.operands.pop() else {
             return Ok(Turn::Stuck);
@@ -222,11 +178,7 @@ impl State {
             module: self.top.code.module,
             unit: k,
         };
-        self.top
-            .operands
-            .push(Operand::Value(Value::Func(function, defaults)))?;
-        self.top.place += 1;
-        Ok(Turn::Goes)
+        self.push(Operand::Value(Value::Func(function, defaults)))
     }
 }
 

@@ -24,7 +24,9 @@ impl State {
         programs: &Programs,
     ) -> Result<bool, NoMemory>
         ensures caught { IfOk result (λ is. (s : Kept) (o : Outside) (out : Next SlotList) →
-            land (by_slots (modules_of programs.now)) (modules_of programs.now) (handler_at (modules_of programs.now) self.old.top.code self.old.top.place) out (plain_raised raised.now) is_thrown (seen self.old s o)
+            land (by_slots (modules_of programs.now)) (modules_of programs.now)
+            (handler_at (modules_of programs.now) self.old.top.code self.old.top.place) out
+            (plain_raised raised.now) is_thrown (seen self.old s o)
             ≡ catching is out (seen self.new s o)) }
         ensures kept { IfOk result (λ is. is ≡ false → self.new ≡ self.old) }
     {

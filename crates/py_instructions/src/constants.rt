@@ -1,14 +1,13 @@
 // Instructions that move operands.
-ghost use Rattle.std.specs.Prelude.{◌≡◌, ◌<◌, List, IfOk};
+ghost use Rattle.std.specs.Prelude.{◌≡◌, ◌<◌, IfOk};
 ghost use Rattle.py_value.specs.View.{plain};
 ghost use Rattle.py_code.specs.declared.instr.Instr.TheVariants.{Constant as Const, Pop, Copy, Sink, Roll};
-ghost use Rattle.py_code.specs.Units.{Module, plain_unit, constant_value};
-ghost use Rattle.py_store.specs.declared.store.Store.{Store as Kept};
-ghost use Rattle.py_instructions.specs.View.{Acts};
+ghost use Rattle.py_code.specs.Units.{constant_value};
+ghost use Rattle.py_instructions.specs.View.{ActsAlone};
 
 use crate::frame::State;
 use crate::operand::Operand;
-use crate::turn::Turn;
+use crate::turn::{Acted, Turn};
 use py_code::{Constant, Unit};
 use py_value::{NoMemory, Value};
 use std::alloc::Global;
@@ -26,27 +25,22 @@ fn value_of_constant(constant: &Constant) -> Result<Value, NoMemory>
 }
 
 impl State {
-    pub fn constant(&mut self, unit: &Unit, n: u32) -> Result<Turn, NoMemory>
+    pub fn constant(&mut self, unit: &Unit, n: u32) -> Acted
         requires { self.old.top.place < usize.MAX }
-        ensures { IfOk result (λ t.
-            (ms : List Module) (s : Kept)
-            → Acts ms (plain_unit unit.now) (Const n) self.old s self.new s t) }
+        ensures { IfOk result (ActsAlone unit.now (Const n) self.old self.new) }
     {
         match unit.constants.get(n as usize) {
             None => Ok(Turn::Stuck),
             Some(constant) => {
                 let value = value_of_constant(constant)?;
-                self.top.operands.push(Operand::Value(value))?;
-                self.top.place += 1;
-                Ok(Turn::Goes)
+                self.push(Operand::Value(value))
             }
         }
     }
 
     pub fn pop(&mut self, unit: &Unit) -> Turn
         requires { self.old.top.place < usize.MAX }
-        ensures { (ms : List Module) (s : Kept)
-            → Acts ms (plain_unit unit.now) Pop self.old s self.new s result }
+        ensures { ActsAlone unit.now Pop self.old self.new result }
     {
         match self.top.operands.pop() {
             None => Turn::Stuck,
@@ -58,28 +52,22 @@ impl State {
         }
     }
 
-    pub fn copy(&mut self, alloc: Global, unit: &Unit, n: u32) -> Result<Turn, NoMemory>
+    pub fn copy(&mut self, alloc: Global, unit: &Unit, n: u32) -> Acted
         requires { self.old.top.place < usize.MAX }
-        ensures { IfOk result (λ t.
-            (ms : List Module) (s : Kept)
-            → Acts ms (plain_unit unit.now) (Copy n) self.old s self.new s t) }
+        ensures { IfOk result (ActsAlone unit.now (Copy n) self.old self.new) }
     {
         match self.top.operands.operand(n as usize) {
             None => Ok(Turn::Stuck),
             Some(x) => {
                 let copy = x.copy(alloc)?;
-                self.top.operands.push(copy)?;
-                self.top.place += 1;
-                Ok(Turn::Goes)
+                self.push(copy)
             }
         }
     }
 
-    pub fn sink(&mut self, unit: &Unit, n: u32) -> Result<Turn, NoMemory>
+    pub fn sink(&mut self, unit: &Unit, n: u32) -> Acted
         requires { self.old.top.place < usize.MAX }
-        ensures { IfOk result (λ t.
-            (ms : List Module) (s : Kept)
-            → Acts ms (plain_unit unit.now) (Sink n) self.old s self.new s t) }
+        ensures { IfOk result (ActsAlone unit.now (Sink n) self.old self.new) }
     {
         let Some(x) = self.top.operands.pop() else {
             return Ok(Turn::Stuck);
@@ -91,19 +79,13 @@ impl State {
         Ok(Turn::Goes)
     }
 
-    pub fn roll(&mut self, unit: &Unit, n: u32) -> Result<Turn, NoMemory>
+    pub fn roll(&mut self, unit: &Unit, n: u32) -> Acted
         requires { self.old.top.place < usize.MAX }
-        ensures { IfOk result (λ t.
-            (ms : List Module) (s : Kept)
-            → Acts ms (plain_unit unit.now) (Roll n) self.old s self.new s t) }
+        ensures { IfOk result (ActsAlone unit.now (Roll n) self.old self.new) }
     {
         match self.top.operands.take_operand(n as usize) {
             None => Ok(Turn::Stuck),
-            Some(x) => {
-                self.top.operands.push(x)?;
-                self.top.place += 1;
-                Ok(Turn::Goes)
-            }
+            Some(x) => self.push(x),
         }
     }
 }

@@ -4,8 +4,8 @@ use crate::slots::Slots;
 use crate::stack::Stack;
 use cov_event::CodeId;
 
-/// A frame: its code, the place of its instruction, its operands, its slots, the line that is kept, and how many frames stand on
-/// each other up to this one.
+/// A frame: its code, the place of its instruction, its operands, its slots, the line that is kept,
+/// and how many frames stand on each other up to this one.
 #[derive(Drop)]
 pub struct Frame {
     pub code: CodeId,

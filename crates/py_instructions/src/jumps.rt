@@ -1,75 +1,49 @@
 // Jumps.
-ghost use Rattle.std.specs.Prelude.{◌<◌, List, IfOk};
+ghost use Rattle.std.specs.Prelude.{◌<◌, IfOk};
 ghost use Rattle.py_code.specs.declared.instr.Instr.TheVariants.{Goto, IfFalse, IfTrue, And, Or, Link, Unless, Sequence};
-ghost use Rattle.py_code.specs.Units.{Module, plain_unit};
-ghost use Rattle.py_store.specs.declared.store.Store.{Store as Kept};
-ghost use Rattle.py_instructions.specs.View.{Acts};
+ghost use Rattle.py_instructions.specs.View.{ActsIn, ActsAlone};
 
 use crate::comparing::compared;
 use crate::frame::State;
 use crate::operand::Operand;
-use crate::turn::Turn;
+use crate::turn::{Acted, Turn};
 use py_code::{Question, Unit};
 use py_store::{Store, sequence_of};
-use py_value::{NoMemory, Value, truth};
+use py_value::{Value, truth};
 use std::alloc::Global;
 
 impl State {
     pub fn goto(&mut self, unit: &Unit, to: u32) -> Turn
-        ensures { (ms : List Module) (s : Kept)
-            → Acts ms (plain_unit unit.now) (Goto to) self.old s self.new s result }
+        ensures { ActsAlone unit.now (Goto to) self.old self.new result }
     {
-        self.top.place = to as usize;
-        Turn::Goes
+        self.jump(to)
     }
 
     pub fn if_false(&mut self, unit: &Unit, to: u32, store: &Store) -> Turn
         requires { self.old.top.place < usize.MAX }
-        ensures { (ms : List Module)
-            → Acts ms (plain_unit unit.now) (IfFalse to) self.old store.now self.new store.now
-            result }
+        ensures { ActsIn unit.now (IfFalse to) self.old store.now self.new store.now result }
     {
-        let Some(x) = self.top.operands.pop() else {
-            return Turn::Stuck;
-        };
-        let value = x.into_value();
-        let holds = truth(&value, &store.heap);
-        drop(value);
-        if holds {
-            self.top.place += 1;
-            Turn::Goes
-        } else {
-            self.top.place = to as usize;
-            Turn::Goes
+        match self.top.operands.take_truth(&store.heap) {
+            None => Turn::Stuck,
+            Some(true) => self.fall(),
+            Some(false) => self.jump(to),
         }
     }
 
     pub fn if_true(&mut self, unit: &Unit, to: u32, store: &Store) -> Turn
         requires { self.old.top.place < usize.MAX }
-        ensures { (ms : List Module)
-            → Acts ms (plain_unit unit.now) (IfTrue to) self.old store.now self.new store.now
-            result }
+        ensures { ActsIn unit.now (IfTrue to) self.old store.now self.new store.now result }
     {
-        let Some(x) = self.top.operands.pop() else {
-            return Turn::Stuck;
-        };
-        let value = x.into_value();
-        let holds = truth(&value, &store.heap);
-        drop(value);
-        if holds {
-            self.top.place = to as usize;
-            Turn::Goes
-        } else {
-            self.top.place += 1;
-            Turn::Goes
+        match self.top.operands.take_truth(&store.heap) {
+            None => Turn::Stuck,
+            Some(true) => self.jump(to),
+            Some(false) => self.fall(),
         }
     }
 
-    pub fn and(&mut self, unit: &Unit, to: u32, store: &Store) -> Result<Turn, NoMemory>
+    pub fn and(&mut self, unit: &Unit, to: u32, store: &Store) -> Acted
         requires { self.old.top.place < usize.MAX }
-        ensures { IfOk result (λ t.
-            (ms : List Module)
-            → Acts ms (plain_unit unit.now) (And to) self.old store.now self.new store.now t) }
+        ensures { IfOk result (ActsIn unit.now (And to) self.old store.now self.new store.now) }
     {
         let none = Value::None;
         let Some(x) = self.top.operands.pop() else {
@@ -77,20 +51,16 @@ impl State {
         };
         if truth(x.value_or(&none), &store.heap) {
             drop(x);
-            self.top.place += 1;
-            Ok(Turn::Goes)
+            Ok(self.fall())
         } else {
             self.top.operands.push(x)?;
-            self.top.place = to as usize;
-            Ok(Turn::Goes)
+            Ok(self.jump(to))
         }
     }
 
-    pub fn or(&mut self, unit: &Unit, to: u32, store: &Store) -> Result<Turn, NoMemory>
+    pub fn or(&mut self, unit: &Unit, to: u32, store: &Store) -> Acted
         requires { self.old.top.place < usize.MAX }
-        ensures { IfOk result (λ t.
-            (ms : List Module)
-            → Acts ms (plain_unit unit.now) (Or to) self.old store.now self.new store.now t) }
+        ensures { IfOk result (ActsIn unit.now (Or to) self.old store.now self.new store.now) }
     {
         let none = Value::None;
         let Some(x) = self.top.operands.pop() else {
@@ -98,12 +68,10 @@ impl State {
         };
         if truth(x.value_or(&none), &store.heap) {
             self.top.operands.push(x)?;
-            self.top.place = to as usize;
-            Ok(Turn::Goes)
+            Ok(self.jump(to))
         } else {
             drop(x);
-            self.top.place += 1;
-            Ok(Turn::Goes)
+            Ok(self.fall())
         }
     }
 
@@ -114,34 +82,22 @@ impl State {
         question: Question,
         to: u32,
         store: &Store,
-    ) -> Result<Turn, NoMemory>
+    ) -> Acted
         requires { self.old.top.place < usize.MAX }
-        ensures { IfOk result (λ t.
-            (ms : List Module)
-            → Acts ms (plain_unit unit.now) (Link question to) self.old store.now self.new store.now
-            t) }
+        ensures { IfOk result
+            (ActsIn unit.now (Link question to) self.old store.now self.new store.now) }
     {
         let none = Value::None;
-        let Some(y) = self.top.operands.pop() else {
-            return Ok(Turn::Stuck);
-        };
-        let Some(x) = self.top.operands.pop() else {
-            drop(y);
+        let Some((x, y)) = self.top.operands.take_two() else {
             return Ok(Turn::Stuck);
         };
         let left = x.into_value();
         match compared(alloc, question, &left, y.value_or(&none), &store.heap)? {
-            Ok(holds) => {
-                if holds {
-                    self.top.operands.push(y)?;
-                    self.top.place += 1;
-                    Ok(Turn::Goes)
-                } else {
-                    drop(y);
-                    self.top.operands.push(Operand::Value(Value::Bool(false)))?;
-                    self.top.place = to as usize;
-                    Ok(Turn::Goes)
-                }
+            Ok(true) => self.push(y),
+            Ok(false) => {
+                drop(y);
+                self.top.operands.push(Operand::Value(Value::Bool(false)))?;
+                Ok(self.jump(to))
             }
             Err(raised) => {
                 drop(y);
@@ -152,25 +108,18 @@ impl State {
 
     pub fn unless(&mut self, unit: &Unit, n: u32, to: u32, store: &Store) -> Turn
         requires { self.old.top.place < usize.MAX }
-        ensures { (ms : List Module)
-            → Acts ms (plain_unit unit.now) (Unless n to) self.old store.now self.new store.now
-            result }
+        ensures { ActsIn unit.now (Unless n to) self.old store.now self.new store.now result }
     {
-        let Some(x) = self.top.operands.pop() else {
-            return Turn::Stuck;
-        };
-        let value = x.into_value();
-        let holds = truth(&value, &store.heap);
-        drop(value);
-        if holds {
-            self.top.place += 1;
-            return Turn::Goes;
-        }
-        if self.top.operands.discard(n as usize) {
-            self.top.place = to as usize;
-            Turn::Goes
-        } else {
-            Turn::Stuck
+        match self.top.operands.take_truth(&store.heap) {
+            None => Turn::Stuck,
+            Some(true) => self.fall(),
+            Some(false) => {
+                if self.top.operands.discard(n as usize) {
+                    self.jump(to)
+                } else {
+                    Turn::Stuck
+                }
+            }
         }
     }
 
@@ -182,12 +131,10 @@ impl State {
         n: u32,
         to: u32,
         store: &Store,
-    ) -> Result<Turn, NoMemory>
+    ) -> Acted
         requires { self.old.top.place < usize.MAX }
-        ensures { IfOk result (λ t.
-            (ms : List Module)
-            → Acts ms (plain_unit unit.now) (Sequence count n to) self.old store.now self.new
-            store.now t) }
+        ensures { IfOk result
+            (ActsIn unit.now (Sequence count n to) self.old store.now self.new store.now) }
     {
         let Some(x) = self.top.operands.pop() else {
             return Ok(Turn::Stuck);
@@ -196,13 +143,11 @@ impl State {
         match sequence_of(alloc, count as usize, &value, &store.heap)? {
             Some(items) => {
                 self.top.operands.spread(items)?;
-                self.top.place += 1;
-                Ok(Turn::Goes)
+                Ok(self.fall())
             }
             None => {
                 if self.top.operands.discard(n as usize) {
-                    self.top.place = to as usize;
-                    Ok(Turn::Goes)
+                    Ok(self.jump(to))
                 } else {
                     Ok(Turn::Stuck)
                 }

@@ -1,7 +1,8 @@
-//! Instructions over a machine in memory: what the machine holds, and what each instruction does to it, as far as the machine does it
-//! alone.
+//! Instructions over a machine in memory: what the machine holds, and what each instruction does to
+//! it, as far as the machine does it alone.
 //!
-//! `State::decide` does the instruction at the present place, and answers a `Turn`, which is what is left to do of it.
+//! `State::decide` does the instruction at the present place, and answers a `Turn`, which is what is
+//! left to do of it.
 #![tactic(auto)]
 
 mod calls;
@@ -11,6 +12,7 @@ mod constants;
 mod decide;
 mod displays;
 mod frame;
+mod going;
 mod imports;
 mod jumps;
 mod loops;
@@ -21,6 +23,7 @@ mod operand;
 mod operands;
 mod operators;
 mod raising;
+mod reach;
 mod slots;
 mod stack;
 mod turn;
@@ -29,6 +32,7 @@ mod ways;
 pub use calls::new_frame;
 pub use frame::{Frame, State};
 pub use operand::{Operand, Walk, Way};
+pub use reach::Reach;
 pub use slots::Slots;
 pub use stack::Stack;
-pub use turn::Turn;
+pub use turn::{Acted, Turn};

@@ -1,34 +1,26 @@
 // Loops.
-ghost use Rattle.std.specs.Prelude.{◌<◌, List, IfOk};
+ghost use Rattle.std.specs.Prelude.{◌<◌, IfOk};
 ghost use Rattle.py_code.specs.declared.instr.Instr.TheVariants.{Walk, Next as NextItem};
-ghost use Rattle.py_code.specs.Units.{Module, plain_unit};
-ghost use Rattle.py_instructions.specs.View.{Acts};
+ghost use Rattle.py_instructions.specs.View.{ActsIn};
 
 use crate::frame::State;
 use crate::operand::{Operand, Walk as Walked};
-use crate::turn::Turn;
+use crate::turn::{Acted, Turn};
 use py_code::Unit;
 use py_store::{Store, item_of, walk_length};
-use py_value::NoMemory;
 use std::alloc::{AllocError, Global};
 
 impl State {
-    pub fn walk(&mut self, alloc: Global, unit: &Unit, store: &Store) -> Result<Turn, NoMemory>
+    pub fn walk(&mut self, alloc: Global, unit: &Unit, store: &Store) -> Acted
         requires { self.old.top.place < usize.MAX }
-        ensures { IfOk result (λ t.
-            (ms : List Module)
-            → Acts ms (plain_unit unit.now) Walk self.old store.now self.new store.now t) }
+        ensures { IfOk result (ActsIn unit.now Walk self.old store.now self.new store.now) }
     {
         let Some(x) = self.top.operands.pop() else {
             return Ok(Turn::Stuck);
         };
         let value = x.into_value();
         match walk_length(alloc, &value, &store.heap)? {
-            Ok(count) => {
-                self.top.operands.push(Operand::Walk(value, count, 0))?;
-                self.top.place += 1;
-                Ok(Turn::Goes)
-            }
+            Ok(count) => self.push(Operand::Walk(value, count, 0)),
             Err(raised) => {
                 drop(value);
                 Ok(Turn::Throws(raised))
@@ -36,17 +28,10 @@ impl State {
         }
     }
 
-    pub fn next(
-        &mut self,
-        alloc: Global,
-        unit: &Unit,
-        to: u32,
-        store: &Store,
-    ) -> Result<Turn, NoMemory>
+    pub fn next(&mut self, alloc: Global, unit: &Unit, to: u32, store: &Store) -> Acted
         requires { self.old.top.place < usize.MAX }
-        ensures { IfOk result (λ t.
-            (ms : List Module)
-            → Acts ms (plain_unit unit.now) (NextItem to) self.old store.now self.new store.now t) }
+        ensures { IfOk result
+            (ActsIn unit.now (NextItem to) self.old store.now self.new store.now) }
     {
         let Some(x) = self.top.operands.pop() else {
             return Ok(Turn::Stuck);
@@ -59,8 +44,7 @@ impl State {
         match item_of(alloc, &value, count, place, &store.heap)? {
             Ok(None) => {
                 drop(value);
-                self.top.place = to as usize;
-                Ok(Turn::Goes)
+                Ok(self.jump(to))
             }
             Ok(Some(item)) => match place.checked_add(1) {
                 None => {
@@ -70,9 +54,7 @@ impl State {
                 }
                 Some(next) => {
                     self.top.operands.push(Operand::Walk(value, count, next))?;
-                    self.top.operands.push(Operand::Value(item))?;
-                    self.top.place += 1;
-                    Ok(Turn::Goes)
+                    self.push(Operand::Value(item))
                 }
             },
             Err(raised) => {

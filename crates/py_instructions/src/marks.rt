@@ -1,9 +1,7 @@
 // Lines.
-ghost use Rattle.std.specs.Prelude.{◌<◌, List};
+ghost use Rattle.std.specs.Prelude.{◌<◌};
 ghost use Rattle.py_code.specs.declared.instr.Instr.TheVariants.{Mark, Again};
-ghost use Rattle.py_code.specs.Units.{Module, plain_unit};
-ghost use Rattle.py_store.specs.declared.store.Store.{Store as Kept};
-ghost use Rattle.py_instructions.specs.View.{Acts};
+ghost use Rattle.py_instructions.specs.View.{ActsAlone};
 
 use crate::frame::State;
 use crate::turn::Turn;
@@ -13,8 +11,7 @@ use py_code::Unit;
 impl State {
     pub fn mark(&mut self, unit: &Unit, n: u32) -> Turn
         requires { self.old.top.place < usize.MAX }
-        ensures { (ms : List Module) (s : Kept)
-            → Acts ms (plain_unit unit.now) (Mark n) self.old s self.new s result }
+        ensures { ActsAlone unit.now (Mark n) self.old self.new result }
     {
         match unit.lines.get(n as usize) {
             None => Turn::Stuck,
@@ -36,8 +33,7 @@ impl State {
 
     pub fn again(&mut self, unit: &Unit, n: u32) -> Turn
         requires { self.old.top.place < usize.MAX }
-        ensures { (ms : List Module) (s : Kept)
-            → Acts ms (plain_unit unit.now) (Again n) self.old s self.new s result }
+        ensures { ActsAlone unit.now (Again n) self.old self.new result }
     {
         match unit.lines.get(n as usize) {
             None => Turn::Stuck,

@@ -22,8 +22,8 @@ pub enum Way {
     Raise(Raised, bool),
 }
 
-/// What stands on the operands: a value; a method with the value that it is called on; the walk over a value, with its number of
-/// items at the start and the place of the next one; or a way out.
+/// What stands on the operands: a value; a method with the value that it is called on; the walk over
+/// a value, with its number of items at the start and the place of the next one; or a way out.
 pub enum Operand {
     Value(Value),
     Method(Method, Value),

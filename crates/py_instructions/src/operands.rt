@@ -1,14 +1,15 @@
 // The operands of a frame.
 ghost use Rattle.std.specs.Prelude.{◌≡◌, ◌∷◌, ◌++◌, None, Some, length, map, take, drop, remove, reverse, nat_le, slice_get, IfOk, OnOk, MatchOption};
+ghost use Rattle.py_value.specs.HeapView.{plain_heap};
 ghost use Rattle.py_value.specs.View.{plains};
 ghost use Rattle.py_code.specs.Configurations.{of_value};
 ghost use Rattle.py_code.specs.Operands.{value_in};
 ghost use Rattle.py_instructions.specs.Operands.{plain_operand};
-ghost use Rattle.py_instructions.specs.View.{plain_operands, Discards, Inserts, TakesValues};
+ghost use Rattle.py_instructions.specs.View.{plain_operands, Discards, Inserts, TakesValues, TakesTwo, TakesTruth};
 
 use crate::operand::Operand;
 use crate::stack::Stack;
-use py_value::{NoMemory, Value};
+use py_value::{Heap, NoMemory, Value, truth};
 use std::alloc::Global;
 
 impl Stack<Operand> {
@@ -27,6 +28,36 @@ impl Stack<Operand> {
             × (plain_operands self.new ≡ remove (plain_operands self.old) below)) }
     {
         self.remove(below)
+    }
+
+    /// Takes two operands away, the lower one first.
+    pub fn take_two(&mut self) -> Option<(Operand, Operand)>
+        ensures { TakesTwo result self.old self.new }
+    {
+        let Some(y) = self.pop() else {
+            return None;
+        };
+        match self.pop() {
+            None => {
+                drop(y);
+                None
+            }
+            Some(x) => Some((x, y)),
+        }
+    }
+
+    /// Takes the topmost operand away, and says whether it is true.
+    pub fn take_truth(&mut self, heap: &Heap) -> Option<bool>
+        ensures { TakesTruth result (plain_heap heap.now) (plain_operands self.old)
+            (plain_operands self.new) }
+    {
+        let Some(x) = self.pop() else {
+            return None;
+        };
+        let value = x.into_value();
+        let holds = truth(&value, heap);
+        drop(value);
+        Some(holds)
     }
 
     /// Takes so many operands away, where there are so many.

@@ -1,25 +1,21 @@
 // Exceptions that instructions raise.
-ghost use Rattle.std.specs.Prelude.{◌≡◌, ◌<◌, List, IfOk};
+ghost use Rattle.std.specs.Prelude.{◌≡◌, ◌<◌, IfOk};
 ghost use Rattle.py_value.specs.Plain.{packed};
 ghost use Rattle.py_value.specs.View.{plain, plains, plain_answer};
 ghost use Rattle.py_builtins.specs.Catching.{catches, some_catches, assertion_error};
 ghost use Rattle.py_code.specs.declared.instr.Instr.TheVariants.{Raise, Reraise, Assertion, AssertionWith, Catches, Caught, Uncaught};
-ghost use Rattle.py_code.specs.Units.{Module, plain_unit};
-ghost use Rattle.py_store.specs.declared.store.Store.{Store as Kept};
-ghost use Rattle.py_instructions.specs.View.{Acts};
+ghost use Rattle.py_instructions.specs.View.{ActsAlone};
 
 use crate::frame::State;
 use crate::operand::Operand;
-use crate::turn::Turn;
+use crate::turn::{Acted, Turn};
 use py_code::Unit;
 use py_value::{Argument, Cause, ExcKind, NoMemory, Raised, Value};
 use std::alloc::Global;
 
 impl State {
-    pub fn raise(&mut self, alloc: Global, unit: &Unit) -> Result<Turn, NoMemory>
-        ensures { IfOk result (λ t.
-            (ms : List Module) (s : Kept)
-            → Acts ms (plain_unit unit.now) Raise self.old s self.new s t) }
+    pub fn raise(&mut self, alloc: Global, unit: &Unit) -> Acted
+        ensures { IfOk result (ActsAlone unit.now Raise self.old self.new) }
     {
         let Some(x) = self.top.operands.pop() else {
             return Ok(Turn::Stuck);
@@ -41,10 +37,8 @@ impl State {
         }
     }
 
-    pub fn reraise(&mut self, unit: &Unit, n: u32) -> Result<Turn, NoMemory>
-        ensures { IfOk result (λ t.
-            (ms : List Module) (s : Kept)
-            → Acts ms (plain_unit unit.now) (Reraise n) self.old s self.new s t) }
+    pub fn reraise(&mut self, unit: &Unit, n: u32) -> Acted
+        ensures { IfOk result (ActsAlone unit.now (Reraise n) self.old self.new) }
     {
         match self.top.operands.operand(n as usize) {
             None => Ok(Turn::Stuck),
@@ -53,8 +47,7 @@ impl State {
     }
 
     pub fn assertion(&mut self, unit: &Unit) -> Turn
-        ensures { (ms : List Module) (s : Kept)
-            → Acts ms (plain_unit unit.now) Assertion self.old s self.new s result }
+        ensures { ActsAlone unit.now Assertion self.old self.new result }
     {
         Turn::Throws(Raised {
             kind: ExcKind::AssertionError,
@@ -62,10 +55,8 @@ impl State {
         })
     }
 
-    pub fn assertion_with(&mut self, alloc: Global, unit: &Unit) -> Result<Turn, NoMemory>
-        ensures { IfOk result (λ t.
-            (ms : List Module) (s : Kept)
-            → Acts ms (plain_unit unit.now) AssertionWith self.old s self.new s t) }
+    pub fn assertion_with(&mut self, alloc: Global, unit: &Unit) -> Acted
+        ensures { IfOk result (ActsAlone unit.now AssertionWith self.old self.new) }
     {
         let Some(x) = self.top.operands.pop() else {
             return Ok(Turn::Stuck);
@@ -83,53 +74,35 @@ impl State {
         }
     }
 
-    pub fn catches(&mut self, alloc: Global, unit: &Unit) -> Result<Turn, NoMemory>
+    pub fn catches(&mut self, alloc: Global, unit: &Unit) -> Acted
         requires { self.old.top.place < usize.MAX }
-        ensures { IfOk result (λ t.
-            (ms : List Module) (s : Kept)
-            → Acts ms (plain_unit unit.now) Catches self.old s self.new s t) }
+        ensures { IfOk result (ActsAlone unit.now Catches self.old self.new) }
     {
-        let Some(x) = self.top.operands.pop() else {
+        let Some((w, x)) = self.top.operands.take_two() else {
             return Ok(Turn::Stuck);
         };
         let value = x.into_value();
-        let Some(w) = self.top.operands.pop() else {
-            drop(value);
-            return Ok(Turn::Stuck);
-        };
         let kind = w.kind();
         self.top.operands.push(w)?;
         match catches(alloc, &value, kind)? {
-            Ok(holds) => {
-                self.top.operands.push(Operand::Value(Value::Bool(holds)))?;
-                self.top.place += 1;
-                Ok(Turn::Goes)
-            }
+            Ok(holds) => self.push(Operand::Value(Value::Bool(holds))),
             Err(raised) => Ok(Turn::Throws(raised)),
         }
     }
 
-    pub fn caught(&mut self, unit: &Unit) -> Result<Turn, NoMemory>
+    pub fn caught(&mut self, unit: &Unit) -> Acted
         requires { self.old.top.place < usize.MAX }
-        ensures { IfOk result (λ t.
-            (ms : List Module) (s : Kept)
-            → Acts ms (plain_unit unit.now) Caught self.old s self.new s t) }
+        ensures { IfOk result (ActsAlone unit.now Caught self.old self.new) }
     {
         let Some(w) = self.top.operands.operand(0) else {
             return Ok(Turn::Stuck);
         };
         let Raised { kind, arg } = w.exception()?;
-        self.top
-            .operands
-            .push(Operand::Value(Value::Exc(kind, arg)))?;
-        self.top.place += 1;
-        Ok(Turn::Goes)
+        self.push(Operand::Value(Value::Exc(kind, arg)))
     }
 
-    pub fn uncaught(&mut self, unit: &Unit) -> Result<Turn, NoMemory>
-        ensures { IfOk result (λ t.
-            (ms : List Module) (s : Kept)
-            → Acts ms (plain_unit unit.now) Uncaught self.old s self.new s t) }
+    pub fn uncaught(&mut self, unit: &Unit) -> Acted
+        ensures { IfOk result (ActsAlone unit.now Uncaught self.old self.new) }
     {
         let Some(w) = self.top.operands.pop() else {
             return Ok(Turn::Stuck);

@@ -18,7 +18,9 @@ impl Slots {
     /// These values, and unset slots behind them, so many together.
     pub fn fresh(alloc: Global, values: Vec<Value>, count: usize) -> Result<Slots, NoMemory>
         ensures { IfOk result (λ slots.
-            slots_of slots ≡ map Some (plains values.items) ++ replicate (count - length (plains values.items)) None) }
+            slots_of slots
+            ≡ map Some (plains values.items)
+            ++ replicate (count - length (plains values.items)) None) }
     {
         let more = count.saturating_sub(values.len());
         let mut slots = set_slots(alloc, values)?;

@@ -1,6 +1,6 @@
 // What is left to do of an instruction.
 use cov_event::Event;
-use py_value::{Builtin, Raised, Value};
+use py_value::{Builtin, NoMemory, Raised, Value};
 
 /// What the machine asks for when it has done its part of an instruction.
 #[derive(Drop)]
@@ -21,3 +21,6 @@ pub enum Turn {
     /// The instruction missed something.
     Stuck,
 }
+
+/// What is left to do, where there was memory for the machine's part.
+pub type Acted = Result<Turn, NoMemory>;

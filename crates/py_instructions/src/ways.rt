@@ -6,69 +6,54 @@ ghost use Rattle.py_code.specs.Slots.{by_slots};
 ghost use Rattle.py_code.specs.Units.{Module, plain_unit};
 ghost use Rattle.py_store.specs.declared.store.Store.{Store as Kept};
 ghost use Rattle.py_instructions.specs.Operands.{plain_way};
-ghost use Rattle.py_instructions.specs.View.{Outside, plain_operands, seen, turned, Acts};
+ghost use Rattle.py_instructions.specs.View.{Does, DoesAlone, ActsAlone};
 
 use crate::frame::State;
 use crate::operand::{Operand, Way};
-use crate::turn::Turn;
+use crate::turn::{Acted, Turn};
 use py_code::Unit;
-use py_value::NoMemory;
 use std::alloc::AllocError;
 
 impl State {
     pub fn leave(&mut self, unit: &Unit, n: u32, to: u32) -> Turn
-        ensures { (ms : List Module) (s : Kept)
-            → Acts ms (plain_unit unit.now) (Leave n to) self.old s self.new s result }
+        ensures { ActsAlone unit.now (Leave n to) self.old self.new result }
     {
         if self.top.operands.discard(n as usize) {
-            self.top.place = to as usize;
-            Turn::Goes
+            self.jump(to)
         } else {
             Turn::Stuck
         }
     }
 
-    pub fn ending(&mut self, unit: &Unit) -> Result<Turn, NoMemory>
+    pub fn ending(&mut self, unit: &Unit) -> Acted
         requires { self.old.top.place < usize.MAX }
-        ensures { IfOk result (λ t.
-            (ms : List Module) (s : Kept)
-            → Acts ms (plain_unit unit.now) Ends self.old s self.new s t) }
+        ensures { IfOk result (ActsAlone unit.now Ends self.old self.new) }
     {
-        self.top.operands.push(Operand::Way(Way::On))?;
-        self.top.place += 1;
-        Ok(Turn::Goes)
+        self.push(Operand::Way(Way::On))
     }
 
-    pub fn breaking(&mut self, unit: &Unit, n: u32, to: u32) -> Result<Turn, NoMemory>
-        ensures { IfOk result (λ t.
-            (ms : List Module) (s : Kept)
-            → Acts ms (plain_unit unit.now) (Breaking n to) self.old s self.new s t) }
+    pub fn breaking(&mut self, unit: &Unit, n: u32, to: u32) -> Acted
+        ensures { IfOk result (ActsAlone unit.now (Breaking n to) self.old self.new) }
     {
         if !self.top.operands.discard(n as usize) {
             return Ok(Turn::Stuck);
         }
         self.top.operands.push(Operand::Way(Way::Break))?;
-        self.top.place = to as usize;
-        Ok(Turn::Goes)
+        Ok(self.jump(to))
     }
 
-    pub fn continuing(&mut self, unit: &Unit, n: u32, to: u32) -> Result<Turn, NoMemory>
-        ensures { IfOk result (λ t.
-            (ms : List Module) (s : Kept)
-            → Acts ms (plain_unit unit.now) (Continuing n to) self.old s self.new s t) }
+    pub fn continuing(&mut self, unit: &Unit, n: u32, to: u32) -> Acted
+        ensures { IfOk result (ActsAlone unit.now (Continuing n to) self.old self.new) }
     {
         if !self.top.operands.discard(n as usize) {
             return Ok(Turn::Stuck);
         }
         self.top.operands.push(Operand::Way(Way::Continue))?;
-        self.top.place = to as usize;
-        Ok(Turn::Goes)
+        Ok(self.jump(to))
     }
 
-    pub fn returning(&mut self, unit: &Unit, n: u32, to: u32) -> Result<Turn, NoMemory>
-        ensures { IfOk result (λ t.
-            (ms : List Module) (s : Kept)
-            → Acts ms (plain_unit unit.now) (Returning n to) self.old s self.new s t) }
+    pub fn returning(&mut self, unit: &Unit, n: u32, to: u32) -> Acted
+        ensures { IfOk result (ActsAlone unit.now (Returning n to) self.old self.new) }
     {
         let Some(x) = self.top.operands.pop() else {
             return Ok(Turn::Stuck);
@@ -79,14 +64,11 @@ impl State {
             return Ok(Turn::Stuck);
         }
         self.top.operands.push(Operand::Way(Way::Return(value)))?;
-        self.top.place = to as usize;
-        Ok(Turn::Goes)
+        Ok(self.jump(to))
     }
 
-    pub fn settle(&mut self, unit: &Unit) -> Result<Turn, NoMemory>
-        ensures { IfOk result (λ t.
-            (ms : List Module) (s : Kept)
-            → Acts ms (plain_unit unit.now) Settle self.old s self.new s t) }
+    pub fn settle(&mut self, unit: &Unit) -> Acted
+        ensures { IfOk result (ActsAlone unit.now Settle self.old self.new) }
     {
         let Some(x) = self.top.operands.pop() else {
             return Ok(Turn::Stuck);
@@ -95,10 +77,8 @@ impl State {
         way.resume(self, true)
     }
 
-    pub fn release(&mut self, unit: &Unit) -> Result<Turn, NoMemory>
-        ensures { IfOk result (λ t.
-            (ms : List Module) (s : Kept)
-            → Acts ms (plain_unit unit.now) Release self.old s self.new s t) }
+    pub fn release(&mut self, unit: &Unit) -> Acted
+        ensures { IfOk result (ActsAlone unit.now Release self.old self.new) }
     {
         let Some(x) = self.top.operands.pop() else {
             return Ok(Turn::Stuck);
@@ -108,9 +88,9 @@ impl State {
     }
 
     /// Goes so many places ahead.
-    fn go_ahead(&mut self, n: usize) -> Result<Turn, NoMemory>
-        ensures { IfOk result (λ t. (ms : List Module) (s : Kept) (o : Outside) →
-            jumps (n + self.old.top.place) (plain_operands self.old.top.operands) (seen self.old s o) ≡ turned ms t (seen self.new s o)) }
+    fn go_ahead(&mut self, n: usize) -> Acted
+        ensures { IfOk result
+            (DoesAlone (jumps (n + self.old.top.place)) self.old self.new) }
     {
         match self.top.place.checked_add(n) {
             None => Err(AllocError),
@@ -124,9 +104,9 @@ impl State {
 
 impl Way {
     /// Goes on in a way out; an exception is on its way.
-    fn resume(self, m: &mut State, is_settled: bool) -> Result<Turn, NoMemory>
-        ensures { IfOk result (λ t. (ms : List Module) (s : Kept) (o : Outside) →
-            resumes (by_slots ms) ms is_settled (plain_way self) (plain_operands m.old.top.operands) (seen m.old s o) ≡ turned ms t (seen m.new s o)) }
+    fn resume(self, m: &mut State, is_settled: bool) -> Acted
+        ensures { IfOk result (λ t. (ms : List Module) (s : Kept) → Does ms
+            (resumes (by_slots ms) ms is_settled (plain_way self)) m.old s m.new s t) }
     {
         match self {
             Way::On => m.go_ahead(4),

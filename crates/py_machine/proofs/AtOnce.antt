@@ -26,9 +26,9 @@ use Rattle.py_instructions.specs.View.{Outside, effects_of}
 use Rattle.py_code.specs.Programs.{reach_global}
 use Rattle.py_machine.specs.declared.ending.Ending.{Ending}
 use Rattle.py_machine.specs.declared.ending.Ending.TheVariants.{Gave, Failed}
-use Rattle.py_machine.specs.declared.reach.Reach.{Reach as RawReach}
-use Rattle.py_machine.specs.declared.reach.Reach.TheVariants.{Gives as GivesValue, Raises, Asks}
-use Rattle.py_machine.specs.Reaching.{plain_reach}
+use Rattle.py_instructions.specs.declared.reach.Reach.{Reach as RawReach}
+use Rattle.py_instructions.specs.declared.reach.Reach.TheVariants.{Gives as GivesValue, Raises, Asks}
+use Rattle.py_instructions.specs.Reaching.{plain_reach}
 use Rattle.py_machine.specs.Told.{Heard, Ran, ended}
 use Rattle.py_machine.proofs.Hearing.{heard_as, heard_nothing, of_reads}
 use Rattle.py_machine.proofs.Joins.{at, wrote_none}

@@ -23,9 +23,9 @@ use Rattle.py_code.specs.Units.{Module}
 use Rattle.py_store.specs.declared.store.Store.{Store}
 use Rattle.py_store.specs.Stores.{world_of}
 use Rattle.py_instructions.specs.View.{Outside, effects_of}
-use Rattle.py_machine.specs.declared.reach.Reach.{Reach as RawReach}
-use Rattle.py_machine.specs.declared.reach.Reach.TheVariants.{Asks}
-use Rattle.py_machine.specs.Reaching.{plain_reach}
+use Rattle.py_instructions.specs.declared.reach.Reach.{Reach as RawReach}
+use Rattle.py_instructions.specs.declared.reach.Reach.TheVariants.{Asks}
+use Rattle.py_instructions.specs.Reaching.{plain_reach}
 use Rattle.py_machine.specs.Runs.{StopsRun, StopsCall}
 use Rattle.py_machine.specs.Told.{Grown, TakesSome, HeardSome, Stopped}
 use Rattle.py_machine.proofs.GivesUp.{takes_none}

@@ -20,7 +20,7 @@ use Rattle.py_store.specs.declared.store.Store.{Store}
 use Rattle.py_machine.specs.declared.outcome.Called.{Called}
 use Rattle.py_machine.specs.Outcomes.{plain_outcome, plain_called}
 use Rattle.py_machine.specs.Runs.{IsRun, IsCall}
-use Rattle.py_machine.specs.Reaching.{HasUnit}
+use Rattle.py_instructions.specs.Reaching.{HasUnit}
 use Rattle.py_machine.specs.Told.{Heard, Ran, ended}
 use Rattle.py_machine.specs.Endings.{plain_ended}
 use Rattle.py_store.specs.Stores.{world_of}

@@ -6,11 +6,13 @@ use Rattle.py_value.specs.declared.exception.ExcKind.TheVariants.{EOFError}
 use Rattle.py_value.specs.ExcKind.{is_same_kind}
 use Rattle.py_builtins.specs.Arguments.{Answer}
 
+-- the answer of a read that found no byte
 abbrev pub is_end : Answer → Bool
 is_end (Ok p) = false
 is_end (Err raised) = is_same_kind raised.kind EOFError
 
--- `input` alone reads, and raises EOFError where no byte is left (Library Reference, "Built-in Functions")
+-- `input` alone reads, and raises EOFError where no byte is left (Library Reference, "Built-in
+-- Functions")
 abbrev pub finds_end : Builtin → Answer → Bool
 finds_end Print answer = false
 finds_end Len answer = false

@@ -1,7 +1,6 @@
 pub mod Endings
 pub mod Outcomes
 pub mod Ends
-pub mod Reaching
 pub mod Told
 pub mod Runs
 pub mod Fitting

@@ -72,6 +72,7 @@ abbrev pub Went : Option Ending → Next Slots → Configuration Slots → Type 
 Went None n c = (n ≡ Goes c) ⊎ (n ≡ Ticks c)
 Went (Some how) n c = n ≡ halted (plain_ended how) c
 
+-- what lies outside: the input that is left, the bytes that were written, and the events
 abbrev pub outside : List ℕ → List ℕ → List Event → Outside
 outside input out events = record { input = input; out = out; events = events }
 
@@ -145,6 +146,7 @@ pub record Passed (took : List Event → Type 0) (before now : Outside → Next 
 abbrev pub Grown : Effects → Effects → Type 0
 Grown e f = IsPrefix e.events f.events × IsPrefix e.out f.out
 
+-- those of the effects that a move leads to begin with these
 abbrev pub GrowsTo : {L : Type 0} → Effects → Next L → Type 0
 GrowsTo e (Goes c) = Grown e c.effects
 GrowsTo e (Ticks c) = Grown e c.effects

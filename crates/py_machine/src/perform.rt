@@ -25,11 +25,11 @@ use std::alloc::Global;
 /// Calls a built-in function for the top frame. `at_end`: whether the input was found at its end.
 fn ask<T: Tracer, I: Source, O: Sink>(
     alloc: Global,
-    which: Builtin,
-    values: Vec<Value>,
     m: &mut State,
     store: &mut Store,
     programs: &Programs,
+    which: Builtin,
+    values: Vec<Value>,
     tracer: &mut T,
     at_end: &mut bool,
     input: &mut I,
@@ -117,7 +117,7 @@ fn perform<T: Tracer, I: Source, O: Sink>(
         )?),
         Turn::Gives(value) => Ok(give(alloc, value, m, store, programs, tracer)?),
         Turn::Asks(which, values) => Ok(ask(
-            alloc, which, values, m, store, programs, tracer, at_end, input, out,
+            alloc, m, store, programs, which, values, tracer, at_end, input, out,
         )?),
         Turn::Spent => Ok(Some(Ending::Spent)),
         Turn::Stuck => Ok(Some(Ending::Stuck)),

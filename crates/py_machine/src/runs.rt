@@ -12,7 +12,7 @@ ghost use Rattle.py_code.specs.Valid.{AreCodes};
 ghost use Rattle.py_machine.specs.Fitting.{RunFits};
 ghost use Rattle.py_machine.specs.Runs.{IsRun, StopsRun};
 ghost use Rattle.py_machine.specs.Told.{Heard, Ran as Ends, AtStart, TakesSome, CallsSome, HeardSome, Stopped};
-ghost use Rattle.py_machine.specs.Reaching.{HasUnit};
+ghost use Rattle.py_instructions.specs.Reaching.{HasUnit};
 ghost use Rattle.py_store.specs.Stores.{world_of};
 ghost use Rattle.py_instructions.specs.View.{plain_frame, effects_of, seen};
 

@@ -7,7 +7,7 @@ use Rattle.py_code.specs.Loaded.{modules_of}
 use Rattle.py_code.specs.Machine.{outer_call, follows}
 use Rattle.py_code.specs.Slots.{by_slots}
 use Rattle.py_instructions.specs.View.{effects_of}
-use Rattle.py_machine.specs.Reaching.{plain_reach}
+use Rattle.py_instructions.specs.Reaching.{plain_reach}
 use Rattle.py_machine.proofs.AtOnce.{ran_as, asks_gives, asks_raises, gives_at_once, raises_at_once}
 use Rattle.py_machine.proofs.Performs.{raised_keeps, reads_of, gains_of}
 use Rattle.py_machine.proofs.StopsCalls.{ask_stops}

@@ -6,9 +6,10 @@ use Rattle.py_builtins.specs.Builtins.{builtin_of}
 use Rattle.py_code.specs.Configurations.{Effects}
 use Rattle.py_code.specs.Machine.{Reach, at_once, in_frame, by_done}
 use Rattle.py_code.specs.Units.{Code, Module, unit_at}
-use Rattle.py_machine.specs.declared.reach.Reach.{Reach as RawReach}
-use Rattle.py_machine.specs.declared.reach.Reach.TheVariants.{Gives, Raises, Begins, Asks}
+use Rattle.py_instructions.specs.declared.reach.Reach.{Reach as RawReach}
+use Rattle.py_instructions.specs.declared.reach.Reach.TheVariants.{Gives, Raises, Begins, Asks}
 
+-- an answer at once, with these effects, or a frame
 abbrev pub plain_reach : RawReach → Effects → Reach
 plain_reach (Gives v) e = at_once (Ok (plain v)) e
 plain_reach (Raises raised) e = at_once (Err (plain_raised raised)) e
