@@ -83,7 +83,7 @@ impl State {
     {
         match unit.names.get(n as usize) {
             None => Ok(Turn::Stuck),
-            Some(name) => match store.global(self.top.code.module, name) {
+            Some(name) => match store.global_at(self.top.code, n, name) {
                 None => match predefined(name) {
                     None => Ok(Turn::Throws(name_unknown(alloc, name)?)),
                     Some(value) => {
@@ -121,7 +121,7 @@ impl State {
                 None => Ok(Turn::Stuck),
                 Some(x) => {
                     let value = x.into_value();
-                    store.set_global(alloc, self.top.code.module, name, value)?;
+                    store.set_global(alloc, self.top.code, n, name, value)?;
                     self.top.place += 1;
                     Ok(Turn::Goes)
                 }
@@ -145,7 +145,7 @@ impl State {
         match unit.names.get(n as usize) {
             None => Ok(Turn::Stuck),
             Some(name) => {
-                store.unset_global(alloc, self.top.code.module, name)?;
+                store.unset_global(alloc, self.top.code, n, name)?;
                 self.top.place += 1;
                 Ok(Turn::Goes)
             }

@@ -3,7 +3,7 @@
 use crate::rows::{Row, wrong};
 use std::test::Fail;
 
-static ROWS: [Row; 12] = [
+static ROWS: [Row; 13] = [
     Row {
         title: "Recursion",
         source: "\
@@ -143,6 +143,32 @@ print(len([1]))
         out: "\
 1
 7
+",
+        end: "finished",
+        steps: 0,
+        events: "",
+        arcs: "",
+    },
+    Row {
+        title: "The name of a built-in function, bound and unset by a clause, and set again",
+        source: "\
+def f():
+    return len
+for i in range(2):
+    try:
+        raise ValueError(i)
+    except ValueError as len:
+        print(f())
+    print(f()('abc'))
+len = 5
+print(f())
+",
+        out: "\
+0
+3
+1
+3
+5
 ",
         end: "finished",
         steps: 0,

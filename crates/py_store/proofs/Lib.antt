@@ -6,3 +6,9 @@ mod OfModules
 mod Spelled
 mod Filled
 mod Numbers
+mod Places
+mod Times
+mod Listed
+mod Changed
+mod OwnNames
+mod SetAt

@@ -1,11 +1,8 @@
 -- The globals of a module, changed where they stand.
 use Rattle.std.proofs.Common.{◌≡◌, ℕ, ◌<◌, ◌≤◌, List, [], ◌∷◌, ◌++◌, length, map, get_or, Some, None, refl, sym, ap, ◌∙◌, arith}
-use Rattle.std.specs.Prelude.{slice_get, slice_set, replicate}
+use Rattle.std.specs.Prelude.{slice_get, slice_set}
 use Rattle.std.proofs.lemmas.List.{map-append, length-map}
 use Rattle.std.proofs.lemmas.Option.{slice_get_read}
-use Rattle.py_code.specs.declared.code.Program.{Program}
-use Rattle.py_code.specs.Loaded.{module_of}
-use Rattle.py_code.specs.Programs.{no_names as no_names_of}
 use Rattle.py_builtins.specs.World.{Names, names_at, with_names_at}
 use Rattle.py_store.specs.declared.globals.Globals.{Globals}
 use Rattle.py_store.specs.Globals.{names_of}
@@ -46,8 +43,3 @@ begun_at m old gs new first e lt k =
     ∙ sym (set_at m (map names_of gs) first (omega (arith, length-map gs names_of)))
     ∙ ap (with_names_at m (λ n. first)) e
     ∙ with_twice m old (λ n. first)
-
--- no names, of each module
-pub no_modules : (ps : List Program) → replicate (length ps) [] ≡ map no_names_of (map module_of ps)
-no_modules [] = refl
-no_modules (p ∷ ps) = ap (λ gs. [] ∷ gs) (no_modules ps)

@@ -1,3 +1,4 @@
 pub mod Globals
+pub mod Numbered
 pub mod Stores
 pub mod Values

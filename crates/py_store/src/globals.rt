@@ -1,89 +1,135 @@
 // The globals of a module.
-ghost use Rattle.std.specs.Prelude.{◌≡◌, [], None, Some, map, IfOk, OnOk, OnErr, MatchOption};
+ghost use Rattle.std.specs.Prelude.{◌≡◌, ◌<◌, [], List, ℕ, None, Some, length, map, slice_get, IfOk, OnOk, MatchOption};
 ghost use Rattle.py_value.specs.View.{plain};
 ghost use Rattle.py_builtins.specs.World.{value_of, with_name, without_name};
-ghost use Rattle.py_store.specs.Globals.{names_of};
+ghost use Rattle.py_store.specs.Numbered.{HaveOwnNames, AreListed, plain_global, names_in};
 
-use crate::texts::is_same;
+use crate::numbering::{copied, is_set, last_place, number_of, unset_again, value_at};
 use py_value::{NoMemory, Text, Value};
 use std::alloc::Global as Alloc;
 
-/// A name that is set, and its value.
+/// A name, and its value if it is set.
 #[derive(Drop)]
 pub struct Global {
     pub name: Text,
-    pub value: Value,
+    pub value: Option<Value>,
 }
 
-/// The names that are set, in the order in which they were.
+/// Names with their values, each at its number, and the numbers of those that are set, in the order in which they were.
 #[derive(Drop)]
 pub struct Globals {
     pub(crate) items: Vec<Global>,
+    pub(crate) order: Vec<usize>,
+    ghost own_names: { HaveOwnNames (names_in items.items) },
+    ghost listed: { AreListed (map plain_global items.items) order.items },
 }
 
 impl Globals {
+    ghost use Rattle.py_store.specs.Globals.{names_of};
+
     pub fn new(alloc: Alloc) -> Globals
         ensures { names_of result ≡ [] }
     {
         Globals {
             items: Vec::new(alloc),
+            order: Vec::new(alloc),
         }
+    }
+
+    /// These names, none of which is set.
+    pub fn of_names(items: Vec<Global>, alloc: Alloc) -> Globals
+        requires own { HaveOwnNames (names_in items.items) }
+        requires unset { AreListed (map plain_global items.items) [] }
+        ensures { names_of result ≡ [] }
+    {
+        Globals {
+            items,
+            order: Vec::new(alloc),
+        }
+    }
+
+    /// The same names, none of which is set.
+    pub fn unset_all(&self, alloc: Alloc) -> Result<Globals, NoMemory>
+        ensures { IfOk result (λ globals. names_of globals ≡ []) }
+    {
+        let items = unset_again(alloc, &self.items)?;
+        Ok(Globals {
+            items,
+            order: Vec::new(alloc),
+        })
     }
 
     /// Equal globals.
     pub fn copy(&self, alloc: Alloc) -> Result<Globals, NoMemory>
         ensures { IfOk result (λ copy. names_of copy ≡ names_of self.now) }
     {
-        let mut items = Vec::with_capacity(alloc, self.items.len())?;
-        for global in &self.items {
-            let name = global.name.copy()?;
-            let value = global.value.copy(alloc)?;
-            items.push(Global { name, value })?;
-        }
-        Ok(Globals { items })
+        let items = copied(alloc, &self.items)?;
+        let order = self.order.clone()?;
+        Ok(Globals { items, order })
     }
 
-    /// The value of a name, if it is set.
-    pub fn get(&self, name: &Text) -> Option<&Value>
+    /// The value of a name, if it is set. The name is looked for at this number first.
+    pub fn get(&self, name: &Text, likely: Option<usize>) -> Option<&Value>
         ensures { MatchOption result (value_of name.now (names_of self.now) ≡ None)
             (λ v. value_of name.now (names_of self.now) ≡ Some (plain v.now)) }
     {
-        for global in &self.items {
-            if is_same(name, &global.name) {
-                return Some(&global.value);
-            }
+        match number_of(&self.items, name, likely) {
+            None => None,
+            Some(number) => value_at(&self.items, number),
         }
-        None
     }
 
-    /// Sets a name: one that is set keeps its place, and a new one goes last.
-    pub fn set(&mut self, name: &Text, value: Value) -> Result<(), NoMemory>
+    /// Sets a name: one that is set keeps its place, and a new one goes last. The name is looked for at this number first.
+    pub fn set(&mut self, name: &Text, likely: Option<usize>, value: Value) -> Result<(), NoMemory>
         ensures { OnOk result (names_of self.new
             ≡ with_name name.now (plain value) (names_of self.old)) }
     {
-        let mut place = 0;
-        while place < self.items.len() {
-            if is_same(name, &self.items[place].name) {
-                self.items[place].value = value;
-                return Ok(());
-            }
-            place += 1;
+        let number = self.numbered(name, likely)?;
+        self.set_at(number, value)
+    }
+
+    /// The number of a name, which gets one if it has none.
+    fn numbered(&mut self, name: &Text, likely: Option<usize>) -> Result<usize, NoMemory>
+        ensures same { OnOk result (names_of self.new ≡ names_of self.old) }
+        ensures at { IfOk result (λ n.
+            slice_get (names_in self.new.items.items) n ≡ Some name.now) }
+    {
+        if let Some(number) = number_of(&self.items, name, likely) {
+            return Ok(number);
         }
+        let number = self.items.len();
         let name = name.copy()?;
-        self.items.push(Global { name, value })?;
+        self.items.push(Global { name, value: None })?;
+        Ok(number)
+    }
+
+    /// Sets the name at a number.
+    fn set_at(&mut self, number: usize, value: Value) -> Result<(), NoMemory>
+        requires { number < length self.old.items.items }
+        ensures { OnOk result ((x : List ℕ)
+            → slice_get (names_in self.old.items.items) number ≡ Some x
+            → names_of self.new ≡ with_name x (plain value) (names_of self.old)) }
+    {
+        if is_set(&self.items, number) {
+            self.items[number].value = Some(value);
+            return Ok(());
+        }
+        self.order.push(number)?;
+        self.items[number].value = Some(value);
         Ok(())
     }
 
-    pub fn unset(&mut self, name: &Text)
+    /// Unsets a name. It is looked for at this number first.
+    pub fn unset(&mut self, name: &Text, likely: Option<usize>)
         ensures { names_of self.new ≡ without_name name.now (names_of self.old) }
     {
-        let mut place = 0;
-        while place < self.items.len() {
-            if is_same(name, &self.items[place].name) {
-                self.items.remove(place);
-            } else {
-                place += 1;
-            }
-        }
+        let Some(number) = number_of(&self.items, name, likely) else {
+            return;
+        };
+        let Some(place) = last_place(&self.order, number) else {
+            return;
+        };
+        self.order.remove(place);
+        self.items[number].value = None;
     }
 }

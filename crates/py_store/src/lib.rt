@@ -7,10 +7,13 @@ mod faults;
 mod globals;
 mod items;
 mod known_names;
+mod links;
 mod lookup;
 mod modules;
+mod numbering;
 mod parameters;
 mod store;
+mod table;
 mod texts;
 
 pub use attributes::{Callee, attribute, callee_of, taken};

@@ -1,21 +1,23 @@
 // What a program's modules hold.
-ghost use Rattle.std.specs.Prelude.{◌≡◌, ◌<◌, [], None, Some, length, map, replicate, slice_get, IfOk, OnOk, MatchOption};
+ghost use Rattle.std.specs.Prelude.{◌≡◌, ◌<◌, None, Some, length, map, slice_get, IfOk, OnOk, MatchOption};
 ghost use Rattle.py_value.specs.Plain.{str_value};
 ghost use Rattle.py_value.specs.View.{plain, plains};
 ghost use Rattle.py_builtins.specs.World.{with_names_at, global_of, with_global, without_global, sys_name, is_begun, with_begun, first_names, without_number};
 ghost use Rattle.py_builtins.specs.Attributes.{module_global};
-ghost use Rattle.py_code.specs.Loaded.{modules_of};
+ghost use Rattle.py_code.specs.Loaded.{module_of, modules_of};
 ghost use Rattle.py_code.specs.Machine.{begun_by, failed_by, name_at};
 ghost use Rattle.py_store.specs.Globals.{names_of};
 ghost use Rattle.py_store.specs.Values.{plain_option};
-ghost use Rattle.py_code.specs.Programs.{first_world};
+ghost use Rattle.py_code.specs.Programs.{first_world, no_names};
 ghost use Rattle.py_store.specs.Stores.{words_of};
 ghost use Rattle.py_store.specs.Stores.{world_of};
 
 use crate::globals::Globals;
+use crate::links::Links;
+use crate::table::Table;
 use crate::texts::{is_argv, is_exit};
 use cov_event::CodeId;
-use py_code::Programs;
+use py_code::{Program, Programs};
 use py_value::value::ModId;
 use py_value::{Addr, Builtin, Heap, NoMemory, Text, Value};
 use std::alloc::Global as Alloc;
@@ -27,6 +29,7 @@ pub struct Store {
     pub(crate) begun: Vec<u32>,
     pub heap: Heap,
     pub(crate) words: Addr,
+    pub(crate) links: Links,
 }
 
 impl Store {
@@ -35,7 +38,10 @@ impl Store {
         ensures { IfOk result (λ store.
             world_of store ≡ first_world (modules_of programs.now) (words_of words.now)) }
     {
-        let globals = no_globals(alloc, programs.modules.len())?;
+        let mut links = Links {
+            modules: Vec::new(alloc),
+        };
+        let globals = no_globals(alloc, &programs.modules, &mut links)?;
         let mut heap = Heap::new(alloc);
         let words = heap.make_list(word_values(alloc, words)?)?;
         Ok(Store {
@@ -43,6 +49,7 @@ impl Store {
             begun: Vec::new(alloc),
             heap,
             words,
+            links,
         })
     }
 
@@ -53,11 +60,13 @@ impl Store {
         let globals = copy_globals(alloc, &self.globals)?;
         let begun = copy_numbers(alloc, &self.begun)?;
         let heap = self.heap.copy()?;
+        let links = self.links.copy()?;
         Ok(Store {
             globals,
             begun,
             heap,
             words: self.words,
+            links,
         })
     }
 
@@ -66,9 +75,25 @@ impl Store {
         ensures { MatchOption result (global_of «module» name.now (world_of self.now) ≡ None)
             (λ v. global_of «module» name.now (world_of self.now) ≡ Some (plain v.now)) }
     {
+        self.found(module, name, None)
+    }
+
+    /// The value of a global of the module of a code, if it is set. Its name has this number in the code.
+    pub fn global_at(&self, code: CodeId, n: u32, name: &Text) -> Option<&Value>
+        ensures { MatchOption result (global_of code.module name.now (world_of self.now) ≡ None)
+            (λ v. global_of code.module name.now (world_of self.now) ≡ Some (plain v.now)) }
+    {
+        self.found(code.module, name, self.links.number(code, n))
+    }
+
+    /// The value of a global of a module, if it is set. It is looked for at this number first.
+    fn found(&self, module: u32, name: &Text, likely: Option<usize>) -> Option<&Value>
+        ensures { MatchOption result (global_of «module» name.now (world_of self.now) ≡ None)
+            (λ v. global_of «module» name.now (world_of self.now) ≡ Some (plain v.now)) }
+    {
         match self.globals_of(module) {
             None => None,
-            Some(globals) => globals.get(name),
+            Some(globals) => globals.get(name, likely),
         }
     }
 
@@ -80,27 +105,38 @@ impl Store {
         self.globals.get(module as usize)
     }
 
+    /// Sets a global of the module of a code. Its name has this number in the code.
     pub fn set_global(
         &mut self,
         alloc: Alloc,
-        module: u32,
+        code: CodeId,
+        n: u32,
         name: &Text,
         value: Value,
     ) -> Result<(), NoMemory>
         ensures { OnOk result (world_of self.new
-            ≡ with_global «module» name.now (plain value) (world_of self.old)) }
+            ≡ with_global code.module name.now (plain value) (world_of self.old)) }
     {
-        make_room(alloc, &mut self.globals, module as usize)?;
-        self.globals[module as usize].set(name, value)?;
+        let likely = self.links.number(code, n);
+        make_room(alloc, &mut self.globals, code.module as usize)?;
+        self.globals[code.module as usize].set(name, likely, value)?;
         Ok(())
     }
 
-    pub fn unset_global(&mut self, alloc: Alloc, module: u32, name: &Text) -> Result<(), NoMemory>
+    /// Unsets a global of the module of a code. Its name has this number in the code.
+    pub fn unset_global(
+        &mut self,
+        alloc: Alloc,
+        code: CodeId,
+        n: u32,
+        name: &Text,
+    ) -> Result<(), NoMemory>
         ensures { OnOk result (world_of self.new
-            ≡ without_global «module» name.now (world_of self.old)) }
+            ≡ without_global code.module name.now (world_of self.old)) }
     {
-        make_room(alloc, &mut self.globals, module as usize)?;
-        self.globals[module as usize].unset(name);
+        let likely = self.links.number(code, n);
+        make_room(alloc, &mut self.globals, code.module as usize)?;
+        self.globals[code.module as usize].unset(name, likely);
         Ok(())
     }
 
@@ -165,9 +201,9 @@ impl Store {
         ensures { OnOk result (world_of self.new
             ≡ with_begun «module» (first_names name) (world_of self.old)) }
     {
-        let mut names = Globals::new(alloc);
-        names.set(&Text::from_str(alloc, "__name__")?, Value::Str(name))?;
         make_room(alloc, &mut self.globals, module as usize)?;
+        let mut names = self.globals[module as usize].unset_all(alloc)?;
+        names.set(&Text::from_str(alloc, "__name__")?, None, Value::Str(name))?;
         self.globals[module as usize] = names;
         self.begun.push(module)?;
         Ok(())
@@ -219,13 +255,22 @@ fn forget(numbers: &mut Vec<u32>, number: u32)
     }
 }
 
-/// No globals, of so many modules.
-fn no_globals(alloc: Alloc, count: usize) -> Result<Vec<Globals>, NoMemory>
-    ensures { IfOk result (λ globals. map names_of globals.items ≡ replicate count []) }
+/// The globals of modules, none of which is set, and where the names of their units stand among them.
+fn no_globals(
+    alloc: Alloc,
+    modules: &[Program],
+    links: &mut Links,
+) -> Result<Vec<Globals>, NoMemory>
+    ensures { IfOk result (λ globals.
+        map names_of globals.items ≡ map no_names (map module_of modules.now)) }
 {
-    let mut globals = Vec::with_capacity(alloc, count)?;
-    for _ in 0..count {
-        globals.push(Globals::new(alloc))?;
+    let mut globals = Vec::with_capacity(alloc, modules.len())?;
+    for program in modules {
+        let mut table = Table::new(alloc);
+        links
+            .modules
+            .push(table.add_units(alloc, program.code.units())?)?;
+        globals.push(table.globals(alloc)?)?;
     }
     Ok(globals)
 }

@@ -1,32 +1,21 @@
-use Rattle.std.proofs.Common.{map, ap, sym, ◌∙◌}
+use Rattle.std.proofs.Common.{◌≡◌, None, Some, ap, sym, ◌∙◌, subst, map}
+use Rattle.std.specs.Prelude.{MatchOption, slice_get, Option}
+use Rattle.py_value.specs.Plain.{PlainValue}
 use Rattle.py_value.specs.View.{plain}
-use Rattle.py_builtins.specs.World.{value_of}
-use Rattle.py_store.specs.Globals.{plain_global}
-use Rattle.py_store.proofs.SetNames.{value_none, value_here, value_next}
-use Rattle.py_store.proofs.Walked.{drop_here, all_dropped}
+use Rattle.py_store.specs.Numbered.{HasNoNumber, names_in, plain_global, value_in}
+use Rattle.py_store.proofs.SetAt.{value_nowhere, value_numbered}
 use Rattle.py_store.proofs.globals.Globals.get.Goals as goal
 
-pub returns-then-is_same : goal.returns-then-is_same
-returns-then-is_same c =
-    let items = c.deref-global-items.result.now in
-    let x = c.global-item.result in
-    ap (λ ys. value_of c.args.name.now (map plain_global ys)) (sym c.deref-global-items.ensures.value)
-    ∙ sym c.loop-global.invariant
-    ∙ ap (λ ys. value_of c.args.name.now (map plain_global ys)) (drop_here items c.loop-global.global-index x c.loop-global-test.true c.global-item.is)
-    ∙ value_here c.args.name.now x.name (plain x.value) _ (sym c.is_same.ensures ∙ c.if-is_same.true)
+pub returns-in-None : goal.returns-in-None
+returns-in-None c =
+    let g = c.args.self.now in
+    value_nowhere g.items.items g.order.items g.own_names g.listed c.args.name.now (subst (λ gs. HasNoNumber c.args.name.now (names_in gs)) c.deref.ensures.value c.in-None.ensures)
 
-pub loop-global-preserved : goal.loop-global-preserved
-loop-global-preserved c =
-    let items = c.deref-global-items.result.now in
-    let x = c.global-item.result in
-    sym (ap (λ ys. value_of c.args.name.now (map plain_global ys)) (drop_here items c.loop-global.global-index x c.loop-global-test.true c.global-item.is)
-    ∙ value_next c.args.name.now x.name (plain x.value) _ (sym c.is_same.ensures ∙ c.if-is_same.false))
-    ∙ c.loop-global.invariant
-
-pub returns : goal.returns
-returns c =
-    let items = c.deref-global-items.result.now in
-    ap (λ ys. value_of c.args.name.now (map plain_global ys)) (sym c.deref-global-items.ensures.value)
-    ∙ sym c.loop-global.invariant
-    ∙ ap (λ ys. value_of c.args.name.now (map plain_global ys)) (all_dropped items c.loop-global.global-index c.loop-global-test.false)
-    ∙ value_none c.args.name.now
+pub returns-in-Some : goal.returns-in-Some
+returns-in-Some c =
+    let g = c.args.self.now in
+    let n = c.in-Some.number in
+    let at = subst (λ gs. slice_get (names_in gs) n ≡ Some c.args.name.now) c.deref.ensures.value c.in-Some.ensures in
+    subst (λ (o : Option PlainValue). MatchOption c.value_at.result (o ≡ None) (λ v. o ≡ Some (plain v.now)))
+    (ap (λ gs. value_in (slice_get (map plain_global gs) n)) c.deref-in-Some.ensures.value ∙ sym (value_numbered g.items.items g.order.items g.own_names g.listed n c.args.name.now at))
+    c.value_at.ensures

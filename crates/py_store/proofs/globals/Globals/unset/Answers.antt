@@ -1,29 +1,60 @@
-use Rattle.std.proofs.Common.{◌<◌, ◌≤◌, ◌++◌, length, map, take, drop, sym, ap, ◌∙◌, arith, append-nil}
-use Rattle.py_value.specs.View.{plain}
+use Rattle.std.proofs.Common.{◌≡◌, ◌<◌, None, Some, length, map, refl, ap, sym, ◌∙◌, subst, arith}
+use Rattle.std.specs.Prelude.{slice_get, slice_set}
+use Rattle.std.proofs.lemmas.Option.{slice_get_within}
 use Rattle.py_builtins.specs.World.{without_name}
-use Rattle.py_store.specs.Globals.{plain_global}
-use Rattle.py_store.proofs.SetNames.{without_none, without_here, without_next}
-use Rattle.py_store.proofs.Walked.{walk_on, walk_end, walk_remove}
+use Rattle.py_store.specs.Globals.{names_of}
+use Rattle.py_store.specs.Numbered.{HasNoNumber, AreListed, listed, times, plain_global, names_in}
+use Rattle.py_store.proofs.SetAt.{name_within, unset_nowhere, unset_unset, own_kept, same_name, unset_here, unset_listed}
 use Rattle.py_store.proofs.globals.Globals.unset.Goals as goal
 
-pub loop-place-preserved-then-is_same : goal.loop-place-preserved-then-is_same
-loop-place-preserved-then-is_same c =
-    let lt : c.loop-place.place < length c.loop-place.self.items.items = omega (arith, c.loop-place-test.true, c.len.ensures) in
-    let x = c.index.result.now in
-    ap (λ ys. map plain_global (take c.loop-place.place ys) ++ without_name c.args.name.now (map plain_global (drop c.loop-place.place ys))) c.remove.ensures.items
-    ∙ walk_remove plain_global (without_name c.args.name.now) c.loop-place.self.items.items _ c.loop-place.place x lt c.index.ensures c.loop-place.invariant
-    (without_here c.args.name.now x.name (plain x.value) _ (sym c.is_same.ensures ∙ c.if-is_same.true))
+pub returns-in_default : goal.returns-in_default
+returns-in_default c =
+    let s = c.args.self.now in
+    sym (unset_nowhere s.items.items s.order.items s.own_names s.listed c.args.name.now (subst (λ gs. HasNoNumber c.args.name.now (names_in gs)) c.deref.ensures.value c.in_default.ensures))
 
-pub loop-place-preserved : goal.loop-place-preserved
-loop-place-preserved c =
-    let lt : c.loop-place.place < length c.loop-place.self.items.items = omega (arith, c.loop-place-test.true, c.len.ensures) in
-    let x = c.index.result.now in
-    walk_on plain_global (without_name c.args.name.now) c.loop-place.self.items.items _ c.loop-place.place x lt c.index.ensures c.loop-place.invariant
-    (without_next c.args.name.now x.name (plain x.value) _ (sym c.is_same.ensures ∙ c.if-is_same.false))
+pub returns-in_default-last_place : goal.returns-in_default-last_place
+returns-in_default-last_place c =
+    let s = c.args.self.now in
+    let n = c.in-Some.number in
+    let at = subst (λ gs. slice_get (names_in gs) n ≡ Some c.args.name.now) c.deref.ensures.value c.in-Some.ensures in
+    sym (unset_unset s.items.items s.order.items s.own_names s.listed n c.args.name.now at (ap (times n) (sym c.deref-2.ensures.value) ∙ c.in_default-last_place.ensures))
+
+pub remove-requires : goal.remove-requires
+remove-requires c =
+    let within : c.in-Some-last_place.place < length c.deref-2.result.now = slice_get_within c.deref-2.result.now c.in-Some-last_place.place c.in-Some.number c.in-Some-last_place.ensures in
+    omega (arith, within, c.deref-2.ensures.len)
+
+pub index_mut-requires : goal.index_mut-requires
+index_mut-requires c =
+    let within : c.in-Some.number < length c.deref.result.now = name_within c.deref.result.now c.in-Some.number c.args.name.now c.in-Some.ensures in
+    omega (arith, within, c.deref.ensures.len)
+
+pub invariant_of-self : goal.invariant_of-self
+invariant_of-self c =
+    let s = c.args.self.now in
+    let n = c.in-Some.number in
+    let p = c.in-Some-last_place.place in
+    let g = c.index_mut.result.now in
+    let h = record g { value = None } in
+    let at = subst (λ gs. slice_get (names_in gs) n ≡ Some c.args.name.now) c.deref.ensures.value c.in-Some.ensures in
+    let lt = name_within s.items.items n c.args.name.now at in
+    let there = subst (λ ns. slice_get ns p ≡ Some n) c.deref-2.ensures.value c.in-Some-last_place.ensures in
+    record {
+      own_names = own_kept s.items.items s.order.items s.own_names s.listed n g lt c.index_mut.ensures.value h refl;
+      listed = subst (λ ns. AreListed (map plain_global (slice_set s.items.items n h)) ns) (sym c.remove.ensures.items)
+          (unset_listed s.items.items s.order.items s.own_names s.listed n g lt c.index_mut.ensures.value h refl p there);
+    }
 
 pub returns : goal.returns
 returns c =
-    let le : length c.loop-place.self.items.items ≤ c.loop-place.place = omega (arith, c.loop-place-test.false, c.len.ensures) in
-    sym (append-nil (map plain_global c.loop-place.self.items.items))
-    ∙ ap (λ ys. map plain_global c.loop-place.self.items.items ++ ys) (sym (without_none c.args.name.now))
-    ∙ walk_end plain_global (without_name c.args.name.now) c.loop-place.self.items.items _ c.loop-place.place le c.loop-place.invariant
+    let s = c.args.self.now in
+    let n = c.in-Some.number in
+    let p = c.in-Some-last_place.place in
+    let g = c.index_mut.result.now in
+    let h = record g { value = None } in
+    let at = subst (λ gs. slice_get (names_in gs) n ≡ Some c.args.name.now) c.deref.ensures.value c.in-Some.ensures in
+    let lt = name_within s.items.items n c.args.name.now at in
+    let there = subst (λ ns. slice_get ns p ≡ Some n) c.deref-2.ensures.value c.in-Some-last_place.ensures in
+    ap (listed (map plain_global (slice_set s.items.items n h))) c.remove.ensures.items
+    ∙ unset_here s.items.items s.order.items s.own_names s.listed n g lt c.index_mut.ensures.value h refl p there
+    ∙ ap (λ y. without_name y (names_of s)) (same_name s.items.items s.order.items s.own_names s.listed n g lt c.index_mut.ensures.value c.args.name.now at)

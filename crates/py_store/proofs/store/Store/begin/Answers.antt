@@ -12,5 +12,5 @@ pub returns : goal.returns
 returns c =
     ap (λ gs. let w : World = record (world_of c.args.self.now) { globals = gs; begun = c.push.new.self.items } in w)
     (begun_at c.args.«module» (map names_of c.args.self.now.globals.items) c.make_room.new.globals.items c.set-2.new.self (first_names c.args.name) c.in_ok-make_room.ensures.ok c.in_ok-make_room.ensures.room
-    (c.in_ok-set.ensures ∙ ap (with_name c.in_ok-from_str.field-0 (str_value c.args.name)) c.new-names.ensures ∙ with_none c.in_ok-from_str.field-0 (str_value c.args.name) ∙ ap (λ k. (k, str_value c.args.name) ∷ []) (c.in_ok-from_str.ensures ∙ spelled_name)))
+    (c.in_ok-set.ensures ∙ ap (with_name c.in_ok-from_str.field-0 (str_value c.args.name)) c.in_ok-names.ensures ∙ with_none c.in_ok-from_str.field-0 (str_value c.args.name) ∙ ap (λ k. (k, str_value c.args.name) ∷ []) (c.in_ok-from_str.ensures ∙ spelled_name)))
     ∙ ap (λ b. let w : World = record (world_of c.args.self.now) { globals = with_names_at c.args.«module» (λ n. first_names c.args.name) (map names_of c.args.self.now.globals.items); begun = b } in w) c.in_ok-push.ensures.items

@@ -9,4 +9,4 @@ use Rattle.py_store.proofs.store.Store.set_global.Goals as goal
 pub returns : goal.returns
 returns c =
     ap (λ gs. let w : World = record (world_of c.args.self.now) { globals = gs } in w)
-    (changed_at c.args.«module» (map names_of c.args.self.now.globals.items) c.make_room.new.globals.items c.index_mut.result.now c.set.new.self (with_name c.args.name.now (plain c.args.value)) c.in_ok-make_room.ensures.ok c.in_ok-make_room.ensures.room c.index_mut.ensures.value c.in_ok-set.ensures)
+    (changed_at c.args.code.module (map names_of c.args.self.now.globals.items) c.make_room.new.globals.items c.index_mut.result.now c.set.new.self (with_name c.args.name.now (plain c.args.value)) c.in_ok-make_room.ensures.ok c.in_ok-make_room.ensures.room c.index_mut.ensures.value c.in_ok-set.ensures)

@@ -4,7 +4,7 @@ use Rattle.py_value.specs.View.{plain}
 use Rattle.py_builtins.specs.World.{Names, value_of}
 use Rattle.py_store.proofs.OfModules.{found_names, no_names}
 use Rattle.py_store.proofs.SetNames.{value_none}
-use Rattle.py_store.proofs.store.Store.global.Goals as goal
+use Rattle.py_store.proofs.store.Store.found.Goals as goal
 
 pub returns-in-None : goal.returns-in-None
 returns-in-None c =
