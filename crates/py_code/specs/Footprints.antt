@@ -23,11 +23,13 @@ pub record Footprint : Type 0 where
 
 -- takes and leaves so many, and goes on at the next place
 abbrev pub quiet : ℕ → ℕ → ℕ → Footprint
-quiet p takes leaves = record { needs = takes; takes = takes; exits = exit (suc p) leaves ∷ []; raises = false }
+quiet p takes leaves =
+    record { needs = takes; takes = takes; exits = exit (suc p) leaves ∷ []; raises = false }
 
 -- the same, or raises an exception
 abbrev pub risky : ℕ → ℕ → ℕ → Footprint
-risky p takes leaves = record { needs = takes; takes = takes; exits = exit (suc p) leaves ∷ []; raises = true }
+risky p takes leaves =
+    record { needs = takes; takes = takes; exits = exit (suc p) leaves ∷ []; raises = true }
 
 -- takes so many, and goes on at one of these places
 abbrev pub forked : ℕ → List Exit → Footprint

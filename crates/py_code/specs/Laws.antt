@@ -16,11 +16,17 @@ IsOver stuck = ⊥
 
 -- No program and no call misses an operand, a slot, a unit or a place to go to, whatever keeps its local names.
 pub record NeverMisses (L : Type 0) : Type 0 where
-  pub run : (locals : Locals L) (ms : List Module) → 0 < length ms → AreCodes ms → (w : World) (input : List ℕ) (budget : ℕ) → IsOver (end_of_run locals ms w input budget).how
-  pub call : (locals : Locals L) (ms : List Module) → 0 < length ms → AreCodes ms → (w : World) (input : List ℕ) (r : Request) (budget : ℕ) → IsOver (end_of_call locals ms w input r budget).how
+  pub run : (locals : Locals L) (ms : List Module) → 0 < length ms → AreCodes ms
+      → (w : World) (input : List ℕ) (budget : ℕ) → IsOver (end_of_run locals ms w input budget).how
+  pub call : (locals : Locals L) (ms : List Module) → 0 < length ms → AreCodes ms
+      → (w : World) (input : List ℕ) (r : Request) (budget : ℕ)
+      → IsOver (end_of_call locals ms w input r budget).how
 
 -- A machine that keeps local names by slots ends as one that keeps them by names.
 pub record OneMachine : Type 0 where
-  pub run : (ms : List Module) → AreNamed ms → (w : World) (input : List ℕ) (budget : ℕ) → end_of_run (by_slots ms) ms w input budget ≡ end_of_run (by_names ms) ms w input budget
-  pub call : (ms : List Module) → AreNamed ms → (w : World) (input : List ℕ) (r : Request) (budget : ℕ)
-      → end_of_call (by_slots ms) ms w input r budget ≡ end_of_call (by_names ms) ms w input r budget
+  pub run : (ms : List Module) → AreNamed ms → (w : World) (input : List ℕ) (budget : ℕ)
+      → end_of_run (by_slots ms) ms w input budget ≡ end_of_run (by_names ms) ms w input budget
+  pub call : (ms : List Module) → AreNamed ms
+      → (w : World) (input : List ℕ) (r : Request) (budget : ℕ)
+      → end_of_call (by_slots ms) ms w input r budget
+          ≡ end_of_call (by_names ms) ms w input r budget

@@ -58,7 +58,8 @@ name_at (Some m) = m.name
 
 -- the body of a module begins it, and a function none
 abbrev pub begun_by : List Module → CodeId → ℕ → World → World
-begun_by ms code zero w = with_begun code.module (first_names (name_at (slice_get ms code.module))) w
+begun_by ms code zero w =
+    with_begun code.module (first_names (name_at (slice_get ms code.module))) w
 begun_by ms code (suc k) w = w
 
 -- a module whose body raised counts as not begun
@@ -106,24 +107,29 @@ abbrev pub pushes : {L : Type 0} → PlainValue → List Operand → Configurati
 pushes v xs c = falls (of_value v ∷ xs) c
 
 -- takes so many operands away
-abbrev pub dropping : {L : Type 0} → ℕ → List Operand → Configuration L → (List Operand → Next L) → Next L
+abbrev pub dropping : {L : Type 0} → ℕ → List Operand → Configuration L
+    → (List Operand → Next L) → Next L
 dropping n xs c k = if nat_le n (length xs) then k (drop n xs) else halted stuck c
 
 -- ---- what an instruction finds
 
-abbrev pub one : {L : Type 0} → List Operand → Configuration L → (Operand → List Operand → Next L) → Next L
+abbrev pub one : {L : Type 0} → List Operand → Configuration L
+    → (Operand → List Operand → Next L) → Next L
 one [] c k = halted stuck c
 one (x ∷ xs) c k = k x xs
 
 -- the lower operand first
-abbrev pub two : {L : Type 0} → List Operand → Configuration L → (Operand → Operand → List Operand → Next L) → Next L
+abbrev pub two : {L : Type 0} → List Operand → Configuration L
+    → (Operand → Operand → List Operand → Next L) → Next L
 two xs c k = one xs c (λ y ys. one ys c (λ x zs. k x y zs))
 
-abbrev pub three : {L : Type 0} → List Operand → Configuration L → (Operand → Operand → Operand → List Operand → Next L) → Next L
+abbrev pub three : {L : Type 0} → List Operand → Configuration L
+    → (Operand → Operand → Operand → List Operand → Next L) → Next L
 three xs c k = one xs c (λ z ys. two ys c (λ x y zs. k x y z zs))
 
 -- so many values, the lowest first
-abbrev pub many : {L : Type 0} → ℕ → List Operand → Configuration L → (List PlainValue → List Operand → Next L) → Next L
+abbrev pub many : {L : Type 0} → ℕ → List Operand → Configuration L
+    → (List PlainValue → List Operand → Next L) → Next L
 many n xs c k = dropping n xs c (λ ys. k (map value_in (reverse (take n xs))) ys)
 
 -- what stands at a number of a list
@@ -158,7 +164,8 @@ with_arguments f (Some vs) e = in_frame (code_of f) vs
 -- a function that no module has can't be called
 abbrev pub to_function : Option Code → FuncId → Option ℕ → List PlainValue → Effects → Reach
 to_function None f a vs e = raises_at_once (raised_by NotCallable) e
-to_function (Some u) f a vs e = with_arguments f (arguments u.params (defaults_at e.world.heap a) vs) e
+to_function (Some u) f a vs e =
+    with_arguments f (arguments u.params (defaults_at e.world.heap a) vs) e
 
 abbrev pub by_answer : Answer → Effects → Reach
 by_answer (Ok r) e = at_once (Ok r.0) (in_world (with_heap r.1) e)
@@ -193,7 +200,9 @@ module_of x None = Err (no_module x)
 module_of x (Some m) = Ok (module_value (Loaded m))
 
 abbrev pub imported : List Module → List ℕ → Result PlainValue PlainRaised
-imported ms x = if is_same_text x (codes "sys") then Ok (module_value Sys) else module_of x (imported_number ms x)
+imported ms x =
+    if is_same_text x (codes "sys") then Ok (module_value Sys) else module_of x
+    (imported_number ms x)
 
 module _ {L : Type 0} (locals : Locals L) (ms : List Module) where
   -- ---- exceptions
@@ -201,25 +210,31 @@ module _ {L : Type 0} (locals : Locals L) (ms : List Module) where
   -- an exception in a frame, at the handler of its place, or else what follows outside
   abbrev pub land : Option Handler → Next L → PlainRaised → Bool → Configuration L → Next L
   land None out e t c = out
-  land (Some h) out e t c = jumps h.target (of_way (by_raise e t) ∷ drop (length c.top.operands - h.depth) c.top.operands) c
+  land (Some h) out e t c =
+      jumps h.target
+      (of_way (by_raise e t) ∷ drop (length c.top.operands - h.depth) c.top.operands) c
 
   -- an exception leaves the frame of this code, and is thrown in the one that waits for it
   abbrev pub leave : PlainRaised → CodeId → List (Frame L) → ℕ → Effects → Next L
   leave e code [] n w = Ends (record { how = failed e; steps = n; effects = escaped code w })
   leave e code (f ∷ fs) n w =
-      land (handler_at ms f.code f.place) (leave e f.code fs n (told (Throw e.kind) (escaped code w))) e true
+      land (handler_at ms f.code f.place)
+          (leave e f.code fs n (told (Throw e.kind) (escaped code w))) e true
       (record { top = f; callers = fs; steps = n; effects = told (Throw e.kind) (escaped code w) })
 
   -- an exception is on its way, with whether it was thrown in the frame
   abbrev pub escapes : PlainRaised → Bool → Configuration L → Next L
-  escapes e t c = land (handler_at ms c.top.code c.top.place) (leave e c.top.code c.callers c.steps c.effects) e t c
+  escapes e t c =
+      land (handler_at ms c.top.code c.top.place)
+      (leave e c.top.code c.callers c.steps c.effects) e t c
 
   abbrev pub throw : PlainRaised → Configuration L → Next L
   throw e c = escapes e true (with_effects (told (Throw e.kind) c.effects) c)
 
   -- ---- answers
 
-  abbrev pub answers : {A : Type 0} → Result A PlainRaised → List Operand → Configuration L → (A → Next L) → Next L
+  abbrev pub answers : {A : Type 0} → Result A PlainRaised → List Operand → Configuration L
+      → (A → Next L) → Next L
   answers (Ok a) xs c k = k a
   answers (Err e) xs c k = throw e (with_operands xs c)
 
@@ -236,7 +251,8 @@ module _ {L : Type 0} (locals : Locals L) (ms : List Module) where
   abbrev pub makes : Answer → List Operand → Configuration L → Next L
   makes r xs c = answers r xs c (λ p. pushes p.0 xs (on_heap p.1 c))
 
-  abbrev pub stores : Result (Unit {0} × PlainHeap) PlainRaised → List Operand → List Operand → Configuration L → Next L
+  abbrev pub stores : Result (Unit {0} × PlainHeap) PlainRaised → List Operand → List Operand
+      → Configuration L → Next L
   stores r xs ys c = answers r xs c (λ p. falls ys (on_heap p.1 c))
 
   -- by the truth of a value
@@ -256,7 +272,10 @@ module _ {L : Type 0} (locals : Locals L) (ms : List Module) where
   })
 
   abbrev pub new_frame : CodeId → List PlainValue → ℕ → Frame L
-  new_frame code vs depth = record { code = code; place = 0; operands = []; locals = locals.fresh code vs; line = 0; depth = depth }
+  new_frame code vs depth =
+      record
+      { code = code; place = 0; operands = []; locals = locals.fresh code vs; line = 0; depth =
+      depth }
 
   abbrev pub begins : CodeId → List PlainValue → Frame L → Configuration L → ℕ → Next L
   begins code vs caller c n = Ticks (record {
@@ -269,7 +288,9 @@ module _ {L : Type 0} (locals : Locals L) (ms : List Module) where
   -- a frame begins, where there may be one more, for a caller with these operands; that takes a step
   abbrev pub enter : CodeId → List PlainValue → List Operand → Configuration L → Next L
   enter code vs xs c =
-      if nat_lt c.top.depth most_frames then stepping c.steps c (λ n. begins code vs (record c.top { operands = xs }) c n) else throw (raised_by TooDeep) (with_operands xs c)
+      if nat_lt c.top.depth most_frames then stepping c.steps c
+          (λ n. begins code vs (record c.top { operands = xs }) c n) else throw (raised_by TooDeep)
+          (with_operands xs c)
 
   abbrev pub calls : Reach → List Operand → Configuration L → Next L
   calls (at_once r e) xs c = pushes_answer r xs (with_effects e c)
@@ -279,10 +300,13 @@ module _ {L : Type 0} (locals : Locals L) (ms : List Module) where
   abbrev pub runs_module : List ℕ → Option ℕ → Configuration L → Next L
   runs_module x None c = throw (no_module x) c
   runs_module x (Some m) c =
-      if is_begun m c.effects.world then pushes none_value c.top.operands c else enter (record { «module» = m; unit = 0 }) [] c.top.operands c
+      if is_begun m c.effects.world then pushes none_value c.top.operands c else enter
+          (record { «module» = m; unit = 0 }) [] c.top.operands c
 
   abbrev pub imports : List ℕ → Configuration L → Next L
-  imports x c = if is_same_text x (codes "sys") then pushes none_value c.top.operands c else runs_module x (imported_number ms x) c
+  imports x c =
+      if is_same_text x (codes "sys") then pushes none_value c.top.operands c else runs_module x
+      (imported_number ms x) c
 
   -- ---- forms
 
@@ -298,12 +322,14 @@ module _ {L : Type 0} (locals : Locals L) (ms : List Module) where
   looks_in (Some vs) n to xs c = spreads vs xs c
 
   -- the turn with an item, or the end
-  abbrev pub turns : Option PlainValue → PlainValue → ℕ → ℕ → ℕ → List Operand → Configuration L → Next L
+  abbrev pub turns : Option PlainValue → PlainValue → ℕ → ℕ → ℕ → List Operand → Configuration L
+      → Next L
   turns None v n i to xs c = jumps to xs c
   turns (Some x) v n i to xs c = falls (of_value x ∷ of_walk v n (suc i) ∷ xs) c
 
   abbrev pub walks : PlainValue × ℕ × ℕ → ℕ → List Operand → Configuration L → Next L
-  walks w to xs c = answers (item_of w.0 w.1 w.2 (heap_of c)) xs c (λ x. turns x w.0 w.1 w.2 to xs c)
+  walks w to xs c =
+      answers (item_of w.0 w.1 w.2 (heap_of c)) xs c (λ x. turns x w.0 w.1 w.2 to xs c)
 
   -- an exception is raised by itself, and a kind without an argument
   abbrev pub raises : PlainValue → Configuration L → Next L
@@ -322,7 +348,12 @@ module _ {L : Type 0} (locals : Locals L) (ms : List Module) where
 
   -- a line is marked, and a step taken
   abbrev pub marks : ℕ → Effects → Configuration L → Next L
-  marks l e c = stepping c.steps c (λ n. Ticks (record { top = record c.top { place = suc c.top.place; line = l }; callers = c.callers; steps = n; effects = e }))
+  marks l e c =
+      stepping c.steps c
+      (λ n. Ticks
+      (record
+      { top = record c.top
+      { place = suc c.top.place; line = l }; callers = c.callers; steps = n; effects = e }))
 
   -- so many operands are taken away, and the way out is put on top
   abbrev pub puts_way : ℕ → Way → ℕ → List Operand → Configuration L → Next L
@@ -334,7 +365,8 @@ module _ {L : Type 0} (locals : Locals L) (ms : List Module) where
   resumes settled by_break xs c = jumps (1 + c.top.place) xs c
   resumes settled by_continue xs c = jumps (2 + c.top.place) xs c
   resumes settled (by_return v) xs c = jumps (3 + c.top.place) (of_value v ∷ xs) c
-  resumes settled (by_raise e t) xs c = if settled && t then throw e (with_operands xs c) else escapes e t (with_operands xs c)
+  resumes settled (by_raise e t) xs c =
+      if settled && t then throw e (with_operands xs c) else escapes e t (with_operands xs c)
 
   -- ---- instructions, of a unit, on these operands
 
@@ -344,56 +376,115 @@ module _ {L : Type 0} (locals : Locals L) (ms : List Module) where
   act u (Copy n) xs c = numbered xs n c (λ x. falls (x ∷ xs) c)
   act u (Sink n) xs c = one xs c (λ x ys. dropping n ys c (λ zs. falls (take n ys ++ x ∷ zs) c))
   act u (Roll n) xs c = numbered xs n c (λ x. falls (x ∷ remove xs n) c)
-  act u (LoadLocal n) xs c = numbered u.locals n c (λ x. pushes_answer (or_raise (local_unset x) (locals.look c.top.code c.top.locals n)) xs c)
-  act u (StoreLocal n) xs c = numbered u.locals n c (λ x. one xs c (λ y ys. falls ys (with_locals (locals.set c.top.code c.top.locals n (value_in y)) c)))
-  act u (UnsetLocal n) xs c = numbered u.locals n c (λ x. falls xs (with_locals (locals.unset c.top.code c.top.locals n) c))
-  act u (LoadGlobal n) xs c = numbered u.names n c (λ x. pushes_answer (or_builtin x (global_of c.top.code.module x c.effects.world)) xs c)
-  act u (StoreGlobal n) xs c = numbered u.names n c (λ x. one xs c (λ y ys. falls ys (on_world (with_global c.top.code.module x (value_in y)) c)))
-  act u (UnsetGlobal n) xs c = numbered u.names n c (λ x. falls xs (on_world (without_global c.top.code.module x) c))
+  act u (LoadLocal n) xs c =
+      numbered u.locals n c
+      (λ x. pushes_answer (or_raise (local_unset x) (locals.look c.top.code c.top.locals n)) xs c)
+  act u (StoreLocal n) xs c =
+      numbered u.locals n c
+      (λ x. one xs c
+      (λ y ys. falls ys (with_locals (locals.set c.top.code c.top.locals n (value_in y)) c)))
+  act u (UnsetLocal n) xs c =
+      numbered u.locals n c (λ x. falls xs (with_locals (locals.unset c.top.code c.top.locals n) c))
+  act u (LoadGlobal n) xs c =
+      numbered u.names n c
+      (λ x. pushes_answer (or_builtin x (global_of c.top.code.module x c.effects.world)) xs c)
+  act u (StoreGlobal n) xs c =
+      numbered u.names n c
+      (λ x. one xs c (λ y ys. falls ys (on_world (with_global c.top.code.module x (value_in y)) c)))
+  act u (UnsetGlobal n) xs c =
+      numbered u.names n c (λ x. falls xs (on_world (without_global c.top.code.module x) c))
   act u Text xs c = one xs c (λ x ys. pushes_text (str_text (value_in x) (heap_of c)) ys c)
   act u Extend xs c = two xs c (λ x y ys. pushes_text (extended (text_in x) (text_in y)) ys c)
   act u (Tuple n) xs c = many n xs c (λ vs ys. pushes_answer (new_tuple vs) ys c)
   act u (MakeList n) xs c = many n xs c (λ vs ys. makes (new_list vs (heap_of c)) ys c)
   act u Dict xs c = makes (new_dict (heap_of c)) xs c
-  act u AddPair xs c = three xs c (λ d k v ys. stores (stored (value_in d) (value_in k) (value_in v) (heap_of c)) ys (d ∷ ys) c)
-  act u Not xs c = one xs c (λ x ys. chooses (value_in x) c (pushes (bool_value false) ys c) (pushes (bool_value true) ys c))
-  act u (Binary op) xs c = two xs c (λ x y ys. makes (binary_of op (value_in x) (value_in y) (heap_of c)) ys c)
-  act u (InPlace op) xs c = two xs c (λ x y ys. makes (in_place_of op (value_in x) (value_in y) (heap_of c)) ys c)
-  act u (Compare q) xs c = two xs c (λ x y ys. pushes_truth (compared (asked q) (value_in x) (value_in y) (heap_of c)) ys c)
-  act u Index xs c = two xs c (λ x i ys. pushes_answer (index_of (value_in x) (value_in i) (heap_of c)) ys c)
-  act u (Slice Neither) xs c = one xs c (λ x ys. makes (sliced (value_in x) None None (heap_of c)) ys c)
-  act u (Slice From) xs c = two xs c (λ x a ys. makes (sliced (value_in x) (Some (value_in a)) None (heap_of c)) ys c)
-  act u (Slice To) xs c = two xs c (λ x b ys. makes (sliced (value_in x) None (Some (value_in b)) (heap_of c)) ys c)
-  act u (Slice Both) xs c = three xs c (λ x a b ys. makes (sliced (value_in x) (Some (value_in a)) (Some (value_in b)) (heap_of c)) ys c)
-  act u (Attribute n) xs c = numbered u.names n c (λ name. one xs c (λ x ys. pushes_answer (attribute (value_in x) name c.effects.world) ys c))
-  act u StoreIndex xs c = three xs c (λ v x i ys. stores (stored (value_in x) (value_in i) (value_in v) (heap_of c)) ys ys c)
-  act u (Unpack n) xs c = one xs c (λ x ys. answers (unpacked n (value_in x) (heap_of c)) ys c (λ vs. spreads vs ys c))
+  act u AddPair xs c =
+      three xs c
+      (λ d k v ys. stores (stored (value_in d) (value_in k) (value_in v) (heap_of c)) ys (d ∷ ys) c)
+  act u Not xs c =
+      one xs c
+      (λ x ys. chooses (value_in x) c (pushes (bool_value false) ys c)
+      (pushes (bool_value true) ys c))
+  act u (Binary op) xs c =
+      two xs c (λ x y ys. makes (binary_of op (value_in x) (value_in y) (heap_of c)) ys c)
+  act u (InPlace op) xs c =
+      two xs c (λ x y ys. makes (in_place_of op (value_in x) (value_in y) (heap_of c)) ys c)
+  act u (Compare q) xs c =
+      two xs c
+      (λ x y ys. pushes_truth (compared (asked q) (value_in x) (value_in y) (heap_of c)) ys c)
+  act u Index xs c =
+      two xs c (λ x i ys. pushes_answer (index_of (value_in x) (value_in i) (heap_of c)) ys c)
+  act u (Slice Neither) xs c =
+      one xs c (λ x ys. makes (sliced (value_in x) None None (heap_of c)) ys c)
+  act u (Slice From) xs c =
+      two xs c (λ x a ys. makes (sliced (value_in x) (Some (value_in a)) None (heap_of c)) ys c)
+  act u (Slice To) xs c =
+      two xs c (λ x b ys. makes (sliced (value_in x) None (Some (value_in b)) (heap_of c)) ys c)
+  act u (Slice Both) xs c =
+      three xs c
+      (λ x a b ys. makes
+      (sliced (value_in x) (Some (value_in a)) (Some (value_in b)) (heap_of c)) ys c)
+  act u (Attribute n) xs c =
+      numbered u.names n c
+      (λ name. one xs c (λ x ys. pushes_answer (attribute (value_in x) name c.effects.world) ys c))
+  act u StoreIndex xs c =
+      three xs c
+      (λ v x i ys. stores (stored (value_in x) (value_in i) (value_in v) (heap_of c)) ys ys c)
+  act u (Unpack n) xs c =
+      one xs c (λ x ys. answers (unpacked n (value_in x) (heap_of c)) ys c (λ vs. spreads vs ys c))
   act u (Goto to) xs c = jumps to xs c
   act u (IfFalse to) xs c = one xs c (λ x ys. chooses (value_in x) c (falls ys c) (jumps to ys c))
   act u (IfTrue to) xs c = one xs c (λ x ys. chooses (value_in x) c (jumps to ys c) (falls ys c))
   act u (And to) xs c = one xs c (λ x ys. chooses (value_in x) c (falls ys c) (jumps to xs c))
   act u (Or to) xs c = one xs c (λ x ys. chooses (value_in x) c (jumps to xs c) (falls ys c))
-  act u (Link q to) xs c = two xs c (λ x y ys. answers (compared (asked q) (value_in x) (value_in y) (heap_of c)) ys c (λ b. links b y to ys c))
-  act u (Unless n to) xs c = one xs c (λ x ys. chooses (value_in x) c (falls ys c) (dropping n ys c (λ zs. jumps to zs c)))
-  act u (Sequence k n to) xs c = one xs c (λ x ys. looks_in (of_length k (sequence_items (value_in x) (heap_of c))) n to ys c)
+  act u (Link q to) xs c =
+      two xs c
+      (λ x y ys. answers (compared (asked q) (value_in x) (value_in y) (heap_of c)) ys c
+      (λ b. links b y to ys c))
+  act u (Unless n to) xs c =
+      one xs c (λ x ys. chooses (value_in x) c (falls ys c) (dropping n ys c (λ zs. jumps to zs c)))
+  act u (Sequence k n to) xs c =
+      one xs c (λ x ys. looks_in (of_length k (sequence_items (value_in x) (heap_of c))) n to ys c)
   act u (Mark n) xs c = numbered u.lines n c (λ l. marks l (told_line c.top.line l c.effects) c)
   act u (Again n) xs c = numbered u.lines n c (λ l. marks l (told (Line l) c.effects) c)
-  act u Walk xs c = one xs c (λ x ys. answers (walk_length (value_in x) (heap_of c)) ys c (λ n. falls (of_walk (value_in x) n 0 ∷ ys) c))
+  act u Walk xs c =
+      one xs c
+      (λ x ys. answers (walk_length (value_in x) (heap_of c)) ys c
+      (λ n. falls (of_walk (value_in x) n 0 ∷ ys) c))
   act u (NextItem to) xs c = one xs c (λ x ys. walks (walk_in x) to ys c)
-  act u (Method n) xs c = numbered u.names n c (λ name. one xs c (λ x ys. answers (callee_of (value_in x) name c.effects.world) ys c (λ f. falls (operand_of f ∷ ys) c)))
-  act u (Call n) xs c = many n xs c (λ vs ys. one ys c (λ f zs. calls (reach_callee ms (callee_in f) vs c.effects) zs c))
+  act u (Method n) xs c =
+      numbered u.names n c
+      (λ name. one xs c
+      (λ x ys. answers (callee_of (value_in x) name c.effects.world) ys c
+      (λ f. falls (operand_of f ∷ ys) c)))
+  act u (Call n) xs c =
+      many n xs c
+      (λ vs ys. one ys c (λ f zs. calls (reach_callee ms (callee_in f) vs c.effects) zs c))
   act u Return xs c = one xs c (λ x ys. give (value_in x) c.callers c.steps c.effects)
-  act u (Function k) xs c = pushes (func_value (record { «module» = c.top.code.module; unit = k }) None) xs c
-  act u (FunctionWith k) xs c = one xs c (λ x ys. pushes (func_value (record { «module» = c.top.code.module; unit = k }) (address_of (value_in x))) ys c)
+  act u (Function k) xs c =
+      pushes (func_value (record { «module» = c.top.code.module; unit = k }) None) xs c
+  act u (FunctionWith k) xs c =
+      one xs c
+      (λ x ys. pushes
+      (func_value (record { «module» = c.top.code.module; unit = k })
+      (address_of (value_in x))) ys c)
   act u (Import n) xs c = numbered u.names n c (λ name. imports name c)
   act u (LoadModule n) xs c = numbered u.names n c (λ name. pushes_answer (imported ms name) xs c)
-  act u (Take m n) xs c = numbered u.names m c (λ from. numbered u.names n c (λ name. one xs c (λ x ys. pushes_answer (taken from (value_in x) name c.effects.world) xs c)))
+  act u (Take m n) xs c =
+      numbered u.names m c
+      (λ from. numbered u.names n c
+      (λ name. one xs c
+      (λ x ys. pushes_answer (taken from (value_in x) name c.effects.world) xs c)))
   act u Raise xs c = one xs c (λ x ys. raises (value_in x) (with_operands ys c))
   act u (Reraise n) xs c = numbered xs n c (λ x. escapes (exception_in x) false c)
   act u Assertion xs c = throw (record { kind = AssertionError; arg = no_argument }) c
-  act u AssertionWith xs c = one xs c (λ x ys. answers (assertion_error (value_in x)) ys c (λ e. throw e (with_operands ys c)))
-  act u Catches xs c = two xs c (λ w x ys. pushes_truth (catches (value_in x) (exception_in w).kind) (w ∷ ys) c)
-  act u Caught xs c = one xs c (λ w ys. pushes (exc_value (exception_in w).kind (exception_in w).arg) xs c)
+  act u AssertionWith xs c =
+      one xs c
+      (λ x ys. answers (assertion_error (value_in x)) ys c (λ e. throw e (with_operands ys c)))
+  act u Catches xs c =
+      two xs c (λ w x ys. pushes_truth (catches (value_in x) (exception_in w).kind) (w ∷ ys) c)
+  act u Caught xs c =
+      one xs c (λ w ys. pushes (exc_value (exception_in w).kind (exception_in w).arg) xs c)
   act u Uncaught xs c = one xs c (λ w ys. throw (exception_in w) (with_operands ys c))
   act u (Leave n to) xs c = dropping n xs c (λ ys. jumps to ys c)
   act u Ending xs c = falls (of_way on ∷ xs) c
@@ -442,7 +533,9 @@ module _ {L : Type 0} (locals : Locals L) (ms : List Module) where
   -- a frame that nothing waits for
   abbrev pub outermost : CodeId → List PlainValue → ℕ → Effects → Next L
   outermost code vs zero e = Ends (record { how = spent; steps = 0; effects = e })
-  outermost code vs (suc n) e = Ticks (record { top = new_frame code vs 1; callers = []; steps = n; effects = entered ms code e })
+  outermost code vs (suc n) e =
+      Ticks
+      (record { top = new_frame code vs 1; callers = []; steps = n; effects = entered ms code e })
 
   abbrev pub ended_by : Result PlainValue PlainRaised → Ended
   ended_by (Ok v) = gave v

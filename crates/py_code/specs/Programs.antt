@@ -48,7 +48,10 @@ no_names m = []
 
 -- The words stand in a list. No module is begun, and no name is set.
 abbrev pub first_world : List Module → List (List ℕ) → World
-first_world ms words = record { globals = map no_names ms; begun = []; heap = list_object (map str_value words) ∷ []; words = 0 }
+first_world ms words =
+    record
+    { globals = map no_names ms; begun = []; heap = list_object
+    (map str_value words) ∷ []; words = 0 }
 
 -- nothing is written, and nothing happened
 abbrev pub at_rest : World → List ℕ → Effects
@@ -88,14 +91,16 @@ reply_by budget r = record {
   world = r.effects.world;
 }
 
-abbrev pub reach_global : List Module → Result PlainValue PlainRaised → List PlainValue → Effects → Reach
+abbrev pub reach_global : List Module → Result PlainValue PlainRaised → List PlainValue
+    → Effects → Reach
 reach_global ms (Ok f) vs e = reach ms f vs e
 reach_global ms (Err raised) vs e = raises_at_once raised e
 
 module _ {L : Type 0} (locals : Locals L) (ms : List Module) where
   -- what the script does on a world with this input, within a budget
   unfoldable pub end_of_run : World → (input : List ℕ) → (budget : ℕ) → End
-  end_of_run w input budget = follows locals ms (outermost locals ms script [] budget (at_rest w input))
+  end_of_run w input budget =
+      follows locals ms (outermost locals ms script [] budget (at_rest w input))
 
   unfoldable pub run : World → (input : List ℕ) → (budget : ℕ) → Run
   run w input budget = run_by budget (end_of_run w input budget)
@@ -104,7 +109,11 @@ module _ {L : Type 0} (locals : Locals L) (ms : List Module) where
   unfoldable pub end_of_call : World → (input : List ℕ) → Request → (budget : ℕ) → End
   end_of_call w input r budget =
       let first = at_rest w input in
-      follows locals ms (outer_call locals ms (reach_global ms (or_raise (name_unknown r.name) (global_of r.number r.name w)) r.values first) budget first)
+      follows locals ms
+          (outer_call locals ms
+          (reach_global ms
+          (or_raise (name_unknown r.name)
+          (global_of r.number r.name w)) r.values first) budget first)
 
   unfoldable pub called : World → (input : List ℕ) → Request → (budget : ℕ) → Reply
   called w input r budget = reply_by budget (end_of_call w input r budget)

@@ -40,7 +40,8 @@ held (Some v) = v
 -- the values of the parameters, and unset slots after them
 abbrev pub by_slots : List Module → Locals (List (Option PlainValue))
 by_slots ms = record {
-  fresh = λ code vs. map Some vs ++ replicate (length (locals_in (unit_at ms code)) - length vs) None;
+  fresh =
+      λ code vs. map Some vs ++ replicate (length (locals_in (unit_at ms code)) - length vs) None;
   look = λ code slots n. held (slice_get slots n);
   set = λ code slots n v. slice_set slots n (Some v);
   unset = λ code slots n. slice_set slots n None;
@@ -58,4 +59,5 @@ IsDistinct (x ∷ xs) = IsApart x xs × IsDistinct xs
 -- the slots of each unit have names of their own, the parameters first
 pub record AreNamed (ms : List Module) : Type 0 where
   pub distinct : (code : CodeId) (u : Code) → unit_at ms code ≡ Some u → IsDistinct u.locals
-  pub first : (code : CodeId) (u : Code) → unit_at ms code ≡ Some u → (rest : List (List ℕ)) × (u.locals ≡ u.params ++ rest)
+  pub first : (code : CodeId) (u : Code) → unit_at ms code ≡ Some u → (rest : List (List ℕ))
+      × (u.locals ≡ u.params ++ rest)

@@ -88,7 +88,8 @@ pub record Leads (u : Code) (depths : List ℕ) (p to depth : ℕ) : Type 0 wher
 
 abbrev pub LeadAll : Code → List ℕ → ℕ → ℕ → List Exit → Type 0
 LeadAll u depths p rest [] = Unit {0}
-LeadAll u depths p rest (e ∷ es) = Leads u depths p e.to (e.leaves + rest) × LeadAll u depths p rest es
+LeadAll u depths p rest (e ∷ es) =
+    Leads u depths p e.to (e.leaves + rest) × LeadAll u depths p rest es
 
 -- From a place to its handler, where at least so many operands are left: these are cut to its depth, and the exception is put on top.
 pub record Lands (depths : List ℕ) (p rest : ℕ) (h : Handler) : Type 0 where
@@ -126,18 +127,21 @@ AreNested h k = (h.to ≤ k.from) ⊎ ((k.to ≤ h.from) ⊎ (IsWithin h k ⊎ I
 
 pub record IsTable (u : Code) (depths : List ℕ) : Type 0 where
   pub each : (n : ℕ) (h : Handler) → slice_get u.handlers n ≡ Some h → IsHandler u depths h
-  pub nested : (m n : ℕ) (h k : Handler) → slice_get u.handlers m ≡ Some h → slice_get u.handlers n ≡ Some k → AreNested h k
+  pub nested : (m n : ℕ) (h k : Handler) → slice_get u.handlers m ≡ Some h
+      → slice_get u.handlers n ≡ Some k → AreNested h k
 
 -- A unit in a module of so many units. Each place has one number of operands, which stand there whenever the machine comes to it.
 pub record IsValid (u : Code) (units : ℕ) (depths : List ℕ) : Type 0 where
   pub table : IsTable u depths
   pub begins : slice_get depths 0 ≡ Some 0
   pub long : length depths ≡ length u.instrs
-  pub fits : (p depth : ℕ) (i : Instr) → slice_get depths p ≡ Some depth → slice_get u.instrs p ≡ Some i → FitsAt u units depths p depth i
+  pub fits : (p depth : ℕ) (i : Instr) → slice_get depths p ≡ Some depth → slice_get u.instrs p
+      ≡ Some i → FitsAt u units depths p depth i
 
 -- The units of all modules, each with its numbers of operands. There is a script, and each module has a body.
 pub record AreValid (ms : List Module) (depths : CodeId → List ℕ) : Type 0 where
-  pub units : (code : CodeId) (u : Code) → unit_at ms code ≡ Some u → IsValid u (length (units_of (slice_get ms code.module))) (depths code)
+  pub units : (code : CodeId) (u : Code) → unit_at ms code ≡ Some u
+      → IsValid u (length (units_of (slice_get ms code.module))) (depths code)
   pub bodies : (n : ℕ) (m : Module) → slice_get ms n ≡ Some m → 0 < length m.units
   pub script : 0 < length ms
 

@@ -57,7 +57,8 @@ AreHanded ms e n (x ∷ xs) = IsDefaults e n x × OperandsSuit ms e xs
 -- is named by nothing else.
 abbrev pub Ready : List Module → Environment → CodeId → Option ℕ → List Operand → Type 0
 Ready ms e code None xs = OperandsSuit ms e xs
-Ready ms e code (Some k) xs = AreHanded ms e (defaults_in (unit_at ms (record { «module» = code.module; unit = k }))) xs
+Ready ms e code (Some k) xs =
+    AreHanded ms e (defaults_in (unit_at ms (record { «module» = code.module; unit = k }))) xs
 
 -- a frame that waits for a value, or for an exception
 pub record Waits (ms : List Module) (e : Environment) (f : Frame Slots) : Type 0 where

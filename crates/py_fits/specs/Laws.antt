@@ -26,15 +26,20 @@ FirstFits = (ms : List Module) (words : List (List ℕ)) → Fits ms (first_worl
 -- A run leaves a world that fits, where it began with one: with any input, and within any budget.
 abbrev pub RunsKeep : Type 0
 RunsKeep =
-    (ms : List Module) → AreCodes ms → AreMakers ms → (w : World) → Fits ms w [] → (input : List ℕ) (budget : ℕ) → Fits ms (run (by_slots ms) ms w input budget).world []
+    (ms : List Module) → AreCodes ms → AreMakers ms → (w : World) → Fits ms w []
+        → (input : List ℕ) (budget : ℕ) → Fits ms (run (by_slots ms) ms w input budget).world []
 
 -- So does a call, where its values fit with the world. What it gives fits with the world that it
 -- leaves.
 abbrev pub CallsKeep : Type 0
 CallsKeep =
-    (ms : List Module) → AreCodes ms → AreMakers ms → (w : World) (r : Request) → Fits ms w r.values → (input : List ℕ) (budget : ℕ)
-    → Fits ms (called (by_slots ms) ms w input r budget).world (values_given (called (by_slots ms) ms w input r budget).returned)
+    (ms : List Module) → AreCodes ms → AreMakers ms → (w : World) (r : Request)
+        → Fits ms w r.values → (input : List ℕ) (budget : ℕ)
+    → Fits ms (called (by_slots ms) ms w input r budget).world
+        (values_given (called (by_slots ms) ms w input r budget).returned)
 
 -- Where a world fits with some values, it fits with the first of them alone, and with none.
 abbrev pub FewerFit : Type 0
-FewerFit = (ms : List Module) (w : World) (some others : List PlainValue) → Fits ms w (some ++ others) → Fits ms w some
+FewerFit =
+    (ms : List Module) (w : World) (some others : List PlainValue) → Fits ms w (some ++ others)
+    → Fits ms w some

@@ -37,7 +37,8 @@ IsHanded us n (Some k) = (0 < n) × (n ≡ defaults_in (slice_get us k))
 -- function is made
 abbrev pub MakesAt : List Code → Code → ℕ → Instr → Type 0
 MakesAt us u p (MakeList n) = IsHanded us n (made_with (slice_get u.instrs (suc p)))
-MakesAt us u p (Function k) = (defaults_in (slice_get us k) ≡ 0) × LeadElsewhere u (footprint p (Function k)).exits
+MakesAt us u p (Function k) =
+    (defaults_in (slice_get us k) ≡ 0) × LeadElsewhere u (footprint p (Function k)).exits
 MakesAt us u p i = LeadElsewhere u (footprint p i).exits
 
 -- A unit of a module of these units. A function without defaults is made of a unit without any. A
@@ -45,8 +46,10 @@ MakesAt us u p i = LeadElsewhere u (footprint p i).exits
 -- In no other way does a run come there, and by no handler.
 pub record MakesFunctions (us : List Code) (u : Code) : Type 0 where
   pub each : (p : ℕ) (i : Instr) → slice_get u.instrs p ≡ Some i → MakesAt us u p i
-  pub handlers : (p : ℕ) (h : Handler) → p < length u.instrs → handler_of p u.handlers ≡ Some h → made_with (slice_get u.instrs h.target) ≡ None
+  pub handlers : (p : ℕ) (h : Handler) → p < length u.instrs → handler_of p u.handlers ≡ Some h
+      → made_with (slice_get u.instrs h.target) ≡ None
 
 -- the units of all modules
 pub record AreMakers (ms : List Module) : Type 0 where
-  pub units : (code : CodeId) (u : Code) → unit_at ms code ≡ Some u → MakesFunctions (units_of (slice_get ms code.module)) u
+  pub units : (code : CodeId) (u : Code) → unit_at ms code ≡ Some u
+      → MakesFunctions (units_of (slice_get ms code.module)) u

@@ -72,7 +72,8 @@ pub record HeapSuits (ms : List Module) (e : Environment) (h : PlainHeap) : Type
   pub lists : (a n : ℕ) → e.lists a ≡ Some n → IsListOf h n a
 
 -- globals, heap and the address of the words
-pub record PartsSuit (ms : List Module) (e : Environment) (gs : List Names) (h : PlainHeap) (a : ℕ) : Type 0 where
+pub record PartsSuit (ms : List Module) (e : Environment) (gs : List Names) (h : PlainHeap)
+    (a : ℕ) : Type 0 where
   pub globals : GlobalsSuit ms e gs
   pub heap : HeapSuits ms e h
   pub words : IsOther e a

@@ -14,4 +14,5 @@ IsLine l = (1 ≤ l) × (l ≤ 65535)
 
 -- where tokens keep the lines of a text, so does the module that they spell
 abbrev pub LinesLaw : Type 0
-LinesLaw = (m : Stmts) (ts : List PToken) → AreOnLines ts → Spells m ts → All IsLine (statement_lines m)
+LinesLaw =
+    (m : Stmts) (ts : List PToken) → AreOnLines ts → Spells m ts → All IsLine (statement_lines m)

@@ -23,7 +23,8 @@ pub record IsProper (m : LoadedModule) : Type 0 where
 
 -- an arc at one place: possible, and predicted or thrown there
 abbrev pub IsForeseen : Stmts → Crossing → Type 0
-IsForeseen body c = Contains (possible body) (ends c) × (Contains (predicted body) (ends c) ⊎ IsTrue c.thrown)
+IsForeseen body c =
+    Contains (possible body) (ends c) × (Contains (predicted body) (ends c) ⊎ IsTrue c.thrown)
 
 -- all arcs of all activations among these items, those that enter and leave a body included
 abbrev pub AreForeseen : List LoadedModule → Items → Type 0
@@ -32,7 +33,8 @@ AreForeseen ms items = (m : ℕ) → All (IsForeseen (body_of ms m)) (crossings 
 -- Within any budget: of a program,
 abbrev pub ProgramSoundness : Type 0
 ProgramSoundness =
-    (program : Program) → All IsProper (loaded program) → (words : List Text) (input : List ℕ) (budget : ℕ) →
+    (program : Program) → All IsProper (loaded program)
+        → (words : List Text) (input : List ℕ) (budget : ℕ) →
     AreForeseen (loaded program) (meaning program words input budget).items
 
 -- of a list of modules, whatever they were loaded from,
@@ -44,5 +46,6 @@ ModulesSoundness =
 -- and of one call, on any world.
 abbrev pub CallSoundness : Type 0
 CallSoundness =
-    (ms : List LoadedModule) → All IsProper ms → (w : World) (input : List ℕ) (r : Request) (budget : ℕ) →
+    (ms : List LoadedModule) → All IsProper ms
+        → (w : World) (input : List ℕ) (r : Request) (budget : ℕ) →
     AreForeseen ms (called ms w input r budget).items

@@ -62,7 +62,9 @@ unset e = (e.0, None)
 
 -- no two numbers have one name
 abbrev pub HaveOwnNames : List (List ℕ) → Type 0
-HaveOwnNames xs = (m n : ℕ) (x y : List ℕ) → slice_get xs m ≡ Some x → slice_get xs n ≡ Some y → is_same_text x y ≡ true → m ≡ n
+HaveOwnNames xs =
+    (m n : ℕ) (x y : List ℕ) → slice_get xs m ≡ Some x → slice_get xs n ≡ Some y
+    → is_same_text x y ≡ true → m ≡ n
 
 -- a list has each number whose name is set once, and no other
 abbrev pub AreListed : Numbered → List ℕ → Type 0

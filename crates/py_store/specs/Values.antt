@@ -29,7 +29,8 @@ abbrev pub found_items : Option (Vec Value Global) → Option (List PlainValue)
 found_items None = None
 found_items (Some vs) = Some (plains vs.items)
 
-abbrev pub plain_list_answer : Result (Vec Value Global) Raised → Result (List PlainValue) PlainRaised
+abbrev pub plain_list_answer : Result (Vec Value Global) Raised
+    → Result (List PlainValue) PlainRaised
 plain_list_answer (Ok vs) = Ok (plains vs.items)
 plain_list_answer (Err e) = Err (plain_raised e)
 
