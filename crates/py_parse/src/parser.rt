@@ -11,7 +11,6 @@ use py_token::Token;
 use std::alloc::Global;
 
 /// The tree of a module from the tokens of its source, or why there is none.
-#[tactic(auto, using(crate::proofs::View::Answering::module_rules))]
 pub fn parse(alloc: Global, tokens: &[Token]) -> Result<Module, SyntaxError>
     ensures { IsParsed (view_tokens tokens.now) result }
 {

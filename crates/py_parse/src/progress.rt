@@ -32,7 +32,6 @@ pub struct Progress {
 }
 
 /// The line of a refusal at a place.
-#[tactic(auto, using(crate::proofs::View::Turning::line_at_rules))]
 pub fn line_at(tokens: &[Token], place: usize) -> u32
     requires { place ≤ length tokens.now }
     ensures { result ≡ line_of (view_tokens tokens.now) place }
@@ -117,7 +116,6 @@ fn part_of(purpose: &Continuation) -> ExprPart
 }
 
 /// After an expression.
-#[tactic(auto, using(crate::proofs::View::Answering::after_rules))]
 fn after_expression(
     alloc: Global,
     tokens: &[Token],
@@ -138,7 +136,6 @@ fn after_expression(
 }
 
 /// Reads an expression, and the token after it.
-#[tactic(auto, using(crate::proofs::View::Answering::expression_inside))]
 fn expression(
     alloc: Global,
     tokens: &[Token],
@@ -169,7 +166,6 @@ fn expression(
 }
 
 /// After the pattern of a `case`.
-#[tactic(auto, using(crate::proofs::View::Answering::later_rules))]
 fn after_pattern(
     alloc: Global,
     tokens: &[Token],
@@ -193,7 +189,6 @@ fn after_pattern(
 }
 
 /// Reads the pattern of a `case`, and the token after it.
-#[tactic(auto, using(crate::proofs::View::Answering::pattern_inside))]
 fn pattern(
     alloc: Global,
     tokens: &[Token],
