@@ -29,4 +29,4 @@ pub record OneMachine : Type 0 where
   pub call : (ms : List Module) → AreNamed ms
       → (w : World) (input : List ℕ) (r : Request) (budget : ℕ)
       → end_of_call (by_slots ms) ms w input r budget
-          ≡ end_of_call (by_names ms) ms w input r budget
+      ≡ end_of_call (by_names ms) ms w input r budget

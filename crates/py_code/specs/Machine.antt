@@ -219,7 +219,7 @@ module _ {L : Type 0} (locals : Locals L) (ms : List Module) where
   leave e code [] n w = Ends (record { how = failed e; steps = n; effects = escaped code w })
   leave e code (f ∷ fs) n w =
       land (handler_at ms f.code f.place)
-          (leave e f.code fs n (told (Throw e.kind) (escaped code w))) e true
+      (leave e f.code fs n (told (Throw e.kind) (escaped code w))) e true
       (record { top = f; callers = fs; steps = n; effects = told (Throw e.kind) (escaped code w) })
 
   -- an exception is on its way, with whether it was thrown in the frame
@@ -273,9 +273,15 @@ module _ {L : Type 0} (locals : Locals L) (ms : List Module) where
 
   abbrev pub new_frame : CodeId → List PlainValue → ℕ → Frame L
   new_frame code vs depth =
-      record
-      { code = code; place = 0; operands = []; locals = locals.fresh code vs; line = 0; depth =
-      depth }
+      record {
+        code = code;
+        place = 0;
+        operands = [];
+        locals = locals.fresh code vs;
+        line = 0;
+        depth =
+            depth;
+      }
 
   abbrev pub begins : CodeId → List PlainValue → Frame L → Configuration L → ℕ → Next L
   begins code vs caller c n = Ticks (record {
@@ -289,8 +295,8 @@ module _ {L : Type 0} (locals : Locals L) (ms : List Module) where
   abbrev pub enter : CodeId → List PlainValue → List Operand → Configuration L → Next L
   enter code vs xs c =
       if nat_lt c.top.depth most_frames then stepping c.steps c
-          (λ n. begins code vs (record c.top { operands = xs }) c n) else throw (raised_by TooDeep)
-          (with_operands xs c)
+      (λ n. begins code vs (record c.top { operands = xs }) c n) else throw (raised_by TooDeep)
+      (with_operands xs c)
 
   abbrev pub calls : Reach → List Operand → Configuration L → Next L
   calls (at_once r e) xs c = pushes_answer r xs (with_effects e c)
@@ -301,7 +307,7 @@ module _ {L : Type 0} (locals : Locals L) (ms : List Module) where
   runs_module x None c = throw (no_module x) c
   runs_module x (Some m) c =
       if is_begun m c.effects.world then pushes none_value c.top.operands c else enter
-          (record { «module» = m; unit = 0 }) [] c.top.operands c
+      (record { «module» = m; unit = 0 }) [] c.top.operands c
 
   abbrev pub imports : List ℕ → Configuration L → Next L
   imports x c =
@@ -351,9 +357,13 @@ module _ {L : Type 0} (locals : Locals L) (ms : List Module) where
   marks l e c =
       stepping c.steps c
       (λ n. Ticks
-      (record
-      { top = record c.top
-      { place = suc c.top.place; line = l }; callers = c.callers; steps = n; effects = e }))
+      (record {
+        top = record c.top
+            { place = suc c.top.place; line = l };
+        callers = c.callers;
+        steps = n;
+        effects = e;
+      }))
 
   -- so many operands are taken away, and the way out is put on top
   abbrev pub puts_way : ℕ → Way → ℕ → List Operand → Configuration L → Next L

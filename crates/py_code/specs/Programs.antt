@@ -49,9 +49,13 @@ no_names m = []
 -- The words stand in a list. No module is begun, and no name is set.
 abbrev pub first_world : List Module → List (List ℕ) → World
 first_world ms words =
-    record
-    { globals = map no_names ms; begun = []; heap = list_object
-    (map str_value words) ∷ []; words = 0 }
+    record {
+      globals = map no_names ms;
+      begun = [];
+      heap = list_object
+          (map str_value words) ∷ [];
+      words = 0;
+    }
 
 -- nothing is written, and nothing happened
 abbrev pub at_rest : World → List ℕ → Effects
@@ -110,10 +114,10 @@ module _ {L : Type 0} (locals : Locals L) (ms : List Module) where
   end_of_call w input r budget =
       let first = at_rest w input in
       follows locals ms
-          (outer_call locals ms
-          (reach_global ms
-          (or_raise (name_unknown r.name)
-          (global_of r.number r.name w)) r.values first) budget first)
+      (outer_call locals ms
+      (reach_global ms
+      (or_raise (name_unknown r.name)
+      (global_of r.number r.name w)) r.values first) budget first)
 
   unfoldable pub called : World → (input : List ℕ) → Request → (budget : ℕ) → Reply
   called w input r budget = reply_by budget (end_of_call w input r budget)

@@ -27,16 +27,16 @@ FirstFits = (ms : List Module) (words : List (List ℕ)) → Fits ms (first_worl
 abbrev pub RunsKeep : Type 0
 RunsKeep =
     (ms : List Module) → AreCodes ms → AreMakers ms → (w : World) → Fits ms w []
-        → (input : List ℕ) (budget : ℕ) → Fits ms (run (by_slots ms) ms w input budget).world []
+    → (input : List ℕ) (budget : ℕ) → Fits ms (run (by_slots ms) ms w input budget).world []
 
 -- So does a call, where its values fit with the world. What it gives fits with the world that it
 -- leaves.
 abbrev pub CallsKeep : Type 0
 CallsKeep =
     (ms : List Module) → AreCodes ms → AreMakers ms → (w : World) (r : Request)
-        → Fits ms w r.values → (input : List ℕ) (budget : ℕ)
+    → Fits ms w r.values → (input : List ℕ) (budget : ℕ)
     → Fits ms (called (by_slots ms) ms w input r budget).world
-        (values_given (called (by_slots ms) ms w input r budget).returned)
+    (values_given (called (by_slots ms) ms w input r budget).returned)
 
 -- Where a world fits with some values, it fits with the first of them alone, and with none.
 abbrev pub FewerFit : Type 0

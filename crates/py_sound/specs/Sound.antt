@@ -34,7 +34,7 @@ AreForeseen ms items = (m : ℕ) → All (IsForeseen (body_of ms m)) (crossings 
 abbrev pub ProgramSoundness : Type 0
 ProgramSoundness =
     (program : Program) → All IsProper (loaded program)
-        → (words : List Text) (input : List ℕ) (budget : ℕ) →
+    → (words : List Text) (input : List ℕ) (budget : ℕ) →
     AreForeseen (loaded program) (meaning program words input budget).items
 
 -- of a list of modules, whatever they were loaded from,
@@ -47,5 +47,5 @@ ModulesSoundness =
 abbrev pub CallSoundness : Type 0
 CallSoundness =
     (ms : List LoadedModule) → All IsProper ms
-        → (w : World) (input : List ℕ) (r : Request) (budget : ℕ) →
+    → (w : World) (input : List ℕ) (r : Request) (budget : ℕ) →
     AreForeseen ms (called ms w input r budget).items

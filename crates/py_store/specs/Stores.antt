@@ -12,9 +12,13 @@ use Rattle.py_store.specs.Globals.{names_of}
 
 abbrev pub world_of : Store → World
 world_of s =
-    record
-    { globals = map names_of s.globals.items; begun = s.begun.items; heap = plain_heap s.heap; words
-    = s.words.place }
+    record {
+      globals = map names_of s.globals.items;
+      begun = s.begun.items;
+      heap = plain_heap s.heap;
+      words
+          = s.words.place;
+    }
 
 abbrev pub word : String Global → List ℕ
 word x = chars (string_bytes x)

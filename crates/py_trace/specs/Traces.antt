@@ -39,28 +39,28 @@ pub record TracesKept : Type 0 where
   pub runs : (cs : List Module) (ms : List LoadedModule) → AreFaithful cs ms → AreWellFormed ms
       → 0 < length ms → (words : List Text) (input : List ℕ) (budget : ℕ)
       → machine.run (by_slots cs) cs (machine.first_world cs words) input budget
-          ≡ as_run (meant.run_modules ms words input budget)
+      ≡ as_run (meant.run_modules ms words input budget)
   pub calls : (cs : List Module) (ms : List LoadedModule) → AreFaithful cs ms → AreWellFormed ms
       → (w : World) (input : List ℕ) (q : meant.Request) (budget : ℕ)
       → machine.called (by_slots cs) cs w input (as_request q) budget
-          ≡ as_reply (meant.called ms w input q budget)
+      ≡ as_reply (meant.called ms w input q budget)
   pub runs_by_names : (cs : List Module) (ms : List LoadedModule) → AreFaithful cs ms
       → AreWellFormed ms → 0 < length ms → (words : List Text) (input : List ℕ) (budget : ℕ)
       → machine.run (by_names cs) cs (machine.first_world cs words) input budget
-          ≡ as_run (meant.run_modules ms words input budget)
+      ≡ as_run (meant.run_modules ms words input budget)
   pub calls_by_names : (cs : List Module) (ms : List LoadedModule) → AreFaithful cs ms
       → AreWellFormed ms → (w : World) (input : List ℕ) (q : meant.Request) (budget : ℕ)
       → machine.called (by_names cs) cs w input (as_request q) budget
-          ≡ as_reply (meant.called ms w input q budget)
+      ≡ as_reply (meant.called ms w input q budget)
   pub runs_settle : (cs : List Module) (ms : List LoadedModule) → AreFaithful cs ms
       → AreWellFormed ms → 0 < length ms → (words : List Text) (input : List ℕ) (budget other : ℕ)
       →
-          (machine.run (by_slots cs) cs
-          (machine.first_world cs words) input budget).outcome ≢ outcomes.cut
+      (machine.run (by_slots cs) cs
+      (machine.first_world cs words) input budget).outcome ≢ outcomes.cut
       → Settles (machine.run (by_slots cs) cs (machine.first_world cs words) input budget) other
-          (machine.run (by_slots cs) cs (machine.first_world cs words) input other)
+      (machine.run (by_slots cs) cs (machine.first_world cs words) input other)
   pub calls_settle : (cs : List Module) (ms : List LoadedModule) → AreFaithful cs ms
       → AreWellFormed ms → (w : World) (input : List ℕ) (q : meant.Request) (budget other : ℕ)
       → (machine.called (by_slots cs) cs w input (as_request q) budget).returned ≢ returns.cut
       → SettlesReply (machine.called (by_slots cs) cs w input (as_request q) budget) other
-          (machine.called (by_slots cs) cs w input (as_request q) other)
+      (machine.called (by_slots cs) cs w input (as_request q) other)
