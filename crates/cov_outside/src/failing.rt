@@ -1,5 +1,5 @@
 // The calls of an object in memory that fail.
-ghost use Rattle.std.specs.Prelude.{◌≡◌, ◌≤◌, ◌↔◌, ◌+◌, ◌<◌, IsTrue, Contains, min};
+ghost use Rattle.std.specs.Prelude.{◌≡◌, ◌≤◌, ◌↔◌, IsTrue};
 ghost use Rattle.cov_outside.specs.Counts.{greatest, Rose};
 
 /// Which calls of an object fail, by their numbers from 0, and how many have failed.
@@ -12,10 +12,12 @@ pub struct Failing {
 }
 
 impl Failing {
+    ghost use Rattle.cov_outside.specs.Calls.{FailsNext, after_call};
+    ghost use Rattle.cov_outside.specs.Memory.{calls_of, faults_of};
+
     pub fn new(numbers: Vec<u64>) -> Failing
-        ensures numbers { result.numbers ≡ numbers }
-        ensures calls { result.calls ≡ 0 }
-        ensures faults { result.faults ≡ 0 }
+        ensures calls { calls_of result ≡ record { failing = numbers.items; count = 0 } }
+        ensures faults { faults_of result ≡ 0 }
     {
         Failing {
             numbers,
@@ -26,11 +28,11 @@ impl Failing {
 
     /// Counts a call, and says whether it fails.
     pub fn fails(&mut self) -> bool
-        ensures answer { IsTrue result ↔ Contains self.old.numbers.items self.old.calls }
-        ensures failed { IsTrue result → Rose self.old.faults self.new.faults }
-        ensures count { self.old.faults ≤ self.new.faults }
-        ensures calls { self.new.calls ≡ min (self.old.calls + 1) greatest }
-        ensures numbers { self.new.numbers ≡ self.old.numbers }
+        ensures answer { IsTrue result ↔ FailsNext (calls_of self.old) }
+        ensures calls { calls_of self.new ≡ after_call (calls_of self.old) }
+
+        ensures count { faults_of self.old ≤ faults_of self.new }
+        ensures failed { IsTrue result → Rose (faults_of self.old) (faults_of self.new) }
     {
         let fails = self.numbers.contains(&self.calls);
         self.calls = self.calls.saturating_add(1);

@@ -2,8 +2,9 @@
 //! (`Sink`), and where its files lie (`Shelf`). Each object counts its faults, and an object in memory
 //! also tells the bytes that it holds, so that a contract can say what a program reads and writes.
 //!
-//! A caller takes `&mut impl Source`, `&mut impl Sink` or `&mut impl Shelf`. Tests hand in the objects in
-//! memory, of which the `Mem` ones fail at chosen calls and the `Sure` ones never.
+//! A caller takes `&mut impl Source`, `&mut impl Sink` or `&mut impl Shelf`. Tests hand in the objects
+//! in memory, of which the `Mem` ones fail at chosen calls and the `Sure` ones never. `Failing` keeps
+//! which calls fail.
 #![tactic(auto)]
 
 mod failing;
@@ -16,6 +17,7 @@ mod sink;
 mod source;
 mod standard;
 
+pub use failing::Failing;
 pub use folder::FolderShelf;
 pub use memory_shelf::{MemShelf, SureShelf};
 pub use memory_sink::{MemSink, NullSink, SureSink};
