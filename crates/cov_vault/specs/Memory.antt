@@ -1,6 +1,7 @@
 -- What the vaults in memory hold, and which of their calls fail.
 use Rattle.std.specs.Prelude.{ℕ}
 use Rattle.cov_outside.specs.Calls.{Calls}
+use Rattle.cov_outside.specs.Memory.{calls_of, faults_of}
 use Rattle.cov_vault.specs.Contents.{Contents, contents_of}
 use Rattle.cov_vault.specs.declared.memory.MemVault.{MemVault}
 
@@ -8,7 +9,7 @@ abbrev pub vault_contents : MemVault → Contents
 vault_contents vault = contents_of vault.entries.pairs.items
 
 abbrev pub vault_calls : MemVault → Calls
-vault_calls vault = record { failing = vault.failing.numbers.items; count = vault.failing.calls }
+vault_calls vault = calls_of vault.failing
 
 abbrev pub vault_faults : MemVault → ℕ
-vault_faults vault = vault.failing.faults
+vault_faults vault = faults_of vault.failing

@@ -6,7 +6,6 @@
 #![tactic(auto)]
 
 mod entries;
-mod failing;
 mod memory;
 mod names;
 mod vault;

@@ -5,9 +5,9 @@ ghost use Rattle.std.proofs.Common.{lit≤};
 ghost use Rattle.cov_vault.specs.Contents.{contents_of};
 
 use crate::entries::Entries;
-use crate::failing::Failing;
 use crate::vault::{Content, Vault, VaultError};
 use cov_data::Data;
+use cov_outside::Failing;
 use std::alloc::Global;
 
 /// A vault in memory whose calls of the given numbers fail.
