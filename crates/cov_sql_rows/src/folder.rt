@@ -1,11 +1,11 @@
 //! Data files in a folder.
 
-use crate::texts::{Given, data_of, shown};
+use crate::calls::{
+    ARCS, ARCS_TEXT, LINES, LINES_TEXT, assert_calls, listed, loaded, removed, saved,
+};
 use cov_sql::FolderVault;
-use cov_vault::Vault;
-use std::alloc::{AllocError, Global};
+use std::alloc::Global;
 use std::path::PathBuf;
-use std::process::Abort;
 use std::test::Fail;
 use std::{env, fs, io, process};
 
@@ -18,67 +18,6 @@ fn new_folder(rt: &HostRuntime, alloc: Global) -> io::Result<PathBuf> {
     fs::create_dir_all(rt, folder.as_path())?;
     Ok(folder)
 }
-
-fn loaded(alloc: Global, vault: &mut FolderVault, name: &str) -> Result<String, AllocError> {
-    match vault.load(alloc, name) {
-        Ok(data) => shown(alloc, &data),
-        Err(error) => format!(in alloc; "{error:?}"),
-    }
-}
-
-fn saved(
-    alloc: Global,
-    vault: &mut FolderVault,
-    name: &str,
-    (arcs, rows): (bool, &[Given]),
-) -> Result<String, AllocError> {
-    let data = data_of(alloc, arcs, rows)?;
-    match vault.save(alloc, name, &data) {
-        Ok(()) => String::from_str(alloc, "saved"),
-        Err(error) => format!(in alloc; "{error:?}"),
-    }
-}
-
-fn removed(alloc: Global, vault: &mut FolderVault, name: &str) -> Result<String, AllocError> {
-    match vault.remove(alloc, name) {
-        Ok(()) => String::from_str(alloc, "removed"),
-        Err(error) => format!(in alloc; "{error:?}"),
-    }
-}
-
-fn listed(alloc: Global, vault: &mut FolderVault) -> Result<String, AllocError> {
-    match vault.names(alloc) {
-        Ok(names) => names.join(alloc, "|"),
-        Err(error) => format!(in alloc; "{error:?}"),
-    }
-}
-
-const ARCS: (bool, &[Given]) = (
-    true,
-    &[
-        ("/src/b é.py", "", -1, 1, 1),
-        ("/src/b é.py", "", 1, -1, 7),
-        ("/src/a.py", "c x", 3, 4, 2),
-        ("/src/a.py", "é", 3, 4, 4_294_967_295),
-        ("/src/z.py", "", 0, 0, 0),
-    ],
-);
-
-const ARCS_TEXT: &str = "arcs;/src/z.py;/src/a.py c x 3 4 2;/src/a.py é 3 4 4294967295;\
-    /src/b é.py . -1 1 1;/src/b é.py . 1 -1 7;";
-
-const LINES: (bool, &[Given]) = (
-    false,
-    &[
-        ("/src/a.py", "", 9, 9, 1),
-        ("/src/a.py", "", 8, 8, 3),
-        ("/src/a.py", "c x", 1, 1, 1),
-        ("/src/b é.py", "", 65_535, 65_535, 1),
-    ],
-);
-
-const LINES_TEXT: &str = "lines;/src/a.py . 8 8 3;/src/a.py . 9 9 1;/src/a.py c x 1 1 1;\
-    /src/b é.py . 65535 65535 1;";
 
 /// A call with a name, and its answer.
 static CALLS: [(&str, &str, &str); 20] = [
@@ -103,34 +42,6 @@ static CALLS: [(&str, &str, &str); 20] = [
     ("load", "b", LINES_TEXT),
     ("load", "a", "Absent"),
 ];
-
-fn called(
-    alloc: Global,
-    vault: &mut FolderVault,
-    call: &str,
-    name: &str,
-) -> Result<String, AllocError> {
-    match call {
-        "names" => listed(alloc, vault),
-        "load" => loaded(alloc, vault, name),
-        "save arcs" => saved(alloc, vault, name, ARCS),
-        "save lines" => saved(alloc, vault, name, LINES),
-        _ => removed(alloc, vault, name),
-    }
-}
-
-fn assert_calls(
-    rt: &impl Abort,
-    alloc: Global,
-    vault: &mut FolderVault,
-    calls: &[(&str, &str, &str)],
-) -> Result<(), AllocError> {
-    for (call, name, wanted) in calls {
-        let found = called(alloc, vault, *call, *name)?;
-        assert_eq!(rt; found.as_str(), *wanted, "{call} {name}");
-    }
-    Ok(())
-}
 
 #[test]
 fn a_folder_keeps_data_by_name(rt: HostRuntime) -> Result<(), Fail> {
@@ -209,6 +120,56 @@ fn a_file_that_is_cut_short_is_a_fault(rt: HostRuntime) -> Result<(), Fail> {
     for (what, wanted) in &SPOILT {
         let found = answers(&rt, alloc, &mut vault, &path, *what)?;
         assert_eq!(rt; found.as_str(), *wanted, "{what}");
+    }
+    fs::remove_dir_all(&rt, folder.as_path())?;
+    Ok(())
+}
+
+/// The answers of calls, of which all but the first come while a folder stands in place of a file that the
+/// database keeps beside `b`.
+fn answers_beside_a_folder(
+    rt: &HostRuntime,
+    alloc: Global,
+    vault: &mut FolderVault,
+    companion: &PathBuf,
+) -> Result<String, Fail> {
+    let first = saved(alloc, vault, "b", ARCS)?;
+    fs::create_dir_all(rt, companion.as_path())?;
+    let second = removed(alloc, vault, "b")?;
+    let third = loaded(alloc, vault, "b")?;
+    let fourth = saved(alloc, vault, "b", ARCS)?;
+    Ok(format!(in alloc; "{first}, {second}, {third}, {fourth}")?)
+}
+
+/// The answers of calls once a file is left there in its place.
+fn answers_beside_a_file(
+    rt: &HostRuntime,
+    alloc: Global,
+    vault: &mut FolderVault,
+    companion: &PathBuf,
+) -> Result<String, Fail> {
+    fs::remove_dir_all(rt, companion.as_path())?;
+    fs::write(rt, companion.as_path(), b"left".as_slice())?;
+    let first = loaded(alloc, vault, "b")?;
+    let second = saved(alloc, vault, "b", LINES)?;
+    let third = loaded(alloc, vault, "b")?;
+    let fourth = removed(alloc, vault, "b")?;
+    Ok(format!(in alloc; "{first}, {second}, {third}, {fourth}")?)
+}
+
+#[test]
+fn what_stays_beside_a_file_is_removed_by_the_next_save(rt: HostRuntime) -> Result<(), Fail> {
+    let alloc = rt.alloc();
+    let folder = new_folder(&rt, alloc)?;
+    let mut vault = FolderVault::new(alloc, &rt, folder.as_str())?;
+    let wanted = format!(in alloc; "Absent, saved, {LINES_TEXT}, removed")?;
+    for name in ["b-journal", "b-wal"] {
+        let companion = folder.join(alloc, name)?;
+        let found = answers_beside_a_folder(&rt, alloc, &mut vault, &companion)?;
+        assert_eq!(rt; found.as_str(), "saved, removed, Absent, Failed", "{name}");
+        assert!(rt; fs::exists(&rt, companion.as_path())?, "{name}");
+        let found = answers_beside_a_file(&rt, alloc, &mut vault, &companion)?;
+        assert_eq!(rt; found.as_str(), wanted.as_str(), "{name}");
     }
     fs::remove_dir_all(&rt, folder.as_path())?;
     Ok(())

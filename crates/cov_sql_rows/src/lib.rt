@@ -6,6 +6,8 @@ mod bases;
 #[cfg(test)]
 mod bits;
 #[cfg(test)]
+mod calls;
+#[cfg(test)]
 mod folder;
 #[cfg(test)]
 mod foreign;
@@ -21,5 +23,7 @@ mod saving;
 mod stops;
 #[cfg(test)]
 mod texts;
+#[cfg(test)]
+mod vaults;
 #[cfg(test)]
 mod writing;
