@@ -1,11 +1,8 @@
 -- Numbers that are added and taken away.
-use Rattle.std.proofs.Common.{◌≡◌, ℕ, zero, suc, ◌+◌, ◌<◌, ◌≤◌, List, [], ◌∷◌, ◌++◌, length, map, Some, None, Bool, true, false, refl, sym, ap, ◌∙◌, arith}
-use Rattle.std.specs.Prelude.{Option, slice_get, slice_set, remove}
-use Rattle.py_value.specs.Keys.{is_same_text}
-use Rattle.py_value.specs.Plain.{PlainValue}
-use Rattle.py_value.proofs.KeyLaws.{same_text}
+use Rattle.std.proofs.Common.{◌≡◌, ℕ, zero, suc, List, [], ◌∷◌, ◌++◌, Some, None, refl, sym, ap, ◌∙◌}
+use Rattle.std.specs.Prelude.{slice_get, remove}
 use Rattle.py_builtins.specs.World.{Names}
-use Rattle.py_store.specs.Numbered.{Named, Numbered, set_then, named_then, listed, HasNoNumber, HaveOwnNames}
+use Rattle.py_store.specs.Numbered.{Named, Numbered, set_then, named_then, listed}
 use Rattle.py_store.proofs.Listed.{listed_none, listed_next, named_append}
 
 -- a number at the end

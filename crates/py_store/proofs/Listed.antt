@@ -1,6 +1,6 @@
 -- The names that are set, as numbers list them.
-use Rattle.std.proofs.Common.{◌≡◌, ℕ, zero, suc, ◌+◌, ◌<◌, ◌≤◌, List, [], ◌∷◌, ◌++◌, length, map, Some, None, Bool, true, false, refl, sym, ap, ◌∙◌, arith}
-use Rattle.std.specs.Prelude.{Option, slice_get, slice_set, remove}
+use Rattle.std.proofs.Common.{◌≡◌, ℕ, ◌<◌, List, [], ◌∷◌, ◌++◌, length, Some, None, false, refl, sym, ap, ◌∙◌, arith}
+use Rattle.std.specs.Prelude.{Option, slice_get, slice_set}
 use Rattle.py_value.specs.Keys.{is_same_text}
 use Rattle.py_value.specs.Plain.{PlainValue}
 use Rattle.py_value.proofs.KeyLaws.{text_is_same}
@@ -8,7 +8,7 @@ use Rattle.py_builtins.specs.World.{Names, value_of, with_name, without_name}
 use Rattle.py_store.specs.Numbered.{Named, Numbered, set_then, named_then, listed, times}
 use Rattle.py_store.proofs.Places.{got_set, got_other}
 use Rattle.py_store.proofs.SetNames.{value_none, value_here, value_next, with_none, with_here, with_next, without_none, without_here, without_next}
-use Rattle.py_store.proofs.Times.{Which, this, other, which, times_this, times_other, times_none}
+use Rattle.py_store.proofs.Times.{this, other, which, times_this, times_other, times_none}
 
 pub listed_none : (es : Numbered) → listed es [] ≡ []
 unfolding listed

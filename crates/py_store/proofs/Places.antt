@@ -1,6 +1,6 @@
 -- Lists that are changed at a place, or at their end.
 use Rattle.std.proofs.Common.{◌≡◌, ℕ, zero, suc, ◌<◌, ◌≤◌, List, [], ◌∷◌, ◌++◌, length, map, Some, None, refl, sym, ap, ◌∙◌, arith}
-use Rattle.std.specs.Prelude.{slice_get, slice_set, Option}
+use Rattle.std.specs.Prelude.{slice_get, slice_set}
 
 pub got_set : {A : Type 0} (xs : List A) (n : ℕ) (x : A) → n < length xs → slice_get (slice_set xs n x) n ≡ Some x
 got_set [] n x lt = absurd (omega arith)

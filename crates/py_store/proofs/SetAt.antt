@@ -1,14 +1,14 @@
 -- Globals in memory, changed at a number.
-use Rattle.std.proofs.Common.{◌≡◌, ℕ, zero, suc, ◌+◌, ◌<◌, ◌≤◌, List, [], ◌∷◌, ◌++◌, length, map, get_or, Some, None, Bool, true, false, refl, sym, ap, ◌∙◌, arith, subst}
+use Rattle.std.proofs.Common.{◌≡◌, ℕ, ◌+◌, ◌<◌, ◌≤◌, List, [], ◌∷◌, ◌++◌, length, map, get_or, Some, None, Bool, true, false, refl, sym, ap, ◌∙◌, arith, subst}
 use Rattle.std.specs.Prelude.{if◌then◌else◌, Option, slice_get, slice_set, remove}
 use Rattle.std.proofs.lemmas.List.{map-append, length-map}
 use Rattle.std.proofs.lemmas.Option.{slice_get_read, slice_get_within, same_Some}
 use Rattle.py_value.specs.Plain.{PlainValue}
-use Rattle.py_builtins.specs.World.{Names, value_of, with_name, without_name}
+use Rattle.py_builtins.specs.World.{value_of, with_name, without_name}
 use Rattle.py_store.specs.declared.globals.Global.{Global}
-use Rattle.py_store.specs.Numbered.{Named, Numbered, name_of, value_in, listed, times, times_set, times_named, HaveOwnNames, HasNoNumber, AreListed, plain_global, names_in}
+use Rattle.py_store.specs.Numbered.{Numbered, name_of, value_in, listed, times, times_set, times_named, HaveOwnNames, HasNoNumber, AreListed, plain_global, names_in}
 use Rattle.py_store.specs.Values.{plain_option}
-use Rattle.py_store.proofs.Changed.{listed_push, listed_remove, listed_more}
+use Rattle.py_store.proofs.Changed.{listed_push, listed_remove}
 use Rattle.py_store.proofs.Listed.{no_value, its_value, not_set, set_last, unlisted, set_there, unset_there}
 use Rattle.py_store.proofs.Lookups.{mapped, map-slice_set}
 use Rattle.py_store.proofs.OwnNames.{own_other, none_other, entry_at, value_there, once_at_most, own_more}

@@ -1,10 +1,9 @@
 -- How often numbers stand in lists.
-use Rattle.std.proofs.Common.{◌≡◌, ℕ, zero, suc, ◌+◌, ◌<◌, ◌≤◌, List, [], ◌∷◌, ◌++◌, length, Some, None, Bool, true, false, refl, sym, ap, ◌∙◌, arith}
-use Rattle.std.specs.Prelude.{nat_eq, if◌then◌else◌, slice_get, slice_set, remove, take, drop}
+use Rattle.std.proofs.Common.{◌≡◌, ℕ, zero, suc, ◌+◌, ◌<◌, List, [], ◌∷◌, ◌++◌, length, Some, None, Bool, true, false, refl, sym, ap, ◌∙◌, arith}
+use Rattle.std.specs.Prelude.{nat_eq, if◌then◌else◌, slice_get, slice_set, remove}
 use Rattle.std.proofs.lemmas.Bool.Decides.{nat_tests}
-use Rattle.py_value.specs.Plain.{PlainValue}
 use Rattle.py_store.specs.Numbered.{Named, Numbered, times, times_set, times_named, AreListed}
-use Rattle.py_store.proofs.Places.{got_set, got_other, got_before, got_last, got_past}
+use Rattle.py_store.proofs.Places.{got_set, got_other}
 
 -- a number is that one, or another
 pub data Which (n m : ℕ) : Type 0 where

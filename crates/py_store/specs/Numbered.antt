@@ -9,7 +9,6 @@
 use Rattle.std.specs.Prelude.{◌≡◌, ℕ, ◌+◌, nat_eq, true, false, if◌then◌else◌, List, [], ◌∷◌, map, slice_get, Option, Some, None}
 use Rattle.py_value.specs.Keys.{is_same_text}
 use Rattle.py_value.specs.Plain.{PlainValue}
-use Rattle.py_value.specs.View.{plain}
 use Rattle.py_builtins.specs.World.{Names}
 use Rattle.py_store.specs.declared.globals.Global.{Global}
 use Rattle.py_store.specs.Values.{plain_option}

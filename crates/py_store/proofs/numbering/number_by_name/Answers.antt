@@ -1,11 +1,11 @@
-use Rattle.std.proofs.Common.{◌≡◌, ◌<◌, ◌≤◌, Some, length, ap, sym, ◌∙◌, arith}
+use Rattle.std.proofs.Common.{◌<◌, Some, length, ap, sym, ◌∙◌, arith}
 use Rattle.std.specs.Prelude.{slice_get}
 use Rattle.std.proofs.lemmas.Option.{same_Some}
 use Rattle.py_value.specs.Keys.{is_same_text}
 use Rattle.py_value.proofs.KeyLaws.{same_text}
 use Rattle.py_store.specs.Numbered.{names_in}
 use Rattle.py_store.proofs.SetAt.{name_here, name_within}
-use Rattle.py_store.proofs.Times.{Which, this, other, which}
+use Rattle.py_store.proofs.Times.{this, other, which}
 use Rattle.py_store.proofs.numbering.number_by_name.Goals as goal
 
 pub returns-then-is_same : goal.returns-then-is_same

@@ -1,4 +1,4 @@
-use Rattle.std.proofs.Common.{◌≡◌, Some, map, refl, ap, sym, ◌∙◌, subst}
+use Rattle.std.proofs.Common.{Some, map, refl, ap, sym, ◌∙◌, subst}
 use Rattle.std.specs.Prelude.{if◌then◌else◌, slice_get, slice_set}
 use Rattle.py_value.specs.View.{plain}
 use Rattle.py_builtins.specs.World.{with_name}

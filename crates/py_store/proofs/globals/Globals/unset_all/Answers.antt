@@ -1,4 +1,4 @@
-use Rattle.std.proofs.Common.{[], map, ap, sym, ◌∙◌, subst}
+use Rattle.std.proofs.Common.{map, ap, sym, ◌∙◌, subst}
 use Rattle.py_store.specs.Numbered.{AreListed, HaveOwnNames, listed, times, name_of, plain_global, unset}
 use Rattle.py_store.proofs.Listed.{listed_none}
 use Rattle.py_store.proofs.OwnNames.{unset_listed, unset_names}
