@@ -1,7 +1,7 @@
 // Sources with pragmas, and the lines that they exclude or free of their branches.
 
 use crate::texts::{BRANCH, COVER, IF, WHILE, patterns_of};
-use cov_exclude::{Patterns, excluded, no_branch};
+use cov_exclude::{excluded, no_branch};
 use py_parse::parse;
 use py_syntax::Module;
 use py_token::{count_lines, tokens};
@@ -31,17 +31,19 @@ fn listed(alloc: Global, lines: &[u32]) -> Result<String, Fail> {
     Ok(text)
 }
 
-/// The lines of a source that patterns exclude.
-fn excluded_by(alloc: Global, patterns: &Patterns, source: &str) -> Result<String, Fail> {
+/// The lines of a source that the patterns of these texts exclude.
+fn excluded_by(alloc: Global, texts: &[&str], source: &str) -> Result<String, Fail> {
     let module = read(alloc, source)?;
-    let lines = excluded(alloc, patterns, &module, source)?;
+    let patterns = patterns_of(alloc, texts)?;
+    let lines = excluded(alloc, &patterns, &module, source)?;
     listed(alloc, &lines)
 }
 
-/// The lines of a source that patterns free of their branches.
-fn freed_by(alloc: Global, patterns: &Patterns, source: &str) -> Result<String, Fail> {
+/// The lines of a source that the patterns of these texts free of their branches.
+fn freed_by(alloc: Global, texts: &[&str], source: &str) -> Result<String, Fail> {
     let module = read(alloc, source)?;
-    let lines = no_branch(alloc, patterns, &module, source)?;
+    let patterns = patterns_of(alloc, texts)?;
+    let lines = no_branch(alloc, &patterns, &module, source)?;
     listed(alloc, &lines)
 }
 
@@ -178,10 +180,8 @@ static EXCLUDED: [(&str, &str, &str); 27] = [
 
 #[test]
 fn a_pragma_excludes_its_own_suite(rt: HostRuntime) -> Result<(), Fail> {
-    let alloc = rt.alloc();
-    let patterns = patterns_of(alloc, &[COVER])?;
     for row in &EXCLUDED {
-        let found = excluded_by(alloc, &patterns, row.1)?;
+        let found = excluded_by(rt.alloc(), &[COVER], row.1)?;
         assert_eq!(rt; found.as_str(), row.2, "{}", row.0);
     }
     Ok(())
@@ -225,10 +225,8 @@ static FREED: [(&str, &str, &str); 8] = [
 
 #[test]
 fn a_partial_pattern_frees_its_own_line(rt: HostRuntime) -> Result<(), Fail> {
-    let alloc = rt.alloc();
-    let patterns = patterns_of(alloc, &[BRANCH, WHILE, IF])?;
     for row in &FREED {
-        let found = freed_by(alloc, &patterns, row.1)?;
+        let found = freed_by(rt.alloc(), &[BRANCH, WHILE, IF], row.1)?;
         assert_eq!(rt; found.as_str(), row.2, "{}", row.0);
     }
     Ok(())
@@ -236,10 +234,8 @@ fn a_partial_pattern_frees_its_own_line(rt: HostRuntime) -> Result<(), Fail> {
 
 #[test]
 fn a_line_is_matched_without_its_end(rt: HostRuntime) -> Result<(), Fail> {
-    let alloc = rt.alloc();
     let source = "a = 1  # no\r\nb = 2  # no more\r\nc = 3  # no";
-    let patterns = patterns_of(alloc, &["no$", "never"])?;
-    let found = excluded_by(alloc, &patterns, source)?;
+    let found = excluded_by(rt.alloc(), &["no$", "never"], source)?;
     assert_eq!(rt; found.as_str(), " 1 3");
     Ok(())
 }

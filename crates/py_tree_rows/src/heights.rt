@@ -30,18 +30,22 @@ fn ends(alloc: Global, source: &str, part: ExprPart) -> Result<String, Fail> {
     outcome(alloc, &tokens, part)
 }
 
-/// Where the reading of so many openings, a middle and so many closings ends.
-fn nested(
-    alloc: Global,
-    open: &str,
+/// Openings, a middle and as many closings, read as a part of the grammar, and where that ends.
+struct Nest {
+    title: &'static str,
     count: usize,
-    middle: &str,
-    close: &str,
+    open: &'static str,
+    middle: &'static str,
+    close: &'static str,
     part: ExprPart,
-) -> Result<String, Fail> {
+    wanted: &'static str,
+}
+
+/// Where the reading of a nest ends.
+fn nested(alloc: Global, nest: &Nest) -> Result<String, Fail> {
     let mut source = Writer::new(alloc);
-    source.nest(open, count, middle, close);
-    ends(alloc, source.done()?.as_str(), part)
+    source.nest(nest.open, nest.count, nest.middle, nest.close);
+    ends(alloc, source.done()?.as_str(), nest.part)
 }
 
 /// Where the reading of an f-string ends that has a field with so many round brackets.
@@ -81,93 +85,240 @@ fn nested_strings(alloc: Global, count: usize, source: &str) -> Result<String, F
     outcome(alloc, &tokens, ExprPart::Any)
 }
 
+static EXPRESSIONS: [Nest; 15] = [
+    Nest {
+        title: "Brackets around nothing at the limit",
+        count: 200,
+        open: "(",
+        middle: "",
+        close: ")",
+        part: ExprPart::Any,
+        wanted: "@400",
+    },
+    Nest {
+        title: "Brackets around a number at the limit",
+        count: 199,
+        open: "(",
+        middle: "0",
+        close: ")",
+        part: ExprPart::Any,
+        wanted: "@399",
+    },
+    Nest {
+        title: "Brackets around a number past it",
+        count: 200,
+        open: "(",
+        middle: "0",
+        close: ")",
+        part: ExprPart::Any,
+        wanted: "TooDeep(200)",
+    },
+    Nest {
+        title: "Brackets around what is no expression",
+        count: 200,
+        open: "(",
+        middle: "=",
+        close: ")",
+        part: ExprPart::Any,
+        wanted: "Unexpected(200)",
+    },
+    Nest {
+        title: "Brackets around nothing past the limit",
+        count: 201,
+        open: "(",
+        middle: "",
+        close: ")",
+        part: ExprPart::Any,
+        wanted: "TooDeep(200)",
+    },
+    Nest {
+        title: "Brackets around a sum at the limit",
+        count: 198,
+        open: "(",
+        middle: "a + b",
+        close: ")",
+        part: ExprPart::Any,
+        wanted: "@399",
+    },
+    Nest {
+        title: "Brackets around a sum past it",
+        count: 199,
+        open: "(",
+        middle: "a + b",
+        close: ")",
+        part: ExprPart::Any,
+        wanted: "TooDeep(200)",
+    },
+    Nest {
+        title: "Brackets around two names without an operator",
+        count: 199,
+        open: "(",
+        middle: "a b",
+        close: ")",
+        part: ExprPart::Any,
+        wanted: "Unexpected(200)",
+    },
+    Nest {
+        title: "Brackets around a tuple at the limit",
+        count: 198,
+        open: "(",
+        middle: "a, b",
+        close: ")",
+        part: ExprPart::Any,
+        wanted: "@399",
+    },
+    Nest {
+        title: "Brackets around a tuple past it",
+        count: 199,
+        open: "(",
+        middle: "a, b",
+        close: ")",
+        part: ExprPart::Any,
+        wanted: "TooDeep(200)",
+    },
+    Nest {
+        title: "Calls inside each other at the limit",
+        count: 199,
+        open: "f(",
+        middle: "",
+        close: ")",
+        part: ExprPart::Any,
+        wanted: "@597",
+    },
+    Nest {
+        title: "Calls inside each other past it",
+        count: 200,
+        open: "f(",
+        middle: "",
+        close: ")",
+        part: ExprPart::Any,
+        wanted: "TooDeep(399)",
+    },
+    Nest {
+        title: "Targets with items inside each other",
+        count: 198,
+        open: "(",
+        middle: "1",
+        close: ")[x]",
+        part: ExprPart::Target,
+        wanted: "TooDeep(204)",
+    },
+    Nest {
+        title: "Fewer of them",
+        count: 100,
+        open: "(",
+        middle: "1",
+        close: ")[x]",
+        part: ExprPart::Target,
+        wanted: "TooDeep(498)",
+    },
+    Nest {
+        title: "Half a million brackets",
+        count: 500_000,
+        open: "(",
+        middle: "0",
+        close: ")",
+        part: ExprPart::Any,
+        wanted: "TooDeep(200)",
+    },
+];
+
 #[test]
 fn deep_expressions(rt: HostRuntime) -> Result<(), Fail> {
-    let any = ExprPart::Any;
-    let target = ExprPart::Target;
-    let alloc = rt.alloc();
-    assert_eq!(rt; nested(alloc, "(", 200, "", ")", any)?.as_str(), "@400");
-    assert_eq!(rt; nested(alloc, "(", 199, "0", ")", any)?.as_str(), "@399");
-    assert_eq!(rt;
-        nested(alloc, "(", 200, "0", ")", any)?.as_str(),
-        "TooDeep(200)"
-    );
-    assert_eq!(rt;
-        nested(alloc, "(", 200, "=", ")", any)?.as_str(),
-        "Unexpected(200)"
-    );
-    assert_eq!(rt;
-        nested(alloc, "(", 201, "", ")", any)?.as_str(),
-        "TooDeep(200)"
-    );
-    assert_eq!(rt;
-        nested(alloc, "(", 198, "a + b", ")", any)?.as_str(),
-        "@399"
-    );
-    assert_eq!(rt;
-        nested(alloc, "(", 199, "a + b", ")", any)?.as_str(),
-        "TooDeep(200)"
-    );
-    assert_eq!(rt;
-        nested(alloc, "(", 199, "a b", ")", any)?.as_str(),
-        "Unexpected(200)"
-    );
-    assert_eq!(rt; nested(alloc, "(", 198, "a, b", ")", any)?.as_str(), "@399");
-    assert_eq!(rt;
-        nested(alloc, "(", 199, "a, b", ")", any)?.as_str(),
-        "TooDeep(200)"
-    );
-    assert_eq!(rt; nested(alloc, "f(", 199, "", ")", any)?.as_str(), "@597");
-    assert_eq!(rt;
-        nested(alloc, "f(", 200, "", ")", any)?.as_str(),
-        "TooDeep(399)"
-    );
-    assert_eq!(rt;
-        nested(alloc, "(", 198, "1", ")[x]", target)?.as_str(),
-        "TooDeep(204)"
-    );
-    assert_eq!(rt;
-        nested(alloc, "(", 100, "1", ")[x]", target)?.as_str(),
-        "TooDeep(498)"
-    );
-    assert_eq!(rt;
-        nested(alloc, "(", 500000, "0", ")", any)?.as_str(),
-        "TooDeep(200)"
-    );
+    for row in &EXPRESSIONS {
+        let found = nested(rt.alloc(), row)?;
+        assert_eq!(rt; found.as_str(), row.wanted, "{}", row.title);
+    }
     Ok(())
 }
 
+static STRINGS: [Nest; 5] = [
+    Nest {
+        title: "A string without a field at the limit",
+        count: 199,
+        open: "(",
+        middle: "f'a'",
+        close: ")",
+        part: ExprPart::Any,
+        wanted: "@399",
+    },
+    Nest {
+        title: "A field at the limit",
+        count: 198,
+        open: "(",
+        middle: "f'{a}'",
+        close: ")",
+        part: ExprPart::Any,
+        wanted: "@397",
+    },
+    Nest {
+        title: "A field past it",
+        count: 199,
+        open: "(",
+        middle: "f'{a}'",
+        close: ")",
+        part: ExprPart::Any,
+        wanted: "TooDeep(199)",
+    },
+    Nest {
+        title: "A field that is no expression, past it",
+        count: 199,
+        open: "(",
+        middle: "f'{a b}'",
+        close: ")",
+        part: ExprPart::Any,
+        wanted: "Unexpected(199)",
+    },
+    Nest {
+        title: "A string without a field past it",
+        count: 200,
+        open: "(",
+        middle: "f'a'",
+        close: ")",
+        part: ExprPart::Any,
+        wanted: "TooDeep(200)",
+    },
+];
+
 #[test]
 fn deep_strings(rt: HostRuntime) -> Result<(), Fail> {
-    let any = ExprPart::Any;
-    let alloc = rt.alloc();
-    assert_eq!(rt; nested(alloc, "(", 199, "f'a'", ")", any)?.as_str(), "@399");
-    assert_eq!(rt;
-        nested(alloc, "(", 198, "f'{a}'", ")", any)?.as_str(),
-        "@397"
-    );
-    assert_eq!(rt;
-        nested(alloc, "(", 199, "f'{a}'", ")", any)?.as_str(),
-        "TooDeep(199)"
-    );
-    assert_eq!(rt;
-        nested(alloc, "(", 199, "f'{a b}'", ")", any)?.as_str(),
-        "Unexpected(199)"
-    );
-    assert_eq!(rt;
-        nested(alloc, "(", 200, "f'a'", ")", any)?.as_str(),
-        "TooDeep(200)"
-    );
-    assert_eq!(rt; nested_field(alloc, 198, "a")?.as_str(), "@1");
-    assert_eq!(rt; nested_field(alloc, 199, "a")?.as_str(), "TooDeep(0)");
-    assert_eq!(rt; nested_field(alloc, 300, "a")?.as_str(), "TooDeep(0)");
-    assert_eq!(rt; nested_field(alloc, 300, "a b")?.as_str(), "Unexpected(0)");
-    assert_eq!(rt; nested_strings(alloc, 199, "a")?.as_str(), "@1");
-    assert_eq!(rt; nested_strings(alloc, 200, "a")?.as_str(), "TooDeep(0)");
-    assert_eq!(rt; nested_strings(alloc, 1000, "a")?.as_str(), "TooDeep(0)");
-    assert_eq!(rt;
-        nested_strings(alloc, 1000, "a b")?.as_str(),
-        "Unexpected(0)"
-    );
+    for row in &STRINGS {
+        let found = nested(rt.alloc(), row)?;
+        assert_eq!(rt; found.as_str(), row.wanted, "{}", row.title);
+    }
+    Ok(())
+}
+
+/// So many brackets in a field, what stands in them, and where the reading ends.
+const FIELDS: [(&str, usize, &str, &str); 4] = [
+    ("A name at the limit", 198, "a", "@1"),
+    ("A name past it", 199, "a", "TooDeep(0)"),
+    ("A name far past it", 300, "a", "TooDeep(0)"),
+    ("No expression, far past it", 300, "a b", "Unexpected(0)"),
+];
+
+#[test]
+fn deep_fields(rt: HostRuntime) -> Result<(), Fail> {
+    for (title, count, middle, wanted) in FIELDS {
+        let found = nested_field(rt.alloc(), count, middle)?;
+        assert_eq!(rt; found.as_str(), wanted, "{title}");
+    }
+    Ok(())
+}
+
+/// So many f-strings inside each other, what stands in them, and where the reading ends.
+const NESTED_STRINGS: [(&str, usize, &str, &str); 4] = [
+    ("A name at the limit", 199, "a", "@1"),
+    ("A name past it", 200, "a", "TooDeep(0)"),
+    ("A name far past it", 1000, "a", "TooDeep(0)"),
+    ("No expression, far past it", 1000, "a b", "Unexpected(0)"),
+];
+
+#[test]
+fn strings_inside_each_other(rt: HostRuntime) -> Result<(), Fail> {
+    for (title, count, middle, wanted) in NESTED_STRINGS {
+        let found = nested_strings(rt.alloc(), count, middle)?;
+        assert_eq!(rt; found.as_str(), wanted, "{title}");
+    }
     Ok(())
 }

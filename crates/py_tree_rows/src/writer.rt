@@ -1,4 +1,5 @@
 // The text that what was read is written into.
+ghost use Rattle.std.specs.Prelude.{◌≡◌, ◌++◌, [], true, false, string_bytes, IfOk};
 
 use py_token::{Keyword, Mark};
 use std::alloc::{AllocError, Global};
@@ -13,7 +14,10 @@ pub struct Writer {
 }
 
 impl Writer {
-    pub fn new(alloc: Global) -> Writer {
+    pub fn new(alloc: Global) -> Writer
+        ensures empty { string_bytes result.text ≡ [] }
+        ensures fine { result.wants_memory ≡ false }
+    {
         Writer {
             alloc,
             text: String::new(alloc),
@@ -21,7 +25,12 @@ impl Writer {
         }
     }
 
-    pub fn put(&mut self, text: &str) {
+    /// Adds the text, unless memory is wanting.
+    pub fn put(&mut self, text: &str)
+        ensures added { self.new.wants_memory ≡ false
+            → string_bytes self.new.text ≡ string_bytes self.old.text ++ text.now }
+        ensures kept { self.old.wants_memory ≡ true → self.new.wants_memory ≡ true }
+    {
         if self.text.push_str(text).is_err() {
             self.wants_memory = true;
         }
@@ -35,7 +44,11 @@ impl Writer {
     }
 
     /// What was formatted.
-    pub fn made(&mut self, text: Result<String, AllocError>) {
+    pub fn made(&mut self, text: Result<String, AllocError>)
+        ensures added { self.new.wants_memory ≡ false → IfOk text (λ made.
+            string_bytes self.new.text ≡ string_bytes self.old.text ++ string_bytes made) }
+        ensures kept { self.old.wants_memory ≡ true → self.new.wants_memory ≡ true }
+    {
         match text {
             Ok(text) => self.put(text.as_str()),
             Err(_) => self.wants_memory = true,
@@ -74,7 +87,9 @@ impl Writer {
     }
 
     /// The text, where there was memory for all of it.
-    pub fn done(self) -> Result<String, Fail> {
+    pub fn done(self) -> Result<String, Fail>
+        ensures { IfOk result (λ text. text ≡ self.text) }
+    {
         if self.wants_memory {
             return Err(AllocError.into());
         }
