@@ -1,5 +1,6 @@
 //! Data files in a folder.
 
+use crate::rowids::without_rowids;
 use crate::texts::{Given, data_of, shown};
 use cov_sql::FolderVault;
 use cov_vault::Vault;
@@ -144,15 +145,19 @@ fn a_folder_keeps_data_by_name(rt: HostRuntime) -> Result<(), Fail> {
     Ok(())
 }
 
-/// What is left of a data file, and the answers of calls: data are saved and their file is spoilt, and then
-/// they are loaded, others are saved, these are loaded, and the name is removed.
-static SPOILT: [(&str, &str); 5] = [
+/// What is left of a data file, and the answers of calls: data are saved and their file is spoilt, and
+/// then they are loaded, others are saved, these are loaded, and the name is removed.
+static SPOILT: [(&str, &str); 6] = [
     ("half", "saved, Failed, Failed, Failed, removed"),
     ("all but a byte", "saved, Failed, Failed, Failed, removed"),
     ("a header", "saved, Failed, Failed, Failed, removed"),
     ("words", "saved, Failed, Failed, Failed, removed"),
     (
         "nothing",
+        "saved, NotSchema7, NotSchema7, NotSchema7, removed",
+    ),
+    (
+        "a table without rowids",
         "saved, NotSchema7, NotSchema7, NotSchema7, removed",
     ),
 ];
@@ -181,6 +186,10 @@ fn left<'a>(bytes: &'a [u8], what: &str) -> &'a [u8] {
 
 fn spoil(rt: &HostRuntime, path: &PathBuf, what: &str) -> io::Result<()> {
     let bytes = fs::read(rt, path.as_path())?;
+    if what == "a table without rowids" {
+        let others = without_rowids(rt.alloc(), &bytes)?;
+        return fs::write(rt, path.as_path(), &others);
+    }
     fs::write(rt, path.as_path(), left(&bytes, what))
 }
 

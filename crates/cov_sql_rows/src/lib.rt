@@ -16,6 +16,8 @@ mod reading;
 #[cfg(test)]
 mod refusing;
 #[cfg(test)]
+mod rowids;
+#[cfg(test)]
 mod saving;
 #[cfg(test)]
 mod stops;
