@@ -12,3 +12,4 @@ mod Listed
 mod Changed
 mod OwnNames
 mod SetAt
+mod Keys

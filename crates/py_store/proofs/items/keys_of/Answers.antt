@@ -3,7 +3,8 @@ use Rattle.std.proofs.lemmas.List.{length-map}
 use Rattle.py_value.specs.HeapView.{plain_heap}
 use Rattle.py_value.specs.Heaps.{dict_keys, dict_pairs}
 use Rattle.py_value.specs.View.{plains}
-use Rattle.py_builtins.proofs.Lists.{key_pushed, keys_end}
+use Rattle.py_builtins.proofs.Lists.{key_pushed}
+use Rattle.py_store.proofs.Keys.{keys_end}
 use Rattle.py_store.proofs.items.keys_of.Goals as goal
 
 pub loop-at-preserved : goal.loop-at-preserved
