@@ -172,14 +172,12 @@ fn what_stays_beside_a_file_is_removed_by_the_next_save(rt: HostRuntime) -> Resu
     let folder = new_folder(&rt, alloc)?;
     let mut vault = FolderVault::new(alloc, &rt, folder.as_str())?;
     let wanted = format!(in alloc; "Absent, saved, {LINES_TEXT}, removed")?;
-    for name in ["b-journal", "b-wal"] {
-        let companion = folder.join(alloc, name)?;
-        let found = answers_beside_a_folder(&rt, alloc, &mut vault, &companion)?;
-        assert_eq!(rt; found.as_str(), "saved, removed, Absent, Failed", "{name}");
-        assert!(rt; fs::exists(&rt, companion.as_path())?, "{name}");
-        let found = answers_beside_a_file(&rt, alloc, &mut vault, &companion)?;
-        assert_eq!(rt; found.as_str(), wanted.as_str(), "{name}");
-    }
+    let companion = folder.join(alloc, "b-journal")?;
+    let found = answers_beside_a_folder(&rt, alloc, &mut vault, &companion)?;
+    assert_eq!(rt; found.as_str(), "saved, removed, Absent, Failed");
+    assert!(rt; fs::exists(&rt, companion.as_path())?);
+    let found = answers_beside_a_file(&rt, alloc, &mut vault, &companion)?;
+    assert_eq!(rt; found.as_str(), wanted.as_str());
     fs::remove_dir_all(&rt, folder.as_path())?;
     Ok(())
 }
