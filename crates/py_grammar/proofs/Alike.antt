@@ -5,9 +5,9 @@ use Rattle.py_syntax.specs.declared.expr.Comparison.TheVariants.{Op}
 use Rattle.py_syntax.specs.declared.expr.Sign.TheVariants as sign_
 use Rattle.py_syntax.specs.Tree.{Expr, tuple, not', or, unary, compare, Exprs, no_exprs, exprs, no_pairs, no_links, absent, no_fragments, plain}
 use Rattle.py_syntax.specs.Tree as tree_
-use Rattle.py_syntax.specs.Normal.{Level, LExprs, LExpr, LOr, LAnd, LNot, LCmp, LSum, LTerm, LUnary}
-use Rattle.py_grammar.specs.TokenClasses.{b_op, TokenClass, t_name, t_int, t_none, t_bool, t_string, t_format, t_not, t_is, t_if, t_else, t_compare, t_operator, t_comma, t_colon, t_dot, t_left_paren, t_right_paren, t_left_bracket, t_right_bracket, t_left_brace, t_right_brace, operator_level, operator_right, joined}
-use Rattle.py_grammar.specs.Machine.{at_most, same_level, snoc, snoc_link, any, one, target, targets, Opener, a_call, a_list, Frame, exprs_first, exprs_rest, cond_first, cond_test, cond_else, first, right, not_of, compare_first, compare_rest, unary_of, post_rest, in_items, index_first, in_index, slice_to, in_paren, in_key, in_value, Ctx, Outside, on, Want, Have, Strings, AfterOpen, AfterComma, ItemsOpen, ItemsComma, DictOpen, DictComma, IndexOpen, SliceColon, AfterDot, AfterNot, AfterIs, Out, Next, Stuck, upto_exprs, upto_cond, upto_or, upto_and, upto_compare, upto_sum, upto_term, begin, close_items, give}
+use Rattle.py_syntax.specs.Normal.{Precedence, LExprs, LExpr, LOr, LAnd, LNot, LCmp, LSum, LTerm, LUnary}
+use Rattle.py_grammar.specs.TokenClasses.{b_op, TokenClass, t_name, t_int, t_none, t_bool, t_string, t_format, t_not, t_is, t_if, t_else, t_compare, t_operator, t_comma, t_colon, t_dot, t_left_paren, t_right_paren, t_left_bracket, t_right_bracket, t_left_brace, t_right_brace, operator_precedence, operator_right, joined}
+use Rattle.py_grammar.specs.Machine.{at_most, same_precedence, snoc, snoc_link, any, one, target, targets, Opener, a_call, a_list, Frame, exprs_first, exprs_rest, cond_first, cond_test, cond_else, first, right, not_of, compare_first, compare_rest, unary_of, post_rest, in_items, index_first, in_index, slice_to, in_paren, in_key, in_value, Ctx, Outside, on, Want, Have, Strings, AfterOpen, AfterComma, ItemsOpen, ItemsComma, DictOpen, DictComma, IndexOpen, SliceColon, AfterDot, AfterNot, AfterIs, Out, Next, Stuck, upto_exprs, upto_cond, upto_or, upto_and, upto_compare, upto_sum, upto_term, begin, close_items, give}
 use Rattle.py_grammar.specs.Least.{least_name}
 use Rattle.py_grammar.specs.Bare.{bare_opener, bare_frame, bare_ctx, bare_out, Free}
 
@@ -47,13 +47,13 @@ give_alike e d (on cond_first k) t h = give_alike e d k t h
 give_alike e d (on (cond_test b) k) t_else h = ap (λ (x : Ctx). Next (Want LExpr (on (cond_else least_name least_name) x))) (sym (bare_twice k h))
 give_alike e d (on (cond_test b) k) t h = refl
 give_alike e d (on (cond_else b c) k) t h = give_alike (tree_.cond b c e) (tree_.cond least_name least_name d) k t h
-give_alike e d (on (first l) k) (t_operator j) h = go (same_level l (operator_level j)) (give_alike e d k (t_operator j) h)
+give_alike e d (on (first l) k) (t_operator j) h = go (same_precedence l (operator_precedence j)) (give_alike e d k (t_operator j) h)
   where
     go : (b : Bool) → bare_out (give e k (t_operator j)) ≡ bare_out (give d (bare_ctx k) (t_operator j)) → bare_out (cond b (Next (Want (operator_right j) (on (right j e) k))) (give e k (t_operator j))) ≡ bare_out (cond b (Next (Want (operator_right j) (on (right j d) (bare_ctx k)))) (give d (bare_ctx k) (t_operator j)))
     go true rec = ap (λ (x : Ctx). Next (Want (operator_right j) (on (right j least_name) x))) (sym (bare_twice k h))
     go false rec = rec
 give_alike e d (on (first l) k) t h = give_alike e d k t h
-give_alike e d (on (right i a) k) (t_operator j) h = go (same_level (operator_level i) (operator_level j)) (give_alike (joined i a e) (joined i least_name d) k (t_operator j) h)
+give_alike e d (on (right i a) k) (t_operator j) h = go (same_precedence (operator_precedence i) (operator_precedence j)) (give_alike (joined i a e) (joined i least_name d) k (t_operator j) h)
   where
     go : (b : Bool) → bare_out (give (joined i a e) k (t_operator j)) ≡ bare_out (give (joined i least_name d) (bare_ctx k) (t_operator j)) → bare_out (cond b (Next (Want (operator_right j) (on (right j (joined i a e)) k))) (give (joined i a e) k (t_operator j))) ≡ bare_out (cond b (Next (Want (operator_right j) (on (right j (joined i least_name d)) (bare_ctx k)))) (give (joined i least_name d) (bare_ctx k) (t_operator j)))
     go true rec = ap (λ (x : Ctx). Next (Want (operator_right j) (on (right j least_name) x))) (sym (bare_twice k h))
@@ -94,35 +94,35 @@ give_alike e d (on (in_value ps key) k) t h = refl
 
 -- ---- the frames that are pushed have no trees
 
-exprs_bare : (lev : Level) (k : Ctx) → bare_ctx (upto_exprs lev k) ≡ upto_exprs lev (bare_ctx k)
+exprs_bare : (lev : Precedence) (k : Ctx) → bare_ctx (upto_exprs lev k) ≡ upto_exprs lev (bare_ctx k)
 exprs_bare lev k = elim (at_most lev LExprs) as (λ b. bare_ctx (cond b (on exprs_first k) k) ≡ cond b (on exprs_first (bare_ctx k)) (bare_ctx k)) [ true ↦ refl | false ↦ refl ]
 
-cond_bare : (lev : Level) (k : Ctx) → bare_ctx (upto_cond lev k) ≡ upto_cond lev (bare_ctx k)
+cond_bare : (lev : Precedence) (k : Ctx) → bare_ctx (upto_cond lev k) ≡ upto_cond lev (bare_ctx k)
 cond_bare lev k = elim (at_most lev LExpr) as (λ b. bare_ctx (cond b (on cond_first (upto_exprs lev k)) k) ≡ cond b (on cond_first (upto_exprs lev (bare_ctx k))) (bare_ctx k)) [ true ↦ ap (λ (x : Ctx). on cond_first x) (exprs_bare lev k) | false ↦ refl ]
 
-or_bare : (lev : Level) (k : Ctx) → bare_ctx (upto_or lev k) ≡ upto_or lev (bare_ctx k)
+or_bare : (lev : Precedence) (k : Ctx) → bare_ctx (upto_or lev k) ≡ upto_or lev (bare_ctx k)
 or_bare lev k = elim (at_most lev LOr) as (λ b. bare_ctx (cond b (on (first LOr) (upto_cond lev k)) k) ≡ cond b (on (first LOr) (upto_cond lev (bare_ctx k))) (bare_ctx k)) [ true ↦ ap (λ (x : Ctx). on (first LOr) x) (cond_bare lev k) | false ↦ refl ]
 
-and_bare : (lev : Level) (k : Ctx) → bare_ctx (upto_and lev k) ≡ upto_and lev (bare_ctx k)
+and_bare : (lev : Precedence) (k : Ctx) → bare_ctx (upto_and lev k) ≡ upto_and lev (bare_ctx k)
 and_bare lev k = elim (at_most lev LAnd) as (λ b. bare_ctx (cond b (on (first LAnd) (upto_or lev k)) k) ≡ cond b (on (first LAnd) (upto_or lev (bare_ctx k))) (bare_ctx k)) [ true ↦ ap (λ (x : Ctx). on (first LAnd) x) (or_bare lev k) | false ↦ refl ]
 
-compare_bare : (lev : Level) (k : Ctx) → bare_ctx (upto_compare lev k) ≡ upto_compare lev (bare_ctx k)
+compare_bare : (lev : Precedence) (k : Ctx) → bare_ctx (upto_compare lev k) ≡ upto_compare lev (bare_ctx k)
 compare_bare lev k = elim (at_most lev LCmp) as (λ b. bare_ctx (cond b (on compare_first (upto_and lev k)) k) ≡ cond b (on compare_first (upto_and lev (bare_ctx k))) (bare_ctx k)) [ true ↦ ap (λ (x : Ctx). on compare_first x) (and_bare lev k) | false ↦ refl ]
 
-sum_bare : (lev : Level) (k : Ctx) → bare_ctx (upto_sum lev k) ≡ upto_sum lev (bare_ctx k)
+sum_bare : (lev : Precedence) (k : Ctx) → bare_ctx (upto_sum lev k) ≡ upto_sum lev (bare_ctx k)
 sum_bare lev k = elim (at_most lev LSum) as (λ b. bare_ctx (cond b (on (first LSum) (upto_compare lev k)) k) ≡ cond b (on (first LSum) (upto_compare lev (bare_ctx k))) (bare_ctx k)) [ true ↦ ap (λ (x : Ctx). on (first LSum) x) (compare_bare lev k) | false ↦ refl ]
 
-term_bare : (lev : Level) (k : Ctx) → bare_ctx (upto_term lev k) ≡ upto_term lev (bare_ctx k)
+term_bare : (lev : Precedence) (k : Ctx) → bare_ctx (upto_term lev k) ≡ upto_term lev (bare_ctx k)
 term_bare lev k = elim (at_most lev LTerm) as (λ b. bare_ctx (cond b (on (first LTerm) (upto_sum lev k)) k) ≡ cond b (on (first LTerm) (upto_sum lev (bare_ctx k))) (bare_ctx k)) [ true ↦ ap (λ (x : Ctx). on (first LTerm) x) (sum_bare lev k) | false ↦ refl ]
 
 -- the frames under an atom, with the least trees or with those
-term_twice : (lev : Level) (k : Ctx) → Free k → bare_ctx (upto_term lev k) ≡ bare_ctx (upto_term lev (bare_ctx k))
+term_twice : (lev : Precedence) (k : Ctx) → Free k → bare_ctx (upto_term lev k) ≡ bare_ctx (upto_term lev (bare_ctx k))
 term_twice lev k h = term_bare lev k ∙ ap (upto_term lev) (sym (bare_twice k h)) ∙ sym (term_bare lev (bare_ctx k))
 
-and_twice : (lev : Level) (k : Ctx) → Free k → bare_ctx (upto_and lev k) ≡ bare_ctx (upto_and lev (bare_ctx k))
+and_twice : (lev : Precedence) (k : Ctx) → Free k → bare_ctx (upto_and lev k) ≡ bare_ctx (upto_and lev (bare_ctx k))
 and_twice lev k h = and_bare lev k ∙ ap (upto_and lev) (sym (bare_twice k h)) ∙ sym (and_bare lev (bare_ctx k))
 
-pub begin_alike : (lev : Level) (k : Ctx) (t : TokenClass) → Free k → bare_out (begin lev k t) ≡ bare_out (begin lev (bare_ctx k) t)
+pub begin_alike : (lev : Precedence) (k : Ctx) (t : TokenClass) → Free k → bare_out (begin lev k t) ≡ bare_out (begin lev (bare_ctx k) t)
 begin_alike lev k (t_name x) h = ap (λ (c : Ctx). Next (Have least_name (on post_rest c))) (term_twice lev k h)
 begin_alike lev k (t_int x) h = ap (λ (c : Ctx). Next (Have least_name (on post_rest c))) (term_twice lev k h)
 begin_alike lev k t_none h = ap (λ (c : Ctx). Next (Have least_name (on post_rest c))) (term_twice lev k h)

@@ -7,9 +7,9 @@ use Rattle.py_syntax.specs.declared.expr.Sign.TheVariants as sign_
 use Rattle.py_syntax.specs.Tree.{Expr, str, tuple, not', unary, compare, Exprs, no_exprs, exprs, no_pairs, no_links, absent, no_fragments, plain, field}
 use Rattle.py_syntax.specs.Tree as tree_
 use Rattle.py_syntax.specs.Kinds.{End, Kinds, no_kinds, kinds}
-use Rattle.py_syntax.specs.Normal.{Level, LExprs, LExpr, LOr, LAnd, LNot, LCmp, LSum, LTerm, LUnary}
-use Rattle.py_grammar.specs.TokenClasses.{b_op, TokenClass, t_name, t_int, t_none, t_bool, t_string, t_format, t_bad_format, t_not, t_is, t_if, t_else, t_compare, t_operator, t_comma, t_colon, t_dot, t_left_paren, t_right_paren, t_left_bracket, t_right_bracket, t_left_brace, t_right_brace, t_other, operator_level, operator_right, joined, begins}
-use Rattle.py_grammar.specs.Machine.{at_most, same_level, snoc, snoc_link, strings_of, any, one, target, targets, Opener, a_call, a_list, Frame, exprs_first, exprs_rest, cond_first, cond_test, cond_else, first, right, not_of, compare_first, compare_rest, unary_of, post_rest, in_items, index_first, in_index, slice_to, in_paren, in_key, in_value, Ctx, Outside, on, State, Want, Have, Strings, AfterOpen, AfterComma, AfterTarget, ItemsOpen, ItemsComma, DictOpen, DictComma, IndexOpen, SliceColon, AfterDot, AfterNot, AfterIs, AfterIsNot, Linked, Out, Next, Stuck, Left, upto_exprs, upto_cond, upto_or, upto_and, upto_compare, upto_sum, upto_term, begin, close_items, give, step, class, field_expr}
+use Rattle.py_syntax.specs.Normal.{Precedence, LExprs, LExpr, LOr, LAnd, LNot, LCmp, LSum, LTerm, LUnary}
+use Rattle.py_grammar.specs.TokenClasses.{b_op, TokenClass, t_name, t_int, t_none, t_bool, t_string, t_format, t_bad_format, t_not, t_is, t_if, t_else, t_compare, t_operator, t_comma, t_colon, t_dot, t_left_paren, t_right_paren, t_left_bracket, t_right_bracket, t_left_brace, t_right_brace, t_other, operator_precedence, operator_right, joined, begins}
+use Rattle.py_grammar.specs.Machine.{at_most, same_precedence, snoc, snoc_link, strings_of, any, one, target, targets, Opener, a_call, a_list, Frame, exprs_first, exprs_rest, cond_first, cond_test, cond_else, first, right, not_of, compare_first, compare_rest, unary_of, post_rest, in_items, index_first, in_index, slice_to, in_paren, in_key, in_value, Ctx, Outside, on, State, Want, Have, Strings, AfterOpen, AfterComma, AfterTarget, ItemsOpen, ItemsComma, DictOpen, DictComma, IndexOpen, SliceColon, AfterDot, AfterNot, AfterIs, AfterIsNot, Linked, Out, Next, Stuck, Left, upto_exprs, upto_cond, upto_or, upto_and, upto_compare, upto_sum, upto_term, begin, close_items, give, step, class, field_expr}
 use Rattle.py_grammar.specs.Least.{least_name}
 use Rattle.py_grammar.proofs.Spelled.{field_after, ended_by}
 use Rattle.py_grammar.specs.Bare.{bare_opener, bare_ctx, bare, bare_out, Free}
@@ -101,13 +101,13 @@ give_free e (on cond_first k) t h = give_free e k t h
 give_free e (on (cond_test b) k) t_else h = h
 give_free e (on (cond_test b) k) t h = tt
 give_free e (on (cond_else b c) k) t h = give_free (tree_.cond b c e) k t h
-give_free e (on (first l) k) (t_operator j) h = go (same_level l (operator_level j)) (give_free e k (t_operator j) h)
+give_free e (on (first l) k) (t_operator j) h = go (same_precedence l (operator_precedence j)) (give_free e k (t_operator j) h)
   where
     go : (b : Bool) → FreeOut (give e k (t_operator j)) → FreeOut (cond b (Next (Want (operator_right j) (on (right j e) k))) (give e k (t_operator j)))
     go true rec = h
     go false rec = rec
 give_free e (on (first l) k) t h = give_free e k t h
-give_free e (on (right i a) k) (t_operator j) h = go (same_level (operator_level i) (operator_level j)) (give_free (joined i a e) k (t_operator j) h)
+give_free e (on (right i a) k) (t_operator j) h = go (same_precedence (operator_precedence i) (operator_precedence j)) (give_free (joined i a e) k (t_operator j) h)
   where
     go : (b : Bool) → FreeOut (give (joined i a e) k (t_operator j)) → FreeOut (cond b (Next (Want (operator_right j) (on (right j (joined i a e)) k))) (give (joined i a e) k (t_operator j)))
     go true rec = h
@@ -149,20 +149,20 @@ pushed_free : (b : Bool) (f : Frame) (j k : Ctx) → Free j → Free k → Free 
 pushed_free true f j k h i = h
 pushed_free false f j k h i = i
 
-exprs_free : (lev : Level) (k : Ctx) → Free k → Free (upto_exprs lev k)
+exprs_free : (lev : Precedence) (k : Ctx) → Free k → Free (upto_exprs lev k)
 exprs_free lev k h = pushed_free (at_most lev LExprs) exprs_first k k h h
 
-and_free : (lev : Level) (k : Ctx) → Free k → Free (upto_and lev k)
+and_free : (lev : Precedence) (k : Ctx) → Free k → Free (upto_and lev k)
 and_free lev k h = pushed_free (at_most lev LAnd) (first LAnd) (upto_or lev k) k (pushed_free (at_most lev LOr) (first LOr) (upto_cond lev k) k (pushed_free (at_most lev LExpr) cond_first (upto_exprs lev k) k (exprs_free lev k h) h) h) h
 
-term_free : (lev : Level) (k : Ctx) → Free k → Free (upto_term lev k)
+term_free : (lev : Precedence) (k : Ctx) → Free k → Free (upto_term lev k)
 term_free lev k h = pushed_free (at_most lev LTerm) (first LTerm) (upto_sum lev k) k (pushed_free (at_most lev LSum) (first LSum) (upto_compare lev k) k (pushed_free (at_most lev LCmp) compare_first (upto_and lev k) k (and_free lev k h) h) h) h
 
 prefix_free : (b : Bool) (s : State) → FreeState s → FreeOut (cond b (Next s) Stuck)
 prefix_free true s h = h
 prefix_free false s h = tt
 
-begin_free : (lev : Level) (k : Ctx) (t : TokenClass) → Free k → FreeOut (begin lev k t)
+begin_free : (lev : Precedence) (k : Ctx) (t : TokenClass) → Free k → FreeOut (begin lev k t)
 begin_free lev k (t_name x) h = term_free lev k h
 begin_free lev k (t_int x) h = term_free lev k h
 begin_free lev k t_none h = term_free lev k h

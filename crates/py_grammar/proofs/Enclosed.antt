@@ -4,7 +4,7 @@ use Rattle.py_token.specs.declared.token.Mark.TheVariants as mark
 use Rattle.py_syntax.specs.Tree.{Text, Expr, tuple, list, dict, paren, call, index, slice, attr, Exprs, no_exprs, exprs, Pairs, no_pairs, pair, OptExpr, absent, present}
 use Rattle.py_syntax.specs.Kinds.{Kind, Name, Sign}
 use Rattle.py_syntax.specs.Tokens.{tokens, items, more, more_entries, bound}
-use Rattle.py_syntax.specs.Normal.{Level, LEnd, LExprs, LExpr, LPost, rank, level, At, Normal, NormalItems, Each, NormalEntries, EachEntry, NormalBound}
+use Rattle.py_syntax.specs.Normal.{Precedence, LEnd, LExprs, LExpr, LPost, rank, precedence, At, Normal, NormalItems, Each, NormalEntries, EachEntry, NormalBound}
 use Rattle.py_grammar.specs.TokenClasses.{binds}
 use Rattle.py_grammar.specs.Machine.{snoc, snoc_pair, Opener, a_call, a_list, made, exprs_first, exprs_rest, post_rest, in_items, index_first, in_index, slice_to, in_paren, in_key, in_value, Ctx, on, Want, Have, AfterOpen, AfterComma, ItemsOpen, ItemsComma, DictOpen, DictComma, IndexOpen, SliceColon, Out, upto_exprs, upto_term, upto, begin, give, class, run}
 use Rattle.py_grammar.proofs.Valid.{highest}
@@ -66,13 +66,13 @@ more_after (exprs e es) c rest b = (omega arith, refl)
 
 -- an item, from its begin to the place after it, in a stack that asks for items
 pub read_item : (e : Expr) → At LExpr e → Back e → (k : Ctx) (rest : List Kind) → After 1 rest → run (Want LExpr k) (tokens e rest) ≡ run (Have e k) rest
-read_item e a ih k rest b = read_part e ih LExpr (omega arith) a k rest 1 b (stops_expr (level e) a) LExpr a (omega arith)
+read_item e a ih k rest b = read_part e ih LExpr (omega arith) a k rest 1 b (stops_expr (precedence e) a) LExpr a (omega arith)
 
 -- what stands up to a token that ends everything
 pub read_all : (e : Expr) → Back e → (k : Ctx) (rest : List Kind) → Ends rest → run (Want LExprs k) (tokens e rest) ≡ run (Have e k) rest
 read_all e ih k rest b =
-    ih LExprs k rest (omega arith) (level_low e) (follows_end (level e) rest b)
-    ∙ settles LExprs LEnd (level e) e k rest (omega arith) (after_binds 0 0 rest (omega arith) (ends_after rest b))
+    ih LExprs k rest (omega arith) (level_low e) (follows_end (precedence e) rest b)
+    ∙ settles LExprs LEnd (precedence e) e k rest (omega arith) (after_binds 0 0 rest (omega arith) (ends_after rest b))
 
 -- ---- tuples
 
@@ -104,7 +104,7 @@ many_more f g es c ag ng each ihg ihs k rest b =
     ∙ read_item g ag ihg (on (exprs_rest f no_exprs) k) (more es c rest) (more_after es c rest b)
     ∙ read_more es each ihs c g f no_exprs k rest b
 
-exprs_first_open : (lev : Level) (k : Ctx) → 1 ≤ rank lev → rank lev ≤ 1 → upto_exprs lev k ≡ on exprs_first k
+exprs_first_open : (lev : Precedence) (k : Ctx) → 1 ≤ rank lev → rank lev ≤ 1 → upto_exprs lev k ≡ on exprs_first k
 exprs_first_open LExprs k low h = refl
 exprs_first_open lev k low h = absurd (omega arith)
 
@@ -113,14 +113,14 @@ past_first e k [] b = refl
 past_first e k (t ∷ ts) b = ap (λ (o : Out). outcome o t ts) (sym (pass_exprs e k (class t) b.0))
 
 -- the first item of several, and the comma
-first_item : (e : Expr) → At LExpr e → Back e → (lev : Level) (k : Ctx) (ts : List Kind) → 1 ≤ rank lev → rank lev ≤ 1 → run (Want lev k) (tokens e (Sign mark.Comma ∷ ts)) ≡ run (AfterComma e no_exprs k) ts
+first_item : (e : Expr) → At LExpr e → Back e → (lev : Precedence) (k : Ctx) (ts : List Kind) → 1 ≤ rank lev → rank lev ≤ 1 → run (Want lev k) (tokens e (Sign mark.Comma ∷ ts)) ≡ run (AfterComma e no_exprs k) ts
 first_item e a ih lev k ts low h =
-    ih lev k (Sign mark.Comma ∷ ts) low (omega arith) (follows (level e) 1 (Sign mark.Comma ∷ ts) a (stops_expr (level e) a) (omega arith, refl))
-    ∙ settles lev LExprs (level e) e k (Sign mark.Comma ∷ ts) (omega arith) (omega arith)
+    ih lev k (Sign mark.Comma ∷ ts) low (omega arith) (follows (precedence e) 1 (Sign mark.Comma ∷ ts) a (stops_expr (precedence e) a) (omega arith, refl))
+    ∙ settles lev LExprs (precedence e) e k (Sign mark.Comma ∷ ts) (omega arith) (omega arith)
     ∙ ap (λ (c : Ctx). run (Have e c) (Sign mark.Comma ∷ ts)) (exprs_first_open lev k low h)
 
 -- a tuple that is read, in the stack of its level
-close_tuple : (e : Expr) (lev : Level) (k : Ctx) (rest : List Kind) → 1 ≤ rank lev → rank lev ≤ 1 → Ends rest → run (Have e k) rest ≡ run (Have e (upto_exprs lev k)) rest
+close_tuple : (e : Expr) (lev : Precedence) (k : Ctx) (rest : List Kind) → 1 ≤ rank lev → rank lev ≤ 1 → Ends rest → run (Have e k) rest ≡ run (Have e (upto_exprs lev k)) rest
 close_tuple e lev k rest low h b = past_first e k rest b ∙ ap (λ (c : Ctx). run (Have e c) rest) (sym (exprs_first_open lev k low h))
 
 pub back_one : (e : Expr) (c : Bool) → c ≡ true → At LExpr e → Back e → Back (tuple (exprs e no_exprs) c)
@@ -186,19 +186,19 @@ pub back_list : (es : Exprs) (c : Bool) → NormalItems es c → AllBack es → 
 back_list es c n ih lev k rest low h f = read_items a_list es c n ih (upto_term lev k) rest
 
 -- what is called, indexed or asked for a name, up to the token after it
-is_post : (l : Level) → 10 ≤ rank l → l ≡ LPost
+is_post : (l : Precedence) → 10 ≤ rank l → l ≡ LPost
 is_post LPost h = refl
 is_post l h = absurd (omega arith)
 
-read_head : (f : Expr) → At LPost f → Back f → (lev : Level) (k : Ctx) (t : Kind) (ts : List Kind) → 1 ≤ rank lev → is_string (class t) ≡ false → run (Want lev k) (tokens f (t ∷ ts)) ≡ run (Have f (on post_rest (upto_term lev k))) (t ∷ ts)
+read_head : (f : Expr) → At LPost f → Back f → (lev : Precedence) (k : Ctx) (t : Kind) (ts : List Kind) → 1 ≤ rank lev → is_string (class t) ≡ false → run (Want lev k) (tokens f (t ∷ ts)) ≡ run (Have f (on post_rest (upto_term lev k))) (t ∷ ts)
 read_head f a ih lev k t ts low q =
-    let post : level f ≡ LPost = is_post (level f) a in
+    let post : precedence f ≡ LPost = is_post (precedence f) a in
     let any : rank lev ≤ 10 = highest lev in
     let tight : rank (binds (class t)) ≤ 10 = highest (binds (class t)) in
-    ih lev k (t ∷ ts) low (omega arith) (follows (level f) 10 (t ∷ ts) (omega arith) (ten (level f) a) (tight, q))
-    ∙ ap (λ (l : Level). run (Have f (upto lev l k)) (t ∷ ts)) post
+    ih lev k (t ∷ ts) low (omega arith) (follows (precedence f) 10 (t ∷ ts) (omega arith) (ten (precedence f) a) (tight, q))
+    ∙ ap (λ (l : Precedence). run (Have f (upto lev l k)) (t ∷ ts)) post
   where
-    ten : (l : Level) → 10 ≤ rank l → 10 ≤ stops l
+    ten : (l : Precedence) → 10 ≤ rank l → 10 ≤ stops l
     ten LPost h = omega arith
     ten l h = absurd (omega arith)
 
@@ -219,7 +219,7 @@ back_index f e a ae ne ihf ihe lev k rest low h b =
     ∙ read_item e ae ihe (on (index_first f) (upto_term lev k)) (Sign mark.RightBracket ∷ rest) (omega arith, refl)
 
 -- the first of several indices, and the comma
-first_index : (f e : Expr) → At LPost f → At LExpr e → Normal e → Back f → Back e → (lev : Level) (k : Ctx) (ts : List Kind) → 1 ≤ rank lev → run (Want lev k) (tokens f (Sign mark.LeftBracket ∷ tokens e (Sign mark.Comma ∷ ts))) ≡ run (AfterComma e no_exprs (on (in_index f) (upto_term lev k))) ts
+first_index : (f e : Expr) → At LPost f → At LExpr e → Normal e → Back f → Back e → (lev : Precedence) (k : Ctx) (ts : List Kind) → 1 ≤ rank lev → run (Want lev k) (tokens f (Sign mark.LeftBracket ∷ tokens e (Sign mark.Comma ∷ ts))) ≡ run (AfterComma e no_exprs (on (in_index f) (upto_term lev k))) ts
 first_index f e a ae ne ihf ihe lev k ts low =
     read_head f a ihf lev k (Sign mark.LeftBracket) (tokens e (Sign mark.Comma ∷ ts)) low refl
     ∙ begin_alike (IndexOpen f (upto_term lev k)) (Want LExpr (on (index_first f) (upto_term lev k))) e (Sign mark.Comma ∷ ts) ne (index_open f (upto_term lev k))

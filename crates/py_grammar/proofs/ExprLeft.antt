@@ -6,9 +6,9 @@ use Rattle.py_syntax.specs.declared.expr.Comparison.TheVariants.{Op}
 use Rattle.py_syntax.specs.declared.expr.Sign.TheVariants as sign_
 use Rattle.py_syntax.specs.Tree.{Expr, tuple, not', unary, compare, Exprs, no_exprs, exprs, no_pairs}
 use Rattle.py_syntax.specs.Tree as tree_
-use Rattle.py_syntax.specs.Normal.{Level, LExprs, LExpr, LNot, LUnary, LPost, is_target, are_targets}
-use Rattle.py_grammar.specs.TokenClasses.{b_op, TokenClass, t_name, t_none, t_bool, t_string, t_format, t_bad_format, t_not, t_is, t_if, t_else, t_compare, t_operator, t_comma, t_colon, t_dot, t_left_paren, t_right_paren, t_left_bracket, t_right_bracket, t_right_brace, operator_level, operator_right, joined, begins}
-use Rattle.py_grammar.specs.Machine.{at_most, same_level, snoc, snoc_link, strings_of, Goal, any, one, target, targets, Opener, a_call, a_list, exprs_first, exprs_rest, cond_first, cond_test, cond_else, first, right, not_of, compare_first, compare_rest, unary_of, post_rest, in_items, index_first, in_index, slice_to, in_paren, in_key, in_value, Ctx, Outside, on, State, Want, Have, Strings, AfterOpen, AfterComma, AfterTarget, ItemsOpen, ItemsComma, DictOpen, DictComma, IndexOpen, SliceColon, AfterDot, AfterNot, AfterIs, AfterIsNot, Linked, Out, Next, Stuck, Left, upto, begin, close_items, leave, give, step}
+use Rattle.py_syntax.specs.Normal.{Precedence, LExprs, LExpr, LNot, LUnary, LPost, is_target, are_targets}
+use Rattle.py_grammar.specs.TokenClasses.{b_op, TokenClass, t_name, t_none, t_bool, t_string, t_format, t_bad_format, t_not, t_is, t_if, t_else, t_compare, t_operator, t_comma, t_colon, t_dot, t_left_paren, t_right_paren, t_left_bracket, t_right_bracket, t_right_brace, operator_precedence, operator_right, joined, begins}
+use Rattle.py_grammar.specs.Machine.{at_most, same_precedence, snoc, snoc_link, strings_of, Goal, any, one, target, targets, Opener, a_call, a_list, exprs_first, exprs_rest, cond_first, cond_test, cond_else, first, right, not_of, compare_first, compare_rest, unary_of, post_rest, in_items, index_first, in_index, slice_to, in_paren, in_key, in_value, Ctx, Outside, on, State, Want, Have, Strings, AfterOpen, AfterComma, AfterTarget, ItemsOpen, ItemsComma, DictOpen, DictComma, IndexOpen, SliceColon, AfterDot, AfterNot, AfterIs, AfterIsNot, Linked, Out, Next, Stuck, Left, upto, begin, close_items, leave, give, step}
 use Rattle.py_grammar.specs.Least.{least_name, wants, whole, finished}
 use Rattle.py_grammar.proofs.Finish.{as_target_same}
 use Rattle.py_grammar.proofs.Grows.{tuple_snoc, and_left, and_right, true_and}
@@ -38,7 +38,7 @@ close_keeps (a_call f) es c k t other h = h
 close_keeps a_list es c k t_right_bracket other h = tt
 close_keeps a_list es c k t other h = h
 
-begin_keeps : (lev : Level) (k : Ctx) (t : TokenClass) → Stays (begin lev k t)
+begin_keeps : (lev : Precedence) (k : Ctx) (t : TokenClass) → Stays (begin lev k t)
 begin_keeps lev k (t_name x) = tt
 begin_keeps lev k t_not = go (at_most lev LNot)
   where
@@ -70,7 +70,7 @@ no_left e (on (exprs_rest f es) k) t_comma w n = tt
 no_left e (on (exprs_rest f es) k) t w n = no_left (tuple (exprs f (snoc es e)) false) k t (and_right (is_target f && are_targets es) (wants k) w) (not_item f es e k w n)
 no_left e (on cond_first k) t_if w n = tt
 no_left e (on cond_first k) t w n = no_left e k t w n
-no_left e (on (first l) k) (t_operator j) w n = go (same_level l (operator_level j)) (no_left e k (t_operator j) w n)
+no_left e (on (first l) k) (t_operator j) w n = go (same_precedence l (operator_precedence j)) (no_left e k (t_operator j) w n)
   where
     go : (b : Bool) → Stays (give e k (t_operator j)) → Stays (cond b (Next (Want (operator_right j) (on (right j e) k))) (give e k (t_operator j)))
     go true rec = tt
@@ -120,13 +120,13 @@ give_left x e (on cond_first k) t h = give_left x e k t h
 give_left x e (on (cond_test b) k) t_else h = tt
 give_left x e (on (cond_test b) k) t h = tt
 give_left x e (on (cond_else b c) k) t h = give_left x (tree_.cond b c e) k t h
-give_left x e (on (first l) k) (t_operator j) h = go (same_level l (operator_level j)) (give_left x e k (t_operator j) h)
+give_left x e (on (first l) k) (t_operator j) h = go (same_precedence l (operator_precedence j)) (give_left x e k (t_operator j) h)
   where
     go : (b : Bool) → LeavesIt x (give e k (t_operator j)) → LeavesIt x (cond b (Next (Want (operator_right j) (on (right j e) k))) (give e k (t_operator j)))
     go true rec = tt
     go false rec = rec
 give_left x e (on (first l) k) t h = give_left x e k t h
-give_left x e (on (right i a) k) (t_operator j) h = go (same_level (operator_level i) (operator_level j)) (give_left x (joined i a e) k (t_operator j) h)
+give_left x e (on (right i a) k) (t_operator j) h = go (same_precedence (operator_precedence i) (operator_precedence j)) (give_left x (joined i a e) k (t_operator j) h)
   where
     go : (b : Bool) → LeavesIt x (give (joined i a e) k (t_operator j)) → LeavesIt x (cond b (Next (Want (operator_right j) (on (right j (joined i a e)) k))) (give (joined i a e) k (t_operator j)))
     go true rec = tt
@@ -169,7 +169,7 @@ give_left x e (on (in_value ps key) k) t_comma h = tt
 give_left x e (on (in_value ps key) k) t_right_brace h = tt
 give_left x e (on (in_value ps key) k) t h = tt
 
-begin_left : (x : Expr) (lev : Level) (k : Ctx) (t : TokenClass) → LeavesIt x (begin lev k t)
+begin_left : (x : Expr) (lev : Precedence) (k : Ctx) (t : TokenClass) → LeavesIt x (begin lev k t)
 begin_left x lev k t = kept x (begin lev k t) (begin_keeps lev k t)
 
 -- what a token leaves of a state is its least tree

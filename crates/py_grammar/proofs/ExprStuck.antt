@@ -10,8 +10,8 @@ use Rattle.py_syntax.specs.Tree.{Expr, tuple, not', unary, compare, no_exprs, ex
 use Rattle.py_syntax.specs.Tree as tree_
 use Rattle.py_syntax.specs.Kinds.{Kind, Word, FString, Sign, End}
 use Rattle.py_syntax.specs.Normal.{LExpr, LPost, is_target}
-use Rattle.py_grammar.specs.TokenClasses.{b_op, TokenClass, t_name, t_int, t_none, t_bool, t_string, t_format, t_bad_format, t_not, t_is, t_if, t_compare, t_operator, t_comma, t_dot, t_left_paren, t_left_bracket, t_left_brace, t_other, operator_level, operator_right, joined, begins}
-use Rattle.py_grammar.specs.Machine.{same_level, snoc, snoc_link, strings_of, Goal, any, one, target, targets, a_call, a_list, exprs_first, exprs_rest, cond_first, cond_test, cond_else, first, right, not_of, compare_first, compare_rest, unary_of, post_rest, in_items, index_first, in_index, slice_to, in_paren, in_key, in_value, Ctx, Outside, on, State, Want, Have, Strings, AfterOpen, AfterComma, AfterTarget, ItemsOpen, ItemsComma, DictOpen, DictComma, IndexOpen, SliceColon, AfterDot, AfterNot, AfterIs, AfterIsNot, Linked, Out, Next, Stuck, Left, begin, give, step, class}
+use Rattle.py_grammar.specs.TokenClasses.{b_op, TokenClass, t_name, t_int, t_none, t_bool, t_string, t_format, t_bad_format, t_not, t_is, t_if, t_compare, t_operator, t_comma, t_dot, t_left_paren, t_left_bracket, t_left_brace, t_other, operator_precedence, operator_right, joined, begins}
+use Rattle.py_grammar.specs.Machine.{same_precedence, snoc, snoc_link, strings_of, Goal, any, one, target, targets, a_call, a_list, exprs_first, exprs_rest, cond_first, cond_test, cond_else, first, right, not_of, compare_first, compare_rest, unary_of, post_rest, in_items, index_first, in_index, slice_to, in_paren, in_key, in_value, Ctx, Outside, on, State, Want, Have, Strings, AfterOpen, AfterComma, AfterTarget, ItemsOpen, ItemsComma, DictOpen, DictComma, IndexOpen, SliceColon, AfterDot, AfterNot, AfterIs, AfterIsNot, Linked, Out, Next, Stuck, Left, begin, give, step, class}
 use Rattle.py_grammar.proofs.Valid.{Sound}
 use Rattle.py_grammar.specs.ExprTrees.{IsRefused}
 
@@ -54,13 +54,13 @@ give_stuck e (on cond_first k) t_if h = absurd cc
 give_stuck e (on cond_first k) t h = give_stuck e k t h
 give_stuck e (on (cond_test b) k) t h = refl
 give_stuck e (on (cond_else b c) k) t h = give_stuck (tree_.cond b c e) k t h
-give_stuck e (on (first l) k) (t_operator j) h = go (same_level l (operator_level j)) (λ i. give_stuck e k (t_operator j) i) h
+give_stuck e (on (first l) k) (t_operator j) h = go (same_precedence l (operator_precedence j)) (λ i. give_stuck e k (t_operator j) i) h
   where
     go : (b : Bool) → (stuck (give e k (t_operator j)) ≡ true → left (give e k (t_other End)) ≡ false) → stuck (cond b (Next (Want (operator_right j) (on (right j e) k))) (give e k (t_operator j))) ≡ true → left (give e k (t_other End)) ≡ false
     go true rec h = absurd cc
     go false rec h = rec h
 give_stuck e (on (first l) k) t h = give_stuck e k t h
-give_stuck e (on (right i a) k) (t_operator j) h = go (same_level (operator_level i) (operator_level j)) (λ x. give_stuck (joined i a e) k (t_operator j) x) h
+give_stuck e (on (right i a) k) (t_operator j) h = go (same_precedence (operator_precedence i) (operator_precedence j)) (λ x. give_stuck (joined i a e) k (t_operator j) x) h
   where
     go : (b : Bool) → (stuck (give (joined i a e) k (t_operator j)) ≡ true → left (give (joined i a e) k (t_other End)) ≡ false) → stuck (cond b (Next (Want (operator_right j) (on (right j (joined i a e)) k))) (give (joined i a e) k (t_operator j))) ≡ true → left (give (joined i a e) k (t_other End)) ≡ false
     go true rec h = absurd cc

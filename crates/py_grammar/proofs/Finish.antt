@@ -8,8 +8,8 @@ use Rattle.py_syntax.specs.declared.expr.Comparison.TheVariants.{Op, Is, IsNot}
 use Rattle.py_syntax.specs.Tree.{Expr, none, tuple, dict, paren, not', and, unary, compare, index, slice, attr, Exprs, no_exprs, exprs, no_pairs, absent, present}
 use Rattle.py_syntax.specs.Tree as tree_
 use Rattle.py_syntax.specs.Kinds.{Kind, Name, Word, Sign}
-use Rattle.py_syntax.specs.Normal.{Level, LExpr, LOr, LAnd, LSum, LTerm, LPost, rank, is_target}
-use Rattle.py_grammar.specs.TokenClasses.{BinaryOperator, b_or, b_and, b_op, TokenClass, t_comma, operator_level, operator_right, joined, binds, begins}
+use Rattle.py_syntax.specs.Normal.{Precedence, LExpr, LOr, LAnd, LSum, LTerm, LPost, rank, is_target}
+use Rattle.py_grammar.specs.TokenClasses.{BinaryOperator, b_or, b_and, b_op, TokenClass, t_comma, operator_precedence, operator_right, joined, binds, begins}
 use Rattle.py_grammar.specs.Machine.{snoc, snoc_pair, snoc_link, strings_of, Goal, any, one, target, targets, Opener, a_call, a_list, made, Frame, exprs_first, exprs_rest, cond_first, cond_test, cond_else, first, right, not_of, compare_first, compare_rest, unary_of, post_rest, in_items, index_first, in_index, slice_to, in_paren, in_key, in_value, Ctx, Outside, on, State, Want, Have, Strings, AfterOpen, AfterComma, AfterTarget, ItemsOpen, ItemsComma, DictOpen, DictComma, IndexOpen, SliceColon, AfterDot, AfterNot, AfterIs, AfterIsNot, Linked, Out, Stuck, Left, upto_cond, upto_or, upto_and, upto_compare, upto_sum, upto_term, upto, leave, give, step, class, Leaves, run}
 use Rattle.py_grammar.specs.Least.{least_name, as_target, target_if, wants, fit, whole}
 use Rattle.py_grammar.proofs.Valid.{needs, Valid, highest, operator_rank}
@@ -131,7 +131,7 @@ opener_heads : (o : Opener) (es : Exprs) (k : Ctx) (ts : List Kind) → Heads (o
 opener_heads (a_call f) es k ts = (omega arith, refl, λ low. refl)
 opener_heads a_list es k ts = (omega arith, refl, λ low. refl)
 
-right_low : (j : BinaryOperator) → (rank (operator_right j) ≤ 9) × (2 ≤ rank (operator_right j)) × (rank (operator_level j) ≤ rank (operator_right j))
+right_low : (j : BinaryOperator) → (rank (operator_right j) ≤ 9) × (2 ≤ rank (operator_right j)) × (rank (operator_precedence j) ≤ rank (operator_right j))
 right_low b_or = (omega arith, omega arith, omega arith)
 right_low b_and = (omega arith, omega arith, omega arith)
 right_low (b_op op_.Add) = (omega arith, omega arith, omega arith)
@@ -140,7 +140,7 @@ right_low (b_op op_.Mul) = (omega arith, omega arith, omega arith)
 right_low (b_op op_.Floor) = (omega arith, omega arith, omega arith)
 right_low (b_op op_.Mod) = (omega arith, omega arith, omega arith)
 
-goal_first : (l : Level) (k : Ctx) (ts : List Kind) → rank (needs k) ≤ rank l → Heads k ts → Heads (on (first l) k) ts
+goal_first : (l : Precedence) (k : Ctx) (ts : List Kind) → rank (needs k) ≤ rank l → Heads k ts → Heads (on (first l) k) ts
 goal_first l k [] u h = absurd h
 goal_first l k (t ∷ ts) u h = (let x = h.0 in omega arith, h.1, λ low. h.2 (omega arith))
 
@@ -256,7 +256,7 @@ closes g (on (cond_else b d) k) e t r valid c m = let u = valid.4 in let low : r
 closes g (on (first l) k) e t r valid c m = let u = valid.1 in let eight = valid.0 in let low : rank (needs k) ≤ 9 = omega arith in
     passes k (Have e (on (first l) k)) (Have e k) (λ v lt. pass_first e l k v (omega arith)) (closing k e (t ∷ r)) (heads g k e t r valid.2 c (settled_low k e low)) ∙ closes g k e t r valid.2 c (meant_low k e low)
 closes g (on (right j a) k) e t r valid c m = let u = valid.2 in let some = operator_rank j in let eight = some.1 in let low : rank (needs k) ≤ 9 = omega arith in let x = joined j a e in
-    passes k (Have e (on (right j a) k)) (Have x k) (λ v lt. give_right j a e k v ∙ pass_first x (operator_level j) k v (omega arith)) (closing k x (t ∷ r)) (heads g k x t r valid.3 c (settled_low k x low)) ∙ closes g k x t r valid.3 c (meant_low k x low)
+    passes k (Have e (on (right j a) k)) (Have x k) (λ v lt. give_right j a e k v ∙ pass_first x (operator_precedence j) k v (omega arith)) (closing k x (t ∷ r)) (heads g k x t r valid.3 c (settled_low k x low)) ∙ closes g k x t r valid.3 c (meant_low k x low)
 closes g (on not_of k) e t r valid c m = let u = valid.0 in let low : rank (needs k) ≤ 9 = omega arith in
     passes k (Have e (on not_of k)) (Have (not' e) k) (λ v lt. refl) (closing k (not' e) (t ∷ r)) (heads g k (not' e) t r valid.1 c (settled_low k (not' e) low)) ∙ closes g k (not' e) t r valid.1 c (meant_low k (not' e) low)
 closes g (on compare_first k) e t r valid c m = let u = valid.0 in let low : rank (needs k) ≤ 9 = omega arith in

@@ -5,7 +5,7 @@ use Rattle.py_token.specs.declared.token.Mark.TheVariants as mark
 use Rattle.py_syntax.specs.declared.expr.Comparison.TheVariants.{Is, IsNot}
 use Rattle.py_syntax.specs.Tree.{Expr, none, tuple, dict, compare, index, slice, attr, Exprs, no_exprs, exprs, no_pairs, Links, absent, Fragments}
 use Rattle.py_syntax.specs.Kinds.{Kind, Name, Sign}
-use Rattle.py_syntax.specs.Normal.{Level, LExprs, LExpr, LOr, LAnd, LCmp, LSum, LTerm, LPost, rank, is_target}
+use Rattle.py_syntax.specs.Normal.{Precedence, LExprs, LExpr, LOr, LAnd, LCmp, LSum, LTerm, LPost, rank, is_target}
 use Rattle.py_grammar.specs.TokenClasses.{begins}
 use Rattle.py_grammar.specs.Machine.{at_most, snoc_link, strings_of, Goal, targets, made, exprs_first, exprs_rest, cond_first, first, compare_first, compare_rest, post_rest, Ctx, Outside, on, State, Want, Have, Strings, AfterOpen, AfterComma, AfterTarget, ItemsOpen, ItemsComma, DictOpen, DictComma, IndexOpen, SliceColon, AfterDot, AfterNot, AfterIs, AfterIsNot, Linked, Out, Left, upto_exprs, upto_cond, upto_or, upto_and, upto_compare, upto_sum, upto_term, upto, begin, give, class, Leaves, run}
 use Rattle.py_grammar.specs.Least.{least_name, target_if, wants, fit, whole, finished}
@@ -19,56 +19,56 @@ use Rattle.py_grammar.proofs.Finish.{closing, finish, Closes, Meant, meant_low, 
 
 -- ---- the frames that are pushed add nothing
 
-exprs_whole : (lev : Level) (k : Ctx) (e : Expr) → whole (upto_exprs lev k) e ≡ whole k e
+exprs_whole : (lev : Precedence) (k : Ctx) (e : Expr) → whole (upto_exprs lev k) e ≡ whole k e
 exprs_whole lev k e = elim (at_most lev LExprs) as (λ b. whole (cond b (on exprs_first k) k) e ≡ whole k e) [ true ↦ refl | false ↦ refl ]
 
-cond_whole : (lev : Level) (k : Ctx) (e : Expr) → whole (upto_cond lev k) e ≡ whole k e
+cond_whole : (lev : Precedence) (k : Ctx) (e : Expr) → whole (upto_cond lev k) e ≡ whole k e
 cond_whole lev k e = elim (at_most lev LExpr) as (λ b. whole (cond b (on cond_first (upto_exprs lev k)) k) e ≡ whole k e) [ true ↦ exprs_whole lev k e | false ↦ refl ]
 
-or_whole : (lev : Level) (k : Ctx) (e : Expr) → whole (upto_or lev k) e ≡ whole k e
+or_whole : (lev : Precedence) (k : Ctx) (e : Expr) → whole (upto_or lev k) e ≡ whole k e
 or_whole lev k e = elim (at_most lev LOr) as (λ b. whole (cond b (on (first LOr) (upto_cond lev k)) k) e ≡ whole k e) [ true ↦ cond_whole lev k e | false ↦ refl ]
 
-pub and_whole : (lev : Level) (k : Ctx) (e : Expr) → whole (upto_and lev k) e ≡ whole k e
+pub and_whole : (lev : Precedence) (k : Ctx) (e : Expr) → whole (upto_and lev k) e ≡ whole k e
 and_whole lev k e = elim (at_most lev LAnd) as (λ b. whole (cond b (on (first LAnd) (upto_or lev k)) k) e ≡ whole k e) [ true ↦ or_whole lev k e | false ↦ refl ]
 
-compare_whole : (lev : Level) (k : Ctx) (e : Expr) → whole (upto_compare lev k) e ≡ whole k e
+compare_whole : (lev : Precedence) (k : Ctx) (e : Expr) → whole (upto_compare lev k) e ≡ whole k e
 compare_whole lev k e = elim (at_most lev LCmp) as (λ b. whole (cond b (on compare_first (upto_and lev k)) k) e ≡ whole k e) [ true ↦ and_whole lev k e | false ↦ refl ]
 
-sum_whole : (lev : Level) (k : Ctx) (e : Expr) → whole (upto_sum lev k) e ≡ whole k e
+sum_whole : (lev : Precedence) (k : Ctx) (e : Expr) → whole (upto_sum lev k) e ≡ whole k e
 sum_whole lev k e = elim (at_most lev LSum) as (λ b. whole (cond b (on (first LSum) (upto_compare lev k)) k) e ≡ whole k e) [ true ↦ compare_whole lev k e | false ↦ refl ]
 
-pub term_whole : (lev : Level) (k : Ctx) (e : Expr) → whole (upto_term lev k) e ≡ whole k e
+pub term_whole : (lev : Precedence) (k : Ctx) (e : Expr) → whole (upto_term lev k) e ≡ whole k e
 term_whole lev k e = elim (at_most lev LTerm) as (λ b. whole (cond b (on (first LTerm) (upto_sum lev k)) k) e ≡ whole k e) [ true ↦ sum_whole lev k e | false ↦ refl ]
 
-exprs_wants : (lev : Level) (k : Ctx) → wants (upto_exprs lev k) ≡ wants k
+exprs_wants : (lev : Precedence) (k : Ctx) → wants (upto_exprs lev k) ≡ wants k
 exprs_wants lev k = elim (at_most lev LExprs) as (λ b. wants (cond b (on exprs_first k) k) ≡ wants k) [ true ↦ refl | false ↦ refl ]
 
-cond_wants : (lev : Level) (k : Ctx) → wants (upto_cond lev k) ≡ wants k
+cond_wants : (lev : Precedence) (k : Ctx) → wants (upto_cond lev k) ≡ wants k
 cond_wants lev k = elim (at_most lev LExpr) as (λ b. wants (cond b (on cond_first (upto_exprs lev k)) k) ≡ wants k) [ true ↦ exprs_wants lev k | false ↦ refl ]
 
-or_wants : (lev : Level) (k : Ctx) → wants (upto_or lev k) ≡ wants k
+or_wants : (lev : Precedence) (k : Ctx) → wants (upto_or lev k) ≡ wants k
 or_wants lev k = elim (at_most lev LOr) as (λ b. wants (cond b (on (first LOr) (upto_cond lev k)) k) ≡ wants k) [ true ↦ cond_wants lev k | false ↦ refl ]
 
-and_wants : (lev : Level) (k : Ctx) → wants (upto_and lev k) ≡ wants k
+and_wants : (lev : Precedence) (k : Ctx) → wants (upto_and lev k) ≡ wants k
 and_wants lev k = elim (at_most lev LAnd) as (λ b. wants (cond b (on (first LAnd) (upto_or lev k)) k) ≡ wants k) [ true ↦ or_wants lev k | false ↦ refl ]
 
-compare_wants : (lev : Level) (k : Ctx) → wants (upto_compare lev k) ≡ wants k
+compare_wants : (lev : Precedence) (k : Ctx) → wants (upto_compare lev k) ≡ wants k
 compare_wants lev k = elim (at_most lev LCmp) as (λ b. wants (cond b (on compare_first (upto_and lev k)) k) ≡ wants k) [ true ↦ and_wants lev k | false ↦ refl ]
 
-sum_wants : (lev : Level) (k : Ctx) → wants (upto_sum lev k) ≡ wants k
+sum_wants : (lev : Precedence) (k : Ctx) → wants (upto_sum lev k) ≡ wants k
 sum_wants lev k = elim (at_most lev LSum) as (λ b. wants (cond b (on (first LSum) (upto_compare lev k)) k) ≡ wants k) [ true ↦ compare_wants lev k | false ↦ refl ]
 
-pub term_wants : (lev : Level) (k : Ctx) → wants (upto_term lev k) ≡ wants k
+pub term_wants : (lev : Precedence) (k : Ctx) → wants (upto_term lev k) ≡ wants k
 term_wants lev k = elim (at_most lev LTerm) as (λ b. wants (cond b (on (first LTerm) (upto_sum lev k)) k) ≡ wants k) [ true ↦ sum_wants lev k | false ↦ refl ]
 
 -- an expression where a postfix may go on, in the stack under the frames that are pushed for it
-pub post_whole : (lev : Level) (k : Ctx) (e : Expr) → whole (upto lev LPost k) e ≡ whole k (fit k e)
+pub post_whole : (lev : Precedence) (k : Ctx) (e : Expr) → whole (upto lev LPost k) e ≡ whole k (fit k e)
 post_whole lev k e = term_whole lev k (fit (upto_term lev k) e) ∙ ap (λ (b : Bool). whole k (target_if b e)) (term_wants lev k)
 
 fit_name : (k : Ctx) → fit k least_name ≡ least_name
 fit_name k = elim (wants k) as (λ b. target_if b least_name ≡ least_name) [ true ↦ refl | false ↦ refl ]
 
-pub name_whole : (lev : Level) (k : Ctx) → whole (upto lev LPost k) least_name ≡ whole k least_name
+pub name_whole : (lev : Precedence) (k : Ctx) → whole (upto lev LPost k) least_name ≡ whole k least_name
 name_whole lev k = post_whole lev k least_name ∙ ap (whole k) (fit_name k)
 
 -- ---- states
@@ -115,7 +115,7 @@ linked_closes g a ls k t r u valid c =
     passes k (Linked a ls k) (Have (compare a ls) k) (λ v lt. pass_linked a ls k v (omega arith)) (closing k (compare a ls) (t ∷ r)) (heads g k (compare a ls) t r valid c (settled_low k (compare a ls) low))
     ∙ closes g k (compare a ls) t r valid c (meant_low k (compare a ls) low)
 
-name_closes : (g : Goal) (lev : Level) (k : Ctx) (t : Kind) (r : List Kind) → Under k lev → Valid g k → Closes g (class t) → run (Have least_name (upto lev LPost k)) (closing (upto lev LPost k) least_name (t ∷ r)) ≡ Leaves (whole k least_name) (t ∷ r)
+name_closes : (g : Goal) (lev : Precedence) (k : Ctx) (t : Kind) (r : List Kind) → Under k lev → Valid g k → Closes g (class t) → run (Have least_name (upto lev LPost k)) (closing (upto lev LPost k) least_name (t ∷ r)) ≡ Leaves (whole k least_name) (t ∷ r)
 name_closes g lev k t r u valid c = closes g (upto lev LPost k) least_name t r (term_fits g lev k u valid).0 c tt ∙ ap (λ (e : Expr). Leaves e (t ∷ r)) (name_whole lev k)
 
 target_closes : (f : Expr) (es : Exprs) (t : Kind) (r : List Kind) → begins (class t) ≡ false → run (AfterTarget f es) (t ∷ r) ≡ Leaves (tuple (exprs f es) true) (t ∷ r)

@@ -6,9 +6,9 @@ use Rattle.py_syntax.specs.declared.expr.Comparison.TheVariants.{Op, Is, IsNot}
 use Rattle.py_syntax.specs.declared.expr.Sign.TheVariants as sign_
 use Rattle.py_syntax.specs.Tree.{Expr, none, bool, tuple, not', and, or, unary, compare, Exprs, no_exprs, exprs, no_pairs, Fragments}
 use Rattle.py_syntax.specs.Tree as tree_
-use Rattle.py_syntax.specs.Normal.{Level, LExprs, LExpr, LOr, LAnd, LNot, LCmp, LSum, LTerm, LUnary, LPost, rank, level, At, Normal, NormalItems, NormalFragments, is_target, are_targets}
-use Rattle.py_grammar.specs.TokenClasses.{b_op, TokenClass, t_name, t_int, t_none, t_bool, t_string, t_format, t_bad_format, t_not, t_is, t_if, t_else, t_compare, t_operator, t_comma, t_colon, t_dot, t_left_paren, t_right_paren, t_left_bracket, t_right_bracket, t_left_brace, t_right_brace, operator_level, operator_right, joined, begins}
-use Rattle.py_grammar.specs.Machine.{at_most, same_level, snoc, snoc_pair, snoc_link, strings_of, Goal, any, one, target, targets, Opener, a_call, a_list, exprs_first, exprs_rest, cond_first, cond_test, cond_else, first, right, not_of, compare_first, compare_rest, unary_of, post_rest, in_items, index_first, in_index, slice_to, in_paren, in_key, in_value, Ctx, Outside, on, State, Want, Have, Strings, AfterOpen, AfterComma, AfterTarget, ItemsOpen, ItemsComma, DictOpen, DictComma, IndexOpen, SliceColon, AfterDot, AfterNot, AfterIs, AfterIsNot, Linked, Out, Next, Stuck, Left, upto_exprs, upto_cond, upto_or, upto_and, upto_compare, upto_sum, upto_term, begin, close_items, leave, give, step}
+use Rattle.py_syntax.specs.Normal.{Precedence, LExprs, LExpr, LOr, LAnd, LNot, LCmp, LSum, LTerm, LUnary, LPost, rank, precedence, At, Normal, NormalItems, NormalFragments, is_target, are_targets}
+use Rattle.py_grammar.specs.TokenClasses.{b_op, TokenClass, t_name, t_int, t_none, t_bool, t_string, t_format, t_bad_format, t_not, t_is, t_if, t_else, t_compare, t_operator, t_comma, t_colon, t_dot, t_left_paren, t_right_paren, t_left_bracket, t_right_bracket, t_left_brace, t_right_brace, operator_precedence, operator_right, joined, begins}
+use Rattle.py_grammar.specs.Machine.{at_most, same_precedence, snoc, snoc_pair, snoc_link, strings_of, Goal, any, one, target, targets, Opener, a_call, a_list, exprs_first, exprs_rest, cond_first, cond_test, cond_else, first, right, not_of, compare_first, compare_rest, unary_of, post_rest, in_items, index_first, in_index, slice_to, in_paren, in_key, in_value, Ctx, Outside, on, State, Want, Have, Strings, AfterOpen, AfterComma, AfterTarget, ItemsOpen, ItemsComma, DictOpen, DictComma, IndexOpen, SliceColon, AfterDot, AfterNot, AfterIs, AfterIsNot, Linked, Out, Next, Stuck, Left, upto_exprs, upto_cond, upto_or, upto_and, upto_compare, upto_sum, upto_term, begin, close_items, leave, give, step}
 use Rattle.std.proofs.lemmas.Bool.{leb-true, eqb-true}
 use Rattle.py_grammar.proofs.Valid.{needs, Under, ValidOpener, Valid, SomeStrings, Sound, Keeps, ValidClass, highest, joined_level, joined_normal, targets_snoc, each_snoc, pairs_snoc, links_snoc, some_snoc, some_pairs_snoc, some_links_snoc, plain_snoc, format_snoc, some_plain_snoc, some_format_snoc, strings_normal, tuple_snoc, tuple_comma, items_some, entries_some, compare_some}
 
@@ -56,15 +56,15 @@ give_keeps g e (on cond_first k) t a n h = give_keeps g e k t (omega arith) n h.
 give_keeps g e (on (cond_test b) k) t_else a n h = (omega arith, (h.0, h.1, a, n, h.2, h.3))
 give_keeps g e (on (cond_test b) k) t a n h = tt
 give_keeps g e (on (cond_else b c) k) t a n h = give_keeps g (tree_.cond b c e) k t h.4 (h.0, h.1, h.2, h.3, a, n) h.5
-give_keeps g e (on (first l) k) (t_operator j) a n h = go (same_level l (operator_level j)) refl (give_keeps g e k (t_operator j) (let u = h.1 in omega arith) n h.2)
+give_keeps g e (on (first l) k) (t_operator j) a n h = go (same_precedence l (operator_precedence j)) refl (give_keeps g e k (t_operator j) (let u = h.1 in omega arith) n h.2)
   where
-    go : (b : Bool) → same_level l (operator_level j) ≡ b → Keeps g (give e k (t_operator j)) → Keeps g (cond b (Next (Want (operator_right j) (on (right j e) k))) (give e k (t_operator j)))
-    go true is keeps = let same : rank l ≡ rank (operator_level j) = eqb-true _ _ is in (let u = h.1 in (omega arith, (omega arith, n, omega arith, h.2)))
+    go : (b : Bool) → same_precedence l (operator_precedence j) ≡ b → Keeps g (give e k (t_operator j)) → Keeps g (cond b (Next (Want (operator_right j) (on (right j e) k))) (give e k (t_operator j)))
+    go true is keeps = let same : rank l ≡ rank (operator_precedence j) = eqb-true _ _ is in (let u = h.1 in (omega arith, (omega arith, n, omega arith, h.2)))
     go false is keeps = keeps
 give_keeps g e (on (first l) k) t a n h = give_keeps g e k t (let u = h.1 in omega arith) n h.2
-give_keeps g e (on (right i a') k) (t_operator j) a n h = go (same_level (operator_level i) (operator_level j)) refl (give_keeps g (joined i a' e) k (t_operator j) fits normal h.3)
+give_keeps g e (on (right i a') k) (t_operator j) a n h = go (same_precedence (operator_precedence i) (operator_precedence j)) refl (give_keeps g (joined i a' e) k (t_operator j) fits normal h.3)
   where
-    lev : level (joined i a' e) ≡ operator_level i
+    lev : precedence (joined i a' e) ≡ operator_precedence i
     lev = joined_level i a' e
 
     fits : At (needs k) (joined i a' e)
@@ -73,8 +73,8 @@ give_keeps g e (on (right i a') k) (t_operator j) a n h = go (same_level (operat
     normal : Normal (joined i a' e)
     normal = joined_normal i a' e h.0 h.1 a n
 
-    go : (b : Bool) → same_level (operator_level i) (operator_level j) ≡ b → Keeps g (give (joined i a' e) k (t_operator j)) → Keeps g (cond b (Next (Want (operator_right j) (on (right j (joined i a' e)) k))) (give (joined i a' e) k (t_operator j)))
-    go true is keeps = let same : rank (operator_level i) ≡ rank (operator_level j) = eqb-true _ _ is in (omega arith, (rw lev (omega arith), normal, omega arith, h.3))
+    go : (b : Bool) → same_precedence (operator_precedence i) (operator_precedence j) ≡ b → Keeps g (give (joined i a' e) k (t_operator j)) → Keeps g (cond b (Next (Want (operator_right j) (on (right j (joined i a' e)) k))) (give (joined i a' e) k (t_operator j)))
+    go true is keeps = let same : rank (operator_precedence i) ≡ rank (operator_precedence j) = eqb-true _ _ is in (omega arith, (rw lev (omega arith), normal, omega arith, h.3))
     go false is keeps = keeps
 give_keeps g e (on (right i a') k) t a n h = give_keeps g (joined i a' e) k t (rw (joined_level i a' e) h.2) (joined_normal i a' e h.0 h.1 a n) h.3
 give_keeps g e (on not_of k) t a n h = give_keeps g (not' e) k t h.0 (a, n) h.1
@@ -112,52 +112,52 @@ give_keeps g e (on (in_value ps key) k) t a n h = tt
 -- ---- the frames that are pushed fit
 
 -- a stack is fine, and asks for no more than that level
-abbrev Fits : Goal → ℕ → Level → Ctx → Type 0
+abbrev Fits : Goal → ℕ → Precedence → Ctx → Type 0
 Fits g least lev k = Valid g k × ((n : ℕ) → rank lev ≤ n → least ≤ n → rank (needs k) ≤ n)
 
-exprs_fits : (g : Goal) (lev : Level) (k : Ctx) → Under k lev → Valid g k → Fits g 2 lev (upto_exprs lev k)
+exprs_fits : (g : Goal) (lev : Precedence) (k : Ctx) → Under k lev → Valid g k → Fits g 2 lev (upto_exprs lev k)
 exprs_fits g lev k u h = go (at_most lev LExprs) refl
   where
     go : (b : Bool) → at_most lev LExprs ≡ b → Fits g 2 lev (cond b (on exprs_first k) k)
     go true is = let le : rank lev ≤ 1 = leb-true _ _ is in ((omega arith, h), λ n lo hi. omega arith)
     go false is = (h, λ n lo hi. omega arith)
 
-cond_fits : (g : Goal) (lev : Level) (k : Ctx) → Under k lev → Valid g k → Fits g 3 lev (upto_cond lev k)
+cond_fits : (g : Goal) (lev : Precedence) (k : Ctx) → Under k lev → Valid g k → Fits g 3 lev (upto_cond lev k)
 cond_fits g lev k u h = go (at_most lev LExpr) refl
   where
     go : (b : Bool) → at_most lev LExpr ≡ b → Fits g 3 lev (cond b (on cond_first (upto_exprs lev k)) k)
     go true is = let le : rank lev ≤ 2 = leb-true _ _ is in let x = exprs_fits g lev k u h in ((x.1 2 le (omega arith), x.0), λ n lo hi. omega arith)
     go false is = (h, λ n lo hi. omega arith)
 
-or_fits : (g : Goal) (lev : Level) (k : Ctx) → Under k lev → Valid g k → Fits g 3 lev (upto_or lev k)
+or_fits : (g : Goal) (lev : Precedence) (k : Ctx) → Under k lev → Valid g k → Fits g 3 lev (upto_or lev k)
 or_fits g lev k u h = go (at_most lev LOr) refl
   where
     go : (b : Bool) → at_most lev LOr ≡ b → Fits g 3 lev (cond b (on (first LOr) (upto_cond lev k)) k)
     go true is = let le : rank lev ≤ 3 = leb-true _ _ is in let x = cond_fits g lev k u h in ((omega arith, x.1 3 le (omega arith), x.0), λ n lo hi. omega arith)
     go false is = (h, λ n lo hi. omega arith)
 
-and_fits : (g : Goal) (lev : Level) (k : Ctx) → Under k lev → Valid g k → Fits g 4 lev (upto_and lev k)
+and_fits : (g : Goal) (lev : Precedence) (k : Ctx) → Under k lev → Valid g k → Fits g 4 lev (upto_and lev k)
 and_fits g lev k u h = go (at_most lev LAnd) refl
   where
     go : (b : Bool) → at_most lev LAnd ≡ b → Fits g 4 lev (cond b (on (first LAnd) (upto_or lev k)) k)
     go true is = let le : rank lev ≤ 4 = leb-true _ _ is in let x = or_fits g lev k u h in ((omega arith, x.1 4 le (omega arith), x.0), λ n lo hi. omega arith)
     go false is = (h, λ n lo hi. omega arith)
 
-compare_fits : (g : Goal) (lev : Level) (k : Ctx) → Under k lev → Valid g k → Fits g 7 lev (upto_compare lev k)
+compare_fits : (g : Goal) (lev : Precedence) (k : Ctx) → Under k lev → Valid g k → Fits g 7 lev (upto_compare lev k)
 compare_fits g lev k u h = go (at_most lev LCmp) refl
   where
     go : (b : Bool) → at_most lev LCmp ≡ b → Fits g 7 lev (cond b (on compare_first (upto_and lev k)) k)
     go true is = let le : rank lev ≤ 6 = leb-true _ _ is in let x = and_fits g lev k u h in ((x.1 6 le (omega arith), x.0), λ n lo hi. omega arith)
     go false is = (h, λ n lo hi. omega arith)
 
-sum_fits : (g : Goal) (lev : Level) (k : Ctx) → Under k lev → Valid g k → Fits g 7 lev (upto_sum lev k)
+sum_fits : (g : Goal) (lev : Precedence) (k : Ctx) → Under k lev → Valid g k → Fits g 7 lev (upto_sum lev k)
 sum_fits g lev k u h = go (at_most lev LSum) refl
   where
     go : (b : Bool) → at_most lev LSum ≡ b → Fits g 7 lev (cond b (on (first LSum) (upto_compare lev k)) k)
     go true is = let le : rank lev ≤ 7 = leb-true _ _ is in let x = compare_fits g lev k u h in ((omega arith, x.1 7 le (omega arith), x.0), λ n lo hi. omega arith)
     go false is = (h, λ n lo hi. omega arith)
 
-pub term_fits : (g : Goal) (lev : Level) (k : Ctx) → Under k lev → Valid g k → Fits g 8 lev (upto_term lev k)
+pub term_fits : (g : Goal) (lev : Precedence) (k : Ctx) → Under k lev → Valid g k → Fits g 8 lev (upto_term lev k)
 term_fits g lev k u h = go (at_most lev LTerm) refl
   where
     go : (b : Bool) → at_most lev LTerm ≡ b → Fits g 8 lev (cond b (on (first LTerm) (upto_sum lev k)) k)
@@ -165,14 +165,14 @@ term_fits g lev k u h = go (at_most lev LTerm) refl
     go false is = (h, λ n lo hi. omega arith)
 
 -- an operand of `not` or of a sign begins
-prefix_keeps : (g : Goal) (lev m : Level) (k : Ctx) (next : State) → (at_most lev m ≡ true → Sound g next) → Keeps g (cond (at_most lev m) (Next next) Stuck)
+prefix_keeps : (g : Goal) (lev m : Precedence) (k : Ctx) (next : State) → (at_most lev m ≡ true → Sound g next) → Keeps g (cond (at_most lev m) (Next next) Stuck)
 prefix_keeps g lev m k next h = go (at_most lev m) refl
   where
     go : (b : Bool) → at_most lev m ≡ b → Keeps g (cond b (Next next) Stuck)
     go true is = h is
     go false is = tt
 
-pub begin_keeps : (g : Goal) (lev : Level) (k : Ctx) (t : TokenClass) → ValidClass t → Under k lev → Valid g k → Keeps g (begin lev k t)
+pub begin_keeps : (g : Goal) (lev : Precedence) (k : Ctx) (t : TokenClass) → ValidClass t → Under k lev → Valid g k → Keeps g (begin lev k t)
 begin_keeps g lev k (t_name x) r u h = (omega arith, tt, tt, (term_fits g lev k u h).0)
 begin_keeps g lev k (t_int x) r u h = (omega arith, tt, tt, (term_fits g lev k u h).0)
 begin_keeps g lev k t_none r u h = (omega arith, tt, tt, (term_fits g lev k u h).0)

@@ -7,9 +7,9 @@ use Rattle.py_syntax.specs.declared.expr.Comparison.TheVariants.{Op, Is, IsNot}
 use Rattle.py_syntax.specs.declared.expr.Sign.TheVariants as sign_
 use Rattle.py_syntax.specs.Tree.{Text, Expr, name, int, str, fstr, none, bool, tuple, list, dict, paren, not', unary, compare, call, index, slice, attr, Exprs, no_exprs, exprs, no_pairs, pair, Links, no_links, link, absent, present, Fragments, no_fragments, plain, format, Parts}
 use Rattle.py_syntax.specs.Tree as tree_
-use Rattle.py_syntax.specs.Normal.{Level, LExprs, LExpr, LOr, LNot, LSum, LUnary, LPost, is_target, are_targets, height, height_fragments, height_parts}
-use Rattle.py_grammar.specs.TokenClasses.{b_op, TokenClass, t_name, t_int, t_none, t_bool, t_string, t_format, t_bad_format, t_not, t_is, t_if, t_else, t_compare, t_operator, t_comma, t_colon, t_dot, t_left_paren, t_right_paren, t_left_bracket, t_right_bracket, t_left_brace, t_right_brace, operator_level, operator_right, joined, begins}
-use Rattle.py_grammar.specs.Machine.{at_most, same_level, snoc, snoc_pair, snoc_link, snoc_plain, snoc_format, has_format, texts, strings_of, Goal, any, one, target, targets, Opener, a_call, a_list, made, Frame, exprs_first, exprs_rest, cond_first, cond_test, cond_else, first, right, not_of, compare_first, compare_rest, unary_of, post_rest, in_items, index_first, in_index, slice_to, in_paren, in_key, in_value, Ctx, Outside, on, State, Want, Have, Strings, AfterOpen, AfterComma, AfterTarget, ItemsOpen, ItemsComma, DictOpen, DictComma, IndexOpen, SliceColon, AfterDot, AfterNot, AfterIs, AfterIsNot, Linked, Out, Next, Stuck, Left, upto_and, upto_term, upto, begin, close_items, leave, give, step}
+use Rattle.py_syntax.specs.Normal.{Precedence, LExprs, LExpr, LOr, LNot, LSum, LUnary, LPost, is_target, are_targets, height, height_fragments, height_parts}
+use Rattle.py_grammar.specs.TokenClasses.{b_op, TokenClass, t_name, t_int, t_none, t_bool, t_string, t_format, t_bad_format, t_not, t_is, t_if, t_else, t_compare, t_operator, t_comma, t_colon, t_dot, t_left_paren, t_right_paren, t_left_bracket, t_right_bracket, t_left_brace, t_right_brace, operator_precedence, operator_right, joined, begins}
+use Rattle.py_grammar.specs.Machine.{at_most, same_precedence, snoc, snoc_pair, snoc_link, snoc_plain, snoc_format, has_format, texts, strings_of, Goal, any, one, target, targets, Opener, a_call, a_list, made, Frame, exprs_first, exprs_rest, cond_first, cond_test, cond_else, first, right, not_of, compare_first, compare_rest, unary_of, post_rest, in_items, index_first, in_index, slice_to, in_paren, in_key, in_value, Ctx, Outside, on, State, Want, Have, Strings, AfterOpen, AfterComma, AfterTarget, ItemsOpen, ItemsComma, DictOpen, DictComma, IndexOpen, SliceColon, AfterDot, AfterNot, AfterIs, AfterIsNot, Linked, Out, Next, Stuck, Left, upto_and, upto_term, upto, begin, close_items, leave, give, step}
 use Rattle.py_grammar.specs.Least.{least_name, as_target, wants, fit, whole, least}
 use Rattle.py_grammar.proofs.Finish.{as_target_same, fit_index}
 use Rattle.py_grammar.proofs.Finishes.{and_whole, term_whole, post_whole}
@@ -138,13 +138,13 @@ give_rises e (on cond_first k) t = give_rises e k t
 give_rises e (on (cond_test b) k) t_else = flat k e (cond_test b) (Next (Want LExpr (on (cond_else b e) k))) refl (omega arith)
 give_rises e (on (cond_test b) k) t = (tt, λ h w. tt)
 give_rises e (on (cond_else b c) k) t = flat k e (cond_else b c) (give (tree_.cond b c e) k t) refl (give_rises (tree_.cond b c e) k t).0
-give_rises e (on (first l) k) (t_operator j) = go (same_level l (operator_level j)) (give_rises e k (t_operator j))
+give_rises e (on (first l) k) (t_operator j) = go (same_precedence l (operator_precedence j)) (give_rises e k (t_operator j))
   where
     go : (b : Bool) → Rises e k (give e k (t_operator j)) → Rises e k (cond b (Next (Want (operator_right j) (on (right j e) k))) (give e k (t_operator j)))
     go true rec = up k e (joined j e least_name) (Next (Want (operator_right j) (on (right j e) k))) (omega (arith, joined_height j e least_name)) (joined_target j e least_name) (omega arith)
     go false rec = rec
 give_rises e (on (first l) k) t = give_rises e k t
-give_rises e (on (right i a) k) (t_operator j) = flat k e (right i a) (give e (on (right i a) k) (t_operator j)) refl (go (same_level (operator_level i) (operator_level j)) (give_rises (joined i a e) k (t_operator j)))
+give_rises e (on (right i a) k) (t_operator j) = flat k e (right i a) (give e (on (right i a) k) (t_operator j)) refl (go (same_precedence (operator_precedence i) (operator_precedence j)) (give_rises (joined i a e) k (t_operator j)))
   where
     go : (b : Bool) → Rises (joined i a e) k (give (joined i a e) k (t_operator j)) → Grows (height (whole k (joined i a e))) (cond b (Next (Want (operator_right j) (on (right j (joined i a e)) k))) (give (joined i a e) k (t_operator j)))
     go true rec = let U = joined j (joined i a e) least_name in whole_grows k (joined i a e) U (less_none (wants k) (joined i a e) U (omega (arith, joined_height j (joined i a e) least_name)) (joined_target j (joined i a e) least_name))
@@ -186,13 +186,13 @@ give_rises e (on (in_value ps key) k) t = (tt, λ h w. tt)
 
 -- ---- an expression begins
 
-atom_grows : (e : Expr) (lev : Level) (k : Ctx) (n : ℕ) → n ≤ height (whole k least_name) → n ≤ height (whole (upto lev LPost k) e)
+atom_grows : (e : Expr) (lev : Precedence) (k : Ctx) (n : ℕ) → n ≤ height (whole k least_name) → n ≤ height (whole (upto lev LPost k) e)
 atom_grows e lev k n h =
     let some = height_some e in
     let more = whole_grows k least_name (fit k e) (less_fit (wants k) least_name e refl (omega arith)) in
     rw (post_whole lev k e) (omega arith)
 
-begin_grows : (lev : Level) (k : Ctx) (t : TokenClass) (n : ℕ) → n ≤ height (whole k least_name) → Grows n (begin lev k t)
+begin_grows : (lev : Precedence) (k : Ctx) (t : TokenClass) (n : ℕ) → n ≤ height (whole k least_name) → Grows n (begin lev k t)
 begin_grows lev k (t_name x) n h = atom_grows (name x) lev k n h
 begin_grows lev k (t_int x) n h = atom_grows (int x) lev k n h
 begin_grows lev k t_none n h = atom_grows none lev k n h

@@ -4,9 +4,9 @@ use Rattle.py_value.specs.declared.operator.CmpOp.{CmpOp}
 use Rattle.py_syntax.specs.declared.expr.Comparison.TheVariants.{Op}
 use Rattle.py_syntax.specs.Tree.{Expr, tuple, compare, Exprs, exprs, Links}
 use Rattle.py_syntax.specs.Kinds.{Kind}
-use Rattle.py_syntax.specs.Normal.{Level, LEnd, LExprs, LExpr, LOr, LAnd, LNot, LCmp, LSum, LTerm, LUnary, LPost, rank}
-use Rattle.py_grammar.specs.TokenClasses.{BinaryOperator, TokenClass, t_string, t_format, t_bad_format, t_not, t_is, t_if, t_compare, t_operator, t_comma, t_dot, t_left_paren, t_left_bracket, operator_level, operator_right, joined, binds, begins}
-use Rattle.py_grammar.specs.Machine.{same_level, snoc, snoc_link, exprs_first, exprs_rest, cond_first, first, right, compare_first, compare_rest, post_rest, Ctx, on, State, Want, Have, Linked, Out, Next, upto_exprs, upto_cond, upto_or, upto_and, upto_compare, upto_sum, upto_term, upto, give, step, class, run}
+use Rattle.py_syntax.specs.Normal.{Precedence, LEnd, LExprs, LExpr, LOr, LAnd, LNot, LCmp, LSum, LTerm, LUnary, LPost, rank}
+use Rattle.py_grammar.specs.TokenClasses.{BinaryOperator, TokenClass, t_string, t_format, t_bad_format, t_not, t_is, t_if, t_compare, t_operator, t_comma, t_dot, t_left_paren, t_left_bracket, operator_precedence, operator_right, joined, binds, begins}
+use Rattle.py_grammar.specs.Machine.{same_precedence, snoc, snoc_link, exprs_first, exprs_rest, cond_first, first, right, compare_first, compare_rest, post_rest, Ctx, on, State, Want, Have, Linked, Out, Next, upto_exprs, upto_cond, upto_or, upto_and, upto_compare, upto_sum, upto_term, upto, give, step, class, run}
 use Rattle.std.proofs.lemmas.Bool.{eqb-true}
 use Rattle.py_grammar.proofs.Spelled.{outcome}
 
@@ -16,11 +16,11 @@ pass_post e k t_left_bracket le = absurd (omega arith)
 pass_post e k t_dot le = absurd (omega arith)
 pass_post e k t le = refl
 
-pub pass_first : (e : Expr) (l : Level) (k : Ctx) (t : TokenClass) → rank (binds t) < rank l → give e (on (first l) k) t ≡ give e k t
-pass_first e l k (t_operator j) lt = go (same_level l (operator_level j)) refl
+pub pass_first : (e : Expr) (l : Precedence) (k : Ctx) (t : TokenClass) → rank (binds t) < rank l → give e (on (first l) k) t ≡ give e k t
+pass_first e l k (t_operator j) lt = go (same_precedence l (operator_precedence j)) refl
   where
-    go : (b : Bool) → same_level l (operator_level j) ≡ b → cond b (Next (Want (operator_right j) (on (right j e) k))) (give e k (t_operator j)) ≡ give e k (t_operator j)
-    go true is = let same : rank l ≡ rank (operator_level j) = eqb-true _ _ is in absurd (omega arith)
+    go : (b : Bool) → same_precedence l (operator_precedence j) ≡ b → cond b (Next (Want (operator_right j) (on (right j e) k))) (give e k (t_operator j)) ≡ give e k (t_operator j)
+    go true is = let same : rank l ≡ rank (operator_precedence j) = eqb-true _ _ is in absurd (omega arith)
     go false is = refl
 pass_first e l k t lt = refl
 
@@ -49,7 +49,7 @@ pass_rest f es e k t_comma le = absurd (omega arith)
 pass_rest f es e k t le = refl
 
 -- a right operand is whole together with its left one
-pub give_right : (j : BinaryOperator) (a e : Expr) (k : Ctx) (t : TokenClass) → give e (on (right j a) k) t ≡ give (joined j a e) (on (first (operator_level j)) k) t
+pub give_right : (j : BinaryOperator) (a e : Expr) (k : Ctx) (t : TokenClass) → give e (on (right j a) k) t ≡ give (joined j a e) (on (first (operator_precedence j)) k) t
 give_right j a e k (t_operator i) = refl
 give_right j a e k t = refl
 
@@ -61,25 +61,25 @@ give_compared a ls op e k t = refl
 
 -- ---- from one level down to the next, past the frames between them
 
-down_term : (lev : Level) (e : Expr) (k : Ctx) (t : TokenClass) → rank (binds t) ≤ 7 → give e (upto_term lev k) t ≡ give e (upto_sum lev k) t
+down_term : (lev : Precedence) (e : Expr) (k : Ctx) (t : TokenClass) → rank (binds t) ≤ 7 → give e (upto_term lev k) t ≡ give e (upto_sum lev k) t
 down_term LPost e k t le = refl
 down_term LUnary e k t le = refl
 down_term lev e k t le = pass_first e LTerm (upto_sum lev k) t (omega arith)
 
-down_sum : (lev : Level) (e : Expr) (k : Ctx) (t : TokenClass) → rank (binds t) ≤ 6 → give e (upto_sum lev k) t ≡ give e (upto_compare lev k) t
+down_sum : (lev : Precedence) (e : Expr) (k : Ctx) (t : TokenClass) → rank (binds t) ≤ 6 → give e (upto_sum lev k) t ≡ give e (upto_compare lev k) t
 down_sum LPost e k t le = refl
 down_sum LUnary e k t le = refl
 down_sum LTerm e k t le = refl
 down_sum lev e k t le = pass_first e LSum (upto_compare lev k) t (omega arith)
 
-down_compare : (lev : Level) (e : Expr) (k : Ctx) (t : TokenClass) → rank (binds t) ≤ 5 → give e (upto_compare lev k) t ≡ give e (upto_and lev k) t
+down_compare : (lev : Precedence) (e : Expr) (k : Ctx) (t : TokenClass) → rank (binds t) ≤ 5 → give e (upto_compare lev k) t ≡ give e (upto_and lev k) t
 down_compare LPost e k t le = refl
 down_compare LUnary e k t le = refl
 down_compare LTerm e k t le = refl
 down_compare LSum e k t le = refl
 down_compare lev e k t le = pass_compare e (upto_and lev k) t le
 
-down_and : (lev : Level) (e : Expr) (k : Ctx) (t : TokenClass) → rank (binds t) ≤ 3 → give e (upto_and lev k) t ≡ give e (upto_or lev k) t
+down_and : (lev : Precedence) (e : Expr) (k : Ctx) (t : TokenClass) → rank (binds t) ≤ 3 → give e (upto_and lev k) t ≡ give e (upto_or lev k) t
 down_and LPost e k t le = refl
 down_and LUnary e k t le = refl
 down_and LTerm e k t le = refl
@@ -88,56 +88,56 @@ down_and LCmp e k t le = refl
 down_and LNot e k t le = refl
 down_and lev e k t le = pass_first e LAnd (upto_or lev k) t (omega arith)
 
-down_or : (lev : Level) (e : Expr) (k : Ctx) (t : TokenClass) → rank (binds t) ≤ 1 → give e (upto_or lev k) t ≡ give e (upto_exprs lev k) t
+down_or : (lev : Precedence) (e : Expr) (k : Ctx) (t : TokenClass) → rank (binds t) ≤ 1 → give e (upto_or lev k) t ≡ give e (upto_exprs lev k) t
 down_or LEnd e k t le = pass_first e LOr (upto_cond LEnd k) t (omega arith) ∙ pass_cond e (upto_exprs LEnd k) t le
 down_or LExprs e k t le = pass_first e LOr (upto_cond LExprs k) t (omega arith) ∙ pass_cond e (upto_exprs LExprs k) t le
 down_or LExpr e k t le = pass_first e LOr (upto_cond LExpr k) t (omega arith) ∙ pass_cond e (upto_exprs LExpr k) t le
 down_or LOr e k t le = pass_first e LOr k t (omega arith)
 down_or lev e k t le = refl
 
-down_exprs : (lev : Level) (e : Expr) (k : Ctx) (t : TokenClass) → rank (binds t) ≤ 0 → give e (upto_exprs lev k) t ≡ give e k t
+down_exprs : (lev : Precedence) (e : Expr) (k : Ctx) (t : TokenClass) → rank (binds t) ≤ 0 → give e (upto_exprs lev k) t ≡ give e k t
 down_exprs LEnd e k t le = pass_exprs e k t le
 down_exprs LExprs e k t le = pass_exprs e k t le
 down_exprs lev e k t le = refl
 
 -- How much a token may bind that goes down to a level. An `if` goes on with all that an `expr` has in it.
-abbrev pub budget : Level → ℕ
+abbrev pub budget : Precedence → ℕ
 budget LExpr = 1
 budget l = rank l
 
-exprs_to : (lev m : Level) (e : Expr) (k : Ctx) (t : TokenClass) → rank m ≤ 2 → rank (binds t) ≤ budget m → give e (upto_exprs lev k) t ≡ give e (upto lev m k) t
+exprs_to : (lev m : Precedence) (e : Expr) (k : Ctx) (t : TokenClass) → rank m ≤ 2 → rank (binds t) ≤ budget m → give e (upto_exprs lev k) t ≡ give e (upto lev m k) t
 exprs_to lev LEnd e k t h le = down_exprs lev e k t le
 exprs_to lev LExprs e k t h le = refl
 exprs_to lev LExpr e k t h le = refl
 exprs_to lev m e k t h le = absurd (omega arith)
 
-or_to : (lev m : Level) (e : Expr) (k : Ctx) (t : TokenClass) → rank m ≤ 3 → rank (binds t) ≤ budget m → give e (upto_or lev k) t ≡ give e (upto lev m k) t
+or_to : (lev m : Precedence) (e : Expr) (k : Ctx) (t : TokenClass) → rank m ≤ 3 → rank (binds t) ≤ budget m → give e (upto_or lev k) t ≡ give e (upto lev m k) t
 or_to lev LOr e k t h le = refl
 or_to lev m e k t h le = down_or lev e k t (omega arith) ∙ exprs_to lev m e k t (omega arith) le
 
-and_to : (lev m : Level) (e : Expr) (k : Ctx) (t : TokenClass) → rank m ≤ 5 → rank (binds t) ≤ budget m → give e (upto_and lev k) t ≡ give e (upto lev m k) t
+and_to : (lev m : Precedence) (e : Expr) (k : Ctx) (t : TokenClass) → rank m ≤ 5 → rank (binds t) ≤ budget m → give e (upto_and lev k) t ≡ give e (upto lev m k) t
 and_to lev LAnd e k t h le = refl
 and_to lev LNot e k t h le = refl
 and_to lev m e k t h le = down_and lev e k t (omega arith) ∙ or_to lev m e k t (omega arith) le
 
-compare_to : (lev m : Level) (e : Expr) (k : Ctx) (t : TokenClass) → rank m ≤ 6 → rank (binds t) ≤ budget m → give e (upto_compare lev k) t ≡ give e (upto lev m k) t
+compare_to : (lev m : Precedence) (e : Expr) (k : Ctx) (t : TokenClass) → rank m ≤ 6 → rank (binds t) ≤ budget m → give e (upto_compare lev k) t ≡ give e (upto lev m k) t
 compare_to lev LCmp e k t h le = refl
 compare_to lev m e k t h le = down_compare lev e k t (omega arith) ∙ and_to lev m e k t (omega arith) le
 
-sum_to : (lev m : Level) (e : Expr) (k : Ctx) (t : TokenClass) → rank m ≤ 7 → rank (binds t) ≤ budget m → give e (upto_sum lev k) t ≡ give e (upto lev m k) t
+sum_to : (lev m : Precedence) (e : Expr) (k : Ctx) (t : TokenClass) → rank m ≤ 7 → rank (binds t) ≤ budget m → give e (upto_sum lev k) t ≡ give e (upto lev m k) t
 sum_to lev LSum e k t h le = refl
 sum_to lev m e k t h le = down_sum lev e k t (omega arith) ∙ compare_to lev m e k t (omega arith) le
 
-term_to : (lev m : Level) (e : Expr) (k : Ctx) (t : TokenClass) → rank m ≤ 9 → rank (binds t) ≤ budget m → give e (upto_term lev k) t ≡ give e (upto lev m k) t
+term_to : (lev m : Precedence) (e : Expr) (k : Ctx) (t : TokenClass) → rank m ≤ 9 → rank (binds t) ≤ budget m → give e (upto_term lev k) t ≡ give e (upto lev m k) t
 term_to lev LTerm e k t h le = refl
 term_to lev LUnary e k t h le = refl
 term_to lev m e k t h le = down_term lev e k t (omega arith) ∙ sum_to lev m e k t (omega arith) le
 
-post_to : (lev m : Level) (e : Expr) (k : Ctx) (t : TokenClass) → rank (binds t) ≤ budget m → give e (upto lev LPost k) t ≡ give e (upto lev m k) t
+post_to : (lev m : Precedence) (e : Expr) (k : Ctx) (t : TokenClass) → rank (binds t) ≤ budget m → give e (upto lev LPost k) t ≡ give e (upto lev m k) t
 post_to lev LPost e k t le = refl
 post_to lev m e k t le = pass_post e (upto_term lev k) t (omega arith) ∙ term_to lev m e k t (omega arith) le
 
-pub settle : (lev m j : Level) (e : Expr) (k : Ctx) (t : TokenClass) → rank m ≤ rank j → rank (binds t) ≤ budget m → give e (upto lev j k) t ≡ give e (upto lev m k) t
+pub settle : (lev m j : Precedence) (e : Expr) (k : Ctx) (t : TokenClass) → rank m ≤ rank j → rank (binds t) ≤ budget m → give e (upto lev j k) t ≡ give e (upto lev m k) t
 settle lev m LPost e k t h le = post_to lev m e k t le
 settle lev m LUnary e k t h le = term_to lev m e k t h le
 settle lev m LTerm e k t h le = term_to lev m e k t (omega arith) le
@@ -165,7 +165,7 @@ is_string (t_bad_format ps) = true
 is_string t = false
 
 -- How much a token after a tree of this level may bind, so that the tree is whole before it.
-abbrev pub stops : Level → ℕ
+abbrev pub stops : Precedence → ℕ
 stops LPost = 10
 stops LUnary = 9
 stops LTerm = 8
@@ -178,11 +178,11 @@ stops LExpr = 1
 stops l = 0
 
 -- It is no string, and where a comma may have come before it, it begins no expression.
-abbrev pub Quiet : Level → TokenClass → Type 0
+abbrev pub Quiet : Precedence → TokenClass → Type 0
 Quiet LExprs t = begins t ≡ false
 Quiet l t = is_string t ≡ false
 
-abbrev pub Follows : Level → List Kind → Type 0
+abbrev pub Follows : Precedence → List Kind → Type 0
 Follows l [] = Unit {0}
 Follows l (t ∷ ts) = (rank (binds (class t)) ≤ stops l) × Quiet l (class t)
 
@@ -215,20 +215,20 @@ ends_after [] b = tt
 ends_after (t ∷ ts) b = (b.0, quiet_string (class t) b.1)
 
 -- after a tree of a level over `exprs`
-pub follows : (l : Level) (n : ℕ) (rest : List Kind) → 2 ≤ rank l → n ≤ stops l → After n rest → Follows l rest
+pub follows : (l : Precedence) (n : ℕ) (rest : List Kind) → 2 ≤ rank l → n ≤ stops l → After n rest → Follows l rest
 follows l n [] two h b = tt
 follows LEnd n (t ∷ ts) two h b = absurd (omega arith)
 follows LExprs n (t ∷ ts) two h b = absurd (omega arith)
 follows l n (t ∷ ts) two h b = (let lo = b.0 in omega arith, b.1)
 
-pub after : (l : Level) (n : ℕ) (rest : List Kind) → 2 ≤ rank l → stops l ≤ n → Follows l rest → After n rest
+pub after : (l : Precedence) (n : ℕ) (rest : List Kind) → 2 ≤ rank l → stops l ≤ n → Follows l rest → After n rest
 after l n [] two h b = tt
 after LEnd n (t ∷ ts) two h b = absurd (omega arith)
 after LExprs n (t ∷ ts) two h b = absurd (omega arith)
 after l n (t ∷ ts) two h b = (let lo = b.0 in omega arith, b.1)
 
 -- what ends may follow anything
-pub follows_end : (l : Level) (rest : List Kind) → Ends rest → Follows l rest
+pub follows_end : (l : Precedence) (rest : List Kind) → Ends rest → Follows l rest
 follows_end l [] b = tt
 follows_end LExprs (t ∷ ts) b = (b.0, b.1)
 follows_end l (t ∷ ts) b = (let lo = b.0 in omega arith, quiet_string (class t) b.1)
@@ -237,7 +237,7 @@ pub ends : (rest : List Kind) → Follows LExprs rest → Ends rest
 ends [] b = tt
 ends (t ∷ ts) b = b
 
-pub stops_at : (l : Level) (n : ℕ) → n ≤ rank l → 3 ≤ n → n ≤ 5 → (n ≤ stops l)
+pub stops_at : (l : Precedence) (n : ℕ) → n ≤ rank l → 3 ≤ n → n ≤ 5 → (n ≤ stops l)
 stops_at LOr n h a b = omega arith
 stops_at LAnd n h a b = omega arith
 stops_at LNot n h a b = omega arith
@@ -248,14 +248,14 @@ stops_at LUnary n h a b = omega arith
 stops_at LPost n h a b = omega arith
 stops_at l n h a b = absurd (omega arith)
 
-pub stops_high : (l : Level) → 7 ≤ rank l → rank l ≤ stops l
+pub stops_high : (l : Precedence) → 7 ≤ rank l → rank l ≤ stops l
 stops_high LSum h = omega arith
 stops_high LTerm h = omega arith
 stops_high LUnary h = omega arith
 stops_high LPost h = omega arith
 stops_high l h = absurd (omega arith)
 
-pub stops_expr : (l : Level) → 2 ≤ rank l → 1 ≤ stops l
+pub stops_expr : (l : Precedence) → 2 ≤ rank l → 1 ≤ stops l
 stops_expr LEnd h = absurd (omega arith)
 stops_expr LExprs h = absurd (omega arith)
 stops_expr l h = omega arith
@@ -265,6 +265,6 @@ pub alike : (s u : State) (rest : List Kind) → ((t : Kind) (ts : List Kind) �
 alike s u [] same = refl
 alike s u (t ∷ ts) same = ap (λ (o : Out). outcome o t ts) (same t ts refl)
 
-pub settles : (lev m j : Level) (e : Expr) (k : Ctx) (rest : List Kind) → rank m ≤ rank j → Binds (budget m) rest → run (Have e (upto lev j k)) rest ≡ run (Have e (upto lev m k)) rest
+pub settles : (lev m j : Precedence) (e : Expr) (k : Ctx) (rest : List Kind) → rank m ≤ rank j → Binds (budget m) rest → run (Have e (upto lev j k)) rest ≡ run (Have e (upto lev m k)) rest
 settles lev m j e k [] h le = refl
 settles lev m j e k (t ∷ ts) h le = ap (λ (o : Out). outcome o t ts) (settle lev m j e k (class t) h le)

@@ -4,7 +4,7 @@ use Rattle.py_token.specs.declared.token.Mark.TheVariants as mark
 use Rattle.py_syntax.specs.Tree.{Expr, name, tuple, list, paren, index, Exprs, no_exprs, exprs}
 use Rattle.py_syntax.specs.Kinds.{Kind, Sign}
 use Rattle.py_syntax.specs.Tokens.{tokens, more}
-use Rattle.py_syntax.specs.Normal.{Level, LEnd, LExprs, LExpr, LOr, LAnd, LNot, LCmp, LSum, LTerm, LUnary, LPost, rank, level, At, Normal, Each, is_target, are_targets}
+use Rattle.py_syntax.specs.Normal.{Precedence, LEnd, LExprs, LExpr, LOr, LAnd, LNot, LCmp, LSum, LTerm, LUnary, LPost, rank, precedence, At, Normal, Each, is_target, are_targets}
 use Rattle.py_grammar.specs.TokenClasses.{TokenClass, t_comma, binds, begins}
 use Rattle.py_grammar.specs.Machine.{snoc, Goal, any, one, target, targets, Outside, Want, Have, AfterTarget, Out, Next, Stuck, Left, upto, begin, leave, start, class, Leaves, run}
 use Rattle.py_grammar.proofs.Spelled.{outcome}
@@ -25,11 +25,11 @@ reads_one e n a t rest c = read_item e a (back e n) (Outside one) (t ∷ rest) c
 
 -- ---- targets
 
-is_post : (l : Level) → 10 ≤ rank l → l ≡ LPost
+is_post : (l : Precedence) → 10 ≤ rank l → l ≡ LPost
 is_post LPost h = refl
 is_post l h = absurd (omega arith)
 
-target_post : (e : Expr) → is_target e ≡ true → At LExpr e → level e ≡ LPost
+target_post : (e : Expr) → is_target e ≡ true → At LExpr e → precedence e ≡ LPost
 target_post (name x) h a = refl
 target_post (index f e) h a = refl
 target_post (paren e) h a = refl
@@ -42,13 +42,13 @@ target_post e h a = absurd cc
 read_target : (e : Expr) → Normal e → is_target e ≡ true → At LExpr e → (g : Goal) (t : Kind) (rest : List Kind) → rank (binds (class t)) ≤ 9 → is_string (class t) ≡ false → run (Want LPost (Outside g)) (tokens e (t ∷ rest)) ≡ outcome (leave e g (class t)) t rest
 read_target e n is a g t rest b q =
     let post = target_post e is a in
-    let high : rank (level e) ≡ 10 = ap rank post in
-    let ready : Follows (level e) (t ∷ rest) = follows (level e) 9 (t ∷ rest) (omega arith) (ten (level e) post) (b, q) in
+    let high : rank (precedence e) ≡ 10 = ap rank post in
+    let ready : Follows (precedence e) (t ∷ rest) = follows (precedence e) 9 (t ∷ rest) (omega arith) (ten (precedence e) post) (b, q) in
     back e n LPost (Outside g) (t ∷ rest) (omega arith) (omega arith) ready
-    ∙ ap (λ (l : Level). run (Have e (upto LPost l (Outside g))) (t ∷ rest)) post
+    ∙ ap (λ (l : Precedence). run (Have e (upto LPost l (Outside g))) (t ∷ rest)) post
     ∙ ap (λ (o : Out). outcome o t rest) (pass_post e (Outside g) (class t) b)
   where
-    ten : (l : Level) → l ≡ LPost → 9 ≤ stops l
+    ten : (l : Precedence) → l ≡ LPost → 9 ≤ stops l
     ten LPost h = omega arith
     ten LEnd h = absurd cc
     ten LExprs h = absurd cc

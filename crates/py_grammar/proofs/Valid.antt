@@ -4,12 +4,12 @@ use Rattle.py_value.specs.declared.operator.BinOp.TheVariants as op_
 use Rattle.py_syntax.specs.declared.expr.Comparison.{Comparison}
 use Rattle.py_syntax.specs.Tree.{Text, Expr, str, fstr, tuple, compare, Exprs, no_exprs, exprs, Pairs, no_pairs, pair, Links, no_links, link, Fragments, no_fragments, plain, format, Parts}
 use Rattle.py_syntax.specs.Tokens.{more}
-use Rattle.py_syntax.specs.Normal.{Level, LEnd, LExprs, LExpr, LOr, LAnd, LNot, LCmp, LSum, LTerm, LUnary, LPost, rank, level, At, Compared, HasFormat, IsSomething, Normal, NormalLinks, NormalItems, Each, NormalEntries, EachEntry, NormalBound, NormalFragments, NormalParts, is_target, are_targets}
-use Rattle.py_grammar.specs.TokenClasses.{BinaryOperator, b_or, b_and, b_op, TokenClass, t_format, operator_level, operator_right, joined}
+use Rattle.py_syntax.specs.Normal.{Precedence, LEnd, LExprs, LExpr, LOr, LAnd, LNot, LCmp, LSum, LTerm, LUnary, LPost, rank, precedence, At, Compared, HasFormat, IsSomething, Normal, NormalLinks, NormalItems, Each, NormalEntries, EachEntry, NormalBound, NormalFragments, NormalParts, is_target, are_targets}
+use Rattle.py_grammar.specs.TokenClasses.{BinaryOperator, b_or, b_and, b_op, TokenClass, t_format, operator_precedence, operator_right, joined}
 use Rattle.py_grammar.specs.Machine.{snoc, snoc_pair, snoc_link, snoc_plain, snoc_format, has_format, texts, strings_of, Goal, any, one, target, targets, Opener, a_call, a_list, exprs_first, exprs_rest, cond_first, cond_test, cond_else, first, right, not_of, compare_first, compare_rest, unary_of, post_rest, in_items, index_first, in_index, slice_to, in_paren, in_key, in_value, Ctx, Outside, on, State, Want, Have, Strings, AfterOpen, AfterComma, AfterTarget, ItemsOpen, ItemsComma, DictOpen, DictComma, IndexOpen, SliceColon, AfterDot, AfterNot, AfterIs, AfterIsNot, Linked, Out, Next, Stuck, Left}
 
 -- The level that the hole of a stack asks for.
-abbrev pub needs : Ctx → Level
+abbrev pub needs : Ctx → Precedence
 needs (Outside any) = LExprs
 needs (Outside one) = LExpr
 needs (Outside g) = LPost
@@ -33,7 +33,7 @@ needs (on in_paren k) = LExprs
 needs (on (in_key ps) k) = LExpr
 needs (on (in_value ps key) k) = LExpr
 
-abbrev pub Under : Ctx → Level → Type 0
+abbrev pub Under : Ctx → Precedence → Type 0
 Under k l = rank (needs k) ≤ rank l
 
 -- what a target of a `for` that is read up to a comma is
@@ -54,7 +54,7 @@ Valid g (on cond_first k) = Under k LExpr × Valid g k
 Valid g (on (cond_test b) k) = At LOr b × Normal b × Under k LExpr × Valid g k
 Valid g (on (cond_else b c) k) = At LOr b × Normal b × At LOr c × Normal c × Under k LExpr × Valid g k
 Valid g (on (first l) k) = (rank l ≤ 8) × Under k l × Valid g k
-Valid g (on (right j a) k) = At (operator_level j) a × Normal a × Under k (operator_level j) × Valid g k
+Valid g (on (right j a) k) = At (operator_precedence j) a × Normal a × Under k (operator_precedence j) × Valid g k
 Valid g (on not_of k) = Under k LNot × Valid g k
 Valid g (on compare_first k) = Under k LCmp × Valid g k
 Valid g (on (compare_rest a ls op) k) = At LSum a × Normal a × NormalLinks ls × Under k LCmp × Valid g k
@@ -129,7 +129,7 @@ ValidClass t = Unit {0}
 
 -- ---- small facts
 
-pub highest : (l : Level) → rank l ≤ 10
+pub highest : (l : Precedence) → rank l ≤ 10
 highest LEnd = omega arith
 highest LExprs = omega arith
 highest LExpr = omega arith
@@ -142,7 +142,7 @@ highest LTerm = omega arith
 highest LUnary = omega arith
 highest LPost = omega arith
 
-pub operator_rank : (j : BinaryOperator) → (3 ≤ rank (operator_level j)) × (rank (operator_level j) ≤ 8)
+pub operator_rank : (j : BinaryOperator) → (3 ≤ rank (operator_precedence j)) × (rank (operator_precedence j) ≤ 8)
 operator_rank b_or = (omega arith, omega arith)
 operator_rank b_and = (omega arith, omega arith)
 operator_rank (b_op op_.Add) = (omega arith, omega arith)
@@ -151,12 +151,12 @@ operator_rank (b_op op_.Mul) = (omega arith, omega arith)
 operator_rank (b_op op_.Floor) = (omega arith, omega arith)
 operator_rank (b_op op_.Mod) = (omega arith, omega arith)
 
-pub joined_level : (j : BinaryOperator) (a b : Expr) → level (joined j a b) ≡ operator_level j
+pub joined_level : (j : BinaryOperator) (a b : Expr) → precedence (joined j a b) ≡ operator_precedence j
 joined_level b_or a b = refl
 joined_level b_and a b = refl
 joined_level (b_op op) a b = refl
 
-pub joined_normal : (j : BinaryOperator) (a b : Expr) → At (operator_level j) a → Normal a → At (operator_right j) b → Normal b → Normal (joined j a b)
+pub joined_normal : (j : BinaryOperator) (a b : Expr) → At (operator_precedence j) a → Normal a → At (operator_right j) b → Normal b → Normal (joined j a b)
 joined_normal b_or a b al an bl bn = (al, an, bl, bn)
 joined_normal b_and a b al an bl bn = (al, an, bl, bn)
 joined_normal (b_op op) a b al an bl bn = (al, an, bl, bn)
@@ -228,10 +228,10 @@ texts_some no_fragments s h = absurd s
 texts_some (plain x fs) s h = tt
 texts_some (format ps fs) s h = absurd cc
 
-pub strings_normal : (fs : Fragments) → SomeStrings fs → NormalFragments fs → Normal (strings_of fs) × (10 ≤ rank (level (strings_of fs)))
+pub strings_normal : (fs : Fragments) → SomeStrings fs → NormalFragments fs → Normal (strings_of fs) × (10 ≤ rank (precedence (strings_of fs)))
 strings_normal fs s n = go (has_format fs) refl
   where
-    go : (b : Bool) → has_format fs ≡ b → Normal (cond b (fstr fs) (str (texts fs))) × (10 ≤ rank (level (cond b (fstr fs) (str (texts fs)))))
+    go : (b : Bool) → has_format fs ≡ b → Normal (cond b (fstr fs) (str (texts fs))) × (10 ≤ rank (precedence (cond b (fstr fs) (str (texts fs)))))
     go true is = ((format_is fs is, n), omega arith)
     go false is = (texts_some fs s is, omega arith)
 

@@ -20,7 +20,7 @@ use Rattle.py_grammar.proofs.Exact as exact
 
 -- a state inside the expression, or the whole expression with the end after it
 pub data Whole : Type 0 where
-  Going : State → Whole
+  Inside : State → Whole
   Over : Expr → Whole
 
 abbrev pub over_at : Expr → Kind → Option Whole
@@ -28,28 +28,28 @@ over_at e End = Some (Over e)
 over_at e t = None
 
 abbrev pub goes : Out → Kind → Option Whole
-goes (Next s) t = Some (Going s)
+goes (Next s) t = Some (Inside s)
 goes Stuck t = None
 goes (Left e) t = over_at e t
 
 abbrev pub next : Whole → Kind → Option Whole
-next (Going s) t = goes (step s (class t)) t
+next (Inside s) t = goes (step s (class t)) t
 next (Over e) t = None
 
 abbrev pub done : Whole → Option Expr
-done (Going s) = None
+done (Inside s) = None
 done (Over e) = Some e
 
 abbrev pub lowest : Whole → ℕ
-lowest (Going s) = least s
+lowest (Inside s) = least s
 lowest (Over e) = height e
 
 abbrev pub ValidWhole : Whole → Type 0
-ValidWhole (Going s) = Sound any s
+ValidWhole (Inside s) = Sound any s
 ValidWhole (Over e) = Normal e
 
 abbrev pub begun : Whole
-begun = Going (start any)
+begun = Inside (start any)
 
 abbrev pub reading : Whole → List Kind → Option Whole
 reading = exact.run next
@@ -58,38 +58,38 @@ abbrev pub onward : Option Whole → List Kind → Option Whole
 onward o ts = elim o as (λ (w : Option Whole). Option Whole) [ None ↦ None | Some n ↦ exact.run next n ts ]
 
 valid_goes : (o : Out) (t : Kind) (n : Whole) → Keeps any o → goes o t ≡ Some n → ValidWhole n
-valid_goes (Next s) t n keeps h = let same : Going s ≡ n = cc in subst ValidWhole same keeps
+valid_goes (Next s) t n keeps h = let same : Inside s ≡ n = cc in subst ValidWhole same keeps
 valid_goes Stuck t n keeps h = absurd cc
 valid_goes (Left e) End n keeps h = let same : Over e ≡ n = cc in subst ValidWhole same keeps.0
 valid_goes (Left e) t n keeps h = absurd cc
 
 pub valid_step : (s : Whole) (t : Kind) (n : Whole) → ValidWhole s → next s t ≡ Some n → ValidWhole n
-valid_step (Going s) t n valid h = valid_goes (step s (class t)) t n (step_keeps any s (class t) (class_valid t) valid) h
+valid_step (Inside s) t n valid h = valid_goes (step s (class t)) t n (step_keeps any s (class t) (class_valid t) valid) h
 valid_step (Over e) t n valid h = absurd cc
 
 grows_goes : (o : Out) (t : Kind) (n : Whole) (h : ℕ) → Grows h o → goes o t ≡ Some n → h ≤ lowest n
-grows_goes (Next s) t n h grows is = let same : Going s ≡ n = cc in subst (λ (x : Whole). h ≤ lowest x) same grows
+grows_goes (Next s) t n h grows is = let same : Inside s ≡ n = cc in subst (λ (x : Whole). h ≤ lowest x) same grows
 grows_goes Stuck t n h grows is = absurd cc
 grows_goes (Left e) End n h grows is = let same : Over e ≡ n = cc in subst (λ (x : Whole). h ≤ lowest x) same grows
 grows_goes (Left e) t n h grows is = absurd cc
 
 pub grows : (s : Whole) (t : Kind) (n : Whole) → next s t ≡ Some n → lowest s ≤ lowest n
-grows (Going s) t n h = grows_goes (step s (class t)) t n (least s) (step_grows s (class t)) h
+grows (Inside s) t n h = grows_goes (step s (class t)) t n (least s) (step_grows s (class t)) h
 grows (Over e) t n h = absurd cc
 
 pub done_lowest : (s : Whole) (e : Expr) → done s ≡ Some e → lowest s ≡ height e
-done_lowest (Going s) e h = absurd cc
+done_lowest (Inside s) e h = absurd cc
 done_lowest (Over f) e h = let same : f ≡ e = cc in ap height same
 
 -- what the machine for expressions reads, this one reads
-pub leaves_over : (s : State) (ts : List Kind) (e : Expr) → run s ts ≡ Leaves e (End ∷ []) → reading (Going s) ts ≡ Some (Over e)
+pub leaves_over : (s : State) (ts : List Kind) (e : Expr) → run s ts ≡ Leaves e (End ∷ []) → reading (Inside s) ts ≡ Some (Over e)
 leaves_over s [] e h = absurd cc
 leaves_over s (t ∷ ts) e h = go (λ n. leaves_over n ts e) (step s (class t)) h
   where
     left_over : (f : Expr) (t : Kind) (ts : List Kind) → f ≡ e → t ≡ End → ts ≡ [] → onward (over_at f t) ts ≡ Some (Over e)
     left_over f t ts fe te tse = ap (λ (x : Kind). onward (over_at f x) ts) te ∙ ap (λ (x : List Kind). exact.run next (Over f) x) tse ∙ ap (λ (x : Expr). Some (Over x)) fe
 
-    go : ((n : State) → run n ts ≡ Leaves e (End ∷ []) → reading (Going n) ts ≡ Some (Over e)) → (o : Out) → outcome o t ts ≡ Leaves e (End ∷ []) → onward (goes o t) ts ≡ Some (Over e)
+    go : ((n : State) → run n ts ≡ Leaves e (End ∷ []) → reading (Inside n) ts ≡ Some (Over e)) → (o : Out) → outcome o t ts ≡ Leaves e (End ∷ []) → onward (goes o t) ts ≡ Some (Over e)
     go rec (Next n) h = rec n h
     go rec Stuck h = absurd cc
     go rec (Left f) h = let one_is : f ≡ e = cc in let two : t ≡ End = cc in let three : ts ≡ [] = cc in left_over f t ts one_is two three
@@ -105,8 +105,8 @@ over_ends : (e : Expr) (ts : List Kind) (last : Whole) (m : Expr) → reading (O
 over_ends e [] last m h d = let same : Over e ≡ last = cc in let all = ap done same ∙ d in (refl, cc)
 over_ends e (t ∷ ts) last m h d = absurd cc
 
-pub sound_from : (s : State) (ts : List Kind) (last : Whole) (m : Expr) → Sound any s → reading (Going s) ts ≡ Some last → done last ≡ Some m → Normal m × (before s ts ≡ tokens m (End ∷ []))
-sound_from s [] last m valid h d = let same : Going s ≡ last = cc in let all = ap done same ∙ d in absurd cc
+pub sound_from : (s : State) (ts : List Kind) (last : Whole) (m : Expr) → Sound any s → reading (Inside s) ts ≡ Some last → done last ≡ Some m → Normal m × (before s ts ≡ tokens m (End ∷ []))
+sound_from s [] last m valid h d = let same : Inside s ≡ last = cc in let all = ap done same ∙ d in absurd cc
 sound_from s (t ∷ ts) last m valid h d = go (λ n. sound_from n ts last m) (step s (class t)) (step_keeps any s (class t) (class_valid t) valid) (step_reads s (class t)) h
   where
     over : (f : Expr) (t : Kind) → Normal f → ((r : List Kind) → tokens f r ≡ before s r) → onward (over_at f t) ts ≡ Some last → Normal m × (before s (t ∷ ts) ≡ tokens m (End ∷ []))
@@ -115,7 +115,7 @@ sound_from s (t ∷ ts) last m valid h d = go (λ n. sound_from n ts last m) (st
         (subst Normal o.1 keeps, sym (reads (End ∷ ts)) ∙ ap (λ (x : List Kind). tokens f (End ∷ x)) o.0 ∙ ap (λ (x : Expr). tokens x (End ∷ [])) o.1)
     over f t keeps reads h = absurd cc
 
-    go : ((n : State) → Sound any n → reading (Going n) ts ≡ Some last → done last ≡ Some m → Normal m × (before n ts ≡ tokens m (End ∷ []))) → (o : Out) → Keeps any o → Reads (class t) (before s) o → onward (goes o t) ts ≡ Some last → Normal m × (before s (t ∷ ts) ≡ tokens m (End ∷ []))
+    go : ((n : State) → Sound any n → reading (Inside n) ts ≡ Some last → done last ≡ Some m → Normal m × (before n ts ≡ tokens m (End ∷ []))) → (o : Out) → Keeps any o → Reads (class t) (before s) o → onward (goes o t) ts ≡ Some last → Normal m × (before s (t ∷ ts) ≡ tokens m (End ∷ []))
     go rec (Next n) keeps reads h = let r = rec n keeps h d in (r.0, ap (before s) (sym (class_spells t ts)) ∙ sym (reads ts) ∙ r.1)
     go rec Stuck keeps reads h = absurd cc
     go rec (Left f) keeps reads h = over f t keeps.0 reads h
@@ -124,7 +124,7 @@ pub sound : (ts : List Kind) (s : Whole) (m : Expr) → reading begun ts ≡ Som
 sound ts s m h d = sound_from (start any) ts s m start_any h d
 
 pub completes : (s : Whole) → ValidWhole s → (more : List Kind) × (last : Whole) × (m : Expr) × (reading s more ≡ Some last) × (done last ≡ Some m) × (height m ≡ lowest s)
-completes (Going s) valid = (finish s (End ∷ []), Over (finished s), finished s, leaves_over s (finish s (End ∷ [])) (finished s) (finishes any s End [] valid (omega arith, refl, refl)), refl, refl)
+completes (Inside s) valid = (finish s (End ∷ []), Over (finished s), finished s, leaves_over s (finish s (End ∷ [])) (finished s) (finishes any s End [] valid (omega arith, refl, refl)), refl, refl)
 completes (Over e) valid = ([], Over e, e, refl, refl, refl)
 
 -- ---- viable prefixes

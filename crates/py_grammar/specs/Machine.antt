@@ -1,5 +1,5 @@
 -- The reader of expressions as a machine: a stack of what is open, and a step for each token.
---     at_most, same_level                     levels of the grammar
+--     at_most, same_precedence                levels of the grammar
 --     snoc .. strings_of                      lists with one more at the end, and strings side by
 --                                             side
 --     Goal, Opener, Frame, Ctx                what is read towards, and what is open
@@ -22,15 +22,15 @@ use Rattle.py_syntax.specs.declared.expr.Sign.TheVariants as sign_
 use Rattle.py_syntax.specs.Tree.{Text, Expr, name, int, str, fstr, none, bool, tuple, list, dict, paren, not', unary, compare, call, index, slice, attr, Exprs, no_exprs, exprs, Pairs, no_pairs, pair, Links, no_links, link, OptExpr, absent, present, Fragments, no_fragments, plain, format, Parts, no_parts, text, field}
 use Rattle.py_syntax.specs.Tree as tree_
 use Rattle.py_syntax.specs.Kinds.{Kind, Name, Word, Int, Str, FString, Sign, Newline, Indent, Dedent, End, Pieces, no_pieces, chars_piece, field_piece, Kinds, no_kinds, kinds}
-use Rattle.py_syntax.specs.Normal.{Level, LEnd, LExprs, LExpr, LOr, LAnd, LNot, LCmp, LSum, LTerm, LUnary, LPost, rank, is_target}
-use Rattle.py_grammar.specs.TokenClasses.{BinaryOperator, b_or, b_and, b_op, TokenClass, t_name, t_int, t_none, t_bool, t_string, t_format, t_bad_format, t_not, t_is, t_if, t_else, t_compare, t_operator, t_comma, t_colon, t_dot, t_left_paren, t_right_paren, t_left_bracket, t_right_bracket, t_left_brace, t_right_brace, t_other, operator_level, operator_right, joined, begins}
+use Rattle.py_syntax.specs.Normal.{Precedence, LEnd, LExprs, LExpr, LOr, LAnd, LNot, LCmp, LSum, LTerm, LUnary, LPost, rank, is_target}
+use Rattle.py_grammar.specs.TokenClasses.{BinaryOperator, b_or, b_and, b_op, TokenClass, t_name, t_int, t_none, t_bool, t_string, t_format, t_bad_format, t_not, t_is, t_if, t_else, t_compare, t_operator, t_comma, t_colon, t_dot, t_left_paren, t_right_paren, t_left_bracket, t_right_bracket, t_left_brace, t_right_brace, t_other, operator_precedence, operator_right, joined, begins}
 use Rattle.std.specs.Prelude.{nat_le}
 
-abbrev pub at_most : Level → Level → Bool
+abbrev pub at_most : Precedence → Precedence → Bool
 at_most a b = nat_le (rank a) (rank b)
 
-abbrev pub same_level : Level → Level → Bool
-same_level a b = nat_eq (rank a) (rank b)
+abbrev pub same_precedence : Precedence → Precedence → Bool
+same_precedence a b = nat_eq (rank a) (rank b)
 
 -- ---- one more at the end
 
@@ -100,7 +100,7 @@ pub data Frame : Type 0 where
   cond_test : (body : Expr) → Frame
   cond_else : (body test : Expr) → Frame
   -- an operand that may be the left one of an operator of that level; the right one
-  first : (l : Level) → Frame
+  first : (l : Precedence) → Frame
   right : (j : BinaryOperator) (a : Expr) → Frame
   -- the operand of `not`
   not_of : Frame
@@ -130,7 +130,7 @@ pub data Ctx : Type 0 where
 
 pub data State : Type 0 where
   -- an expression of that level has to begin
-  Want : (l : Level) (k : Ctx) → State
+  Want : (l : Precedence) (k : Ctx) → State
   -- an expression is read, and may go on
   Have : (e : Expr) (k : Ctx) → State
   -- a string or several are read
@@ -165,29 +165,29 @@ pub data Out : Type 0 where
 
 -- ---- the frames from one level up to another
 
-abbrev pub upto_exprs : Level → Ctx → Ctx
+abbrev pub upto_exprs : Precedence → Ctx → Ctx
 upto_exprs lev k = cond (at_most lev LExprs) (on exprs_first k) k
 
-abbrev pub upto_cond : Level → Ctx → Ctx
+abbrev pub upto_cond : Precedence → Ctx → Ctx
 upto_cond lev k = cond (at_most lev LExpr) (on cond_first (upto_exprs lev k)) k
 
-abbrev pub upto_or : Level → Ctx → Ctx
+abbrev pub upto_or : Precedence → Ctx → Ctx
 upto_or lev k = cond (at_most lev LOr) (on (first LOr) (upto_cond lev k)) k
 
-abbrev pub upto_and : Level → Ctx → Ctx
+abbrev pub upto_and : Precedence → Ctx → Ctx
 upto_and lev k = cond (at_most lev LAnd) (on (first LAnd) (upto_or lev k)) k
 
-abbrev pub upto_compare : Level → Ctx → Ctx
+abbrev pub upto_compare : Precedence → Ctx → Ctx
 upto_compare lev k = cond (at_most lev LCmp) (on compare_first (upto_and lev k)) k
 
-abbrev pub upto_sum : Level → Ctx → Ctx
+abbrev pub upto_sum : Precedence → Ctx → Ctx
 upto_sum lev k = cond (at_most lev LSum) (on (first LSum) (upto_compare lev k)) k
 
-abbrev pub upto_term : Level → Ctx → Ctx
+abbrev pub upto_term : Precedence → Ctx → Ctx
 upto_term lev k = cond (at_most lev LTerm) (on (first LTerm) (upto_sum lev k)) k
 
 -- what is open after a tree of the second level, where one of the first was to begin
-abbrev pub upto : Level → Level → Ctx → Ctx
+abbrev pub upto : Precedence → Precedence → Ctx → Ctx
 upto lev LEnd k = k
 upto lev LExprs k = upto_exprs lev k
 upto lev LExpr k = upto_exprs lev k
@@ -203,7 +203,7 @@ upto lev LPost k = on post_rest (upto_term lev k)
 -- ---- the steps
 
 -- An expression of that level begins.
-abbrev pub begin : Level → Ctx → TokenClass → Out
+abbrev pub begin : Precedence → Ctx → TokenClass → Out
 begin lev k (t_name x) = Next (Have (name x) (upto lev LPost k))
 begin lev k (t_int n) = Next (Have (int n) (upto lev LPost k))
 begin lev k t_none = Next (Have none (upto lev LPost k))
@@ -250,11 +250,11 @@ give e (on (cond_test b) k) t_else = Next (Want LExpr (on (cond_else b e) k))
 give e (on (cond_test b) k) t = Stuck
 give e (on (cond_else b c) k) t = give (tree_.cond b c e) k t
 give e (on (first l) k) (t_operator j) =
-    cond (same_level l (operator_level j)) (Next (Want (operator_right j) (on (right j e) k)))
+    cond (same_precedence l (operator_precedence j)) (Next (Want (operator_right j) (on (right j e) k)))
     (give e k (t_operator j))
 give e (on (first l) k) t = give e k t
 give e (on (right i a) k) (t_operator j) =
-    cond (same_level (operator_level i) (operator_level j))
+    cond (same_precedence (operator_precedence i) (operator_precedence j))
     (Next (Want (operator_right j) (on (right j (joined i a e)) k)))
     (give (joined i a e) k (t_operator j))
 give e (on (right i a) k) t = give (joined i a e) k t

@@ -3,16 +3,16 @@ use Rattle.std.proofs.Common.{◌≡◌, false, refl, sym, ap, ◌∙◌}
 use Rattle.py_syntax.specs.declared.expr.Comparison.TheVariants.{Op}
 use Rattle.py_syntax.specs.Tree.{Expr, Exprs, Links}
 use Rattle.py_value.specs.declared.operator.CmpOp.{CmpOp}
-use Rattle.py_parse_expr.specs.declared.expr_classes.TokenClass as held_class
+use Rattle.py_parse_expr.specs.declared.expr_classes.TokenClass as code_class
 use Rattle.py_parse_expr.specs.declared.expr_classes.TokenClass.TheVariants as class_
-use Rattle.py_grammar.specs.TokenClasses.{BinaryOperator, TokenClass, t_compare, t_operator, t_not, t_is, operator_level, joined}
+use Rattle.py_grammar.specs.TokenClasses.{BinaryOperator, TokenClass, t_compare, t_operator, t_not, t_is, operator_precedence, joined}
 use Rattle.py_grammar.specs.Machine.{snoc_link, Opener, a_call, a_list, Frame, Ctx, on, first, right, compare_rest, in_items, Linked, Stuck, give, step}
 use Rattle.py_parse_expr.specs.declared.expr_nodes.Measured.{Measured}
 use Rattle.py_parse_expr.specs.declared.expr_turns.FrameStep.TheVariants as met_
 use Rattle.py_parse_expr.specs.ExprViews.{view_class, Makes}
 use Rattle.py_parse_expr.specs.ExprTurns.{closes, BecomesAs}
 
-pub give_right : (e a : Expr) (i : BinaryOperator) (k : Ctx) (t : TokenClass) → give e (on (right i a) k) t ≡ give (joined i a e) (on (first (operator_level i)) k) t
+pub give_right : (e a : Expr) (i : BinaryOperator) (k : Ctx) (t : TokenClass) → give e (on (right i a) k) t ≡ give (joined i a e) (on (first (operator_precedence i)) k) t
 give_right e a i k (t_operator j) = refl
 give_right e a i k t = refl
 
@@ -22,7 +22,7 @@ give_link a ls op e k t_not = refl
 give_link a ls op e k t_is = refl
 give_link a ls op e k t = refl
 
-pub give_unclosed : (e : Expr) (o : Opener) (es : Exprs) (k : Ctx) (r : held_class.TokenClass) → (r ≡ class_.Comma → ⊥) → closes o (view_class r) ≡ false → give e (on (in_items o es) k) (view_class r) ≡ Stuck
+pub give_unclosed : (e : Expr) (o : Opener) (es : Exprs) (k : Ctx) (r : code_class.TokenClass) → (r ≡ class_.Comma → ⊥) → closes o (view_class r) ≡ false → give e (on (in_items o es) k) (view_class r) ≡ Stuck
 give_unclosed e o es k class_.Comma h i = absurd (h refl)
 give_unclosed e (a_call f) es k class_.RightParen h i = absurd cc
 give_unclosed e a_list es k class_.RightBracket h i = absurd cc

@@ -4,9 +4,9 @@ use Rattle.std.specs.declared.alloc.AllocError.{AllocError}
 use Rattle.py_syntax.specs.Tree.{Expr, tuple, Exprs, no_exprs, exprs, Pairs, no_pairs}
 use Rattle.py_syntax.specs.Normal.{is_target}
 use Rattle.py_parse_expr.specs.declared.expr_nodes.Measured.{Measured}
-use Rattle.py_parse_expr.specs.declared.expr_classes.TokenClass as held_class
+use Rattle.py_parse_expr.specs.declared.expr_classes.TokenClass as code_class
 use Rattle.py_parse_expr.specs.declared.expr_classes.TokenClass.TheVariants as class_
-use Rattle.py_parse_expr.specs.declared.expr_stack.Frame as held_frame
+use Rattle.py_parse_expr.specs.declared.expr_stack.Frame as code_frame
 use Rattle.py_parse_expr.specs.declared.expr_stack.Stack.{Stack}
 use Rattle.py_parse_expr.specs.declared.expr_turns.Turn.{Turn}
 use Rattle.py_parse_expr.specs.declared.expr_turns.Turn.TheVariants as turn_
@@ -43,7 +43,7 @@ pub leave_comma : (es ns : Exprs) (e : Expr) → AreSome es → ns ≡ snoc es e
 leave_comma no_exprs ns e some is t = absurd some
 leave_comma (exprs f es) ns e some is t = ap (λ (b : Bool). cond b (Next (AfterTarget f (snoc es e))) Stuck) t ∙ ap (λ (x : Exprs). Next (AfterTarget (head_of x) (tail_of x))) (sym is)
 
-pub leave_other : (es ns : Exprs) (e : Expr) (r : held_class.TokenClass) → (r ≡ class_.Comma → ⊥) → AreSome es → ns ≡ snoc es e → is_target e ≡ true → leave e (targets (head_of es) (tail_of es)) (view_class r) ≡ Left (tuple ns false)
+pub leave_other : (es ns : Exprs) (e : Expr) (r : code_class.TokenClass) → (r ≡ class_.Comma → ⊥) → AreSome es → ns ≡ snoc es e → is_target e ≡ true → leave e (targets (head_of es) (tail_of es)) (view_class r) ≡ Left (tuple ns false)
 leave_other no_exprs ns e r h some is t = absurd some
 leave_other (exprs f es) ns e class_.Comma h some is t = absurd (h refl)
 leave_other (exprs f es) ns e r h some is t = ap (λ (b : Bool). cond b (Left (tuple (exprs f (snoc es e)) false)) Stuck) t ∙ ap (λ (x : Exprs). Left (tuple x false)) (sym is)
@@ -57,8 +57,8 @@ some_more es ns e is = subst AreSome (sym is) (go es)
 
 -- ---- through a frame
 
-abbrev pub Popped : Out → ℕ → TokenClass → Measured → Stack → held_frame.Frame → Stack → Type 0
+abbrev pub Popped : Out → ℕ → TokenClass → Measured → Stack → code_frame.Frame → Stack → Type 0
 Popped o limit t e old f new = (o ≡ give (view_measured e) (on (view_frame f) (view_stack new)) t) × Valid limit new
 
-pub popped : (o : Out) (limit : ℕ) (t : TokenClass) (e : Measured) (old : Stack) (f : held_frame.Frame) (new : Stack) → Giving o limit t e old → Pops (Some f) old new → Valid old.limit new → Popped o limit t e old f new
+pub popped : (o : Out) (limit : ℕ) (t : TokenClass) (e : Measured) (old : Stack) (f : code_frame.Frame) (new : Stack) → Giving o limit t e old → Pops (Some f) old new → Valid old.limit new → Popped o limit t e old f new
 popped o limit t e old f new g pops valid = (g.same ∙ ap (λ (k : Ctx). give (view_measured e) k t) pops.0, subst (λ (n : ℕ). Valid n new) g.valid.same valid)

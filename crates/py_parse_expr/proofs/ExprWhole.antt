@@ -21,7 +21,7 @@ use Rattle.py_grammar.specs.ExprTrees.{IsExpr}
 use Rattle.py_parse_expr.specs.ExprReads.{FollowsMachine, is_end}
 use Rattle.py_grammar.specs.Refusal.{Spells, IsUnexpected, IsTooDeep}
 use Rattle.py_parse_expr.specs.Refusal.{Parses}
-use Rattle.py_grammar.proofs.Whole.{Going, Over, over_at, goes, next}
+use Rattle.py_grammar.proofs.Whole.{Inside, Over, over_at, goes, next}
 use Rattle.py_grammar.proofs.Stands.{Stands, stands_first, goes_on, unexpected, too_deep, whole_list}
 use Rattle.py_grammar.proofs.Places.{kinds_of_all, kind_at, kinds_length, kind_there}
 use Rattle.py_grammar.proofs.ExprPlaces.{is_exact}
@@ -35,25 +35,25 @@ LeavesAt s e (t ∷ rest) = step s (class t) ≡ Left e
 abbrev Outcome : ℕ → List Kind → Ending → Type 0
 Outcome limit ts (Unexpected rest) = (place : ℕ) × (place ≤ length ts) × (drop place ts ≡ rest) × IsUnexpected limit ts place
 Outcome limit ts (TooDeep rest) = (place : ℕ) × (place ≤ length ts) × (drop place ts ≡ rest) × IsTooDeep limit ts place
-Outcome limit ts (Reads e rest) = (place : ℕ) × (place ≤ length ts) × (drop place ts ≡ rest) × (s : State) × Stands limit ts place (Going s) × LeavesAt s e rest
+Outcome limit ts (Reads e rest) = (place : ℕ) × (place ≤ length ts) × (drop place ts ≡ rest) × (s : State) × Stands limit ts place (Inside s) × LeavesAt s e rest
 
 drop_next : (ts : List Kind) (place : ℕ) (t : Kind) (rest : List Kind) → drop place ts ≡ t ∷ rest → drop (place + 1) ts ≡ rest
 drop_next ts place t rest is = sym (drop-drop 1 place ts) ∙ ap (drop 1) is
 
 -- no step goes on with the next token
-stops : (limit : ℕ) (ts : List Kind) (place : ℕ) (s : State) (t : Kind) (rest : List Kind) → Stands limit ts place (Going s) → drop place ts ≡ t ∷ rest → next (Going s) t ≡ None → IsUnexpected limit ts place
-stops limit ts place s t rest stands there none = unexpected limit ts place (Going s) stands (λ h. refl) (λ u more is. let both : t ∷ rest ≡ u ∷ more = sym there ∙ is in let same : t ≡ u = cc in ap (next (Going s)) (sym same) ∙ none)
+stops : (limit : ℕ) (ts : List Kind) (place : ℕ) (s : State) (t : Kind) (rest : List Kind) → Stands limit ts place (Inside s) → drop place ts ≡ t ∷ rest → next (Inside s) t ≡ None → IsUnexpected limit ts place
+stops limit ts place s t rest stands there none = unexpected limit ts place (Inside s) stands (λ h. refl) (λ u more is. let both : t ∷ rest ≡ u ∷ more = sym there ∙ is in let same : t ≡ u = cc in ap (next (Inside s)) (sym same) ∙ none)
 
-walks : (limit : ℕ) (ts : List Kind) (place : ℕ) (s : State) (rest : List Kind) → drop place ts ≡ rest → Stands limit ts place (Going s) → Outcome limit ts (within limit s rest)
-walks limit ts place s [] there stands = (place, stands.inside, there, unexpected limit ts place (Going s) stands (λ h. refl) (λ u more is. let both : [] ≡ u ∷ more = sym there ∙ is in absurd cc))
+walks : (limit : ℕ) (ts : List Kind) (place : ℕ) (s : State) (rest : List Kind) → drop place ts ≡ rest → Stands limit ts place (Inside s) → Outcome limit ts (within limit s rest)
+walks limit ts place s [] there stands = (place, stands.inside, there, unexpected limit ts place (Inside s) stands (λ h. refl) (λ u more is. let both : [] ≡ u ∷ more = sym there ∙ is in absurd cc))
 walks limit ts place s (t ∷ rest) there stands = go (λ n. walks limit ts (place + 1) n rest) (step s (class t)) refl
   where
-    go : ((n : State) → drop (place + 1) ts ≡ rest → Stands limit ts (place + 1) (Going n) → Outcome limit ts (within limit n rest)) → (o : Out) → step s (class t) ≡ o → Outcome limit ts (elim o as (λ (w : Out). Ending) [ Next n ↦ cond (nat_le (least n) limit) (within limit n rest) (TooDeep (t ∷ rest)) | Stuck ↦ Unexpected (t ∷ rest) | Left e ↦ Reads e (t ∷ rest) ])
+    go : ((n : State) → drop (place + 1) ts ≡ rest → Stands limit ts (place + 1) (Inside n) → Outcome limit ts (within limit n rest)) → (o : Out) → step s (class t) ≡ o → Outcome limit ts (elim o as (λ (w : Out). Ending) [ Next n ↦ cond (nat_le (least n) limit) (within limit n rest) (TooDeep (t ∷ rest)) | Stuck ↦ Unexpected (t ∷ rest) | Left e ↦ Reads e (t ∷ rest) ])
     go rec (Next n) is = fits (nat_le (least n) limit) refl
       where
         fits : (b : Bool) → nat_le (least n) limit ≡ b → Outcome limit ts (cond b (within limit n rest) (TooDeep (t ∷ rest)))
-        fits true low = rec n (drop_next ts place t rest there) (goes_on limit ts place (Going s) (Going n) t rest stands there (ap (λ (o : Out). goes o t) is) (leb-true (least n) limit low))
-        fits false high = (place, stands.inside, there, too_deep limit ts place (Going s) (Going n) t rest stands there (ap (λ (o : Out). goes o t) is) (let above = leb-false (least n) limit high in omega arith))
+        fits true low = rec n (drop_next ts place t rest there) (goes_on limit ts place (Inside s) (Inside n) t rest stands there (ap (λ (o : Out). goes o t) is) (leb-true (least n) limit low))
+        fits false high = (place, stands.inside, there, too_deep limit ts place (Inside s) (Inside n) t rest stands there (ap (λ (o : Out). goes o t) is) (let above = leb-false (least n) limit high in omega arith))
     go rec Stuck is = (place, stands.inside, there, stops limit ts place s t rest stands there (ap (λ (o : Out). goes o t) is))
     go rec (Left e) is = (place, stands.inside, there, s, stands, is)
 
@@ -85,12 +85,12 @@ low ts place e t rest there h =
     (subst (IsExpr any HEIGHT e parted.0) there parted.2).2
 
 abbrev At : List Kind → ℕ → Expr → Kind → Type 0
-At ts place e t = (s : State) × Stands HEIGHT ts place (Going s) × (step s (class t) ≡ Left e)
+At ts place e t = (s : State) × Stands HEIGHT ts place (Inside s) × (step s (class t) ≡ Left e)
 
 leaves : (ts : List Kind) (place : ℕ) (e : Expr) (t : Kind) (rest : List Kind) → drop place ts ≡ t ∷ rest → EndsAt HEIGHT (start any) ts 0 place (Reads e) → At ts place e t
 leaves ts place e t rest there h =
     let o = outcome ts place (Reads e) h in
-    (o.3, subst (λ (p : ℕ). Stands HEIGHT ts p (Going o.3)) (same_place ts o.0 place o.1 h.inside o.2) o.4, subst (LeavesAt o.3 e) there o.5)
+    (o.3, subst (λ (p : ℕ). Stands HEIGHT ts p (Inside o.3)) (same_place ts o.0 place o.1 h.inside o.2) o.4, subst (LeavesAt o.3 e) there o.5)
 
 over_other : (e : Expr) (t : Kind) → is_end t ≡ false → over_at e t ≡ None
 over_other e End h = absurd cc
@@ -110,7 +110,7 @@ read_other ts place e t rest there h other =
 ended : (ts : List Kind) (place : ℕ) (e : Expr) (t : Kind) (rest : List Kind) → drop place ts ≡ t ∷ rest → EndsAt HEIGHT (start any) ts 0 place (Reads e) → is_end t ≡ true → Stands HEIGHT ts (place + 1) (Over e)
 ended ts place e t rest there h is =
     let l = leaves ts place e t rest there h in
-    goes_on HEIGHT ts place (Going l.0) (Over e) t rest l.1 there (ap (λ (o : Out). goes o t) l.2 ∙ ap (over_at e) (end_is t is)) (low ts place e t rest there h)
+    goes_on HEIGHT ts place (Inside l.0) (Over e) t rest l.1 there (ap (λ (o : Out). goes o t) l.2 ∙ ap (over_at e) (end_is t is)) (low ts place e t rest there h)
 
 -- more after the end
 pub read_more : (ts : List Kind) (place : ℕ) (e : Expr) (t : Kind) (rest : List Kind) → drop place ts ≡ t ∷ rest → EndsAt HEIGHT (start any) ts 0 place (Reads e) → is_end t ≡ true → place + 1 < length ts → IsUnexpected HEIGHT ts (place + 1)

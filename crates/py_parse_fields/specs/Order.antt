@@ -15,7 +15,7 @@ use Rattle.py_token.specs.Plain.{token_row, piece_row}
 use Rattle.py_token.specs.View.{view_kind, view_tokens, view_pieces}
 use Rattle.py_syntax.specs.Tree.{Expr, no_parts}
 use Rattle.py_syntax.specs.Kinds.{Kind, FString, Pieces, no_pieces, chars_piece, field_piece, Kinds, no_kinds, kinds, bare_kind, bare_tokens, bare_pieces}
-use Rattle.py_parse_fields.specs.declared.token_classes.TokenClass as held_class
+use Rattle.py_parse_fields.specs.declared.token_classes.TokenClass as code_class
 use Rattle.py_grammar.specs.TokenClasses.{TokenClass, t_format}
 use Rattle.py_grammar.specs.Machine.{State, any, start, class, parts, field_expr}
 use Rattle.py_parse_fields.specs.Frames.{bare_class, view_class}
@@ -67,11 +67,11 @@ load [] = 0
 load (ps ∷ rest) = weight ps + load rest
 
 -- A token, where an f-string waits.
-abbrev pub Waits : Kind → held_class.TokenClass → List Pieces → List Pieces → Type 0
+abbrev pub Waits : Kind → code_class.TokenClass → List Pieces → List Pieces → Type 0
 Waits t c old new = (bare_class (shallow t) ≡ view_class c) × (new ≡ old ++ formats t)
 
 abbrev pub WaitsFor : TokenKind → Vec (Bor (List Piece)) → Vec (Bor (List Piece))
-    → held_class.TokenClass → Type 0
+    → code_class.TokenClass → Type 0
 WaitsFor t old new c =
     Waits (bare_kind (view_kind t)) c (waiting_of old.items) (waiting_of new.items)
 

@@ -6,8 +6,8 @@ use Rattle.py_grammar.specs.TokenClasses.{TokenClass}
 use Rattle.py_grammar.specs.Machine.{Frame, Ctx, on, State, Want, Have, Strings, AfterOpen, AfterComma, ItemsOpen, ItemsComma, DictOpen, DictComma, IndexOpen, SliceColon, AfterDot, AfterNot, AfterIs, AfterIsNot, Linked, Out, Next, Stuck, Left, give, step}
 use Rattle.py_grammar.specs.Least.{least_name}
 use Rattle.py_grammar.specs.Bare.{bare_out, Free}
-use Rattle.py_parse_fields.specs.declared.frames.Frame as held_frame
-use Rattle.py_parse_fields.specs.declared.token_classes.TokenClass as held_class
+use Rattle.py_parse_fields.specs.declared.frames.Frame as code_frame
+use Rattle.py_parse_fields.specs.declared.token_classes.TokenClass as code_class
 use Rattle.py_parse_fields.specs.declared.reader.Progress.{Progress}
 use Rattle.py_parse_fields.specs.declared.reader.Progress.TheVariants as progress_
 use Rattle.py_parse_fields.specs.declared.reader.Reader.{Reader}
@@ -58,12 +58,12 @@ abbrev pub Acts : Out → Result Turn AllocError → Type 0
 Acts o r = Turns (bare_out o) r
 
 -- What a token makes of a place in an expression, with these frames open round it.
-abbrev pub Steps : Progress → List held_frame.Frame → held_class.TokenClass
+abbrev pub Steps : Progress → List code_frame.Frame → code_class.TokenClass
     → Result Turn AllocError → Type 0
 Steps p fs t r = Acts (step (view_at p (view_stack fs)) (view_class t)) r
 
 -- The place that is reached, with frames more than these.
-abbrev pub Reaches : Progress → (Ctx → Ctx) → List held_frame.Frame → Result Turn AllocError
+abbrev pub Reaches : Progress → (Ctx → Ctx) → List code_frame.Frame → Result Turn AllocError
     → Type 0
 Reaches p added fs r = Acts (Next (view_at p (added (view_stack fs)))) r
 

@@ -11,15 +11,15 @@ use Rattle.py_syntax.specs.Spelling.{HEIGHT}
 use Rattle.py_parse_pattern.specs.Heights.{levels, over, depth}
 use Rattle.py_parse_pattern.specs.declared.nodes.Measured.{Measured}
 use Rattle.py_parse_pattern.specs.declared.nodes.Many.{Many}
-use Rattle.py_parse_pattern.specs.declared.reader.Row as held_row
-use Rattle.py_parse_pattern.specs.declared.reader.Frame as held_frame
+use Rattle.py_parse_pattern.specs.declared.reader.Row as code_row
+use Rattle.py_parse_pattern.specs.declared.reader.Frame as code_frame
 use Rattle.py_parse_pattern.specs.declared.reader.Rows.{Rows}
 use Rattle.py_parse_pattern.specs.Views.{view_measured, view_many, AreMeasured, Makes}
 use Rattle.py_parse_pattern.specs.Rows.{view_frame, view_frames, ValidRow, ValidRows, ValidMeasured, SLACK, depth_after}
 use Rattle.py_parse_pattern.proofs.Built.{pushed_height}
 use Rattle.py_parse_pattern.proofs.Least.{joined_height, enclosed_height, levels_snoc}
 
-loosen_row : (r : held_row.Row) (fs : List Frame) → ValidRow HEIGHT r fs → ValidRow SLACK r fs
+loosen_row : (r : code_row.Row) (fs : List Frame) → ValidRow HEIGHT r fs → ValidRow SLACK r fs
 loosen_row r fs k =
     let one = k.low_items in
     let two = k.low_alternatives in
@@ -37,14 +37,14 @@ bar_rows rows new t valid measured same height =
       frames = valid.frames;
     }
 
-deep_after : (fs : List held_frame.Frame) (is : Patterns) (p : Pattern) (d : ℕ) → d ≡ depth is (view_frames fs) → depth_after fs d ≡ depth (snoc is p) (view_frames fs)
+deep_after : (fs : List code_frame.Frame) (is : Patterns) (p : Pattern) (d : ℕ) → d ≡ depth is (view_frames fs) → depth_after fs d ≡ depth (snoc is p) (view_frames fs)
 deep_after [] is p d h = sym (levels_snoc is p)
 deep_after (f ∷ fs) is p d h = go (view_frames (f ∷ fs)) refl h
   where
     none : view_frames (f ∷ fs) ≡ [] → ⊥
     none h = let e = ap length (sym (ap (map view_frame) (reverse-append (f ∷ []) fs)) ∙ h) in some (reverse fs) e
       where
-        some : (gs : List held_frame.Frame) → length (map view_frame (gs ++ f ∷ [])) ≡ 0 → ⊥
+        some : (gs : List code_frame.Frame) → length (map view_frame (gs ++ f ∷ [])) ≡ 0 → ⊥
         some [] h = absurd (omega arith)
         some (g ∷ gs) h = absurd (omega arith)
 
@@ -72,7 +72,7 @@ item_rows rows new none t d valid measured same height empty zero deep =
       frames = valid.frames;
     }
   where
-    low_after : (fs : List held_frame.Frame) (n d : ℕ) → d ≡ depth_after fs n → n ≤ 200 → d ≤ 210
+    low_after : (fs : List code_frame.Frame) (n d : ℕ) → d ≡ depth_after fs n → n ≤ 200 → d ≤ 210
     low_after [] n d h le = omega arith
     low_after (f ∷ fs) n d h le = omega arith
 

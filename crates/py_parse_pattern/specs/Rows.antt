@@ -9,8 +9,8 @@ use Rattle.std.specs.Prelude.{◌≡◌, ℕ, ◌+◌, max, ◌≤◌, ◌<◌, 
 use Rattle.std.specs.declared.alloc.AllocError.{AllocError}
 use Rattle.py_syntax.specs.Spelling.{HEIGHT}
 use Rattle.py_parse_pattern.specs.declared.nodes.Measured.{Measured}
-use Rattle.py_parse_pattern.specs.declared.reader.Row as held_row
-use Rattle.py_parse_pattern.specs.declared.reader.Frame as held_frame
+use Rattle.py_parse_pattern.specs.declared.reader.Row as code_row
+use Rattle.py_parse_pattern.specs.declared.reader.Frame as code_frame
 use Rattle.py_parse_pattern.specs.declared.reader.Rows.{Rows}
 use Rattle.py_parse_pattern.specs.declared.reader.Progress.{Progress}
 use Rattle.py_parse_pattern.specs.declared.reader.Progress.TheVariants as progress_
@@ -21,14 +21,14 @@ use Rattle.py_parse_pattern.specs.Machine.{Frame, frame, Stack, stack, State, Wa
 use Rattle.py_parse_pattern.specs.Heights.{depth, raised, levels}
 use Rattle.py_parse_pattern.specs.Views.{view_measured, IsMeasured, view_many, AreMeasured}
 
-abbrev pub view_frame : held_frame.Frame → Frame
+abbrev pub view_frame : code_frame.Frame → Frame
 view_frame f = frame f.bracket (view_many f.outer.items) (view_many f.outer.alternatives)
 
 -- the innermost is the last in the code, and the first in the machine
-abbrev pub view_frames : List held_frame.Frame → List Frame
+abbrev pub view_frames : List code_frame.Frame → List Frame
 view_frames fs = map view_frame (reverse fs)
 
-abbrev pub view_row : held_row.Row → List Frame → Stack
+abbrev pub view_row : code_row.Row → List Frame → Stack
 view_row r fs = stack (view_many r.items) (view_many r.alternatives) fs
 
 abbrev pub view_rows : Rows → Stack
@@ -50,7 +50,7 @@ abbrev pub view_reader : Reader → State
 view_reader r = view_at r.progress r.rows
 
 -- The heights that the code holds are those of its patterns, and none is above the bound.
-pub record ValidRow (bound : ℕ) (r : held_row.Row) (fs : List Frame) : Type 0 where
+pub record ValidRow (bound : ℕ) (r : code_row.Row) (fs : List Frame) : Type 0 where
   pub items : AreMeasured r.items
   pub alternatives : AreMeasured r.alternatives
   pub depth_is : r.depth ≡ depth (view_many r.items) fs
@@ -59,7 +59,7 @@ pub record ValidRow (bound : ℕ) (r : held_row.Row) (fs : List Frame) : Type 0 
   pub shallow : r.depth ≤ bound
 
 -- the innermost first
-abbrev pub ValidFrames : List held_frame.Frame → Type 0
+abbrev pub ValidFrames : List code_frame.Frame → Type 0
 ValidFrames [] = Unit {0}
 ValidFrames (f ∷ fs) = ValidRow HEIGHT f.outer (map view_frame fs) × ValidFrames fs
 
@@ -109,26 +109,26 @@ Turns o (Ok t) = TurnsTo o t
 Turns o (Err e) = Unit {0}
 
 -- the innermost bracket, and those round it
-abbrev pub Pops : Option held_frame.Frame → List Frame → List Frame → Type 0
+abbrev pub Pops : Option code_frame.Frame → List Frame → List Frame → Type 0
 Pops None old new = old ≡ []
 Pops (Some f) old new = old ≡ view_frame f ∷ new
 
-abbrev pub ValidPops : Option held_frame.Frame → List Frame → List held_frame.Frame → Type 0
+abbrev pub ValidPops : Option code_frame.Frame → List Frame → List code_frame.Frame → Type 0
 ValidPops None fs rest = Unit {0}
 ValidPops (Some f) fs rest = ValidRow HEIGHT f.outer fs × ValidFrames rest
 
 -- how many nodes stand above an item that has others in front of it
-abbrev pub depth_after : List held_frame.Frame → ℕ → ℕ
+abbrev pub depth_after : List code_frame.Frame → ℕ → ℕ
 depth_after [] d = 1
 depth_after (f ∷ fs) d = d
 
 -- the height of what is open in a row, without a closed pattern, and with one or an item of that
 -- height
-abbrev pub row_height : held_row.Row → ℕ
+abbrev pub row_height : code_row.Row → ℕ
 row_height r = max (r.items.height + r.depth) (raised (view_many r.alternatives) r.depth)
 
-abbrev pub closed_height : held_row.Row → ℕ → ℕ
+abbrev pub closed_height : code_row.Row → ℕ → ℕ
 closed_height r h = max (row_height r) (r.depth + levels (view_many r.alternatives) + h)
 
-abbrev pub item_height : held_row.Row → ℕ → ℕ
+abbrev pub item_height : code_row.Row → ℕ → ℕ
 item_height r h = max (r.items.height + r.depth) (r.depth + h)

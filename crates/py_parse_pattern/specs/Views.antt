@@ -6,13 +6,13 @@ use Rattle.py_syntax.specs.Tree.{Pattern, Patterns, patterns}
 use Rattle.py_syntax.specs.Kinds.{Word, Sign}
 use Rattle.py_syntax.specs.Normal.{pattern_height, pattern_heights}
 use Rattle.py_syntax.specs.View.{plain_pattern, plain_patterns}
-use Rattle.py_parse_pattern.specs.declared.token_classes.TokenClass as held
+use Rattle.py_parse_pattern.specs.declared.token_classes.TokenClass as code_class
 use Rattle.py_parse_pattern.specs.declared.token_classes.TokenClass.TheVariants as class_
 use Rattle.py_parse_pattern.specs.declared.nodes.Measured.{Measured}
 use Rattle.py_parse_pattern.specs.declared.nodes.Many.{Many}
 use Rattle.py_parse_pattern.specs.Machine.{TokenClass, a_name, a_number, a_string, a_none, a_bool, a_minus, opens, shuts, a_bar, an_as, a_comma, a_dot, other, class}
 
-abbrev pub view_class : held.TokenClass → TokenClass
+abbrev pub view_class : code_class.TokenClass → TokenClass
 view_class (class_.Name x) = a_name x
 view_class (class_.Number n) = a_number n
 view_class (class_.Str x) = a_string x

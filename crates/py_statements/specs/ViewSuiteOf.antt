@@ -15,9 +15,9 @@ use Rattle.py_syntax.specs.View.{plain_opt_suite, plain_arms, plain_clauses, pla
 use Rattle.py_statements.specs.declared.suite_of.PartialMatch.{PartialMatch}
 use Rattle.py_statements.specs.declared.suite_of.PartialTry.{PartialTry}
 use Rattle.py_statements.specs.declared.suite_of.Signature.{Signature}
-use Rattle.py_statements.specs.declared.suite_of.ElseOf as held_else
+use Rattle.py_statements.specs.declared.suite_of.ElseOf as code_else
 use Rattle.py_statements.specs.declared.suite_of.ElseOf.TheVariants as else_of_
-use Rattle.py_statements.specs.declared.suite_of.SuiteOf as held
+use Rattle.py_statements.specs.declared.suite_of.SuiteOf as code_suite_of
 use Rattle.py_statements.specs.declared.suite_of.SuiteOf.TheVariants as suite_of_
 use Rattle.py_statements.specs.Open.{SuiteOf, an_arm, a_while, a_for, a_try, a_clause, an_else}
 use Rattle.py_statements.specs.Open.{a_finally, a_def, a_case}
@@ -65,13 +65,13 @@ case_of c p g = of_match (λ e last cs. a_case e last cs p g) c
 -- ---- what an open suite belongs to
 
 -- a statement that may take an `else`
-abbrev pub view_else_of : held_else.ElseOf → StmtKind
+abbrev pub view_else_of : code_else.ElseOf → StmtKind
 view_else_of (else_of_.If arms) = if' (plain_arms arms.items) no_suite
 view_else_of (else_of_.While t b) = while (plain_expr t) (plain_suite b) no_suite
 view_else_of (else_of_.For t e b) = for (plain_expr t) (plain_expr e) (plain_suite b) no_suite
 view_else_of (else_of_.Try t) = try_of t no_suite no_suite
 
-abbrev pub view_suite_of : held.SuiteOf → SuiteOf
+abbrev pub view_suite_of : code_suite_of.SuiteOf → SuiteOf
 view_suite_of (suite_of_.Arm arms t) = an_arm (plain_arms arms.items) (boxed_expr t)
 view_suite_of (suite_of_.While t) = a_while (boxed_expr t)
 view_suite_of (suite_of_.For t e) = a_for (boxed_expr t) (boxed_expr e)
@@ -82,5 +82,5 @@ view_suite_of (suite_of_.Finally t o) = finally_of t (plain_opt_suite o)
 view_suite_of (suite_of_.Def s c) = def_of s c
 view_suite_of (suite_of_.Case c p g) = case_of c (boxed_pattern p) (option_map boxed_expr g)
 
-abbrev pub boxed_suite_of : Box held.SuiteOf Global → SuiteOf
+abbrev pub boxed_suite_of : Box code_suite_of.SuiteOf Global → SuiteOf
 boxed_suite_of b = view_suite_of b.value

@@ -1,7 +1,7 @@
 -- Normal expressions and patterns: the trees that the grammar spells, each in one way. And their
 -- heights.
---     Level, rank, op_level, right_level, level     the levels of the grammar, and those of
---                                                   operators and expressions
+--     Precedence, rank                              the levels of the grammar
+--     op_precedence, right_precedence, precedence   those of operators and of expressions
 --     At, IsConstant, Compared, HasFormat           what may stand in a place
 --     Normal                                        an expression that the grammar spells;
 --                                                   NormalItems and the like for what stands in it
@@ -21,21 +21,21 @@ use Rattle.py_syntax.specs.Tokens.{underscore}
 
 -- The levels of the grammar, from the loosest. LEnd is that of a token that goes on with no
 -- expression.
-pub data Level : Type 0 where
-  LEnd : Level
-  LExprs : Level
-  LExpr : Level
-  LOr : Level
-  LAnd : Level
-  LNot : Level
-  LCmp : Level
-  LSum : Level
-  LTerm : Level
-  LUnary : Level
-  LPost : Level
+pub data Precedence : Type 0 where
+  LEnd : Precedence
+  LExprs : Precedence
+  LExpr : Precedence
+  LOr : Precedence
+  LAnd : Precedence
+  LNot : Precedence
+  LCmp : Precedence
+  LSum : Precedence
+  LTerm : Precedence
+  LUnary : Precedence
+  LPost : Precedence
 
 -- the levels in their order
-abbrev pub rank : Level → ℕ
+abbrev pub rank : Precedence → ℕ
 rank LEnd = 0
 rank LExprs = 1
 rank LExpr = 2
@@ -49,49 +49,49 @@ rank LUnary = 9
 rank LPost = 10
 
 -- the level of an operator, which is that of its left operand
-abbrev pub op_level : BinOp → Level
-op_level op_.Add = LSum
-op_level op_.Sub = LSum
-op_level op_.Mul = LTerm
-op_level op_.Floor = LTerm
-op_level op_.Mod = LTerm
+abbrev pub op_precedence : BinOp → Precedence
+op_precedence op_.Add = LSum
+op_precedence op_.Sub = LSum
+op_precedence op_.Mul = LTerm
+op_precedence op_.Floor = LTerm
+op_precedence op_.Mod = LTerm
 
 -- the level of the right operand
-abbrev pub right_level : BinOp → Level
-right_level op_.Add = LTerm
-right_level op_.Sub = LTerm
-right_level op_.Mul = LUnary
-right_level op_.Floor = LUnary
-right_level op_.Mod = LUnary
+abbrev pub right_precedence : BinOp → Precedence
+right_precedence op_.Add = LTerm
+right_precedence op_.Sub = LTerm
+right_precedence op_.Mul = LUnary
+right_precedence op_.Floor = LUnary
+right_precedence op_.Mod = LUnary
 
 -- the level of an expression; `()` is an atom
-abbrev pub level : Expr → Level
-level (name x) = LPost
-level (int n) = LPost
-level (str ps) = LPost
-level (fstr fs) = LPost
-level none = LPost
-level (bool b) = LPost
-level (tuple no_exprs c) = LPost
-level (tuple (exprs e es) c) = LExprs
-level (list es c) = LPost
-level (dict ps c) = LPost
-level (paren e) = LPost
-level (not' e) = LNot
-level (and a b) = LAnd
-level (or a b) = LOr
-level (unary s e) = LUnary
-level (binary op a b) = op_level op
-level (compare a ls) = LCmp
-level (cond b t o) = LExpr
-level (call f es c) = LPost
-level (index f e) = LPost
-level (slice f from to) = LPost
-level (attr f x) = LPost
+abbrev pub precedence : Expr → Precedence
+precedence (name x) = LPost
+precedence (int n) = LPost
+precedence (str ps) = LPost
+precedence (fstr fs) = LPost
+precedence none = LPost
+precedence (bool b) = LPost
+precedence (tuple no_exprs c) = LPost
+precedence (tuple (exprs e es) c) = LExprs
+precedence (list es c) = LPost
+precedence (dict ps c) = LPost
+precedence (paren e) = LPost
+precedence (not' e) = LNot
+precedence (and a b) = LAnd
+precedence (or a b) = LOr
+precedence (unary s e) = LUnary
+precedence (binary op a b) = op_precedence op
+precedence (compare a ls) = LCmp
+precedence (cond b t o) = LExpr
+precedence (call f es c) = LPost
+precedence (index f e) = LPost
+precedence (slice f from to) = LPost
+precedence (attr f x) = LPost
 
 -- an expression stands in a place of the grammar that takes this level and tighter ones
-abbrev pub At : Level → Expr → Type 0
-At l e = rank l ≤ rank (level e)
+abbrev pub At : Precedence → Expr → Type 0
+At l e = rank l ≤ rank (precedence e)
 
 -- what may stand after `is`
 abbrev pub IsConstant : Expr → Type 0
@@ -153,7 +153,7 @@ abbrev mutual
   Normal (and a b) = At LAnd a × Normal a × At LNot b × Normal b
   Normal (or a b) = At LOr a × Normal a × At LAnd b × Normal b
   Normal (unary s e) = At LUnary e × Normal e
-  Normal (binary op a b) = At (op_level op) a × Normal a × At (right_level op) b × Normal b
+  Normal (binary op a b) = At (op_precedence op) a × Normal a × At (right_precedence op) b × Normal b
   Normal (compare a no_links) = ⊥
   Normal (compare a (link op e ls)) =
       At LSum a × Normal a × Compared op e × Normal e × NormalLinks ls

@@ -13,10 +13,10 @@ use Rattle.py_syntax.specs.declared.stmt.LineEnd.{LineEnd}
 use Rattle.py_grammar.specs.Machine as expression
 use Rattle.py_grammar.specs.Machine.{snoc, start, class}
 use Rattle.py_parse_pattern.specs.Machine as pattern
-use Rattle.py_statements.specs.declared.places.Place as held_place
-use Rattle.py_statements.specs.declared.places.State as held_state
+use Rattle.py_statements.specs.declared.places.Place as code_place
+use Rattle.py_statements.specs.declared.places.State as code_state
 use Rattle.py_statements.specs.declared.suite_stack.Open.{Open}
-use Rattle.py_statements.specs.declared.suite_of.SuiteOf as held_suite_of
+use Rattle.py_statements.specs.declared.suite_of.SuiteOf as code_suite_of
 use Rattle.py_statements.specs.declared.places.Turn.{Turn}
 use Rattle.py_statements.specs.Open.{SuiteOf, a_clause, a_def, a_case, newline_end, semicolon_end, both_end, SuiteStack, top, inside, add}
 use Rattle.py_statements.specs.Machine.{Place, Line, Semicolon, Leaving, NameWanted, After, Over, Matching, choose, close, over_suite, over_line, begin_line, line, value, augmented, default, ParamWanted, ParamRead, BoundWanted, BoundRead, ClauseBound, ColonWanted, SuiteWanted, IndentWanted, Except, Span, State, at, wanted, onward, goal, reads, leaving, left, after_name, in_place_op, assigned, end_simple, end_header, begin_simple, after_value, after_default, act}
@@ -55,10 +55,10 @@ semicolon_turn k n b c t e r h end is acts =
     subst (λ (w : Option State). Acts t w r) (ap (λ (d : SuiteStack). begin_simple d kind f l) (is ∙ ap (λ (x : LineEnd). add b n.begun n.last k x) end) ∙ semicolon_begins k n b kind f l h) acts
 
 -- the state that a token leads to, where there is one, and what the code does then
-pub acts_so : (o : Option State) (t : Kind) (f l : ℕ) (s : Option held_state.State) (turn : Turn) → o ≡ option_map view_state s → ((t : Kind) (f l : ℕ) → ActsAs t f l (option_map view_state s) turn) → ActsAs t f l o turn
+pub acts_so : (o : Option State) (t : Kind) (f l : ℕ) (s : Option code_state.State) (turn : Turn) → o ≡ option_map view_state s → ((t : Kind) (f l : ℕ) → ActsAs t f l (option_map view_state s) turn) → ActsAs t f l o turn
 acts_so o t f l s turn is acts = subst (λ (w : Option State). ActsAs t f l w turn) (sym is) (acts t f l)
 
-pub acts_in : (held : held_place.Place) (p : Place) (n : Span) (b : SuiteStack) (t : Kind) (f l : ℕ) (s : Option held_state.State) (turn : Turn) → view_place held ≡ p → act p n b t f l ≡ option_map view_state s → ((t : Kind) (f l : ℕ) → ActsAs t f l (option_map view_state s) turn) → ActsAs t f l (act (view_place held) n b t f l) turn
+pub acts_in : (held : code_place.Place) (p : Place) (n : Span) (b : SuiteStack) (t : Kind) (f l : ℕ) (s : Option code_state.State) (turn : Turn) → view_place held ≡ p → act p n b t f l ≡ option_map view_state s → ((t : Kind) (f l : ℕ) → ActsAs t f l (option_map view_state s) turn) → ActsAs t f l (act (view_place held) n b t f l) turn
 acts_in held p n b t f l s turn same is acts = acts_so (act (view_place held) n b t f l) t f l s turn (ap (λ (q : Place). act q n b t f l) same ∙ is) acts
 
 pub leaving_ends : (r : Bool) (k : StmtKind) (n : Span) (b : SuiteStack) (t : Kind) (f l : ℕ) (o : Option State) → ends_simple t ≡ true → k ≡ left r None → end_simple k n b t l ≡ o → act (Leaving r) n b t f l ≡ o
@@ -79,16 +79,16 @@ leaving_reads r n q b t f l h is = go t h ∙ ap (λ (m : Span). reads (leaving 
 
 -- ---- values
 
-pub value_targets : (ts : Exprs) (e : Expr) (n : Span) (b : SuiteStack) (k : Kind) (l : ℕ) (r : Result (Option held_state.State) AllocError) → is_equal_sign k ≡ true → Makes (cond (is_target e) (Some (at (wanted (value (snoc ts e))) (onward n l) b)) None) r → Makes (after_value ts e n b k l) r
+pub value_targets : (ts : Exprs) (e : Expr) (n : Span) (b : SuiteStack) (k : Kind) (l : ℕ) (r : Result (Option code_state.State) AllocError) → is_equal_sign k ≡ true → Makes (cond (is_target e) (Some (at (wanted (value (snoc ts e))) (onward n l) b)) None) r → Makes (after_value ts e n b k l) r
 value_targets ts e n b (Sign mark.Equal) l r h m = m
 value_targets ts e n b k l r h m = absurd cc
 
-pub value_assigns : (ts : Exprs) (e : Expr) (n : Span) (b : SuiteStack) (k : Kind) (l : ℕ) (r : Result (Option held_state.State) AllocError) → is_equal_sign k ≡ false → some_exprs ts ≡ true → Makes (end_simple (assigned ts e) n b k l) r → Makes (after_value ts e n b k l) r
+pub value_assigns : (ts : Exprs) (e : Expr) (n : Span) (b : SuiteStack) (k : Kind) (l : ℕ) (r : Result (Option code_state.State) AllocError) → is_equal_sign k ≡ false → some_exprs ts ≡ true → Makes (end_simple (assigned ts e) n b k l) r → Makes (after_value ts e n b k l) r
 value_assigns no_exprs e n b k l r h i m = absurd cc
 value_assigns (exprs t ts) e n b (Sign mark.Equal) l r h i m = absurd cc
 value_assigns (exprs t ts) e n b k l r h i m = m
 
-pub value_alone : (ts : Exprs) (e : Expr) (n : Span) (b : SuiteStack) (k : Kind) (l : ℕ) (r : Result (Option held_state.State) AllocError) → some_exprs ts ≡ false → Makes (after_value no_exprs e n b k l) r → Makes (after_value ts e n b k l) r
+pub value_alone : (ts : Exprs) (e : Expr) (n : Span) (b : SuiteStack) (k : Kind) (l : ℕ) (r : Result (Option code_state.State) AllocError) → some_exprs ts ≡ false → Makes (after_value no_exprs e n b k l) r → Makes (after_value ts e n b k l) r
 value_alone no_exprs e n b k l r i m = m
 value_alone (exprs t ts) e n b k l r i m = absurd cc
 
@@ -99,7 +99,7 @@ op_is : (e : Expr) (n : Span) (b : SuiteStack) (k : Kind) (l : ℕ) → is_equal
 op_is e n b (Sign mark.Equal) l h = absurd cc
 op_is e n b k l h = refl
 
-pub value_ends : (e : Expr) (n : Span) (b : SuiteStack) (k : Kind) (l : ℕ) (r : Result (Option held_state.State) AllocError) → is_equal_sign k ≡ false → None ≡ in_place_op k → Makes (end_simple (expr e) n b k l) r → Makes (after_value no_exprs e n b k l) r
+pub value_ends : (e : Expr) (n : Span) (b : SuiteStack) (k : Kind) (l : ℕ) (r : Result (Option code_state.State) AllocError) → is_equal_sign k ≡ false → None ≡ in_place_op k → Makes (end_simple (expr e) n b k l) r → Makes (after_value no_exprs e n b k l) r
 value_ends e n b k l r h i m = subst (λ (o : Option State). Makes o r) (ap (after_op e n b k l) i ∙ sym (op_is e n b k l h)) m
 
 pub value_misplaced : (e : Expr) (n : Span) (b : SuiteStack) (k : Kind) (l : ℕ) (op : BinOp) → is_equal_sign k ≡ false → Some op ≡ in_place_op k → is_place e ≡ false → after_value no_exprs e n b k l ≡ None
@@ -162,7 +162,7 @@ pub name_more : (xs : Listed) (n q : Span) (b : SuiteStack) (t : Kind) (l : ℕ)
 name_more xs n q b (Sign mark.Comma) l h is = ap (λ (m : Span). Some (at (NameWanted xs) m b)) (sym is)
 name_more xs n q b t l h is = absurd cc
 
-pub name_ends : (xs : Listed) (k : StmtKind) (n : Span) (b : SuiteStack) (t : Kind) (l : ℕ) (r : Result (Option held_state.State) AllocError) → is_comma t ≡ false → k ≡ listed xs → Makes (end_simple k n b t l) r → Makes (after_name xs n b t l) r
+pub name_ends : (xs : Listed) (k : StmtKind) (n : Span) (b : SuiteStack) (t : Kind) (l : ℕ) (r : Result (Option code_state.State) AllocError) → is_comma t ≡ false → k ≡ listed xs → Makes (end_simple k n b t l) r → Makes (after_name xs n b t l) r
 name_ends xs k n b t l r h same m = subst (λ (o : Option State). Makes o r) (ap (λ (x : StmtKind). end_simple x n b t l) same ∙ go t h) m
   where
     go : (t : Kind) → is_comma t ≡ false → end_simple (listed xs) n b t l ≡ after_name xs n b t l
@@ -277,8 +277,8 @@ close_inside ss old new l o s w h same is =
     go (a_case e last cs p g) b = refl
     go w b = refl
 
-pub close_made : (ss : Stmts) (old new : List Open) (l : ℕ) (o : Open) (v : held_suite_of.SuiteOf) (s : Suite) (r : Result held_state.State AllocError) → Opens ss old new (Some o) → v ≡ o.suite_of.value → s ≡ suite o.span.first o.span.last o.inline ss → IfOk r (λ w. view_state w ≡ over_suite (view_suite_of v) s o.span.begun l (suite_stack (plain_stmts o.outer.items) (reverse new))) → IfOk r (λ w. view_state w ≡ close (suite_stack ss (reverse old)) l)
-close_made ss old new l o v s (Ok w) h own same is = close_inside ss old new l o s (view_state w) h same (is ∙ ap (λ (x : held_suite_of.SuiteOf). over_suite (view_suite_of x) s o.span.begun l (suite_stack (plain_stmts o.outer.items) (reverse new))) own)
+pub close_made : (ss : Stmts) (old new : List Open) (l : ℕ) (o : Open) (v : code_suite_of.SuiteOf) (s : Suite) (r : Result code_state.State AllocError) → Opens ss old new (Some o) → v ≡ o.suite_of.value → s ≡ suite o.span.first o.span.last o.inline ss → IfOk r (λ w. view_state w ≡ over_suite (view_suite_of v) s o.span.begun l (suite_stack (plain_stmts o.outer.items) (reverse new))) → IfOk r (λ w. view_state w ≡ close (suite_stack ss (reverse old)) l)
+close_made ss old new l o v s (Ok w) h own same is = close_inside ss old new l o s (view_state w) h same (is ∙ ap (λ (x : code_suite_of.SuiteOf). over_suite (view_suite_of x) s o.span.begun l (suite_stack (plain_stmts o.outer.items) (reverse new))) own)
 close_made ss old new l o v s (Err e) h own same is = tt
 
 -- ---- the rules of each step

@@ -6,7 +6,7 @@ use Rattle.py_syntax.specs.declared.stmt.LineEnd.{LineEnd}
 use Rattle.py_syntax.specs.Tree.{StmtKind}
 use Rattle.py_syntax.specs.Kinds.{Kind}
 use Rattle.py_syntax.specs.Headers.{is_match}
-use Rattle.py_statements.specs.declared.places.State as held_state
+use Rattle.py_statements.specs.declared.places.State as code_state
 use Rattle.py_statements.specs.declared.places.Turn.{Turn}
 use Rattle.py_statements.specs.Open.{no_end, SuiteStack, add}
 use Rattle.py_statements.specs.Machine.{Place, Span, State, After, at, wanted, subject, is_whole, next_part, at_line, on_line, begun_at, line, plain_step, header_step, step}
@@ -39,7 +39,7 @@ part_stuck k j first last b t f l h same is = none_begins k j first last b t f l
 
 -- ---- between cases
 
-pub choosing : (k : Kind) (f l : ℕ) (s : State) (o : Option held_state.State) (t : Turn) → plain_step s k f l ≡ option_map view_state o → ((k : Kind) (f l : ℕ) → ActsAs k f l (option_map view_state o) t) → ActsAs k f l (plain_step s k f l) t
+pub choosing : (k : Kind) (f l : ℕ) (s : State) (o : Option code_state.State) (t : Turn) → plain_step s k f l ≡ option_map view_state o → ((k : Kind) (f l : ℕ) → ActsAs k f l (option_map view_state o) t) → ActsAs k f l (plain_step s k f l) t
 choosing k f l s o t is acts = subst (λ (w : Option State). ActsAs k f l w t) (sym is) (acts k f l)
 
 -- ---- headers of `match`
