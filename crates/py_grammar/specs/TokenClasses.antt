@@ -21,6 +21,7 @@ pub data BinaryOperator : Type 0 where
   b_and : BinaryOperator
   b_op : (op : BinOp) → BinaryOperator
 
+-- what a token is to an expression
 pub data TokenClass : Type 0 where
   t_name : (x : Text) → TokenClass
   t_int : (n : ℤ) → TokenClass
@@ -61,11 +62,13 @@ operator_right b_or = LAnd
 operator_right b_and = LNot
 operator_right (b_op op) = right_precedence op
 
+-- the tree of two operands
 abbrev pub joined : BinaryOperator → Expr → Expr → Expr
 joined b_or a b = or a b
 joined b_and a b = and a b
 joined (b_op op) a b = binary op a b
 
+-- the token of an operator
 abbrev pub operator_kind : BinaryOperator → Kind
 operator_kind b_or = Word word.Or
 operator_kind b_and = Word word.And

@@ -79,12 +79,13 @@ abbrev pub MatchesFrom : List PToken → ℕ → Expr → ℕ → Cases → Span
 MatchesFrom ts place e l cs n b =
     Turns ts place (λ t o. o ≡ act (begin_case e l cs) n b (bare_token t) (first_of t) (last_of t))
 
--- the last line of the token at a place, and of the one before a place
+-- the last line of the token at a place
 abbrev pub last_there : List PToken → ℕ → ℕ
 last_there [] place = 0
 last_there (t ∷ ts) zero = last_of t
 last_there (t ∷ ts) (suc place) = last_there ts place
 
+-- the last line of the token before a place
 abbrev pub line_before : List PToken → ℕ → ℕ
 line_before ts zero = 0
 line_before ts (suc place) = last_there ts place
@@ -107,13 +108,14 @@ pub record Resumes (ts : List PToken) (place next : ℕ) (o : GoingOn) (n : Span
 abbrev pub Takes : List Token → ℕ → Option code_state.State → Type 0
 Takes ts place s = Turns (view_tokens ts) place (λ t o. o ≡ option_map view_state s)
 
--- an expression begins there, or the pattern of a `case`
+-- an expression begins at the token of a place
 abbrev pub ReadsThere :
     List Token → ℕ → code_continuation.Continuation → code_span.Span → code_suites.SuiteStack
     → Type 0
 ReadsThere ts place r n b =
     ReadsFrom (view_tokens ts) place (view_continuation r) (view_span n) (view_suites b)
 
+-- a pattern begins at the token of a place
 abbrev pub MatchesThere :
     List Token → ℕ → Box PartialMatch Global → code_span.Span → code_suites.SuiteStack → Type 0
 MatchesThere ts place c n b =

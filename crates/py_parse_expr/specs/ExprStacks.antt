@@ -25,15 +25,17 @@ use Rattle.py_grammar.specs.Least.{wants}
 use Rattle.py_grammar.specs.Budgets.{budget}
 use Rattle.py_parse_expr.specs.ExprViews.{view_precedence, view_operator, view_measured, view_row, view_entries, view_links, view_opener, view_bound, IsMeasured, AreMeasured, AreEntries, IsChain, ValidOpener, ValidBound}
 
--- the first of some items, and the others
+-- the first of some items
 abbrev pub head_of : Exprs → Expr
 head_of no_exprs = none
 head_of (exprs e es) = e
 
+-- the items after the first
 abbrev pub tail_of : Exprs → Exprs
 tail_of no_exprs = no_exprs
 tail_of (exprs e es) = es
 
+-- there is an item
 abbrev pub AreSome : Exprs → Type 0
 AreSome no_exprs = ⊥
 AreSome (exprs e es) = Unit {0}
@@ -43,16 +45,19 @@ pub record ValidItems (r : Row) : Type 0 where
   pub are : AreMeasured r
   pub some : AreSome (view_row r)
 
+-- what the whole is to be
 abbrev pub view_goal : code_goal.Goal → Goal
 view_goal goal_.Any = any
 view_goal goal_.One = one
 view_goal goal_.Target = target
 view_goal (goal_.Targets r) = targets (head_of (view_row r)) (tail_of (view_row r))
 
+-- what is kept beside its trees is so
 abbrev pub ValidGoal : code_goal.Goal → Type 0
 ValidGoal (goal_.Targets r) = ValidItems r
 ValidGoal g = Unit {0}
 
+-- one frame
 abbrev pub view_frame : code_frame.Frame → Frame
 view_frame frame_.ExprsFirst = exprs_first
 view_frame (frame_.ExprsRest r) = exprs_rest (head_of (view_row r)) (tail_of (view_row r))
@@ -74,6 +79,7 @@ view_frame frame_.InParen = in_paren
 view_frame (frame_.InKey ps) = in_key (view_entries ps)
 view_frame (frame_.InValue ps key) = in_value (view_entries ps) (view_measured key)
 
+-- what is kept beside its trees is so
 abbrev pub ValidFrame : code_frame.Frame → Type 0
 ValidFrame (frame_.ExprsRest r) = ValidItems r
 ValidFrame (frame_.CondTest b) = IsMeasured b
@@ -105,6 +111,7 @@ abbrev pub view_frames : Goal → List OpenFrame → Ctx
 view_frames g [] = Outside g
 view_frames g (h ∷ hs) = on (view_frame h.frame) (view_frames g hs)
 
+-- each frame keeps what is so, and the budget that there is
 abbrev pub ValidFrames : ℕ → Goal → List OpenFrame → Type 0
 ValidFrames limit g [] = Unit {0}
 ValidFrames limit g (h ∷ hs) =
@@ -142,10 +149,11 @@ opened_with from looser l f k =
     cond (at_most (view_precedence from) (view_precedence l))
     (on (view_frame f) (opened (view_precedence from) (view_precedence looser) k)) k
 
--- what is open after what may be called, indexed or asked for a name; and in the bracket of a tree
+-- what is open after what may be called, indexed or asked for a name
 abbrev pub upto_post : code_precedence.Precedence → Ctx → Ctx
 upto_post from k = on post_rest (upto_term (view_precedence from) k)
 
+-- the same in the bracket of a tree
 abbrev pub upto_bracket : code_precedence.Precedence → Ctx → Ctx
 upto_bracket from k = upto_term (view_precedence from) k
 

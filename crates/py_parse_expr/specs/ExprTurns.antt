@@ -36,6 +36,7 @@ use Rattle.py_grammar.specs.Least.{least}
 use Rattle.py_parse_expr.specs.ExprViews.{view_precedence, view_class, view_measured, view_row, view_entries, view_links, view_opener, view_bound, view_strings, IsMeasured, AreMeasured, AreEntries, IsChain, ValidOpener, ValidBound, ValidStrings}
 use Rattle.py_parse_expr.specs.ExprStacks.{head_of, tail_of, ValidItems, view_goal, view_frame, ValidFrame, IsBudget, view_stack, Valid, opened}
 
+-- a place in an expression, with what is open round it
 abbrev pub view_at : code_progress.Progress → Ctx → State
 view_at (progress_.Want l) k = Want (view_precedence l) k
 view_at (progress_.Have t) k = Have (view_measured t) k
@@ -99,6 +100,7 @@ BecomesAs o k t (met_.Opens f p) =
 BecomesAs o k t met_.Stuck = o ≡ Stuck
 BecomesAs o k t (met_.Passes e) = (o ≡ give (view_measured e) k t) × IsMeasured e
 
+-- the same, where memory lasts
 abbrev pub Becomes : Out → Ctx → TokenClass → Result FrameStep AllocError → Type 0
 Becomes o k t (Ok m) = BecomesAs o k t m
 Becomes o k t (Err e) = Unit {0}
@@ -109,6 +111,7 @@ MeetsAs e f t m =
     (k : Ctx) → BecomesAs (give (view_measured e) (on (view_frame f) k) (view_class t))
     k (view_class t) m
 
+-- the same, where memory lasts
 abbrev pub Meets : Measured → code_frame.Frame → code_class.TokenClass
     → Result FrameStep AllocError → Type 0
 Meets e f t r =
@@ -144,6 +147,7 @@ abbrev pub close_dict : Pairs → Bool → Ctx → TokenClass → Out
 close_dict ps c k t_right_brace = Next (Have (dict ps c) (on post_rest k))
 close_dict ps c k t = begin LExpr (on (in_key ps) k) t
 
+-- the same of entries in the code
 abbrev pub in_braces : Entries → Bool → code_class.TokenClass → Ctx → Out
 in_braces ps c t k = close_dict (view_entries ps) c k (view_class t)
 
@@ -154,6 +158,7 @@ StaysAs o turn_.Stuck = (k : Ctx) → o k ≡ Stuck
 StaysAs o turn_.Deep = ⊥
 StaysAs o (turn_.Left t) = ((k : Ctx) → o k ≡ Left (view_measured t)) × IsMeasured t
 
+-- the same, where memory lasts
 abbrev pub Stays : (Ctx → Out) → Result Turn AllocError → Type 0
 Stays o (Ok t) = StaysAs o t
 Stays o (Err e) = Unit {0}
@@ -170,6 +175,7 @@ ActsAs o limit s turn_.Stuck = o ≡ Stuck
 ActsAs o limit s turn_.Deep = ⊥
 ActsAs o limit s (turn_.Left t) = (o ≡ Left (view_measured t)) × IsMeasured t
 
+-- the same, where memory lasts
 abbrev pub Acts : Out → ℕ → Stack → Result Turn AllocError → Type 0
 Acts o limit s (Ok t) = ActsAs o limit s t
 Acts o limit s (Err e) = Unit {0}
@@ -192,6 +198,7 @@ TurnsTo o limit s turn_.Stuck = o ≡ Stuck
 TurnsTo o limit s turn_.Deep = (n : State) × (o ≡ Next n) × (limit < least n)
 TurnsTo o limit s (turn_.Left t) = (o ≡ Left (view_measured t)) × IsMeasured t
 
+-- the same, where memory lasts
 abbrev pub Turns : Out → ℕ → Stack → Result Turn AllocError → Type 0
 Turns o limit s (Ok t) = TurnsTo o limit s t
 Turns o limit s (Err e) = Unit {0}

@@ -34,11 +34,13 @@ bare_class (t_bad_format ps) = t_bad_format no_pieces
 bare_class (t_other k) = t_other End
 bare_class t = t
 
+-- an operator that joins two operands
 abbrev pub view_operator : code_operator.BinaryOperator → BinaryOperator
 view_operator operator_.Or = b_or
 view_operator operator_.And = b_and
 view_operator (operator_.Op op) = b_op op
 
+-- the class of a token
 abbrev pub view_class : code_class.TokenClass → TokenClass
 view_class class_.Name = t_name []
 view_class class_.Number = t_int (pos 0)
@@ -62,6 +64,7 @@ view_class class_.LeftBrace = t_left_brace
 view_class class_.RightBrace = t_right_brace
 view_class class_.Other = t_other End
 
+-- a level of the grammar
 abbrev pub view_precedence : code_precedence.Precedence → Precedence
 view_precedence precedence_.Exprs = LExprs
 view_precedence precedence_.Expr = LExpr
@@ -73,6 +76,7 @@ view_precedence precedence_.Sum = LSum
 view_precedence precedence_.Term = LTerm
 view_precedence precedence_.Unary = LUnary
 
+-- what opened a bracket that holds items
 abbrev pub view_opener : code_opener.Opener → Opener
 view_opener opener_.Call = a_call least_name
 view_opener opener_.List = a_list
@@ -99,6 +103,7 @@ view_frame frame_.InParen = in_paren
 view_frame frame_.InKey = in_key no_pairs
 view_frame frame_.InValue = in_value no_pairs least_name
 
+-- the frames that are open, the innermost first
 abbrev pub view_open : List code_frame.Frame → Ctx
 view_open [] = Outside any
 view_open (f ∷ fs) = on (view_frame f) (view_open fs)
@@ -107,9 +112,11 @@ view_open (f ∷ fs) = on (view_frame f) (view_open fs)
 abbrev pub view_stack : List code_frame.Frame → Ctx
 view_stack fs = view_open (reverse fs)
 
+-- more frames are open than were
 abbrev pub Opens : (Ctx → Ctx) → Vec code_frame.Frame → Vec code_frame.Frame → Type 0
 Opens added old new = view_stack new.items ≡ added (view_stack old.items)
 
+-- the innermost frame is taken off, where there is one
 abbrev pub Pops : Option code_frame.Frame → List code_frame.Frame → List code_frame.Frame → Type 0
 Pops None old new = old ≡ []
 Pops (Some f) old new =

@@ -17,6 +17,7 @@ use Rattle.py_parse_fields.specs.declared.replies.Reply.{Reply}
 use Rattle.py_parse_fields.specs.declared.replies.Reply.TheVariants as reply_
 use Rattle.py_parse_fields.specs.Frames.{view_class, view_precedence, view_opener, view_frame, view_stack}
 
+-- a place in an expression, with the frames that are open round it
 abbrev pub view_at : Progress → Ctx → State
 view_at (progress_.Want l) k = Want (view_precedence l) k
 view_at progress_.Have k = Have least_name k
@@ -35,9 +36,11 @@ view_at progress_.AfterIs k = AfterIs least_name no_links k
 view_at progress_.AfterIsNot k = AfterIsNot least_name no_links k
 view_at progress_.Linked k = Linked least_name no_links k
 
+-- a reader: its place, and the frames that are open
 abbrev pub view_reader : Reader → State
 view_reader r = view_at r.progress (view_stack r.frames.items)
 
+-- what a token makes of a place
 abbrev pub view_turn : Turn → Out
 view_turn (turn_.Next r) = Next (view_reader r)
 view_turn turn_.Stuck = Stuck
@@ -49,6 +52,7 @@ is_left (Next s) = false
 is_left Stuck = false
 is_left (Left e) = true
 
+-- the same where memory lasts
 abbrev pub Turns : Out → Result Turn AllocError → Type 0
 Turns o (Ok t) = o ≡ bare_out (view_turn t)
 Turns o (Err e) = Unit {0}
@@ -67,6 +71,7 @@ abbrev pub Reaches : Progress → (Ctx → Ctx) → List code_frame.Frame → Re
     → Type 0
 Reaches p added fs r = Acts (Next (view_at p (added (view_stack fs)))) r
 
+-- what the answer of a frame makes of what is open round it
 abbrev pub replied : Reply → Ctx → TokenClass → Out
 replied reply_.Pass k t = give least_name k t
 replied reply_.Stuck k t = Stuck

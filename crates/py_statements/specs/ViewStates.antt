@@ -48,13 +48,15 @@ use Rattle.py_statements.specs.Machine.{at_line, step, done}
 use Rattle.py_statements.specs.ViewSuiteOf.{boxed_expr, boxed_pattern, boxed_kind, of_match, of_try}
 use Rattle.py_statements.specs.ViewSuiteOf.{of_signature, boxed_suite_of}
 
--- the kind of a token, and its lines
+-- the kind of a token
 abbrev pub kind_at : Token → Kind
 kind_at t = bare_kind (view_kind (out-Token t).kind)
 
+-- its first line
 abbrev pub first_at : Token → ℕ
 first_at t = (out-Token t).first
 
+-- its last line
 abbrev pub last_at : Token → ℕ
 last_at t = (out-Token t).last
 
@@ -88,19 +90,23 @@ Opens ss old new (Some o) =
 
 -- ---- places
 
+-- the lines of what is read
 abbrev pub view_span : code_span.Span → Span
 view_span n = record { begun = n.begun; first = n.first; last = n.last }
 
--- after the default of a parameter, after a parameter, after the `as` of a clause
+-- after the default of a parameter
 abbrev pub default_of : Signature → Text → Continuation
 default_of s y = of_signature (λ x ps ds. default x ps ds y) s
 
+-- after a parameter
 abbrev pub param_of : Signature → Text → Place
 param_of s y = of_signature (λ x ps ds. ParamRead x ps ds y) s
 
+-- after the `as` of a clause
 abbrev pub bound_of : PartialTry → Expr → Place
 bound_of t e = of_try (λ b cs. ClauseBound b cs e) t
 
+-- what an expression is read for
 abbrev pub view_continuation : code_continuation.Continuation → Continuation
 view_continuation (continuation_.Value ts) = value (plain_exprs ts.items)
 view_continuation (continuation_.Augmented p op) = augmented (boxed_expr p) op
@@ -117,11 +123,13 @@ view_continuation (continuation_.Guard c p) =
     of_match (λ e last cs. guard e last cs (boxed_pattern p)) c
 view_continuation (continuation_.Default s y) = default_of s y
 
+-- a statement that lists names, as far as it is read
 abbrev pub view_listed : code_listed.Listed → Listed
 view_listed (listed_.Globals xs) = globals xs.items
 view_listed (listed_.Imports names) = imports (plain_aliases names.items)
 view_listed (listed_.Froms m names) = froms m (plain_aliases names.items)
 
+-- a place inside a statement or a header
 abbrev pub view_place : code_place.Place → Place
 view_place (place_.Wanted r) = wanted (view_continuation r)
 view_place (place_.PatternWanted c) = of_match begin_case c
@@ -146,6 +154,7 @@ view_place (place_.IndentWanted o) = IndentWanted (boxed_suite_of o)
 view_place (place_.MatchLine e last) = MatchLine (boxed_expr e) last
 view_place (place_.MatchBlock e last) = MatchBlock (boxed_expr e) last
 
+-- a state of the reading
 abbrev pub view_state : code_state.State → State
 view_state (state_.Line b) = Line (view_suites b)
 view_state (state_.At p n b) = at (view_place p) (view_span n) (view_suites b)
@@ -160,6 +169,7 @@ view_state (state_.Over ss) = Over (plain_stmts ss.items)
 abbrev pub Turned : Type 0
 Turned = Result Turn AllocError
 
+-- what a step makes that begins no expression or pattern, where memory lasts
 abbrev pub Made : Type 0
 Made = Result (Option code_state.State) AllocError
 
@@ -173,6 +183,7 @@ ActsAs t f l o (turn_.Reads r n b) =
 ActsAs t f l o (turn_.Matches c n b) =
     o ≡ act (of_match begin_case c) (view_span n) (view_suites b) t f l
 
+-- the same, where memory lasts
 abbrev pub Acts : Token → Option State → Turned → Type 0
 Acts t o (Ok turn) = ActsAs (kind_at t) (first_at t) (last_at t) o turn
 Acts t o (Err e) = Unit {0}
@@ -230,6 +241,7 @@ abbrev pub is_closable : SuiteStack → Bool
 is_closable (inside (stmt first last k e ss) false f l begun o b) = true
 is_closable b = false
 
+-- whether no suite is open
 abbrev pub is_top : SuiteStack → Bool
 is_top (top ss) = true
 is_top b = false

@@ -24,12 +24,15 @@ use Rattle.py_statements.specs.Open.{a_finally, a_def, a_case}
 
 -- ---- trees in boxes
 
+-- an expression
 abbrev pub boxed_expr : Box Node Global → Expr
 boxed_expr b = plain_expr b.value
 
+-- a pattern
 abbrev pub boxed_pattern : Box PatternNode Global → Pattern
 boxed_pattern b = plain_pattern b.value
 
+-- a statement
 abbrev pub boxed_kind : Box KindNode Global → StmtKind
 boxed_kind b = plain_kind b.value
 
@@ -47,18 +50,23 @@ of_try f t = f (plain_suite t.body) (plain_clauses t.clauses.items)
 abbrev pub of_signature : {A : Type 0} → (Text → List Text → Exprs → A) → Signature → A
 of_signature f s = f s.name s.params.items (plain_exprs s.defaults.items)
 
+-- the `try` statement, with its `else` and its `finally`
 abbrev pub try_of : PartialTry → OptSuite → OptSuite → StmtKind
 try_of t o f = of_try (λ b cs. try b cs o f) t
 
+-- the clause that follows, whose suite is open
 abbrev pub clause_of : PartialTry → Option Expr → Option Text → SuiteOf
 clause_of t e x = of_try (λ b cs. a_clause b cs e x) t
 
+-- the `finally`, whose suite is open
 abbrev pub finally_of : PartialTry → OptSuite → SuiteOf
 finally_of t o = of_try (λ b cs. a_finally b cs o) t
 
+-- the `def`, whose suite is open
 abbrev pub def_of : Signature → Bool → SuiteOf
 def_of s c = of_signature (λ x ps ds. a_def x ps ds c) s
 
+-- the case that follows, whose suite is open
 abbrev pub case_of : Box PartialMatch Global → Pattern → Option Expr → SuiteOf
 case_of c p g = of_match (λ e last cs. a_case e last cs p g) c
 
@@ -71,6 +79,7 @@ view_else_of (else_of_.While t b) = while (plain_expr t) (plain_suite b) no_suit
 view_else_of (else_of_.For t e b) = for (plain_expr t) (plain_expr e) (plain_suite b) no_suite
 view_else_of (else_of_.Try t) = try_of t no_suite no_suite
 
+-- what an open suite belongs to
 abbrev pub view_suite_of : code_suite_of.SuiteOf → SuiteOf
 view_suite_of (suite_of_.Arm arms t) = an_arm (plain_arms arms.items) (boxed_expr t)
 view_suite_of (suite_of_.While t) = a_while (boxed_expr t)
@@ -82,5 +91,6 @@ view_suite_of (suite_of_.Finally t o) = finally_of t (plain_opt_suite o)
 view_suite_of (suite_of_.Def s c) = def_of s c
 view_suite_of (suite_of_.Case c p g) = case_of c (boxed_pattern p) (option_map boxed_expr g)
 
+-- the same in a box
 abbrev pub boxed_suite_of : Box code_suite_of.SuiteOf Global → SuiteOf
 boxed_suite_of b = view_suite_of b.value

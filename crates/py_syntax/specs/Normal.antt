@@ -230,6 +230,7 @@ abbrev mutual
   is_target (slice f from to) = false
   is_target (attr f x) = false
 
+  -- whether each of several has
   pub are_targets : Exprs → Bool
   are_targets no_exprs = true
   are_targets (exprs e es) = is_target e && are_targets es
@@ -283,27 +284,33 @@ abbrev mutual
   height (slice f from to) = suc (max (height f) (max (height_bound from) (height_bound to)))
   height (attr f x) = suc (height f)
 
+  -- the height of the highest of several expressions
   pub heights : Exprs → ℕ
   heights no_exprs = 0
   heights (exprs e es) = max (height e) (heights es)
 
+  -- of the highest key or value
   pub height_entries : Pairs → ℕ
   height_entries no_pairs = 0
   height_entries (pair k v ps) = max (max (height k) (height v)) (height_entries ps)
 
+  -- of the highest right operand of a chain of comparisons
   pub height_links : Links → ℕ
   height_links no_links = 0
   height_links (link op e ls) = max (height e) (height_links ls)
 
+  -- of a bound of a slice, where there is one
   pub height_bound : OptExpr → ℕ
   height_bound absent = 0
   height_bound (present e) = height e
 
+  -- of the highest field of neighbouring strings
   pub height_fragments : Fragments → ℕ
   height_fragments no_fragments = 0
   height_fragments (plain x fs) = height_fragments fs
   height_fragments (format ps fs) = max (height_parts ps) (height_fragments fs)
 
+  -- of the highest field of an f-string
   pub height_parts : Parts → ℕ
   height_parts no_parts = 0
   height_parts (text x ps) = height_parts ps
@@ -361,6 +368,7 @@ abbrev mutual
   EachPattern l (patterns p ps) = (l ≤ pattern_rank p) × NormalPattern p × EachPattern l ps
 
 abbrev mutual
+  -- how many nodes the longest branch of a pattern has
   pub pattern_height : Pattern → ℕ
   pattern_height (literal minus c) = 1
   pattern_height (capture x) = 1
@@ -371,6 +379,7 @@ abbrev mutual
   pattern_height (p_as p x) = suc (pattern_height p)
   pattern_height (p_paren p) = suc (pattern_height p)
 
+  -- the height of the highest of several patterns
   pub pattern_heights : Patterns → ℕ
   pattern_heights no_patterns = 0
   pattern_heights (patterns p ps) = max (pattern_height p) (pattern_heights ps)

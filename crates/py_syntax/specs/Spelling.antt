@@ -112,20 +112,24 @@ abbrev mutual
       (first ≡ first_line ts) × (last ≡ last_line (take (length head) ts))
       × KeepsLines b (drop (length head + 2) ts)
 
+  -- the suite of an `else` or a `finally`, with its header
   pub OptLines : OptSuite → List Kind → List PToken → Type 0
   OptLines no_suite head ts = Unit {0}
   OptLines (has_suite s) head ts = SuiteLines s head ts
 
+  -- tests with their suites, after the first
   pub ArmLines : Arms → List PToken → Type 0
   ArmLines no_arms ts = Unit {0}
   ArmLines (arm t b arms) ts =
       SuiteLines b (test_head word.Elif t) ts × ArmLines arms (after_suite (test_head word.Elif t) b ts)
 
+  -- the clauses of a `try`
   pub ClauseLines : Clauses → List PToken → Type 0
   ClauseLines no_clauses ts = Unit {0}
   ClauseLines (clause e x b cs) ts =
       SuiteLines b (except_tokens e x) ts × ClauseLines cs (after_suite (except_tokens e x) b ts)
 
+  -- the cases of a `match`
   pub CaseLines : Cases → List PToken → Type 0
   CaseLines no_cases ts = Unit {0}
   CaseLines (case p g b cs) ts =

@@ -21,14 +21,17 @@ abbrev mutual
   IsOnLines (token kind first last) =
       (1 ≤ first) × (first ≤ last) × (last ≤ 65535) × IsKindOnLines kind
 
+  -- the tokens of a field keep lines
   pub AreRowOnLines : PTokens → Type 0
   AreRowOnLines no_tokens = Unit {0}
   AreRowOnLines (tokens t ts) = IsOnLines t × AreRowOnLines ts
 
+  -- the tokens of a piece keep lines
   pub IsPieceOnLines : PPiece → Type 0
   IsPieceOnLines (chars text) = Unit {0}
   IsPieceOnLines (field ts) = AreRowOnLines ts
 
+  -- the tokens of the pieces of an f-string keep lines
   pub ArePiecesOnLines : PPieces → Type 0
   ArePiecesOnLines no_pieces = Unit {0}
   ArePiecesOnLines (pieces p ps) = IsPieceOnLines p × ArePiecesOnLines ps
