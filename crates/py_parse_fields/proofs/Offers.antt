@@ -5,7 +5,7 @@ use Rattle.py_grammar.specs.TokenClasses.{TokenClass}
 use Rattle.py_grammar.specs.Machine.{Ctx, Out, give}
 use Rattle.py_grammar.specs.Least.{least_name}
 use Rattle.py_grammar.specs.Bare.{bare_out, Free}
-use Rattle.py_grammar.proofs.Alike.{give_alike}
+use Rattle.py_grammar.proofs.View.Alike.{give_alike}
 use Rattle.py_parse_fields.specs.declared.frames.Frame as code_frame
 use Rattle.py_parse_fields.specs.Frames.{view_frame, view_open, view_stack, Pops}
 use Rattle.py_parse_fields.specs.declared.replies.Reply.{Reply}

@@ -12,7 +12,7 @@ use Rattle.py_parse_fields.specs.declared.reader.Turn.{Turn}
 use Rattle.py_parse_fields.specs.Frames.{bare_class, view_class}
 use Rattle.py_parse_fields.specs.Reader.{view_reader, view_turn, Acts}
 use Rattle.py_parse_fields.specs.Order.{shallow, formats, each_spelled, weight, field_weight, kind_weight, load}
-use Rattle.py_grammar.proofs.Spelled.{field_after}
+use Rattle.py_grammar.proofs.Sound.Spelled.{field_after}
 use Rattle.py_parse_fields.proofs.TokenClasses.{same_step}
 use Rattle.std.proofs.Common.{drop, length, get_or}
 use Rattle.std.proofs.lemmas.List.{append-nil, at_drop_more}

@@ -12,8 +12,8 @@ use Rattle.py_syntax.specs.Kinds.{Pieces, Kinds, kinds, bare_kind, bare_token, b
 use Rattle.py_grammar.specs.TokenClasses.{TokenClass}
 use Rattle.py_grammar.specs.Machine.{Out, Next, Stuck, Left, step, parts, field_expr}
 use Rattle.py_grammar.specs.Bare.{bare, bare_out}
-use Rattle.py_grammar.proofs.Spelled.{field_after}
-use Rattle.py_grammar.proofs.AlikeSteps.{FreeState, FreeOut, step_free, is_spelled, fields_alike}
+use Rattle.py_grammar.proofs.Sound.Spelled.{field_after}
+use Rattle.py_grammar.proofs.View.AlikeSteps.{FreeState, FreeOut, step_free, is_spelled, fields_alike}
 use Rattle.py_parse_fields.specs.declared.frames.Frame as code_frame
 use Rattle.py_parse_fields.specs.declared.reader.Progress.{Progress}
 use Rattle.py_parse_fields.specs.declared.reader.Progress.TheVariants as progress_

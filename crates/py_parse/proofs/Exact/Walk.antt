@@ -12,7 +12,7 @@ use Rattle.py_grammar.specs.Machine as expression
 use Rattle.py_grammar.specs.Machine.{start, class}
 use Rattle.py_grammar.specs.Least.{least}
 use Rattle.py_grammar.specs.Reading.{Ending, Unexpected, TooDeep, Reads, within}
-use Rattle.py_grammar.proofs.Grows.{height_some}
+use Rattle.py_grammar.proofs.Least.Grows.{height_some}
 use Rattle.py_statements.specs.Open.{SuiteStack}
 use Rattle.py_statements.specs.Machine.{Continuation, Reading, Span, State, at, goal, reads, onward, act, resume}
 use Rattle.py_parse.specs.Places.{last_before}

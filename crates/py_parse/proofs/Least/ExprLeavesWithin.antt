@@ -11,7 +11,7 @@ use Rattle.py_grammar.specs.Machine.{at_most, same_precedence, snoc, snoc_link, 
 use Rattle.py_grammar.specs.Least.{least_name, as_target, target_if, wants, fit, whole, least}
 use Rattle.py_statements.specs.Machine.{Continuation, value, augmented, leaving, asserted, reason, arm_test, while_test, for_target, for_over, clause_kind, subject, guard, default, goal}
 use Rattle.py_statements.specs.Levels.{is_start}
-use Rattle.py_grammar.proofs.Grows.{heights_snoc, tuple_snoc, and_right}
+use Rattle.py_grammar.proofs.Least.Grows.{heights_snoc, tuple_snoc, and_right}
 
 -- What leaves is no higher than this, and a step leads to no beginning.
 abbrev pub LeavesWithin : ℕ → Out → Type 0

@@ -10,7 +10,7 @@ use Rattle.py_grammar.specs.Machine.{snoc}
 use Rattle.py_grammar.specs.Least as expression_least
 use Rattle.py_grammar.specs.Least.{least_name}
 use Rattle.py_parse_pattern.specs.Machine as pattern
-use Rattle.py_grammar.proofs.Grows.{heights_snoc, height_some}
+use Rattle.py_grammar.proofs.Least.Grows.{heights_snoc, height_some}
 use Rattle.py_statements.specs.Open.{a_try, a_def, a_case, SuiteStack}
 use Rattle.py_statements.specs.Machine.{Continuation, value, augmented, leaving, asserted, reason, arm_test, while_test, for_target, for_over, clause_kind, subject, guard, default, Place, Reading, Matching, FunctionWanted, ColonWanted, Span, State, at, next_part}
 use Rattle.py_parse.specs.Least.{ended, resumed, with_param, form}

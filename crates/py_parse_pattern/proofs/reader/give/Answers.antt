@@ -1,5 +1,5 @@
 use Rattle.std.proofs.Common.{arith}
-use Rattle.py_parse_pattern.proofs.Turning.{joined_valid}
+use Rattle.py_parse_pattern.proofs.View.Turning.{joined_valid}
 use Rattle.py_parse_pattern.proofs.reader.give.Goals as goal
 
 pub next-requires-clause-at : goal.next-requires-clause-at
