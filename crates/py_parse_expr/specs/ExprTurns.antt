@@ -27,7 +27,7 @@ use Rattle.py_parse_expr.specs.declared.expr_stack.Stack.{Stack}
 use Rattle.py_parse_expr.specs.declared.expr_turns.Progress as code_progress
 use Rattle.py_parse_expr.specs.declared.expr_turns.Progress.TheVariants as progress_
 use Rattle.py_parse_expr.specs.declared.expr_turns.FrameStep.{FrameStep}
-use Rattle.py_parse_expr.specs.declared.expr_turns.FrameStep.TheVariants as met_
+use Rattle.py_parse_expr.specs.declared.expr_turns.FrameStep.TheVariants as frame_step_
 use Rattle.py_parse_expr.specs.declared.expr_turns.Turn.{Turn}
 use Rattle.py_parse_expr.specs.declared.expr_turns.Turn.TheVariants as turn_
 use Rattle.py_grammar.specs.TokenClasses.{TokenClass, t_right_paren, t_right_bracket, t_right_brace}
@@ -94,11 +94,11 @@ closes o t = false
 
 -- What a step makes of the frames from this one on.
 abbrev pub BecomesAs : Out → Ctx → TokenClass → FrameStep → Type 0
-BecomesAs o k t (met_.Next p) = (o ≡ Next (view_at p k)) × ValidAt p
-BecomesAs o k t (met_.Opens f p) =
+BecomesAs o k t (frame_step_.Next p) = (o ≡ Next (view_at p k)) × ValidAt p
+BecomesAs o k t (frame_step_.Opens f p) =
     (o ≡ Next (view_at p (on (view_frame f) k))) × ValidFrame f × ValidAt p
-BecomesAs o k t met_.Stuck = o ≡ Stuck
-BecomesAs o k t (met_.Passes e) = (o ≡ give (view_measured e) k t) × IsMeasured e
+BecomesAs o k t frame_step_.Stuck = o ≡ Stuck
+BecomesAs o k t (frame_step_.Passes e) = (o ≡ give (view_measured e) k t) × IsMeasured e
 
 -- the same, where memory lasts
 abbrev pub Becomes : Out → Ctx → TokenClass → Result FrameStep AllocError → Type 0

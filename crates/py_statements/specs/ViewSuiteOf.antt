@@ -1,7 +1,7 @@
 -- What an open suite belongs to as the code holds it.
 --     boxed_expr, boxed_kind, boxed_pattern     trees in boxes
 --     of_match, of_try, of_signature            what is made of the parts of a statement so far
---     try_of .. case_of                         statements and owners of suites made so
+--     try_of .. case_of                         statements, and what suites belong to, made so
 --     view_else_of .. boxed_suite_of            what an open suite belongs to
 use Rattle.std.specs.Prelude.{ℕ, Bool, List, Option, option_map, Box}
 use Rattle.std.specs.Global.{Global}

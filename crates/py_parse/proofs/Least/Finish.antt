@@ -23,7 +23,7 @@ pass_line r = put (Word word.Pass ∷ Newline ∷ []) r
 abbrev pub finally_pass : List Marked → List Marked
 finally_pass r = put (Word word.Finally ∷ Sign mark.Colon ∷ []) (pass_line r)
 
--- after a suite of this owner
+-- after a suite that belongs to this
 abbrev pub settled : SuiteOf → List Marked → List Marked
 settled a_try r = finally_pass r
 settled (a_case e last cs p g) r = put (Dedent ∷ []) r

@@ -63,7 +63,7 @@ closed_tokens (a_def x ps ds c) ss inline f l begun b last r h = refl
 closed_tokens (a_case e hl cs p None) ss inline f l begun b last r h = ap (before_suites b) (cases_snoc e cs p None (suite f l inline ss) r)
 closed_tokens (a_case e hl cs p (Some g)) ss inline f l begun b last r h = ap (before_suites b) (cases_snoc e cs p (Some g) (suite f l inline ss) r)
 
--- the owner of the innermost suite
+-- what the innermost suite belongs to is valid
 abbrev pub Owned : SuiteStack → Type 0
 Owned (top ss) = Unit {0}
 Owned (inside ss inline f l begun o b) = ValidSuiteOf o

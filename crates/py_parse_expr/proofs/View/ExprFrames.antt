@@ -8,7 +8,7 @@ use Rattle.py_parse_expr.specs.declared.expr_classes.TokenClass.TheVariants as c
 use Rattle.py_grammar.specs.TokenClasses.{BinaryOperator, TokenClass, t_compare, t_operator, t_not, t_is, operator_precedence, joined}
 use Rattle.py_grammar.specs.Machine.{snoc_link, Opener, a_call, a_list, Frame, Ctx, on, first, right, compare_rest, in_items, Linked, Stuck, give, step}
 use Rattle.py_parse_expr.specs.declared.expr_nodes.Measured.{Measured}
-use Rattle.py_parse_expr.specs.declared.expr_turns.FrameStep.TheVariants as met_
+use Rattle.py_parse_expr.specs.declared.expr_turns.FrameStep.TheVariants as frame_step_
 use Rattle.py_parse_expr.specs.ExprViews.{view_class, Makes}
 use Rattle.py_parse_expr.specs.ExprTurns.{closes, BecomesAs}
 
@@ -30,5 +30,5 @@ give_unclosed e (a_call f) es k r h i = refl
 give_unclosed e a_list es k r h i = refl
 
 -- a frame that makes a tree for the next one
-pub passes : (f : Frame) (whole e : Expr) (t : TokenClass) (n : Measured) → ((k : Ctx) → give e (on f k) t ≡ give whole k t) → Makes whole n → (k : Ctx) → BecomesAs (give e (on f k) t) k t (met_.Passes n)
+pub passes : (f : Frame) (whole e : Expr) (t : TokenClass) (n : Measured) → ((k : Ctx) → give e (on f k) t ≡ give whole k t) → Makes whole n → (k : Ctx) → BecomesAs (give e (on f k) t) k t (frame_step_.Passes n)
 passes f whole e t n same makes = λ k. (same k ∙ ap (λ (x : Expr). give x k t) (sym makes.is), makes.valid)

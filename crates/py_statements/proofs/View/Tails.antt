@@ -32,7 +32,7 @@ resumes_so t held made e n b r is goes = subst (λ (c : code_continuation.Contin
 pub ends_so : (t : Token) (k j : StmtKind) (n : code_span.Span) (b : code_suites.SuiteStack) (r : Result (Option code_state.State) AllocError) → k ≡ j → Continues t (end_simple k) n b r → Continues t (end_simple j) n b r
 ends_so t k j n b r is ends = subst (λ (x : StmtKind). Continues t (end_simple x) n b r) is ends
 
--- a suite whose owner was taken apart
+-- a suite where what it belongs to was taken apart
 pub closed_of : (held made : code_suite_of.SuiteOf) (s : SuiteNode) → held ≡ made → closed (view_suite_of made) (plain_suite s) ≡ closed (view_suite_of held) (plain_suite s)
 closed_of held made s is = sym (ap (λ (o : code_suite_of.SuiteOf). closed (view_suite_of o) (plain_suite s)) is)
 
