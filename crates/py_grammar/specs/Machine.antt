@@ -270,7 +270,8 @@ give e (on (cond_test b) k) t_else = Next (Want LExpr (on (cond_else b e) k))
 give e (on (cond_test b) k) t = Stuck
 give e (on (cond_else b c) k) t = give (tree_.cond b c e) k t
 give e (on (first l) k) (t_operator j) =
-    cond (same_precedence l (operator_precedence j)) (Next (Want (operator_right j) (on (right j e) k)))
+    cond (same_precedence l (operator_precedence j))
+    (Next (Want (operator_right j) (on (right j e) k)))
     (give e k (t_operator j))
 give e (on (first l) k) t = give e k t
 give e (on (right i a) k) (t_operator j) =

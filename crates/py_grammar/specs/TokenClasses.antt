@@ -1,8 +1,8 @@
 -- What a token is to an expression.
 --     BinaryOperator, TokenClass              what a token is to an expression
 --     operator_precedence .. operator_kind    an operator: its levels, its tree and its token
---     binds, begins                           where a token goes on with an expression, and where it
---                                             begins one
+--     binds, begins                           where a token goes on with an expression, and where
+--                                             it begins one
 --     spelled                                 the tokens of a class
 use Rattle.std.specs.Prelude.{ℤ, nat_eq, Bool, true, false, List, ◌∷◌}
 use Rattle.py_value.specs.declared.operator.BinOp.{BinOp}

@@ -144,7 +144,8 @@ opened lev LUnary k = upto_term lev k
 opened lev LPost k = on post_rest (upto_term lev k)
 
 -- one frame of the level `l` more than those of the looser levels, where one may open
-abbrev pub opened_with : code_precedence.Precedence → code_precedence.Precedence → code_precedence.Precedence → code_frame.Frame → Ctx → Ctx
+abbrev pub opened_with : code_precedence.Precedence → code_precedence.Precedence
+    → code_precedence.Precedence → code_frame.Frame → Ctx → Ctx
 opened_with from looser l f k =
     cond (at_most (view_precedence from) (view_precedence l))
     (on (view_frame f) (opened (view_precedence from) (view_precedence looser) k)) k

@@ -153,7 +153,8 @@ abbrev mutual
   Normal (and a b) = At LAnd a × Normal a × At LNot b × Normal b
   Normal (or a b) = At LOr a × Normal a × At LAnd b × Normal b
   Normal (unary s e) = At LUnary e × Normal e
-  Normal (binary op a b) = At (op_precedence op) a × Normal a × At (right_precedence op) b × Normal b
+  Normal (binary op a b) =
+      At (op_precedence op) a × Normal a × At (right_precedence op) b × Normal b
   Normal (compare a no_links) = ⊥
   Normal (compare a (link op e ls)) =
       At LSum a × Normal a × Compared op e × Normal e × NormalLinks ls

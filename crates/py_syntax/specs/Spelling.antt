@@ -87,7 +87,8 @@ abbrev mutual
       SuiteLines b (test_head word.While t) ts
       × OptLines o (word_head word.Else) (after_suite (test_head word.While t) b ts)
   KindLines (for t e b o) ts =
-      SuiteLines b (for_head t e) ts × OptLines o (word_head word.Else) (after_suite (for_head t e) b ts)
+      SuiteLines b (for_head t e) ts
+      × OptLines o (word_head word.Else) (after_suite (for_head t e) b ts)
   KindLines (try b cs o f) ts =
       SuiteLines b (word_head word.Try) ts × ClauseLines cs (after_suite (word_head word.Try) b ts)
       × OptLines o (word_head word.Else)
@@ -121,7 +122,8 @@ abbrev mutual
   pub ArmLines : Arms → List PToken → Type 0
   ArmLines no_arms ts = Unit {0}
   ArmLines (arm t b arms) ts =
-      SuiteLines b (test_head word.Elif t) ts × ArmLines arms (after_suite (test_head word.Elif t) b ts)
+      SuiteLines b (test_head word.Elif t) ts
+      × ArmLines arms (after_suite (test_head word.Elif t) b ts)
 
   -- the clauses of a `try`
   pub ClauseLines : Clauses → List PToken → Type 0

@@ -45,7 +45,8 @@ Adds given (Err e) after old new = given ≡ Err e
 
 -- the same of the tokens and the state of the code: a step from the state before
 abbrev pub Lays : (State → Result (List PToken × State) TokenError)
-    → Result (Unit {0}) TokenError → code_state.State → code_state.State → Vec Token → Vec Token → Type 0
+    → Result (Unit {0}) TokenError → code_state.State → code_state.State → Vec Token → Vec Token
+    → Type 0
 Lays step answer before after old new =
     Adds (step (view_state before)) answer (view_state after)
     (view_tokens old.items) (view_tokens new.items)
