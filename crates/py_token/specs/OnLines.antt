@@ -1,5 +1,6 @@
 -- The lines that tokens keep, in texts of at most 65,535 lines.
 use Rattle.std.specs.Prelude.{◌≤◌, List, [], ◌∷◌}
+use Rattle.py_token.specs.Source.{most_lines}
 use Rattle.py_token.specs.Plain.{PKind, name, keyword, int, str, fstring, mark, newline, indent, dedent, end, PToken, token, PTokens, no_tokens, tokens, PPiece, chars, field, PPieces, no_pieces, pieces}
 
 abbrev mutual
@@ -19,7 +20,7 @@ abbrev mutual
   -- a token keeps lines from 1 to 65,535, its first no later than its last
   pub IsOnLines : PToken → Type 0
   IsOnLines (token kind first last) =
-      (1 ≤ first) × (first ≤ last) × (last ≤ 65535) × IsKindOnLines kind
+      (1 ≤ first) × (first ≤ last) × (last ≤ most_lines) × IsKindOnLines kind
 
   -- the tokens of a field keep lines
   pub AreRowOnLines : PTokens → Type 0
