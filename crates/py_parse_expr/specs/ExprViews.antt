@@ -7,13 +7,14 @@
 --     plains, view_strings, ValidStrings      strings side by side
 --     view_opener .. ValidBound               what opened a bracket, and the bound of a slice
 --     Makes                                   a tree that is made of others
-use Rattle.std.specs.Prelude.{◌≡◌, ℕ, min, max, true, List, [], ◌∷◌, Option, Some, None}
+use Rattle.std.specs.Prelude.{◌≡◌, ℕ, suc, min, max, true, List, [], ◌∷◌, Option, Some, None}
 use Rattle.py_token.specs.declared.token.Keyword.{Keyword}
 use Rattle.py_token.specs.declared.token.Mark.{Mark}
 use Rattle.py_syntax.specs.Tree.{Text, Expr, Exprs, Pairs, Links, OptExpr, absent, present, Fragments, no_fragments, plain, Parts}
 use Rattle.py_syntax.specs.Kinds.{Word, Sign, End}
 use Rattle.py_syntax.specs.Normal.{Precedence, LExprs, LExpr, LOr, LAnd, LNot, LCmp, LSum, LTerm, LUnary, LPost, is_target, are_targets, height, heights, height_entries, height_links, height_fragments, height_parts}
 use Rattle.py_syntax.specs.View.{plain_expr, plain_exprs, plain_pairs, plain_links, plain_fragments, plain_parts}
+use Rattle.py_syntax.specs.Spelling.{HEIGHT}
 use Rattle.py_parse_expr.specs.declared.expr_classes.Precedence as code_precedence
 use Rattle.py_parse_expr.specs.declared.expr_classes.Precedence.TheVariants as precedence_
 use Rattle.py_parse_expr.specs.declared.expr_classes.BinaryOperator as code_operator
@@ -107,11 +108,11 @@ mark_class m = plain_class (class (Sign m))
 abbrev pub word_class : Keyword → TokenClass
 word_class w = plain_class (class (Word w))
 
--- ---- heights, of which those above 200 are one
+-- ---- heights, of which those above the limit are one
 
 -- a height, or one more than the limit
 abbrev pub capped : ℕ → ℕ
-capped n = min n 201
+capped n = min n (suc HEIGHT)
 
 -- an expression without its height
 abbrev pub view_measured : Measured → Expr

@@ -92,7 +92,7 @@ pub record Valid (bound : ℕ) (r : Reader) : Type 0 where
 
 -- a bound for what a step makes of heights within the limit
 abbrev pub SLACK : ℕ
-SLACK = 210
+SLACK = HEIGHT + 10
 
 -- What a step of the machine makes, but for the limit.
 abbrev pub ActsAs : Out → Turn → Type 0

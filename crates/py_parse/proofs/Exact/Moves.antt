@@ -1,5 +1,6 @@
 -- A reading that stands at a place goes on where a step keeps to the limits.
 use Rattle.std.proofs.Common.{◌≡◌, ℕ, ◌+◌, ◌≤◌, ◌<◌, max, List, [], ◌∷◌, take, drop, Option, Some, None, refl, subst, arith}
+use Rattle.py_syntax.specs.Spelling.{HEIGHT, NESTING}
 use Rattle.py_token.specs.Plain.{PToken}
 use Rattle.py_statements.specs.Machine.{State, begun}
 use Rattle.py_parse.specs.Refusal.{HasDeepSuites, HasDeepExpressions}
@@ -25,7 +26,7 @@ pub stands_valid : (ts : List PToken) (place : ℕ) (s : State) → Stands ts pl
 stands_valid ts place s h = valid_run begun s (take place (with_lines ts)) valid_begun h.passes
 
 -- how high and how deep the next state is
-pub grows_within : (ts : List PToken) (place : ℕ) (s n : State) (t : Lexeme) → Stands ts place s → next s t ≡ Some n → (state_height n ≤ max 200 (inner n)) × (state_nesting n ≤ max 64 (level n))
+pub grows_within : (ts : List PToken) (place : ℕ) (s n : State) (t : Lexeme) → Stands ts place s → next s t ≡ Some n → (state_height n ≤ max HEIGHT (inner n)) × (state_nesting n ≤ max NESTING (level n))
 grows_within ts place s n t h is =
     let valid = stands_valid ts place s h in
     let low = h.low in let shallow = h.shallow in
@@ -34,7 +35,7 @@ grows_within ts place s n t h is =
     let high = k.0 in let down = k.1 in
     (omega arith, omega arith)
 
-pub moves : (ts : List PToken) (place : ℕ) (s n : State) (t : Lexeme) (rest : List Lexeme) → Stands ts place s → drop place (with_lines ts) ≡ t ∷ rest → next s t ≡ Some n → inner n ≤ 200 → level n ≤ 64 → Stands ts (place + 1) n
+pub moves : (ts : List PToken) (place : ℕ) (s n : State) (t : Lexeme) (rest : List Lexeme) → Stands ts place s → drop place (with_lines ts) ≡ t ∷ rest → next s t ≡ Some n → inner n ≤ HEIGHT → level n ≤ NESTING → Stands ts (place + 1) n
 moves ts place s n t rest h there is low flat =
     let valid = step_keeps s n t.mark t.first t.last (stands_valid ts place s h) is in
     let k = grows_within ts place s n t h is in let high = k.0 in let down = k.1 in
@@ -42,14 +43,14 @@ moves ts place s n t rest h there is low flat =
     goes_on ts place s n t rest h there is (omega arith) (omega arith)
 
 -- too many suites inside each other
-pub too_many : (ts : List PToken) (place : ℕ) (s n : State) (t : Lexeme) (rest : List Lexeme) → Stands ts place s → drop place (with_lines ts) ≡ t ∷ rest → next s t ≡ Some n → 64 < level n → HasDeepSuites ts place
+pub too_many : (ts : List PToken) (place : ℕ) (s n : State) (t : Lexeme) (rest : List Lexeme) → Stands ts place s → drop place (with_lines ts) ≡ t ∷ rest → next s t ≡ Some n → NESTING < level n → HasDeepSuites ts place
 too_many ts place s n t rest h there is over =
     let valid = step_keeps s n t.mark t.first t.last (stands_valid ts place s h) is in
     let one = is_deep n (apt_state n valid) in let two = level_deep n in
     deep_suites ts place s n t rest h there is (omega arith)
 
 -- the expression or the pattern that is read is too high
-pub too_high : (ts : List PToken) (place : ℕ) (s n : State) (t : Lexeme) (rest : List Lexeme) → Stands ts place s → drop place (with_lines ts) ≡ t ∷ rest → next s t ≡ Some n → level n ≤ 64 → 200 < inner n → HasDeepExpressions ts place
+pub too_high : (ts : List PToken) (place : ℕ) (s n : State) (t : Lexeme) (rest : List Lexeme) → Stands ts place s → drop place (with_lines ts) ≡ t ∷ rest → next s t ≡ Some n → level n ≤ NESTING → HEIGHT < inner n → HasDeepExpressions ts place
 too_high ts place s n t rest h there is flat over =
     let valid = step_keeps s n t.mark t.first t.last (stands_valid ts place s h) is in
     let k = grows_within ts place s n t h is in let down = k.1 in

@@ -6,6 +6,7 @@ use Rattle.py_syntax.specs.Tree.{Suite, suite, no_suite, Arms, no_arms, arm, Cas
 use Rattle.py_syntax.specs.Kinds.{Kind, Word}
 use Rattle.py_syntax.specs.Normal.{height, pattern_height}
 use Rattle.py_syntax.specs.Statements.{NormalKind, kind_height, kind_nesting, suite_nesting, arms_nesting, option_height}
+use Rattle.py_syntax.specs.Spelling.{HEIGHT}
 use Rattle.py_grammar.specs.Machine.{snoc}
 use Rattle.py_grammar.specs.Least as expression_least
 use Rattle.py_grammar.specs.Least.{least_name}
@@ -22,7 +23,7 @@ use Rattle.py_parse.proofs.Least.Weights.{state_height, state_nesting, inner, le
 
 -- the second is hardly higher than the first, or than this, and no deeper
 abbrev pub Hardly : ℕ → StmtKind → StmtKind → Type 0
-Hardly h k k' = (kind_height k' ≤ max (max (kind_height k) 200) h) × (kind_nesting k' ≤ kind_nesting k)
+Hardly h k k' = (kind_height k' ≤ max (max (kind_height k) HEIGHT) h) × (kind_nesting k' ≤ kind_nesting k)
 
 pub hardly : (h : ℕ) (k k' : StmtKind) → Under k' k → Hardly h k k'
 hardly h k k' u = let one = u.0 in let two = u.1 in (omega arith, omega arith)

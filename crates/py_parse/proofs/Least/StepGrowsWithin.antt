@@ -9,6 +9,7 @@ use Rattle.py_syntax.specs.Kinds.{Kind, Name, Word, Sign, Newline, Indent, Deden
 use Rattle.py_syntax.specs.Headers.{Marked, is_match}
 use Rattle.py_syntax.specs.Normal.{is_target, is_place, height}
 use Rattle.py_syntax.specs.Statements.{case_name, kind_height, kind_nesting}
+use Rattle.py_syntax.specs.Spelling.{HEIGHT}
 use Rattle.py_grammar.specs.Machine as expression
 use Rattle.py_grammar.specs.Machine.{any, one, snoc, start, class}
 use Rattle.py_grammar.specs.Least as expression_least
@@ -62,7 +63,7 @@ deep_block (inside ss i x y begun o b) = omega arith
 -- a simple place stands for a statement with no suite, of the height of a name at most
 abbrev Small : Option Place → Type 0
 Small None = Unit {0}
-Small (Some p) = (l : ℕ) → (kind_height (core (form p l)) ≤ 200) × (kind_nesting (core (form p l)) ≡ 0)
+Small (Some p) = (l : ℕ) → (kind_height (core (form p l)) ≤ HEIGHT) × (kind_nesting (core (form p l)) ≡ 0)
 
 simple_small : (t : Kind) → Small (simple_place t)
 simple_small (Word word.Pass) = λ l. (omega arith, refl)
@@ -79,7 +80,7 @@ simple_small t = tt
 -- and a compound one has a suite
 abbrev Opening : Option Place → Type 0
 Opening None = Unit {0}
-Opening (Some p) = ((l : ℕ) → (kind_height (core (form p l)) ≤ 200) × (kind_nesting (core (form p l)) ≤ 1)) × (begins_at p ≡ true)
+Opening (Some p) = ((l : ℕ) → (kind_height (core (form p l)) ≤ HEIGHT) × (kind_nesting (core (form p l)) ≤ 1)) × (begins_at p ≡ true)
 
 compound_opening : (t : Kind) → Opening (compound_place t)
 compound_opening (Word word.If) = (λ l. (omega arith, omega arith), refl)
@@ -89,7 +90,7 @@ compound_opening (Word word.Try) = (λ l. (omega arith, omega arith), refl)
 compound_opening (Word word.Def) = (λ l. (omega arith, omega arith), refl)
 compound_opening t = tt
 
-opens_grows_within : (p : Place) (n : Span) (b : SuiteStack) → kind_height (core (form p n.last)) ≤ 200 → kind_nesting (core (form p n.last)) ≤ 1 → begins_at p ≡ true → GrowsWithin (suites_height b) (suites_nesting b) (Some (at p n b))
+opens_grows_within : (p : Place) (n : Span) (b : SuiteStack) → kind_height (core (form p n.last)) ≤ HEIGHT → kind_nesting (core (form p n.last)) ≤ 1 → begins_at p ≡ true → GrowsWithin (suites_height b) (suites_nesting b) (Some (at p n b))
 opens_grows_within p n b low shallow begins =
     let d = deep_block b in
     let here : level (at p n b) ≡ suc (depth b) = ap (λ (c : Bool). cond c (suc (depth b)) 0) begins in
@@ -298,7 +299,7 @@ choose_grows_within e last cs first b t f l = tt
 -- the open suites, where a statement may begin
 abbrev Rests : ℕ → ℕ → Option SuiteStack → Type 0
 Rests h d None = Unit {0}
-Rests h d (Some b) = (suites_height b ≤ max h 200) × (suites_nesting b ≤ d) × AptSuites b
+Rests h d (Some b) = (suites_height b ≤ max h HEIGHT) × (suites_nesting b ≤ d) × AptSuites b
 
 at_line_rests : (s : State) → AptState s → Rests (state_height s) (state_nesting s) (at_line s)
 at_line_rests (Line b) apt = (omega arith, omega arith, apt)

@@ -3,6 +3,7 @@ use Rattle.std.proofs.Common.{◌≡◌, ℕ, suc, ◌+◌, ◌≤◌, max, Bool
 use Rattle.py_syntax.specs.declared.stmt.LineEnd.{LineEnd}
 use Rattle.py_syntax.specs.Tree.{Expr, Suite, suite, no_arms, arm, Cases, no_cases, case, StmtKind, match, Pattern}
 use Rattle.py_syntax.specs.Statements.{stmts_height, kind_height, stmts_nesting, kind_nesting}
+use Rattle.py_syntax.specs.Spelling.{HEIGHT}
 use Rattle.py_grammar.specs.Machine as expression
 use Rattle.py_grammar.specs.Least as expression_least
 use Rattle.py_parse_pattern.specs.Machine as pattern
@@ -88,9 +89,9 @@ begun_level r s n b h = ap (λ (c : Bool). cond c (suc (depth b)) 0) (not_begun 
 -- a suite that begins.
 abbrev pub GrowsWithin : ℕ → ℕ → Option State → Type 0
 GrowsWithin h d None = Unit {0}
-GrowsWithin h d (Some s) = (state_height s ≤ max (max h 200) (inner s)) × (state_nesting s ≤ max d (level s))
+GrowsWithin h d (Some s) = (state_height s ≤ max (max h HEIGHT) (inner s)) × (state_nesting s ≤ max d (level s))
 
-pub grows_within_from : (h h' d d' : ℕ) (o : Option State) → h' ≤ max h 200 → d' ≤ d → GrowsWithin h' d' o → GrowsWithin h d o
+pub grows_within_from : (h h' d d' : ℕ) (o : Option State) → h' ≤ max h HEIGHT → d' ≤ d → GrowsWithin h' d' o → GrowsWithin h d o
 grows_within_from h h' d d' None low shallow n = tt
 grows_within_from h h' d d' (Some s) low shallow n = let one = n.0 in let two = n.1 in (omega arith, omega arith)
 

@@ -7,7 +7,7 @@ use Rattle.py_token.specs.Plain.{PToken}
 use Rattle.py_token.specs.View.{view_token, view_tokens}
 use Rattle.py_syntax.specs.Tree.{Expr, Cases, Pattern, Stmts}
 use Rattle.py_syntax.specs.Kinds.{Kind, bare}
-use Rattle.py_syntax.specs.Spelling.{HEIGHT}
+use Rattle.py_syntax.specs.Spelling.{HEIGHT, NESTING}
 use Rattle.py_syntax.specs.View.{plain_stmts}
 use Rattle.py_syntax.specs.declared.stmt.Stmt.{Stmt}
 use Rattle.py_grammar.specs.declared.error.ReadError.{ReadError}
@@ -70,10 +70,10 @@ for_memory ts e is = subst (IsRefused ts) (sym is) tt
 
 -- ---- after a token
 
-pub moved_on : (tokens : List Token) (place : ℕ) (s : code_state.State) → place < length tokens → Turns (view_tokens tokens) place (λ t o. o ≡ Some (view_state s)) → level (view_state s) ≤ 64 → StandsAt (view_tokens tokens) (place + 1) (view_state s)
+pub moved_on : (tokens : List Token) (place : ℕ) (s : code_state.State) → place < length tokens → Turns (view_tokens tokens) place (λ t o. o ≡ Some (view_state s)) → level (view_state s) ≤ NESTING → StandsAt (view_tokens tokens) (place + 1) (view_state s)
 moved_on tokens place s lt h low = let e = tokens_length tokens in taken (view_tokens tokens) place s (omega arith) h low
 
-pub moved_deep : (tokens : List Token) (place : ℕ) (s : code_state.State) → place < length tokens → Turns (view_tokens tokens) place (λ t o. o ≡ Some (view_state s)) → 64 < level (view_state s) → HasDeepSuites (view_tokens tokens) place
+pub moved_deep : (tokens : List Token) (place : ℕ) (s : code_state.State) → place < length tokens → Turns (view_tokens tokens) place (λ t o. o ≡ Some (view_state s)) → NESTING < level (view_state s) → HasDeepSuites (view_tokens tokens) place
 moved_deep tokens place s lt h over = let e = tokens_length tokens in too_deep (view_tokens tokens) place s (omega arith) h over
 
 pub moved_nowhere : (tokens : List Token) (place : ℕ) → place < length tokens → Turns (view_tokens tokens) place (λ t o. o ≡ None) → IsUnexpected (view_tokens tokens) place

@@ -53,7 +53,7 @@ deep_after (f ∷ fs) is p d h = go (view_frames (f ∷ fs)) refl h
     go (frame b js bs ∷ fs') is-some h = h
 
 -- after an item and its comma
-pub item_rows : (rows : Rows) (new none : Many) (t : Measured) (d : ℕ) → ValidRows HEIGHT rows → ValidMeasured 202 t → view_many new ≡ snoc (view_many rows.row.items) (view_measured t) → new.height ≡ max rows.row.items.height t.height → view_many none ≡ no_patterns → none.height ≡ 0 → d ≡ depth_after rows.frames.items rows.row.depth → ValidRows SLACK (record { row = record { items = new; alternatives = none; depth = d }; frames = rows.frames })
+pub item_rows : (rows : Rows) (new none : Many) (t : Measured) (d : ℕ) → ValidRows HEIGHT rows → ValidMeasured (HEIGHT + 2) t → view_many new ≡ snoc (view_many rows.row.items) (view_measured t) → new.height ≡ max rows.row.items.height t.height → view_many none ≡ no_patterns → none.height ≡ 0 → d ≡ depth_after rows.frames.items rows.row.depth → ValidRows SLACK (record { row = record { items = new; alternatives = none; depth = d }; frames = rows.frames })
 item_rows rows new none t d valid measured same height empty zero deep =
     let low = valid.row.low_items in
     let low' = measured.low in
@@ -72,7 +72,7 @@ item_rows rows new none t d valid measured same height empty zero deep =
       frames = valid.frames;
     }
   where
-    low_after : (fs : List code_frame.Frame) (n d : ℕ) → d ≡ depth_after fs n → n ≤ 200 → d ≤ 210
+    low_after : (fs : List code_frame.Frame) (n d : ℕ) → d ≡ depth_after fs n → n ≤ HEIGHT → d ≤ SLACK
     low_after [] n d h le = omega arith
     low_after (f ∷ fs) n d h le = omega arith
 
@@ -87,7 +87,7 @@ few_levels : (ps : Patterns) → levels ps ≤ 1
 few_levels no_patterns = omega arith
 few_levels (patterns p ps) = omega arith
 
-pub joined_valid : (n : ℕ) (m' m : Many) (t r : Measured) → 201 ≤ n → m' ≡ m → AreMeasured m → m.height ≤ HEIGHT → ValidMeasured HEIGHT t → Makes (joined (view_many m') (view_measured t)) r → ValidMeasured n r
+pub joined_valid : (n : ℕ) (m' m : Many) (t r : Measured) → HEIGHT + 1 ≤ n → m' ≡ m → AreMeasured m → m.height ≤ HEIGHT → ValidMeasured HEIGHT t → Makes (joined (view_many m') (view_measured t)) r → ValidMeasured n r
 joined_valid n m' m t r le same are low measured makes =
     let j = joined_height (view_many m) (view_measured t) in
     let o = over_few (view_many m) in
@@ -96,7 +96,7 @@ joined_valid n m' m t r le same are low measured makes =
     let low' = measured.low in
     made (joined (view_many m) (view_measured t)) r n (subst (λ (x : Many). Makes (joined (view_many x) (view_measured t)) r) same makes) (omega arith)
 
-pub enclosed_valid : (b : Bracket) (m : Many) (t r : Measured) → AreMeasured m → m.height ≤ HEIGHT → ValidMeasured 202 t → Makes (enclosed b (view_many m) (view_measured t)) r → ValidMeasured SLACK r
+pub enclosed_valid : (b : Bracket) (m : Many) (t r : Measured) → AreMeasured m → m.height ≤ HEIGHT → ValidMeasured (HEIGHT + 2) t → Makes (enclosed b (view_many m) (view_measured t)) r → ValidMeasured SLACK r
 enclosed_valid b m t r are low measured makes =
     let j = enclosed_height b (view_many m) (view_measured t) in
     let is = measured.is in
