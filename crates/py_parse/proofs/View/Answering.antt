@@ -1,5 +1,5 @@
 -- What the answers of the code say of the list of tokens.
-use Rattle.std.proofs.Common.{◌≡◌, ℕ, ◌+◌, ◌-◌, ◌<◌, ◌≤◌, Bool, List, length, get_or, Option, Some, None, option_map, Result, Ok, Err, Vec, sym, ap, subst, ◌∙◌, arith}
+use Rattle.std.proofs.Common.{◌≡◌, ℕ, ◌+◌, ◌-◌, ◌<◌, ◌≤◌, Bool, List, length, get_or, Option, Some, None, option_map, Ok, Err, Vec, sym, ap, subst, ◌∙◌, arith}
 use Rattle.std.specs.Global.{Global}
 use Rattle.std.proofs.lemmas.List.{length-map}
 use Rattle.py_token.specs.declared.token.Token.{Token}
@@ -14,14 +14,12 @@ use Rattle.py_grammar.specs.declared.error.ReadError.{ReadError}
 use Rattle.py_grammar.specs.declared.error.ReadError.TheVariants as read_error_
 use Rattle.py_grammar.specs.Machine.{Goal, start}
 use Rattle.py_grammar.specs.Reading as reading_
-use Rattle.py_grammar.proofs.Places.{kinds_length}
 use Rattle.py_parse_pattern.specs.Machine as pattern
 use Rattle.py_parse_pattern.specs.Reads as pattern_reads
 use Rattle.py_statements.specs.declared.places.State as code_state
 use Rattle.py_statements.specs.declared.places.Turn.{Turn}
 use Rattle.py_statements.specs.declared.places.Turn.TheVariants as turn_
 use Rattle.py_parse_expr.specs.declared.exprs.ExprPart.{ExprPart}
-use Rattle.py_parse.specs.declared.progress.Progress.{Progress}
 use Rattle.py_parse.specs.declared.error.SyntaxError.{SyntaxError}
 use Rattle.py_parse.specs.declared.error.SyntaxError.TheVariants as error_
 use Rattle.py_statements.specs.Open.{SuiteStack}
@@ -31,7 +29,7 @@ use Rattle.py_parse.specs.Refusal.{IsUnexpected, HasDeepSuites, HasDeepExpressio
 use Rattle.py_statements.specs.ViewStates.{kind_at, first_at, last_at, view_state, ActsAs, IsDone}
 use Rattle.py_parse_expr.specs.ExprReads.{goal_of, FollowsMachine}
 use Rattle.py_statements.specs.ViewMarks.{header_at}
-use Rattle.py_parse.specs.Progress.{StandsAt, Turns, ReadsFrom, MatchesFrom, Resumes, Advances}
+use Rattle.py_parse.specs.Progress.{StandsAt, Turns, ReadsFrom, MatchesFrom, Resumes}
 use Rattle.py_parse.proofs.Exact.ReadsBetween.{first_place, taken, too_deep, stuck, expression_read, pattern_read, whole, too_short}
 use Rattle.py_parse.proofs.Exact.ReadsBetween as between
 use Rattle.py_statements.proofs.View.HeaderPlaces.{header_match}
@@ -45,24 +43,8 @@ tokens_length tokens = length-map tokens view_token
 pub stands_inside : (tokens : List Token) (place : ℕ) (s : State) → StandsAt (view_tokens tokens) place s → place ≤ length tokens
 stands_inside tokens place s h = let e = tokens_length tokens in let inside = h.inside in omega arith
 
-pub expression_inside : (tokens : List Token) (place q : ℕ) (g : Goal) (end : List Kind → reading_.Ending) → reading_.EndsAt HEIGHT (start g) (bare (view_tokens tokens)) place q end → q ≤ length tokens
-expression_inside tokens place q g end h = let e : length (bare (view_tokens tokens)) ≡ length tokens = kinds_length tokens in let inside = h.inside in omega arith
-
-pub pattern_inside : (tokens : List Token) (place q : ℕ) (end : List Kind → pattern.Ending) → pattern_reads.EndsAt (bare (view_tokens tokens)) place q end → q ≤ length tokens
-pattern_inside tokens place q end h = let e : length (bare (view_tokens tokens)) ≡ length tokens = kinds_length tokens in let inside = h.inside in omega arith
-
--- after an expression or a pattern a token stands, and one in front of it
-pub token_after : (tokens : List Token) (place q : ℕ) (o : Span → Kind → ℕ → Option State) (n : Span) → Resumes (view_tokens tokens) place q o n → q < length tokens
-token_after tokens place q o n h = let e = tokens_length tokens in let inside = h.inside in omega arith
-
 pub not_first : (tokens : List Token) (place q : ℕ) (o : Span → Kind → ℕ → Option State) (n : Span) → Resumes (view_tokens tokens) place q o n → 1 ≤ q
 not_first tokens place q o n h = let later = h.later in omega arith
-
-pub token_before : (tokens : List Token) (place q : ℕ) (o : Span → Kind → ℕ → Option State) (n : Span) → Resumes (view_tokens tokens) place q o n → q - 1 < length tokens
-token_before tokens place q o n h = let e = tokens_length tokens in let later = h.later in let inside = h.inside in omega arith
-
-pub goes_later : (ts : List PToken) (place q : ℕ) (o : Span → Kind → ℕ → Option State) (n : Span) → Resumes ts place q o n → place < q
-goes_later ts place q o n h = h.later
 
 -- want of memory says nothing of the list
 pub for_memory : (ts : List PToken) (e : SyntaxError) → e ≡ error_.NoMemory → IsRefused ts e
@@ -145,11 +127,6 @@ next_turns tokens place t s header turn n lt there is stands acts same = turning
 pub stuck_turns : (tokens : List Token) (place : ℕ) (t : Token) (s : State) (header : Bool) (turn : Turn) → place < length tokens → t ≡ get_or tokens place t → header ≡ header_at (bare (view_tokens tokens)) place → StandsAt (view_tokens tokens) place s → DoesAs t s header turn → turn ≡ turn_.Stuck → Turns (view_tokens tokens) place (λ t o. o ≡ None)
 stuck_turns tokens place t s header turn lt there is stands acts same = turning tokens place t s header None lt is stands (subst (λ (u : Token). the_step u s header ≡ None) there (subst (DoesAs t s header) same acts))
 
--- a later place is later than an earlier one
-pub later_still : (ts : List PToken) (place q : ℕ) (r : Result Progress SyntaxError) → place < q → Advances ts q r → Advances ts place r
-later_still ts place q (Ok r) lt h = let one = h.0 in (omega arith, h.1)
-later_still ts place q (Err e) lt h = h
-
 -- ---- the end
 
 -- where the end was read, the machine stands after it
@@ -169,9 +146,5 @@ unparsed tokens place s h le is = let e = tokens_length tokens in too_short (vie
 -- ---- the rules of each answer
 
 pub ruleset module_rules = (first_place, parsed, unparsed, stands_inside)
-
-pub ruleset later_rules = (later_still, goes_later, token_after, token_before, not_first)
-
-pub ruleset after_rules = (later_rules, for_memory)
 
 pub ruleset turn_rules = (reading_turn, matching_turn, header_match, for_memory)
