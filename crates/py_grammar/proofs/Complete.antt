@@ -5,15 +5,21 @@ use Rattle.py_syntax.specs.Tree.{Text, Expr, name, int, str, fstr, none, bool, t
 use Rattle.py_syntax.specs.Tree as tree_
 use Rattle.py_syntax.specs.Kinds.{Kind, Str, FString, End, kinds_of}
 use Rattle.py_syntax.specs.Tokens.{strings, tokens, fragments, pieces}
-use Rattle.py_syntax.specs.Normal.{Level, LExpr, LPost, At, HasFormat, IsSomething, Normal, NormalLinks, Each, EachEntry, NormalBound, NormalFragments, NormalParts}
+use Rattle.py_syntax.specs.Normal.{Precedence, LExpr, LPost, At, HasFormat, IsSomething, Normal, NormalLinks, Each, EachEntry, NormalBound, NormalFragments, NormalParts}
 use Rattle.py_grammar.specs.TokenClasses.{TokenClass, t_string, t_format, t_bad_format}
 use Rattle.py_grammar.specs.Machine.{snoc_plain, snoc_format, has_format, texts, strings_of, any, Ctx, Outside, Want, Have, Strings, Out, upto, begin, give, step, start, format_class, class, parts, field_expr, run}
-use Rattle.py_grammar.proofs.Valid.{SomeStrings}
-use Rattle.py_grammar.proofs.Spelled.{outcome, with_field}
-use Rattle.py_grammar.proofs.Passes.{After, after, is_string}
-use Rattle.py_grammar.proofs.Opens.{tokens_append, field_of_run}
-use Rattle.py_grammar.proofs.Operators.{Back, AllBackLinks, back_not, back_unary, back_or, back_and, back_binary, back_compare, back_cond}
-use Rattle.py_grammar.proofs.Enclosed.{AllBack, AllBackPairs, BackBound, read_all, back_one, back_many, back_paren, back_list, back_call, back_attr, back_index, back_index_one, back_index_many, back_slice, back_dict}
+use Rattle.py_grammar.proofs.Sound.Valid.{SomeStrings}
+use Rattle.py_grammar.proofs.Sound.Spelled.{outcome, with_field}
+use Rattle.py_grammar.proofs.Complete.Passes.{After, after, is_string}
+use Rattle.py_grammar.proofs.Complete.Opens.{tokens_append, field_of_run}
+use Rattle.py_grammar.proofs.Complete.Operators.{Back, AllBackLinks, back_not, back_unary, back_or, back_and, back_binary, back_compare, back_cond}
+use Rattle.py_grammar.proofs.Complete.Enclosed.{AllBack, AllBackPairs, BackBound, read_all, back_one, back_many, back_paren, back_list, back_call, back_attr, back_index, back_index_one, back_index_many, back_slice, back_dict}
+pub mod Passes
+pub mod Opens
+pub mod Operators
+pub mod SpelledFields
+pub mod Enclosed
+pub mod Targets
 
 -- ---- strings
 
@@ -64,7 +70,7 @@ read_fragments (format ps gs) all fs k rest =
     ∙ read_fragments gs all.1 (snoc_format fs ps) k rest
     ∙ ap (λ (x : Fragments). run (Strings x k) rest) (join_format fs ps gs)
 
-read_strings : (fs : Fragments) → SomeStrings fs → AllFormats fs → (lev : Level) (k : Ctx) (rest : List Kind) → After 10 rest → run (Want lev k) (fragments fs rest) ≡ run (Have (strings_of fs) (upto lev LPost k)) rest
+read_strings : (fs : Fragments) → SomeStrings fs → AllFormats fs → (lev : Precedence) (k : Ctx) (rest : List Kind) → After 10 rest → run (Want lev k) (fragments fs rest) ≡ run (Have (strings_of fs) (upto lev LPost k)) rest
 unfolding join_fragments
 read_strings no_fragments some all lev k rest b = absurd some
 read_strings (plain x fs) some all lev k rest b = read_fragments fs all (plain x no_fragments) (upto lev LPost k) rest ∙ have_strings (plain x fs) (upto lev LPost k) rest b

@@ -1,5 +1,12 @@
 -- A reader that takes one token at a time is exact, whatever its states are.
 use Rattle.std.proofs.Common.{◌≡◌, ℕ, ◌≤◌, List, [], ◌∷◌, ◌++◌, Option, Some, None, refl, sym, ap, subst, ◌∙◌, arith}
+pub mod Whole
+pub mod Stands
+pub mod ExprTokens
+pub mod ExprLeft
+pub mod ExprStuck
+pub mod ExprExact
+pub mod ExprPlaces
 
 abbrev pub run : {S Tok : Type 0} → (S → Tok → Option S) → S → List Tok → Option S
 run step s [] = Some s

@@ -11,9 +11,12 @@ use Rattle.py_syntax.specs.Tree.{Text, Expr, str, fstr, none, bool, tuple, not',
 use Rattle.py_syntax.specs.Tree as tree_
 use Rattle.py_syntax.specs.Kinds.{Kind, Name, Word, Int, Str, FString, Sign}
 use Rattle.py_syntax.specs.Tokens.{comma_if, strings, bool_word, sign_mark, comparison, tokens, items, more, entries, more_entries, links, bound, fragments, pieces}
-use Rattle.py_syntax.specs.Normal.{Level, LExprs, LExpr, LOr, LAnd, LNot, LCmp, LSum, LTerm, LUnary, LPost, is_target}
-use Rattle.py_grammar.specs.TokenClasses.{BinaryOperator, b_or, b_and, b_op, TokenClass, t_name, t_int, t_none, t_bool, t_string, t_format, t_bad_format, t_not, t_is, t_if, t_else, t_compare, t_operator, t_comma, t_colon, t_dot, t_left_paren, t_right_paren, t_left_bracket, t_right_bracket, t_left_brace, t_right_brace, operator_level, operator_right, joined, operator_kind, begins, spelled}
-use Rattle.py_grammar.specs.Machine.{at_most, same_level, snoc, snoc_pair, snoc_link, snoc_plain, snoc_format, has_format, texts, strings_of, Goal, any, one, target, targets, Opener, a_call, a_list, exprs_first, exprs_rest, cond_first, cond_test, cond_else, first, right, not_of, compare_first, compare_rest, unary_of, post_rest, in_items, index_first, in_index, slice_to, in_paren, in_key, in_value, Ctx, Outside, on, State, Want, Have, Strings, AfterOpen, AfterComma, AfterTarget, ItemsOpen, ItemsComma, DictOpen, DictComma, IndexOpen, SliceColon, AfterDot, AfterNot, AfterIs, AfterIsNot, Linked, Out, Next, Stuck, Left, upto_exprs, upto_cond, upto_or, upto_and, upto_compare, upto_sum, upto_term, begin, close_items, leave, give, step}
+use Rattle.py_syntax.specs.Normal.{Precedence, LExprs, LExpr, LOr, LAnd, LNot, LCmp, LSum, LTerm, LUnary, LPost, is_target}
+use Rattle.py_grammar.specs.TokenClasses.{BinaryOperator, b_or, b_and, b_op, TokenClass, t_name, t_int, t_none, t_bool, t_string, t_format, t_bad_format, t_not, t_is, t_if, t_else, t_compare, t_operator, t_comma, t_colon, t_dot, t_left_paren, t_right_paren, t_left_bracket, t_right_bracket, t_left_brace, t_right_brace, operator_precedence, operator_right, joined, operator_kind, begins, spelled}
+use Rattle.py_grammar.specs.Machine.{at_most, same_precedence, snoc, snoc_pair, snoc_link, snoc_plain, snoc_format, has_format, texts, strings_of, Goal, any, one, target, targets, Opener, a_call, a_list, exprs_first, exprs_rest, cond_first, cond_test, cond_else, first, right, not_of, compare_first, compare_rest, unary_of, post_rest, in_items, index_first, in_index, slice_to, in_paren, in_key, in_value, Ctx, Outside, on, State, Want, Have, Strings, AfterOpen, AfterComma, AfterTarget, ItemsOpen, ItemsComma, DictOpen, DictComma, IndexOpen, SliceColon, AfterDot, AfterNot, AfterIs, AfterIsNot, Linked, Out, Next, Stuck, Left, upto_exprs, upto_cond, upto_or, upto_and, upto_compare, upto_sum, upto_term, begin, close_items, leave, give, step}
+pub mod Valid
+pub mod Keeps
+pub mod Spelled
 
 -- ---- what was read
 
@@ -168,13 +171,13 @@ give_reads e (on cond_first k) t = give_reads e k t
 give_reads e (on (cond_test b) k) t_else = λ r. refl
 give_reads e (on (cond_test b) k) t = tt
 give_reads e (on (cond_else b c) k) t = give_reads (tree_.cond b c e) k t
-give_reads e (on (first l) k) (t_operator j) = go (same_level l (operator_level j)) (give_reads e k (t_operator j))
+give_reads e (on (first l) k) (t_operator j) = go (same_precedence l (operator_precedence j)) (give_reads e k (t_operator j))
   where
     go : (b : Bool) → Reads (t_operator j) (λ r. before_ctx k (tokens e r)) (give e k (t_operator j)) → Reads (t_operator j) (λ r. before_ctx k (tokens e r)) (cond b (Next (Want (operator_right j) (on (right j e) k))) (give e k (t_operator j)))
     go true h = λ r. refl
     go false h = h
 give_reads e (on (first l) k) t = give_reads e k t
-give_reads e (on (right i a) k) (t_operator j) = go (same_level (operator_level i) (operator_level j)) (give_reads (joined i a e) k (t_operator j))
+give_reads e (on (right i a) k) (t_operator j) = go (same_precedence (operator_precedence i) (operator_precedence j)) (give_reads (joined i a e) k (t_operator j))
   where
     spell : (r : List Kind) → before_ctx k (tokens (joined i a e) r) ≡ before_ctx k (tokens a (operator_kind i ∷ tokens e r))
     spell r = ap (before_ctx k) (joined_spelled i a e r)
@@ -217,40 +220,40 @@ give_reads e (on (in_value ps key) k) t = tt
 
 -- ---- the frames that are pushed stand for nothing
 
-exprs_read : (lev : Level) (k : Ctx) (r : List Kind) → before_ctx (upto_exprs lev k) r ≡ before_ctx k r
+exprs_read : (lev : Precedence) (k : Ctx) (r : List Kind) → before_ctx (upto_exprs lev k) r ≡ before_ctx k r
 exprs_read lev k r = elim (at_most lev LExprs) as (λ b. before_ctx (cond b (on exprs_first k) k) r ≡ before_ctx k r) [ true ↦ refl | false ↦ refl ]
 
-cond_read : (lev : Level) (k : Ctx) (r : List Kind) → before_ctx (upto_cond lev k) r ≡ before_ctx k r
+cond_read : (lev : Precedence) (k : Ctx) (r : List Kind) → before_ctx (upto_cond lev k) r ≡ before_ctx k r
 cond_read lev k r = elim (at_most lev LExpr) as (λ b. before_ctx (cond b (on cond_first (upto_exprs lev k)) k) r ≡ before_ctx k r) [ true ↦ exprs_read lev k r | false ↦ refl ]
 
-or_read : (lev : Level) (k : Ctx) (r : List Kind) → before_ctx (upto_or lev k) r ≡ before_ctx k r
+or_read : (lev : Precedence) (k : Ctx) (r : List Kind) → before_ctx (upto_or lev k) r ≡ before_ctx k r
 or_read lev k r = elim (at_most lev LOr) as (λ b. before_ctx (cond b (on (first LOr) (upto_cond lev k)) k) r ≡ before_ctx k r) [ true ↦ cond_read lev k r | false ↦ refl ]
 
-and_read : (lev : Level) (k : Ctx) (r : List Kind) → before_ctx (upto_and lev k) r ≡ before_ctx k r
+and_read : (lev : Precedence) (k : Ctx) (r : List Kind) → before_ctx (upto_and lev k) r ≡ before_ctx k r
 and_read lev k r = elim (at_most lev LAnd) as (λ b. before_ctx (cond b (on (first LAnd) (upto_or lev k)) k) r ≡ before_ctx k r) [ true ↦ or_read lev k r | false ↦ refl ]
 
-compare_read : (lev : Level) (k : Ctx) (r : List Kind) → before_ctx (upto_compare lev k) r ≡ before_ctx k r
+compare_read : (lev : Precedence) (k : Ctx) (r : List Kind) → before_ctx (upto_compare lev k) r ≡ before_ctx k r
 compare_read lev k r = elim (at_most lev LCmp) as (λ b. before_ctx (cond b (on compare_first (upto_and lev k)) k) r ≡ before_ctx k r) [ true ↦ and_read lev k r | false ↦ refl ]
 
-sum_read : (lev : Level) (k : Ctx) (r : List Kind) → before_ctx (upto_sum lev k) r ≡ before_ctx k r
+sum_read : (lev : Precedence) (k : Ctx) (r : List Kind) → before_ctx (upto_sum lev k) r ≡ before_ctx k r
 sum_read lev k r = elim (at_most lev LSum) as (λ b. before_ctx (cond b (on (first LSum) (upto_compare lev k)) k) r ≡ before_ctx k r) [ true ↦ compare_read lev k r | false ↦ refl ]
 
-term_read : (lev : Level) (k : Ctx) (r : List Kind) → before_ctx (upto_term lev k) r ≡ before_ctx k r
+term_read : (lev : Precedence) (k : Ctx) (r : List Kind) → before_ctx (upto_term lev k) r ≡ before_ctx k r
 term_read lev k r = elim (at_most lev LTerm) as (λ b. before_ctx (cond b (on (first LTerm) (upto_sum lev k)) k) r ≡ before_ctx k r) [ true ↦ sum_read lev k r | false ↦ refl ]
 
-not_read : (lev : Level) (k : Ctx) (b : Bool) → Reads t_not (before_ctx k) (cond b (Next (Want LNot (on not_of (upto_and lev k)))) Stuck)
+not_read : (lev : Precedence) (k : Ctx) (b : Bool) → Reads t_not (before_ctx k) (cond b (Next (Want LNot (on not_of (upto_and lev k)))) Stuck)
 not_read lev k true = λ r. and_read lev k (Word word.Not ∷ r)
 not_read lev k false = tt
 
-plus_read : (lev : Level) (k : Ctx) (b : Bool) → Reads (t_operator (b_op op_.Add)) (before_ctx k) (cond b (Next (Want LUnary (on (unary_of sign_.Plus) (upto_term lev k)))) Stuck)
+plus_read : (lev : Precedence) (k : Ctx) (b : Bool) → Reads (t_operator (b_op op_.Add)) (before_ctx k) (cond b (Next (Want LUnary (on (unary_of sign_.Plus) (upto_term lev k)))) Stuck)
 plus_read lev k true = λ r. term_read lev k (Sign mark.Plus ∷ r)
 plus_read lev k false = tt
 
-minus_read : (lev : Level) (k : Ctx) (b : Bool) → Reads (t_operator (b_op op_.Sub)) (before_ctx k) (cond b (Next (Want LUnary (on (unary_of sign_.Minus) (upto_term lev k)))) Stuck)
+minus_read : (lev : Precedence) (k : Ctx) (b : Bool) → Reads (t_operator (b_op op_.Sub)) (before_ctx k) (cond b (Next (Want LUnary (on (unary_of sign_.Minus) (upto_term lev k)))) Stuck)
 minus_read lev k true = λ r. term_read lev k (Sign mark.Minus ∷ r)
 minus_read lev k false = tt
 
-pub begin_reads : (lev : Level) (k : Ctx) (t : TokenClass) → Reads t (before_ctx k) (begin lev k t)
+pub begin_reads : (lev : Precedence) (k : Ctx) (t : TokenClass) → Reads t (before_ctx k) (begin lev k t)
 begin_reads lev k (t_name x) = λ r. term_read lev k (Name x ∷ r)
 begin_reads lev k (t_int n) = λ r. term_read lev k (Int n ∷ r)
 begin_reads lev k t_none = λ r. term_read lev k (Word word.None ∷ r)

@@ -16,6 +16,7 @@ pub record IsExact (goal : Goal) (limit : ℕ) (ts : List Kind) (at place : ℕ)
   pub too_deep : EndsAt limit (start goal) ts at place TooDeep
       → Parted ts at place (IsTooDeep goal limit)
 
+-- the same of all goals, limits, lists and places
 abbrev pub IsExactEverywhere : Type 0
 IsExactEverywhere =
     (goal : Goal) (limit : ℕ) (ts : List Kind) (at place : ℕ) → IsAsked goal → 1 ≤ limit

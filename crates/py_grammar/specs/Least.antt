@@ -20,9 +20,11 @@ least_name = name []
 abbrev pub as_target : Expr → Expr
 as_target e = cond (is_target e) e (index e least_name)
 
+-- the same where a target is wanted, or the expression as it is
 abbrev pub target_if : Bool → Expr → Expr
 target_if wanted e = cond wanted (as_target e) e
 
+-- whether the whole is to be a target
 abbrev pub targets_so_far : Goal → Bool
 targets_so_far target = true
 targets_so_far (targets f es) = true
@@ -70,6 +72,7 @@ whole (on in_paren k) e = whole k (fit k (paren e))
 whole (on (in_key ps) k) e = whole k (fit k (dict (snoc_pair ps e least_name) false))
 whole (on (in_value ps key) k) e = whole k (fit k (dict (snoc_pair ps key e) false))
 
+-- the least tree of a state
 abbrev pub finished : State → Expr
 finished (Want lev k) = whole k least_name
 finished (Have e k) = whole k e

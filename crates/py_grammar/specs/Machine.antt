@@ -1,5 +1,5 @@
 -- The reader of expressions as a machine: a stack of what is open, and a step for each token.
---     at_most, same_level                     levels of the grammar
+--     at_most, same_precedence                levels of the grammar
 --     snoc .. strings_of                      lists with one more at the end, and strings side by
 --                                             side
 --     Goal, Opener, Frame, Ctx                what is read towards, and what is open
@@ -22,35 +22,42 @@ use Rattle.py_syntax.specs.declared.expr.Sign.TheVariants as sign_
 use Rattle.py_syntax.specs.Tree.{Text, Expr, name, int, str, fstr, none, bool, tuple, list, dict, paren, not', unary, compare, call, index, slice, attr, Exprs, no_exprs, exprs, Pairs, no_pairs, pair, Links, no_links, link, OptExpr, absent, present, Fragments, no_fragments, plain, format, Parts, no_parts, text, field}
 use Rattle.py_syntax.specs.Tree as tree_
 use Rattle.py_syntax.specs.Kinds.{Kind, Name, Word, Int, Str, FString, Sign, Newline, Indent, Dedent, End, Pieces, no_pieces, chars_piece, field_piece, Kinds, no_kinds, kinds}
-use Rattle.py_syntax.specs.Normal.{Level, LEnd, LExprs, LExpr, LOr, LAnd, LNot, LCmp, LSum, LTerm, LUnary, LPost, rank, is_target}
-use Rattle.py_grammar.specs.TokenClasses.{BinaryOperator, b_or, b_and, b_op, TokenClass, t_name, t_int, t_none, t_bool, t_string, t_format, t_bad_format, t_not, t_is, t_if, t_else, t_compare, t_operator, t_comma, t_colon, t_dot, t_left_paren, t_right_paren, t_left_bracket, t_right_bracket, t_left_brace, t_right_brace, t_other, operator_level, operator_right, joined, begins}
+use Rattle.py_syntax.specs.Normal.{Precedence, LEnd, LExprs, LExpr, LOr, LAnd, LNot, LCmp, LSum, LTerm, LUnary, LPost, rank, is_target}
+use Rattle.py_grammar.specs.TokenClasses.{BinaryOperator, b_or, b_and, b_op, TokenClass, t_name, t_int, t_none, t_bool, t_string, t_format, t_bad_format, t_not, t_is, t_if, t_else, t_compare, t_operator, t_comma, t_colon, t_dot, t_left_paren, t_right_paren, t_left_bracket, t_right_bracket, t_left_brace, t_right_brace, t_other, operator_precedence, operator_right, joined, begins}
 use Rattle.std.specs.Prelude.{nat_le}
 
-abbrev pub at_most : Level → Level → Bool
+-- whether a tree of this level may stand above one of the other
+abbrev pub at_most : Precedence → Precedence → Bool
 at_most a b = nat_le (rank a) (rank b)
 
-abbrev pub same_level : Level → Level → Bool
-same_level a b = nat_eq (rank a) (rank b)
+-- whether two levels are the same
+abbrev pub same_precedence : Precedence → Precedence → Bool
+same_precedence a b = nat_eq (rank a) (rank b)
 
 -- ---- one more at the end
 
+-- items with one more
 abbrev pub snoc : Exprs → Expr → Exprs
 snoc no_exprs e = exprs e no_exprs
 snoc (exprs f es) e = exprs f (snoc es e)
 
+-- entries of a dict with one more
 abbrev pub snoc_pair : Pairs → Expr → Expr → Pairs
 snoc_pair no_pairs k v = pair k v no_pairs
 snoc_pair (pair k' v' ps) k v = pair k' v' (snoc_pair ps k v)
 
+-- comparisons of a chain with one more
 abbrev pub snoc_link : Links → Comparison → Expr → Links
 snoc_link no_links op e = link op e no_links
 snoc_link (link op' e' ls) op e = link op' e' (snoc_link ls op e)
 
+-- neighbouring strings with one more
 abbrev pub snoc_plain : Fragments → Text → Fragments
 snoc_plain no_fragments x = plain x no_fragments
 snoc_plain (plain y fs) x = plain y (snoc_plain fs x)
 snoc_plain (format ps fs) x = format ps (snoc_plain fs x)
 
+-- the same with an f-string more
 abbrev pub snoc_format : Fragments → Parts → Fragments
 snoc_format no_fragments ps = format ps no_fragments
 snoc_format (plain y fs) ps = plain y (snoc_format fs ps)
@@ -58,16 +65,19 @@ snoc_format (format qs fs) ps = format qs (snoc_format fs ps)
 
 -- ---- neighbouring strings: one string, or an f-string where there is one among them
 
+-- whether an f-string is among the strings
 abbrev pub has_format : Fragments → Bool
 has_format no_fragments = false
 has_format (plain x fs) = has_format fs
 has_format (format ps fs) = true
 
+-- the strings that are no f-strings
 abbrev pub texts : Fragments → List Text
 texts no_fragments = []
 texts (plain x fs) = x ∷ texts fs
 texts (format ps fs) = texts fs
 
+-- the tree of neighbouring strings
 abbrev pub strings_of : Fragments → Expr
 strings_of fs = cond (has_format fs) (fstr fs) (str (texts fs))
 
@@ -86,6 +96,7 @@ pub data Opener : Type 0 where
   a_call : (callee : Expr) → Opener
   a_list : Opener
 
+-- a call or a list with its items, and whether a comma stands after them
 abbrev pub made : Opener → Exprs → Bool → Expr
 made (a_call f) es c = call f es c
 made a_list es c = list es c
@@ -100,7 +111,7 @@ pub data Frame : Type 0 where
   cond_test : (body : Expr) → Frame
   cond_else : (body test : Expr) → Frame
   -- an operand that may be the left one of an operator of that level; the right one
-  first : (l : Level) → Frame
+  first : (l : Precedence) → Frame
   right : (j : BinaryOperator) (a : Expr) → Frame
   -- the operand of `not`
   not_of : Frame
@@ -128,9 +139,10 @@ pub data Ctx : Type 0 where
   Outside : (g : Goal) → Ctx
   on : (f : Frame) (k : Ctx) → Ctx
 
+-- A place in an expression, with what was read of the innermost part.
 pub data State : Type 0 where
   -- an expression of that level has to begin
-  Want : (l : Level) (k : Ctx) → State
+  Want : (l : Precedence) (k : Ctx) → State
   -- an expression is read, and may go on
   Have : (e : Expr) (k : Ctx) → State
   -- a string or several are read
@@ -157,6 +169,7 @@ pub data State : Type 0 where
   AfterIsNot : (a : Expr) (ls : Links) (k : Ctx) → State
   Linked : (a : Expr) (ls : Links) (k : Ctx) → State
 
+-- What a token makes of a place: the next one, no expression, or the end of the outermost one.
 pub data Out : Type 0 where
   Next : State → Out
   Stuck : Out
@@ -165,29 +178,36 @@ pub data Out : Type 0 where
 
 -- ---- the frames from one level up to another
 
-abbrev pub upto_exprs : Level → Ctx → Ctx
+-- up to several expressions with commas
+abbrev pub upto_exprs : Precedence → Ctx → Ctx
 upto_exprs lev k = cond (at_most lev LExprs) (on exprs_first k) k
 
-abbrev pub upto_cond : Level → Ctx → Ctx
+-- up to a conditional expression
+abbrev pub upto_cond : Precedence → Ctx → Ctx
 upto_cond lev k = cond (at_most lev LExpr) (on cond_first (upto_exprs lev k)) k
 
-abbrev pub upto_or : Level → Ctx → Ctx
+-- up to the operands of an `or`
+abbrev pub upto_or : Precedence → Ctx → Ctx
 upto_or lev k = cond (at_most lev LOr) (on (first LOr) (upto_cond lev k)) k
 
-abbrev pub upto_and : Level → Ctx → Ctx
+-- up to the operands of an `and`
+abbrev pub upto_and : Precedence → Ctx → Ctx
 upto_and lev k = cond (at_most lev LAnd) (on (first LAnd) (upto_or lev k)) k
 
-abbrev pub upto_compare : Level → Ctx → Ctx
+-- up to the operands of a comparison
+abbrev pub upto_compare : Precedence → Ctx → Ctx
 upto_compare lev k = cond (at_most lev LCmp) (on compare_first (upto_and lev k)) k
 
-abbrev pub upto_sum : Level → Ctx → Ctx
+-- up to the operands of a sum
+abbrev pub upto_sum : Precedence → Ctx → Ctx
 upto_sum lev k = cond (at_most lev LSum) (on (first LSum) (upto_compare lev k)) k
 
-abbrev pub upto_term : Level → Ctx → Ctx
+-- up to the operands of a product
+abbrev pub upto_term : Precedence → Ctx → Ctx
 upto_term lev k = cond (at_most lev LTerm) (on (first LTerm) (upto_sum lev k)) k
 
 -- what is open after a tree of the second level, where one of the first was to begin
-abbrev pub upto : Level → Level → Ctx → Ctx
+abbrev pub upto : Precedence → Precedence → Ctx → Ctx
 upto lev LEnd k = k
 upto lev LExprs k = upto_exprs lev k
 upto lev LExpr k = upto_exprs lev k
@@ -203,7 +223,7 @@ upto lev LPost k = on post_rest (upto_term lev k)
 -- ---- the steps
 
 -- An expression of that level begins.
-abbrev pub begin : Level → Ctx → TokenClass → Out
+abbrev pub begin : Precedence → Ctx → TokenClass → Out
 begin lev k (t_name x) = Next (Have (name x) (upto lev LPost k))
 begin lev k (t_int n) = Next (Have (int n) (upto lev LPost k))
 begin lev k t_none = Next (Have none (upto lev LPost k))
@@ -250,11 +270,12 @@ give e (on (cond_test b) k) t_else = Next (Want LExpr (on (cond_else b e) k))
 give e (on (cond_test b) k) t = Stuck
 give e (on (cond_else b c) k) t = give (tree_.cond b c e) k t
 give e (on (first l) k) (t_operator j) =
-    cond (same_level l (operator_level j)) (Next (Want (operator_right j) (on (right j e) k)))
+    cond (same_precedence l (operator_precedence j))
+    (Next (Want (operator_right j) (on (right j e) k)))
     (give e k (t_operator j))
 give e (on (first l) k) t = give e k t
 give e (on (right i a) k) (t_operator j) =
-    cond (same_level (operator_level i) (operator_level j))
+    cond (same_precedence (operator_precedence i) (operator_precedence j))
     (Next (Want (operator_right j) (on (right j (joined i a e)) k)))
     (give (joined i a e) k (t_operator j))
 give e (on (right i a) k) t = give (joined i a e) k t
@@ -293,6 +314,7 @@ give e (on (in_value ps key) k) t_right_brace =
     Next (Have (dict (snoc_pair ps key e) false) (on post_rest k))
 give e (on (in_value ps key) k) t = Stuck
 
+-- What a token makes of a place.
 abbrev pub step : State → TokenClass → Out
 step (Want lev k) t = begin lev k t
 step (Have e k) t = give e k t
@@ -333,6 +355,7 @@ step (Linked a ls k) t_not = Next (AfterNot a ls k)
 step (Linked a ls k) t_is = Next (AfterIs a ls k)
 step (Linked a ls k) t = give (compare a ls) k t
 
+-- nothing is read of an expression that is read towards this goal
 abbrev pub start : Goal → State
 start any = Want LExprs (Outside any)
 start one = Want LExpr (Outside one)
@@ -347,6 +370,7 @@ ended s =
     elim (step s (t_other End)) as (λ (o : Out). Option Expr)
     [ Next n ↦ None | Stuck ↦ None | Left e ↦ Some e ]
 
+-- the class of an f-string, with the trees of its fields where all have one
 abbrev pub format_class : Pieces → Option Parts → TokenClass
 format_class ps (Some qs) = t_format qs
 format_class ps None = t_bad_format ps
@@ -395,6 +419,7 @@ abbrev mutual
   class Dedent = t_other Dedent
   class End = t_other End
 
+  -- the trees of the pieces of an f-string, where each field has one
   pub parts : Pieces → Option Parts
   parts no_pieces = Some no_parts
   parts (chars_piece x ps) = option_map (λ qs. text x qs) (parts ps)
@@ -402,6 +427,7 @@ abbrev mutual
       elim (field_expr (start any) ks) as (λ (o : Option Expr). Option Parts)
       [ None ↦ None | Some e ↦ option_map (λ qs. field e qs) (parts ps) ]
 
+  -- the tree of a field from a state on, where it has one
   pub field_expr : State → Kinds → Option Expr
   field_expr s no_kinds = ended s
   field_expr s (kinds t ts) =
@@ -415,6 +441,7 @@ pub data Verdict : Type 0 where
   Refused : List Kind → Verdict
   Leaves : Expr → List Kind → Verdict
 
+-- the reading of a list from a state on
 abbrev pub run : State → List Kind → Verdict
 run s [] = Refused []
 run s (t ∷ ts) =

@@ -12,6 +12,7 @@ pub data Ending : Type 0 where
   TooDeep : (rest : List Kind) → Ending
   Reads : (e : Expr) (rest : List Kind) → Ending
 
+-- the reading of a list from a state on, under a limit of heights
 abbrev pub within : ℕ → State → List Kind → Ending
 within limit s [] = Unexpected []
 within limit s (t ∷ ts) =

@@ -1,9 +1,9 @@
 -- What a token is to an expression.
---     BinaryOperator, TokenClass          what a token is to an expression
---     operator_level .. operator_kind     an operator: its levels, its tree and its token
---     binds, begins                       where a token goes on with an expression, and where it
---                                         begins one
---     spelled                             the tokens of a class
+--     BinaryOperator, TokenClass              what a token is to an expression
+--     operator_precedence .. operator_kind    an operator: its levels, its tree and its token
+--     binds, begins                           where a token goes on with an expression, and where
+--                                             it begins one
+--     spelled                                 the tokens of a class
 use Rattle.std.specs.Prelude.{ℤ, nat_eq, Bool, true, false, List, ◌∷◌}
 use Rattle.py_value.specs.declared.operator.BinOp.{BinOp}
 use Rattle.py_value.specs.declared.operator.CmpOp.{CmpOp}
@@ -13,7 +13,7 @@ use Rattle.py_syntax.specs.declared.expr.Comparison.TheVariants.{Op}
 use Rattle.py_syntax.specs.Tree.{Text, Expr, and, or, binary, Parts}
 use Rattle.py_syntax.specs.Kinds.{Kind, Name, Word, Int, Str, FString, Sign, Pieces}
 use Rattle.py_syntax.specs.Tokens.{bool_word, operator, comparison, pieces}
-use Rattle.py_syntax.specs.Normal.{Level, LEnd, LExprs, LExpr, LOr, LAnd, LNot, LCmp, LPost, rank, op_level, right_level}
+use Rattle.py_syntax.specs.Normal.{Precedence, LEnd, LExprs, LExpr, LOr, LAnd, LNot, LCmp, LPost, rank, op_precedence, right_precedence}
 
 -- an operator that joins two operands and groups to the left
 pub data BinaryOperator : Type 0 where
@@ -21,6 +21,7 @@ pub data BinaryOperator : Type 0 where
   b_and : BinaryOperator
   b_op : (op : BinOp) → BinaryOperator
 
+-- what a token is to an expression
 pub data TokenClass : Type 0 where
   t_name : (x : Text) → TokenClass
   t_int : (n : ℤ) → TokenClass
@@ -50,33 +51,35 @@ pub data TokenClass : Type 0 where
   t_other : (k : Kind) → TokenClass
 
 -- the level of an operator's trees
-abbrev pub operator_level : BinaryOperator → Level
-operator_level b_or = LOr
-operator_level b_and = LAnd
-operator_level (b_op op) = op_level op
+abbrev pub operator_precedence : BinaryOperator → Precedence
+operator_precedence b_or = LOr
+operator_precedence b_and = LAnd
+operator_precedence (b_op op) = op_precedence op
 
 -- the level of its right operand
-abbrev pub operator_right : BinaryOperator → Level
+abbrev pub operator_right : BinaryOperator → Precedence
 operator_right b_or = LAnd
 operator_right b_and = LNot
-operator_right (b_op op) = right_level op
+operator_right (b_op op) = right_precedence op
 
+-- the tree of two operands
 abbrev pub joined : BinaryOperator → Expr → Expr → Expr
 joined b_or a b = or a b
 joined b_and a b = and a b
 joined (b_op op) a b = binary op a b
 
+-- the token of an operator
 abbrev pub operator_kind : BinaryOperator → Kind
 operator_kind b_or = Word word.Or
 operator_kind b_and = Word word.And
 operator_kind (b_op op) = Sign (operator op)
 
 -- The level at which a token goes on with an expression.
-abbrev pub binds : TokenClass → Level
+abbrev pub binds : TokenClass → Precedence
 binds t_left_paren = LPost
 binds t_left_bracket = LPost
 binds t_dot = LPost
-binds (t_operator j) = operator_level j
+binds (t_operator j) = operator_precedence j
 binds (t_compare op) = LCmp
 binds t_is = LCmp
 binds t_not = LCmp
@@ -94,7 +97,7 @@ begins (t_string x) = true
 begins (t_format ps) = true
 begins (t_bad_format ps) = true
 begins t_not = true
-begins (t_operator (b_op op)) = nat_eq (rank (op_level op)) 7
+begins (t_operator (b_op op)) = nat_eq (rank (op_precedence op)) 7
 begins t_left_paren = true
 begins t_left_bracket = true
 begins t_left_brace = true

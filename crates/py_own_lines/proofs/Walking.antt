@@ -7,7 +7,7 @@ use Rattle.py_syntax.specs.declared.stmt.LineEnd.{LineEnd}
 use Rattle.py_syntax.specs.Functions.{Function, functions, functions_in, opt_functions, arms_functions, clauses_functions, cases_functions}
 use Rattle.py_syntax.specs.Headers.{Marked, put, kinds_marked, match_name}
 use Rattle.py_syntax.specs.Kinds.{Kind, Name, Word, Sign, Newline, Indent, Dedent, bare}
-use Rattle.py_syntax.specs.Spelling.{first_line, test_head, for_head, word_head, past, behind, KeepsLines, KindLines, SuiteLines, OptLines, ArmLines, ClauseLines, CaseLines}
+use Rattle.py_syntax.specs.Spelling.{first_line, test_head, for_head, word_head, past, after_suite, KeepsLines, KindLines, SuiteLines, OptLines, ArmLines, ClauseLines, CaseLines}
 use Rattle.py_syntax.specs.Statements.{in_place_mark, target_tokens, option_tokens, assert_tokens, name_list, alias_list, except_tokens, guard_tokens, case_name, end_tokens, stmts_tokens, kind_tokens, suite_tokens, else_tokens, finally_tokens, elif_tokens, clause_tokens, case_tokens, ShareLine, NormalStmts, NormalKind, NormalSuite, NormalOpt, NormalArms, NormalClauses, NormalCases}
 use Rattle.py_syntax.specs.Tokens.{tokens, pattern_tokens}
 use Rattle.py_syntax.specs.Tree.{Expr, Pattern, Stmts, no_stmts, stmt, Suite, suite, OptSuite, no_suite, has_suite, Arms, no_arms, arm, Clauses, no_clauses, clause, Cases, no_cases, case, StmtKind, expr, assign, aug_assign, pass, break, continue, return, raise, assert, global, import, from, if', while, for, try, def, match}
@@ -102,7 +102,7 @@ mutual
         shut = shuts f l k e ss lo a.high b.passed.high c.walk.high (span_le lo a.high (functions_in f k) a.span) b.passed.later b.later (span_le b.passed.high c.walk.high (functions ss) c.walk.span) c.shut;
       })
 
-  suite_walk : (s : Suite) (head : List Kind) (lo : ℕ) (ts : List PToken) (rest : List Marked) → NormalSuite s → SuiteLines s head ts → bare ts ≡ kinds_marked (put head (suite_tokens s rest)) → Rises lo ts → Suited lo (suite_functions s) (behind head s ts) rest
+  suite_walk : (s : Suite) (head : List Kind) (lo : ℕ) (ts : List PToken) (rest : List Marked) → NormalSuite s → SuiteLines s head ts → bare ts ≡ kinds_marked (put head (suite_tokens s rest)) → Rises lo ts → Suited lo (suite_functions s) (after_suite head s ts) rest
   suite_walk (suite f l inline no_stmts) head lo ts rest n keeps same r = absurd n
   suite_walk (suite f l true (stmt f' l' k e ss)) head lo ts rest n keeps same r =
       let b = stmt f' l' k e ss in
@@ -130,7 +130,7 @@ mutual
       let five = span_le at.high w.walk.high (functions b) w.walk.span in
       let six = d.later in
       let alone = stmts-length b (put (Dedent ∷ []) []) in
-      let there : drop 1 us ≡ behind head (suite f l false b) ts = three_drops ts (length head + 2) (length (stmts_tokens b [])) 1 (so_far head (suite f l false b)) (omega arith) in
+      let there : drop 1 us ≡ after_suite head (suite f l false b) ts = three_drops ts (length head + 2) (length (stmts_tokens b [])) 1 (so_far head (suite f l false b)) (omega arith) in
       subst (λ vs. Suited lo (functions b) vs rest) there
       (record {
         walk = before lo (functions b) (drop (length head + 2) ts) (drop 1 us) inner rest (record { high = at.high; later = omega arith; rises = at.rises; same = at.same })
@@ -141,13 +141,13 @@ mutual
   else_walk : (o : OptSuite) (lo : ℕ) (ts : List PToken) (rest : List Marked) → NormalOpt o → OptLines o (word_head word.Else) ts → bare ts ≡ kinds_marked (else_tokens o rest) → Rises lo ts → Walk lo (opt_functions o) (drop (length (else_tokens o [])) ts) rest
   else_walk no_suite lo ts rest n keeps same r = record { high = lo; span = omega arith; rises = r; same = same }
   else_walk (has_suite (suite f l i b)) lo ts rest n keeps same r =
-      at_place lo (functions b) (behind (word_head word.Else) (suite f l i b) ts) (drop (length (else_tokens (has_suite (suite f l i b)) [])) ts) rest (drop_same ts (so_far (word_head word.Else) (suite f l i b)) (length (else_tokens (has_suite (suite f l i b)) [])) (omega arith))
+      at_place lo (functions b) (after_suite (word_head word.Else) (suite f l i b) ts) (drop (length (else_tokens (has_suite (suite f l i b)) [])) ts) rest (drop_same ts (so_far (word_head word.Else) (suite f l i b)) (length (else_tokens (has_suite (suite f l i b)) [])) (omega arith))
       (suite_walk (suite f l i b) (word_head word.Else) lo ts rest n keeps same r).walk
 
   finally_walk : (o : OptSuite) (lo : ℕ) (ts : List PToken) (rest : List Marked) → NormalOpt o → OptLines o (word_head word.Finally) ts → bare ts ≡ kinds_marked (finally_tokens o rest) → Rises lo ts → Walk lo (opt_functions o) (drop (length (else_tokens o [])) ts) rest
   finally_walk no_suite lo ts rest n keeps same r = record { high = lo; span = omega arith; rises = r; same = same }
   finally_walk (has_suite (suite f l i b)) lo ts rest n keeps same r =
-      at_place lo (functions b) (behind (word_head word.Finally) (suite f l i b) ts) (drop (length (else_tokens (has_suite (suite f l i b)) [])) ts) rest (drop_same ts (so_far (word_head word.Finally) (suite f l i b)) (length (else_tokens (has_suite (suite f l i b)) [])) (omega arith))
+      at_place lo (functions b) (after_suite (word_head word.Finally) (suite f l i b) ts) (drop (length (else_tokens (has_suite (suite f l i b)) [])) ts) rest (drop_same ts (so_far (word_head word.Finally) (suite f l i b)) (length (else_tokens (has_suite (suite f l i b)) [])) (omega arith))
       (suite_walk (suite f l i b) (word_head word.Finally) lo ts rest n keeps same r).walk
 
   arms_walk : (arms : Arms) (lo : ℕ) (ts : List PToken) (rest : List Marked) → NormalArms arms → ArmLines arms ts → bare ts ≡ kinds_marked (elif_tokens arms rest) → Rises lo ts → Walk lo (arms_functions arms) (drop (length (elif_tokens arms [])) ts) rest
@@ -156,11 +156,11 @@ mutual
       let head = test_head word.Elif t in
       let s = suite f l i b in
       let w = (suite_walk (suite f l i b) head lo ts (elif_tokens arms rest) n.1 keeps.0 same r).walk in
-      let v = arms_walk arms w.high (behind head s ts) rest n.2 keeps.1 w.same w.rises in
+      let v = arms_walk arms w.high (after_suite head s ts) rest n.2 keeps.1 w.same w.rises in
       let long = put-length head (suite_tokens s (elif_tokens arms [])) in
       let body = suite-length s (elif_tokens arms []) in
-      at_place lo (functions b ++ arms_functions arms) (drop (length (elif_tokens arms [])) (behind head s ts)) (drop (length (elif_tokens (arm t s arms) [])) ts) rest (drop_to ts (so_far head s) (length (elif_tokens arms [])) (length (elif_tokens (arm t s arms) [])) (omega arith))
-      (joined lo (functions b) (arms_functions arms) (behind head s ts) (drop (length (elif_tokens arms [])) (behind head s ts)) (elif_tokens arms rest) rest w v)
+      at_place lo (functions b ++ arms_functions arms) (drop (length (elif_tokens arms [])) (after_suite head s ts)) (drop (length (elif_tokens (arm t s arms) [])) ts) rest (drop_to ts (so_far head s) (length (elif_tokens arms [])) (length (elif_tokens (arm t s arms) [])) (omega arith))
+      (joined lo (functions b) (arms_functions arms) (after_suite head s ts) (drop (length (elif_tokens arms [])) (after_suite head s ts)) (elif_tokens arms rest) rest w v)
 
   clauses_walk : (cs : Clauses) (lo : ℕ) (ts : List PToken) (rest : List Marked) → NormalClauses cs → ClauseLines cs ts → bare ts ≡ kinds_marked (clause_tokens cs rest) → Rises lo ts → Walk lo (clauses_functions cs) (drop (length (clause_tokens cs [])) ts) rest
   clauses_walk no_clauses lo ts rest n keeps same r = record { high = lo; span = omega arith; rises = r; same = same }
@@ -168,11 +168,11 @@ mutual
       let head = except_tokens e x in
       let s = suite f l i b in
       let w = (suite_walk (suite f l i b) head lo ts (clause_tokens cs rest) n.1 keeps.0 same r).walk in
-      let v = clauses_walk cs w.high (behind head s ts) rest n.2 keeps.1 w.same w.rises in
+      let v = clauses_walk cs w.high (after_suite head s ts) rest n.2 keeps.1 w.same w.rises in
       let long = put-length head (suite_tokens s (clause_tokens cs [])) in
       let body = suite-length s (clause_tokens cs []) in
-      at_place lo (functions b ++ clauses_functions cs) (drop (length (clause_tokens cs [])) (behind head s ts)) (drop (length (clause_tokens (clause e x s cs) [])) ts) rest (drop_to ts (so_far head s) (length (clause_tokens cs [])) (length (clause_tokens (clause e x s cs) [])) (omega arith))
-      (joined lo (functions b) (clauses_functions cs) (behind head s ts) (drop (length (clause_tokens cs [])) (behind head s ts)) (clause_tokens cs rest) rest w v)
+      at_place lo (functions b ++ clauses_functions cs) (drop (length (clause_tokens cs [])) (after_suite head s ts)) (drop (length (clause_tokens (clause e x s cs) [])) ts) rest (drop_to ts (so_far head s) (length (clause_tokens cs [])) (length (clause_tokens (clause e x s cs) [])) (omega arith))
+      (joined lo (functions b) (clauses_functions cs) (after_suite head s ts) (drop (length (clause_tokens cs [])) (after_suite head s ts)) (clause_tokens cs rest) rest w v)
 
   cases_walk : (cs : Cases) (lo : ℕ) (ts : List PToken) (rest : List Marked) → NormalCases cs → CaseLines cs ts → bare ts ≡ kinds_marked (case_tokens cs rest) → Rises lo ts → Walk lo (cases_functions cs) (drop (length (case_tokens cs [])) ts) rest
   cases_walk no_cases lo ts rest n keeps same r = record { high = lo; span = omega arith; rises = r; same = same }
@@ -180,11 +180,11 @@ mutual
       let head = case_head c g in
       let s = suite f l i b in
       let w = (suite_walk (suite f l i b) head lo ts (case_tokens cs rest) n.2 keeps.0 same r).walk in
-      let v = cases_walk cs w.high (behind head s ts) rest n.3 keeps.1 w.same w.rises in
+      let v = cases_walk cs w.high (after_suite head s ts) rest n.3 keeps.1 w.same w.rises in
       let long = put-length head (suite_tokens s (case_tokens cs [])) in
       let body = suite-length s (case_tokens cs []) in
-      at_place lo (functions b ++ cases_functions cs) (drop (length (case_tokens cs [])) (behind head s ts)) (drop (length (case_tokens (case c g s cs) [])) ts) rest (drop_to ts (so_far head s) (length (case_tokens cs [])) (length (case_tokens (case c g s cs) [])) (omega arith))
-      (joined lo (functions b) (cases_functions cs) (behind head s ts) (drop (length (case_tokens cs [])) (behind head s ts)) (case_tokens cs rest) rest w v)
+      at_place lo (functions b ++ cases_functions cs) (drop (length (case_tokens cs [])) (after_suite head s ts)) (drop (length (case_tokens (case c g s cs) [])) ts) rest (drop_to ts (so_far head s) (length (case_tokens cs [])) (length (case_tokens (case c g s cs) [])) (omega arith))
+      (joined lo (functions b) (cases_functions cs) (after_suite head s ts) (drop (length (case_tokens cs [])) (after_suite head s ts)) (case_tokens cs rest) rest w v)
 
   kind_walk : (k : StmtKind) (f lo : ℕ) (ts : List PToken) (rest : List Marked) → NormalKind k → f ≡ first_line ts → KindLines k ts → bare ts ≡ kinds_marked (kind_tokens k rest) → Rises lo ts → Walk lo (functions_in f k) (drop (length (kind_tokens k [])) ts) rest
   kind_walk (expr e) f lo ts rest n is keeps same r = line (tokens e []) lo ts rest same r
@@ -205,7 +205,7 @@ mutual
       let s = suite g h i b in
       let tail = elif_tokens arms (else_tokens o rest) in
       let w = (suite_walk (suite g h i b) head lo ts tail n.0.1 keeps.0 same r).walk in
-      let us = behind head s ts in
+      let us = after_suite head s ts in
       let v = arms_walk arms w.high us (else_tokens o rest) n.0.2 keeps.1 w.same w.rises in
       let vs = past (elif_tokens arms []) us in
       let x = else_walk o v.high vs rest n.1 keeps.2 v.same v.rises in
@@ -219,7 +219,7 @@ mutual
       let head = test_head word.While t in
       let s = suite g h i b in
       let w = (suite_walk (suite g h i b) head lo ts (else_tokens o rest) n.1 keeps.0 same r).walk in
-      let us = behind head s ts in
+      let us = after_suite head s ts in
       let x = else_walk o w.high us rest n.2 keeps.1 w.same w.rises in
       let long = put-length head (suite_tokens s (else_tokens o [])) in
       let body = suite-length s (else_tokens o []) in
@@ -230,7 +230,7 @@ mutual
       let head = for_head t e in
       let s = suite g h i b in
       let w = (suite_walk (suite g h i b) head lo ts (else_tokens o rest) n.3 keeps.0 same r).walk in
-      let us = behind head s ts in
+      let us = after_suite head s ts in
       let x = else_walk o w.high us rest n.4 keeps.1 w.same w.rises in
       let long = put-length head (suite_tokens s (else_tokens o [])) in
       let body = suite-length s (else_tokens o []) in
@@ -242,7 +242,7 @@ mutual
       let s = suite g h i b in
       let last = finally_tokens fin rest in
       let w = (suite_walk (suite g h i b) head lo ts (clause_tokens cs (else_tokens o last)) n.1 keeps.0 same r).walk in
-      let us = behind head s ts in
+      let us = after_suite head s ts in
       let v = clauses_walk cs w.high us (else_tokens o last) n.2 keeps.1 w.same w.rises in
       let vs = past (clause_tokens cs []) us in
       let x = else_walk o v.high vs last n.3 keeps.2 v.same v.rises in
@@ -268,7 +268,7 @@ mutual
       let low = on.0 in
       let after = w.shut in
       let long = put-length head (suite_tokens s []) in
-      at_place lo (record { line = f; name = x; params = ps; body = b } ∷ []) (behind head s ts) (drop (length (kind_tokens (def x ps ds c s) [])) ts) rest
+      at_place lo (record { line = f; name = x; params = ps; body = b } ∷ []) (after_suite head s ts) (drop (length (kind_tokens (def x ps ds c s) [])) ts) rest
       (drop_same ts (so_far head s) (length (kind_tokens (def x ps ds c s) [])) (omega arith))
       (record { high = w.walk.high; span = (omega (arith, is, low), omega (arith, is, after)); rises = w.walk.rises; same = w.walk.same })
   kind_walk (match e l no_cases) f lo ts rest n is keeps same r = absurd n

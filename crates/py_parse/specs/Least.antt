@@ -34,10 +34,11 @@ use Rattle.py_statements.specs.Machine.{ColonWanted, SuiteWanted, IndentWanted, 
 use Rattle.py_statements.specs.Machine.{MatchBlock, Span, State, Line, at, After, Choosing, Over}
 use Rattle.py_statements.specs.Machine.{assigned, left}
 
--- `pass` alone, as statements and as a suite on the line of its header
+-- `pass` alone
 abbrev pub pass_line : ℕ → Stmts
 pass_line l = stmt l l pass newline_end no_stmts
 
+-- the same as a suite on the line of its header
 abbrev pub pass_suite : ℕ → Suite
 pass_suite l = suite l l true (pass_line l)
 
@@ -92,6 +93,7 @@ pub data Form : Type 0 where
   a_header : (inline : Bool) (o : SuiteOf) → Form
   a_match : (e : Expr) (header_last : ℕ) → Form
 
+-- what a statement is completed to after an expression of it
 abbrev pub resumed : Continuation → Expr → ℕ → Form
 resumed (value ts) e l = a_statement (assigned ts e) newline_end
 resumed (augmented p op) e l = a_statement (aug_assign p op e) newline_end
@@ -112,6 +114,7 @@ abbrev pub with_param : Text → List Text → Exprs → Text → SuiteOf
 with_param x ps no_exprs y = a_def x (ps ++ y ∷ []) no_exprs false
 with_param x ps (exprs d ds) y = a_def x (ps ++ y ∷ []) (snoc (exprs d ds) least_name) false
 
+-- what a place inside a statement or a header is completed to
 abbrev pub form : Place → ℕ → Form
 form (Reading r s) l = resumed r (expression.finished s) l
 form (Matching e last cs s) l = a_header true (a_case e last cs (pattern.finished s) None)
@@ -140,6 +143,7 @@ form (MatchBlock e last) l = a_match e last
 abbrev pub header_suite : Bool → Span → Suite
 header_suite inline n = suite n.first n.last inline (pass_line n.last)
 
+-- the module that comes of it, with the open suites ended
 abbrev pub complete : Form → Span → SuiteStack → Stmts
 complete (a_statement k e) n b = ending n.last b n.begun n.last k e
 complete (a_header inline o) n b =
@@ -147,6 +151,7 @@ complete (a_header inline o) n b =
 complete (a_match e header_last) n b =
     ending n.last b n.begun n.last (chosen n.last e header_last no_cases) no_end
 
+-- the least module of a state
 abbrev pub finished : State → Stmts
 finished (Line b) = closing 0 b
 finished (at p n b) = complete (form p n.last) n b
@@ -154,9 +159,10 @@ finished (After k first last b) = ending last b first last (ended last k) no_end
 finished (Choosing e header_last cs first b) = ending 0 b first 0 (chosen 0 e header_last cs) no_end
 finished (Over ss) = ss
 
--- its height, and how many suites stand inside each other
+-- its height
 abbrev pub least_height : State → ℕ
 least_height s = stmts_height (finished s)
 
+-- how many of its suites stand inside each other
 abbrev pub least_nesting : State → ℕ
 least_nesting s = stmts_nesting (finished s)

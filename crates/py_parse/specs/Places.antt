@@ -25,10 +25,12 @@ use Rattle.py_statements.specs.Machine.{State, step}
 
 -- ---- places after parts
 
+-- the place after so many tokens
 abbrev pub kinds_past : List Kind → ℕ → ℕ
 kinds_past [] p = p
 kinds_past (k ∷ ks) p = kinds_past ks (suc p)
 
+-- the header of a `def`
 abbrev pub def_head : Text → List Text → Exprs → Bool → List Kind
 def_head x ps ds c =
     Word word.Def ∷ Name x ∷ Sign mark.LeftParen
@@ -38,37 +40,45 @@ def_head x ps ds c =
 abbrev pub match_head : Expr → List Kind
 match_head e = tokens e (Sign mark.Colon ∷ [])
 
--- The place after the header of a part that begins at a place. That of a `match` ends where its
--- block begins.
+-- the place after the header of an `if` that begins at a place
 abbrev pub after_arm : Expr → ℕ → ℕ
 after_arm t p = kinds_past (test_head word.If t) p
 
+-- after the header of a `while`
 abbrev pub after_while : Expr → ℕ → ℕ
 after_while t p = kinds_past (test_head word.While t) p
 
+-- after the header of a `for`
 abbrev pub after_for : Expr → Expr → ℕ → ℕ
 after_for t e p = kinds_past (for_head t e) p
 
+-- after the header of a `try`
 abbrev pub after_try : ℕ → ℕ
 after_try p = suc (suc p)
 
+-- after the header of an `except` clause
 abbrev pub after_clause : Option Expr → Option Text → ℕ → ℕ
 after_clause e x p = kinds_past (except_tokens e x) p
 
+-- after the header of a `def`
 abbrev pub after_def : Text → List Text → Exprs → Bool → ℕ → ℕ
 after_def x ps ds c p = kinds_past (def_head x ps ds c) p
 
+-- after the header of a `match`, where its block begins
 abbrev pub after_match : Expr → ℕ → ℕ
 after_match e p = suc (suc (kinds_past (match_head e) (suc p)))
 
+-- after the header of a case
 abbrev pub after_case : Pattern → Option Expr → ℕ → ℕ
 after_case c g p = kinds_past (Name case_name ∷ pattern_tokens c (guard_tokens g)) p
 
 abbrev mutual
+  -- the place after statements in a row
   pub stmts_past : Stmts → ℕ → ℕ
   stmts_past no_stmts p = p
   stmts_past (stmt first last k e ss) p = stmts_past ss (kinds_past (end_tokens e) (kind_past k p))
 
+  -- after a statement
   pub kind_past : StmtKind → ℕ → ℕ
   kind_past (expr e) p = kinds_past (kinds_marked (kind_tokens (expr e) [])) p
   kind_past (assign ts e) p = kinds_past (kinds_marked (kind_tokens (assign ts e) [])) p
@@ -90,28 +100,34 @@ abbrev mutual
   kind_past (def x ps ds c b) p = suite_past b (after_def x ps ds c p)
   kind_past (match e last cs) p = suc (cases_past cs (after_match e p))
 
+  -- after a suite
   pub suite_past : Suite → ℕ → ℕ
   suite_past (suite first last true b) p = stmts_past b p
   suite_past (suite first last false b) p = suc (stmts_past b (suc (suc p)))
 
+  -- after the suite of an `else` or a `finally`, where there is one
   pub opt_past : OptSuite → ℕ → ℕ
   opt_past no_suite p = p
   opt_past (has_suite s) p = suite_past s (suc (suc p))
 
+  -- after tests with their suites
   pub arms_past : Arms → ℕ → ℕ
   arms_past no_arms p = p
   arms_past (arm t b arms) p = arms_past arms (suite_past b (after_arm t p))
 
+  -- after the clauses of a `try`
   pub clauses_past : Clauses → ℕ → ℕ
   clauses_past no_clauses p = p
   clauses_past (clause e x b cs) p = clauses_past cs (suite_past b (after_clause e x p))
 
+  -- after the cases of a `match`
   pub cases_past : Cases → ℕ → ℕ
   cases_past no_cases p = p
   cases_past (case c g b cs) p = cases_past cs (suite_past b (after_case c g p))
 
 -- ---- the first and last lines of the token at each place
 
+-- the first and the last line of the token at each place
 pub record Source : Type 0 where
   pub first : ℕ → ℕ
   pub last : ℕ → ℕ
@@ -138,6 +154,7 @@ abbrev mutual
       stmt (src.first p) (last_before src (kind_past k p)) (relined_kind src k p) e
       (relined src ss (kinds_past (end_tokens e) (kind_past k p)))
 
+  -- a statement
   pub relined_kind : Source → StmtKind → ℕ → StmtKind
   relined_kind src (expr e) p = expr e
   relined_kind src (assign ts e) p = assign ts e
@@ -177,22 +194,26 @@ abbrev mutual
   relined_suite src (suite first last false b) h p =
       suite (src.first h) (last_before src p) false (relined src b (suc (suc p)))
 
+  -- the suite of an `else` or a `finally`, where there is one
   pub relined_opt : Source → OptSuite → ℕ → OptSuite
   relined_opt src no_suite p = no_suite
   relined_opt src (has_suite s) p = has_suite (relined_suite src s p (suc (suc p)))
 
+  -- tests with their suites
   pub relined_arms : Source → Arms → ℕ → Arms
   relined_arms src no_arms p = no_arms
   relined_arms src (arm t b arms) p =
       arm t (relined_suite src b p (after_arm t p))
       (relined_arms src arms (suite_past b (after_arm t p)))
 
+  -- the clauses of a `try`
   pub relined_clauses : Source → Clauses → ℕ → Clauses
   relined_clauses src no_clauses p = no_clauses
   relined_clauses src (clause e x b cs) p =
       clause e x (relined_suite src b p (after_clause e x p))
       (relined_clauses src cs (suite_past b (after_clause e x p)))
 
+  -- the cases of a `match`
   pub relined_cases : Source → Cases → ℕ → Cases
   relined_cases src no_cases p = no_cases
   relined_cases src (case c g b cs) p =

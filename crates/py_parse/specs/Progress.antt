@@ -18,11 +18,11 @@ use Rattle.py_syntax.specs.Headers.{Marked, marked}
 use Rattle.py_syntax.specs.Spelling.{HEIGHT, NESTING}
 use Rattle.py_parse.specs.declared.error.SyntaxError.{SyntaxError}
 use Rattle.py_parse.specs.declared.progress.Progress.{Progress}
-use Rattle.py_statements.specs.declared.purposes.Continuation as held_continuation
-use Rattle.py_statements.specs.declared.places.State as held_state
+use Rattle.py_statements.specs.declared.purposes.Continuation as code_continuation
+use Rattle.py_statements.specs.declared.places.State as code_state
 use Rattle.py_statements.specs.declared.suite_of.PartialMatch.{PartialMatch}
-use Rattle.py_statements.specs.declared.suite_stack.Span as held_span
-use Rattle.py_statements.specs.declared.suite_stack.SuiteStack as held_suites
+use Rattle.py_statements.specs.declared.suite_stack.Span as code_span
+use Rattle.py_statements.specs.declared.suite_stack.SuiteStack as code_suites
 use Rattle.py_statements.specs.Open.{SuiteStack}
 use Rattle.py_statements.specs.Machine.{Continuation, Span, State, begun, onward, begin_expr}
 use Rattle.py_statements.specs.Machine.{begin_case, act, step}
@@ -79,12 +79,13 @@ abbrev pub MatchesFrom : List PToken → ℕ → Expr → ℕ → Cases → Span
 MatchesFrom ts place e l cs n b =
     Turns ts place (λ t o. o ≡ act (begin_case e l cs) n b (bare_token t) (first_of t) (last_of t))
 
--- the last line of the token at a place, and of the one before a place
+-- the last line of the token at a place
 abbrev pub last_there : List PToken → ℕ → ℕ
 last_there [] place = 0
 last_there (t ∷ ts) zero = last_of t
 last_there (t ∷ ts) (suc place) = last_there ts place
 
+-- the last line of the token before a place
 abbrev pub line_before : List PToken → ℕ → ℕ
 line_before ts zero = 0
 line_before ts (suc place) = last_there ts place
@@ -104,25 +105,26 @@ pub record Resumes (ts : List PToken) (place next : ℕ) (o : GoingOn) (n : Span
 -- ---- of what the code holds
 
 -- the token at the place makes that state of the machine's, or none
-abbrev pub Takes : List Token → ℕ → Option held_state.State → Type 0
+abbrev pub Takes : List Token → ℕ → Option code_state.State → Type 0
 Takes ts place s = Turns (view_tokens ts) place (λ t o. o ≡ option_map view_state s)
 
--- an expression begins there, or the pattern of a `case`
+-- an expression begins at the token of a place
 abbrev pub ReadsThere :
-    List Token → ℕ → held_continuation.Continuation → held_span.Span → held_suites.SuiteStack
+    List Token → ℕ → code_continuation.Continuation → code_span.Span → code_suites.SuiteStack
     → Type 0
 ReadsThere ts place r n b =
     ReadsFrom (view_tokens ts) place (view_continuation r) (view_span n) (view_suites b)
 
+-- a pattern begins at the token of a place
 abbrev pub MatchesThere :
-    List Token → ℕ → Box PartialMatch Global → held_span.Span → held_suites.SuiteStack → Type 0
+    List Token → ℕ → Box PartialMatch Global → code_span.Span → code_suites.SuiteStack → Type 0
 MatchesThere ts place c n b =
     MatchesFrom (view_tokens ts) place (plain_expr c.value.subject) c.value.header_last
     (plain_cases c.value.cases.items) (view_span n) (view_suites b)
 
 -- after an expression or a pattern that begins there, the statement goes on so at the later place
 abbrev pub ResumesBy :
-    List Token → ℕ → ℕ → Continuing → held_span.Span → held_suites.SuiteStack → Type 0
+    List Token → ℕ → ℕ → Continuing → code_span.Span → code_suites.SuiteStack → Type 0
 ResumesBy ts place next way n b =
     Resumes (view_tokens ts) place next (λ m k l. way m (view_suites b) k l) (view_span n)
 

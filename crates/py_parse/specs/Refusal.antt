@@ -37,10 +37,11 @@ NestsWithin front =
     (m : Stmts) × (more : List Marked) × IsNormal m × (module_tokens m ≡ front ++ more)
     × (stmts_nesting m ≤ NESTING)
 
--- too deep because of its suites, or else because of its expressions and patterns
+-- too deep because of its suites
 abbrev pub HasDeepSuites : List PToken → ℕ → Type 0
 HasDeepSuites ts place = IsTooDeep ts place × NestsTooDeep (front (place + 1) ts)
 
+-- too deep because of its expressions and patterns
 abbrev pub HasDeepExpressions : List PToken → ℕ → Type 0
 HasDeepExpressions ts place = IsTooDeep ts place × NestsWithin (front (place + 1) ts)
 

@@ -1,10 +1,3 @@
-pub mod ExprLimits
-pub mod ExprClasses
-pub mod Budgets
-pub mod ExprNodes
-pub mod ExprFrames
-pub mod ExprSteps
-pub mod ExprStrings
-pub mod ExprFields
-pub mod ExprReader
-pub mod ExprWhole
+pub mod Least
+pub mod Exact
+pub mod View

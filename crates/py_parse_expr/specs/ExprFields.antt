@@ -38,6 +38,7 @@ takes_string (AfterIsNot a ls k) = false
 takes_string (Linked a ls k) = false
 takes_string s = true
 
+-- a token that is no f-string
 abbrev pub NoFString : Kind → Type 0
 NoFString (FString ps) = ⊥
 NoFString t = Unit {0}
@@ -77,6 +78,7 @@ AreParts limit o (Err unread_.TooDeep) = (qs : Parts) → o ≡ Some qs → limi
 abbrev pub IsHigh : ℕ → Out → Type 0
 IsHigh limit o = (n : State) × (o ≡ Next n) × (limit < least n)
 
+-- every expression after the token is too high, or none goes on with it
 abbrev pub IsHighIf : Bool → ℕ → Out → Type 0
 IsHighIf true limit o = IsHigh limit o
 IsHighIf false limit o = o ≡ Stuck
@@ -87,6 +89,7 @@ abbrev pub GoesTo : Out → ℕ → Stack → Kind → Turn → Type 0
 GoesTo o limit s t turn_.Deep = IsHighIf (has_spelled_fields t) limit o
 GoesTo o limit s t turn = TurnsTo o limit s turn
 
+-- the same, where memory lasts
 abbrev pub Goes : Out → ℕ → Stack → Kind → Result Turn AllocError → Type 0
 Goes o limit s t (Ok turn) = GoesTo o limit s t turn
 Goes o limit s t (Err e) = Unit {0}

@@ -11,6 +11,7 @@ use Rattle.py_parse_expr.specs.declared.exprs.ExprPart.TheVariants as part_
 use Rattle.py_grammar.specs.Machine.{Goal, any, one, target, start}
 use Rattle.py_grammar.specs.Reading.{Unexpected, TooDeep, Reads, EndsAt}
 
+-- what the whole is to be
 abbrev pub goal_of : ExprPart → Goal
 goal_of part_.Any = any
 goal_of part_.One = one

@@ -9,13 +9,13 @@
 use Rattle.std.specs.Prelude.{◌≡◌, ℕ, suc, ◌≤◌, true, false, cond, List, [], ◌∷◌, length, reverse, Option, Some, None}
 use Rattle.py_syntax.specs.Spelling.{HEIGHT}
 use Rattle.py_syntax.specs.Tree.{Expr, none, Exprs, no_exprs, exprs}
-use Rattle.py_syntax.specs.Normal.{Level, LEnd, LExprs, LExpr, LOr, LAnd, LNot, LCmp, LSum, LTerm, LUnary, LPost}
+use Rattle.py_syntax.specs.Normal.{Precedence, LEnd, LExprs, LExpr, LOr, LAnd, LNot, LCmp, LSum, LTerm, LUnary, LPost}
 use Rattle.py_syntax.specs.View.{plain_expr}
-use Rattle.py_parse_expr.specs.declared.expr_classes.Precedence.{Precedence}
+use Rattle.py_parse_expr.specs.declared.expr_classes.Precedence as code_precedence
 use Rattle.py_parse_expr.specs.declared.expr_nodes.Row.{Row}
-use Rattle.py_parse_expr.specs.declared.expr_stack.Goal as held_goal
+use Rattle.py_parse_expr.specs.declared.expr_stack.Goal as code_goal
 use Rattle.py_parse_expr.specs.declared.expr_stack.Goal.TheVariants as goal_
-use Rattle.py_parse_expr.specs.declared.expr_stack.Frame as held_frame
+use Rattle.py_parse_expr.specs.declared.expr_stack.Frame as code_frame
 use Rattle.py_parse_expr.specs.declared.expr_stack.Frame.TheVariants as frame_
 use Rattle.py_parse_expr.specs.declared.expr_stack.HeightBudget.{HeightBudget}
 use Rattle.py_parse_expr.specs.declared.expr_stack.OpenFrame.{OpenFrame}
@@ -25,15 +25,17 @@ use Rattle.py_grammar.specs.Least.{wants}
 use Rattle.py_grammar.specs.Budgets.{budget}
 use Rattle.py_parse_expr.specs.ExprViews.{view_precedence, view_operator, view_measured, view_row, view_entries, view_links, view_opener, view_bound, IsMeasured, AreMeasured, AreEntries, IsChain, ValidOpener, ValidBound}
 
--- the first of some items, and the others
+-- the first of some items
 abbrev pub head_of : Exprs → Expr
 head_of no_exprs = none
 head_of (exprs e es) = e
 
+-- the items after the first
 abbrev pub tail_of : Exprs → Exprs
 tail_of no_exprs = no_exprs
 tail_of (exprs e es) = es
 
+-- there is an item
 abbrev pub AreSome : Exprs → Type 0
 AreSome no_exprs = ⊥
 AreSome (exprs e es) = Unit {0}
@@ -43,17 +45,20 @@ pub record ValidItems (r : Row) : Type 0 where
   pub are : AreMeasured r
   pub some : AreSome (view_row r)
 
-abbrev pub view_goal : held_goal.Goal → Goal
+-- what the whole is to be
+abbrev pub view_goal : code_goal.Goal → Goal
 view_goal goal_.Any = any
 view_goal goal_.One = one
 view_goal goal_.Target = target
 view_goal (goal_.Targets r) = targets (head_of (view_row r)) (tail_of (view_row r))
 
-abbrev pub ValidGoal : held_goal.Goal → Type 0
+-- what is kept beside its trees is so
+abbrev pub ValidGoal : code_goal.Goal → Type 0
 ValidGoal (goal_.Targets r) = ValidItems r
 ValidGoal g = Unit {0}
 
-abbrev pub view_frame : held_frame.Frame → Frame
+-- one frame
+abbrev pub view_frame : code_frame.Frame → Frame
 view_frame frame_.ExprsFirst = exprs_first
 view_frame (frame_.ExprsRest r) = exprs_rest (head_of (view_row r)) (tail_of (view_row r))
 view_frame frame_.CondFirst = cond_first
@@ -74,7 +79,8 @@ view_frame frame_.InParen = in_paren
 view_frame (frame_.InKey ps) = in_key (view_entries ps)
 view_frame (frame_.InValue ps key) = in_value (view_entries ps) (view_measured key)
 
-abbrev pub ValidFrame : held_frame.Frame → Type 0
+-- what is kept beside its trees is so
+abbrev pub ValidFrame : code_frame.Frame → Type 0
 ValidFrame (frame_.ExprsRest r) = ValidItems r
 ValidFrame (frame_.CondTest b) = IsMeasured b
 ValidFrame (frame_.CondElse b t) = IsMeasured b × IsMeasured t
@@ -95,7 +101,7 @@ pub record IsBudget (limit : ℕ) (k : Ctx) (r : HeightBudget) : Type 0 where
   pub wants : r.wants ≡ wants k
 
 -- the budget inside a frame, wherever the other one is that of the place
-abbrev pub IsInside : HeightBudget → held_frame.Frame → HeightBudget → Type 0
+abbrev pub IsInside : HeightBudget → code_frame.Frame → HeightBudget → Type 0
 IsInside outer f inner =
     (limit : ℕ) (k : Ctx) → limit ≤ HEIGHT → IsBudget limit k outer
     → IsBudget limit (on (view_frame f) k) inner
@@ -105,6 +111,7 @@ abbrev pub view_frames : Goal → List OpenFrame → Ctx
 view_frames g [] = Outside g
 view_frames g (h ∷ hs) = on (view_frame h.frame) (view_frames g hs)
 
+-- each frame keeps what is so, and the budget that there is
 abbrev pub ValidFrames : ℕ → Goal → List OpenFrame → Type 0
 ValidFrames limit g [] = Unit {0}
 ValidFrames limit g (h ∷ hs) =
@@ -123,7 +130,7 @@ pub record Valid (limit : ℕ) (s : Stack) : Type 0 where
 
 -- What is open after a tree of the second level, and what holds one: where a tree of the first
 -- level was to begin.
-abbrev pub opened : Level → Level → Ctx → Ctx
+abbrev pub opened : Precedence → Precedence → Ctx → Ctx
 opened lev LEnd k = k
 opened lev LExprs k = upto_exprs lev k
 opened lev LExpr k = upto_cond lev k
@@ -137,16 +144,18 @@ opened lev LUnary k = upto_term lev k
 opened lev LPost k = on post_rest (upto_term lev k)
 
 -- one frame of the level `l` more than those of the looser levels, where one may open
-abbrev pub opened_with : Precedence → Precedence → Precedence → held_frame.Frame → Ctx → Ctx
+abbrev pub opened_with : code_precedence.Precedence → code_precedence.Precedence
+    → code_precedence.Precedence → code_frame.Frame → Ctx → Ctx
 opened_with from looser l f k =
     cond (at_most (view_precedence from) (view_precedence l))
     (on (view_frame f) (opened (view_precedence from) (view_precedence looser) k)) k
 
--- what is open after what may be called, indexed or asked for a name; and in the bracket of a tree
-abbrev pub upto_post : Precedence → Ctx → Ctx
+-- what is open after what may be called, indexed or asked for a name
+abbrev pub upto_post : code_precedence.Precedence → Ctx → Ctx
 upto_post from k = on post_rest (upto_term (view_precedence from) k)
 
-abbrev pub upto_bracket : Precedence → Ctx → Ctx
+-- the same in the bracket of a tree
+abbrev pub upto_bracket : code_precedence.Precedence → Ctx → Ctx
 upto_bracket from k = upto_term (view_precedence from) k
 
 -- the stack with more frames
@@ -154,7 +163,7 @@ abbrev pub Opens : (Ctx → Ctx) → Stack → Stack → Type 0
 Opens added old new = view_stack new ≡ added (view_stack old)
 
 -- the innermost frame, and those round it
-abbrev pub Pops : Option held_frame.Frame → Stack → Stack → Type 0
+abbrev pub Pops : Option code_frame.Frame → Stack → Stack → Type 0
 Pops None old new = view_stack old ≡ Outside (view_goal new.goal)
 Pops (Some f) old new =
     (view_stack old ≡ on (view_frame f) (view_stack new)) × ValidFrame f

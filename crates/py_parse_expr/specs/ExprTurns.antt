@@ -14,20 +14,20 @@ use Rattle.py_syntax.specs.Tree.{dict, Pairs}
 use Rattle.py_syntax.specs.Normal.{LExpr}
 use Rattle.py_syntax.specs.View.{plain_expr}
 use Rattle.py_parse_expr.specs.declared.expr_classes.Precedence.{Precedence}
-use Rattle.py_parse_expr.specs.declared.expr_classes.TokenClass as held_class
+use Rattle.py_parse_expr.specs.declared.expr_classes.TokenClass as code_class
 use Rattle.py_parse_expr.specs.declared.expr_nodes.Chain.{Chain}
 use Rattle.py_parse_expr.specs.declared.expr_nodes.Entries.{Entries}
 use Rattle.py_parse_expr.specs.declared.expr_nodes.Measured.{Measured}
-use Rattle.py_parse_expr.specs.declared.expr_nodes.Opener as held_opener
+use Rattle.py_parse_expr.specs.declared.expr_nodes.Opener as code_opener
 use Rattle.py_parse_expr.specs.declared.expr_nodes.Row.{Row}
-use Rattle.py_parse_expr.specs.declared.expr_stack.Frame as held_frame
-use Rattle.py_parse_expr.specs.declared.expr_stack.Goal as held_goal
+use Rattle.py_parse_expr.specs.declared.expr_stack.Frame as code_frame
+use Rattle.py_parse_expr.specs.declared.expr_stack.Goal as code_goal
 use Rattle.py_parse_expr.specs.declared.expr_stack.HeightBudget.{HeightBudget}
 use Rattle.py_parse_expr.specs.declared.expr_stack.Stack.{Stack}
-use Rattle.py_parse_expr.specs.declared.expr_turns.Progress as held_progress
+use Rattle.py_parse_expr.specs.declared.expr_turns.Progress as code_progress
 use Rattle.py_parse_expr.specs.declared.expr_turns.Progress.TheVariants as progress_
 use Rattle.py_parse_expr.specs.declared.expr_turns.FrameStep.{FrameStep}
-use Rattle.py_parse_expr.specs.declared.expr_turns.FrameStep.TheVariants as met_
+use Rattle.py_parse_expr.specs.declared.expr_turns.FrameStep.TheVariants as frame_step_
 use Rattle.py_parse_expr.specs.declared.expr_turns.Turn.{Turn}
 use Rattle.py_parse_expr.specs.declared.expr_turns.Turn.TheVariants as turn_
 use Rattle.py_grammar.specs.TokenClasses.{TokenClass, t_right_paren, t_right_bracket, t_right_brace}
@@ -36,7 +36,8 @@ use Rattle.py_grammar.specs.Least.{least}
 use Rattle.py_parse_expr.specs.ExprViews.{view_precedence, view_class, view_measured, view_row, view_entries, view_links, view_opener, view_bound, view_strings, IsMeasured, AreMeasured, AreEntries, IsChain, ValidOpener, ValidBound, ValidStrings}
 use Rattle.py_parse_expr.specs.ExprStacks.{head_of, tail_of, ValidItems, view_goal, view_frame, ValidFrame, IsBudget, view_stack, Valid, opened}
 
-abbrev pub view_at : held_progress.Progress → Ctx → State
+-- a place in an expression, with what is open round it
+abbrev pub view_at : code_progress.Progress → Ctx → State
 view_at (progress_.Want l) k = Want (view_precedence l) k
 view_at (progress_.Have t) k = Have (view_measured t) k
 view_at (progress_.Strings ss) k = Strings (view_strings ss) k
@@ -56,7 +57,7 @@ view_at (progress_.AfterIsNot c) k = AfterIsNot (plain_expr c.first.value) (view
 view_at (progress_.Linked c) k = Linked (plain_expr c.first.value) (view_links c) k
 
 -- what is kept beside the trees is so
-abbrev pub ValidAt : held_progress.Progress → Type 0
+abbrev pub ValidAt : code_progress.Progress → Type 0
 ValidAt (progress_.Have t) = IsMeasured t
 ValidAt (progress_.Strings ss) = ValidStrings ss
 ValidAt (progress_.AfterComma r) = ValidItems r
@@ -74,13 +75,13 @@ ValidAt (progress_.Linked c) = IsChain c
 ValidAt p = Unit {0}
 
 -- the answer at each place that has this budget
-abbrev pub IsWithin : HeightBudget → held_progress.Progress → Bool → Type 0
+abbrev pub IsWithin : HeightBudget → code_progress.Progress → Bool → Type 0
 IsWithin b p answer =
     (limit : ℕ) (k : Ctx) → limit ≤ HEIGHT → IsBudget limit k b
     → answer ≡ nat_le (least (view_at p k)) limit
 
 -- the same at the place that a stack has
-abbrev pub is_within : held_progress.Progress → Stack → Bool
+abbrev pub is_within : code_progress.Progress → Stack → Bool
 is_within p s = nat_le (least (view_at p (view_stack s))) s.limit
 
 -- whether the token closes a bracket with items
@@ -93,48 +94,50 @@ closes o t = false
 
 -- What a step makes of the frames from this one on.
 abbrev pub BecomesAs : Out → Ctx → TokenClass → FrameStep → Type 0
-BecomesAs o k t (met_.Next p) = (o ≡ Next (view_at p k)) × ValidAt p
-BecomesAs o k t (met_.Opens f p) =
+BecomesAs o k t (frame_step_.Next p) = (o ≡ Next (view_at p k)) × ValidAt p
+BecomesAs o k t (frame_step_.Opens f p) =
     (o ≡ Next (view_at p (on (view_frame f) k))) × ValidFrame f × ValidAt p
-BecomesAs o k t met_.Stuck = o ≡ Stuck
-BecomesAs o k t (met_.Passes e) = (o ≡ give (view_measured e) k t) × IsMeasured e
+BecomesAs o k t frame_step_.Stuck = o ≡ Stuck
+BecomesAs o k t (frame_step_.Passes e) = (o ≡ give (view_measured e) k t) × IsMeasured e
 
+-- the same, where memory lasts
 abbrev pub Becomes : Out → Ctx → TokenClass → Result FrameStep AllocError → Type 0
 Becomes o k t (Ok m) = BecomesAs o k t m
 Becomes o k t (Err e) = Unit {0}
 
 -- What a frame makes of an expression and a token, whatever is open round it.
-abbrev pub MeetsAs : Measured → held_frame.Frame → held_class.TokenClass → FrameStep → Type 0
+abbrev pub MeetsAs : Measured → code_frame.Frame → code_class.TokenClass → FrameStep → Type 0
 MeetsAs e f t m =
     (k : Ctx) → BecomesAs (give (view_measured e) (on (view_frame f) k) (view_class t))
     k (view_class t) m
 
-abbrev pub Meets : Measured → held_frame.Frame → held_class.TokenClass
+-- the same, where memory lasts
+abbrev pub Meets : Measured → code_frame.Frame → code_class.TokenClass
     → Result FrameStep AllocError → Type 0
 Meets e f t r =
     (k : Ctx) → Becomes (give (view_measured e) (on (view_frame f) k) (view_class t))
     k (view_class t) r
 
 -- What a token makes of a chain of comparisons, whatever is open round it.
-abbrev pub Links : Chain → held_class.TokenClass → Result FrameStep AllocError → Type 0
+abbrev pub Links : Chain → code_class.TokenClass → Result FrameStep AllocError → Type 0
 Links c t r =
     (k : Ctx) → Becomes (step (view_at (progress_.Linked c) k) (view_class t)) k (view_class t) r
 
 -- ---- a step
 
 -- an operand of a level begins in a frame of its own, where a tree of that level may stand
-abbrev pub prefixed : Precedence → held_frame.Frame → Precedence → Ctx → Out
+abbrev pub prefixed : Precedence → code_frame.Frame → Precedence → Ctx → Out
 prefixed from f l k =
     cond (at_most (view_precedence from) (view_precedence l))
     (Next (Want (view_precedence l)
     (on (view_frame f) (opened (view_precedence from) (view_precedence l) k)))) Stuck
 
 -- an expression of a level begins in a frame
-abbrev pub begin_in : held_frame.Frame → Precedence → held_class.TokenClass → Ctx → Out
+abbrev pub begin_in : code_frame.Frame → Precedence → code_class.TokenClass → Ctx → Out
 begin_in f l t k = begin (view_precedence l) (on (view_frame f) k) (view_class t)
 
 -- the token that closes a bracket with items, or one that begins an item
-abbrev pub in_bracket : held_opener.Opener → Row → Bool → held_class.TokenClass → Ctx → Out
+abbrev pub in_bracket : code_opener.Opener → Row → Bool → code_class.TokenClass → Ctx → Out
 in_bracket o r c t k =
     close_items (view_opener o) (view_row r) c k (view_class t)
     (begin LExpr (on (in_items (view_opener o) (view_row r)) k) (view_class t))
@@ -144,7 +147,8 @@ abbrev pub close_dict : Pairs → Bool → Ctx → TokenClass → Out
 close_dict ps c k t_right_brace = Next (Have (dict ps c) (on post_rest k))
 close_dict ps c k t = begin LExpr (on (in_key ps) k) t
 
-abbrev pub in_braces : Entries → Bool → held_class.TokenClass → Ctx → Out
+-- the same of entries in the code
+abbrev pub in_braces : Entries → Bool → code_class.TokenClass → Ctx → Out
 in_braces ps c t k = close_dict (view_entries ps) c k (view_class t)
 
 -- What a step makes that leaves what is open as it is, whatever that is.
@@ -154,12 +158,13 @@ StaysAs o turn_.Stuck = (k : Ctx) → o k ≡ Stuck
 StaysAs o turn_.Deep = ⊥
 StaysAs o (turn_.Left t) = ((k : Ctx) → o k ≡ Left (view_measured t)) × IsMeasured t
 
+-- the same, where memory lasts
 abbrev pub Stays : (Ctx → Out) → Result Turn AllocError → Type 0
 Stays o (Ok t) = StaysAs o t
 Stays o (Err e) = Unit {0}
 
 -- What the end of the outermost expression makes.
-abbrev pub Leaves : Measured → held_goal.Goal → held_class.TokenClass
+abbrev pub Leaves : Measured → code_goal.Goal → code_class.TokenClass
     → Result Turn AllocError → Type 0
 Leaves e g t r = Stays (λ k. leave (view_measured e) (view_goal g) (view_class t)) r
 
@@ -170,6 +175,7 @@ ActsAs o limit s turn_.Stuck = o ≡ Stuck
 ActsAs o limit s turn_.Deep = ⊥
 ActsAs o limit s (turn_.Left t) = (o ≡ Left (view_measured t)) × IsMeasured t
 
+-- the same, where memory lasts
 abbrev pub Acts : Out → ℕ → Stack → Result Turn AllocError → Type 0
 Acts o limit s (Ok t) = ActsAs o limit s t
 Acts o limit s (Err e) = Unit {0}
@@ -179,7 +185,7 @@ abbrev pub Moves : (Ctx → Out) → Stack → Stack → Result Turn AllocError 
 Moves o old new r = Acts (o (view_stack old)) old.limit new r
 
 -- What a token makes of a place in an expression, whatever its height.
-abbrev pub Steps : held_progress.Progress → held_class.TokenClass → Stack → Stack
+abbrev pub Steps : code_progress.Progress → code_class.TokenClass → Stack → Stack
     → Result Turn AllocError → Type 0
 Steps p t old new r = Acts (step (view_at p (view_stack old)) (view_class t)) old.limit new r
 
@@ -192,12 +198,13 @@ TurnsTo o limit s turn_.Stuck = o ≡ Stuck
 TurnsTo o limit s turn_.Deep = (n : State) × (o ≡ Next n) × (limit < least n)
 TurnsTo o limit s (turn_.Left t) = (o ≡ Left (view_measured t)) × IsMeasured t
 
+-- the same, where memory lasts
 abbrev pub Turns : Out → ℕ → Stack → Result Turn AllocError → Type 0
 Turns o limit s (Ok t) = TurnsTo o limit s t
 Turns o limit s (Err e) = Unit {0}
 
 -- What a token makes of a place in an expression, within the limit.
-abbrev pub StepsWithin : held_progress.Progress → held_class.TokenClass → Stack → Stack
+abbrev pub StepsWithin : code_progress.Progress → code_class.TokenClass → Stack → Stack
     → Result Turn AllocError → Type 0
 StepsWithin p t old new r =
     Turns (step (view_at p (view_stack old)) (view_class t)) old.limit new r

@@ -4,8 +4,8 @@ ghost use Rattle.std.specs.Prelude.{◌≡◌, IfOk};
 ghost use Rattle.py_token.specs.View.{view_kind};
 ghost use Rattle.py_syntax.specs.Kinds.{bare_kind};
 ghost use Rattle.py_syntax.specs.Normal.{rank};
-ghost use Rattle.py_grammar.specs.TokenClasses.{operator_level, operator_right, begins};
-ghost use Rattle.py_grammar.specs.Machine.{at_most, same_level, class};
+ghost use Rattle.py_grammar.specs.TokenClasses.{operator_precedence, operator_right, begins};
+ghost use Rattle.py_grammar.specs.Machine.{at_most, same_precedence, class};
 ghost use Rattle.py_parse_fields.specs.Frames as bare_;
 ghost use Rattle.py_parse_expr.specs.ExprViews.{view_precedence, view_operator, view_class, word_class, mark_class, plain_class, symbol_class};
 
@@ -91,7 +91,7 @@ impl Precedence {
     }
 
     pub fn is(self, other: Precedence) -> bool
-        ensures { result ≡ same_level (view_precedence self) (view_precedence other) }
+        ensures { result ≡ same_precedence (view_precedence self) (view_precedence other) }
     {
         self.rank() == other.rank()
     }
@@ -100,7 +100,7 @@ impl Precedence {
 impl BinaryOperator {
     /// The level of its trees.
     pub fn precedence(self) -> Precedence
-        ensures { view_precedence result ≡ operator_level (view_operator self) }
+        ensures { view_precedence result ≡ operator_precedence (view_operator self) }
     {
         match self {
             BinaryOperator::Or => Precedence::Or,
@@ -143,7 +143,7 @@ fn word_class(word: Keyword) -> TokenClass
     }
 }
 
-fn held_operator(operator: token_classes::BinaryOperator) -> BinaryOperator
+fn operator_of(operator: token_classes::BinaryOperator) -> BinaryOperator
     ensures { view_operator result ≡ bare_.view_operator operator }
 {
     match operator {
@@ -170,7 +170,7 @@ fn symbol(class: token_classes::TokenClass) -> TokenClass
         token_classes::TokenClass::Else => TokenClass::Else,
         token_classes::TokenClass::Compare(op) => TokenClass::Compare(op),
         token_classes::TokenClass::BinaryOperator(operator) => {
-            TokenClass::BinaryOperator(held_operator(operator))
+            TokenClass::BinaryOperator(operator_of(operator))
         }
         token_classes::TokenClass::Comma => TokenClass::Comma,
         token_classes::TokenClass::Colon => TokenClass::Colon,
@@ -224,12 +224,23 @@ impl TokenClass {
             TokenClass::Str(_) => true,
             TokenClass::Format(_) => true,
             TokenClass::Not => true,
+            TokenClass::Is => false,
+            TokenClass::If => false,
+            TokenClass::Else => false,
+            TokenClass::Compare(_) => false,
             TokenClass::BinaryOperator(BinaryOperator::Op(BinOp::Add)) => true,
             TokenClass::BinaryOperator(BinaryOperator::Op(BinOp::Sub)) => true,
+            TokenClass::BinaryOperator(_) => false,
+            TokenClass::Comma => false,
+            TokenClass::Colon => false,
+            TokenClass::Dot => false,
             TokenClass::LeftParen => true,
+            TokenClass::RightParen => false,
             TokenClass::LeftBracket => true,
+            TokenClass::RightBracket => false,
             TokenClass::LeftBrace => true,
-            _ => false,
+            TokenClass::RightBrace => false,
+            TokenClass::Other => false,
         }
     }
 }

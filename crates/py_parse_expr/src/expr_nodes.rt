@@ -10,12 +10,12 @@ ghost use Rattle.py_grammar.specs.Machine.{snoc, snoc_pair, snoc_link, made};
 ghost use Rattle.py_parse_expr.specs.ExprViews.{view_operator, view_measured, view_row, view_entries, view_links, view_opener, view_bound, capped, IsMeasured, AreMeasured, AreEntries, IsChain, ValidOpener, ValidBound, Makes};
 
 use crate::expr_classes::BinaryOperator;
-use py_syntax::{Comparison, Expr, FormatPart, Fragment, Link, Pair, Sign};
+use py_syntax::{Comparison, Expr, FormatPart, Fragment, HEIGHT_LIMIT, Link, Pair, Sign};
 use py_value::{NoMemory, Text};
 use std::alloc::Global;
 
 /// The greatest height that is told from greater ones.
-const CAP: usize = 201;
+const CAP: usize = HEIGHT_LIMIT + 1;
 
 /// An expression, its height, and whether it has the form of a target. It stands in a box, so that
 /// it moves at little cost.

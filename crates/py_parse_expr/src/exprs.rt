@@ -14,7 +14,7 @@ use crate::expr_fields::{has_spelled_fields, turn};
 use crate::expr_stack::{Goal, Stack};
 use crate::expr_turns::{Progress, Turn};
 use py_grammar::ReadError;
-use py_syntax::Expr;
+use py_syntax::{Expr, HEIGHT_LIMIT};
 use py_token::{Token, TokenKind};
 use std::alloc::Global;
 
@@ -34,9 +34,6 @@ pub struct ExprRead {
     pub expr: Box<Expr>,
     pub next: usize,
 }
-
-/// The greatest height of an expression.
-const HEIGHT_LIMIT: usize = 200;
 
 fn goal(part: ExprPart) -> Goal
     ensures view { view_goal result ≡ goal_of part }

@@ -6,13 +6,13 @@ use Rattle.py_syntax.specs.Tree as tree_
 use Rattle.py_syntax.specs.Kinds.{Kind, FString, Pieces, no_pieces, chars_piece, field_piece, Kinds, kinds}
 use Rattle.py_grammar.specs.TokenClasses.{TokenClass, t_format, t_bad_format, joined}
 use Rattle.py_grammar.specs.Machine.{snoc, snoc_link, any, one, target, targets, a_call, a_list, exprs_first, exprs_rest, cond_first, cond_test, cond_else, first, right, not_of, compare_first, compare_rest, unary_of, post_rest, in_items, index_first, in_index, slice_to, in_paren, in_key, in_value, Ctx, Outside, on, State, Want, Have, Strings, AfterOpen, AfterComma, AfterTarget, ItemsOpen, ItemsComma, DictOpen, DictComma, IndexOpen, SliceColon, AfterDot, AfterNot, AfterIs, AfterIsNot, Linked, Out, Next, Stuck, Left, leave, give, step, start, format_class, class, parts, field_expr}
-use Rattle.py_parse_fields.specs.declared.token_classes.TokenClass as held_class
+use Rattle.py_parse_fields.specs.declared.token_classes.TokenClass as code_class
 use Rattle.py_parse_fields.specs.declared.reader.Reader.{Reader}
 use Rattle.py_parse_fields.specs.declared.reader.Turn.{Turn}
 use Rattle.py_parse_fields.specs.Frames.{bare_class, view_class}
 use Rattle.py_parse_fields.specs.Reader.{view_reader, view_turn, Acts}
 use Rattle.py_parse_fields.specs.Order.{shallow, formats, each_spelled, weight, field_weight, kind_weight, load}
-use Rattle.py_grammar.proofs.Spelled.{field_after}
+use Rattle.py_grammar.proofs.Sound.Spelled.{field_after}
 use Rattle.py_parse_fields.proofs.TokenClasses.{same_step}
 use Rattle.std.proofs.Common.{drop, length, get_or}
 use Rattle.std.proofs.lemmas.List.{append-nil, at_drop_more}
@@ -27,7 +27,7 @@ use Rattle.py_token.proofs.Views.{plain-field}
 use Rattle.py_syntax.specs.Normal.{LExprs}
 use Rattle.py_syntax.specs.Tree.{text}
 use Rattle.py_syntax.specs.Kinds.{bare_kind, bare_pieces}
-use Rattle.py_parse_fields.specs.declared.frames.Frame as held_frame
+use Rattle.py_parse_fields.specs.declared.frames.Frame as code_frame
 use Rattle.py_parse_fields.specs.Frames.{view_stack}
 use Rattle.py_parse_fields.specs.Order.{plain_pieces, waiting_of, Waits, Asks, FieldSoFar, PiecesSoFar}
 use Rattle.py_parse_fields.proofs.Runs.{row, goes_as, next_row, plain-chars, mapped, with_field}
@@ -149,7 +149,7 @@ waits_goes r (FString ps) ts turn acts added = format_goes r ps (parts ps) ts tu
 waits_goes r t ts turn acts added = plain_goes r t ts turn acts added
 
 -- what is told in front of a token is told after it
-pub token_told : (r : Reader) (t : Kind) (ts : Kinds) (class : held_class.TokenClass) (turn : Turn) (all : Bool) (added : List Pieces) → bare_class (shallow t) ≡ view_class class → Acts (step (view_reader r) (view_class class)) (Ok turn) → all ≡ (is_some (field_expr (view_reader r) (kinds t ts)) && each_spelled added) → all ≡ (is_some (field_after (view_turn turn) ts) && each_spelled (added ++ formats t))
+pub token_told : (r : Reader) (t : Kind) (ts : Kinds) (class : code_class.TokenClass) (turn : Turn) (all : Bool) (added : List Pieces) → bare_class (shallow t) ≡ view_class class → Acts (step (view_reader r) (view_class class)) (Ok turn) → all ≡ (is_some (field_expr (view_reader r) (kinds t ts)) && each_spelled added) → all ≡ (is_some (field_after (view_turn turn) ts) && each_spelled (added ++ formats t))
 token_told r t ts class turn all added is acts same =
     same
     ∙ waits_goes r t ts turn (subst (λ (x : TokenClass). Acts (step (view_reader r) x) (Ok turn)) (sym is) acts) added
@@ -161,10 +161,10 @@ formats_load t = refl
 
 -- ---- the tokens of a field
 
-pub field_begins : (fs : List held_frame.Frame) (old : List Pieces) (ks : Kinds) → fs ≡ [] → FieldSoFar (is_some (field_expr (start any) ks)) (field_weight ks + 1) old old (Want LExprs (view_stack fs)) ks
-field_begins fs old ks is = subst (λ (gs : List held_frame.Frame). FieldSoFar (is_some (field_expr (start any) ks)) (field_weight ks + 1) old old (Want LExprs (view_stack gs)) ks) (sym is) record { added = []; waits = sym (append-nil old); is = sym (and_true (is_some (field_expr (start any) ks))); few = omega arith }
+pub field_begins : (fs : List code_frame.Frame) (old : List Pieces) (ks : Kinds) → fs ≡ [] → FieldSoFar (is_some (field_expr (start any) ks)) (field_weight ks + 1) old old (Want LExprs (view_stack fs)) ks
+field_begins fs old ks is = subst (λ (gs : List code_frame.Frame). FieldSoFar (is_some (field_expr (start any) ks)) (field_weight ks + 1) old old (Want LExprs (view_stack gs)) ks) (sym is) record { added = []; waits = sym (append-nil old); is = sym (and_true (is_some (field_expr (start any) ks))); few = omega arith }
 
-pub field_next : (ts : List Token) (i : ℕ) (t : Token) (r : Reader) (class : held_class.TokenClass) (turn : Turn) (all : Bool) (bound : ℕ) (old now new : List Pieces) → i < length ts → t ≡ get_or ts i t → Waits (bare_kind (view_kind (out-Token t).kind)) class now new → Acts (step (view_reader r) (view_class class)) (Ok turn) → FieldSoFar all bound old now (view_reader r) (row (drop i ts)) → (added : List Pieces) × (new ≡ old ++ added) × (all ≡ (is_some (field_after (view_turn turn) (row (drop (i + 1) ts))) && each_spelled added)) × (load added + field_weight (row (drop (i + 1) ts)) < bound)
+pub field_next : (ts : List Token) (i : ℕ) (t : Token) (r : Reader) (class : code_class.TokenClass) (turn : Turn) (all : Bool) (bound : ℕ) (old now new : List Pieces) → i < length ts → t ≡ get_or ts i t → Waits (bare_kind (view_kind (out-Token t).kind)) class now new → Acts (step (view_reader r) (view_class class)) (Ok turn) → FieldSoFar all bound old now (view_reader r) (row (drop i ts)) → (added : List Pieces) × (new ≡ old ++ added) × (all ≡ (is_some (field_after (view_turn turn) (row (drop (i + 1) ts))) && each_spelled added)) × (load added + field_weight (row (drop (i + 1) ts)) < bound)
 field_next ts i t r class turn all bound old now new h at w acts inv =
     let k = bare_kind (view_kind (out-Token t).kind) in
     let rest = row (drop (i + 1) ts) in

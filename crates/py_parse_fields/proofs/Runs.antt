@@ -12,9 +12,9 @@ use Rattle.py_syntax.specs.Kinds.{Pieces, Kinds, kinds, bare_kind, bare_token, b
 use Rattle.py_grammar.specs.TokenClasses.{TokenClass}
 use Rattle.py_grammar.specs.Machine.{Out, Next, Stuck, Left, step, parts, field_expr}
 use Rattle.py_grammar.specs.Bare.{bare, bare_out}
-use Rattle.py_grammar.proofs.Spelled.{field_after}
-use Rattle.py_grammar.proofs.AlikeSteps.{FreeState, FreeOut, step_free, is_spelled, fields_alike}
-use Rattle.py_parse_fields.specs.declared.frames.Frame as held_frame
+use Rattle.py_grammar.proofs.Sound.Spelled.{field_after}
+use Rattle.py_grammar.proofs.View.AlikeSteps.{FreeState, FreeOut, step_free, is_spelled, fields_alike}
+use Rattle.py_parse_fields.specs.declared.frames.Frame as code_frame
 use Rattle.py_parse_fields.specs.declared.reader.Progress.{Progress}
 use Rattle.py_parse_fields.specs.declared.reader.Progress.TheVariants as progress_
 use Rattle.py_parse_fields.specs.declared.reader.Reader.{Reader}
@@ -32,7 +32,7 @@ next_row ts i t h is = at_drop_more row ts i t h ∙ ap (λ (x : PToken). kinds 
 
 -- ---- no state of the code asks for a target
 
-at_free : (p : Progress) (fs : List held_frame.Frame) → FreeState (view_at p (view_stack fs))
+at_free : (p : Progress) (fs : List code_frame.Frame) → FreeState (view_at p (view_stack fs))
 at_free (progress_.Want l) fs = stack_free fs
 at_free progress_.Have fs = stack_free fs
 at_free progress_.Strings fs = stack_free fs

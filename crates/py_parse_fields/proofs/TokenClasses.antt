@@ -3,7 +3,7 @@ use Rattle.std.proofs.Common.{◌≡◌, Bool, true, false, refl}
 use Rattle.py_syntax.specs.declared.expr.Comparison.TheVariants.{Op}
 use Rattle.py_syntax.specs.Tree.{Expr, tuple, not', unary, compare, Exprs, no_exprs, exprs, no_pairs}
 use Rattle.py_syntax.specs.Tree as tree_
-use Rattle.py_syntax.specs.Normal.{Level, LExprs, LExpr}
+use Rattle.py_syntax.specs.Normal.{Precedence, LExprs, LExpr}
 use Rattle.py_grammar.specs.TokenClasses.{TokenClass, t_name, t_none, t_string, t_format, t_bad_format, t_not, t_is, t_if, t_else, t_compare, t_operator, t_comma, t_colon, t_dot, t_left_paren, t_right_paren, t_left_bracket, t_right_bracket, t_right_brace, t_other, joined}
 use Rattle.py_grammar.specs.Machine.{snoc, snoc_link, strings_of, any, one, target, targets, Opener, a_call, a_list, exprs_first, exprs_rest, cond_first, cond_test, cond_else, first, right, not_of, compare_first, compare_rest, unary_of, post_rest, in_items, index_first, in_index, slice_to, in_paren, in_key, in_value, Ctx, Outside, on, State, Want, Have, Strings, AfterOpen, AfterComma, AfterTarget, ItemsOpen, ItemsComma, DictOpen, DictComma, IndexOpen, SliceColon, AfterDot, AfterNot, AfterIs, AfterIsNot, Linked, Out, Stuck, begin, close_items, give, step}
 use Rattle.py_grammar.specs.Bare.{bare_out}
@@ -64,7 +64,7 @@ same_give e (on (in_key ps) k) t = refl
 same_give e (on (in_value ps key) k) t_comma = refl
 same_give e (on (in_value ps key) k) t = refl
 
-same_begin : (lev : Level) (k : Ctx) (t : TokenClass) → bare_out (begin lev k t) ≡ bare_out (begin lev k (bare_class t))
+same_begin : (lev : Precedence) (k : Ctx) (t : TokenClass) → bare_out (begin lev k t) ≡ bare_out (begin lev k (bare_class t))
 same_begin lev k (t_name x) = refl
 same_begin lev k t = refl
 

@@ -8,19 +8,19 @@ use Rattle.std.specs.Prelude.{◌≡◌, ◌<◌, length, pos, List, [], ◌∷�
 use Rattle.std.specs.Global.{Vec}
 use Rattle.py_syntax.specs.Tree.{no_exprs, no_pairs, no_links, absent}
 use Rattle.py_syntax.specs.Kinds.{End, no_pieces}
-use Rattle.py_syntax.specs.Normal.{Level, LExprs, LExpr, LOr, LAnd, LNot, LCmp, LSum, LTerm, LUnary}
+use Rattle.py_syntax.specs.Normal.{Precedence, LExprs, LExpr, LOr, LAnd, LNot, LCmp, LSum, LTerm, LUnary}
 use Rattle.py_grammar.specs.TokenClasses.{BinaryOperator, b_or, b_and, b_op, TokenClass, t_name, t_int, t_none, t_bool, t_string, t_format, t_bad_format, t_not, t_is, t_if, t_else, t_compare, t_operator, t_comma, t_colon, t_dot, t_left_paren, t_right_paren, t_left_bracket, t_right_bracket, t_left_brace, t_right_brace, t_other}
 use Rattle.py_grammar.specs.Machine.{any, Opener, a_call, a_list, Frame, exprs_first, exprs_rest, cond_first, cond_test, cond_else, first, right, not_of, compare_first, compare_rest, unary_of, post_rest, in_items, index_first, in_index, slice_to, in_paren, in_key, in_value, Ctx, Outside, on}
 use Rattle.py_grammar.specs.Least.{least_name}
-use Rattle.py_parse_fields.specs.declared.token_classes.BinaryOperator as held_operator
+use Rattle.py_parse_fields.specs.declared.token_classes.BinaryOperator as code_operator
 use Rattle.py_parse_fields.specs.declared.token_classes.BinaryOperator.TheVariants as operator_
-use Rattle.py_parse_fields.specs.declared.token_classes.TokenClass as held_class
+use Rattle.py_parse_fields.specs.declared.token_classes.TokenClass as code_class
 use Rattle.py_parse_fields.specs.declared.token_classes.TokenClass.TheVariants as class_
-use Rattle.py_parse_fields.specs.declared.frames.Precedence as held_precedence
+use Rattle.py_parse_fields.specs.declared.frames.Precedence as code_precedence
 use Rattle.py_parse_fields.specs.declared.frames.Precedence.TheVariants as precedence_
-use Rattle.py_parse_fields.specs.declared.frames.Opener as held_opener
+use Rattle.py_parse_fields.specs.declared.frames.Opener as code_opener
 use Rattle.py_parse_fields.specs.declared.frames.Opener.TheVariants as opener_
-use Rattle.py_parse_fields.specs.declared.frames.Frame as held_frame
+use Rattle.py_parse_fields.specs.declared.frames.Frame as code_frame
 use Rattle.py_parse_fields.specs.declared.frames.Frame.TheVariants as frame_
 
 -- a class without the texts, numbers and trees that it holds
@@ -34,12 +34,14 @@ bare_class (t_bad_format ps) = t_bad_format no_pieces
 bare_class (t_other k) = t_other End
 bare_class t = t
 
-abbrev pub view_operator : held_operator.BinaryOperator → BinaryOperator
+-- an operator that joins two operands
+abbrev pub view_operator : code_operator.BinaryOperator → BinaryOperator
 view_operator operator_.Or = b_or
 view_operator operator_.And = b_and
 view_operator (operator_.Op op) = b_op op
 
-abbrev pub view_class : held_class.TokenClass → TokenClass
+-- the class of a token
+abbrev pub view_class : code_class.TokenClass → TokenClass
 view_class class_.Name = t_name []
 view_class class_.Number = t_int (pos 0)
 view_class class_.Constant = t_none
@@ -62,7 +64,8 @@ view_class class_.LeftBrace = t_left_brace
 view_class class_.RightBrace = t_right_brace
 view_class class_.Other = t_other End
 
-abbrev pub view_precedence : held_precedence.Precedence → Level
+-- a level of the grammar
+abbrev pub view_precedence : code_precedence.Precedence → Precedence
 view_precedence precedence_.Exprs = LExprs
 view_precedence precedence_.Expr = LExpr
 view_precedence precedence_.Or = LOr
@@ -73,12 +76,13 @@ view_precedence precedence_.Sum = LSum
 view_precedence precedence_.Term = LTerm
 view_precedence precedence_.Unary = LUnary
 
-abbrev pub view_opener : held_opener.Opener → Opener
+-- what opened a bracket that holds items
+abbrev pub view_opener : code_opener.Opener → Opener
 view_opener opener_.Call = a_call least_name
 view_opener opener_.List = a_list
 
 -- the least trees stand for those that were read
-abbrev pub view_frame : held_frame.Frame → Frame
+abbrev pub view_frame : code_frame.Frame → Frame
 view_frame frame_.ExprsFirst = exprs_first
 view_frame frame_.ExprsRest = exprs_rest least_name no_exprs
 view_frame frame_.CondFirst = cond_first
@@ -99,18 +103,21 @@ view_frame frame_.InParen = in_paren
 view_frame frame_.InKey = in_key no_pairs
 view_frame frame_.InValue = in_value no_pairs least_name
 
-abbrev pub view_open : List held_frame.Frame → Ctx
+-- the frames that are open, the innermost first
+abbrev pub view_open : List code_frame.Frame → Ctx
 view_open [] = Outside any
 view_open (f ∷ fs) = on (view_frame f) (view_open fs)
 
 -- the innermost is the last in the code, and the first in the machine
-abbrev pub view_stack : List held_frame.Frame → Ctx
+abbrev pub view_stack : List code_frame.Frame → Ctx
 view_stack fs = view_open (reverse fs)
 
-abbrev pub Opens : (Ctx → Ctx) → Vec held_frame.Frame → Vec held_frame.Frame → Type 0
+-- more frames are open than were
+abbrev pub Opens : (Ctx → Ctx) → Vec code_frame.Frame → Vec code_frame.Frame → Type 0
 Opens added old new = view_stack new.items ≡ added (view_stack old.items)
 
-abbrev pub Pops : Option held_frame.Frame → List held_frame.Frame → List held_frame.Frame → Type 0
+-- the innermost frame is taken off, where there is one
+abbrev pub Pops : Option code_frame.Frame → List code_frame.Frame → List code_frame.Frame → Type 0
 Pops None old new = old ≡ []
 Pops (Some f) old new =
     (view_stack old ≡ on (view_frame f) (view_stack new)) × (length new < length old)

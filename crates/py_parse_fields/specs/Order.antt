@@ -15,14 +15,16 @@ use Rattle.py_token.specs.Plain.{token_row, piece_row}
 use Rattle.py_token.specs.View.{view_kind, view_tokens, view_pieces}
 use Rattle.py_syntax.specs.Tree.{Expr, no_parts}
 use Rattle.py_syntax.specs.Kinds.{Kind, FString, Pieces, no_pieces, chars_piece, field_piece, Kinds, no_kinds, kinds, bare_kind, bare_tokens, bare_pieces}
-use Rattle.py_parse_fields.specs.declared.token_classes.TokenClass as held_class
+use Rattle.py_parse_fields.specs.declared.token_classes.TokenClass as code_class
 use Rattle.py_grammar.specs.TokenClasses.{TokenClass, t_format}
 use Rattle.py_grammar.specs.Machine.{State, any, start, class, parts, field_expr}
 use Rattle.py_parse_fields.specs.Frames.{bare_class, view_class}
 
+-- the pieces of an f-string
 abbrev pub plain_pieces : List Piece → Pieces
 plain_pieces ps = bare_pieces (piece_row (view_pieces ps))
 
+-- the tokens of a field
 abbrev pub plain_tokens : List Token → Kinds
 plain_tokens ts = bare_tokens (token_row (view_tokens ts))
 
@@ -39,10 +41,12 @@ abbrev pub shallow : Kind → TokenClass
 shallow (FString ps) = t_format no_parts
 shallow t = class t
 
+-- the f-string that a token is, where it is one
 abbrev pub formats : Kind → List Pieces
 formats (FString ps) = ps ∷ []
 formats t = []
 
+-- whether the fields of each f-string are expressions
 abbrev pub each_spelled : List Pieces → Bool
 each_spelled [] = true
 each_spelled (ps ∷ rest) = is_some (parts ps) && each_spelled rest
@@ -54,24 +58,28 @@ abbrev mutual
   weight (chars_piece x ps) = weight ps
   weight (field_piece ks ps) = field_weight ks + weight ps
 
+  -- of a field
   pub field_weight : Kinds → ℕ
   field_weight no_kinds = 0
   field_weight (kinds t ts) = kind_weight t + field_weight ts
 
+  -- of a token
   pub kind_weight : Kind → ℕ
   kind_weight (FString ps) = weight ps
   kind_weight t = 0
 
+-- of f-strings that wait
 abbrev pub load : List Pieces → ℕ
 load [] = 0
 load (ps ∷ rest) = weight ps + load rest
 
 -- A token, where an f-string waits.
-abbrev pub Waits : Kind → held_class.TokenClass → List Pieces → List Pieces → Type 0
+abbrev pub Waits : Kind → code_class.TokenClass → List Pieces → List Pieces → Type 0
 Waits t c old new = (bare_class (shallow t) ≡ view_class c) × (new ≡ old ++ formats t)
 
+-- the same of a token of the program
 abbrev pub WaitsFor : TokenKind → Vec (Bor (List Piece)) → Vec (Bor (List Piece))
-    → held_class.TokenClass → Type 0
+    → code_class.TokenClass → Type 0
 WaitsFor t old new c =
     Waits (bare_kind (view_kind t)) c (waiting_of old.items) (waiting_of new.items)
 

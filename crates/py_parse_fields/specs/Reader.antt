@@ -6,8 +6,8 @@ use Rattle.py_grammar.specs.TokenClasses.{TokenClass}
 use Rattle.py_grammar.specs.Machine.{Frame, Ctx, on, State, Want, Have, Strings, AfterOpen, AfterComma, ItemsOpen, ItemsComma, DictOpen, DictComma, IndexOpen, SliceColon, AfterDot, AfterNot, AfterIs, AfterIsNot, Linked, Out, Next, Stuck, Left, give, step}
 use Rattle.py_grammar.specs.Least.{least_name}
 use Rattle.py_grammar.specs.Bare.{bare_out, Free}
-use Rattle.py_parse_fields.specs.declared.frames.Frame as held_frame
-use Rattle.py_parse_fields.specs.declared.token_classes.TokenClass as held_class
+use Rattle.py_parse_fields.specs.declared.frames.Frame as code_frame
+use Rattle.py_parse_fields.specs.declared.token_classes.TokenClass as code_class
 use Rattle.py_parse_fields.specs.declared.reader.Progress.{Progress}
 use Rattle.py_parse_fields.specs.declared.reader.Progress.TheVariants as progress_
 use Rattle.py_parse_fields.specs.declared.reader.Reader.{Reader}
@@ -17,6 +17,7 @@ use Rattle.py_parse_fields.specs.declared.replies.Reply.{Reply}
 use Rattle.py_parse_fields.specs.declared.replies.Reply.TheVariants as reply_
 use Rattle.py_parse_fields.specs.Frames.{view_class, view_precedence, view_opener, view_frame, view_stack}
 
+-- a place in an expression, with the frames that are open round it
 abbrev pub view_at : Progress → Ctx → State
 view_at (progress_.Want l) k = Want (view_precedence l) k
 view_at progress_.Have k = Have least_name k
@@ -35,9 +36,11 @@ view_at progress_.AfterIs k = AfterIs least_name no_links k
 view_at progress_.AfterIsNot k = AfterIsNot least_name no_links k
 view_at progress_.Linked k = Linked least_name no_links k
 
+-- a reader: its place, and the frames that are open
 abbrev pub view_reader : Reader → State
 view_reader r = view_at r.progress (view_stack r.frames.items)
 
+-- what a token makes of a place
 abbrev pub view_turn : Turn → Out
 view_turn (turn_.Next r) = Next (view_reader r)
 view_turn turn_.Stuck = Stuck
@@ -49,6 +52,7 @@ is_left (Next s) = false
 is_left Stuck = false
 is_left (Left e) = true
 
+-- the same where memory lasts
 abbrev pub Turns : Out → Result Turn AllocError → Type 0
 Turns o (Ok t) = o ≡ bare_out (view_turn t)
 Turns o (Err e) = Unit {0}
@@ -58,15 +62,16 @@ abbrev pub Acts : Out → Result Turn AllocError → Type 0
 Acts o r = Turns (bare_out o) r
 
 -- What a token makes of a place in an expression, with these frames open round it.
-abbrev pub Steps : Progress → List held_frame.Frame → held_class.TokenClass
+abbrev pub Steps : Progress → List code_frame.Frame → code_class.TokenClass
     → Result Turn AllocError → Type 0
 Steps p fs t r = Acts (step (view_at p (view_stack fs)) (view_class t)) r
 
 -- The place that is reached, with frames more than these.
-abbrev pub Reaches : Progress → (Ctx → Ctx) → List held_frame.Frame → Result Turn AllocError
+abbrev pub Reaches : Progress → (Ctx → Ctx) → List code_frame.Frame → Result Turn AllocError
     → Type 0
 Reaches p added fs r = Acts (Next (view_at p (added (view_stack fs)))) r
 
+-- what the answer of a frame makes of what is open round it
 abbrev pub replied : Reply → Ctx → TokenClass → Out
 replied reply_.Pass k t = give least_name k t
 replied reply_.Stuck k t = Stuck

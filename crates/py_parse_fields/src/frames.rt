@@ -2,8 +2,8 @@
 
 ghost use Rattle.std.specs.Prelude.{◌≡◌, cond, IfOk};
 ghost use Rattle.py_syntax.specs.Normal.{rank};
-ghost use Rattle.py_grammar.specs.TokenClasses.{operator_level, operator_right};
-ghost use Rattle.py_grammar.specs.Machine.{on, upto_term, upto_and, at_most, same_level};
+ghost use Rattle.py_grammar.specs.TokenClasses.{operator_precedence, operator_right};
+ghost use Rattle.py_grammar.specs.Machine.{on, upto_term, upto_and, at_most, same_precedence};
 ghost use Rattle.py_parse_fields.specs.Frames.{view_operator, view_precedence, view_frame, Opens, Pops};
 
 use crate::token_classes::BinaryOperator;
@@ -77,15 +77,15 @@ pub fn at_most(one: Precedence, other: Precedence) -> bool
     rank(one) <= rank(other)
 }
 
-pub fn same_level(one: Precedence, other: Precedence) -> bool
-    ensures { result ≡ same_level (view_precedence one) (view_precedence other) }
+pub fn same_precedence(one: Precedence, other: Precedence) -> bool
+    ensures { result ≡ same_precedence (view_precedence one) (view_precedence other) }
 {
     rank(one) == rank(other)
 }
 
 /// The level of an operator's trees.
-pub fn operator_level(operator: BinaryOperator) -> Precedence
-    ensures { view_precedence result ≡ operator_level (view_operator operator) }
+pub fn operator_precedence(operator: BinaryOperator) -> Precedence
+    ensures { view_precedence result ≡ operator_precedence (view_operator operator) }
 {
     match operator {
         BinaryOperator::Or => Precedence::Or,

@@ -2,7 +2,7 @@
 
 ghost use Rattle.std.specs.Prelude.{◌≡◌, Bool, cond};
 ghost use Rattle.py_syntax.specs.Tree.{Exprs, no_exprs, no_pairs, no_links, absent};
-ghost use Rattle.py_grammar.specs.TokenClasses.{operator_level};
+ghost use Rattle.py_grammar.specs.TokenClasses.{operator_precedence};
 ghost use Rattle.py_grammar.specs.TokenClasses as classes_;
 ghost use Rattle.py_grammar.specs.Machine.{exprs_first, exprs_rest, cond_first, cond_test, first, right, compare_first, compare_rest, post_rest, in_items, index_first, in_index, slice_to, in_paren, in_key, in_value, Ctx, on, Have, Out, Next, close_items};
 ghost use Rattle.py_grammar.specs.Bare.{bare_out};
@@ -10,7 +10,9 @@ ghost use Rattle.py_grammar.specs.Least.{least_name};
 ghost use Rattle.py_parse_fields.specs.Frames.{view_precedence, view_frame, view_class, view_opener};
 ghost use Rattle.py_parse_fields.specs.Reader.{Offers};
 
-use crate::frames::{Frame, Opener, Precedence, operator_level, operator_right, same_level};
+use crate::frames::{
+    Frame, Opener, Precedence, operator_precedence, operator_right, same_precedence,
+};
 use crate::reader::Progress;
 use crate::token_classes::TokenClass;
 use py_value::CmpOp;
@@ -28,12 +30,12 @@ pub enum Reply {
 /// After an operand that may be the left one of an operator of that level.
 fn join(precedence: Precedence, class: TokenClass) -> Reply
     ensures first { Offers (first (view_precedence precedence)) (view_class class) result }
-    ensures right { (j : classes_.BinaryOperator) → operator_level j ≡ view_precedence precedence
+    ensures right { (j : classes_.BinaryOperator) → operator_precedence j ≡ view_precedence precedence
         → Offers (right j least_name) (view_class class) result }
 {
     match class {
         TokenClass::BinaryOperator(operator) => {
-            if same_level(precedence, operator_level(operator)) {
+            if same_precedence(precedence, operator_precedence(operator)) {
                 return Reply::Opens(
                     Frame::Right(operator),
                     Progress::Want(operator_right(operator)),
@@ -195,7 +197,7 @@ pub fn offer(frame: Frame, class: TokenClass) -> Reply
         Frame::CondTest => test(class),
         Frame::CondElse => Reply::Pass,
         Frame::First(precedence) => join(precedence, class),
-        Frame::Right(operator) => join(operator_level(operator), class),
+        Frame::Right(operator) => join(operator_precedence(operator), class),
         Frame::NotOf => Reply::Pass,
         Frame::CompareFirst => chain(class),
         Frame::CompareRest(_) => chain(class),

@@ -15,8 +15,8 @@ use Rattle.py_parse_pattern.specs.Machine as machine
 use Rattle.py_syntax.specs.Refusals as any_tree
 use Rattle.py_parse_pattern.specs.Trees.{HasTokens, IsWithin, BeginsPattern, IsPattern, IsUnexpected, IsTooDeep, OnePattern}
 use Rattle.py_parse_pattern.proofs.Sound.{before, Reads, step_reads}
-use Rattle.py_parse_pattern.proofs.NormalStates.{NormalState, Keeps, step_keeps, start_normal, finished_normal}
-use Rattle.py_parse_pattern.proofs.Finish.{finish, finish_tokens}
+use Rattle.py_parse_pattern.proofs.Sound.NormalStates.{NormalState, Keeps, step_keeps, start_normal, finished_normal}
+use Rattle.py_parse_pattern.proofs.Least.Finish.{finish, finish_tokens}
 use Rattle.py_parse_pattern.proofs.Least.{Grows, step_grows}
 use Rattle.py_parse_pattern.proofs.Complete.{outcome, reads_all}
 

@@ -7,6 +7,8 @@ use Rattle.py_parse_pattern.specs.declared.token_classes.Bracket.{Bracket}
 use Rattle.py_parse_pattern.specs.declared.token_classes.Bracket.TheVariants.{Round, Square}
 use Rattle.py_parse_pattern.specs.Machine.{TokenClass, a_name, a_number, a_string, a_none, a_bool, a_minus, opens, shuts, a_bar, an_as, a_comma, a_dot, class, same_bracket, snoc, is_underscore, named, joined, enclosed, listed, ended, Frame, frame, Stack, stack, State, Want, Minus, Named, Dotted, Strings, Have, Naming, Item, Out, Next, Stuck, Left, offer, give, shut, wanting, begin, act, step, put, whole, closed, settled, some_name, least}
 use Rattle.py_parse_pattern.specs.Heights.{levels, over, raised, depth, base, base_closed}
+pub mod Finish
+pub mod Outside
 
 pub heights_snoc : (ps : Patterns) (p : Pattern) → pattern_heights (snoc ps p) ≡ max (pattern_heights ps) (pattern_height p)
 heights_snoc no_patterns p = omega arith

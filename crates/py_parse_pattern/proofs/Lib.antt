@@ -1,11 +1,5 @@
 pub mod Sound
-pub mod NormalStates
-pub mod Least
-pub mod Finish
 pub mod Complete
+pub mod Least
 pub mod Exact
-pub mod Built
-pub mod Outside
-pub mod Turning
-pub mod Heights
-pub mod Tokens
+pub mod View

@@ -9,6 +9,7 @@ use Rattle.py_parse_pattern.specs.declared.token_classes.Bracket.TheVariants.{Ro
 use Rattle.py_parse_pattern.specs.Machine.{TokenClass, a_name, a_number, a_string, a_none, a_bool, a_minus, opens, shuts, a_bar, an_as, a_comma, a_dot, other, class, open_mark, shut_mark, same_bracket, snoc, is_underscore, named, joined, enclosed, listed, ended, Frame, frame, Stack, stack, State, Want, Minus, Named, Dotted, Strings, Have, Naming, Item, Out, Next, Stuck, Left, offer, give, shut, wanting, begin, act, step}
 use Rattle.py_token.specs.declared.token.Keyword.TheVariants as word
 use Rattle.py_token.specs.declared.token.Mark.TheVariants as mark
+pub mod NormalStates
 
 -- alternatives, each with its bar, and then others
 abbrev pub barred : Patterns → List Kind → List Kind

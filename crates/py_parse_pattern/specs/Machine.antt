@@ -37,6 +37,7 @@ pub data TokenClass : Type 0 where
   a_dot : TokenClass
   other : TokenClass
 
+-- the class of a token; all that stand in no pattern are one
 abbrev pub class : Kind → TokenClass
 class (Name x) = a_name x
 class (Int n) = a_number n
@@ -55,18 +56,22 @@ class (Sign mark.Comma) = a_comma
 class (Sign mark.Dot) = a_dot
 class t = other
 
+-- the mark that opens a bracket
 abbrev pub open_mark : Bracket → Mark
 open_mark Round = mark.LeftParen
 open_mark Square = mark.LeftBracket
 
+-- the mark that closes it
 abbrev pub shut_mark : Bracket → Mark
 shut_mark Round = mark.RightParen
 shut_mark Square = mark.RightBracket
 
+-- the brackets of a sequence
 abbrev pub brackets_of : Bracket → Brackets
 brackets_of Round = brackets_.Round
 brackets_of Square = brackets_.Square
 
+-- whether two brackets are the same
 abbrev pub same_bracket : Bracket → Bracket → Bool
 same_bracket Round Round = true
 same_bracket Square Square = true
@@ -74,14 +79,17 @@ same_bracket b c = false
 
 -- ---- trees
 
+-- items with one more
 abbrev pub snoc : Patterns → Pattern → Patterns
 snoc no_patterns p = patterns p no_patterns
 snoc (patterns q qs) p = patterns q (snoc qs p)
 
+-- whether there is an item
 abbrev pub is_some : Patterns → Bool
 is_some no_patterns = false
 is_some (patterns p ps) = true
 
+-- whether a name is `_`
 abbrev pub is_underscore : Text → Bool
 is_underscore [] = false
 is_underscore (c ∷ []) = nat_eq c 95
@@ -121,6 +129,7 @@ pub data Frame : Type 0 where
 pub data Stack : Type 0 where
   stack : (items alternatives : Patterns) (frames : List Frame) → Stack
 
+-- A place in a pattern, with what was read of the innermost row.
 pub data State : Type 0 where
   -- a pattern begins here, or its row ends
   Want : (k : Stack) → State
@@ -180,6 +189,7 @@ wanting (stack is (patterns a as') fs) c = Stuck
 abbrev pub inside : Bracket → Stack → Stack
 inside b (stack is as' fs) = stack no_patterns no_patterns (frame b is as' ∷ fs)
 
+-- a pattern begins, or its row ends
 abbrev pub begin : Stack → TokenClass → Out
 begin k (a_name x) = Next (Named x k)
 begin k (a_number n) = Next (Have (literal false (c_int n)) k)
@@ -190,6 +200,7 @@ begin k a_minus = Next (Minus k)
 begin k (opens b) = Next (Want (inside b k))
 begin k c = wanting k c
 
+-- what a token of a class makes of a place
 abbrev pub act : State → TokenClass → Out
 act (Want k) c = begin k c
 act (Minus k) (a_number n) = Next (Have (literal true (c_int n)) k)
@@ -205,6 +216,7 @@ act (Naming p is fs) (a_name x) = cond (is_underscore x) Stuck (Next (Item (p_as
 act (Naming p is fs) c = Stuck
 act (Item p is fs) c = offer p is fs c
 
+-- what a token makes of a place
 abbrev pub step : State → Kind → Out
 step s t = act s (class t)
 
@@ -217,6 +229,7 @@ pub data Verdict : Type 0 where
   Refused : (rest : List Kind) → Verdict
   Leaves : (p : Pattern) (rest : List Kind) → Verdict
 
+-- the reading of a list from a state on
 abbrev pub run : State → List Kind → Verdict
 run s [] = Refused []
 run s (t ∷ ts) =
@@ -233,6 +246,7 @@ abbrev pub put : Pattern → Patterns → List Frame → Pattern
 put p is [] = listed is p
 put p is (frame b js bs ∷ fs) = put (joined bs (enclosed b is p)) js fs
 
+-- the pattern that comes of a closed pattern in a row
 abbrev pub whole : Pattern → Stack → Pattern
 whole p (stack is as' fs) = put (joined as' p) is fs
 
@@ -246,6 +260,7 @@ abbrev pub closed : Patterns → List Frame → Pattern
 closed is [] = trailed is
 closed is (frame b js bs ∷ fs) = whole (ended b is) (stack js bs fs)
 
+-- the pattern that comes of a row in which a pattern may begin
 abbrev pub settled : Stack → Pattern
 settled (stack is no_patterns fs) = closed is fs
 settled (stack is (patterns a as') fs) = whole wild (stack is (patterns a as') fs)
@@ -254,6 +269,7 @@ settled (stack is (patterns a as') fs) = whole wild (stack is (patterns a as') f
 abbrev pub some_name : Text
 some_name = 120 ∷ []
 
+-- the least pattern that goes on from a state
 abbrev pub finished : State → Pattern
 finished (Want k) = settled k
 finished (Minus k) = whole (literal true (c_int (pos 0))) k
@@ -264,6 +280,7 @@ finished (Have p k) = whole p k
 finished (Naming p is fs) = put (p_as p some_name) is fs
 finished (Item p is fs) = put p is fs
 
+-- its height
 abbrev pub least : State → ℕ
 least s = pattern_height (finished s)
 
@@ -275,6 +292,7 @@ pub data Ending : Type 0 where
   TooDeep : (rest : List Kind) → Ending
   Reads : (p : Pattern) (rest : List Kind) → Ending
 
+-- the reading of a list from a state on, under a limit of heights
 abbrev pub within : ℕ → State → List Kind → Ending
 within limit s [] = Unexpected []
 within limit s (t ∷ ts) =

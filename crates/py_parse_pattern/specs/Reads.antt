@@ -16,6 +16,7 @@ pub record EndsAt (ts : List Kind) (at place : ℕ) (end : List Kind → Ending)
   pub inside : place ≤ length ts
   pub ends : within HEIGHT start (drop at ts) ≡ end (drop place ts)
 
+-- the answer is how the machine ends
 abbrev pub FollowsMachine : List Kind → ℕ → Result PatternRead ReadError → Type 0
 FollowsMachine ts at (Ok r) = EndsAt ts at r.next (Reads (plain_pattern r.pattern))
 FollowsMachine ts at (Err (error.Unexpected place)) = EndsAt ts at place Unexpected

@@ -6,13 +6,14 @@ use Rattle.py_syntax.specs.Tree.{Pattern, Patterns, patterns}
 use Rattle.py_syntax.specs.Kinds.{Word, Sign}
 use Rattle.py_syntax.specs.Normal.{pattern_height, pattern_heights}
 use Rattle.py_syntax.specs.View.{plain_pattern, plain_patterns}
-use Rattle.py_parse_pattern.specs.declared.token_classes.TokenClass as held
+use Rattle.py_parse_pattern.specs.declared.token_classes.TokenClass as code_class
 use Rattle.py_parse_pattern.specs.declared.token_classes.TokenClass.TheVariants as class_
 use Rattle.py_parse_pattern.specs.declared.nodes.Measured.{Measured}
 use Rattle.py_parse_pattern.specs.declared.nodes.Many.{Many}
 use Rattle.py_parse_pattern.specs.Machine.{TokenClass, a_name, a_number, a_string, a_none, a_bool, a_minus, opens, shuts, a_bar, an_as, a_comma, a_dot, other, class}
 
-abbrev pub view_class : held.TokenClass → TokenClass
+-- the class of a token
+abbrev pub view_class : code_class.TokenClass → TokenClass
 view_class (class_.Name x) = a_name x
 view_class (class_.Number n) = a_number n
 view_class (class_.Str x) = a_string x
@@ -27,9 +28,11 @@ view_class class_.Comma = a_comma
 view_class class_.Dot = a_dot
 view_class class_.Other = other
 
+-- the class of a mark
 abbrev pub mark_class : Mark → TokenClass
 mark_class m = class (Sign m)
 
+-- the class of a keyword
 abbrev pub word_class : Keyword → TokenClass
 word_class w = class (Word w)
 
@@ -37,12 +40,15 @@ word_class w = class (Word w)
 abbrev pub view_measured : Measured → Pattern
 view_measured t = plain_pattern t.pattern
 
+-- the height beside a pattern is its own
 abbrev pub IsMeasured : Measured → Type 0
 IsMeasured t = t.height ≡ pattern_height (view_measured t)
 
+-- patterns in a row
 abbrev pub view_many : Many → Patterns
 view_many m = plain_patterns m.patterns.items
 
+-- the height beside patterns is that of the highest
 abbrev pub AreMeasured : Many → Type 0
 AreMeasured m = m.height ≡ pattern_heights (view_many m)
 

@@ -12,12 +12,10 @@ ghost use Rattle.py_parse_pattern.specs.Rows.{view_frames, view_reader, Valid, S
 use crate::nodes::higher;
 use crate::reader::{Progress, Reader, Row, Turn, levels};
 use crate::token_classes::class_of;
+use py_syntax::HEIGHT_LIMIT;
 use py_token::TokenKind;
 use py_value::NoMemory;
 use std::alloc::Global;
-
-/// The greatest height of a pattern.
-const HEIGHT_LIMIT: usize = 200;
 
 /// The height of what is open in a row without a closed pattern.
 fn row_height(row: &Row) -> usize

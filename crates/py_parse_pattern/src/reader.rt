@@ -1,6 +1,6 @@
 // Patterns, a token at a time.
 
-ghost use Rattle.std.specs.Prelude.{◌≡◌, ◌≢◌, ◌≤◌, reverse};
+ghost use Rattle.std.specs.Prelude.{◌≡◌, ◌≢◌, ◌+◌, ◌≤◌, reverse};
 ghost use Rattle.py_syntax.specs.Tree.{no_patterns, literal};
 ghost use Rattle.py_syntax.specs.Normal.{pattern_height};
 ghost use Rattle.py_syntax.specs.Spelling.{HEIGHT};
@@ -238,7 +238,7 @@ fn depth_after(frames: &[Frame], depth: usize) -> usize
 /// The row after an item and its comma.
 fn after_item(alloc: Global, measured: Measured, rows: Rows) -> Result<Turn, NoMemory>
     requires rows { ValidRows HEIGHT rows }
-    requires measured { ValidMeasured 202 measured }
+    requires measured { ValidMeasured (HEIGHT + 2) measured }
     ensures { Acts (Next (Want (stack (snoc (view_many rows.row.items) (view_measured measured))
         no_patterns (view_frames rows.frames.items)))) result }
 {
@@ -257,7 +257,7 @@ fn after_item(alloc: Global, measured: Measured, rows: Rows) -> Result<Turn, NoM
 /// An item is whole.
 fn offer(alloc: Global, measured: Measured, rows: Rows, class: TokenClass) -> Result<Turn, NoMemory>
     requires rows { ValidRows HEIGHT rows }
-    requires measured { ValidMeasured 202 measured }
+    requires measured { ValidMeasured (HEIGHT + 2) measured }
     ensures { Acts (act (view_at (Progress.Item measured) rows) (view_class class)) result }
 {
     match class {
@@ -274,7 +274,7 @@ fn end_item(
     class: TokenClass,
 ) -> Result<Turn, NoMemory>
     requires rows { ValidRows HEIGHT rows }
-    requires measured { ValidMeasured 202 measured }
+    requires measured { ValidMeasured (HEIGHT + 2) measured }
     ensures { view_class class ≢ a_comma
         → Acts (act (view_at (Progress.Item measured) rows) (view_class class)) result }
 {

@@ -75,10 +75,12 @@ begins_at (IndentWanted o) = false
 begins_at (MatchLine e last) = false
 begins_at (MatchBlock e last) = false
 
+-- how many suites are open
 abbrev pub open_count : SuiteStack → ℕ
 open_count (top ss) = 0
 open_count (inside ss inline first last begun o b) = suc (open_count b)
 
+-- how many suites stand inside each other where a header begins one more, else 0
 abbrev pub level : State → ℕ
 level (at p n b) = cond (begins_at p) (suc (open_count b)) 0
 level s = 0

@@ -105,6 +105,7 @@ pub record Span : Type 0 where
   pub first : ℕ
   pub last : ℕ
 
+-- A place in a module, with the suites that are open round it.
 pub data State : Type 0 where
   -- a statement begins on a new line, or its block ends
   Line : (b : SuiteStack) → State
@@ -118,6 +119,7 @@ pub data State : Type 0 where
 
 -- ---- the lines of what is read
 
+-- the lines of a statement that begins with a token of these lines
 abbrev pub begun_at : ℕ → ℕ → Span
 begun_at f l = record { begun = f; first = f; last = l }
 

@@ -16,33 +16,41 @@ use Rattle.py_syntax.specs.Tree.{match}
 
 -- ---- one more at the end
 
+-- statements with one more
 abbrev pub snoc_stmt : Stmts → ℕ → ℕ → StmtKind → LineEnd → Stmts
 snoc_stmt no_stmts first last k e = stmt first last k e no_stmts
 snoc_stmt (stmt f l k' e' ss) first last k e = stmt f l k' e' (snoc_stmt ss first last k e)
 
+-- tests with one more
 abbrev pub snoc_arm : Arms → Expr → Suite → Arms
 snoc_arm no_arms t b = arm t b no_arms
 snoc_arm (arm t' b' arms) t b = arm t' b' (snoc_arm arms t b)
 
+-- `except` clauses with one more
 abbrev pub snoc_clause : Clauses → Option Expr → Option Text → Suite → Clauses
 snoc_clause no_clauses e x b = clause e x b no_clauses
 snoc_clause (clause e' x' b' cs) e x b = clause e' x' b' (snoc_clause cs e x b)
 
+-- cases with one more
 abbrev pub snoc_case : Cases → Pattern → Option Expr → Suite → Cases
 snoc_case no_cases p g b = case p g b no_cases
 snoc_case (case p' g' b' cs) p g b = case p' g' b' (snoc_case cs p g b)
 
 -- ---- how a statement ends its line
 
+-- nothing, as after a compound statement
 abbrev pub no_end : LineEnd
 no_end = record { semicolon = false; newline = false }
 
+-- the end of the line
 abbrev pub newline_end : LineEnd
 newline_end = record { semicolon = false; newline = true }
 
+-- a semicolon, with a statement after it
 abbrev pub semicolon_end : LineEnd
 semicolon_end = record { semicolon = true; newline = false }
 
+-- a semicolon and the end of the line
 abbrev pub both_end : LineEnd
 both_end = record { semicolon = true; newline = true }
 

@@ -15,18 +15,22 @@ use Rattle.py_statements.specs.declared.lists.Class.{Class}
 use Rattle.py_statements.specs.declared.lists.Class.TheVariants as class_
 use Rattle.py_statements.specs.ViewMarks.{is_newline}
 
+-- whether there is an expression
 abbrev pub some_exprs : Exprs → Bool
 some_exprs no_exprs = false
 some_exprs (exprs e es) = true
 
+-- whether there is a test
 abbrev pub some_arms : Arms → Bool
 some_arms no_arms = false
 some_arms (arm t b arms) = true
 
+-- whether there is an `except` clause
 abbrev pub some_clauses : Clauses → Bool
 some_clauses no_clauses = false
 some_clauses (clause e x b cs) = true
 
+-- whether there is a case
 abbrev pub some_cases : Cases → Bool
 some_cases no_cases = false
 some_cases (case p g b cs) = true
@@ -42,10 +46,12 @@ IsNameIn k (Ok (Some x)) = k ≡ Name x
 IsNameIn k (Ok None) = NoName k
 IsNameIn k (Err e) = Unit {0}
 
+-- whether a token is `=`
 abbrev pub is_equal_sign : Kind → Bool
 is_equal_sign (Sign mark.Equal) = true
 is_equal_sign k = false
 
+-- whether a token is a semicolon
 abbrev pub is_semicolon : Kind → Bool
 is_semicolon (Sign mark.Semicolon) = true
 is_semicolon k = false
@@ -56,22 +62,27 @@ ends_simple (Sign mark.Semicolon) = true
 ends_simple Newline = true
 ends_simple k = false
 
+-- whether a token is a comma
 abbrev pub is_comma : Kind → Bool
 is_comma (Sign mark.Comma) = true
 is_comma k = false
 
+-- whether a token is `)`
 abbrev pub is_right_paren : Kind → Bool
 is_right_paren (Sign mark.RightParen) = true
 is_right_paren k = false
 
+-- whether a block begins with a token
 abbrev pub is_indent : Kind → Bool
 is_indent Indent = true
 is_indent k = false
 
+-- whether a block ends with a token
 abbrev pub is_dedent : Kind → Bool
 is_dedent Dedent = true
 is_dedent k = false
 
+-- whether a token is the end of the list
 abbrev pub is_end : Kind → Bool
 is_end End = true
 is_end k = false

@@ -5,9 +5,11 @@ use Rattle.py_token.specs.View.{view_tokens}
 use Rattle.py_syntax.specs.Kinds.{Kind, Newline, bare}
 use Rattle.py_syntax.specs.Headers.{is_match, is_header, ends_line}
 
+-- the kinds of the tokens of a list
 abbrev pub kinds_of : List Token → List Kind
 kinds_of ts = bare (view_tokens ts)
 
+-- whether a token is the end of a line
 abbrev pub is_newline : Kind → Bool
 is_newline Newline = true
 is_newline k = false

@@ -10,6 +10,7 @@ use Rattle.py_statements.specs.Machine.{next_part}
 use Rattle.py_statements.specs.ViewSuiteOf.{boxed_kind}
 use Rattle.py_statements.specs.ViewStates.{kind_at, view_place}
 
+-- the part that a token begins after a suite of a statement
 abbrev pub IsPart : StmtKind → Kind → Result Part AllocError → Type 0
 IsPart k t (Ok (part_.Next p)) = next_part k t ≡ Some (view_place p)
 IsPart k t (Ok (part_.Whole k')) = (next_part k t ≡ None) × (boxed_kind k' ≡ k)

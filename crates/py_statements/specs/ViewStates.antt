@@ -20,16 +20,16 @@ use Rattle.py_syntax.specs.Kinds.{Kind, bare_kind}
 use Rattle.py_syntax.specs.View.{plain_exprs, plain_stmts, plain_arms, plain_aliases}
 use Rattle.py_statements.specs.declared.suite_of.PartialTry.{PartialTry}
 use Rattle.py_statements.specs.declared.suite_of.Signature.{Signature}
-use Rattle.py_statements.specs.declared.suite_stack.Span as held_span
-use Rattle.py_statements.specs.declared.suite_stack.Open as held_open
-use Rattle.py_statements.specs.declared.suite_stack.SuiteStack as held_suites
-use Rattle.py_statements.specs.declared.purposes.Continuation as held_continuation
+use Rattle.py_statements.specs.declared.suite_stack.Span as code_span
+use Rattle.py_statements.specs.declared.suite_stack.Open as code_open
+use Rattle.py_statements.specs.declared.suite_stack.SuiteStack as code_suites
+use Rattle.py_statements.specs.declared.purposes.Continuation as code_continuation
 use Rattle.py_statements.specs.declared.purposes.Continuation.TheVariants as continuation_
-use Rattle.py_statements.specs.declared.places.Listed as held_listed
+use Rattle.py_statements.specs.declared.places.Listed as code_listed
 use Rattle.py_statements.specs.declared.places.Listed.TheVariants as listed_
-use Rattle.py_statements.specs.declared.places.Place as held_place
+use Rattle.py_statements.specs.declared.places.Place as code_place
 use Rattle.py_statements.specs.declared.places.Place.TheVariants as place_
-use Rattle.py_statements.specs.declared.places.State as held_state
+use Rattle.py_statements.specs.declared.places.State as code_state
 use Rattle.py_statements.specs.declared.places.State.TheVariants as state_
 use Rattle.py_statements.specs.declared.places.Turn.{Turn}
 use Rattle.py_statements.specs.declared.places.Turn.TheVariants as turn_
@@ -48,38 +48,40 @@ use Rattle.py_statements.specs.Machine.{at_line, step, done}
 use Rattle.py_statements.specs.ViewSuiteOf.{boxed_expr, boxed_pattern, boxed_kind, of_match, of_try}
 use Rattle.py_statements.specs.ViewSuiteOf.{of_signature, boxed_suite_of}
 
--- the kind of a token, and its lines
+-- the kind of a token
 abbrev pub kind_at : Token → Kind
 kind_at t = bare_kind (view_kind (out-Token t).kind)
 
+-- its first line
 abbrev pub first_at : Token → ℕ
 first_at t = (out-Token t).first
 
+-- its last line
 abbrev pub last_at : Token → ℕ
 last_at t = (out-Token t).last
 
 -- ---- open suites
 
 -- an open suite with these statements, round which these are open
-abbrev pub view_open : Stmts → held_open.Open → SuiteStack → SuiteStack
+abbrev pub view_open : Stmts → code_open.Open → SuiteStack → SuiteStack
 view_open ss o b =
     inside ss o.inline o.span.first o.span.last o.span.begun (boxed_suite_of o.suite_of) b
 
 -- from the inside
-abbrev pub suite_stack : Stmts → List held_open.Open → SuiteStack
+abbrev pub suite_stack : Stmts → List code_open.Open → SuiteStack
 suite_stack ss [] = top ss
 suite_stack ss (o ∷ os) = view_open ss o (suite_stack (plain_stmts o.outer.items) os)
 
 -- the innermost is the last in the code
-abbrev pub view_suites : held_suites.SuiteStack → SuiteStack
+abbrev pub view_suites : code_suites.SuiteStack → SuiteStack
 view_suites b = suite_stack (plain_stmts b.body.items) (reverse b.open.items)
 
 -- suites that are open, the innermost last
 abbrev pub Opened : Type 0
-Opened = List held_open.Open
+Opened = List code_open.Open
 
 -- the innermost suite, and those round it
-abbrev pub Opens : Stmts → Opened → Opened → Option held_open.Open → Type 0
+abbrev pub Opens : Stmts → Opened → Opened → Option code_open.Open → Type 0
 Opens ss old new None =
     (suite_stack ss (reverse old) ≡ top ss) × (suite_stack ss (reverse new) ≡ top ss)
 Opens ss old new (Some o) =
@@ -88,20 +90,24 @@ Opens ss old new (Some o) =
 
 -- ---- places
 
-abbrev pub view_span : held_span.Span → Span
+-- the lines of what is read
+abbrev pub view_span : code_span.Span → Span
 view_span n = record { begun = n.begun; first = n.first; last = n.last }
 
--- after the default of a parameter, after a parameter, after the `as` of a clause
+-- after the default of a parameter
 abbrev pub default_of : Signature → Text → Continuation
 default_of s y = of_signature (λ x ps ds. default x ps ds y) s
 
+-- after a parameter
 abbrev pub param_of : Signature → Text → Place
 param_of s y = of_signature (λ x ps ds. ParamRead x ps ds y) s
 
+-- after the `as` of a clause
 abbrev pub bound_of : PartialTry → Expr → Place
 bound_of t e = of_try (λ b cs. ClauseBound b cs e) t
 
-abbrev pub view_continuation : held_continuation.Continuation → Continuation
+-- what an expression is read for
+abbrev pub view_continuation : code_continuation.Continuation → Continuation
 view_continuation (continuation_.Value ts) = value (plain_exprs ts.items)
 view_continuation (continuation_.Augmented p op) = augmented (boxed_expr p) op
 view_continuation (continuation_.Leaving raises) = leaving raises
@@ -117,12 +123,14 @@ view_continuation (continuation_.Guard c p) =
     of_match (λ e last cs. guard e last cs (boxed_pattern p)) c
 view_continuation (continuation_.Default s y) = default_of s y
 
-abbrev pub view_listed : held_listed.Listed → Listed
+-- a statement that lists names, as far as it is read
+abbrev pub view_listed : code_listed.Listed → Listed
 view_listed (listed_.Globals xs) = globals xs.items
 view_listed (listed_.Imports names) = imports (plain_aliases names.items)
 view_listed (listed_.Froms m names) = froms m (plain_aliases names.items)
 
-abbrev pub view_place : held_place.Place → Place
+-- a place inside a statement or a header
+abbrev pub view_place : code_place.Place → Place
 view_place (place_.Wanted r) = wanted (view_continuation r)
 view_place (place_.PatternWanted c) = of_match begin_case c
 view_place (place_.Simple k) = Simple (boxed_kind k)
@@ -146,7 +154,8 @@ view_place (place_.IndentWanted o) = IndentWanted (boxed_suite_of o)
 view_place (place_.MatchLine e last) = MatchLine (boxed_expr e) last
 view_place (place_.MatchBlock e last) = MatchBlock (boxed_expr e) last
 
-abbrev pub view_state : held_state.State → State
+-- a state of the reading
+abbrev pub view_state : code_state.State → State
 view_state (state_.Line b) = Line (view_suites b)
 view_state (state_.At p n b) = at (view_place p) (view_span n) (view_suites b)
 view_state (state_.After k first last b) = After (boxed_kind k) first last (view_suites b)
@@ -160,8 +169,9 @@ view_state (state_.Over ss) = Over (plain_stmts ss.items)
 abbrev pub Turned : Type 0
 Turned = Result Turn AllocError
 
+-- what a step makes that begins no expression or pattern, where memory lasts
 abbrev pub Made : Type 0
-Made = Result (Option held_state.State) AllocError
+Made = Result (Option code_state.State) AllocError
 
 -- A step of the machine with this token, which has these lines: an expression or a pattern that
 -- begins with the token goes on from its own beginning.
@@ -173,6 +183,7 @@ ActsAs t f l o (turn_.Reads r n b) =
 ActsAs t f l o (turn_.Matches c n b) =
     o ≡ act (of_match begin_case c) (view_span n) (view_suites b) t f l
 
+-- the same, where memory lasts
 abbrev pub Acts : Token → Option State → Turned → Type 0
 Acts t o (Ok turn) = ActsAs (kind_at t) (first_at t) (last_at t) o turn
 Acts t o (Err e) = Unit {0}
@@ -183,7 +194,7 @@ Makes o (Ok s) = o ≡ option_map view_state s
 Makes o (Err e) = Unit {0}
 
 -- The place of an optional step.
-abbrev pub MakesPlace : Option Place → Result (Option held_place.Place) AllocError → Type 0
+abbrev pub MakesPlace : Option Place → Result (Option code_place.Place) AllocError → Type 0
 MakesPlace o (Ok p) = o ≡ option_map view_place p
 MakesPlace o (Err e) = Unit {0}
 
@@ -196,15 +207,15 @@ abbrev pub step_marked : State → Bool → Kind → ℕ → ℕ → Option Stat
 step_marked s header k f l = step s (record { kind = k; header = header }) f l
 
 -- What the token does at a place inside a statement or a header.
-abbrev pub ActsAt : Token → Place → held_span.Span → held_suites.SuiteStack → Turned → Type 0
+abbrev pub ActsAt : Token → Place → code_span.Span → code_suites.SuiteStack → Turned → Type 0
 ActsAt t p n b r = Steps t (act p (view_span n) (view_suites b)) r
 
 -- the same, where no memory is wanted
-abbrev pub TurnsAt : Token → Place → held_span.Span → held_suites.SuiteStack → Turn → Type 0
+abbrev pub TurnsAt : Token → Place → code_span.Span → code_suites.SuiteStack → Turn → Type 0
 TurnsAt t p n b turn = ActsAt t p n b (Ok turn)
 
 -- the same, where no expression or pattern begins
-abbrev pub MakesAt : Token → Place → held_span.Span → held_suites.SuiteStack → Made → Type 0
+abbrev pub MakesAt : Token → Place → code_span.Span → code_suites.SuiteStack → Made → Type 0
 MakesAt t p n b r =
     Makes (act p (view_span n) (view_suites b) (kind_at t) (first_at t) (last_at t)) r
 
@@ -213,12 +224,12 @@ abbrev pub Continuing : Type 0
 Continuing = Span → SuiteStack → Kind → ℕ → Option State
 
 -- The token continues a statement so.
-abbrev pub Continues : Token → Continuing → held_span.Span → held_suites.SuiteStack → Made → Type 0
+abbrev pub Continues : Token → Continuing → code_span.Span → code_suites.SuiteStack → Made → Type 0
 Continues t way n b r = Makes (way (view_span n) (view_suites b) (kind_at t) (last_at t)) r
 
 -- the same, where no memory is wanted
 abbrev pub ContinuesTo :
-    Token → Continuing → held_span.Span → held_suites.SuiteStack → Option held_state.State → Type 0
+    Token → Continuing → code_span.Span → code_suites.SuiteStack → Option code_state.State → Type 0
 ContinuesTo t way n b s = Continues t way n b (Ok s)
 
 -- whether the innermost suite shares the line of its header
@@ -230,6 +241,7 @@ abbrev pub is_closable : SuiteStack → Bool
 is_closable (inside (stmt first last k e ss) false f l begun o b) = true
 is_closable b = false
 
+-- whether no suite is open
 abbrev pub is_top : SuiteStack → Bool
 is_top (top ss) = true
 is_top b = false
@@ -239,6 +251,6 @@ abbrev pub IsDone : State → Option (Vec Stmt Global) → Type 0
 IsDone s b = done s ≡ option_map (λ (ss : Vec Stmt Global). plain_stmts ss.items) b
 
 -- The open suites, where a statement may begin.
-abbrev pub Rests : State → Result (Option held_suites.SuiteStack) AllocError → Type 0
+abbrev pub Rests : State → Result (Option code_suites.SuiteStack) AllocError → Type 0
 Rests s (Ok b) = at_line s ≡ option_map view_suites b
 Rests s (Err e) = Unit {0}

@@ -1,7 +1,7 @@
 -- What an open suite belongs to as the code holds it.
 --     boxed_expr, boxed_kind, boxed_pattern     trees in boxes
 --     of_match, of_try, of_signature            what is made of the parts of a statement so far
---     try_of .. case_of                         statements and owners of suites made so
+--     try_of .. case_of                         statements, and what suites belong to, made so
 --     view_else_of .. boxed_suite_of            what an open suite belongs to
 use Rattle.std.specs.Prelude.{ℕ, Bool, List, Option, option_map, Box}
 use Rattle.std.specs.Global.{Global}
@@ -15,21 +15,24 @@ use Rattle.py_syntax.specs.View.{plain_opt_suite, plain_arms, plain_clauses, pla
 use Rattle.py_statements.specs.declared.suite_of.PartialMatch.{PartialMatch}
 use Rattle.py_statements.specs.declared.suite_of.PartialTry.{PartialTry}
 use Rattle.py_statements.specs.declared.suite_of.Signature.{Signature}
-use Rattle.py_statements.specs.declared.suite_of.ElseOf as held_else
+use Rattle.py_statements.specs.declared.suite_of.ElseOf as code_else
 use Rattle.py_statements.specs.declared.suite_of.ElseOf.TheVariants as else_of_
-use Rattle.py_statements.specs.declared.suite_of.SuiteOf as held
+use Rattle.py_statements.specs.declared.suite_of.SuiteOf as code_suite_of
 use Rattle.py_statements.specs.declared.suite_of.SuiteOf.TheVariants as suite_of_
 use Rattle.py_statements.specs.Open.{SuiteOf, an_arm, a_while, a_for, a_try, a_clause, an_else}
 use Rattle.py_statements.specs.Open.{a_finally, a_def, a_case}
 
 -- ---- trees in boxes
 
+-- an expression
 abbrev pub boxed_expr : Box Node Global → Expr
 boxed_expr b = plain_expr b.value
 
+-- a pattern
 abbrev pub boxed_pattern : Box PatternNode Global → Pattern
 boxed_pattern b = plain_pattern b.value
 
+-- a statement
 abbrev pub boxed_kind : Box KindNode Global → StmtKind
 boxed_kind b = plain_kind b.value
 
@@ -47,31 +50,37 @@ of_try f t = f (plain_suite t.body) (plain_clauses t.clauses.items)
 abbrev pub of_signature : {A : Type 0} → (Text → List Text → Exprs → A) → Signature → A
 of_signature f s = f s.name s.params.items (plain_exprs s.defaults.items)
 
+-- the `try` statement, with its `else` and its `finally`
 abbrev pub try_of : PartialTry → OptSuite → OptSuite → StmtKind
 try_of t o f = of_try (λ b cs. try b cs o f) t
 
+-- the clause that follows, whose suite is open
 abbrev pub clause_of : PartialTry → Option Expr → Option Text → SuiteOf
 clause_of t e x = of_try (λ b cs. a_clause b cs e x) t
 
+-- the `finally`, whose suite is open
 abbrev pub finally_of : PartialTry → OptSuite → SuiteOf
 finally_of t o = of_try (λ b cs. a_finally b cs o) t
 
+-- the `def`, whose suite is open
 abbrev pub def_of : Signature → Bool → SuiteOf
 def_of s c = of_signature (λ x ps ds. a_def x ps ds c) s
 
+-- the case that follows, whose suite is open
 abbrev pub case_of : Box PartialMatch Global → Pattern → Option Expr → SuiteOf
 case_of c p g = of_match (λ e last cs. a_case e last cs p g) c
 
 -- ---- what an open suite belongs to
 
 -- a statement that may take an `else`
-abbrev pub view_else_of : held_else.ElseOf → StmtKind
+abbrev pub view_else_of : code_else.ElseOf → StmtKind
 view_else_of (else_of_.If arms) = if' (plain_arms arms.items) no_suite
 view_else_of (else_of_.While t b) = while (plain_expr t) (plain_suite b) no_suite
 view_else_of (else_of_.For t e b) = for (plain_expr t) (plain_expr e) (plain_suite b) no_suite
 view_else_of (else_of_.Try t) = try_of t no_suite no_suite
 
-abbrev pub view_suite_of : held.SuiteOf → SuiteOf
+-- what an open suite belongs to
+abbrev pub view_suite_of : code_suite_of.SuiteOf → SuiteOf
 view_suite_of (suite_of_.Arm arms t) = an_arm (plain_arms arms.items) (boxed_expr t)
 view_suite_of (suite_of_.While t) = a_while (boxed_expr t)
 view_suite_of (suite_of_.For t e) = a_for (boxed_expr t) (boxed_expr e)
@@ -82,5 +91,6 @@ view_suite_of (suite_of_.Finally t o) = finally_of t (plain_opt_suite o)
 view_suite_of (suite_of_.Def s c) = def_of s c
 view_suite_of (suite_of_.Case c p g) = case_of c (boxed_pattern p) (option_map boxed_expr g)
 
-abbrev pub boxed_suite_of : Box held.SuiteOf Global → SuiteOf
+-- the same in a box
+abbrev pub boxed_suite_of : Box code_suite_of.SuiteOf Global → SuiteOf
 boxed_suite_of b = view_suite_of b.value

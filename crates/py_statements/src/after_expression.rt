@@ -35,6 +35,7 @@ fn in_place_op(token: &Token) -> Option<BinOp>
         TokenKind::Mark(Mark::StarEqual) => Some(BinOp::Mul),
         TokenKind::Mark(Mark::DoubleSlashEqual) => Some(BinOp::Floor),
         TokenKind::Mark(Mark::PercentEqual) => Some(BinOp::Mod),
+        // Any other token assigns in no place.
         _ => None,
     }
 }

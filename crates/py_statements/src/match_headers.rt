@@ -31,6 +31,7 @@ fn is_match(kind: &TokenKind) -> bool
 {
     match kind {
         TokenKind::Name(name) => is_match_name(name),
+        // Any other token: the word is no keyword.
         _ => false,
     }
 }

@@ -114,6 +114,7 @@ pub fn end_header(
                 suites,
             ))
         }
+        // Any other token: a header ends in a colon alone.
         _ => None,
     }
 }

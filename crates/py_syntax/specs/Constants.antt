@@ -3,6 +3,7 @@ use Rattle.std.specs.Prelude.{Bool, false, not, pos}
 use Rattle.std.specs.Ordering.{int_eq}
 use Rattle.py_syntax.specs.Tree.{Expr, name, int, str, fstr, none, bool, tuple, list, dict, paren, not', and, or, unary, binary, compare, cond, call, index, slice, attr}
 
+-- whether a test always holds
 abbrev pub is_constant : Expr → Bool
 is_constant (name x) = false
 is_constant (int n) = not (int_eq n (pos 0))

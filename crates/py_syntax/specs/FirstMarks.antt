@@ -12,7 +12,7 @@ abbrev pub only : Bool → List ℕ → List ℕ
 only true ls = ls
 only false ls = []
 
--- a test marks
+-- whether the tests of an `if` have no mark: each test marks
 abbrev pub arms_empty : Arms → Bool → Bool
 arms_empty no_arms orelse = orelse
 arms_empty (arm t s rest) orelse = false
@@ -24,6 +24,7 @@ unfoldable mutual
   stmts_empty no_stmts = true
   stmts_empty (stmt f l k e rest) = kind_empty k && stmts_empty rest
 
+  -- whether a statement has no mark
   pub kind_empty : StmtKind → Bool
   kind_empty (expr e) = false
   kind_empty (assign ts e) = false
@@ -54,15 +55,18 @@ abbrev pub arms_first : Arms → List ℕ → List ℕ
 arms_first no_arms orelse = orelse
 arms_first (arm t (suite f l inline b) rest) orelse = f ∷ []
 
+-- the first of the clauses of a `try`
 abbrev pub clauses_first : Clauses → List ℕ
 clauses_first no_clauses = []
 clauses_first (clause k x (suite f l inline b) rest) = f ∷ []
 
+-- the first of the cases of a `match`
 abbrev pub cases_first : Cases → List ℕ
 cases_first no_cases = []
 cases_first (case p g (suite f l inline b) rest) = f ∷ []
 
 unfoldable mutual
+  -- the first mark of statements in a row
   pub stmts_first : Stmts → List ℕ
   stmts_first no_stmts = []
   stmts_first (stmt f l k e rest) = kind_first f k ++ only (kind_empty k) (stmts_first rest)
@@ -88,6 +92,7 @@ unfoldable mutual
   kind_first l (def x ps ds c b) = l ∷ []
   kind_first l (match e last cs) = l ∷ []
 
+  -- the first mark of the suite of an `else` or a `finally`
   pub opt_first : OptSuite → List ℕ
   opt_first no_suite = []
   opt_first (has_suite (suite f l inline b)) = stmts_first b

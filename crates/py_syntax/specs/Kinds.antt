@@ -50,14 +50,17 @@ abbrev mutual
   bare_kind token_.dedent = Dedent
   bare_kind token_.end = End
 
+  -- a token
   pub bare_token : PToken → Kind
   bare_token (token_.token k first last) = bare_kind k
 
+  -- the pieces of an f-string
   pub bare_pieces : PPieces → Pieces
   bare_pieces token_.no_pieces = no_pieces
   bare_pieces (token_.pieces (token_.chars x) ps) = chars_piece x (bare_pieces ps)
   bare_pieces (token_.pieces (token_.field ts) ps) = field_piece (bare_tokens ts) (bare_pieces ps)
 
+  -- the tokens of a field
   pub bare_tokens : PTokens → Kinds
   bare_tokens token_.no_tokens = no_kinds
   bare_tokens (token_.tokens t ts) = kinds (bare_token t) (bare_tokens ts)

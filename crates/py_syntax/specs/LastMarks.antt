@@ -23,6 +23,7 @@ pub data Way : Type 0 where
   returning : Way
   raising : Way
 
+-- whether a way goes on to what follows
 abbrev pub is_onward : Way → Bool
 is_onward onward = true
 is_onward breaking = false
@@ -30,6 +31,7 @@ is_onward continuing = false
 is_onward returning = false
 is_onward raising = false
 
+-- whether a way is an exception
 abbrev pub is_raising : Way → Bool
 is_raising onward = false
 is_raising breaking = false
@@ -37,6 +39,7 @@ is_raising continuing = false
 is_raising returning = false
 is_raising raising = true
 
+-- whether two ways are the same
 abbrev pub same_way : Way → Way → Bool
 same_way onward w = is_onward w
 same_way breaking breaking = true
@@ -94,10 +97,12 @@ abbrev pub past_finally : Way → Bool → List ℕ → List ℕ → List ℕ �
 past_finally w empty came ended left =
     only (comes came) ended ++ (only empty came ++ only (not (is_onward w)) left)
 
+-- whether a `try` has an `except` clause
 abbrev pub has_clause : Clauses → Bool
 has_clause no_clauses = false
 has_clause (clause k x s rest) = true
 
+-- whether a `match` has a case
 abbrev pub has_case : Cases → Bool
 has_case no_cases = false
 has_case (case p g s rest) = true
@@ -108,6 +113,7 @@ is_sure p None = is_irrefutable p
 is_sure p (Some guard) = false
 
 unfoldable mutual
+  -- the last marks of statements in a row
   pub stmts_last : Bool → Way → Stmts → List ℕ
   stmts_last any w no_stmts = []
   stmts_last any w (stmt f l k e rest) =
@@ -146,6 +152,7 @@ unfoldable mutual
       may_raise any w l
       ++ (onward_only w (only (not (has_case cs)) (l ∷ [])) ++ cases_last any w cs)
 
+  -- the last marks of the suite of an `else`
   pub opt_last : Bool → Way → OptSuite → List ℕ
   opt_last any w no_suite = []
   opt_last any w (has_suite (suite f l inline b)) = stmts_last any w b
@@ -158,12 +165,14 @@ unfoldable mutual
       ++ (onward_only w (past f b ++ only (arms_empty rest passed) (f ∷ []))
       ++ (stmts_last any w b ++ arms_last any w rest orelse passed))
 
+  -- the last marks of the clauses of a `try`
   pub clauses_last : Bool → Way → Clauses → List ℕ
   clauses_last any w no_clauses = []
   clauses_last any w (clause k x (suite f l inline b) rest) =
       may_raise any w f
       ++ (onward_only w (past f b) ++ (stmts_last any w b ++ clauses_last any w rest))
 
+  -- the last marks of the cases of a `match`
   pub cases_last : Bool → Way → Cases → List ℕ
   cases_last any w no_cases = []
   cases_last any w (case p g (suite f l inline b) rest) =

@@ -42,6 +42,7 @@ names_kind None = false
 names_kind (Some e) = true
 
 unfoldable mutual
+  -- the pairs of statements in a row
   pub stmts_pairs : Bool → Stmts → List Pair
   stmts_pairs any no_stmts = []
   stmts_pairs any (stmt f l k e rest) =
@@ -86,6 +87,7 @@ unfoldable mutual
   kind_pairs any l (def x ps ds c b) = []
   kind_pairs any l (match e header cs) = joined (l ∷ []) (cases_first cs) ++ cases_pairs any cs
 
+  -- the pairs of the suite of an `else` or a `finally`
   pub opt_pairs : Bool → OptSuite → List Pair
   opt_pairs any no_suite = []
   opt_pairs any (has_suite (suite f l inline b)) = stmts_pairs any b
@@ -98,6 +100,7 @@ unfoldable mutual
       ++ (joined (f ∷ []) (arms_first rest orelse)
       ++ (stmts_pairs any b ++ arms_pairs any rest orelse))
 
+  -- the pairs of the clauses of a `try`
   pub clauses_pairs : Bool → Clauses → List Pair
   clauses_pairs any no_clauses = []
   clauses_pairs any (clause k x (suite f l inline b) rest) =
@@ -105,6 +108,7 @@ unfoldable mutual
       ++ (joined (only (names_kind k) (f ∷ [])) (clauses_first rest)
       ++ (stmts_pairs any b ++ clauses_pairs any rest))
 
+  -- the pairs of the cases of a `match`
   pub cases_pairs : Bool → Cases → List Pair
   cases_pairs any no_cases = []
   cases_pairs any (case p g (suite f l inline b) rest) =

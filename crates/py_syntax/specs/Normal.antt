@@ -1,7 +1,7 @@
 -- Normal expressions and patterns: the trees that the grammar spells, each in one way. And their
 -- heights.
---     Level, rank, op_level, right_level, level     the levels of the grammar, and those of
---                                                   operators and expressions
+--     Precedence, rank                              the levels of the grammar
+--     op_precedence, right_precedence, precedence   those of operators and of expressions
 --     At, IsConstant, Compared, HasFormat           what may stand in a place
 --     Normal                                        an expression that the grammar spells;
 --                                                   NormalItems and the like for what stands in it
@@ -21,21 +21,21 @@ use Rattle.py_syntax.specs.Tokens.{underscore}
 
 -- The levels of the grammar, from the loosest. LEnd is that of a token that goes on with no
 -- expression.
-pub data Level : Type 0 where
-  LEnd : Level
-  LExprs : Level
-  LExpr : Level
-  LOr : Level
-  LAnd : Level
-  LNot : Level
-  LCmp : Level
-  LSum : Level
-  LTerm : Level
-  LUnary : Level
-  LPost : Level
+pub data Precedence : Type 0 where
+  LEnd : Precedence
+  LExprs : Precedence
+  LExpr : Precedence
+  LOr : Precedence
+  LAnd : Precedence
+  LNot : Precedence
+  LCmp : Precedence
+  LSum : Precedence
+  LTerm : Precedence
+  LUnary : Precedence
+  LPost : Precedence
 
 -- the levels in their order
-abbrev pub rank : Level → ℕ
+abbrev pub rank : Precedence → ℕ
 rank LEnd = 0
 rank LExprs = 1
 rank LExpr = 2
@@ -49,49 +49,49 @@ rank LUnary = 9
 rank LPost = 10
 
 -- the level of an operator, which is that of its left operand
-abbrev pub op_level : BinOp → Level
-op_level op_.Add = LSum
-op_level op_.Sub = LSum
-op_level op_.Mul = LTerm
-op_level op_.Floor = LTerm
-op_level op_.Mod = LTerm
+abbrev pub op_precedence : BinOp → Precedence
+op_precedence op_.Add = LSum
+op_precedence op_.Sub = LSum
+op_precedence op_.Mul = LTerm
+op_precedence op_.Floor = LTerm
+op_precedence op_.Mod = LTerm
 
 -- the level of the right operand
-abbrev pub right_level : BinOp → Level
-right_level op_.Add = LTerm
-right_level op_.Sub = LTerm
-right_level op_.Mul = LUnary
-right_level op_.Floor = LUnary
-right_level op_.Mod = LUnary
+abbrev pub right_precedence : BinOp → Precedence
+right_precedence op_.Add = LTerm
+right_precedence op_.Sub = LTerm
+right_precedence op_.Mul = LUnary
+right_precedence op_.Floor = LUnary
+right_precedence op_.Mod = LUnary
 
 -- the level of an expression; `()` is an atom
-abbrev pub level : Expr → Level
-level (name x) = LPost
-level (int n) = LPost
-level (str ps) = LPost
-level (fstr fs) = LPost
-level none = LPost
-level (bool b) = LPost
-level (tuple no_exprs c) = LPost
-level (tuple (exprs e es) c) = LExprs
-level (list es c) = LPost
-level (dict ps c) = LPost
-level (paren e) = LPost
-level (not' e) = LNot
-level (and a b) = LAnd
-level (or a b) = LOr
-level (unary s e) = LUnary
-level (binary op a b) = op_level op
-level (compare a ls) = LCmp
-level (cond b t o) = LExpr
-level (call f es c) = LPost
-level (index f e) = LPost
-level (slice f from to) = LPost
-level (attr f x) = LPost
+abbrev pub precedence : Expr → Precedence
+precedence (name x) = LPost
+precedence (int n) = LPost
+precedence (str ps) = LPost
+precedence (fstr fs) = LPost
+precedence none = LPost
+precedence (bool b) = LPost
+precedence (tuple no_exprs c) = LPost
+precedence (tuple (exprs e es) c) = LExprs
+precedence (list es c) = LPost
+precedence (dict ps c) = LPost
+precedence (paren e) = LPost
+precedence (not' e) = LNot
+precedence (and a b) = LAnd
+precedence (or a b) = LOr
+precedence (unary s e) = LUnary
+precedence (binary op a b) = op_precedence op
+precedence (compare a ls) = LCmp
+precedence (cond b t o) = LExpr
+precedence (call f es c) = LPost
+precedence (index f e) = LPost
+precedence (slice f from to) = LPost
+precedence (attr f x) = LPost
 
 -- an expression stands in a place of the grammar that takes this level and tighter ones
-abbrev pub At : Level → Expr → Type 0
-At l e = rank l ≤ rank (level e)
+abbrev pub At : Precedence → Expr → Type 0
+At l e = rank l ≤ rank (precedence e)
 
 -- what may stand after `is`
 abbrev pub IsConstant : Expr → Type 0
@@ -153,7 +153,8 @@ abbrev mutual
   Normal (and a b) = At LAnd a × Normal a × At LNot b × Normal b
   Normal (or a b) = At LOr a × Normal a × At LAnd b × Normal b
   Normal (unary s e) = At LUnary e × Normal e
-  Normal (binary op a b) = At (op_level op) a × Normal a × At (right_level op) b × Normal b
+  Normal (binary op a b) =
+      At (op_precedence op) a × Normal a × At (right_precedence op) b × Normal b
   Normal (compare a no_links) = ⊥
   Normal (compare a (link op e ls)) =
       At LSum a × Normal a × Compared op e × Normal e × NormalLinks ls
@@ -230,6 +231,7 @@ abbrev mutual
   is_target (slice f from to) = false
   is_target (attr f x) = false
 
+  -- whether each of several has
   pub are_targets : Exprs → Bool
   are_targets no_exprs = true
   are_targets (exprs e es) = is_target e && are_targets es
@@ -283,27 +285,33 @@ abbrev mutual
   height (slice f from to) = suc (max (height f) (max (height_bound from) (height_bound to)))
   height (attr f x) = suc (height f)
 
+  -- the height of the highest of several expressions
   pub heights : Exprs → ℕ
   heights no_exprs = 0
   heights (exprs e es) = max (height e) (heights es)
 
+  -- of the highest key or value
   pub height_entries : Pairs → ℕ
   height_entries no_pairs = 0
   height_entries (pair k v ps) = max (max (height k) (height v)) (height_entries ps)
 
+  -- of the highest right operand of a chain of comparisons
   pub height_links : Links → ℕ
   height_links no_links = 0
   height_links (link op e ls) = max (height e) (height_links ls)
 
+  -- of a bound of a slice, where there is one
   pub height_bound : OptExpr → ℕ
   height_bound absent = 0
   height_bound (present e) = height e
 
+  -- of the highest field of neighbouring strings
   pub height_fragments : Fragments → ℕ
   height_fragments no_fragments = 0
   height_fragments (plain x fs) = height_fragments fs
   height_fragments (format ps fs) = max (height_parts ps) (height_fragments fs)
 
+  -- of the highest field of an f-string
   pub height_parts : Parts → ℕ
   height_parts no_parts = 0
   height_parts (text x ps) = height_parts ps
@@ -361,6 +369,7 @@ abbrev mutual
   EachPattern l (patterns p ps) = (l ≤ pattern_rank p) × NormalPattern p × EachPattern l ps
 
 abbrev mutual
+  -- how many nodes the longest branch of a pattern has
   pub pattern_height : Pattern → ℕ
   pattern_height (literal minus c) = 1
   pattern_height (capture x) = 1
@@ -371,6 +380,7 @@ abbrev mutual
   pattern_height (p_as p x) = suc (pattern_height p)
   pattern_height (p_paren p) = suc (pattern_height p)
 
+  -- the height of the highest of several patterns
   pub pattern_heights : Patterns → ℕ
   pattern_heights no_patterns = 0
   pattern_heights (patterns p ps) = max (pattern_height p) (pattern_heights ps)

@@ -15,6 +15,7 @@ abbrev mutual
   is_irrefutable (p_as p x) = is_irrefutable p
   is_irrefutable (p_paren p) = is_irrefutable p
 
+  -- whether one of several patterns matches everything
   pub has_irrefutable : Patterns → Bool
   has_irrefutable no_patterns = false
   has_irrefutable (patterns p ps) = is_irrefutable p || has_irrefutable ps

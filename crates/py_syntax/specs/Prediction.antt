@@ -34,6 +34,7 @@ body_arcs any first b =
     (stmts_last any onward b ++ (stmts_last any returning b ++ stmts_last any raising b))
     ++ (if stmts_empty b then (outside first, outside first) ∷ [] else [])))
 
+-- the arcs of the bodies of functions
 abbrev pub functions_arcs : Bool → List Function → List Arc
 functions_arcs any [] = []
 functions_arcs any (f ∷ fs) =
@@ -47,6 +48,7 @@ module_arcs any m = body_arcs any 1 (without_docstring m) ++ functions_arcs any 
 abbrev pub by_ends : Arc → Arc → Ordering
 by_ends a b = ordering_then (int_cmp a.0 b.0) (int_cmp a.1 b.1)
 
+-- arcs in their order, each once
 abbrev pub arcs_in_order : List Arc → List Arc
 arcs_in_order [] = []
 arcs_in_order (a ∷ rest) = insert_key by_ends (arcs_in_order rest) a

@@ -1,6 +1,6 @@
 -- Which tree a list of tokens spells, lines included, and which prefixes begin one.
 --     first_line, last_line                     the lines of tokens
---     test_head .. behind                       headers, and what stands behind one
+--     test_head .. after_suite                  headers, and what stands after one
 --     KeepsLines, KindLines                     the lines that a tree keeps; SuiteLines and the
 --                                               like for what stands in it
 --     module_tokens, IsNormal, Spells           the tokens of a module, a normal one, and the tree
@@ -50,8 +50,8 @@ abbrev pub past : List Marked → List PToken → List PToken
 past before ts = drop (length before) ts
 
 -- the tokens after a header and its suite
-abbrev pub behind : List Kind → Suite → List PToken → List PToken
-behind head s ts = drop (length head + length (suite_tokens s [])) ts
+abbrev pub after_suite : List Kind → Suite → List PToken → List PToken
+after_suite head s ts = drop (length head + length (suite_tokens s [])) ts
 
 -- The lines that the nodes keep are those of their first and last tokens in the list, which begins
 -- with theirs.
@@ -80,20 +80,21 @@ abbrev mutual
   KindLines (from m names) ts = Unit {0}
   KindLines (if' no_arms o) ts = Unit {0}
   KindLines (if' (arm t b arms) o) ts =
-      SuiteLines b (test_head word.If t) ts × ArmLines arms (behind (test_head word.If t) b ts)
+      SuiteLines b (test_head word.If t) ts × ArmLines arms (after_suite (test_head word.If t) b ts)
       × OptLines o (word_head word.Else)
-      (past (elif_tokens arms []) (behind (test_head word.If t) b ts))
+      (past (elif_tokens arms []) (after_suite (test_head word.If t) b ts))
   KindLines (while t b o) ts =
       SuiteLines b (test_head word.While t) ts
-      × OptLines o (word_head word.Else) (behind (test_head word.While t) b ts)
+      × OptLines o (word_head word.Else) (after_suite (test_head word.While t) b ts)
   KindLines (for t e b o) ts =
-      SuiteLines b (for_head t e) ts × OptLines o (word_head word.Else) (behind (for_head t e) b ts)
+      SuiteLines b (for_head t e) ts
+      × OptLines o (word_head word.Else) (after_suite (for_head t e) b ts)
   KindLines (try b cs o f) ts =
-      SuiteLines b (word_head word.Try) ts × ClauseLines cs (behind (word_head word.Try) b ts)
+      SuiteLines b (word_head word.Try) ts × ClauseLines cs (after_suite (word_head word.Try) b ts)
       × OptLines o (word_head word.Else)
-      (past (clause_tokens cs []) (behind (word_head word.Try) b ts))
+      (past (clause_tokens cs []) (after_suite (word_head word.Try) b ts))
       × OptLines f (word_head word.Finally)
-      (past (clause_tokens cs (else_tokens o [])) (behind (word_head word.Try) b ts))
+      (past (clause_tokens cs (else_tokens o [])) (after_suite (word_head word.Try) b ts))
   KindLines (def x ps ds c b) ts =
       SuiteLines b
       (Word word.Def ∷ Name x ∷ Sign mark.LeftParen
@@ -112,25 +113,30 @@ abbrev mutual
       (first ≡ first_line ts) × (last ≡ last_line (take (length head) ts))
       × KeepsLines b (drop (length head + 2) ts)
 
+  -- the suite of an `else` or a `finally`, with its header
   pub OptLines : OptSuite → List Kind → List PToken → Type 0
   OptLines no_suite head ts = Unit {0}
   OptLines (has_suite s) head ts = SuiteLines s head ts
 
+  -- tests with their suites, after the first
   pub ArmLines : Arms → List PToken → Type 0
   ArmLines no_arms ts = Unit {0}
   ArmLines (arm t b arms) ts =
-      SuiteLines b (test_head word.Elif t) ts × ArmLines arms (behind (test_head word.Elif t) b ts)
+      SuiteLines b (test_head word.Elif t) ts
+      × ArmLines arms (after_suite (test_head word.Elif t) b ts)
 
+  -- the clauses of a `try`
   pub ClauseLines : Clauses → List PToken → Type 0
   ClauseLines no_clauses ts = Unit {0}
   ClauseLines (clause e x b cs) ts =
-      SuiteLines b (except_tokens e x) ts × ClauseLines cs (behind (except_tokens e x) b ts)
+      SuiteLines b (except_tokens e x) ts × ClauseLines cs (after_suite (except_tokens e x) b ts)
 
+  -- the cases of a `match`
   pub CaseLines : Cases → List PToken → Type 0
   CaseLines no_cases ts = Unit {0}
   CaseLines (case p g b cs) ts =
       SuiteLines b (Name case_name ∷ pattern_tokens p (guard_tokens g)) ts
-      × CaseLines cs (behind (Name case_name ∷ pattern_tokens p (guard_tokens g)) b ts)
+      × CaseLines cs (after_suite (Name case_name ∷ pattern_tokens p (guard_tokens g)) b ts)
 
 -- ---- a module
 

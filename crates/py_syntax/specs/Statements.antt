@@ -171,26 +171,31 @@ abbrev mutual
   suite_tokens (suite first last false b) rest =
       put (Newline ∷ Indent ∷ []) (stmts_tokens b (put (Dedent ∷ []) rest))
 
+  -- an `else`, where there is one
   pub else_tokens : OptSuite → List Marked → List Marked
   else_tokens no_suite rest = rest
   else_tokens (has_suite s) rest = put (Word word.Else ∷ Sign mark.Colon ∷ []) (suite_tokens s rest)
 
+  -- a `finally`, where there is one
   pub finally_tokens : OptSuite → List Marked → List Marked
   finally_tokens no_suite rest = rest
   finally_tokens (has_suite s) rest =
       put (Word word.Finally ∷ Sign mark.Colon ∷ []) (suite_tokens s rest)
 
+  -- tests with their suites, after the first
   pub elif_tokens : Arms → List Marked → List Marked
   elif_tokens no_arms rest = rest
   elif_tokens (arm t b arms) rest =
       put (Word word.Elif ∷ tokens t (Sign mark.Colon ∷ []))
       (suite_tokens b (elif_tokens arms rest))
 
+  -- the clauses of a `try`
   pub clause_tokens : Clauses → List Marked → List Marked
   clause_tokens no_clauses rest = rest
   clause_tokens (clause e x b cs) rest =
       put (except_tokens e x) (suite_tokens b (clause_tokens cs rest))
 
+  -- the cases of a `match`
   pub case_tokens : Cases → List Marked → List Marked
   case_tokens no_cases rest = rest
   case_tokens (case p g b cs) rest =
@@ -324,18 +329,22 @@ abbrev mutual
   NormalSuite (suite first last false (stmt f l k e ss)) =
       EndLines (stmt f l k e ss) × NormalStmts (stmt f l k e ss)
 
+  -- the suite of an `else` or a `finally`, where there is one
   pub NormalOpt : OptSuite → Type 0
   NormalOpt no_suite = Unit {0}
   NormalOpt (has_suite s) = NormalSuite s
 
+  -- tests with their suites
   pub NormalArms : Arms → Type 0
   NormalArms no_arms = Unit {0}
   NormalArms (arm t b arms) = NormalExpr t × NormalSuite b × NormalArms arms
 
+  -- the clauses of a `try`
   pub NormalClauses : Clauses → Type 0
   NormalClauses no_clauses = Unit {0}
   NormalClauses (clause e x b cs) = NormalClauseHead e x × NormalSuite b × NormalClauses cs
 
+  -- the cases of a `match`
   pub NormalCases : Cases → Type 0
   NormalCases no_cases = Unit {0}
   NormalCases (case p g b cs) =
@@ -354,6 +363,7 @@ abbrev mutual
   stmts_height no_stmts = 0
   stmts_height (stmt first last k e ss) = max (kind_height k) (stmts_height ss)
 
+  -- of a statement
   pub kind_height : StmtKind → ℕ
   kind_height (expr e) = height e
   kind_height (assign ts e) = max (heights ts) (height e)
@@ -375,22 +385,27 @@ abbrev mutual
   kind_height (def x ps ds c b) = max (heights ds) (suite_height b)
   kind_height (match e last cs) = max (height e) (cases_height cs)
 
+  -- of a suite
   pub suite_height : Suite → ℕ
   suite_height (suite first last inline b) = stmts_height b
 
+  -- of the suite of an `else` or a `finally`, where there is one
   pub opt_height : OptSuite → ℕ
   opt_height no_suite = 0
   opt_height (has_suite s) = suite_height s
 
+  -- of tests with their suites
   pub arms_height : Arms → ℕ
   arms_height no_arms = 0
   arms_height (arm t b arms) = max (max (height t) (suite_height b)) (arms_height arms)
 
+  -- of the clauses of a `try`
   pub clauses_height : Clauses → ℕ
   clauses_height no_clauses = 0
   clauses_height (clause e x b cs) =
       max (max (option_height e) (suite_height b)) (clauses_height cs)
 
+  -- of the cases of a `match`
   pub cases_height : Cases → ℕ
   cases_height no_cases = 0
   cases_height (case p g b cs) =
@@ -402,6 +417,7 @@ abbrev mutual
   stmts_nesting no_stmts = 0
   stmts_nesting (stmt first last k e ss) = max (kind_nesting k) (stmts_nesting ss)
 
+  -- in a statement
   pub kind_nesting : StmtKind → ℕ
   kind_nesting (expr e) = 0
   kind_nesting (assign ts e) = 0
@@ -423,21 +439,26 @@ abbrev mutual
   kind_nesting (def x ps ds c b) = suite_nesting b
   kind_nesting (match e last cs) = cases_nesting cs
 
+  -- in a suite, which is one itself
   pub suite_nesting : Suite → ℕ
   suite_nesting (suite first last inline b) = suc (stmts_nesting b)
 
+  -- in the suite of an `else` or a `finally`, where there is one
   pub opt_nesting : OptSuite → ℕ
   opt_nesting no_suite = 0
   opt_nesting (has_suite s) = suite_nesting s
 
+  -- in tests with their suites
   pub arms_nesting : Arms → ℕ
   arms_nesting no_arms = 0
   arms_nesting (arm t b arms) = max (suite_nesting b) (arms_nesting arms)
 
+  -- in the clauses of a `try`
   pub clauses_nesting : Clauses → ℕ
   clauses_nesting no_clauses = 0
   clauses_nesting (clause e x b cs) = max (suite_nesting b) (clauses_nesting cs)
 
+  -- in the cases of a `match`
   pub cases_nesting : Cases → ℕ
   cases_nesting no_cases = 0
   cases_nesting (case p g b cs) = max (suite_nesting b) (cases_nesting cs)

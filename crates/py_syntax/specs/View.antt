@@ -37,46 +37,54 @@ use Rattle.py_syntax.specs.Tree.{Text, Expr, name, int, str, fstr, none, bool, t
 use Rattle.py_syntax.specs.Tree.{Constant, c_int, c_str, c_none, c_bool, Pattern, literal, capture, wild, member, sequence, p_or, p_as, p_paren, Patterns, no_patterns, patterns, Alias}
 use Rattle.py_syntax.specs.Tree.{Stmts, no_stmts, stmt, Suite, suite, OptSuite, no_suite, has_suite, Arms, no_arms, arm, Clauses, no_clauses, clause, Cases, no_cases, case, StmtKind, expr, assign, aug_assign, pass, break, continue, return, raise, assert, global, import, from, if', while, for, try, def, match}
 
--- one element of each list of parts
+-- a key with its value
 pub record PlainPair : Type 0 where
   pub key : Expr
   pub value : Expr
 
+-- a comparison of a chain after its first operand
 pub record PlainLink : Type 0 where
   pub op : Comparison
   pub right : Expr
 
+-- one of neighbouring strings
 pub data PlainFragment : Type 0 where
   a_plain : (x : Text) → PlainFragment
   a_format : (parts : Parts) → PlainFragment
 
+-- characters of an f-string, or a field
 pub data PlainPart : Type 0 where
   a_text : (x : Text) → PlainPart
   a_field : (e : Expr) → PlainPart
 
--- the plain lists
+-- expressions in a row
 abbrev pub exprs_of : List Expr → Exprs
 exprs_of [] = no_exprs
 exprs_of (e ∷ es) = exprs e (exprs_of es)
 
+-- keys with their values
 abbrev pub pairs_of : List PlainPair → Pairs
 pairs_of [] = no_pairs
 pairs_of (p ∷ ps) = pair p.key p.value (pairs_of ps)
 
+-- the comparisons of a chain
 abbrev pub links_of : List PlainLink → Links
 links_of [] = no_links
 links_of (l ∷ ls) = link l.op l.right (links_of ls)
 
+-- neighbouring strings
 abbrev pub fragments_of : List PlainFragment → Fragments
 fragments_of [] = no_fragments
 fragments_of (a_plain x ∷ fs) = plain x (fragments_of fs)
 fragments_of (a_format ps ∷ fs) = format ps (fragments_of fs)
 
+-- the parts of an f-string
 abbrev pub parts_of : List PlainPart → Parts
 parts_of [] = no_parts
 parts_of (a_text x ∷ ps) = text x (parts_of ps)
 parts_of (a_field e ∷ ps) = field e (parts_of ps)
 
+-- a bound of a slice, where there is one
 abbrev pub opt_of : Option Expr → OptExpr
 opt_of None = absent
 opt_of (Some e) = present e
@@ -106,18 +114,22 @@ expr_step (open_.Slice a f t) =
     slice a.value (opt_of (option_map (λ b. b.value) f)) (opt_of (option_map (λ b. b.value) t))
 expr_step (open_.Attr a x) = attr a.value x
 
+-- one part of an f-string
 abbrev part_step : open_.FormatPart-F Expr PlainPart PlainFragment PlainLink PlainPair → PlainPart
 part_step (open_.Chars x) = a_text x
 part_step (open_.Field e) = a_field e
 
+-- one of neighbouring strings
 abbrev fragment_step : open_.Fragment-F Expr PlainPart PlainFragment PlainLink PlainPair
     → PlainFragment
 fragment_step (open_.Plain x) = a_plain x
 fragment_step (open_.Format ps) = a_format (parts_of ps.items)
 
+-- one comparison of a chain
 abbrev link_step : open_.Link-F Expr PlainPart PlainFragment PlainLink PlainPair → PlainLink
 link_step l = record { op = l.op; right = l.right }
 
+-- one key with its value
 abbrev pair_step : open_.Pair-F Expr PlainPart PlainFragment PlainLink PlainPair → PlainPair
 pair_step p = record { key = p.key; value = p.value }
 
@@ -218,44 +230,51 @@ plain_alias i = record { name = i.name; bound = i.bound }
 abbrev pub plain_aliases : List AliasNode → List Alias
 plain_aliases = map plain_alias
 
--- one element of each list of parts
+-- a statement with its lines
 pub record PlainStmt : Type 0 where
   pub first : ℕ
   pub last : ℕ
   pub kind : StmtKind
   pub end : LineEnd
 
+-- a test with its suite
 pub record PlainArm : Type 0 where
   pub test : Expr
   pub body : Suite
 
+-- an `except` clause with its suite
 pub record PlainClause : Type 0 where
   pub kind : Option Expr
   pub name : Option Text
   pub body : Suite
 
+-- a case with its suite
 pub record PlainCase : Type 0 where
   pub pattern : Pattern
   pub guard : Option Expr
   pub body : Suite
 
--- the plain lists
+-- statements in a row
 abbrev pub stmts_of : List PlainStmt → Stmts
 stmts_of [] = no_stmts
 stmts_of (s ∷ ss) = stmt s.first s.last s.kind s.end (stmts_of ss)
 
+-- tests with their suites
 abbrev pub arms_of : List PlainArm → Arms
 arms_of [] = no_arms
 arms_of (a ∷ as') = arm a.test a.body (arms_of as')
 
+-- `except` clauses
 abbrev pub clauses_of : List PlainClause → Clauses
 clauses_of [] = no_clauses
 clauses_of (c ∷ cs) = clause c.kind c.name c.body (clauses_of cs)
 
+-- cases
 abbrev pub cases_of : List PlainCase → Cases
 cases_of [] = no_cases
 cases_of (c ∷ cs) = case c.pattern c.guard c.body (cases_of cs)
 
+-- the suite of an `else` or a `finally`, where there is one
 abbrev pub opt_suite_of : Option Suite → OptSuite
 opt_suite_of None = no_suite
 opt_suite_of (Some s) = has_suite s
@@ -282,9 +301,11 @@ kind_step (open_stmt.Try b cs o f) = try b (clauses_of cs.items) (opt_suite_of o
 kind_step (open_stmt.Def x ps ds c b) = def x ps.items (plain_exprs ds.items) c b
 kind_step (open_stmt.Match e l cs) = match (plain_expr e) l (cases_of cs.items)
 
+-- one test with its suite
 abbrev arm_step : open_stmt.Arm-F StmtKind PlainArm PlainCase PlainClause PlainStmt Suite → PlainArm
 arm_step a = record { test = plain_expr a.test; body = a.body }
 
+-- one case
 abbrev case_step : open_stmt.Case-F StmtKind PlainArm PlainCase PlainClause PlainStmt Suite
     → PlainCase
 case_step c = record {
@@ -293,14 +314,17 @@ case_step c = record {
   body = c.body;
 }
 
+-- one `except` clause
 abbrev clause_step : open_stmt.Clause-F StmtKind PlainArm PlainCase PlainClause PlainStmt Suite
     → PlainClause
 clause_step c = record { kind = option_map plain_expr c.kind; name = c.name; body = c.body }
 
+-- one statement with its lines
 abbrev stmt_step : open_stmt.Stmt-F StmtKind PlainArm PlainCase PlainClause PlainStmt Suite
     → PlainStmt
 stmt_step s = record { first = s.first; last = s.last; kind = s.kind; end = s.end }
 
+-- one suite with the lines of its header
 abbrev suite_step : open_stmt.Suite-F StmtKind PlainArm PlainCase PlainClause PlainStmt Suite
     → Suite
 suite_step s = suite s.first s.last s.inline (stmts_of s.body.items)

@@ -8,3 +8,6 @@ pub mod stmt;
 pub use expr::{Comparison, Expr, FormatPart, Fragment, Link, Pair, Sign};
 pub use pattern::{Brackets, Constant, Pattern};
 pub use stmt::{Alias, Arm, Case, Clause, LineEnd, Module, Stmt, StmtKind, Suite};
+
+/// The most nodes of an expression or a pattern above each other.
+pub const HEIGHT_LIMIT: usize = 200;

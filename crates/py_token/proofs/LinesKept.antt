@@ -7,7 +7,7 @@ use Rattle.py_token.specs.declared.error.TokenError.{TokenError}
 use Rattle.py_token.specs.declared.error.TokenError.TheVariants.{BadCharacter, WideNumber}
 use Rattle.py_token.specs.declared.token.Keyword.{Keyword}
 use Rattle.py_token.specs.declared.token.Mark.{Mark}
-use Rattle.py_token.specs.Source.{begins, line_count}
+use Rattle.py_token.specs.Source.{begins, line_count, most_lines}
 use Rattle.py_token.specs.Plain.{PKind, int, str, fstring, mark, PToken, token, token_row, PPiece, chars, field, piece_row}
 use Rattle.py_token.specs.Words.{begins_name, in_name, keyword_of, kind_of_word, word_kind}
 use Rattle.py_token.specs.Numbers.{in_number, number_of, kind_of_number}
@@ -94,13 +94,13 @@ the_tokens b = Ok b
 tokens_is : (a b : Body PToken) → the_tokens a ≡ the_tokens b → a ≡ b
 tokens_is a b h = cc
 
-match_on_lines : (limit : TokenError) (line : ℕ) (r : Result Match TokenError) (body : Result (Body PToken) TokenError) (b : Body PToken) → 1 ≤ line → line ≤ 65535 → ((t : Match) → r ≡ the_match t → IsKindOnLines t.kind) → ((b' : Body PToken) → body ≡ the_tokens b' → AreOnLines b'.values)
+match_on_lines : (limit : TokenError) (line : ℕ) (r : Result Match TokenError) (body : Result (Body PToken) TokenError) (b : Body PToken) → 1 ≤ line → line ≤ most_lines → ((t : Match) → r ≡ the_match t → IsKindOnLines t.kind) → ((b' : Body PToken) → body ≡ the_tokens b' → AreOnLines b'.values)
     → with_match limit line r body ≡ the_tokens b → AreOnLines b.values
 match_on_lines limit line (Ok t) (Ok b') b low high kind more is = subst (λ (w : Body PToken). AreOnLines w.values) (tokens_is (record b' { values = token t.kind line line ∷ b'.values }) b is) ((low, omega arith, high, kind t refl), more b' refl)
 match_on_lines limit line (Ok t) (Err e) b low high kind more is = absurd cc
 match_on_lines limit line (Err e) body b low high kind more is = absurd cc
 
-field_on_lines : (limit : TokenError) (line skip depth : ℕ) (cs : List ℕ) (b : Body PToken) → 1 ≤ line → line ≤ 65535 → field_tokens limit line skip depth cs ≡ the_tokens b → AreOnLines b.values
+field_on_lines : (limit : TokenError) (line skip depth : ℕ) (cs : List ℕ) (b : Body PToken) → 1 ≤ line → line ≤ most_lines → field_tokens limit line skip depth cs ≡ the_tokens b → AreOnLines b.values
 unfolding field_tokens
 field_on_lines limit line zero depth [] b low high is = absurd cc
 field_on_lines limit line (suc skip) depth [] b low high is = absurd cc
@@ -131,7 +131,7 @@ chars_on_lines (holds x n next) = tt
 chars_on_lines (closing n) = tt
 chars_on_lines (fault e) = tt
 
-field_item_on_lines : (quote : ℕ) (triple : Bool) (first line : ℕ) (cs : List ℕ) → 1 ≤ line → line ≤ 65535 → HoldsOnLines (field_item quote triple first line cs)
+field_item_on_lines : (quote : ℕ) (triple : Bool) (first line : ℕ) (cs : List ℕ) → 1 ≤ line → line ≤ most_lines → HoldsOnLines (field_item quote triple first line cs)
 unfolding field_item
 field_item_on_lines quote triple first line cs low high = go (field_tokens (limit_fault triple first line (drop (reach quote triple cs) cs)) line 0 0 (take (reach quote triple cs) cs)) refl
   where
@@ -139,7 +139,7 @@ field_item_on_lines quote triple first line cs low high = go (field_tokens (limi
     go (Ok b) is = row_on_lines b.values (field_on_lines (limit_fault triple first line (drop (reach quote triple cs) cs)) line 0 0 (take (reach quote triple cs) cs) b low high is)
     go (Err e) is = tt
 
-item_on_lines : (quote : ℕ) (triple : Bool) (first line c : ℕ) (cs : List ℕ) → 1 ≤ line → line ≤ 65535 → HoldsOnLines (fstring_item quote triple first line c cs)
+item_on_lines : (quote : ℕ) (triple : Bool) (first line c : ℕ) (cs : List ℕ) → 1 ≤ line → line ≤ most_lines → HoldsOnLines (fstring_item quote triple first line c cs)
 unfolding fstring_item
 item_on_lines quote triple first line c cs low high = go (eqb c 123) (begins 123 cs) (eqb c 125) (begins 125 cs)
   where

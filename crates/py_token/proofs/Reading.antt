@@ -5,7 +5,7 @@ use Rattle.std.proofs.lemmas.Bool.{eqb-true}
 use Rattle.std.proofs.lemmas.List.Sums.{prefix_len-le-length}
 use Rattle.py_token.specs.declared.error.TokenError.{TokenError}
 use Rattle.py_token.specs.declared.error.TokenError.TheVariants.{BadCharacter, BadIndent, OpenString, OpenBracket, WideNumber, NoMemory}
-use Rattle.py_token.specs.Source.{begins, line_count, last_line}
+use Rattle.py_token.specs.Source.{begins, line_count, last_line, most_lines}
 use Rattle.py_token.specs.Plain.{PToken}
 use Rattle.py_token.specs.Strings.{◌>>=◌}
 use Rattle.py_token.specs.Rules.{Match}
@@ -93,7 +93,7 @@ none_before : (r : Result (List PToken) TokenError) → with_front [] r ≡ r
 none_before (Ok ts) = refl
 none_before (Err e) = refl
 
-pub starts : (chars : List ℕ) (last : ℕ) (out : List PToken) (state : State) → last ≡ last_line chars → out ≡ [] → state ≡ outermost → line_count chars ≤ 65535 → Reads chars last out state 1 chars
+pub starts : (chars : List ℕ) (last : ℕ) (out : List PToken) (state : State) → last ≡ last_line chars → out ≡ [] → state ≡ outermost → line_count chars ≤ most_lines → Reads chars last out state 1 chars
 unfolding spelling
 starts chars last out state last_is out_is state_is few = record {
   same = ap (λ x. with_front x (layout state last (segments 0 1 chars))) out_is ∙ none_before (layout state last (segments 0 1 chars)) ∙ ap (λ x. layout x last (segments 0 1 chars)) state_is ∙ ap (λ x. layout outermost x (segments 0 1 chars)) last_is;

@@ -25,6 +25,10 @@ unfoldable pub line_count : List ℕ → ℕ
 line_count [] = 0
 line_count (c ∷ cs) = if c == 10 then suc (line_count cs) else max 1 (line_count cs)
 
+-- the most lines of a source
+abbrev pub most_lines : ℕ
+most_lines = 65535
+
 -- the last line of a text, or 1 where it has none
 abbrev pub last_line : List ℕ → ℕ
 last_line cs = max 1 (line_count cs)

@@ -5,7 +5,7 @@ use Rattle.py_token.specs.declared.strings.Opening.{Opening}
 use Rattle.py_token.specs.declared.strings.TextBody.{TextBody}
 use Rattle.py_token.specs.declared.strings.Denoted.{Denoted}
 use Rattle.py_token.specs.declared.strings.Denoted.TheVariants.{Nothing, One, Two}
-use Rattle.py_token.specs.declared.strings.StringItem as held
+use Rattle.py_token.specs.declared.strings.StringItem as code_item
 use Rattle.py_token.specs.declared.strings.StringItem.TheVariants.{Holds, Closing}
 use Rattle.py_token.specs.Strings.{◌>>=◌, StringItem, holds, closing, fault, text_item, Body, text_body}
 use Rattle.py_token.specs.Rules.{joined}
@@ -17,7 +17,7 @@ denoted_text (One c) = c ∷ []
 denoted_text (Two c d) = c ∷ d ∷ []
 
 -- an item, or its fault
-abbrev pub item_of : Result held.StringItem TokenError → StringItem (List ℕ)
+abbrev pub item_of : Result code_item.StringItem TokenError → StringItem (List ℕ)
 item_of (Ok (Holds denoted after next)) = holds (denoted_text denoted) after next
 item_of (Ok (Closing after)) = closing after
 item_of (Err e) = fault e

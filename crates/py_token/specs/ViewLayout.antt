@@ -3,8 +3,8 @@ use Rattle.std.specs.Prelude.{◌≡◌, ℕ, List, ◌++◌, map, reverse, Resu
 use Rattle.std.specs.Global.{Vec}
 use Rattle.py_token.specs.declared.error.TokenError.{TokenError}
 use Rattle.py_token.specs.declared.error.TokenError.TheVariants.{NoMemory}
-use Rattle.py_token.specs.declared.fields.BracketChange as held_change
-use Rattle.py_token.specs.declared.layout.State as held
+use Rattle.py_token.specs.declared.fields.BracketChange as code_change
+use Rattle.py_token.specs.declared.layout.State as code_state
 use Rattle.py_token.specs.declared.token.Token.{Token}
 use Rattle.py_token.specs.Plain.{PToken}
 use Rattle.py_token.specs.Strings.{◌>>=◌}
@@ -17,7 +17,7 @@ abbrev pub stack_of : List (Vec ℕ) → List (List ℕ)
 stack_of indents = reverse (map (λ i. i.items) indents)
 
 -- where the reading stands
-abbrev pub view_state : held.State → State
+abbrev pub view_state : code_state.State → State
 view_state s = record {
   indents = stack_of s.indents.items;
   brackets = reverse s.brackets.items;
@@ -27,7 +27,7 @@ view_state s = record {
 }
 
 -- the same after a token with that change of the brackets
-abbrev pub after_change : held_change.BracketChange → ℕ → held.State → State
+abbrev pub after_change : code_change.BracketChange → ℕ → code_state.State → State
 after_change change line s =
     record (view_state s) { brackets = changed (view_change change) line (view_state s).brackets }
 
@@ -45,7 +45,8 @@ Adds given (Err e) after old new = given ≡ Err e
 
 -- the same of the tokens and the state of the code: a step from the state before
 abbrev pub Lays : (State → Result (List PToken × State) TokenError)
-    → Result (Unit {0}) TokenError → held.State → held.State → Vec Token → Vec Token → Type 0
+    → Result (Unit {0}) TokenError → code_state.State → code_state.State → Vec Token → Vec Token
+    → Type 0
 Lays step answer before after old new =
     Adds (step (view_state before)) answer (view_state after)
     (view_tokens old.items) (view_tokens new.items)

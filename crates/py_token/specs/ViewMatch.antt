@@ -2,9 +2,9 @@
 use Rattle.std.specs.Prelude.{ℕ, List, [], ◌∷◌, length, Result, Ok, Err}
 use Rattle.py_token.specs.declared.error.TokenError.{TokenError}
 use Rattle.py_token.specs.declared.error.TokenError.TheVariants.{BadCharacter}
-use Rattle.py_token.specs.declared.plain.Match as held
+use Rattle.py_token.specs.declared.plain.Match as code_match
 use Rattle.py_token.specs.Rules.{Match, word_at, number_at, plain_token}
-use Rattle.py_token.specs.declared.fields.BracketChange as held_change
+use Rattle.py_token.specs.declared.fields.BracketChange as code_change
 use Rattle.py_token.specs.declared.fields.BracketChange.TheVariants as turns
 use Rattle.py_token.specs.declared.fields.FieldBody.{FieldBody}
 use Rattle.py_token.specs.Plain.{PToken}
@@ -13,7 +13,7 @@ use Rattle.py_token.specs.Fields.{BracketChange, opening, shutting, neither, fie
 use Rattle.py_token.specs.View.{view_kind, view_tokens}
 
 -- a token that was taken
-abbrev pub view_match : held.Match → Match
+abbrev pub view_match : code_match.Match → Match
 view_match t = record { kind = view_kind t.kind; after = t.after; next = t.next }
 
 -- the word at the front
@@ -37,7 +37,7 @@ field_token_of line [] = Err (BadCharacter line)
 field_token_of line (c ∷ cs) = field_token line c cs
 
 -- what a token does to the brackets
-abbrev pub view_change : held_change.BracketChange → BracketChange
+abbrev pub view_change : code_change.BracketChange → BracketChange
 view_change turns.Opening = opening
 view_change turns.Shutting = shutting
 view_change turns.Neither = neither

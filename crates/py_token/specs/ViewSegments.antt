@@ -2,24 +2,24 @@
 use Rattle.std.specs.Prelude.{ℕ, List, [], ◌∷◌, Result, Ok, Err}
 use Rattle.py_token.specs.declared.error.TokenError.{TokenError}
 use Rattle.py_token.specs.declared.error.TokenError.TheVariants.{BadCharacter}
-use Rattle.py_token.specs.declared.segments.Lexeme as held
-use Rattle.py_token.specs.declared.segments.Lexeme.TheVariants as helds
-use Rattle.py_token.specs.declared.segments.Segment as held_segment
+use Rattle.py_token.specs.declared.segments.Lexeme as code_lexeme
+use Rattle.py_token.specs.declared.segments.Lexeme.TheVariants as lexeme_
+use Rattle.py_token.specs.declared.segments.Segment as code_segment
 use Rattle.py_token.specs.Segments.{Lexeme, spelled, blank, comment, line_end, joined_end, stuck, Segment, token_segment, segment_at}
 use Rattle.py_token.specs.Fields.{token_at}
 use Rattle.py_token.specs.View.{view_kind}
 
 -- what a segment is
-abbrev pub view_lexeme : held.Lexeme → Lexeme
-view_lexeme (helds.Spelled kind) = spelled (view_kind kind)
-view_lexeme (helds.Blank c) = blank c
-view_lexeme helds.Comment = comment
-view_lexeme helds.LineEnd = line_end
-view_lexeme helds.JoinedEnd = joined_end
-view_lexeme (helds.Stuck error) = stuck error
+abbrev pub view_lexeme : code_lexeme.Lexeme → Lexeme
+view_lexeme (lexeme_.Spelled kind) = spelled (view_kind kind)
+view_lexeme (lexeme_.Blank c) = blank c
+view_lexeme lexeme_.Comment = comment
+view_lexeme lexeme_.LineEnd = line_end
+view_lexeme lexeme_.JoinedEnd = joined_end
+view_lexeme (lexeme_.Stuck error) = stuck error
 
 -- a segment
-abbrev pub view_segment : held_segment.Segment → Segment
+abbrev pub view_segment : code_segment.Segment → Segment
 view_segment c = record { lexeme = view_lexeme c.lexeme; after = c.after; next = c.next }
 
 -- the token at the front

@@ -2,7 +2,7 @@
 
 ghost use Rattle.std.specs.Prelude.{◌≡◌, ◌≤◌, ◌==◌, ◌&&◌, IfOk};
 ghost use Rattle.std.specs.Str.{chars};
-ghost use Rattle.py_token.specs.Source.{begins, without_mark, joined_ends, source_text, line_count, last_line};
+ghost use Rattle.py_token.specs.Source.{begins, without_mark, joined_ends, source_text, line_count, most_lines, last_line};
 
 use crate::characters::{begins, split_first};
 use std::alloc::{AllocError, Global};
@@ -35,7 +35,7 @@ pub fn count_lines(source: &str) -> usize
 /// The last line of characters, or 1 where they have none.
 #[tactic(auto, unfolding(crate::specs::Source::line_count))]
 pub fn last_line(chars: &[char]) -> u32
-    requires { line_count chars.now ≤ 65535 }
+    requires { line_count chars.now ≤ most_lines }
     ensures { result ≡ last_line chars.now }
 {
     let mut ends: u32 = 0;

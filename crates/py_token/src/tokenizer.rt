@@ -2,7 +2,7 @@
 
 ghost use Rattle.std.specs.Prelude.{◌≢◌, ◌≤◌, ◌<◌, ◌^◌, length, IfOk, IfErr};
 ghost use Rattle.std.specs.Str.{chars};
-ghost use Rattle.py_token.specs.Source.{line_count, source_text};
+ghost use Rattle.py_token.specs.Source.{line_count, most_lines, source_text};
 ghost use Rattle.py_token.specs.Spelling.{spelling, Spells, StuckAt};
 ghost use Rattle.py_token.specs.OnLines.{AreOnLines};
 ghost use Rattle.py_token.specs.View.{view_tokens};
@@ -20,7 +20,7 @@ use std::alloc::Global;
 /// text; lines count from 1.
 #[tactic(auto, unfolding(crate::specs::Spelling::Spells, crate::specs::Spelling::StuckAt))]
 pub fn tokens(alloc: Global, source: &str) -> Result<Vec<Token>, TokenError>
-    requires { line_count (chars source.now) ≤ 65535 }
+    requires { line_count (chars source.now) ≤ most_lines }
     ensures spelled { IfOk result (λ v. Spells (chars source.now) (view_tokens v.items)) }
     ensures on_lines { IfOk result (λ v. AreOnLines (view_tokens v.items)) }
     ensures stuck { IfErr result (λ e. e ≢ TokenError.NoMemory → StuckAt (chars source.now) e) }
@@ -31,7 +31,7 @@ pub fn tokens(alloc: Global, source: &str) -> Result<Vec<Token>, TokenError>
 
 /// The tokens that characters spell, or the fault of the one place where they are stuck.
 fn spelling(alloc: Global, chars: &[char]) -> Result<Vec<Token>, TokenError>
-    requires lines { line_count chars.now ≤ 65535 }
+    requires lines { line_count chars.now ≤ most_lines }
     requires few { length chars.now < 2 ^ 63 }
     ensures { Gives (λ v. view_tokens v.items) result (spelling chars.now) }
 {

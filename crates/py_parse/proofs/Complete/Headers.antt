@@ -14,7 +14,7 @@ use Rattle.py_syntax.specs.Statements.{param_tokens, except_tokens, case_name, g
 use Rattle.py_syntax.specs.Spelling.{module_tokens}
 use Rattle.py_grammar.specs.TokenClasses.{begins}
 use Rattle.py_grammar.specs.Machine.{class}
-use Rattle.py_grammar.proofs.Opens.{opens}
+use Rattle.py_grammar.proofs.Complete.Opens.{opens}
 use Rattle.py_parse.proofs.Sound.Parted.{parted, put_append}
 use Rattle.py_parse.proofs.Complete.OnLines.{plain}
 use Rattle.py_parse.proofs.Complete.LineTokens.{last_colon, expr_last, pattern_last, params_last, Flat, flat}

@@ -19,7 +19,7 @@ use Rattle.py_parse.specs.Places.{Source, kinds_past, run}
 use Rattle.py_parse.proofs.Complete.OnLines.{plain, lines, after, past, pattern_past, past_parted, past_pattern, Spelt, any_spelt, one_spelt, target_spelt, on_line, begins_elsewhere, pattern_on_line}
 use Rattle.py_parse.proofs.Complete.Suites.{goes_on, Ready, line_begins}
 
--- after the colon of a header of this owner
+-- after the colon of a header whose suite belongs to this
 abbrev pub headed : Source → SuiteOf → ℕ → ℕ → SuiteStack → List Marked → ℕ → Option State
 headed src o g f b rest q = run src (at (SuiteWanted o) (lines src g f q) b) rest q
 

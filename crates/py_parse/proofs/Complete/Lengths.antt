@@ -11,7 +11,7 @@ use Rattle.py_syntax.specs.Headers.{Marked, put, kinds_marked}
 use Rattle.py_syntax.specs.Statements.{in_place_mark, target_tokens, option_tokens, assert_tokens, name_list, alias_list, end_tokens, except_tokens, guard_tokens, case_name, stmts_tokens, kind_tokens, suite_tokens, else_tokens, finally_tokens, elif_tokens, clause_tokens, case_tokens, NormalStmts, NormalKind, NormalSuite, NormalOpt, NormalArms, NormalClauses, NormalCases}
 use Rattle.py_syntax.specs.Spelling.{test_head, for_head}
 use Rattle.py_grammar.specs.Machine.{any, start, Refused, Leaves, run}
-use Rattle.py_grammar.proofs.Targets.{reads_any}
+use Rattle.py_grammar.proofs.Complete.Targets.{reads_any}
 use Rattle.py_parse.specs.Places.{kinds_past, def_head, match_head, stmts_past, kind_past, suite_past, opt_past, arms_past, clauses_past, cases_past}
 use Rattle.py_parse.proofs.Sound.Parted.{parted}
 

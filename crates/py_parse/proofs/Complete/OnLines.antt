@@ -10,10 +10,10 @@ use Rattle.py_grammar.specs.TokenClasses.{TokenClass, begins}
 use Rattle.py_grammar.specs.Machine as expression
 use Rattle.py_grammar.specs.Machine.{Goal, any, one, target, start, class, Leaves}
 use Rattle.py_parse_pattern.specs.Machine as pattern
-use Rattle.py_grammar.proofs.Spelled.{outcome}
-use Rattle.py_grammar.proofs.Opens.{opens}
-use Rattle.py_grammar.proofs.Finish.{Closes}
-use Rattle.py_grammar.proofs.Targets.{reads_any, reads_one, reads_target}
+use Rattle.py_grammar.proofs.Sound.Spelled.{outcome}
+use Rattle.py_grammar.proofs.Complete.Opens.{opens}
+use Rattle.py_grammar.proofs.Least.Finish.{Closes}
+use Rattle.py_grammar.proofs.Complete.Targets.{reads_any, reads_one, reads_target}
 use Rattle.py_parse_pattern.proofs.Complete as pattern_
 use Rattle.py_parse_pattern.proofs.Complete.{IsOver, reads_all}
 use Rattle.py_parse_pattern.proofs.Exact as pattern_exact

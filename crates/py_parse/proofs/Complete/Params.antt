@@ -10,7 +10,7 @@ use Rattle.py_syntax.specs.Normal.{Each}
 use Rattle.py_syntax.specs.Headers.{Marked, put}
 use Rattle.py_syntax.specs.Statements.{more_params, params_from, count, param_tokens, NormalExpr, NormalParams}
 use Rattle.py_grammar.specs.Machine.{one, snoc}
-use Rattle.py_grammar.proofs.Enclosed.{join_exprs, join_snoc, join_none, join_one}
+use Rattle.py_grammar.proofs.Complete.Enclosed.{join_exprs, join_snoc, join_none, join_one}
 use Rattle.py_statements.specs.Open.{SuiteOf, a_def, SuiteStack}
 use Rattle.py_statements.specs.Machine.{default, wanted, FunctionWanted, ParamWanted, ParamRead, Span, State, at, onward, after_default, act}
 use Rattle.py_statements.specs.Listed.{is_some}

@@ -14,7 +14,7 @@ use Rattle.py_syntax.specs.Statements.{in_place_mark, target_tokens, option_toke
 use Rattle.py_grammar.specs.TokenClasses.{begins}
 use Rattle.py_grammar.specs.Machine as expression
 use Rattle.py_grammar.specs.Machine.{Goal, any, one, snoc, start, class}
-use Rattle.py_grammar.proofs.Enclosed.{join_exprs, join_snoc, join_none, join_one}
+use Rattle.py_grammar.proofs.Complete.Enclosed.{join_exprs, join_snoc, join_none, join_one}
 use Rattle.py_statements.specs.Open.{SuiteStack}
 use Rattle.py_statements.specs.Machine.{Continuation, value, augmented, leaving, asserted, reason, goal, wanted, reads, Place, Reading, Leaving, Span, State, at, begun_at, onward, simple_place, begin_simple, end_simple, assigned, left, after_value, resume, act, step}
 use Rattle.py_parse.specs.Places.{Source, kinds_past, kind_past, run}

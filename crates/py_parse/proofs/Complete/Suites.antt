@@ -248,7 +248,7 @@ more_on first last k e ss false is back ended rest_back more_back = absurd cc
 
 -- ---- suites
 
--- a suite of this owner is closed
+-- a suite that belongs to this is closed
 abbrev pub shut : SuiteOf → Suite → ℕ → SuiteStack → ℕ → State
 shut (a_case e last cs c g) s begun b l = Choosing e last (snoc_case cs c g s) begun b
 shut o s begun b l = After (closed o s) begun l b

@@ -11,7 +11,7 @@ use Rattle.py_syntax.specs.Kinds.{Kind, Name, Sign, Newline, Indent}
 use Rattle.py_syntax.specs.Tokens.{tokens, pattern_tokens}
 use Rattle.py_syntax.specs.Headers.{match_name}
 use Rattle.py_syntax.specs.Statements.{end_tokens, except_tokens, guard_tokens, case_name, kind_tokens, suite_tokens, else_tokens, elif_tokens, clause_tokens, NormalStmts, NormalKind, NormalSuite, NormalOpt, NormalArms, NormalClauses, NormalCases}
-use Rattle.py_syntax.specs.Spelling.{first_line, last_line, test_head, for_head, word_head, behind, KeepsLines, KindLines, SuiteLines, OptLines, ArmLines, ClauseLines, CaseLines}
+use Rattle.py_syntax.specs.Spelling.{first_line, last_line, test_head, for_head, word_head, after_suite, KeepsLines, KindLines, SuiteLines, OptLines, ArmLines, ClauseLines, CaseLines}
 use Rattle.py_parse.specs.Places.{kinds_past, def_head, match_head, stmts_past, kind_past, suite_past, opt_past, arms_past, clauses_past, cases_past, Source, last_before, relined, relined_kind, relined_suite, relined_opt, relined_arms, relined_clauses, relined_cases}
 use Rattle.py_parse.proofs.Complete.Lengths.{kinds_past_is, stmts_are, kind_is, suite_is, else_is, finally_is, arms_are, clauses_are, cases_are, some_kind}
 use Rattle.py_parse.proofs.Sound.Parted.{parted}
@@ -87,7 +87,7 @@ some_except None x = omega arith
 some_except (Some e) x = omega arith
 
 -- after a header and its suite
-after_there : (ts : List PToken) (head : List Kind) (s : Suite) (p : ℕ) → NormalSuite s → behind head s (drop p ts) ≡ drop (suite_past s (kinds_past head p)) ts
+after_there : (ts : List PToken) (head : List Kind) (s : Suite) (p : ℕ) → NormalSuite s → after_suite head s (drop p ts) ≡ drop (suite_past s (kinds_past head p)) ts
 after_there ts head s p h =
     let place = kinds_past_is head p in
     let are = suite_is s [] (kinds_past head p) h in

@@ -11,10 +11,10 @@ use Rattle.py_grammar.specs.Machine.{start}
 use Rattle.py_grammar.specs.Reading as reading_
 use Rattle.py_parse_pattern.specs.Machine as pattern
 use Rattle.py_parse_pattern.specs.Reads as pattern_reads
-use Rattle.py_statements.specs.declared.purposes.Continuation as held_continuation
+use Rattle.py_statements.specs.declared.purposes.Continuation as code_continuation
 use Rattle.py_statements.specs.declared.purposes.Continuation.TheVariants as continuation_
 use Rattle.py_statements.specs.declared.places.Place.TheVariants as place_
-use Rattle.py_statements.specs.declared.places.State as held_state
+use Rattle.py_statements.specs.declared.places.State as code_state
 use Rattle.py_statements.specs.declared.places.State.TheVariants as state_
 use Rattle.py_statements.specs.Open.{SuiteStack}
 use Rattle.py_statements.specs.Machine.{Continuation, Reading, Matching, Span, State, at, Over, begun, goal, resume, resume_pattern, done, step}
@@ -64,7 +64,7 @@ token_there ts place lt = go (drop place ts) refl
 
 -- ---- the token at a place
 
-resumed_low : (r : held_continuation.Continuation) (n : Span) (b : SuiteStack) → inner (at (Reading (view_continuation r) (start (goal (view_continuation r)))) n b) ≤ 200
+resumed_low : (r : code_continuation.Continuation) (n : Span) (b : SuiteStack) → inner (at (Reading (view_continuation r) (start (goal (view_continuation r)))) n b) ≤ HEIGHT
 resumed_low (continuation_.Value ts) n b = omega arith
 resumed_low (continuation_.Augmented p op) n b = omega arith
 resumed_low (continuation_.Leaving true) n b = omega arith
@@ -80,19 +80,19 @@ resumed_low continuation_.Subject n b = omega arith
 resumed_low (continuation_.Guard c p) n b = omega arith
 resumed_low (continuation_.Default s y) n b = omega arith
 
-inner_low : (s : held_state.State) → inner (view_state s) ≤ 200
+inner_low : (s : code_state.State) → inner (view_state s) ≤ HEIGHT
 inner_low (state_.At (place_.Wanted r) n b) = resumed_low r (view_span n) (view_suites b)
 inner_low (state_.At (place_.PatternWanted c) n b) = omega arith
 inner_low s = omega arith
 
-pub taken : (ts : List PToken) (place : ℕ) (s : held_state.State) → place < length ts → Turns ts place (λ t o. o ≡ Some (view_state s)) → levels.level (view_state s) ≤ 64 → StandsAt ts (place + 1) (view_state s)
+pub taken : (ts : List PToken) (place : ℕ) (s : code_state.State) → place < length ts → Turns ts place (λ t o. o ≡ Some (view_state s)) → levels.level (view_state s) ≤ NESTING → StandsAt ts (place + 1) (view_state s)
 taken ts place s lt h low =
     let t = token_there ts place lt in
     let it = there ts place t.0 t.1 t.2 in
     let same = level_is (view_state s) in
     from ts (place + 1) (view_state s) (moves ts place h.state (view_state s) (lexeme ts place t.0) it.0 (to ts place h.state h.stands) it.1 (h.turn t.0 t.1 t.2) (inner_low s) (omega arith))
 
-pub too_deep : (ts : List PToken) (place : ℕ) (s : held_state.State) → place < length ts → Turns ts place (λ t o. o ≡ Some (view_state s)) → 64 < levels.level (view_state s) → HasDeepSuites ts place
+pub too_deep : (ts : List PToken) (place : ℕ) (s : code_state.State) → place < length ts → Turns ts place (λ t o. o ≡ Some (view_state s)) → NESTING < levels.level (view_state s) → HasDeepSuites ts place
 too_deep ts place s lt h over =
     let t = token_there ts place lt in
     let it = there ts place t.0 t.1 t.2 in

@@ -7,12 +7,12 @@ use Rattle.py_syntax.specs.Tree.{Expr}
 use Rattle.py_syntax.specs.Kinds.{Kind, bare_token, bare}
 use Rattle.py_syntax.specs.Headers.{ends_line}
 use Rattle.py_syntax.specs.Normal.{height}
-use Rattle.py_syntax.specs.Spelling.{HEIGHT}
+use Rattle.py_syntax.specs.Spelling.{HEIGHT, NESTING}
 use Rattle.py_grammar.specs.Machine as expression
 use Rattle.py_grammar.specs.Machine.{start, class}
 use Rattle.py_grammar.specs.Least.{least}
 use Rattle.py_grammar.specs.Reading.{Ending, Unexpected, TooDeep, Reads, within}
-use Rattle.py_grammar.proofs.Grows.{height_some}
+use Rattle.py_grammar.proofs.Least.Grows.{height_some}
 use Rattle.py_statements.specs.Open.{SuiteStack}
 use Rattle.py_statements.specs.Machine.{Continuation, Reading, Span, State, at, goal, reads, onward, act, resume}
 use Rattle.py_parse.specs.Places.{last_before}
@@ -108,7 +108,7 @@ walk ts (t ∷ more) after place r s n b is stands plain last begun le = go (λ 
         started : is_start s' ≡ false
         started = subst (LeavesWithin (least s)) h (step_within s (class (bare_token t)))
 
-        flat : level (at (Reading r s') (onward n (last_of t)) b) ≤ 64
+        flat : level (at (Reading r s') (onward n (last_of t)) b) ≤ NESTING
         flat = let zero_level = begun_level r s' (onward n (last_of t)) b started in omega arith
 
         choose : (c : Bool) → nat_le (least s') HEIGHT ≡ c → Outcome ts r b n.begun n.first after (cond c (within HEIGHT s' (bare more)) (TooDeep (bare (t ∷ more))))
@@ -139,7 +139,7 @@ begins ts place s t more r n b stands is turn last = go (expression.step (start 
         started : is_start s' ≡ false
         started = subst (LeavesWithin (least (start (goal r)))) h (step_within (start (goal r)) (class (bare_token t)))
 
-        flat : level (at (Reading r s') n b) ≤ 64
+        flat : level (at (Reading r s') n b) ≤ NESTING
         flat = let zero_level = begun_level r s' n b started in omega arith
 
         choose : (c : Bool) → nat_le (least s') HEIGHT ≡ c → Outcome ts r b n.begun n.first (place + 1) (cond c (within HEIGHT s' (bare more)) (TooDeep (bare (t ∷ more))))

@@ -34,7 +34,7 @@ least_size s = size (finished s)
 valid_next : (s : State) (t : Lexeme) (n : State) → Valid s → next s t ≡ Some n → Valid n
 valid_next s t n h is = step_keeps s n t.mark t.first t.last h is
 
--- Over a whole list, what was read stays before the state, which stays fine.
+-- Over a whole list, what was read stays before the state, which stays valid.
 reads : (s last : State) (ts : List Lexeme) → Valid s → reading s ts ≡ Some last → Valid last × (before last [] ≡ before s (marks ts))
 reads s last [] valid h = let same : s ≡ last = cc in (subst Valid same valid, ap (λ (x : State). before x []) (sym same))
 reads s last (t ∷ ts) valid h = go (λ n. reads n last ts) (next s t) refl h

@@ -113,7 +113,7 @@ relined_tree n ts m more is h =
 -- A prefix is viable within the limits exactly where the machine passes it to a state whose least tree is within them.
 pub viable_within : (n : ℕ) (ts : List PToken) (s : State) → reached n ts ≡ Some s → least_height s ≤ HEIGHT → least_nesting s ≤ NESTING → IsViableWithin (front n ts)
 viable_within n ts s h low shallow =
-    let v = within_from 200 (take n (with_lines ts)) s h (omega arith) in
+    let v = within_from HEIGHT (take n (with_lines ts)) s h (omega arith) in
     let is = v.2 in let small = v.3 in
     (v.0, marks v.1, (normal v.0 is.0 is.1, split_marks v.0 n ts v.1 is.2), (omega arith, omega arith))
 
@@ -121,7 +121,7 @@ pub within_viable : (n : ℕ) (ts : List PToken) → IsViableWithin (front n ts)
 within_viable n ts v =
     let t = relined_tree n ts v.0 v.1 v.2.0 v.2.1 in
     let low = v.3.0 in let shallow = v.3.1 in let as_high = t.3 in let as_deep = t.4 in
-    let s = within_to 200 (take n (with_lines ts)) (t.0, t.1, t.2, omega arith) in
+    let s = within_to HEIGHT (take n (with_lines ts)) (t.0, t.1, t.2, omega arith) in
     let small = s.2 in
     (s.0, s.1, omega arith, omega arith)
 
@@ -141,7 +141,7 @@ viable_to n ts v =
 
 pub nests_within : (n : ℕ) (ts : List PToken) (s : State) → reached n ts ≡ Some s → least_nesting s ≤ NESTING → NestsWithin (front n ts)
 nests_within n ts s h shallow =
-    let v = nests_from 64 (take n (with_lines ts)) s h shallow in
+    let v = nests_from NESTING (take n (with_lines ts)) s h shallow in
     let is = v.2 in
     (v.0, marks v.1, normal v.0 is.0 is.1, split_marks v.0 n ts v.1 is.2, v.3)
 

@@ -5,13 +5,13 @@ use Rattle.py_value.specs.declared.operator.BinOp.TheVariants as op_
 use Rattle.py_syntax.specs.declared.expr.Comparison.TheVariants.{Op}
 use Rattle.py_syntax.specs.Tree.{Expr, tuple, not', unary, compare, index, Exprs, no_exprs, exprs, no_pairs}
 use Rattle.py_syntax.specs.Tree as tree_
-use Rattle.py_syntax.specs.Normal.{Level, LExprs, LExpr, LNot, LUnary, LPost, is_target, are_targets, height}
-use Rattle.py_grammar.specs.TokenClasses.{TokenClass, b_op, t_name, t_int, t_none, t_bool, t_string, t_format, t_bad_format, t_not, t_is, t_if, t_else, t_compare, t_operator, t_comma, t_colon, t_dot, t_left_paren, t_right_paren, t_left_bracket, t_right_bracket, t_left_brace, t_right_brace, operator_level, joined, begins}
-use Rattle.py_grammar.specs.Machine.{at_most, same_level, snoc, snoc_link, strings_of, Goal, any, one, target, targets, Opener, a_call, a_list, exprs_first, exprs_rest, cond_first, cond_test, cond_else, first, right, not_of, compare_first, compare_rest, unary_of, post_rest, in_items, index_first, in_index, slice_to, in_paren, in_key, in_value, Ctx, Outside, on, State, Want, Have, Strings, AfterOpen, AfterComma, AfterTarget, ItemsOpen, ItemsComma, DictOpen, DictComma, IndexOpen, SliceColon, AfterDot, AfterNot, AfterIs, AfterIsNot, Linked, Out, Next, Stuck, Left, upto, begin, close_items, leave, give, step, start}
+use Rattle.py_syntax.specs.Normal.{Precedence, LExprs, LExpr, LNot, LUnary, LPost, is_target, are_targets, height}
+use Rattle.py_grammar.specs.TokenClasses.{TokenClass, b_op, t_name, t_int, t_none, t_bool, t_string, t_format, t_bad_format, t_not, t_is, t_if, t_else, t_compare, t_operator, t_comma, t_colon, t_dot, t_left_paren, t_right_paren, t_left_bracket, t_right_bracket, t_left_brace, t_right_brace, operator_precedence, joined, begins}
+use Rattle.py_grammar.specs.Machine.{at_most, same_precedence, snoc, snoc_link, strings_of, Goal, any, one, target, targets, Opener, a_call, a_list, exprs_first, exprs_rest, cond_first, cond_test, cond_else, first, right, not_of, compare_first, compare_rest, unary_of, post_rest, in_items, index_first, in_index, slice_to, in_paren, in_key, in_value, Ctx, Outside, on, State, Want, Have, Strings, AfterOpen, AfterComma, AfterTarget, ItemsOpen, ItemsComma, DictOpen, DictComma, IndexOpen, SliceColon, AfterDot, AfterNot, AfterIs, AfterIsNot, Linked, Out, Next, Stuck, Left, upto, begin, close_items, leave, give, step, start}
 use Rattle.py_grammar.specs.Least.{least_name, as_target, target_if, wants, fit, whole, least}
 use Rattle.py_statements.specs.Machine.{Continuation, value, augmented, leaving, asserted, reason, arm_test, while_test, for_target, for_over, clause_kind, subject, guard, default, goal}
 use Rattle.py_statements.specs.Levels.{is_start}
-use Rattle.py_grammar.proofs.Grows.{heights_snoc, tuple_snoc, and_right}
+use Rattle.py_grammar.proofs.Least.Grows.{heights_snoc, tuple_snoc, and_right}
 
 -- What leaves is no higher than this, and a step leads to no beginning.
 abbrev pub LeavesWithin : ℕ → Out → Type 0
@@ -39,7 +39,7 @@ leave_within e (targets f es) t_comma = within_if (height (tuple (exprs f (snoc 
 leave_within e (targets f es) t = within_if (height (tuple (exprs f (snoc es (as_target e))) false)) (is_target e) (Left (tuple (exprs f (snoc es e)) false)) Stuck (let one = heights_snoc es e in let two = heights_snoc es (as_target e) in let three = target_high e in omega arith) tt
 
 -- nothing leaves where an expression begins
-pub begin_within : (n : ℕ) (lev : Level) (k : Ctx) (t : TokenClass) → LeavesWithin n (begin lev k t)
+pub begin_within : (n : ℕ) (lev : Precedence) (k : Ctx) (t : TokenClass) → LeavesWithin n (begin lev k t)
 begin_within n lev k (t_name x) = refl
 begin_within n lev k (t_int i) = refl
 begin_within n lev k t_none = refl
@@ -104,7 +104,7 @@ give_stays e (on cond_first k) t_if w plain = refl
 give_stays e (on cond_first k) t w plain = give_stays e k t w plain
 give_stays e (on (cond_test b) k) t w plain = absurd cc
 give_stays e (on (cond_else b c) k) t w plain = absurd cc
-give_stays e (on (first l) k) (t_operator j) w plain = stays_if (same_level l (operator_level j)) _ (give e k (t_operator j)) refl (give_stays e k (t_operator j) w plain)
+give_stays e (on (first l) k) (t_operator j) w plain = stays_if (same_precedence l (operator_precedence j)) _ (give e k (t_operator j)) refl (give_stays e k (t_operator j) w plain)
 give_stays e (on (first l) k) t w plain = give_stays e k t w plain
 give_stays e (on (right i a) k) t w plain = absurd cc
 give_stays e (on not_of k) t w plain = absurd cc
@@ -151,9 +151,9 @@ give_within e (on cond_first k) t = give_within e k t
 give_within e (on (cond_test b) k) t_else = refl
 give_within e (on (cond_test b) k) t = tt
 give_within e (on (cond_else b c) k) t = give_within (tree_.cond b c e) k t
-give_within e (on (first l) k) (t_operator j) = within_if (height (whole k e)) (same_level l (operator_level j)) _ (give e k (t_operator j)) refl (give_within e k (t_operator j))
+give_within e (on (first l) k) (t_operator j) = within_if (height (whole k e)) (same_precedence l (operator_precedence j)) _ (give e k (t_operator j)) refl (give_within e k (t_operator j))
 give_within e (on (first l) k) t = give_within e k t
-give_within e (on (right i a) k) (t_operator j) = within_if (height (whole k (joined i a e))) (same_level (operator_level i) (operator_level j)) _ (give (joined i a e) k (t_operator j)) refl (give_within (joined i a e) k (t_operator j))
+give_within e (on (right i a) k) (t_operator j) = within_if (height (whole k (joined i a e))) (same_precedence (operator_precedence i) (operator_precedence j)) _ (give (joined i a e) k (t_operator j)) refl (give_within (joined i a e) k (t_operator j))
 give_within e (on (right i a) k) t = give_within (joined i a e) k t
 give_within e (on not_of k) t = give_within (not' e) k t
 give_within e (on compare_first k) (t_compare op) = refl

@@ -9,8 +9,8 @@ use Rattle.py_syntax.specs.Tokens.{underscore}
 use Rattle.py_syntax.specs.Headers.{Marked, put}
 use Rattle.py_syntax.specs.Statements.{case_name}
 use Rattle.py_grammar.specs.Least.{least_name}
-use Rattle.py_grammar.proofs.Finish as expression
-use Rattle.py_parse_pattern.proofs.Finish as pattern_finish
+use Rattle.py_grammar.proofs.Least.Finish as expression
+use Rattle.py_parse_pattern.proofs.Least.Finish as pattern_finish
 use Rattle.py_statements.specs.Open.{SuiteOf, an_arm, a_while, a_for, a_try, a_clause, a_def, a_case, SuiteStack, top, inside}
 use Rattle.py_statements.specs.Machine.{Continuation, arm_test, while_test, for_target, for_over, clause_kind, subject, guard, default, Place, Reading, Matching, NameWanted, BoundWanted, ModuleWanted, ImportWanted, FunctionWanted, ParamsWanted, ParamWanted, ParamRead, Except, ClauseBound, ColonWanted, SuiteWanted, IndentWanted, MatchLine, MatchBlock, State, Line, at, After, Choosing, Over}
 
@@ -23,7 +23,7 @@ pass_line r = put (Word word.Pass ∷ Newline ∷ []) r
 abbrev pub finally_pass : List Marked → List Marked
 finally_pass r = put (Word word.Finally ∷ Sign mark.Colon ∷ []) (pass_line r)
 
--- after a suite of this owner
+-- after a suite that belongs to this
 abbrev pub settled : SuiteOf → List Marked → List Marked
 settled a_try r = finally_pass r
 settled (a_case e last cs p g) r = put (Dedent ∷ []) r

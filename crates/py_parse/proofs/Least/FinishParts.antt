@@ -12,13 +12,13 @@ use Rattle.py_grammar.specs.Least.{least_name}
 use Rattle.py_parse_pattern.specs.declared.token_classes.Bracket.TheVariants.{Round, Square}
 use Rattle.py_parse_pattern.specs.Machine as pattern
 use Rattle.py_parse_pattern.specs.Machine.{Frame, frame, Stack, stack}
-use Rattle.py_grammar.proofs.Spelled as spelled
+use Rattle.py_grammar.proofs.Sound.Spelled as spelled
 use Rattle.py_parse_pattern.proofs.Complete as pattern_complete
-use Rattle.py_grammar.proofs.Valid as expression_valid
-use Rattle.py_grammar.proofs.Finish as expression_finish
-use Rattle.py_grammar.proofs.Finish.{Closes}
-use Rattle.py_grammar.proofs.Finishes as expression_finishes
-use Rattle.py_parse_pattern.proofs.Finish as pattern_finish
+use Rattle.py_grammar.proofs.Sound.Valid as expression_valid
+use Rattle.py_grammar.proofs.Least.Finish as expression_finish
+use Rattle.py_grammar.proofs.Least.Finish.{Closes}
+use Rattle.py_grammar.proofs.Least.Finishes as expression_finishes
+use Rattle.py_parse_pattern.proofs.Least.Finish as pattern_finish
 use Rattle.py_statements.specs.Open.{an_arm, a_while, a_for, a_clause, a_def, a_case, newline_end, SuiteStack}
 use Rattle.py_statements.specs.Machine.{Continuation, value, augmented, leaving, asserted, reason, arm_test, while_test, for_target, for_over, clause_kind, subject, guard, default, goal, Reading, Matching, Span, State, at, Over, onward, left, resume, resume_pattern}
 use Rattle.py_parse.specs.Least.{form, complete, resumed}

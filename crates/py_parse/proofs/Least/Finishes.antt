@@ -1,4 +1,4 @@
--- Every fine state has a completion that the machine reads to its least tree.
+-- Every valid state has a completion that the machine reads to its least tree.
 use Rattle.std.proofs.Common.{◌≡◌, ℕ, false, [], ◌∷◌, ◌++◌, Some, None, refl, ◌∙◌}
 use Rattle.py_syntax.specs.Tree.{no_exprs, exprs}
 use Rattle.py_grammar.specs.Least.{least_name}
@@ -46,6 +46,6 @@ state_ends (After k first last b) h = after_ends k first last b h.2
 state_ends (Choosing e last cs first b) h = choosing_ends e last cs first b 0 h.2
 state_ends (Over ss) h = refl
 
--- What finishes a fine state makes it its least tree.
+-- What finishes a valid state makes it its least tree.
 pub finishes : (s : State) (p : ℕ) → Valid s → run (still (last_line s)) s (finish s) p ≡ Some (Over (finished s))
 finishes s p h = run_steady (last_line s) s (finish s) p ∙ state_ends s h

@@ -6,11 +6,12 @@ use Rattle.py_syntax.specs.Tree.{Suite, suite, no_suite, Arms, no_arms, arm, Cas
 use Rattle.py_syntax.specs.Kinds.{Kind, Word}
 use Rattle.py_syntax.specs.Normal.{height, pattern_height}
 use Rattle.py_syntax.specs.Statements.{NormalKind, kind_height, kind_nesting, suite_nesting, arms_nesting, option_height}
+use Rattle.py_syntax.specs.Spelling.{HEIGHT}
 use Rattle.py_grammar.specs.Machine.{snoc}
 use Rattle.py_grammar.specs.Least as expression_least
 use Rattle.py_grammar.specs.Least.{least_name}
 use Rattle.py_parse_pattern.specs.Machine as pattern
-use Rattle.py_grammar.proofs.Grows.{heights_snoc, height_some}
+use Rattle.py_grammar.proofs.Least.Grows.{heights_snoc, height_some}
 use Rattle.py_statements.specs.Open.{a_try, a_def, a_case, SuiteStack}
 use Rattle.py_statements.specs.Machine.{Continuation, value, augmented, leaving, asserted, reason, arm_test, while_test, for_target, for_over, clause_kind, subject, guard, default, Place, Reading, Matching, FunctionWanted, ColonWanted, Span, State, at, next_part}
 use Rattle.py_parse.specs.Least.{ended, resumed, with_param, form}
@@ -18,11 +19,11 @@ use Rattle.py_parse.proofs.Least.GrowthParts.{Under, arm_height, arm_nesting, cl
 use Rattle.py_parse.proofs.Least.GrowthForms.{pass_only, passed, core}
 use Rattle.py_parse.proofs.Least.GrowthEnding.{depth, suites_nesting}
 use Rattle.py_statements.specs.Levels.{is_start}
-use Rattle.py_parse.proofs.Least.Weights.{tall, deep, inner, level}
+use Rattle.py_parse.proofs.Least.Weights.{state_height, state_nesting, inner, level}
 
 -- the second is hardly higher than the first, or than this, and no deeper
 abbrev pub Hardly : ℕ → StmtKind → StmtKind → Type 0
-Hardly h k k' = (kind_height k' ≤ max (max (kind_height k) 200) h) × (kind_nesting k' ≤ kind_nesting k)
+Hardly h k k' = (kind_height k' ≤ max (max (kind_height k) HEIGHT) h) × (kind_nesting k' ≤ kind_nesting k)
 
 pub hardly : (h : ℕ) (k k' : StmtKind) → Under k' k → Hardly h k k'
 hardly h k k' u = let one = u.0 in let two = u.1 in (omega arith, omega arith)
@@ -117,14 +118,14 @@ next_goes k t h = tt
 
 -- ---- what is open, and what is being read, in a state
 
-pub level_deep : (s : State) → level s ≤ deep s
+pub level_deep : (s : State) → level s ≤ state_nesting s
 level_deep (at p n b) = place_deep p n b
   where
     when : (c : Bool) (d m k : ℕ) → 1 ≤ k → cond c (suc d) 0 ≤ max m (k + d)
     when true d m k h = omega arith
     when false d m k h = omega arith
 
-    place_deep : (p : Place) (n : Span) (b : SuiteStack) → level (at p n b) ≤ deep (at p n b)
+    place_deep : (p : Place) (n : Span) (b : SuiteStack) → level (at p n b) ≤ state_nesting (at p n b)
     place_deep (Reading (arm_test no_arms) s) n b = when (is_start s) (depth b) (suites_nesting b) 1 (omega arith)
     place_deep (Reading while_test s) n b = when (is_start s) (depth b) (suites_nesting b) 1 (omega arith)
     place_deep (Reading for_target s) n b = when (is_start s) (depth b) (suites_nesting b) 1 (omega arith)
@@ -134,7 +135,7 @@ level_deep (at p n b) = place_deep p n b
     place_deep p n b = omega arith
 level_deep s = omega arith
 
-pub inner_tall : (s : State) → inner s ≤ tall s
+pub inner_tall : (s : State) → inner s ≤ state_height s
 inner_tall (at (Reading r s) n b) = let one = resumed_high r (expression_least.finished s) n.last in omega arith
 inner_tall (at (Matching e last cs s) n b) = let one = case_high e last cs (pattern.finished s) in omega arith
 inner_tall s = omega arith

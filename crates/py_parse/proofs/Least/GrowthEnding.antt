@@ -13,7 +13,7 @@ use Rattle.py_parse.proofs.Sound.Valid.{TakesElse, ValidSuiteOf, ValidLine, Vali
 use Rattle.py_parse.proofs.Least.GrowthParts.{snoc_height, snoc_nesting, arm_height, arm_nesting, clause_height, clause_nesting, case_height, case_nesting, under_same, ended_height, ended_nesting}
 use Rattle.py_parse.proofs.Least.GrowthForms.{core, low_to, low_from}
 
--- ---- what an owner has in front of its suite
+-- ---- what stands in front of a suite in its statement
 
 abbrev pub suite_of_height : SuiteOf → ℕ
 suite_of_height (an_arm arms t) = max (arms_height arms) (height t)

@@ -9,7 +9,7 @@ use Rattle.py_syntax.specs.Normal.{height, heights, pattern_height}
 use Rattle.py_syntax.specs.Statements.{option_height}
 use Rattle.py_grammar.specs.Machine.{snoc}
 use Rattle.py_grammar.specs.Least.{least_name}
-use Rattle.py_grammar.proofs.Grows.{heights_snoc}
+use Rattle.py_grammar.proofs.Least.Grows.{heights_snoc}
 use Rattle.py_statements.specs.Open.{no_end, SuiteOf, an_arm, a_clause, a_def, a_case, closed, SuiteStack}
 use Rattle.py_statements.specs.Machine.{Continuation, value, augmented, leaving, asserted, reason, arm_test, while_test, for_target, for_over, clause_kind, subject, guard, default, Place, Span, next_part}
 use Rattle.py_parse.specs.Least.{pass_line, ended, chosen, ending, Form, a_statement, a_header, a_match, resumed, with_param, form, complete}

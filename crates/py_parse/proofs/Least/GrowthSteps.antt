@@ -12,7 +12,7 @@ use Rattle.py_grammar.specs.Machine.{one, start, class}
 use Rattle.py_grammar.specs.Least as expression_least
 use Rattle.py_grammar.specs.Least.{least_name}
 use Rattle.py_parse_pattern.specs.Machine as pattern
-use Rattle.py_grammar.proofs.LeastNeverFalls as rising
+use Rattle.py_grammar.proofs.Least.LeastNeverFalls as rising
 use Rattle.py_parse_pattern.proofs.Least as pattern_least
 use Rattle.py_statements.specs.Open.{no_end, newline_end, semicolon_end, both_end, SuiteOf, a_clause, a_def, a_case, closed, SuiteStack, inside, add}
 use Rattle.py_statements.specs.Machine.{leaving, clause_kind, subject, default, Place, Reading, Matching, Simple, Semicolon, Leaving, NameWanted, NameRead, BoundWanted, BoundRead, ModuleWanted, ImportWanted, FunctionWanted, ParamsWanted, ParamWanted, ParamRead, Except, ClauseBound, ColonWanted, SuiteWanted, IndentWanted, MatchLine, MatchBlock, Span, State, Line, at, After, Choosing, Over, begun_at, onward, goal, wanted, line, next_part, is_whole, left, resume, resume_pattern, act, choose, at_line, on_line, plain_step, header_step, step}

@@ -9,6 +9,7 @@ use Rattle.py_syntax.specs.Kinds.{Kind, Name, Word, Sign, Newline, Indent, Deden
 use Rattle.py_syntax.specs.Headers.{Marked, is_match}
 use Rattle.py_syntax.specs.Normal.{is_target, is_place, height}
 use Rattle.py_syntax.specs.Statements.{case_name, kind_height, kind_nesting}
+use Rattle.py_syntax.specs.Spelling.{HEIGHT}
 use Rattle.py_grammar.specs.Machine as expression
 use Rattle.py_grammar.specs.Machine.{any, one, snoc, start, class}
 use Rattle.py_grammar.specs.Least as expression_least
@@ -26,7 +27,7 @@ use Rattle.py_parse.proofs.Least.GrowthEnding.{apt as apt_suite_of}
 use Rattle.py_statements.specs.Levels.{begins_at}
 use Rattle.py_parse.proofs.Least.ExprLeavesWithin.{LeavesWithin, step_within}
 use Rattle.py_parse.proofs.Least.PatternLeavesWithin as leaves_within
-use Rattle.py_parse.proofs.Least.Weights.{tall, deep, AptState, inner, level, GrowsWithin, grows_within_from, added_height, added_nesting, added_apt, close_grows_within, over_line_grows_within}
+use Rattle.py_parse.proofs.Least.Weights.{state_height, state_nesting, AptState, inner, level, GrowsWithin, grows_within_from, added_height, added_nesting, added_apt, close_grows_within, over_line_grows_within}
 use Rattle.py_parse.proofs.Least.FormsGrowWithin.{Hardly, hardly, resumed_hardly, case_hardly, target_hardly, param_hardly, default_hardly, Goes, next_goes}
 
 -- the height and the depth of a place
@@ -44,8 +45,8 @@ simple_grows_within : (k : StmtKind) (f : Form) (n : Span) (b : SuiteStack) (t :
 simple_grows_within k f n b (Sign mark.Semicolon) l apt h = let one = h.0 in let two = h.1 in (omega arith, omega arith)
 simple_grows_within k f n b Newline l apt h =
     let one = h.0 in let two = h.1 in
-    let tall' = added_height b n.begun n.last k newline_end in
-    let deep' = added_nesting b n.begun n.last k newline_end in
+    let state_height' = added_height b n.begun n.last k newline_end in
+    let state_nesting' = added_nesting b n.begun n.last k newline_end in
     grows_within_from (high_at f b) (suites_height (add b n.begun n.last k newline_end)) (deep_at f b) (suites_nesting (add b n.begun n.last k newline_end)) (Some (over_line (add b n.begun n.last k newline_end) l)) (omega arith) (omega arith) (over_line_grows_within (add b n.begun n.last k newline_end) l (added_apt b n.begun n.last k newline_end apt))
 simple_grows_within k f n b t l apt h = tt
 
@@ -62,7 +63,7 @@ deep_block (inside ss i x y begun o b) = omega arith
 -- a simple place stands for a statement with no suite, of the height of a name at most
 abbrev Small : Option Place → Type 0
 Small None = Unit {0}
-Small (Some p) = (l : ℕ) → (kind_height (core (form p l)) ≤ 200) × (kind_nesting (core (form p l)) ≡ 0)
+Small (Some p) = (l : ℕ) → (kind_height (core (form p l)) ≤ HEIGHT) × (kind_nesting (core (form p l)) ≡ 0)
 
 simple_small : (t : Kind) → Small (simple_place t)
 simple_small (Word word.Pass) = λ l. (omega arith, refl)
@@ -79,7 +80,7 @@ simple_small t = tt
 -- and a compound one has a suite
 abbrev Opening : Option Place → Type 0
 Opening None = Unit {0}
-Opening (Some p) = ((l : ℕ) → (kind_height (core (form p l)) ≤ 200) × (kind_nesting (core (form p l)) ≤ 1)) × (begins_at p ≡ true)
+Opening (Some p) = ((l : ℕ) → (kind_height (core (form p l)) ≤ HEIGHT) × (kind_nesting (core (form p l)) ≤ 1)) × (begins_at p ≡ true)
 
 compound_opening : (t : Kind) → Opening (compound_place t)
 compound_opening (Word word.If) = (λ l. (omega arith, omega arith), refl)
@@ -89,7 +90,7 @@ compound_opening (Word word.Try) = (λ l. (omega arith, omega arith), refl)
 compound_opening (Word word.Def) = (λ l. (omega arith, omega arith), refl)
 compound_opening t = tt
 
-opens_grows_within : (p : Place) (n : Span) (b : SuiteStack) → kind_height (core (form p n.last)) ≤ 200 → kind_nesting (core (form p n.last)) ≤ 1 → begins_at p ≡ true → GrowsWithin (suites_height b) (suites_nesting b) (Some (at p n b))
+opens_grows_within : (p : Place) (n : Span) (b : SuiteStack) → kind_height (core (form p n.last)) ≤ HEIGHT → kind_nesting (core (form p n.last)) ≤ 1 → begins_at p ≡ true → GrowsWithin (suites_height b) (suites_nesting b) (Some (at p n b))
 opens_grows_within p n b low shallow begins =
     let d = deep_block b in
     let here : level (at p n b) ≡ suc (depth b) = ap (λ (c : Bool). cond c (suc (depth b)) 0) begins in
@@ -223,26 +224,26 @@ matching_grows_within e last cs s n b t f l = go (pattern.step s t) (leaves_with
         grows_within_from (high_at (form (Matching e last cs s) n.last) b) (high_at (a_header true (a_case e last cs p None)) b) (deep_at (form (Matching e last cs s) n.last) b) (deep_at (a_header true (a_case e last cs p None)) b) (resume_pattern e last cs p n b t l) (omega arith) (omega arith) (pattern_grows_within e last cs p n b t l)
 
 -- the steps of a place
-act_grows_within : (p : Place) (n : Span) (b : SuiteStack) (t : Kind) (f l : ℕ) → AptSuites b → ValidPlace p b → GrowsWithin (tall (at p n b)) (deep (at p n b)) (act p n b t f l)
+act_grows_within : (p : Place) (n : Span) (b : SuiteStack) (t : Kind) (f l : ℕ) → AptSuites b → ValidPlace p b → GrowsWithin (state_height (at p n b)) (state_nesting (at p n b)) (act p n b t f l)
 act_grows_within (Reading r s) n b t f l apt valid = reading_grows_within r s n b t f l apt
 act_grows_within (Matching e last cs s) n b t f l apt valid = matching_grows_within e last cs s n b t f l
 act_grows_within (Simple k) n b t f l apt valid = simple_grows_within k (form (Simple k) n.last) n b t l apt (omega arith, omega arith)
 act_grows_within (Semicolon k) n b Newline f l apt valid =
     let c = add b n.begun n.last k both_end in
     let one = added_height b n.begun n.last k both_end in let two = added_nesting b n.begun n.last k both_end in
-    grows_within_from (tall (at (Semicolon k) n b)) (suites_height c) (deep (at (Semicolon k) n b)) (suites_nesting c) (Some (over_line c l)) (omega arith) (omega arith) (over_line_grows_within c l (added_apt b n.begun n.last k both_end apt))
+    grows_within_from (state_height (at (Semicolon k) n b)) (suites_height c) (state_nesting (at (Semicolon k) n b)) (suites_nesting c) (Some (over_line c l)) (omega arith) (omega arith) (over_line_grows_within c l (added_apt b n.begun n.last k both_end apt))
 act_grows_within (Semicolon k) n b t f l apt valid =
     let c = add b n.begun n.last k semicolon_end in
     let one = added_height b n.begun n.last k semicolon_end in let two = added_nesting b n.begun n.last k semicolon_end in
-    grows_within_from (tall (at (Semicolon k) n b)) (suites_height c) (deep (at (Semicolon k) n b)) (suites_nesting c) (begin_simple c t f l) (omega arith) (omega arith) (begin_simple_grows_within c t f l)
+    grows_within_from (state_height (at (Semicolon k) n b)) (suites_height c) (state_nesting (at (Semicolon k) n b)) (suites_nesting c) (begin_simple c t f l) (omega arith) (omega arith) (begin_simple_grows_within c t f l)
 act_grows_within (Leaving raises) n b (Sign mark.Semicolon) f l apt valid = simple_grows_within (left raises None) (form (Leaving raises) n.last) n b (Sign mark.Semicolon) l apt (omega arith, omega arith)
 act_grows_within (Leaving raises) n b Newline f l apt valid = simple_grows_within (left raises None) (form (Leaving raises) n.last) n b Newline l apt (omega arith, omega arith)
-act_grows_within (Leaving raises) n b t f l apt valid = reads_grows_within (tall (at (Leaving raises) n b)) (deep (at (Leaving raises) n b)) (leaving raises) (onward n l) b (expression.step (start (goal (leaving raises))) (class t)) (λ s. leaving_grows_within raises n b l s)
+act_grows_within (Leaving raises) n b t f l apt valid = reads_grows_within (state_height (at (Leaving raises) n b)) (state_nesting (at (Leaving raises) n b)) (leaving raises) (onward n l) b (expression.step (start (goal (leaving raises))) (class t)) (λ s. leaving_grows_within raises n b l s)
 act_grows_within (NameWanted xs) n b (Name x) f l apt valid = to_place (form (NameWanted xs) n.last) (NameRead xs x) (onward n l) b (flat_hardly (core (form (NameWanted xs) n.last)) (with_name xs x None))
 act_grows_within (NameWanted xs) n b t f l apt valid = tt
 act_grows_within (NameRead xs x) n b (Word word.As) f l apt valid = go (may_bind xs)
   where
-    go : (c : Bool) → GrowsWithin (tall (at (NameRead xs x) n b)) (deep (at (NameRead xs x) n b)) (cond c (Some (at (BoundWanted xs x) (onward n l) b)) None)
+    go : (c : Bool) → GrowsWithin (state_height (at (NameRead xs x) n b)) (state_nesting (at (NameRead xs x) n b)) (cond c (Some (at (BoundWanted xs x) (onward n l) b)) None)
     go true = to_place (form (NameRead xs x) n.last) (BoundWanted xs x) (onward n l) b (flat_hardly (core (form (NameRead xs x) n.last)) (with_name xs x (Some [])))
     go false = tt
 act_grows_within (NameRead xs x) n b t f l apt valid = name_grows_within (with_name xs x None) (form (NameRead xs x) n.last) n b t l apt
@@ -264,7 +265,7 @@ act_grows_within (ParamRead x ps ds y) n b (Sign mark.Equal) f l apt valid = let
 act_grows_within (ParamRead x ps no_exprs y) n b t f l apt valid = default_grows_within x (ps ++ y ∷ []) no_exprs (form (ParamRead x ps no_exprs y) n.last) n b t l (omega arith, omega arith)
 act_grows_within (ParamRead x ps (exprs d ds) y) n b t f l apt valid = tt
 act_grows_within (Except body cs) n b (Sign mark.Colon) f l apt valid = header_grows_within (a_clause body cs None None) (form (Except body cs) n.last) n b (Sign mark.Colon) l (omega arith, omega arith)
-act_grows_within (Except body cs) n b t f l apt valid = reads_grows_within (tall (at (Except body cs) n b)) (deep (at (Except body cs) n b)) (clause_kind body cs) (onward n l) b (expression.step (start one) (class t)) (λ s. to_place (form (Except body cs) n.last) (Reading (clause_kind body cs) s) (onward n l) b (clause_read body cs (expression_least.finished s)))
+act_grows_within (Except body cs) n b t f l apt valid = reads_grows_within (state_height (at (Except body cs) n b)) (state_nesting (at (Except body cs) n b)) (clause_kind body cs) (onward n l) b (expression.step (start one) (class t)) (λ s. to_place (form (Except body cs) n.last) (Reading (clause_kind body cs) s) (onward n l) b (clause_read body cs (expression_least.finished s)))
 act_grows_within (ClauseBound body cs e) n b (Name x) f l apt valid = to_place (form (ClauseBound body cs e) n.last) (ColonWanted (a_clause body cs (Some e) (Some x))) (onward n l) b (hardly 0 (core (form (ClauseBound body cs e) n.last)) (passed (a_clause body cs (Some e) (Some x))) (clause_under body cs (Some e) (Some e) (Some x) (Some []) (omega arith)))
 act_grows_within (ClauseBound body cs e) n b t f l apt valid = tt
 act_grows_within (ColonWanted o) n b t f l apt valid = header_grows_within o (form (ColonWanted o) n.last) n b t l (omega arith, omega arith)
@@ -272,7 +273,7 @@ act_grows_within (SuiteWanted o) n b Newline f l apt valid = (omega arith, omega
 act_grows_within (SuiteWanted o) n b t f l apt valid =
     let c = inside no_stmts true n.first n.last n.begun o b in
     let h = opened_grows_within o true true n b (apt_suite_of o valid.0) in let one = h.0 in let two = h.1 in
-    grows_within_from (tall (at (SuiteWanted o) n b)) (suites_height c) (deep (at (SuiteWanted o) n b)) (suites_nesting c) (begin_simple c t f l) (omega arith) (omega arith) (begin_simple_grows_within c t f l)
+    grows_within_from (state_height (at (SuiteWanted o) n b)) (suites_height c) (state_nesting (at (SuiteWanted o) n b)) (suites_nesting c) (begin_simple c t f l) (omega arith) (omega arith) (begin_simple_grows_within c t f l)
 act_grows_within (IndentWanted o) n b Indent f l apt valid = let h = opened_grows_within o false false n b (apt_suite_of o valid.0) in let one = h.0 in let two = h.1 in (omega arith, omega arith)
 act_grows_within (IndentWanted o) n b t f l apt valid = tt
 act_grows_within (MatchLine e last) n b Newline f l apt valid = (omega arith, omega arith)
@@ -282,14 +283,14 @@ act_grows_within (MatchBlock e last) n b t f l apt valid = tt
 
 -- ---- steps
 
-choose_grows_within : (e : Expr) (last : ℕ) (cs : Cases) (first : ℕ) (b : SuiteStack) (t : Kind) (f l : ℕ) → GrowsWithin (tall (Choosing e last cs first b)) (deep (Choosing e last cs first b)) (choose e last cs first b t f l)
+choose_grows_within : (e : Expr) (last : ℕ) (cs : Cases) (first : ℕ) (b : SuiteStack) (t : Kind) (f l : ℕ) → GrowsWithin (state_height (Choosing e last cs first b)) (state_nesting (Choosing e last cs first b)) (choose e last cs first b t f l)
 choose_grows_within e last cs first b (Name x) f l = go (bytes_eq x case_name)
   where
     begins : (cs : Cases) → Hardly 1 (chosen 0 e last cs) (passed (a_case e last cs wild None))
     begins no_cases = (omega arith, omega arith)
     begins (case p g (suite x y i ss) cs) = let a = case_height (case p g (suite x y i ss) cs) wild None pass_only in let c = case_nesting (case p g (suite x y i ss) cs) wild None pass_only in (omega arith, omega arith)
 
-    go : (c : Bool) → GrowsWithin (tall (Choosing e last cs first b)) (deep (Choosing e last cs first b)) (cond c (Some (at (Matching e last cs pattern.start) (record { begun = first; first = f; last = l }) b)) None)
+    go : (c : Bool) → GrowsWithin (state_height (Choosing e last cs first b)) (state_nesting (Choosing e last cs first b)) (cond c (Some (at (Matching e last cs pattern.start) (record { begun = first; first = f; last = l }) b)) None)
     go true = let h = begins cs in let one = h.0 in let two = h.1 in (omega arith, omega arith)
     go false = tt
 choose_grows_within e last (case p g s cs) first b Dedent f l = (omega arith, omega arith)
@@ -298,14 +299,14 @@ choose_grows_within e last cs first b t f l = tt
 -- the open suites, where a statement may begin
 abbrev Rests : ℕ → ℕ → Option SuiteStack → Type 0
 Rests h d None = Unit {0}
-Rests h d (Some b) = (suites_height b ≤ max h 200) × (suites_nesting b ≤ d) × AptSuites b
+Rests h d (Some b) = (suites_height b ≤ max h HEIGHT) × (suites_nesting b ≤ d) × AptSuites b
 
-at_line_rests : (s : State) → AptState s → Rests (tall s) (deep s) (at_line s)
+at_line_rests : (s : State) → AptState s → Rests (state_height s) (state_nesting s) (at_line s)
 at_line_rests (Line b) apt = (omega arith, omega arith, apt)
 at_line_rests (at p n b) apt = tt
 at_line_rests (After k first last b) apt = go (is_whole k)
   where
-    go : (c : Bool) → Rests (tall (After k first last b)) (deep (After k first last b)) (cond c (Some (add b first last k no_end)) None)
+    go : (c : Bool) → Rests (state_height (After k first last b)) (state_nesting (After k first last b)) (cond c (Some (add b first last k no_end)) None)
     go true = let one = added_height b first last k no_end in let two = added_nesting b first last k no_end in (omega arith, omega arith, added_apt b first last k no_end apt)
     go false = tt
 at_line_rests (Choosing e last cs first b) apt = tt
@@ -369,21 +370,21 @@ apt_state (After k first last b) h = apt_line b h.2
 apt_state (Choosing e last cs first b) h = apt_line b h.2
 apt_state (Over ss) h = tt
 
-plain_grows_within : (s : State) (t : Kind) (f l : ℕ) → Valid s → GrowsWithin (tall s) (deep s) (plain_step s t f l)
+plain_grows_within : (s : State) (t : Kind) (f l : ℕ) → Valid s → GrowsWithin (state_height s) (state_nesting s) (plain_step s t f l)
 plain_grows_within (Line b) t f l valid = line_grows_within b t f l (apt_line b valid)
 plain_grows_within (at p n b) t f l valid = act_grows_within p n b t f l (apt_state (at p n b) valid) valid
 plain_grows_within (After k first last b) t f l valid = go (next_part k t) (next_goes k t valid.0)
   where
-    go : (o : Option Place) → Goes k o → GrowsWithin (tall (After k first last b)) (deep (After k first last b)) (elim o as (λ (w : Option Place). Option State) [ Some p ↦ Some (at p (record { begun = first; first = f; last = l }) b) | None ↦ on_line (at_line (After k first last b)) t f l ])
+    go : (o : Option Place) → Goes k o → GrowsWithin (state_height (After k first last b)) (state_nesting (After k first last b)) (elim o as (λ (w : Option Place). Option State) [ Some p ↦ Some (at p (record { begun = first; first = f; last = l }) b) | None ↦ on_line (at_line (After k first last b)) t f l ])
     go (Some p) h = let one = (h l).0 in let two = (h l).1 in (omega arith, omega arith)
-    go None h = on_line_grows_within (tall (After k first last b)) (deep (After k first last b)) (at_line (After k first last b)) t f l (at_line_rests (After k first last b) (apt_state (After k first last b) valid))
+    go None h = on_line_grows_within (state_height (After k first last b)) (state_nesting (After k first last b)) (at_line (After k first last b)) t f l (at_line_rests (After k first last b) (apt_state (After k first last b) valid))
 plain_grows_within (Choosing e last cs first b) t f l valid = choose_grows_within e last cs first b t f l
 plain_grows_within (Over ss) t f l valid = tt
 
 -- A step adds little.
-pub step_grows_within : (s : State) (m : Marked) (f l : ℕ) → Valid s → GrowsWithin (tall s) (deep s) (step s m f l)
+pub step_grows_within : (s : State) (m : Marked) (f l : ℕ) → Valid s → GrowsWithin (state_height s) (state_nesting s) (step s m f l)
 step_grows_within s m f l valid = go m.header
   where
-    go : (c : Bool) → GrowsWithin (tall s) (deep s) (cond c (header_step (at_line s) m.kind f l) (plain_step s m.kind f l))
-    go true = header_line_grows_within (tall s) (deep s) (at_line s) m.kind f l (at_line_rests s (apt_state s valid))
+    go : (c : Bool) → GrowsWithin (state_height s) (state_nesting s) (cond c (header_step (at_line s) m.kind f l) (plain_step s m.kind f l))
+    go true = header_line_grows_within (state_height s) (state_nesting s) (at_line s) m.kind f l (at_line_rests s (apt_state s valid))
     go false = plain_grows_within s m.kind f l valid

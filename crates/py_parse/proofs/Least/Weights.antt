@@ -3,6 +3,7 @@ use Rattle.std.proofs.Common.{◌≡◌, ℕ, suc, ◌+◌, ◌≤◌, max, Bool
 use Rattle.py_syntax.specs.declared.stmt.LineEnd.{LineEnd}
 use Rattle.py_syntax.specs.Tree.{Expr, Suite, suite, no_arms, arm, Cases, no_cases, case, StmtKind, match, Pattern}
 use Rattle.py_syntax.specs.Statements.{stmts_height, kind_height, stmts_nesting, kind_nesting}
+use Rattle.py_syntax.specs.Spelling.{HEIGHT}
 use Rattle.py_grammar.specs.Machine as expression
 use Rattle.py_grammar.specs.Least as expression_least
 use Rattle.py_parse_pattern.specs.Machine as pattern
@@ -17,19 +18,19 @@ use Rattle.py_parse.proofs.Least.GrowthEnding.{closed_height, closed_nesting, su
 
 -- ---- what stands in a state
 
-abbrev pub tall : State → ℕ
-tall (Line b) = suites_height b
-tall (at p n b) = max (suites_height b) (kind_height (core (form p n.last)))
-tall (After k first last b) = max (suites_height b) (kind_height k)
-tall (Choosing e last cs first b) = max (suites_height b) (kind_height (chosen 0 e last cs))
-tall (Over ss) = stmts_height ss
+abbrev pub state_height : State → ℕ
+state_height (Line b) = suites_height b
+state_height (at p n b) = max (suites_height b) (kind_height (core (form p n.last)))
+state_height (After k first last b) = max (suites_height b) (kind_height k)
+state_height (Choosing e last cs first b) = max (suites_height b) (kind_height (chosen 0 e last cs))
+state_height (Over ss) = stmts_height ss
 
-abbrev pub deep : State → ℕ
-deep (Line b) = suites_nesting b
-deep (at p n b) = max (suites_nesting b) (kind_nesting (core (form p n.last)) + depth b)
-deep (After k first last b) = max (suites_nesting b) (kind_nesting k + depth b)
-deep (Choosing e last cs first b) = max (suites_nesting b) (kind_nesting (chosen 0 e last cs) + depth b)
-deep (Over ss) = stmts_nesting ss
+abbrev pub state_nesting : State → ℕ
+state_nesting (Line b) = suites_nesting b
+state_nesting (at p n b) = max (suites_nesting b) (kind_nesting (core (form p n.last)) + depth b)
+state_nesting (After k first last b) = max (suites_nesting b) (kind_nesting k + depth b)
+state_nesting (Choosing e last cs first b) = max (suites_nesting b) (kind_nesting (chosen 0 e last cs) + depth b)
+state_nesting (Over ss) = stmts_nesting ss
 
 abbrev pub AptState : State → Type 0
 AptState (Line b) = AptSuites b
@@ -38,14 +39,14 @@ AptState (After k first last b) = AptSuites b
 AptState (Choosing e last cs first b) = AptSuites b
 AptState (Over ss) = Unit {0}
 
-pub is_tall : (s : State) → AptState s → least_height s ≡ tall s
+pub is_tall : (s : State) → AptState s → least_height s ≡ state_height s
 is_tall (Line b) h = closing_height 0 b h
 is_tall (at p n b) h = complete_height (form p n.last) n b h
 is_tall (After k first last b) h = let one = ended_height last k in let two = ending_height last b first last (ended last k) no_end h in omega arith
 is_tall (Choosing e last cs first b) h = ending_height 0 b first 0 (chosen 0 e last cs) no_end h
 is_tall (Over ss) h = refl
 
-pub is_deep : (s : State) → AptState s → least_nesting s ≡ deep s
+pub is_deep : (s : State) → AptState s → least_nesting s ≡ state_nesting s
 is_deep (Line b) h = closing_nesting 0 b h
 is_deep (at p n b) h = complete_nesting (form p n.last) n b h
 is_deep (After k first last b) h = let one = ended_nesting last k in let two = ending_nesting last b first last (ended last k) no_end h in omega arith
@@ -88,9 +89,9 @@ begun_level r s n b h = ap (λ (c : Bool). cond c (suc (depth b)) 0) (not_begun 
 -- a suite that begins.
 abbrev pub GrowsWithin : ℕ → ℕ → Option State → Type 0
 GrowsWithin h d None = Unit {0}
-GrowsWithin h d (Some s) = (tall s ≤ max (max h 200) (inner s)) × (deep s ≤ max d (level s))
+GrowsWithin h d (Some s) = (state_height s ≤ max (max h HEIGHT) (inner s)) × (state_nesting s ≤ max d (level s))
 
-pub grows_within_from : (h h' d d' : ℕ) (o : Option State) → h' ≤ max h 200 → d' ≤ d → GrowsWithin h' d' o → GrowsWithin h d o
+pub grows_within_from : (h h' d d' : ℕ) (o : Option State) → h' ≤ max h HEIGHT → d' ≤ d → GrowsWithin h' d' o → GrowsWithin h d o
 grows_within_from h h' d d' None low shallow n = tt
 grows_within_from h h' d d' (Some s) low shallow n = let one = n.0 in let two = n.1 in (omega arith, omega arith)
 
@@ -112,7 +113,7 @@ chosen_height : (e : Expr) (last : ℕ) (cs : Cases) (p : Pattern) (g : Option E
 chosen_height e last no_cases p g s = refl
 chosen_height e last (case p' g' s' cs) p g s = refl
 
-pub close_tall : (b : SuiteStack) (l : ℕ) → AptSuites b → tall (close b l) ≡ suites_height b
+pub close_tall : (b : SuiteStack) (l : ℕ) → AptSuites b → state_height (close b l) ≡ suites_height b
 close_tall (top ss) l h = refl
 close_tall (inside ss i x y begun (a_case e last cs p g) b) l h =
     let same = ap kind_height (chosen_height e last cs p g (suite x y i ss)) in
@@ -120,7 +121,7 @@ close_tall (inside ss i x y begun (a_case e last cs p g) b) l h =
     omega arith
 close_tall (inside ss i x y begun o b) l h = let one = closed_height o (suite x y i ss) h.0 in omega arith
 
-pub close_deep : (b : SuiteStack) (l : ℕ) → AptSuites b → deep (close b l) ≡ suites_nesting b
+pub close_deep : (b : SuiteStack) (l : ℕ) → AptSuites b → state_nesting (close b l) ≡ suites_nesting b
 close_deep (top ss) l h = refl
 close_deep (inside ss i x y begun (a_case e last cs p g) b) l h =
     let same = ap kind_nesting (chosen_height e last cs p g (suite x y i ss)) in
@@ -128,12 +129,12 @@ close_deep (inside ss i x y begun (a_case e last cs p g) b) l h =
     omega arith
 close_deep (inside ss i x y begun o b) l h = let one = closed_nesting o (suite x y i ss) h.0 in omega arith
 
-pub over_line_tall : (b : SuiteStack) (l : ℕ) → AptSuites b → tall (over_line b l) ≡ suites_height b
+pub over_line_tall : (b : SuiteStack) (l : ℕ) → AptSuites b → state_height (over_line b l) ≡ suites_height b
 over_line_tall (inside ss true x y begun o b) l h = close_tall (inside ss true x y begun o b) l h
 over_line_tall (inside ss false x y begun o b) l h = refl
 over_line_tall (top ss) l h = refl
 
-pub over_line_deep : (b : SuiteStack) (l : ℕ) → AptSuites b → deep (over_line b l) ≡ suites_nesting b
+pub over_line_deep : (b : SuiteStack) (l : ℕ) → AptSuites b → state_nesting (over_line b l) ≡ suites_nesting b
 over_line_deep (inside ss true x y begun o b) l h = close_deep (inside ss true x y begun o b) l h
 over_line_deep (inside ss false x y begun o b) l h = refl
 over_line_deep (top ss) l h = refl

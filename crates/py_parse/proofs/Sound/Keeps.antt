@@ -12,10 +12,10 @@ use Rattle.py_syntax.specs.Statements.{count, case_name, NormalExpr, NormalTarge
 use Rattle.py_grammar.specs.Machine as expression
 use Rattle.py_grammar.specs.Machine.{any, one, snoc, start, class}
 use Rattle.py_parse_pattern.specs.Machine as pattern
-use Rattle.py_grammar.proofs.Valid.{Sound, Meets, Keeps, each_snoc}
-use Rattle.py_grammar.proofs.Keeps as kept_
-use Rattle.py_grammar.proofs.Spelled.{class_valid, start_any, start_one, start_target}
-use Rattle.py_parse_pattern.proofs.NormalStates as pattern_
+use Rattle.py_grammar.proofs.Sound.Valid.{Sound, Meets, Keeps, each_snoc}
+use Rattle.py_grammar.proofs.Sound.Keeps as kept_
+use Rattle.py_grammar.proofs.Sound.Spelled.{class_valid, start_any, start_one, start_target}
+use Rattle.py_parse_pattern.proofs.Sound.NormalStates as pattern_
 use Rattle.py_statements.specs.Open.{an_arm, a_while, a_for, a_clause, a_case, SuiteStack, top, inside, add, no_end, semicolon_end}
 use Rattle.py_statements.specs.Machine.{Continuation, value, augmented, leaving, asserted, reason, arm_test, while_test, for_target, for_over, clause_kind, subject, guard, default, goal, Place, Reading, Matching, Simple, Semicolon, Leaving, NameWanted, NameRead, BoundWanted, BoundRead, ModuleWanted, ImportWanted, FunctionWanted, ParamsWanted, ParamWanted, ParamRead, Except, ClauseBound, ColonWanted, SuiteWanted, IndentWanted, MatchLine, MatchBlock, Span, State, Line, at, After, Choosing, Over, begun, wanted, onward, begun_at, reads, simple_place, compound_place, begin_simple, begin_line, line, end_simple, after_value, after_default, in_place_op, assigned, left, resume, resume_pattern, after_name, act, choose, next_part, is_whole, at_line, on_line, plain_step, header_step, step}
 use Rattle.py_statements.specs.Listed.{Listed, globals, imports, froms, listed, with_name, may_bind, is_some}

@@ -13,8 +13,8 @@ use Rattle.py_grammar.specs.Machine as expression
 use Rattle.py_grammar.specs.Machine.{any, start, class}
 use Rattle.py_grammar.specs.TokenClasses.{spelled}
 use Rattle.py_grammar.proofs.Sound as read_
-use Rattle.py_grammar.proofs.Spelled.{class_spells}
-use Rattle.py_grammar.proofs.Grows.{and_left, and_right}
+use Rattle.py_grammar.proofs.Sound.Spelled.{class_spells}
+use Rattle.py_grammar.proofs.Least.Grows.{and_left, and_right}
 use Rattle.py_statements.specs.Open.{SuiteOf, an_arm, a_while, a_for, a_try, a_clause, an_else, a_finally, a_def, a_case, SuiteStack, top, inside, add, newline_end}
 use Rattle.py_statements.specs.Machine.{Continuation, value, Place, Span, State, at, close, over_line, end_simple, end_header, begun_at, reads, simple_place, compound_place, begin_simple, begin_line, line, next_part}
 use Rattle.py_parse.specs.Least.{ended}
@@ -63,7 +63,7 @@ closed_tokens (a_def x ps ds c) ss inline f l begun b last r h = refl
 closed_tokens (a_case e hl cs p None) ss inline f l begun b last r h = ap (before_suites b) (cases_snoc e cs p None (suite f l inline ss) r)
 closed_tokens (a_case e hl cs p (Some g)) ss inline f l begun b last r h = ap (before_suites b) (cases_snoc e cs p (Some g) (suite f l inline ss) r)
 
--- the owner of the innermost suite
+-- what the innermost suite belongs to is valid
 abbrev pub Owned : SuiteStack → Type 0
 Owned (top ss) = Unit {0}
 Owned (inside ss inline f l begun o b) = ValidSuiteOf o

@@ -4,8 +4,8 @@ use Rattle.py_syntax.specs.Tree.{Text, Exprs}
 use Rattle.py_syntax.specs.Tree.{Stmts, no_suite, has_suite, clause, StmtKind, pass, if', while, for, try}
 use Rattle.py_syntax.specs.Normal.{Normal, Each, is_target, is_place, NormalPattern}
 use Rattle.py_syntax.specs.Statements.{count, is_simple, EndLines, ShareLine, IsOption, NormalExpr, NormalTargets, NormalClauseHead, NormalTry, NormalParams, NormalStmts, NormalKind, NormalSuite, NormalOpt, NormalArms, NormalClauses, NormalCases}
-use Rattle.py_grammar.proofs.Valid as expression
-use Rattle.py_parse_pattern.proofs.NormalStates as pattern
+use Rattle.py_grammar.proofs.Sound.Valid as expression
+use Rattle.py_parse_pattern.proofs.Sound.NormalStates as pattern
 use Rattle.py_statements.specs.Open.{snoc_stmt, newline_end, SuiteOf, an_arm, a_while, a_for, a_try, a_clause, an_else, a_finally, a_def, a_case, SuiteStack, top, inside}
 use Rattle.py_statements.specs.Machine.{Continuation, value, augmented, leaving, asserted, reason, arm_test, while_test, for_target, for_over, clause_kind, subject, guard, default, goal, Place, Reading, Matching, Simple, Semicolon, Leaving, NameWanted, NameRead, BoundWanted, BoundRead, ModuleWanted, ImportWanted, FunctionWanted, ParamsWanted, ParamWanted, ParamRead, Except, ClauseBound, ColonWanted, SuiteWanted, IndentWanted, MatchLine, MatchBlock, State, Line, at, After, Choosing, Over}
 use Rattle.py_statements.specs.Listed.{listed, may_bind}

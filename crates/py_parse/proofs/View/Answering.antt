@@ -1,5 +1,5 @@
 -- What the answers of the code say of the list of tokens.
-use Rattle.std.proofs.Common.{◌≡◌, ℕ, ◌+◌, ◌-◌, ◌<◌, ◌≤◌, Bool, List, length, get_or, Option, Some, None, option_map, Result, Ok, Err, Vec, sym, ap, subst, ◌∙◌, arith}
+use Rattle.std.proofs.Common.{◌≡◌, ℕ, ◌+◌, ◌-◌, ◌<◌, ◌≤◌, Bool, List, length, get_or, Option, Some, None, option_map, Ok, Err, Vec, sym, ap, subst, ◌∙◌, arith}
 use Rattle.std.specs.Global.{Global}
 use Rattle.std.proofs.lemmas.List.{length-map}
 use Rattle.py_token.specs.declared.token.Token.{Token}
@@ -7,21 +7,19 @@ use Rattle.py_token.specs.Plain.{PToken}
 use Rattle.py_token.specs.View.{view_token, view_tokens}
 use Rattle.py_syntax.specs.Tree.{Expr, Cases, Pattern, Stmts}
 use Rattle.py_syntax.specs.Kinds.{Kind, bare}
-use Rattle.py_syntax.specs.Spelling.{HEIGHT}
+use Rattle.py_syntax.specs.Spelling.{HEIGHT, NESTING}
 use Rattle.py_syntax.specs.View.{plain_stmts}
 use Rattle.py_syntax.specs.declared.stmt.Stmt.{Stmt}
 use Rattle.py_grammar.specs.declared.error.ReadError.{ReadError}
 use Rattle.py_grammar.specs.declared.error.ReadError.TheVariants as read_error_
 use Rattle.py_grammar.specs.Machine.{Goal, start}
 use Rattle.py_grammar.specs.Reading as reading_
-use Rattle.py_grammar.proofs.Places.{kinds_length}
 use Rattle.py_parse_pattern.specs.Machine as pattern
 use Rattle.py_parse_pattern.specs.Reads as pattern_reads
-use Rattle.py_statements.specs.declared.places.State as held_state
+use Rattle.py_statements.specs.declared.places.State as code_state
 use Rattle.py_statements.specs.declared.places.Turn.{Turn}
 use Rattle.py_statements.specs.declared.places.Turn.TheVariants as turn_
 use Rattle.py_parse_expr.specs.declared.exprs.ExprPart.{ExprPart}
-use Rattle.py_parse.specs.declared.progress.Progress.{Progress}
 use Rattle.py_parse.specs.declared.error.SyntaxError.{SyntaxError}
 use Rattle.py_parse.specs.declared.error.SyntaxError.TheVariants as error_
 use Rattle.py_statements.specs.Open.{SuiteStack}
@@ -31,9 +29,9 @@ use Rattle.py_parse.specs.Refusal.{IsUnexpected, HasDeepSuites, HasDeepExpressio
 use Rattle.py_statements.specs.ViewStates.{kind_at, first_at, last_at, view_state, ActsAs, IsDone}
 use Rattle.py_parse_expr.specs.ExprReads.{goal_of, FollowsMachine}
 use Rattle.py_statements.specs.ViewMarks.{header_at}
-use Rattle.py_parse.specs.Progress.{StandsAt, Turns, ReadsFrom, MatchesFrom, Resumes, Advances}
+use Rattle.py_parse.specs.Progress.{StandsAt, Turns, ReadsFrom, MatchesFrom, Resumes}
 use Rattle.py_parse.proofs.Exact.ReadsBetween.{first_place, taken, too_deep, stuck, expression_read, pattern_read, whole, too_short}
-use Rattle.py_parse.proofs.Exact.ReadsBetween as going
+use Rattle.py_parse.proofs.Exact.ReadsBetween as between
 use Rattle.py_statements.proofs.View.HeaderPlaces.{header_match}
 use Rattle.py_parse.proofs.View.Turning.{turning, resuming, reading_turn, matching_turn}
 
@@ -45,24 +43,8 @@ tokens_length tokens = length-map tokens view_token
 pub stands_inside : (tokens : List Token) (place : ℕ) (s : State) → StandsAt (view_tokens tokens) place s → place ≤ length tokens
 stands_inside tokens place s h = let e = tokens_length tokens in let inside = h.inside in omega arith
 
-pub expression_inside : (tokens : List Token) (place q : ℕ) (g : Goal) (end : List Kind → reading_.Ending) → reading_.EndsAt HEIGHT (start g) (bare (view_tokens tokens)) place q end → q ≤ length tokens
-expression_inside tokens place q g end h = let e : length (bare (view_tokens tokens)) ≡ length tokens = kinds_length tokens in let inside = h.inside in omega arith
-
-pub pattern_inside : (tokens : List Token) (place q : ℕ) (end : List Kind → pattern.Ending) → pattern_reads.EndsAt (bare (view_tokens tokens)) place q end → q ≤ length tokens
-pattern_inside tokens place q end h = let e : length (bare (view_tokens tokens)) ≡ length tokens = kinds_length tokens in let inside = h.inside in omega arith
-
--- after an expression or a pattern a token stands, and one in front of it
-pub token_after : (tokens : List Token) (place q : ℕ) (o : Span → Kind → ℕ → Option State) (n : Span) → Resumes (view_tokens tokens) place q o n → q < length tokens
-token_after tokens place q o n h = let e = tokens_length tokens in let inside = h.inside in omega arith
-
 pub not_first : (tokens : List Token) (place q : ℕ) (o : Span → Kind → ℕ → Option State) (n : Span) → Resumes (view_tokens tokens) place q o n → 1 ≤ q
 not_first tokens place q o n h = let later = h.later in omega arith
-
-pub token_before : (tokens : List Token) (place q : ℕ) (o : Span → Kind → ℕ → Option State) (n : Span) → Resumes (view_tokens tokens) place q o n → q - 1 < length tokens
-token_before tokens place q o n h = let e = tokens_length tokens in let later = h.later in let inside = h.inside in omega arith
-
-pub goes_later : (ts : List PToken) (place q : ℕ) (o : Span → Kind → ℕ → Option State) (n : Span) → Resumes ts place q o n → place < q
-goes_later ts place q o n h = h.later
 
 -- want of memory says nothing of the list
 pub for_memory : (ts : List PToken) (e : SyntaxError) → e ≡ error_.NoMemory → IsRefused ts e
@@ -70,10 +52,10 @@ for_memory ts e is = subst (IsRefused ts) (sym is) tt
 
 -- ---- after a token
 
-pub moved_on : (tokens : List Token) (place : ℕ) (s : held_state.State) → place < length tokens → Turns (view_tokens tokens) place (λ t o. o ≡ Some (view_state s)) → level (view_state s) ≤ 64 → StandsAt (view_tokens tokens) (place + 1) (view_state s)
+pub moved_on : (tokens : List Token) (place : ℕ) (s : code_state.State) → place < length tokens → Turns (view_tokens tokens) place (λ t o. o ≡ Some (view_state s)) → level (view_state s) ≤ NESTING → StandsAt (view_tokens tokens) (place + 1) (view_state s)
 moved_on tokens place s lt h low = let e = tokens_length tokens in taken (view_tokens tokens) place s (omega arith) h low
 
-pub moved_deep : (tokens : List Token) (place : ℕ) (s : held_state.State) → place < length tokens → Turns (view_tokens tokens) place (λ t o. o ≡ Some (view_state s)) → 64 < level (view_state s) → HasDeepSuites (view_tokens tokens) place
+pub moved_deep : (tokens : List Token) (place : ℕ) (s : code_state.State) → place < length tokens → Turns (view_tokens tokens) place (λ t o. o ≡ Some (view_state s)) → NESTING < level (view_state s) → HasDeepSuites (view_tokens tokens) place
 moved_deep tokens place s lt h over = let e = tokens_length tokens in too_deep (view_tokens tokens) place s (omega arith) h over
 
 pub moved_nowhere : (tokens : List Token) (place : ℕ) → place < length tokens → Turns (view_tokens tokens) place (λ t o. o ≡ None) → IsUnexpected (view_tokens tokens) place
@@ -82,10 +64,10 @@ moved_nowhere tokens place lt h = let e = tokens_length tokens in stuck (view_to
 -- ---- after an expression
 
 pub at_expression : (tokens : List Token) (place q : ℕ) (g : Goal) (r : Continuation) (n : Span) (b : SuiteStack) → place < length tokens → g ≡ goal r → ReadsFrom (view_tokens tokens) place r n b → reading_.EndsAt HEIGHT (start g) (bare (view_tokens tokens)) place q reading_.Unexpected → IsUnexpected (view_tokens tokens) q
-at_expression tokens place q g r n b lt is h ends = let e = tokens_length tokens in going.expression_unexpected (view_tokens tokens) place q r n b (omega arith) h (subst (λ (x : Goal). reading_.EndsAt HEIGHT (start x) (bare (view_tokens tokens)) place q reading_.Unexpected) is ends)
+at_expression tokens place q g r n b lt is h ends = let e = tokens_length tokens in between.expression_unexpected (view_tokens tokens) place q r n b (omega arith) h (subst (λ (x : Goal). reading_.EndsAt HEIGHT (start x) (bare (view_tokens tokens)) place q reading_.Unexpected) is ends)
 
 pub high_expression : (tokens : List Token) (place q : ℕ) (g : Goal) (r : Continuation) (n : Span) (b : SuiteStack) → place < length tokens → g ≡ goal r → ReadsFrom (view_tokens tokens) place r n b → reading_.EndsAt HEIGHT (start g) (bare (view_tokens tokens)) place q reading_.TooDeep → HasDeepExpressions (view_tokens tokens) q
-high_expression tokens place q g r n b lt is h ends = let e = tokens_length tokens in going.expression_too_high (view_tokens tokens) place q r n b (omega arith) h (subst (λ (x : Goal). reading_.EndsAt HEIGHT (start x) (bare (view_tokens tokens)) place q reading_.TooDeep) is ends)
+high_expression tokens place q g r n b lt is h ends = let e = tokens_length tokens in between.expression_too_high (view_tokens tokens) place q r n b (omega arith) h (subst (λ (x : Goal). reading_.EndsAt HEIGHT (start x) (bare (view_tokens tokens)) place q reading_.TooDeep) is ends)
 
 pub after_expression : (tokens : List Token) (place q : ℕ) (g : Goal) (r : Continuation) (n : Span) (b : SuiteStack) (e : Expr) → place < length tokens → g ≡ goal r → ReadsFrom (view_tokens tokens) place r n b → reading_.EndsAt HEIGHT (start g) (bare (view_tokens tokens)) place q (reading_.Reads e) → Resumes (view_tokens tokens) place q (λ m k l. resume r e m b k l) n
 after_expression tokens place q g r n b e lt is h ends = let len = tokens_length tokens in expression_read (view_tokens tokens) place q r n b e (omega arith) h (subst (λ (x : Goal). reading_.EndsAt HEIGHT (start x) (bare (view_tokens tokens)) place q (reading_.Reads e)) is ends)
@@ -94,7 +76,7 @@ after_expression tokens place q g r n b e lt is h ends = let len = tokens_length
 pub read_later : (tokens : List Token) (place q : ℕ) (o : Span → Kind → ℕ → Option State) (n : Span) → Resumes (view_tokens tokens) place q o n → (place < q) × (q < length tokens)
 read_later tokens place q o n h = let e = tokens_length tokens in let inside = h.inside in (h.later, omega arith)
 
-pub expression_turns : (tokens : List Token) (place q : ℕ) (t d : Token) (r : Continuation) (e : Expr) (n m : Span) (b : SuiteStack) (s : Option held_state.State) → t ≡ get_or tokens q t → Resumes (view_tokens tokens) place q (λ m k l. resume r e m b k l) n → m ≡ onward n (last_at (get_or tokens (q - 1) d)) → resume r e m b (kind_at t) (last_at t) ≡ option_map view_state s → Turns (view_tokens tokens) q (λ t o. o ≡ option_map view_state s)
+pub expression_turns : (tokens : List Token) (place q : ℕ) (t d : Token) (r : Continuation) (e : Expr) (n m : Span) (b : SuiteStack) (s : Option code_state.State) → t ≡ get_or tokens q t → Resumes (view_tokens tokens) place q (λ m k l. resume r e m b k l) n → m ≡ onward n (last_at (get_or tokens (q - 1) d)) → resume r e m b (kind_at t) (last_at t) ≡ option_map view_state s → Turns (view_tokens tokens) q (λ t o. o ≡ option_map view_state s)
 expression_turns tokens place q t d r e n m b s there h same makes =
     let later = read_later tokens place q (λ m k l. resume r e m b k l) n h in
     resuming tokens place q t d (λ m k l. resume r e m b k l) n (option_map view_state s) h later.1 (ap (λ (x : Span). resume r e x b (kind_at (get_or tokens q t)) (last_at (get_or tokens q t))) (sym same) ∙ subst (λ (u : Token). resume r e m b (kind_at u) (last_at u) ≡ option_map view_state s) there makes)
@@ -110,15 +92,15 @@ expression_too_high tokens place q part e r n b lt is h follows same = high_expr
 -- ---- after a pattern
 
 pub at_pattern : (tokens : List Token) (place q : ℕ) (e : Expr) (l : ℕ) (cs : Cases) (n : Span) (b : SuiteStack) → place < length tokens → MatchesFrom (view_tokens tokens) place e l cs n b → pattern_reads.EndsAt (bare (view_tokens tokens)) place q pattern.Unexpected → IsUnexpected (view_tokens tokens) q
-at_pattern tokens place q e l cs n b lt h ends = let len = tokens_length tokens in going.pattern_unexpected (view_tokens tokens) place q e l cs n b (omega arith) h ends
+at_pattern tokens place q e l cs n b lt h ends = let len = tokens_length tokens in between.pattern_unexpected (view_tokens tokens) place q e l cs n b (omega arith) h ends
 
 pub high_pattern : (tokens : List Token) (place q : ℕ) (e : Expr) (l : ℕ) (cs : Cases) (n : Span) (b : SuiteStack) → place < length tokens → MatchesFrom (view_tokens tokens) place e l cs n b → pattern_reads.EndsAt (bare (view_tokens tokens)) place q pattern.TooDeep → HasDeepExpressions (view_tokens tokens) q
-high_pattern tokens place q e l cs n b lt h ends = let len = tokens_length tokens in going.pattern_too_high (view_tokens tokens) place q e l cs n b (omega arith) h ends
+high_pattern tokens place q e l cs n b lt h ends = let len = tokens_length tokens in between.pattern_too_high (view_tokens tokens) place q e l cs n b (omega arith) h ends
 
 pub after_pattern : (tokens : List Token) (place q : ℕ) (e : Expr) (l : ℕ) (cs : Cases) (n : Span) (b : SuiteStack) (p : Pattern) → place < length tokens → MatchesFrom (view_tokens tokens) place e l cs n b → pattern_reads.EndsAt (bare (view_tokens tokens)) place q (pattern.Reads p) → Resumes (view_tokens tokens) place q (λ m k last. resume_pattern e l cs p m b k last) n
 after_pattern tokens place q e l cs n b p lt h ends = let len = tokens_length tokens in pattern_read (view_tokens tokens) place q e l cs n b p (omega arith) h ends
 
-pub pattern_turns : (tokens : List Token) (place q : ℕ) (t d : Token) (e : Expr) (l : ℕ) (cs : Cases) (p : Pattern) (n m : Span) (b : SuiteStack) (s : Option held_state.State) → t ≡ get_or tokens q t → Resumes (view_tokens tokens) place q (λ m k last. resume_pattern e l cs p m b k last) n → m ≡ onward n (last_at (get_or tokens (q - 1) d)) → resume_pattern e l cs p m b (kind_at t) (last_at t) ≡ option_map view_state s → Turns (view_tokens tokens) q (λ t o. o ≡ option_map view_state s)
+pub pattern_turns : (tokens : List Token) (place q : ℕ) (t d : Token) (e : Expr) (l : ℕ) (cs : Cases) (p : Pattern) (n m : Span) (b : SuiteStack) (s : Option code_state.State) → t ≡ get_or tokens q t → Resumes (view_tokens tokens) place q (λ m k last. resume_pattern e l cs p m b k last) n → m ≡ onward n (last_at (get_or tokens (q - 1) d)) → resume_pattern e l cs p m b (kind_at t) (last_at t) ≡ option_map view_state s → Turns (view_tokens tokens) q (λ t o. o ≡ option_map view_state s)
 pattern_turns tokens place q t d e l cs p n m b s there h same makes =
     let later = read_later tokens place q (λ m k last. resume_pattern e l cs p m b k last) n h in
     resuming tokens place q t d (λ m k last. resume_pattern e l cs p m b k last) n (option_map view_state s) h later.1 (ap (λ (x : Span). resume_pattern e l cs p x b (kind_at (get_or tokens q t)) (last_at (get_or tokens q t))) (sym same) ∙ subst (λ (u : Token). resume_pattern e l cs p m b (kind_at u) (last_at u) ≡ option_map view_state s) there makes)
@@ -139,16 +121,11 @@ the_step t s header = step s (record { kind = kind_at t; header = header }) (fir
 abbrev DoesAs : Token → State → Bool → Turn → Type 0
 DoesAs t s header turn = ActsAs (kind_at t) (first_at t) (last_at t) (the_step t s header) turn
 
-pub next_turns : (tokens : List Token) (place : ℕ) (t : Token) (s : State) (header : Bool) (turn : Turn) (n : held_state.State) → place < length tokens → t ≡ get_or tokens place t → header ≡ header_at (bare (view_tokens tokens)) place → StandsAt (view_tokens tokens) place s → DoesAs t s header turn → turn ≡ turn_.Next n → Turns (view_tokens tokens) place (λ t o. o ≡ Some (view_state n))
+pub next_turns : (tokens : List Token) (place : ℕ) (t : Token) (s : State) (header : Bool) (turn : Turn) (n : code_state.State) → place < length tokens → t ≡ get_or tokens place t → header ≡ header_at (bare (view_tokens tokens)) place → StandsAt (view_tokens tokens) place s → DoesAs t s header turn → turn ≡ turn_.Next n → Turns (view_tokens tokens) place (λ t o. o ≡ Some (view_state n))
 next_turns tokens place t s header turn n lt there is stands acts same = turning tokens place t s header (Some (view_state n)) lt is stands (subst (λ (u : Token). the_step u s header ≡ Some (view_state n)) there (subst (DoesAs t s header) same acts))
 
 pub stuck_turns : (tokens : List Token) (place : ℕ) (t : Token) (s : State) (header : Bool) (turn : Turn) → place < length tokens → t ≡ get_or tokens place t → header ≡ header_at (bare (view_tokens tokens)) place → StandsAt (view_tokens tokens) place s → DoesAs t s header turn → turn ≡ turn_.Stuck → Turns (view_tokens tokens) place (λ t o. o ≡ None)
 stuck_turns tokens place t s header turn lt there is stands acts same = turning tokens place t s header None lt is stands (subst (λ (u : Token). the_step u s header ≡ None) there (subst (DoesAs t s header) same acts))
-
--- a later place is later than an earlier one
-pub later_still : (ts : List PToken) (place q : ℕ) (r : Result Progress SyntaxError) → place < q → Advances ts q r → Advances ts place r
-later_still ts place q (Ok r) lt h = let one = h.0 in (omega arith, h.1)
-later_still ts place q (Err e) lt h = h
 
 -- ---- the end
 
@@ -169,9 +146,5 @@ unparsed tokens place s h le is = let e = tokens_length tokens in too_short (vie
 -- ---- the rules of each answer
 
 pub ruleset module_rules = (first_place, parsed, unparsed, stands_inside)
-
-pub ruleset later_rules = (later_still, goes_later, token_after, token_before, not_first)
-
-pub ruleset after_rules = (later_rules, for_memory)
 
 pub ruleset turn_rules = (reading_turn, matching_turn, header_match, for_memory)

@@ -6,22 +6,21 @@ use Rattle.py_token.specs.declared.token.Mark.TheVariants as mark
 use Rattle.py_token.specs.declared.token.Token.{Token}
 use Rattle.py_syntax.specs.Tree.{Text, Expr, Exprs, no_exprs, exprs, Stmts, no_stmts, stmt, Suite, suite, Clauses, expr, Cases, no_cases, case, StmtKind, match}
 use Rattle.py_syntax.specs.View.{plain_stmts}
-use Rattle.py_syntax.specs.Kinds.{Kind, Name, Sign, Newline, Indent, Dedent, End}
+use Rattle.py_syntax.specs.Kinds.{Kind, Name, Sign, Newline, Dedent, End}
 use Rattle.py_syntax.specs.Headers.{is_colon}
 use Rattle.py_syntax.specs.Normal.{is_target, is_place}
 use Rattle.py_syntax.specs.declared.stmt.LineEnd.{LineEnd}
-use Rattle.py_grammar.specs.Machine as expression
-use Rattle.py_grammar.specs.Machine.{snoc, start, class}
+use Rattle.py_grammar.specs.Machine.{snoc, start}
 use Rattle.py_parse_pattern.specs.Machine as pattern
-use Rattle.py_statements.specs.declared.places.Place as held_place
-use Rattle.py_statements.specs.declared.places.State as held_state
+use Rattle.py_statements.specs.declared.places.Place as code_place
+use Rattle.py_statements.specs.declared.places.State as code_state
 use Rattle.py_statements.specs.declared.suite_stack.Open.{Open}
-use Rattle.py_statements.specs.declared.suite_of.SuiteOf as held_suite_of
+use Rattle.py_statements.specs.declared.suite_of.SuiteOf as code_suite_of
 use Rattle.py_statements.specs.declared.places.Turn.{Turn}
-use Rattle.py_statements.specs.Open.{SuiteOf, a_clause, a_def, a_case, newline_end, semicolon_end, both_end, SuiteStack, top, inside, add}
-use Rattle.py_statements.specs.Machine.{Place, Line, Semicolon, Leaving, NameWanted, After, Over, Matching, choose, close, over_suite, over_line, begin_line, line, value, augmented, default, ParamWanted, ParamRead, BoundWanted, BoundRead, ClauseBound, ColonWanted, SuiteWanted, IndentWanted, Except, Span, State, at, wanted, onward, goal, reads, leaving, left, after_name, in_place_op, assigned, end_simple, end_header, begin_simple, after_value, after_default, act}
-use Rattle.py_statements.specs.Listed.{Listed, listed, with_name, is_some}
-use Rattle.py_statements.specs.ViewLists.{some_exprs, some_cases, NoName, is_equal_sign, is_semicolon, ends_simple, is_comma, is_right_paren, is_dedent, is_end, is_case, is_indent}
+use Rattle.py_statements.specs.Open.{SuiteOf, a_clause, a_def, a_case, newline_end, semicolon_end, SuiteStack, top, inside, add}
+use Rattle.py_statements.specs.Machine.{Place, Line, Semicolon, Leaving, After, Over, Matching, choose, close, over_suite, over_line, begin_line, line, value, augmented, default, ParamWanted, ParamRead, ColonWanted, SuiteWanted, IndentWanted, Except, Span, State, at, wanted, onward, left, after_name, in_place_op, assigned, end_simple, end_header, begin_simple, after_value, after_default, act}
+use Rattle.py_statements.specs.Listed.{Listed, listed}
+use Rattle.py_statements.specs.ViewLists.{some_exprs, some_cases, is_equal_sign, is_semicolon, ends_simple, is_comma, is_right_paren, is_dedent, is_end, is_case}
 use Rattle.py_statements.specs.ViewMarks.{is_newline}
 use Rattle.py_statements.specs.ViewStates.{kind_at, first_at, last_at, Acts, view_state, view_place, suite_stack, Opens, SharesLine, is_closable, is_top, Makes, ActsAs}
 use Rattle.py_statements.specs.ViewSuiteOf.{view_suite_of}
@@ -41,10 +40,6 @@ simple_goes_on k n b (Sign mark.Semicolon) l h i = absurd cc
 simple_goes_on k n b Newline l h i = absurd cc
 simple_goes_on k n b t l h i = refl
 
-pub semicolon_line : (k : StmtKind) (n : Span) (b : SuiteStack) (t : Kind) (f l : ℕ) (s : State) → is_newline t ≡ true → s ≡ over_line (add b n.begun n.last k both_end) l → act (Semicolon k) n b t f l ≡ Some s
-semicolon_line k n b Newline f l s h i = sym (ap (λ (w : State). Some w) i)
-semicolon_line k n b t f l s h i = absurd cc
-
 semicolon_begins : (k : StmtKind) (n : Span) (b : SuiteStack) (t : Kind) (f l : ℕ) → is_newline t ≡ false → begin_simple (add b n.begun n.last k semicolon_end) t f l ≡ act (Semicolon k) n b t f l
 semicolon_begins k n b Newline f l h = absurd cc
 semicolon_begins k n b t f l h = refl
@@ -55,10 +50,10 @@ semicolon_turn k n b c t e r h end is acts =
     subst (λ (w : Option State). Acts t w r) (ap (λ (d : SuiteStack). begin_simple d kind f l) (is ∙ ap (λ (x : LineEnd). add b n.begun n.last k x) end) ∙ semicolon_begins k n b kind f l h) acts
 
 -- the state that a token leads to, where there is one, and what the code does then
-pub acts_so : (o : Option State) (t : Kind) (f l : ℕ) (s : Option held_state.State) (turn : Turn) → o ≡ option_map view_state s → ((t : Kind) (f l : ℕ) → ActsAs t f l (option_map view_state s) turn) → ActsAs t f l o turn
+pub acts_so : (o : Option State) (t : Kind) (f l : ℕ) (s : Option code_state.State) (turn : Turn) → o ≡ option_map view_state s → ((t : Kind) (f l : ℕ) → ActsAs t f l (option_map view_state s) turn) → ActsAs t f l o turn
 acts_so o t f l s turn is acts = subst (λ (w : Option State). ActsAs t f l w turn) (sym is) (acts t f l)
 
-pub acts_in : (held : held_place.Place) (p : Place) (n : Span) (b : SuiteStack) (t : Kind) (f l : ℕ) (s : Option held_state.State) (turn : Turn) → view_place held ≡ p → act p n b t f l ≡ option_map view_state s → ((t : Kind) (f l : ℕ) → ActsAs t f l (option_map view_state s) turn) → ActsAs t f l (act (view_place held) n b t f l) turn
+pub acts_in : (held : code_place.Place) (p : Place) (n : Span) (b : SuiteStack) (t : Kind) (f l : ℕ) (s : Option code_state.State) (turn : Turn) → view_place held ≡ p → act p n b t f l ≡ option_map view_state s → ((t : Kind) (f l : ℕ) → ActsAs t f l (option_map view_state s) turn) → ActsAs t f l (act (view_place held) n b t f l) turn
 acts_in held p n b t f l s turn same is acts = acts_so (act (view_place held) n b t f l) t f l s turn (ap (λ (q : Place). act q n b t f l) same ∙ is) acts
 
 pub leaving_ends : (r : Bool) (k : StmtKind) (n : Span) (b : SuiteStack) (t : Kind) (f l : ℕ) (o : Option State) → ends_simple t ≡ true → k ≡ left r None → end_simple k n b t l ≡ o → act (Leaving r) n b t f l ≡ o
@@ -69,26 +64,18 @@ leaving_ends r k n b t f l o h same is = go t h ∙ ap (λ (x : StmtKind). end_s
     go Newline h = refl
     go t h = absurd cc
 
-pub leaving_reads : (r : Bool) (n q : Span) (b : SuiteStack) (t : Kind) (f l : ℕ) → ends_simple t ≡ false → q ≡ onward n l → act (Leaving r) n b t f l ≡ reads (leaving r) q b (expression.step (start (goal (leaving r))) (class t))
-leaving_reads r n q b t f l h is = go t h ∙ ap (λ (m : Span). reads (leaving r) m b (expression.step (start (goal (leaving r))) (class t))) (sym is)
-  where
-    go : (t : Kind) → ends_simple t ≡ false → act (Leaving r) n b t f l ≡ reads (leaving r) (onward n l) b (expression.step (start (goal (leaving r))) (class t))
-    go (Sign mark.Semicolon) h = absurd cc
-    go Newline h = absurd cc
-    go t h = refl
-
 -- ---- values
 
-pub value_targets : (ts : Exprs) (e : Expr) (n : Span) (b : SuiteStack) (k : Kind) (l : ℕ) (r : Result (Option held_state.State) AllocError) → is_equal_sign k ≡ true → Makes (cond (is_target e) (Some (at (wanted (value (snoc ts e))) (onward n l) b)) None) r → Makes (after_value ts e n b k l) r
+pub value_targets : (ts : Exprs) (e : Expr) (n : Span) (b : SuiteStack) (k : Kind) (l : ℕ) (r : Result (Option code_state.State) AllocError) → is_equal_sign k ≡ true → Makes (cond (is_target e) (Some (at (wanted (value (snoc ts e))) (onward n l) b)) None) r → Makes (after_value ts e n b k l) r
 value_targets ts e n b (Sign mark.Equal) l r h m = m
 value_targets ts e n b k l r h m = absurd cc
 
-pub value_assigns : (ts : Exprs) (e : Expr) (n : Span) (b : SuiteStack) (k : Kind) (l : ℕ) (r : Result (Option held_state.State) AllocError) → is_equal_sign k ≡ false → some_exprs ts ≡ true → Makes (end_simple (assigned ts e) n b k l) r → Makes (after_value ts e n b k l) r
+pub value_assigns : (ts : Exprs) (e : Expr) (n : Span) (b : SuiteStack) (k : Kind) (l : ℕ) (r : Result (Option code_state.State) AllocError) → is_equal_sign k ≡ false → some_exprs ts ≡ true → Makes (end_simple (assigned ts e) n b k l) r → Makes (after_value ts e n b k l) r
 value_assigns no_exprs e n b k l r h i m = absurd cc
 value_assigns (exprs t ts) e n b (Sign mark.Equal) l r h i m = absurd cc
 value_assigns (exprs t ts) e n b k l r h i m = m
 
-pub value_alone : (ts : Exprs) (e : Expr) (n : Span) (b : SuiteStack) (k : Kind) (l : ℕ) (r : Result (Option held_state.State) AllocError) → some_exprs ts ≡ false → Makes (after_value no_exprs e n b k l) r → Makes (after_value ts e n b k l) r
+pub value_alone : (ts : Exprs) (e : Expr) (n : Span) (b : SuiteStack) (k : Kind) (l : ℕ) (r : Result (Option code_state.State) AllocError) → some_exprs ts ≡ false → Makes (after_value no_exprs e n b k l) r → Makes (after_value ts e n b k l) r
 value_alone no_exprs e n b k l r i m = m
 value_alone (exprs t ts) e n b k l r i m = absurd cc
 
@@ -99,7 +86,7 @@ op_is : (e : Expr) (n : Span) (b : SuiteStack) (k : Kind) (l : ℕ) → is_equal
 op_is e n b (Sign mark.Equal) l h = absurd cc
 op_is e n b k l h = refl
 
-pub value_ends : (e : Expr) (n : Span) (b : SuiteStack) (k : Kind) (l : ℕ) (r : Result (Option held_state.State) AllocError) → is_equal_sign k ≡ false → None ≡ in_place_op k → Makes (end_simple (expr e) n b k l) r → Makes (after_value no_exprs e n b k l) r
+pub value_ends : (e : Expr) (n : Span) (b : SuiteStack) (k : Kind) (l : ℕ) (r : Result (Option code_state.State) AllocError) → is_equal_sign k ≡ false → None ≡ in_place_op k → Makes (end_simple (expr e) n b k l) r → Makes (after_value no_exprs e n b k l) r
 value_ends e n b k l r h i m = subst (λ (o : Option State). Makes o r) (ap (after_op e n b k l) i ∙ sym (op_is e n b k l h)) m
 
 pub value_misplaced : (e : Expr) (n : Span) (b : SuiteStack) (k : Kind) (l : ℕ) (op : BinOp) → is_equal_sign k ≡ false → Some op ≡ in_place_op k → is_place e ≡ false → after_value no_exprs e n b k l ≡ None
@@ -131,18 +118,6 @@ param_ends x x' ps qs ds es y n b k f l o h i same more with_same is =
     go no_exprs i = plainly k h
     go (exprs d ds) i = absurd cc
 
-pub param_some : (x : Text) (ps : List Text) (ds : Exprs) (y : Text) (n : Span) (b : SuiteStack) (k : Kind) (f l : ℕ) (q : Span) → k ≡ Name y → q ≡ onward n l → act (ParamWanted x ps ds) n b k f l ≡ Some (at (ParamRead x ps ds y) q b)
-param_some x ps ds y n b k f l q h j = ap (λ (t : Kind). act (ParamWanted x ps ds) n b t f l) h ∙ ap (λ (m : Span). Some (at (ParamRead x ps ds y) m b)) (sym j)
-
-pub param_close : (x : Text) (ps : List Text) (ds : Exprs) (n : Span) (b : SuiteStack) (k : Kind) (f l : ℕ) (c : Bool) (q : Span) → is_right_paren k ≡ true → c ≡ is_some ps → q ≡ onward n l → act (ParamWanted x ps ds) n b k f l ≡ Some (at (ColonWanted (a_def x ps ds c)) q b)
-param_close x ps ds n b (Sign mark.RightParen) f l c q h i j = ap (λ (d : Bool). Some (at (ColonWanted (a_def x ps ds d)) (onward n l) b)) (sym i) ∙ ap (λ (m : Span). Some (at (ColonWanted (a_def x ps ds c)) m b)) (sym j)
-param_close x ps ds n b k f l c q h i j = absurd cc
-
-pub param_none : (x : Text) (ps : List Text) (ds : Exprs) (n : Span) (b : SuiteStack) (k : Kind) (f l : ℕ) → NoName k → is_right_paren k ≡ false → act (ParamWanted x ps ds) n b k f l ≡ None
-param_none x ps ds n b (Name y) f l h i = absurd h
-param_none x ps ds n b (Sign mark.RightParen) f l h i = absurd cc
-param_none x ps ds n b k f l h i = refl
-
 pub default_more : (x : Text) (ps : List Text) (ds : Exprs) (n q : Span) (b : SuiteStack) (k : Kind) (l : ℕ) → is_comma k ≡ true → q ≡ onward n l → after_default x ps ds n b k l ≡ Some (at (ParamWanted x ps ds) q b)
 default_more x ps ds n q b (Sign mark.Comma) l h j = ap (λ (m : Span). Some (at (ParamWanted x ps ds) m b)) (sym j)
 default_more x ps ds n q b k l h j = absurd cc
@@ -158,30 +133,12 @@ default_none x ps ds n b k l h i = refl
 
 -- ---- names
 
-pub name_more : (xs : Listed) (n q : Span) (b : SuiteStack) (t : Kind) (l : ℕ) → is_comma t ≡ true → q ≡ onward n l → after_name xs n b t l ≡ Some (at (NameWanted xs) q b)
-name_more xs n q b (Sign mark.Comma) l h is = ap (λ (m : Span). Some (at (NameWanted xs) m b)) (sym is)
-name_more xs n q b t l h is = absurd cc
-
-pub name_ends : (xs : Listed) (k : StmtKind) (n : Span) (b : SuiteStack) (t : Kind) (l : ℕ) (r : Result (Option held_state.State) AllocError) → is_comma t ≡ false → k ≡ listed xs → Makes (end_simple k n b t l) r → Makes (after_name xs n b t l) r
+pub name_ends : (xs : Listed) (k : StmtKind) (n : Span) (b : SuiteStack) (t : Kind) (l : ℕ) (r : Result (Option code_state.State) AllocError) → is_comma t ≡ false → k ≡ listed xs → Makes (end_simple k n b t l) r → Makes (after_name xs n b t l) r
 name_ends xs k n b t l r h same m = subst (λ (o : Option State). Makes o r) (ap (λ (x : StmtKind). end_simple x n b t l) same ∙ go t h) m
   where
     go : (t : Kind) → is_comma t ≡ false → end_simple (listed xs) n b t l ≡ after_name xs n b t l
     go (Sign mark.Comma) h = absurd cc
     go t h = refl
-
-pub bound_some : (xs : Listed) (x y : Text) (n : Span) (b : SuiteStack) (k : Kind) (f l : ℕ) (ys : Listed) (q : Span) → k ≡ Name y → ys ≡ with_name xs x (Some y) → q ≡ onward n l → act (BoundWanted xs x) n b k f l ≡ Some (at (BoundRead ys) q b)
-bound_some xs x y n b k f l ys q h i j = ap (λ (t : Kind). act (BoundWanted xs x) n b t f l) h ∙ ap (λ (zs : Listed). Some (at (BoundRead zs) (onward n l) b)) (sym i) ∙ ap (λ (m : Span). Some (at (BoundRead ys) m b)) (sym j)
-
-pub bound_none : (xs : Listed) (x : Text) (n : Span) (b : SuiteStack) (k : Kind) (f l : ℕ) → NoName k → act (BoundWanted xs x) n b k f l ≡ None
-bound_none xs x n b (Name y) f l h = absurd h
-bound_none xs x n b k f l h = refl
-
-pub clause_some : (body : Suite) (cs : Clauses) (e : Expr) (y : Text) (n : Span) (b : SuiteStack) (k : Kind) (f l : ℕ) (q : Span) → k ≡ Name y → q ≡ onward n l → act (ClauseBound body cs e) n b k f l ≡ Some (at (ColonWanted (a_clause body cs (Some e) (Some y))) q b)
-clause_some body cs e y n b k f l q h j = ap (λ (t : Kind). act (ClauseBound body cs e) n b t f l) h ∙ ap (λ (m : Span). Some (at (ColonWanted (a_clause body cs (Some e) (Some y))) m b)) (sym j)
-
-pub clause_none : (body : Suite) (cs : Clauses) (e : Expr) (n : Span) (b : SuiteStack) (k : Kind) (f l : ℕ) → NoName k → act (ClauseBound body cs e) n b k f l ≡ None
-clause_none body cs e n b (Name y) f l h = absurd h
-clause_none body cs e n b k f l h = refl
 
 -- ---- suites
 
@@ -197,14 +154,6 @@ pub suite_turn : (o : SuiteOf) (n : Span) (b c : SuiteStack) (t : Token) (r : Re
 suite_turn o n b c t r h is acts =
     let k = kind_at t in let f = first_at t in let l = last_at t in
     subst (λ (w : Option State). Acts t w r) (ap (λ (d : SuiteStack). begin_simple d k f l) is ∙ suite_begins o n b k f l h) acts
-
-pub block_opens : (o : SuiteOf) (n : Span) (b c : SuiteStack) (k : Kind) (f l : ℕ) → is_indent k ≡ true → c ≡ inside no_stmts false n.first n.last n.begun o b → act (IndentWanted o) n b k f l ≡ Some (Line c)
-block_opens o n b c Indent f l h is = sym (ap (λ (d : SuiteStack). Some (Line d)) is)
-block_opens o n b c k f l h is = absurd cc
-
-pub block_none : (o : SuiteOf) (n : Span) (b : SuiteStack) (k : Kind) (f l : ℕ) → is_indent k ≡ false → act (IndentWanted o) n b k f l ≡ None
-block_none o n b Indent f l h = absurd cc
-block_none o n b k f l h = refl
 
 pub except_ends : (body : Suite) (cs : Clauses) (n : Span) (b : SuiteStack) (k : Kind) (f l : ℕ) (o : Option State) → is_colon k ≡ true → end_header (a_clause body cs None None) n b k l ≡ o → act (Except body cs) n b k f l ≡ o
 except_ends body cs n b (Sign mark.Colon) f l o h is = is
@@ -262,12 +211,6 @@ line_begins b t r h i acts =
 pub shared_line : (b : SuiteStack) (c : Bool) (l : ℕ) (s : State) → SharesLine b c → c ≡ true → s ≡ close b l → s ≡ over_line b l
 shared_line b c l s h is same = same ∙ sym (h l ∙ ap (λ (x : Bool). cond x (close b l) (Line b)) is)
 
-pub own_line : (b : SuiteStack) (c : Bool) (l : ℕ) → SharesLine b c → c ≡ false → Line b ≡ over_line b l
-own_line b c l h is = sym (h l ∙ ap (λ (x : Bool). cond x (close b l) (Line b)) is)
-
-pub close_top : (ss : Stmts) (old new : List Open) (l : ℕ) → Opens ss old new None → Line (suite_stack ss (reverse new)) ≡ close (suite_stack ss (reverse old)) l
-close_top ss old new l h = ap Line h.1 ∙ sym (ap (λ (b : SuiteStack). close b l) h.0)
-
 pub close_inside : (ss : Stmts) (old new : List Open) (l : ℕ) (o : Open) (s : Suite) (w : State) → Opens ss old new (Some o) → s ≡ suite o.span.first o.span.last o.inline ss → w ≡ over_suite (view_suite_of o.suite_of.value) s o.span.begun l (suite_stack (plain_stmts o.outer.items) (reverse new)) → w ≡ close (suite_stack ss (reverse old)) l
 close_inside ss old new l o s w h same is =
     let b = suite_stack (plain_stmts o.outer.items) (reverse new) in
@@ -277,26 +220,6 @@ close_inside ss old new l o s w h same is =
     go (a_case e last cs p g) b = refl
     go w b = refl
 
-pub close_made : (ss : Stmts) (old new : List Open) (l : ℕ) (o : Open) (v : held_suite_of.SuiteOf) (s : Suite) (r : Result held_state.State AllocError) → Opens ss old new (Some o) → v ≡ o.suite_of.value → s ≡ suite o.span.first o.span.last o.inline ss → IfOk r (λ w. view_state w ≡ over_suite (view_suite_of v) s o.span.begun l (suite_stack (plain_stmts o.outer.items) (reverse new))) → IfOk r (λ w. view_state w ≡ close (suite_stack ss (reverse old)) l)
-close_made ss old new l o v s (Ok w) h own same is = close_inside ss old new l o s (view_state w) h same (is ∙ ap (λ (x : held_suite_of.SuiteOf). over_suite (view_suite_of x) s o.span.begun l (suite_stack (plain_stmts o.outer.items) (reverse new))) own)
+pub close_made : (ss : Stmts) (old new : List Open) (l : ℕ) (o : Open) (v : code_suite_of.SuiteOf) (s : Suite) (r : Result code_state.State AllocError) → Opens ss old new (Some o) → v ≡ o.suite_of.value → s ≡ suite o.span.first o.span.last o.inline ss → IfOk r (λ w. view_state w ≡ over_suite (view_suite_of v) s o.span.begun l (suite_stack (plain_stmts o.outer.items) (reverse new))) → IfOk r (λ w. view_state w ≡ close (suite_stack ss (reverse old)) l)
+close_made ss old new l o v s (Ok w) h own same is = close_inside ss old new l o s (view_state w) h same (is ∙ ap (λ (x : code_suite_of.SuiteOf). over_suite (view_suite_of x) s o.span.begun l (suite_stack (plain_stmts o.outer.items) (reverse new))) own)
 close_made ss old new l o v s (Err e) h own same is = tt
-
--- ---- the rules of each step
-
-pub ruleset semicolon_rules = (semicolon_line, semicolon_turn)
-
-pub ruleset name_rules = (name_more, name_ends)
-
-pub ruleset bound_rules = (bound_some, bound_none)
-
-pub ruleset clause_rules = (clause_some, clause_none)
-
-pub ruleset suite_rules = (suite_line, suite_turn)
-
-pub ruleset block_rules = (block_opens, block_none)
-
-pub ruleset close_rules = (close_top, close_inside)
-
-pub ruleset line_over_rules = (shared_line, own_line)
-
-pub ruleset new_param_rules = (param_some, param_close, param_none)

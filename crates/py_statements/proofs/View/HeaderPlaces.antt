@@ -4,7 +4,7 @@ use Rattle.std.proofs.Math.ListN.{drop_of_length-le}
 use Rattle.py_token.specs.declared.token.Token.{Token}
 use Rattle.py_syntax.specs.Kinds.{Kind, Newline}
 use Rattle.py_syntax.specs.Headers.{is_match, is_colon, is_header, ends_in_colon, ends_line}
-use Rattle.py_grammar.proofs.Places.{kind_there, kinds_length}
+use Rattle.py_grammar.proofs.View.Places.{kind_there, kinds_length}
 use Rattle.py_statements.specs.ViewMarks.{kinds_of, is_newline, begins_from, heads, header_at}
 use Rattle.py_statements.specs.ViewStates.{kind_at}
 

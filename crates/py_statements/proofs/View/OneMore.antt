@@ -1,5 +1,5 @@
 -- What the code holds, with one more.
-use Rattle.std.proofs.Common.{◌≡◌, ℕ, suc, ◌-◌, Bool, true, false, not, ◌&&◌, cond, List, [], ◌∷◌, ◌++◌, length, reverse, slice_get, Some, option_map, Vec, ◌⊎◌, inl, inr, refl, sym, ap, ◌∙◌, arith}
+use Rattle.std.proofs.Common.{◌≡◌, ℕ, suc, ◌-◌, Bool, true, false, not, ◌&&◌, List, [], ◌∷◌, ◌++◌, length, reverse, slice_get, Some, option_map, Vec, ◌⊎◌, inl, inr, refl, sym, ap, ◌∙◌, arith}
 use Rattle.std.proofs.lemmas.Bool.{ne_eqb}
 use Rattle.std.proofs.lemmas.List.{reverse-append, length-append, length-reverse}
 use Rattle.std.specs.Global.{Global}
@@ -23,10 +23,9 @@ use Rattle.py_syntax.specs.View.{plain_expr, plain_exprs, plain_pattern, plain_k
 use Rattle.py_grammar.specs.Machine.{snoc}
 use Rattle.py_statements.specs.declared.suite_stack.Open.{Open}
 use Rattle.py_statements.specs.Open.{snoc_stmt, snoc_arm, snoc_clause, snoc_case, SuiteStack, inside, add}
-use Rattle.py_statements.specs.Machine.{Line, close, over_line}
 use Rattle.py_statements.specs.ViewSuiteOf.{view_suite_of}
 use Rattle.py_statements.specs.Levels.{open_count}
-use Rattle.py_statements.specs.ViewStates.{suite_stack, Opens, SharesLine, is_closable, is_top}
+use Rattle.py_statements.specs.ViewStates.{suite_stack, is_closable, is_top}
 
 pub plain-arms : (a : Arm) (rest : List Arm) → plain_arms (a ∷ rest) ≡ arm (plain_expr (out-Arm a).test) (plain_suite (out-Arm a).body) (plain_arms rest)
 plain-arms a rest = search arms.the_lemmas
@@ -76,13 +75,6 @@ block_added ss (o ∷ os) first last k e = refl
 pub reverse_snoc : (os : List Open) (o : Open) → reverse (os ++ o ∷ []) ≡ o ∷ reverse os
 reverse_snoc os o = reverse-append os (o ∷ [])
 
-pub block_opened : (ss inner : Stmts) (os : List Open) (o : Open) → suite_stack inner (reverse (os ++ o ∷ [])) ≡ inside inner o.inline o.span.first o.span.last o.span.begun (view_suite_of o.suite_of.value) (suite_stack (plain_stmts o.outer.items) (reverse os))
-block_opened ss inner os o = ap (suite_stack inner) (reverse_snoc os o)
-
--- the innermost suite is taken out
-pub block_popped : (ss : Stmts) (new : List Open) (o : Open) → Opens ss (new ++ o ∷ []) new (Some o)
-block_popped ss new o = ap (suite_stack ss) (reverse_snoc new o)
-
 -- ---- the innermost suite
 
 -- a list is empty, or others with one after them
@@ -111,13 +103,6 @@ block_last ss os o h = elim (ends os) [ inl none ↦ absurd (nothing none) | inr
 
     same : (init : List Open) (p : Open) → os ≡ init ++ p ∷ [] → p ≡ o
     same init p is = let both = sym (last_of_snoc init p) ∙ sym (ap (λ (xs : List Open). slice_get xs (length xs - 1)) is) ∙ h in cc
-
-pub line_shared : (ss : Stmts) (os : List Open) (o : Open) → slice_get os (length os - 1) ≡ Some o → SharesLine (suite_stack ss (reverse os)) o.inline
-line_shared ss os o h l = let b = block_last ss os o h in rw b.1 (go o.inline)
-  where
-    go : (i : Bool) → over_line (inside ss i o.span.first o.span.last o.span.begun (view_suite_of o.suite_of.value) (block_last ss os o h).0) l ≡ cond i (close (inside ss i o.span.first o.span.last o.span.begun (view_suite_of o.suite_of.value) (block_last ss os o h).0) l) (Line (inside ss i o.span.first o.span.last o.span.begun (view_suite_of o.suite_of.value) (block_last ss os o h).0))
-    go true = refl
-    go false = refl
 
 pub block_ends : (body : List Stmt) (os : List Open) (o : Open) → slice_get os (length os - 1) ≡ Some o → (not o.inline && not (length body == 0)) ≡ is_closable (suite_stack (plain_stmts body) (reverse os))
 block_ends body os o h = let b = block_last (plain_stmts body) os o h in go body o.inline b.0 ∙ sym (ap is_closable b.1)

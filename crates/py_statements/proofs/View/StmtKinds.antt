@@ -1,6 +1,6 @@
 -- The kinds of statements as the code holds them.
 use Rattle.std.specs.Prelude.{◌==◌}
-use Rattle.std.proofs.Common.{◌≡◌, ℕ, suc, Bool, true, false, not, List, [], ◌∷◌, length, Option, Some, None, Vec, refl, sym, ap, ◌∙◌, arith}
+use Rattle.std.proofs.Common.{◌≡◌, ℕ, suc, Bool, true, not, List, [], ◌∷◌, length, Option, Some, None, Vec, refl, sym, ap, ◌∙◌, arith}
 use Rattle.std.proofs.lemmas.Bool.{ne_eqb}
 use Rattle.std.specs.Global.{Global}
 use Rattle.py_syntax.specs.declared.expr.Expr.{Expr as Node}
@@ -8,15 +8,11 @@ use Rattle.py_syntax.specs.declared.stmt.StmtKind as kind
 use Rattle.py_syntax.specs.declared.stmt.Arm.{Arm}
 use Rattle.py_syntax.specs.declared.stmt.Clause.{Clause}
 use Rattle.py_syntax.specs.declared.stmt.Case.{Case}
-use Rattle.py_token.specs.declared.token.Keyword.TheVariants as word
-use Rattle.py_syntax.specs.Kinds.{Word}
 use Rattle.py_syntax.specs.declared.stmt.Suite.{Suite as SuiteNode}
-use Rattle.py_syntax.specs.Tree.{Text, Exprs, no_exprs, exprs, Expr, expr, assign, if', while, for, try, no_suite, no_clauses, clause, Clauses, Arms, no_arms, arm, OptSuite, Suite}
+use Rattle.py_syntax.specs.Tree.{Text, if', while, for, try, no_suite, no_clauses, clause, Clauses, OptSuite, Suite}
 use Rattle.py_syntax.specs.View.{plain_expr, plain_exprs, plain_kind, plain_suite, plain_opt_suite, plain_arms, plain_clauses, plain_cases}
-use Rattle.py_statements.specs.Open.{with_else, an_else}
-use Rattle.py_statements.specs.Machine.{ColonWanted, arm_test, wanted, is_whole, assigned, next_part}
+use Rattle.py_statements.specs.Machine.{is_whole}
 use Rattle.py_statements.specs.Listed.{is_some}
-use Rattle.py_statements.specs.Levels.{begins_at}
 use Rattle.py_statements.specs.ViewLists.{some_exprs, some_arms, some_clauses, some_cases}
 use Rattle.py_statements.proofs.View.OneMore.{plain-arms, plain-clauses, plain-cases}
 
@@ -32,25 +28,11 @@ pub plain-For : (t e : Node) (b : SuiteNode) (o : Option SuiteNode) → plain_ki
 plain-For t e b None = search kind.the_lemmas
 plain-For t e b (Some s) = search kind.the_lemmas
 
-pub looped_is : (t e u v : Node) (b : SuiteNode) → t ≡ u → e ≡ v → plain_kind (kind.For t e b None) ≡ for (plain_expr u) (plain_expr v) (plain_suite b) no_suite
-looped_is t e u v b h i = plain-For t e b None ∙ ap (λ (x : Node). for (plain_expr x) (plain_expr e) (plain_suite b) no_suite) h ∙ ap (λ (x : Node). for (plain_expr u) (plain_expr x) (plain_suite b) no_suite) i
-
 pub plain-Try : (b : SuiteNode) (cs : Vec Clause Global) (o f : Option SuiteNode) → plain_kind (kind.Try b cs o f) ≡ try (plain_suite b) (plain_clauses cs.items) (plain_opt_suite o) (plain_opt_suite f)
 plain-Try b cs None None = search kind.the_lemmas
 plain-Try b cs None (Some s) = search kind.the_lemmas
 plain-Try b cs (Some s) None = search kind.the_lemmas
 plain-Try b cs (Some s) (Some u) = search kind.the_lemmas
-
--- ---- an `else` more
-
-pub else_if : (as' : Vec Arm Global) (s : SuiteNode) → plain_kind (kind.If as' (Some s)) ≡ with_else (if' (plain_arms as'.items) no_suite) (plain_suite s)
-else_if as' s = plain-If as' (Some s)
-
-pub else_while : (t : Node) (b s : SuiteNode) → plain_kind (kind.While t b (Some s)) ≡ with_else (while (plain_expr t) (plain_suite b) no_suite) (plain_suite s)
-else_while t b s = plain-While t b (Some s)
-
-pub else_for : (t e : Node) (b s : SuiteNode) → plain_kind (kind.For t e b (Some s)) ≡ with_else (for (plain_expr t) (plain_expr e) (plain_suite b) no_suite) (plain_suite s)
-else_for t e b s = plain-For t e b (Some s)
 
 -- ---- what is in a list
 
@@ -85,31 +67,3 @@ whole_try b cs o some h = h ∙ go (plain_suite b) (plain_clauses cs.items) (pla
     go : (b : Suite) (cs : Clauses) (o : OptSuite) → some_clauses cs ≡ is_whole (try b cs o no_suite)
     go b no_clauses o = refl
     go b (clause e x s cs) o = refl
-
-pub assigned_some : (ts : Exprs) (e : Expr) → some_exprs ts ≡ true → assign ts e ≡ assigned ts e
-assigned_some no_exprs e h = absurd cc
-assigned_some (exprs t ts) e h = refl
-
-pub assigned_none : (ts : Exprs) (e : Expr) → some_exprs ts ≡ false → expr e ≡ assigned ts e
-assigned_none no_exprs e h = refl
-assigned_none (exprs t ts) e h = absurd cc
-
-pub begins_arms : (as' : Arms) (some : Bool) → some ≡ some_arms as' → not some ≡ begins_at (wanted (arm_test as'))
-begins_arms no_arms some h = ap not h
-begins_arms (arm t b as') some h = ap not h
-
-pub else_some : (b : Suite) (cs : Clauses) → some_clauses cs ≡ true → next_part (try b cs no_suite no_suite) (Word word.Else) ≡ Some (ColonWanted (an_else (try b cs no_suite no_suite)))
-else_some b no_clauses h = absurd cc
-else_some b (clause e x s cs) h = refl
-
-pub else_none : (b : Suite) (cs : Clauses) → some_clauses cs ≡ false → next_part (try b cs no_suite no_suite) (Word word.Else) ≡ None
-else_none b no_clauses h = refl
-else_none b (clause e x s cs) h = absurd cc
-
--- ---- the rules of each form
-
-pub ruleset assign_rules = (assigned_some, assigned_none)
-
-pub ruleset else_rules = (else_if, else_while, else_for)
-
-pub ruleset try_else_rules = (else_some, else_none)

@@ -1,4 +1,4 @@
-use Rattle.py_grammar.proofs.Whole.{one_tree}
+use Rattle.py_grammar.proofs.Exact.Whole.{one_tree}
 use Rattle.py_grammar.proofs.laws.one_tree.Goals as goal
 
 pub returns : goal.returns

@@ -5,7 +5,7 @@ use Rattle.py_syntax.specs.View.{plain_expr}
 use Rattle.py_grammar.specs.Machine.{Ctx, snoc_link, Linked, Next}
 use Rattle.py_parse_expr.specs.ExprViews.{view_links}
 use Rattle.py_parse_expr.specs.ExprTurns.{Stays}
-use Rattle.py_parse_expr.proofs.ExprNodes.{none_is, bool_is}
+use Rattle.py_parse_expr.proofs.View.ExprNodes.{none_is, bool_is}
 use Rattle.py_parse_expr.proofs.expr_chains.after_is.Goals as goal
 
 pub returns-in_ok-measured-in-NoneWord : goal.returns-in_ok-measured-in-NoneWord

@@ -1,5 +1,5 @@
 use Rattle.std.proofs.Common.{sym}
-use Rattle.py_parse_expr.proofs.ExprClasses.{plain_fstring}
+use Rattle.py_parse_expr.proofs.View.ExprClasses.{plain_fstring}
 use Rattle.py_parse_expr.proofs.expr_classes.class_of.Goals as goal
 
 pub returns-in-FString : goal.returns-in-FString

@@ -1,6 +1,6 @@
 use Rattle.std.proofs.Common.{ap, sym, ◌∙◌}
 use Rattle.py_parse_expr.specs.ExprViews.{symbol_class}
-use Rattle.py_parse_expr.proofs.ExprClasses.{mark_symbol}
+use Rattle.py_parse_expr.proofs.View.ExprClasses.{mark_symbol}
 use Rattle.py_parse_expr.proofs.expr_classes.operator_class.Goals as goal
 
 pub returns : goal.returns

@@ -9,7 +9,7 @@ use Rattle.py_parse_expr.specs.ExprTurns.{view_at}
 use Rattle.py_parse_fields.specs.Order.{plain_pieces}
 use Rattle.py_parse_expr.specs.ExprFields.{AreParts}
 use Rattle.py_parse_fields.proofs.Runs.{row}
-use Rattle.py_parse_expr.proofs.ExprFields.{same_limit, token_goes, quiet_goes, format_goes, deep_goes, field_next, field_left, field_deep, field_over, parts_chars, parts_field, parts_end, parts_unread}
+use Rattle.py_parse_expr.proofs.View.ExprFields.{same_limit, token_goes, quiet_goes, format_goes, deep_goes, field_next, field_left, field_deep, field_over, parts_chars, parts_field, parts_end, parts_unread}
 use Rattle.py_parse_expr.proofs.expr_fields.+turn.Goals as goal
 use Rattle.py_parse_expr.proofs.expr_fields.+turn.Goals.{fields-in-Chars+in_ok-copy-in-Chars+in_ok-push-in-Chars, fields-in-Field+in_ok-measured-in-Field+in-Ok+in_ok-push-in-Ok}
 

@@ -2,7 +2,7 @@ use Rattle.std.proofs.Common.{◌+◌, ◌*◌, drop}
 use Rattle.py_grammar.specs.Machine.{any, start, parts, field_expr}
 use Rattle.py_parse_fields.specs.Order.{plain_pieces}
 use Rattle.py_parse_fields.proofs.Runs.{row}
-use Rattle.py_parse_expr.proofs.ExprFields.{FieldSoFar, PartsSoFar}
+use Rattle.py_parse_expr.proofs.View.ExprFields.{FieldSoFar, PartsSoFar}
 use Rattle.py_parse_expr.proofs.expr_fields.+turn.Given as goal
 
 abbrev pub decreases-turn : goal.decreases-turn

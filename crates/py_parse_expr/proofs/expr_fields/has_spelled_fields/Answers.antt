@@ -4,7 +4,7 @@ use Rattle.std.specs.declared.alloc.AllocError.{AllocError}
 use Rattle.py_token.specs.View.{view_kind}
 use Rattle.py_syntax.specs.Kinds.{Kind, FString, Pieces, bare_kind}
 use Rattle.py_grammar.specs.Refusal.{AreSpelled}
-use Rattle.py_grammar.proofs.SpelledFields.{untold}
+use Rattle.py_grammar.proofs.Complete.SpelledFields.{untold}
 use Rattle.py_parse_expr.specs.ExprFields.{has_spelled_fields}
 use Rattle.py_parse_fields.specs.Order.{plain_pieces}
 use Rattle.py_parse_expr.proofs.expr_fields.has_spelled_fields.Goals as goal

@@ -4,7 +4,7 @@ use Rattle.py_syntax.specs.View.{plain_expr}
 use Rattle.py_grammar.specs.Machine.{Linked, step, Out}
 use Rattle.py_parse_expr.specs.ExprViews.{view_measured, view_links, view_class}
 use Rattle.py_parse_expr.specs.ExprTurns.{Becomes}
-use Rattle.py_parse_expr.proofs.ExprFrames.{give_link}
+use Rattle.py_parse_expr.proofs.View.ExprFrames.{give_link}
 use Rattle.py_parse_expr.proofs.expr_frames.compare_rest.Goals as goal
 
 pub returns : goal.returns

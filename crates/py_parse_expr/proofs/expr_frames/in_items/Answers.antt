@@ -1,6 +1,6 @@
 use Rattle.std.proofs.Common.{sym, ◌∙◌}
 use Rattle.py_parse_expr.specs.ExprViews.{view_measured, view_row, view_opener}
-use Rattle.py_parse_expr.proofs.ExprFrames.{give_unclosed}
+use Rattle.py_parse_expr.proofs.View.ExprFrames.{give_unclosed}
 use Rattle.py_parse_expr.proofs.expr_frames.in_items.Goals as goal
 
 pub returns-then-not-closes : goal.returns-then-not-closes

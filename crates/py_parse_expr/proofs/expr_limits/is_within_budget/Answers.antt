@@ -7,10 +7,10 @@ use Rattle.py_grammar.specs.Machine.{snoc_link, strings_of}
 use Rattle.py_grammar.specs.Least.{least_name}
 use Rattle.py_parse_expr.specs.ExprViews.{view_measured, view_row, view_entries, view_links, view_strings, view_bound}
 use Rattle.py_parse_expr.specs.ExprStacks.{head_of, tail_of, view_stack}
-use Rattle.py_grammar.proofs.Grows.{links_snoc}
-use Rattle.py_grammar.proofs.LeastNeverFalls.{strings_target}
-use Rattle.py_parse_expr.proofs.Budgets.{chosen, items_heights, items_targets}
-use Rattle.py_parse_expr.proofs.ExprLimits.{has_measured, has_post}
+use Rattle.py_grammar.proofs.Least.Grows.{links_snoc}
+use Rattle.py_grammar.proofs.Least.LeastNeverFalls.{strings_target}
+use Rattle.py_parse_expr.proofs.Least.Budgets.{chosen, items_heights, items_targets}
+use Rattle.py_parse_expr.proofs.Least.ExprLimits.{has_measured, has_post}
 use Rattle.py_parse_expr.proofs.expr_limits.is_within_budget.Goals as goal
 
 pub returns-in-Want : goal.returns-in-Want

@@ -1,7 +1,7 @@
 use Rattle.std.proofs.Common.{true, false, refl, arith}
 use Rattle.py_syntax.specs.Tree.{list, call, no_exprs}
 use Rattle.py_parse_expr.specs.ExprViews.{view_measured}
-use Rattle.py_parse_expr.proofs.ExprLimits.{has_post}
+use Rattle.py_parse_expr.proofs.Least.ExprLimits.{has_post}
 use Rattle.py_parse_expr.proofs.expr_limits.is_within_budget_open.Goals as goal
 
 pub returns-in-Call : goal.returns-in-Call

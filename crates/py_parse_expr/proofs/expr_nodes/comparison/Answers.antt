@@ -3,7 +3,7 @@ use Rattle.py_syntax.specs.Tree.{compare}
 use Rattle.py_syntax.specs.View.{plain_expr}
 use Rattle.py_syntax.specs.declared.expr.Expr.TheVariants as variant
 use Rattle.py_parse_expr.specs.ExprViews.{view_links}
-use Rattle.py_parse_expr.proofs.ExprNodes.{boxed_makes, compare_is}
+use Rattle.py_parse_expr.proofs.View.ExprNodes.{boxed_makes, compare_is}
 use Rattle.py_parse_expr.proofs.expr_nodes.comparison.Goals as goal
 
 pub returns : goal.returns

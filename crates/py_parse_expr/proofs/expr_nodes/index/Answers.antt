@@ -2,7 +2,7 @@ use Rattle.std.proofs.Common.{arith, refl, true}
 use Rattle.py_syntax.specs.Tree.{index}
 use Rattle.py_syntax.specs.declared.expr.Expr.TheVariants as variant
 use Rattle.py_parse_expr.specs.ExprViews.{view_measured}
-use Rattle.py_parse_expr.proofs.ExprNodes.{boxed_makes, index_is}
+use Rattle.py_parse_expr.proofs.View.ExprNodes.{boxed_makes, index_is}
 use Rattle.py_parse_expr.proofs.expr_nodes.index.Goals as goal
 
 pub returns : goal.returns

@@ -2,7 +2,7 @@ use Rattle.std.proofs.Common.{arith, refl, false}
 use Rattle.py_syntax.specs.Tree.{or, and, binary}
 use Rattle.py_syntax.specs.declared.expr.Expr.TheVariants as variant
 use Rattle.py_parse_expr.specs.ExprViews.{view_measured}
-use Rattle.py_parse_expr.proofs.ExprNodes.{boxed_makes, or_is, and_is, binary_is}
+use Rattle.py_parse_expr.proofs.View.ExprNodes.{boxed_makes, or_is, and_is, binary_is}
 use Rattle.py_parse_expr.proofs.expr_nodes.joined.Goals as goal
 
 pub returns-in-Or : goal.returns-in-Or

@@ -2,7 +2,7 @@ use Rattle.std.proofs.Common.{arith, refl, false}
 use Rattle.py_syntax.specs.Tree.{call, list}
 use Rattle.py_syntax.specs.declared.expr.Expr.TheVariants as variant
 use Rattle.py_parse_expr.specs.ExprViews.{view_measured, view_row}
-use Rattle.py_parse_expr.proofs.ExprNodes.{boxed_makes, call_is, list_is}
+use Rattle.py_parse_expr.proofs.View.ExprNodes.{boxed_makes, call_is, list_is}
 use Rattle.py_parse_expr.proofs.expr_nodes.made.Goals as goal
 
 pub returns-in-Call : goal.returns-in-Call

@@ -2,7 +2,7 @@ use Rattle.std.proofs.Common.{arith}
 use Rattle.py_syntax.specs.Tree.{paren}
 use Rattle.py_syntax.specs.declared.expr.Expr.TheVariants as variant
 use Rattle.py_parse_expr.specs.ExprViews.{view_measured}
-use Rattle.py_parse_expr.proofs.ExprNodes.{boxed_makes, paren_is}
+use Rattle.py_parse_expr.proofs.View.ExprNodes.{boxed_makes, paren_is}
 use Rattle.py_parse_expr.proofs.expr_nodes.paren.Goals as goal
 
 pub returns : goal.returns

@@ -2,7 +2,7 @@ use Rattle.std.proofs.Common.{arith, refl, false, ap, ◌∙◌}
 use Rattle.py_syntax.specs.Tree.{slice}
 use Rattle.py_syntax.specs.declared.expr.Expr.TheVariants as variant
 use Rattle.py_parse_expr.specs.ExprViews.{view_measured, view_bound}
-use Rattle.py_parse_expr.proofs.ExprNodes.{boxed_makes, slice_is, bound_is}
+use Rattle.py_parse_expr.proofs.View.ExprNodes.{boxed_makes, slice_is, bound_is}
 use Rattle.py_syntax.specs.Tree.{OptExpr}
 use Rattle.py_parse_expr.proofs.expr_nodes.slice.Goals as goal
 

@@ -2,7 +2,7 @@ use Rattle.std.proofs.Common.{arith}
 use Rattle.py_syntax.specs.Tree.{tuple}
 use Rattle.py_syntax.specs.declared.expr.Expr.TheVariants as variant
 use Rattle.py_parse_expr.specs.ExprViews.{view_row}
-use Rattle.py_parse_expr.proofs.ExprNodes.{boxed_makes, tuple_is}
+use Rattle.py_parse_expr.proofs.View.ExprNodes.{boxed_makes, tuple_is}
 use Rattle.py_parse_expr.proofs.expr_nodes.tuple.Goals as goal
 
 pub returns : goal.returns

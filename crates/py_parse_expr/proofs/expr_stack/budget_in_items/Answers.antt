@@ -3,7 +3,7 @@ use Rattle.py_syntax.specs.Normal.{height, heights}
 use Rattle.py_grammar.specs.Machine.{on, in_items, a_call}
 use Rattle.py_grammar.specs.Budgets.{postfix}
 use Rattle.py_parse_expr.specs.ExprViews.{view_measured, view_row}
-use Rattle.py_parse_expr.proofs.Budgets.{postfix_low, below_budget, list_budget}
+use Rattle.py_parse_expr.proofs.Least.Budgets.{postfix_low, below_budget, list_budget}
 use Rattle.py_parse_expr.proofs.expr_stack.budget_in_items.Goals as goal
 
 pub returns-in-Call : goal.returns-in-Call

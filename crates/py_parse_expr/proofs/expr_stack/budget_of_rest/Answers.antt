@@ -1,6 +1,6 @@
 use Rattle.std.proofs.Common.{ap, ◌∙◌}
 use Rattle.py_grammar.specs.Budgets.{under}
-use Rattle.py_parse_expr.proofs.Budgets.{rest_budget}
+use Rattle.py_parse_expr.proofs.Least.Budgets.{rest_budget}
 use Rattle.py_parse_expr.proofs.expr_stack.budget_of_rest.Goals as goal
 
 pub returns : goal.returns

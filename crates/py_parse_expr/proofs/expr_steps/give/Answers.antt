@@ -3,7 +3,7 @@ use Rattle.py_grammar.specs.Machine.{Ctx, Out, Next, give, leave}
 use Rattle.py_parse_expr.specs.ExprViews.{view_measured, view_class}
 use Rattle.py_parse_expr.specs.ExprStacks.{view_goal, view_stack, Valid}
 use Rattle.py_parse_expr.specs.ExprTurns.{view_at, Acts}
-use Rattle.py_parse_expr.proofs.ExprSteps.{popped, stays_acts}
+use Rattle.py_parse_expr.proofs.View.ExprSteps.{popped, stays_acts}
 use Rattle.py_parse_expr.proofs.expr_steps.give.Goals as goal
 
 pub returns-in-Next : goal.returns-in-Next

@@ -2,7 +2,7 @@ use Rattle.std.proofs.Common.{length}
 use Rattle.py_grammar.specs.Machine.{give}
 use Rattle.py_parse_expr.specs.ExprViews.{view_measured, view_class}
 use Rattle.py_parse_expr.specs.ExprStacks.{view_stack}
-use Rattle.py_parse_expr.proofs.ExprSteps.{Giving}
+use Rattle.py_parse_expr.proofs.View.ExprSteps.{Giving}
 use Rattle.py_parse_expr.proofs.expr_steps.give.Given as goal
 
 abbrev pub invariant-frames : goal.invariant-frames

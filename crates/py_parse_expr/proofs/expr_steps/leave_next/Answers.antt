@@ -1,7 +1,7 @@
 use Rattle.std.proofs.Common.{sym, ap, ◌∙◌}
 use Rattle.py_grammar.specs.Machine.{Left}
 use Rattle.py_parse_expr.specs.ExprViews.{view_measured, view_row}
-use Rattle.py_parse_expr.proofs.ExprSteps.{leave_comma, leave_other, some_more}
+use Rattle.py_parse_expr.proofs.View.ExprSteps.{leave_comma, leave_other, some_more}
 use Rattle.py_parse_expr.proofs.expr_steps.leave_next.Goals as goal
 
 pub returns-in-Comma : goal.returns-in-Comma

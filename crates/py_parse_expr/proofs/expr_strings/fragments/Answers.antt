@@ -3,7 +3,7 @@ use Rattle.std.proofs.Math.Seq.{take-suc}
 use Rattle.py_syntax.specs.View.{plain_fragments}
 use Rattle.py_grammar.specs.Machine.{snoc_plain}
 use Rattle.py_parse_expr.specs.ExprViews.{plains}
-use Rattle.py_parse_expr.proofs.ExprNodes.{fragments_text, plains_more}
+use Rattle.py_parse_expr.proofs.View.ExprNodes.{fragments_text, plains_more}
 use Rattle.py_parse_expr.proofs.expr_strings.fragments.Goals as goal
 
 pub loop-text-preserved : goal.loop-text-preserved

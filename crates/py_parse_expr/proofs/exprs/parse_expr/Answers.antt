@@ -1,6 +1,6 @@
 use Rattle.py_syntax.specs.View.{plain_expr}
-use Rattle.py_grammar.proofs.Places.{kinds_of_all}
-use Rattle.py_parse_expr.proofs.ExprWhole.{answer_other, answer_more, answer_whole, answer_refused, next_inside}
+use Rattle.py_grammar.proofs.View.Places.{kinds_of_all}
+use Rattle.py_parse_expr.proofs.Exact.ExprWhole.{answer_other, answer_more, answer_whole, answer_refused, next_inside}
 use Rattle.py_parse_expr.proofs.exprs.parse_expr.Goals as goal
 
 pub returns-in_err-read : goal.returns-in_err-read

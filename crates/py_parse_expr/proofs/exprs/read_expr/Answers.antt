@@ -2,8 +2,8 @@ use Rattle.std.proofs.Common.{sym, ap, ◌∙◌}
 use Rattle.py_grammar.specs.Machine.{Outside}
 use Rattle.py_parse_expr.specs.ExprReads.{goal_of}
 use Rattle.py_syntax.specs.Spelling.{HEIGHT}
-use Rattle.py_parse_expr.proofs.ExprFields.{same_limit}
-use Rattle.py_parse_expr.proofs.ExprReader.{starts, turn_next, turn_stuck, turn_left, turn_deep, turn_bad, over_there}
+use Rattle.py_parse_expr.proofs.View.ExprFields.{same_limit}
+use Rattle.py_parse_expr.proofs.View.ExprReader.{starts, turn_next, turn_stuck, turn_left, turn_deep, turn_bad, over_there}
 use Rattle.py_parse_expr.proofs.exprs.read_expr.Goals as goal
 
 pub tokens-init : goal.tokens-init

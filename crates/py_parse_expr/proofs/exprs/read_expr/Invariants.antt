@@ -1,7 +1,7 @@
 use Rattle.std.proofs.Common.{◌-◌, length}
 use Rattle.py_parse_expr.specs.ExprReads.{goal_of}
-use Rattle.py_grammar.proofs.Places.{kinds_of_all}
-use Rattle.py_parse_expr.proofs.ExprReader.{Reading}
+use Rattle.py_grammar.proofs.View.Places.{kinds_of_all}
+use Rattle.py_parse_expr.proofs.View.ExprReader.{Reading}
 use Rattle.py_parse_expr.proofs.exprs.read_expr.Given as goal
 
 abbrev pub invariant-tokens : goal.invariant-tokens

@@ -3,7 +3,7 @@ use Rattle.std.proofs.Common.{◌≡◌, Bool, is_some}
 use Rattle.std.specs.declared.alloc.AllocError.{AllocError}
 use Rattle.py_grammar.specs.Machine.{parts}
 use Rattle.py_grammar.specs.Refusal.{AreSpelled}
-use Rattle.py_grammar.proofs.SpelledFields.{told}
+use Rattle.py_grammar.proofs.Complete.SpelledFields.{told}
 use Rattle.py_parse_fields.specs.Order.{plain_pieces}
 use Rattle.py_parse_fields.proofs.fields.is_spelled.Goals as goal
 

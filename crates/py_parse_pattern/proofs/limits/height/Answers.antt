@@ -1,5 +1,5 @@
 use Rattle.std.proofs.Common.{sym, ◌∙◌}
-use Rattle.py_parse_pattern.proofs.Heights.{at_want, at_again, at_minus, at_named, at_dotted, at_strings, at_have, at_naming, at_item}
+use Rattle.py_parse_pattern.proofs.View.Heights.{at_want, at_again, at_minus, at_named, at_dotted, at_strings, at_have, at_naming, at_item}
 use Rattle.py_parse_pattern.proofs.limits.height.Goals as goal
 
 pub returns-then-is_some : goal.returns-then-is_some

@@ -1,5 +1,5 @@
 use Rattle.std.proofs.Common.{arith}
-use Rattle.py_parse_pattern.proofs.Heights.{stays}
+use Rattle.py_parse_pattern.proofs.View.Heights.{stays}
 use Rattle.py_syntax.specs.Kinds.{bare_kind}
 use Rattle.py_token.specs.View.{view_kind}
 use Rattle.py_parse_pattern.specs.Views.{view_class}

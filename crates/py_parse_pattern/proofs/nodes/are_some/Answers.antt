@@ -1,5 +1,5 @@
 use Rattle.std.proofs.Common.{ap, ◌∙◌, not}
-use Rattle.py_parse_pattern.proofs.Built.{plain_some}
+use Rattle.py_parse_pattern.proofs.View.Built.{plain_some}
 use Rattle.py_parse_pattern.proofs.nodes.are_some.Goals as goal
 
 pub returns : goal.returns

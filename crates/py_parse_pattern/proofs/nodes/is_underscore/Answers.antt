@@ -1,5 +1,5 @@
 use Rattle.py_parse_pattern.proofs.nodes.is_underscore.Goals as goal
-use Rattle.py_parse_pattern.proofs.Built.{same_underscore}
+use Rattle.py_parse_pattern.proofs.View.Built.{same_underscore}
 use Rattle.std.proofs.Common.{◌∙◌}
 
 pub returns : goal.returns

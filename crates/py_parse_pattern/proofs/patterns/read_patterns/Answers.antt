@@ -1,7 +1,7 @@
 use Rattle.std.proofs.Common.{Ok, Err}
 use Rattle.py_grammar.specs.declared.error.ReadError.TheVariants as error
-use Rattle.py_grammar.proofs.Places.{kinds_of_all}
-use Rattle.py_parse_pattern.proofs.Tokens.{turn_stuck, turn_deep, turn_left, turn_next, over_there, reads}
+use Rattle.py_grammar.proofs.View.Places.{kinds_of_all}
+use Rattle.py_parse_pattern.proofs.View.Tokens.{turn_stuck, turn_deep, turn_left, turn_next, over_there, reads}
 use Rattle.py_parse_pattern.proofs.patterns.read_patterns.Goals as goal
 
 pub returns-in-Stuck-clause-follows : goal.returns-in-Stuck-clause-follows

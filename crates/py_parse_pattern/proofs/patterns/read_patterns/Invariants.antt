@@ -1,7 +1,7 @@
 use Rattle.std.proofs.Common.{◌-◌, length}
 use Rattle.py_token.specs.View.{view_tokens}
 use Rattle.py_syntax.specs.Kinds.{bare}
-use Rattle.py_parse_pattern.proofs.Tokens.{Reading}
+use Rattle.py_parse_pattern.proofs.View.Tokens.{Reading}
 use Rattle.py_parse_pattern.proofs.patterns.read_patterns.Given as goal
 
 abbrev pub invariant-tokens : goal.invariant-tokens

@@ -1,4 +1,4 @@
-use Rattle.py_parse_pattern.proofs.Turning.{bar_rows}
+use Rattle.py_parse_pattern.proofs.View.Turning.{bar_rows}
 use Rattle.py_parse_pattern.proofs.reader.after_bar.Goals as goal
 
 pub next-requires-clause-rows : goal.next-requires-clause-rows

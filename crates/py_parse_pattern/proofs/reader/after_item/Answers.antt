@@ -1,5 +1,5 @@
 use Rattle.std.proofs.Common.{rules}
-use Rattle.py_parse_pattern.proofs.Turning.{item_rows}
+use Rattle.py_parse_pattern.proofs.View.Turning.{item_rows}
 use Rattle.py_parse_pattern.proofs.reader.after_item.Goals as goal
 
 pub next-requires-clause-rows : goal.next-requires-clause-rows

@@ -1,4 +1,4 @@
-use Rattle.py_parse_pattern.proofs.Turning.{enclosed_valid}
+use Rattle.py_parse_pattern.proofs.View.Turning.{enclosed_valid}
 use Rattle.py_parse_pattern.proofs.reader.end_item.Goals as goal
 
 pub after-requires-clause-measured : goal.after-requires-clause-measured

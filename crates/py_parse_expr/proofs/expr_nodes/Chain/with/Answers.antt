@@ -3,7 +3,7 @@ use Rattle.py_syntax.specs.declared.expr.Expr.{Expr as Node}
 use Rattle.py_syntax.specs.View.{plain_expr, plain_links}
 use Rattle.py_grammar.specs.Machine.{snoc_link}
 use Rattle.py_parse_expr.specs.ExprViews.{view_links}
-use Rattle.py_parse_expr.proofs.ExprNodes.{links_more, chain_more}
+use Rattle.py_parse_expr.proofs.View.ExprNodes.{links_more, chain_more}
 use Rattle.py_parse_expr.proofs.expr_nodes.Chain.with.Goals as goal
 
 pub returns-clause-links : goal.returns-clause-links

@@ -3,7 +3,7 @@ use Rattle.py_syntax.specs.declared.expr.Expr.{Expr as Node}
 use Rattle.py_syntax.specs.View.{plain_expr, plain_pairs}
 use Rattle.py_grammar.specs.Machine.{snoc_pair}
 use Rattle.py_parse_expr.specs.ExprViews.{view_measured, view_entries}
-use Rattle.py_parse_expr.proofs.ExprNodes.{pairs_more, entries_more}
+use Rattle.py_parse_expr.proofs.View.ExprNodes.{pairs_more, entries_more}
 use Rattle.py_parse_expr.proofs.expr_nodes.Entries.with.Goals as goal
 
 pub returns-clause-pairs : goal.returns-clause-pairs

@@ -1,5 +1,5 @@
 use Rattle.std.proofs.Common.{refl, sym, arith, false}
-use Rattle.py_parse_expr.proofs.ExprNodes.{boxed_makes}
+use Rattle.py_parse_expr.proofs.View.ExprNodes.{boxed_makes}
 use Rattle.py_syntax.specs.View.{plain_expr}
 use Rattle.py_parse_expr.proofs.expr_nodes.Measured.low.Goals as goal
 

@@ -1,7 +1,7 @@
 use Rattle.std.proofs.Common.{refl, true}
 use Rattle.py_syntax.specs.Tree.{name}
 use Rattle.py_syntax.specs.declared.expr.Expr.TheVariants as variant
-use Rattle.py_parse_expr.proofs.ExprNodes.{boxed_makes, name_is}
+use Rattle.py_parse_expr.proofs.View.ExprNodes.{boxed_makes, name_is}
 use Rattle.py_parse_expr.proofs.expr_nodes.Measured.name.Goals as goal
 
 pub returns : goal.returns

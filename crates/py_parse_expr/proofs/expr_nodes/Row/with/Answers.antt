@@ -3,7 +3,7 @@ use Rattle.py_syntax.specs.declared.expr.Expr.{Expr as Node}
 use Rattle.py_syntax.specs.View.{plain_expr, plain_exprs}
 use Rattle.py_grammar.specs.Machine.{snoc}
 use Rattle.py_parse_expr.specs.ExprViews.{view_row}
-use Rattle.py_parse_expr.proofs.ExprNodes.{exprs_more, row_more}
+use Rattle.py_parse_expr.proofs.View.ExprNodes.{exprs_more, row_more}
 use Rattle.py_parse_expr.proofs.expr_nodes.Row.with.Goals as goal
 
 pub returns-clause-items : goal.returns-clause-items

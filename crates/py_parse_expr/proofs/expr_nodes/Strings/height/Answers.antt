@@ -1,5 +1,5 @@
 use Rattle.py_syntax.specs.View.{plain_fragments}
-use Rattle.py_parse_expr.proofs.ExprNodes.{plain_height, mixed_height}
+use Rattle.py_parse_expr.proofs.View.ExprNodes.{plain_height, mixed_height}
 use Rattle.py_parse_expr.proofs.expr_nodes.Strings.height.Goals as goal
 
 pub returns-in-Plain : goal.returns-in-Plain

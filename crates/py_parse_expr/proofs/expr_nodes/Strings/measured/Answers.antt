@@ -3,7 +3,7 @@ use Rattle.py_syntax.specs.declared.expr.Expr.TheVariants as variant
 use Rattle.py_syntax.specs.View.{plain_fragments}
 use Rattle.py_grammar.specs.Machine.{strings_of}
 use Rattle.py_parse_expr.specs.ExprViews.{plains}
-use Rattle.py_parse_expr.proofs.ExprNodes.{boxed_makes, str_is, fstr_is, plain_target, mixed_target}
+use Rattle.py_parse_expr.proofs.View.ExprNodes.{boxed_makes, str_is, fstr_is, plain_target, mixed_target}
 use Rattle.py_parse_expr.proofs.expr_nodes.Strings.measured.Goals as goal
 
 pub returns-in-Plain : goal.returns-in-Plain

@@ -2,7 +2,7 @@ use Rattle.std.proofs.Common.{ap, ◌∙◌}
 use Rattle.py_syntax.specs.View.{plain_fragments}
 use Rattle.py_grammar.specs.Machine.{snoc_format}
 use Rattle.py_parse_expr.specs.ExprViews.{plains, view_fields}
-use Rattle.py_parse_expr.proofs.ExprNodes.{fragments_format, a_format_is, mixed_format, first_format}
+use Rattle.py_parse_expr.proofs.View.ExprNodes.{fragments_format, a_format_is, mixed_format, first_format}
 use Rattle.py_parse_expr.proofs.expr_nodes.Strings.with_format.Goals as goal
 
 pub returns-in_ok-push-in-Plain-clause-view : goal.returns-in_ok-push-in-Plain-clause-view

@@ -1,7 +1,7 @@
 use Rattle.std.proofs.Common.{ap, ◌∙◌}
 use Rattle.py_syntax.specs.View.{plain_fragments}
 use Rattle.py_parse_expr.specs.ExprViews.{plains}
-use Rattle.py_parse_expr.proofs.ExprNodes.{plains_more, fragments_text, mixed_text}
+use Rattle.py_parse_expr.proofs.View.ExprNodes.{plains_more, fragments_text, mixed_text}
 use Rattle.py_parse_expr.proofs.expr_nodes.Strings.with_text.Goals as goal
 
 pub returns-in_ok-push-in-Plain-clause-view : goal.returns-in_ok-push-in-Plain-clause-view

@@ -2,7 +2,7 @@ use Rattle.std.proofs.Common.{refl}
 use Rattle.py_syntax.specs.Tree.{not', unary, cond}
 use Rattle.py_grammar.specs.Machine.{cond_else, not_of, unary_of}
 use Rattle.py_parse_expr.specs.ExprViews.{view_class, view_measured}
-use Rattle.py_parse_expr.proofs.ExprFrames.{passes}
+use Rattle.py_parse_expr.proofs.View.ExprFrames.{passes}
 use Rattle.py_parse_expr.proofs.expr_stack.Frame.meet.Goals as goal
 
 pub returns-in-ExprsFirst : goal.returns-in-ExprsFirst

@@ -6,7 +6,7 @@ use Rattle.py_parse_expr.specs.declared.expr_turns.Progress.TheVariants as progr
 use Rattle.py_parse_expr.specs.ExprViews.{view_class, view_entries, view_opener}
 use Rattle.py_parse_expr.specs.ExprStacks.{view_stack}
 use Rattle.py_parse_expr.specs.ExprTurns.{view_at, close_dict, Acts}
-use Rattle.py_parse_expr.proofs.ExprSteps.{dict_open, dict_comma, stays_acts}
+use Rattle.py_parse_expr.proofs.View.ExprSteps.{dict_open, dict_comma, stays_acts}
 use Rattle.py_parse_expr.proofs.expr_turns.Progress.act.Goals as goal
 
 pub returns-in-Want : goal.returns-in-Want
