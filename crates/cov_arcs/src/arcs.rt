@@ -46,8 +46,9 @@ impl Arcs {
     ghost use Rattle.cov_arcs.specs.Told.{first_line};
     ghost use Rattle.cov_arcs.specs.Tracing.{at_first};
 
-    /// Has no arc and no open frame. The table has the first line of each unit of each module, counted from 1:
-    /// unit 0 is the module's body, and unit k its k-th `def`. A unit that it lacks begins in line 1.
+    /// Has no arc and no open frame. The table has the first line of each unit of each module,
+    /// counted from 1: unit 0 is the module's body, and unit k its k-th `def`. A unit that it lacks
+    /// begins in line 1.
     pub fn new(alloc: Global, firsts: Vec<Vec<u32>>) -> Result<Arcs, NoMemory>
         ensures { IfOk result (λ arcs. arcs ≡ at_first (map (λ lines. lines.items) firsts.items)) }
     {
@@ -59,7 +60,8 @@ impl Arcs {
         })
     }
 
-    /// The arcs of a module, in order of their first and then their second line, where the table has the module.
+    /// The arcs of a module, in order of their first and then their second line, where the table
+    /// has the module.
     pub fn arcs_of(&self, module: u32) -> Option<&BTreeSet<(i64, i64)>>
         ensures { MatchOption result (slice_get self.now.arcs «module» ≡ None) (λ arcs.
             slice_get self.now.arcs «module» ≡ Some arcs.now.keys) }

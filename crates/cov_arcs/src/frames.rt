@@ -5,8 +5,8 @@ use py_value::NoMemory;
 use std::alloc::Global;
 use std::marker::Model;
 
-/// An open frame: the number of its module, the first line of its unit, counted from 1, and its current line.
-/// Line 0 stands for the outside of the unit.
+/// An open frame: the number of its module, the first line of its unit, counted from 1, and its
+/// current line. Line 0 stands for the outside of the unit.
 #[derive(Clone, Copy)]
 pub struct Frame {
     pub module: u32,

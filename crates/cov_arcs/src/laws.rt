@@ -2,8 +2,8 @@
 ghost use Rattle.cov_arcs.specs.Laws.{ProgramArcsLaw, ModulesArcsLaw, CallArcsLaw, BeginningLaw};
 ghost use Rattle.cov_arcs.specs.Tracing.{TracingLaw};
 
-/// The events of a program's run tell the arcs of its meaning, in each module, also where the run was cut.
-/// A tracer that took them keeps these arcs.
+/// The events of a program's run tell the arcs of its meaning, in each module, also where the run
+/// was cut. A tracer that took them keeps these arcs.
 pub fn told_arcs()
     ensures { ProgramArcsLaw }
 {}
@@ -18,8 +18,8 @@ pub fn told_arcs_of_call()
     ensures { CallArcsLaw }
 {}
 
-/// What a tracer keeps of any list of events are the arcs that they tell, in each module of its table, and
-/// the arcs that it kept before.
+/// What a tracer keeps of any list of events are the arcs that they tell, in each module of its
+/// table, and the arcs that it kept before.
 pub fn kept_arcs()
     ensures { TracingLaw }
 {}

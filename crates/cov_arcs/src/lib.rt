@@ -1,7 +1,7 @@
 //! Turns the events of a run into its arcs, which are those of the run's meaning.
 //!
-//! `Arcs` is a tracer that keeps them. `told_arcs` and the functions beside it do nothing when they run, and
-//! stand for the laws that their contracts state.
+//! `Arcs` is a tracer that keeps them. `told_arcs` and the functions beside it do nothing when they
+//! run, and stand for the laws that their contracts state.
 #![tactic(auto)]
 
 mod arcs;

@@ -6,7 +6,8 @@ use std::alloc::Global;
 use std::collections::BTreeSet;
 use std::marker::Model;
 
-/// The arcs of each module, seen as the list of their lists, each arc once and in order of from and to.
+/// The arcs of each module, seen as the list of their lists, each arc once and in order of from and
+/// to.
 #[derive(Drop)]
 pub(crate) struct Sets {
     items: Vec<BTreeSet<(i64, i64)>>,

@@ -1,9 +1,11 @@
-//! What a run tells of itself while it runs: events to a `Tracer`, and questions for a label to an `Ask`
-//! and to each `ContextPlugin`. Each trait relates the state before a call, what was told or asked and
-//! answered, and the state after it, so that a contract can say what became of a tracer or a plugin.
+//! What a run tells of itself while it runs: events to a `Tracer`, and questions for a label to an
+//! `Ask` and to each `ContextPlugin`. Each trait relates the state before a call, what was told or
+//! asked and answered, and the state after it, so that a contract can say what became of a tracer
+//! or a plugin.
 //!
-//! A machine calls `Tracer::event` in the middle of a frame. Whoever records contexts calls `Ask::ask` and
-//! `ContextPlugin::context` at the call of a function. `Silent` and `Nobody` do nothing.
+//! A machine calls `Tracer::event` in the middle of a frame. Whoever records contexts calls
+//! `Ask::ask` and `ContextPlugin::context` at the call of a function. `Silent` and `Nobody` do
+//! nothing.
 #![tactic(auto)]
 
 mod ask;

@@ -21,8 +21,8 @@ pub trait ContextPlugin: Drop {
     // A question, by the names' UTF-8, and its answer lead from one state to another.
     ghost moves: { Self → List ℕ → List ℕ → Verdict → Self → Type 0 };
 
-    /// Asks for the label of a call of this function of this module. A question that is refused for memory
-    /// leaves the plugin as it was.
+    /// Asks for the label of a call of this function of this module. A question that is refused for
+    /// memory leaves the plugin as it was.
     fn context(&mut self, alloc: Global, module: &str, function: &str) -> Result<Verdict, NoMemory>
         ensures moved { IfOk result (λ verdict.
             moves self.old «module».now function.now verdict self.new) }

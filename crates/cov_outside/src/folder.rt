@@ -110,8 +110,8 @@ fn read_file(rt: &HostRuntime, alloc: Global, path: &PathBuf, most: usize) -> io
     Ok(bytes)
 }
 
-/// Writes a file beside the path and then gives it the path's name, so that no half of it ever has that
-/// name. What is no plain file, as a device or a link, is written to as it is.
+/// Writes a file beside the path and then gives it the path's name, so that no half of it ever has
+/// that name. What is no plain file, as a device or a link, is written to as it is.
 fn write_file(rt: &HostRuntime, alloc: Global, path: &PathBuf, bytes: &[u8]) -> io::Result<()> {
     if let Ok(found) = fs::symlink_metadata(rt, path.as_path())
         && !found.is_file()

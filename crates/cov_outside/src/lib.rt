@@ -1,10 +1,11 @@
-//! The outside of a program, as traits: where its input comes from (`Source`), where its output goes
-//! (`Sink`), and where its files lie (`Shelf`). Each object counts its faults, and an object in memory
-//! also tells the bytes that it holds, so that a contract can say what a program reads and writes.
+//! The outside of a program, as traits: where its input comes from (`Source`), where its output
+//! goes (`Sink`), and where its files lie (`Shelf`). Each object counts its faults, and an object
+//! in memory also tells the bytes that it holds, so that a contract can say what a program reads
+//! and writes.
 //!
-//! A caller takes `&mut impl Source`, `&mut impl Sink` or `&mut impl Shelf`. Tests hand in the objects
-//! in memory, of which the `Mem` ones fail at chosen calls and the `Sure` ones never. `Failing` keeps
-//! which calls fail.
+//! A caller takes `&mut impl Source`, `&mut impl Sink` or `&mut impl Shelf`. Tests hand in the
+//! objects in memory, of which the `Mem` ones fail at chosen calls and the `Sure` ones never.
+//! `Failing` keeps which calls fail.
 #![tactic(auto)]
 
 mod failing;

@@ -71,8 +71,8 @@ pub struct MemShelf {
 impl MemShelf {
     ghost use Rattle.cov_outside.specs.Memory.{shelf_files, shelf_calls, shelf_faults};
 
-    /// Of two pairs with one name the first counts. Calls, of either kind, are counted from 0. A failing
-    /// call leaves the files as they were.
+    /// Of two pairs with one name the first counts. Calls, of either kind, are counted from 0. A
+    /// failing call leaves the files as they were.
     pub fn new(_alloc: Global, contents: Vec<(String, Vec<u8>)>, failing: Vec<u64>) -> MemShelf
         ensures files { shelf_files result ≡ files_of (plain_pairs contents.items) }
         ensures calls { shelf_calls result ≡ record { failing = failing.items; count = 0 } }

@@ -67,8 +67,8 @@ pub trait Shelf {
         ensures failed { IsErrOf result ShelfError.Failed
             → Rose (faults self.old) (faults self.new) };
 
-    /// Sets the file of this name as a whole, whether there was one or not. After a refusal the files are
-    /// as before.
+    /// Sets the file of this name as a whole, whether there was one or not. After a refusal the
+    /// files are as before.
     fn put(&mut self, alloc: Global, name: &str, bytes: &[u8]) -> Result<(), ShelfError>
         ensures moved { puts self.old name.now bytes.now (refusal_of result) self.new }
 

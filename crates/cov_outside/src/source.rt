@@ -20,8 +20,8 @@ pub trait Source {
     // How often a read has failed.
     ghost faults: { Self → ℕ };
 
-    /// Moves some of the bytes that are left into the front of `buf` and answers how many. It answers 0
-    /// for a `buf` that isn't empty only at the end of the input.
+    /// Moves some of the bytes that are left into the front of `buf` and answers how many. It
+    /// answers 0 for a `buf` that isn't empty only at the end of the input.
     fn read(&mut self, buf: &mut [u8]) -> Result<usize, Failed>
         ensures fits { IfOk result (λ n. n ≤ length buf.old) }
         ensures moved { tells → IfOk result (λ n. left self.old ≡ take n buf.new ++ left self.new) }
