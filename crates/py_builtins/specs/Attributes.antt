@@ -9,6 +9,7 @@ use Rattle.py_value.specs.Plain.{PlainValue, module_value, PlainRaised}
 use Rattle.py_builtins.specs.Methods.{method_name, has_method, no_attribute}
 use Rattle.py_builtins.specs.World.{World, global_of, sys_name}
 
+-- what is there, or else this exception
 abbrev pub or_raise : {A : Type 0} → PlainRaised → Option A → Result A PlainRaised
 or_raise e None = Err e
 or_raise e (Some a) = Ok a
@@ -23,13 +24,16 @@ abbrev pub attribute : PlainValue → List ℕ → World → Result PlainValue P
 attribute (module_value m) x w = or_raise (no_attribute x) (module_global m x w)
 attribute v x w = Err (no_attribute x)
 
+-- the methods of all values
 abbrev pub methods : List Method
 methods = Append ∷ Pop ∷ Get ∷ Keys ∷ StartsWith ∷ Join ∷ Split ∷ []
 
+-- the first of these methods that has a name
 abbrev pub method_among : List Method → List ℕ → Option Method
 method_among [] x = None
 method_among (m ∷ ms) x = if is_same_text x (method_name m) then Some m else method_among ms x
 
+-- a method, where the value has it
 abbrev pub where_it_has : PlainValue → Option Method → Option Method
 where_it_has v None = None
 where_it_has v (Some m) = if has_method m v then Some m else None

@@ -14,10 +14,12 @@ pub data Callee : Type 0 where
   a_value : PlainValue → Callee
   a_method : Method → PlainValue → Callee
 
+-- a method of a value is called
 abbrev pub as_method : PlainValue → Option Method → Option Callee
 as_method v None = None
 as_method v (Some m) = Some (a_method m v)
 
+-- a value is called
 abbrev pub as_value : Option PlainValue → Option Callee
 as_value None = None
 as_value (Some v) = Some (a_value v)

@@ -14,6 +14,7 @@ Fed [] all rest = all ≡ rest
 Fed (Some b ∷ reads) all rest = Fed reads all (b ∷ rest)
 Fed (None ∷ reads) all rest = (rest ≡ []) × Fed reads all rest
 
+-- each of these answers is a byte
 abbrev pub AreBytes : List (Option ℕ) → Type 0
 AreBytes [] = Unit {0}
 AreBytes (Some b ∷ reads) = AreBytes reads

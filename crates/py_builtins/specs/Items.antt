@@ -12,11 +12,12 @@ use Rattle.py_value.specs.Heaps.{dict_pairs, list_items}
 use Rattle.py_value.specs.Operators.{items_to_append}
 use Rattle.py_value.specs.Plain.{PlainValue, dict_at, PlainHeap, PlainRaised, list_at, tuple_value, listed}
 
--- the items of a List, Tuple, Str or Dict
+-- the items, where a value has some
 abbrev pub items_or : Option (List PlainValue) → Result (List PlainValue) PlainRaised
 items_or None = Err (raised_by NotIterable)
 items_or (Some vs) = Ok vs
 
+-- the items of a List, Tuple, Str or Dict
 abbrev pub items_in : PlainValue → PlainHeap → Result (List PlainValue) PlainRaised
 items_in v h = items_or (items_to_append h v)
 

@@ -19,6 +19,7 @@ use Rattle.py_value.specs.Sequences.{joined, within_limit}
 abbrev pub extended : List ℕ → List ℕ → Result (List ℕ) PlainRaised
 extended x y = in_words raised_by (joined x y)
 
+-- whether each value may stand in a tuple
 abbrev pub may_all_nest : List PlainValue → Bool
 may_all_nest [] = true
 may_all_nest (v ∷ vs) = may_nest v && may_all_nest vs
@@ -33,6 +34,7 @@ new_tuple vs =
 abbrev pub new_dict : PlainHeap → Result (PlainValue × PlainHeap) PlainRaised
 new_dict h = Ok (dict_at (length h), with_object h (dict_object []))
 
+-- a heap beside no answer
 abbrev pub with_unit : PlainHeap → Unit {0} × PlainHeap
 with_unit h = (tt, h)
 
@@ -41,15 +43,17 @@ abbrev pub stored : PlainValue → PlainValue → PlainValue → PlainHeap
     → Result (Unit {0} × PlainHeap) PlainRaised
 stored of at v h = store_of of at v h >>= λ k. Ok (with_unit k)
 
--- a bound of a slice: a number, or left out
+-- a number, or else the exception of this cause
 abbrev pub number_or : Cause → Option ℤ → Result (Option ℤ) PlainRaised
 number_or cause None = Err (raised_by cause)
 number_or cause (Some n) = Ok (Some n)
 
+-- a bound of a slice as a value: left out, or a number
 abbrev pub slice_bound : Option PlainValue → Result (Option ℤ) PlainRaised
 slice_bound None = Ok None
 slice_bound (Some v) = number_or NotSubscriptable (number_of v)
 
+-- `v[from:to]`
 abbrev pub sliced : PlainValue → Option PlainValue → Option PlainValue → PlainHeap
     → Result (PlainValue × PlainHeap) PlainRaised
 sliced v from to h = slice_bound from >>= λ a. slice_bound to >>= λ b. slice_of v a b h

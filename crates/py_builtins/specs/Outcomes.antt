@@ -35,6 +35,7 @@ abbrev pub low_bits : ℤ → ℕ
 low_bits (pos n) = n % 256
 low_bits (negsuc n) = 255 - n % 256
 
+-- an exit by this value: the low bits of a number, and else 1 with the text
 abbrev pub exit_by : PlainHeap → PlainValue → Option ℤ → Outcome
 exit_by h v None = exited 1 (Some (shown h v))
 exit_by h v (Some n) = exited (low_bits n) None
@@ -46,6 +47,7 @@ exit_of h no_argument = exited 0 None
 exit_of h (argument none_value) = exited 0 None
 exit_of h (argument v) = exit_by h v (number_of v)
 
+-- how a program ends whose body gave this
 abbrev pub outcome_of : PlainHeap → Result PlainValue PlainRaised → Outcome
 outcome_of h (Ok v) = finished
 outcome_of h (Err e) =
@@ -58,9 +60,11 @@ status_of (exited status text) = status
 status_of (raised kind text) = 1
 status_of cut = 75
 
+-- the bytes of a line
 abbrev pub text_line : List ℕ → List ℕ
 text_line x = encode_utf8_all x ++ 10 ∷ []
 
+-- the line of an exception that nothing caught: its kind, and its text where it has one
 abbrev pub uncaught : ExcKind → List ℕ → List ℕ
 uncaught kind [] = kind_name kind
 uncaught kind (c ∷ cs) = kind_name kind ++ codes ": " ++ (c ∷ cs)

@@ -21,9 +21,11 @@ kinds =
     ModuleNotFoundError ∷ LookupError ∷ IndexError ∷ KeyError ∷ MemoryError ∷ NameError ∷
     UnboundLocalError ∷ RuntimeError ∷ RecursionError ∷ TypeError ∷ ValueError ∷ []
 
+-- a built-in function with its name
 abbrev pub builtin_pair : Builtin → List ℕ × PlainValue
 builtin_pair f = (builtin_name f, builtin_value f)
 
+-- a kind of exceptions with its name
 abbrev pub kind_pair : ExcKind → List ℕ × PlainValue
 kind_pair kind = (kind_name kind, kind_value kind)
 

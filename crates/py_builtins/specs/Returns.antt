@@ -10,6 +10,7 @@ pub data Returned : Type 0 where
   raised : (kind : ExcKind) (text : List ℕ) → Returned
   cut : Returned
 
+-- how a call ends that gave this
 abbrev pub returned_of : PlainHeap → Result PlainValue PlainRaised → Returned
 returned_of h (Ok v) = gave v
 returned_of h (Err e) = raised e.kind (shown_raised h e)

@@ -10,8 +10,8 @@ pub data Writing : Type 0 where
   whole : List ℕ → Writing
   broken : List ℕ → Writing
 
--- one piece and then the next
 infixr 60 ◌▸◌
+-- one piece and then the next
 abbrev pub ◌▸◌ : Writing → Writing → Writing
 (whole s) ▸ (whole t) = whole (s ++ t)
 (whole s) ▸ (broken t) = broken (s ++ t)
