@@ -51,7 +51,7 @@ never_run : lcov_bytes (record first_run {
 unfolding Rattle.std.specs.Fmt.digits
 never_run = refl
 
--- Counts of a one-line loop, and of it behind another file
+-- Counts of a one-line loop, and of it after another file
 --  1  n = 3
 --  2  while n: n = n - 1
 abbrev one_line_loop : AnalysisView

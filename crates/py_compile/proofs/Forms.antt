@@ -46,7 +46,7 @@ module _ (cs : List Module) (ms : List LoadedModule) (c : Calls) (k : ℕ) (w : 
   OptRuns h o = (v : Ways) (p : ℕ) → HasAt u p (opt_code here v p o) → (st : List Operand) → FitsWays v h (p + opt_size (in_hand v) o) st → (s : State) (n : ℕ) → n < k
       → going cs w p st s n ≡ after_out cs w v (p + opt_size (in_hand v) o) st (exec_opt c (part_of ms u w.code h) o s n)
 
-  -- the arms of an `if`, where what stands behind them is an `else`
+  -- the arms of an `if`, where what stands after them is an `else`
   abbrev pub ArmsRun : Option PlainRaised → Arms → Type 0
   ArmsRun h arms = (v : Ways) (p end : ℕ) → HasAt u p (arms_code here v p end arms) → p + arms_size (in_hand v) arms ≤ end → (st : List Operand) → FitsWays v h end st → (orelse : M Out)
       → ((t : State) (j : ℕ) → j < k → going cs w (p + arms_size (in_hand v) arms) st t j ≡ after_out cs w v end st (orelse t j)) → (s : State) (n : ℕ) → n < k

@@ -1,4 +1,4 @@
--- What is put into the lists of a unit is found there, also behind more that is put in.
+-- What is put into the lists of a unit is found there, also after more that is put in.
 use Rattle.std.proofs.Common.{◌≡◌, ℕ, suc, ◌==◌, Bool, true, false, List, [], ◌∷◌, Some, refl, sym, ap, ◌∙◌, subst}
 use Rattle.std.specs.Prelude.{slice_get, if◌then◌else◌, ◌||◌, bytes_eq}
 use Rattle.std.specs.List.{list_any}

@@ -156,7 +156,7 @@ module _ (cs : List Module) (ms : List LoadedModule) (matches : Matches cs ms) (
   items_none s p has W R F wait le f fits [] long = ap (λ m. going cs w m (W ++ R) t n) (omega arith)
   items_none s p has W R F wait le f fits (v ∷ vs) long = absurd (omega arith)
 
-  -- a match of one pattern with a match of others behind it
+  -- a match of one pattern with a match of others after it
   then_both : (m : ℕ) (s : Site) (mid end : ℕ) (V W R F : List Operand) (r rest : Ans Match) (xs : List Text) (first : End) → first ≡ after_match cs w (behind m s) mid V R F r t n → HasNames xs r
       → ((ns : Names) → names_in ns ≡ xs → going cs w mid (V ++ pushed (values_in ns) R) t n ≡ after_match cs w s end W R F (and_then (Some ns) rest) t n) → first ≡ after_match cs w s end W R F (r >>= λ found. and_then found rest) t n
   then_both m s mid end V W R F (Ok None) rest xs first e h next = e
@@ -238,7 +238,7 @@ module _ (cs : List Module) (ms : List LoadedModule) (matches : Matches cs ms) (
       rq s p has W R F wait (omega arith) (falls_fewer (length (captured q)) 0 s.extra W R F (omega arith) f) (fits_less s.guard end (p + pattern_size q) (length R) (omega arith) fits) x
       ∙ (same_match s (p + pattern_size q) end W R F (matched sc t.now q x) same ∙ ap (λ r. after_match cs w s end W R F r t n) (last_is (matched sc t.now q x)))
 
-  -- the first alternative, and those behind it where it fails
+  -- the first alternative, and those after it where it fails
   or_match : (s s1 : Site) (mid end : ℕ) (x : PlainValue) (W R : List Operand) (F : List Operand) (r rest : Ans Match) (first : End) → first ≡ after_match cs w s1 mid (of_value x ∷ W) R (of_value x ∷ (W ++ R)) r t n → HasNames [] r → s1.guard ≡ s.guard
       → going cs w mid (of_value x ∷ (W ++ R)) t n ≡ going cs w end (W ++ R) t n → going cs w s1.fail (of_value x ∷ (W ++ R)) t n ≡ after_match cs w s end W R F rest t n
       → first ≡ after_match cs w s end W R F (r >>= λ found. or_else found rest) t n

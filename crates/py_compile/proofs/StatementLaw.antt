@@ -30,7 +30,7 @@ use Rattle.py_compile.proofs.TryRuns.{no_clauses_run, clause_runs, named_clause_
 
 module _ (cs : List Module) (ms : List LoadedModule) (matches : Matches cs ms) (names : NamesMatch cs ms) (c : Calls) (k : ℕ) (calls : CallsRun cs c k)
     (w : Spot) (u : Code) (is : unit_at cs w.code ≡ Some u) where
-  -- one statement behind another
+  -- one statement after another
   stmt_runs : (h : Option PlainRaised) (first last : ℕ) (kind : StmtKind) (rest : Stmts) → KindRuns cs ms c k w u h kind → StmtsRun cs ms c k w u h rest → (v : Ways) (p : ℕ) (end : LineEnd) → HasAt u p (stmts_code (here cs ms c k w u) v p (stmt first last kind end rest))
       → (st : List Operand) → FitsWays v h (p + stmts_size (in_hand v) (stmt first last kind end rest)) st → (s : State) (n : ℕ) → n < k
       → going cs w p st s n ≡ after_out cs w v (p + stmts_size (in_hand v) (stmt first last kind end rest)) st (exec c (part_of ms u w.code h) (stmt first last kind end rest) s n)

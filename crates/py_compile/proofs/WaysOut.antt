@@ -197,7 +197,7 @@ module _ (cs : List Module) (w : Spot) where
     truth_runs true g v p to end xs st m l s n at lt hy hn = led_on cs w u is p (IfFalse to) (of_value (bool_value true) ∷ xs) xs s s n at.instr refl ∙ hy
     truth_runs false g v p to end xs st m l s n at lt hy hn = led cs w u is p to (IfFalse to) (of_value (bool_value false) ∷ xs) xs s s n at.instr lt refl ∙ hn
 
--- a suite without a name, and one with a name that is unset behind it
+-- a suite without a name, and one with a name that is unset after it
 pub nameless : (sc : Scope) (e : PlainRaised) (m : M Out) (s : State) (n : ℕ) → in_suite sc None e m s n ≡ m s n
 unfolding write chain give
 nameless sc e m s n = by_result (m s n)

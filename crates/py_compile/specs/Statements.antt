@@ -173,7 +173,7 @@ abbrev pub guard_code : Option Guard → ℕ → (next : ℕ) → Option Expr �
 guard_code g p next None = []
 guard_code g p next (Some e) = expr_code g p e ++ put g (plain (IfFalse next)) []
 
--- the four ways behind a suite that each way out goes through: on, `break`, `continue` and `return`
+-- the four ways after a suite that each way out goes through: on, `break`, `continue` and `return`
 abbrev pub exits_code : Ways → ℕ → List Cell
 exits_code w p =
     put w.guard (plain (break_exit w.on_break (p + 3)))
@@ -297,7 +297,7 @@ abbrev mutual
   kind_code fs w p l (if' arms orelse) =
       let rest = p + arms_size (in_hand w) arms in
       arms_code fs w p (rest + opt_size (in_hand w) orelse) arms ++ opt_code fs w rest orelse
-  -- the test, behind the mark of the first turn or of a further one
+  -- the test, after the mark of the first turn or of a further one
   kind_code fs w p l (while test (suite first last inline body) orelse) =
       let begin = p + 3 + expr_size test + 1 in
       let back = begin + stmts_size (in_hand w) body in

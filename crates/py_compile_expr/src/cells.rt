@@ -111,9 +111,9 @@ impl Builder {
             ≡ self.old ++ put (plain_guard guard) (plain_op op) []) }
         ensures place { IfOk result (λ n. n ≡ at + 1) }
     {
-        let behind = sum(at, 1)?;
+        let next = sum(at, 1)?;
         self.cells.push(Cell { op, guard })?;
-        Ok(behind)
+        Ok(next)
     }
 }
 
