@@ -30,11 +30,6 @@ kind-encoded kind.RecursionError = refl
 kind-encoded kind.TypeError = refl
 kind-encoded kind.ValueError = refl
 
--- an exception without a text
-pub line-alone : (k : ExcKind) (x : List _) → x ≡ [] → kind_name k ++ codes "\n" ≡ text_line (uncaught k x)
-line-alone k [] h = ap (λ b. b ++ codes "\n") (sym (kind-encoded k))
-line-alone k (c ∷ cs) h = absurd (cc)
-
 mark-encoded : encode_utf8_all (codes ": ") ≡ codes ": "
 unfolding lib.Utf8.encode
 mark-encoded = refl

@@ -1,5 +1,5 @@
 -- Where the last `:` of a text is.
-use Rattle.std.proofs.Common.{◌≡◌, ◌≢◌, ℕ, ◌+◌, ◌-◌, ◌<◌, ◌≤◌, true, false, not, nat_eq, [], length, get_or, take, drop, Option, Some, None, MatchOption, Bor, ap, sym, ◌∙◌, arith, lit<, length-drop, ◌||◌, cond}
+use Rattle.std.proofs.Common.{◌≡◌, ◌≢◌, ℕ, ◌+◌, ◌-◌, ◌<◌, ◌≤◌, true, false, not, nat_eq, [], length, get_or, take, drop, Option, Some, None, ap, sym, ◌∙◌, arith, lit<, length-drop, ◌||◌, cond}
 use Rattle.std.specs.List.{suffix_len, before_last, after_last}
 use Rattle.std.specs.Str.{NoCharPasses}
 use Rattle.std.specs.Str.Pattern.{RFindsChar, HasCharAt, SplitsAroundMatch}
@@ -18,10 +18,6 @@ colon b h = grind (arith, nat_tests)
 -- where no byte from j on is `:`, and the one in front of j is one
 tail_is : (bs : Text) (j : ℕ) → j ≤ length bs → ((k : ℕ) → j ≤ k → k < length bs → get_or bs k 0 ≢ 58) → (0 < j → get_or bs (j - 1) 0 ≡ 58) → suffix_len (λ b. not (is_colon b)) bs ≡ length bs - j
 tail_is bs j within none last = suffix_len_is (λ b. not (is_colon b)) bs j 0 within (λ k from to. no_colon _ (none k from to)) (λ some. colon _ (last some))
-
--- the clause of `rsplit_once` at `:`
-abbrev pub IsCut : Text → Option (Bor Text × Bor Text) → Type 0
-IsCut bs r = MatchOption r (RFindsChar 58 bs None) (λ x. SplitsAroundMatch (RFindsChar 58) bs x.0.now x.1.now)
 
 pub cut_nowhere : (bs : Text) → RFindsChar 58 bs None → before_last is_colon bs ≡ []
 cut_nowhere bs none =

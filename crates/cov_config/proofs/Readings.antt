@@ -3,16 +3,9 @@ use Rattle.std.proofs.Common.{◌≡◌, Result, Err, ap, sym, ◌∙◌}
 use Rattle.cov_config.specs.declared.config.ConfigError.{ConfigError}
 use Rattle.cov_config.specs.declared.config.ConfigError.TheVariants.{BadConfig, NoMemory}
 use Rattle.cov_config.specs.Forms.{Text}
-use Rattle.cov_config.specs.Settings.{next}
 use Rattle.cov_config.specs.Plain.{Answers, Names}
 
 -- the error that names the key is the answer where the key is bad
 pub named : {T A : Type 0} (view : T → A) (meaning : Result A Text) (name : Text) (e : ConfigError) → Names name e → meaning ≡ Err name → Answers view meaning (Err e)
 named view meaning name (BadConfig key) is bad = bad ∙ ap Err (sym is)
 named view meaning name NoMemory is bad = tt
-
--- the error of the first part is that of the whole
-pub stopped : {T U A B : Type 0} (view : T → A) (whole : U → B) (part : Result A Text) (f : A → Result B Text) (meaning : Result B Text) (e : ConfigError)
-    → Answers view part (Err e) → meaning ≡ next part f → Answers whole meaning (Err e)
-stopped view whole part f meaning (BadConfig key) bad is = is ∙ ap (λ p. next p f) bad
-stopped view whole part f meaning NoMemory bad is = tt

@@ -6,16 +6,9 @@ module _ {A : Type 0} where
   pub prefix_none : (whole : List A) → IsPrefix [] whole
   prefix_none whole = record { rest = whole; is = refl }
 
-  pub prefix_whole : (whole : List A) → IsPrefix whole whole
-  prefix_whole whole = record { rest = []; is = sym (append-nil whole) }
-
   -- nothing was written
   pub gains_nothing : (old new whole : List A) → new ≡ old → GainsPrefix old new whole
   gains_nothing old new whole same = record { front = []; prefix = prefix_none whole; is = same ∙ sym (append-nil old) }
-
-  -- all of it was written
-  pub gains_whole : (old new whole : List A) → new ≡ old ++ whole → GainsPrefix old new whole
-  gains_whole old new whole is = record { front = whole; prefix = prefix_whole whole; is = is }
 
   pub loses_nothing : (old new : List A) → new ≡ old → LosesPrefix old new
   loses_nothing old new same = record { front = []; is = sym same }

@@ -2,7 +2,6 @@
 use Rattle.std.proofs.Common.{◌≡◌, ℕ, ◌+◌, ◌<◌, List, [], ◌∷◌, ◌++◌, Option, Some, None, Vec, Global, refl, sym, ap, ◌∙◌, get_or, length, drop}
 use Rattle.std.specs.Option.{option_map}
 use Rattle.py_syntax.specs.declared.expr.Expr.{Expr as Node}
-use Rattle.py_syntax.specs.declared.stmt.Alias.{Alias}
 use Rattle.py_syntax.specs.declared.stmt.Arm.{Arm, out-Arm}
 use Rattle.py_syntax.specs.declared.stmt.Arm as arms_
 use Rattle.py_syntax.specs.declared.stmt.Case.{Case, out-Case}
@@ -13,13 +12,12 @@ use Rattle.py_syntax.specs.declared.stmt.Stmt.{Stmt, out-Stmt}
 use Rattle.py_syntax.specs.declared.stmt.Stmt as stmt_
 use Rattle.py_syntax.specs.declared.stmt.StmtKind.{StmtKind}
 use Rattle.py_syntax.specs.declared.stmt.StmtKind as kind_
-use Rattle.py_syntax.specs.declared.stmt.Suite.{Suite, out-Suite}
-use Rattle.py_syntax.specs.declared.stmt.Suite as suites_
-use Rattle.py_syntax.specs.Names.{add_name, add_names}
+use Rattle.py_syntax.specs.declared.stmt.Suite.{Suite}
+use Rattle.py_syntax.specs.Names.{add_names}
 use Rattle.py_syntax.specs.Tree as T
 use Rattle.py_syntax.specs.Tree.{Text}
-use Rattle.py_syntax.specs.View.{plain_expr, plain_pattern, plain_aliases, plain_stmts, plain_kind, plain_suite, plain_opt_suite, plain_arms, plain_clauses, plain_cases}
-use Rattle.py_meaning.specs.Loading.{alias_modules, imported, imported_in, opt_imported, arms_imported, clauses_imported, cases_imported}
+use Rattle.py_syntax.specs.View.{plain_expr, plain_pattern, plain_stmts, plain_kind, plain_suite, plain_opt_suite, plain_arms, plain_clauses, plain_cases}
+use Rattle.py_meaning.specs.Loading.{imported, imported_in, opt_imported, arms_imported, clauses_imported, cases_imported}
 use Rattle.py_scope.proofs.Gathering.{named, a_turn}
 use Rattle.cov_run.specs.Imports.{suite_imported}
 
@@ -41,7 +39,6 @@ if-of : (as' : T.Arms) (o : T.OptSuite) → imported_in (T.if' as' o) ≡ arms_i
 unfolding imported_in
 if-of as' o = refl
 
-match-of : (e : T.Expr) (header : ℕ) (cs : T.Cases) → imported_in (T.match e header cs) ≡ cases_imported cs
 unfolding imported_in
 match-of e header cs = refl
 
@@ -63,9 +60,6 @@ plain-Try b cs None (Some f) = search kind_.the_lemmas
 plain-Try b cs (Some o) None = search kind_.the_lemmas
 plain-Try b cs (Some o) (Some f) = search kind_.the_lemmas
 
-plain-Match : (e : Node) (l : ℕ) (cs : Vec Case Global) → plain_kind (kind_.Match e l cs) ≡ T.match (plain_expr e) l (plain_cases cs.items)
-plain-Match e l cs = search kind_.the_lemmas
-
 pub if-parts : (k : StmtKind) (as' : Vec Arm Global) (slice : List Arm) (o : Option Suite) → k ≡ kind_.If as' o → slice ≡ as'.items
     → imported_in (plain_kind k) ≡ arms_imported (plain_arms slice) ++ opt_imported (plain_opt_suite o)
 if-parts k as' slice o is same =
@@ -83,16 +77,7 @@ try-parts k b cs slice o f is same =
     ap (λ q. imported_in (plain_kind q)) is ∙ ap imported_in (plain-Try b cs o f) ∙ try-of (plain_suite b) (plain_clauses cs.items) (plain_opt_suite o) (plain_opt_suite f)
     ∙ ap (λ xs. suite_imported (plain_suite b) ++ (clauses_imported (plain_clauses xs) ++ (opt_imported (plain_opt_suite o) ++ opt_imported (plain_opt_suite f)))) (sym same)
 
-pub match-parts : (k : StmtKind) (e : Node) (l : ℕ) (cs : Vec Case Global) (slice : List Case) → k ≡ kind_.Match e l cs → slice ≡ cs.items → imported_in (plain_kind k) ≡ cases_imported (plain_cases slice)
-match-parts k e l cs slice is same = ap (λ q. imported_in (plain_kind q)) is ∙ ap imported_in (plain-Match e l cs) ∙ match-of (plain_expr e) l (plain_cases cs.items) ∙ ap (λ xs. cases_imported (plain_cases xs)) (sym same)
-
 -- ---- suites
-
-plain-Suite : (s : Suite) → plain_suite s ≡ T.suite (out-Suite s).first (out-Suite s).last (out-Suite s).inline (plain_stmts (out-Suite s).body.items)
-plain-Suite s = search suites_.the_lemmas
-
-pub suite-is : (s : Suite) → suite_imported (plain_suite s) ≡ imported (plain_stmts (out-Suite s).body.items)
-suite-is s = ap suite_imported (plain-Suite s)
 
 -- ---- lists
 
@@ -150,10 +135,6 @@ clauses-turn = a_turn named (λ cs. clauses_imported (plain_clauses cs)) (λ c. 
 pub cases-turn : (now next w : List Text) (xs : List Case) (i : ℕ) (c : Case) → i < length xs → c ≡ get_or xs i c → next ≡ add_names now (suite_imported (plain_suite (out-Case c).body))
     → add_names now (cases_imported (plain_cases (drop i xs))) ≡ w → add_names next (cases_imported (plain_cases (drop (i + 1) xs))) ≡ w
 cases-turn = a_turn named (λ cs. cases_imported (plain_cases cs)) (λ c. suite_imported (plain_suite (out-Case c).body)) cases-step
-
-pub aliases-turn : (now next w : List Text) (xs : List Alias) (i : ℕ) (a : Alias) → i < length xs → a ≡ get_or xs i a → next ≡ add_name now a.name
-    → add_names now (alias_modules (plain_aliases (drop i xs))) ≡ w → add_names next (alias_modules (plain_aliases (drop (i + 1) xs))) ≡ w
-aliases-turn = a_turn named (λ as'. alias_modules (plain_aliases as')) (λ (a : Alias). a.name ∷ []) (λ a as'. refl)
 
 -- ---- nothing is left
 

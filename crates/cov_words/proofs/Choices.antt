@@ -26,9 +26,6 @@ pub there : {A : Type 0} (o : Option A) → is_some o ≡ true → (x : A) × (o
 there None h = cc
 there (Some x) h = (x, refl)
 
-pub was_there : {A : Type 0} (o : Option A) (x : A) → o ≡ Some x → is_some o ≡ true
-was_there o x h = ap is_some h
-
 -- all of some words and of one more
 pub one_more_passes : {A : Type 0} (p : A → Bool) (xs : List A) (x : A) → list_all p xs ≡ true → p x ≡ true → list_all p (xs ++ (x ∷ [])) ≡ true
 one_more_passes p [] x h k = both_true (p x) true k refl

@@ -1,6 +1,6 @@
 -- Ways out of statements in a machine, beside those of the meaning.
 --     ahead_fits and the like        ways that lead ahead of less, or over more operands
---     uses, then_runs                one part of a statement behind another
+--     uses, then_runs                one part of a statement after another
 --     mark_runs, again_runs          steps
 --     break_runs and the like        instructions that take ways out
 use Rattle.std.proofs.Common.{◌≡◌, ℕ, zero, suc, ◌+◌, ◌-◌, ◌<◌, ◌≤◌, List, [], ◌∷◌, length, drop, Option, Some, None, Bool, true, false, refl, ap, ◌∙◌, arith}
@@ -80,9 +80,6 @@ ways_under v h end x st f = record {
   handled = handled_under v.handled h x st f.handled;
 }
 
-drop_all : (st : List Operand) → drop (length st - length st) st ≡ st
-drop_all st = let e : length st - length st ≡ zero = omega arith in ap (λ n. drop n st) e
-
 pub dropping_runs : (n : ℕ) (xs : List Operand) (c : Configuration Names) (k : List Operand → Next Names) → n ≤ length xs → dropping n xs c k ≡ k (drop n xs)
 dropping_runs n xs c k le = let yes : nat_le n (length xs) ≡ true = grind (arith, nat_tests) in ap (λ b. if b then k (drop n xs) else halted stuck c) yes
 
@@ -115,7 +112,7 @@ module _ (cs : List Module) (w : Spot) where
   returns_over (straight drops to) a x st s n = refl
   returns_over (through drops to) a x st s n = refl
 
-  -- ---- one part behind another
+  -- ---- one part after another
 
   -- an answer that stands on the operands is used
   pub uses : {A : Type 0} (f : A → List Operand → List Operand) (v : Ways) (mid end : ℕ) (ys st : List Operand) (m : M (Ans A)) (k : A → M Out) (first : End) (s : State) (n : ℕ)
@@ -132,7 +129,7 @@ module _ (cs : List Module) (w : Spot) where
       by_result (done a t j) e less = by_answer a t j e less
       by_result (cut t) e less = e
 
-  -- a statement behind another one
+  -- a statement after another one
   pub then_runs : (v : Ways) (mid end : ℕ) (st : List Operand) (m k : M Out) (first : End) (s : State) (n : ℕ) → first ≡ after_out cs w v mid st (m s n) → IsAtMost n (m s n)
       → ((t : State) (j : ℕ) → j ≤ n → going cs w mid st t j ≡ after_out cs w v end st (k t j)) → first ≡ after_out cs w v end st (chain m (λ o. next o k) s n)
   unfolding chain give

@@ -46,10 +46,6 @@ pub spread_length : (vs : List PlainValue) → length (map of_value vs) ≡ leng
 spread_length [] = refl
 spread_length (v ∷ vs) = ap suc (spread_length vs)
 
-pub none_left : (vs : List PlainValue) → length vs ≤ 0 → vs ≡ []
-none_left [] le = refl
-none_left (v ∷ vs) le = absurd (omega arith)
-
 pub no_names_left : (ns : Names) → names_in ns ≡ [] → ns ≡ []
 no_names_left [] e = refl
 no_names_left (n ∷ ns) e = absurd cc
@@ -62,7 +58,7 @@ length_is n (Some us) vs e = by_case (nat_eq (length us) n) refl e
     by_case true q h = let same : us ≡ vs = cc in ap length (sym same) ∙ same_number (length us) n q
     by_case false q h = absurd cc
 
--- Where a match fails, behind up to so many captured values, these operands are left.
+-- Where a match fails, after up to so many captured values, these operands are left.
 abbrev pub Falls : (most extra : ℕ) (W R F : List Operand) → Type 0
 Falls most extra W R F = (vs : List PlainValue) → length vs ≤ most → (length vs + extra ≤ length (W ++ pushed vs R)) × (drop (length vs + extra) (W ++ pushed vs R) ≡ F)
 

@@ -31,7 +31,7 @@ same_one None (Some h) e = absurd cc
 same_one (Some g) None e = absurd cc
 same_one (Some g) (Some h) e = ap (λ k. Some k) (same_guard g h e)
 
--- ---- no range begins behind a place in front of all
+-- ---- no range begins after a place in front of all
 
 not_yet : (from p : ℕ) (g : Guard) (q : ℕ) → q < from → guards q (record { from = from; to = p; target = g.target; depth = g.depth }) ≡ false
 not_yet from p g q lt = let no : nat_le from q ≡ false = grind (arith, nat_tests) in ap (λ b. b && nat_lt q p) no
@@ -85,9 +85,6 @@ past_closed from p (Some g) q rest le = skips q _ rest (past_range from p g q le
 column_before : (g : Option Guard) (p : ℕ) (cs : List Cell) (q : ℕ) → q < p → column g p cs q ≡ g
 column_before g p [] q lt = refl
 column_before g p (c ∷ cs) q lt = let yes : nat_lt q p ≡ true = grind (arith, nat_tests) in ap (λ b. if b then g else column c.guard (p + 1) cs q) yes
-
-column_from : (g : Option Guard) (p : ℕ) (c : Cell) (cs : List Cell) (q : ℕ) → p ≤ q → column g p (c ∷ cs) q ≡ column c.guard (p + 1) cs q
-column_from g p c cs q le = let no : nat_lt q p ≡ false = grind (arith, nat_tests) in ap (λ b. if b then g else column c.guard (p + 1) cs q) no
 
 -- a cell of the same handler, in front of others
 column_same : (g : Option Guard) (p : ℕ) (c : Cell) (cs : List Cell) (q : ℕ) → g ≡ c.guard → column g p (c ∷ cs) q ≡ column g (p + 1) cs q

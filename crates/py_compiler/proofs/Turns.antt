@@ -1,10 +1,10 @@
 -- Functions of a module in turn.
-use Rattle.std.proofs.Common.{◌≡◌, ℕ, ◌+◌, ◌<◌, ◌≤◌, List, [], ◌∷◌, ◌++◌, map, drop, length, get_or, refl, ap, ◌∙◌}
+use Rattle.std.proofs.Common.{◌≡◌, ℕ, ◌+◌, ◌<◌, List, [], ◌∷◌, ◌++◌, map, drop, length, get_or, refl, ap, ◌∙◌}
 use Rattle.std.specs.Prelude.{Some, slice_get}
 use Rattle.std.specs.Option.{option_map}
 use Rattle.std.proofs.lemmas.Option.{slice_get-map, slice_get_read}
 use Rattle.py_compile.specs.Definitions.{Definition, function_of}
-use Rattle.py_compile_expr.proofs.Turns.{the_drop, a_turn, none_added}
+use Rattle.py_compile_expr.proofs.Turns.{the_drop, a_turn}
 use Rattle.py_compiler.specs.Scoped.{names_in}
 use Rattle.py_emit.specs.Parts.{lines_of}
 use Rattle.py_scope.specs.Scopes.{Names}
@@ -26,9 +26,6 @@ pub one_more : (f : Definition → Code) (now next w : List Code) (defs : List D
 one_more f now next w defs i d lt is e h =
     a_turn now next w (f (definition_of d) ∷ []) (map f (map definition_of (drop (i + 1) defs))) (map f (map definition_of (drop i defs))) e
     (ap (λ ds. map f (map definition_of ds)) (the_drop defs i d lt is)) h
-
-pub no_more : (f : Definition → Code) (now w : List Code) (defs : List Def) (i : ℕ) → length defs ≤ i → now ++ map f (map definition_of (drop i defs)) ≡ w → now ≡ w
-no_more f now w defs i le h = none_added (λ ds. map f (map definition_of ds)) refl now w defs i le h
 
 -- the lines of functions are those of their `def`s
 pub lines_are : (ds : List Definition) → lines_of (map function_of ds) ≡ map line_of ds

@@ -98,10 +98,6 @@ handlers_code-is fs w p end [] e = absurd cc
 handlers_code-is fs w p end (c ∷ xs) e =
     ap (handlers_code fs w p end) (clauses_are c xs) ∙ ap (λ cs. put w.guard (plain (Goto end)) (clauses_code fs w (p + 1) end cs)) (sym (clauses_are c xs))
 
-pub tried_none : (xs : List ClauseNode) (w : Ways) (to : ℕ) → (length xs == 0) ≡ true → tried_ways (plain_clauses xs) w to ≡ w
-tried_none [] w to e = refl
-tried_none (c ∷ xs) w to e = absurd (true≢false (sym e ∙ not_none (length xs)))
-
 pub handlers_size-none : (h : Bool) (xs : List ClauseNode) → (length xs == 0) ≡ true → handlers_size h (plain_clauses xs) ≡ 0
 handlers_size-none h [] e = refl
 handlers_size-none h (c ∷ xs) e = absurd (true≢false (sym e ∙ not_none (length xs)))

@@ -65,10 +65,6 @@ plain-cases c cs = search cases_.the_lemmas
 plain-stmts : (s : Stmt) (ss : List Stmt) → plain_stmts (s ∷ ss) ≡ stmt (out-Stmt s).first (out-Stmt s).last (plain_kind (out-Stmt s).kind) (out-Stmt s).end (plain_stmts ss)
 plain-stmts s ss = search stmts_.the_lemmas
 
--- a suite, and the turns of the loops
-pub suite-is : (s : SuiteNode) → suite_definitions (plain_suite s) ≡ definitions (plain_stmts (out-Suite s).body.items)
-suite-is s = ap suite_definitions (plain-Suite s)
-
 pub suite_body-is : (s : SuiteNode) → suite_body (plain_suite s) ≡ plain_stmts (out-Suite s).body.items
 suite_body-is s = ap suite_body (plain-Suite s)
 

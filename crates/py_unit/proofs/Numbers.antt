@@ -135,10 +135,6 @@ grows_all : (t : Tables) (cs : List Cell) → Grows t (tables_of t cs)
 grows_all t [] = grown t
 grows_all t (c ∷ cs) = and_on t (tables_with t c.op) (tables_of (tables_with t c.op) cs) (grows t c.op) (grows_all (tables_with t c.op) cs)
 
--- the own names stay as they are
-pub own_stays : (t : Tables) (cs : List Cell) → (tables_of t cs).own ≡ t.own
-own_stays t cs = (grows_all t cs).own
-
 -- ---- what an instruction names is in the lists
 
 abbrev HasName : Tables → Text → Type 0

@@ -35,10 +35,6 @@ pub listed-packed : (vs : List PlainValue) → listed (packed vs) ≡ vs
 listed-packed [] = refl
 listed-packed (v ∷ vs) = ap (λ ws. v ∷ ws) (listed-packed vs)
 
--- a function of the items of two tuples
-pub tuples : {A : Type 0} (F : List PlainValue → List PlainValue → A) (vs ws : List PlainValue) → F (listed (packed vs)) (listed (packed ws)) ≡ F vs ws
-tuples F vs ws = ap (λ us. F us (listed (packed ws))) (listed-packed vs) ∙ ap (λ us. F vs us) (listed-packed ws)
-
 cmp-more : (a b : ℕ) → nat_cmp (suc a) (suc b) ≡ nat_cmp a b
 cmp-more a b = grind (arith, nat_tests)
 
