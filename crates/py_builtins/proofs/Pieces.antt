@@ -5,7 +5,7 @@ use Rattle.std.proofs.lemmas.Option.{slice_get_within, get_or_from_slice_get}
 use Rattle.std.proofs.Math.Seq.{drop-cons}
 use Rattle.py_value.specs.declared.cause.Cause.{Cause}
 use Rattle.py_value.specs.declared.cause.Cause.TheVariants.{TooDeep, TooManyItems}
-use Rattle.py_value.specs.Sequences.{within_limit}
+use Rattle.py_value.specs.Sequences.{most_items, within_limit}
 use Rattle.py_builtins.specs.declared.writer.Stop.{Stop}
 use Rattle.py_builtins.specs.declared.writer.Stop.TheVariants.{Raises, NoMemory}
 use Rattle.py_value.specs.Answers.{◌>>=◌, in_words}
@@ -65,11 +65,11 @@ turn_stops stop a w v rest all e h i = settles_same stop (whole a ▸ (w ▸ v))
 pub turns_end : (a : List ℕ) (rest all : Writing) → rest ≡ whole [] → whole a ▸ rest ≡ all → all ≡ whole a
 turns_end a rest all e i = sym i ∙ ap (λ x. whole a ▸ x) e ∙ then_nothing (whole a)
 
-pub within : (s : List ℕ) → IsTrue (nat_le (length s) 1048576) → within_limit s ≡ Ok s
+pub within : (s : List ℕ) → IsTrue (nat_le (length s) most_items) → within_limit s ≡ Ok s
 within s h = ap (λ (b : Bool). let r : Result (List ℕ) Cause = (if b then Ok s else Err TooManyItems) in r) h
 
 -- a value that is too deep
-pub too_deep : (a : List ℕ) → IsTrue (nat_le (length a) 1048576) → Settles (Raises TooDeep) (whole a ▸ broken [])
+pub too_deep : (a : List ℕ) → IsTrue (nat_le (length a) most_items) → Settles (Raises TooDeep) (whole a ▸ broken [])
 too_deep a h = λ rest. ap (λ s. answer_of (broken s)) (append-nil a) ∙ ap (λ (r : Result (List ℕ) Cause). let q : Result (List ℕ) Cause = (r >>= λ t. Err TooDeep) in q) (within a h)
 
 -- the answer, once all is written or settled

@@ -5,9 +5,6 @@ ghost use Rattle.std.specs.Prelude.{◌≡◌, IfOk};
 use py_value::{NoMemory, Text};
 use std::alloc::Global;
 
-/// The most items of a text or a list.
-pub(crate) const MOST_ITEMS: usize = 1_048_576;
-
 /// The characters of a text.
 pub(crate) fn characters_of(alloc: Global, text: &Text) -> Result<Vec<char>, NoMemory>
     ensures { IfOk result (λ characters. characters.items ≡ text.now) }

@@ -10,11 +10,11 @@ ghost use Rattle.py_builtins.specs.Inputs.{OnReads};
 
 use crate::fault::RunFault;
 use cov_outside::{Failed, Source};
-use py_value::{Cause, NoMemory, Text};
+use py_value::{Cause, MOST_ITEMS, NoMemory, Text};
 use std::alloc::Global;
 
 /// The most bytes that are read in search of a line end.
-const MOST_BYTES: usize = 1_048_577;
+const MOST_BYTES: usize = MOST_ITEMS + 1;
 
 /// Reads a line, and makes a text of it.
 pub(crate) fn read_text<I: Source>(

@@ -3,13 +3,11 @@
 ghost use Rattle.std.specs.Prelude.{◌≡◌, OnErr, Some};
 ghost use Rattle.py_value.specs.View.{plain, plains};
 ghost use Rattle.py_value.specs.HeapView.{plain_heap};
-ghost use Rattle.py_value.specs.Sequences.{place_among};
 ghost use Rattle.py_builtins.specs.Answering.{Answers, RaiseKeeps};
 ghost use Rattle.py_builtins.specs.Methods.{append_value, append_of, take_item, pop_of_list};
 
 use crate::arguments::{are_none, only};
-use crate::char_lists::MOST_ITEMS;
-use py_value::{Addr, Cause, Heap, NoMemory, Raised, Value};
+use py_value::{Addr, Cause, Heap, MOST_ITEMS, NoMemory, Raised, Value, place_among};
 use std::alloc::Global;
 
 /// `l.append(x)`.
@@ -90,19 +88,5 @@ fn take_item(
     match place_among(heap.items(list).len(), at) {
         Some(k) => Ok(Ok(heap.take(list, k))),
         None => Ok(Err(Raised::of(alloc, Cause::PopIndex)?)),
-    }
-}
-
-/// The place among so many items, from the end where the index is negative.
-fn place_among(count: usize, at: i64) -> Option<usize>
-    ensures { result ≡ place_among count at }
-{
-    let size = at.unsigned_abs() as usize;
-    if at >= 0 {
-        if size < count { Some(size) } else { None }
-    } else if size <= count {
-        Some(count - size)
-    } else {
-        None
     }
 }

@@ -6,9 +6,8 @@ ghost use Rattle.py_value.specs.HeapView.{plain_heap};
 ghost use Rattle.py_value.specs.Sequences.{most_items};
 ghost use Rattle.py_builtins.specs.Builtins.{is_before, is_too_long, numbers_before, range_between, bounds_of, range_of};
 
-use crate::char_lists::MOST_ITEMS;
 use crate::text_methods::new_list;
-use py_value::{Cause, Heap, NoMemory, Raised, Value};
+use py_value::{Cause, Heap, MOST_ITEMS, NoMemory, Raised, Value};
 use std::alloc::Global;
 
 /// `range(n)`, `range(a, b)`, `range(a, b, s)`.
@@ -85,7 +84,7 @@ fn is_too_long(step: i64, from: i64, to: i64) -> bool
 fn number_after(step: i64, from: i64) -> i128
     ensures { result ≡ from +ℤ step *ℤ pos most_items }
 {
-    let steps = i128::from(step) * 1_048_576;
+    let steps = i128::from(step) * MOST_ITEMS as i128;
     i128::from(from) + steps
 }
 

@@ -9,8 +9,8 @@ ghost use Rattle.py_builtins.specs.Answering.{Answers, RaiseKeeps};
 ghost use Rattle.py_builtins.specs.Methods.{new_list, starts_with, starts_with_of, each_after, each_length, is_text, are_texts, characters_in, joined_texts, join_items, join_of, is_white, white_parts, nonempty, parts_between, texts, split_at, split_of};
 
 use crate::arguments::{are_none, only};
-use crate::char_lists::{MOST_ITEMS, characters_of};
-use py_value::{Cause, Heap, NoMemory, Raised, Text, Value};
+use crate::char_lists::characters_of;
+use py_value::{Cause, Heap, MOST_ITEMS, NoMemory, Raised, Text, Value};
 use std::alloc::Global;
 
 /// `s.startswith(t)`.

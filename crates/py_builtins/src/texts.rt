@@ -11,11 +11,8 @@ ghost use Rattle.py_builtins.specs.Written.{IsWritten};
 
 use crate::displays::display;
 use crate::writer::{Stop, Writer};
-use py_value::{Argument, Cause, ExcKind, Heap, NoMemory, Raised, Text, Value};
+use py_value::{Argument, Cause, ExcKind, Heap, MOST_LEVELS, NoMemory, Raised, Text, Value};
 use std::alloc::{AllocError, Global};
-
-/// The most values inside each other that a text goes through, the innermost counted too.
-const MOST_LEVELS: u32 = 200;
 
 /// The text that `str` gives.
 pub fn str_of(alloc: Global, value: &Value, heap: &Heap) -> Result<Result<Text, Raised>, NoMemory>

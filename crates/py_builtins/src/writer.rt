@@ -3,16 +3,14 @@
 ghost use Rattle.std.specs.Prelude.{◌≡◌, ◌∷◌, [], length, IsTrue, nat_le};
 ghost use Rattle.std.specs.Fmt.{signed_decimal};
 ghost use Rattle.std.specs.Str.{chars};
+ghost use Rattle.py_value.specs.Sequences.{most_items};
 ghost use Rattle.py_builtins.specs.declared.writer.Stop.TheVariants.{NoMemory};
 ghost use Rattle.py_builtins.specs.Writing.{whole};
 ghost use Rattle.py_builtins.specs.Written.{IsWritten, separator, are_ascii};
 
 use py_value::text::count_of;
-use py_value::{Cause, Text};
+use py_value::{Cause, MOST_ITEMS, Text};
 use std::alloc::{AllocError, AllocFailed, Global};
-
-/// The most characters of a text.
-const MOST_CHARACTERS: usize = 1_048_576;
 
 /// Why no more is written.
 #[derive(Debug, Drop)]
@@ -44,7 +42,7 @@ pub(crate) struct Writer {
     text: Text,
     count: usize,
     ghost counted: { count ≡ length text },
-    ghost within_limit: { IsTrue (nat_le (length text) 1048576) },
+    ghost within_limit: { IsTrue (nat_le (length text) most_items) },
 }
 
 impl Writer {
@@ -60,7 +58,7 @@ impl Writer {
 
     pub(crate) fn into_text(self) -> Text
         ensures text { result ≡ self.text }
-        ensures within_limit { IsTrue (nat_le (length result) 1048576) }
+        ensures within_limit { IsTrue (nat_le (length result) most_items) }
     {
         self.text
     }
@@ -68,7 +66,7 @@ impl Writer {
     pub(crate) fn push(&mut self, c: char) -> Result<(), Stop>
         ensures { IsWritten result self.old.text self.new.text (whole (c ∷ [])) }
     {
-        if self.count == MOST_CHARACTERS {
+        if self.count == MOST_ITEMS {
             return Err(Stop::Raises(Cause::TooManyItems));
         }
         self.text.push(c)?;
@@ -80,7 +78,7 @@ impl Writer {
         ensures { IsWritten result self.old.text self.new.text (whole (chars s.now)) }
     {
         let count = self.count.saturating_add(count_of(s));
-        if count > MOST_CHARACTERS {
+        if count > MOST_ITEMS {
             return Err(Stop::Raises(Cause::TooManyItems));
         }
         self.text.push_str(s)?;
@@ -92,7 +90,7 @@ impl Writer {
         ensures { IsWritten result self.old.text self.new.text (whole text.now) }
     {
         let count = self.count.saturating_add(text.len());
-        if count > MOST_CHARACTERS {
+        if count > MOST_ITEMS {
             return Err(Stop::Raises(Cause::TooManyItems));
         }
         self.text.append(text)?;

@@ -70,6 +70,10 @@ abbrev mutual
   nesting_of_items no_values = 0
   nesting_of_items (value_then v vs) = max (nesting_of v) (nesting_of_items vs)
 
--- whether a value may stand in a tuple or be an argument: at most 200 deep with that
+-- the deepest that tuples and arguments stand directly in each other
+abbrev pub most_nested : ℕ
+most_nested = 200
+
+-- whether a value may stand in a tuple or be an argument, and be no deeper then than the deepest
 abbrev pub may_nest : PlainValue → Bool
-may_nest v = nat_lt (nesting_of v) 200
+may_nest v = nat_lt (nesting_of v) most_nested

@@ -2,7 +2,7 @@
 -- already.
 --     place_of, plain, plains                   an address, a value and a list of values
 --     plain_held, items_view, argument_view     what the items of a tuple and an argument are
---     most_nested, nesting_of_argument          how deep they nest
+--     nesting_of_argument                       how deep they nest
 --     ItemsAreSound, ArgumentIsSound            what is kept with them is right
 --     size_of_value .. size_of_argument         how much they hold
 use Rattle.std.specs.Prelude.{◌≡◌, ℕ, suc, ◌+◌, min, List, map, Option, Some, None}
@@ -17,7 +17,7 @@ use Rattle.py_value.specs.declared.shared.Items.TheInside.{Inside as ItemsInside
 use Rattle.py_value.specs.declared.shared.Argument.TheInside.{Inside as ArgumentInside}
 use Rattle.py_value.specs.Keys.{are_keys}
 use Rattle.py_value.specs.Hashes.{hash_of_items}
-use Rattle.py_value.specs.Plain.{PlainValue, none_value, bool_value, int_value, str_value, tuple_value, list_at, dict_at, func_value, module_value, kind_value, exc_value, builtin_value, PlainValues, no_values, value_then, packed, PlainArgument, no_argument, argument, nesting_of, nesting_of_items}
+use Rattle.py_value.specs.Plain.{PlainValue, none_value, bool_value, int_value, str_value, tuple_value, list_at, dict_at, func_value, module_value, kind_value, exc_value, builtin_value, PlainValues, no_values, value_then, packed, PlainArgument, no_argument, argument, most_nested, nesting_of, nesting_of_items}
 
 -- the place that an address names
 abbrev pub place_of : Addr → ℕ
@@ -54,10 +54,6 @@ items_view a = packed (plains a.row.value.items.items)
 -- the argument that is held
 abbrev pub argument_view : ArgumentInside → PlainArgument
 argument_view a = plain_held a.held
-
--- the deepest that tuples and arguments stand directly in each other
-abbrev pub most_nested : ℕ
-most_nested = 200
 
 -- how deep the argument of an exception makes it nest
 abbrev pub nesting_of_argument : PlainArgument → ℕ

@@ -12,13 +12,11 @@ use crate::cause::Cause;
 use crate::equality::equal;
 use crate::heap::Heap;
 use crate::key::is_key;
+use crate::limits::MOST_LEVELS;
 use crate::operator::CmpOp;
 use crate::ordering::order;
 use crate::value::{Raised, Value};
 use std::alloc::Global;
-
-/// The most values inside each other that a comparison goes through.
-const MOST_LEVELS: u32 = 200;
 
 /// `left op right`.
 pub fn compare(

@@ -1,4 +1,4 @@
-//! Turns an operator and its operands, with the heap of lists and dicts behind them, into the value
+//! Turns an operator and its operands, with the heap of their lists and dicts, into the value
 //! and the heap that Python's table of operators gives, or into the exception that it raises.
 //!
 //! A caller makes a `Heap` by `Heap::new` and values by `Text::from_str`, `Heap::make_list` and
@@ -21,6 +21,7 @@ pub mod heap;
 mod indexing;
 pub mod key;
 mod key_index;
+mod limits;
 pub mod number;
 pub mod operator;
 mod ordering;
@@ -42,7 +43,9 @@ pub use comparisons::{compare, truth};
 pub use exception::ExcKind;
 pub use heap::Heap;
 pub use indexing::index;
+pub use limits::{MOST_ITEMS, MOST_LEVELS};
 pub use operator::{BinOp, CmpOp};
+pub use places::place_among;
 pub use shared::{Argument, Items};
 pub use slicing::slice;
 pub use storing::store;

@@ -71,7 +71,7 @@ impl Pairs {
         ensures { result ≡ place_of_key (plain key.now) (plain_pairs self.now) }
     {
         if self.index.len() == 0 {
-            place_among(key, self.as_slice())
+            place_of_key(key, self.as_slice())
         } else {
             place_in(key, self.as_slice(), self.index.places(hash_of(key)))
         }
@@ -144,7 +144,7 @@ impl Pairs {
 }
 
 /// The place of the pair with this key.
-pub fn place_among(key: &Value, pairs: &[Pair]) -> Option<usize>
+pub fn place_of_key(key: &Value, pairs: &[Pair]) -> Option<usize>
     ensures { result ≡ place_of_key (plain key.now) (map plain_pair pairs.now) }
 {
     for i in 0..pairs.len() {

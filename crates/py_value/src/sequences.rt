@@ -9,13 +9,11 @@ ghost use Rattle.py_value.specs.Operators.{characters};
 
 use crate::NoMemory;
 use crate::cause::Cause;
+use crate::limits::MOST_ITEMS;
 use crate::pairs::Pair;
 use crate::text::Text;
 use crate::value::{Value, copy_all};
 use std::alloc::Global;
-
-/// The most items of a text, a tuple, a list or a dict.
-pub const MOST_ITEMS: usize = 1_048_576;
 
 /// Whether so many items, and so many more, are not too many.
 pub fn fit_together(count: usize, more: usize) -> bool

@@ -1,21 +1,19 @@
 // What tuples and exceptions hold, shared by all copies of them.
 
 ghost use Rattle.std.specs.Prelude.{◌≡◌, IfOk, MatchOption, length, min, suc};
-ghost use Rattle.py_value.specs.Plain.{listed, packed, nesting_of, nesting_of_items, no_argument, argument};
-ghost use Rattle.py_value.specs.Shared.{plain, plains, nesting_of_argument, most_nested};
+ghost use Rattle.py_value.specs.Plain.{listed, packed, most_nested, nesting_of, nesting_of_items, no_argument, argument};
+ghost use Rattle.py_value.specs.Shared.{plain, plains, nesting_of_argument};
 ghost use Rattle.py_value.specs.Keys.{are_keys};
 ghost use Rattle.py_value.specs.Hashes.{hash_of_items};
 
 use crate::NoMemory;
 use crate::hash::hash_of_items;
 use crate::key::are_keys;
+use crate::limits::MOST_NESTED;
 use crate::value::Value;
 use std::alloc::{AllocError, Global};
 use std::marker::Model;
 use std::rc::Rc;
-
-/// The deepest that tuples and arguments of exceptions stand directly in each other.
-pub const MOST_NESTED: u8 = 200;
 
 /// The items of a tuple. It keeps how deep they nest, counted up to the deepest that is let be,
 /// whether each of them may be a key, and the hash of the tuple.

@@ -11,8 +11,8 @@ use crate::NoMemory;
 use crate::cause::Cause;
 use crate::heap::Heap;
 use crate::key::is_key;
+use crate::limits::MOST_ITEMS;
 use crate::places::place_among;
-use crate::sequences::MOST_ITEMS;
 use crate::value::{Addr, Raised, Value};
 use std::alloc::Global;
 

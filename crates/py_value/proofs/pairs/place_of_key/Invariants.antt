@@ -3,7 +3,7 @@ use Rattle.std.specs.Option.{option_map}
 use Rattle.py_value.specs.Pairs.{plain_pair}
 use Rattle.py_value.specs.View.{plain}
 use Rattle.py_value.specs.Keys.{place_of_key}
-use Rattle.py_value.proofs.pairs.place_among.Given as goal
+use Rattle.py_value.proofs.pairs.place_of_key.Given as goal
 
 abbrev pub invariant-loop-i : goal.invariant-loop-i
 invariant-loop-i l =
