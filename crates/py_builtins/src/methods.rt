@@ -50,7 +50,15 @@ pub fn call_method(
                 Ok(Err(no_attribute(alloc, which)?))
             }
         },
-        _ => Ok(Err(no_attribute(alloc, which)?)),
+        Value::None
+        | Value::Bool(_)
+        | Value::Int(_)
+        | Value::Tuple(_)
+        | Value::Func(_, _)
+        | Value::Module(_)
+        | Value::Kind(_)
+        | Value::Exc(_, _)
+        | Value::Builtin(_) => Ok(Err(no_attribute(alloc, which)?)),
     }
 }
 
@@ -62,7 +70,15 @@ pub fn has_method(which: Method, on: &Value) -> bool
         Value::List(_) => matches!(which, Method::Append | Method::Pop),
         Value::Dict(_) => matches!(which, Method::Pop | Method::Get | Method::Keys),
         Value::Str(_) => matches!(which, Method::StartsWith | Method::Join | Method::Split),
-        _ => false,
+        Value::None
+        | Value::Bool(_)
+        | Value::Int(_)
+        | Value::Tuple(_)
+        | Value::Func(_, _)
+        | Value::Module(_)
+        | Value::Kind(_)
+        | Value::Exc(_, _)
+        | Value::Builtin(_) => false,
     }
 }
 
