@@ -54,7 +54,7 @@ fn display_inside(
         Value::Str(text) => out.push_quoted(text),
         Value::Tuple(items) => display_tuple(levels, items.as_slice(), heap, inside, out),
         Value::List(addr) => display_list(levels, *addr, heap, inside, out),
-        Value::Dict(addr) => display_dict(levels, *addr, heap, inside, out),
+        Value::Dict(addr) => display_dict(levels, heap, *addr, inside, out),
         Value::Func(_, _) => out.push_word("<function>"),
         Value::Module(_) => out.push_word("<module>"),
         Value::Kind(kind) => display_kind(*kind, out),

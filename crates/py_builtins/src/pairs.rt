@@ -15,8 +15,8 @@ use py_value::{Addr, Heap};
 #[cycle(display)]
 pub(crate) fn display_dict(
     levels: u32,
-    dict: Addr,
     heap: &Heap,
+    dict: Addr,
     inside: &mut Vec<usize>,
     out: &mut Writer,
 ) -> Result<(), Stop>
@@ -29,7 +29,7 @@ pub(crate) fn display_dict(
     }
     inside.push(dict.place as usize)?;
     out.push_word("{")?;
-    display_pairs(levels, dict, heap, inside, out)?;
+    display_pairs(levels, heap, dict, inside, out)?;
     out.push_word("}")?;
     inside.pop();
     Ok(())
@@ -38,8 +38,8 @@ pub(crate) fn display_dict(
 #[cycle(display)]
 fn display_pairs(
     levels: u32,
-    dict: Addr,
     heap: &Heap,
+    dict: Addr,
     inside: &mut Vec<usize>,
     out: &mut Writer,
 ) -> Result<(), Stop>
@@ -50,7 +50,7 @@ fn display_pairs(
 {
     for i in 0..pair_count(heap, dict) {
         out.separate(i)?;
-        display_pair(levels, dict, i, heap, inside, out)?;
+        display_pair(levels, heap, dict, i, inside, out)?;
     }
     Ok(())
 }
@@ -58,9 +58,9 @@ fn display_pairs(
 #[cycle(display)]
 fn display_pair(
     levels: u32,
+    heap: &Heap,
     dict: Addr,
     at: usize,
-    heap: &Heap,
     inside: &mut Vec<usize>,
     out: &mut Writer,
 ) -> Result<(), Stop>
