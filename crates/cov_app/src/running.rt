@@ -14,8 +14,8 @@ ghost use Rattle.cov_app.specs.Runs.{AreProgramsOf, EndsAs, GivesUp, became, sho
 
 use crate::listing::listing;
 use cov_arcs::{Arcs, told_arcs_of_modules};
-use cov_outside::{Sink, SinkError, Source};
-use py_builtins::RunFault;
+use cov_outside::{Sink, Source};
+use py_builtins::{RunFault, write};
 use py_code::{Programs, Unit};
 use py_compile::units_are_faithful;
 use py_machine::{Engine, Outcome, Store};
@@ -152,9 +152,5 @@ fn write_listing<O: Sink>(
         → Rose (O.faults out.old) (O.faults out.new) }
 {
     let text = listing(alloc, programs, arcs)?;
-    match out.write(alloc, text.as_bytes()) {
-        Ok(()) => Ok(()),
-        Err(SinkError::Failed) => Err(RunFault::WriteFault),
-        Err(SinkError::NoMemory) => Err(RunFault::NoMemory),
-    }
+    write(alloc, out, text.as_bytes())
 }

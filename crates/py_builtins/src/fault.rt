@@ -37,7 +37,7 @@ impl<T: Drop> From<AllocFailed<T>> for RunFault {
 }
 
 /// Writes the whole piece, or a prefix of it before a fault.
-pub(crate) fn write<O: Sink>(alloc: Global, out: &mut O, piece: &[u8]) -> Result<(), RunFault>
+pub fn write<O: Sink>(alloc: Global, out: &mut O, piece: &[u8]) -> Result<(), RunFault>
     ensures written { O.tells → OnOk result (O.contents out.new ≡ O.contents out.old ++ piece.now) }
     ensures gained { O.tells
         → OnErr result (GainsPrefix (O.contents out.old) (O.contents out.new) piece.now) }

@@ -36,7 +36,7 @@ mod writer;
 
 pub use builtins::call_builtin;
 pub use exceptions::exception_of;
-pub use fault::RunFault;
+pub use fault::{RunFault, write};
 pub use methods::{call_method, has_method};
 pub use names::{builtin_name, kind_name};
 pub use texts::{repr_of, str_of};
