@@ -38,5 +38,5 @@ pub use builtins::call_builtin;
 pub use exceptions::exception_of;
 pub use fault::{RunFault, write};
 pub use methods::{call_method, has_method};
-pub use names::{builtin_name, kind_name};
+pub use names::{BUILTINS, KINDS, builtin_name, kind_name};
 pub use texts::{repr_of, str_of};

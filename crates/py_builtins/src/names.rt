@@ -1,9 +1,45 @@
-// The names of kinds of exceptions and of built-in functions.
+// The kinds of exceptions and the built-in functions, and their names.
 
 ghost use Rattle.std.specs.Prelude.{◌≡◌};
 ghost use Rattle.py_builtins.specs.Displays.{kind_name, builtin_name};
 
 use py_value::{Builtin, ExcKind};
+
+/// The built-in functions whose names no module sets.
+pub const BUILTINS: [Builtin; 7] = [
+    Builtin::Print,
+    Builtin::Len,
+    Builtin::Range,
+    Builtin::Str,
+    Builtin::Repr,
+    Builtin::Int,
+    Builtin::Input,
+];
+
+/// The kinds of exceptions.
+pub const KINDS: [ExcKind; 21] = [
+    ExcKind::BaseException,
+    ExcKind::SystemExit,
+    ExcKind::Exception,
+    ExcKind::ArithmeticError,
+    ExcKind::ZeroDivisionError,
+    ExcKind::OverflowError,
+    ExcKind::AssertionError,
+    ExcKind::AttributeError,
+    ExcKind::EOFError,
+    ExcKind::ImportError,
+    ExcKind::ModuleNotFoundError,
+    ExcKind::LookupError,
+    ExcKind::IndexError,
+    ExcKind::KeyError,
+    ExcKind::MemoryError,
+    ExcKind::NameError,
+    ExcKind::UnboundLocalError,
+    ExcKind::RuntimeError,
+    ExcKind::RecursionError,
+    ExcKind::TypeError,
+    ExcKind::ValueError,
+];
 
 /// The name of a kind of exceptions, as a program writes it.
 pub fn kind_name(kind: ExcKind) -> &'static str

@@ -1,7 +1,7 @@
-// Rows of texts and displays. The expected values are those of CPython 3.11, but for functions, modules and
-// built-in functions, whose texts are the language's own.
+// Rows of texts and displays. The expected values are those of CPython 3.11, but for functions,
+// modules and built-in functions, whose texts are the language's own.
 
-use py_builtins::{builtin_name, kind_name, repr_of, str_of};
+use py_builtins::{BUILTINS, KINDS, builtin_name, kind_name, repr_of, str_of};
 use py_value::{
     Addr, Argument, Builtin, ExcKind, FuncId, Heap, Items, ModId, NoMemory, Raised, Text, Value,
     store,
@@ -11,41 +11,6 @@ use std::alloc::Global;
 mod rows;
 
 use rows::{CONTAINERS, EXCEPTIONS, PLAIN, Row, STRINGS};
-
-static KINDS: [ExcKind; 21] = [
-    ExcKind::BaseException,
-    ExcKind::SystemExit,
-    ExcKind::Exception,
-    ExcKind::ArithmeticError,
-    ExcKind::ZeroDivisionError,
-    ExcKind::OverflowError,
-    ExcKind::AssertionError,
-    ExcKind::AttributeError,
-    ExcKind::EOFError,
-    ExcKind::ImportError,
-    ExcKind::ModuleNotFoundError,
-    ExcKind::LookupError,
-    ExcKind::IndexError,
-    ExcKind::KeyError,
-    ExcKind::MemoryError,
-    ExcKind::NameError,
-    ExcKind::UnboundLocalError,
-    ExcKind::RuntimeError,
-    ExcKind::RecursionError,
-    ExcKind::TypeError,
-    ExcKind::ValueError,
-];
-
-static BUILTINS: [Builtin; 8] = [
-    Builtin::Print,
-    Builtin::Len,
-    Builtin::Range,
-    Builtin::Str,
-    Builtin::Repr,
-    Builtin::Int,
-    Builtin::Input,
-    Builtin::Exit,
-];
 
 fn kind_named(name: &str) -> ExcKind {
     for kind in &KINDS {
@@ -62,7 +27,7 @@ fn builtin_named(name: &str) -> Builtin {
             return *which;
         }
     }
-    Builtin::Print
+    Builtin::Exit
 }
 
 fn text_value(alloc: Global, text: &str) -> Result<Value, NoMemory> {
@@ -266,9 +231,9 @@ fn inside_themselves(rt: HostRuntime) {
     let of_list = "[{'l': [...]}, ([...],), [], []]";
     let of_dict = "{'l': [{...}, ([...],), [], []]}";
     let right = gives(alloc, &Value::List(list), &heap, of_list, of_list).expect(&rt, "memory");
-    assert!(rt; right);
+    assert!(rt; right, "the list");
     let right = gives(alloc, &Value::Dict(dict), &heap, of_dict, of_dict).expect(&rt, "memory");
-    assert!(rt; right);
+    assert!(rt; right, "the dict");
 }
 
 /// A list in so many others, each in the next.
@@ -303,11 +268,13 @@ fn depths(rt: HostRuntime) {
     let mut heap = Heap::new(alloc);
     let deep = nested(alloc, 199, &mut heap).expect(&rt, "memory");
     let text = str_of(alloc, &deep, &heap).expect(&rt, "memory");
-    assert!(rt; has_length(&text, 400));
+    assert!(rt; has_length(&text, 400), "as deep as may be");
     let deeper = nested(alloc, 200, &mut heap).expect(&rt, "memory");
-    assert!(rt; raises(alloc, &deeper, &heap, ExcKind::RecursionError).expect(&rt, "memory"));
+    let raised = raises(alloc, &deeper, &heap, ExcKind::RecursionError).expect(&rt, "memory");
+    assert!(rt; raised, "one level too deep");
     let wide = doubled(alloc, 150, &mut heap).expect(&rt, "memory");
-    assert!(rt; raises(alloc, &wide, &heap, ExcKind::MemoryError).expect(&rt, "memory"));
+    let raised = raises(alloc, &wide, &heap, ExcKind::MemoryError).expect(&rt, "memory");
+    assert!(rt; raised, "too many characters");
 }
 
 /// A text of so many characters.
@@ -322,20 +289,28 @@ fn sizes(rt: HostRuntime) {
     let mut heap = Heap::new(alloc);
     let whole = long(alloc, 1_048_576).expect(&rt, "memory");
     let text = str_of(alloc, &whole, &heap).expect(&rt, "memory");
-    assert!(rt; has_length(&text, 1_048_576));
+    assert!(rt; has_length(&text, 1_048_576), "as long as may be");
     let display = repr_of(alloc, &whole, &heap).expect(&rt, "memory");
-    assert!(rt; is_raised(&display, ExcKind::MemoryError));
+    assert!(rt;
+        is_raised(&display, ExcKind::MemoryError),
+        "its marks are two too many"
+    );
     let short = long(alloc, 1_048_574).expect(&rt, "memory");
     let display = repr_of(alloc, &short, &heap).expect(&rt, "memory");
-    assert!(rt; has_length(&display, 1_048_576));
+    assert!(rt;
+        has_length(&display, 1_048_576),
+        "as long as may be with its marks"
+    );
     let deep = nested(alloc, 200, &mut heap).expect(&rt, "memory");
     let mut items = one(alloc, short).expect(&rt, "memory");
     items.push(deep).expect(&rt, "memory");
     let list = Value::List(heap.make_list(items).expect(&rt, "memory"));
-    assert!(rt; raises(alloc, &list, &heap, ExcKind::MemoryError).expect(&rt, "memory"));
+    let raised = raises(alloc, &list, &heap, ExcKind::MemoryError).expect(&rt, "memory");
+    assert!(rt; raised, "too long before it is too deep");
     let deep = nested(alloc, 200, &mut heap).expect(&rt, "memory");
     let mut items = one(alloc, deep).expect(&rt, "memory");
     items.push(whole).expect(&rt, "memory");
     let list = Value::List(heap.make_list(items).expect(&rt, "memory"));
-    assert!(rt; raises(alloc, &list, &heap, ExcKind::RecursionError).expect(&rt, "memory"));
+    let raised = raises(alloc, &list, &heap, ExcKind::RecursionError).expect(&rt, "memory");
+    assert!(rt; raised, "too deep before it is too long");
 }

@@ -8,42 +8,8 @@ ghost use Rattle.py_builtins.specs.Predefined.{builtin_pair, kind_pair, predefin
 ghost use Rattle.py_builtins.specs.World.{Names, value_of};
 
 use crate::texts::is_text;
-use py_builtins::{builtin_name, kind_name};
+use py_builtins::{BUILTINS, KINDS, builtin_name, kind_name};
 use py_value::{Builtin, ExcKind, Text, Value};
-
-const BUILTINS: [Builtin; 7] = [
-    Builtin::Print,
-    Builtin::Len,
-    Builtin::Range,
-    Builtin::Str,
-    Builtin::Repr,
-    Builtin::Int,
-    Builtin::Input,
-];
-
-const KINDS: [ExcKind; 21] = [
-    ExcKind::BaseException,
-    ExcKind::SystemExit,
-    ExcKind::Exception,
-    ExcKind::ArithmeticError,
-    ExcKind::ZeroDivisionError,
-    ExcKind::OverflowError,
-    ExcKind::AssertionError,
-    ExcKind::AttributeError,
-    ExcKind::EOFError,
-    ExcKind::ImportError,
-    ExcKind::ModuleNotFoundError,
-    ExcKind::LookupError,
-    ExcKind::IndexError,
-    ExcKind::KeyError,
-    ExcKind::MemoryError,
-    ExcKind::NameError,
-    ExcKind::UnboundLocalError,
-    ExcKind::RuntimeError,
-    ExcKind::RecursionError,
-    ExcKind::TypeError,
-    ExcKind::ValueError,
-];
 
 /// The built-in function or the kind of exceptions of this name.
 pub fn predefined(name: &Text) -> Option<Value>
