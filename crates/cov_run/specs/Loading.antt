@@ -15,7 +15,7 @@ use Rattle.py_meaning.specs.Loading.{Files as Trees, Program, imported, folder_o
 use Rattle.py_meaning.specs.Modules.{LoadedModule}
 use Rattle.cov_run.specs.Reading.{tree, Reads}
 
--- the most bytes of a file, those of all files of a program, and the most modules of one
+-- the most bytes of a file
 abbrev pub most_bytes : ℕ
 most_bytes = 1048576
 

@@ -24,7 +24,7 @@ use Rattle.cov_words.specs.declared.why.Why.TheVariants as why
 use Rattle.cov_run.specs.declared.loaded.LoadedSource.{LoadedSource}
 use Rattle.cov_run.specs.declared.programs.Loaded.{Loaded}
 use Rattle.cov_run.specs.Asking.{Agrees, AreUpTo, EndsFailed, asked, names_read}
-use Rattle.cov_run.specs.Loading.{Told, AreLoaded, IsLoaded, most_bytes}
+use Rattle.cov_run.specs.Loading.{Told, AreLoaded, IsLoaded, most_bytes, most_modules}
 use Rattle.cov_run.specs.Refusals.{IsStopped}
 use Rattle.cov_run.specs.View.{plain_sources}
 
@@ -142,7 +142,7 @@ pub record IsCompiled (l : Loaded) : Type 0 where
   pub faithful : AreFaithful (modules_of l.programs) (loaded_modules l)
   pub well_formed : AreWellFormed (loaded_modules l)
   pub some : 0 < length (modules_of l.programs)
-  pub few : length (modules_of l.programs) ≤ 256
+  pub few : length (modules_of l.programs) ≤ most_modules
   pub beside : length l.modules.items ≡ length l.programs.modules.items
   pub paths : HavePaths l.programs.modules.items (loaded_modules l)
 

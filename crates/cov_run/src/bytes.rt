@@ -2,11 +2,12 @@
 
 ghost use Rattle.std.specs.Prelude.{◌≡◌, ◌≤◌, length, MatchResult};
 ghost use Rattle.std.specs.Str.{IsUtf8};
+ghost use Rattle.cov_run.specs.Loading.{most_bytes};
 ghost use Rattle.cov_run.specs.Reading.{line_ends, fault_line};
 
 /// How many line ends stand in the bytes.
 fn line_ends(bytes: &[u8]) -> u32
-    requires { length bytes.now ≤ 1048576 }
+    requires { length bytes.now ≤ most_bytes }
     ensures count { result ≡ line_ends bytes.now }
     ensures few { result ≤ length bytes.now }
 {
@@ -24,7 +25,7 @@ fn line_ends(bytes: &[u8]) -> u32
 /// The text of bytes that are UTF-8; else the line, counted from 1, of the first byte that fits no
 /// character.
 pub(crate) fn text_of(bytes: &[u8]) -> Result<&str, u32>
-    requires { length bytes.now ≤ 1048576 }
+    requires { length bytes.now ≤ most_bytes }
     ensures { MatchResult result (λ text. (text.now ≡ bytes.now) × IsUtf8 bytes.now) (λ line.
         ¬ (IsUtf8 bytes.now) × (line ≡ fault_line bytes.now)) }
 {

@@ -9,7 +9,7 @@ ghost use Rattle.py_syntax.specs.Tree.{Text as Name};
 ghost use Rattle.py_syntax.specs.View.{plain_module};
 ghost use Rattle.py_meaning.specs.Loading.{folder_of, imported, loaded};
 ghost use Rattle.cov_run.specs.Asking.{EndsFailed};
-ghost use Rattle.cov_run.specs.Loading.{program_of, told_by};
+ghost use Rattle.cov_run.specs.Loading.{most_bytes, most_modules, most_total, program_of, told_by};
 ghost use Rattle.cov_run.specs.Loads.{EndsWith, Loads, LoadsTo, loading_of_sources, program};
 ghost use Rattle.cov_run.specs.Progress.{HasCome};
 ghost use Rattle.cov_run.specs.Refusals.{Refuses};
@@ -27,9 +27,10 @@ use py_scope::NameSet;
 use py_value::{NoMemory, Text};
 use std::alloc::Global;
 
-/// The most bytes of a file, and of all files of a program.
+/// The most bytes of a file.
 const MAX_BYTES: usize = 1_048_576;
 
+/// The most bytes of all files of a program.
 const MAX_TOTAL: usize = 16_777_216;
 
 /// The most modules of a program.
@@ -73,7 +74,7 @@ fn begun<H: Shelf>(alloc: Global, script: &str, name: &str, shelf: &mut H) -> Re
     ensures come { IfOk result (λ l. HasCome H.reads shelf.old (chars script.now)
         (chars name.now) (state_of l) 0 shelf.new) }
     ensures limits { IfOk result (λ l.
-        (length l.sources.items ≤ 256) × (l.bytes ≤ 16777216)) }
+        (length l.sources.items ≤ most_modules) × (l.bytes ≤ most_total)) }
     ensures ends { IfErr result (λ w.
         EndsWith H.reads shelf.old (chars script.now) (chars name.now) w shelf.new) }
     ensures fault { IsErrOf result Why.ShelfFault
@@ -147,8 +148,8 @@ impl Loading {
         folder: &Text,
         shelf: &mut H,
     ) -> Result<(), Why>
-        requires few { length self.old.sources.items ≤ 256 }
-        requires light { self.old.bytes ≤ 16777216 }
+        requires few { length self.old.sources.items ≤ most_modules }
+        requires light { self.old.bytes ≤ most_total }
         ensures loads { (start : H) (script called : Name)
             → HasCome H.reads start script called (state_of self.old) 0 shelf.old
             → folder.now ≡ folder_of script
@@ -183,7 +184,7 @@ impl Loading {
         name: Text,
         shelf: &mut H,
     ) -> Result<(), Why>
-        requires { self.old.bytes ≤ 16777216 }
+        requires { self.old.bytes ≤ most_total }
         ensures come { (start : H) (script called : Name) (at : ℕ)
             → HasCome H.reads start script called (state_of self.old) at shelf.old
             → folder.now ≡ folder_of script → slice_get (state_of self.old).names at ≡ Some name
@@ -212,7 +213,7 @@ impl Loading {
 
     /// Adds the module of a file that is there.
     fn add(&mut self, alloc: Global, name: Text, path: Text, file: File) -> Result<(), Why>
-        requires light { self.old.bytes ≤ 16777216 }
+        requires light { self.old.bytes ≤ most_total }
         requires small { IsSmall file }
         ensures added { (content : Option (List ℕ)) → Holds content file
             → OnOk result (Adds content name path (state_of self.old) (state_of self.new)) }
@@ -233,9 +234,9 @@ impl Loading {
 
     /// Adds the module of a file of these bytes.
     fn add_bytes(&mut self, alloc: Global, name: Text, path: Text, bytes: &[u8]) -> Result<(), Why>
-        requires few { length self.old.sources.items < 256 }
-        requires light { self.old.bytes ≤ 16777216 }
-        requires small { length bytes.now ≤ 1048576 }
+        requires few { length self.old.sources.items < most_modules }
+        requires light { self.old.bytes ≤ most_total }
+        requires small { length bytes.now ≤ most_bytes }
         ensures added { OnOk result (Adds (Some bytes.now) name path (state_of self.old)
             (state_of self.new)) }
         ensures grows { OnOk result (Grows self.old self.new) }

@@ -3,6 +3,7 @@
 ghost use Rattle.std.specs.Prelude.{◌≡◌, ◌≤◌, length, IfErr, IfOk};
 ghost use Rattle.std.specs.Str.{IsUtf8};
 ghost use Rattle.cov_run.specs.declared.source.SourceError.TheVariants as source_error;
+ghost use Rattle.cov_run.specs.Loading.{most_bytes};
 ghost use Rattle.cov_run.specs.Reading.{Reads, reading_of, tree};
 ghost use Rattle.py_scope.specs.Faults.{functions_of};
 ghost use Rattle.py_syntax.specs.View.{plain_module};
@@ -66,7 +67,7 @@ pub(crate) struct Source {
 /// Reads the bytes of a source to its tree, or says why there is none. The checks come in the order
 /// of the variants of `SourceError`.
 pub(crate) fn read_source(alloc: Global, bytes: &[u8]) -> Result<Source, SourceError>
-    requires { length bytes.now ≤ 1048576 }
+    requires { length bytes.now ≤ most_bytes }
     ensures read { IfOk result (λ s. Reads bytes.now (tree (plain_module s.module))) }
     ensures names { IfOk result (λ s. s.scopes ≡ functions_of (plain_module s.module)) }
     ensures refused { IfErr result (λ e. Reads bytes.now (reading_of e)) }
