@@ -49,42 +49,31 @@ fn statement(alloc: Global, names: &mut NameSet, kind: &StmtKind) -> Result<(), 
             names.insert(alloc, module)?;
             Ok(())
         }
-        StmtKind::If {
-            arms: tests,
-            orelse,
-        } => {
-            arms(alloc, names, tests)?;
-            opt(alloc, names, orelse)
+        StmtKind::If { arms, orelse } => {
+            in_arms(alloc, names, arms)?;
+            in_optional(alloc, names, orelse)
         }
-        StmtKind::While {
-            body: turn,
-            orelse,
-            ..
-        } => {
-            suite(alloc, names, turn)?;
-            opt(alloc, names, orelse)
+        StmtKind::While { body, orelse, .. } => {
+            in_suite(alloc, names, body)?;
+            in_optional(alloc, names, orelse)
         }
-        StmtKind::For {
-            body: turn,
-            orelse,
-            ..
-        } => {
-            suite(alloc, names, turn)?;
-            opt(alloc, names, orelse)
+        StmtKind::For { body, orelse, .. } => {
+            in_suite(alloc, names, body)?;
+            in_optional(alloc, names, orelse)
         }
         StmtKind::Try {
-            body: tried,
-            clauses: handlers,
+            body,
+            clauses,
             orelse,
             finally,
         } => {
-            suite(alloc, names, tried)?;
-            clauses(alloc, names, handlers)?;
-            opt(alloc, names, orelse)?;
-            opt(alloc, names, finally)
+            in_suite(alloc, names, body)?;
+            in_clauses(alloc, names, clauses)?;
+            in_optional(alloc, names, orelse)?;
+            in_optional(alloc, names, finally)
         }
-        StmtKind::Def { body, .. } => suite(alloc, names, body),
-        StmtKind::Match { cases: list, .. } => cases(alloc, names, list),
+        StmtKind::Def { body, .. } => in_suite(alloc, names, body),
+        StmtKind::Match { cases, .. } => in_cases(alloc, names, cases),
     }
 }
 
@@ -99,7 +88,7 @@ fn aliases(alloc: Global, names: &mut NameSet, items: &[Alias]) -> Result<(), No
 }
 
 #[cycle(imports)]
-fn suite(alloc: Global, names: &mut NameSet, s: &Suite) -> Result<(), NoMemory>
+fn in_suite(alloc: Global, names: &mut NameSet, s: &Suite) -> Result<(), NoMemory>
     ensures { OnOk result (names.new
         ≡ add_names names.old (suite_imported (plain_suite s.now))) }
 {
@@ -108,45 +97,45 @@ fn suite(alloc: Global, names: &mut NameSet, s: &Suite) -> Result<(), NoMemory>
 
 #[cycle(imports)]
 #[tactic(auto, unfolding(py_meaning::specs::Loading::opt_imported))]
-fn opt(alloc: Global, names: &mut NameSet, s: &Option<Suite>) -> Result<(), NoMemory>
+fn in_optional(alloc: Global, names: &mut NameSet, s: &Option<Suite>) -> Result<(), NoMemory>
     ensures { OnOk result (names.new
         ≡ add_names names.old (opt_imported (plain_opt_suite s.now))) }
 {
     match s {
         None => Ok(()),
-        Some(s) => suite(alloc, names, s),
+        Some(s) => in_suite(alloc, names, s),
     }
 }
 
 #[cycle(imports)]
-fn arms(alloc: Global, names: &mut NameSet, items: &[Arm]) -> Result<(), NoMemory>
+fn in_arms(alloc: Global, names: &mut NameSet, items: &[Arm]) -> Result<(), NoMemory>
     ensures { OnOk result (names.new
         ≡ add_names names.old (arms_imported (plain_arms items.now))) }
 {
     for arm in items {
-        suite(alloc, names, &arm.body)?;
+        in_suite(alloc, names, &arm.body)?;
     }
     Ok(())
 }
 
 #[cycle(imports)]
-fn clauses(alloc: Global, names: &mut NameSet, items: &[Clause]) -> Result<(), NoMemory>
+fn in_clauses(alloc: Global, names: &mut NameSet, items: &[Clause]) -> Result<(), NoMemory>
     ensures { OnOk result (names.new
         ≡ add_names names.old (clauses_imported (plain_clauses items.now))) }
 {
     for clause in items {
-        suite(alloc, names, &clause.body)?;
+        in_suite(alloc, names, &clause.body)?;
     }
     Ok(())
 }
 
 #[cycle(imports)]
-fn cases(alloc: Global, names: &mut NameSet, items: &[Case]) -> Result<(), NoMemory>
+fn in_cases(alloc: Global, names: &mut NameSet, items: &[Case]) -> Result<(), NoMemory>
     ensures { OnOk result (names.new
         ≡ add_names names.old (cases_imported (plain_cases items.now))) }
 {
     for case in items {
-        suite(alloc, names, &case.body)?;
+        in_suite(alloc, names, &case.body)?;
     }
     Ok(())
 }

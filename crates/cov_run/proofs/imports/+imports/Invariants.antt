@@ -7,11 +7,11 @@ use Rattle.cov_run.proofs.imports.+imports.Given as goal
 abbrev pub invariant-add_imported-loop-s : goal.invariant-add_imported-loop-s
 invariant-add_imported-loop-s l = add_names l.names (imported (plain_stmts (drop l.s-index l.items))) ≡ add_names l.initial.names (imported (plain_stmts l.items))
 
-abbrev pub invariant-arms-loop-arm : goal.invariant-arms-loop-arm
-invariant-arms-loop-arm l = add_names l.names (arms_imported (plain_arms (drop l.arm-index l.items))) ≡ add_names l.initial.names (arms_imported (plain_arms l.items))
+abbrev pub invariant-in_arms-loop-arm : goal.invariant-in_arms-loop-arm
+invariant-in_arms-loop-arm l = add_names l.names (arms_imported (plain_arms (drop l.arm-index l.items))) ≡ add_names l.initial.names (arms_imported (plain_arms l.items))
 
-abbrev pub invariant-clauses-loop-clause : goal.invariant-clauses-loop-clause
-invariant-clauses-loop-clause l = add_names l.names (clauses_imported (plain_clauses (drop l.clause-index l.items))) ≡ add_names l.initial.names (clauses_imported (plain_clauses l.items))
+abbrev pub invariant-in_clauses-loop-clause : goal.invariant-in_clauses-loop-clause
+invariant-in_clauses-loop-clause l = add_names l.names (clauses_imported (plain_clauses (drop l.clause-index l.items))) ≡ add_names l.initial.names (clauses_imported (plain_clauses l.items))
 
-abbrev pub invariant-cases-loop-case : goal.invariant-cases-loop-case
-invariant-cases-loop-case l = add_names l.names (cases_imported (plain_cases (drop l.case-index l.items))) ≡ add_names l.initial.names (cases_imported (plain_cases l.items))
+abbrev pub invariant-in_cases-loop-case : goal.invariant-in_cases-loop-case
+invariant-in_cases-loop-case l = add_names l.names (cases_imported (plain_cases (drop l.case-index l.items))) ≡ add_names l.initial.names (cases_imported (plain_cases l.items))
