@@ -1,6 +1,6 @@
 // Rows of the table of built-in functions. The expected values are those of the Python Standard
-// Library Reference, but for lists from `range` and the words of exceptions, which are the language's
-// own.
+// Library Reference, but for lists from `range` and the words of exceptions, which are the
+// language's own.
 
 use crate::literals::{Lit, make};
 use cov_outside::{MemSink, MemSource, Source};

@@ -24,6 +24,16 @@ pub(crate) enum Want {
     Raises(ExcKind, &'static str),
 }
 
+pub(crate) const UNSUPPORTED: Want = Want::Raises(ExcKind::TypeError, "unsupported operand");
+
+pub(crate) const UNHASHABLE: Want = Want::Raises(ExcKind::TypeError, "unhashable key");
+
+/// The least whole number.
+pub(crate) const LEAST: i64 = -9_223_372_036_854_775_808;
+
+/// The greatest whole number.
+pub(crate) const MOST: i64 = 9_223_372_036_854_775_807;
+
 fn text(alloc: Global, s: &str) -> Result<Value, NoMemory> {
     Ok(Value::Str(Text::from_str(alloc, s)?))
 }

@@ -1,8 +1,9 @@
-// Rows of the table of methods. The expected values are those of the Python Standard Library Reference.
+// Rows of the table of methods. The expected values are those of the Python Standard Library
+// Reference.
 
 use crate::literals::Lit::{self, Bool, Dict, Int, Str, TextTuple, Texts};
 use crate::literals::Want::{self, Gives, Raises};
-use crate::literals::{is_made, is_wanted, make};
+use crate::literals::{UNHASHABLE, is_made, is_wanted, make};
 use py_builtins::{call_method, has_method};
 use py_value::{ExcKind, Heap, Method, Value};
 
@@ -10,12 +11,10 @@ const WRONG_COUNT: Want = Raises(ExcKind::TypeError, "wrong number of arguments"
 
 const BAD_ARGUMENT: Want = Raises(ExcKind::TypeError, "bad argument");
 
-const UNHASHABLE: Want = Raises(ExcKind::TypeError, "unhashable key");
-
 const OUTSIDE: Want = Raises(ExcKind::IndexError, "pop index out of range");
 
-/// A call as Python writes it; a method of a value, called with these arguments; what it answers, and
-/// the value after it.
+/// A call as Python writes it; a method of a value, called with these arguments; what it answers,
+/// and the value after it.
 struct Call(&'static str, Method, Lit, &'static [Lit], Want, Lit);
 
 static CALLS: [Call; 44] = [

@@ -8,9 +8,13 @@ use py_value::{
     update,
 };
 
-mod rows;
+mod arithmetic;
+mod comparing;
+mod parts;
 
-use rows::{AUGMENTED, BINARY, COMPARED, INDEXED, SLICED, TRUTHS};
+use arithmetic::{AUGMENTED, BINARY};
+use comparing::COMPARED;
+use parts::{INDEXED, SLICED, TRUTHS};
 
 #[test]
 fn binary_operators(rt: HostRuntime) {

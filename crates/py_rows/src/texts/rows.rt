@@ -1,8 +1,9 @@
 // The rows, a table for each kind of value.
 
-/// The words that make a value, its text and its display. The words have `;` between them, and operands come first:
-/// a text after `'`, a number, `(n`, `[n` and `{n` for a tuple, a list and a dict of the last n, and a name after
-/// `#` for a kind, `!` and `?` for its exception without and with an argument, and `@` for a built-in function.
+/// The words that make a value, its text and its display. The words have `;` between them, and
+/// operands come first: a text after `'`, a number, `(n`, `[n` and `{n` for a tuple, a list and a
+/// dict of the last n, and a name after `#` for a kind, `!` and `?` for its exception without and
+/// with an argument, and `@` for a built-in function.
 pub struct Row(pub &'static str, pub &'static str, pub &'static str);
 
 /// Values that hold no others.
