@@ -4,10 +4,6 @@ use py_value::{ExcKind, NoMemory};
 use std::alloc::Global;
 use std::test::Fail;
 
-fn call(unit: u32) -> Event {
-    Event::Call(CodeId { module: 0, unit })
-}
-
 /// The arcs of a module whose function begins in line 2.
 fn arcs_after(alloc: Global, events: &[Event]) -> Result<Vec<(i64, i64)>, NoMemory> {
     let mut firsts = Vec::new(alloc);
@@ -25,24 +21,27 @@ fn arcs_after(alloc: Global, events: &[Event]) -> Result<Vec<(i64, i64)>, NoMemo
     Ok(listed)
 }
 
-#[test]
-fn arcs_of_events(rt: HostRuntime) -> Result<(), Fail> {
-    let alloc = rt.alloc();
-    let two_returns = [
-        call(0),
-        Event::Line(1),
-        Event::Line(2),
-        Event::Line(7),
-        call(1),
-        Event::Line(3),
-        Event::Line(4),
-        Event::Line(6),
-        Event::Return,
-        Event::Return,
-    ];
-    assert_eq!(rt;
-        arcs_after(alloc, &two_returns)?.as_slice(),
-        [
+const BODY: Event = Event::Call(CodeId { module: 0, unit: 0 });
+
+const FUNCTION: Event = Event::Call(CodeId { module: 0, unit: 1 });
+
+/// Events, and the arcs that they tell.
+static TOLD: [(&str, &[Event], &[(i64, i64)]); 3] = [
+    (
+        "Two returns",
+        &[
+            BODY,
+            Event::Line(1),
+            Event::Line(2),
+            Event::Line(7),
+            FUNCTION,
+            Event::Line(3),
+            Event::Line(4),
+            Event::Line(6),
+            Event::Return,
+            Event::Return,
+        ],
+        &[
             (-2, 3),
             (-1, 1),
             (1, 2),
@@ -50,31 +49,38 @@ fn arcs_of_events(rt: HostRuntime) -> Result<(), Fail> {
             (3, 4),
             (4, 6),
             (6, -2),
-            (7, -1)
-        ]
-        .as_slice()
-    );
-    let handler = [
-        call(0),
-        Event::Line(2),
-        Event::Throw(ExcKind::ZeroDivisionError),
-        Event::Line(3),
-        Event::Return,
-    ];
-    assert_eq!(rt;
-        arcs_after(alloc, &handler)?.as_slice(),
-        [(-1, 2), (2, 3), (3, -1)].as_slice()
-    );
-    let cut_loop = [
-        Event::Return,
-        call(0),
-        Event::Line(1),
-        Event::Line(2),
-        Event::Line(1),
-    ];
-    assert_eq!(rt;
-        arcs_after(alloc, &cut_loop)?.as_slice(),
-        [(-1, 1), (1, 2), (2, 1)].as_slice()
-    );
+            (7, -1),
+        ],
+    ),
+    (
+        "An exception and its handler",
+        &[
+            BODY,
+            Event::Line(2),
+            Event::Throw(ExcKind::ZeroDivisionError),
+            Event::Line(3),
+            Event::Return,
+        ],
+        &[(-1, 2), (2, 3), (3, -1)],
+    ),
+    (
+        "A loop that is cut",
+        &[
+            Event::Return,
+            BODY,
+            Event::Line(1),
+            Event::Line(2),
+            Event::Line(1),
+        ],
+        &[(-1, 1), (1, 2), (2, 1)],
+    ),
+];
+
+#[test]
+fn arcs_of_events(rt: HostRuntime) -> Result<(), Fail> {
+    let alloc = rt.alloc();
+    for (title, events, wanted) in &TOLD {
+        assert_eq!(rt; arcs_after(alloc, *events)?.as_slice(), *wanted, "{title}");
+    }
     Ok(())
 }

@@ -5,6 +5,7 @@ use cov_analysis::{Analysis, Numbers, total};
 use std::alloc::Global;
 use std::test::Fail;
 
+/// The most statements, or branches, of a file.
 const MOST: u64 = 72_057_594_037_927_935;
 
 fn numbers(statements: u64, missing: u64, branches: u64, missing_branches: u64) -> Numbers
@@ -31,32 +32,35 @@ fn percent(covered: u64, all: u64) -> u32 {
     numbers(all, all - covered, 0, 0).percent()
 }
 
+/// So many covered statements of all, and the percentage.
+static PERCENTAGES: [(&str, u64, u64, u32); 21] = [
+    ("nothing of nothing", 0, 0, 100),
+    ("none of one", 0, 1, 0),
+    ("one of one", 1, 1, 100),
+    ("a half", 1, 2, 50),
+    ("a third", 1, 3, 33),
+    ("two thirds", 2, 3, 67),
+    ("12.5, to the even number below", 1, 8, 12),
+    ("37.5, to the even number above", 3, 8, 38),
+    ("62.5, to the even number below", 5, 8, 62),
+    ("0.5, which isn't 0", 1, 200, 1),
+    ("1.5, to the even number above", 3, 200, 2),
+    ("2.5, to the even number below", 5, 200, 2),
+    ("3.5, to the even number above", 7, 200, 4),
+    ("less than 0.5, which isn't 0", 1, 201, 1),
+    ("0.4, which isn't 0", 1, 250, 1),
+    ("one of the most", 1, MOST, 1),
+    ("99.6, which isn't 100", 249, 250, 99),
+    ("99.5, which isn't 100", 199, 200, 99),
+    ("98.5, to the even number below", 197, 200, 98),
+    ("all but one of the most", MOST - 1, MOST, 99),
+    ("all of the most", MOST, MOST, 100),
+];
+
 #[test]
 fn percentages(rt: HostRuntime) -> Result<(), Fail> {
-    for (covered, all, answer) in [
-        (0, 0, 100),
-        (0, 1, 0),
-        (1, 1, 100),
-        (1, 2, 50),
-        (1, 3, 33),
-        (2, 3, 67),
-        (1, 8, 12),
-        (3, 8, 38),
-        (5, 8, 62),
-        (1, 200, 1),
-        (3, 200, 2),
-        (5, 200, 2),
-        (7, 200, 4),
-        (1, 201, 1),
-        (1, 250, 1),
-        (1, 72_057_594_037_927_935, 1),
-        (249, 250, 99),
-        (199, 200, 99),
-        (197, 200, 98),
-        (72_057_594_037_927_934, 72_057_594_037_927_935, 99),
-        (72_057_594_037_927_935, 72_057_594_037_927_935, 100),
-    ] {
-        assert_eq!(rt; percent(covered, all), answer, "{covered} of {all}");
+    for (title, covered, all, answer) in &PERCENTAGES {
+        assert_eq!(rt; percent(*covered, *all), *answer, "{title}");
     }
     Ok(())
 }

@@ -38,52 +38,72 @@ fn nested_suites(alloc: Global, suites: usize) -> Result<Vec<u8>, AllocError> {
     Ok(source)
 }
 
+/// So many pairs of parentheses, the status, and what is told.
+static PARENTHESES: [(&str, usize, u8, &str); 3] = [
+    ("As many as there may be", 199, 0, ""),
+    (
+        "One too many",
+        200,
+        1,
+        "coverage: limit Expressions passed: 201\n",
+    ),
+    (
+        "Far too many",
+        500_000,
+        1,
+        "coverage: limit Expressions passed: 201\n",
+    ),
+];
+
+/// The same of suites.
+static SUITES: [(&str, usize, u8, &str); 2] = [
+    ("As many as there may be", 64, 0, ""),
+    ("One too many", 65, 1, "coverage: limit Suites passed: 65\n"),
+];
+
 #[test]
 fn depth_has_limits(rt: HostRuntime) -> Result<(), Fail> {
     let alloc = rt.alloc();
-    for (source, status, wanted) in [
-        (nested_zero(alloc, 199)?, 0, ""),
-        (
-            nested_zero(alloc, 200)?,
-            1,
-            "coverage: limit Expressions passed: 201\n",
-        ),
-        (
-            nested_zero(alloc, 500_000)?,
-            1,
-            "coverage: limit Expressions passed: 201\n",
-        ),
-        (nested_suites(alloc, 64)?, 0, ""),
-        (
-            nested_suites(alloc, 65)?,
-            1,
-            "coverage: limit Suites passed: 65\n",
-        ),
-    ] {
-        let found = answer_to_bytes(alloc, "arcs s.py", source)?;
-        assert_eq!(&rt; found.status, status);
-        assert_eq!(&rt; found.err.as_str(), wanted);
+    for (title, pairs, status, wanted) in &PARENTHESES {
+        let found = answer_to_bytes(alloc, "arcs s.py", nested_zero(alloc, *pairs)?)?;
+        assert_eq!(&rt; found.status, *status, "{title}");
+        assert_eq!(&rt; found.err.as_str(), *wanted, "{title}");
+    }
+    for (title, suites, status, wanted) in &SUITES {
+        let found = answer_to_bytes(alloc, "arcs s.py", nested_suites(alloc, *suites)?)?;
+        assert_eq!(&rt; found.status, *status, "{title}");
+        assert_eq!(&rt; found.err.as_str(), *wanted, "{title}");
     }
     Ok(())
 }
 
+/// A file of this byte so many times, the status, and what is told.
+static SIZES: [(&str, u8, usize, u8, &str); 4] = [
+    ("As many bytes as there may be", b'#', 1_048_576, 0, ""),
+    (
+        "One byte too many",
+        b'#',
+        1_048_577,
+        1,
+        "coverage: limit FileBytes passed: 1048577\n",
+    ),
+    ("As many lines as there may be", b'\n', 65_535, 0, ""),
+    (
+        "One line too many",
+        b'\n',
+        65_536,
+        1,
+        "coverage: limit Lines passed: 65536\n",
+    ),
+];
+
 #[test]
 fn files_and_lines_have_limits(rt: HostRuntime) -> Result<(), Fail> {
     let alloc = rt.alloc();
-    for (byte, count, status, text) in [
-        (b'#', 1_048_576, 0, ""),
-        (
-            b'#',
-            1_048_577,
-            1,
-            "coverage: limit FileBytes passed: 1048577\n",
-        ),
-        (b'\n', 65_535, 0, ""),
-        (b'\n', 65_536, 1, "coverage: limit Lines passed: 65536\n"),
-    ] {
-        let found = answer_to_bytes(alloc, "arcs s.py", vec![in alloc; byte; count]?)?;
-        assert_eq!(&rt; found.status, status);
-        assert_eq!(&rt; found.err.as_str(), text);
+    for (title, byte, count, status, wanted) in &SIZES {
+        let found = answer_to_bytes(alloc, "arcs s.py", vec![in alloc; *byte; *count]?)?;
+        assert_eq!(&rt; found.status, *status, "{title}");
+        assert_eq!(&rt; found.err.as_str(), *wanted, "{title}");
     }
     Ok(())
 }
@@ -129,7 +149,8 @@ fn modules_have_a_limit(rt: HostRuntime) -> Result<(), Fail> {
     Ok(())
 }
 
-/// A script that imports sixteen modules: with it they hold 16,777,216 bytes, and the last one so many more.
+/// A script that imports sixteen modules: with it they hold 16,777,216 bytes, and the last one so
+/// many more.
 fn many_bytes(alloc: Global, more: usize) -> Result<Answer, Fail> {
     let mut script = Vec::new(alloc);
     let mut files = Vec::new(alloc);

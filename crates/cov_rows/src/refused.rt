@@ -5,7 +5,7 @@ use py_machine::Machine;
 use std::test::Fail;
 
 /// Sources, each with the line and the kind of its fault.
-const REFUSED: [(&str, &str, &str); 35] = [
+static REFUSED: [(&str, &str, &str); 35] = [
     ("Indentation", "if 1:\n    x = 1\n  y = 2\n", "3: BadIndent"),
     ("Open bracket", "x = (1", "1: OpenBracket"),
     ("Open string", "x = \"a", "1: OpenString"),
@@ -82,8 +82,8 @@ const REFUSED: [(&str, &str, &str); 35] = [
 #[test]
 fn refused_sources(rt: HostRuntime) -> Result<(), Fail> {
     let alloc = rt.alloc();
-    for (title, source, wanted) in REFUSED {
-        let found = answer_to(alloc, "arcs s.py", &[("s.py", source)], "", NONE)?;
+    for (title, source, wanted) in &REFUSED {
+        let found = answer_to(alloc, "arcs s.py", &[("s.py", *source)], "", NONE)?;
         let wanted = format!(in alloc; "coverage: s.py:{wanted}\n")?;
         assert_eq!(&rt; found.status, 1, "{title}");
         assert_eq!(&rt; found.out.as_str(), "", "{title}");
@@ -105,7 +105,7 @@ fn bytes_that_are_no_text(rt: HostRuntime) -> Result<(), Fail> {
 }
 
 /// Programs of several files, of which one is refused: the first that fails a check.
-const PROGRAMS: [(&str, &[(&str, &str)], &str); 4] = [
+static PROGRAMS: [(&str, &[(&str, &str)], &str); 4] = [
     (
         "A module that isn't well formed",
         &[("s.py", "import m\n"), ("m.py", "x = 1\nreturn x\n")],
@@ -135,9 +135,9 @@ const PROGRAMS: [(&str, &[(&str, &str)], &str); 4] = [
 #[test]
 fn refused_programs(rt: HostRuntime) -> Result<(), Fail> {
     let alloc = rt.alloc();
-    for (title, files, wanted) in PROGRAMS {
+    for (title, files, wanted) in &PROGRAMS {
         let words = format!(in alloc; "arcs {}", files[0].0)?;
-        let found = answer_to(alloc, words.as_str(), files, "", NONE)?;
+        let found = answer_to(alloc, words.as_str(), *files, "", NONE)?;
         let wanted = format!(in alloc; "coverage: {wanted}\n")?;
         assert_eq!(&rt; found.status, 1, "{title}");
         assert_eq!(&rt; found.out.as_str(), "", "{title}");

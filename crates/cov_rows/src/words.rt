@@ -4,7 +4,7 @@ use crate::harness::{NONE, answer_to};
 use std::test::Fail;
 
 /// Words that are refused, and how many of them begin a command.
-const REFUSED: [(&str, &str, &str); 12] = [
+static REFUSED: [(&str, &str, &str); 12] = [
     ("No words", "", "0"),
     ("No such command", "trace s.py", "0"),
     ("No script", "arcs", "1"),
@@ -26,8 +26,8 @@ const REFUSED: [(&str, &str, &str); 12] = [
 #[test]
 fn refused_words(rt: HostRuntime) -> Result<(), Fail> {
     let alloc = rt.alloc();
-    for (title, words, wanted) in REFUSED {
-        let found = answer_to(alloc, words, &[("s.py", "x = 1\n")], "", NONE)?;
+    for (title, words, wanted) in &REFUSED {
+        let found = answer_to(alloc, *words, &[("s.py", "x = 1\n")], "", NONE)?;
         let wanted = format!(in alloc; "coverage: usage: stopped after {wanted} words\n")?;
         assert_eq!(&rt; found.status, 1, "{title}");
         assert_eq!(&rt; found.out.as_str(), "", "{title}");
@@ -48,19 +48,30 @@ s.py 2 -1
 s.py 2 2
 ";
 
-/// Words after the script belong to it, whatever they look like.
+/// Words after the script belong to it, whatever they look like. The words, and those that the
+/// script prints.
+static PASSED_ON: [(&str, &str, &str); 3] = [
+    ("The script alone", "arcs s.py", "s.py\n"),
+    (
+        "Options after the script",
+        "arcs s.py --budget=0 -x",
+        "s.py\n--budget=0\n-x\n",
+    ),
+    (
+        "The command's own word after it",
+        "arcs --budget 9 s.py arcs",
+        "s.py\narcs\n",
+    ),
+];
+
 #[test]
 fn words_of_the_script(rt: HostRuntime) -> Result<(), Fail> {
     let alloc = rt.alloc();
-    for (words, printed) in [
-        ("arcs s.py", "s.py\n"),
-        ("arcs s.py --budget=0 -x", "s.py\n--budget=0\n-x\n"),
-        ("arcs --budget 9 s.py arcs", "s.py\narcs\n"),
-    ] {
-        let found = answer_to(alloc, words, &[("s.py", ARGUMENTS)], "", NONE)?;
+    for (title, words, printed) in &PASSED_ON {
+        let found = answer_to(alloc, *words, &[("s.py", ARGUMENTS)], "", NONE)?;
         let wanted = format!(in alloc; "{printed}{LISTED}")?;
-        assert_eq!(&rt; found.status, 0, "{words}");
-        assert_eq!(&rt; found.out.as_str(), wanted.as_str(), "{words}");
+        assert_eq!(&rt; found.status, 0, "{title}");
+        assert_eq!(&rt; found.out.as_str(), wanted.as_str(), "{title}");
     }
     Ok(())
 }

@@ -2,7 +2,6 @@
 
 use crate::rows::{Files, assert_refused};
 use std::alloc::Global;
-use std::process::Abort;
 use std::test::Fail;
 
 /// The text, so many times.
@@ -93,18 +92,29 @@ fn many_modules(alloc: Global, count: usize, size: usize, sized: usize) -> Resul
     files.load(alloc, "s.py", &[])
 }
 
-fn assert_told(rt: &impl Abort, told: &String, answer: &str) {
-    assert_eq!(rt; told.as_str(), answer);
-}
+/// So many modules of which so many have so many bytes, and the answer.
+static PROGRAMS: [(&str, usize, usize, usize, &str); 2] = [
+    ("A module too many", 256, 0, 0, "Limit(Modules, 257)"),
+    (
+        "Too many bytes in all",
+        16,
+        16,
+        1_048_576,
+        "Limit(TotalBytes, 16777382)",
+    ),
+];
 
 #[test]
 fn limits_of_a_program(rt: HostRuntime) -> Result<(), Fail> {
     let alloc = rt.alloc();
-    let told = many_modules(alloc, 256, 0, 0)?;
-    assert_told(&rt, &told, "Limit(Modules, 257)");
-    let told = many_modules(alloc, 16, 1_048_576, 16)?;
-    assert_told(&rt, &told, "Limit(TotalBytes, 16777382)");
+    for (title, count, sized, size, answer) in &PROGRAMS {
+        let told = many_modules(alloc, *count, *size, *sized)?;
+        assert_eq!(&rt; told.as_str(), *answer, "{title}");
+    }
     let told = many_modules(alloc, 255, 1_048_576, 1)?;
-    assert!(&rt; told.as_str().ends_with("\nm254 m254.py\n"));
+    assert!(&rt;
+        told.as_str().ends_with("\nm254 m254.py\n"),
+        "as many as there may be"
+    );
     Ok(())
 }
