@@ -1,7 +1,7 @@
 -- What reading the bytes of a source comes to: a tree, or the refusal of the first check that
 -- fails (Python Language Reference, 2 and 10).
 --     Reading                                  what it comes to
---     fault_line, most_lines                   lines of a text that can't be read
+--     fault_line                               the line of a text that can't be read
 --     AreShortText, HasTokens, HasTree         what the checks ask
 --     Reads                                    the checks in their order
 --     reading_of                               what an error of the code says
@@ -12,7 +12,7 @@ use Rattle.py_token.specs.declared.error.TokenError.{TokenError}
 use Rattle.py_token.specs.declared.error.TokenError.TheVariants as token_error
 use Rattle.py_token.specs.OnLines.{AreOnLines}
 use Rattle.py_token.specs.Plain.{PToken}
-use Rattle.py_token.specs.Source.{line_count}
+use Rattle.py_token.specs.Source.{line_count, most_lines}
 use Rattle.py_token.specs.Spelling as text
 use Rattle.py_token.specs.Spelling.{StuckAt}
 use Rattle.py_syntax.specs.Tree.{Stmts}
@@ -47,10 +47,6 @@ line_ends (b ∷ bs) = if b == 10 then suc (line_ends bs) else line_ends bs
 -- the line of the first byte that fits no character
 abbrev pub fault_line : List ℕ → ℕ
 fault_line bytes = suc (line_ends (take (utf8_valid_len bytes) bytes))
-
--- the most lines of a source
-abbrev pub most_lines : ℕ
-most_lines = 65535
 
 -- the bytes are a text of at most that many lines
 pub record AreShortText (bytes : List ℕ) : Type 0 where
