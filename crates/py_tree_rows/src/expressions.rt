@@ -68,7 +68,7 @@ fn row(out: &mut Writer, head: &str, exprs: &[Expr], comma: bool) {
     out.put("]");
 }
 
-fn strings(out: &mut Writer, texts: &[Text]) {
+fn plain(out: &mut Writer, texts: &[Text]) {
     for text in texts {
         out.quoted(text.as_str());
     }
@@ -173,7 +173,7 @@ fn show(out: &mut Writer, expr: &Expr) {
     match expr {
         Expr::Name(name) => out.put(name.as_str()),
         Expr::Int(number) => out.number(*number),
-        Expr::Str(texts) => strings(out, texts),
+        Expr::Str(texts) => plain(out, texts),
         Expr::FStr(pieces) => fragments(out, pieces),
         Expr::None => out.put("None"),
         Expr::Bool(is) => out.put(if *is { "true" } else { "false" }),
