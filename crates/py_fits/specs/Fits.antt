@@ -13,10 +13,12 @@ use Rattle.py_code.specs.Units.{Code, Module, unit_at}
 use Rattle.py_fits.specs.Everywhere.{Everywhere}
 use Rattle.py_fits.specs.Making.{defaults_in}
 
+-- there is a unit
 abbrev pub IsUnit : Option Code → Type 0
 IsUnit None = ⊥
 IsUnit (Some u) = Unit {0}
 
+-- a module that a value names lies in the programs; `sys` always does
 abbrev pub IsModule : List Module → ModId → Type 0
 IsModule ms (Loaded m) = m < length ms
 IsModule ms Sys = Unit {0}

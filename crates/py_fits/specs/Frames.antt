@@ -15,6 +15,7 @@ use Rattle.py_fits.specs.Suits.{Environment, Suit, SuitsRaised, WorldSuits}
 abbrev pub Slots : Type 0
 Slots = List (Option PlainValue)
 
+-- the value or exception of a way out suits
 abbrev pub SuitsWay : List Module → Environment → Way → Type 0
 SuitsWay ms e on = Unit {0}
 SuitsWay ms e by_break = Unit {0}
@@ -22,20 +23,24 @@ SuitsWay ms e by_continue = Unit {0}
 SuitsWay ms e (by_return v) = Suit ms e v
 SuitsWay ms e (by_raise raised t) = SuitsRaised ms e raised
 
+-- what an operand holds suits
 abbrev pub SuitsOperand : List Module → Environment → Operand → Type 0
 SuitsOperand ms e (of_value v) = Suit ms e v
 SuitsOperand ms e (of_method m v) = Suit ms e v
 SuitsOperand ms e (of_walk v n i) = Suit ms e v
 SuitsOperand ms e (of_way w) = SuitsWay ms e w
 
+-- each operand suits
 abbrev pub OperandsSuit : List Module → Environment → List Operand → Type 0
 OperandsSuit ms e [] = Unit {0}
 OperandsSuit ms e (x ∷ xs) = SuitsOperand ms e x × OperandsSuit ms e xs
 
+-- the value of a slot suits, if it is set
 abbrev pub SuitsSlot : List Module → Environment → Option PlainValue → Type 0
 SuitsSlot ms e None = Unit {0}
 SuitsSlot ms e (Some v) = Suit ms e v
 
+-- each slot suits
 abbrev pub SlotsSuit : List Module → Environment → Slots → Type 0
 SlotsSuit ms e [] = Unit {0}
 SlotsSuit ms e (s ∷ ss) = SuitsSlot ms e s × SlotsSuit ms e ss
@@ -67,10 +72,12 @@ pub record Waits (ms : List Module) (e : Environment) (f : Frame Slots) : Type 0
   pub inside : f.place < length (places_of ms f.code)
   pub next : made_at ms f.code (suc f.place) ≡ None
 
+-- each of the frames waits for what suits
 abbrev pub AllWait : List Module → Environment → List (Frame Slots) → Type 0
 AllWait ms e [] = Unit {0}
 AllWait ms e (f ∷ fs) = Waits ms e f × AllWait ms e fs
 
+-- A configuration that suits some environment.
 pub record Suited (ms : List Module) (c : Configuration Slots) : Type 0 where
   pub env : Environment
   pub world : WorldSuits ms env c.effects.world
@@ -78,12 +85,14 @@ pub record Suited (ms : List Module) (c : Configuration Slots) : Type 0 where
   pub locals : SlotsSuit ms env c.top.locals
   pub callers : AllWait ms env c.callers
 
+-- the value or exception that ends a run suits
 abbrev pub SuitsEnded : List Module → Environment → Ended → Type 0
 SuitsEnded ms e (gave v) = Suit ms e v
 SuitsEnded ms e (failed raised) = SuitsRaised ms e raised
 SuitsEnded ms e spent = Unit {0}
 SuitsEnded ms e stuck = Unit {0}
 
+-- An end that suits some environment.
 pub record SuitedEnd (ms : List Module) (r : End) : Type 0 where
   pub env : Environment
   pub world : WorldSuits ms env r.effects.world

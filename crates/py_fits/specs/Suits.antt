@@ -28,6 +28,7 @@ AreDefaults e zero (Some a) = ⊥
 AreDefaults e (suc n) None = ⊥
 AreDefaults e (suc n) (Some a) = e.lists a ≡ Some (suc n)
 
+-- a function has a unit, and an address exactly where that has defaults
 abbrev pub SuitsUnit : Environment → Option Code → Option ℕ → Type 0
 SuitsUnit e None a = ⊥
 SuitsUnit e (Some u) a = AreDefaults e u.defaults a
@@ -44,9 +45,11 @@ Suits ms e other = Unit {0}
 abbrev pub Suit : List Module → Environment → PlainValue → Type 0
 Suit ms e v = Throughout (Suits ms e) v
 
+-- each of the values suits
 abbrev pub SuitAll : List Module → Environment → List PlainValue → Type 0
 SuitAll ms e vs = ThroughAll (Suits ms e) vs
 
+-- the argument of an exception suits
 abbrev pub SuitsRaised : List Module → Environment → PlainRaised → Type 0
 SuitsRaised ms e raised = ThroughArgument (Suits ms e) raised.arg
 
@@ -54,13 +57,16 @@ SuitsRaised ms e raised = ThroughArgument (Suits ms e) raised.arg
 abbrev pub NamesSuit : List Module → Environment → Names → Type 0
 NamesSuit ms e ns = SuitAll ms e (values_of_names ns)
 
+-- the globals of each module suit
 abbrev pub GlobalsSuit : List Module → Environment → List Names → Type 0
 GlobalsSuit ms e [] = Unit {0}
 GlobalsSuit ms e (g ∷ gs) = NamesSuit ms e g × GlobalsSuit ms e gs
 
+-- each value in a list or a dict suits
 abbrev pub ObjectSuits : List Module → Environment → PlainObject → Type 0
 ObjectSuits ms e o = SuitAll ms e (values_of_object o)
 
+-- each value in the lists and dicts of a heap suits
 abbrev pub ObjectsSuit : List Module → Environment → PlainHeap → Type 0
 ObjectsSuit ms e [] = Unit {0}
 ObjectsSuit ms e (o ∷ os) = ObjectSuits ms e o × ObjectsSuit ms e os
@@ -78,6 +84,7 @@ pub record PartsSuit (ms : List Module) (e : Environment) (gs : List Names) (h :
   pub heap : HeapSuits ms e h
   pub words : IsOther e a
 
+-- a world suits an environment: its globals, its heap, and the list of its words
 abbrev pub WorldSuits : List Module → Environment → World → Type 0
 WorldSuits ms e w = PartsSuit ms e w.globals w.heap w.words
 
