@@ -67,10 +67,12 @@ pub data Ended : Type 0 where
   spent : Ended
   stuck : Ended
 
+-- how a run ended, with the steps that were left then and what was changed
 pub record End : Type 0 where
   pub how : Ended
   pub steps : ℕ
   pub effects : Effects
 
+-- what follows an instruction: another configuration, or the end
 abbrev pub Next : Type 0 → Type 0
 Next L = Move (Configuration L) End

@@ -1,4 +1,11 @@
--- The table of instructions: what each finds on the operands, what it leaves there, where it goes on, and whether it may raise.
+-- The table of instructions: what each finds on the operands and what it leaves there, where it goes
+-- on, and whether it may raise an exception.
+--     Exit, exit                      a place where an instruction goes on
+--     Footprint                       what an instruction needs, takes and leaves
+--     quiet, risky                    one that goes on at the next place
+--     forked, risky_fork, ways        one that goes on at several
+--     footprint                       each instruction
+--     is_mark                         whether an instruction marks a line
 use Rattle.std.specs.Prelude.{ℕ, suc, ◌+◌, Bool, true, false, List, [], ◌∷◌}
 use Rattle.py_code.specs.declared.instr.Bounds.TheVariants.{Neither, From, To, Both}
 use Rattle.py_code.specs.declared.instr.Instr.{Instr}
@@ -11,6 +18,7 @@ pub record Exit : Type 0 where
   pub to : ℕ
   pub leaves : ℕ
 
+-- the exit to this place with so many operands left
 abbrev pub exit : ℕ → ℕ → Exit
 exit to leaves = record { to = to; leaves = leaves }
 
@@ -35,6 +43,7 @@ risky p takes leaves =
 abbrev pub forked : ℕ → List Exit → Footprint
 forked takes exits = record { needs = takes; takes = takes; exits = exits; raises = false }
 
+-- the same, or raises an exception
 abbrev pub risky_fork : ℕ → List Exit → Footprint
 risky_fork takes exits = record { needs = takes; takes = takes; exits = exits; raises = true }
 

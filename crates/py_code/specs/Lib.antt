@@ -3,6 +3,8 @@ pub mod Configurations
 pub mod Units
 pub mod Loaded
 pub mod Operands
+pub mod Changes
+pub mod Reaching
 pub mod Machine
 pub mod Programs
 pub mod Footprints

@@ -6,6 +6,7 @@ use Rattle.py_code.specs.declared.code.Program.{Program}
 use Rattle.py_code.specs.declared.code.Programs.{Programs}
 use Rattle.py_code.specs.Units.{Module}
 
+-- a program in memory as the module that it is
 abbrev pub module_of : Program → Module
 module_of p = record { name = chars (string_bytes p.name); units = p.code }
 

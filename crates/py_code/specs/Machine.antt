@@ -1,31 +1,29 @@
 -- What a machine does with an instruction, and how it goes on from a configuration.
---     falls, jumps, drops            to the next place, or to another
 --     throw, escapes, leave          exceptions, to their handlers and out of frames
---     give, enter                    frames end and begin
---     reach                          what a call leads to
---     act, move, go_on               an instruction, and all that follow
-use Rattle.std.specs.Prelude.{ℕ, zero, suc, ◌+◌, ◌-◌, ◌==◌, nat_le, nat_lt, Bool, true, false, ◌&&◌, if◌then◌else◌, List, [], ◌∷◌, ◌++◌, length, map, take, drop, remove, reverse, Option, Some, None, Result, Ok, Err, slice_get, codes}
+--     answers .. chooses             what follows an answer
+--     give, enter, calls             frames end and begin
+--     links .. resumes               what some instructions have in common
+--     act, move                      an instruction
+--     rank, machine, follows         all that follows
+--     outermost, outer_call          a frame or a call that nothing waits for
+use Rattle.std.specs.Prelude.{ℕ, zero, suc, ◌+◌, ◌-◌, nat_lt, Bool, true, false, ◌&&◌, if◌then◌else◌, List, [], ◌∷◌, ◌++◌, length, map, take, drop, remove, Option, Some, None, Result, Ok, Err, slice_get, codes}
 use Rattle.cov_event.specs.declared.event.CodeId.{CodeId}
-use Rattle.cov_event.specs.declared.event.Event.{Event}
-use Rattle.cov_event.specs.declared.event.Event.TheVariants.{Call as Called, Line, Throw, Return as Returned}
-use Rattle.py_value.specs.declared.cause.Cause.TheVariants.{NotCallable, WrongArgumentCount, NotException, TooDeep}
+use Rattle.cov_event.specs.declared.event.Event.TheVariants.{Line, Throw, Return as Returned}
+use Rattle.py_value.specs.declared.cause.Cause.TheVariants.{NotException, TooDeep}
 use Rattle.py_value.specs.declared.exception.ExcKind.TheVariants.{AssertionError}
-use Rattle.py_value.specs.declared.value.FuncId.{FuncId}
-use Rattle.py_value.specs.declared.value.ModId.TheVariants.{Loaded, Sys}
 use Rattle.py_value.specs.Causes.{raised_by}
 use Rattle.py_value.specs.Keys.{is_same_text}
 use Rattle.py_value.specs.Operators.{binary_of, in_place_of, index_of, truth_of}
 use Rattle.py_value.specs.Plain.{PlainValue, none_value, bool_value, int_value, str_value, tuple_value, list_at, dict_at, func_value, module_value, kind_value, exc_value, builtin_value, no_argument, PlainHeap, PlainRaised}
 use Rattle.py_builtins.specs.Arguments.{Answer}
 use Rattle.py_builtins.specs.Attributes.{or_raise, attribute}
-use Rattle.py_builtins.specs.Builtins.{Done, builtin_of, exception_of}
 use Rattle.py_builtins.specs.Catching.{catches, assertion_error}
 use Rattle.py_builtins.specs.Items.{unpacked, walk_length, item_of, sequence_items, of_length}
 use Rattle.py_builtins.specs.Making.{extended, new_tuple, new_dict, stored, sliced}
-use Rattle.py_builtins.specs.Methods.{new_list, method_of}
-use Rattle.py_builtins.specs.Parameters.{most_frames, arguments, defaults_at, address_of}
+use Rattle.py_builtins.specs.Methods.{new_list}
+use Rattle.py_builtins.specs.Parameters.{most_frames, address_of}
 use Rattle.py_builtins.specs.Texts.{str_text}
-use Rattle.py_builtins.specs.World.{World, with_heap, with_global, without_global, global_of, with_begun, without_begun, is_begun, first_names}
+use Rattle.py_builtins.specs.World.{with_global, without_global, global_of, is_begun}
 use Rattle.py_code.specs.declared.instr.Bounds.TheVariants.{Neither, From, To, Both}
 use Rattle.py_code.specs.declared.instr.Instr.{Instr}
 use Rattle.py_code.specs.declared.instr.Instr.TheVariants.{Constant, Pop, Copy, Sink, Roll, LoadLocal, StoreLocal, UnsetLocal, LoadGlobal, StoreGlobal, UnsetGlobal, Text, Extend, Tuple, List as MakeList, Dict, AddPair, Not, Binary, InPlace, Compare, Index, Slice, Attribute, StoreIndex, Unpack}
@@ -36,173 +34,11 @@ use Rattle.py_code.specs.Configurations.{Way, on, by_break, by_continue, by_retu
 use Rattle.py_code.specs.Run.{Goes, Ticks, Ends, Machine, go}
 use Rattle.py_code.specs.Units.{Code, Module, unit_at, places_of, constant_value, handler_at, imported_number}
 use Rattle.py_value.specs.Compared.{compared}
-use Rattle.py_builtins.specs.Callees.{Callee, a_value, a_method, callee_of, taken, or_builtin}
+use Rattle.py_builtins.specs.Callees.{callee_of, taken, or_builtin}
 use Rattle.py_builtins.specs.Faults.{local_unset, no_module}
 use Rattle.py_code.specs.Operands.{value_in, callee_in, operand_of, walk_in, way_in, exception_in, text_in, asked}
-
--- ---- effects
-
-abbrev pub told : Event → Effects → Effects
-told event e = record e { events = e.events ++ event ∷ [] }
-
-abbrev pub in_world : (World → World) → Effects → Effects
-in_world f e = record e { world = f e.world }
-
--- a line begins, unless it is kept
-abbrev pub told_line : ℕ → ℕ → Effects → Effects
-told_line kept l e = if l == kept then e else told (Line l) e
-
-abbrev pub name_at : Option Module → List ℕ
-name_at None = []
-name_at (Some m) = m.name
-
--- the body of a module begins it, and a function none
-abbrev pub begun_by : List Module → CodeId → ℕ → World → World
-begun_by ms code zero w =
-    with_begun code.module (first_names (name_at (slice_get ms code.module))) w
-begun_by ms code (suc k) w = w
-
--- a module whose body raised counts as not begun
-abbrev pub failed_by : CodeId → ℕ → World → World
-failed_by code zero w = without_begun code.module w
-failed_by code (suc k) w = w
-
-abbrev pub entered : List Module → CodeId → Effects → Effects
-entered ms code e = told (Called code) (in_world (begun_by ms code code.unit) e)
-
-abbrev pub escaped : CodeId → Effects → Effects
-escaped code e = told Returned (in_world (failed_by code code.unit) e)
-
--- ---- configurations
-
-abbrev pub with_operands : {L : Type 0} → List Operand → Configuration L → Configuration L
-with_operands xs c = record c { top = record c.top { operands = xs } }
-
-abbrev pub with_locals : {L : Type 0} → L → Configuration L → Configuration L
-with_locals l c = record c { top = record c.top { locals = l } }
-
-abbrev pub with_effects : {L : Type 0} → Effects → Configuration L → Configuration L
-with_effects e c = record c { effects = e }
-
-abbrev pub on_world : {L : Type 0} → (World → World) → Configuration L → Configuration L
-on_world f c = with_effects (in_world f c.effects) c
-
-abbrev pub on_heap : {L : Type 0} → PlainHeap → Configuration L → Configuration L
-on_heap h c = on_world (with_heap h) c
-
-abbrev pub heap_of : {L : Type 0} → Configuration L → PlainHeap
-heap_of c = c.effects.world.heap
-
-abbrev pub halted : {L : Type 0} → Ended → Configuration L → Next L
-halted how c = Ends (record { how = how; steps = c.steps; effects = c.effects })
-
--- goes to a place, with these operands
-abbrev pub jumps : {L : Type 0} → ℕ → List Operand → Configuration L → Next L
-jumps to xs c = Goes (record c { top = record c.top { place = to; operands = xs } })
-
-abbrev pub falls : {L : Type 0} → List Operand → Configuration L → Next L
-falls xs c = jumps (suc c.top.place) xs c
-
-abbrev pub pushes : {L : Type 0} → PlainValue → List Operand → Configuration L → Next L
-pushes v xs c = falls (of_value v ∷ xs) c
-
--- takes so many operands away
-abbrev pub dropping : {L : Type 0} → ℕ → List Operand → Configuration L
-    → (List Operand → Next L) → Next L
-dropping n xs c k = if nat_le n (length xs) then k (drop n xs) else halted stuck c
-
--- ---- what an instruction finds
-
-abbrev pub one : {L : Type 0} → List Operand → Configuration L
-    → (Operand → List Operand → Next L) → Next L
-one [] c k = halted stuck c
-one (x ∷ xs) c k = k x xs
-
--- the lower operand first
-abbrev pub two : {L : Type 0} → List Operand → Configuration L
-    → (Operand → Operand → List Operand → Next L) → Next L
-two xs c k = one xs c (λ y ys. one ys c (λ x zs. k x y zs))
-
-abbrev pub three : {L : Type 0} → List Operand → Configuration L
-    → (Operand → Operand → Operand → List Operand → Next L) → Next L
-three xs c k = one xs c (λ z ys. two ys c (λ x y zs. k x y z zs))
-
--- so many values, the lowest first
-abbrev pub many : {L : Type 0} → ℕ → List Operand → Configuration L
-    → (List PlainValue → List Operand → Next L) → Next L
-many n xs c k = dropping n xs c (λ ys. k (map value_in (reverse (take n xs))) ys)
-
--- what stands at a number of a list
-abbrev pub where_found : {L A : Type 0} → Option A → Configuration L → (A → Next L) → Next L
-where_found None c k = halted stuck c
-where_found (Some x) c k = k x
-
-abbrev pub numbered : {L A : Type 0} → List A → ℕ → Configuration L → (A → Next L) → Next L
-numbered xs n c k = where_found (slice_get xs n) c k
-
--- a step is taken
-abbrev pub stepping : {L : Type 0} → ℕ → Configuration L → (ℕ → Next L) → Next L
-stepping zero c k = halted spent c
-stepping (suc n) c k = k n
-
--- ---- what calls lead to: an answer at once, or a frame
-
-pub data Reach : Type 0 where
-  at_once : (r : Result PlainValue PlainRaised) (e : Effects) → Reach
-  in_frame : (code : CodeId) (vs : List PlainValue) → Reach
-
-abbrev pub code_of : FuncId → CodeId
-code_of f = record { «module» = f.module; unit = f.unit }
-
-abbrev pub raises_at_once : PlainRaised → Effects → Reach
-raises_at_once raised e = at_once (Err raised) e
-
-abbrev pub with_arguments : FuncId → Option (List PlainValue) → Effects → Reach
-with_arguments f None e = raises_at_once (raised_by WrongArgumentCount) e
-with_arguments f (Some vs) e = in_frame (code_of f) vs
-
--- a function that no module has can't be called
-abbrev pub to_function : Option Code → FuncId → Option ℕ → List PlainValue → Effects → Reach
-to_function None f a vs e = raises_at_once (raised_by NotCallable) e
-to_function (Some u) f a vs e =
-    with_arguments f (arguments u.params (defaults_at e.world.heap a) vs) e
-
-abbrev pub by_answer : Answer → Effects → Reach
-by_answer (Ok r) e = at_once (Ok r.0) (in_world (with_heap r.1) e)
-by_answer (Err raised) e = raises_at_once raised e
-
--- what a built-in function writes and reads, and then its answer
-abbrev pub by_done : Done → Effects → Reach
-by_done d e = by_answer d.answer (record e { input = d.left; out = e.out ++ d.written })
-
-abbrev pub reach : List Module → PlainValue → List PlainValue → Effects → Reach
-reach ms none_value vs e = raises_at_once (raised_by NotCallable) e
-reach ms (bool_value b) vs e = raises_at_once (raised_by NotCallable) e
-reach ms (int_value n) vs e = raises_at_once (raised_by NotCallable) e
-reach ms (str_value s) vs e = raises_at_once (raised_by NotCallable) e
-reach ms (tuple_value items) vs e = raises_at_once (raised_by NotCallable) e
-reach ms (list_at a) vs e = raises_at_once (raised_by NotCallable) e
-reach ms (dict_at a) vs e = raises_at_once (raised_by NotCallable) e
-reach ms (func_value f a) vs e = to_function (unit_at ms (code_of f)) f a vs e
-reach ms (module_value m) vs e = raises_at_once (raised_by NotCallable) e
-reach ms (kind_value kind) vs e = at_once (exception_of kind vs) e
-reach ms (exc_value kind arg) vs e = raises_at_once (raised_by NotCallable) e
-reach ms (builtin_value which) vs e = by_done (builtin_of which vs e.world.heap e.input) e
-
-abbrev pub reach_callee : List Module → Callee → List PlainValue → Effects → Reach
-reach_callee ms (a_value v) vs e = reach ms v vs e
-reach_callee ms (a_method m v) vs e = by_answer (method_of m v vs e.world.heap) e
-
--- ---- the module that an import names
-
-abbrev pub module_of : List ℕ → Option ℕ → Result PlainValue PlainRaised
-module_of x None = Err (no_module x)
-module_of x (Some m) = Ok (module_value (Loaded m))
-
-abbrev pub imported : List Module → List ℕ → Result PlainValue PlainRaised
-imported ms x =
-    if is_same_text x (codes "sys") then Ok (module_value Sys) else module_of x
-    (imported_number ms x)
+pub use Rattle.py_code.specs.Changes.{told, in_world, told_line, name_at, begun_by, failed_by, entered, escaped, with_operands, with_locals, with_effects, on_world, on_heap, heap_of, halted, jumps, falls, pushes, dropping, one, two, three, many, where_found, numbered, stepping}
+pub use Rattle.py_code.specs.Reaching.{Reach, code_of, raises_at_once, with_arguments, to_function, by_answer, by_done, reach, reach_callee, module_of, imported, at_once, in_frame}
 
 module _ {L : Type 0} (locals : Locals L) (ms : List Module) where
   -- ---- exceptions
@@ -228,22 +64,27 @@ module _ {L : Type 0} (locals : Locals L) (ms : List Module) where
       land (handler_at ms c.top.code c.top.place)
       (leave e c.top.code c.callers c.steps c.effects) e t c
 
+  -- an exception is thrown in the top frame, which is told
   abbrev pub throw : PlainRaised → Configuration L → Next L
   throw e c = escapes e true (with_effects (told (Throw e.kind) c.effects) c)
 
   -- ---- answers
 
+  -- what follows an answer, or its exception is thrown
   abbrev pub answers : {A : Type 0} → Result A PlainRaised → List Operand → Configuration L
       → (A → Next L) → Next L
   answers (Ok a) xs c k = k a
   answers (Err e) xs c k = throw e (with_operands xs c)
 
+  -- the value of an answer is put on top
   abbrev pub pushes_answer : Result PlainValue PlainRaised → List Operand → Configuration L → Next L
   pushes_answer r xs c = answers r xs c (λ v. pushes v xs c)
 
+  -- the text of an answer is put on top
   abbrev pub pushes_text : Result (List ℕ) PlainRaised → List Operand → Configuration L → Next L
   pushes_text r xs c = answers r xs c (λ x. pushes (str_value x) xs c)
 
+  -- the truth value of an answer is put on top
   abbrev pub pushes_truth : Result Bool PlainRaised → List Operand → Configuration L → Next L
   pushes_truth r xs c = answers r xs c (λ b. pushes (bool_value b) xs c)
 
@@ -251,6 +92,7 @@ module _ {L : Type 0} (locals : Locals L) (ms : List Module) where
   abbrev pub makes : Answer → List Operand → Configuration L → Next L
   makes r xs c = answers r xs c (λ p. pushes p.0 xs (on_heap p.1 c))
 
+  -- nothing but another heap
   abbrev pub stores : Result (Unit {0} × PlainHeap) PlainRaised → List Operand → List Operand
       → Configuration L → Next L
   stores r xs ys c = answers r xs c (λ p. falls ys (on_heap p.1 c))
@@ -271,6 +113,7 @@ module _ {L : Type 0} (locals : Locals L) (ms : List Module) where
     effects = told Returned w;
   })
 
+  -- a frame at its begin, with the values of its parameters
   abbrev pub new_frame : CodeId → List PlainValue → ℕ → Frame L
   new_frame code vs depth =
       record {
@@ -283,6 +126,7 @@ module _ {L : Type 0} (locals : Locals L) (ms : List Module) where
             depth;
       }
 
+  -- a frame begins above that of its caller
   abbrev pub begins : CodeId → List PlainValue → Frame L → Configuration L → ℕ → Next L
   begins code vs caller c n = Ticks (record {
     top = new_frame code vs (suc c.top.depth);
@@ -298,6 +142,7 @@ module _ {L : Type 0} (locals : Locals L) (ms : List Module) where
       (λ n. begins code vs (record c.top { operands = xs }) c n) else throw (raised_by TooDeep)
       (with_operands xs c)
 
+  -- what a call leads to is done
   abbrev pub calls : Reach → List Operand → Configuration L → Next L
   calls (at_once r e) xs c = pushes_answer r xs (with_effects e c)
   calls (in_frame code vs) xs c = enter code vs xs c
@@ -309,6 +154,7 @@ module _ {L : Type 0} (locals : Locals L) (ms : List Module) where
       if is_begun m c.effects.world then pushes none_value c.top.operands c else enter
       (record { «module» = m; unit = 0 }) [] c.top.operands c
 
+  -- the body of the module of a name runs, unless that is begun; `sys` has none
   abbrev pub imports : List ℕ → Configuration L → Next L
   imports x c =
       if is_same_text x (codes "sys") then pushes none_value c.top.operands c else runs_module x
@@ -316,13 +162,16 @@ module _ {L : Type 0} (locals : Locals L) (ms : List Module) where
 
   -- ---- forms
 
+  -- a chain of comparisons goes on with its right operand, or ends as false
   abbrev pub links : Bool → Operand → ℕ → List Operand → Configuration L → Next L
   links true w to xs c = falls (w ∷ xs) c
   links false w to xs c = jumps to (of_value (bool_value false) ∷ xs) c
 
+  -- values are put on top, the first one topmost
   abbrev pub spreads : List PlainValue → List Operand → Configuration L → Next L
   spreads vs xs c = falls (map of_value vs ++ xs) c
 
+  -- the items that a pattern found are put on top, or the next case is tried
   abbrev pub looks_in : Option (List PlainValue) → ℕ → ℕ → List Operand → Configuration L → Next L
   looks_in None n to xs c = dropping n xs c (λ ys. jumps to ys c)
   looks_in (Some vs) n to xs c = spreads vs xs c
@@ -333,6 +182,7 @@ module _ {L : Type 0} (locals : Locals L) (ms : List Module) where
   turns None v n i to xs c = jumps to xs c
   turns (Some x) v n i to xs c = falls (of_value x ∷ of_walk v n (suc i) ∷ xs) c
 
+  -- the next turn of a walk
   abbrev pub walks : PlainValue × ℕ × ℕ → ℕ → List Operand → Configuration L → Next L
   walks w to xs c =
       answers (item_of w.0 w.1 w.2 (heap_of c)) xs c (λ x. turns x w.0 w.1 w.2 to xs c)
@@ -380,6 +230,7 @@ module _ {L : Type 0} (locals : Locals L) (ms : List Module) where
 
   -- ---- instructions, of a unit, on these operands
 
+  -- what an instruction of a unit does on these operands
   abbrev pub act : Code → Instr → List Operand → Configuration L → Next L
   act u (Constant n) xs c = numbered u.constants n c (λ k. pushes (constant_value k) xs c)
   act u Pop xs c = one xs c (λ x ys. falls ys c)
@@ -504,10 +355,12 @@ module _ {L : Type 0} (locals : Locals L) (ms : List Module) where
   act u Settle xs c = one xs c (λ w ys. resumes true (way_in w) ys c)
   act u Release xs c = one xs c (λ w ys. resumes false (way_in w) ys c)
 
+  -- the instruction of a place, if there is one
   abbrev pub acts : Code → Option Instr → Configuration L → Next L
   acts u None c = halted stuck c
   acts u (Some i) c = act u i c.top.operands c
 
+  -- the instruction at the present place of a unit, if there is one
   abbrev pub move_in : Option Code → Configuration L → Next L
   move_in None c = halted stuck c
   move_in (Some u) c = acts u (slice_get u.instrs c.top.place) c
@@ -518,13 +371,16 @@ module _ {L : Type 0} (locals : Locals L) (ms : List Module) where
 
   -- ---- how far it is to the end, but for steps
 
+  -- how many places the waiting frames have, and one more for each
   abbrev pub callers_rank : List (Frame L) → ℕ
   callers_rank [] = 0
   callers_rank (f ∷ fs) = suc (length (places_of ms f.code)) + callers_rank fs
 
+  -- the same with the places that are left in the top frame
   abbrev pub rank : Configuration L → ℕ
   rank c = suc (length (places_of ms c.top.code) - c.top.place) + callers_rank c.callers
 
+  -- the machine: its moves, how far it is from its end, and how it ends where no move is left
   abbrev pub machine : Machine (Configuration L) End
   machine = record {
     move = move;
@@ -547,6 +403,7 @@ module _ {L : Type 0} (locals : Locals L) (ms : List Module) where
       Ticks
       (record { top = new_frame code vs 1; callers = []; steps = n; effects = entered ms code e })
 
+  -- an answer as the end of a run
   abbrev pub ended_by : Result PlainValue PlainRaised → Ended
   ended_by (Ok v) = gave v
   ended_by (Err e) = failed e

@@ -33,6 +33,7 @@ outcome_by h (failed e) = outcome_of h (Err e)
 outcome_by h spent = outcomes.cut
 outcome_by h stuck = outcomes.cut
 
+-- a run within a budget, by its end
 abbrev pub run_by : ℕ → End → Run
 run_by budget r = record {
   outcome = outcome_by r.effects.world.heap r.how;
@@ -43,6 +44,7 @@ run_by budget r = record {
   world = r.effects.world;
 }
 
+-- no global of a module is set
 abbrev pub no_names : Module → Names
 no_names m = []
 
@@ -71,6 +73,7 @@ pub record Request : Type 0 where
   pub name : List ℕ
   pub values : List PlainValue
 
+-- what became of a call, its output, the input left, its steps and events, and the world after it
 pub record Reply : Type 0 where
   pub returned : Returned
   pub out : List ℕ
@@ -79,12 +82,14 @@ pub record Reply : Type 0 where
   pub events : List Event
   pub world : World
 
+-- what became of a call, by its end
 abbrev pub returned_by : PlainHeap → Ended → Returned
 returned_by h (gave v) = returned_of h (Ok v)
 returned_by h (failed e) = returned_of h (Err e)
 returned_by h spent = returns.cut
 returned_by h stuck = returns.cut
 
+-- a call within a budget, by its end
 abbrev pub reply_by : ℕ → End → Reply
 reply_by budget r = record {
   returned = returned_by r.effects.world.heap r.how;
@@ -95,6 +100,7 @@ reply_by budget r = record {
   world = r.effects.world;
 }
 
+-- a call of what a global holds, if it is set
 abbrev pub reach_global : List Module → Result PlainValue PlainRaised → List PlainValue
     → Effects → Reach
 reach_global ms (Ok f) vs e = reach ms f vs e
@@ -106,6 +112,7 @@ module _ {L : Type 0} (locals : Locals L) (ms : List Module) where
   end_of_run w input budget =
       follows locals ms (outermost locals ms script [] budget (at_rest w input))
 
+  -- a run of the script on a world, with an input and a budget of steps
   unfoldable pub run : World → (input : List ℕ) → (budget : ℕ) → Run
   run w input budget = run_by budget (end_of_run w input budget)
 
@@ -119,5 +126,6 @@ module _ {L : Type 0} (locals : Locals L) (ms : List Module) where
       (or_raise (name_unknown r.name)
       (global_of r.number r.name w)) r.values first) budget first)
 
+  -- a call on a world, with an input and a budget of steps
   unfoldable pub called : World → (input : List ℕ) → Request → (budget : ℕ) → Reply
   called w input r budget = reply_by budget (end_of_call w input r budget)

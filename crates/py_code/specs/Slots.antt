@@ -9,14 +9,17 @@ use Rattle.py_code.specs.Configurations.{Locals}
 use Rattle.py_code.specs.Units.{Code, Module, unit_at}
 use Rattle.py_builtins.specs.Parameters.{parameters}
 
+-- the local names of a unit, if there is one
 abbrev pub locals_in : Option Code → List (List ℕ)
 locals_in None = []
 locals_in (Some u) = u.locals
 
+-- the parameters of a unit, if there is one
 abbrev pub params_in : Option Code → List (List ℕ)
 params_in None = []
 params_in (Some u) = u.params
 
+-- a name, empty where there is none
 abbrev pub name_or_none : Option (List ℕ) → List ℕ
 name_or_none None = []
 name_or_none (Some x) = x
@@ -25,6 +28,7 @@ name_or_none (Some x) = x
 abbrev pub slot_name : List Module → CodeId → ℕ → List ℕ
 slot_name ms code n = name_or_none (slice_get (locals_in (unit_at ms code)) n)
 
+-- local names kept by their names
 abbrev pub by_names : List Module → Locals Names
 by_names ms = record {
   fresh = λ code vs. parameters (params_in (unit_at ms code)) vs;
@@ -33,6 +37,7 @@ by_names ms = record {
   unset = λ code ns n. without_name (slot_name ms code n) ns;
 }
 
+-- the value in a slot, if there is such a slot and it is set
 abbrev pub held : Option (Option PlainValue) → Option PlainValue
 held None = None
 held (Some v) = v
@@ -47,6 +52,7 @@ by_slots ms = record {
   unset = λ code slots n. slice_set slots n None;
 }
 
+-- a name that none of these is
 abbrev pub IsApart : List ℕ → List (List ℕ) → Type 0
 IsApart x [] = Unit {0}
 IsApart x (y ∷ ys) = (x ≡ y → ⊥) × IsApart x ys

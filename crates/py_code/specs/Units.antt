@@ -49,13 +49,16 @@ pub record Module : Type 0 where
   pub name : List ℕ
   pub units : List Code
 
+-- the units of a module, if there is one
 abbrev pub units_of : Option Module → List Code
 units_of None = []
 units_of (Some m) = m.units
 
+-- the unit of a code, if there is one
 abbrev pub unit_at : List Module → CodeId → Option Code
 unit_at ms code = slice_get (units_of (slice_get ms code.module)) code.unit
 
+-- the instructions of a unit, if there is one
 abbrev pub places_in : Option Code → List Instr
 places_in None = []
 places_in (Some u) = u.instrs
@@ -64,6 +67,7 @@ places_in (Some u) = u.instrs
 abbrev pub places_of : List Module → CodeId → List Instr
 places_of ms code = places_in (unit_at ms code)
 
+-- the value of a constant
 abbrev pub constant_value : Constant → PlainValue
 constant_value NoneConstant = none_value
 constant_value (BoolConstant b) = bool_value b
@@ -84,10 +88,12 @@ abbrev pub handler_of : ℕ → List Handler → Option Handler
 handler_of p [] = None
 handler_of p (h ∷ hs) = if guards p h then Some (inner h (handler_of p hs)) else handler_of p hs
 
+-- the handlers of a unit, if there is one
 abbrev pub handlers_in : Option Code → List Handler
 handlers_in None = []
 handlers_in (Some u) = u.handlers
 
+-- the innermost handler of a place of a code, if there is one
 abbrev pub handler_at : List Module → CodeId → ℕ → Option Handler
 handler_at ms code p = handler_of p (handlers_in (unit_at ms code))
 

@@ -77,6 +77,7 @@ HasNumbers u units (Returning n to) = Unit {0}
 HasNumbers u units Settle = Unit {0}
 HasNumbers u units Release = Unit {0}
 
+-- whether an instruction marks a line, if there is one
 abbrev pub marks_at : Option Instr → Bool
 marks_at None = false
 marks_at (Some i) = is_mark i
@@ -86,6 +87,7 @@ pub record Leads (u : Code) (depths : List ℕ) (p to depth : ℕ) : Type 0 wher
   pub stands : slice_get depths to ≡ Some depth
   pub ahead : (p < to) ⊎ (marks_at (slice_get u.instrs to) ≡ true)
 
+-- each of these exits leads to a place where the operands stand that it leaves
 abbrev pub LeadAll : Code → List ℕ → ℕ → ℕ → List Exit → Type 0
 LeadAll u depths p rest [] = Unit {0}
 LeadAll u depths p rest (e ∷ es) =
@@ -97,10 +99,12 @@ pub record Lands (depths : List ℕ) (p rest : ℕ) (h : Handler) : Type 0 where
   pub stands : slice_get depths h.target ≡ Some (suc h.depth)
   pub ahead : p < h.target
 
+-- the same, if there is a handler
 abbrev pub LandsAt : List ℕ → ℕ → ℕ → Option Handler → Type 0
 LandsAt depths p rest None = Unit {0}
 LandsAt depths p rest (Some h) = Lands depths p rest h
 
+-- the same, of an instruction that may raise an exception
 abbrev pub LandsIf : Bool → Code → List ℕ → ℕ → ℕ → Type 0
 LandsIf false u depths p rest = Unit {0}
 LandsIf true u depths p rest = LandsAt depths p rest (handler_of p u.handlers)
@@ -118,6 +122,7 @@ pub record IsHandler (u : Code) (depths : List ℕ) (h : Handler) : Type 0 where
   pub after : h.to ≤ h.target
   pub stands : slice_get depths h.target ≡ Some (suc h.depth)
 
+-- a range lies in another
 abbrev pub IsWithin : Handler → Handler → Type 0
 IsWithin h k = (k.from ≤ h.from) × (h.to ≤ k.to)
 
@@ -125,6 +130,7 @@ IsWithin h k = (k.from ≤ h.from) × (h.to ≤ k.to)
 abbrev pub AreNested : Handler → Handler → Type 0
 AreNested h k = (h.to ≤ k.from) ⊎ ((k.to ≤ h.from) ⊎ (IsWithin h k ⊎ IsWithin k h))
 
+-- Each entry of the handler table is well formed, and any two ranges are nested.
 pub record IsTable (u : Code) (depths : List ℕ) : Type 0 where
   pub each : (n : ℕ) (h : Handler) → slice_get u.handlers n ≡ Some h → IsHandler u depths h
   pub nested : (m n : ℕ) (h k : Handler) → slice_get u.handlers m ≡ Some h
@@ -154,6 +160,7 @@ pub record UnitsAreValid (us : List Code) (depths : ℕ → List ℕ) : Type 0 w
 abbrev pub IsCode : List Code → Type 0
 IsCode us = (depths : ℕ → List ℕ) × UnitsAreValid us depths
 
+-- the units of each module
 abbrev pub AreCodes : List Module → Type 0
 AreCodes [] = Unit {0}
 AreCodes (m ∷ ms) = IsCode m.units × AreCodes ms
