@@ -5,7 +5,6 @@ use Rattle.cov_event.specs.declared.event.Event.{Event}
 use Rattle.cov_event.specs.Moves.{Takes}
 use Rattle.cov_outside.specs.Prefixes.{GainsPrefix}
 use Rattle.cov_outside.proofs.PrefixLemmas.{gains_nothing, loses_nothing}
-use Rattle.py_builtins.specs.Inputs.{Fed, Wrote}
 use Rattle.py_builtins.specs.World.{World}
 use Rattle.py_code.specs.Loaded.{modules_of}
 use Rattle.py_code.specs.Programs as machine
@@ -29,7 +28,7 @@ use Rattle.cov_arcs.specs.Tracing.{Tracing, at_first, IsNext}
 use Rattle.cov_app.specs.declared.running.Kept.{Kept}
 use Rattle.cov_app.specs.Kept.{kept_in, first_lines, RanKept, EndedKept}
 use Rattle.cov_app.specs.Listing.{Arc, beside, arcs_from, module_arcs, listing}
-use Rattle.cov_app.specs.Runs.{AreProgramsOf, shown, Stream, GainedSome, EndsAs, GivesUp}
+use Rattle.cov_app.specs.Runs.{AreProgramsOf, shown, Stream, GainedSome, GivesUp}
 use Rattle.cov_app.proofs.Firsts.{firsts-same, faithful-length}
 
 -- ---- the arcs of all modules
@@ -137,50 +136,3 @@ nothing_yet ms words budget input out same none = record {
   told = λ t. (refl, loses_nothing input.before input.after same);
   holds = λ all rest fed. λ t. gains_nothing out.before out.after (shown ms words budget all).out none;
 }
-
--- ---- after it
-
-module _ (ms : List LoadedModule) (ps : Programs) (words : List Text) (budget : ℕ) (kept : Kept) (input : Stream) (tells : Type 0) (before mid after : List ℕ)
-    (h : EndedKept ms ps words budget kept input.tells input.before input.after (Wrote tells before mid)) where
-  abbrev output : Stream
-  output = record { tells = tells; before = before; after = after }
-
-  pub all_shown : (tells → after ≡ mid ++ listing (kept_in ps kept.arcs)) → EndsAs (plain_outcome kept.outcome) input output (shown ms words budget)
-  all_shown wrote = record {
-    heard = h.heard;
-    input = h.input;
-    rest = h.rest;
-    fed = h.fed;
-    told = h.told;
-    holds = λ all rest fed. let r = h.holds all rest fed in record {
-      outcome = r.outcome;
-      out = λ t. wrote t ∙ ap (λ w. w ++ listing (kept_in ps kept.arcs)) (r.out t) ∙ ap (λ k. (before ++ (run_modules ms words all budget).out) ++ listing k) r.arcs
-          ∙ append_assoc before (run_modules ms words all budget).out (listing (module_arcs ms (run_modules ms words all budget).items));
-      left = r.left;
-    };
-  }
-
-  -- a part of the lines was written
-  part_of : (all rest : List ℕ) → Fed h.heard all rest → (tells → GainsPrefix mid after (listing (kept_in ps kept.arcs))) → tells → GainsPrefix before after (shown ms words budget all).out
-  part_of all rest fed wrote t =
-      let r = h.holds all rest fed in
-      let g = wrote t in
-      let run = run_modules ms words all budget in
-      record {
-        front = run.out ++ g.front;
-        prefix = record {
-          rest = g.prefix.rest;
-          is = ap (λ k. run.out ++ listing k) (sym r.arcs) ∙ ap (λ w. run.out ++ w) g.prefix.is ∙ sym (append_assoc run.out g.front g.prefix.rest);
-        };
-        is = g.is ∙ ap (λ w. w ++ g.front) (r.out t) ∙ append_assoc before run.out g.front;
-      }
-
-  pub some_shown : (tells → GainsPrefix mid after (listing (kept_in ps kept.arcs))) → GivesUp input output (shown ms words budget)
-  some_shown wrote = record {
-    heard = h.heard;
-    input = h.input;
-    rest = h.rest;
-    fed = h.fed;
-    told = λ t. ((h.told t).0, loses_nothing h.rest input.after (sym (h.told t).1));
-    holds = λ all rest fed. part_of all rest fed wrote;
-  }

@@ -48,7 +48,7 @@ line_ends (b ∷ bs) = if b == 10 then suc (line_ends bs) else line_ends bs
 abbrev pub fault_line : List ℕ → ℕ
 fault_line bytes = suc (line_ends (take (utf8_valid_len bytes) bytes))
 
--- the bytes are a text of at most that many lines
+-- the bytes are a text of no more lines than a source may have
 pub record AreShortText (bytes : List ℕ) : Type 0 where
   pub utf8 : IsUtf8 bytes
   pub few : line_count (chars bytes) ≤ most_lines
