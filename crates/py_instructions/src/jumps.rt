@@ -140,9 +140,9 @@ impl State {
             return Ok(Turn::Stuck);
         };
         let value = x.into_value();
-        match sequence_of(alloc, count as usize, &value, &store.heap)? {
+        match sequence_of(count as usize, &value, &store.heap) {
             Some(items) => {
-                self.top.operands.spread(items)?;
+                self.top.operands.spread_copies(alloc, items)?;
                 Ok(self.fall())
             }
             None => {

@@ -1,154 +1,103 @@
 // Names: slots, and globals.
-ghost use Rattle.std.specs.Prelude.{◌≡◌, ◌<◌, List, IfOk};
+ghost use Rattle.std.specs.Prelude.{◌<◌, IfOk};
 ghost use Rattle.py_code.specs.declared.instr.Instr.TheVariants.{LoadLocal, StoreLocal, UnsetLocal, LoadGlobal, StoreGlobal, UnsetGlobal};
-ghost use Rattle.py_code.specs.Units.{Module, plain_unit};
-ghost use Rattle.py_store.specs.declared.store.Store.{Store as Kept};
-ghost use Rattle.py_instructions.specs.View.{Acts};
+ghost use Rattle.py_instructions.specs.View.{ActsIn, ActsAlone};
 
 use crate::frame::State;
 use crate::operand::Operand;
-use crate::turn::Turn;
+use crate::turn::{Acted, Turn};
 use py_code::Unit;
-use py_store::{Store, local_unset, name_unknown, predefined};
-use py_value::NoMemory;
+use py_store::{Store, local_unset, name_unknown};
 use std::alloc::Global;
 
 impl State {
-    pub fn load_local(&mut self, alloc: Global, unit: &Unit, n: u32) -> Result<Turn, NoMemory>
+    pub fn load_local(&mut self, alloc: Global, unit: &Unit, n: u32) -> Acted
         requires { self.old.top.place < usize.MAX }
-        ensures { IfOk result (λ t.
-            (ms : List Module) (s : Kept)
-            → Acts ms (plain_unit unit.now) (LoadLocal n) self.old s self.new s t) }
+        ensures { IfOk result (ActsAlone unit.now (LoadLocal n) self.old self.new) }
     {
-        match unit.locals.get(n as usize) {
-            None => Ok(Turn::Stuck),
-            Some(name) => match self.top.slots.look(n as usize) {
-                None => Ok(Turn::Throws(local_unset(alloc, name)?)),
-                Some(value) => {
-                    let copy = value.copy(alloc)?;
-                    self.top.operands.push(Operand::Value(copy))?;
-                    self.top.place += 1;
-                    Ok(Turn::Goes)
-                }
-            },
+        let Some(name) = unit.locals.get(n as usize) else {
+            return Ok(Turn::Stuck);
+        };
+        match self.top.slots.look(n as usize) {
+            None => Ok(Turn::Throws(local_unset(alloc, name)?)),
+            Some(value) => {
+                let copy = value.copy(alloc)?;
+                self.push(Operand::Value(copy))
+            }
         }
     }
 
     pub fn store_local(&mut self, unit: &Unit, n: u32) -> Turn
         requires { self.old.top.place < usize.MAX }
-        ensures { (ms : List Module) (s : Kept)
-            → Acts ms (plain_unit unit.now) (StoreLocal n) self.old s self.new s result }
+        ensures { ActsAlone unit.now (StoreLocal n) self.old self.new result }
     {
-        match unit.locals.get(n as usize) {
-            None => Turn::Stuck,
-            Some(_) => match self.top.operands.pop() {
-                None => Turn::Stuck,
-                Some(x) => {
-                    let value = x.into_value();
-                    self.top.slots.set(n as usize, value);
-                    self.top.place += 1;
-                    Turn::Goes
-                }
-            },
-        }
+        let Some(_) = unit.locals.get(n as usize) else {
+            return Turn::Stuck;
+        };
+        let Some(x) = self.top.operands.pop() else {
+            return Turn::Stuck;
+        };
+        let value = x.into_value();
+        self.top.slots.set(n as usize, value);
+        self.fall()
     }
 
     pub fn unset_local(&mut self, unit: &Unit, n: u32) -> Turn
         requires { self.old.top.place < usize.MAX }
-        ensures { (ms : List Module) (s : Kept)
-            → Acts ms (plain_unit unit.now) (UnsetLocal n) self.old s self.new s result }
+        ensures { ActsAlone unit.now (UnsetLocal n) self.old self.new result }
     {
-        match unit.locals.get(n as usize) {
-            None => Turn::Stuck,
-            Some(_) => {
-                self.top.slots.unset(n as usize);
-                self.top.place += 1;
-                Turn::Goes
-            }
-        }
+        let Some(_) = unit.locals.get(n as usize) else {
+            return Turn::Stuck;
+        };
+        self.top.slots.unset(n as usize);
+        self.fall()
     }
 
-    pub fn load_global(
-        &mut self,
-        alloc: Global,
-        unit: &Unit,
-        n: u32,
-        store: &Store,
-    ) -> Result<Turn, NoMemory>
+    pub fn load_global(&mut self, alloc: Global, unit: &Unit, n: u32, store: &Store) -> Acted
         requires { self.old.top.place < usize.MAX }
-        ensures { IfOk result (λ t.
-            (ms : List Module)
-            → Acts ms (plain_unit unit.now) (LoadGlobal n) self.old store.now self.new store.now
-            t) }
+        ensures { IfOk result
+            (ActsIn unit.now (LoadGlobal n) self.old store.now self.new store.now) }
     {
-        match unit.names.get(n as usize) {
-            None => Ok(Turn::Stuck),
-            Some(name) => match store.global_at(self.top.code, n, name) {
-                None => match predefined(name) {
-                    None => Ok(Turn::Throws(name_unknown(alloc, name)?)),
-                    Some(value) => {
-                        self.top.operands.push(Operand::Value(value))?;
-                        self.top.place += 1;
-                        Ok(Turn::Goes)
-                    }
-                },
-                Some(value) => {
-                    let copy = value.copy(alloc)?;
-                    self.top.operands.push(Operand::Value(copy))?;
-                    self.top.place += 1;
-                    Ok(Turn::Goes)
-                }
+        let Some(name) = unit.names.get(n as usize) else {
+            return Ok(Turn::Stuck);
+        };
+        match store.global_at(self.top.code, n, name) {
+            Some(value) => {
+                let copy = value.copy(alloc)?;
+                self.push(Operand::Value(copy))
+            }
+            None => match store.predefined_at(self.top.code, n, name) {
+                None => Ok(Turn::Throws(name_unknown(alloc, name)?)),
+                Some(value) => self.push(Operand::Value(value)),
             },
         }
     }
 
-    pub fn store_global(
-        &mut self,
-        alloc: Global,
-        unit: &Unit,
-        n: u32,
-        store: &mut Store,
-    ) -> Result<Turn, NoMemory>
+    pub fn store_global(&mut self, alloc: Global, unit: &Unit, n: u32, store: &mut Store) -> Acted
         requires { self.old.top.place < usize.MAX }
-        ensures { IfOk result (λ t.
-            (ms : List Module)
-            → Acts ms (plain_unit unit.now) (StoreGlobal n) self.old store.old self.new store.new
-            t) }
+        ensures { IfOk result
+            (ActsIn unit.now (StoreGlobal n) self.old store.old self.new store.new) }
     {
-        match unit.names.get(n as usize) {
-            None => Ok(Turn::Stuck),
-            Some(name) => match self.top.operands.pop() {
-                None => Ok(Turn::Stuck),
-                Some(x) => {
-                    let value = x.into_value();
-                    store.set_global(alloc, self.top.code, n, name, value)?;
-                    self.top.place += 1;
-                    Ok(Turn::Goes)
-                }
-            },
-        }
+        let Some(name) = unit.names.get(n as usize) else {
+            return Ok(Turn::Stuck);
+        };
+        let Some(x) = self.top.operands.pop() else {
+            return Ok(Turn::Stuck);
+        };
+        let value = x.into_value();
+        store.set_global(alloc, self.top.code, n, name, value)?;
+        Ok(self.fall())
     }
 
-    pub fn unset_global(
-        &mut self,
-        alloc: Global,
-        unit: &Unit,
-        n: u32,
-        store: &mut Store,
-    ) -> Result<Turn, NoMemory>
+    pub fn unset_global(&mut self, alloc: Global, unit: &Unit, n: u32, store: &mut Store) -> Acted
         requires { self.old.top.place < usize.MAX }
-        ensures { IfOk result (λ t.
-            (ms : List Module)
-            → Acts ms (plain_unit unit.now) (UnsetGlobal n) self.old store.old self.new store.new
-            t) }
+        ensures { IfOk result
+            (ActsIn unit.now (UnsetGlobal n) self.old store.old self.new store.new) }
     {
-        match unit.names.get(n as usize) {
-            None => Ok(Turn::Stuck),
-            Some(name) => {
-                store.unset_global(alloc, self.top.code, n, name)?;
-                self.top.place += 1;
-                Ok(Turn::Goes)
-            }
-        }
+        let Some(name) = unit.names.get(n as usize) else {
+            return Ok(Turn::Stuck);
+        };
+        store.unset_global(alloc, self.top.code, n, name)?;
+        Ok(self.fall())
     }
 }

@@ -106,6 +106,20 @@ impl Stack<Operand> {
         Ok(Some(values))
     }
 
+    /// Puts copies of values on top, the first one topmost.
+    pub fn spread_copies(&mut self, alloc: Global, values: &[Value]) -> Result<(), NoMemory>
+        ensures { OnOk result (plain_operands self.new
+            ≡ map of_value (plains values.now) ++ plain_operands self.old) }
+    {
+        let mut rest = values.len();
+        while rest > 0 {
+            rest -= 1;
+            let copy = values[rest].copy(alloc)?;
+            self.push(Operand::Value(copy))?;
+        }
+        Ok(())
+    }
+
     /// Puts values on top, the first one topmost.
     pub fn spread(&mut self, values: Vec<Value>) -> Result<(), NoMemory>
         ensures { OnOk result (plain_operands self.new

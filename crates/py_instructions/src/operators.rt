@@ -10,7 +10,7 @@ use crate::making::sliced;
 use crate::operand::Operand;
 use crate::turn::{Acted, Turn};
 use py_code::{Bounds, Question, Unit};
-use py_store::{Store, unpacked};
+use py_store::{Store, sequence_of, unpacked};
 use py_value::{BinOp, Value, binary, in_place, index, store as store_value};
 use std::alloc::Global;
 
@@ -121,6 +121,10 @@ impl State {
             return Ok(Turn::Stuck);
         };
         let value = x.into_value();
+        if let Some(items) = sequence_of(n as usize, &value, &store.heap) {
+            self.top.operands.spread_copies(alloc, items)?;
+            return Ok(self.fall());
+        }
         match unpacked(alloc, n as usize, &value, &store.heap)? {
             Ok(items) => {
                 self.top.operands.spread(items)?;

@@ -23,7 +23,7 @@ impl Slots {
             ++ replicate (count - length (plains values.items)) None) }
     {
         let more = count.saturating_sub(values.len());
-        let mut slots = set_slots(alloc, values)?;
+        let mut slots = set_slots(alloc, values, count)?;
         'unset: for _ in 0..more {
             slots.push(None)?;
         }
@@ -58,10 +58,15 @@ impl Slots {
     }
 }
 
-fn set_slots(alloc: Global, values: Vec<Value>) -> Result<Vec<Option<Value>>, NoMemory>
+/// Slots with these values, and room for so many.
+fn set_slots(
+    alloc: Global,
+    values: Vec<Value>,
+    count: usize,
+) -> Result<Vec<Option<Value>>, NoMemory>
     ensures { IfOk result (λ slots. map plain_option slots.items ≡ map Some (plains values.items)) }
 {
-    let mut slots = Vec::with_capacity(alloc, values.len())?;
+    let mut slots = Vec::with_capacity(alloc, count)?;
     let mut rest = values;
     while let Some(value) = rest.pop() {
         slots.push(Some(value))?;

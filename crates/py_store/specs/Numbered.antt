@@ -17,6 +17,7 @@ use Rattle.py_store.specs.Values.{plain_option}
 abbrev pub Named : Type 0
 Named = List ℕ × Option PlainValue
 
+-- names, each at its number
 abbrev pub Numbered : Type 0
 Numbered = List Named
 
@@ -25,6 +26,7 @@ abbrev pub set_then : List ℕ → Option PlainValue → Names → Names
 set_then x None ns = ns
 set_then x (Some v) ns = (x, v) ∷ ns
 
+-- the name of a number before others, if there is one and it is set
 abbrev pub named_then : Option Named → Names → Names
 named_then None ns = ns
 named_then (Some e) ns = set_then e.0 e.1 ns
@@ -44,13 +46,16 @@ abbrev pub times_set : Option PlainValue → ℕ
 times_set None = 0
 times_set (Some v) = 1
 
+-- how often a list has a number: once if it has a name that is set
 abbrev pub times_named : Option Named → ℕ
 times_named None = 0
 times_named (Some e) = times_set e.1
 
+-- the name itself
 abbrev pub name_of : Named → List ℕ
 name_of e = e.0
 
+-- the value of the name of a number, if there is one and it is set
 abbrev pub value_in : Option Named → Option PlainValue
 value_in None = None
 value_in (Some e) = e.1
@@ -77,5 +82,6 @@ HasNoNumber x ys = (n : ℕ) (y : List ℕ) → slice_get ys n ≡ Some y → is
 abbrev pub plain_global : Global → Named
 plain_global g = (g.name, plain_option g.value)
 
+-- the names in memory, by their numbers
 abbrev pub names_in : List Global → List (List ℕ)
 names_in gs = map name_of (map plain_global gs)

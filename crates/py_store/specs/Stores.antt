@@ -10,6 +10,7 @@ use Rattle.py_builtins.specs.World.{World}
 use Rattle.py_store.specs.declared.store.Store.{Store}
 use Rattle.py_store.specs.Globals.{names_of}
 
+-- the world in a store
 abbrev pub world_of : Store → World
 world_of s =
     record {
@@ -20,8 +21,10 @@ world_of s =
           = s.words.place;
     }
 
+-- a word of a program, as its characters
 abbrev pub word : String Global → List ℕ
 word x = chars (string_bytes x)
 
+-- the words of a program, as their characters
 abbrev pub words_of : List (String Global) → List (List ℕ)
 words_of xs = map word xs

@@ -1,17 +1,20 @@
 // The globals of a module.
 ghost use Rattle.std.specs.Prelude.{◌≡◌, ◌<◌, [], List, ℕ, None, Some, length, map, slice_get, IfOk, OnOk, MatchOption};
 ghost use Rattle.py_value.specs.View.{plain};
+ghost use Rattle.py_builtins.specs.Predefined.{predefined};
 ghost use Rattle.py_builtins.specs.World.{value_of, with_name, without_name};
 ghost use Rattle.py_store.specs.Numbered.{HaveOwnNames, AreListed, plain_global, names_in};
 
-use crate::numbering::{copied, is_set, last_place, number_of, unset_again, value_at};
+use crate::known_names::predefined;
+use crate::name::Name;
+use crate::numbering::{copied, is_set, last_place, name_at, number_of, unset_again, value_at};
 use py_value::{NoMemory, Text, Value};
 use std::alloc::Global as Alloc;
 
 /// A name, and its value if it is set.
 #[derive(Drop)]
 pub struct Global {
-    pub name: Text,
+    pub name: Name,
     pub value: Option<Value>,
 }
 
@@ -79,6 +82,17 @@ impl Globals {
         }
     }
 
+    /// The value of what is predefined under a name. The name is looked for at this number first.
+    pub fn predefined(&self, name: &Text, likely: Option<usize>) -> Option<Value>
+        ensures { MatchOption result (value_of name.now predefined ≡ None) (λ v.
+            value_of name.now predefined ≡ Some (plain v)) }
+    {
+        match name_at(&self.items, name, likely) {
+            None => predefined(name),
+            Some(named) => named.predefined(),
+        }
+    }
+
     /// Sets a name: one that is set keeps its place, and a new one goes last. The name is looked for at this number first.
     pub fn set(&mut self, name: &Text, likely: Option<usize>, value: Value) -> Result<(), NoMemory>
         ensures { OnOk result (names_of self.new
@@ -98,7 +112,7 @@ impl Globals {
             return Ok(number);
         }
         let number = self.items.len();
-        let name = name.copy()?;
+        let name = Name::of(name)?;
         self.items.push(Global { name, value: None })?;
         Ok(number)
     }

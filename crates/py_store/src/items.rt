@@ -1,5 +1,5 @@
 // The items of values.
-ghost use Rattle.std.specs.Prelude.{◌≡◌, None, Some, length, IfOk, slice_get, option_map};
+ghost use Rattle.std.specs.Prelude.{◌≡◌, None, Some, Ok, length, IfOk, IfSome, MatchOption, slice_get, option_map};
 ghost use Rattle.std.specs.Str.{chars};
 ghost use Rattle.py_value.specs.Heaps.{dict_keys, dict_pairs};
 ghost use Rattle.py_value.specs.HeapView.{plain_heap};
@@ -59,7 +59,7 @@ fn keys_of(alloc: Global, dict: Addr, heap: &Heap) -> Result<Vec<Value>, NoMemor
     Ok(keys)
 }
 
-/// Exactly so many items of a value.
+/// Exactly so many items of a value. They are copied only where there are so many.
 pub fn unpacked(
     alloc: Global,
     count: usize,
@@ -69,16 +69,15 @@ pub fn unpacked(
     ensures { IfOk result (λ answer.
         plain_list_answer answer ≡ unpacked count (plain value.now) (plain_heap heap.now)) }
 {
+    let Some(found) = count_of(value, heap) else {
+        return Ok(Err(Raised::of(alloc, Cause::NotIterable)?));
+    };
+    if found != count {
+        return Ok(Err(Raised::of(alloc, Cause::WrongValueCount)?));
+    }
     match items_of(alloc, value, heap)? {
         None => Ok(Err(Raised::of(alloc, Cause::NotIterable)?)),
-        Some(items) => {
-            if items.len() == count {
-                Ok(Ok(items))
-            } else {
-                drop(items);
-                Ok(Err(Raised::of(alloc, Cause::WrongValueCount)?))
-            }
-        }
+        Some(items) => Ok(Ok(items)),
     }
 }
 
@@ -162,35 +161,32 @@ fn copy_at(alloc: Global, values: &[Value], place: usize) -> Result<Option<Value
     }
 }
 
-/// The items of a list or tuple of so many.
-pub fn sequence_of(
-    alloc: Global,
-    count: usize,
-    value: &Value,
-    heap: &Heap,
-) -> Result<Option<Vec<Value>>, NoMemory>
-    ensures { IfOk result (λ found.
-        found_items found
-        ≡ of_length count (sequence_items (plain value.now) (plain_heap heap.now))) }
+/// The items of a list or tuple of so many, where they stand.
+pub fn sequence_of<'a>(count: usize, value: &'a Value, heap: &'a Heap) -> Option<&'a [Value]>
+    ensures found { MatchOption result
+        (of_length count (sequence_items (plain value.now) (plain_heap heap.now)) ≡ None)
+        (λ items. of_length count (sequence_items (plain value.now) (plain_heap heap.now))
+        ≡ Some (plains items.now)) }
+    ensures unpacked { IfSome result (λ items.
+        unpacked count (plain value.now) (plain_heap heap.now) ≡ Ok (plains items.now)) }
 {
     match value {
-        Value::List(addr) => copies_of_length(alloc, count, heap.items(*addr)),
-        Value::Tuple(items) => copies_of_length(alloc, count, items.as_slice()),
-        _ => Ok(None),
-    }
-}
-
-fn copies_of_length(
-    alloc: Global,
-    count: usize,
-    values: &[Value],
-) -> Result<Option<Vec<Value>>, NoMemory>
-    ensures { IfOk result (λ found.
-        found_items found ≡ of_length count (Some (plains values.now))) }
-{
-    if values.len() == count {
-        Ok(Some(copy_all(alloc, values)?))
-    } else {
-        Ok(None)
+        Value::List(addr) => {
+            let items = heap.items(*addr);
+            if items.len() == count {
+                Some(items)
+            } else {
+                None
+            }
+        }
+        Value::Tuple(tuple) => {
+            let items = tuple.as_slice();
+            if items.len() == count {
+                Some(items)
+            } else {
+                None
+            }
+        }
+        _ => None,
     }
 }

@@ -6,20 +6,49 @@ ghost use Rattle.py_builtins.specs.Displays.{builtin_name, kind_name};
 ghost use Rattle.py_value.specs.View.{plain};
 ghost use Rattle.py_builtins.specs.Predefined.{builtin_pair, kind_pair, predefined};
 ghost use Rattle.py_builtins.specs.World.{Names, value_of};
+ghost use Rattle.py_store.specs.KnownNames.{IsKnown, known_value};
 
 use crate::texts::is_text;
 use py_builtins::{BUILTINS, KINDS, builtin_name, kind_name};
 use py_value::{Builtin, ExcKind, Text, Value};
 
-/// The built-in function or the kind of exceptions of this name.
+/// A built-in function or a kind of exceptions.
+#[derive(Clone, Copy)]
+pub enum Known {
+    Function(Builtin),
+    Kind(ExcKind),
+}
+
+impl Known {
+    pub fn value(self) -> Value
+        ensures { plain result ≡ known_value self }
+    {
+        match self {
+            Known::Function(which) => Value::Builtin(which),
+            Known::Kind(kind) => Value::Kind(kind),
+        }
+    }
+}
+
+/// The value of what is predefined under this name.
 pub fn predefined(name: &Text) -> Option<Value>
     ensures { MatchOption result (value_of name.now predefined ≡ None) (λ v.
         value_of name.now predefined ≡ Some (plain v)) }
 {
+    match find_known(name) {
+        None => None,
+        Some(known) => Some(known.value()),
+    }
+}
+
+/// What is predefined under this name.
+pub fn find_known(name: &Text) -> Option<Known>
+    ensures { IsKnown name.now result }
+{
     match builtin_among(name, &BUILTINS) {
-        Some(which) => Some(Value::Builtin(which)),
+        Some(which) => Some(Known::Function(which)),
         None => match kind_among(name, &KINDS) {
-            Some(kind) => Some(Value::Kind(kind)),
+            Some(kind) => Some(Known::Kind(kind)),
             None => None,
         },
     }

@@ -27,7 +27,8 @@ pub fn handler_in(programs: &Programs, code: CodeId, place: usize) -> Option<Han
     }
 }
 
-fn handler_among(handlers: &[Handler], place: usize) -> Option<Handler>
+/// The innermost of the handlers whose ranges hold a place.
+pub fn handler_among(handlers: &[Handler], place: usize) -> Option<Handler>
     ensures { result ≡ handler_of place handlers.now }
 {
     let mut found = None;

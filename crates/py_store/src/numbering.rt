@@ -1,11 +1,11 @@
 // Names by their numbers.
-ghost use Rattle.std.specs.Prelude.{◌≡◌, None, Some, map, slice_get, if◌then◌else◌, IsTrue, IfOk, MatchOption};
+ghost use Rattle.std.specs.Prelude.{◌≡◌, None, Some, map, slice_get, if◌then◌else◌, IsTrue, IfOk, IfSome, MatchOption};
 ghost use Rattle.py_value.specs.View.{plain};
 ghost use Rattle.py_store.specs.Numbered.{HasNoNumber, plain_global, names_in, times, times_named, value_in, unset};
 ghost use Rattle.py_store.specs.Values.{plain_option};
 
 use crate::globals::Global;
-use crate::texts::is_same;
+use crate::name::{Name, is_same};
 use py_value::{NoMemory, Text, Value};
 use std::alloc::Global as Alloc;
 
@@ -29,6 +29,25 @@ fn is_at(globals: &[Global], number: usize, name: &Text) -> bool
     match globals.get(number) {
         None => false,
         Some(global) => is_same(name, &global.name),
+    }
+}
+
+/// A name, if it has this number.
+pub fn name_at<'a>(globals: &'a [Global], name: &Text, likely: Option<usize>) -> Option<&'a Name>
+    ensures { IfSome result (λ found. found.now ≡ name.now) }
+{
+    let Some(number) = likely else {
+        return None;
+    };
+    match globals.get(number) {
+        None => None,
+        Some(global) => {
+            if is_same(name, &global.name) {
+                Some(&global.name)
+            } else {
+                None
+            }
+        }
     }
 }
 

@@ -2,7 +2,8 @@
 ghost use Rattle.std.specs.Prelude.{◌≡◌, ◌<◌, None, Some, length, map, slice_get, IfOk, OnOk, MatchOption};
 ghost use Rattle.py_value.specs.Plain.{str_value};
 ghost use Rattle.py_value.specs.View.{plain, plains};
-ghost use Rattle.py_builtins.specs.World.{with_names_at, global_of, with_global, without_global, sys_name, is_begun, with_begun, first_names, without_number};
+ghost use Rattle.py_builtins.specs.Predefined.{predefined};
+ghost use Rattle.py_builtins.specs.World.{value_of, with_names_at, global_of, with_global, without_global, sys_name, is_begun, with_begun, first_names, without_number};
 ghost use Rattle.py_builtins.specs.Attributes.{module_global};
 ghost use Rattle.py_code.specs.Loaded.{module_of, modules_of};
 ghost use Rattle.py_code.specs.Machine.{begun_by, failed_by, name_at};
@@ -13,6 +14,7 @@ ghost use Rattle.py_store.specs.Stores.{words_of};
 ghost use Rattle.py_store.specs.Stores.{world_of};
 
 use crate::globals::Globals;
+use crate::known_names::predefined;
 use crate::links::Links;
 use crate::table::Table;
 use crate::texts::{is_argv, is_exit};
@@ -60,7 +62,7 @@ impl Store {
         let globals = copy_globals(alloc, &self.globals)?;
         let begun = copy_numbers(alloc, &self.begun)?;
         let heap = self.heap.copy()?;
-        let links = self.links.copy()?;
+        let links = self.links.copy(alloc)?;
         Ok(Store {
             globals,
             begun,
@@ -84,6 +86,17 @@ impl Store {
             (λ v. global_of code.module name.now (world_of self.now) ≡ Some (plain v.now)) }
     {
         self.found(code.module, name, self.links.number(code, n))
+    }
+
+    /// The value of what is predefined under a name, which has this number in the code.
+    pub fn predefined_at(&self, code: CodeId, n: u32, name: &Text) -> Option<Value>
+        ensures { MatchOption result (value_of name.now predefined ≡ None) (λ v.
+            value_of name.now predefined ≡ Some (plain v)) }
+    {
+        match self.globals_of(code.module) {
+            None => predefined(name),
+            Some(globals) => globals.predefined(name, self.links.number(code, n)),
+        }
     }
 
     /// The value of a global of a module, if it is set. It is looked for at this number first.

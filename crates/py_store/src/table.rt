@@ -1,10 +1,12 @@
 // The names of a module, numbered.
-ghost use Rattle.std.specs.Prelude.{◌≡◌, [], Some, map, encode_utf8_all, IsTrue, IfOk};
+ghost use Rattle.std.specs.Prelude.{◌≡◌, [], Some, length, map, encode_utf8_all, IsTrue, IfOk};
 ghost use Rattle.std.specs.BTreeMap.{get_by_text};
 ghost use Rattle.py_store.specs.Globals.{names_of};
+ghost use Rattle.py_store.specs.Links.{numbers_count, names_count};
 ghost use Rattle.py_store.specs.Numbered.{HaveOwnNames, AreListed, plain_global, names_in};
 
 use crate::globals::{Global, Globals};
+use crate::name::Name;
 use py_code::Unit;
 use py_value::{NoMemory, Text};
 use std::alloc::Global as Alloc;
@@ -18,15 +20,20 @@ pub struct Table {
 }
 
 impl Table {
-    pub fn new(alloc: Alloc) -> Table {
+    pub fn new(alloc: Alloc) -> Table
+        ensures { result.names.items ≡ [] }
+    {
         Table {
             names: Vec::new(alloc),
             numbers: BTreeMap::new(alloc),
         }
     }
 
-    /// The numbers of the names of units.
-    pub fn add_units(&mut self, alloc: Alloc, units: &[Unit]) -> Result<Vec<Vec<usize>>, NoMemory> {
+    /// The numbers of the names of units, one for each name.
+    pub fn add_units(&mut self, alloc: Alloc, units: &[Unit]) -> Result<Vec<Vec<usize>>, NoMemory>
+        ensures { IfOk result (λ links.
+            map numbers_count links.items ≡ map names_count units.now) }
+    {
         let mut links = Vec::with_capacity(alloc, units.len())?;
         for unit in units {
             links.push(self.add_names(alloc, &unit.names)?)?;
@@ -34,7 +41,9 @@ impl Table {
         Ok(links)
     }
 
-    fn add_names(&mut self, alloc: Alloc, names: &[Text]) -> Result<Vec<usize>, NoMemory> {
+    fn add_names(&mut self, alloc: Alloc, names: &[Text]) -> Result<Vec<usize>, NoMemory>
+        ensures { IfOk result (λ numbers. length numbers.items ≡ length names.now) }
+    {
         let mut numbers = Vec::with_capacity(alloc, names.len())?;
         for name in names {
             numbers.push(self.add(alloc, name)?)?;
@@ -77,7 +86,7 @@ fn numbered(
         if !has_number(numbers, name, globals.len()) {
             return Ok(globals);
         }
-        let name = name.copy()?;
+        let name = Name::of(name)?;
         globals.push(Global { name, value: None })?;
     }
     Ok(globals)

@@ -29,10 +29,3 @@ pub fn is_exit(text: &Text) -> bool
 {
     is_text(text, "exit")
 }
-
-/// Whether two texts are the same.
-pub fn is_same(text: &Text, other: &Text) -> bool
-    ensures { result ≡ is_same_text text.now other.now }
-{
-    text.is_same(other)
-}
