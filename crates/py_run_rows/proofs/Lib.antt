@@ -1,1 +1,1 @@
-mod IsCode
+mod Checking

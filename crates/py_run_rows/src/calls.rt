@@ -15,15 +15,15 @@ use std::test::Fail;
 /// A call of a function of a module with whole numbers, within a budget, and what must come of it.
 /// No text for events isn't compared.
 #[derive(Drop)]
-struct Row {
-    module: u32,
-    function: &'static str,
-    args: &'static [i64],
-    budget: u64,
-    out: &'static str,
-    end: &'static str,
-    steps: u64,
-    events: &'static str,
+pub(crate) struct Row {
+    pub(crate) module: u32,
+    pub(crate) function: &'static str,
+    pub(crate) args: &'static [i64],
+    pub(crate) budget: u64,
+    pub(crate) out: &'static str,
+    pub(crate) end: &'static str,
+    pub(crate) steps: u64,
+    pub(crate) events: &'static str,
 }
 
 const SCRIPT: &str = "\
@@ -355,7 +355,7 @@ fn ending(alloc: Global, answer: Result<Answer, RunFault>, heap: &Heap) -> Resul
 }
 
 /// Writes down what isn't as the rows say, when their calls are made one after the other.
-fn wrong(
+pub(crate) fn wrong(
     alloc: Global,
     rows: &[Row],
     programs: &Programs,

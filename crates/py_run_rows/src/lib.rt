@@ -5,11 +5,15 @@
 #[cfg(test)]
 mod calls;
 #[cfg(test)]
+mod checked;
+#[cfg(test)]
 mod codes;
 #[cfg(test)]
 mod endings;
 #[cfg(test)]
 mod expressions;
+#[cfg(test)]
+mod flows;
 #[cfg(test)]
 mod functions;
 #[cfg(test)]
@@ -35,4 +39,10 @@ mod terminal;
 #[cfg(test)]
 mod worked;
 #[cfg(test)]
+mod worked_forms;
+#[cfg(test)]
 mod writer;
+#[cfg(test)]
+mod written;
+#[cfg(test)]
+mod written_rows;

@@ -1,8 +1,10 @@
 // Runs that are cut or given up, and what they leave.
 
+use crate::codes::programs_by;
 use crate::programs::programs_of;
-use crate::rows::{Row, Told, run_alone, run_in, run_on, store_of, unlimited};
-use crate::{handlers, worked};
+use crate::rows::{Row, Told, run_alone, run_new, unlimited};
+use crate::{handlers, worked, worked_forms, written, written_rows};
+use py_code::Programs;
 use std::alloc::Global;
 use std::process::Abort;
 use std::test::Fail;
@@ -18,12 +20,12 @@ static REFUSED: [(&str, &str); 5] = [
     ("0.0( 1 2 3", "1\n"),
 ];
 
-#[test]
-fn refused_events(rt: HostRuntime) -> Result<(), Fail> {
+/// Each event of the first run is refused, in turn.
+fn assert_refused(rt: &impl Abort, alloc: Global, programs: &Programs) -> Result<(), Fail> {
     for (number, row) in REFUSED.iter().enumerate() {
         let mut limits = unlimited();
         limits.event = number;
-        let told = run_alone(rt.alloc(), FIRST_RUN, limits)?;
+        let told = run_new(alloc, programs, "", limits)?;
         assert_eq!(rt; told.end.as_str(), "NoMemory", "event {number}");
         assert_eq!(rt; told.events.as_str(), row.0, "event {number}");
         assert_eq!(rt; told.out.as_str(), row.1, "event {number}");
@@ -31,20 +33,32 @@ fn refused_events(rt: HostRuntime) -> Result<(), Fail> {
     Ok(())
 }
 
+#[test]
+fn refused_events(rt: HostRuntime) -> Result<(), Fail> {
+    let alloc = rt.alloc();
+    assert_refused(&rt, alloc, &programs_of(alloc, FIRST_RUN, &[])?)?;
+    assert_refused(&rt, alloc, &programs_by(alloc, &written::FIRST_RUN)?)
+}
+
 /// With each smaller budget the run is cut, and its output and its events are those that the whole
 /// run begins with; with its steps, and with more, it is the whole run.
-fn assert_cut(rt: &impl Abort, alloc: Global, row: &Row) -> Result<(), Fail> {
-    let whole = run_alone(alloc, row.source, unlimited())?;
+fn assert_cut(
+    rt: &impl Abort,
+    alloc: Global,
+    title: &str,
+    programs: &Programs,
+) -> Result<(), Fail> {
+    let whole = run_new(alloc, programs, "", unlimited())?;
     for budget in 0..whole.steps.min(100) + 2 {
         let mut limits = unlimited();
         limits.budget = budget;
-        let told = run_alone(alloc, row.source, limits)?;
+        let told = run_new(alloc, programs, "", limits)?;
         let is_so = if budget < whole.steps {
             told.steps == budget && is_cut(&told, &whole)
         } else {
             is_same(&told, &whole)
         };
-        assert!(rt; is_so, "{} {budget}", row.title);
+        assert!(rt; is_so, "{} {budget}", title);
     }
     Ok(())
 }
@@ -63,11 +77,22 @@ fn is_same(told: &Told, whole: &Told) -> bool {
 
 #[test]
 fn smaller_budgets(rt: HostRuntime) -> Result<(), Fail> {
+    let alloc = rt.alloc();
     for row in &worked::ROWS {
-        assert_cut(&rt, rt.alloc(), row)?;
+        let programs = programs_of(alloc, row.source, &[])?;
+        assert_cut(&rt, alloc, row.title, &programs)?;
+    }
+    for row in &worked_forms::ROWS {
+        let programs = programs_of(alloc, row.source, &[])?;
+        assert_cut(&rt, alloc, row.title, &programs)?;
     }
     for row in &handlers::ROWS {
-        assert_cut(&rt, rt.alloc(), row)?;
+        let programs = programs_of(alloc, row.source, &[])?;
+        assert_cut(&rt, alloc, row.title, &programs)?;
+    }
+    for row in &written_rows::ROWS {
+        let programs = programs_by(alloc, row.units)?;
+        assert_cut(&rt, alloc, row.title, &programs)?;
     }
     Ok(())
 }
@@ -143,7 +168,12 @@ const READS_AND_WRITES: &str = "print(input())\nprint(input('more? '), 'x')\npri
 
 /// One call of the source or of the sink fails, each in turn. Then the run is given up, what was
 /// written is what the whole run begins with, and what is left of the input is its end.
-fn assert_given_up(rt: &impl Abort, alloc: Global, reads: bool) -> Result<(), Fail> {
+fn assert_given_up(
+    rt: &impl Abort,
+    alloc: Global,
+    programs: &Programs,
+    reads: bool,
+) -> Result<(), Fail> {
     let whole = "one\nmore? two x\nend\n";
     let input = "one\ntwo\nthree";
     for number in 0..64 {
@@ -153,7 +183,7 @@ fn assert_given_up(rt: &impl Abort, alloc: Global, reads: bool) -> Result<(), Fa
         } else {
             limits.write = number;
         }
-        let told = run_on(alloc, READS_AND_WRITES, &[], input, limits)?;
+        let told = run_new(alloc, programs, input, limits)?;
         let out = told.out.as_str();
         if told.end.as_str() == "finished" {
             assert!(rt; number > 2, "call {number} is made");
@@ -172,8 +202,13 @@ fn assert_given_up(rt: &impl Abort, alloc: Global, reads: bool) -> Result<(), Fa
 
 #[test]
 fn faults(rt: HostRuntime) -> Result<(), Fail> {
-    assert_given_up(&rt, rt.alloc(), true)?;
-    assert_given_up(&rt, rt.alloc(), false)
+    let alloc = rt.alloc();
+    let compiled = programs_of(alloc, READS_AND_WRITES, &[])?;
+    assert_given_up(&rt, alloc, &compiled, true)?;
+    assert_given_up(&rt, alloc, &compiled, false)?;
+    let by_hand = programs_by(alloc, &written::READS_AND_WRITES)?;
+    assert_given_up(&rt, alloc, &by_hand, true)?;
+    assert_given_up(&rt, alloc, &by_hand, false)
 }
 
 #[test]
@@ -182,8 +217,7 @@ fn a_new_store_is_a_new_run(rt: HostRuntime) -> Result<(), Fail> {
     let source = "import m\nm.l.append(1)\nprint(m.l, __name__)\n";
     let programs = programs_of(alloc, source, &[("m", "l = []\n")])?;
     for _ in 0..2 {
-        let mut store = store_of(alloc, &programs)?;
-        let told = run_in(alloc, &programs, &mut store, "", unlimited())?;
+        let told = run_new(alloc, &programs, "", unlimited())?;
         assert_eq!(rt; told.out.as_str(), "[1] __main__\n");
         assert_eq!(rt; told.events.as_str(), "0.0( 1 1.0( 1 ) 2 3 )");
     }

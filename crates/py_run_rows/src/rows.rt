@@ -64,8 +64,18 @@ pub(crate) fn run_on(
     limits: Limits,
 ) -> Result<Told, Fail> {
     let programs = programs_of(alloc, script, others)?;
-    let mut store = store_of(alloc, &programs)?;
-    run_in(alloc, &programs, &mut store, input, limits)
+    run_new(alloc, &programs, input, limits)
+}
+
+/// Runs programs on a new store.
+pub(crate) fn run_new(
+    alloc: Global,
+    programs: &Programs,
+    input: &str,
+    limits: Limits,
+) -> Result<Told, Fail> {
+    let mut store = store_of(alloc, programs)?;
+    run_in(alloc, programs, &mut store, input, limits)
 }
 
 /// Runs a script alone, with no input.

@@ -1,9 +1,9 @@
-// The worked rows of the documents that run one module.
+// The worked rows of the documents that run one module, but for f-strings and defaults.
 
 use crate::rows::{Row, wrong};
 use std::test::Fail;
 
-pub(crate) static ROWS: [Row; 36] = [
+pub(crate) static ROWS: [Row; 30] = [
     Row {
         title: "First run",
         source: "\
@@ -414,83 +414,6 @@ f 1
         steps: 18,
         events: "0.0( 1 2 13 0.1( 3 4 5 6 !ZeroDivisionError 8 !ZeroDivisionError 9 10 3 4 5 6 8 12 ) )",
         arcs: "-2 3; -1 1; 1 2; 2 13; 3 4; 4 5; 5 6; 6 8; 8 9; 8 12; 9 10; 10 3; 12 -2; 13 -1",
-    },
-    Row {
-        title: "An f-string alone",
-        source: "x = f'a'\n",
-        out: "",
-        end: "finished",
-        steps: 2,
-        events: "0.0( 1 )",
-        arcs: "-1 1; 1 -1",
-    },
-    Row {
-        title: "Fields and braces",
-        source: "\
-x = 3
-print(f'{x}+{x + 1}={{{x * 2 + 1}}}')
-",
-        out: "3+4={7}\n",
-        end: "finished",
-        steps: 3,
-        events: "0.0( 1 2 )",
-        arcs: "",
-    },
-    Row {
-        title: "Neighbours of an f-string",
-        source: "\
-d = {'k': [1]}
-print('<' f\"{d['k']}\" '>')
-",
-        out: "<[1]>\n",
-        end: "finished",
-        steps: 3,
-        events: "0.0( 1 2 )",
-        arcs: "",
-    },
-    Row {
-        title: "Defaults in a loop",
-        source: "\
-fs = []
-for i in range(2):
-    def f(a, b=i):
-        return a + b
-    fs.append(f)
-print(fs[0](10), fs[1](10), f(1, 2))
-",
-        out: "10 11 3\n",
-        end: "finished",
-        steps: 16,
-        events: "0.0( 1 2 3 5 2 3 5 2 6 0.1( 4 ) 0.1( 4 ) 0.1( 4 ) )",
-        arcs: "-3 4; -1 1; 1 2; 2 3; 2 6; 3 5; 4 -3; 5 2; 6 -1",
-    },
-    Row {
-        title: "Default that raises",
-        source: "\
-x = 0
-def f(a=1 // x): return a
-print(9)
-",
-        out: "",
-        end: "ZeroDivisionError: division by zero",
-        steps: 3,
-        events: "0.0( 1 2 !ZeroDivisionError )",
-        arcs: "-1 1; 1 2; 2 -1",
-    },
-    Row {
-        title: "One list of defaults",
-        source: "\
-t = 0
-def f(a=[]):
-    a.append(1)
-    return len(a)
-print(f(), f())
-",
-        out: "1 2\n",
-        end: "finished",
-        steps: 10,
-        events: "0.0( 1 2 5 0.1( 3 4 ) 0.1( 3 4 ) )",
-        arcs: "",
     },
 ];
 

@@ -1,0 +1,8 @@
+use Rattle.std.proofs.Common.{arith}
+use Rattle.py_code.specs.Units.{plain_unit}
+use Rattle.py_run_rows.proofs.Checking.{risks_flow}
+use Rattle.py_run_rows.proofs.flows.risks.Goals as goal
+
+pub returns : goal.returns
+returns c =
+    λ t. risks_flow (plain_unit c.args.unit.now) c.args.depths.now c.args.place c.args.depth c.args.takes c.args.leaves (omega (arith, c.if-takes-depth.false)) (c.lands.ensures c.if-not-lands.false) (c.goes.ensures t)

@@ -1,0 +1,202 @@
+// Rows of codes that are written down by their instructions.
+
+use crate::calls::{Row as CallRow, wrong};
+use crate::codes::{Written, programs_by};
+use crate::rows::{run_in, run_new, store_of, unlimited};
+use crate::writer::Writer;
+use crate::written::{FINALLY, FIRST_RUN, FIVE_FRAMES, PAIR};
+use std::alloc::Global;
+use std::process::Abort;
+use std::test::Fail;
+
+/// A code that neither reads nor is called, and what must come of it.
+pub(crate) struct Row {
+    pub(crate) title: &'static str,
+    pub(crate) units: &'static [Written],
+    out: &'static str,
+    end: &'static str,
+    steps: u64,
+    events: &'static str,
+}
+
+pub(crate) static ROWS: [Row; 2] = [
+    Row {
+        title: "First run",
+        units: &FIRST_RUN,
+        out: "1\n",
+        end: "finished",
+        steps: 4,
+        events: "0.0( 1 2 3 )",
+    },
+    Row {
+        title: "An exception through five frames",
+        units: &FIVE_FRAMES,
+        out: "",
+        end: "ValueError",
+        steps: 10,
+        events: "0.0( 1 0.1( 2 0.2( 3 0.3( 4 0.4( 5 ) !ValueError ) !ValueError ) !ValueError ) !ValueError )",
+    },
+];
+
+/// Each run on a new store comes to the same.
+#[test]
+fn runs_of_written_codes(rt: HostRuntime) -> Result<(), Fail> {
+    let alloc = rt.alloc();
+    let mut found = Writer::new(alloc);
+    for row in &ROWS {
+        let programs = programs_by(alloc, row.units)?;
+        for _ in 0..2 {
+            let told = run_new(alloc, &programs, "", unlimited())?;
+            found.compare(row.title, "the output", told.out.as_str(), row.out);
+            found.compare(row.title, "the end", told.end.as_str(), row.end);
+            found.compare_steps(row.title, told.steps, row.steps);
+            found.compare(
+                row.title,
+                "the list of events",
+                told.events.as_str(),
+                row.events,
+            );
+        }
+    }
+    assert_eq!(rt; found.done()?.as_str(), "");
+    Ok(())
+}
+
+static PAIRED: [CallRow; 6] = [
+    CallRow {
+        module: 0,
+        function: "missing",
+        args: &[],
+        budget: 1_000_000,
+        out: "",
+        end: "NameError: name 'missing' is not defined",
+        steps: 0,
+        events: "",
+    },
+    CallRow {
+        module: 0,
+        function: "value",
+        args: &[],
+        budget: 1_000_000,
+        out: "",
+        end: "TypeError: not callable",
+        steps: 0,
+        events: "",
+    },
+    CallRow {
+        module: 0,
+        function: "pair",
+        args: &[],
+        budget: 1_000_000,
+        out: "",
+        end: "TypeError: wrong number of arguments",
+        steps: 0,
+        events: "",
+    },
+    CallRow {
+        module: 0,
+        function: "pair",
+        args: &[1, 2, 3],
+        budget: 1_000_000,
+        out: "",
+        end: "TypeError: wrong number of arguments",
+        steps: 0,
+        events: "",
+    },
+    CallRow {
+        module: 0,
+        function: "pair",
+        args: &[1],
+        budget: 1_000_000,
+        out: "",
+        end: "[1, 2]",
+        steps: 2,
+        events: "0.1( 2 )",
+    },
+    CallRow {
+        module: 0,
+        function: "pair",
+        args: &[1, 5],
+        budget: 1_000_000,
+        out: "",
+        end: "[1, 5]",
+        steps: 2,
+        events: "0.1( 2 )",
+    },
+];
+
+/// On, and by `break`, `continue`, `return` and an exception.
+static LEFT: [CallRow; 5] = [
+    CallRow {
+        module: 0,
+        function: "f",
+        args: &[0],
+        budget: 1_000_000,
+        out: "1\n2\n",
+        end: "0",
+        steps: 10,
+        events: "0.1( 2 3 5 2 3 5 2 6 )",
+    },
+    CallRow {
+        module: 0,
+        function: "f",
+        args: &[1],
+        budget: 1_000_000,
+        out: "1\n",
+        end: "0",
+        steps: 6,
+        events: "0.1( 2 3 5 6 )",
+    },
+    CallRow {
+        module: 0,
+        function: "f",
+        args: &[2],
+        budget: 1_000_000,
+        out: "1\n2\n",
+        end: "0",
+        steps: 10,
+        events: "0.1( 2 3 5 2 3 5 2 6 )",
+    },
+    CallRow {
+        module: 0,
+        function: "f",
+        args: &[3],
+        budget: 1_000_000,
+        out: "1\n",
+        end: "7",
+        steps: 5,
+        events: "0.1( 2 3 5 )",
+    },
+    CallRow {
+        module: 0,
+        function: "f",
+        args: &[4],
+        budget: 1_000_000,
+        out: "1\n",
+        end: "ValueError",
+        steps: 5,
+        events: "0.1( 2 3 5 )",
+    },
+];
+
+/// The calls of rows, on the store that the run of a code left.
+fn assert_called(
+    rt: &impl Abort,
+    alloc: Global,
+    units: &[Written],
+    rows: &[CallRow],
+) -> Result<(), Fail> {
+    let programs = programs_by(alloc, units)?;
+    let mut store = store_of(alloc, &programs)?;
+    run_in(alloc, &programs, &mut store, "", unlimited())?;
+    let found = wrong(alloc, rows, &programs, &mut store)?;
+    assert_eq!(rt; found.as_str(), "");
+    Ok(())
+}
+
+#[test]
+fn calls_of_written_functions(rt: HostRuntime) -> Result<(), Fail> {
+    let alloc = rt.alloc();
+    assert_called(&rt, alloc, &PAIR, &PAIRED)?;
+    assert_called(&rt, alloc, &FINALLY, &LEFT)
+}
