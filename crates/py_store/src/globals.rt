@@ -87,10 +87,13 @@ impl Globals {
         ensures { MatchOption result (value_of name.now predefined ≡ None) (λ v.
             value_of name.now predefined ≡ Some (plain v)) }
     {
-        match name_at(&self.items, name, likely) {
-            None => predefined(name),
-            Some(named) => named.predefined(),
-        }
+        let Some(number) = likely else {
+            return predefined(name);
+        };
+        let Some(named) = name_at(&self.items, name, number) else {
+            return predefined(name);
+        };
+        named.predefined()
     }
 
     /// Sets a name: one that is set keeps its place, and a new one goes last. The name is looked for at this number first.

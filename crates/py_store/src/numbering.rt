@@ -33,22 +33,16 @@ fn is_at(globals: &[Global], number: usize, name: &Text) -> bool
 }
 
 /// A name, if it has this number.
-pub fn name_at<'a>(globals: &'a [Global], name: &Text, likely: Option<usize>) -> Option<&'a Name>
+pub fn name_at<'a>(globals: &'a [Global], name: &Text, number: usize) -> Option<&'a Name>
     ensures { IfSome result (λ found. found.now ≡ name.now) }
 {
-    let Some(number) = likely else {
+    let Some(global) = globals.get(number) else {
         return None;
     };
-    match globals.get(number) {
-        None => None,
-        Some(global) => {
-            if is_same(name, &global.name) {
-                Some(&global.name)
-            } else {
-                None
-            }
-        }
+    if !is_same(name, &global.name) {
+        return None;
     }
+    Some(&global.name)
 }
 
 /// The number of a name, if it has one.

@@ -2,5 +2,5 @@ use Rattle.std.proofs.Common.{sym, ◌∙◌}
 use Rattle.py_value.proofs.KeyLaws.{same_text}
 use Rattle.py_store.proofs.numbering.name_at.Goals as goal
 
-pub returns-then-is_same : goal.returns-then-is_same
-returns-then-is_same c = sym (same_text c.args.name.now c.in-Some.global.now.name (sym c.is_same.ensures ∙ c.if-is_same.true))
+pub returns : goal.returns
+returns c = sym (same_text c.args.name.now c.in-Some.global.now.name (sym c.is_same.ensures ∙ c.if-not-is_same.false))
