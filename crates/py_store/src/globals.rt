@@ -1,5 +1,5 @@
 // The globals of a module.
-ghost use Rattle.std.specs.Prelude.{◌≡◌, ◌<◌, [], List, ℕ, None, Some, length, map, slice_get, IfOk, OnOk, MatchOption};
+ghost use Rattle.std.specs.Prelude.{◌≡◌, ◌<◌, [], List, ℕ, None, Some, length, map, slice_get, IfOk, IfSome, OnOk, MatchOption};
 ghost use Rattle.py_value.specs.View.{plain};
 ghost use Rattle.py_builtins.specs.Predefined.{predefined};
 ghost use Rattle.py_builtins.specs.World.{value_of, with_name, without_name};
@@ -87,13 +87,20 @@ impl Globals {
         ensures { MatchOption result (value_of name.now predefined ≡ None) (λ v.
             value_of name.now predefined ≡ Some (plain v)) }
     {
-        let Some(number) = likely else {
-            return predefined(name);
-        };
-        let Some(named) = name_at(&self.items, name, number) else {
-            return predefined(name);
-        };
-        named.predefined()
+        match self.named(name, likely) {
+            Some(named) => named.predefined(),
+            None => predefined(name),
+        }
+    }
+
+    /// A name, if it has this number.
+    fn named(&self, name: &Text, likely: Option<usize>) -> Option<&Name>
+        ensures { IfSome result (λ found. found.now ≡ name.now) }
+    {
+        match likely {
+            None => None,
+            Some(number) => name_at(&self.items, name, number),
+        }
     }
 
     /// Sets a name: one that is set keeps its place, and a new one goes last. The name is looked for at this number first.
