@@ -1,16 +1,15 @@
 -- What the checks of units show.
-use Rattle.std.proofs.Common.{◌≡◌, ℕ, inl, inr, true, zero, suc, ◌+◌, ◌-◌, ◌<◌, ◌≤◌, List, [], ◌∷◌, length, map, Option, Some, None, get_or, refl, sym, ap, ◌∙◌, subst, arith}
+use Rattle.std.proofs.Common.{◌≡◌, ℕ, inl, inr, true, zero, suc, ◌+◌, ◌-◌, ◌<◌, ◌≤◌, List, [], ◌∷◌, length, map, Option, Some, None, refl, sym, ap, ◌∙◌, subst, arith}
 use Rattle.std.specs.Prelude.{slice_get}
 use Rattle.std.proofs.lemmas.List.{length-map}
-use Rattle.std.proofs.lemmas.Option.{slice_get-get_or, slice_get_within, same_Some}
+use Rattle.std.proofs.lemmas.Option.{slice_get_within, same_Some}
 use Rattle.py_code.specs.declared.instr.Instr.{Instr}
 use Rattle.py_code.specs.declared.unit.Handler.{Handler}
 use Rattle.py_code.specs.declared.unit.Unit.{Unit as RawUnit}
-use Rattle.py_code.specs.Footprints.{Footprint, quiet, risky, forked, risky_fork, exit, ways, footprint}
+use Rattle.py_code.specs.Footprints.{quiet, risky, forked, risky_fork, exit, ways, footprint}
 use Rattle.py_code.specs.Units.{Code, plain_unit, handler_of}
-use Rattle.py_code.specs.Valid.{HasNumbers, marks_at, Leads, Lands, LandsAt, FitsAt, IsHandler, IsTable, IsValid, IsCode}
-use Rattle.py_store.proofs.Lookups.{mapped}
-use Rattle.py_run_rows.specs.Checked.{Flows, FitsIn, AllFit, IsHandlerIn, AllNested, StandsIn, AllStand, HasDepths, AllHaveDepths}
+use Rattle.py_code.specs.Valid.{HasNumbers, marks_at, Leads, Lands, LandsAt, FitsAt, IsHandler, IsValid, IsCode}
+use Rattle.py_run_rows.specs.Checked.{Flows, AllFit, AllStand, AllHaveDepths}
 
 pub one_on : (n : ℕ) → n + 1 ≡ suc n
 one_on n = omega arith
@@ -23,14 +22,6 @@ one_more P k earlier here m lt = by_case (m - k) refl (k - m) refl
     by_case a e (suc b) f = earlier m (omega arith)
     by_case a e zero f = let same : k ≡ m = omega arith in subst P same here
 
--- what was read from a list stands there
-pub read : {A : Type 0} (xs : List A) (n : ℕ) (x : A) → n < length xs → x ≡ get_or xs n x → slice_get xs n ≡ Some x
-read xs n x lt at = slice_get-get_or xs n x lt ∙ ap (λ y. Some y) (sym at)
-
--- what holds of it holds of whatever stands there
-pub only : {A : Type 0} (P : A → Type 0) (xs : List A) (n : ℕ) (x : A) → slice_get xs n ≡ Some x → P x → (y : A) → slice_get xs n ≡ Some y → P y
-only P xs n x at p y there = subst P (same_Some x y (sym at ∙ there)) p
-
 module _ (u : Code) (depths : List ℕ) (p depth : ℕ) where
   pub falls_flow : (takes leaves : ℕ) → takes ≤ depth → Leads u depths p (p + 1) (leaves + (depth - takes)) → Flows u depths p depth (quiet p takes leaves)
   falls_flow takes leaves le l = record { enough = le; leads = (subst (λ q. Leads u depths p q (leaves + (depth - takes))) (one_on p) l, tt); lands = tt }
@@ -41,14 +32,14 @@ module _ (u : Code) (depths : List ℕ) (p depth : ℕ) where
   pub jumps_flow : (takes to leaves : ℕ) → takes ≤ depth → Leads u depths p to (leaves + (depth - takes)) → Flows u depths p depth (forked takes (exit to leaves ∷ []))
   jumps_flow takes to leaves le l = record { enough = le; leads = (l, tt); lands = tt }
 
-  pub forks_flow : (to : ℕ) → 1 ≤ depth → Leads u depths p (p + 1) (depth - 1) → Leads u depths p to (depth - 1) → Flows u depths p depth (forked 1 (exit (suc p) 0 ∷ exit to 0 ∷ []))
-  forks_flow to le l m = record { enough = le; leads = (subst (λ q. Leads u depths p q (depth - 1)) (one_on p) l, m, tt); lands = tt }
+  pub forks_flow : (to : ℕ) → 1 ≤ depth → Leads u depths p (p + 1) (0 + (depth - 1)) → Leads u depths p to (0 + (depth - 1)) → Flows u depths p depth (forked 1 (exit (suc p) 0 ∷ exit to 0 ∷ []))
+  forks_flow to le l m = record { enough = le; leads = (subst (λ q. Leads u depths p q (0 + (depth - 1))) (one_on p) l, (m, tt)); lands = tt }
 
-  pub walks_flow : (to : ℕ) → 1 ≤ depth → LandsAt depths p (depth - 1) (handler_of p u.handlers) → Leads u depths p (p + 1) (2 + (depth - 1)) → Leads u depths p to (depth - 1) → Flows u depths p depth (risky_fork 1 (exit (suc p) 2 ∷ exit to 0 ∷ []))
-  walks_flow to le h l m = record { enough = le; leads = (subst (λ q. Leads u depths p q (2 + (depth - 1))) (one_on p) l, m, tt); lands = h }
+  pub walks_flow : (to : ℕ) → 1 ≤ depth → LandsAt depths p (depth - 1) (handler_of p u.handlers) → Leads u depths p (p + 1) (2 + (depth - 1)) → Leads u depths p to (0 + (depth - 1)) → Flows u depths p depth (risky_fork 1 (exit (suc p) 2 ∷ exit to 0 ∷ []))
+  walks_flow to le h l m = record { enough = le; leads = (subst (λ q. Leads u depths p q (2 + (depth - 1))) (one_on p) l, (m, tt)); lands = h }
 
-  pub settles_flow : 1 ≤ depth → LandsAt depths p (depth - 1) (handler_of p u.handlers) → Leads u depths p (4 + p) (depth - 1) → Leads u depths p (1 + p) (depth - 1) → Leads u depths p (2 + p) (depth - 1) → Leads u depths p (3 + p) (1 + (depth - 1)) → Flows u depths p depth (risky_fork 1 (ways p))
-  settles_flow le h a b d e = record { enough = le; leads = (a, b, d, e, tt); lands = h }
+  pub settles_flow : 1 ≤ depth → LandsAt depths p (depth - 1) (handler_of p u.handlers) → Leads u depths p (4 + p) (0 + (depth - 1)) → Leads u depths p (1 + p) (0 + (depth - 1)) → Leads u depths p (2 + p) (0 + (depth - 1)) → Leads u depths p (3 + p) (1 + (depth - 1)) → Flows u depths p depth (risky_fork 1 (ways p))
+  settles_flow le h a b d e = record { enough = le; leads = (a, (b, (d, (e, tt)))); lands = h }
 
   pub ends_flow : 1 ≤ depth → Flows u depths p depth (forked 1 [])
   ends_flow le = record { enough = le; leads = tt; lands = tt }
@@ -71,12 +62,6 @@ lands_of depths p rest h le lt at = record { enough = le; stands = at ∙ ap (λ
 pub handler_of_unit : (u : Code) (depths : List ℕ) (h : Handler) → h.to ≤ length u.instrs → h.to ≤ h.target → slice_get depths h.target ≡ Some (h.depth + 1) → IsHandler u depths h
 handler_of_unit u depths h le after at = record { inside = le; after = after; stands = at ∙ ap (λ n. Some n) (one_on h.depth) }
 
-pub fits_here : (u : Code) (units : ℕ) (depths : List ℕ) (p d : ℕ) (i : Instr) → slice_get depths p ≡ Some d → slice_get u.instrs p ≡ Some i → FitsAt u units depths p d i → FitsIn u units depths p
-fits_here u units depths p d i a b f = λ e j there here. subst (FitsAt u units depths p e) (same_Some i j (sym b ∙ here)) (subst (λ n. FitsAt u units depths p n i) (same_Some d e (sym a ∙ there)) f)
-
-pub stands_here : (u : Code) (depths : List ℕ) (n : ℕ) (h : Handler) → slice_get u.handlers n ≡ Some h → IsHandler u depths h → AllNested u.handlers h (length u.handlers) → StandsIn u depths n
-stands_here u depths n h at one all = (only (IsHandler u depths) u.handlers n h at one, only (λ k. AllNested u.handlers k (length u.handlers)) u.handlers n h at all)
-
 pub valid_of : (u : Code) (units : ℕ) (depths : List ℕ) → length depths ≡ length u.instrs → slice_get depths 0 ≡ Some 0 → AllFit u units depths (length u.instrs) → AllStand u depths (length u.handlers) → IsValid u units depths
 valid_of u units depths long begins fit stand = record {
   table = record {
@@ -88,11 +73,6 @@ valid_of u units depths long begins fit stand = record {
   fits = λ p depth i d e. fit p (slice_get_within u.instrs p i e) depth i d e;
 }
 
-pub has_depths : (us : List RawUnit) (n : ℕ) (u : RawUnit) → slice_get us n ≡ Some u → (depths : List ℕ) → IsValid (plain_unit u) (length us) depths → HasDepths (map plain_unit us) n
-has_depths us n u at depths valid =
-    only (λ v. (ds : List ℕ) × IsValid v (length (map plain_unit us)) ds) (map plain_unit us) n (plain_unit u) (mapped plain_unit us n u at)
-    (depths, subst (λ k. IsValid (plain_unit u) k depths) (sym (length-map us plain_unit)) valid)
-
 -- units that all have numbers of operands are a code
 module _ (us : List Code) (all : AllHaveDepths us (length us)) where
   chosen : (k : ℕ) (o : Option Code) → slice_get us k ≡ o → List ℕ
@@ -100,8 +80,12 @@ module _ (us : List Code) (all : AllHaveDepths us (length us)) where
   chosen k (Some u) e = (all k (slice_get_within us k u e) u e).0
 
   valid_there : (k : ℕ) (o : Option Code) (e : slice_get us k ≡ o) (u : Code) → o ≡ Some u → IsValid u (length us) (chosen k o e)
+  unfolding chosen
   valid_there k None e u h = absurd cc
   valid_there k (Some v) e u h = subst (λ x. IsValid x (length us) (chosen k (Some v) e)) (same_Some v u h) (all k (slice_get_within us k v e) v e).1
 
   pub is_code : 0 < length us → IsCode us
   is_code body = ((λ k. chosen k (slice_get us k) refl), record { units = λ k u at. valid_there k (slice_get us k) refl u at; body = body })
+
+pub code_by : (us : List RawUnit) → AllHaveDepths (map plain_unit us) (length us) → 0 < length us → IsCode (map plain_unit us)
+code_by us all some = is_code (map plain_unit us) (subst (AllHaveDepths (map plain_unit us)) (sym (length-map us plain_unit)) all) (omega (arith, some, length-map us plain_unit))

@@ -102,7 +102,8 @@ fn code_of(alloc: Global, written: &[Written]) -> Result<Code, Fail> {
     for row in written {
         units.push(unit_of(alloc, row)?)?;
     }
-    if units.is_empty() {
+    let count = units.len();
+    if count == 0 {
         return Err(AllocError.into());
     }
     if !all_have_depths(&units, written) {

@@ -210,7 +210,10 @@ fn ends(unit: &Unit, depths: &[usize], place: usize, depth: usize) -> bool
     ensures { IsTrue result
         → Flows (plain_unit unit.now) depths.now place depth (forked 1 []) }
 {
-    depth > 0
+    if depth == 0 {
+        return false;
+    }
+    true
 }
 
 /// Takes an operand, and raises an exception.

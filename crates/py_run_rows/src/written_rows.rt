@@ -58,7 +58,8 @@ fn runs_of_written_codes(rt: HostRuntime) -> Result<(), Fail> {
             );
         }
     }
-    assert_eq!(rt; found.done()?.as_str(), "");
+    let found = found.done()?;
+    assert_eq!(rt; found.as_str(), "");
     Ok(())
 }
 

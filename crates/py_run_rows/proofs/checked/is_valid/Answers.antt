@@ -5,4 +5,4 @@ use Rattle.py_run_rows.proofs.checked.is_valid.Goals as goal
 
 pub returns : goal.returns
 returns c =
-    λ t. valid_of (plain_unit c.args.unit.now) c.args.units c.args.depths.now (omega (arith, c.len.ensures, c.if-len-len.false)) (c.stands.ensures c.if-not-stands.false) (c.all_fit.ensures c.if-not-all_fit.false) (c.all_stand.ensures t)
+    λ t. valid_of (plain_unit c.args.unit.now) c.args.units c.args.depths.now (omega (arith, c.len.ensures, c.if-depths-len.false)) (c.stands.ensures c.if-not-stands.false) (c.all_fit.ensures c.if-not-all_fit.false) (c.all_stand.ensures t)

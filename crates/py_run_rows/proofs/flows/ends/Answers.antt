@@ -5,4 +5,4 @@ use Rattle.py_run_rows.proofs.flows.ends.Goals as goal
 
 pub returns : goal.returns
 returns c =
-    λ t. ends_flow (plain_unit c.args.unit.now) c.args.depths.now c.args.place c.args.depth (omega (arith, t))
+    λ t. ends_flow (plain_unit c.args.unit.now) c.args.depths.now c.args.place c.args.depth (omega (arith, c.if-depth-eq0.false))

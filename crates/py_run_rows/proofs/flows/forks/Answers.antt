@@ -5,4 +5,4 @@ use Rattle.py_run_rows.proofs.flows.forks.Goals as goal
 
 pub returns : goal.returns
 returns c =
-    λ t. forks_flow (plain_unit c.args.unit.now) c.args.depths.now c.args.place c.args.depth c.args.to (omega (arith, c.if-depth.false)) (c.goes.ensures c.if-not-goes.false) (c.goes-2.ensures t)
+    λ t. forks_flow (plain_unit c.args.unit.now) c.args.depths.now c.args.place c.args.depth c.args.to (omega (arith, c.if-depth-eq0.false)) (c.goes.ensures c.if-not-goes.false) (c.goes-2.ensures t)
