@@ -3,7 +3,7 @@
 use crate::codes::programs_by;
 use crate::programs::programs_of;
 use crate::rows::{Row, Told, run_alone, run_new, unlimited};
-use crate::{handlers, worked, worked_forms, written, written_rows};
+use crate::{handlers, worked, worked_forms, written};
 use py_code::Programs;
 use std::alloc::Global;
 use std::process::Abort;
@@ -90,11 +90,10 @@ fn smaller_budgets(rt: HostRuntime) -> Result<(), Fail> {
         let programs = programs_of(alloc, row.source, &[])?;
         assert_cut(&rt, alloc, row.title, &programs)?;
     }
-    for row in &written_rows::ROWS {
-        let programs = programs_by(alloc, row.units)?;
-        assert_cut(&rt, alloc, row.title, &programs)?;
-    }
-    Ok(())
+    let first = programs_by(alloc, &written::FIRST_RUN)?;
+    assert_cut(&rt, alloc, "First run, by its instructions", &first)?;
+    let frames = programs_by(alloc, &written::FIVE_FRAMES)?;
+    assert_cut(&rt, alloc, "Five frames", &frames)
 }
 
 /// A budget, and what comes of a run within it.

@@ -2,65 +2,53 @@
 
 use crate::calls::{Row as CallRow, wrong};
 use crate::codes::{Written, programs_by};
-use crate::rows::{run_in, run_new, store_of, unlimited};
+use crate::rows::{Row, compare, run_in, run_new, store_of, unlimited};
 use crate::writer::Writer;
 use crate::written::{FINALLY, FIRST_RUN, FIVE_FRAMES, PAIR};
 use std::alloc::Global;
 use std::process::Abort;
 use std::test::Fail;
 
-/// A code that neither reads nor is called, and what must come of it.
-pub(crate) struct Row {
-    pub(crate) title: &'static str,
-    pub(crate) units: &'static [Written],
-    out: &'static str,
-    end: &'static str,
-    steps: u64,
-    events: &'static str,
-}
-
-pub(crate) static ROWS: [Row; 2] = [
+/// What must come of the first run and of an exception through five frames.
+static ROWS: [Row; 2] = [
     Row {
         title: "First run",
-        units: &FIRST_RUN,
+        source: "x = 1\nif x:\n    print(x)\nelse:\n    print(0)\n",
         out: "1\n",
         end: "finished",
         steps: 4,
         events: "0.0( 1 2 3 )",
+        arcs: "-1 1; 1 2; 2 3; 3 -1",
     },
     Row {
         title: "An exception through five frames",
-        units: &FIVE_FRAMES,
+        source: "",
         out: "",
         end: "ValueError",
         steps: 10,
         events: "0.0( 1 0.1( 2 0.2( 3 0.3( 4 0.4( 5 ) !ValueError ) !ValueError ) !ValueError ) !ValueError )",
+        arcs: "",
     },
 ];
 
 /// Each run on a new store comes to the same.
+fn assert_run(rt: &impl Abort, alloc: Global, units: &[Written], row: &Row) -> Result<(), Fail> {
+    let programs = programs_by(alloc, units)?;
+    for _ in 0..2 {
+        let mut found = Writer::new(alloc);
+        let told = run_new(alloc, &programs, "", unlimited())?;
+        compare(&mut found, row, &told);
+        let found = found.done()?;
+        assert_eq!(rt; found.as_str(), "");
+    }
+    Ok(())
+}
+
 #[test]
 fn runs_of_written_codes(rt: HostRuntime) -> Result<(), Fail> {
     let alloc = rt.alloc();
-    let mut found = Writer::new(alloc);
-    for row in &ROWS {
-        let programs = programs_by(alloc, row.units)?;
-        for _ in 0..2 {
-            let told = run_new(alloc, &programs, "", unlimited())?;
-            found.compare(row.title, "the output", told.out.as_str(), row.out);
-            found.compare(row.title, "the end", told.end.as_str(), row.end);
-            found.compare_steps(row.title, told.steps, row.steps);
-            found.compare(
-                row.title,
-                "the list of events",
-                told.events.as_str(),
-                row.events,
-            );
-        }
-    }
-    let found = found.done()?;
-    assert_eq!(rt; found.as_str(), "");
-    Ok(())
+    assert_run(&rt, alloc, &FIRST_RUN, &ROWS[0])?;
+    assert_run(&rt, alloc, &FIVE_FRAMES, &ROWS[1])
 }
 
 static PAIRED: [CallRow; 6] = [
