@@ -2,6 +2,8 @@
 --     Flows                     where an instruction goes on, and how many operands stand there
 --     FitsIn, AllFit            a place, and those up to a number
 --     IsHandlerIn, IsNested     an entry of the handler table, and a pair of them
+--     AllNested, StandsIn       an entry with all others
+--     AllStand                  the entries up to a number
 --     HasDepths, AllHaveDepths  a unit, and those up to a number
 use Rattle.std.specs.Prelude.{◌≡◌, ℕ, ◌-◌, ◌<◌, ◌≤◌, List, length, Some, slice_get}
 use Rattle.py_code.specs.declared.instr.Instr.{Instr}
