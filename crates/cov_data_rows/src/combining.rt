@@ -50,52 +50,92 @@ fn alias(alloc: Global, rules: &str, path: &str) -> Result<String, AllocError> {
     rules.alias(path)
 }
 
+/// A rule of a folder whose files have three places.
+const SOURCE: &str = "source=src,c:\\proj\\src,/home/*/src";
+
+/// Rules, a path and its alias.
+static ALIASES: [(&str, &str, &str, &str); 13] = [
+    ("Backslashes", SOURCE, "c:\\proj\\src\\a.py", "src/a.py"),
+    ("A star for a part", SOURCE, "/home/u/src/a.py", "src/a.py"),
+    ("The place itself", SOURCE, "src/a.py", "src/a.py"),
+    (
+        "No part after the pattern",
+        SOURCE,
+        "/home/u/src",
+        "/home/u/src",
+    ),
+    (
+        "A star for two parts",
+        SOURCE,
+        "/home/u/v/src/a.py",
+        "/home/u/v/src/a.py",
+    ),
+    (
+        "A star in front of a path",
+        "source=src,*/src",
+        "/home/u/src/b/src/c.py",
+        "src/b/src/c.py",
+    ),
+    (
+        "A star in front of the place",
+        "source=src,*/src",
+        "src/a.py",
+        "src/a.py",
+    ),
+    ("A star alone", "source=src,*", "a.py", "a.py"),
+    (
+        "Two ways to write a folder",
+        "source=d:\\new\\,old/",
+        "old\\x\\a.py",
+        "d:/new/x/a.py",
+    ),
+    (
+        "Rules in the order of their names",
+        "b=two,lib;a=one,lib",
+        "lib/a.py",
+        "one/a.py",
+    ),
+    (
+        "A later pattern of an earlier rule",
+        "a=one,x,lib;b=two,lib",
+        "lib/a.py",
+        "one/a.py",
+    ),
+    ("An alias is not aliased", "a=b,a;b=c,b", "a/x.py", "b/x.py"),
+    ("A rule without a place", "a=;b=c,a", "a/x.py", "c/x.py"),
+];
+
 #[test]
 fn aliases(rt: HostRuntime) -> Result<(), Fail> {
-    let source = "source=src,c:\\proj\\src,/home/*/src";
-    let table = [
-        (source, "c:\\proj\\src\\a.py", "src/a.py"),
-        (source, "/home/u/src/a.py", "src/a.py"),
-        (source, "src/a.py", "src/a.py"),
-        (source, "/home/u/src", "/home/u/src"),
-        (source, "/home/u/v/src/a.py", "/home/u/v/src/a.py"),
-        (
-            "source=src,*/src",
-            "/home/u/src/b/src/c.py",
-            "src/b/src/c.py",
-        ),
-        ("source=src,*/src", "src/a.py", "src/a.py"),
-        ("source=src,*", "a.py", "a.py"),
-        ("source=d:\\new\\,old/", "old\\x\\a.py", "d:/new/x/a.py"),
-        ("b=two,lib;a=one,lib", "lib/a.py", "one/a.py"),
-        ("a=one,x,lib;b=two,lib", "lib/a.py", "one/a.py"),
-        ("a=b,a;b=c,b", "a/x.py", "b/x.py"),
-        ("a=;b=c,a", "a/x.py", "c/x.py"),
-    ];
-    for (rules, path, want) in table {
-        let text = alias(rt.alloc(), rules, path)?;
-        assert_eq!(rt; text.as_str(), want);
+    for (title, rules, path, wanted) in &ALIASES {
+        let text = alias(rt.alloc(), *rules, *path)?;
+        assert_eq!(rt; text.as_str(), *wanted, "{title}");
     }
     Ok(())
 }
 
+/// Inputs, and what they are combined.
+static COMBINATIONS: [(&str, &str, &str); 3] = [
+    (
+        "Three places of a file",
+        "c:\\proj\\src\\a.py . -1 1 1;c:\\proj\\src\\a.py . 1 2 1|\
+         /home/u/src/a.py . -1 1 1;/home/u/src/a.py . 1 3 1|src/a.py . -1 1 1",
+        "src/a.py . -1 1 3;src/a.py . 1 2 1;src/a.py . 1 3 1;",
+    ),
+    (
+        "Four inputs in another order",
+        "src/a.py . -1 1 1|/home/u/src/a.py . -1 1 1;/home/u/src/a.py . 1 3 1|\
+         c:\\proj\\src\\a.py . 1 2 1|/home/u/src/a.py . 1 3 1",
+        "src/a.py . -1 1 2;src/a.py . 1 2 1;src/a.py . 1 3 2;",
+    ),
+    ("A path without a row", "/home/u/src/b.py", "src/b.py;"),
+];
+
 #[test]
 fn combinations(rt: HostRuntime) -> Result<(), Fail> {
-    let rules = "source=src,c:\\proj\\src,/home/*/src";
-    let table = [
-        (
-            "c:\\proj\\src\\a.py . -1 1 1;c:\\proj\\src\\a.py . 1 2 1|/home/u/src/a.py . -1 1 1;/home/u/src/a.py . 1 3 1|src/a.py . -1 1 1",
-            "src/a.py . -1 1 3;src/a.py . 1 2 1;src/a.py . 1 3 1;",
-        ),
-        (
-            "src/a.py . -1 1 1|/home/u/src/a.py . -1 1 1;/home/u/src/a.py . 1 3 1|c:\\proj\\src\\a.py . 1 2 1|/home/u/src/a.py . 1 3 1",
-            "src/a.py . -1 1 2;src/a.py . 1 2 1;src/a.py . 1 3 2;",
-        ),
-        ("/home/u/src/b.py", "src/b.py;"),
-    ];
-    for (inputs, want) in table {
-        let text = combined(rt.alloc(), inputs, rules)?;
-        assert_eq!(rt; text.as_str(), want);
+    for (title, inputs, wanted) in &COMBINATIONS {
+        let text = combined(rt.alloc(), *inputs, SOURCE)?;
+        assert_eq!(rt; text.as_str(), *wanted, "{title}");
     }
     Ok(())
 }

@@ -12,24 +12,46 @@ fn united(alloc: Global, mine: &str, other: &str) -> Result<String, AllocError> 
     shown(alloc, &all)
 }
 
+/// Two data of arcs, and the two as one.
+static UNIONS: [(&str, &str, &str, &str); 6] = [
+    ("Nothing", "", "", ""),
+    (
+        "Rows in order",
+        "b . 1 2 1;a x 2 -1 1;a x -1 2 1;B . 9 1 1",
+        "a . 3 4 1",
+        "B . 9 1 1;a . 3 4 1;a x -1 2 1;a x 2 -1 1;b . 1 2 1;",
+    ),
+    (
+        "A row three times",
+        "a . 1 2 5;a . 1 2 7",
+        "a . 1 2 1",
+        "a . 1 2 13;",
+    ),
+    (
+        "The greatest count",
+        "a . 1 2 4294967295",
+        "a . 1 2 1",
+        "a . 1 2 4294967295;",
+    ),
+    (
+        "Paths without a row, and two contexts",
+        "a;b . 1 2 1",
+        "c;b x 1 2 1",
+        "a;c;b . 1 2 1;b x 1 2 1;",
+    ),
+    (
+        "Rows out of range",
+        "a . 0 2 1;a . 1 65536 1",
+        "a . -65536 2 1;a . 1 2 0",
+        "",
+    ),
+];
+
 #[test]
 fn rows_add_up_in_order(rt: HostRuntime) -> Result<(), Fail> {
-    let alloc = rt.alloc();
-    let table = [
-        ("", "", ""),
-        (
-            "b . 1 2 1;a x 2 -1 1;a x -1 2 1;B . 9 1 1",
-            "a . 3 4 1",
-            "B . 9 1 1;a . 3 4 1;a x -1 2 1;a x 2 -1 1;b . 1 2 1;",
-        ),
-        ("a . 1 2 5;a . 1 2 7", "a . 1 2 1", "a . 1 2 13;"),
-        ("a . 1 2 4294967295", "a . 1 2 1", "a . 1 2 4294967295;"),
-        ("a;b . 1 2 1", "c;b x 1 2 1", "a;c;b . 1 2 1;b x 1 2 1;"),
-        ("a . 0 2 1;a . 1 65536 1", "a . -65536 2 1;a . 1 2 0", ""),
-    ];
-    for (mine, other, want) in table {
-        let text = united(alloc, mine, other)?;
-        assert_eq!(rt; text.as_str(), want);
+    for (title, mine, other, wanted) in &UNIONS {
+        let text = united(rt.alloc(), *mine, *other)?;
+        assert_eq!(rt; text.as_str(), *wanted, "{title}");
     }
     Ok(())
 }
@@ -41,20 +63,28 @@ fn lists(alloc: Global, arcs: bool, given: &str) -> Result<String, AllocError> {
     format!(in alloc; "{:?} {:?}", lines.as_slice(), pairs.as_slice())
 }
 
+/// Data, of arcs or not, and the lines and arcs of the path `a`.
+static LISTS: [(&str, bool, &str, &str); 3] = [
+    (
+        "Arcs in three contexts",
+        true,
+        "a x -1 3 1;a . 3 2 1;a y -1 3 1;b . 7 8 2",
+        "[2, 3] [(-1, 3), (3, 2)]",
+    ),
+    ("A path without a row", true, "b . 7 8 2;a", "[] []"),
+    (
+        "A line, and rows that are none",
+        false,
+        "a . 4 4 1;a . 4 5 1;a . -4 -4 1",
+        "[4] []",
+    ),
+];
+
 #[test]
 fn lists_of_a_path(rt: HostRuntime) -> Result<(), Fail> {
-    let table = [
-        (
-            true,
-            "a x -1 3 1;a . 3 2 1;a y -1 3 1;b . 7 8 2",
-            "[2, 3] [(-1, 3), (3, 2)]",
-        ),
-        (true, "b . 7 8 2;a", "[] []"),
-        (false, "a . 4 4 1;a . 4 5 1;a . -4 -4 1", "[4] []"),
-    ];
-    for (arcs, given, want) in table {
-        let text = lists(rt.alloc(), arcs, given)?;
-        assert_eq!(rt; text.as_str(), want);
+    for (title, arcs, given, wanted) in &LISTS {
+        let text = lists(rt.alloc(), *arcs, *given)?;
+        assert_eq!(rt; text.as_str(), *wanted, "{title}");
     }
     Ok(())
 }

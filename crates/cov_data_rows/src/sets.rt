@@ -39,8 +39,8 @@ fn add_entry(alloc: Global, data: &mut Data, entry: &str) -> Result<(), AllocErr
     Ok(())
 }
 
-/// Reads rows as `path context from to count` and paths without a row as `path`, with `;` between them. A context `.`
-/// is the empty one. Rows that are out of range are left out.
+/// Reads rows as `path context from to count` and paths without a row as `path`, with `;` between
+/// them. A context `.` is the empty one. Rows that are out of range are left out.
 pub fn data_of(alloc: Global, arcs: bool, text: &str) -> Result<Data, AllocError> {
     let mut data = Data::new(alloc, arcs);
     for entry in text.split(';') {
@@ -49,54 +49,32 @@ pub fn data_of(alloc: Global, arcs: bool, text: &str) -> Result<Data, AllocError
     Ok(data)
 }
 
-/// A text in the making. Where memory is wanting it goes on, and tells so at the end.
-#[derive(Drop)]
-struct Listing {
-    text: String,
-    wants_memory: bool,
-}
-
-impl Listing {
-    fn put(&mut self, text: &str) {
-        if self.text.push_str(text).is_err() {
-            self.wants_memory = true;
-        }
-    }
-
-    fn row(&mut self, alloc: Global, row: &Row) {
-        self.put(row.path.as_str());
-        self.put(" ");
-        self.put(if row.context.is_empty() {
-            "."
-        } else {
-            row.context.as_str()
-        });
-        match format!(in alloc; " {} {} {};", row.from, row.to, row.count) {
-            Ok(numbers) => self.put(numbers.as_str()),
-            Err(_) => self.wants_memory = true,
-        }
-    }
+/// A row with `;` after it.
+fn row_text(alloc: Global, row: &Row) -> Result<String, AllocError> {
+    let context = if row.context.is_empty() {
+        "."
+    } else {
+        row.context.as_str()
+    };
+    format!(in alloc;
+        "{} {context} {} {} {};",
+        row.path, row.from, row.to, row.count
+    )
 }
 
 /// The paths without a row, and then the rows, each with `;` after it.
 pub fn shown(alloc: Global, data: &Data) -> Result<String, AllocError> {
     let paths = data.paths()?;
     let rows = data.rows()?;
-    let mut listing = Listing {
-        text: String::new(alloc),
-        wants_memory: false,
-    };
+    let mut text = String::new(alloc);
     for path in &paths {
         if rows.iter().all(|row| row.path.as_str() != path.as_str()) {
-            listing.put(path.as_str());
-            listing.put(";");
+            text.push_str(path.as_str())?;
+            text.push(';')?;
         }
     }
     for row in &rows {
-        listing.row(alloc, row);
+        text.push_str(row_text(alloc, row)?.as_str())?;
     }
-    if listing.wants_memory {
-        return Err(AllocError);
-    }
-    Ok(listing.text)
+    Ok(text)
 }

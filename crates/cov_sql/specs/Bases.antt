@@ -1,10 +1,11 @@
 -- Bases in memory by name.
 --     Base, IsIdle                  a base with its name; one of no open transaction
 --     kept_in                       what a base has as it was committed
---     IsAsDeclared, AreAsDeclared   a base may be saved over if it is of schema 7, and no view hides
---                                   a table; all bases are so
+--     IsAsDeclared, AreAsDeclared   a base may be saved over if it is of schema 7, and no view
+--                                   hides a table; all bases are so
 --     with_content                  a name with what its base holds
---     bases_contents                the contents by name. Of two bases with one name the first counts
+--     bases_contents                the contents by name; of two bases with one name the first
+--                                   counts
 --     Loads                         so a base is loaded
 --     IsSavable, SavesIn            data may be saved in a base; so they are
 use Rattle.std.specs.Prelude.{◌≡◌, ◌≢◌, ℕ, Bool, true, false, List, map, Result, IfOk, OnOk, OnErr, IsErrOf, String}
@@ -24,12 +25,15 @@ use Rattle.cov_sql.specs.Content.{content_in, AreUnhidden}
 use Rattle.cov_sql.specs.Making.{IsBare}
 use Rattle.cov_sql.specs.Committed.{IsReadyFor}
 
+-- a base in memory with its name
 abbrev pub Base : Type 0
 Base = String Global × Held MemStore
 
+-- no transaction is open in a base
 abbrev pub IsIdle : Base → Type 0
 IsIdle b = b.1.in_transaction ≡ false
 
+-- what a base has as it was last committed
 abbrev pub kept_in : Held MemStore → Database
 kept_in h = (state over_memory h).committed
 
@@ -38,15 +42,19 @@ pub record IsAsDeclared (db : Database) : Type 0 where
   pub ready : content_in db ≢ NotSchema7 → IsReadyFor false db
   pub unhidden : AreUnhidden db
 
+-- each of these bases may be saved over, if it is of schema 7
 abbrev pub AreAsDeclared : List Base → Type 0
 AreAsDeclared = AllByRecursion (λ b. IsAsDeclared (kept_in b.1))
 
+-- the name of a base with what it holds as a data file
 abbrev pub with_content : Base → String Global × Content
 with_content b = (b.0, content_in (kept_in b.1))
 
+-- the contents by name of several bases: of two with one name the first counts
 abbrev pub bases_contents : List Base → Contents
 bases_contents bases = contents_of (map with_content bases)
 
+-- what a load gives of a base, which stays as it was
 pub record Loads (old new : Database) (r : Result DataSet VaultError) : Type 0 where
   pub found : IfOk r (λ loaded. content_in old ≡ Good loaded)
   pub not_schema : IsErrOf r vault.NotSchema7 → content_in old ≡ NotSchema7
@@ -58,6 +66,7 @@ abbrev pub IsSavable : Bool → Database → Type 0
 IsSavable true db = IsBare db
 IsSavable false db = IsAsDeclared db
 
+-- what a save of data makes of a base, and why it may be refused
 pub record SavesIn (fresh : Bool) (d : DataSet) (old new : Database)
     (r : Result (Unit {0}) VaultError) : Type 0 where
   pub saved : OnOk r (content_in new ≡ Good d)

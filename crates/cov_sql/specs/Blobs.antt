@@ -15,6 +15,7 @@ use Rattle.cov_tables.specs.Hits.{Spot}
 use Rattle.cov_sql.specs.declared.saved.SavedRow.{SavedRow}
 use Rattle.cov_sql.specs.declared.saved.SavedBits.{SavedBits}
 
+-- the file, the context and the two numbers of a row
 abbrev pub spot_of : SavedRow → Spot
 spot_of r = record { file_id = r.file_id; context_id = r.context_id; from = r.from; to = r.to }
 
@@ -22,16 +23,20 @@ spot_of r = record { file_id = r.file_id; context_id = r.context_id; from = r.fr
 abbrev pub line_spot : SavedBits → ℕ → Spot
 line_spot b n = record { file_id = b.file_id; context_id = b.context_id; from = pos n; to = pos n }
 
+-- where the lines of a blob stand, in order
 abbrev pub spots_in : SavedBits → List Spot
 spots_in b = map (line_spot b) (lines_of_bits b.numbits.items)
 
+-- by the numbers of file and context
 abbrev pub bits_cmp : SavedBits → SavedBits → Ordering
 bits_cmp a b = ordering_then (int_cmp a.file_id b.file_id) (int_cmp a.context_id b.context_id)
 
+-- a blob has a line, and its bytes are as few as hold its lines
 abbrev pub IsPacked : SavedBits → Type 0
 IsPacked b = (lines_of_bits b.numbits.items ≢ [])
     × IsNumbits (lines_of_bits b.numbits.items) b.numbits.items
 
+-- the blobs have the lines of these rows, each file and context once
 pub record AreBitsOf (rows : List SavedRow) (blobs : List SavedBits) : Type 0 where
   pub lines : flat_map spots_in blobs ≡ map spot_of rows
   pub once : IsStrictlySortedBy bits_cmp blobs

@@ -6,6 +6,7 @@ use Rattle.cov_sql.specs.declared.tables.Table.TheVariants as name
 use Rattle.cov_sql.specs.Tables.{Shape, coverage_schema, meta, file, context, line_bits, arc, tracer, hits}
 use Rattle.cov_sql.specs.Declarations.{declared_coverage_schema, declared_meta, declared_file, declared_context, declared_line_bits, declared_arc, declared_tracer, declared_hits}
 
+-- the name and the columns of a table
 abbrev pub shape_of : Name → Shape
 shape_of name.CoverageSchema = coverage_schema
 shape_of name.Meta = meta
@@ -16,6 +17,7 @@ shape_of name.Arc = arc
 shape_of name.Tracer = tracer
 shape_of name.Hits = hits
 
+-- a table as data files declare it, by the number of its tree
 abbrev pub declared_as : Name → ℕ → Table
 declared_as name.CoverageSchema = declared_coverage_schema
 declared_as name.Meta = declared_meta

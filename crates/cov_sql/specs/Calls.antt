@@ -17,9 +17,11 @@ use Rattle.cov_sql.specs.Tables.{Shape}
 use Rattle.cov_sql.specs.Told.{Lists, Reads, LeavesAll}
 use Rattle.cov_sql.specs.Written.{RunsIn}
 
+-- the database refused a statement
 abbrev pub IsRefused : {X : Type 0} → Result X StatementError → Type 0
 IsRefused r = IsErrOf r statement.Refused
 
+-- the database refused a call on a whole data file
 abbrev pub IsFault : {X : Type 0} → Result X SqlError → Type 0
 IsFault r = IsErrOf r sql.Refused
 
@@ -28,19 +30,23 @@ pub record Counts (old new : ℕ) (is_refused : Type 0) : Type 0 where
   pub count : old ≤ new
   pub refused : is_refused → Rose old new
 
+-- statements tell their tables after a call as before, and a refusal raises their count
 pub record GoesOn {Q : Type 0} (telling : Q → Type 0) (counted : Q → ℕ) (old new : Q)
     (is_refused : Type 0) : Type 0 where
   pub tells : telling old → telling new
   pub count : counted old ≤ counted new
   pub refused : is_refused → Rose (counted old) (counted new)
 
+-- a call that reads makes no store clean, and begins no transaction
 pub record Asks {S : Type 0} (g : Ghosts S) (old new : Held S) : Type 0 where
   pub clean : HasCleanDisk (state g new) → HasCleanDisk (state g old)
   pub mode : old.in_transaction ≡ false → new.in_transaction ≡ false
 
+-- a crash leaves nothing that it could not leave before
 abbrev pub LeavesNoMore : {S : Type 0} → Ghosts S → Held S → Held S → Type 0
 LeavesNoMore g old new = Survives (state g old) (state g new) (λ _. ⊥)
 
+-- a call that reads a table gives its rows, and what a crash may leave stays
 pub record ReadsFrom {S : Type 0} (g : Ghosts S) (t : Shape) (old new : Held S)
     (r : Result Lists StatementError) : Type 0 where
   pub told : Reads t (state g old) (state g new) r
@@ -50,6 +56,7 @@ pub record ReadsFrom {S : Type 0} (g : Ghosts S) (t : Shape) (old new : Held S)
 abbrev pub Does : Type 1
 Does = State → State → Result (Unit {0}) StatementError → Type 0
 
+-- a call runs this text in a transaction, and does this by it
 pub record WorksAs {S : Type 0} (g : Ghosts S) (text : List ℕ) (does : Does) (old new : Held S)
     (r : Result (Unit {0}) StatementError) : Type 0 where
   pub told : does (state g old) (state g new) r

@@ -30,16 +30,20 @@ use Rattle.cov_sql.specs.Holding.{IsReplaceable}
 use Rattle.cov_sql.specs.Making.{IsBare, LacksCounts, IsReady}
 use Rattle.cov_sql.specs.SavedData.{HoldsSaved}
 
+-- data may be saved in a base: a fresh one is bare, any other has the tables of schema 7
 abbrev pub IsReadyFor : Bool → Database → Type 0
 IsReadyFor true db = IsBare db
 IsReadyFor false db = IsReplaceable db ⊎ LacksCounts db
 
+-- a base has a table of a data file
 abbrev pub HasTable : Database → Type 0
 HasTable db = (n : Name) × (at : ℕ) × (table_named db.schema (shape_of n).name ≡ Some at)
 
+-- two states show and have committed the same base
 abbrev pub ShowsSame : State → State → Type 0
 ShowsSame old new = (new.now ≡ old.now) × (new.committed ≡ old.committed)
 
+-- what the base was found to be before a save
 pub record IsJudged (fresh : Bool) (old new : State) (r : Result Start SqlError) : Type 0 where
   pub missing : IsErrOf r sql.NotSchema7 → (fresh ≡ false) × (content_in old.now ≡ NotSchema7)
   pub there : OnOk r (fresh ≡ false → content_in old.now ≢ NotSchema7)
@@ -52,6 +56,7 @@ pub record IsJudged (fresh : Bool) (old new : State) (r : Result Start SqlError)
 abbrev pub Judges : Bool → State → State → Result Start SqlError → Type 0
 Judges fresh old new r = HasCleanDisk new → AreUnhidden old.now → IsJudged fresh old new r
 
+-- a base in which a transaction is open
 abbrev pub begun : {S : Type 0} → Held S → Held S
 begun h = record h { in_transaction = true }
 
@@ -71,14 +76,17 @@ pub record IsSaved {S : Type 0} (g : Ghosts S) (d : DataSet) (fresh : Bool) (old
   -- the tables hold the rows of the data, and no other
   pub holds : IsReadyFor fresh (state g old).now → HoldsSaved d db
 
+-- a save left its base with the data, committed
 abbrev pub EndsSaved : {S : Type 0} → Ghosts S → DataSet → Bool → Held S → Held S → Type 0
 EndsSaved g d fresh old new = IsSaved g d fresh old (state g new).committed
     × ((state g new).now ≡ (state g new).committed)
 
+-- a text of the save named a table or a column that is not there
 abbrev pub LacksInWork : {S : Type 0} → Ghosts S → Held S → Type 0
 LacksInWork {S} g old = (read : Held S) × ShowsSame (state g old) (state g read)
     × NamesAbsent g (begun read)
 
+-- a crash leaves the base as it could before, or with the data saved
 abbrev pub LeavesSaved : {S : Type 0} → Ghosts S → DataSet → Bool → Held S → Held S → Type 0
 LeavesSaved g d fresh old new = Survives (state g old) (state g new)
     (λ trees. (db : Database) × (trees ≡ db.trees) × IsSaved g d fresh old db)

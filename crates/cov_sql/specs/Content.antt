@@ -30,6 +30,7 @@ field_of (value.Real x) = other
 field_of (value.Text t) = cond (is_utf8 t) (text t) other
 field_of (value.Blob b) = blob b
 
+-- the rows of a table as fields, or none where the table is missing
 abbrev pub fields_in : Shape → Database → Option (List Row)
 fields_in t db = option_map (map (map field_of)) (rows_in t db)
 
@@ -50,19 +51,23 @@ tables_with version meta file context line_bits arc tracer hits =
     }
     ) tracer) arc) line_bits) context) file) meta) version
 
+-- the tables of a data file in a base
 abbrev pub tables_in : Database → Option Tables
 tables_in db =
     tables_with (fields_in coverage_schema db) (fields_in meta db) (fields_in file db)
     (fields_in context db)
     (fields_in line_bits db) (fields_in arc db) (fields_in tracer db) (fields_in hits db)
 
+-- what tables hold: without them no data file of schema 7
 abbrev pub content_if : Option Tables → Content
 content_if None = NotSchema7
 content_if (Some t) = content t
 
+-- what a base holds as a data file
 abbrev pub content_in : Database → Content
 content_in db = content_if (tables_in db)
 
+-- no view has the name of a table of a data file
 pub record AreUnhidden (db : Database) : Type 0 where
   pub coverage_schema : IsUnhidden coverage_schema db
   pub meta : IsUnhidden meta db
@@ -78,6 +83,7 @@ abbrev pub AreCounts : Database → Bool → List (Vec Cell Global) → Type 0
 AreCounts db true lists = AreRowsIn hits db lists
 AreCounts db false lists = (rows_in hits db ≡ None) × (lists ≡ [])
 
+-- what was read of a base are its tables
 pub record IsFound (db : Database) (found : Found) : Type 0 where
   pub coverage_schema : AreRowsIn coverage_schema db found.tables.coverage_schema.items
   pub meta : AreRowsIn meta db found.tables.meta.items

@@ -18,9 +18,11 @@ use Rattle.cov_sql.specs.Cells.{AreRowsIn}
 use Rattle.cov_sql.specs.Told.{Lists}
 use Rattle.cov_sql.specs.Content.{tables_in, AreUnhidden, IsFound}
 
+-- the base is as it was, or its transaction was undone
 abbrev pub EndsAs : State → State → Type 0
 EndsAs old new = IsUnchanged old new ⊎ IsRolledBack old new
 
+-- a step of reading gives what it sought, or tells that it is missing
 pub record Finds {X : Type 0} (Holds : Database → X → Type 0) (Lacks : Database → Type 0)
     (old new : State) (r : Result X SqlError) : Type 0 where
   pub rows : IfOk r (Holds old.now)
@@ -28,12 +30,15 @@ pub record Finds {X : Type 0} (Holds : Database → X → Type 0) (Lacks : Datab
   pub kept : OnOk r (IsUnchanged old new)
   pub ends : EndsAs old new
 
+-- a base has these rows in a table, in some order
 abbrev pub HoldsRows : Shape → Database → Lists → Type 0
 HoldsRows t db lists = AreRowsIn t db lists.items
 
+-- a base lacks a table, or one of its columns
 abbrev pub LacksTable : Shape → Database → Type 0
 LacksTable t db = rows_in t db ≡ None
 
+-- a base has these counts, or no table of counts
 abbrev pub HoldsCounts : Database → Option Lists → Type 0
 HoldsCounts db None = LacksTable hits db
 HoldsCounts db (Some lists) = HoldsRows hits db lists
@@ -43,12 +48,14 @@ abbrev pub SeeksCounts : State → State → Result (Option Lists) SqlError → 
 SeeksCounts old new r = HasCleanDisk new → IsUnhidden hits old.now
     → Finds HoldsCounts (λ db. ⊥) old new r
 
+-- the four tables that rows refer to or that have no data
 pub record IsNamed (db : Database) (n : Named) : Type 0 where
   pub coverage_schema : HoldsRows coverage_schema db n.coverage_schema
   pub meta : HoldsRows meta db n.meta
   pub file : HoldsRows file db n.file
   pub context : HoldsRows context db n.context
 
+-- the tables with rows of data
 pub record IsMeasured (db : Database) (m : Measured) : Type 0 where
   pub line_bits : HoldsRows line_bits db m.line_bits
   pub arc : HoldsRows arc db m.arc
@@ -59,15 +66,19 @@ pub record IsMeasured (db : Database) (m : Measured) : Type 0 where
 abbrev pub LacksOne : Database → Type 0
 LacksOne db = tables_in db ≡ None
 
+-- so a step finds the first four tables
 abbrev pub FindsNamed : State → State → Result Named SqlError → Type 0
 FindsNamed old new r = HasCleanDisk new → AreUnhidden old.now → Finds IsNamed LacksOne old new r
 
+-- so a step finds the tables with rows of data
 abbrev pub FindsMeasured : State → State → Result Measured SqlError → Type 0
 FindsMeasured old new r = HasCleanDisk new → AreUnhidden old.now
     → Finds IsMeasured LacksOne old new r
 
+-- so a step finds all tables
 abbrev pub FindsAll : State → State → Result Found SqlError → Type 0
 FindsAll old new r = HasCleanDisk new → AreUnhidden old.now → Finds IsFound LacksOne old new r
 
+-- a crash leaves no more than before, unless a view has the name of a table
 abbrev pub LeavesFile : State → State → Type 0
 LeavesFile old new = Survives old new (λ _. ¬ AreUnhidden old.now)

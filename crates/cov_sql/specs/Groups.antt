@@ -20,11 +20,13 @@ use Rattle.cov_sql.specs.declared.saved.SavedBits.{SavedBits}
 use Rattle.cov_sql.specs.declared.bits.Group.{Group}
 use Rattle.cov_sql.specs.Blobs.{spot_of}
 
+-- the lines of one file in one context
 pub record GroupView : Type 0 where
   pub file_id : ℤ
   pub context_id : ℤ
   pub lines : List ℕ
 
+-- what a group of the code stands for
 abbrev pub group_view : Group → GroupView
 group_view g = record { file_id = g.file_id; context_id = g.context_id; lines = g.lines.items }
 
@@ -33,15 +35,19 @@ abbrev pub line_in : ℤ → ℕ
 line_in (pos n) = cond (nat_le n 65535) n 0
 line_in (negsuc n) = 0
 
+-- whether two groups are of one file and one context
 abbrev pub same_ids : GroupView → GroupView → Bool
 same_ids g h = same_whole g.file_id h.file_id && same_whole g.context_id h.context_id
 
+-- whether a row is of the file and the context of a group
 abbrev pub is_of : GroupView → SavedRow → Bool
 is_of g r = same_whole g.file_id r.file_id && same_whole g.context_id r.context_id
 
+-- the group of a row alone
 abbrev pub one_line : SavedRow → GroupView
 one_line r = record { file_id = r.file_id; context_id = r.context_id; lines = line_in r.from ∷ [] }
 
+-- a group with the line of a row more
 abbrev pub with_line : GroupView → SavedRow → GroupView
 with_line g r = record {
   file_id = g.file_id;
@@ -49,27 +55,32 @@ with_line g r = record {
   lines = g.lines ++ line_in r.from ∷ [];
 }
 
+-- the groups of rows after one that is begun
 unfoldable pub groups_from : GroupView → List SavedRow → List GroupView
 groups_from g [] = g ∷ []
 groups_from g (r ∷ rs) = cond (is_of g r) (groups_from (with_line g r) rs)
     (g ∷ groups_from (one_line r) rs)
 
+-- the groups of rows, where those of one group stand side by side
 abbrev pub groups : List SavedRow → List GroupView
 groups [] = []
 groups (r ∷ rs) = groups_from (one_line r) rs
 
+-- a blob has the lines of a group
 pub record IsBlobOf (g : Group) (b : SavedBits) : Type 0 where
   pub file : b.file_id ≡ g.file_id
   pub context : b.context_id ≡ g.context_id
   pub packed : IsNumbits g.lines.items b.numbits.items
   pub back : lines_of_bits b.numbits.items ≡ distinct_in_order nat_cmp g.lines.items
 
+-- a row is of one line, from 0 to 65535
 pub record IsLine (r : SavedRow) : Type 0 where
   pub line : ℕ
   pub from : r.from ≡ pos line
   pub to : r.to ≡ pos line
   pub within : line ≤ 65535
 
+-- the rows are of lines, and rise
 pub record AreLines (rows : List SavedRow) : Type 0 where
   pub rise : IsStrictlySortedBy (λ r s. spot_cmp (spot_of r) (spot_of s)) rows
   pub each : AllByRecursion IsLine rows

@@ -36,22 +36,27 @@ use Rattle.cov_sql.specs.Content.{AreUnhidden}
 use Rattle.cov_sql.specs.Holding.{HoldsOf, Holds, IsReplaceable}
 use Rattle.cov_sql.specs.SavedRows.{no_data_rows, with_names, with_data}
 
+-- a schema has no table, view or index of the name of a table, which may be made
 pub record IsFreeName (n : Name) (schema : Schema) : Type 0 where
   pub no_table : table_named schema (shape_of n).name ≡ None
   pub no_view : view_named schema (shape_of n).name ≡ None
   pub no_index : index_named schema (shape_of n).name ≡ None
   pub sequenced : lacks_sequence (created schema (declared_as n 0)) ≡ false
 
+-- the names of several tables are free, as these are made one after the other
 abbrev pub AreFree : Schema → List Name → Type 0
 AreFree schema [] = Unit {0}
 AreFree schema (n ∷ ns) = IsFreeName n schema × AreFree (created schema (declared_as n 0)) ns
 
+-- a schema after these tables were made
 abbrev pub made : Schema → List Name → Schema
 made schema names = fold (λ s n. created s (declared_as n 0)) schema names
 
+-- no table of a base has a row
 abbrev pub IsBlank : Database → Type 0
 IsBlank db = AllByRecursion (λ t. db.trees t.tree ≡ []) db.schema.tables
 
+-- a base without a table, an index or a view
 abbrev pub IsBare : Database → Type 0
 IsBare db = db.schema ≡ record { tables = []; indexes = []; views = [] }
 
@@ -60,6 +65,7 @@ pub record LacksCounts (db : Database) : Type 0 where
   pub free : IsFreeName name.Hits db.schema
   pub once_made : (new : Database) → IsMade (declared_as name.Hits) db new → IsReplaceable new
 
+-- the table of the version has its one row, 7
 abbrev pub HoldsVersion : Database → Type 0
 HoldsVersion db = HoldsOf name.CoverageSchema db ((Int (pos 7) ∷ []) ∷ [])
 
@@ -77,17 +83,20 @@ Builds g names old new r = HasCleanDisk (state g new) → IsTrue (state g old).i
     → OnOk r (((state g new).now.schema ≡ made (state g old).now.schema names)
     × IsBlank (state g new).now)
 
+-- so a step leaves a base of this start with the tables, and without data
 abbrev pub Prepares : {S : Type 0} → Ghosts S → Start → Held S → Held S
     → Result (Unit {0}) StatementError → Type 0
 Prepares g start old new r = HasCleanDisk (state g new) → IsTrue (state g old).in_transaction
     → IsReady start (state g old).now → OnOk r (Holds (state g new).now no_data_rows)
 
+-- so a step leaves a base of this start with the rows of data
 abbrev pub Saves : {S : Type 0} → Ghosts S → Start → Saved → Held S → Held S
     → Result (Unit {0}) StatementError → Type 0
 Saves g start saved old new r = HasCleanDisk (state g new) → IsTrue (state g old).in_transaction
     → IsReady start (state g old).now
     → OnOk r (Holds (state g new).now (with_data saved (with_names saved no_data_rows)))
 
+-- none of these tables was there where they were all made, and no other went
 pub record IsDenied (names : List Name) (old new : Schema)
     (r : Result (Unit {0}) StatementError) : Type 0 where
   pub absent : OnOk r (AllByRecursion (λ n. table_named old (shape_of n).name ≡ None) names)
@@ -101,10 +110,12 @@ Denies g names old new r = HasCleanDisk (state g new) → IsTrue (state g old).i
     → AreUnhidden (state g old).now
     → IsDenied names (state g old).now.schema (state g new).now.schema r
 
+-- a schema that has a table of a data file is refused
 abbrev pub IsRefusedIfThere : Schema → Result (Unit {0}) StatementError → Type 0
 IsRefusedIfThere schema r = (n : Name) (at : ℕ) → table_named schema (shape_of n).name ≡ Some at
     → (r ≡ Err Refused) ⊎ (r ≡ Err NoMemory)
 
+-- so a step ends that makes all tables
 abbrev pub RefusesIfThere : {S : Type 0} → Ghosts S → Start → Held S → Held S
     → Result (Unit {0}) StatementError → Type 0
 RefusesIfThere g begins old new r = HasCleanDisk (state g new) → IsTrue (state g old).in_transaction

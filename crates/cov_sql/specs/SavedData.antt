@@ -16,14 +16,17 @@ use Rattle.cov_sql.specs.Blobs.{AreBitsOf}
 use Rattle.cov_sql.specs.Holding.{Rows, Holds}
 use Rattle.cov_sql.specs.SavedRows.{with_names, with_data, no_data_rows}
 
+-- the contexts of rows in byte order, each once
 abbrev pub contexts_in : List RowView → List Text
 contexts_in rows = distinct_in_order text_cmp (map (λ r. r.context) rows)
 
+-- a text has its place in these, from 1, as its number
 pub record IsNumbered (texts : List Text) (t : Text) (id : ℤ) : Type 0 where
   pub at : ℕ
   pub there : slice_get texts at ≡ Some t
   pub is : id ≡ pos (at + 1)
 
+-- a row of data with the numbers of its path and its context in place of them
 pub record IsSavedRow (paths contexts : List Text) (r : RowView) (s : SavedRow) : Type 0 where
   pub file : IsNumbered paths r.path s.file_id
   pub context : IsNumbered contexts r.context s.context_id
@@ -31,6 +34,7 @@ pub record IsSavedRow (paths contexts : List Text) (r : RowView) (s : SavedRow) 
   pub to : s.to ≡ r.to
   pub count : s.count ≡ pos r.count
 
+-- what is kept of data has its flag, its texts and its rows
 pub record IsSavedOf (d : DataSet) (s : Saved) : Type 0 where
   pub flag : s.arcs ≡ d.arcs
   pub paths : map string_bytes s.paths.items ≡ paths_of d
@@ -42,6 +46,7 @@ pub record IsSavedOf (d : DataSet) (s : Saved) : Type 0 where
 
 -- ---- written
 
+-- the rows that a data file of these data has
 abbrev pub saved_rows : Saved → Rows
 saved_rows s = with_data s (with_names s no_data_rows)
 

@@ -4,47 +4,75 @@
 --     arc_row, bits_row, hits_row         the rows of what is kept of data until it is written
 --     with_names, with_data, with_all     the rows of all tables with those of names, with those of
 --                                         data, and with both
+--     written_rows, with_written          the rows that are written of data in a table; those of
+--                                         several tables, one after the other
 --     no_data_rows                        the rows of a data file of schema 7 without data
 use Rattle.std.specs.Prelude.{ℕ, pos, ◌+◌, Bool, cond, List, [], ◌∷◌, map, codes, string_bytes}
+use Rattle.std.specs.List.{fold}
 use Rattle.sqlite_value.specs.Order.{Row}
 use Rattle.sqlite_value.specs.declared.value.Value.TheVariants.{Int, Text, Blob}
 use Rattle.cov_sql.specs.declared.saved.Saved.{Saved}
 use Rattle.cov_sql.specs.declared.saved.SavedRow.{SavedRow}
 use Rattle.cov_sql.specs.declared.saved.SavedBits.{SavedBits}
+use Rattle.cov_sql.specs.declared.tables.Table.{Table as Name}
 use Rattle.cov_sql.specs.declared.tables.Table.TheVariants as name
 use Rattle.cov_sql.specs.Holding.{Rows, with_rows}
 
+-- the row of `meta` that tells whether data are of arcs
 abbrev pub flag_row : Bool → Row
 flag_row arcs = Text (codes "has_arcs") ∷ Text (cond arcs (codes "1") (codes "0")) ∷ []
 
+-- texts with their numbers, which rise from this one
 abbrev pub numbered : ℕ → List (List ℕ) → List Row
 numbered k [] = []
 numbered k (t ∷ ts) = (Int (pos k) ∷ Text t ∷ []) ∷ numbered (k + 1) ts
 
+-- a row of `arc`
 abbrev pub arc_row : SavedRow → Row
 arc_row r = Int r.file_id ∷ Int r.context_id ∷ Int r.from ∷ Int r.to ∷ []
 
+-- a row of `line_bits`
 abbrev pub bits_row : SavedBits → Row
 bits_row b = Int b.file_id ∷ Int b.context_id ∷ Blob b.numbits.items ∷ []
 
+-- a row of `hits`
 abbrev pub hits_row : SavedRow → Row
 hits_row r = Int r.file_id ∷ Int r.context_id ∷ Int r.from ∷ Int r.to ∷ Int r.count ∷ []
 
+-- the rows of `meta`, `file` and `context` more
 abbrev pub with_names : Saved → Rows → Rows
 with_names s rows =
     with_rows name.Context (numbered 1 (map string_bytes s.contexts.items))
     (with_rows name.File (numbered 1 (map string_bytes s.paths.items))
     (with_rows name.Meta (flag_row s.arcs ∷ []) rows))
 
+-- the rows of `arc`, `line_bits` and `hits` more
 abbrev pub with_data : Saved → Rows → Rows
 with_data s rows =
     with_rows name.Hits (map hits_row s.rows.items)
     (with_rows name.LineBits (map bits_row s.bits.items)
     (with_rows name.Arc (cond s.arcs (map arc_row s.rows.items) []) rows))
 
+-- all rows more that are written of data
 abbrev pub with_all : Saved → Rows → Rows
 with_all s rows = with_data s (with_names s rows)
 
+-- the rows that are written of data in a table, beside the row of the version
+abbrev pub written_rows : Saved → Name → List Row
+written_rows s name.CoverageSchema = []
+written_rows s name.Meta = flag_row s.arcs ∷ []
+written_rows s name.File = numbered 1 (map string_bytes s.paths.items)
+written_rows s name.Context = numbered 1 (map string_bytes s.contexts.items)
+written_rows s name.LineBits = map bits_row s.bits.items
+written_rows s name.Arc = cond s.arcs (map arc_row s.rows.items) []
+written_rows s name.Tracer = []
+written_rows s name.Hits = map hits_row s.rows.items
+
+-- the rows of all tables with those that are written in some, one table after the other
+abbrev pub with_written : Saved → List Name → Rows → Rows
+with_written s names rows = fold (λ rs n. with_rows n (written_rows s n) rs) rows names
+
+-- the rows of a data file without data: that of the version
 abbrev pub no_data_rows : Rows
 no_data_rows name.CoverageSchema = (Int (pos 7) ∷ []) ∷ []
 no_data_rows name.Meta = []

@@ -17,9 +17,11 @@ use Rattle.cov_sql.specs.declared.statements.StatementError.TheVariants.{Missing
 use Rattle.cov_sql.specs.Tables.{Shape, rows_in, IsUnhidden}
 use Rattle.cov_sql.specs.Cells.{AreRowsIn}
 
+-- rows as lists of cells
 abbrev pub Lists : Type 0
 Lists = Vec (Vec Cell Global) Global
 
+-- a statement gives the rows of its table, or tells that it is missing
 pub record Answers (t : Shape) (old new : State) (r : Result Lists StatementError) : Type 0 where
   pub rows : IfOk r (λ lists. AreRowsIn t old.now lists.items)
   pub missing : IsErrOf r Missing → rows_in t old.now ≡ None
@@ -27,14 +29,18 @@ pub record Answers (t : Shape) (old new : State) (r : Result Lists StatementErro
   pub unfound : IsErrOf r Missing → IsUnchanged old new
   pub ends : IsUnchanged old new ⊎ IsRolledBack old new
 
+-- so a statement reads its table
 abbrev pub Reads : Shape → State → State → Result Lists StatementError → Type 0
 Reads t old new r = HasCleanDisk new → IsUnhidden t old.now → Answers t old new r
 
+-- a crash leaves no more than before, unless a view has the name of the table
 abbrev pub LeavesAll : Shape → State → State → Type 0
 LeavesAll t old new = Survives old new (λ _. ¬ IsUnhidden t old.now)
 
+-- the database names a table or a column as not there
 abbrev pub IsAbsence : CompileError → Type 0
 IsAbsence e = (e ≡ NoSuchTable) ⊎ (e ≡ NoSuchColumn)
 
+-- the same, or a table that can not be used
 abbrev pub IsUnread : CompileError → Type 0
 IsUnread e = IsAbsence e ⊎ (e ≡ Unsupported)

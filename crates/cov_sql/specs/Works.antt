@@ -21,14 +21,17 @@ pub record Step (S : Type 0) : Type 0 where
   pub params : Row
   pub next : Held S
 
+-- the texts of writing ran one after the other, each as its step says
 abbrev pub RanAll : {S : Type 0} → Ghosts S → Held S → List (Step S) → Held S → Type 0
 RanAll g old [] new = old ≡ new
 RanAll g old (s ∷ ss) new = IsWritten s.text × Ran s.text s.params (state g old) (state g s.next)
     × RanAll g s.next ss new
 
+-- texts of writing lead from one state to another
 abbrev pub Reaches : {S : Type 0} → Ghosts S → Held S → Held S → Type 0
 Reaches {S} g old new = (steps : List (Step S)) × RanAll g old steps new
 
+-- after texts of writing the next one named a table or a column as not there
 pub record NamesAbsent {S : Type 0} (g : Ghosts S) (old : Held S) : Type 0 where
   pub last : Held S
   pub reached : Reaches g old last
@@ -39,6 +42,7 @@ pub record NamesAbsent {S : Type 0} (g : Ghosts S) (old : Held S) : Type 0 where
   pub clean : HasCleanDisk (state g new)
   pub absent : WasAbsent text params (state g last) (state g new)
 
+-- what a step of writing leaves, and why it stops
 pub record WorkEnds {S : Type 0} (g : Ghosts S) (old new : Held S)
     (r : Result (Unit {0}) StatementError) : Type 0 where
   pub goes_on : OnOk r (IsTrue (state g new).in_transaction)
@@ -46,6 +50,7 @@ pub record WorkEnds {S : Type 0} (g : Ghosts S) (old new : Held S)
   pub missing : IsErrOf r Missing → NamesAbsent g old
   pub kept : KeepsCommit (state g old) (state g new)
 
+-- so a step of writing ends
 abbrev pub Works : {S : Type 0} → Ghosts S → Held S → Held S → Result (Unit {0}) StatementError
     → Type 0
 Works g old new r = HasCleanDisk (state g new) → IsTrue (state g old).in_transaction

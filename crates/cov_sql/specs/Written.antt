@@ -35,18 +35,22 @@ use Rattle.cov_sql.specs.declared.statements.StatementError.TheVariants.{Missing
 use Rattle.cov_sql.specs.Tables.{Shape, table_in, rows_in, IsUnhidden}
 use Rattle.cov_sql.specs.Told.{IsAbsence}
 
+-- no foreign key acts where rows of a tree go
 abbrev pub NothingActs : Schema → ℕ → Type 0
 NothingActs schema tree = (olds : List Row) → works schema Enforced 0 tree olds [] ≡ []
 
+-- the rowid of a row is an integer
 abbrev pub HasInteger : Row → Type 0
 HasInteger r = (n : ℤ) × (rowid r ≡ Int n)
 
+-- a table is there whose rows may go
 pub record IsFree (t : Shape) (db : Database) : Type 0 where
   pub table : Table
   pub there : table_in db.schema t.name ≡ Some table
   pub acts : NothingActs db.schema table.tree
   pub rowids : AllByRecursion HasInteger (db.trees table.tree)
 
+-- a table has no row left, and every other is as before
 pub record IsEmptied (t : Shape) (old new : Database) : Type 0 where
   pub schema : new.schema ≡ old.schema
   pub rows : (all : List Row) → rows_in t old ≡ Some all → rows_in t new ≡ Some []
@@ -54,10 +58,12 @@ pub record IsEmptied (t : Shape) (old new : Database) : Type 0 where
       → AllByRecursion (λ v. v.tree ≢ u.tree → new.trees v.tree ≡ old.trees v.tree)
       old.schema.tables
 
+-- so a call deletes the rows of a table
 abbrev pub Deletes : Shape → State → State → Result (Unit {0}) StatementError → Type 0
 Deletes t old new r = HasCleanDisk new → IsTrue old.in_transaction → IsFree t old.now
     → OnOk r (IsEmptied t old.now new.now)
 
+-- no table, view or index has the name of a table, which may be made
 pub record IsUnused (t : Shape) (table : ℕ → Table) (db : Database) : Type 0 where
   pub no_table : table_named db.schema t.name ≡ None
   pub no_view : view_named db.schema t.name ≡ None
@@ -71,11 +77,13 @@ pub record IsMade (table : ℕ → Table) (old new : Database) : Type 0 where
   pub empty : new.trees (next_tree old.schema) ≡ []
   pub others : KeepsRows old.schema.tables old.trees new.trees
 
+-- a schema has the tables and views that it had
 pub record IsGrown (old new : Schema) : Type 0 where
   pub tables : (name : List ℕ) (at : ℕ) → table_named old name ≡ Some at
       → table_named new name ≡ Some at
   pub views : new.views ≡ old.views
 
+-- what a call that makes a table does, and why it is refused
 pub record IsMaking (t : Shape) (table : ℕ → Table) (old new : State)
     (r : Result (Unit {0}) StatementError) : Type 0 where
   pub made : IsUnused t table old.now → OnOk r (IsMade table old.now new.now)
@@ -86,9 +94,11 @@ pub record IsMaking (t : Shape) (table : ℕ → Table) (old new : State)
   -- the text needs no other table
   pub never : IsUnhidden t old.now → IsErrOf r Missing → ⊥
 
+-- so a call makes a table
 abbrev pub Makes : Shape → (ℕ → Table) → State → State → Result (Unit {0}) StatementError → Type 0
 Makes t table old new r = HasCleanDisk new → IsTrue old.in_transaction → IsMaking t table old new r
 
+-- a table is there as data files declare it
 abbrev pub IsDeclared : Shape → (ℕ → Table) → Database → Type 0
 IsDeclared t table db = (at : ℕ) × (tree : ℕ) × (table_named db.schema t.name ≡ Some at)
     × (slice_get db.schema.tables at ≡ Some (table tree))
@@ -107,11 +117,13 @@ pub record IsAdded (t : Shape) (row : Row) (old new : Database) : Type 0 where
       → AllByRecursion (λ v. v.tree ≢ u.tree → new.trees v.tree ≡ old.trees v.tree)
       old.schema.tables
 
+-- so a call inserts a row
 abbrev pub Inserts : Shape → (ℕ → Table) → Row → State → State → Result (Unit {0}) StatementError
     → Type 0
 Inserts t table row old new r = HasCleanDisk new → IsTrue old.in_transaction
     → IsDeclared t table old.now → OnOk r (IsAdded t row old.now new.now)
 
+-- a text was refused, since a table or a column is not there
 abbrev pub WasAbsent : List ℕ → Row → State → State → Type 0
 WasAbsent text params old new = (e : CompileError) × IsAbsence e
     × Executes text params old new (Err (SqlInputError e))
@@ -121,6 +133,7 @@ abbrev pub Ran : List ℕ → Row → State → State → Type 0
 Ran text params old new = (count : ℕ) × Executes text params old new (Ok count)
     × Shows old new new.now old.committed true
 
+-- a call ran a text, or it was refused, and what was committed stays
 pub record IsRun (text : List ℕ) (old new : State)
     (r : Result (Unit {0}) StatementError) : Type 0 where
   pub ran : OnOk r ((params : Row) × Ran text params old new)

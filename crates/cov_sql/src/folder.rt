@@ -18,8 +18,8 @@ use std::io::ErrorKind;
 use std::path::{Path, PathBuf};
 use std::{fs, io};
 
-/// The data files of a folder, each under its name. Files that the database keeps beside a data file have
-/// no name of their own.
+/// The data files of a folder, each under its name. Files that the database keeps beside a data file
+/// have no name of their own.
 #[derive(Drop)]
 pub struct FolderVault {
     rt: HostRuntime,
@@ -183,7 +183,8 @@ impl Vault for FolderVault {
         }
         match fs::remove_file(&self.rt, path.as_path()) {
             Ok(()) => {
-                // The name is gone. What stays beside it counts, and the next save of this name takes it.
+                // The name is gone. What stays beside it counts, and the next save of this name takes
+                // it.
                 let _ = self.take_companions(alloc, &path);
                 Ok(())
             }

@@ -1,5 +1,5 @@
-//! That data which are saved in a database are read from it again: laws over its tables. The functions
-//! do nothing, and each stands for the law that its contract states.
+//! That data which are saved in a database are read from it again: laws over its tables. The
+//! functions do nothing, and each stands for the law that its contract states.
 ghost use Rattle.cov_sql.specs.Laws.{SavedAreRead, SavedIsSchema7, SavedIsReady, SavesAreRead};
 
 use sqlite::Alter;
@@ -19,8 +19,8 @@ pub fn saved_is_ready()
     ensures { SavedIsReady }
 {}
 
-/// Once `write_data` has saved data in a base that was ready for them, the base holds them, and is ready
-/// again.
+/// Once `write_data` has saved data in a base that was ready for them, the base holds them, and is
+/// ready again.
 pub fn saves_are_read<S: Alter>()
     ensures { SavesAreRead S.Store }
 {}

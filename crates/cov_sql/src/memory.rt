@@ -15,7 +15,8 @@ use cov_vault::{Vault, VaultError, first_named, names_of};
 use sqlite::{Connection, MemStore};
 use std::alloc::{AllocError, Global};
 
-/// Data files over bases in memory, each under its name. Of two bases with one name the first counts.
+/// Data files over bases in memory, each under its name. Of two bases with one name the first
+/// counts.
 #[derive(Drop)]
 pub struct SqlVault {
     bases: Vec<(String, Connection<MemStore>)>,
@@ -39,7 +40,8 @@ impl SqlVault {
 
     fn add(&mut self, name: String, base: Connection<MemStore>) -> Result<(), AllocError>
         requires { base.in_transaction ≡ false }
-        ensures ok { OnOk result (self.new.bases.items ≡ self.old.bases.items ++ (name, base) ∷ []) }
+        ensures ok { OnOk result
+            (self.new.bases.items ≡ self.old.bases.items ++ (name, base) ∷ []) }
         ensures err { OnErr result (self.new.bases.items ≡ self.old.bases.items) }
         ensures count { self.new.by.refusals ≡ self.old.by.refusals }
     {

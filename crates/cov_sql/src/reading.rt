@@ -14,6 +14,7 @@ ghost use Rattle.cov_sql.specs.Finds.{EndsAs, SeeksCounts, IsNamed, IsMeasured, 
 
 use crate::errors::SqlError;
 use crate::statements::{StatementError, Statements};
+use crate::tables::Table;
 use cov_data::Data;
 use cov_tables::{Cell, Tables, content_of};
 use cov_vault::Content;
@@ -59,7 +60,7 @@ fn hits_rows<S: Alter, Q: Statements>(
     ensures asks { Asks S.Store base.old base.new }
     ensures goes_on { GoesOn Q.tells Q.refusals by.old by.new (IsFault result) }
 {
-    match by.read_hits(alloc, base) {
+    match by.read(alloc, base, Table::Hits) {
         Ok(rows) => Ok(Some(rows)),
         Err(StatementError::Missing) => Ok(None),
         Err(StatementError::Refused) => Err(SqlError::Refused),
@@ -80,15 +81,11 @@ fn read_named<S: Alter, Q: Statements>(
     ensures asks { Asks S.Store base.old base.new }
     ensures goes_on { GoesOn Q.tells Q.refusals by.old by.new (IsFault result) }
 {
-    let coverage_schema = by.read_coverage_schema(alloc, base)?;
-    let meta = by.read_meta(alloc, base)?;
-    let file = by.read_file(alloc, base)?;
-    let context = by.read_context(alloc, base)?;
     Ok(Named {
-        coverage_schema,
-        meta,
-        file,
-        context,
+        coverage_schema: by.read(alloc, base, Table::CoverageSchema)?,
+        meta: by.read(alloc, base, Table::Meta)?,
+        file: by.read(alloc, base, Table::File)?,
+        context: by.read(alloc, base, Table::Context)?,
     })
 }
 
@@ -105,9 +102,9 @@ fn read_measured<S: Alter, Q: Statements>(
     ensures asks { Asks S.Store base.old base.new }
     ensures goes_on { GoesOn Q.tells Q.refusals by.old by.new (IsFault result) }
 {
-    let line_bits = by.read_line_bits(alloc, base)?;
-    let arc = by.read_arc(alloc, base)?;
-    let _tracer = by.read_tracer(alloc, base)?;
+    let line_bits = by.read(alloc, base, Table::LineBits)?;
+    let arc = by.read(alloc, base, Table::Arc)?;
+    let _tracer = by.read(alloc, base, Table::Tracer)?;
     let hits = hits_rows(alloc, base, by)?;
     Ok(Measured {
         line_bits,

@@ -5,6 +5,7 @@ use Rattle.std.specs.FinMap.{FinMap, from_entries}
 use Rattle.cov_data.specs.DataSet.{text_cmp, rekeyed}
 use Rattle.cov_vault.specs.declared.vault.Content.{Content}
 
+-- what each name holds
 abbrev pub Contents : Type 0
 Contents = FinMap text_cmp Content
 
