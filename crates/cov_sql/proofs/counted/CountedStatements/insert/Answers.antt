@@ -14,7 +14,7 @@ returns-in-CoverageSchema-clause-works g c _ =
 pub returns-in-Meta-clause-works : goal.returns-in-Meta-clause-works
 returns-in-Meta-clause-works g c _ =
     inserts_as g.S.Store c.insert_text-sql.result.now _ c.args.work.now.conn.now c.run-in-Meta.new.work.conn.now c.run-in-Meta.result c.run-in-Meta.ensures.ran c.run-in-Meta.ensures.missing c.run-in-Meta.ensures.kept c.run-in-Meta.ensures.survives c.args.row c.insert_text-sql.ensures
-    (rw c.in-Meta.is (λ i. Text (c.as_bytes.ensures.value i) ∷ Text (c.as_bytes-2.ensures.value i) ∷ []))
+    (rw c.in-Meta.is (λ i. Text (c.as_bytes.ensures.value i) ∷ Text (c.as_bytes-in-Meta.ensures.value i) ∷ []))
 
 pub returns-in-File-clause-works : goal.returns-in-File-clause-works
 returns-in-File-clause-works g c _ =
