@@ -51,10 +51,6 @@ pub deletes : (text : List ℕ) (t : Shape) → IsDelete text t.name → (old ne
 deletes text t i old new (Ok v) ran clean inside free = let h = ran clean inside in empties_table text t i old new free h.0 h.1
 deletes text t i old new (Err e) ran clean inside free = tt
 
-pub deletes_coverage_schema : IsDelete (codes "DELETE FROM coverage_schema") (codes "coverage_schema")
-unfolding everything
-deletes_coverage_schema = record { parsed = _; reads = refl; is = refl; no_names = refl; no_formats = refl }
-
 pub deletes_meta : IsDelete (codes "DELETE FROM meta") (codes "meta")
 unfolding everything
 deletes_meta = record { parsed = _; reads = refl; is = refl; no_names = refl; no_formats = refl }

@@ -1,23 +1,24 @@
 -- One step of filling tables after the other.
-use Rattle.std.proofs.Common.{◌≡◌, ℕ, zero, suc, ◌+◌, pos, ◌<◌, ◌≤◌, arith, Bool, true, false, cond, List, [], ◌∷◌, ◌++◌, map, take, length, get_or, slice_get, append_assoc, Option, Some, None, Result, Ok, Err, OnOk, refl, sym, ap, subst, ◌∙◌}
+use Rattle.std.proofs.Common.{◌≡◌, ℕ, zero, suc, ◌+◌, pos, ◌<◌, ℤ, arith, Bool, true, false, cond, List, [], ◌∷◌, ◌++◌, map, take, length, get_or, append_assoc, string_bytes, String, Result, Ok, Err, OnOk, refl, sym, ap, subst, ◌∙◌}
+use Rattle.std.specs.declared.alloc.Global.{Global}
 use Rattle.std.specs.List.Sorted.{IsPermutation}
-use Rattle.std.proofs.lemmas.List.{take_more}
-use Rattle.std.proofs.lemmas.List.Sums.{fold-append}
+use Rattle.std.proofs.lemmas.List.{take_more, map-append}
 use Rattle.std.proofs.lemmas.List.Sorted.{IsPermutation-refl, IsPermutation-trans, IsPermutation-middle}
 use Rattle.sqlite_value.specs.Order.{Row}
 use Rattle.sqlite_value.specs.declared.value.Value.TheVariants.{Int, Text}
 use Rattle.sqlite_trees.specs.declared.store.Store.{Ghosts}
 use Rattle.sqlite.specs.Effect.{Database}
 use Rattle.sqlite.specs.Held.{Held, state}
-use Rattle.sqlite.specs.State.{HasCleanDisk, Survives}
+use Rattle.sqlite.specs.State.{State, HasCleanDisk, Survives}
 use Rattle.cov_sql.specs.declared.statements.StatementError.{StatementError}
 use Rattle.cov_sql.specs.declared.tables.Table.{Table as Name}
+use Rattle.sqlite_schema.specs.declared.schema.Table.{Table}
+use Rattle.cov_sql.specs.Tables.{Shape}
 use Rattle.cov_sql.specs.Written.{Inserts}
 use Rattle.cov_sql.specs.ByName.{shape_of, declared_as}
 use Rattle.cov_sql.specs.Works.{Works}
 use Rattle.cov_sql.specs.Holding.{same_table, Rows, with_rows, Holds, Fills}
-use Rattle.cov_sql.specs.declared.saved.Saved.{Saved}
-use Rattle.cov_sql.specs.SavedRows.{numbered, written_rows, with_written}
+use Rattle.cov_sql.specs.SavedRows.{numbered}
 use Rattle.cov_sql.proofs.Holding.{added, is_declared}
 
 -- the same rows in another order
@@ -54,6 +55,13 @@ module _ {S : Type 0} (g : Ghosts S) where
   pub fills_none : (n : Name) (a : Held S) → Fills g (with_rows n []) a a (Ok tt)
   fills_none n a clean inside rows h = no_rows_more n (state g a).now rows h
 
+  -- a step that is not taken
+  pub fills_if : (n : Name) (b : Bool) (rows : List Row) (a : Held S) → b ≡ false → Fills g (with_rows n (cond b rows [])) a a (Ok tt)
+  fills_if n b rows a is = rw is (fills_none n a)
+
+  pub fills_when : (n : Name) (b : Bool) (rows : List Row) (a c : Held S) (r : Result (Unit {0}) StatementError) → b ≡ true → Fills g (with_rows n rows) a c r → Fills g (with_rows n (cond b rows [])) a c r
+  fills_when n b rows a c r is h = rw is h
+
   -- a statement that adds a row
   pub fills_one : (n : Name) (row : Row) (a b : Held S) (r : Result (Unit {0}) StatementError) → Inserts (shape_of n) (declared_as n) row (state g a) (state g b) r → Fills g (with_rows n (row ∷ [])) a b r
   fills_one n row a b r told clean inside rows h = on_ok r (added n row (state g a).now (state g b).now rows h) (told clean inside (is_declared n (state g a).now h.base.stands))
@@ -70,32 +78,43 @@ module _ {S : Type 0} (g : Ghosts S) where
   fills_next n xs row a b c v s works one told clean inside rows h =
       one_more n xs row (state g c).now rows (fills_then (with_rows n xs) (with_rows n (row ∷ [])) a b c v (Ok tt) s works one (fills_one n row b c (Ok tt) told) clean inside rows h)
 
-  -- the rows of one table more
-  pub fills_more : (saved : Saved) (ns : List Name) (n : Name) (a b c : Held S) (v : Unit {0}) → Survives (state g b) (state g c) (λ _. ⊥)
-      → Works g a b (Ok v) → Fills g (with_written saved ns) a b (Ok v) → Fills g (with_rows n (written_rows saved n)) b c (Ok tt) → Fills g (with_written saved (ns ++ n ∷ [])) a c (Ok tt)
-  fills_more saved ns n a b c v s works one two clean inside rows h =
-      subst (Holds (state g c).now) (sym (fold-append (λ rs k. with_rows k (written_rows saved k) rs) rows ns (n ∷ [])))
-      (fills_then (with_written saved ns) (with_rows n (written_rows saved n)) a b c v (Ok tt) s works one two clean inside rows h)
-
-  pub fills_no_table : (saved : Saved) (a : Held S) → Fills g (with_written saved []) a a (Ok tt)
-  fills_no_table saved a clean inside rows h = h
-
 -- ---- lists so far
+
+pub take_at : {X : Type 0} (xs : List X) (i : ℕ) (x : X) → i < length xs → x ≡ get_or xs i x → take (i + 1) xs ≡ take i xs ++ x ∷ []
+take_at xs i x below is = take_more xs i x below ∙ ap (λ y. take i xs ++ y ∷ []) (sym is)
 
 pub take_got : {X : Type 0} (xs : List X) (i : ℕ) (d : X) → i < length xs → take (i + 1) xs ≡ take i xs ++ get_or xs i d ∷ []
 take_got xs i d below = take_more xs i d below
 
-got : {X : Type 0} (xs : List X) (i : ℕ) (x : X) → Some x ≡ slice_get xs i → (i < length xs) × (get_or xs i x ≡ x)
-got [] i x is = absurd cc
-got (y ∷ ys) zero x is = (omega arith, cc)
-got (y ∷ ys) (suc i) x is = let rest = got ys i x is in (omega (arith, rest.0), rest.1)
+pub map_at : {X Y : Type 0} (f : X → Y) (xs : List X) (i : ℕ) (x : X) → i < length xs → x ≡ get_or xs i x → map f (take (i + 1) xs) ≡ map f (take i xs) ++ f x ∷ []
+map_at f xs i x below is = ap (map f) (take_at xs i x below is) ∙ map-append f (take i xs) (x ∷ [])
 
--- the row at a place is the next one
-pub take_next : {X : Type 0} (xs : List X) (i : ℕ) (x : X) → Some x ≡ slice_get xs i → take (i + 1) xs ≡ take i xs ++ x ∷ []
-take_next xs i x is = let it = got xs i x is in take_more xs i x it.0 ∙ ap (λ y. take i xs ++ y ∷ []) it.1
+pub map_got : {X Y : Type 0} (f : X → Y) (xs : List X) (i : ℕ) (d : X) → i < length xs → map f (take (i + 1) xs) ≡ map f (take i xs) ++ f (get_or xs i d) ∷ []
+map_got f xs i d below = ap (map f) (take_more xs i d below) ∙ map-append f (take i xs) (get_or xs i d ∷ [])
 
--- where there is none, the rows are at their end
-pub past_end : {X : Type 0} (xs : List X) (i : ℕ) → ◌≡◌ {A = Option X} None (slice_get xs i) → length xs ≤ i
-past_end [] i is = omega arith
-past_end (y ∷ ys) zero is = absurd cc
-past_end (y ∷ ys) (suc i) is = let rest = past_end ys i is in omega (arith, rest)
+numbered-append : (k : ℕ) (ts : List (List ℕ)) (t : List ℕ) → numbered k (ts ++ t ∷ []) ≡ numbered k ts ++ (Int (pos (k + length ts)) ∷ Text t ∷ []) ∷ []
+numbered-append k [] t = let none : k ≡ k + length {A = List ℕ} [] = omega arith in ap (λ j. (Int (pos j) ∷ Text t ∷ []) ∷ []) none
+numbered-append k (u ∷ us) t = let on : (k + 1) + length us ≡ k + suc (length us) = omega arith in
+    ap (λ rest. (Int (pos k) ∷ Text u ∷ []) ∷ rest) (numbered-append (k + 1) us t ∙ ap (λ j. numbered (k + 1) us ++ (Int (pos j) ∷ Text t ∷ []) ∷ []) on)
+
+length_take : {X : Type 0} (xs : List X) (i : ℕ) → i < length xs → length (take i xs) ≡ i
+length_take [] i below = absurd (omega (arith, below))
+length_take (x ∷ xs) zero below = refl
+length_take (x ∷ xs) (suc i) below = ap suc (length_take xs i (omega (arith, below)))
+
+length_mapped : {X Y : Type 0} (f : X → Y) (xs : List X) → length (map f xs) ≡ length xs
+length_mapped f [] = refl
+length_mapped f (x ∷ xs) = ap suc (length_mapped f xs)
+
+pub numbered_at : (texts : List (String Global)) (i : ℕ) (text : String Global) → i < length texts → text ≡ get_or texts i text
+    → numbered 1 (map string_bytes (take (i + 1) texts)) ≡ numbered 1 (map string_bytes (take i texts)) ++ (Int (pos (i + 1)) ∷ Text (string_bytes text) ∷ []) ∷ []
+numbered_at texts i text below is =
+    let count : length (map string_bytes (take i texts)) ≡ i = length_mapped string_bytes (take i texts) ∙ length_take texts i below in
+    let at : 1 + length (map string_bytes (take i texts)) ≡ i + 1 = omega (arith, count) in
+    ap (numbered 1) (map_at string_bytes texts i text below is) ∙ numbered-append 1 (map string_bytes (take i texts)) (string_bytes text)
+    ∙ ap (λ j. numbered 1 (map string_bytes (take i texts)) ++ (Int (pos j) ∷ Text (string_bytes text) ∷ []) ∷ []) at
+
+-- the row that was inserted, by what its values are
+pub as_row : (t : Shape) (table : ℕ → Table) (old new : State) (r : Result (Unit {0}) StatementError) {x : ℤ} {s : List ℕ} (y : ℤ) (u : List ℕ) → Inserts t table (Int x ∷ Text s ∷ []) old new r → x ≡ y → s ≡ u
+    → Inserts t table (Int y ∷ Text u ∷ []) old new r
+as_row t table old new r y u h is same = subst (λ row. Inserts t table row old new r) (λ k. Int (is k) ∷ Text (same k) ∷ []) h

@@ -22,14 +22,12 @@ pub mod InsertIntoContext
 pub mod InsertIntoLineBits
 pub mod InsertIntoArc
 pub mod InsertIntoHits
-pub mod ByTable
 pub mod CellFields
 pub mod Seeking
 pub mod WrittenTexts
 pub mod Stepping
 pub mod Holding
 pub mod Filling
-pub mod WrittenRows
 pub mod Making
 pub mod Version
 pub mod Committing

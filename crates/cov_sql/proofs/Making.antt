@@ -1,5 +1,5 @@
 -- One table made after the other, and a data file without data.
-use Rattle.std.proofs.Common.{◌≡◌, ◌≢◌, IsTrue, ◌⊎◌, inl, inr, ℕ, zero, suc, pos, arith, true, false, List, [], ◌∷◌, ◌++◌, map, Some, None, slice_get, Option, Result, Ok, Err, OnOk, refl, sym, ap, subst, ◌∙◌}
+use Rattle.std.proofs.Common.{◌≡◌, IsTrue, ◌⊎◌, inl, inr, ℕ, zero, suc, pos, arith, true, false, List, [], ◌∷◌, ◌++◌, map, Some, None, slice_get, Option, Result, Ok, Err, OnOk, refl, sym, ap, subst, ◌∙◌}
 use Rattle.std.specs.List.{AllByRecursion}
 use Rattle.std.specs.Option.{unwrap_or}
 use Rattle.sqlite_value.specs.Order.{column}
@@ -285,18 +285,8 @@ module _ {S : Type 0} (g : Ghosts S) where
       let h = built a b v before inside bare one in
       on_ok r (holds_as (state g c).now _ no_data_rows only_version) (fills_one g name.CoverageSchema version b c r told clean ((works before inside).goes_on) (λ _. []) h)
 
-  empties_one : (n : Name) (a b : Held S) (r : Result (Unit {0}) StatementError) → Deletes (shape_of n) (state g a) (state g b) r → Empties g (without n) a b r
+  pub empties_one : (n : Name) (a b : Held S) (r : Result (Unit {0}) StatementError) → Deletes (shape_of n) (state g a) (state g b) r → Empties g (without n) a b r
   empties_one n a b r told clean inside rep rows h = on_ok r (λ e. (replaceable_then n (state g a).now (state g b).now rep e, emptied n (state g a).now (state g b).now e rows h)) (told clean inside (is_free n (state g a).now rep))
-
-  pub clears : (n : Name) (a b : Held S) (r : Result (Unit {0}) StatementError) → n ≢ name.CoverageSchema → Deletes (shape_of n) (state g a) (state g b) r → Empties g (cleared n) a b r
-  clears name.CoverageSchema a b r other told = absurd (other refl)
-  clears name.Meta a b r other told = empties_one name.Meta a b r told
-  clears name.File a b r other told = empties_one name.File a b r told
-  clears name.Context a b r other told = empties_one name.Context a b r told
-  clears name.LineBits a b r other told = empties_one name.LineBits a b r told
-  clears name.Arc a b r other told = empties_one name.Arc a b r told
-  clears name.Tracer a b r other told = empties_one name.Tracer a b r told
-  clears name.Hits a b r other told = empties_one name.Hits a b r told
 
   pub empties_none : (a : Held S) → Empties g (λ rows. rows) a a (Ok tt)
   empties_none a clean inside rep rows h = (rep, h)

@@ -1,38 +1,69 @@
 -- Each text is one of those of writing.
-use Rattle.std.proofs.Common.{◌≢◌, refl}
-use Rattle.cov_sql.specs.declared.tables.Table.{Table as Name}
-use Rattle.cov_sql.specs.declared.tables.Table.TheVariants as name
-use Rattle.cov_sql.specs.declared.new_rows.NewRow.{NewRow}
-use Rattle.cov_sql.specs.declared.new_rows.NewRow.TheVariants as new
-use Rattle.cov_sql.specs.SqlTexts.{IsWritten, make_text, delete_text}
-use Rattle.cov_sql.specs.NewRows.{insert_text}
+use Rattle.std.proofs.Common.{refl}
+use Rattle.cov_sql.specs.SqlTexts.{IsWritten, make_coverage_schema_text, make_meta_text, make_file_text, make_context_text, make_line_bits_text, make_arc_text, make_tracer_text, make_hits_text, insert_coverage_schema_text, insert_meta_text, insert_file_text, insert_context_text, insert_line_bits_text, insert_arc_text, insert_hits_text, delete_meta_text, delete_file_text, delete_context_text, delete_line_bits_text, delete_arc_text, delete_tracer_text, delete_hits_text}
 
-pub of_make : (n : Name) → IsWritten (make_text n)
-of_make name.CoverageSchema = (0, refl)
-of_make name.Meta = (1, refl)
-of_make name.File = (2, refl)
-of_make name.Context = (3, refl)
-of_make name.LineBits = (4, refl)
-of_make name.Arc = (5, refl)
-of_make name.Tracer = (6, refl)
-of_make name.Hits = (7, refl)
+pub of_make_coverage_schema : IsWritten make_coverage_schema_text
+of_make_coverage_schema = (0, refl)
 
-pub of_insert : (r : NewRow) → IsWritten (insert_text r)
-of_insert (new.CoverageSchema version) = (8, refl)
-of_insert (new.Meta key value) = (9, refl)
-of_insert (new.File id path) = (10, refl)
-of_insert (new.Context id context) = (11, refl)
-of_insert (new.LineBits file_id context_id numbits) = (12, refl)
-of_insert (new.Arc file_id context_id fromno tono) = (13, refl)
-of_insert (new.Hits file_id context_id fromno tono count) = (14, refl)
+pub of_make_meta : IsWritten make_meta_text
+of_make_meta = (1, refl)
 
--- the row of the version stays
-pub of_delete : (n : Name) → n ≢ name.CoverageSchema → IsWritten (delete_text n)
-of_delete name.CoverageSchema other = absurd (other refl)
-of_delete name.Meta other = (15, refl)
-of_delete name.File other = (16, refl)
-of_delete name.Context other = (17, refl)
-of_delete name.LineBits other = (18, refl)
-of_delete name.Arc other = (19, refl)
-of_delete name.Tracer other = (20, refl)
-of_delete name.Hits other = (21, refl)
+pub of_make_file : IsWritten make_file_text
+of_make_file = (2, refl)
+
+pub of_make_context : IsWritten make_context_text
+of_make_context = (3, refl)
+
+pub of_make_line_bits : IsWritten make_line_bits_text
+of_make_line_bits = (4, refl)
+
+pub of_make_arc : IsWritten make_arc_text
+of_make_arc = (5, refl)
+
+pub of_make_tracer : IsWritten make_tracer_text
+of_make_tracer = (6, refl)
+
+pub of_make_hits : IsWritten make_hits_text
+of_make_hits = (7, refl)
+
+pub of_insert_coverage_schema : IsWritten insert_coverage_schema_text
+of_insert_coverage_schema = (8, refl)
+
+pub of_insert_meta : IsWritten insert_meta_text
+of_insert_meta = (9, refl)
+
+pub of_insert_file : IsWritten insert_file_text
+of_insert_file = (10, refl)
+
+pub of_insert_context : IsWritten insert_context_text
+of_insert_context = (11, refl)
+
+pub of_insert_line_bits : IsWritten insert_line_bits_text
+of_insert_line_bits = (12, refl)
+
+pub of_insert_arc : IsWritten insert_arc_text
+of_insert_arc = (13, refl)
+
+pub of_insert_hits : IsWritten insert_hits_text
+of_insert_hits = (14, refl)
+
+pub of_delete_meta : IsWritten delete_meta_text
+of_delete_meta = (15, refl)
+
+pub of_delete_file : IsWritten delete_file_text
+of_delete_file = (16, refl)
+
+pub of_delete_context : IsWritten delete_context_text
+of_delete_context = (17, refl)
+
+pub of_delete_line_bits : IsWritten delete_line_bits_text
+of_delete_line_bits = (18, refl)
+
+pub of_delete_arc : IsWritten delete_arc_text
+of_delete_arc = (19, refl)
+
+pub of_delete_tracer : IsWritten delete_tracer_text
+of_delete_tracer = (20, refl)
+
+pub of_delete_hits : IsWritten delete_hits_text
+of_delete_hits = (21, refl)

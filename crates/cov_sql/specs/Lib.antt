@@ -7,7 +7,6 @@ pub mod Shown
 pub mod Written
 pub mod SqlTexts
 pub mod Calls
-pub mod NewRows
 pub mod Refusals
 pub mod Content
 pub mod Finds

@@ -4,17 +4,13 @@
 --     arc_row, bits_row, hits_row         the rows of what is kept of data until it is written
 --     with_names, with_data, with_all     the rows of all tables with those of names, with those of
 --                                         data, and with both
---     written_rows, with_written          the rows that are written of data in a table; those of
---                                         several tables, one after the other
 --     no_data_rows                        the rows of a data file of schema 7 without data
 use Rattle.std.specs.Prelude.{ℕ, pos, ◌+◌, Bool, cond, List, [], ◌∷◌, map, codes, string_bytes}
-use Rattle.std.specs.List.{fold}
 use Rattle.sqlite_value.specs.Order.{Row}
 use Rattle.sqlite_value.specs.declared.value.Value.TheVariants.{Int, Text, Blob}
 use Rattle.cov_sql.specs.declared.saved.Saved.{Saved}
 use Rattle.cov_sql.specs.declared.saved.SavedRow.{SavedRow}
 use Rattle.cov_sql.specs.declared.saved.SavedBits.{SavedBits}
-use Rattle.cov_sql.specs.declared.tables.Table.{Table as Name}
 use Rattle.cov_sql.specs.declared.tables.Table.TheVariants as name
 use Rattle.cov_sql.specs.Holding.{Rows, with_rows}
 
@@ -56,21 +52,6 @@ with_data s rows =
 -- all rows more that are written of data
 abbrev pub with_all : Saved → Rows → Rows
 with_all s rows = with_data s (with_names s rows)
-
--- the rows that are written of data in a table, beside the row of the version
-abbrev pub written_rows : Saved → Name → List Row
-written_rows s name.CoverageSchema = []
-written_rows s name.Meta = flag_row s.arcs ∷ []
-written_rows s name.File = numbered 1 (map string_bytes s.paths.items)
-written_rows s name.Context = numbered 1 (map string_bytes s.contexts.items)
-written_rows s name.LineBits = map bits_row s.bits.items
-written_rows s name.Arc = cond s.arcs (map arc_row s.rows.items) []
-written_rows s name.Tracer = []
-written_rows s name.Hits = map hits_row s.rows.items
-
--- the rows of all tables with those that are written in some, one table after the other
-abbrev pub with_written : Saved → List Name → Rows → Rows
-with_written s names rows = fold (λ rs n. with_rows n (written_rows s n) rs) rows names
 
 -- the rows of a data file without data: that of the version
 abbrev pub no_data_rows : Rows

@@ -1,12 +1,9 @@
--- The texts of SQL that read and write the tables of coverage.py's schema 7 and the table of counts.
---     make_.._text                       makes the table
---     insert_.._text                     inserts a row, whose values are the parameters
---     delete_.._text                     deletes its rows
---     written_texts, IsWritten           all of these texts; a text is one of them
---     read_text, make_text, delete_text  the text that reads a table, makes one or deletes its rows
-use Rattle.std.specs.Prelude.{◌≡◌, ℕ, List, [], ◌∷◌, ◌++◌, Some, slice_get, codes}
-use Rattle.cov_sql.specs.declared.tables.Table.{Table as Name}
-use Rattle.cov_sql.specs.declared.tables.Table.TheVariants as name
+-- The texts of SQL that write the tables of coverage.py's schema 7 and the table of counts.
+--     make_.._text                 makes the table
+--     insert_.._text               inserts a row, whose values are the parameters
+--     delete_.._text               deletes its rows
+--     written_texts, IsWritten     all of these texts; a text is one of them
+use Rattle.std.specs.Prelude.{◌≡◌, ℕ, List, [], ◌∷◌, Some, slice_get, codes}
 
 -- makes the table of the version
 abbrev pub make_coverage_schema_text : List ℕ
@@ -28,29 +25,22 @@ make_context_text =
 -- makes the table of executed lines, as bits
 abbrev pub make_line_bits_text : List ℕ
 make_line_bits_text =
-    codes "CREATE TABLE line_bits (file_id integer, context_id integer, numbits blob, "
-    ++ codes "foreign key (file_id) references file (id), "
-    ++ codes "foreign key (context_id) references context (id), unique (file_id, context_id))"
+    codes "CREATE TABLE line_bits (file_id integer, context_id integer, numbits blob, foreign key (file_id) references file (id), foreign key (context_id) references context (id), unique (file_id, context_id))"
 
 -- makes the table of arcs
 abbrev pub make_arc_text : List ℕ
 make_arc_text =
-    codes "CREATE TABLE arc (file_id integer, context_id integer, fromno integer, tono integer, "
-    ++ codes "foreign key (file_id) references file (id), "
-    ++ codes "foreign key (context_id) references context (id), "
-    ++ codes "unique (file_id, context_id, fromno, tono))"
+    codes "CREATE TABLE arc (file_id integer, context_id integer, fromno integer, tono integer, foreign key (file_id) references file (id), foreign key (context_id) references context (id), unique (file_id, context_id, fromno, tono))"
 
 -- makes the table of tracers
 abbrev pub make_tracer_text : List ℕ
 make_tracer_text =
-    codes "CREATE TABLE tracer (file_id integer primary key, tracer text, "
-    ++ codes "foreign key (file_id) references file (id))"
+    codes "CREATE TABLE tracer (file_id integer primary key, tracer text, foreign key (file_id) references file (id))"
 
 -- makes the table of counts
 abbrev pub make_hits_text : List ℕ
 make_hits_text =
-    codes "CREATE TABLE hits (file_id integer, context_id integer, fromno integer, tono integer, "
-    ++ codes "count integer, unique (file_id, context_id, fromno, tono))"
+    codes "CREATE TABLE hits (file_id integer, context_id integer, fromno integer, tono integer, count integer, unique (file_id, context_id, fromno, tono))"
 
 -- inserts the version
 abbrev pub insert_coverage_schema_text : List ℕ
@@ -124,38 +114,3 @@ written_texts =
 -- a text is one of those that write
 abbrev pub IsWritten : List ℕ → Type 0
 IsWritten text = (at : ℕ) × (slice_get written_texts at ≡ Some text)
-
--- ---- by table
-
--- the text that reads the rows of a table
-abbrev pub read_text : Name → List ℕ
-read_text name.CoverageSchema = codes "SELECT version FROM coverage_schema"
-read_text name.Meta = codes "SELECT key, value FROM meta"
-read_text name.File = codes "SELECT id, path FROM file"
-read_text name.Context = codes "SELECT id, context FROM context"
-read_text name.LineBits = codes "SELECT file_id, context_id, numbits FROM line_bits"
-read_text name.Arc = codes "SELECT file_id, context_id, fromno, tono FROM arc"
-read_text name.Tracer = codes "SELECT file_id, tracer FROM tracer"
-read_text name.Hits = codes "SELECT file_id, context_id, fromno, tono, count FROM hits"
-
--- the text that makes a table
-abbrev pub make_text : Name → List ℕ
-make_text name.CoverageSchema = make_coverage_schema_text
-make_text name.Meta = make_meta_text
-make_text name.File = make_file_text
-make_text name.Context = make_context_text
-make_text name.LineBits = make_line_bits_text
-make_text name.Arc = make_arc_text
-make_text name.Tracer = make_tracer_text
-make_text name.Hits = make_hits_text
-
--- the text that deletes the rows of a table
-abbrev pub delete_text : Name → List ℕ
-delete_text name.CoverageSchema = codes "DELETE FROM coverage_schema"
-delete_text name.Meta = delete_meta_text
-delete_text name.File = delete_file_text
-delete_text name.Context = delete_context_text
-delete_text name.LineBits = delete_line_bits_text
-delete_text name.Arc = delete_arc_text
-delete_text name.Tracer = delete_tracer_text
-delete_text name.Hits = delete_hits_text

@@ -1,8 +1,8 @@
 //! The statements over the database itself.
-ghost use Rattle.std.specs.Prelude.{◌≡◌, ◌≤◌, false, [], IsTrue, IfOk, OnOk, IsErrOf};
+ghost use Rattle.std.specs.Prelude.{◌≡◌, ◌≤◌, false, [], IsTrue, IfOk, OnOk, OnErr, IsErrOf};
 ghost use Rattle.cov_outside.specs.Counts.{greatest, Rose};
 ghost use Rattle.sqlite.specs.Held.{state};
-ghost use Rattle.sqlite.specs.State.{HasCleanDisk, Survives, CommitsShowing, KeepsCommit};
+ghost use Rattle.sqlite.specs.State.{HasCleanDisk, Survives, CommitsShowing, KeepsCommit, Commits, IsRolledBack};
 ghost use Rattle.sqlite_resolve.specs.declared.error.CompileError.{CompileError};
 ghost use Rattle.sqlite.specs.declared.error.Error.TheVariants.{SqlInputError};
 ghost use Rattle.sqlite.specs.Values.{bound};
@@ -11,15 +11,12 @@ ghost use Rattle.cov_sql.specs.Told.{IsAbsence, IsUnread};
 ghost use Rattle.cov_sql.specs.Written.{Ran, WasAbsent};
 ghost use Rattle.cov_sql.specs.Shown.{ShowsCells, IsRefusedAsAbsent, IsAsked};
 
-use crate::new_rows::NewRow;
-use crate::statement_texts::{delete_text, insert_text, make_text, read_text};
 use crate::statements::{StatementError, Statements};
-use crate::tables::Table;
 use crate::values::lists_of;
 use cov_tables::Cell;
 use sqlite::{Alter, Connection, Error, ErrorCode, Transaction};
 use sqlite_resolve::CompileError;
-use sqlite_value::value::ValueRef::{self, Blob, Int, Text};
+use sqlite_value::value::ValueRef;
 use std::alloc::Global;
 
 /// Statements over the database, which counts what it refuses.
@@ -155,62 +152,338 @@ impl Statements for Counted {
 
     ghost tells = { λ _. Unit {0} };
 
-    fn read<S: Alter>(
+    fn read_coverage_schema<S: Alter>(
         &mut self,
         alloc: Global,
         base: &mut Connection<S>,
-        table: Table,
     ) -> Result<Vec<Vec<Cell>>, StatementError> {
-        self.read_rows(alloc, base, read_text(table))
+        self.read_rows(alloc, base, "SELECT version FROM coverage_schema")
+    }
+
+    fn read_meta<S: Alter>(
+        &mut self,
+        alloc: Global,
+        base: &mut Connection<S>,
+    ) -> Result<Vec<Vec<Cell>>, StatementError> {
+        self.read_rows(alloc, base, "SELECT key, value FROM meta")
+    }
+
+    fn read_file<S: Alter>(
+        &mut self,
+        alloc: Global,
+        base: &mut Connection<S>,
+    ) -> Result<Vec<Vec<Cell>>, StatementError> {
+        self.read_rows(alloc, base, "SELECT id, path FROM file")
+    }
+
+    fn read_context<S: Alter>(
+        &mut self,
+        alloc: Global,
+        base: &mut Connection<S>,
+    ) -> Result<Vec<Vec<Cell>>, StatementError> {
+        self.read_rows(alloc, base, "SELECT id, context FROM context")
+    }
+
+    fn read_line_bits<S: Alter>(
+        &mut self,
+        alloc: Global,
+        base: &mut Connection<S>,
+    ) -> Result<Vec<Vec<Cell>>, StatementError> {
+        self.read_rows(
+            alloc,
+            base,
+            "SELECT file_id, context_id, numbits FROM line_bits",
+        )
+    }
+
+    fn read_arc<S: Alter>(
+        &mut self,
+        alloc: Global,
+        base: &mut Connection<S>,
+    ) -> Result<Vec<Vec<Cell>>, StatementError> {
+        self.read_rows(
+            alloc,
+            base,
+            "SELECT file_id, context_id, fromno, tono FROM arc",
+        )
+    }
+
+    fn read_tracer<S: Alter>(
+        &mut self,
+        alloc: Global,
+        base: &mut Connection<S>,
+    ) -> Result<Vec<Vec<Cell>>, StatementError> {
+        self.read_rows(alloc, base, "SELECT file_id, tracer FROM tracer")
+    }
+
+    fn read_hits<S: Alter>(
+        &mut self,
+        alloc: Global,
+        base: &mut Connection<S>,
+    ) -> Result<Vec<Vec<Cell>>, StatementError> {
+        self.read_rows(
+            alloc,
+            base,
+            "SELECT file_id, context_id, fromno, tono, count FROM hits",
+        )
     }
 
     fn may_begin(&mut self) -> Result<(), StatementError> {
         Ok(())
     }
 
-    fn make<S: Alter>(
+    fn make_coverage_schema<S: Alter>(
         &mut self,
         work: &mut Transaction<'_, S>,
-        table: Table,
     ) -> Result<(), StatementError> {
-        self.run(work, make_text(table), &[])
+        self.run(work, "CREATE TABLE coverage_schema (version integer)", &[])
     }
 
-    fn delete<S: Alter>(
+    fn make_meta<S: Alter>(&mut self, work: &mut Transaction<'_, S>) -> Result<(), StatementError> {
+        self.run(
+            work,
+            "CREATE TABLE meta (key text, value text, unique (key))",
+            &[],
+        )
+    }
+
+    fn make_file<S: Alter>(&mut self, work: &mut Transaction<'_, S>) -> Result<(), StatementError> {
+        self.run(
+            work,
+            "CREATE TABLE file (id integer primary key, path text, unique (path))",
+            &[],
+        )
+    }
+
+    fn make_context<S: Alter>(
         &mut self,
         work: &mut Transaction<'_, S>,
-        table: Table,
     ) -> Result<(), StatementError> {
-        self.run(work, delete_text(table), &[])
+        self.run(
+            work,
+            "CREATE TABLE context (id integer primary key, context text, unique (context))",
+            &[],
+        )
     }
 
-    fn insert<S: Alter>(
+    fn make_line_bits<S: Alter>(
         &mut self,
         work: &mut Transaction<'_, S>,
-        row: NewRow<'_>,
     ) -> Result<(), StatementError> {
-        let sql = insert_text(&row);
-        match row {
-            NewRow::CoverageSchema(version) => self.run(work, sql, &[Int(version)]),
-            NewRow::Meta(key, value) => {
-                self.run(work, sql, &[Text(key.as_bytes()), Text(value.as_bytes())])
-            }
-            NewRow::File(id, path) => self.run(work, sql, &[Int(id), Text(path.as_bytes())]),
-            NewRow::Context(id, text) => self.run(work, sql, &[Int(id), Text(text.as_bytes())]),
-            NewRow::LineBits(file, context, numbits) => {
-                self.run(work, sql, &[Int(file), Int(context), Blob(numbits)])
-            }
-            NewRow::Arc(file, context, from, to) => {
-                self.run(work, sql, &[Int(file), Int(context), Int(from), Int(to)])
-            }
-            NewRow::Hits(file, context, from, to, count) => {
-                let values = [Int(file), Int(context), Int(from), Int(to), Int(count)];
-                self.run(work, sql, &values)
-            }
-        }
+        self.run(
+            work,
+            "CREATE TABLE line_bits (file_id integer, context_id integer, numbits blob, foreign key (file_id) references file (id), foreign key (context_id) references context (id), unique (file_id, context_id))",
+            &[],
+        )
     }
 
-    fn commit<S: Alter>(&mut self, work: Transaction<'_, S>) -> Result<(), StatementError> {
+    fn make_arc<S: Alter>(&mut self, work: &mut Transaction<'_, S>) -> Result<(), StatementError> {
+        self.run(
+            work,
+            "CREATE TABLE arc (file_id integer, context_id integer, fromno integer, tono integer, foreign key (file_id) references file (id), foreign key (context_id) references context (id), unique (file_id, context_id, fromno, tono))",
+            &[],
+        )
+    }
+
+    fn make_tracer<S: Alter>(
+        &mut self,
+        work: &mut Transaction<'_, S>,
+    ) -> Result<(), StatementError> {
+        self.run(
+            work,
+            "CREATE TABLE tracer (file_id integer primary key, tracer text, foreign key (file_id) references file (id))",
+            &[],
+        )
+    }
+
+    fn make_hits<S: Alter>(&mut self, work: &mut Transaction<'_, S>) -> Result<(), StatementError> {
+        self.run(
+            work,
+            "CREATE TABLE hits (file_id integer, context_id integer, fromno integer, tono integer, count integer, unique (file_id, context_id, fromno, tono))",
+            &[],
+        )
+    }
+
+    fn insert_coverage_schema<S: Alter>(
+        &mut self,
+        work: &mut Transaction<'_, S>,
+        version: i64,
+    ) -> Result<(), StatementError> {
+        let row = [ValueRef::Int(version)];
+        self.run(
+            work,
+            "INSERT INTO coverage_schema (version) VALUES (?1)",
+            &row,
+        )
+    }
+
+    fn insert_meta<S: Alter>(
+        &mut self,
+        work: &mut Transaction<'_, S>,
+        key: &str,
+        value: &str,
+    ) -> Result<(), StatementError> {
+        let row = [
+            ValueRef::Text(key.as_bytes()),
+            ValueRef::Text(value.as_bytes()),
+        ];
+        self.run(work, "INSERT INTO meta (key, value) VALUES (?1, ?2)", &row)
+    }
+
+    fn insert_file<S: Alter>(
+        &mut self,
+        work: &mut Transaction<'_, S>,
+        id: i64,
+        path: &str,
+    ) -> Result<(), StatementError> {
+        let row = [ValueRef::Int(id), ValueRef::Text(path.as_bytes())];
+        self.run(work, "INSERT INTO file (id, path) VALUES (?1, ?2)", &row)
+    }
+
+    fn insert_context<S: Alter>(
+        &mut self,
+        work: &mut Transaction<'_, S>,
+        id: i64,
+        text: &str,
+    ) -> Result<(), StatementError> {
+        let row = [ValueRef::Int(id), ValueRef::Text(text.as_bytes())];
+        self.run(
+            work,
+            "INSERT INTO context (id, context) VALUES (?1, ?2)",
+            &row,
+        )
+    }
+
+    fn insert_line_bits<S: Alter>(
+        &mut self,
+        work: &mut Transaction<'_, S>,
+        file_id: i64,
+        context_id: i64,
+        numbits: &[u8],
+    ) -> Result<(), StatementError> {
+        let row = [
+            ValueRef::Int(file_id),
+            ValueRef::Int(context_id),
+            ValueRef::Blob(numbits),
+        ];
+        self.run(
+            work,
+            "INSERT INTO line_bits (file_id, context_id, numbits) VALUES (?1, ?2, ?3)",
+            &row,
+        )
+    }
+
+    fn insert_arc<S: Alter>(
+        &mut self,
+        work: &mut Transaction<'_, S>,
+        file_id: i64,
+        context_id: i64,
+        fromno: i64,
+        tono: i64,
+    ) -> Result<(), StatementError> {
+        let row = [
+            ValueRef::Int(file_id),
+            ValueRef::Int(context_id),
+            ValueRef::Int(fromno),
+            ValueRef::Int(tono),
+        ];
+        self.run(
+            work,
+            "INSERT INTO arc (file_id, context_id, fromno, tono) VALUES (?1, ?2, ?3, ?4)",
+            &row,
+        )
+    }
+
+    fn insert_hits<S: Alter>(
+        &mut self,
+        work: &mut Transaction<'_, S>,
+        file_id: i64,
+        context_id: i64,
+        fromno: i64,
+        tono: i64,
+        count: i64,
+    ) -> Result<(), StatementError> {
+        let row = [
+            ValueRef::Int(file_id),
+            ValueRef::Int(context_id),
+            ValueRef::Int(fromno),
+            ValueRef::Int(tono),
+            ValueRef::Int(count),
+        ];
+        self.run(
+            work,
+            "INSERT INTO hits (file_id, context_id, fromno, tono, count) VALUES (?1, ?2, ?3, ?4, ?5)",
+            &row,
+        )
+    }
+
+    fn delete_meta<S: Alter>(
+        &mut self,
+        work: &mut Transaction<'_, S>,
+    ) -> Result<(), StatementError> {
+        self.run(work, "DELETE FROM meta", &[])
+    }
+
+    fn delete_file<S: Alter>(
+        &mut self,
+        work: &mut Transaction<'_, S>,
+    ) -> Result<(), StatementError> {
+        self.run(work, "DELETE FROM file", &[])
+    }
+
+    fn delete_context<S: Alter>(
+        &mut self,
+        work: &mut Transaction<'_, S>,
+    ) -> Result<(), StatementError> {
+        self.run(work, "DELETE FROM context", &[])
+    }
+
+    fn delete_line_bits<S: Alter>(
+        &mut self,
+        work: &mut Transaction<'_, S>,
+    ) -> Result<(), StatementError> {
+        self.run(work, "DELETE FROM line_bits", &[])
+    }
+
+    fn delete_arc<S: Alter>(
+        &mut self,
+        work: &mut Transaction<'_, S>,
+    ) -> Result<(), StatementError> {
+        self.run(work, "DELETE FROM arc", &[])
+    }
+
+    fn delete_tracer<S: Alter>(
+        &mut self,
+        work: &mut Transaction<'_, S>,
+    ) -> Result<(), StatementError> {
+        self.run(work, "DELETE FROM tracer", &[])
+    }
+
+    fn delete_hits<S: Alter>(
+        &mut self,
+        work: &mut Transaction<'_, S>,
+    ) -> Result<(), StatementError> {
+        self.run(work, "DELETE FROM hits", &[])
+    }
+
+    fn commit<S: Alter>(&mut self, work: Transaction<'_, S>) -> Result<(), StatementError>
+        ensures told { HasCleanDisk (state S.Store work.exit.0.now)
+            → OnOk result (Commits (state S.Store work.entry.conn.now)
+            (state S.Store work.exit.0.now)) }
+        ensures undone { HasCleanDisk (state S.Store work.exit.0.now)
+            → IsTrue (state S.Store work.entry.conn.now).in_transaction
+            → OnErr result (IsRolledBack (state S.Store work.entry.conn.now)
+            (state S.Store work.exit.0.now)) }
+        ensures ended { work.exit.0.now.in_transaction ≡ false }
+        ensures survives { Survives (state S.Store work.entry.conn.now)
+            (state S.Store work.exit.0.now) (λ db.
+            db ≡ (state S.Store work.entry.conn.now).now.trees) }
+        ensures count { self.old.refusals ≤ self.new.refusals }
+        ensures refused { IsErrOf result StatementError.Refused
+            → Rose self.old.refusals self.new.refusals }
+        ensures not_missing { IsErrOf result StatementError.Missing → ⊥ }
+        ensures tells { ⟦<Counted as Statements>⟧.tells self.new }
+    {
         match work.commit() {
             Ok(()) => Ok(()),
             Err(error) => Err(self.count_end(error)),

@@ -1,6 +1,6 @@
 //! Data files of coverage.py's schema 7: `read_data` and `write_data` turn them into data and back.
-//! `FolderVault` keeps them in a folder, and `SqlVault` in memory. `Statements` are those on their
-//! tables, and `Counted` runs them and counts what the database refuses.
+//! `FolderVault` keeps them in a folder, and `SqlVault` in memory. `Statements` has a method for each
+//! statement on their tables, and `Counted` runs them and counts what the database refuses.
 #![tactic(auto)]
 
 mod bits;
@@ -10,11 +10,9 @@ mod folder;
 mod inserting;
 mod laws;
 mod memory;
-mod new_rows;
 mod preparing;
 mod reading;
 mod saved;
-mod statement_texts;
 mod statements;
 mod tables;
 mod values;
@@ -26,8 +24,6 @@ pub use errors::SqlError;
 pub use folder::FolderVault;
 pub use laws::{saved_are_read, saved_is_ready, saved_is_schema_7, saves_are_read};
 pub use memory::SqlVault;
-pub use new_rows::NewRow;
 pub use reading::read_data;
 pub use statements::{StatementError, Statements};
-pub use tables::Table;
 pub use writing::write_data;

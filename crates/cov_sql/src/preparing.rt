@@ -2,12 +2,13 @@
 ghost use Rattle.std.specs.Prelude.{◌≡◌, false};
 ghost use Rattle.sqlite.specs.Held.{state};
 ghost use Rattle.cov_sql.specs.declared.preparing.Start.TheVariants as start;
+ghost use Rattle.cov_sql.specs.ByName.{shape_of, declared_as};
+ghost use Rattle.cov_sql.specs.Written.{Makes};
 ghost use Rattle.cov_sql.specs.Calls.{IsRefused, GoesOn, LeavesNoMore};
 ghost use Rattle.cov_sql.specs.Works.{Works};
 ghost use Rattle.cov_sql.specs.Holding.{cleared, cleared_all, Empties};
 ghost use Rattle.cov_sql.specs.Making.{Builds, Prepares, Denies, RefusesIfThere, NeverLacks};
 
-use crate::new_rows::NewRow;
 use crate::statements::{StatementError, Statements};
 use crate::tables::Table;
 use sqlite::{Alter, Transaction};
@@ -43,6 +44,32 @@ pub(crate) enum Start {
     Tables { has_hits: bool },
 }
 
+fn make_table<S: Alter, Q: Statements>(
+    work: &mut Transaction<'_, S>,
+    by: &mut Q,
+    table: Table,
+) -> Result<(), StatementError>
+    ensures works { Q.tells by.old → Works S.Store work.old.conn.now work.new.conn.now result }
+    ensures told { Q.tells by.old
+        → Makes (shape_of table) (declared_as table) (state S.Store work.old.conn.now)
+        (state S.Store work.new.conn.now) result }
+    ensures survives { Q.tells by.old
+        → LeavesNoMore S.Store work.old.conn.now work.new.conn.now }
+    ensures same_reference { work.new.conn.ghost_name ≡ work.old.conn.ghost_name }
+    ensures goes_on { GoesOn Q.tells Q.refusals by.old by.new (IsRefused result) }
+{
+    match table {
+        Table::CoverageSchema => by.make_coverage_schema(work),
+        Table::Meta => by.make_meta(work),
+        Table::File => by.make_file(work),
+        Table::Context => by.make_context(work),
+        Table::LineBits => by.make_line_bits(work),
+        Table::Arc => by.make_arc(work),
+        Table::Tracer => by.make_tracer(work),
+        Table::Hits => by.make_hits(work),
+    }
+}
+
 fn empty_table<S: Alter, Q: Statements>(
     work: &mut Transaction<'_, S>,
     by: &mut Q,
@@ -56,11 +83,17 @@ fn empty_table<S: Alter, Q: Statements>(
     ensures same_reference { work.new.conn.ghost_name ≡ work.old.conn.ghost_name }
     ensures goes_on { GoesOn Q.tells Q.refusals by.old by.new (IsRefused result) }
 {
-    if let Table::CoverageSchema = table {
+    match table {
         // The row of the version stays.
-        return Ok(());
+        Table::CoverageSchema => Ok(()),
+        Table::Meta => by.delete_meta(work),
+        Table::File => by.delete_file(work),
+        Table::Context => by.delete_context(work),
+        Table::LineBits => by.delete_line_bits(work),
+        Table::Arc => by.delete_arc(work),
+        Table::Tracer => by.delete_tracer(work),
+        Table::Hits => by.delete_hits(work),
     }
-    by.delete(work, table)
 }
 
 fn make_tables<S: Alter, Q: Statements>(
@@ -79,7 +112,7 @@ fn make_tables<S: Alter, Q: Statements>(
     ensures goes_on { GoesOn Q.tells Q.refusals by.old by.new (IsRefused result) }
 {
     for table in tables {
-        by.make(work, *table)?;
+        make_table(work, by, *table)?;
     }
     Ok(())
 }
@@ -121,7 +154,7 @@ fn make_all<S: Alter, Q: Statements>(
     ensures goes_on { GoesOn Q.tells Q.refusals by.old by.new (IsRefused result) }
 {
     make_tables(work, by, &TABLES)?;
-    by.insert(work, NewRow::CoverageSchema(7))
+    by.insert_coverage_schema(work, 7)
 }
 
 /// Leaves a data file of schema 7 without data, where it had no table of counts.
@@ -139,7 +172,7 @@ fn empty_and_count<S: Alter, Q: Statements>(
     ensures same_reference { work.new.conn.ghost_name ≡ work.old.conn.ghost_name }
     ensures goes_on { GoesOn Q.tells Q.refusals by.old by.new (IsRefused result) }
 {
-    by.make(work, Table::Hits)?;
+    make_table(work, by, Table::Hits)?;
     empty_tables(work, by, &OLD_TABLES)
 }
 

@@ -14,7 +14,6 @@ ghost use Rattle.cov_sql.specs.Finds.{EndsAs, SeeksCounts, IsNamed, IsMeasured, 
 
 use crate::errors::SqlError;
 use crate::statements::{StatementError, Statements};
-use crate::tables::Table;
 use cov_data::Data;
 use cov_tables::{Cell, Tables, content_of};
 use cov_vault::Content;
@@ -60,7 +59,7 @@ fn hits_rows<S: Alter, Q: Statements>(
     ensures asks { Asks S.Store base.old base.new }
     ensures goes_on { GoesOn Q.tells Q.refusals by.old by.new (IsFault result) }
 {
-    match by.read(alloc, base, Table::Hits) {
+    match by.read_hits(alloc, base) {
         Ok(rows) => Ok(Some(rows)),
         Err(StatementError::Missing) => Ok(None),
         Err(StatementError::Refused) => Err(SqlError::Refused),
@@ -81,11 +80,15 @@ fn read_named<S: Alter, Q: Statements>(
     ensures asks { Asks S.Store base.old base.new }
     ensures goes_on { GoesOn Q.tells Q.refusals by.old by.new (IsFault result) }
 {
+    let coverage_schema = by.read_coverage_schema(alloc, base)?;
+    let meta = by.read_meta(alloc, base)?;
+    let file = by.read_file(alloc, base)?;
+    let context = by.read_context(alloc, base)?;
     Ok(Named {
-        coverage_schema: by.read(alloc, base, Table::CoverageSchema)?,
-        meta: by.read(alloc, base, Table::Meta)?,
-        file: by.read(alloc, base, Table::File)?,
-        context: by.read(alloc, base, Table::Context)?,
+        coverage_schema,
+        meta,
+        file,
+        context,
     })
 }
 
@@ -102,9 +105,9 @@ fn read_measured<S: Alter, Q: Statements>(
     ensures asks { Asks S.Store base.old base.new }
     ensures goes_on { GoesOn Q.tells Q.refusals by.old by.new (IsFault result) }
 {
-    let line_bits = by.read(alloc, base, Table::LineBits)?;
-    let arc = by.read(alloc, base, Table::Arc)?;
-    let _tracer = by.read(alloc, base, Table::Tracer)?;
+    let line_bits = by.read_line_bits(alloc, base)?;
+    let arc = by.read_arc(alloc, base)?;
+    let _tracer = by.read_tracer(alloc, base)?;
     let hits = hits_rows(alloc, base, by)?;
     Ok(Measured {
         line_bits,

@@ -1,17 +1,12 @@
 //! The rows that a data file has of data.
-ghost use Rattle.std.specs.Prelude.{◌≡◌, true, false, cond, [], length, map, codes, string_bytes, IfOk, IfSome};
+ghost use Rattle.std.specs.Prelude.{◌≡◌, true, false, [], map, string_bytes, IfOk, IfSome};
 ghost use Rattle.std.specs.List.{AllZip};
 ghost use Rattle.cov_data.specs.Rows.{row_view};
 ghost use Rattle.cov_sql.specs.Blobs.{AreBitsOf};
 ghost use Rattle.cov_sql.specs.Groups.{AreLines};
-ghost use Rattle.cov_sql.specs.declared.tables.Table.TheVariants as name;
-ghost use Rattle.cov_sql.specs.NewRows.{IsRowIn};
-ghost use Rattle.cov_sql.specs.SavedRows.{numbered, arc_row, bits_row, hits_row, written_rows};
 ghost use Rattle.cov_sql.specs.SavedData.{contexts_in, IsNumbered, IsSavedRow, IsSavedOf};
 
 use crate::bits::bits_of;
-use crate::new_rows::NewRow;
-use crate::tables::Table;
 use cov_data::{Data, Row};
 use std::alloc::{AllocError, Global};
 use std::collections::BTreeSet;
@@ -64,116 +59,6 @@ impl Saved {
             rows,
             bits,
         })
-    }
-
-    /// How many rows of a table are written.
-    pub(crate) fn row_count(&self, table: Table) -> usize
-        ensures { result ≡ length (written_rows self.now table) }
-    {
-        match table {
-            Table::CoverageSchema => 0,
-            Table::Meta => 1,
-            Table::File => self.paths.len(),
-            Table::Context => self.contexts.len(),
-            Table::LineBits => self.bits.len(),
-            Table::Arc => self.arc_count(),
-            Table::Tracer => 0,
-            Table::Hits => self.rows.len(),
-        }
-    }
-
-    fn arc_count(&self) -> usize
-        ensures { result ≡ length (written_rows self.now name.Arc) }
-    {
-        if self.arcs { self.rows.len() } else { 0 }
-    }
-}
-
-impl Saved {
-    /// The row that is written of a table at a place, from 0.
-    pub(crate) fn row(&self, table: Table, at: usize) -> Option<NewRow<'_>>
-        ensures { IsRowIn table (written_rows self.now table) at result }
-    {
-        match table {
-            Table::CoverageSchema => None,
-            Table::Meta => self.flag(at),
-            Table::File => file_row(&self.paths, at),
-            Table::Context => context_row(&self.contexts, at),
-            Table::LineBits => bits_row(&self.bits, at),
-            Table::Arc => self.arc(at),
-            Table::Tracer => None,
-            Table::Hits => hits_row(&self.rows, at),
-        }
-    }
-
-    /// Whether data are of arcs, as the only row of its table.
-    fn flag(&self, at: usize) -> Option<NewRow<'_>>
-        ensures { IsRowIn name.Meta (written_rows self.now name.Meta) at result }
-    {
-        if at > 0 {
-            return None;
-        }
-        Some(NewRow::Meta("has_arcs", flag_text(self.arcs)))
-    }
-
-    fn arc(&self, at: usize) -> Option<NewRow<'_>>
-        ensures { IsRowIn name.Arc (written_rows self.now name.Arc) at result }
-    {
-        if !self.arcs {
-            return None;
-        }
-        arc_row(&self.rows, at)
-    }
-}
-
-fn flag_text(arcs: bool) -> &'static str
-    ensures { result.now ≡ cond arcs (codes "1") (codes "0") }
-{
-    if arcs { "1" } else { "0" }
-}
-
-fn file_row(paths: &[String], at: usize) -> Option<NewRow<'_>>
-    ensures { IsRowIn name.File (numbered 1 (map string_bytes paths.now)) at result }
-{
-    match paths.get(at) {
-        Some(path) => Some(NewRow::File((at + 1) as i64, path.as_str())),
-        None => None,
-    }
-}
-
-fn context_row(contexts: &[String], at: usize) -> Option<NewRow<'_>>
-    ensures { IsRowIn name.Context (numbered 1 (map string_bytes contexts.now)) at result }
-{
-    match contexts.get(at) {
-        Some(context) => Some(NewRow::Context((at + 1) as i64, context.as_str())),
-        None => None,
-    }
-}
-
-fn bits_row(bits: &[SavedBits], at: usize) -> Option<NewRow<'_>>
-    ensures { IsRowIn name.LineBits (map bits_row bits.now) at result }
-{
-    match bits.get(at) {
-        Some(set) => Some(NewRow::LineBits(set.file_id, set.context_id, &set.numbits)),
-        None => None,
-    }
-}
-
-fn arc_row(rows: &[SavedRow], at: usize) -> Option<NewRow<'_>>
-    ensures { IsRowIn name.Arc (map arc_row rows.now) at result }
-{
-    match rows.get(at) {
-        Some(row) => Some(NewRow::Arc(row.file_id, row.context_id, row.from, row.to)),
-        None => None,
-    }
-}
-
-fn hits_row(rows: &[SavedRow], at: usize) -> Option<NewRow<'_>>
-    ensures { IsRowIn name.Hits (map hits_row rows.now) at result }
-{
-    match rows.get(at) {
-        Some(row) => Some(NewRow::Hits(row.file_id, row.context_id, row.from, row.to, row.count)),
-        None => None,
     }
 }
 

@@ -1,8 +1,8 @@
 //! The tables of a data file.
 
 /// A table of a data file.
-#[derive(Clone, Copy, Debug, Drop)]
-pub enum Table {
+#[derive(Clone, Copy, Drop)]
+pub(crate) enum Table {
     CoverageSchema,
     Meta,
     File,

@@ -1,7 +1,7 @@
 //! The rows of each table, as its statement reads them.
 
 use crate::bases::run;
-use cov_sql::{Cell, Counted, StatementError, Statements, Table};
+use cov_sql::{Cell, Counted, StatementError, Statements};
 use sqlite::{Connection, MemStore};
 use std::alloc::{AllocError, Global};
 use std::process::Abort;
@@ -35,6 +35,24 @@ INSERT INTO arc VALUES (2, 1, 1.5, 'x');
 INSERT INTO tracer VALUES (1, 'none');
 INSERT INTO hits VALUES (1, 1, -1, 2, 4294967295)";
 
+fn read(
+    by: &mut Counted,
+    alloc: Global,
+    base: &mut Connection<MemStore>,
+    table: &str,
+) -> Result<Vec<Vec<Cell>>, StatementError> {
+    match table {
+        "coverage_schema" => by.read_coverage_schema(alloc, base),
+        "meta" => by.read_meta(alloc, base),
+        "file" => by.read_file(alloc, base),
+        "context" => by.read_context(alloc, base),
+        "line_bits" => by.read_line_bits(alloc, base),
+        "arc" => by.read_arc(alloc, base),
+        "tracer" => by.read_tracer(alloc, base),
+        _ => by.read_hits(alloc, base),
+    }
+}
+
 /// The cells of a row, a word each.
 fn push_row(alloc: Global, text: &mut String, row: &[Cell]) -> Result<(), AllocError> {
     for cell in row {
@@ -63,17 +81,17 @@ fn assert_table(
     alloc: Global,
     base: &mut Connection<MemStore>,
     title: &str,
-    (table, expected): (Table, Result<&str, StatementError>),
+    (table, expected): (&str, Result<&str, StatementError>),
 ) -> Result<(), AllocError> {
-    match Counted::new().read(alloc, base, table) {
+    match read(&mut Counted::new(), alloc, base, table) {
         Ok(rows) => {
             let text = rows_text(alloc, &rows)?;
             assert!(rt;
                 expected.is_ok_and(|wanted| wanted == text.as_str()),
-                "{title}, {table:?}: {text}"
+                "{title}, {table}: {text}"
             );
         }
-        Err(error) => assert_eq!(rt; expected.err(), Some(error), "{title}, {table:?}"),
+        Err(error) => assert_eq!(rt; expected.err(), Some(error), "{title}, {table}"),
     }
     Ok(())
 }
@@ -84,7 +102,7 @@ pub(crate) fn assert_tables(
     alloc: Global,
     base: &mut Connection<MemStore>,
     title: &str,
-    tables: &[(Table, &str)],
+    tables: &[(&str, &str)],
 ) -> Result<(), AllocError> {
     for (table, expected) in tables {
         assert_table(rt, alloc, base, title, (*table, Ok(*expected)))?;
@@ -92,15 +110,15 @@ pub(crate) fn assert_tables(
     Ok(())
 }
 
-static OF_FILE: [(Table, &str); 8] = [
-    (Table::CoverageSchema, "7 |"),
-    (Table::Meta, "'has_arcs' '1' |'version' ? |"),
-    (Table::File, "1 'a.py' |2 [233] |"),
-    (Table::Context, "1 'é' |"),
-    (Table::LineBits, "1 1 [2, 3] |"),
-    (Table::Arc, "1 1 -1 2 |2 1 ? 'x' |"),
-    (Table::Tracer, "1 'none' |"),
-    (Table::Hits, "1 1 -1 2 4294967295 |"),
+static OF_FILE: [(&str, &str); 8] = [
+    ("coverage_schema", "7 |"),
+    ("meta", "'has_arcs' '1' |'version' ? |"),
+    ("file", "1 'a.py' |2 [233] |"),
+    ("context", "1 'é' |"),
+    ("line_bits", "1 1 [2, 3] |"),
+    ("arc", "1 1 -1 2 |2 1 ? 'x' |"),
+    ("tracer", "1 'none' |"),
+    ("hits", "1 1 -1 2 4294967295 |"),
 ];
 
 #[test]
@@ -114,29 +132,29 @@ fn each_table_is_read(rt: HostRuntime) -> Result<(), Fail> {
 }
 
 /// A title, a text that makes a base, a table, and what is read of it.
-static TOLD: [(&str, &str, Table, Result<&str, StatementError>); 4] = [
+static TOLD: [(&str, &str, &str, Result<&str, StatementError>); 4] = [
     (
         "No table",
         "CREATE TABLE meta (key text)",
-        Table::Arc,
+        "arc",
         Err(StatementError::Missing),
     ),
     (
         "Missing column",
         "CREATE TABLE arc (file_id integer, context_id integer, fromno integer)",
-        Table::Arc,
+        "arc",
         Err(StatementError::Missing),
     ),
     (
         "Other case and order",
         "CREATE TABLE FILE (Path text, ID integer primary key); INSERT INTO file VALUES ('p', 3)",
-        Table::File,
+        "file",
         Ok("3 'p' |"),
     ),
     (
         "A view in place of a table",
         "CREATE VIEW context AS SELECT 1 AS id, 'v' AS context",
-        Table::Context,
+        "context",
         Ok("1 'v' |"),
     ),
 ];
@@ -144,7 +162,7 @@ static TOLD: [(&str, &str, Table, Result<&str, StatementError>); 4] = [
 fn assert_read(
     rt: &impl Abort,
     alloc: Global,
-    (title, text, table, expected): (&str, &str, Table, Result<&str, StatementError>),
+    (title, text, table, expected): (&str, &str, &str, Result<&str, StatementError>),
 ) -> Result<(), AllocError> {
     let mut base = Connection::open_in_memory(alloc)?;
     assert_eq!(rt; run(&mut base, &[text]), Ok(()), "{title}");

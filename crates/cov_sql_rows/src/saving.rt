@@ -3,7 +3,6 @@
 use crate::bases::{LOOSE, START, held_saved, run};
 use crate::reading::assert_tables;
 use crate::texts::{Given, data_of};
-use cov_sql::Table;
 use sqlite::{Connection, Error, MemStore};
 use std::alloc::{AllocError, Global};
 use std::process::Abort;
@@ -163,15 +162,15 @@ const ARCS: (&str, bool, &[Given], &str) = (
 );
 
 /// What each table holds after these arcs were saved.
-static OF_ARCS: [(Table, &str); 8] = [
-    (Table::CoverageSchema, "7 |"),
-    (Table::Meta, "'has_arcs' '1' |"),
-    (Table::File, "1 'a.py' |2 'b é.py' |3 'z.py' |"),
-    (Table::Context, "1 'b' |2 'c' |"),
-    (Table::LineBits, ""),
-    (Table::Arc, "1 1 -1 1 |1 2 1 -1 |2 2 1 2 |"),
-    (Table::Tracer, ""),
-    (Table::Hits, "1 1 -1 1 1 |1 2 1 -1 2 |2 2 1 2 3 |"),
+static OF_ARCS: [(&str, &str); 8] = [
+    ("coverage_schema", "7 |"),
+    ("meta", "'has_arcs' '1' |"),
+    ("file", "1 'a.py' |2 'b é.py' |3 'z.py' |"),
+    ("context", "1 'b' |2 'c' |"),
+    ("line_bits", ""),
+    ("arc", "1 1 -1 1 |1 2 1 -1 |2 2 1 2 |"),
+    ("tracer", ""),
+    ("hits", "1 1 -1 1 1 |1 2 1 -1 2 |2 2 1 2 3 |"),
 ];
 
 const LINES: (&str, bool, &[Given], &str) = (
@@ -187,16 +186,16 @@ const LINES: (&str, bool, &[Given], &str) = (
     "lines;a.py . 1 1 1;a.py . 8 8 1;a.py . 9 9 5;a.py d 2 2 1;b.py . 2 2 6;",
 );
 
-static OF_LINES: [(Table, &str); 8] = [
-    (Table::CoverageSchema, "7 |"),
-    (Table::Meta, "'has_arcs' '0' |"),
-    (Table::File, "1 'a.py' |2 'b.py' |"),
-    (Table::Context, "1 '' |2 'd' |"),
-    (Table::LineBits, "1 1 [2, 3] |1 2 [4] |2 1 [4] |"),
-    (Table::Arc, ""),
-    (Table::Tracer, ""),
+static OF_LINES: [(&str, &str); 8] = [
+    ("coverage_schema", "7 |"),
+    ("meta", "'has_arcs' '0' |"),
+    ("file", "1 'a.py' |2 'b.py' |"),
+    ("context", "1 '' |2 'd' |"),
+    ("line_bits", "1 1 [2, 3] |1 2 [4] |2 1 [4] |"),
+    ("arc", ""),
+    ("tracer", ""),
     (
-        Table::Hits,
+        "hits",
         "1 1 1 1 1 |1 1 8 8 1 |1 1 9 9 5 |1 2 2 2 1 |2 1 2 2 6 |",
     ),
 ];

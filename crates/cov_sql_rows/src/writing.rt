@@ -2,69 +2,94 @@
 
 use crate::bases::run;
 use crate::reading::assert_tables;
-use cov_sql::{Counted, NewRow, StatementError, Statements, Table};
+use cov_sql::{Counted, StatementError, Statements};
 use sqlite::{Connection, MemStore, Transaction};
 use std::alloc::{AllocError, Global};
 use std::process::Abort;
 use std::test::Fail;
 
-/// The tables, each after those that its rows refer to.
-const TABLES: [Table; 8] = [
-    Table::CoverageSchema,
-    Table::Meta,
-    Table::File,
-    Table::Context,
-    Table::LineBits,
-    Table::Arc,
-    Table::Tracer,
-    Table::Hits,
+/// The tables, each behind those that its rows refer to.
+const TABLES: [&str; 8] = [
+    "coverage_schema",
+    "meta",
+    "file",
+    "context",
+    "line_bits",
+    "arc",
+    "tracer",
+    "hits",
 ];
-
-/// What is done with a table.
-#[derive(Clone, Copy)]
-enum Verb {
-    Make,
-    Insert,
-    Delete,
-}
 
 /// Makes a table, or gives it a row, or takes its rows.
 fn work_on(
     by: &mut Counted,
     work: &mut Transaction<'_, MemStore>,
-    verb: Verb,
-    table: Table,
+    verb: &str,
+    table: &str,
 ) -> Result<(), StatementError> {
     match verb {
-        Verb::Make => by.make(work, table),
-        Verb::Insert => insert(by, work, table),
-        Verb::Delete => by.delete(work, table),
+        "make" => make(by, work, table),
+        "insert" => insert(by, work, table),
+        _ => delete(by, work, table),
+    }
+}
+
+fn make(
+    by: &mut Counted,
+    work: &mut Transaction<'_, MemStore>,
+    table: &str,
+) -> Result<(), StatementError> {
+    match table {
+        "coverage_schema" => by.make_coverage_schema(work),
+        "meta" => by.make_meta(work),
+        "file" => by.make_file(work),
+        "context" => by.make_context(work),
+        "line_bits" => by.make_line_bits(work),
+        "arc" => by.make_arc(work),
+        "tracer" => by.make_tracer(work),
+        _ => by.make_hits(work),
     }
 }
 
 fn insert(
     by: &mut Counted,
     work: &mut Transaction<'_, MemStore>,
-    table: Table,
+    table: &str,
 ) -> Result<(), StatementError> {
-    let row = match table {
-        Table::CoverageSchema => NewRow::CoverageSchema(7),
-        Table::Meta => NewRow::Meta("has_arcs", "1"),
-        Table::File => NewRow::File(1, "a é.py"),
-        Table::Context => NewRow::Context(2, ""),
-        Table::LineBits => NewRow::LineBits(1, 2, b"\x02\x00\x01"),
-        Table::Arc => NewRow::Arc(1, 2, -1, 65_535),
-        Table::Tracer => return Ok(()),
-        Table::Hits => NewRow::Hits(1, 2, -1, 65_535, 4_294_967_295),
-    };
-    by.insert(work, row)
+    match table {
+        "coverage_schema" => by.insert_coverage_schema(work, 7),
+        "meta" => by.insert_meta(work, "has_arcs", "1"),
+        "file" => by.insert_file(work, 1, "a é.py"),
+        "context" => by.insert_context(work, 2, ""),
+        "line_bits" => by.insert_line_bits(work, 1, 2, b"\x02\x00\x01"),
+        "arc" => by.insert_arc(work, 1, 2, -1, 65_535),
+        "tracer" => Ok(()),
+        _ => by.insert_hits(work, 1, 2, -1, 65_535, 4_294_967_295),
+    }
+}
+
+fn delete(
+    by: &mut Counted,
+    work: &mut Transaction<'_, MemStore>,
+    table: &str,
+) -> Result<(), StatementError> {
+    match table {
+        "coverage_schema" => Ok(()),
+        "meta" => by.delete_meta(work),
+        "file" => by.delete_file(work),
+        "context" => by.delete_context(work),
+        "line_bits" => by.delete_line_bits(work),
+        "arc" => by.delete_arc(work),
+        "tracer" => by.delete_tracer(work),
+        _ => by.delete_hits(work),
+    }
 }
 
 /// Runs a statement on each of these tables, in one transaction.
 fn run_all(
     base: &mut Connection<MemStore>,
-    verb: Verb,
-    tables: &[Table],
+    verb: &str,
+    tables: &[&str],
 ) -> Result<(), StatementError> {
     if !base.is_autocommit() {
         return Ok(());
@@ -73,43 +98,43 @@ fn run_all(
     by.may_begin()?;
     let mut work = base.transaction();
     for table in tables {
-        work_on(&mut by, &mut work, verb, *table)?;
+        work_on(&mut by, &mut work, verb, table)?;
     }
     by.commit(work)
 }
 
 /// What each table holds when it is filled.
-static FILLED: [(Table, &str); 8] = [
-    (Table::CoverageSchema, "7 |"),
-    (Table::Meta, "'has_arcs' '1' |"),
-    (Table::File, "1 'a é.py' |"),
-    (Table::Context, "2 '' |"),
-    (Table::LineBits, "1 2 [2, 0, 1] |"),
-    (Table::Arc, "1 2 -1 65535 |"),
-    (Table::Tracer, ""),
-    (Table::Hits, "1 2 -1 65535 4294967295 |"),
+static FILLED: [(&str, &str); 8] = [
+    ("coverage_schema", "7 |"),
+    ("meta", "'has_arcs' '1' |"),
+    ("file", "1 'a é.py' |"),
+    ("context", "2 '' |"),
+    ("line_bits", "1 2 [2, 0, 1] |"),
+    ("arc", "1 2 -1 65535 |"),
+    ("tracer", ""),
+    ("hits", "1 2 -1 65535 4294967295 |"),
 ];
 
 /// The tables that are emptied, each before those that its rows refer to.
-const OLD_TABLES: [Table; 7] = [
-    Table::Arc,
-    Table::Hits,
-    Table::LineBits,
-    Table::Tracer,
-    Table::File,
-    Table::Context,
-    Table::Meta,
+const OLD_TABLES: [&str; 7] = [
+    "arc",
+    "hits",
+    "line_bits",
+    "tracer",
+    "file",
+    "context",
+    "meta",
 ];
 
-static EMPTIED: [(Table, &str); 8] = [
-    (Table::CoverageSchema, "7 |"),
-    (Table::Meta, ""),
-    (Table::File, ""),
-    (Table::Context, ""),
-    (Table::LineBits, ""),
-    (Table::Arc, ""),
-    (Table::Tracer, ""),
-    (Table::Hits, ""),
+static EMPTIED: [(&str, &str); 8] = [
+    ("coverage_schema", "7 |"),
+    ("meta", ""),
+    ("file", ""),
+    ("context", ""),
+    ("line_bits", ""),
+    ("arc", ""),
+    ("tracer", ""),
+    ("hits", ""),
 ];
 
 fn assert_made_filled_and_emptied(
@@ -118,10 +143,10 @@ fn assert_made_filled_and_emptied(
     base: &mut Connection<MemStore>,
 ) -> Result<(), AllocError> {
     assert_eq!(rt; run(base, &["CREATE TABLE further (path text)"]), Ok(()));
-    assert_eq!(rt; run_all(base, Verb::Make, &TABLES), Ok(()));
-    assert_eq!(rt; run_all(base, Verb::Insert, &TABLES), Ok(()));
+    assert_eq!(rt; run_all(base, "make", &TABLES), Ok(()));
+    assert_eq!(rt; run_all(base, "insert", &TABLES), Ok(()));
     assert_tables(rt, alloc, base, "Filled", &FILLED)?;
-    assert_eq!(rt; run_all(base, Verb::Delete, &OLD_TABLES), Ok(()));
+    assert_eq!(rt; run_all(base, "delete", &OLD_TABLES), Ok(()));
     assert_tables(rt, alloc, base, "Emptied", &EMPTIED)
 }
 
@@ -135,42 +160,36 @@ fn tables_are_made_filled_and_emptied(rt: HostRuntime) -> Result<(), Fail> {
 }
 
 /// A title, a text that makes a base, a statement on a table, and its answer.
-static REFUSED: [(&str, &str, Verb, Table, StatementError); 5] = [
+static REFUSED: [(&str, &str, &str, &str, StatementError); 5] = [
     (
         "A table that is there",
         "CREATE TABLE META (x)",
-        Verb::Make,
-        Table::Meta,
+        "make",
+        "meta",
         StatementError::Refused,
     ),
-    (
-        "No table",
-        "",
-        Verb::Delete,
-        Table::Hits,
-        StatementError::Missing,
-    ),
+    ("No table", "", "delete", "hits", StatementError::Missing),
     (
         "No column",
         "CREATE TABLE file (id integer primary key)",
-        Verb::Insert,
-        Table::File,
+        "insert",
+        "file",
         StatementError::Missing,
     ),
     (
         "No file of this number",
         "CREATE TABLE file (id integer primary key);
          CREATE TABLE arc (file_id integer references file (id), context_id, fromno, tono)",
-        Verb::Insert,
-        Table::Arc,
+        "insert",
+        "arc",
         StatementError::Refused,
     ),
     (
         "A file that is referred to",
         "CREATE TABLE file (id integer primary key); INSERT INTO file VALUES (1);
          CREATE TABLE further (id integer references file (id)); INSERT INTO further VALUES (1)",
-        Verb::Delete,
-        Table::File,
+        "delete",
+        "file",
         StatementError::Refused,
     ),
 ];
@@ -178,7 +197,7 @@ static REFUSED: [(&str, &str, Verb, Table, StatementError); 5] = [
 fn assert_refused(
     rt: &impl Abort,
     alloc: Global,
-    (title, text, verb, table, error): (&str, &str, Verb, Table, StatementError),
+    (title, text, verb, table, error): (&str, &str, &str, &str, StatementError),
 ) -> Result<(), AllocError> {
     let mut base = Connection::open_in_memory(alloc)?;
     assert_eq!(rt; run(&mut base, &[text]), Ok(()), "{title}");

@@ -1,25 +1,74 @@
 use Rattle.std.proofs.Common.{Ok, sym, subst, refl}
-use Rattle.cov_sql.specs.SqlTexts.{delete_text}
 use Rattle.cov_sql.specs.Holding.{cleared, Empties}
-use Rattle.cov_sql.proofs.Making.{empties_none, clears}
+use Rattle.cov_sql.specs.declared.tables.Table.TheVariants as name
+use Rattle.cov_sql.proofs.Making.{empties_one, empties_none}
 use Rattle.cov_sql.proofs.Stepping.{worked, stays, nothing_done}
-use Rattle.cov_sql.proofs.WrittenTexts.{of_delete}
+use Rattle.cov_sql.specs.SqlTexts.{delete_arc_text, delete_context_text, delete_file_text, delete_hits_text, delete_line_bits_text, delete_meta_text, delete_tracer_text}
+use Rattle.cov_sql.proofs.WrittenTexts.{of_delete_arc, of_delete_context, of_delete_file, of_delete_hits, of_delete_line_bits, of_delete_meta, of_delete_tracer}
 use Rattle.cov_sql.proofs.preparing.empty_table.Goals as goal
 
-pub returns-in-CoverageSchema-clause-works : goal.returns-in-CoverageSchema-clause-works
-returns-in-CoverageSchema-clause-works g c tells = nothing_done g.S.Store c.args.work.now.conn.now (Ok tt) refl
+pub returns-in-Meta-clause-works : goal.returns-in-Meta-clause-works
+returns-in-Meta-clause-works g c tells = worked g.S.Store delete_meta_text c.args.work.now.conn.now c.delete_meta.new.work.conn.now _ of_delete_meta (c.delete_meta.ensures.works tells).ran
+
+pub returns-in-File-clause-works : goal.returns-in-File-clause-works
+returns-in-File-clause-works g c tells = worked g.S.Store delete_file_text c.args.work.now.conn.now c.delete_file.new.work.conn.now _ of_delete_file (c.delete_file.ensures.works tells).ran
+
+pub returns-in-Context-clause-works : goal.returns-in-Context-clause-works
+returns-in-Context-clause-works g c tells = worked g.S.Store delete_context_text c.args.work.now.conn.now c.delete_context.new.work.conn.now _ of_delete_context (c.delete_context.ensures.works tells).ran
+
+pub returns-in-LineBits-clause-works : goal.returns-in-LineBits-clause-works
+returns-in-LineBits-clause-works g c tells = worked g.S.Store delete_line_bits_text c.args.work.now.conn.now c.delete_line_bits.new.work.conn.now _ of_delete_line_bits (c.delete_line_bits.ensures.works tells).ran
+
+pub returns-in-Arc-clause-works : goal.returns-in-Arc-clause-works
+returns-in-Arc-clause-works g c tells = worked g.S.Store delete_arc_text c.args.work.now.conn.now c.delete_arc.new.work.conn.now _ of_delete_arc (c.delete_arc.ensures.works tells).ran
+
+pub returns-in-Tracer-clause-works : goal.returns-in-Tracer-clause-works
+returns-in-Tracer-clause-works g c tells = worked g.S.Store delete_tracer_text c.args.work.now.conn.now c.delete_tracer.new.work.conn.now _ of_delete_tracer (c.delete_tracer.ensures.works tells).ran
+
+pub returns-in-Hits-clause-works : goal.returns-in-Hits-clause-works
+returns-in-Hits-clause-works g c tells = worked g.S.Store delete_hits_text c.args.work.now.conn.now c.delete_hits.new.work.conn.now _ of_delete_hits (c.delete_hits.ensures.works tells).ran
+
+pub returns-in-Meta-clause-empties : goal.returns-in-Meta-clause-empties
+returns-in-Meta-clause-empties g c tells =
+    subst (λ t. Empties g.S.Store (cleared t) c.args.work.now.conn.now c.delete_meta.new.work.conn.now c.delete_meta.result) (sym c.in-Meta.is)
+    (empties_one g.S.Store name.Meta c.args.work.now.conn.now c.delete_meta.new.work.conn.now c.delete_meta.result (c.delete_meta.ensures.works tells).told)
+
+pub returns-in-File-clause-empties : goal.returns-in-File-clause-empties
+returns-in-File-clause-empties g c tells =
+    subst (λ t. Empties g.S.Store (cleared t) c.args.work.now.conn.now c.delete_file.new.work.conn.now c.delete_file.result) (sym c.in-File.is)
+    (empties_one g.S.Store name.File c.args.work.now.conn.now c.delete_file.new.work.conn.now c.delete_file.result (c.delete_file.ensures.works tells).told)
+
+pub returns-in-Context-clause-empties : goal.returns-in-Context-clause-empties
+returns-in-Context-clause-empties g c tells =
+    subst (λ t. Empties g.S.Store (cleared t) c.args.work.now.conn.now c.delete_context.new.work.conn.now c.delete_context.result) (sym c.in-Context.is)
+    (empties_one g.S.Store name.Context c.args.work.now.conn.now c.delete_context.new.work.conn.now c.delete_context.result (c.delete_context.ensures.works tells).told)
+
+pub returns-in-LineBits-clause-empties : goal.returns-in-LineBits-clause-empties
+returns-in-LineBits-clause-empties g c tells =
+    subst (λ t. Empties g.S.Store (cleared t) c.args.work.now.conn.now c.delete_line_bits.new.work.conn.now c.delete_line_bits.result) (sym c.in-LineBits.is)
+    (empties_one g.S.Store name.LineBits c.args.work.now.conn.now c.delete_line_bits.new.work.conn.now c.delete_line_bits.result (c.delete_line_bits.ensures.works tells).told)
+
+pub returns-in-Arc-clause-empties : goal.returns-in-Arc-clause-empties
+returns-in-Arc-clause-empties g c tells =
+    subst (λ t. Empties g.S.Store (cleared t) c.args.work.now.conn.now c.delete_arc.new.work.conn.now c.delete_arc.result) (sym c.in-Arc.is)
+    (empties_one g.S.Store name.Arc c.args.work.now.conn.now c.delete_arc.new.work.conn.now c.delete_arc.result (c.delete_arc.ensures.works tells).told)
+
+pub returns-in-Tracer-clause-empties : goal.returns-in-Tracer-clause-empties
+returns-in-Tracer-clause-empties g c tells =
+    subst (λ t. Empties g.S.Store (cleared t) c.args.work.now.conn.now c.delete_tracer.new.work.conn.now c.delete_tracer.result) (sym c.in-Tracer.is)
+    (empties_one g.S.Store name.Tracer c.args.work.now.conn.now c.delete_tracer.new.work.conn.now c.delete_tracer.result (c.delete_tracer.ensures.works tells).told)
+
+pub returns-in-Hits-clause-empties : goal.returns-in-Hits-clause-empties
+returns-in-Hits-clause-empties g c tells =
+    subst (λ t. Empties g.S.Store (cleared t) c.args.work.now.conn.now c.delete_hits.new.work.conn.now c.delete_hits.result) (sym c.in-Hits.is)
+    (empties_one g.S.Store name.Hits c.args.work.now.conn.now c.delete_hits.new.work.conn.now c.delete_hits.result (c.delete_hits.ensures.works tells).told)
 
 pub returns-in-CoverageSchema-clause-empties : goal.returns-in-CoverageSchema-clause-empties
 returns-in-CoverageSchema-clause-empties g c tells =
     subst (λ t. Empties g.S.Store (cleared t) c.args.work.now.conn.now c.args.work.now.conn.now (Ok tt)) (sym c.in-CoverageSchema.is) (empties_none g.S.Store c.args.work.now.conn.now)
 
+pub returns-in-CoverageSchema-clause-works : goal.returns-in-CoverageSchema-clause-works
+returns-in-CoverageSchema-clause-works g c tells = nothing_done g.S.Store c.args.work.now.conn.now (Ok tt) refl
+
 pub returns-in-CoverageSchema-clause-survives : goal.returns-in-CoverageSchema-clause-survives
 returns-in-CoverageSchema-clause-survives g c tells = stays g.S.Store c.args.work.now.conn.now
-
-pub returns-clause-works : goal.returns-clause-works
-returns-clause-works g c tells =
-    worked g.S.Store (delete_text c.args.table) c.args.work.now.conn.now c.delete.new.work.conn.now c.delete.result (of_delete c.args.table c.in_default.not-CoverageSchema) (c.delete.ensures.works tells).ran
-
-pub returns-clause-empties : goal.returns-clause-empties
-returns-clause-empties g c tells =
-    clears g.S.Store c.args.table c.args.work.now.conn.now c.delete.new.work.conn.now c.delete.result c.in_default.not-CoverageSchema (c.delete.ensures.works tells).told

@@ -1,10 +1,9 @@
 use Rattle.cov_sql.proofs.Stepping.{worked, works_after, still}
-use Rattle.std.proofs.Common.{rules, ◌≡◌, pos, Err}
+use Rattle.std.proofs.Common.{rules, ◌≡◌, Err}
 use Rattle.cov_sql.specs.declared.preparing.Start.TheVariants as start
 use Rattle.cov_sql.proofs.Making.{prepares_new, no_preparing}
-use Rattle.cov_sql.specs.declared.new_rows.NewRow.TheVariants.{CoverageSchema}
 use Rattle.cov_sql.specs.SqlTexts.{insert_coverage_schema_text}
-use Rattle.cov_sql.proofs.WrittenTexts.{of_insert}
+use Rattle.cov_sql.proofs.WrittenTexts.{of_insert_coverage_schema}
 use Rattle.cov_sql.proofs.Denying.{refuses_stop, refuses_made}
 use Rattle.cov_sql.proofs.Lacking.{never_denied, never_new}
 use Rattle.cov_sql.proofs.preparing.make_all.Goals as goal
@@ -12,10 +11,10 @@ use Rattle.cov_sql.proofs.preparing.make_all.Goals as goal
 pub returns-clause-works : goal.returns-clause-works
 returns-clause-works g c tells =
     let now = c.make_tables.new.work.conn.now in
-    let next = c.insert.new.work.conn.now in
+    let next = c.insert_coverage_schema.new.work.conn.now in
     let told = c.make_tables.ensures.goes_on.tells tells in
-    let one = worked g.S.Store insert_coverage_schema_text now next c.insert.result (of_insert (CoverageSchema (pos 7))) (c.insert.ensures.works told).ran in
-    works_after g.S.Store c.in_ok-make_tables.field-0 c.args.work.now.conn.now now next _ (c.insert.ensures.works told).survives (c.in_ok-make_tables.ensures.works tells) one
+    let one = worked g.S.Store insert_coverage_schema_text now next c.insert_coverage_schema.result of_insert_coverage_schema (c.insert_coverage_schema.ensures.works told).ran in
+    works_after g.S.Store c.in_ok-make_tables.field-0 c.args.work.now.conn.now now next _ (c.insert_coverage_schema.ensures.works told).survives (c.in_ok-make_tables.ensures.works tells) one
 
 pub returns-in_err-make_tables-clause-prepares : goal.returns-in_err-make_tables-clause-prepares
 returns-in_err-make_tables-clause-prepares g c tells =
@@ -25,8 +24,8 @@ returns-in_err-make_tables-clause-prepares g c tells =
 pub returns-clause-prepares : goal.returns-clause-prepares
 returns-clause-prepares g c tells =
     let told = c.make_tables.ensures.goes_on.tells tells in
-    prepares_new g.S.Store c.args.work.now.conn.now c.make_tables.new.work.conn.now c.insert.new.work.conn.now c.in_ok-make_tables.field-0 _ (c.insert.ensures.works told).survives
-    (c.in_ok-make_tables.ensures.works tells) (c.in_ok-make_tables.ensures.builds tells) (c.insert.ensures.works told).told
+    prepares_new g.S.Store c.args.work.now.conn.now c.make_tables.new.work.conn.now c.insert_coverage_schema.new.work.conn.now c.in_ok-make_tables.field-0 _ (c.insert_coverage_schema.ensures.works told).survives
+    (c.in_ok-make_tables.ensures.works tells) (c.in_ok-make_tables.ensures.builds tells) (c.insert_coverage_schema.ensures.works told).told
 
 pub returns-in_err-make_tables-clause-refuses : goal.returns-in_err-make_tables-clause-refuses
 returns-in_err-make_tables-clause-refuses g c tells =
@@ -36,7 +35,7 @@ returns-in_err-make_tables-clause-refuses g c tells =
 pub returns-clause-refuses : goal.returns-clause-refuses
 returns-clause-refuses g c tells =
     let told = c.make_tables.ensures.goes_on.tells tells in
-    refuses_made g.S.Store start.Nothing c.args.work.now.conn.now c.make_tables.new.work.conn.now c.insert.new.work.conn.now c.in_ok-make_tables.field-0 _ (c.insert.ensures.works told).survives (c.in_ok-make_tables.ensures.denies tells)
+    refuses_made g.S.Store start.Nothing c.args.work.now.conn.now c.make_tables.new.work.conn.now c.insert_coverage_schema.new.work.conn.now c.in_ok-make_tables.field-0 _ (c.insert_coverage_schema.ensures.works told).survives (c.in_ok-make_tables.ensures.denies tells)
 
 pub returns-in_err-make_tables-clause-never : goal.returns-in_err-make_tables-clause-never
 returns-in_err-make_tables-clause-never g c tells =
@@ -46,11 +45,11 @@ returns-in_err-make_tables-clause-never g c tells =
 pub returns-clause-never : goal.returns-clause-never
 returns-clause-never g c tells =
     let now = c.make_tables.new.work.conn.now in
-    let next = c.insert.new.work.conn.now in
+    let next = c.insert_coverage_schema.new.work.conn.now in
     let told = c.make_tables.ensures.goes_on.tells tells in
-    let one = worked g.S.Store insert_coverage_schema_text now next c.insert.result (of_insert (CoverageSchema (pos 7))) (c.insert.ensures.works told).ran in
-    never_new g.S.Store c.args.work.now.conn.now now next c.in_ok-make_tables.field-0 _ (c.insert.ensures.works told).survives (c.in_ok-make_tables.ensures.works tells) (c.in_ok-make_tables.ensures.builds tells) one
+    let one = worked g.S.Store insert_coverage_schema_text now next c.insert_coverage_schema.result of_insert_coverage_schema (c.insert_coverage_schema.ensures.works told).ran in
+    never_new g.S.Store c.args.work.now.conn.now now next c.in_ok-make_tables.field-0 _ (c.insert_coverage_schema.ensures.works told).survives (c.in_ok-make_tables.ensures.works tells) (c.in_ok-make_tables.ensures.builds tells) one
 
 pub returns-clause-survives : goal.returns-clause-survives
 returns-clause-survives g c tells =
-    still g.S.Store c.args.work.now.conn.now c.make_tables.new.work.conn.now c.insert.new.work.conn.now (c.make_tables.ensures.survives tells) (c.insert.ensures.works (c.make_tables.ensures.goes_on.tells tells)).survives
+    still g.S.Store c.args.work.now.conn.now c.make_tables.new.work.conn.now c.insert_coverage_schema.new.work.conn.now (c.make_tables.ensures.survives tells) (c.insert_coverage_schema.ensures.works (c.make_tables.ensures.goes_on.tells tells)).survives

@@ -2,44 +2,43 @@ use Rattle.std.proofs.Common.{rules, arith, ◌≡◌, Ok, Err, refl, sym, subst
 use Rattle.std.proofs.lemmas.List.{take_all}
 use Rattle.cov_sql.specs.Works.{Works}
 use Rattle.cov_sql.specs.Making.{Builds, Denies}
-use Rattle.cov_sql.proofs.Stepping.{worked, works_then, still, stays, nothing_done}
-use Rattle.cov_sql.proofs.WrittenTexts.{of_make}
+use Rattle.cov_sql.proofs.Stepping.{works_then, still, stays, nothing_done}
 use Rattle.cov_sql.proofs.Filling.{take_got}
 use Rattle.cov_sql.proofs.Making.{no_build, builds_none, builds_next}
 use Rattle.cov_sql.proofs.Denying.{denies_none, denies_next, denies_stop}
 use Rattle.cov_sql.proofs.preparing.make_tables.Goals as goal
 
-pub returns-in_err-make-clause-builds : goal.returns-in_err-make-clause-builds
-returns-in_err-make-clause-builds g c tells =
-    let is : c.from_residual.result ≡ Err c.in_err-make.field-0.0 = search rules in
-    no_build g.S.Store c.args.tables.now c.args.work.now.conn.now c.make.new.work.conn.now _ _ is
+pub returns-in_err-make_table-clause-builds : goal.returns-in_err-make_table-clause-builds
+returns-in_err-make_table-clause-builds g c tells =
+    let is : c.from_residual.result ≡ Err c.in_err-make_table.field-0.0 = search rules in
+    no_build g.S.Store c.args.tables.now c.args.work.now.conn.now c.make_table.new.work.conn.now _ _ is
 
 pub returns-clause-builds : goal.returns-clause-builds
 returns-clause-builds g c tells =
     subst (λ names. Builds g.S.Store names c.args.work.now.conn.now c.loop-table.work.conn.now (Ok tt)) (take_all c.loop-table.table-index c.args.tables.now c.loop-table-test.false) (c.loop-table.invariant.builds tells)
 
-pub returns-in_err-make-clause-denies : goal.returns-in_err-make-clause-denies
-returns-in_err-make-clause-denies g c tells =
-    let is : c.from_residual.result ≡ Err c.in_err-make.field-0.0 = search rules in
+pub returns-in_err-make_table-clause-denies : goal.returns-in_err-make_table-clause-denies
+returns-in_err-make_table-clause-denies g c tells =
+    let is : c.from_residual.result ≡ Err c.in_err-make_table.field-0.0 = search rules in
     let told = c.loop-table.invariant.tells tells in
-    denies_stop g.S.Store (take c.loop-table.table-index c.args.tables.now) c.args.tables.now _ c.args.work.now.conn.now c.loop-table.work.conn.now c.make.new.work.conn.now tt _ _ is ((c.make.ensures.works told).survives)
-    (c.loop-table.invariant.works tells) (c.loop-table.invariant.denies tells) ((c.in_err-make.ensures.works told).told)
+    denies_stop g.S.Store (take c.loop-table.table-index c.args.tables.now) c.args.tables.now _ c.args.work.now.conn.now c.loop-table.work.conn.now c.make_table.new.work.conn.now tt _ _ is (c.make_table.ensures.survives told)
+    (c.loop-table.invariant.works tells) (c.loop-table.invariant.denies tells) (c.in_err-make_table.ensures.told told)
 
 pub returns-clause-denies : goal.returns-clause-denies
 returns-clause-denies g c tells =
     subst (λ names. Denies g.S.Store names c.args.work.now.conn.now c.loop-table.work.conn.now (Ok tt)) (take_all c.loop-table.table-index c.args.tables.now c.loop-table-test.false) (c.loop-table.invariant.denies tells)
 
-pub returns-in_err-make-clause-works : goal.returns-in_err-make-clause-works
-returns-in_err-make-clause-works g c tells =
+pub returns-in_err-make_table-clause-works : goal.returns-in_err-make_table-clause-works
+returns-in_err-make_table-clause-works g c tells =
     let first = c.args.work.now.conn.now in
-    let next = c.make.new.work.conn.now in
+    let next = c.make_table.new.work.conn.now in
     let told = c.loop-table.invariant.tells tells in
-    let is : c.from_residual.result ≡ Err c.in_err-make.field-0.0 = search rules in
-    subst (λ r. Works g.S.Store first next r) (sym is) (works_then g.S.Store first c.loop-table.work.conn.now next _ ((c.make.ensures.works told).survives) (c.loop-table.invariant.works tells) (worked g.S.Store _ c.loop-table.work.conn.now next (Err c.in_err-make.field-0.0) (of_make _) (c.in_err-make.ensures.works told).ran))
+    let is : c.from_residual.result ≡ Err c.in_err-make_table.field-0.0 = search rules in
+    subst (λ r. Works g.S.Store first next r) (sym is) (works_then g.S.Store first c.loop-table.work.conn.now next _ (c.make_table.ensures.survives told) (c.loop-table.invariant.works tells) (c.in_err-make_table.ensures.works told))
 
-pub returns-in_err-make-clause-survives : goal.returns-in_err-make-clause-survives
-returns-in_err-make-clause-survives g c tells =
-    still g.S.Store c.args.work.now.conn.now c.loop-table.work.conn.now c.make.new.work.conn.now (c.loop-table.invariant.survives tells) (c.make.ensures.works (c.loop-table.invariant.tells tells)).survives
+pub returns-in_err-make_table-clause-survives : goal.returns-in_err-make_table-clause-survives
+returns-in_err-make_table-clause-survives g c tells =
+    still g.S.Store c.args.work.now.conn.now c.loop-table.work.conn.now c.make_table.new.work.conn.now (c.loop-table.invariant.survives tells) (c.make_table.ensures.survives (c.loop-table.invariant.tells tells))
 
 pub loop-table-init : goal.loop-table-init
 loop-table-init g c =
@@ -58,20 +57,20 @@ pub loop-table-preserved : goal.loop-table-preserved
 loop-table-preserved g c =
     let first = c.args.work.now.conn.now in
     let now = c.loop-table.work.conn.now in
-    let next = c.make.new.work.conn.now in
+    let next = c.make_table.new.work.conn.now in
     let all = c.args.tables.now in
     let i = c.loop-table.table-index in
     record {
       works = λ tells. let told = c.loop-table.invariant.tells tells in
-          works_then g.S.Store first now next (Ok tt) ((c.make.ensures.works told).survives) (c.loop-table.invariant.works tells) (worked g.S.Store _ now next (Ok tt) (of_make _) (c.in_ok-make.ensures.works told).ran);
+          works_then g.S.Store first now next (Ok tt) (c.make_table.ensures.survives told) (c.loop-table.invariant.works tells) (c.in_ok-make_table.ensures.works told);
       builds = λ tells. let told = c.loop-table.invariant.tells tells in
           subst (λ names. Builds g.S.Store names first next (Ok tt)) (sym (take_got all i _ c.loop-table-test.true))
-          (builds_next g.S.Store (take i all) _ first now next tt ((c.make.ensures.works told).survives) (c.loop-table.invariant.works tells) (c.loop-table.invariant.builds tells) ((c.in_ok-make.ensures.works told).told));
+          (builds_next g.S.Store (take i all) _ first now next tt (c.make_table.ensures.survives told) (c.loop-table.invariant.works tells) (c.loop-table.invariant.builds tells) (c.in_ok-make_table.ensures.told told));
       denies = λ tells. let told = c.loop-table.invariant.tells tells in
           subst (λ names. Denies g.S.Store names first next (Ok tt)) (sym (take_got all i _ c.loop-table-test.true))
-          (denies_next g.S.Store (take i all) _ first now next tt ((c.make.ensures.works told).survives) (c.loop-table.invariant.works tells) (c.loop-table.invariant.denies tells) ((c.in_ok-make.ensures.works told).told));
-      survives = λ tells. still g.S.Store first now next (c.loop-table.invariant.survives tells) (c.make.ensures.works (c.loop-table.invariant.tells tells)).survives;
-      same_reference = c.make.ensures.same_reference ∙ c.loop-table.invariant.same_reference;
-      tells = λ tells. c.make.ensures.goes_on.tells (c.loop-table.invariant.tells tells);
-      count = omega (arith, c.make.ensures.goes_on.count, c.loop-table.invariant.count);
+          (denies_next g.S.Store (take i all) _ first now next tt (c.make_table.ensures.survives told) (c.loop-table.invariant.works tells) (c.loop-table.invariant.denies tells) (c.in_ok-make_table.ensures.told told));
+      survives = λ tells. still g.S.Store first now next (c.loop-table.invariant.survives tells) (c.make_table.ensures.survives (c.loop-table.invariant.tells tells));
+      same_reference = c.make_table.ensures.same_reference ∙ c.loop-table.invariant.same_reference;
+      tells = λ tells. c.make_table.ensures.goes_on.tells (c.loop-table.invariant.tells tells);
+      count = omega (arith, c.make_table.ensures.goes_on.count, c.loop-table.invariant.count);
     }

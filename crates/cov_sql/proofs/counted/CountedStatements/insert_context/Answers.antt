@@ -1,0 +1,14 @@
+use Rattle.std.proofs.Common.{[], ◌∷◌}
+use Rattle.std.proofs.Math.Facts.{to_z-of_z}
+use Rattle.sqlite_value.specs.declared.value.Value.TheVariants.{Int, Text}
+use Rattle.sqlite.specs.Held.{state}
+use Rattle.cov_sql.proofs.InsertIntoContext.{inserts_context}
+use Rattle.cov_sql.proofs.Inside.{runs}
+use Rattle.cov_sql.proofs.counted.CountedStatements.insert_context.Goals as goal
+
+pub returns-clause-works : goal.returns-clause-works
+returns-clause-works g c _ = record {
+  told = inserts_context c.args.id c.args.text.now (state g.S.Store c.args.work.now.conn.now) (state g.S.Store c.run.new.work.conn.now) c.run.result _ c.run.ensures.ran (λ i. Int (to_z-of_z c.ranges.id i) ∷ Text (c.as_bytes.ensures.value i) ∷ []);
+  ran = runs _ _ (state g.S.Store c.args.work.now.conn.now) (state g.S.Store c.run.new.work.conn.now) c.run.result c.run.ensures.ran c.run.ensures.missing c.run.ensures.kept;
+  survives = c.run.ensures.survives;
+}
