@@ -74,6 +74,7 @@ fn judged<S: Alter, Q: Statements>(
 /// Saves data in place of those that the base holds, in one transaction. A `fresh` base has none of
 /// the tables, and they are made. After an error the base is out of any transaction, so its tables
 /// are those that were committed.
+#[tactic(auto, using(crate::proofs::Stepping::refused_as))]
 pub fn write_data<S: Alter, Q: Statements>(
     alloc: Global,
     base: &mut Connection<S>,

@@ -39,12 +39,6 @@ pub returns-in_err-may_begin-clause-crash : goal.returns-in_err-may_begin-clause
 returns-in_err-may_begin-clause-crash g c tells hidden =
     only_read g.S.Store c.args.content.now c.args.fresh c.args.base.now c.judged.new.base (read_only g.S.Store c.args.base.now c.judged.new.base hidden (c.judged.ensures.survives tells))
 
-pub returns-in_err-may_begin-clause-not_schema : goal.returns-in_err-may_begin-clause-not_schema
-returns-in_err-may_begin-clause-not_schema g c tells clean hidden is = absurd (c.in_err-may_begin.ensures.not_missing (ap Err (refused_as c.in_err-may_begin.field-0.0 (search rules))))
-
-pub returns-in_err-may_begin-clause-only_schema : goal.returns-in_err-may_begin-clause-only_schema
-returns-in_err-may_begin-clause-only_schema g c tells clean hidden ready is = absurd (c.in_err-may_begin.ensures.not_missing (ap Err (refused_as c.in_err-may_begin.field-0.0 (search rules))))
-
 -- ---- a transaction was begun, and undone
 
 pub returns-in_err-write_all-clause-not_schema : goal.returns-in_err-write_all-clause-not_schema
@@ -115,12 +109,6 @@ returns-in_err-write_all-clause-crash g c tells hidden =
     undone g.S.Store c.args.content.now c.args.fresh c.args.base.now b mid end hidden (c.judged.ensures.survives tells) worked left
 
 -- ---- it was to be committed
-
-pub returns-in_err-commit-clause-not_schema : goal.returns-in_err-commit-clause-not_schema
-returns-in_err-commit-clause-not_schema g c tells clean hidden is = absurd (c.in_err-commit.ensures.not_missing (ap Err (refused_as c.in_err-commit.field-0.0 (search rules))))
-
-pub returns-in_err-commit-clause-only_schema : goal.returns-in_err-commit-clause-only_schema
-returns-in_err-commit-clause-only_schema g c tells clean hidden ready is = absurd (c.in_err-commit.ensures.not_missing (ap Err (refused_as c.in_err-commit.field-0.0 (search rules))))
 
 pub returns-in_err-commit-clause-once : goal.returns-in_err-commit-clause-once
 returns-in_err-commit-clause-once g c tells clean hidden is there =
