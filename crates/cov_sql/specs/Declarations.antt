@@ -77,14 +77,16 @@ declared_context = table (codes "context")
     (column (codes "id") Integer ∷ column (codes "context") Text ∷ []) (Some 0) (0 ∷ [])
     ((2 ∷ []) ∷ []) []
 
--- line_bits (file_id, context_id, numbits), where both numbers refer to their tables
+-- line_bits (file_id, context_id, numbits, unique (file_id, context_id)), where both numbers refer
+-- to their tables
 abbrev pub declared_line_bits : ℕ → Table
 declared_line_bits = table (codes "line_bits")
     (column (codes "file_id") Integer ∷ column (codes "context_id") Integer
     ∷ column (codes "numbits") Any ∷ []) None [] ((1 ∷ 2 ∷ []) ∷ [])
     (reference 1 (codes "file") ∷ reference 2 (codes "context") ∷ [])
 
--- arc (file_id, context_id, fromno, tono), where the first two refer to their tables
+-- arc (file_id, context_id, fromno, tono), all four unique together, where the first two refer to
+-- their tables
 abbrev pub declared_arc : ℕ → Table
 declared_arc = table (codes "arc")
     (column (codes "file_id") Integer ∷ column (codes "context_id") Integer
@@ -98,7 +100,8 @@ declared_tracer = table (codes "tracer")
     (column (codes "file_id") Integer ∷ column (codes "tracer") Text ∷ []) (Some 0) (0 ∷ []) []
     (reference 0 (codes "file") ∷ [])
 
--- hits (file_id, context_id, fromno, tono, count), which refers to no table
+-- hits (file_id, context_id, fromno, tono, count), the first four unique together, which refers to no
+-- table
 abbrev pub declared_hits : ℕ → Table
 declared_hits = table (codes "hits")
     (column (codes "file_id") Integer ∷ column (codes "context_id") Integer

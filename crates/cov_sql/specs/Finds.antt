@@ -55,7 +55,7 @@ pub record IsNamed (db : Database) (n : Named) : Type 0 where
   pub file : HoldsRows file db n.file
   pub context : HoldsRows context db n.context
 
--- the tables with rows of data
+-- the rows of lines, arcs and counts, and that there is a table of tracers
 pub record IsMeasured (db : Database) (m : Measured) : Type 0 where
   pub line_bits : HoldsRows line_bits db m.line_bits
   pub arc : HoldsRows arc db m.arc

@@ -110,7 +110,7 @@ Denies g names old new r = HasCleanDisk (state g new) → IsTrue (state g old).i
     → AreUnhidden (state g old).now
     → IsDenied names (state g old).now.schema (state g new).now.schema r
 
--- a schema that has a table of a data file is refused
+-- a schema that has a table of a data file is refused, where memory isn't wanting
 abbrev pub IsRefusedIfThere : Schema → Result (Unit {0}) StatementError → Type 0
 IsRefusedIfThere schema r = (n : Name) (at : ℕ) → table_named schema (shape_of n).name ≡ Some at
     → (r ≡ Err Refused) ⊎ (r ≡ Err NoMemory)
