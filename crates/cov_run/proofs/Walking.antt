@@ -39,9 +39,6 @@ if-of : (as' : T.Arms) (o : T.OptSuite) → imported_in (T.if' as' o) ≡ arms_i
 unfolding imported_in
 if-of as' o = refl
 
-unfolding imported_in
-match-of e header cs = refl
-
 plain-If : (as' : Vec Arm Global) (o : Option Suite) → plain_kind (kind_.If as' o) ≡ T.if' (plain_arms as'.items) (plain_opt_suite o)
 plain-If as' None = search kind_.the_lemmas
 plain-If as' (Some o) = search kind_.the_lemmas

@@ -6,49 +6,51 @@ use crate::rows::{Row, compare, run_in, run_new, store_of, unlimited};
 use crate::writer::Writer;
 use crate::written::{FINALLY, FIRST_RUN, FIVE_FRAMES, PAIR};
 use std::alloc::Global;
-use std::process::Abort;
 use std::test::Fail;
 
-/// What must come of the first run and of an exception through five frames.
-static ROWS: [Row; 2] = [
-    Row {
-        title: "First run",
-        source: "x = 1\nif x:\n    print(x)\nelse:\n    print(0)\n",
-        out: "1\n",
-        end: "finished",
-        steps: 4,
-        events: "0.0( 1 2 3 )",
-        arcs: "-1 1; 1 2; 2 3; 3 -1",
-    },
-    Row {
-        title: "An exception through five frames",
-        source: "",
-        out: "",
-        end: "ValueError",
-        steps: 10,
-        events: "0.0( 1 0.1( 2 0.2( 3 0.3( 4 0.4( 5 ) !ValueError ) !ValueError ) !ValueError ) !ValueError )",
-        arcs: "",
-    },
-];
+/// What must come of the first run.
+static FIRST: [Row; 1] = [Row {
+    title: "First run",
+    source: "x = 1\nif x:\n    print(x)\nelse:\n    print(0)\n",
+    out: "1\n",
+    end: "finished",
+    steps: 4,
+    events: "0.0( 1 2 3 )",
+    arcs: "-1 1; 1 2; 2 3; 3 -1",
+}];
 
-/// Each run on a new store comes to the same.
-fn assert_run(rt: &impl Abort, alloc: Global, units: &[Written], row: &Row) -> Result<(), Fail> {
+/// What must come of an exception through five frames.
+static THROUGH_FRAMES: [Row; 1] = [Row {
+    title: "An exception through five frames",
+    source: "",
+    out: "",
+    end: "ValueError",
+    steps: 10,
+    events: "0.0( 1 0.1( 2 0.2( 3 0.3( 4 0.4( 5 ) !ValueError ) !ValueError ) !ValueError ) !ValueError )",
+    arcs: "",
+}];
+
+/// What two runs of a code, each on a new store, tell otherwise than its rows.
+fn run_wrong(alloc: Global, units: &[Written], rows: &[Row]) -> Result<String, Fail> {
     let programs = programs_by(alloc, units)?;
-    for _ in 0..2 {
-        let mut found = Writer::new(alloc);
-        let told = run_new(alloc, &programs, "", unlimited())?;
-        compare(&mut found, row, &told);
-        let found = found.done()?;
-        assert_eq!(rt; found.as_str(), "");
+    let mut found = Writer::new(alloc);
+    for row in rows {
+        for _ in 0..2 {
+            let told = run_new(alloc, &programs, "", unlimited())?;
+            compare(&mut found, row, &told);
+        }
     }
-    Ok(())
+    found.done()
 }
 
 #[test]
 fn runs_of_written_codes(rt: HostRuntime) -> Result<(), Fail> {
     let alloc = rt.alloc();
-    assert_run(&rt, alloc, &FIRST_RUN, &ROWS[0])?;
-    assert_run(&rt, alloc, &FIVE_FRAMES, &ROWS[1])
+    let found = run_wrong(alloc, &FIRST_RUN, &FIRST)?;
+    assert_eq!(rt; found.as_str(), "");
+    let found = run_wrong(alloc, &FIVE_FRAMES, &THROUGH_FRAMES)?;
+    assert_eq!(rt; found.as_str(), "");
+    Ok(())
 }
 
 static PAIRED: [CallRow; 6] = [
@@ -168,24 +170,20 @@ static LEFT: [CallRow; 5] = [
     },
 ];
 
-/// The calls of rows, on the store that the run of a code left.
-fn assert_called(
-    rt: &impl Abort,
-    alloc: Global,
-    units: &[Written],
-    rows: &[CallRow],
-) -> Result<(), Fail> {
+/// What calls tell otherwise than their rows, on the store that the run of a code left.
+fn calls_wrong(alloc: Global, units: &[Written], rows: &[CallRow]) -> Result<String, Fail> {
     let programs = programs_by(alloc, units)?;
     let mut store = store_of(alloc, &programs)?;
     run_in(alloc, &programs, &mut store, "", unlimited())?;
-    let found = wrong(alloc, rows, &programs, &mut store)?;
-    assert_eq!(rt; found.as_str(), "");
-    Ok(())
+    wrong(alloc, rows, &programs, &mut store)
 }
 
 #[test]
 fn calls_of_written_functions(rt: HostRuntime) -> Result<(), Fail> {
     let alloc = rt.alloc();
-    assert_called(&rt, alloc, &PAIR, &PAIRED)?;
-    assert_called(&rt, alloc, &FINALLY, &LEFT)
+    let found = calls_wrong(alloc, &PAIR, &PAIRED)?;
+    assert_eq!(rt; found.as_str(), "");
+    let found = calls_wrong(alloc, &FINALLY, &LEFT)?;
+    assert_eq!(rt; found.as_str(), "");
+    Ok(())
 }
