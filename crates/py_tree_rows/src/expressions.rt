@@ -3,9 +3,9 @@
 
 use crate::writer::Writer;
 use py_parse_expr::{ExprPart, parse_expr, read_expr};
-use py_syntax::{Comparison, Expr, FormatPart, Fragment, Link, Pair, Sign};
+use py_syntax::{Comparison, Expr, FormatPart, Fragment, Sign};
 use py_token::{Token, count_lines, tokens};
-use py_value::{BinOp, CmpOp, Text};
+use py_value::{BinOp, CmpOp};
 use std::alloc::Global;
 use std::test::Fail;
 
@@ -43,15 +43,8 @@ fn single(out: &mut Writer, head: &str, part: &Expr) {
     out.put("]");
 }
 
-/// Two parts of a node.
 #[cycle(show)]
-fn both(out: &mut Writer, head: &str, left: &Expr, right: &Expr) {
-    single(out, head, left);
-    single(out, "", right);
-}
-
-#[cycle(show)]
-fn row(out: &mut Writer, head: &str, exprs: &[Expr], comma: bool) {
+fn items(out: &mut Writer, head: &str, exprs: &[Expr], comma: bool) {
     out.put(head);
     out.put("[");
     let mut first = true;
@@ -68,9 +61,12 @@ fn row(out: &mut Writer, head: &str, exprs: &[Expr], comma: bool) {
     out.put("]");
 }
 
-fn plain(out: &mut Writer, texts: &[Text]) {
-    for text in texts {
-        out.quoted(text.as_str());
+#[cycle(show)]
+fn bound(out: &mut Writer, expr: &Option<Box<Expr>>) {
+    out.put(" ");
+    match expr {
+        None => out.put("~"),
+        Some(expr) => show(out, expr),
     }
 }
 
@@ -95,108 +91,104 @@ fn fragment(out: &mut Writer, fragment: &Fragment) {
     }
 }
 
-#[cycle(show)]
-fn fragments(out: &mut Writer, fragments: &[Fragment]) {
-    for piece in fragments {
-        fragment(out, piece);
-    }
-}
-
-#[cycle(show)]
-fn entries(out: &mut Writer, pairs: &[Pair], comma: bool) {
-    out.put("D[");
-    for pair in pairs {
-        show(out, &pair.key);
-        out.put(":");
-        show(out, &pair.value);
-        out.put(" ");
-    }
-    if comma {
-        out.put(",");
-    }
-    out.put("]");
-}
-
-#[cycle(show)]
-fn chain(out: &mut Writer, first: &Expr, links: &[Link]) {
-    out.put("cmp[");
-    show(out, first);
-    for link in links {
-        out.put(" ");
-        out.put(comparison(link.op));
-        out.put(" ");
-        show(out, &link.right);
-    }
-    out.put("]");
-}
-
-#[cycle(show)]
-fn conditional(out: &mut Writer, body: &Expr, test: &Expr, orelse: &Expr) {
-    both(out, "if", body, test);
-    single(out, "else", orelse);
-}
-
-#[cycle(show)]
-fn call(out: &mut Writer, callee: &Expr, args: &[Expr], comma: bool) {
-    show(out, callee);
-    row(out, "call", args, comma);
-}
-
-#[cycle(show)]
-fn bound(out: &mut Writer, expr: &Option<Box<Expr>>) {
-    out.put(" ");
-    match expr {
-        None => out.put("~"),
-        Some(expr) => show(out, expr),
-    }
-}
-
-#[cycle(show)]
-fn slice(out: &mut Writer, of: &Expr, from: &Option<Box<Expr>>, to: &Option<Box<Expr>>) {
-    out.put("slice[");
-    show(out, of);
-    bound(out, from);
-    bound(out, to);
-    out.put("]");
-}
-
-#[cycle(show)]
-fn attribute(out: &mut Writer, of: &Expr, name: &str) {
-    show(out, of);
-    out.put(".");
-    out.put(name);
-}
-
 /// Writes an expression down.
 #[cycle(show)]
 fn show(out: &mut Writer, expr: &Expr) {
     match expr {
         Expr::Name(name) => out.put(name.as_str()),
         Expr::Int(number) => out.number(*number),
-        Expr::Str(texts) => plain(out, texts),
-        Expr::FStr(pieces) => fragments(out, pieces),
+        Expr::Str(texts) => {
+            for text in texts {
+                out.quoted(text.as_str());
+            }
+        }
+        Expr::FStr(fragments) => {
+            for piece in fragments {
+                fragment(out, piece);
+            }
+        }
         Expr::None => out.put("None"),
         Expr::Bool(is) => out.put(if *is { "true" } else { "false" }),
-        Expr::Tuple { items, comma } => row(out, "T", items, *comma),
-        Expr::List { items, comma } => row(out, "L", items, *comma),
-        Expr::Dict { items, comma } => entries(out, items, *comma),
+        Expr::Tuple {
+            items: exprs,
+            comma,
+        } => items(out, "T", exprs, *comma),
+        Expr::List {
+            items: exprs,
+            comma,
+        } => items(out, "L", exprs, *comma),
+        Expr::Dict {
+            items: pairs,
+            comma,
+        } => {
+            out.put("D[");
+            for pair in pairs {
+                show(out, &pair.key);
+                out.put(":");
+                show(out, &pair.value);
+                out.put(" ");
+            }
+            if *comma {
+                out.put(",");
+            }
+            out.put("]");
+        }
         Expr::Paren(inner) => single(out, "", inner),
         Expr::Not(operand) => single(out, "not", operand),
-        Expr::And(left, right) => both(out, "and", left, right),
-        Expr::Or(left, right) => both(out, "or", left, right),
+        Expr::And(left, right) => {
+            single(out, "and", left);
+            single(out, "", right);
+        }
+        Expr::Or(left, right) => {
+            single(out, "or", left);
+            single(out, "", right);
+        }
         Expr::Unary(Sign::Minus, operand) => single(out, "-", operand),
         Expr::Unary(Sign::Plus, operand) => single(out, "+", operand),
-        Expr::Binary(op, left, right) => both(out, operator(*op), left, right),
-        Expr::Compare(first, links) => chain(out, first, links),
-        Expr::Cond { body, test, orelse } => conditional(out, body, test, orelse),
+        Expr::Binary(op, left, right) => {
+            single(out, operator(*op), left);
+            single(out, "", right);
+        }
+        Expr::Compare(first, links) => {
+            out.put("cmp[");
+            show(out, first);
+            for link in links {
+                out.put(" ");
+                out.put(comparison(link.op));
+                out.put(" ");
+                show(out, &link.right);
+            }
+            out.put("]");
+        }
+        Expr::Cond { body, test, orelse } => {
+            single(out, "if", body);
+            single(out, "", test);
+            single(out, "else", orelse);
+        }
         Expr::Call {
             callee,
             args,
             comma,
-        } => call(out, callee, args, *comma),
-        Expr::Index(of, at) => both(out, "at", of, at),
-        Expr::Slice { of, from, to } => slice(out, of, from, to),
-        Expr::Attr(of, name) => attribute(out, of, name.as_str()),
+        } => {
+            show(out, callee);
+            items(out, "call", args, *comma);
+        }
+        Expr::Index(of, at) => {
+            single(out, "at", of);
+            single(out, "", at);
+        }
+        Expr::Slice { of, from, to } => {
+            out.put("slice[");
+            show(out, of);
+            bound(out, from);
+            bound(out, to);
+            out.put("]");
+        }
+        Expr::Attr(of, name) => {
+            show(out, of);
+            out.put(".");
+            out.put(name.as_str());
+        }
     }
 }
 

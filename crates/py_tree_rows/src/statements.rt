@@ -2,9 +2,9 @@
 
 use crate::writer::Writer;
 use py_parse::{SyntaxError, parse};
-use py_syntax::{Alias, Arm, Case, Clause, Expr, Module, Stmt, StmtKind, Suite};
+use py_syntax::{Alias, Case, Clause, Module, Stmt, StmtKind, Suite};
 use py_token::{count_lines, tokens};
-use py_value::{BinOp, Text};
+use py_value::BinOp;
 use std::alloc::Global;
 use std::test::Fail;
 
@@ -54,22 +54,6 @@ fn show_optional(out: &mut Writer, suite: &Option<Suite>) {
 }
 
 #[cycle(show)]
-fn show_tests(out: &mut Writer, arms: &[Arm], orelse: &Option<Suite>) {
-    for arm in arms {
-        out.put("if");
-        show_suite(out, &arm.body);
-    }
-    show_optional(out, orelse);
-}
-
-#[cycle(show)]
-fn show_loop(out: &mut Writer, word: &str, body: &Suite, orelse: &Option<Suite>) {
-    out.put(word);
-    show_suite(out, body);
-    show_optional(out, orelse);
-}
-
-#[cycle(show)]
 fn show_clauses(out: &mut Writer, clauses: &[Clause]) {
     for clause in clauses {
         out.put(if clause.kind.is_some() {
@@ -86,40 +70,6 @@ fn show_clauses(out: &mut Writer, clauses: &[Clause]) {
 }
 
 #[cycle(show)]
-fn show_try(
-    out: &mut Writer,
-    body: &Suite,
-    clauses: &[Clause],
-    orelse: &Option<Suite>,
-    finally: &Option<Suite>,
-) {
-    out.put("try");
-    show_suite(out, body);
-    show_clauses(out, clauses);
-    show_optional(out, orelse);
-    if finally.is_some() {
-        out.put("finally ");
-    }
-    show_optional(out, finally);
-}
-
-#[cycle(show)]
-fn show_def(
-    out: &mut Writer,
-    name: &Text,
-    params: &[Text],
-    defaults: &[Expr],
-    comma: bool,
-    body: &Suite,
-) {
-    show_pair(out, "def ", name.as_str());
-    show_count(out, " ", params.len());
-    show_count(out, "/", defaults.len());
-    out.put(if comma { "," } else { "" });
-    show_suite(out, body);
-}
-
-#[cycle(show)]
 fn show_cases(out: &mut Writer, cases: &[Case]) {
     for case in cases {
         out.put(if case.guard.is_some() {
@@ -129,23 +79,6 @@ fn show_cases(out: &mut Writer, cases: &[Case]) {
         });
         show_suite(out, &case.body);
     }
-}
-
-#[cycle(show)]
-fn show_match(out: &mut Writer, header_last: u32, cases: &[Case]) {
-    out.put("match");
-    out.number(i64::from(header_last));
-    show_cases(out, cases);
-}
-
-fn show_pair(out: &mut Writer, word: &str, text: &str) {
-    out.put(word);
-    out.put(text);
-}
-
-fn show_count(out: &mut Writer, word: &str, count: usize) {
-    out.put(word);
-    out.count(count);
 }
 
 fn show_names(out: &mut Writer, names: &[Alias]) {
@@ -159,48 +92,95 @@ fn show_names(out: &mut Writer, names: &[Alias]) {
     }
 }
 
-fn show_imported(out: &mut Writer, word: &str, source: &str, names: &[Alias]) {
-    show_pair(out, word, source);
-    show_names(out, names);
-}
-
 /// Writes a kind of statement down, with its suites.
 #[cycle(show)]
 fn show(out: &mut Writer, kind: &StmtKind) {
     match kind {
         StmtKind::Expr(_) => out.put("expr"),
-        StmtKind::Assign { targets, value: _ } => show_count(out, "assign", targets.len()),
-        StmtKind::AugAssign { op, .. } => show_pair(out, "aug", operator(*op)),
+        StmtKind::Assign { targets, value: _ } => {
+            out.put("assign");
+            out.count(targets.len());
+        }
+        StmtKind::AugAssign { op, .. } => {
+            out.put("aug");
+            out.put(operator(*op))
+        }
         StmtKind::Pass => out.put("pass"),
         StmtKind::Break => out.put("break"),
         StmtKind::Continue => out.put("continue"),
-        StmtKind::Return(value) => out.put(if value.is_some() { "return1" } else { "return" }),
+        StmtKind::Return(value) => { out.put(if value.is_some() { "return1" } else { "return" }) }
         StmtKind::Raise(value) => out.put(if value.is_some() { "raise1" } else { "raise" }),
-        StmtKind::Assert(_, why) => out.put(if why.is_some() { "assert2" } else { "assert" }),
-        StmtKind::Global(names) => show_count(out, "global", names.len()),
-        StmtKind::Import(names) => show_imported(out, "import", "", names),
-        StmtKind::From(source, names) => show_imported(out, "from ", source.as_str(), names),
-        StmtKind::If { arms, orelse } => show_tests(out, arms, orelse),
-        StmtKind::While { body, orelse, .. } => show_loop(out, "while", body, orelse),
-        StmtKind::For { body, orelse, .. } => show_loop(out, "for", body, orelse),
+        StmtKind::Assert(_, why) => { out.put(if why.is_some() { "assert2" } else { "assert" }) }
+        StmtKind::Global(names) => {
+            out.put("global");
+            out.count(names.len());
+        }
+        StmtKind::Import(names) => {
+            out.put("import");
+            show_names(out, names);
+        }
+        StmtKind::From(source, names) => {
+            out.put("from ");
+            out.put(source.as_str());
+            show_names(out, names);
+        }
+        StmtKind::If { arms, orelse } => {
+            for arm in arms {
+                out.put("if");
+                show_suite(out, &arm.body);
+            }
+            show_optional(out, orelse);
+        }
+        StmtKind::While { body, orelse, .. } => {
+            out.put("while");
+            show_suite(out, body);
+            show_optional(out, orelse);
+        }
+        StmtKind::For { body, orelse, .. } => {
+            out.put("for");
+            show_suite(out, body);
+            show_optional(out, orelse);
+        }
         StmtKind::Try {
             body,
             clauses,
             orelse,
             finally,
-        } => show_try(out, body, clauses, orelse, finally),
+        } => {
+            out.put("try");
+            show_suite(out, body);
+            show_clauses(out, clauses);
+            show_optional(out, orelse);
+            if finally.is_some() {
+                out.put("finally ");
+            }
+            show_optional(out, finally);
+        }
         StmtKind::Def {
             name,
             params,
             defaults,
             comma,
             body,
-        } => show_def(out, name, params, defaults, *comma, body),
+        } => {
+            out.put("def ");
+            out.put(name.as_str());
+            out.put(" ");
+            out.count(params.len());
+            out.put("/");
+            out.count(defaults.len());
+            out.put(if *comma { "," } else { "" });
+            show_suite(out, body);
+        }
         StmtKind::Match {
             header_last,
             cases,
             ..
-        } => show_match(out, *header_last, cases),
+        } => {
+            out.put("match");
+            out.number(i64::from(*header_last));
+            show_cases(out, cases);
+        }
     }
 }
 
