@@ -19,7 +19,7 @@ abbrev pub are_none : List PlainValue → Bool
 are_none [] = true
 are_none (x ∷ xs) = false
 
--- the argument, where there is just one, and the two arguments
+-- the argument, where there is just one
 abbrev pub only : List PlainValue → Option PlainValue
 only (x ∷ []) = Some x
 only _ = None
@@ -29,7 +29,7 @@ abbrev pub pair : List PlainValue → Option (PlainValue × PlainValue)
 pair (x ∷ y ∷ []) = Some (x, y)
 pair _ = None
 
--- an answer for no argument, for one, or for either
+-- an answer for no argument
 abbrev pub for_none : Bool → Answer → Answer
 for_none true answer = answer
 for_none false answer = raises WrongArgumentCount
@@ -44,7 +44,7 @@ abbrev pub for_none_or_one : Option PlainValue → Bool → Answer → (PlainVal
 for_none_or_one (Some x) none answer f = f x
 for_none_or_one None none answer f = for_none none answer
 
--- for one argument or two
+-- an answer for two arguments
 abbrev pub for_two : Option (PlainValue × PlainValue) → (PlainValue → PlainValue → Answer) → Answer
 for_two (Some p) f = f p.0 p.1
 for_two None f = raises WrongArgumentCount

@@ -122,11 +122,11 @@ str_of args h = for_one (only args) (λ x. str_text x h >>= λ t. Ok (str_value 
 abbrev pub repr_of : List PlainValue → PlainHeap → Answer
 repr_of args h = for_one (only args) (λ x. repr_text x h >>= λ t. Ok (str_value t, h))
 
--- blanks are the space and the tab
+-- whether a character is a blank: the space or the tab
 abbrev pub is_blank : ℕ → Bool
 is_blank c = nat_eq c 32 || nat_eq c 9
 
--- an ASCII digit
+-- whether a character is an ASCII digit
 abbrev pub is_digit : ℕ → Bool
 is_digit c = nat_le 48 c && nat_le c 57
 
@@ -147,7 +147,7 @@ abbrev pub negated : ℕ → ℤ
 negated zero = pos 0
 negated (suc n) = negsuc n
 
--- the same with one digit at the least
+-- the number of one digit or more with blanks after them
 abbrev pub unsigned : List ℕ → Option ℕ
 unsigned [] = None
 unsigned (c ∷ cs) = if is_digit c then digits_then_blanks 0 (c ∷ cs) else None
@@ -182,7 +182,7 @@ int_of args h =
     for_one (only args)
     (λ x. in_words raised_by (number_in x (number_of x) >>= λ n. Ok (int_value n, h)))
 
--- the bytes up to a line end, and those after it
+-- the bytes up to the first line end
 abbrev pub first_line : List ℕ → List ℕ
 first_line [] = []
 first_line (b ∷ bs) = if nat_eq b 10 then [] else b ∷ first_line bs

@@ -256,27 +256,27 @@ method_of which (dict_at a) args h = dict_method which a args h
 method_of which (str_value s) args h = text_method which s args h
 method_of which on args h = Err (no_attribute (method_name which))
 
--- whether a value has a method: what is asked before the arguments are evaluated
+-- whether lists have a method
 abbrev pub is_list_method : Method → Bool
 is_list_method Append = true
 is_list_method Pop = true
 is_list_method _ = false
 
--- the methods of dicts
+-- whether dicts have a method
 abbrev pub is_dict_method : Method → Bool
 is_dict_method Pop = true
 is_dict_method Get = true
 is_dict_method Keys = true
 is_dict_method _ = false
 
--- the methods of texts
+-- whether texts have a method
 abbrev pub is_text_method : Method → Bool
 is_text_method StartsWith = true
 is_text_method Join = true
 is_text_method Split = true
 is_text_method _ = false
 
--- whether a value has a method
+-- whether a value has a method: what is asked before the arguments are evaluated
 abbrev pub has_method : Method → PlainValue → Bool
 has_method which (list_at a) = is_list_method which
 has_method which (dict_at a) = is_dict_method which

@@ -69,7 +69,7 @@ without_number m (n ∷ ns) = if nat_eq m n then ns else n ∷ without_number m 
 abbrev pub global_of : ℕ → List ℕ → World → Option PlainValue
 global_of m name w = value_of name (names_at m w.globals)
 
--- a global set, and one unset
+-- a global set
 abbrev pub with_global : ℕ → List ℕ → PlainValue → World → World
 with_global m name v w = record w { globals = with_names_at m (with_name name v) w.globals }
 

@@ -5,7 +5,8 @@ ghost use Rattle.py_builtins.specs.Displays.{kind_name, builtin_name};
 
 use py_value::{Builtin, ExcKind};
 
-/// The built-in functions whose names no module sets.
+/// The built-in functions whose names a module finds where it sets none of its own: all but `exit`,
+/// which is a name of `sys`.
 pub const BUILTINS: [Builtin; 7] = [
     Builtin::Print,
     Builtin::Len,

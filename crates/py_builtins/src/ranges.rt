@@ -37,6 +37,7 @@ fn bounds_of(args: &[Value]) -> Option<(Option<i64>, Option<i64>, Option<i64>)>
         1 => Some((Some(0), args[0].number(), Some(1))),
         2 => Some((args[0].number(), args[1].number(), Some(1))),
         3 => Some((args[0].number(), args[1].number(), args[2].number())),
+        // Any other number of arguments is refused, so none passes unseen.
         _ => None,
     }
 }

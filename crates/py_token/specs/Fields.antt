@@ -73,7 +73,7 @@ depth_after opening depth = suc depth
 depth_after shutting depth = depth - 1
 depth_after neither depth = depth
 
--- an f-string can't stand in a field
+-- the token at the front of a field, where no f-string can stand
 abbrev pub field_token : ℕ → ℕ → List ℕ → Result Match TokenError
 field_token line c cs =
     if is_format_prefix c && begins_quote cs then Err (BadCharacter line) else plain_token line c cs

@@ -53,7 +53,7 @@ abbrev pub digits_asked : ℕ → Option ℕ
 digits_asked c =
     if c == 120 then Some 2 else (if c == 117 then Some 4 else (if c == 85 then Some 8 else None))
 
--- code points but the surrogates
+-- whether a code point is a character: all are but the surrogates
 abbrev pub is_character : ℕ → Bool
 is_character n = nat_lt n 0xD800 || (nat_lt 0xDFFF n && nat_lt n 0x110000)
 

@@ -7,11 +7,11 @@ use Rattle.py_token.specs.declared.token.Keyword.{Keyword}
 use Rattle.py_token.specs.declared.token.Keyword.TheVariants as keywords
 use Rattle.py_token.specs.Plain.{PKind, name, keyword}
 
--- a letter or an underscore
+-- whether a name may begin with a character: a letter or an underscore
 abbrev pub begins_name : ℕ → Bool
 begins_name c = is_ascii_alphabetic c || (c == 95)
 
--- or a digit
+-- whether a name may go on with a character: a letter, an underscore or a digit
 abbrev pub in_name : ℕ → Bool
 in_name c = begins_name c || is_ascii_digit c
 

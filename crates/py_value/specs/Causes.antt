@@ -34,7 +34,7 @@ kind_of TooDeep = RecursionError
 kind_of NoInput = EOFError
 kind_of TooManyItems = MemoryError
 
--- in the words of the exception
+-- the text of the exception of a cause; that of a `MemoryError` is empty
 abbrev pub text_of : Cause → List ℕ
 text_of UnsupportedOperand = codes "unsupported operand"
 text_of NotCallable = codes "not callable"

@@ -60,24 +60,24 @@ abbrev pub are_equal_dicts : (PlainValue → PlainValue → Result Bool Cause)
     → List (PlainValue × PlainValue) → List (PlainValue × PlainValue) → Result Bool Cause
 are_equal_dicts equal ps qs = if_same (length ps == length qs) (are_equal_pairs equal ps qs)
 
--- arguments of exceptions
+-- whether the arguments of two exceptions are equal; none equals none alone
 abbrev pub are_equal_arguments : (PlainValue → PlainValue → Result Bool Cause) → PlainArgument
     → PlainArgument → Result Bool Cause
 are_equal_arguments equal no_argument no_argument = Ok true
 are_equal_arguments equal (argument v) (argument w) = equal v w
 are_equal_arguments equal _ _ = Ok false
 
--- one function
+-- whether both are one function
 abbrev pub is_same_function : FuncId → FuncId → Bool
 is_same_function f g = nat_eq f.module g.module && nat_eq f.unit g.unit
 
--- one place, or none
+-- whether both are one place, or neither is there
 abbrev pub is_same_place : Option ℕ → Option ℕ → Bool
 is_same_place None None = true
 is_same_place (Some a) (Some b) = nat_eq a b
 is_same_place _ _ = false
 
--- one module
+-- whether both are one module
 abbrev pub is_same_module : ModId → ModId → Bool
 is_same_module (Loaded m) (Loaded n) = nat_eq m n
 is_same_module Sys Sys = true
@@ -94,11 +94,11 @@ builtin_number Int = 5
 builtin_number Input = 6
 builtin_number Exit = 7
 
--- one built-in function
+-- whether both are one built-in function
 abbrev pub is_same_builtin : Builtin → Builtin → Bool
 is_same_builtin f g = nat_eq (builtin_number f) (builtin_number g)
 
--- numbers of one value
+-- whether both are numbers, and of one value
 abbrev pub is_same_number : Option ℤ → Option ℤ → Bool
 is_same_number (Some x) (Some y) = int_eq x y
 is_same_number _ _ = false

@@ -51,7 +51,7 @@ kind_number RecursionError = 18
 kind_number TypeError = 19
 kind_number ValueError = 20
 
--- one kind
+-- whether both are one kind
 abbrev pub is_same_kind : ExcKind → ExcKind → Bool
 is_same_kind a b = nat_eq (kind_number a) (kind_number b)
 

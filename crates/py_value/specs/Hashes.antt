@@ -20,14 +20,15 @@ hash_of_text s = mixed_all 7 s
 abbrev pub CountAndHash : List ℕ → ℕ → ℕ → Type 0
 CountAndHash s count hash = (count ≡ length s) × (hash ≡ hash_of_text s)
 
--- the hash of a key, and a hash with those of a tuple's items in it
 abbrev mutual
+  -- the hash of a value; of all but numbers, texts and tuples it is 0
   pub hash_of : PlainValue → ℕ
   hash_of (int_value n) = unsigned_abs n
   hash_of (str_value s) = hash_of_text s
   hash_of (tuple_value vs) = hash_of_items 1 vs
   hash_of _ = 0
 
+  -- a hash with those of some items mixed in, one by one
   pub hash_of_items : ℕ → PlainValues → ℕ
   hash_of_items hash no_values = hash
   hash_of_items hash (value_then v vs) = hash_of_items (mixed hash (hash_of v)) vs

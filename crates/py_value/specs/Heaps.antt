@@ -3,12 +3,12 @@ use Rattle.std.specs.Prelude.{ℕ, Bool, true, false, List, [], ◌∷◌, ◌++
 use Rattle.std.specs.List.{slice_index_or}
 use Rattle.py_value.specs.Plain.{PlainValue, PlainObject, list_object, dict_object, PlainHeap}
 
--- the items of a list, and the pairs of a dict
+-- the items of a list; a dict has none
 abbrev pub items_of : PlainObject → List PlainValue
 items_of (list_object vs) = vs
 items_of (dict_object ps) = []
 
--- the pairs of a dict
+-- the pairs of a dict; a list has none
 abbrev pub pairs_of : PlainObject → List (PlainValue × PlainValue)
 pairs_of (list_object vs) = []
 pairs_of (dict_object ps) = ps
@@ -34,18 +34,18 @@ abbrev pub length_of : PlainObject → ℕ
 length_of (list_object vs) = length vs
 length_of (dict_object ps) = length ps
 
--- an object changed in one of its parts; the other kind of object stays as it is
+-- a list with its items changed; a dict stays as it is
 abbrev pub with_items : (List PlainValue → List PlainValue) → PlainObject → PlainObject
 with_items f (list_object vs) = list_object (f vs)
 with_items f (dict_object ps) = dict_object ps
 
--- a dict with its pairs changed
+-- a dict with its pairs changed; a list stays as it is
 abbrev pub with_pairs : (List (PlainValue × PlainValue) → List (PlainValue × PlainValue))
     → PlainObject → PlainObject
 with_pairs f (list_object vs) = list_object vs
 with_pairs f (dict_object ps) = dict_object (f ps)
 
--- the heap with the object at an address changed, or the list or the dict
+-- a heap with the object at an address changed
 abbrev pub change : PlainHeap → ℕ → (PlainObject → PlainObject) → PlainHeap
 change h a f = slice_set h a (f (object_at h a))
 
@@ -72,7 +72,7 @@ abbrev pub values_of : PlainObject → List PlainValue
 values_of (list_object vs) = vs
 values_of (dict_object ps) = map (λ p. p.1) ps
 
--- without the item or the pair at a place
+-- a list without the item at a place, a dict without the pair there
 abbrev pub without : ℕ → PlainObject → PlainObject
 without at (list_object vs) = list_object (remove vs at)
 without at (dict_object ps) = dict_object (remove ps at)

@@ -7,15 +7,15 @@ use Rattle.py_value.specs.Plain.{PlainValue, PlainObject, list_object, dict_obje
 use Rattle.py_value.specs.Pairs.{plain_pair}
 use Rattle.py_value.specs.View.{plains}
 
--- the pairs of a dict
+-- the pairs of a dict, each by its key and its value
 abbrev pub plain_pairs : Pairs → List (PlainValue × PlainValue)
 plain_pairs ps = map plain_pair ps.pairs.items
 
--- an object
+-- a list by its items, and a dict by its pairs
 abbrev pub plain_object : Object → PlainObject
 plain_object (ListObject vs) = list_object (plains vs.items)
 plain_object (DictObject ps) = dict_object (plain_pairs ps)
 
--- the objects of a heap
+-- each object of a heap
 abbrev pub plain_objects : List Object → PlainHeap
 plain_objects os = map plain_object os

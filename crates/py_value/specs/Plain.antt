@@ -1,4 +1,9 @@
 -- Values, heaps and exceptions seen plainly: as data, without where they lie in memory.
+--     PlainValue, PlainValues, PlainArgument     a value, the items of a tuple, an argument
+--     listed, packed, tuple_of                   the items of a tuple, and lists
+--     PlainObject, PlainHeap                     what a heap holds
+--     PlainRaised                                an exception that is raised
+--     nesting_of .. may_nest                     how deep values stand in each other
 use Rattle.std.specs.Prelude.{ℕ, suc, max, nat_lt, ℤ, Bool, List, [], ◌∷◌, Option}
 use Rattle.py_value.specs.declared.builtin.Builtin.{Builtin}
 use Rattle.py_value.specs.declared.exception.ExcKind.{ExcKind}
@@ -31,7 +36,7 @@ mutual
     no_argument : PlainArgument
     argument : PlainValue → PlainArgument
 
--- the items of a tuple as a list, and back
+-- the items of a tuple as a list
 abbrev pub listed : PlainValues → List PlainValue
 listed no_values = []
 listed (value_then v vs) = v ∷ listed vs
@@ -59,13 +64,15 @@ pub record PlainRaised : Type 0 where
   pub kind : ExcKind
   pub arg : PlainArgument
 
--- How deep tuples and arguments of exceptions stand directly in each other.
 abbrev mutual
+  -- How deep tuples and arguments of exceptions stand directly in each other, in a value. A value
+  -- that is neither a tuple nor an exception with an argument has 0.
   pub nesting_of : PlainValue → ℕ
   nesting_of (tuple_value vs) = suc (nesting_of_items vs)
   nesting_of (exc_value kind (argument v)) = suc (nesting_of v)
   nesting_of _ = 0
 
+  -- the greatest depth of a tuple's items
   pub nesting_of_items : PlainValues → ℕ
   nesting_of_items no_values = 0
   nesting_of_items (value_then v vs) = max (nesting_of v) (nesting_of_items vs)

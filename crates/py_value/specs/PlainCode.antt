@@ -48,6 +48,7 @@ kind_at n =
     (if nat_eq n 18 then RecursionError else
     (if nat_eq n 19 then TypeError else ValueError)))))))))))))))))))
 
+-- a kind is known again by its number
 kind_back : (k : ExcKind) → kind_at (kind_number k) ≡ k
 kind_back BaseException = refl
 kind_back SystemExit = refl
@@ -92,6 +93,7 @@ builtin_at n =
     (if nat_eq n 4 then Repr else
     (if nat_eq n 5 then Int else (if nat_eq n 6 then Input else Exit))))))
 
+-- a built-in function is known again by its number
 builtin_back : (b : Builtin) → builtin_at (number_of_builtin b) ≡ b
 builtin_back Print = refl
 builtin_back Len = refl
@@ -102,79 +104,84 @@ builtin_back Int = refl
 builtin_back Input = refl
 builtin_back Exit = refl
 
--- truth values, whole numbers, lists of numbers, places and modules
+-- the code of a truth
 abbrev pub code_bool : Bool → Gv
 code_bool false = gnil
 code_bool true = gnum 0
 
--- a truth of its code
+-- the truth of a code
 abbrev pub bool_at : Gv → Bool
 bool_at (gnum n) = true
 bool_at _ = false
 
+-- a truth is known again by its code
 bool_back : (b : Bool) → bool_at (code_bool b) ≡ b
 bool_back false = refl
 bool_back true = refl
 
--- a number
+-- the code of a whole number
 abbrev pub code_int : ℤ → Gv
 code_int (pos n) = gcons gnil (gnum n)
 code_int (negsuc n) = gnum n
 
--- a number of its code
+-- the whole number of a code
 abbrev pub int_at : Gv → ℤ
 int_at (gcons a g) = pos (number_at g)
 int_at (gnum n) = negsuc n
 int_at gnil = pos 0
 
+-- a whole number is known again by its code
 int_back : (n : ℤ) → int_at (code_int n) ≡ n
 int_back (pos n) = refl
 int_back (negsuc n) = refl
 
--- a list of characters
+-- the code of a list of characters
 abbrev pub code_numbers : List ℕ → Gv
 code_numbers [] = gnil
 code_numbers (n ∷ ns) = gcons (gnum n) (code_numbers ns)
 
--- a list of characters of its code
+-- the list of characters of a code
 abbrev pub numbers_at : Gv → List ℕ
 numbers_at (gcons a g) = number_at a ∷ numbers_at g
 numbers_at _ = []
 
+-- a list of characters is known again by its code
 numbers_back : (ns : List ℕ) → numbers_at (code_numbers ns) ≡ ns
 numbers_back [] = refl
 numbers_back (n ∷ ns) = ap (λ ms. n ∷ ms) (numbers_back ns)
 
--- an address, where there is one
+-- the code of an address, or of none
 abbrev pub code_place : Option ℕ → Gv
 code_place None = gnil
 code_place (Some n) = gnum n
 
--- an address of its code
+-- the address of a code, or none
 abbrev pub place_at : Gv → Option ℕ
 place_at (gnum n) = Some n
 place_at _ = None
 
+-- an address, or none, is known again by its code
 place_back : (p : Option ℕ) → place_at (code_place p) ≡ p
 place_back None = refl
 place_back (Some n) = refl
 
--- a module
+-- the code of a module
 abbrev pub code_module : ModId → Gv
 code_module Sys = gnil
 code_module (Loaded m) = gnum m
 
--- a module of its code
+-- the module of a code
 abbrev pub module_at : Gv → ModId
 module_at (gnum m) = Loaded m
 module_at _ = Sys
 
+-- a module is known again by its code
 module_back : (m : ModId) → module_at (code_module m) ≡ m
 module_back Sys = refl
 module_back (Loaded m) = refl
 
--- values
 abbrev mutual
+  -- the code of a value: the number of its form, and the code of what it holds
   pub code_value : PlainValue → Gv
   code_value none_value = gnil
   code_value (bool_value b) = gcons (gnum 0) (code_bool b)
@@ -190,15 +197,18 @@ abbrev mutual
   code_value (exc_value k a) = gcons (gnum 9) (gcons (gnum (kind_number k)) (code_argument a))
   code_value (builtin_value b) = gcons gnil (gnum (number_of_builtin b))
 
+  -- the code of a tuple's items
   pub code_values : PlainValues → Gv
   code_values no_values = gnil
   code_values (value_then v vs) = gcons (code_value v) (code_values vs)
 
+  -- the code of an exception's argument, or of none
   pub code_argument : PlainArgument → Gv
   code_argument no_argument = gnil
   code_argument (argument v) = gcons gnil (code_value v)
 
 abbrev mutual
+  -- the value of a code
   pub value_at : Gv → PlainValue
   value_at (gcons (gnum zero) g) = bool_value (bool_at g)
   value_at (gcons (gnum (suc zero)) g) = int_value (int_at g)
@@ -217,15 +227,18 @@ abbrev mutual
   value_at (gcons gnil g) = builtin_value (builtin_at (number_at g))
   value_at _ = none_value
 
+  -- the items of a code
   pub values_at : Gv → PlainValues
   values_at (gcons a b) = value_then (value_at a) (values_at b)
   values_at _ = no_values
 
+  -- the argument of a code, or none
   pub argument_at : Gv → PlainArgument
   argument_at (gcons a g) = argument (value_at g)
   argument_at _ = no_argument
 
 mutual
+  -- a value is known again by its code
   value_back : (v : PlainValue) → value_at (code_value v) ≡ v
   value_back none_value = refl
   value_back (bool_value b) = ap bool_value (bool_back b)
@@ -242,12 +255,14 @@ mutual
       ∙ ap (λ b. exc_value k b) (argument_back a)
   value_back (builtin_value b) = ap builtin_value (builtin_back b)
 
+  -- items are known again by their code
   pub values_back : (vs : PlainValues) → values_at (code_values vs) ≡ vs
   values_back no_values = refl
   values_back (value_then v vs) =
       ap (λ w. value_then w (values_at (code_values vs))) (value_back v)
       ∙ ap (λ ws. value_then v ws) (values_back vs)
 
+  -- an argument, or none, is known again by its code
   pub argument_back : (a : PlainArgument) → argument_at (code_argument a) ≡ a
   argument_back no_argument = refl
   argument_back (argument v) = ap argument (value_back v)

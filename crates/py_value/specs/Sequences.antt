@@ -58,13 +58,13 @@ part from to xs =
     let first = first_bound (length xs) from in
     take (last_bound (length xs) to - first) (drop first xs)
 
--- whether the first text is a part of the second
+-- whether the second text begins with the first
 abbrev pub begins : List ℕ → List ℕ → Bool
 begins [] ds = true
 begins (c ∷ cs) [] = false
 begins (c ∷ cs) (d ∷ ds) = nat_eq c d && begins cs ds
 
--- whether a text stands in another
+-- whether the first text stands somewhere in the second
 abbrev pub is_part : List ℕ → List ℕ → Bool
 is_part cs [] = begins cs []
 is_part cs (d ∷ ds) = begins cs (d ∷ ds) || is_part cs ds

@@ -23,7 +23,7 @@ use Rattle.py_value.specs.Plain.{PlainValue, none_value, bool_value, int_value, 
 abbrev pub place_of : Addr → ℕ
 place_of a = a.place
 
--- a value
+-- a value, seen plainly
 abbrev pub plain : Value → PlainValue
 plain NoneVariant = none_value
 plain (Bool b) = bool_value b
@@ -38,20 +38,20 @@ plain (Kind k) = kind_value k
 plain (Exc k a) = exc_value k a
 plain (Builtin b) = builtin_value b
 
--- a list of values
+-- each value of a list, seen plainly
 abbrev pub plains : List Value → List PlainValue
 plains vs = map plain vs
 
--- the argument of an exception
+-- the argument that an exception holds, or that it holds none
 abbrev pub plain_held : Option (Rc Held Global) → PlainArgument
 plain_held None = no_argument
 plain_held (Some rc) = argument (plain rc.value.value)
 
--- what the items of a tuple and an argument are
+-- what the items of a tuple are
 abbrev pub items_view : ItemsInside → PlainValues
 items_view a = packed (plains a.row.value.items.items)
 
--- the argument that is held
+-- what an argument of an exception is
 abbrev pub argument_view : ArgumentInside → PlainArgument
 argument_view a = plain_held a.held
 
@@ -60,7 +60,7 @@ abbrev pub nesting_of_argument : PlainArgument → ℕ
 nesting_of_argument no_argument = 0
 nesting_of_argument (argument v) = suc (nesting_of v)
 
--- that the depth kept is that of what is held, and so the rest that is kept with it
+-- that the depth, whether they may be keys, and the hash kept with items are theirs
 abbrev pub ItemsAreSound : ItemsInside → Type 0
 ItemsAreSound a =
     (a.row.value.depth ≡ min most_nested (nesting_of_items (items_view a)))
@@ -76,17 +76,19 @@ HeldIsSound (Some rc) = rc.value.depth ≡ min most_nested (nesting_of (plain rc
 abbrev pub ArgumentIsSound : ArgumentInside → Type 0
 ArgumentIsSound a = HeldIsSound a.held
 
--- how much a value holds, each value inside it counted
 abbrev mutual
+  -- how many values a value holds, those inside each of them counted too
   pub size_of_value : PlainValue → ℕ
   size_of_value (tuple_value vs) = size_of_values vs
   size_of_value (exc_value k a) = size_of_argument a
   size_of_value _ = 0
 
+  -- how many values items are, those inside each of them counted too
   pub size_of_values : PlainValues → ℕ
   size_of_values no_values = 0
   size_of_values (value_then v vs) = suc (size_of_value v + size_of_values vs)
 
+  -- the same of an exception's argument: nothing where there is none
   pub size_of_argument : PlainArgument → ℕ
   size_of_argument no_argument = 0
   size_of_argument (argument v) = suc (size_of_value v)

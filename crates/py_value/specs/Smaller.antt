@@ -12,7 +12,7 @@ use Rattle.py_value.specs.declared.shared.Argument.TheInside.{Inside}
 use Rattle.py_value.specs.declared.shared.Argument.TheDeep.{deep-Value, deep-Argument}
 use denote.Param.Weighed.{most}
 
--- a value's measure among those inside another
+-- a value measures at most one more than what it holds
 deep_value : (v : Value) → deep-Value v ≤ suc (size_of_value (plain v))
 deep_value NoneVariant = omega arith
 deep_value (Bool b) = omega arith
@@ -27,7 +27,7 @@ deep_value (Kind k) = omega arith
 deep_value (Exc k a) = omega arith
 deep_value (Builtin b) = omega arith
 
--- what the items of a tuple hold
+-- each item of a tuple measures no more than the tuple holds
 pub smaller_items : (vs : List Value)
     → most (λ v. deep-Value v) vs ≤ size_of_values (packed (plains vs))
 smaller_items [] = omega arith
@@ -37,11 +37,12 @@ smaller_items (v ∷ vs) = omega (arith, deep_value v, smaller_items vs)
 abbrev inside : Option (Rc Held Global) → Inside
 inside o = record { held = o }
 
+-- what is held as an argument measures no more than the argument holds
 smaller_held : (o : Option (Rc Held Global))
     → deep-Argument (inside o) ≤ size_of_argument (plain_held o)
 smaller_held None = omega arith
 smaller_held (Some rc) = omega (arith, deep_value rc.value.value)
 
--- what an argument holds
+-- what is inside an argument measures no more than the argument holds
 pub smaller_argument : (a : Inside) → deep-Argument a ≤ size_of_argument (argument_view a)
 smaller_argument a = smaller_held a.held
