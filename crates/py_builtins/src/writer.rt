@@ -13,7 +13,7 @@ use py_value::{Cause, MOST_ITEMS, Text};
 use std::alloc::{AllocError, AllocFailed, Global};
 
 /// Why no more is written.
-#[derive(Debug, Drop)]
+#[derive(Drop)]
 pub(crate) enum Stop {
     Raises(Cause),
     NoMemory,

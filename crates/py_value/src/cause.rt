@@ -6,7 +6,7 @@ ghost use Rattle.py_value.specs.Causes.{kind_of, text_of};
 use crate::exception::ExcKind;
 
 /// A cause of an exception whose kind and text are always the same.
-#[derive(Clone, Copy, Debug)]
+#[derive(Clone, Copy)]
 pub enum Cause {
     UnsupportedOperand,
     NotCallable,

@@ -4,7 +4,7 @@ ghost use Rattle.std.specs.Prelude.{◌≡◌, ◌↔◌, IsTrue};
 ghost use Rattle.py_value.specs.ExcKind.{parent_of, is_same_kind, is_or_under};
 
 /// A kind of exceptions. The kinds form a tree, with `BaseException` on top.
-#[derive(Clone, Copy, Debug, PartialEq, Eq)]
+#[derive(Clone, Copy, PartialEq, Eq)]
 pub enum ExcKind {
     BaseException,
     SystemExit,
