@@ -10,24 +10,28 @@ use std::alloc::Global;
 
 mod rows;
 
-use rows::{CONTAINERS, EXCEPTIONS, PLAIN, Row, STRINGS};
+use rows::{CONTAINERS, EXCEPTIONS, MISSPELT, PLAIN, Row, STRINGS};
 
-fn kind_named(name: &str) -> ExcKind {
+fn kind_named(name: &str) -> Option<ExcKind> {
     for kind in &KINDS {
         if kind_name(*kind) == name {
-            return *kind;
+            return Some(*kind);
         }
     }
-    ExcKind::Exception
+    None
 }
 
-fn builtin_named(name: &str) -> Builtin {
+fn builtin_named(name: &str) -> Option<Builtin> {
     for which in &BUILTINS {
         if builtin_name(*which) == name {
-            return *which;
+            return Some(*which);
         }
     }
-    Builtin::Exit
+    if builtin_name(Builtin::Exit) == name {
+        Some(Builtin::Exit)
+    } else {
+        None
+    }
 }
 
 fn text_value(alloc: Global, text: &str) -> Result<Value, NoMemory> {
@@ -40,16 +44,19 @@ fn one(alloc: Global, value: Value) -> Result<Vec<Value>, NoMemory> {
     Ok(values)
 }
 
-/// The last values, of as many as a word counts.
-fn last(alloc: Global, made: &mut Vec<Value>, count: &str) -> Result<Vec<Value>, NoMemory> {
-    let count = count.parse::<u32>().unwrap_or(0);
+/// The last values, of as many as a word counts; none where there are fewer.
+fn last(alloc: Global, made: &mut Vec<Value>, count: &str) -> Result<Option<Vec<Value>>, NoMemory> {
+    let Ok(count) = count.parse::<u32>() else {
+        return Ok(None);
+    };
     let mut values = Vec::new(alloc);
     for _ in 0..count {
-        if let Some(value) = made.pop() {
-            values.insert(0, value)?;
-        }
+        let Some(value) = made.pop() else {
+            return Ok(None);
+        };
+        values.insert(0, value)?;
     }
-    Ok(values)
+    Ok(Some(values))
 }
 
 fn make_dict(
@@ -57,12 +64,19 @@ fn make_dict(
     made: &mut Vec<Value>,
     count: &str,
     heap: &mut Heap,
-) -> Result<Value, NoMemory> {
-    let count = count.parse::<u32>().unwrap_or(0);
+) -> Result<Option<Value>, NoMemory> {
+    let Ok(count) = count.parse::<u32>() else {
+        return Ok(None);
+    };
     let mut values = Vec::new(alloc);
     for _ in 0..count {
-        let value = made.pop().unwrap_or(Value::None);
-        let key = made.pop().unwrap_or(Value::None);
+        let Some(value) = made.pop() else {
+            return Ok(None);
+        };
+        let Some(key) = made.pop() else {
+            drop(value);
+            return Ok(None);
+        };
         values.push((key, value))?;
     }
     let dict = Value::Dict(heap.make_dict()?);
@@ -71,24 +85,30 @@ fn make_dict(
             let _ = store(alloc, &dict, &key, value, heap)?;
         }
     }
-    Ok(dict)
+    Ok(Some(dict))
 }
 
+/// The value of a word and of those before it; none where the word is misspelt.
 fn made_by(
     alloc: Global,
     word: &str,
     made: &mut Vec<Value>,
     heap: &mut Heap,
-) -> Result<Value, NoMemory> {
+) -> Result<Option<Value>, NoMemory> {
     if let Some(text) = word.strip_prefix("'") {
-        return text_value(alloc, text);
+        return Ok(Some(text_value(alloc, text)?));
     }
     if let Some(count) = word.strip_prefix("(") {
-        let items = last(alloc, made, count)?;
-        return Ok(Value::Tuple(Items::new(alloc, items)?));
+        let Some(items) = last(alloc, made, count)? else {
+            return Ok(None);
+        };
+        return Ok(Some(Value::Tuple(Items::new(alloc, items)?)));
     }
     if let Some(count) = word.strip_prefix("[") {
-        return Ok(Value::List(heap.make_list(last(alloc, made, count)?)?));
+        let Some(items) = last(alloc, made, count)? else {
+            return Ok(None);
+        };
+        return Ok(Some(Value::List(heap.make_list(items)?)));
     }
     if let Some(count) = word.strip_prefix("{") {
         return make_dict(alloc, made, count, heap);
@@ -96,41 +116,61 @@ fn made_by(
     named(alloc, word, made)
 }
 
-fn named(alloc: Global, word: &str, made: &mut Vec<Value>) -> Result<Value, NoMemory> {
+fn named(alloc: Global, word: &str, made: &mut Vec<Value>) -> Result<Option<Value>, NoMemory> {
     if let Some(name) = word.strip_prefix("#") {
-        return Ok(Value::Kind(kind_named(name)));
+        let Some(kind) = kind_named(name) else {
+            return Ok(None);
+        };
+        return Ok(Some(Value::Kind(kind)));
     }
     if let Some(name) = word.strip_prefix("!") {
-        return Ok(Value::Exc(kind_named(name), Argument::none()));
+        let Some(kind) = kind_named(name) else {
+            return Ok(None);
+        };
+        return Ok(Some(Value::Exc(kind, Argument::none())));
     }
     if let Some(name) = word.strip_prefix("?") {
-        let arg = made.pop().unwrap_or(Value::None);
-        return Ok(Value::Exc(kind_named(name), Argument::of(alloc, arg)?));
+        let Some(kind) = kind_named(name) else {
+            return Ok(None);
+        };
+        let Some(arg) = made.pop() else {
+            return Ok(None);
+        };
+        return Ok(Some(Value::Exc(kind, Argument::of(alloc, arg)?)));
     }
     if let Some(name) = word.strip_prefix("@") {
-        return Ok(Value::Builtin(builtin_named(name)));
+        let Some(which) = builtin_named(name) else {
+            return Ok(None);
+        };
+        return Ok(Some(Value::Builtin(which)));
     }
     Ok(plain(word))
 }
 
-fn plain(word: &str) -> Value {
+fn plain(word: &str) -> Option<Value> {
     match word {
-        "None" => Value::None,
-        "True" => Value::Bool(true),
-        "False" => Value::Bool(false),
-        "function" => Value::Func(FuncId { module: 0, unit: 1 }, None),
-        "module" => Value::Module(ModId::Sys),
-        _ => Value::Int(word.parse::<i64>().unwrap_or(0)),
+        "None" => Some(Value::None),
+        "True" => Some(Value::Bool(true)),
+        "False" => Some(Value::Bool(false)),
+        "function" => Some(Value::Func(FuncId { module: 0, unit: 1 }, None)),
+        "module" => Some(Value::Module(ModId::Sys)),
+        _ => match word.parse::<i64>() {
+            Ok(n) => Some(Value::Int(n)),
+            Err(_) => None,
+        },
     }
 }
 
-fn make(alloc: Global, words: &str, heap: &mut Heap) -> Result<Value, NoMemory> {
+/// The value that a row's words make; none where a word is misspelt.
+fn make(alloc: Global, words: &str, heap: &mut Heap) -> Result<Option<Value>, NoMemory> {
     let mut made = Vec::new(alloc);
     for word in words.split(';') {
-        let value = made_by(alloc, word, &mut made, heap)?;
+        let Some(value) = made_by(alloc, word, &mut made, heap)? else {
+            return Ok(None);
+        };
         made.push(value)?;
     }
-    Ok(made.pop().unwrap_or(Value::None))
+    Ok(made.pop())
 }
 
 fn is_text(answer: &Result<Text, Raised>, wanted: &str) -> bool {
@@ -168,8 +208,10 @@ fn gives(
 
 fn is_right(alloc: Global, row: &Row) -> Result<bool, NoMemory> {
     let mut heap = Heap::new(alloc);
-    let value = make(alloc, row.0, &mut heap)?;
-    gives(alloc, &value, &heap, row.1, row.2)
+    match make(alloc, row.0, &mut heap)? {
+        Some(value) => gives(alloc, &value, &heap, row.1, row.2),
+        None => Ok(false),
+    }
 }
 
 #[test]
@@ -205,6 +247,17 @@ fn exceptions(rt: HostRuntime) {
         let right = is_right(rt.alloc(), row).expect(&rt, "memory");
         let words = row.0;
         assert!(rt; right, "at {words}");
+    }
+}
+
+#[test]
+fn misspelt_words(rt: HostRuntime) {
+    let alloc = rt.alloc();
+    for row in &MISSPELT {
+        let words = *row;
+        let mut heap = Heap::new(alloc);
+        let made = make(alloc, words, &mut heap).expect(&rt, "memory");
+        assert!(rt; made.is_none(), "at {words}");
     }
 }
 

@@ -267,3 +267,15 @@ pub static EXCEPTIONS: [Row; 23] = [
         "KeyError(KeyError('a'))",
     ),
 ];
+
+/// Words that make no value: a name that isn't one, and values that are missing.
+pub static MISSPELT: [&str; 8] = [
+    "@prnt",
+    "#Exeption",
+    "!Eror",
+    "'a;?KeyEror",
+    "?KeyError",
+    "Nome",
+    "1;(2",
+    "'a;{1",
+];
