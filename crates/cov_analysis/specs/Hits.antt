@@ -6,13 +6,14 @@
 use Rattle.std.specs.Prelude.{ℕ, pos, min, max, ◌&&◌, Bool, if◌then◌else◌, List}
 use Rattle.std.specs.List.{list_any, sum_by}
 use Rattle.std.specs.Ordering.{int_eq}
+use Rattle.cov_data.specs.DataSet.{most_count}
 use Rattle.cov_data.specs.Rows.{RowView}
 use Rattle.cov_analysis.specs.Lines.{is_among}
 use Rattle.cov_analysis.specs.Branches.{Branch, is_covered}
 
 -- the counts of the rows that pass, together. They stop at the greatest count
 abbrev pub count_where : (RowView → Bool) → List RowView → ℕ
-count_where passes rows = min (sum_by (λ row. if passes row then row.count else 0) rows) 4294967295
+count_where passes rows = min (sum_by (λ row. if passes row then row.count else 0) rows) most_count
 
 -- whether a row goes to a line: a row of line data goes to its own
 abbrev pub goes_to : ℕ → RowView → Bool

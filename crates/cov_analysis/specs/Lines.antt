@@ -3,6 +3,7 @@ use Rattle.std.specs.Prelude.{◌≤◌, ℕ, nat_eq, Bool, not, List, All, filt
 use Rattle.std.specs.List.{list_any}
 use Rattle.py_token.specs.OnLines.{AreOnLines}
 use Rattle.py_token.specs.Plain.{PToken}
+use Rattle.py_token.specs.Source.{most_lines}
 use Rattle.py_syntax.specs.Spelling.{Spells}
 use Rattle.py_syntax.specs.Tree.{Stmts}
 
@@ -10,9 +11,9 @@ use Rattle.py_syntax.specs.Tree.{Stmts}
 abbrev pub is_among : List ℕ → ℕ → Bool
 is_among lines line = list_any (nat_eq line) lines
 
--- lines of a text of at most 65,535
+-- lines that a text may have
 abbrev pub AreLines : List ℕ → Type 0
-AreLines lines = All (λ line. line ≤ 65535) lines
+AreLines lines = All (λ line. line ≤ most_lines) lines
 
 -- a module that is read from such a text: tokens that keep its lines spell the module
 pub record IsOfText (m : Stmts) : Type 0 where

@@ -2,6 +2,7 @@
 //! function or module that is left, negative.
 ghost use Rattle.std.specs.Prelude.{◌≡◌, ◌++◌, ◌∷◌, [], ℕ, min, nat_lt, if◌then◌else◌, IfOk, OnOk};
 ghost use Rattle.std.specs.List.{count_by};
+ghost use Rattle.cov_data.specs.DataSet.{most_count};
 ghost use Rattle.cov_exclude.specs.Touched.{IsRising};
 ghost use Rattle.cov_analysis.specs.Branches.{is_excluded_end, is_open, open_branch, open_branches, leaves, forks, branches_of, is_covered, missing_branches_of};
 ghost use Rattle.cov_analysis.specs.Lookups.{count_in, is_counted};
@@ -97,7 +98,7 @@ fn forks(alloc: Global, branches: &[(u32, i32)]) -> Result<Vec<(u32, i32)>, NoMe
 /// How many branches leave each line.
 fn destinations(alloc: Global, branches: &[(u32, i32)]) -> Result<BTreeMap<u32, u32>, NoMemory>
     ensures { IfOk result (λ counts. (line : ℕ)
-        → count_in counts line ≡ min (count_by (leaves line) branches.now) 4294967295) }
+        → count_in counts line ≡ min (count_by (leaves line) branches.now) most_count) }
 {
     let mut counts = BTreeMap::new(alloc);
     for branch in branches {

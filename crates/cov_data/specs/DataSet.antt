@@ -1,4 +1,5 @@
 -- Data as definitions see them: a flag, and for each path the counts of its rows.
+--     most_number, most_count           the greatest number and count of a row
 --     Text, text_cmp                    texts as bytes, in byte order
 --     Place, place_cmp                  where a row stands in its file: by context, from, to
 --     File, Files, DataSet              a file's counts by place; files by path; a flag with files
@@ -7,7 +8,7 @@
 --     with_path, with_file, union       data with a path more; with a file's rows; two data as one
 --     AddsCounts                        each row's count is the sum of those in two data
 --     IsInRange, IsSound                what a row's numbers and count may be; that all rows are so
-use Rattle.std.specs.Prelude.{◌≡◌, ◌≢◌, ℕ, ℤ, pos, negsuc, ◌+◌, ◌<◌, ◌≤◌, ◌<ℤ◌, ◌≤ℤ◌, min, Bool, false, List, map, Option, Some, None, refl}
+use Rattle.std.specs.Prelude.{◌≡◌, ◌≢◌, ℕ, ℤ, pos, neg_ℤ, ◌+◌, ◌<◌, ◌≤◌, ◌<ℤ◌, ◌≤ℤ◌, min, Bool, false, List, map, Option, Some, None, refl}
 use Rattle.std.specs.declared.cmp.Ordering.{Ordering}
 use Rattle.std.specs.Option.{unwrap_or}
 use Rattle.std.specs.List.{fold}
@@ -15,6 +16,14 @@ use Rattle.std.specs.Ordering.{nat_cmp, int_cmp, ordering_then}
 use Rattle.std.specs.Cmp.Lexicographic.{slice_cmp}
 use Rattle.std.specs.FinMap.{FinMap, empty, get, insert, entries, contains_key, code}
 use Rattle.std.specs.Coded.{Coded, code_by, coded×, coded_list, coded_ℕ, coded_ℤ, coded_bool}
+
+-- the greatest number of a row: the last line that a text may have
+abbrev pub most_number : ℕ
+most_number = 65535
+
+-- the greatest count of a row: the greatest number of 32 bits
+abbrev pub most_count : ℕ
+most_count = 4294967295
 
 -- the bytes of a text
 abbrev pub Text : Type 0
@@ -71,7 +80,7 @@ data_code =
 
 -- counts are added, and stop at the greatest
 abbrev pub add_counts : ℕ → ℕ → ℕ
-add_counts a b = min (a + b) 4294967295
+add_counts a b = min (a + b) most_count
 
 -- a count added to the one that is there, if any
 abbrev pub joined_count : Option ℕ → ℕ → ℕ
@@ -148,9 +157,9 @@ AddsCounts old other new = (path context : Text) (from to : ℤ)
     → count_at new path context from to
     ≡ add_counts (count_at old path context from to) (count_at other path context from to)
 
--- a number of a row: not 0, and within 65,535 either way
+-- a number of a row: not 0, and within the greatest either way
 abbrev pub IsNumber : ℤ → Type 0
-IsNumber z = (z ≢ pos 0) × (negsuc 65534 ≤ℤ z) × (z ≤ℤ pos 65535)
+IsNumber z = (z ≢ pos 0) × (neg_ℤ (pos most_number) ≤ℤ z) × (z ≤ℤ pos most_number)
 
 -- what a row's numbers and count may be: for line data both numbers are one line
 pub record IsInRange (arcs : Bool) (from to : ℤ) (count : ℕ) : Type 0 where
@@ -162,7 +171,7 @@ pub record IsInRange (arcs : Bool) (from to : ℤ) (count : ℕ) : Type 0 where
 -- a file's rows are in range, and no count is beyond the greatest
 abbrev pub IsSoundFile : Bool → File → Type 0
 IsSoundFile arcs f = (k : Place) (n : ℕ) → get f k ≡ Some n
-    → IsInRange arcs k.1.0 k.1.1 n × (n ≤ 4294967295)
+    → IsInRange arcs k.1.0 k.1.1 n × (n ≤ most_count)
 
 -- the rows of all files are in range
 abbrev pub IsSound : DataSet → Type 0

@@ -5,6 +5,7 @@ ghost use Rattle.cov_data.specs.DataSet.{no_data, has_path, file_of, with_path, 
 use crate::NoMemory;
 use crate::file::Place;
 use crate::files::FileMap;
+use crate::limits::MOST_NUMBER;
 use crate::rows::Row;
 use std::alloc::{AllocError, Global};
 use std::marker::Model;
@@ -31,7 +32,7 @@ impl From<AllocError> for DataError {
 fn is_number(number: i32) -> bool
     ensures { IsTrue result ↔ IsNumber number }
 {
-    number != 0 && -65_535 <= number && number <= 65_535
+    number != 0 && -MOST_NUMBER <= number && number <= MOST_NUMBER
 }
 
 /// The rows of any number of files, all of arcs or all of lines. A file may have no row.

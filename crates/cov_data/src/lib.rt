@@ -8,11 +8,13 @@
 mod dataset;
 mod file;
 mod files;
+mod limits;
 mod numbits;
 mod rows;
 mod sets;
 
 pub use dataset::{Data, DataError};
+pub use limits::MOST_NUMBER;
 pub use numbits::{has_line, lines_of_numbits, numbits_of};
 pub use rows::Row;
 

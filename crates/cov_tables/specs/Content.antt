@@ -8,7 +8,7 @@
 use Rattle.std.specs.Prelude.{ℕ, ℤ, pos, negsuc, Bool, true, false, not, cond, ◌&&◌, ◌||◌, nat_eq, nat_lt, nat_le, List, [], ◌∷◌, drop, take, codes, Option, Some, None}
 use Rattle.std.specs.Option.{option_to_list}
 use Rattle.std.specs.List.{fold, flat_map, list_any, list_all, position_from}
-use Rattle.cov_data.specs.DataSet.{Text, DataSet, no_data, with_path}
+use Rattle.cov_data.specs.DataSet.{most_number, Text, DataSet, no_data, with_path}
 use Rattle.cov_data.specs.Rows.{RowView, with_row}
 use Rattle.cov_data.specs.Numbits.{lines_of_bits}
 use Rattle.cov_vault.specs.declared.vault.Content.{Content}
@@ -53,10 +53,10 @@ has_rows (r ∷ rs) = true
 abbrev pub is_arcs : (meta arcs : List Row) → Bool
 is_arcs meta arcs = cond (list_any names_arcs meta) (list_any says_arcs meta) (has_rows arcs)
 
--- within 65,535 either way
+-- whether a number is within the greatest of a row either way
 abbrev pub is_within : ℤ → Bool
-is_within (pos n) = nat_le n 65535
-is_within (negsuc n) = nat_lt n 65535
+is_within (pos n) = nat_le n most_number
+is_within (negsuc n) = nat_lt n most_number
 
 -- a number of a row of data
 abbrev pub is_number : Column → Bool
@@ -114,7 +114,7 @@ arc_rows counts e = arc_with counts e e.first e.second
 -- bit 0 is passed over
 abbrev pub line_row : (Spot → ℕ) → Entry → ℕ → List RowView
 line_row counts e n =
-    cond (nat_lt 0 n && nat_le n 65535) (row_with counts e (pos n) (pos n) ∷ []) []
+    cond (nat_lt 0 n && nat_le n most_number) (row_with counts e (pos n) (pos n) ∷ []) []
 
 -- the rows of data for the lines of a blob
 abbrev pub lines_with : (Spot → ℕ) → Entry → Column → List RowView

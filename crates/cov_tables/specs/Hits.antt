@@ -5,6 +5,7 @@ use Rattle.std.specs.Prelude.{ℕ, ℤ, pos, negsuc, Bool, false, cond, ◌&&◌
 use Rattle.std.specs.declared.cmp.Ordering.{Ordering}
 use Rattle.std.specs.List.{flat_map}
 use Rattle.std.specs.Ordering.{is_eq, int_cmp, ordering_then}
+use Rattle.cov_data.specs.DataSet.{most_count}
 use Rattle.cov_tables.specs.Fields.{Row, whole_at}
 use Rattle.cov_tables.specs.declared.hits.Spot.{Spot as Kept}
 
@@ -45,11 +46,11 @@ counts_with s r = cond (is_spot s (spot_at r)) (whole_at r 4 ∷ []) []
 abbrev pub counts_at : List Row → Spot → List (Option ℤ)
 counts_at rs s = flat_map (counts_with s) rs
 
--- a whole number from 1 to 4,294,967,295, and else 1
+-- a whole number from 1 to the greatest count, and else 1
 abbrev pub counted : Option ℤ → ℕ
 counted None = 1
 counted (Some (negsuc n)) = 1
-counted (Some (pos n)) = cond (nat_lt 0 n && nat_le n 4294967295) n 1
+counted (Some (pos n)) = cond (nat_lt 0 n && nat_le n most_count) n 1
 
 -- where there is exactly one row
 abbrev pub only_count : List (Option ℤ) → ℕ

@@ -3,22 +3,30 @@ ghost use Rattle.std.specs.Prelude.{◌≡◌, ◌<◌, true, false, nat_eq, tak
 ghost use Rattle.std.specs.List.{fold, flat_map, list_all};
 ghost use Rattle.cov_data.specs.DataSet.{IsInRange};
 ghost use Rattle.cov_data.specs.Rows.{with_row};
-ghost use Rattle.cov_tables.specs.Content.{is_number, is_set, is_bad_arc, is_bad, row_with, line_row, arc_rows, bits_rows, rows_said, unless_bad, read_entries};
+ghost use Rattle.cov_tables.specs.Content.{is_within, is_number, is_set, is_bad_arc, is_bad, row_with, line_row, arc_rows, bits_rows, rows_said, unless_bad, read_entries};
 ghost use Rattle.cov_tables.specs.Entries.{column_view, entry_view};
 ghost use Rattle.cov_tables.specs.Hits.{Spot as Spots};
 ghost use Rattle.cov_tables.specs.Kept.{count_at, seen};
 
 use crate::entries::{Column, Entry};
 use crate::hits::{Hits, Spot};
-use cov_data::{Data, Row, lines_of_numbits};
+use cov_data::{Data, MOST_NUMBER, Row, lines_of_numbits};
 use std::alloc::{AllocError, Global};
+
+/// Whether a number is within the greatest of a row either way.
+fn is_within(number: i64) -> bool
+    ensures { result ≡ is_within number }
+{
+    let most = i64::from(MOST_NUMBER);
+    -most <= number && number <= most
+}
 
 impl Column {
     fn is_number(&self) -> bool
         ensures { result ≡ is_number (column_view self.now) }
     {
         match self {
-            Column::Int(number) => -65_535 <= *number && *number <= 65_535,
+            Column::Int(number) => is_within(*number),
             Column::Blob(_) => false,
             Column::Other => false,
         }
@@ -108,7 +116,7 @@ impl Entry {
         ensures { OnOk result (data.new
             ≡ fold with_row data.old (line_row (count_at hits.now) (entry_view self.now) line)) }
     {
-        if 0 < line && line <= 65_535 {
+        if 0 < line && line <= MOST_NUMBER as u32 {
             self.add_row(alloc, line as i32, line as i32, hits, data)
         } else {
             Ok(())
