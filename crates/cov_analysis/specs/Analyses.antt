@@ -108,7 +108,7 @@ abbrev pub partial_in : Source → Taken → ℕ
 partial_in source taken =
     count_by (λ branch. is_among taken.executed branch.0) (missing_branches_in source taken)
 
--- its numbers
+-- the numbers of an analysis
 abbrev pub numbers_in : Source → Taken → Numbers
 numbers_in source taken = record {
   statements = length (statements_in source);

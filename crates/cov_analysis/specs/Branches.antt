@@ -48,7 +48,7 @@ is_open excluded branch =
 abbrev pub open_branch : List ℕ → Arc → List Branch
 open_branch excluded arc = filter (is_open excluded) (from_line arc)
 
--- those of arcs
+-- the branches of arcs, in their order, without those that touch an excluded line
 abbrev pub open_branches : List ℕ → List Arc → List Branch
 open_branches excluded arcs = flat_map (open_branch excluded) arcs
 

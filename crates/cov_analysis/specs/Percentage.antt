@@ -17,6 +17,6 @@ percentage covered all =
     if all == 0 then 100 else if covered == 0 then 0 else if covered == all then 100
     else max 1 (min 99 (nearest (100 * covered) all))
 
--- the percentage of numbers
+-- how many of a hundred statements and branches were covered, as reports say it
 abbrev pub percent : Numbers → ℕ
 percent n = percentage (covered_of n) (all_of n)

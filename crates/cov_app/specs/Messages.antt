@@ -63,7 +63,7 @@ kind_text kind.NestedFunction = codes "NestedFunction"
 kind_text kind.EarlyIrrefutable = codes "EarlyIrrefutable"
 kind_text kind.TwiceNamed = codes "TwiceNamed"
 
--- what has a limit
+-- the word of a message for what has a limit
 abbrev pub limit_text : LimitKind → List ℕ
 limit_text limit.FileBytes = codes "FileBytes"
 limit_text limit.TotalBytes = codes "TotalBytes"

@@ -24,7 +24,7 @@ use Rattle.cov_arcs.specs.Tracing.{Tracing, at_first, IsNext}
 abbrev pub unit_lines : LoadedModule → List ℕ
 unit_lines m = 1 ∷ map (λ f. f.line) (functions m.body)
 
--- the table of modules
+-- the first lines of the units of each module
 abbrev pub firsts_of : List LoadedModule → List (List ℕ)
 firsts_of ms = map unit_lines ms
 

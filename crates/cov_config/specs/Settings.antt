@@ -23,7 +23,7 @@ section name ms =
 abbrev pub setting : Text → Text → Members → Option Data
 setting in_section key ms = option_and_then (get key) (section in_section ms)
 
--- the whole key
+-- a key as messages name it, with its tables in front
 abbrev pub key_name : Text → Text → Text
 key_name in_section key = codes "tool.coverage." ++ in_section ++ codes "." ++ key
 

@@ -19,11 +19,11 @@ use Rattle.cov_analysis.specs.Lines.{without}
 use Rattle.cov_analysis.specs.Percentage.{percent}
 use Rattle.cov_analysis.specs.declared.numbers.Numbers.{Numbers}
 
--- a whole number
+-- a whole number as a number of JSON
 abbrev pub whole : ℕ → Data
 whole n = number (unsigned n)
 
--- a list of lines
+-- lines as numbers
 abbrev pub lines : List ℕ → Data
 lines all = array (items_of (map whole all))
 
@@ -31,7 +31,7 @@ lines all = array (items_of (map whole all))
 abbrev pub branch : Branch → Data
 branch (line, to) = array (item (whole line) (item (number (of_integer to)) no_items))
 
--- a list of branches
+-- branches, each as its two numbers
 abbrev pub branches : List Branch → Data
 branches all = array (items_of (map branch all))
 
@@ -80,7 +80,7 @@ with_file arcs members file = put file.path (file_value arcs file) members
 abbrev pub files_value : Bool → List AnalysisView → Data
 files_value arcs files = object (fold (with_file arcs) no_members files)
 
--- what the data are
+-- whether the data are of arcs
 abbrev pub meta : Bool → Data
 meta arcs = object (member (codes "branch_coverage") (boolean arcs) no_members)
 

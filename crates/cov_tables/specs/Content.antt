@@ -64,7 +64,7 @@ is_number (number n) = is_within n
 is_number (bits b) = false
 is_number neither = false
 
--- a line beyond 65,535 stands in a byte from number 8,192 on
+-- a set of lines within the greatest: a line beyond it stands in a byte from number 8,192 on
 abbrev pub is_set : Column → Bool
 is_set (number n) = false
 is_set (bits b) = list_all (λ byte. nat_eq byte 0) (drop 8192 b)

@@ -13,23 +13,23 @@ use Rattle.cov_analysis.specs.declared.numbers.Numbers.{Numbers}
 use Rattle.cov_text.specs.Missing.{missing_text}
 use Rattle.cov_analysis.specs.Percentage.{percent}
 
--- cells are ASCII
+-- a cell, which is ASCII, on the right of a column of 7 places
 abbrev pub right : List ℕ → List ℕ
 right cell = repeat (7 - length cell) (codes " ") ++ cell
 
--- those of branches stand for arcs alone
+-- the cells of a line: those of branches stand for arcs alone
 abbrev pub chosen : Bool → List ℕ → List ℕ → List ℕ → List ℕ → List ℕ → List (List ℕ)
 chosen arcs statements missing branches partial covered =
     if arcs then statements ∷ missing ∷ branches ∷ partial ∷ covered ∷ []
     else statements ∷ missing ∷ covered ∷ []
 
--- the cells of the header, and those of numbers
+-- the cells of the header
 abbrev pub headings : Bool → List ℕ
 headings arcs =
     flat_map right
     (chosen arcs (codes "Stmts") (codes "Miss") (codes "Branch") (codes "BrPart") (codes "Cover"))
 
--- the cells of numbers
+-- the cells of a line of numbers
 abbrev pub cells : Bool → Numbers → List ℕ
 cells arcs n =
     let covered = decimal (percent n) ++ codes "%" in
@@ -37,11 +37,11 @@ cells arcs n =
     (chosen arcs (decimal n.statements) (decimal n.missing) (decimal n.branches) (decimal n.partial)
     covered)
 
--- widths count characters
+-- how wide a name is: its characters, and not its bytes
 abbrev pub name_length : AnalysisView → ℕ
 name_length file = length (chars file.path)
 
--- the longest path or 5, and 1
+-- the width of the column of names: the longest path or 5, and 1
 abbrev pub name_width : List AnalysisView → ℕ
 name_width files = fold max 5 (map name_length files) + 1
 
@@ -55,7 +55,7 @@ abbrev pub line : ℕ → List ℕ → List ℕ → List ℕ → List ℕ
 line width name cells note =
     name ++ (repeat (width - length (chars name)) (codes " ") ++ (cells ++ noted note))
 
--- the header
+-- the line above the files
 abbrev pub header : ℕ → Bool → Bool → List ℕ
 header width arcs missing =
     line width (codes "Name") (headings arcs) (if missing then codes "Missing" else [])
@@ -77,7 +77,7 @@ file_row width arcs missing file =
 abbrev pub rule : List ℕ → List ℕ
 rule header = repeat (length header) (codes "-")
 
--- the lines of files
+-- a line for each file
 abbrev pub rows : ℕ → Bool → Bool → List AnalysisView → List ℕ
 rows width arcs missing files = flat_map (file_row width arcs missing) files
 

@@ -118,7 +118,7 @@ step_in r (Some o) w = with_given r o (value_of (form_of o) w)
 abbrev pub step : Reading → Word → Option Reading
 step r w = step_in r r.awaiting w
 
--- a command alone
+-- a reading that has only met the name of a command
 abbrev pub begun : Word → Option Reading
 begun w =
     option_map (λ c. record { command = c; given = []; awaiting = None; operands = [] })

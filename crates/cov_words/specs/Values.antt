@@ -15,7 +15,7 @@ pub data Value : Type 0 where
   number : ℕ → Value
   file_named : Word → Word → Value
 
--- the forms of values
+-- what an option takes: nothing, any text, a number up to one, or FILE:NAME
 pub data Form : Type 0 where
   no_value : Form
   any_text : Form

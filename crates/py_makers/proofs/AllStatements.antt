@@ -21,10 +21,10 @@ use Rattle.py_makers.proofs.Defaults.{AllAnswered, answered_first, answered_last
 
 module _ (sizes : SizesHold) (us : List Code) (u : Code) (fs : List Function) where
   no_stmts_make : StmtsMake us u fs no_stmts
-  no_stmts_make w p q at k has = nothing us u p q (omega arith) k.behind.ends
+  no_stmts_make w p q at k has = nothing us u p q (omega arith) k.after.ends
 
   no_suite_makes : OptMakes us u fs no_suite
-  no_suite_makes w p q at k has = nothing us u p q (omega arith) k.behind.ends
+  no_suite_makes w p q at k has = nothing us u p q (omega arith) k.after.ends
 
   stmt_make : (first last : ℕ) (kind : StmtKind) (end : _) (rest : Stmts) → KindMakes us u fs first kind → StmtsMake us u fs rest → StmtsMake us u fs (stmt first last kind end rest)
   stmt_make first last kind end rest a b w p q at k has =

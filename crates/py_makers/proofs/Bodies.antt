@@ -40,7 +40,7 @@ module _ (sizes : SizesHold) (us : List Code) (u : Code) where
       let given : Made us u (0 + n + 1) (cell None (plain Return) ∷ []) = last_made us u None (0 + n + 1) (plain Return) tt tt tt h.1.0 in
       let last = put_made us u None (0 + n) (constant NoneConstant) given tt tt (λ f. (f, tt)) h.0 in
       let end : Free u n = free_at u (0 + n) n here last.free in
-      part_then us u 0 n xs long (λ free i. b w 0 n here (record { behind = record { ends = end; guard = tt; past = tt }; breaks = end; continues = end; returns = tt }) i) last has
+      part_then us u 0 n xs long (λ free i. b w 0 n here (record { after = record { ends = end; guard = tt; past = tt }; breaks = end; continues = end; returns = tt }) i) last has
 
   -- ---- cells at their places
 

@@ -48,7 +48,7 @@ unit_later : (l : ℕ) (f : Function) (fs : List Function) → l ≢ f.line → 
 unfolding unit_at
 unit_later l f fs ne = ap (λ b. if b then 1 else suc (unit_at l fs)) (other_number f.line l ne)
 
--- behind one more function, and its unit
+-- after one more function, and its unit
 later : (us : List Code) (fs : List Function) (first : Code) (f : Function) (ds : List Definition) → NoneAt f.line (map function_of ds) → AllAnswered us fs ds → AllAnswered (first ∷ us) (f ∷ fs) ds
 later us fs first f [] none h = tt
 later us fs first f (d ∷ ds) none h = (

@@ -1,6 +1,6 @@
 -- Pieces of code without a `def`: whatever stands round them, they lead to places of their own, to
 -- their end, and to where others are told to stand. So much their numbers of operands say.
---     Behind, earlier       what a piece needs of its end and its handler
+--     FreeAfter, earlier    what a piece needs of its end and its handler
 --     leaf                  a piece that is told how many operands stand elsewhere
 --     even                  one for which as many operands stand wherever no function is made
 use Rattle.std.proofs.Common.{◌≡◌, ℕ, suc, ◌+◌, ◌<◌, ◌≤◌, Bool, true, false, List, [], ◌∷◌, length, map, Option, Some, None, refl, sym, ap, ◌∙◌, arith}
@@ -149,7 +149,7 @@ Past q None = Unit {0}
 Past q (Some g) = q ≤ g.target
 
 -- no function is made at the end of a piece, nor where its handler begins, there or further on
-pub record Behind (u : Code) (g : Option Guard) (q : ℕ) : Type 0 where
+pub record FreeAfter (u : Code) (g : Option Guard) (q : ℕ) : Type 0 where
   pub ends : Free u q
   pub guard : GuardFree u g
   pub past : Past q g
@@ -158,7 +158,7 @@ past_before : (g : Option Guard) (p q : ℕ) → p ≤ q → Past q g → Past p
 past_before None p q le h = tt
 past_before (Some g) p q le h = omega (arith, le, h)
 
-pub earlier : (u : Code) (g : Option Guard) (p q : ℕ) → p ≤ q → Free u p → Behind u g q → Behind u g p
+pub earlier : (u : Code) (g : Option Guard) (p q : ℕ) → p ≤ q → Free u p → FreeAfter u g q → FreeAfter u g p
 earlier u g p q le free k = record { ends = free; guard = k.guard; past = past_before g p q le k.past }
 
 -- so many operands, unless a function is made
@@ -178,7 +178,7 @@ lands_free u None q free past = tt
 lands_free u (Some g) q free past = (omega arith, ap (here_if (suc g.depth)) free, past)
 
 pub even : (us : List Code) (u : Code) {z y : Layout → Type 0} {g : Option Guard} {p d q n : ℕ} {cs : List Cell} → Block 0 (Run g (below g) q (suc (below g)) z) (At p d y) p n cs → p + n ≡ q
-    → ((l : Layout) → ((r : ℕ) → q ≤ r → Free u r → l.depth r ≡ Some (suc (below g))) → z l) → Behind u g q → HasAt u p cs → Made us u p cs
+    → ((l : Layout) → ((r : ℕ) → q ≤ r → Free u r → l.depth r ≡ Some (suc (below g))) → z l) → FreeAfter u g q → HasAt u p cs → Made us u p cs
 even us u {z} {y} {g} {p} {d} {q} {n} {cs} b at also k has =
     let c = suc (below g) in
     leaf us u b at (where_free u c) (λ r j is. not_made c j (made_with (slice_get u.instrs r)) is) (ap (here_if c) k.ends) (lands_free u g q k.guard k.past)

@@ -19,11 +19,11 @@ use Rattle.py_makers.proofs.Leaves.{earlier}
 use Rattle.py_makers.proofs.Parts.{names_make, guard_make, pattern_make}
 use Rattle.py_makers.proofs.Suites.{around_at}
 use Rattle.py_makers.proofs.Forms.{StmtsMake, KindMakes, CasesMake}
-use Rattle.py_makers.proofs.Branches.{behind_expr, behind_stmts, expr_then, stmts_then}
+use Rattle.py_makers.proofs.Branches.{has_after_expr, has_after_stmts, expr_then, stmts_then}
 
 module _ (sizes : SizesHold) (us : List Code) (u : Code) (fs : List Function) where
   pub no_cases_form : CasesMake us u fs no_cases
-  no_cases_form w p q end at free k has = let ends = nothing us u (p + 1) q (omega arith) k.behind.ends in put_made us u w.guard p (plain Pop) ends tt k.behind.guard (λ f. (f, tt)) has.0
+  no_cases_form w p q end at free k has = let ends = nothing us u (p + 1) q (omega arith) k.after.ends in put_made us u w.guard p (plain Pop) ends tt k.after.guard (λ f. (f, tt)) has.0
 
   pub case_form : (t : Pattern) (guard : Option Expr) (first last : ℕ) (inline : Bool) (body : Stmts) (rest : Cases) → ProperPattern t → StmtsMake us u fs body → CasesMake us u fs rest
       → CasesMake us u fs (case t guard (suite first last inline body) rest)
@@ -43,24 +43,24 @@ module _ (sizes : SizesHold) (us : List Code) (u : Code) (fs : List Function) wh
       let h = has_behind u (p + 2) (pattern_size t) xs _ (pattern_length site (p + 2) t) inside in
       let i = has_behind u bind (names_size (captured t)) ys _ (names_length g (captured t)) h in
       let j = has_behind u named (guard_size guard) zs _ (guard_length g named next guard) i in
-      let m = behind_stmts sizes u fs w begin body _ j.1 in
+      let m = has_after_stmts sizes u fs w begin body _ j.1 in
       let others = r w next q end (omega arith) free k m.1 in
-      let away = put_made us u g close (plain (Goto end)) others tt k.behind.guard (λ f. (free, tt)) m.0 in
+      let away = put_made us u g close (plain (Goto end)) others tt k.after.guard (λ f. (free, tt)) m.0 in
       let inner = stmts_then sizes us u fs w begin body b (λ ends. around_at u w close q (omega arith) ends k) away j.1 in
-      let popped = put_made us u g chosen (plain Pop) inner tt k.behind.guard (λ f. (f, tt)) j.0 in
-      let tested = part_then us u named (guard_size guard) zs (guard_length g named next guard) (λ ends x. guard_make us u g named chosen next guard refl (omega arith) others.free (earlier u g chosen q (omega arith) ends k.behind) x) popped i in
-      let kept = part_then us u bind (names_size (captured t)) ys (names_length g (captured t)) (λ ends x. names_make us u g bind named (captured t) refl (earlier u g named q (omega arith) ends k.behind) x) tested h in
-      let matched = part_then us u (p + 2) (pattern_size t) xs (pattern_length site (p + 2) t) (λ ends x. pattern_make us u g (p + 2) bind next t ok refl (omega arith) ends (earlier u g next q (omega arith) others.free k.behind) x) kept inside in
+      let popped = put_made us u g chosen (plain Pop) inner tt k.after.guard (λ f. (f, tt)) j.0 in
+      let tested = part_then us u named (guard_size guard) zs (guard_length g named next guard) (λ ends x. guard_make us u g named chosen next guard refl (omega arith) others.free (earlier u g chosen q (omega arith) ends k.after) x) popped i in
+      let kept = part_then us u bind (names_size (captured t)) ys (names_length g (captured t)) (λ ends x. names_make us u g bind named (captured t) refl (earlier u g named q (omega arith) ends k.after) x) tested h in
+      let matched = part_then us u (p + 2) (pattern_size t) xs (pattern_length site (p + 2) t) (λ ends x. pattern_make us u g (p + 2) bind next t ok refl (omega arith) ends (earlier u g next q (omega arith) others.free k.after) x) kept inside in
       let moved_on = moved us u (p + 2) (p + 1 + 1) (omega arith) matched in
-      let copied = put_made us u g (p + 1) (plain (Copy 0)) moved_on tt k.behind.guard (λ f. (f, tt)) has.1.0 in
-      put_made us u g p (marks first) copied tt k.behind.guard (λ f. (f, tt)) has.0
+      let copied = put_made us u g (p + 1) (plain (Copy 0)) moved_on tt k.after.guard (λ f. (f, tt)) has.1.0 in
+      put_made us u g p (marks first) copied tt k.after.guard (λ f. (f, tt)) has.0
 
   pub match_form : (line : ℕ) (subject : Expr) (header : ℕ) (cases : Cases) → CasesMake us u fs cases → KindMakes us u fs line (match subject header cases)
   match_form line subject header cases c w p q at k has =
       let g = w.guard in
       let first = p + 1 + expr_size subject in
       let end = first + cases_size (in_hand w) cases in
-      let h = behind_expr u g (p + 1) subject (cases_code fs w first end cases) has.1 in
-      let others = c w first q end (omega arith) (free_at u q end (omega arith) k.behind.ends) k h in
-      let value = expr_then us u g (p + 1) q subject (omega arith) k.behind others has.1 in
-      put_made us u g p (marks line) value tt k.behind.guard (λ f. (f, tt)) has.0
+      let h = has_after_expr u g (p + 1) subject (cases_code fs w first end cases) has.1 in
+      let others = c w first q end (omega arith) (free_at u q end (omega arith) k.after.ends) k h in
+      let value = expr_then us u g (p + 1) q subject (omega arith) k.after others has.1 in
+      put_made us u g p (marks line) value tt k.after.guard (λ f. (f, tt)) has.0

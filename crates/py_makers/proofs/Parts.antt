@@ -23,46 +23,46 @@ use Rattle.py_fit.proofs.StatementFits.{option_fits, module_fits, import_fits, t
 use Rattle.py_fit.proofs.TargetFits.{target_fits, all_fit}
 use Rattle.py_fits.specs.Making.{made_with, defaults_in, IsHanded}
 use Rattle.py_makers.proofs.Places.{Free, GuardFree, Made, free_at, nothing, put_made, part_then}
-use Rattle.py_makers.proofs.Leaves.{own_number, other_number, same_number, leaf, below, Past, Behind, earlier, here_if, not_made, where_free, LandsBy, even}
+use Rattle.py_makers.proofs.Leaves.{own_number, other_number, same_number, leaf, below, Past, FreeAfter, earlier, here_if, not_made, where_free, LandsBy, even}
 
 module _ (us : List Code) (u : Code) where
   -- ---- expressions, targets and the like
 
-  pub expr_make : (g : Option Guard) (p q : ℕ) (e : Expr) → p + expr_size e ≡ q → Behind u g q → HasAt u p (expr_code g p e) → Made us u p (expr_code g p e)
+  pub expr_make : (g : Option Guard) (p q : ℕ) (e : Expr) → p + expr_size e ≡ q → FreeAfter u g q → HasAt u p (expr_code g p e) → Made us u p (expr_code g p e)
   expr_make g p q e at k has = even us u (expr_fits g (below g) p (below g) q e at (omega arith)) at (λ l out. tt) k has
 
-  pub target_make : (g : Option Guard) (p q : ℕ) (t : Expr) → p + target_size t ≡ q → Behind u g q → HasAt u p (target_code g p t) → Made us u p (target_code g p t)
+  pub target_make : (g : Option Guard) (p q : ℕ) (t : Expr) → p + target_size t ≡ q → FreeAfter u g q → HasAt u p (target_code g p t) → Made us u p (target_code g p t)
   target_make g p q t at k has = even us u (target_fits g (below g) p (suc (below g)) q t at (omega arith)) at (λ l out. tt) k has
 
-  pub all_make : (g : Option Guard) (p q : ℕ) (ts : Exprs) → p + all_size ts ≡ q → Behind u g q → HasAt u p (all_code g p ts) → Made us u p (all_code g p ts)
+  pub all_make : (g : Option Guard) (p q : ℕ) (ts : Exprs) → p + all_size ts ≡ q → FreeAfter u g q → HasAt u p (all_code g p ts) → Made us u p (all_code g p ts)
   all_make g p q ts at k has = even us u (all_fit g (below g) p (suc (below g)) q ts at (omega arith)) at (λ l out. tt) k has
 
-  pub option_make : (g : Option Guard) (p q : ℕ) (e : Option Expr) → p + option_size e ≡ q → Behind u g q → HasAt u p (option_code g p e) → Made us u p (option_code g p e)
+  pub option_make : (g : Option Guard) (p q : ℕ) (e : Option Expr) → p + option_size e ≡ q → FreeAfter u g q → HasAt u p (option_code g p e) → Made us u p (option_code g p e)
   option_make g p q e at k has = even us u (option_fits g (below g) p (below g) q e at (omega arith)) at (λ l out. tt) k has
 
-  pub module_make : (g : Option Guard) (p q : ℕ) (x : Text) → p + 3 ≡ q → Behind u g q → HasAt u p (module_code g x) → Made us u p (module_code g x)
+  pub module_make : (g : Option Guard) (p q : ℕ) (x : Text) → p + 3 ≡ q → FreeAfter u g q → HasAt u p (module_code g x) → Made us u p (module_code g x)
   module_make g p q x at k has = even us u (module_fits g (below g) p (below g) q x at (omega arith)) at (λ l out. tt) k has
 
-  pub import_make : (g : Option Guard) (p q : ℕ) (names : List Alias) → p + import_size names ≡ q → Behind u g q → HasAt u p (import_code g names) → Made us u p (import_code g names)
+  pub import_make : (g : Option Guard) (p q : ℕ) (names : List Alias) → p + import_size names ≡ q → FreeAfter u g q → HasAt u p (import_code g names) → Made us u p (import_code g names)
   import_make g p q names at k has = even us u (import_fits g (below g) p (suc (below g)) q names at (omega arith)) at (λ l out. tt) k has
 
-  pub take_make : (g : Option Guard) (p q : ℕ) (x : Text) (names : List Alias) → p + take_size names ≡ q → Behind u g q → HasAt u p (take_code g x names) → Made us u p (take_code g x names)
+  pub take_make : (g : Option Guard) (p q : ℕ) (x : Text) (names : List Alias) → p + take_size names ≡ q → FreeAfter u g q → HasAt u p (take_code g x names) → Made us u p (take_code g x names)
   take_make g p q x names at k has = even us u (take_fits g (below g) p (suc (below g)) q x names at (omega arith)) at (λ l out. tt) k has
 
-  pub augment_make : (g : Option Guard) (p q : ℕ) (place : Expr) (op : BinOp) (e : Expr) → p + augment_size place e ≡ q → Behind u g q → HasAt u p (augment_code g p place op e) → Made us u p (augment_code g p place op e)
+  pub augment_make : (g : Option Guard) (p q : ℕ) (place : Expr) (op : BinOp) (e : Expr) → p + augment_size place e ≡ q → FreeAfter u g q → HasAt u p (augment_code g p place op e) → Made us u p (augment_code g p place op e)
   augment_make g p q place op e at k has = even us u (augment_fits g (below g) p (suc (below g)) q place op e at (omega arith)) at (λ l out. tt) k has
 
-  pub assert_make : (g : Option Guard) (p q : ℕ) (why : Option Expr) → p + assert_size why ≡ q → Behind u g q → HasAt u p (assert_code g p why) → Made us u p (assert_code g p why)
+  pub assert_make : (g : Option Guard) (p q : ℕ) (why : Option Expr) → p + assert_size why ≡ q → FreeAfter u g q → HasAt u p (assert_code g p why) → Made us u p (assert_code g p why)
   assert_make g p q why at k has = even us u (assert_fits g (below g) p (suc (below g)) q why at (omega arith)) at (λ l out. tt) k has
 
-  pub names_make : (g : Option Guard) (p q : ℕ) (xs : List Text) → p + names_size xs ≡ q → Behind u g q → HasAt u p (names_code g xs) → Made us u p (names_code g xs)
+  pub names_make : (g : Option Guard) (p q : ℕ) (xs : List Text) → p + names_size xs ≡ q → FreeAfter u g q → HasAt u p (names_code g xs) → Made us u p (names_code g xs)
   names_make g p q xs at k has = even us u (names_fit g (below g) p (length xs + suc (below g)) q (suc (below g)) xs at refl (omega arith)) at (λ l out. tt) k has
 
   -- where the next one is tried, nothing is made
-  pub caught_make : (g : Option Guard) (p q next : ℕ) (kind : Option Expr) → p + caught_size kind ≡ q → q ≤ next → Free u next → Behind u g q → HasAt u p (caught_code g p next kind) → Made us u p (caught_code g p next kind)
+  pub caught_make : (g : Option Guard) (p q next : ℕ) (kind : Option Expr) → p + caught_size kind ≡ q → q ≤ next → Free u next → FreeAfter u g q → HasAt u p (caught_code g p next kind) → Made us u p (caught_code g p next kind)
   caught_make g p q next kind at ahead free k has = even us u (caught_fits g (below g) p (below g) q next kind at ahead (omega arith)) at (λ l out. out next ahead free) k has
 
-  pub guard_make : (g : Option Guard) (p q next : ℕ) (guard : Option Expr) → p + guard_size guard ≡ q → q ≤ next → Free u next → Behind u g q → HasAt u p (guard_code g p next guard) → Made us u p (guard_code g p next guard)
+  pub guard_make : (g : Option Guard) (p q next : ℕ) (guard : Option Expr) → p + guard_size guard ≡ q → q ≤ next → Free u next → FreeAfter u g q → HasAt u p (guard_code g p next guard) → Made us u p (guard_code g p next guard)
   guard_make g p q next guard at ahead free k has = even us u (guard_fits g (below g) p (suc (below g)) q next guard at ahead (omega arith)) at (λ l out. out next ahead free) k has
 
   -- ---- patterns, at whose end also the captured values stand
@@ -87,7 +87,7 @@ module _ (us : List Code) (u : Code) where
   ended_lands None q f next lt free past = tt
   ended_lands (Some g) q f next lt free past = (omega arith, ended_else q f (suc g.depth) g.target (omega (arith, lt, past)) free, omega (arith, lt, past))
 
-  pub pattern_make : (g : Option Guard) (p q next : ℕ) (t : Pattern) → ProperPattern t → p + pattern_size t ≡ q → q < next → Free u q → Behind u g next → HasAt u p (pattern_code (record { guard = g; waiting = 0; fail = next; extra = 0 }) p t)
+  pub pattern_make : (g : Option Guard) (p q next : ℕ) (t : Pattern) → ProperPattern t → p + pattern_size t ≡ q → q < next → Free u q → FreeAfter u g next → HasAt u p (pattern_code (record { guard = g; waiting = 0; fail = next; extra = 0 }) p t)
       → Made us u p (pattern_code (record { guard = g; waiting = 0; fail = next; extra = 0 }) p t)
   pattern_make g p q next t ok at ahead free k has =
       let c = suc (below g) in
@@ -98,7 +98,7 @@ module _ (us : List Code) (u : Code) where
 
   -- ---- values one after another
 
-  pub each_make : (g : Option Guard) (p q : ℕ) (es : Exprs) → p + each_size es ≡ q → Behind u g q → HasAt u p (each_code g p es) → Made us u p (each_code g p es)
+  pub each_make : (g : Option Guard) (p q : ℕ) (es : Exprs) → p + each_size es ≡ q → FreeAfter u g q → HasAt u p (each_code g p es) → Made us u p (each_code g p es)
   each_make g p q no_exprs at k has = nothing us u p q (omega arith) k.ends
   each_make g p q (exprs e es) at k has =
       let r = p + expr_size e in
@@ -107,14 +107,14 @@ module _ (us : List Code) (u : Code) where
 
   -- ---- `raise`
 
-  raised : (g : Option Guard) (p q : ℕ) (e : Expr) → p + (expr_size e + 1) ≡ q → Behind u g q → HasAt u p (expr_code g p e ++ cell g (plain Raise) ∷ []) → Made us u p (expr_code g p e ++ cell g (plain Raise) ∷ [])
+  raised : (g : Option Guard) (p q : ℕ) (e : Expr) → p + (expr_size e + 1) ≡ q → FreeAfter u g q → HasAt u p (expr_code g p e ++ cell g (plain Raise) ∷ []) → Made us u p (expr_code g p e ++ cell g (plain Raise) ∷ [])
   raised g p q e at k has =
       let r = p + expr_size e in
       let h = has_behind u p (expr_size e) (expr_code g p e) _ (expr_length g p e) has in
       part_then us u p (expr_size e) (expr_code g p e) (expr_length g p e) (λ free i. expr_make g p r e refl (earlier u g r q (omega arith) free k) i)
       (put_made us u g r (plain Raise) (nothing us u (r + 1) q (omega arith) k.ends) tt k.guard (λ f. tt) h.0) has
 
-  pub raise_make : (handled : Option ℕ) (w : Ways) (p q : ℕ) (e : Option Expr) → p + raise_size (is_there handled) e ≡ q → Behind u w.guard q → HasAt u p (raise_code handled w p e) → Made us u p (raise_code handled w p e)
+  pub raise_make : (handled : Option ℕ) (w : Ways) (p q : ℕ) (e : Option Expr) → p + raise_size (is_there handled) e ≡ q → FreeAfter u w.guard q → HasAt u p (raise_code handled w p e) → Made us u p (raise_code handled w p e)
   raise_make None w p q (Some e) at k has = raised w.guard p q e at k has
   raise_make (Some b) w p q (Some e) at k has = raised w.guard p q e at k has
   raise_make (Some b) w p q None at k has = put_made us u w.guard p (plain (Reraise (w.depth - b - 1))) (nothing us u (p + 1) q (omega arith) k.ends) tt k.guard (λ f. tt) has.0
@@ -131,7 +131,7 @@ module _ (us : List Code) (u : Code) where
       subst (IsHanded us n) (sym (ap made_with there)) (some, same)
 
   -- of as many defaults as its unit has
-  pub function_make : (g : Option Guard) (p q unit : ℕ) (es : Exprs) → defaults_in (slice_get us unit) ≡ count es → p + function_size es ≡ q → Behind u g q → HasAt u p (function_code g p unit es) → Made us u p (function_code g p unit es)
+  pub function_make : (g : Option Guard) (p q unit : ℕ) (es : Exprs) → defaults_in (slice_get us unit) ≡ count es → p + function_size es ≡ q → FreeAfter u g q → HasAt u p (function_code g p unit es) → Made us u p (function_code g p unit es)
   function_make g p q unit no_exprs known at k has =
       let end : Free u (suc p) = free_at u q (suc p) (omega arith) k.ends in
       record { free = ap made_with has.0.instr; all = (record { at = (known, (end, tt)); handler = k.guard }, tt) }

@@ -13,7 +13,7 @@ use Rattle.py_compile.specs.Statements.{exits_code}
 use Rattle.py_compile.specs.Ways.{Route, out, straight, through, Ways, lower, under, in_finally, in_try, in_loop, in_clause, break_exit, continue_exit, return_exit}
 use Rattle.py_fits.specs.Making.{LeadElsewhere}
 use Rattle.py_makers.proofs.Places.{Free, GuardFree, Made, free_at, put_made}
-use Rattle.py_makers.proofs.Leaves.{Behind, earlier}
+use Rattle.py_makers.proofs.Leaves.{FreeAfter, earlier}
 
 abbrev pub RouteFree : Code → Route → Type 0
 RouteFree u out = Unit {0}
@@ -22,7 +22,7 @@ RouteFree u (through drops to) = Free u to
 
 -- what a suite that ends at a place needs of what stands round it
 pub record Around (u : Code) (w : Ways) (q : ℕ) : Type 0 where
-  pub behind : Behind u w.guard q
+  pub after : FreeAfter u w.guard q
   pub breaks : RouteFree u w.on_break
   pub continues : RouteFree u w.on_continue
   pub returns : RouteFree u w.on_return
@@ -33,22 +33,22 @@ lower_free u (straight drops to) h = h
 lower_free u (through drops to) h = h
 
 pub around_at : (u : Code) (w : Ways) (p q : ℕ) → p ≤ q → Free u p → Around u w q → Around u w p
-around_at u w p q le free k = record { behind = earlier u w.guard p q le free k.behind; breaks = k.breaks; continues = k.continues; returns = k.returns }
+around_at u w p q le free k = record { after = earlier u w.guard p q le free k.after; breaks = k.breaks; continues = k.continues; returns = k.returns }
 
 pub around_under : (u : Code) (w : Ways) (q : ℕ) → Around u w q → Around u (under w) q
-around_under u w q k = record { behind = k.behind; breaks = lower_free u w.on_break k.breaks; continues = lower_free u w.on_continue k.continues; returns = lower_free u w.on_return k.returns }
+around_under u w q k = record { after = k.after; breaks = lower_free u w.on_break k.breaks; continues = lower_free u w.on_continue k.continues; returns = lower_free u w.on_return k.returns }
 
 pub around_clause : (u : Code) (w : Ways) (q : ℕ) → Around u w q → Around u (in_clause w) q
-around_clause u w q k = record { behind = k.behind; breaks = lower_free u w.on_break k.breaks; continues = lower_free u w.on_continue k.continues; returns = lower_free u w.on_return k.returns }
+around_clause u w q k = record { after = k.after; breaks = lower_free u w.on_break k.breaks; continues = lower_free u w.on_continue k.continues; returns = lower_free u w.on_return k.returns }
 
 pub around_try : (u : Code) (w : Ways) (to q : ℕ) → Free u to → q ≤ to → Around u w q → Around u (in_try w to) q
-around_try u w to q free le k = record { behind = record { ends = k.behind.ends; guard = free; past = le }; breaks = k.breaks; continues = k.continues; returns = k.returns }
+around_try u w to q free le k = record { after = record { ends = k.after.ends; guard = free; past = le }; breaks = k.breaks; continues = k.continues; returns = k.returns }
 
 pub around_finally : (u : Code) (w : Ways) (to q : ℕ) → Free u to → q ≤ to → Free u q → Around u (in_finally w to) q
-around_finally u w to q free le end = record { behind = record { ends = end; guard = free; past = le }; breaks = free; continues = free; returns = free }
+around_finally u w to q free le end = record { after = record { ends = end; guard = free; past = le }; breaks = free; continues = free; returns = free }
 
 pub around_loop : (u : Code) (w : Ways) (drops end back : ℕ) → Free u end → Around u w back → Around u (in_loop w drops end back) back
-around_loop u w drops end back free k = record { behind = k.behind; breaks = free; continues = k.behind.ends; returns = k.returns }
+around_loop u w drops end back free k = record { after = k.after; breaks = free; continues = k.after.ends; returns = k.returns }
 
 -- the four ways in front of what follows, and that no function is made at any of them
 pub record Four (us : List Code) (u : Code) (w : Ways) (p : ℕ) (ys : List Cell) : Type 0 where
@@ -80,9 +80,9 @@ module _ (us : List Code) (u : Code) where
   pub exits_make : (w : Ways) (p : ℕ) {ys : List Cell} → Made us u (p + 1 + 1 + 1) ys → Around u w (p + 3) → HasAt u p (exits_code w p ++ ys) → Four us u w p ys
   exits_make w p m k has =
       let g = w.guard in
-      let third = return_made g (p + 1 + 1) w.on_return m k.returns k.behind.guard has.1.1 in
-      let second = continue_made g (p + 1) (p + 3) w.on_continue third k.continues k.behind.ends k.behind.guard has.1 in
-      record { made = break_made g p (p + 3) w.on_break second k.breaks k.behind.ends k.behind.guard has; second = second.free; third = third.free; last = m.free }
+      let third = return_made g (p + 1 + 1) w.on_return m k.returns k.after.guard has.1.1 in
+      let second = continue_made g (p + 1) (p + 3) w.on_continue third k.continues k.after.ends k.after.guard has.1 in
+      record { made = break_made g p (p + 3) w.on_break second k.breaks k.after.ends k.after.guard has; second = second.free; third = third.free; last = m.free }
 
   -- an instruction in front of them goes on at one of the four
   pub ways_free : {w : Ways} {ys : List Cell} (p e : ℕ) → e ≡ p + 1 → Four us u w e ys → LeadElsewhere u (ways p)

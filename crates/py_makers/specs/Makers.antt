@@ -10,6 +10,7 @@ use Rattle.py_own_lines.specs.OwnLines.{HaveOwnLines}
 use Rattle.py_syntax.specs.Functions.{functions}
 use Rattle.py_trace.specs.Traces.{AreWellFormed}
 
+-- in each module, no two `def`s begin on one line
 abbrev pub AreOnOwnLines : List LoadedModule → Type 0
 AreOnOwnLines [] = Unit {0}
 AreOnOwnLines (m ∷ ms) = HaveOwnLines (functions m.body) × AreOnOwnLines ms
