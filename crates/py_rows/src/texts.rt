@@ -116,33 +116,40 @@ fn made_by(
     named(alloc, word, made)
 }
 
+fn kind_value(name: &str) -> Option<Value> {
+    Some(Value::Kind(kind_named(name)?))
+}
+
+fn bare_exception(name: &str) -> Option<Value> {
+    Some(Value::Exc(kind_named(name)?, Argument::none()))
+}
+
+fn builtin_value(name: &str) -> Option<Value> {
+    Some(Value::Builtin(builtin_named(name)?))
+}
+
+fn exception(alloc: Global, name: &str, made: &mut Vec<Value>) -> Result<Option<Value>, NoMemory> {
+    let Some(kind) = kind_named(name) else {
+        return Ok(None);
+    };
+    let Some(arg) = made.pop() else {
+        return Ok(None);
+    };
+    Ok(Some(Value::Exc(kind, Argument::of(alloc, arg)?)))
+}
+
 fn named(alloc: Global, word: &str, made: &mut Vec<Value>) -> Result<Option<Value>, NoMemory> {
     if let Some(name) = word.strip_prefix("#") {
-        let Some(kind) = kind_named(name) else {
-            return Ok(None);
-        };
-        return Ok(Some(Value::Kind(kind)));
+        return Ok(kind_value(name));
     }
     if let Some(name) = word.strip_prefix("!") {
-        let Some(kind) = kind_named(name) else {
-            return Ok(None);
-        };
-        return Ok(Some(Value::Exc(kind, Argument::none())));
+        return Ok(bare_exception(name));
     }
     if let Some(name) = word.strip_prefix("?") {
-        let Some(kind) = kind_named(name) else {
-            return Ok(None);
-        };
-        let Some(arg) = made.pop() else {
-            return Ok(None);
-        };
-        return Ok(Some(Value::Exc(kind, Argument::of(alloc, arg)?)));
+        return exception(alloc, name, made);
     }
     if let Some(name) = word.strip_prefix("@") {
-        let Some(which) = builtin_named(name) else {
-            return Ok(None);
-        };
-        return Ok(Some(Value::Builtin(which)));
+        return Ok(builtin_value(name));
     }
     Ok(plain(word))
 }
