@@ -1,7 +1,7 @@
 -- That every row is in range, through each change; and what a file holds after it.
 use Rattle.std.proofs.Common.{◌≡◌, ℕ, ℤ, ◌<◌, ◌≤◌, Bool, true, false, cond, Option, Some, None, refl, ap, sym, subst, ◌∙◌, arith, Result, Ok, Err, OnOk, OnErr, is_some, pos, negsuc, rules}
 use Rattle.std.specs.declared.cmp.Ordering.TheVariants.{Less, Equal, Greater}
-use Rattle.std.specs.Prelude.{◌||◌}
+use Rattle.std.specs.Prelude.{◌||◌, ◌≤ℤ◌}
 use Rattle.std.specs.Option.{unwrap_or}
 use Rattle.std.specs.Ordering.{is_eq, eq_by_cmp}
 use Rattle.std.specs.FinMap.{get, insert, get-empty, get-insert}
@@ -117,5 +117,5 @@ with_file-none d p = λ i. record d { files = insert d.files p (none-merged (fil
 
 -- a number of a row fits 32 bits
 pub number_fits : (z : ℤ) → IsNumber z → SFits w32 z
-number_fits (pos n) h = search (rules, h)
-number_fits (negsuc n) h = search (rules, h)
+number_fits (pos n) h = let high : pos n ≤ℤ pos 65535 = h.2 in search (rules, high)
+number_fits (negsuc n) h = let low : negsuc 65534 ≤ℤ negsuc n = h.1 in search (rules, low)
