@@ -1,11 +1,11 @@
 -- The reader of expressions as a machine: a stack of what is open, and a step for each token.
---     at_most, same_precedence                levels of the grammar
+--     at_most, same_precedence                precedences and their order
 --     snoc .. strings_of                      lists with one more at the end, and strings side by
 --                                             side
 --     Goal, Opener, Frame, Ctx                what is read towards, and what is open
 --     State, Out                              a place in an expression, and what a token makes of
 --                                             it
---     upto_exprs .. upto                      the frames from one level up to another
+--     upto_exprs .. upto                      the frames from one precedence up to another
 --     begin, leave, give, step, start         the steps
 --     ended, format_class, class .. parts     the class of a token, and the fields of f-strings
 --     Verdict, run                            the reading of a list
@@ -26,11 +26,11 @@ use Rattle.py_syntax.specs.Normal.{Precedence, LEnd, LExprs, LExpr, LOr, LAnd, L
 use Rattle.py_grammar.specs.TokenClasses.{BinaryOperator, b_or, b_and, b_op, TokenClass, t_name, t_int, t_none, t_bool, t_string, t_format, t_bad_format, t_not, t_is, t_if, t_else, t_compare, t_operator, t_comma, t_colon, t_dot, t_left_paren, t_right_paren, t_left_bracket, t_right_bracket, t_left_brace, t_right_brace, t_other, operator_precedence, operator_right, joined, begins}
 use Rattle.std.specs.Prelude.{nat_le}
 
--- whether a tree of this level may stand above one of the other
+-- whether one precedence is as loose as the other, or looser
 abbrev pub at_most : Precedence → Precedence → Bool
 at_most a b = nat_le (rank a) (rank b)
 
--- whether two levels are the same
+-- whether two precedences are the same
 abbrev pub same_precedence : Precedence → Precedence → Bool
 same_precedence a b = nat_eq (rank a) (rank b)
 
@@ -110,7 +110,7 @@ pub data Frame : Type 0 where
   cond_first : Frame
   cond_test : (body : Expr) → Frame
   cond_else : (body test : Expr) → Frame
-  -- an operand that may be the left one of an operator of that level; the right one
+  -- an operand that may be the left one of an operator of that precedence; the right one
   first : (l : Precedence) → Frame
   right : (j : BinaryOperator) (a : Expr) → Frame
   -- the operand of `not`
@@ -141,7 +141,7 @@ pub data Ctx : Type 0 where
 
 -- A place in an expression, with what was read of the innermost part.
 pub data State : Type 0 where
-  -- an expression of that level has to begin
+  -- an expression of that precedence, or of a tighter one, has to begin
   Want : (l : Precedence) (k : Ctx) → State
   -- an expression is read, and may go on
   Have : (e : Expr) (k : Ctx) → State
@@ -176,7 +176,7 @@ pub data Out : Type 0 where
   -- the outermost expression is whole, and the token is not taken
   Left : Expr → Out
 
--- ---- the frames from one level up to another
+-- ---- the frames from one precedence up to another
 
 -- up to several expressions with commas
 abbrev pub upto_exprs : Precedence → Ctx → Ctx
@@ -206,7 +206,7 @@ upto_sum lev k = cond (at_most lev LSum) (on (first LSum) (upto_compare lev k)) 
 abbrev pub upto_term : Precedence → Ctx → Ctx
 upto_term lev k = cond (at_most lev LTerm) (on (first LTerm) (upto_sum lev k)) k
 
--- what is open after a tree of the second level, where one of the first was to begin
+-- what is open after a tree of the second precedence, where one of the first was to begin
 abbrev pub upto : Precedence → Precedence → Ctx → Ctx
 upto lev LEnd k = k
 upto lev LExprs k = upto_exprs lev k
@@ -222,7 +222,7 @@ upto lev LPost k = on post_rest (upto_term lev k)
 
 -- ---- the steps
 
--- An expression of that level begins.
+-- An expression of that precedence, or of a tighter one, begins.
 abbrev pub begin : Precedence → Ctx → TokenClass → Out
 begin lev k (t_name x) = Next (Have (name x) (upto lev LPost k))
 begin lev k (t_int n) = Next (Have (int n) (upto lev LPost k))
@@ -377,6 +377,7 @@ format_class ps None = t_bad_format ps
 
 -- The fields of an f-string are read by the machine itself.
 abbrev mutual
+  -- the class of a token
   pub class : Kind → TokenClass
   class (Name x) = t_name x
   class (Int n) = t_int n

@@ -1,6 +1,7 @@
 -- What a token is to an expression.
 --     BinaryOperator, TokenClass              what a token is to an expression
---     operator_precedence .. operator_kind    an operator: its levels, its tree and its token
+--     operator_precedence .. operator_kind    an operator: the precedences of its tree and of its
+--                                             right operand, its tree and its token
 --     binds, begins                           where a token goes on with an expression, and where
 --                                             it begins one
 --     spelled                                 the tokens of a class
@@ -50,13 +51,13 @@ pub data TokenClass : Type 0 where
   -- a token that stands in no expression
   t_other : (k : Kind) → TokenClass
 
--- the level of an operator's trees
+-- the precedence of an operator, which is that of its trees
 abbrev pub operator_precedence : BinaryOperator → Precedence
 operator_precedence b_or = LOr
 operator_precedence b_and = LAnd
 operator_precedence (b_op op) = op_precedence op
 
--- the level of its right operand
+-- the precedence that its right operand has at least
 abbrev pub operator_right : BinaryOperator → Precedence
 operator_right b_or = LAnd
 operator_right b_and = LNot
@@ -74,7 +75,7 @@ operator_kind b_or = Word word.Or
 operator_kind b_and = Word word.And
 operator_kind (b_op op) = Sign (operator op)
 
--- The level at which a token goes on with an expression.
+-- The precedence at which a token goes on with an expression.
 abbrev pub binds : TokenClass → Precedence
 binds t_left_paren = LPost
 binds t_left_bracket = LPost

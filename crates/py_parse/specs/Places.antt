@@ -72,6 +72,7 @@ after_match e p = suc (suc (kinds_past (match_head e) (suc p)))
 abbrev pub after_case : Pattern → Option Expr → ℕ → ℕ
 after_case c g p = kinds_past (Name case_name ∷ pattern_tokens c (guard_tokens g)) p
 
+-- the places after statements, cases and clauses, each from the place where it begins
 abbrev mutual
   -- the place after statements in a row
   pub stmts_past : Stmts → ℕ → ℕ

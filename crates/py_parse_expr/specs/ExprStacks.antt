@@ -52,7 +52,7 @@ view_goal goal_.One = one
 view_goal goal_.Target = target
 view_goal (goal_.Targets r) = targets (head_of (view_row r)) (tail_of (view_row r))
 
--- what is kept beside its trees is so
+-- the items of the target of a `for` so far are some, measured rightly
 abbrev pub ValidGoal : code_goal.Goal → Type 0
 ValidGoal (goal_.Targets r) = ValidItems r
 ValidGoal g = Unit {0}
@@ -79,7 +79,7 @@ view_frame frame_.InParen = in_paren
 view_frame (frame_.InKey ps) = in_key (view_entries ps)
 view_frame (frame_.InValue ps key) = in_value (view_entries ps) (view_measured key)
 
--- what is kept beside its trees is so
+-- the heights that a frame keeps beside its trees are theirs
 abbrev pub ValidFrame : code_frame.Frame → Type 0
 ValidFrame (frame_.ExprsRest r) = ValidItems r
 ValidFrame (frame_.CondTest b) = IsMeasured b
@@ -94,7 +94,7 @@ ValidFrame (frame_.InKey ps) = AreEntries ps
 ValidFrame (frame_.InValue ps key) = AreEntries ps × IsMeasured key
 ValidFrame f = Unit {0}
 
--- the budget that is held is the one that there is
+-- the budget that the code holds is that of a place with this open round it
 pub record IsBudget (limit : ℕ) (k : Ctx) (r : HeightBudget) : Type 0 where
   pub target : r.target ≡ budget limit k true
   pub other : r.other ≡ budget limit k false
@@ -106,12 +106,12 @@ IsInside outer f inner =
     (limit : ℕ) (k : Ctx) → limit ≤ HEIGHT → IsBudget limit k outer
     → IsBudget limit (on (view_frame f) k) inner
 
--- The innermost frame first.
+-- what is open, from the open frames of the code, the innermost first
 abbrev pub view_frames : Goal → List OpenFrame → Ctx
 view_frames g [] = Outside g
 view_frames g (h ∷ hs) = on (view_frame h.frame) (view_frames g hs)
 
--- each frame keeps what is so, and the budget that there is
+-- each frame keeps the heights of its trees, and the budget inside it, the innermost first
 abbrev pub ValidFrames : ℕ → Goal → List OpenFrame → Type 0
 ValidFrames limit g [] = Unit {0}
 ValidFrames limit g (h ∷ hs) =
@@ -121,15 +121,15 @@ ValidFrames limit g (h ∷ hs) =
 abbrev pub view_stack : Stack → Ctx
 view_stack s = view_frames (view_goal s.goal) (reverse s.frames.items)
 
--- The limit is at most the greatest, and all that is kept beside the trees is so.
+-- The limit is the one named and at most the greatest, and the goal and the frames are valid.
 pub record Valid (limit : ℕ) (s : Stack) : Type 0 where
   pub same : s.limit ≡ limit
   pub low : limit ≤ HEIGHT
   pub goal : ValidGoal s.goal
   pub frames : ValidFrames limit (view_goal s.goal) (reverse s.frames.items)
 
--- What is open after a tree of the second level, and what holds one: where a tree of the first
--- level was to begin.
+-- What is open after a tree of the second precedence, with the frame that holds such a tree, where
+-- one of the first was to begin.
 abbrev pub opened : Precedence → Precedence → Ctx → Ctx
 opened lev LEnd k = k
 opened lev LExprs k = upto_exprs lev k
@@ -143,7 +143,7 @@ opened lev LTerm k = upto_term lev k
 opened lev LUnary k = upto_term lev k
 opened lev LPost k = on post_rest (upto_term lev k)
 
--- one frame of the level `l` more than those of the looser levels, where one may open
+-- the frame `f` of the precedence `l`, in those of the looser precedences, where it may open
 abbrev pub opened_with : code_precedence.Precedence → code_precedence.Precedence
     → code_precedence.Precedence → code_frame.Frame → Ctx → Ctx
 opened_with from looser l f k =
@@ -162,7 +162,7 @@ upto_bracket from k = upto_term (view_precedence from) k
 abbrev pub Opens : (Ctx → Ctx) → Stack → Stack → Type 0
 Opens added old new = view_stack new ≡ added (view_stack old)
 
--- the innermost frame, and those round it
+-- the innermost frame is taken off, where there is one; else the goal alone is left
 abbrev pub Pops : Option code_frame.Frame → Stack → Stack → Type 0
 Pops None old new = view_stack old ≡ Outside (view_goal new.goal)
 Pops (Some f) old new =

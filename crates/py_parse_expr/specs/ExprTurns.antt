@@ -56,7 +56,7 @@ view_at (progress_.AfterIs c) k = AfterIs (plain_expr c.first.value) (view_links
 view_at (progress_.AfterIsNot c) k = AfterIsNot (plain_expr c.first.value) (view_links c) k
 view_at (progress_.Linked c) k = Linked (plain_expr c.first.value) (view_links c) k
 
--- what is kept beside the trees is so
+-- the heights that a place keeps beside its trees are theirs
 abbrev pub ValidAt : code_progress.Progress → Type 0
 ValidAt (progress_.Have t) = IsMeasured t
 ValidAt (progress_.Strings ss) = ValidStrings ss
@@ -125,14 +125,14 @@ Links c t r =
 
 -- ---- a step
 
--- an operand of a level begins in a frame of its own, where a tree of that level may stand
+-- an operand of the precedence `l` begins in a frame of its own, where such a tree may stand
 abbrev pub prefixed : Precedence → code_frame.Frame → Precedence → Ctx → Out
 prefixed from f l k =
     cond (at_most (view_precedence from) (view_precedence l))
     (Next (Want (view_precedence l)
     (on (view_frame f) (opened (view_precedence from) (view_precedence l) k)))) Stuck
 
--- an expression of a level begins in a frame
+-- an expression of that precedence, or of a tighter one, begins in a frame
 abbrev pub begin_in : code_frame.Frame → Precedence → code_class.TokenClass → Ctx → Out
 begin_in f l t k = begin (view_precedence l) (on (view_frame f) k) (view_class t)
 

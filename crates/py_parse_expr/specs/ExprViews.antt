@@ -33,7 +33,7 @@ use Rattle.py_parse_expr.specs.declared.expr_nodes.Opener.TheVariants as opener_
 use Rattle.py_grammar.specs.TokenClasses.{BinaryOperator, b_or, b_and, b_op, TokenClass, t_name, t_int, t_none, t_bool, t_string, t_format, t_bad_format, t_not, t_is, t_if, t_else, t_compare, t_operator, t_comma, t_colon, t_dot, t_left_paren, t_right_paren, t_left_bracket, t_right_bracket, t_left_brace, t_right_brace, t_other}
 use Rattle.py_grammar.specs.Machine.{Opener, a_call, a_list, has_format, class}
 
--- a level of the grammar
+-- a precedence of the grammar
 abbrev pub view_precedence : code_precedence.Precedence → Precedence
 view_precedence precedence_.Exprs = LExprs
 view_precedence precedence_.Expr = LExpr

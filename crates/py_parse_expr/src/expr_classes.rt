@@ -14,7 +14,7 @@ use py_parse_fields::token_classes;
 use py_token::{Keyword, Mark, TokenKind};
 use py_value::{BinOp, CmpOp, NoMemory, Text};
 
-/// The levels of the grammar, from the loosest.
+/// The precedences of the grammar, from the loosest.
 #[derive(Clone, Copy)]
 pub enum Precedence {
     Exprs,
@@ -83,7 +83,7 @@ impl Precedence {
         }
     }
 
-    /// Whether a tree of this level may stand above one of the other.
+    /// Whether this precedence is as loose as the other, or looser.
     pub fn at_most(self, other: Precedence) -> bool
         ensures { result ≡ at_most (view_precedence self) (view_precedence other) }
     {
@@ -98,7 +98,7 @@ impl Precedence {
 }
 
 impl BinaryOperator {
-    /// The level of its trees.
+    /// Its precedence, which is that of its trees.
     pub fn precedence(self) -> Precedence
         ensures { view_precedence result ≡ operator_precedence (view_operator self) }
     {
@@ -111,7 +111,7 @@ impl BinaryOperator {
         }
     }
 
-    /// The level of its right operand.
+    /// The precedence that its right operand has at least.
     pub fn right(self) -> Precedence
         ensures { view_precedence result ≡ operator_right (view_operator self) }
     {

@@ -76,7 +76,7 @@ pub fn cond_test(body: Measured, measured: Measured, class: &TokenClass) -> Fram
     }
 }
 
-/// An operand in front of an operator of its level, or not.
+/// An operand in front of an operator of its precedence, or not.
 pub fn operand(precedence: Precedence, measured: Measured, class: &TokenClass) -> FrameStep
     requires { IsMeasured measured }
     ensures { MeetsAs measured (Frame.First precedence) class.now result }

@@ -351,10 +351,10 @@ impl Stack {
         }
     }
 
-    // ---- the frames from one level up to another
+    // ---- the frames from one precedence up to another
 
-    /// A frame that opens where one of its level, or of a looser one, was to begin, in those of the
-    /// looser levels.
+    /// Where a tree of this precedence, or of a looser one, was to begin: the frames of the looser
+    /// precedences, and in them this one.
     #[cycle(opened)]
     fn opened_with(
         &mut self,
@@ -377,7 +377,7 @@ impl Stack {
         self.push(frame)
     }
 
-    /// The frames from one level up to another.
+    /// The frames from one precedence up to another.
     #[cycle(opened)]
     pub fn opened(&mut self, from: Precedence, to: Precedence) -> Result<(), NoMemory>
         requires { Valid self.old.limit self.old }

@@ -146,7 +146,7 @@ fn low(
     atom(stack, precedence, Progress::Have(measured))
 }
 
-/// An operator stands in front of an operand, which has the level of its trees.
+/// An operator stands in front of its one operand, which has the operator's own precedence.
 fn prefixed(
     stack: &mut Stack,
     precedence: Precedence,
@@ -186,7 +186,7 @@ fn bracket(stack: &mut Stack, precedence: Precedence, progress: Progress) -> Res
     Ok(Turn::Next(progress))
 }
 
-/// An expression of that level begins.
+/// An expression of that precedence, or of a tighter one, begins.
 pub fn begin(
     alloc: Global,
     stack: &mut Stack,
@@ -230,7 +230,7 @@ pub fn begin(
     }
 }
 
-/// An expression of that level begins in a frame of its own.
+/// The same in a frame of its own.
 pub fn begin_in(
     alloc: Global,
     stack: &mut Stack,

@@ -46,7 +46,7 @@ fn goal(part: ExprPart) -> Goal
     }
 }
 
-/// The level at which it begins.
+/// The precedence at which it begins.
 fn precedence(part: ExprPart) -> Precedence
     ensures { start (goal_of part) ≡ Want (view_precedence result) (Outside (goal_of part)) }
 {

@@ -64,7 +64,7 @@ view_class class_.LeftBrace = t_left_brace
 view_class class_.RightBrace = t_right_brace
 view_class class_.Other = t_other End
 
--- a level of the grammar
+-- a precedence of the grammar
 abbrev pub view_precedence : code_precedence.Precedence → Precedence
 view_precedence precedence_.Exprs = LExprs
 view_precedence precedence_.Expr = LExpr

@@ -10,7 +10,7 @@ use crate::token_classes::BinaryOperator;
 use py_syntax::Sign;
 use py_value::{BinOp, CmpOp, NoMemory};
 
-/// A level of the grammar, from the loosest.
+/// The precedences of the grammar, from the loosest, but for that of an atom.
 #[derive(Clone, Copy)]
 pub enum Precedence {
     Exprs,
@@ -83,7 +83,7 @@ pub fn same_precedence(one: Precedence, other: Precedence) -> bool
     rank(one) == rank(other)
 }
 
-/// The level of an operator's trees.
+/// The precedence of an operator, which is that of its trees.
 pub fn operator_precedence(operator: BinaryOperator) -> Precedence
     ensures { view_precedence result ≡ operator_precedence (view_operator operator) }
 {
@@ -96,7 +96,7 @@ pub fn operator_precedence(operator: BinaryOperator) -> Precedence
     }
 }
 
-/// The level of its right operand.
+/// The precedence that its right operand has at least.
 pub fn operator_right(operator: BinaryOperator) -> Precedence
     ensures { view_precedence result ≡ operator_right (view_operator operator) }
 {
@@ -133,7 +133,7 @@ fn push_if(wanted: bool, frames: &mut Vec<Frame>, frame: Frame) -> Result<(), No
     Ok(())
 }
 
-/// The frames from a level up to the operand of a `not`.
+/// The frames from a precedence up to the operand of a `not`.
 pub fn raise_to_not(precedence: Precedence, frames: &mut Vec<Frame>) -> Result<(), NoMemory>
     ensures { IfOk result
         (λ done. Opens (upto_and (view_precedence precedence)) frames.old frames.new) }
@@ -161,7 +161,7 @@ pub fn raise_to_not(precedence: Precedence, frames: &mut Vec<Frame>) -> Result<(
     Ok(())
 }
 
-/// The frames from a level up to the operand of a sign.
+/// The frames from a precedence up to the operand of a sign.
 pub fn raise_to_unary(precedence: Precedence, frames: &mut Vec<Frame>) -> Result<(), NoMemory>
     ensures { IfOk result
         (λ done. Opens (upto_term (view_precedence precedence)) frames.old frames.new) }

@@ -129,7 +129,7 @@ fn negated(precedence: Precedence, frames: Vec<Frame>) -> Result<Turn, NoMemory>
     open(frames, Frame::NotOf, Progress::Want(Precedence::Not))
 }
 
-/// An expression of that level begins.
+/// An expression of that precedence, or of a tighter one, begins.
 fn begin(precedence: Precedence, frames: Vec<Frame>, class: TokenClass) -> Result<Turn, NoMemory>
     ensures { Steps (Progress.Want precedence) frames.items class result }
 {
@@ -187,7 +187,7 @@ fn begins(class: TokenClass) -> bool
     }
 }
 
-/// An expression of that level begins in a frame.
+/// The same in a frame.
 fn begin_in(
     frames: Vec<Frame>,
     frame: Frame,

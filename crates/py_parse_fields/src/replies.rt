@@ -27,7 +27,7 @@ pub enum Reply {
     Opens(Frame, Progress),
 }
 
-/// After an operand that may be the left one of an operator of that level.
+/// After an operand that may be the left one of an operator of that precedence.
 fn join(precedence: Precedence, class: TokenClass) -> Reply
     ensures first { Offers (first (view_precedence precedence)) (view_class class) result }
     ensures right { (j : classes_.BinaryOperator) → operator_precedence j ≡ view_precedence precedence

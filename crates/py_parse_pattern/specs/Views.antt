@@ -36,7 +36,7 @@ mark_class m = class (Sign m)
 abbrev pub word_class : Keyword → TokenClass
 word_class w = class (Word w)
 
--- a pattern, and whether its height is the one beside it
+-- a pattern without the height beside it
 abbrev pub view_measured : Measured → Pattern
 view_measured t = plain_pattern t.pattern
 

@@ -24,15 +24,15 @@ use Rattle.py_statements.specs.Open.{a_finally, a_def, a_case}
 
 -- ---- trees in boxes
 
--- an expression
+-- the plain tree of an expression in a box
 abbrev pub boxed_expr : Box Node Global → Expr
 boxed_expr b = plain_expr b.value
 
--- a pattern
+-- the plain tree of a pattern in a box
 abbrev pub boxed_pattern : Box PatternNode Global → Pattern
 boxed_pattern b = plain_pattern b.value
 
--- a statement
+-- the plain tree of a statement in a box, without its lines
 abbrev pub boxed_kind : Box KindNode Global → StmtKind
 boxed_kind b = plain_kind b.value
 

@@ -219,6 +219,7 @@ pub fn after_test(
             span.onward(token.last),
             suites,
         ))),
+        // Any other token: the `assert` has no reason, and ends.
         _ => end_simple(alloc, asserted(alloc, test, None)?, span, suites, token),
     }
 }
@@ -238,6 +239,7 @@ pub fn after_for_target(
             span.onward(token.last),
             suites,
         )),
+        // Any other token: only `in` stands after the target of a `for`.
         _ => None,
     }
 }
@@ -260,6 +262,7 @@ pub fn after_kind(
             span.onward(token.last),
             suites,
         ))),
+        // Any other token: the clause binds no name, and its header ends.
         _ => {
             let suite_of = boxed_suite_of(alloc, SuiteOf::Clause(partial_try, Some(kind), None))?;
             Ok(end_header(suite_of, span, suites, token))
@@ -277,6 +280,7 @@ pub fn after_subject(of: Box<Expr>, span: Span, suites: SuiteStack, token: &Toke
             span.onward(token.last),
             suites,
         )),
+        // Any other token: the header of a `match` ends in a colon alone.
         _ => None,
     }
 }
@@ -299,6 +303,7 @@ pub fn resume_pattern(
             span.onward(token.last),
             suites,
         ))),
+        // Any other token: the case has no guard, and its header ends.
         _ => {
             let suite_of = boxed_suite_of(alloc, SuiteOf::Case(partial_match, pattern, None))?;
             Ok(end_header(suite_of, span, suites, token))

@@ -1,6 +1,6 @@
 -- Normal expressions and patterns: the trees that the grammar spells, each in one way. And their
 -- heights.
---     Precedence, rank                              the levels of the grammar
+--     Precedence, rank                              precedences and their order
 --     op_precedence, right_precedence, precedence   those of operators and of expressions
 --     At, IsConstant, Compared, HasFormat           what may stand in a place
 --     Normal                                        an expression that the grammar spells;
@@ -19,7 +19,7 @@ use Rattle.py_syntax.specs.Tree.{Text, Expr, name, int, str, fstr, none, bool, t
 use Rattle.py_syntax.specs.Tree.{Constant, c_int, c_str, c_none, c_bool, Pattern, literal, capture, wild, member, sequence, p_or, p_as, p_paren, Patterns, no_patterns, patterns}
 use Rattle.py_syntax.specs.Tokens.{underscore}
 
--- The levels of the grammar, from the loosest. LEnd is that of a token that goes on with no
+-- The precedences of the grammar, from the loosest. LEnd is that of a token that goes on with no
 -- expression.
 pub data Precedence : Type 0 where
   LEnd : Precedence
@@ -34,7 +34,7 @@ pub data Precedence : Type 0 where
   LUnary : Precedence
   LPost : Precedence
 
--- the levels in their order
+-- the precedences in their order, the loosest first
 abbrev pub rank : Precedence → ℕ
 rank LEnd = 0
 rank LExprs = 1
@@ -48,7 +48,7 @@ rank LTerm = 8
 rank LUnary = 9
 rank LPost = 10
 
--- the level of an operator, which is that of its left operand
+-- the precedence of an operator, which its left operand has at least
 abbrev pub op_precedence : BinOp → Precedence
 op_precedence op_.Add = LSum
 op_precedence op_.Sub = LSum
@@ -56,7 +56,7 @@ op_precedence op_.Mul = LTerm
 op_precedence op_.Floor = LTerm
 op_precedence op_.Mod = LTerm
 
--- the level of the right operand
+-- the precedence that its right operand has at least
 abbrev pub right_precedence : BinOp → Precedence
 right_precedence op_.Add = LTerm
 right_precedence op_.Sub = LTerm
@@ -64,7 +64,7 @@ right_precedence op_.Mul = LUnary
 right_precedence op_.Floor = LUnary
 right_precedence op_.Mod = LUnary
 
--- the level of an expression; `()` is an atom
+-- the precedence of an expression; `()` is an atom
 abbrev pub precedence : Expr → Precedence
 precedence (name x) = LPost
 precedence (int n) = LPost
@@ -89,7 +89,7 @@ precedence (index f e) = LPost
 precedence (slice f from to) = LPost
 precedence (attr f x) = LPost
 
--- an expression stands in a place of the grammar that takes this level and tighter ones
+-- an expression stands in a place of the grammar that takes this precedence and tighter ones
 abbrev pub At : Precedence → Expr → Type 0
 At l e = rank l ≤ rank (precedence e)
 
@@ -317,8 +317,8 @@ abbrev mutual
   height_parts (text x ps) = height_parts ps
   height_parts (field e ps) = max (height e) (height_parts ps)
 
--- The levels of patterns: a list with commas, one pattern with its `as`, alternatives, a closed
--- pattern.
+-- The precedence of a pattern: of a list with commas, of one pattern with its `as`, of alternatives,
+-- of a closed pattern.
 abbrev pub pattern_rank : Pattern → ℕ
 pattern_rank (literal minus c) = 3
 pattern_rank (capture x) = 3
@@ -363,7 +363,7 @@ abbrev mutual
   NormalPattern (p_as p x) = (2 ≤ pattern_rank p) × NormalPattern p × (x ≢ underscore)
   NormalPattern (p_paren p) = (1 ≤ pattern_rank p) × NormalPattern p
 
-  -- patterns, each of this level or a tighter one
+  -- patterns, each of this precedence or a tighter one
   pub EachPattern : ℕ → Patterns → Type 0
   EachPattern l no_patterns = Unit {0}
   EachPattern l (patterns p ps) = (l ≤ pattern_rank p) × NormalPattern p × EachPattern l ps

@@ -119,7 +119,7 @@ first_item e a ih lev k ts low h =
     ∙ settles lev LExprs (precedence e) e k (Sign mark.Comma ∷ ts) (omega arith) (omega arith)
     ∙ ap (λ (c : Ctx). run (Have e c) (Sign mark.Comma ∷ ts)) (exprs_first_open lev k low h)
 
--- a tuple that is read, in the stack of its level
+-- a tuple that is read, in the stack of its precedence
 close_tuple : (e : Expr) (lev : Precedence) (k : Ctx) (rest : List Kind) → 1 ≤ rank lev → rank lev ≤ 1 → Ends rest → run (Have e k) rest ≡ run (Have e (upto_exprs lev k)) rest
 close_tuple e lev k rest low h b = past_first e k rest b ∙ ap (λ (c : Ctx). run (Have e c) rest) (sym (exprs_first_open lev k low h))
 

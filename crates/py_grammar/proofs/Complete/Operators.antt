@@ -36,7 +36,7 @@ level_low (binary op_.Floor a b) = omega arith
 level_low (binary op_.Mod a b) = omega arith
 level_low e = omega arith
 
--- an operand that stands where this level is asked for, in front of a token that goes down to it
+-- an operand that stands where this precedence is asked for, in front of a token that goes down to it
 pub read_part : (e : Expr) → Back e → (l : Precedence) → 2 ≤ rank l → At l e → (k : Ctx) (rest : List Kind) (n : ℕ) → After n rest → n ≤ stops (precedence e) → (m : Precedence) → rank m ≤ rank (precedence e) → n ≤ budget m → run (Want l k) (tokens e rest) ≡ run (Have e (upto l m k)) rest
 read_part e ih l two a k rest n b small m le r =
     ih l k rest (omega arith) a (follows (precedence e) n rest (omega arith) small b)

@@ -59,7 +59,7 @@ give_compared a ls op e k t_not = refl
 give_compared a ls op e k t_is = refl
 give_compared a ls op e k t = refl
 
--- ---- from one level down to the next, past the frames between them
+-- ---- from one precedence down to the next looser one, past the frames between them
 
 down_term : (lev : Precedence) (e : Expr) (k : Ctx) (t : TokenClass) → rank (binds t) ≤ 7 → give e (upto_term lev k) t ≡ give e (upto_sum lev k) t
 down_term LPost e k t le = refl
@@ -100,7 +100,7 @@ down_exprs LEnd e k t le = pass_exprs e k t le
 down_exprs LExprs e k t le = pass_exprs e k t le
 down_exprs lev e k t le = refl
 
--- How much a token may bind that goes down to a level. An `if` goes on with all that an `expr` has in it.
+-- How much a token may bind that goes down to a precedence. An `if` goes on with all that an `expr` has in it.
 abbrev pub budget : Precedence → ℕ
 budget LExpr = 1
 budget l = rank l
@@ -164,7 +164,7 @@ is_string (t_format ps) = true
 is_string (t_bad_format ps) = true
 is_string t = false
 
--- How much a token after a tree of this level may bind, so that the tree is whole before it.
+-- How much a token after a tree of this precedence may bind, so that the tree is whole before it.
 abbrev pub stops : Precedence → ℕ
 stops LPost = 10
 stops LUnary = 9
@@ -214,7 +214,7 @@ pub ends_after : (rest : List Kind) → Ends rest → After 0 rest
 ends_after [] b = tt
 ends_after (t ∷ ts) b = (b.0, quiet_string (class t) b.1)
 
--- after a tree of a level over `exprs`
+-- after a tree that binds tighter than `exprs`
 pub follows : (l : Precedence) (n : ℕ) (rest : List Kind) → 2 ≤ rank l → n ≤ stops l → After n rest → Follows l rest
 follows l n [] two h b = tt
 follows LEnd n (t ∷ ts) two h b = absurd (omega arith)

@@ -111,7 +111,7 @@ give_keeps g e (on (in_value ps key) k) t a n h = tt
 
 -- ---- the frames that are pushed fit
 
--- a stack is valid, and asks for no more than that level
+-- a stack is valid, and asks for no more than that precedence
 abbrev Fits : Goal → ℕ → Precedence → Ctx → Type 0
 Fits g least lev k = Valid g k × ((n : ℕ) → rank lev ≤ n → least ≤ n → rank (needs k) ≤ n)
 
