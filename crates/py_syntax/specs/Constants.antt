@@ -1,9 +1,10 @@
--- Tests of a `while` that always hold: `True`, and whole numbers other than 0, without parentheses.
+-- Tests of a `while` that are taken to hold always: `True`, and whole numbers other than 0, without
+-- parentheses.
 use Rattle.std.specs.Prelude.{Bool, false, not, pos}
 use Rattle.std.specs.Ordering.{int_eq}
 use Rattle.py_syntax.specs.Tree.{Expr, name, int, str, fstr, none, bool, tuple, list, dict, paren, not', and, or, unary, binary, compare, cond, call, index, slice, attr}
 
--- whether a test always holds
+-- whether a test is one of these; `(True)`, which always holds too, is none
 abbrev pub is_constant : Expr → Bool
 is_constant (name x) = false
 is_constant (int n) = not (int_eq n (pos 0))

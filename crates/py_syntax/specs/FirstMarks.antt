@@ -20,6 +20,7 @@ arms_empty (arm t s rest) orelse = false
 -- Of the simple statements `global` alone marks nothing. After a suite of these alone a run goes on
 -- as if it weren't there.
 unfoldable mutual
+  -- whether statements in a row have no mark
   pub stmts_empty : Stmts → Bool
   stmts_empty no_stmts = true
   stmts_empty (stmt f l k e rest) = kind_empty k && stmts_empty rest
@@ -55,12 +56,12 @@ abbrev pub arms_first : Arms → List ℕ → List ℕ
 arms_first no_arms orelse = orelse
 arms_first (arm t (suite f l inline b) rest) orelse = f ∷ []
 
--- the first of the clauses of a `try`
+-- the mark of the first clause of a `try`
 abbrev pub clauses_first : Clauses → List ℕ
 clauses_first no_clauses = []
 clauses_first (clause k x (suite f l inline b) rest) = f ∷ []
 
--- the first of the cases of a `match`
+-- the mark of the first case of a `match`
 abbrev pub cases_first : Cases → List ℕ
 cases_first no_cases = []
 cases_first (case p g (suite f l inline b) rest) = f ∷ []

@@ -16,10 +16,12 @@ pub record Function : Type 0 where
 
 -- the `def`s in the order of the text; no `def` stands in a function
 unfoldable mutual
+  -- those of statements in a row
   pub functions : Stmts → List Function
   functions no_stmts = []
   functions (stmt first last k end rest) = functions_in first k ++ functions rest
 
+  -- those of a statement with this first line
   pub functions_in : ℕ → StmtKind → List Function
   functions_in l (expr e) = []
   functions_in l (assign ts e) = []
@@ -42,18 +44,22 @@ unfoldable mutual
       record { line = l; name = x; params = ps; body = b } ∷ []
   functions_in l (match e header cs) = cases_functions cs
 
+  -- those of the suite of an `else` or a `finally`, which may be missing
   pub opt_functions : OptSuite → List Function
   opt_functions no_suite = []
   opt_functions (has_suite (suite f g inline b)) = functions b
 
+  -- those of the tests of an `if`
   pub arms_functions : Arms → List Function
   arms_functions no_arms = []
   arms_functions (arm t (suite f g inline b) rest) = functions b ++ arms_functions rest
 
+  -- those of the clauses of a `try`
   pub clauses_functions : Clauses → List Function
   clauses_functions no_clauses = []
   clauses_functions (clause k x (suite f g inline b) rest) = functions b ++ clauses_functions rest
 
+  -- those of the cases of a `match`
   pub cases_functions : Cases → List Function
   cases_functions no_cases = []
   cases_functions (case p g (suite f l inline b) rest) = functions b ++ cases_functions rest
@@ -82,6 +88,7 @@ is_string (index f e) = false
 is_string (slice f low high) = false
 is_string (attr f x) = false
 
+-- whether a statement is a docstring where it leads a body
 abbrev pub is_docstring : StmtKind → Bool
 is_docstring (expr e) = is_string e
 is_docstring (assign ts e) = false

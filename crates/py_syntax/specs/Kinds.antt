@@ -36,8 +36,9 @@ abbrev pub kinds_of : List Kind → Kinds
 kinds_of [] = no_kinds
 kinds_of (k ∷ ks) = kinds k (kinds_of ks)
 
--- A token without its lines.
+-- Tokens without their lines.
 abbrev mutual
+  -- what a token is
   pub bare_kind : PKind → Kind
   bare_kind (token_.name x) = Name x
   bare_kind (token_.keyword w) = Word w

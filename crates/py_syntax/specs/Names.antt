@@ -35,8 +35,8 @@ distinct = add_names []
 
 -- ---- what parts of statements assign, in the order of the text
 
--- a target
 abbrev mutual
+  -- a target: a name, or the names of what it is made of
   pub target_names : Expr → List Text
   target_names (name x) = x ∷ []
   target_names (int n) = []
@@ -60,12 +60,13 @@ abbrev mutual
   target_names (slice f low high) = []
   target_names (attr f x) = []
 
+  -- targets in a row
   pub targets_names : Exprs → List Text
   targets_names no_exprs = []
   targets_names (exprs e es) = target_names e ++ targets_names es
 
--- a pattern
 abbrev mutual
+  -- a pattern: the names that it captures
   pub pattern_names : Pattern → List Text
   pattern_names (literal minus c) = []
   pattern_names (capture x) = x ∷ []
@@ -76,6 +77,7 @@ abbrev mutual
   pattern_names (p_as p x) = pattern_names p ++ x ∷ []
   pattern_names (p_paren p) = pattern_names p
 
+  -- patterns in a row
   pub patterns_names : Patterns → List Text
   patterns_names no_patterns = []
   patterns_names (patterns p ps) = pattern_names p ++ patterns_names ps
@@ -128,22 +130,27 @@ abbrev mutual
   kind_bindings (def x ps ds c b) = assigns x ∷ []
   kind_bindings (match e last cs) = cases_bindings cs
 
+  -- a suite
   pub suite_bindings : Suite → List Binding
   suite_bindings (suite first last inline b) = bindings b
 
+  -- the suite of an `else` or a `finally`, which may be missing
   pub opt_bindings : OptSuite → List Binding
   opt_bindings no_suite = []
   opt_bindings (has_suite s) = suite_bindings s
 
+  -- the tests of an `if`
   pub arms_bindings : Arms → List Binding
   arms_bindings no_arms = []
   arms_bindings (arm t b arms) = suite_bindings b ++ arms_bindings arms
 
+  -- the clauses of a `try`
   pub clauses_bindings : Clauses → List Binding
   clauses_bindings no_clauses = []
   clauses_bindings (clause e x b cs) =
       assigning_all (option_to_list x) ++ (suite_bindings b ++ clauses_bindings cs)
 
+  -- the cases of a `match`
   pub cases_bindings : Cases → List Binding
   cases_bindings no_cases = []
   cases_bindings (case p g b cs) =

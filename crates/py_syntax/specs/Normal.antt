@@ -206,8 +206,8 @@ abbrev mutual
   NormalParts (text x ps) = NormalParts ps
   NormalParts (field e ps) = Normal e × NormalParts ps
 
--- Whether an expression has the form of a target.
 abbrev mutual
+  -- whether an expression has the form of a target
   pub is_target : Expr → Bool
   is_target (name x) = true
   is_target (int n) = false
@@ -262,6 +262,7 @@ is_place (attr f x) = false
 
 -- How many nodes the longest branch has.
 abbrev mutual
+  -- of an expression
   pub height : Expr → ℕ
   height (name x) = 1
   height (int n) = 1

@@ -2,9 +2,9 @@
 use Rattle.std.specs.Prelude.{Bool, true, false, ◌||◌}
 use Rattle.py_syntax.specs.Tree.{Pattern, literal, capture, wild, member, sequence, p_or, p_as, p_paren, Patterns, no_patterns, patterns}
 
--- a name, `_`, one of these with `as` or in parentheses, or alternatives of which one matches
--- everything
 abbrev mutual
+  -- a name, `_`, one of these with `as` or in parentheses, or alternatives of which one matches
+  -- everything
   pub is_irrefutable : Pattern → Bool
   is_irrefutable (literal minus c) = false
   is_irrefutable (capture x) = true

@@ -359,6 +359,7 @@ option_height (Some e) = height e
 
 -- The height of the highest expression or pattern.
 abbrev mutual
+  -- of statements in a row
   pub stmts_height : Stmts → ℕ
   stmts_height no_stmts = 0
   stmts_height (stmt first last k e ss) = max (kind_height k) (stmts_height ss)
@@ -413,6 +414,7 @@ abbrev mutual
 
 -- How many suites stand inside each other. The cases of a `match` are no suite of their own.
 abbrev mutual
+  -- in statements in a row
   pub stmts_nesting : Stmts → ℕ
   stmts_nesting no_stmts = 0
   stmts_nesting (stmt first last k e ss) = max (kind_nesting k) (stmts_nesting ss)
