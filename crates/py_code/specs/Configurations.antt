@@ -21,23 +21,24 @@ pub data Way : Type 0 where
   by_return : (v : PlainValue) → Way
   by_raise : (e : PlainRaised) (is_thrown : Bool) → Way
 
--- A value; a method with the value that it is called on; the walk of a `for` over a value, with its number of items at the
--- start and the place of the next one; or the way in which a suite is left.
+-- A value; a method with the value that it is called on; the walk of a `for` over a value, with its
+-- number of items at the start and the place of the next one; or the way in which a suite is left.
 pub data Operand : Type 0 where
   of_value : (v : PlainValue) → Operand
   of_method : (m : Method) (v : PlainValue) → Operand
   of_walk : (v : PlainValue) (length place : ℕ) → Operand
   of_way : (w : Way) → Operand
 
--- Local names of the units: in a new frame, by the values of its parameters; and the value in a slot, looked up, set and unset.
+-- Local names of the units: in a new frame, by the values of its parameters; and the value in a
+-- slot, looked up, set and unset.
 pub record Locals (L : Type 0) : Type 0 where
   pub fresh : CodeId → List PlainValue → L
   pub look : CodeId → L → ℕ → Option PlainValue
   pub set : CodeId → L → ℕ → PlainValue → L
   pub unset : CodeId → L → ℕ → L
 
--- A frame: its code, the place of its instruction, its operands, the top one first, its local names, the line that is kept, and how
--- many frames stand on each other up to this one.
+-- A frame: its code, the place of its instruction, its operands, the top one first, its local names,
+-- the line that is kept, and how many frames stand on each other up to this one.
 pub record Frame (L : Type 0) : Type 0 where
   pub code : CodeId
   pub place : ℕ
@@ -53,14 +54,16 @@ pub record Effects : Type 0 where
   pub out : List ℕ
   pub events : List Event
 
--- The frame that runs, those that wait for it, the innermost first, the steps that are left, and what was changed.
+-- The frame that runs, those that wait for it, the innermost first, the steps that are left, and what
+-- was changed.
 pub record Configuration (L : Type 0) : Type 0 where
   pub top : Frame L
   pub callers : List (Frame L)
   pub steps : ℕ
   pub effects : Effects
 
--- The outermost frame gave a value or failed by an exception, no step was left, or an instruction missed something.
+-- The outermost frame gave a value or failed by an exception, no step was left, or an instruction
+-- missed something.
 pub data Ended : Type 0 where
   gave : (v : PlainValue) → Ended
   failed : (e : PlainRaised) → Ended

@@ -1,5 +1,5 @@
--- The table of instructions: what each finds on the operands and what it leaves there, where it goes
--- on, and whether it may raise an exception.
+-- The table of instructions: what each finds on the operands and what it leaves there, where it
+-- goes on, and whether it may raise an exception.
 --     Exit, exit                      a place where an instruction goes on
 --     Footprint                       what an instruction needs, takes and leaves
 --     quiet, risky                    one that goes on at the next place
@@ -13,7 +13,8 @@ use Rattle.py_code.specs.declared.instr.Instr.TheVariants.{Constant, Pop, Copy, 
 use Rattle.py_code.specs.declared.instr.Instr.TheVariants.{Goto, IfFalse, IfTrue, And, Or, Link, Unless, Sequence, Mark, Again, Walk, Next as NextItem, Method, Call, Return, Function, FunctionWith, Import, Module as LoadModule, Take}
 use Rattle.py_code.specs.declared.instr.Instr.TheVariants.{Raise, Reraise, Assertion, AssertionWith, Catches, Caught, Uncaught, Leave, Ending, Breaking, Continuing, Returning, Settle, Release}
 
--- a place where an instruction goes on, and how many operands it leaves there above those that it doesn't take
+-- a place where an instruction goes on, and how many operands it leaves there above those that it
+-- doesn't take
 pub record Exit : Type 0 where
   pub to : ℕ
   pub leaves : ℕ
@@ -22,7 +23,8 @@ pub record Exit : Type 0 where
 abbrev pub exit : ℕ → ℕ → Exit
 exit to leaves = record { to = to; leaves = leaves }
 
--- How many operands must be there, how many of them are taken, where it goes on, and whether it may raise an exception.
+-- How many operands must be there, how many of them are taken, where it goes on, and whether it may
+-- raise an exception.
 pub record Footprint : Type 0 where
   pub needs : ℕ
   pub takes : ℕ

@@ -7,14 +7,16 @@ use Rattle.py_code.specs.Slots.{by_names, by_slots, AreNamed}
 use Rattle.py_code.specs.Units.{Module}
 use Rattle.py_code.specs.Valid.{AreCodes}
 
--- by a value, by an exception, or for want of steps, and not by an instruction that missed something
+-- by a value, by an exception, or for want of steps, and not by an instruction that missed
+-- something
 abbrev pub IsOver : Ended → Type 0
 IsOver (gave v) = Unit {0}
 IsOver (failed e) = Unit {0}
 IsOver spent = Unit {0}
 IsOver stuck = ⊥
 
--- No program and no call misses an operand, a slot, a unit or a place to go to, whatever keeps its local names.
+-- No program and no call misses an operand, a slot, a unit or a place to go to, whatever keeps its
+-- local names.
 pub record NeverMisses (L : Type 0) : Type 0 where
   pub run : (locals : Locals L) (ms : List Module) → 0 < length ms → AreCodes ms
       → (w : World) (input : List ℕ) (budget : ℕ) → IsOver (end_of_run locals ms w input budget).how

@@ -135,7 +135,7 @@ module _ {L : Type 0} (locals : Locals L) (ms : List Module) where
     effects = entered ms code c.effects;
   })
 
-  -- a frame begins, where there may be one more, for a caller with these operands; that takes a step
+  -- a frame begins, where there may be one more, for a caller with these operands; that is a step
   abbrev pub enter : CodeId → List PlainValue → List Operand → Configuration L → Next L
   enter code vs xs c =
       if nat_lt c.top.depth most_frames then stepping c.steps c

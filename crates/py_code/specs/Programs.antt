@@ -1,4 +1,5 @@
--- What a machine does with a program, and with one call (Python Language Reference, 10.1, "Complete Python programs").
+-- What a machine does with a program, and with one call (Python Language Reference, 10.1, "Complete
+-- Python programs").
 --     Run, run                       a program
 --     Request, Reply, called         a call of a function
 use Rattle.std.specs.Prelude.{ℕ, ◌-◌, List, [], ◌∷◌, map, Result, Ok, Err}
@@ -16,8 +17,8 @@ use Rattle.py_code.specs.Machine.{Reach, raises_at_once, reach, outermost, outer
 use Rattle.py_code.specs.Units.{Module}
 use Rattle.py_builtins.specs.Faults.{name_unknown}
 
--- How a program ends, the bytes that it wrote, those of its input that are left, the steps that it took, its events, and the
--- world at the end.
+-- How a program ends, the bytes that it wrote, those of its input that are left, the steps that it
+-- took, its events, and the world at the end.
 pub record Run : Type 0 where
   pub outcome : Outcome
   pub out : List ℕ

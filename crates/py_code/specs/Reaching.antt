@@ -1,4 +1,5 @@
--- What a call leads to, and the module that an import names (Python Language Reference, 6.3.4, 7.11).
+-- What a call leads to, and the module that an import names (Python Language Reference, 6.3.4,
+-- 7.11).
 --     Reach                          an answer at once, or a frame
 --     to_function, by_done           of a function, and of a built-in function
 --     reach, reach_callee            of any value, and of a method

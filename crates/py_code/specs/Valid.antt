@@ -1,4 +1,5 @@
 -- Which units a machine runs without missing an operand, a slot or a place.
+--     most_units                      how many units a module has at most
 --     HasNumbers                      numbers of constants, names, slots, lines and units
 --     Leads, Lands                    jumps, and handlers
 --     IsTable                         the handler table
@@ -13,6 +14,10 @@ use Rattle.py_code.specs.declared.unit.Handler.{Handler}
 use Rattle.py_code.specs.Footprints.{Exit, footprint, is_mark}
 use Rattle.cov_event.specs.declared.event.CodeId.{CodeId}
 use Rattle.py_code.specs.Units.{Code, Module, units_of, unit_at, handler_of}
+
+-- how many units a module has at most
+abbrev pub most_units : ℕ
+most_units = 4294967295
 
 -- the numbers of an instruction lie in the lists of its unit, and units in those of its module
 abbrev pub HasNumbers : Code → ℕ → Instr → Type 0
@@ -93,7 +98,8 @@ LeadAll u depths p rest [] = Unit {0}
 LeadAll u depths p rest (e ∷ es) =
     Leads u depths p e.to (e.leaves + rest) × LeadAll u depths p rest es
 
--- From a place to its handler, where at least so many operands are left: these are cut to its depth, and the exception is put on top.
+-- From a place to its handler, where at least so many operands are left: these are cut to its depth,
+-- and the exception is put on top.
 pub record Lands (depths : List ℕ) (p rest : ℕ) (h : Handler) : Type 0 where
   pub enough : h.depth ≤ rest
   pub stands : slice_get depths h.target ≡ Some (suc h.depth)
@@ -116,8 +122,10 @@ pub record FitsAt (u : Code) (units : ℕ) (depths : List ℕ) (p depth : ℕ) (
   pub leads : LeadAll u depths p (depth - (footprint p i).takes) (footprint p i).exits
   pub lands : LandsIf (footprint p i).raises u depths p (depth - (footprint p i).takes)
 
--- an entry of the handler table: its range lies inside, and its target after that, where one operand more than its depth stands
+-- an entry of the handler table: its range lies inside, and its target after that, where one operand
+-- more than its depth stands
 pub record IsHandler (u : Code) (depths : List ℕ) (h : Handler) : Type 0 where
+  pub ordered : h.from ≤ h.to
   pub inside : h.to ≤ length u.instrs
   pub after : h.to ≤ h.target
   pub stands : slice_get depths h.target ≡ Some (suc h.depth)
@@ -136,7 +144,8 @@ pub record IsTable (u : Code) (depths : List ℕ) : Type 0 where
   pub nested : (m n : ℕ) (h k : Handler) → slice_get u.handlers m ≡ Some h
       → slice_get u.handlers n ≡ Some k → AreNested h k
 
--- A unit in a module of so many units. Each place has one number of operands, which stand there whenever the machine comes to it.
+-- A unit in a module of so many units. Each place has one number of operands, which stand there
+-- whenever the machine comes to it.
 pub record IsValid (u : Code) (units : ℕ) (depths : List ℕ) : Type 0 where
   pub table : IsTable u depths
   pub begins : slice_get depths 0 ≡ Some 0
@@ -144,17 +153,19 @@ pub record IsValid (u : Code) (units : ℕ) (depths : List ℕ) : Type 0 where
   pub fits : (p depth : ℕ) (i : Instr) → slice_get depths p ≡ Some depth → slice_get u.instrs p
       ≡ Some i → FitsAt u units depths p depth i
 
--- The units of all modules, each with its numbers of operands. There is a script, and each module has a body.
+-- The units of all modules, each with its numbers of operands. There is a script, and each module
+-- has a body.
 pub record AreValid (ms : List Module) (depths : CodeId → List ℕ) : Type 0 where
   pub units : (code : CodeId) (u : Code) → unit_at ms code ≡ Some u
       → IsValid u (length (units_of (slice_get ms code.module))) (depths code)
   pub bodies : (n : ℕ) (m : Module) → slice_get ms n ≡ Some m → 0 < length m.units
   pub script : 0 < length ms
 
--- The units of one module, by their numbers. There is a body.
+-- The units of one module, by their numbers: at least that of its body, and at most `most_units`.
 pub record UnitsAreValid (us : List Code) (depths : ℕ → List ℕ) : Type 0 where
   pub units : (k : ℕ) (u : Code) → slice_get us k ≡ Some u → IsValid u (length us) (depths k)
   pub body : 0 < length us
+  pub few : length us ≤ most_units
 
 -- with some numbers of operands at their places
 abbrev pub IsCode : List Code → Type 0

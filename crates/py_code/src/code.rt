@@ -7,7 +7,11 @@ ghost use Rattle.py_code.specs.Valid.{IsCode, AreCodes};
 use crate::unit::Unit;
 use std::marker::Model;
 
-/// The code of a module: unit 0 is its body, and unit k its k-th `def`. A machine that runs it misses nothing.
+/// The most units of a code: a `u32` counts them.
+pub const MOST_UNITS: usize = 4_294_967_295;
+
+/// The code of a module: unit 0 is its body, and unit k its k-th `def`. A machine that runs it
+/// misses nothing.
 #[derive(Drop)]
 pub struct Code {
     units: Vec<Unit>,
@@ -26,7 +30,7 @@ impl Model for Code {
 }
 
 impl Code {
-    /// The code of these units. There is at least one.
+    /// The code of these units. There are from 1 to `MOST_UNITS`.
     pub fn new(units: Vec<Unit>) -> Code
         requires { IsCode (map plain_unit units.items) }
         ensures { result ≡ map plain_unit units.items }
@@ -58,7 +62,8 @@ pub struct Programs {
 }
 
 impl Programs {
-    /// Each of their codes is one that a machine runs without missing anything. Whoever runs them asks for that.
+    /// Each of their codes is one that a machine runs without missing anything. Whoever runs them
+    /// asks for that.
     pub fn are_valid(&self)
         ensures { AreCodes (modules_of self.now) }
     {

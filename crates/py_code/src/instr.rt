@@ -26,8 +26,8 @@ pub enum Bounds {
     Both,
 }
 
-/// An instruction. A `u32` is a number in a list of its unit, a number of operands, or a place in the unit to go to, as the
-/// names of the fields tell. Operands are named from the lowest to the top one.
+/// An instruction. A `u32` is a number in a list of its unit, a number of operands, or a place in
+/// the unit to go to, as each variant says. Operands are named from the lowest to the top one.
 #[derive(Clone, Copy)]
 pub enum Instr {
     // Operands.
@@ -86,8 +86,8 @@ pub enum Instr {
     Link(Question, u32),
     /// Takes the top operand away, and if it is false so many more, and goes to a place.
     Unless(u32, u32),
-    /// The items of a list or tuple of so many, the first on top. Of other operands takes the top one and so many more away,
-    /// and goes to a place.
+    /// The items of a list or tuple of so many, the first on top. Of other operands takes the top
+    /// one and so many more away, and goes to a place.
     Sequence(u32, u32, u32),
     // Lines, by their number in the line table.
     /// A line begins, unless it is the current one. Takes a step.
@@ -100,7 +100,8 @@ pub enum Instr {
     /// Puts the next item on top, or ends the walk and goes to a place.
     Next(u32),
     // Calls.
-    /// The method of the top operand by its name, or the value of that name where the operand is a module.
+    /// The method of the top operand by its name, or the value of that name where the operand is a
+    /// module.
     Method(u32),
     /// Calls the operand below so many values.
     Call(u32),
@@ -110,7 +111,8 @@ pub enum Instr {
     Function(u32),
     /// A function whose defaults stand in the list on top.
     FunctionWith(u32),
-    /// Runs the body of a module that isn't begun. A value stands on top after it, which means nothing.
+    /// Runs the body of a module that isn't begun. A value stands on top after it, which means
+    /// nothing.
     Import(u32),
     /// The module of a name.
     Module(u32),
@@ -135,13 +137,15 @@ pub enum Instr {
     Leave(u32, u32),
     /// Puts a way out on top: going on.
     Ending,
-    /// Takes so many operands away, puts a way out on top, and goes to a place: by `break`, by `continue`.
+    /// Takes so many operands away, puts a way out on top, and goes to a place: by `break`, by
+    /// `continue`.
     Breaking(u32, u32),
     Continuing(u32, u32),
     /// By `return` with the top operand, and takes so many more away.
     Returning(u32, u32),
-    /// Goes on in the way out on top: one place ahead for `break`, two for `continue`, three for `return`, whose value stands
-    /// on top then, and four where nothing is left. An exception that was thrown is thrown once more.
+    /// Goes on in the way out on top: one place ahead for `break`, two for `continue`, three for
+    /// `return`, whose value stands on top then, and four where nothing is left. An exception that
+    /// was thrown is thrown once more.
     Settle,
     /// The same, but for an exception, which is raised as it is.
     Release,

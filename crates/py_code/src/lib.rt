@@ -6,7 +6,7 @@ mod instr;
 mod laws;
 mod unit;
 
-pub use code::{Code, Program, Programs};
+pub use code::{Code, MOST_UNITS, Program, Programs};
 pub use instr::{Bounds, Instr, Question};
 pub use laws::{never_misses, slots_are_names};
 pub use unit::{Constant, Handler, Unit};

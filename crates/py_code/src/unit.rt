@@ -11,8 +11,8 @@ pub enum Constant {
     Str(Text),
 }
 
-/// A range of places with the place where an exception in it goes on. The operands are cut to the depth, and the exception is put on
-/// top.
+/// A range of places with the place where an exception in it goes on. The operands are cut to the
+/// depth, and the exception is put on top.
 #[derive(Clone, Copy)]
 pub struct Handler {
     /// The first place of the range, from 0.

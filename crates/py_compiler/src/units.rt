@@ -1,7 +1,9 @@
 // The units of a module: that of its body, and one for each `def`.
 
-ghost use Rattle.std.specs.Prelude.{◌≡◌, List, Some, ◌++◌, map, slice_get, IfOk, OnOk};
+ghost use Rattle.std.specs.Prelude.{◌≡◌, ◌<◌, List, Some, ◌++◌, length, map, slice_get, IfOk, OnOk};
 ghost use Rattle.py_code.specs.Units.{plain_unit};
+ghost use Rattle.py_code.specs.Valid.{most_units};
+ghost use Rattle.py_compile.specs.Definitions.{definitions};
 ghost use Rattle.py_compile.specs.Units.{module_code, function_code, units_code};
 ghost use Rattle.py_compiler.specs.Scoped.{names_in, IsAt};
 ghost use Rattle.py_scope.specs.Faults.{IsWellFormed, functions_of};
@@ -9,16 +11,16 @@ ghost use Rattle.py_syntax.specs.Functions.{Function};
 ghost use Rattle.py_syntax.specs.View.{plain_module};
 ghost use Rattle.py_unit.specs.Defs.{definition_of};
 
-use py_code::Unit;
+use py_code::{MOST_UNITS, Unit};
 use py_compile::units_are_faithful;
 use py_emit::{Defs, body_cells};
 use py_scope::Scopes;
 use py_syntax::Module;
 use py_unit::{Def, body_unit, function_unit, functions_of, lines_of};
 use py_value::NoMemory;
-use std::alloc::Global;
+use std::alloc::{AllocError, Global};
 
-/// The units of a module, its body first.
+/// The units of a module, its body first, where there is room for them all.
 pub(crate) fn units_of(
     alloc: Global,
     module: &Module,
@@ -26,11 +28,18 @@ pub(crate) fn units_of(
 ) -> Result<Vec<Unit>, NoMemory>
     requires well_formed { IsWellFormed (plain_module «module».now) }
     requires scopes { scopes.now ≡ functions_of (plain_module «module».now) }
-    ensures { IfOk result (λ us. map plain_unit us.items
+    ensures units { IfOk result (λ us. map plain_unit us.items
         ≡ units_code (plain_module «module».now)) }
+    ensures few { IfOk result (λ us.
+        length (definitions (plain_module «module».now)) < most_units) }
 {
     units_are_faithful();
     let defs = functions_of(alloc, module)?;
+    let count = defs.len();
+    if count >= MOST_UNITS {
+        drop(defs);
+        return Err(AllocError);
+    }
     let lines = lines_of(alloc, &defs)?;
     let places = Defs::new(alloc, lines)?;
     let cells = body_cells(alloc, &places, &module.body)?;

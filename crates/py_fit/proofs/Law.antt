@@ -5,7 +5,7 @@ use Rattle.std.proofs.lemmas.List.{length-map}
 use Rattle.py_syntax.specs.Functions.{Function, functions, without_docstring, is_docstring}
 use Rattle.py_syntax.specs.Tree.{Stmts, no_stmts, stmt}
 use Rattle.py_code.specs.Units.{Code}
-use Rattle.py_code.specs.Valid.{IsValid, IsCode}
+use Rattle.py_code.specs.Valid.{most_units, IsValid, IsCode}
 use Rattle.py_compile.specs.Definitions.{Definition, function_of, definitions, definitions_in}
 use Rattle.py_compile.specs.Laws.{UnitsAreFaithful}
 use Rattle.py_compile.specs.Proper.{AreProper}
@@ -70,17 +70,17 @@ module _ (faithful : UnitsAreFaithful) (b : Stmts) where
     functions_have [] le ok = tt
     functions_have (d ∷ ds) le ok = (function_has (omega (arith, le)) d ok.0, functions_have ds (omega (arith, le)) ok.1)
 
-  is_code : AreProper (without_docstring b) → AreProperFunctions fs → IsCode (units_code b)
-  is_code body rest =
+  is_code : length (definitions b) < most_units → AreProper (without_docstring b) → AreProperFunctions fs → IsCode (units_code b)
+  is_code few body rest =
       let us = units_code b in
       let count : length us ≡ suc (length (definitions b)) = ap suc (length-map (definitions b) (function_code fs)) in
       let small : length fs < length us = omega (arith, count, many) in
       let proper : AreProperFunctions (map function_of (definitions b)) = subst AreProperFunctions (sym (faithful.functions b)) rest in
       let all : AllHave (length us) us = (body_has (length us) small body, functions_have (length us) small (definitions b) (omega (arith, many)) proper) in
-      (chosen (length us) us all, record { units = λ k u e. chosen_valid (length us) us all k u e; body = omega (arith, count) })
+      (chosen (length us) us all, record { units = λ k u e. chosen_valid (length us) us all k u e; body = omega (arith, count); few = omega (arith, count, few) })
 
 pub law : UnitsAreFaithful → HavePremises → CodeFits
-law faithful premises = λ b well.
+law faithful premises = λ b well few.
     let module_of : LoadedModule = record { name = []; path = []; body = b } in
     let proper = premises.proper (module_of ∷ []) (well, tt) in
-    is_code faithful b proper.0 proper.1
+    is_code faithful b few proper.0 proper.1

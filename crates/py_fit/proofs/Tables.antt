@@ -117,6 +117,6 @@ table u units cs ds all whole is =
       each = λ n h e.
           let r = row_at (layout_of cs ds) 0 (length cs) (handlers_of cs) rows n h (sym (ap (λ hs. slice_get hs n) is) ∙ e) in
           let ends = r.ends in
-          record { inside = omega (arith, ends, whole); after = r.after; stands = r.stands };
+          record { ordered = r.ordered; inside = omega (arith, ends, whole); after = r.after; stands = r.stands };
       nested = λ m n h k e f. nested_rows (layout_of cs ds) 0 (length cs) (handlers_of cs) rows m n h k (sym (ap (λ hs. slice_get hs m) is) ∙ e) (sym (ap (λ hs. slice_get hs n) is) ∙ f);
     }

@@ -33,8 +33,8 @@ abbrev pub IsHanded : List Code → ℕ → Option ℕ → Type 0
 IsHanded us n None = Unit {0}
 IsHanded us n (Some k) = (0 < n) × (n ≡ defaults_in (slice_get us k))
 
--- an instruction at a place of a unit: only that which makes the list of defaults leads to where the
--- function is made
+-- an instruction at a place of a unit: only that which makes the list of defaults leads to where
+-- the function is made
 abbrev pub MakesAt : List Code → Code → ℕ → Instr → Type 0
 MakesAt us u p (MakeList n) = IsHanded us n (made_with (slice_get u.instrs (suc p)))
 MakesAt us u p (Function k) =
@@ -42,8 +42,8 @@ MakesAt us u p (Function k) =
 MakesAt us u p i = LeadElsewhere u (footprint p i).exits
 
 -- A unit of a module of these units. A function without defaults is made of a unit without any. A
--- function with defaults is made right after their list, of as many values as its unit has defaults.
--- In no other way does a run come there, and by no handler.
+-- function with defaults is made right after their list, of as many values as its unit has
+-- defaults. In no other way does a run come there, and by no handler.
 pub record MakesFunctions (us : List Code) (u : Code) : Type 0 where
   pub each : (p : ℕ) (i : Instr) → slice_get u.instrs p ≡ Some i → MakesAt us u p i
   pub handlers : (p : ℕ) (h : Handler) → p < length u.instrs → handler_of p u.handlers ≡ Some h

@@ -11,8 +11,8 @@ use Rattle.py_code.specs.Units.{Code, Module, unit_at}
 use Rattle.py_fits.specs.Everywhere.{Throughout, ThroughArgument, ThroughAll, values_of_names, values_of_object}
 use Rattle.py_fits.specs.Fits.{IsModule, IsListOf}
 
--- how many objects lie in the heap, and at which addresses are the lists of functions' defaults, with
--- how many of them
+-- how many objects lie in the heap, and at which addresses are the lists of functions' defaults,
+-- with how many of them
 pub record Environment : Type 0 where
   pub room : ℕ
   pub lists : ℕ → Option ℕ
@@ -41,7 +41,7 @@ Suits ms e (list_at a) = IsOther e a
 Suits ms e (dict_at a) = IsOther e a
 Suits ms e other = Unit {0}
 
--- a value with all that stands in it, several values, and the argument of an exception
+-- a value suits with all that stands in it
 abbrev pub Suit : List Module → Environment → PlainValue → Type 0
 Suit ms e v = Throughout (Suits ms e) v
 
@@ -53,7 +53,7 @@ SuitAll ms e vs = ThroughAll (Suits ms e) vs
 abbrev pub SuitsRaised : List Module → Environment → PlainRaised → Type 0
 SuitsRaised ms e raised = ThroughArgument (Suits ms e) raised.arg
 
--- values of names, globals and objects
+-- the value of each name suits
 abbrev pub NamesSuit : List Module → Environment → Names → Type 0
 NamesSuit ms e ns = SuitAll ms e (values_of_names ns)
 
@@ -77,7 +77,7 @@ pub record HeapSuits (ms : List Module) (e : Environment) (h : PlainHeap) : Type
   pub room : length h ≡ e.room
   pub lists : (a n : ℕ) → e.lists a ≡ Some n → IsListOf h n a
 
--- globals, heap and the address of the words
+-- the globals suit, the heap too, and the words stand at an address that isn't one of defaults
 pub record PartsSuit (ms : List Module) (e : Environment) (gs : List Names) (h : PlainHeap)
     (a : ℕ) : Type 0 where
   pub globals : GlobalsSuit ms e gs
@@ -88,7 +88,7 @@ pub record PartsSuit (ms : List Module) (e : Environment) (gs : List Names) (h :
 abbrev pub WorldSuits : List Module → Environment → World → Type 0
 WorldSuits ms e w = PartsSuit ms e w.globals w.heap w.words
 
--- the same with more objects, of which some may be lists of defaults
+-- an environment with more objects, of which some may be lists of defaults
 pub record Widens (e f : Environment) : Type 0 where
   pub more : e.room ≤ f.room
   pub kept : (a n : ℕ) → e.lists a ≡ Some n → f.lists a ≡ Some n

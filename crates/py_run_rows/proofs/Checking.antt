@@ -8,7 +8,7 @@ use Rattle.py_code.specs.declared.unit.Handler.{Handler}
 use Rattle.py_code.specs.declared.unit.Unit.{Unit as RawUnit}
 use Rattle.py_code.specs.Footprints.{quiet, risky, forked, risky_fork, exit, ways, footprint}
 use Rattle.py_code.specs.Units.{Code, plain_unit, handler_of}
-use Rattle.py_code.specs.Valid.{HasNumbers, marks_at, Leads, Lands, LandsAt, FitsAt, IsHandler, IsValid, IsCode}
+use Rattle.py_code.specs.Valid.{most_units, HasNumbers, marks_at, Leads, Lands, LandsAt, FitsAt, IsHandler, IsValid, IsCode}
 use Rattle.py_run_rows.specs.Checked.{Flows, AllFit, AllStand, AllHaveDepths}
 
 pub one_on : (n : ℕ) → n + 1 ≡ suc n
@@ -59,8 +59,8 @@ leads_back u depths p to depth at marks = record { stands = at; ahead = inr mark
 pub lands_of : (depths : List ℕ) (p rest : ℕ) (h : Handler) → h.depth ≤ rest → p < h.target → slice_get depths h.target ≡ Some (h.depth + 1) → Lands depths p rest h
 lands_of depths p rest h le lt at = record { enough = le; stands = at ∙ ap (λ n. Some n) (one_on h.depth); ahead = lt }
 
-pub handler_of_unit : (u : Code) (depths : List ℕ) (h : Handler) → h.to ≤ length u.instrs → h.to ≤ h.target → slice_get depths h.target ≡ Some (h.depth + 1) → IsHandler u depths h
-handler_of_unit u depths h le after at = record { inside = le; after = after; stands = at ∙ ap (λ n. Some n) (one_on h.depth) }
+pub handler_of_unit : (u : Code) (depths : List ℕ) (h : Handler) → h.from ≤ h.to → h.to ≤ length u.instrs → h.to ≤ h.target → slice_get depths h.target ≡ Some (h.depth + 1) → IsHandler u depths h
+handler_of_unit u depths h ordered le after at = record { ordered = ordered; inside = le; after = after; stands = at ∙ ap (λ n. Some n) (one_on h.depth) }
 
 pub valid_of : (u : Code) (units : ℕ) (depths : List ℕ) → length depths ≡ length u.instrs → slice_get depths 0 ≡ Some 0 → AllFit u units depths (length u.instrs) → AllStand u depths (length u.handlers) → IsValid u units depths
 valid_of u units depths long begins fit stand = record {
@@ -84,8 +84,8 @@ module _ (us : List Code) (all : AllHaveDepths us (length us)) where
   valid_there k None e u h = absurd cc
   valid_there k (Some v) e u h = subst (λ x. IsValid x (length us) (chosen k (Some v) e)) (same_Some v u h) (all k (slice_get_within us k v e) v e).1
 
-  pub is_code : 0 < length us → IsCode us
-  is_code body = ((λ k. chosen k (slice_get us k) refl), record { units = λ k u at. valid_there k (slice_get us k) refl u at; body = body })
+  pub is_code : 0 < length us → length us ≤ most_units → IsCode us
+  is_code body few = ((λ k. chosen k (slice_get us k) refl), record { units = λ k u at. valid_there k (slice_get us k) refl u at; body = body; few = few })
 
-pub code_by : (us : List RawUnit) → AllHaveDepths (map plain_unit us) (length us) → 0 < length us → IsCode (map plain_unit us)
-code_by us all some = is_code (map plain_unit us) (subst (AllHaveDepths (map plain_unit us)) (sym (length-map us plain_unit)) all) (omega (arith, some, length-map us plain_unit))
+pub code_by : (us : List RawUnit) → AllHaveDepths (map plain_unit us) (length us) → 0 < length us → length us ≤ most_units → IsCode (map plain_unit us)
+code_by us all some few = is_code (map plain_unit us) (subst (AllHaveDepths (map plain_unit us)) (sym (length-map us plain_unit)) all) (omega (arith, some, length-map us plain_unit)) (omega (arith, few, length-map us plain_unit))

@@ -9,7 +9,7 @@ use py_builtins::{RunFault, repr_of};
 use py_code::Programs;
 use py_machine::{Answer, Called, Store, call};
 use py_value::{Heap, Value};
-use std::alloc::{AllocError, Global};
+use std::alloc::Global;
 use std::test::Fail;
 
 /// A call of a function of a module with whole numbers, within a budget, and what must come of it.
@@ -297,7 +297,7 @@ static ROWS: [Row; 23] = [
 /// Calls the function of a row. The input is one line.
 fn told(alloc: Global, row: &Row, programs: &Programs, store: &mut Store) -> Result<Told, Fail> {
     if programs.modules.is_empty() || programs.modules.len() > 4_294_967_295 {
-        return Err(AllocError.into());
+        return Err(Fail::new("there is no module, or too many are there"));
     }
     let mut values = Vec::new(alloc);
     for arg in row.args {

@@ -1,14 +1,15 @@
 // Units that are written down by their instructions, checked to be code.
 ghost use Rattle.std.specs.Prelude.{◌≡◌, ◌<◌, ◌+◌, length, map, IsTrue};
 ghost use Rattle.py_code.specs.Units.{plain_unit};
-ghost use Rattle.py_code.specs.Valid.{HasNumbers, FitsAt, IsHandler, IsWithin, AreNested, IsValid};
+ghost use Rattle.py_code.specs.Valid.{HasNumbers, FitsAt, IsHandler, IsWithin, AreNested};
+ghost use Rattle.py_code.specs.Valid.{IsValid};
 ghost use Rattle.py_run_rows.specs.Checked.{FitsIn, AllFit, IsNested, AllNested, StandsIn, AllStand};
 
 use crate::flows::{flows, stands};
 use py_code::{Handler, Instr, Unit};
 
-/// Whether the numbers of an instruction lie in the lists of its unit, which is one of so many. Of the instructions that no row
-/// has it isn't known.
+/// Whether the numbers of an instruction lie in the lists of its unit, which is one of so many. Of
+/// the instructions that no row has it isn't known.
 fn has_numbers(unit: &Unit, units: usize, instr: Instr) -> bool
     ensures { IsTrue result → HasNumbers (plain_unit unit.now) units instr }
 {
@@ -25,6 +26,7 @@ fn has_numbers(unit: &Unit, units: usize, instr: Instr) -> bool
         Instr::Goto(_) => true,
         Instr::IfFalse(_) => true,
         Instr::Mark(n) => (n as usize) < unit.lines.len(),
+        Instr::Again(n) => (n as usize) < unit.lines.len(),
         Instr::Walk => true,
         Instr::Next(_) => true,
         Instr::Call(_) => true,
@@ -95,7 +97,11 @@ fn all_fit(unit: &Unit, units: usize, depths: &[usize]) -> bool
 fn is_handler(unit: &Unit, depths: &[usize], handler: Handler) -> bool
     ensures { IsTrue result → IsHandler (plain_unit unit.now) depths.now handler }
 {
+    let from = handler.from as usize;
     let to = handler.to as usize;
+    if from > to {
+        return false;
+    }
     if to > unit.instrs.len() {
         return false;
     }

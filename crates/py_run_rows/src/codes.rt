@@ -4,9 +4,9 @@ ghost use Rattle.py_code.specs.Units.{plain_unit};
 ghost use Rattle.py_run_rows.specs.Checked.{HasDepths, AllHaveDepths};
 
 use crate::checked::is_valid;
-use py_code::{Code, Constant, Handler, Instr, Program, Programs, Unit};
+use py_code::{Code, Constant, Handler, Instr, MOST_UNITS, Program, Programs, Unit};
 use py_value::Text;
-use std::alloc::{AllocError, Global};
+use std::alloc::Global;
 use std::test::Fail;
 
 /// A constant, as a table has it.
@@ -104,10 +104,13 @@ fn code_of(alloc: Global, written: &[Written]) -> Result<Code, Fail> {
     }
     let count = units.len();
     if count == 0 {
-        return Err(AllocError.into());
+        return Err(Fail::new("no unit is written down"));
+    }
+    if count > MOST_UNITS {
+        return Err(Fail::new("too many units are written down"));
     }
     if !all_have_depths(&units, written) {
-        return Err(AllocError.into());
+        return Err(Fail::new("what is written down is no code"));
     }
     Ok(Code::new(units))
 }

@@ -1,6 +1,7 @@
 // Where the instructions of a unit go on, and how many operands stand there.
 ghost use Rattle.std.specs.Prelude.{◌≡◌, ◌<◌, ◌+◌, suc, [], ◌∷◌, Some, true, IsTrue, slice_get};
-ghost use Rattle.py_code.specs.Footprints.{is_mark, quiet, risky, forked, risky_fork, exit, ways, footprint};
+ghost use Rattle.py_code.specs.Footprints.{is_mark, quiet, risky, forked, risky_fork, exit, ways};
+ghost use Rattle.py_code.specs.Footprints.{footprint};
 ghost use Rattle.py_code.specs.Units.{plain_unit, handler_of};
 ghost use Rattle.py_code.specs.Valid.{marks_at, Leads, Lands, LandsAt};
 ghost use Rattle.py_run_rows.specs.Checked.{Flows};
@@ -227,7 +228,8 @@ fn raises(unit: &Unit, depths: &[usize], place: usize, depth: usize) -> bool
     lands(unit, depths, place, depth - 1)
 }
 
-/// Whether an instruction goes on where as many operands stand as it leaves. Of the instructions that no row has it isn't known.
+/// Whether an instruction goes on where as many operands stand as it leaves. Of the instructions
+/// that no row has it isn't known.
 pub(crate) fn flows(unit: &Unit, depths: &[usize], place: usize, depth: usize, instr: Instr) -> bool
     requires { place + 4 < usize.MAX }
     ensures { IsTrue result
@@ -246,6 +248,7 @@ pub(crate) fn flows(unit: &Unit, depths: &[usize], place: usize, depth: usize, i
         Instr::Goto(to) => jumps(unit, depths, place, depth, 0, to, 0),
         Instr::IfFalse(to) => forks(unit, depths, place, depth, to),
         Instr::Mark(_) => falls(unit, depths, place, depth, 0, 0),
+        Instr::Again(_) => falls(unit, depths, place, depth, 0, 0),
         Instr::Walk => risks(unit, depths, place, depth, 1, 1),
         Instr::Next(to) => walks(unit, depths, place, depth, to),
         Instr::Call(n) => risks(unit, depths, place, depth, n as usize + 1, 1),

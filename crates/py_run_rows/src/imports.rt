@@ -84,7 +84,9 @@ for i in range(2):
             out: "unset\nbody\nunset\nbody\n",
             end: "finished",
             steps: 26,
-            events: "0.0( 1 2 3 1.0( 1 2 !NameError 3 4 5 6 ) !ValueError 4 5 1 2 3 1.0( 1 2 !NameError 3 4 5 6 ) !ValueError 4 5 1 )",
+            events: "\
+0.0( 1 2 3 1.0( 1 2 !NameError 3 4 5 6 ) !ValueError 4 5 1 2 3 1.0( 1 2 !NameError 3 4 5 6 ) \
+!ValueError 4 5 1 )",
             arcs: "",
         },
         others: &[(

@@ -56,8 +56,8 @@ impl Log {
         out.done()
     }
 
-    /// The arcs, in order: from the kept line of a frame to the line that begins, and at last to the
-    /// outside of the frame's unit, which is its first line with a minus.
+    /// The arcs, in order: from the kept line of a frame to the line that begins, and at last to
+    /// the outside of the frame's unit, which is its first line with a minus.
     pub(crate) fn arcs(&self, alloc: Global, programs: &Programs) -> Result<String, Fail> {
         let mut arcs: Vec<(i64, i64)> = Vec::new(alloc);
         let mut frames: Vec<(i64, i64)> = Vec::new(alloc);

@@ -5,7 +5,7 @@ use py_compiler::compile;
 use py_parse::parse;
 use py_scope::check;
 use py_token::{count_lines, tokens};
-use std::alloc::{AllocError, Global};
+use std::alloc::Global;
 use std::test::Fail;
 
 /// The script and the other modules, each by its name and its source.
@@ -32,7 +32,7 @@ fn program_of(alloc: Global, name: &str, source: &str) -> Result<Program, Fail> 
 /// The code of a source of at most 65,535 lines.
 fn code_of(alloc: Global, source: &str) -> Result<Code, Fail> {
     if count_lines(source) > 65535 {
-        return Err(AllocError.into());
+        return Err(Fail::new("too many lines"));
     }
     let tokens = tokens(alloc, source)?;
     let module = parse(alloc, &tokens)?;

@@ -7,7 +7,7 @@ use cov_outside::{MemSink, MemSource, Source};
 use py_builtins::RunFault;
 use py_code::Programs;
 use py_machine::{Engine, Machine, Outcome, Ran, Store};
-use std::alloc::{AllocError, Global};
+use std::alloc::Global;
 use std::test::Fail;
 
 /// A script, and what must come of it. Steps of 0, and no text for events or arcs, aren't compared.
@@ -100,7 +100,7 @@ pub(crate) fn run_in(
     limits: Limits,
 ) -> Result<Told, Fail> {
     if programs.modules.is_empty() || programs.modules.len() > 4_294_967_295 {
-        return Err(AllocError.into());
+        return Err(Fail::new("there is no module, or too many are there"));
     }
     let mut log = Log::new(alloc, limits.event);
     let bytes = Vec::from_slice(alloc, input.as_bytes())?;

@@ -1,4 +1,5 @@
-// Rows of programs that read from a terminal: it doesn't tell its bytes, and may give more of them after its end.
+// Rows of programs that read from a terminal: it doesn't tell its bytes, and may give more of them
+// after its end.
 ghost use Rattle.std.specs.Prelude.{[]};
 ghost use Rattle.std.proofs.Common.{lit≤};
 
@@ -8,13 +9,14 @@ use crate::rows::store_of;
 use crate::writer::Writer;
 use cov_outside::{Failed, MemSink, Source};
 use py_machine::{Engine, Machine};
-use std::alloc::{AllocError, Global};
+use std::alloc::Global;
 use std::test::Fail;
 
 /// The key that ends the input: Ctrl-D.
 const END: u8 = 4;
 
-/// Gives one key at each read. At the key that ends the input it answers that it is at its end, and then goes on.
+/// Gives one key at each read. At the key that ends the input it answers that it is at its end, and
+/// then goes on.
 #[derive(Drop)]
 struct Terminal {
     keys: &'static [u8],
@@ -111,7 +113,7 @@ fn a_terminal(rt: HostRuntime) -> Result<(), Fail> {
 fn written(alloc: Global, source: &str, input: &mut Terminal) -> Result<String, Fail> {
     let programs = programs_of(alloc, source, &[])?;
     if programs.modules.is_empty() || programs.modules.len() > 4_294_967_295 {
-        return Err(AllocError.into());
+        return Err(Fail::new("there is no module, or too many are there"));
     }
     let mut store = store_of(alloc, &programs)?;
     let mut log = Log::new(alloc, usize::MAX);

@@ -172,7 +172,9 @@ f([1, 0])
         out: "1 2 3\n",
         end: "ZeroDivisionError: division by zero",
         steps: 23,
-        events: "0.0( 1 9 0.1( 2 3 4 ) 0.1( 2 3 5 6 ) 0.1( 2 3 5 7 8 ) 10 0.1( 2 3 5 !ZeroDivisionError ) !ZeroDivisionError )",
+        events: "\
+0.0( 1 9 0.1( 2 3 4 ) 0.1( 2 3 5 6 ) 0.1( 2 3 5 7 8 ) 10 0.1( 2 3 5 !ZeroDivisionError ) \
+!ZeroDivisionError )",
         arcs: "-1 1; -1 2; 1 9; 2 3; 3 4; 3 5; 4 -1; 5 -1; 5 6; 5 7; 6 -1; 7 8; 8 -1; 9 10; 10 -1",
     },
     Row {
@@ -412,7 +414,8 @@ f 1
 ",
         end: "finished",
         steps: 18,
-        events: "0.0( 1 2 13 0.1( 3 4 5 6 !ZeroDivisionError 8 !ZeroDivisionError 9 10 3 4 5 6 8 12 ) )",
+        events: "\
+0.0( 1 2 13 0.1( 3 4 5 6 !ZeroDivisionError 8 !ZeroDivisionError 9 10 3 4 5 6 8 12 ) )",
         arcs: "-2 3; -1 1; 1 2; 2 13; 3 4; 4 5; 5 6; 6 8; 8 9; 8 12; 9 10; 10 3; 12 -2; 13 -1",
     },
 ];

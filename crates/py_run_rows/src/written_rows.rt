@@ -26,7 +26,8 @@ static THROUGH_FRAMES: [Row; 1] = [Row {
     out: "",
     end: "ValueError",
     steps: 10,
-    events: "0.0( 1 0.1( 2 0.2( 3 0.3( 4 0.4( 5 ) !ValueError ) !ValueError ) !ValueError ) !ValueError )",
+    events: "\
+0.0( 1 0.1( 2 0.2( 3 0.3( 4 0.4( 5 ) !ValueError ) !ValueError ) !ValueError ) !ValueError )",
     arcs: "",
 }];
 
@@ -116,8 +117,9 @@ static PAIRED: [CallRow; 6] = [
     },
 ];
 
-/// On, and by `break`, `continue`, `return` and an exception.
-static LEFT: [CallRow; 5] = [
+/// A `finally` that is entered at the end of its `try`, and by `break`, `continue`, `return` and an
+/// exception.
+static ENTERED: [CallRow; 5] = [
     CallRow {
         module: 0,
         function: "f",
@@ -170,6 +172,61 @@ static LEFT: [CallRow; 5] = [
     },
 ];
 
+/// A `finally` that is entered by an exception, and left at its end, and by `break`, `continue`,
+/// `return` and another exception.
+static LEFT: [CallRow; 5] = [
+    CallRow {
+        module: 0,
+        function: "g",
+        args: &[0],
+        budget: 1_000_000,
+        out: "1\n",
+        end: "ValueError",
+        steps: 9,
+        events: "0.2( 9 10 11 13 14 15 16 17 )",
+    },
+    CallRow {
+        module: 0,
+        function: "g",
+        args: &[1],
+        budget: 1_000_000,
+        out: "1\n",
+        end: "0",
+        steps: 7,
+        events: "0.2( 9 10 11 13 14 18 )",
+    },
+    CallRow {
+        module: 0,
+        function: "g",
+        args: &[2],
+        budget: 1_000_000,
+        out: "1\n2\n",
+        end: "0",
+        steps: 15,
+        events: "0.2( 9 10 11 13 14 15 9 10 11 13 14 15 9 18 )",
+    },
+    CallRow {
+        module: 0,
+        function: "g",
+        args: &[3],
+        budget: 1_000_000,
+        out: "1\n",
+        end: "7",
+        steps: 8,
+        events: "0.2( 9 10 11 13 14 15 16 )",
+    },
+    CallRow {
+        module: 0,
+        function: "g",
+        args: &[4],
+        budget: 1_000_000,
+        out: "1\n",
+        end: "KeyError",
+        steps: 9,
+        events: "0.2( 9 10 11 13 14 15 16 17 )",
+    },
+];
+
 /// What calls tell otherwise than their rows, on the store that the run of a code left.
 fn calls_wrong(alloc: Global, units: &[Written], rows: &[CallRow]) -> Result<String, Fail> {
     let programs = programs_by(alloc, units)?;
@@ -182,6 +239,8 @@ fn calls_wrong(alloc: Global, units: &[Written], rows: &[CallRow]) -> Result<Str
 fn calls_of_written_functions(rt: HostRuntime) -> Result<(), Fail> {
     let alloc = rt.alloc();
     let found = calls_wrong(alloc, &PAIR, &PAIRED)?;
+    assert_eq!(rt; found.as_str(), "");
+    let found = calls_wrong(alloc, &FINALLY, &ENTERED)?;
     assert_eq!(rt; found.as_str(), "");
     let found = calls_wrong(alloc, &FINALLY, &LEFT)?;
     assert_eq!(rt; found.as_str(), "");

@@ -1,4 +1,5 @@
-use Rattle.std.proofs.Common.{◌≡◌, [], ◌∷◌, ◌++◌, map, ap, sym, ◌∙◌}
+use Rattle.std.proofs.Common.{◌≡◌, [], ◌∷◌, ◌++◌, length, map, ap, sym, ◌∙◌, arith}
+use Rattle.std.proofs.lemmas.List.{length-map}
 use Rattle.py_code.specs.Units.{plain_unit}
 use Rattle.py_compile.specs.Definitions.{definitions}
 use Rattle.py_compile.specs.Units.{module_code, function_code, body_cells}
@@ -16,8 +17,13 @@ add_functions-requires c =
     c.requires.scopes ∙ names_are (plain_module c.args.module.now) c.requires.well_formed
     ∙ ap (map names_in) (sym (ap (map definition_of) c.deref-3.ensures.value ∙ c.in_ok-defs.ensures))
 
-pub returns : goal.returns
-returns c =
+pub returns-clause-few : goal.returns-clause-few
+returns-clause-few c =
+    let found = ap length c.in_ok-defs.ensures in
+    omega (arith, found, length-map c.in_ok-defs.defs.items definition_of, c.len-count.ensures, c.if-count-ge-MOST_UNITS.false)
+
+pub returns-clause-units : goal.returns-clause-units
+returns-clause-units c =
     let b = plain_module c.args.module.now in
     let fs = functions b in
     let found : map definition_of c.deref.result.now ≡ definitions b = ap (map definition_of) c.deref.ensures.value ∙ c.in_ok-defs.ensures in

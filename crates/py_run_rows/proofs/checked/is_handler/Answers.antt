@@ -5,4 +5,4 @@ use Rattle.py_run_rows.proofs.checked.is_handler.Goals as goal
 
 pub returns : goal.returns
 returns c =
-    λ t. handler_of_unit (plain_unit c.args.unit.now) c.args.depths.now c.args.handler (omega (arith, c.len.ensures, c.if-to-len.false)) (omega (arith, c.if-to-target.false)) (c.stands.ensures t)
+    λ t. handler_of_unit (plain_unit c.args.unit.now) c.args.depths.now c.args.handler (omega (arith, c.if-from-to.false)) (omega (arith, c.len.ensures, c.if-to-len.false)) (omega (arith, c.if-to-target.false)) (c.stands.ensures t)
