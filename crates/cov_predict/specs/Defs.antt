@@ -1,62 +1,70 @@
 -- The arcs of the functions that a tree defines, part by part.
-use Rattle.std.specs.Prelude.{ℕ, ℤ, Bool, List, [], ◌++◌}
+use Rattle.std.specs.Prelude.{ℕ, ℤ, Bool, List, []}
 use Rattle.py_syntax.specs.Functions.{without_docstring}
+use Rattle.py_syntax.specs.Gathering.{Gathering, nothing, gather, gather_kind, gather_suite, gather_opt, gather_arms, gather_clauses, gather_cases}
 use Rattle.py_syntax.specs.Prediction.{Arc}
-use Rattle.py_syntax.specs.Tree.{Stmts, no_stmts, stmt, Suite, suite, OptSuite, no_suite, has_suite, Arms, no_arms, arm, Clauses, no_clauses, clause, Cases, no_cases, case, StmtKind, expr, assign, aug_assign, pass, break, continue, return, raise, assert, global, import, from, if', while, for, try, def, match}
+use Rattle.py_syntax.specs.Tree.{Stmts, Suite, suite, OptSuite, Arms, Clauses, Cases, StmtKind, expr, assign, aug_assign, pass, break, continue, return, raise, assert, global, import, from, if', while, for, try, def, match}
 use Rattle.cov_predict.specs.Walk.{body_walk}
 
-abbrev mutual
-  -- of statements in a row
-  pub stmts_defs : Bool → Stmts → List Arc
-  stmts_defs any no_stmts = []
-  stmts_defs any (stmt l m k e rest) = kind_defs any l k ++ stmts_defs any rest
+-- of a function with this first line, in which no other stands
+abbrev pub function_defs : Bool → ℕ → Suite → List Arc
+function_defs any l (suite f g inline b) = body_walk any l (without_docstring b)
 
-  -- of a statement with this first line
-  pub kind_defs : Bool → ℕ → StmtKind → List Arc
-  kind_defs any l (expr e) = []
-  kind_defs any l (assign ts e) = []
-  kind_defs any l (aug_assign t op e) = []
-  kind_defs any l pass = []
-  kind_defs any l break = []
-  kind_defs any l continue = []
-  kind_defs any l (return e) = []
-  kind_defs any l (raise e) = []
-  kind_defs any l (assert e w) = []
-  kind_defs any l (global xs) = []
-  kind_defs any l (import names) = []
-  kind_defs any l (from m names) = []
-  kind_defs any l (if' arms o) = arms_defs any arms ++ opt_defs any o
-  kind_defs any l (while t b o) = suite_defs any b ++ opt_defs any o
-  kind_defs any l (for t e b o) = suite_defs any b ++ opt_defs any o
-  kind_defs any l (try b cs o f) =
-      suite_defs any b ++ (clauses_defs any cs ++ (opt_defs any o ++ opt_defs any f))
-  kind_defs any l (def x ps ds c b) = function_defs any l b
-  kind_defs any l (match e last cs) = cases_defs any cs
+-- of the function of a statement with this first line, where that is a `def`
+abbrev pub own_defs : Bool → ℕ → StmtKind → List Arc
+own_defs any l (expr e) = []
+own_defs any l (assign ts e) = []
+own_defs any l (aug_assign t op e) = []
+own_defs any l pass = []
+own_defs any l break = []
+own_defs any l continue = []
+own_defs any l (return e) = []
+own_defs any l (raise e) = []
+own_defs any l (assert e w) = []
+own_defs any l (global xs) = []
+own_defs any l (import names) = []
+own_defs any l (from m names) = []
+own_defs any l (if' arms o) = []
+own_defs any l (while t s o) = []
+own_defs any l (for t e s o) = []
+own_defs any l (try s cs o fin) = []
+own_defs any l (def x ps ds c s) = function_defs any l s
+own_defs any l (match e last cs) = []
 
-  -- of a suite
-  pub suite_defs : Bool → Suite → List Arc
-  suite_defs any (suite f g inline b) = stmts_defs any b
+-- what each part of a tree gives itself
+abbrev pub defining : Bool → Gathering Arc
+defining any = record {
+  of_kind = λ first last k. own_defs any first k;
+  of_arm = λ t s. [];
+  of_clause = λ e x s. [];
+  of_case = λ p g s. [];
+  within = nothing;
+}
 
-  -- of the suite of an `else` or a `finally`, which may be missing
-  pub opt_defs : Bool → OptSuite → List Arc
-  opt_defs any no_suite = []
-  opt_defs any (has_suite s) = suite_defs any s
+-- of statements in a row
+abbrev pub stmts_defs : Bool → Stmts → List Arc
+stmts_defs any ss = gather (defining any) ss
 
-  -- of the tests of an `if`
-  pub arms_defs : Bool → Arms → List Arc
-  arms_defs any no_arms = []
-  arms_defs any (arm t s rest) = suite_defs any s ++ arms_defs any rest
+-- of a statement with this first line
+abbrev pub kind_defs : Bool → ℕ → StmtKind → List Arc
+kind_defs any l k = gather_kind (defining any) (own_defs any l k) k
 
-  -- of the clauses of a `try`
-  pub clauses_defs : Bool → Clauses → List Arc
-  clauses_defs any no_clauses = []
-  clauses_defs any (clause k x s rest) = suite_defs any s ++ clauses_defs any rest
+-- of a suite
+abbrev pub suite_defs : Bool → Suite → List Arc
+suite_defs any s = gather_suite (defining any) s
 
-  -- of the cases of a `match`
-  pub cases_defs : Bool → Cases → List Arc
-  cases_defs any no_cases = []
-  cases_defs any (case p g s rest) = suite_defs any s ++ cases_defs any rest
+-- of the suite of an `else` or a `finally`, which may be missing
+abbrev pub opt_defs : Bool → OptSuite → List Arc
+opt_defs any o = gather_opt (defining any) o
 
-  -- of a function with this first line, in which no other stands
-  pub function_defs : Bool → ℕ → Suite → List Arc
-  function_defs any l (suite f g inline b) = body_walk any l (without_docstring b)
+-- of the tests of an `if`
+abbrev pub arms_defs : Bool → Arms → List Arc
+arms_defs any arms = gather_arms (defining any) arms
+
+-- of the clauses of a `try`
+abbrev pub clauses_defs : Bool → Clauses → List Arc
+clauses_defs any cs = gather_clauses (defining any) cs
+
+-- of the cases of a `match`
+abbrev pub cases_defs : Bool → Cases → List Arc
+cases_defs any cs = gather_cases (defining any) cs

@@ -5,7 +5,8 @@
 --     Program, loaded            a program, and its modules
 use Rattle.std.specs.Prelude.{ℕ, zero, suc, nat_eq, Bool, true, false, ◌||◌, if◌then◌else◌, List, [], ◌∷◌, ◌++◌, length, slice_get, Option, Some, None, codes}
 use Rattle.py_value.specs.Keys.{is_same_text}
-use Rattle.py_syntax.specs.Tree.{Text, Alias, Stmts, no_stmts, stmt, suite, OptSuite, no_suite, has_suite, Arms, no_arms, arm, Clauses, no_clauses, clause, Cases, no_cases, case, StmtKind, expr, assign, aug_assign, pass, break, continue, return, raise, assert, global, import, from, if', while, for, try, def, match}
+use Rattle.py_syntax.specs.Gathering.{Gathering, everything, gather, gather_kind, gather_opt, gather_arms, gather_clauses, gather_cases}
+use Rattle.py_syntax.specs.Tree.{Text, Alias, Stmts, OptSuite, Arms, Clauses, Cases, StmtKind, expr, assign, aug_assign, pass, break, continue, return, raise, assert, global, import, from, if', while, for, try, def, match}
 use Rattle.py_meaning.specs.Modules.{LoadedModule, imported_number}
 
 -- the files by their names, each as the tree that it spells
@@ -22,54 +23,65 @@ abbrev pub alias_modules : List Alias → List Text
 alias_modules [] = []
 alias_modules (a ∷ rest) = a.name ∷ alias_modules rest
 
--- the module names that the imports name, in the order of the text
-unfoldable mutual
-  -- those of statements in a row
-  pub imported : Stmts → List Text
-  imported no_stmts = []
-  imported (stmt first last k end rest) = imported_in k ++ imported rest
+-- the module names that a statement names itself
+abbrev pub own_imports : StmtKind → List Text
+own_imports (expr e) = []
+own_imports (assign ts e) = []
+own_imports (aug_assign t op e) = []
+own_imports pass = []
+own_imports break = []
+own_imports continue = []
+own_imports (return e) = []
+own_imports (raise e) = []
+own_imports (assert e w) = []
+own_imports (global xs) = []
+own_imports (import names) = alias_modules names
+own_imports (from m names) = m ∷ []
+own_imports (if' arms o) = []
+own_imports (while t s o) = []
+own_imports (for t e s o) = []
+own_imports (try s cs o fin) = []
+own_imports (def x ps ds c s) = []
+own_imports (match e last cs) = []
 
-  -- those of a statement
-  pub imported_in : StmtKind → List Text
-  imported_in (expr e) = []
-  imported_in (assign ts e) = []
-  imported_in (aug_assign place op e) = []
-  imported_in pass = []
-  imported_in break = []
-  imported_in continue = []
-  imported_in (return e) = []
-  imported_in (raise e) = []
-  imported_in (assert e w) = []
-  imported_in (global xs) = []
-  imported_in (import names) = alias_modules names
-  imported_in (from m names) = m ∷ []
-  imported_in (if' arms o) = arms_imported arms ++ opt_imported o
-  imported_in (while t (suite f g inline b) o) = imported b ++ opt_imported o
-  imported_in (for t e (suite f g inline b) o) = imported b ++ opt_imported o
-  imported_in (try (suite f g inline b) cs o fin) =
-      imported b ++ (clauses_imported cs ++ (opt_imported o ++ opt_imported fin))
-  imported_in (def x ps ds comma (suite f g inline b)) = imported b
-  imported_in (match e header cs) = cases_imported cs
+-- the imports of a function's body are among those of its text
+abbrev pub importing : Gathering Text
+importing = record {
+  of_kind = λ first last k. own_imports k;
+  of_arm = λ t s. [];
+  of_clause = λ e x s. [];
+  of_case = λ p g s. [];
+  within = everything;
+}
 
-  -- of the suite of an `else` or a `finally`, which may be missing
-  pub opt_imported : OptSuite → List Text
-  opt_imported no_suite = []
-  opt_imported (has_suite (suite f g inline b)) = imported b
+-- the module names that the imports of statements in a row name, in the order of the text
+unfoldable pub imported : Stmts → List Text
+imported ss = gather importing ss
 
-  -- of the tests of an `if`
-  pub arms_imported : Arms → List Text
-  arms_imported no_arms = []
-  arms_imported (arm t (suite f g inline b) rest) = imported b ++ arms_imported rest
+-- those of a statement
+unfoldable abbrev pub imported_in : StmtKind → List Text
+unfolding imported
+imported_in k = gather_kind importing (own_imports k) k
 
-  -- of the clauses of a `try`
-  pub clauses_imported : Clauses → List Text
-  clauses_imported no_clauses = []
-  clauses_imported (clause k x (suite f g inline b) rest) = imported b ++ clauses_imported rest
+-- of the suite of an `else` or a `finally`, which may be missing
+unfoldable abbrev pub opt_imported : OptSuite → List Text
+unfolding imported
+opt_imported o = gather_opt importing o
 
-  -- of the cases of a `match`
-  pub cases_imported : Cases → List Text
-  cases_imported no_cases = []
-  cases_imported (case p g (suite f l inline b) rest) = imported b ++ cases_imported rest
+-- of the tests of an `if`
+unfoldable abbrev pub arms_imported : Arms → List Text
+unfolding imported
+arms_imported arms = gather_arms importing arms
+
+-- of the clauses of a `try`
+unfoldable abbrev pub clauses_imported : Clauses → List Text
+unfolding imported
+clauses_imported cs = gather_clauses importing cs
+
+-- of the cases of a `match`
+unfoldable abbrev pub cases_imported : Cases → List Text
+unfolding imported
+cases_imported cs = gather_cases importing cs
 
 -- the folder of a file's name: what stands up to its last `/`, with that
 unfoldable pub folder_of : Text → Text

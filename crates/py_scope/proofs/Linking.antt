@@ -172,8 +172,8 @@ mutual
   kind-bound line (if' arms o) = two (in_arms arms) (in_opt o) _ _ (arms-bound arms) (opt-bound o)
   kind-bound line (while t b o) = two (in_expr t) (in_suite b ++ in_opt o) [] _ (silent-expr t) (two (in_suite b) (in_opt o) _ _ (suite-bound b) (opt-bound o))
   kind-bound line (for t e b o) =
-      two (in_target t) (in_expr e ++ (in_suite b ++ in_opt o)) _ _ (target-bound t)
-      (two (in_expr e) (in_suite b ++ in_opt o) [] _ (silent-expr e) (two (in_suite b) (in_opt o) _ _ (suite-bound b) (opt-bound o)))
+      two (in_target t ++ in_expr e) (in_suite b ++ in_opt o) _ _ (left (in_target t) (in_expr e) _ (target-bound t) (silent-expr e))
+      (two (in_suite b) (in_opt o) _ _ (suite-bound b) (opt-bound o))
   kind-bound line (try b cs o g) =
       two (in_suite b) (in_clauses cs ++ (in_opt o ++ in_opt g)) _ _ (suite-bound b)
       (two (in_clauses cs) (in_opt o ++ in_opt g) _ _ (clauses-bound cs) (two (in_opt o) (in_opt g) _ _ (opt-bound o) (opt-bound g)))
@@ -194,14 +194,14 @@ mutual
   clauses-bound : (cs : Clauses) → bound (in_clauses cs) ≡ clauses_bindings cs
   clauses-bound no_clauses = refl
   clauses-bound (clause e x b cs) =
-      two (in_option e) (in_bound x ++ (in_suite b ++ in_clauses cs)) [] _ (silent-option e)
-      (two (in_bound x) (in_suite b ++ in_clauses cs) _ _ (name-bound x) (two (in_suite b) (in_clauses cs) _ _ (suite-bound b) (clauses-bound cs)))
+      two (in_option e ++ in_bound x) (in_suite b ++ in_clauses cs) _ _ (two (in_option e) (in_bound x) [] _ (silent-option e) (name-bound x))
+      (two (in_suite b) (in_clauses cs) _ _ (suite-bound b) (clauses-bound cs))
 
   cases-bound : (cs : Cases) → bound (in_cases cs) ≡ cases_bindings cs
   cases-bound no_cases = refl
   cases-bound (case p g b cs) =
-      two (in_pattern p) (in_option g ++ (in_suite b ++ in_cases cs)) _ _ (pattern-bound p)
-      (two (in_option g) (in_suite b ++ in_cases cs) [] _ (silent-option g) (two (in_suite b) (in_cases cs) _ _ (suite-bound b) (cases-bound cs)))
+      two (in_pattern p ++ in_option g) (in_suite b ++ in_cases cs) _ _ (left (in_pattern p) (in_option g) _ (pattern-bound p) (silent-option g))
+      (two (in_suite b) (in_cases cs) _ _ (suite-bound b) (cases-bound cs))
 
 -- ---- what is gathered
 

@@ -4,12 +4,14 @@
 --                                           in it
 --     in_target, in_pattern                 of what is assigned to
 --     assigning, in_aliases, declaring      names as occurrences
+--     own_occurrences, seeing               of what each part of a text gives itself
 --     occurrences, in_kind                  of statements; in_suite and the like for what stands in
 --                                           them
 use Rattle.std.specs.Prelude.{ℕ, List, [], ◌∷◌, ◌++◌, map, Option, Some, None}
+use Rattle.py_syntax.specs.Gathering.{Gathering, nothing, gather, gather_kind, gather_suite, gather_opt, gather_arms, gather_clauses, gather_cases}
 use Rattle.py_syntax.specs.Tree.{Text, Expr, name, int, str, fstr, none, bool, tuple, list, dict, paren, not', and, or, unary, binary, compare, cond, call, index, slice, attr, Exprs, no_exprs, exprs, Pairs, no_pairs, pair, Links, no_links, link, OptExpr, absent, present, Fragments, no_fragments, plain, format, Parts, no_parts, text, field}
 use Rattle.py_syntax.specs.Tree.{Alias, Pattern, literal, capture, wild, member, sequence, p_or, p_as, p_paren, Patterns, no_patterns, patterns}
-use Rattle.py_syntax.specs.Tree.{Stmts, no_stmts, stmt, Suite, suite, OptSuite, no_suite, has_suite, Arms, no_arms, arm, Clauses, no_clauses, clause, Cases, no_cases, case, StmtKind, expr, assign, aug_assign, pass, break, continue, return, raise, assert, global, import, from, if', while, for, try, def, match}
+use Rattle.py_syntax.specs.Tree.{Stmts, Suite, OptSuite, Arms, Clauses, Cases, StmtKind, expr, assign, aug_assign, pass, break, continue, return, raise, assert, global, import, from, if', while, for, try, def, match}
 use Rattle.py_syntax.specs.Names.{alias_name}
 use Rattle.py_scope.specs.declared.occurrence.Occurrence.{Occurrence}
 use Rattle.py_scope.specs.declared.occurrence.Occurrence.TheVariants.{Uses, Assigns, Declares}
@@ -142,53 +144,62 @@ abbrev pub in_bound : Option Text → List Occurrence
 in_bound None = []
 in_bound (Some x) = Assigns x ∷ []
 
-abbrev mutual
-  -- of statements in a row
-  pub occurrences : Stmts → List Occurrence
-  occurrences no_stmts = []
-  occurrences (stmt first last k e ss) = in_kind first k ++ occurrences ss
+-- what occurs in a statement on this line itself
+abbrev pub own_occurrences : ℕ → StmtKind → List Occurrence
+own_occurrences line (expr e) = in_expr e
+own_occurrences line (assign ts e) = in_targets ts ++ in_expr e
+own_occurrences line (aug_assign t op e) = in_target t ++ in_expr e
+own_occurrences line pass = []
+own_occurrences line break = []
+own_occurrences line continue = []
+own_occurrences line (return e) = in_option e
+own_occurrences line (raise e) = in_option e
+own_occurrences line (assert e w) = in_expr e ++ in_option w
+own_occurrences line (global xs) = declaring line xs
+own_occurrences line (import names) = in_aliases names
+own_occurrences line (from m names) = in_aliases names
+own_occurrences line (if' arms o) = []
+own_occurrences line (while t s o) = in_expr t
+own_occurrences line (for t e s o) = in_target t ++ in_expr e
+own_occurrences line (try s cs o fin) = []
+own_occurrences line (def x ps ds c s) = Assigns x ∷ in_exprs ds
+own_occurrences line (match e last cs) = in_expr e
 
-  -- of a statement with this first line
-  pub in_kind : ℕ → StmtKind → List Occurrence
-  in_kind line (expr e) = in_expr e
-  in_kind line (assign ts e) = in_targets ts ++ in_expr e
-  in_kind line (aug_assign place op e) = in_target place ++ in_expr e
-  in_kind line pass = []
-  in_kind line break = []
-  in_kind line continue = []
-  in_kind line (return e) = in_option e
-  in_kind line (raise e) = in_option e
-  in_kind line (assert e why) = in_expr e ++ in_option why
-  in_kind line (global xs) = declaring line xs
-  in_kind line (import names) = in_aliases names
-  in_kind line (from m names) = in_aliases names
-  in_kind line (if' arms o) = in_arms arms ++ in_opt o
-  in_kind line (while t b o) = in_expr t ++ (in_suite b ++ in_opt o)
-  in_kind line (for t e b o) = in_target t ++ (in_expr e ++ (in_suite b ++ in_opt o))
-  in_kind line (try b cs o f) = in_suite b ++ (in_clauses cs ++ (in_opt o ++ in_opt f))
-  in_kind line (def x ps ds c b) = Assigns x ∷ in_exprs ds
-  in_kind line (match e last cs) = in_expr e ++ in_cases cs
+-- What occurs in a test, a clause and a case itself. What occurs in the body of a function is none
+-- of it.
+abbrev pub seeing : Gathering Occurrence
+seeing = record {
+  of_kind = λ first last k. own_occurrences first k;
+  of_arm = λ t s. in_expr t;
+  of_clause = λ e x s. in_option e ++ in_bound x;
+  of_case = λ p g s. in_pattern p ++ in_option g;
+  within = nothing;
+}
 
-  -- of a suite
-  pub in_suite : Suite → List Occurrence
-  in_suite (suite first last inline b) = occurrences b
+-- of statements in a row
+abbrev pub occurrences : Stmts → List Occurrence
+occurrences ss = gather seeing ss
 
-  -- of the suite of an `else` or a `finally`, which may be missing
-  pub in_opt : OptSuite → List Occurrence
-  in_opt no_suite = []
-  in_opt (has_suite s) = in_suite s
+-- of a statement with this first line
+abbrev pub in_kind : ℕ → StmtKind → List Occurrence
+in_kind line k = gather_kind seeing (own_occurrences line k) k
 
-  -- of the tests of an `if`
-  pub in_arms : Arms → List Occurrence
-  in_arms no_arms = []
-  in_arms (arm t b arms) = in_expr t ++ (in_suite b ++ in_arms arms)
+-- of a suite
+abbrev pub in_suite : Suite → List Occurrence
+in_suite s = gather_suite seeing s
 
-  -- of the clauses of a `try`
-  pub in_clauses : Clauses → List Occurrence
-  in_clauses no_clauses = []
-  in_clauses (clause e x b cs) = in_option e ++ (in_bound x ++ (in_suite b ++ in_clauses cs))
+-- of the suite of an `else` or a `finally`, which may be missing
+abbrev pub in_opt : OptSuite → List Occurrence
+in_opt o = gather_opt seeing o
 
-  -- of the cases of a `match`
-  pub in_cases : Cases → List Occurrence
-  in_cases no_cases = []
-  in_cases (case p g b cs) = in_pattern p ++ (in_option g ++ (in_suite b ++ in_cases cs))
+-- of the tests of an `if`
+abbrev pub in_arms : Arms → List Occurrence
+in_arms arms = gather_arms seeing arms
+
+-- of the clauses of a `try`
+abbrev pub in_clauses : Clauses → List Occurrence
+in_clauses cs = gather_clauses seeing cs
+
+-- of the cases of a `match`
+abbrev pub in_cases : Cases → List Occurrence
+in_cases cs = gather_cases seeing cs

@@ -1,11 +1,13 @@
 -- The functions of a text, and the docstrings of bodies (Python Language Reference, 8.7, and its
 -- Glossary, "docstring").
---     Function, functions            the functions of statements, in the order of the text
+--     Function, functions            the functions of statements, in the order of the text;
+--                                    own_function and defining say what each part gives
 --     is_docstring                   a statement that does nothing where it leads a body
 --     without_docstring              a body without it
-use Rattle.std.specs.Prelude.{ℕ, Bool, true, false, if◌then◌else◌, List, [], ◌∷◌, ◌++◌}
+use Rattle.std.specs.Prelude.{ℕ, Bool, true, false, if◌then◌else◌, List, [], ◌∷◌}
+use Rattle.py_syntax.specs.Gathering.{Gathering, nothing, gather, gather_kind, gather_opt, gather_arms, gather_clauses, gather_cases}
 use Rattle.py_syntax.specs.Tree.{Text, Expr, name, int, str, fstr, none, bool, tuple, list, dict, paren, not', and, or, unary, binary, compare, cond, call, index, slice, attr}
-use Rattle.py_syntax.specs.Tree.{Stmts, no_stmts, stmt, suite, OptSuite, no_suite, has_suite, Arms, no_arms, arm, Clauses, no_clauses, clause, Cases, no_cases, case, StmtKind, expr, assign, aug_assign, pass, break, continue, return, raise, assert, global, import, from, if', while, for, try, def, match}
+use Rattle.py_syntax.specs.Tree.{Stmts, no_stmts, stmt, suite, OptSuite, Arms, Clauses, Cases, StmtKind, expr, assign, aug_assign, pass, break, continue, return, raise, assert, global, import, from, if', while, for, try, def, match}
 
 -- a function, or the body of a module as one without parameters
 pub record Function : Type 0 where
@@ -14,55 +16,66 @@ pub record Function : Type 0 where
   pub params : List Text
   pub body : Stmts
 
--- the `def`s in the order of the text; no `def` stands in a function
-unfoldable mutual
-  -- those of statements in a row
-  pub functions : Stmts → List Function
-  functions no_stmts = []
-  functions (stmt first last k end rest) = functions_in first k ++ functions rest
+-- the function of a statement with this first line, where that is a `def`
+abbrev pub own_function : ℕ → StmtKind → List Function
+own_function l (expr e) = []
+own_function l (assign ts e) = []
+own_function l (aug_assign t op e) = []
+own_function l pass = []
+own_function l break = []
+own_function l continue = []
+own_function l (return e) = []
+own_function l (raise e) = []
+own_function l (assert e w) = []
+own_function l (global xs) = []
+own_function l (import names) = []
+own_function l (from m names) = []
+own_function l (if' arms o) = []
+own_function l (while t s o) = []
+own_function l (for t e s o) = []
+own_function l (try s cs o fin) = []
+own_function l (def x ps ds c (suite first last inline b)) =
+    record { line = l; name = x; params = ps; body = b } ∷ []
+own_function l (match e last cs) = []
 
-  -- those of a statement with this first line
-  pub functions_in : ℕ → StmtKind → List Function
-  functions_in l (expr e) = []
-  functions_in l (assign ts e) = []
-  functions_in l (aug_assign place op e) = []
-  functions_in l pass = []
-  functions_in l break = []
-  functions_in l continue = []
-  functions_in l (return e) = []
-  functions_in l (raise e) = []
-  functions_in l (assert e w) = []
-  functions_in l (global xs) = []
-  functions_in l (import names) = []
-  functions_in l (from m names) = []
-  functions_in l (if' arms o) = arms_functions arms ++ opt_functions o
-  functions_in l (while t (suite f g inline b) o) = functions b ++ opt_functions o
-  functions_in l (for t e (suite f g inline b) o) = functions b ++ opt_functions o
-  functions_in l (try (suite f g inline b) cs o fin) =
-      functions b ++ (clauses_functions cs ++ (opt_functions o ++ opt_functions fin))
-  functions_in l (def x ps ds comma (suite f g inline b)) =
-      record { line = l; name = x; params = ps; body = b } ∷ []
-  functions_in l (match e header cs) = cases_functions cs
+-- no `def` stands in a function
+abbrev pub defining : Gathering Function
+defining = record {
+  of_kind = λ first last k. own_function first k;
+  of_arm = λ t s. [];
+  of_clause = λ e x s. [];
+  of_case = λ p g s. [];
+  within = nothing;
+}
 
-  -- those of the suite of an `else` or a `finally`, which may be missing
-  pub opt_functions : OptSuite → List Function
-  opt_functions no_suite = []
-  opt_functions (has_suite (suite f g inline b)) = functions b
+-- the `def`s of statements in a row, in the order of the text
+unfoldable pub functions : Stmts → List Function
+functions ss = gather defining ss
 
-  -- those of the tests of an `if`
-  pub arms_functions : Arms → List Function
-  arms_functions no_arms = []
-  arms_functions (arm t (suite f g inline b) rest) = functions b ++ arms_functions rest
+-- those of a statement with this first line
+unfoldable abbrev pub functions_in : ℕ → StmtKind → List Function
+unfolding functions
+functions_in first k = gather_kind defining (own_function first k) k
 
-  -- those of the clauses of a `try`
-  pub clauses_functions : Clauses → List Function
-  clauses_functions no_clauses = []
-  clauses_functions (clause k x (suite f g inline b) rest) = functions b ++ clauses_functions rest
+-- those of the suite of an `else` or a `finally`, which may be missing
+unfoldable abbrev pub opt_functions : OptSuite → List Function
+unfolding functions
+opt_functions o = gather_opt defining o
 
-  -- those of the cases of a `match`
-  pub cases_functions : Cases → List Function
-  cases_functions no_cases = []
-  cases_functions (case p g (suite f l inline b) rest) = functions b ++ cases_functions rest
+-- those of the tests of an `if`
+unfoldable abbrev pub arms_functions : Arms → List Function
+unfolding functions
+arms_functions arms = gather_arms defining arms
+
+-- those of the clauses of a `try`
+unfoldable abbrev pub clauses_functions : Clauses → List Function
+unfolding functions
+clauses_functions cs = gather_clauses defining cs
+
+-- those of the cases of a `match`
+unfoldable abbrev pub cases_functions : Cases → List Function
+unfolding functions
+cases_functions cs = gather_cases defining cs
 
 -- neighbouring plain strings, without parentheses
 abbrev pub is_string : Expr → Bool

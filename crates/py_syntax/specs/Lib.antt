@@ -7,6 +7,7 @@ pub mod Headers
 pub mod Refusals
 pub mod Statements
 pub mod Spelling
+pub mod Gathering
 pub mod Marks
 pub mod Names
 pub mod Patterns

@@ -1,12 +1,14 @@
 -- The lines of a module that its execution marks.
 --     in_order                   lines in their order
+--     marking                    what each part of a text marks itself
 --     stmts_marks, kind_marks    the marks of statements; suite_marks and the like for what stands
 --                                in them
 --     body_marks                 of the body of a module or a function
 --     statement_lines            the lines of a module, in order
-use Rattle.std.specs.Prelude.{ℕ, nat_eq, nat_lt, if◌then◌else◌, List, [], ◌∷◌, ◌++◌}
+use Rattle.std.specs.Prelude.{ℕ, nat_eq, nat_lt, if◌then◌else◌, List, [], ◌∷◌}
 use Rattle.py_syntax.specs.Functions.{is_docstring}
-use Rattle.py_syntax.specs.Tree.{Stmts, no_stmts, stmt, Suite, suite, OptSuite, no_suite, has_suite, Arms, no_arms, arm, Clauses, no_clauses, clause, Cases, no_cases, case, StmtKind, expr, assign, aug_assign, pass, break, continue, return, raise, assert, global, import, from, if', while, for, try, def, match}
+use Rattle.py_syntax.specs.Gathering.{Gathering, all_but, gather, gather_kind, gather_suite, gather_opt, gather_arms, gather_clauses, gather_cases, gather_body, gather_but}
+use Rattle.py_syntax.specs.Tree.{Stmts, Suite, suite, OptSuite, Arms, Clauses, Cases, StmtKind, expr, assign, aug_assign, pass, break, continue, return, raise, assert, global, import, from, if', while, for, try, def, match}
 
 -- lines in their order and one more, which stands in them once
 abbrev pub with_line : ℕ → List ℕ → List ℕ
@@ -19,71 +21,78 @@ abbrev pub in_order : List ℕ → List ℕ
 in_order [] = []
 in_order (l ∷ ls) = with_line l (in_order ls)
 
--- The first lines of all that marks, in the order of the text: simple statements but `global`, each
--- `def`, each `try`, the tests of `if`, `elif` and loops, `for` headers, clauses, subjects and
--- cases. A string that leads a module or a function marks nothing.
-abbrev mutual
-  -- of statements in a row
-  pub stmts_marks : Stmts → List ℕ
-  stmts_marks no_stmts = []
-  stmts_marks (stmt first last k e ss) = kind_marks first k ++ stmts_marks ss
+-- The first lines of all that marks: simple statements but `global`, each `def`, each `try`, the
+-- tests of loops, `for` headers and subjects. Each test of an `if` marks its own line.
+abbrev pub own_mark : ℕ → StmtKind → List ℕ
+own_mark l (expr e) = l ∷ []
+own_mark l (assign ts e) = l ∷ []
+own_mark l (aug_assign t op e) = l ∷ []
+own_mark l pass = l ∷ []
+own_mark l break = l ∷ []
+own_mark l continue = l ∷ []
+own_mark l (return e) = l ∷ []
+own_mark l (raise e) = l ∷ []
+own_mark l (assert e w) = l ∷ []
+own_mark l (global xs) = []
+own_mark l (import names) = l ∷ []
+own_mark l (from m names) = l ∷ []
+own_mark l (if' arms o) = []
+own_mark l (while t s o) = l ∷ []
+own_mark l (for t e s o) = l ∷ []
+own_mark l (try s cs o fin) = l ∷ []
+own_mark l (def x ps ds c s) = l ∷ []
+own_mark l (match e last cs) = l ∷ []
 
-  -- of a statement with this first line
-  pub kind_marks : ℕ → StmtKind → List ℕ
-  kind_marks first (expr e) = first ∷ []
-  kind_marks first (assign ts e) = first ∷ []
-  kind_marks first (aug_assign t op e) = first ∷ []
-  kind_marks first pass = first ∷ []
-  kind_marks first break = first ∷ []
-  kind_marks first continue = first ∷ []
-  kind_marks first (return e) = first ∷ []
-  kind_marks first (raise e) = first ∷ []
-  kind_marks first (assert e w) = first ∷ []
-  kind_marks first (global xs) = []
-  kind_marks first (import names) = first ∷ []
-  kind_marks first (from m names) = first ∷ []
-  kind_marks first (if' arms o) = arms_marks arms ++ opt_marks o
-  kind_marks first (while t b o) = first ∷ (suite_marks b ++ opt_marks o)
-  kind_marks first (for t e b o) = first ∷ (suite_marks b ++ opt_marks o)
-  kind_marks first (try b cs o f) =
-      first ∷ (suite_marks b ++ (clauses_marks cs ++ (opt_marks o ++ opt_marks f)))
-  kind_marks first (def x ps ds c b) = first ∷ function_marks b
-  kind_marks first (match e last cs) = first ∷ cases_marks cs
+-- the line of the header in front of a suite
+abbrev pub header_mark : Suite → List ℕ
+header_mark (suite first last inline b) = first ∷ []
 
-  -- of a suite
-  pub suite_marks : Suite → List ℕ
-  suite_marks (suite first last inline b) = stmts_marks b
+-- The tests of `if` and `elif`, clauses and cases mark the lines of their headers. A string that
+-- leads a module or a function marks nothing.
+abbrev pub marking : Gathering ℕ
+marking = record {
+  of_kind = λ first last k. own_mark first k;
+  of_arm = λ t s. header_mark s;
+  of_clause = λ e x s. header_mark s;
+  of_case = λ p g s. header_mark s;
+  within = all_but is_docstring;
+}
 
-  -- of the suite of an `else` or a `finally`, which may be missing
-  pub opt_marks : OptSuite → List ℕ
-  opt_marks no_suite = []
-  opt_marks (has_suite s) = suite_marks s
+-- the marks of statements in a row, in the order of the text
+abbrev pub stmts_marks : Stmts → List ℕ
+stmts_marks ss = gather marking ss
 
-  -- of the tests of an `if`
-  pub arms_marks : Arms → List ℕ
-  arms_marks no_arms = []
-  arms_marks (arm t (suite first last inline b) arms) = first ∷ (stmts_marks b ++ arms_marks arms)
+-- of a statement with this first line
+abbrev pub kind_marks : ℕ → StmtKind → List ℕ
+kind_marks first k = gather_kind marking (own_mark first k) k
 
-  -- of the clauses of a `try`
-  pub clauses_marks : Clauses → List ℕ
-  clauses_marks no_clauses = []
-  clauses_marks (clause e x (suite first last inline b) cs) =
-      first ∷ (stmts_marks b ++ clauses_marks cs)
+-- of a suite
+abbrev pub suite_marks : Suite → List ℕ
+suite_marks s = gather_suite marking s
 
-  -- of the cases of a `match`
-  pub cases_marks : Cases → List ℕ
-  cases_marks no_cases = []
-  cases_marks (case p g (suite first last inline b) cs) = first ∷ (stmts_marks b ++ cases_marks cs)
+-- of the suite of an `else` or a `finally`, which may be missing
+abbrev pub opt_marks : OptSuite → List ℕ
+opt_marks o = gather_opt marking o
 
-  -- of the suite of a `def`
-  pub function_marks : Suite → List ℕ
-  function_marks (suite first last inline b) = body_marks b
+-- of the tests of an `if`
+abbrev pub arms_marks : Arms → List ℕ
+arms_marks arms = gather_arms marking arms
 
-  -- of the body of a module or a function
-  pub body_marks : Stmts → List ℕ
-  body_marks no_stmts = []
-  body_marks (stmt first last k e ss) =
-      if is_docstring k then stmts_marks ss else kind_marks first k ++ stmts_marks ss
+-- of the clauses of a `try`
+abbrev pub clauses_marks : Clauses → List ℕ
+clauses_marks cs = gather_clauses marking cs
+
+-- of the cases of a `match`
+abbrev pub cases_marks : Cases → List ℕ
+cases_marks cs = gather_cases marking cs
+
+-- of the suite of a `def`
+abbrev pub function_marks : Suite → List ℕ
+function_marks s = gather_body marking is_docstring s
+
+-- of the body of a module or a function
+abbrev pub body_marks : Stmts → List ℕ
+body_marks ss = gather_but marking is_docstring ss
 
 -- the statement lines of a module, in order, each once
 abbrev pub statement_lines : Stmts → List ℕ

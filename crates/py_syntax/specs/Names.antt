@@ -4,15 +4,18 @@
 --     is_among, add_name, distinct           lists of names
 --     target_names, pattern_names            what a target and a pattern assign
 --     alias_name                             what an import assigns
---     Binding, bindings, kind_bindings       what statements bind; suite_bindings and the like for
+--     Binding, binding                       a name that is bound, and what each part of a text
+--                                            binds itself
+--     bindings, kind_bindings                what statements bind; suite_bindings and the like for
 --                                            what stands in them
 --     assigned_names, declared_names         what statements assign, and what they declare `global`
 --     local_names, global_names, is_local    the names of a function
 use Rattle.std.specs.Prelude.{Bool, not, ◌&&◌, if◌then◌else◌, List, [], ◌∷◌, ◌++◌, map, filter, bytes_eq, unwrap_or, option_to_list}
 use Rattle.std.specs.List.{list_any}
+use Rattle.py_syntax.specs.Gathering.{Gathering, nothing, gather, gather_kind, gather_suite, gather_opt, gather_arms, gather_clauses, gather_cases}
 use Rattle.py_syntax.specs.Tree.{Text, Expr, name, int, str, fstr, none, bool, tuple, list, dict, paren, not', and, or, unary, binary, compare, cond, call, index, slice, attr, Exprs, no_exprs, exprs}
 use Rattle.py_syntax.specs.Tree.{Alias, Pattern, literal, capture, wild, member, sequence, p_or, p_as, p_paren, Patterns, no_patterns, patterns}
-use Rattle.py_syntax.specs.Tree.{Stmts, no_stmts, stmt, Suite, suite, OptSuite, no_suite, has_suite, Arms, no_arms, arm, Clauses, no_clauses, clause, Cases, no_cases, case, StmtKind, expr, assign, aug_assign, pass, break, continue, return, raise, assert, global, import, from, if', while, for, try, def, match}
+use Rattle.py_syntax.specs.Tree.{Stmts, Suite, OptSuite, Arms, Clauses, Cases, StmtKind, expr, assign, aug_assign, pass, break, continue, return, raise, assert, global, import, from, if', while, for, try, def, match}
 
 -- ---- names
 
@@ -101,60 +104,65 @@ assigning_all = map assigns
 abbrev pub declaring_all : List Text → List Binding
 declaring_all = map declares
 
-abbrev mutual
-  -- statements in a row
-  pub bindings : Stmts → List Binding
-  bindings no_stmts = []
-  bindings (stmt first last k e ss) = kind_bindings k ++ bindings ss
+-- the names that a statement binds itself
+abbrev pub own_bindings : StmtKind → List Binding
+own_bindings (expr e) = []
+own_bindings (assign ts e) = assigning_all (targets_names ts)
+own_bindings (aug_assign t op e) = assigning_all (target_names t)
+own_bindings pass = []
+own_bindings break = []
+own_bindings continue = []
+own_bindings (return e) = []
+own_bindings (raise e) = []
+own_bindings (assert e w) = []
+own_bindings (global xs) = declaring_all xs
+own_bindings (import names) = assigning_all (map alias_name names)
+own_bindings (from m names) = assigning_all (map alias_name names)
+own_bindings (if' arms o) = []
+own_bindings (while t s o) = []
+own_bindings (for t e s o) = assigning_all (target_names t)
+own_bindings (try s cs o fin) = []
+own_bindings (def x ps ds c s) = assigns x ∷ []
+own_bindings (match e last cs) = []
 
-  -- a statement
-  pub kind_bindings : StmtKind → List Binding
-  kind_bindings (expr e) = []
-  kind_bindings (assign ts e) = assigning_all (targets_names ts)
-  kind_bindings (aug_assign place op e) = assigning_all (target_names place)
-  kind_bindings pass = []
-  kind_bindings break = []
-  kind_bindings continue = []
-  kind_bindings (return e) = []
-  kind_bindings (raise e) = []
-  kind_bindings (assert e w) = []
-  kind_bindings (global xs) = declaring_all xs
-  kind_bindings (import names) = assigning_all (map alias_name names)
-  kind_bindings (from m names) = assigning_all (map alias_name names)
-  kind_bindings (if' arms o) = arms_bindings arms ++ opt_bindings o
-  kind_bindings (while t b o) = suite_bindings b ++ opt_bindings o
-  kind_bindings (for t e b o) =
-      assigning_all (target_names t) ++ (suite_bindings b ++ opt_bindings o)
-  kind_bindings (try b cs o f) =
-      suite_bindings b ++ (clauses_bindings cs ++ (opt_bindings o ++ opt_bindings f))
-  kind_bindings (def x ps ds c b) = assigns x ∷ []
-  kind_bindings (match e last cs) = cases_bindings cs
+-- A clause binds the name of its exception, and a case what its pattern captures. What the body of a
+-- function binds is the function's own.
+abbrev pub binding : Gathering Binding
+binding = record {
+  of_kind = λ first last k. own_bindings k;
+  of_arm = λ t s. [];
+  of_clause = λ e x s. assigning_all (option_to_list x);
+  of_case = λ p g s. assigning_all (pattern_names p);
+  within = nothing;
+}
 
-  -- a suite
-  pub suite_bindings : Suite → List Binding
-  suite_bindings (suite first last inline b) = bindings b
+-- statements in a row
+abbrev pub bindings : Stmts → List Binding
+bindings ss = gather binding ss
 
-  -- the suite of an `else` or a `finally`, which may be missing
-  pub opt_bindings : OptSuite → List Binding
-  opt_bindings no_suite = []
-  opt_bindings (has_suite s) = suite_bindings s
+-- a statement
+abbrev pub kind_bindings : StmtKind → List Binding
+kind_bindings k = gather_kind binding (own_bindings k) k
 
-  -- the tests of an `if`
-  pub arms_bindings : Arms → List Binding
-  arms_bindings no_arms = []
-  arms_bindings (arm t b arms) = suite_bindings b ++ arms_bindings arms
+-- a suite
+abbrev pub suite_bindings : Suite → List Binding
+suite_bindings s = gather_suite binding s
 
-  -- the clauses of a `try`
-  pub clauses_bindings : Clauses → List Binding
-  clauses_bindings no_clauses = []
-  clauses_bindings (clause e x b cs) =
-      assigning_all (option_to_list x) ++ (suite_bindings b ++ clauses_bindings cs)
+-- the suite of an `else` or a `finally`, which may be missing
+abbrev pub opt_bindings : OptSuite → List Binding
+opt_bindings o = gather_opt binding o
 
-  -- the cases of a `match`
-  pub cases_bindings : Cases → List Binding
-  cases_bindings no_cases = []
-  cases_bindings (case p g b cs) =
-      assigning_all (pattern_names p) ++ (suite_bindings b ++ cases_bindings cs)
+-- the tests of an `if`
+abbrev pub arms_bindings : Arms → List Binding
+arms_bindings arms = gather_arms binding arms
+
+-- the clauses of a `try`
+abbrev pub clauses_bindings : Clauses → List Binding
+clauses_bindings cs = gather_clauses binding cs
+
+-- the cases of a `match`
+abbrev pub cases_bindings : Cases → List Binding
+cases_bindings cs = gather_cases binding cs
 
 -- those that are assigned
 abbrev pub assigned_in : List Binding → List Text
