@@ -1,13 +1,13 @@
 -- What is read of the rows of `arc` that are kept of data of arcs.
 --     less_then, is_true, a_row     orders by four parts; a test that holds; a row by its parts
 --     arcs_content                  the tables hold the data
-use Rattle.std.proofs.Common.{◌≡◌, ◌≢◌, ℕ, ℤ, pos, negsuc, Bool, true, false, cond, not, List, [], ◌∷◌, ◌++◌, map, refl, ap, subst, ◌∙◌, arith, lt-ltb, ne_eqb, leb→le}
+use Rattle.std.proofs.Common.{◌≡◌, ◌≢◌, ℕ, ◌-◌, ℤ, pos, negsuc, Bool, true, false, cond, not, List, [], ◌∷◌, ◌++◌, map, refl, ap, subst, ◌∙◌, arith, lt-ltb, ne_eqb, leb→le}
 use Rattle.std.specs.Prelude.{T, ◌&&◌, ◌||◌, nat_le}
 use Rattle.std.specs.declared.cmp.Ordering.{Ordering}
 use Rattle.std.specs.declared.cmp.Ordering.TheVariants.{Less, Equal, Greater}
 use Rattle.std.specs.Ordering.{int_cmp, ordering_then}
 use Rattle.std.specs.List.{AllByRecursion, AllZip, fold, flat_map}
-use Rattle.cov_data.specs.DataSet.{Text, text_cmp, DataSet, no_data, with_path, IsNumber, IsSound}
+use Rattle.cov_data.specs.DataSet.{most_number, Text, text_cmp, DataSet, no_data, with_path, IsNumber, IsSound}
 use Rattle.cov_data.specs.Rows.{RowView, paths_of, rows_of}
 use Rattle.cov_vault.specs.declared.vault.Content.TheVariants.{Good}
 use Rattle.cov_tables.specs.Entries.{number, Entry, entry_cmp}
@@ -44,8 +44,8 @@ abbrev pub a_row : Text → Text → ℤ → ℤ → ℕ → RowView
 a_row path context from to count = record { path = path; context = context; from = from; to = to; count = count }
 
 within : (z : ℤ) → IsNumber z → is_within z ≡ true
-within (pos n) h = is_true (nat_le n 65535) h.2.le
-within (negsuc n) h = let low = leb→le n 65534 h.1.le in lt-ltb n 65535 (omega (arith, low))
+within (pos n) h = is_true (nat_le n most_number) h.2.le
+within (negsuc n) h = let low = leb→le n (most_number - 1) h.1.le in lt-ltb n most_number (omega (arith, low))
 
 not_zero : (z : ℤ) → z ≢ pos 0 → is_zero z ≡ false
 not_zero (pos n) h = ne_eqb n 0 (λ e. h (ap pos e))

@@ -17,8 +17,10 @@ use Rattle.cov_sql.specs.Tables.{Shape}
 use Rattle.cov_sql.specs.Written.{Inserts}
 use Rattle.cov_sql.specs.ByName.{shape_of, declared_as}
 use Rattle.cov_sql.specs.Works.{Works}
+use Rattle.cov_sql.specs.Steps.{WorksBy}
 use Rattle.cov_sql.specs.Holding.{same_table, Rows, with_rows, Holds, Fills}
-use Rattle.cov_sql.specs.SavedRows.{numbered}
+use Rattle.cov_sql.specs.declared.saved.SavedRow.{SavedRow}
+use Rattle.cov_sql.specs.SavedRows.{numbered, arc_row}
 use Rattle.cov_sql.proofs.Holding.{added, is_declared}
 
 -- the same rows in another order
@@ -39,7 +41,7 @@ moved : (b : Bool) (xs ys : List Row) (row : Row) → IsPermutation (cond b ((xs
 moved true xs ys row = subst (λ zs. IsPermutation zs (row ∷ (xs ++ ys))) (sym (append_assoc xs (row ∷ []) ys)) (IsPermutation-middle xs row ys)
 moved false xs ys row = IsPermutation-refl ys
 
--- a row behind those before it
+-- a row after those before it
 pub one_more : (n : Name) (xs : List Row) (row : Row) (db : Database) (rows : Rows) → Holds db (with_rows n (row ∷ []) (with_rows n xs rows)) → Holds db (with_rows n (xs ++ row ∷ []) rows)
 one_more n xs row db rows h = holds_as db _ (with_rows n (xs ++ row ∷ []) rows) (λ m. moved (same_table m n) xs (rows m) row) h
 
@@ -55,13 +57,6 @@ module _ {S : Type 0} (g : Ghosts S) where
   pub fills_none : (n : Name) (a : Held S) → Fills g (with_rows n []) a a (Ok tt)
   fills_none n a clean inside rows h = no_rows_more n (state g a).now rows h
 
-  -- a step that is not taken
-  pub fills_if : (n : Name) (b : Bool) (rows : List Row) (a : Held S) → b ≡ false → Fills g (with_rows n (cond b rows [])) a a (Ok tt)
-  fills_if n b rows a is = rw is (fills_none n a)
-
-  pub fills_when : (n : Name) (b : Bool) (rows : List Row) (a c : Held S) (r : Result (Unit {0}) StatementError) → b ≡ true → Fills g (with_rows n rows) a c r → Fills g (with_rows n (cond b rows [])) a c r
-  fills_when n b rows a c r is h = rw is h
-
   -- a statement that adds a row
   pub fills_one : (n : Name) (row : Row) (a b : Held S) (r : Result (Unit {0}) StatementError) → Inserts (shape_of n) (declared_as n) row (state g a) (state g b) r → Fills g (with_rows n (row ∷ [])) a b r
   fills_one n row a b r told clean inside rows h = on_ok r (added n row (state g a).now (state g b).now rows h) (told clean inside (is_declared n (state g a).now h.base.stands))
@@ -73,10 +68,20 @@ module _ {S : Type 0} (g : Ghosts S) where
       let before : HasCleanDisk (state g b) = omega (arith, clean, s.clean) in
       two clean ((works before inside).goes_on) (f rows) (one before inside rows h)
 
-  pub fills_next : (n : Name) (xs : List Row) (row : Row) (a b c : Held S) (v : Unit {0}) → Survives (state g b) (state g c) (λ _. ⊥)
-      → Works g a b (Ok v) → Fills g (with_rows n xs) a b (Ok v) → Inserts (shape_of n) (declared_as n) row (state g b) (state g c) (Ok tt) → Fills g (with_rows n (xs ++ row ∷ [])) a c (Ok tt)
-  fills_next n xs row a b c v s works one told clean inside rows h =
-      one_more n xs row (state g c).now rows (fills_then (with_rows n xs) (with_rows n (row ∷ [])) a b c v (Ok tt) s works one (fills_one n row b c (Ok tt) told) clean inside rows h)
+module _ {S Q : Type 0} {g : Ghosts S} {telling : Q → Type 0} {counted : Q → ℕ} where
+  -- the same of steps by statements
+  pub fills_on : (f k : Rows → Rows) {a b c : Held S} {p q s : Q} {v : Unit {0}} {r : Result (Unit {0}) StatementError} → WorksBy g telling counted a b p q (Ok v) → WorksBy g telling counted b c q s r
+      → (telling p → Fills g f a b (Ok v)) → (telling q → Fills g k b c r) → telling p → Fills g (λ rows. k (f rows)) a c r
+  fills_on f k {a = a} {b = b} {c = c} {v = v} {r = r} one two first second tells =
+      let told = one.goes_on.tells tells in
+      fills_then g f k a b c v r (two.survives told) (one.works tells) (first tells) (second told)
+
+  -- a row more of one table
+  pub fills_more : (n : Name) (xs : List Row) (row : Row) {a b c : Held S} {p q s : Q} {v w : Unit {0}} → WorksBy g telling counted a b p q (Ok v) → WorksBy g telling counted b c q s (Ok w)
+      → (telling p → Fills g (with_rows n xs) a b (Ok v)) → (telling q → Inserts (shape_of n) (declared_as n) row (state g b) (state g c) (Ok w)) → telling p → Fills g (with_rows n (xs ++ row ∷ [])) a c (Ok w)
+  fills_more n xs row {b = b} {c = c} {w = w} one two first told tells clean inside rows h =
+      one_more n xs row (state g c).now rows
+      (fills_on (with_rows n xs) (with_rows n (row ∷ [])) one two first (λ still. fills_one g n row b c (Ok w) (told still)) tells clean inside rows h)
 
 -- ---- lists so far
 
@@ -118,3 +123,7 @@ numbered_at texts i text below is =
 pub as_row : (t : Shape) (table : ℕ → Table) (old new : State) (r : Result (Unit {0}) StatementError) {x : ℤ} {s : List ℕ} (y : ℤ) (u : List ℕ) → Inserts t table (Int x ∷ Text s ∷ []) old new r → x ≡ y → s ≡ u
     → Inserts t table (Int y ∷ Text u ∷ []) old new r
 as_row t table old new r y u h is same = subst (λ row. Inserts t table row old new r) (λ k. Int (is k) ∷ Text (same k) ∷ []) h
+
+pub arcs_if : (arcs : Bool) (rows : List SavedRow) → map arc_row (cond arcs rows []) ≡ cond arcs (map arc_row rows) []
+arcs_if true rows = refl
+arcs_if false rows = refl

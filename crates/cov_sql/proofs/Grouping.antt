@@ -10,6 +10,7 @@ use Rattle.std.specs.Ordering.{is_eq, is_lt, nat_cmp, int_cmp, ordering_then}
 use Rattle.std.specs.Cmp.{IsTotalOrder, then_total, on_total, int_cmp_total, nat_cmp_total, tied_itself}
 use Rattle.std.specs.List.{AllByRecursion, AllZip, flat_map}
 use Rattle.std.specs.FinMap.{nat_cmp-IsAntisymmetric}
+use Rattle.cov_data.specs.DataSet.{most_number}
 use Rattle.std.proofs.lemmas.List.{map-append}
 use Rattle.cov_data.specs.Numbits.{IsNumbits, lines_of_bits}
 use Rattle.cov_data.specs.Rows.{distinct_in_order}
@@ -61,7 +62,7 @@ abbrev group_spots : GroupView → List Spot
 group_spots g = map (group_spot g) g.lines
 
 line_is : (r : SavedRow) (h : IsLine r) → line_in r.from ≡ h.line
-line_is r h = ap line_in h.from ∙ ap (λ b. cond b h.line 0) (le-leb h.line 65535 h.within)
+line_is r h = ap line_in h.from ∙ ap (λ b. cond b h.line 0) (le-leb h.line most_number h.within)
 
 spot_is : (r : SavedRow) (h : IsLine r) → group_spot (one_line r) (line_in r.from) ≡ spot_of r
 spot_is r h =

@@ -10,7 +10,7 @@ use Rattle.std.specs.Ordering.{int_cmp, ordering_then, ordering_reverse}
 use Rattle.std.specs.Cmp.{int_cmp_total, tied_itself}
 use Rattle.std.specs.List.{AllByRecursion, AllZip}
 use Rattle.std.proofs.lemmas.Option.{same_Some}
-use Rattle.cov_data.specs.DataSet.{Text, text_cmp, DataSet, IsSound}
+use Rattle.cov_data.specs.DataSet.{most_number, Text, text_cmp, DataSet, IsSound}
 use Rattle.cov_data.specs.Rows.{RowView, paths_of, rows_of}
 use Rattle.cov_data.proofs.FileViews.{text_cmp_total}
 use Rattle.cov_tables.specs.Hits.{spot_cmp}
@@ -71,8 +71,8 @@ module _ (ps cs : List Text) (up : Rise text_cmp ps) (rise : Rise text_cmp cs) w
 
 -- ---- of data of lines
 
-line_of : (z : ℤ) → pos 0 <ℤ z → z ≤ℤ pos 65535 → (n : ℕ) × (z ≡ pos n) × (n ≤ 65535)
-line_of (pos n) low high = (n, refl, leb→le n 65535 high.le)
+line_of : (z : ℤ) → pos 0 <ℤ z → z ≤ℤ pos most_number → (n : ℕ) × (z ≡ pos n) × (n ≤ most_number)
+line_of (pos n) low high = (n, refl, leb→le n most_number high.le)
 line_of (negsuc n) low high = absurd low.lt
 
 kept_line : (ps cs : List Text) (r : RowView) (s : SavedRow) → IsSavedRow ps cs r s → IsSoundRow false r → IsLine s

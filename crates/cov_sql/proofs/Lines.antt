@@ -7,7 +7,7 @@ use Rattle.std.specs.declared.cmp.Ordering.TheVariants.{Less, Equal, Greater}
 use Rattle.std.specs.Ordering.{int_cmp, ordering_then}
 use Rattle.std.specs.List.{AllByRecursion, AllZip, fold, flat_map, list_all}
 use Rattle.std.proofs.lemmas.List.{take_all, drop_all}
-use Rattle.cov_data.specs.DataSet.{Text, text_cmp, DataSet, no_data, with_path, IsSound}
+use Rattle.cov_data.specs.DataSet.{most_number, Text, text_cmp, DataSet, no_data, with_path, IsSound}
 use Rattle.cov_data.specs.Numbits.{IsNumbits, lines_of_bits}
 use Rattle.cov_data.specs.Rows.{RowView, paths_of, rows_of}
 use Rattle.cov_vault.specs.declared.vault.Content.TheVariants.{Good}
@@ -63,7 +63,7 @@ cut R (x ∷ xs) ys (r ∷ rs) h = let c = cut R xs ys rs h.1 in record { front 
 
 -- ---- few bytes
 
-needed_few : (ns : List ℕ) (a : ℕ) → AllByRecursion (λ n. n ≤ 65535) ns → a ≤ 8192 → fold (λ most n. max most (n / 8 + 1)) a ns ≤ 8192
+needed_few : (ns : List ℕ) (a : ℕ) → AllByRecursion (λ n. n ≤ most_number) ns → a ≤ 8192 → fold (λ most n. max most (n / 8 + 1)) a ns ≤ 8192
 needed_few [] a h few = few
 needed_few (n ∷ ns) a h few = needed_few ns (max a (n / 8 + 1)) h.1 (omega (arith, h.0, few))
 
@@ -85,16 +85,16 @@ module _ (ps cs : List Text) (counts : Spot → ℕ) where
   abbrev IsRead : SavedBits → Type 0
   IsRead b = IsKnown ps b.file_id × IsKnown cs b.context_id × (length b.numbits.items ≤ 8192)
 
-  line_at_most : (b : SavedBits) (n : ℕ) (r : RowView) → Stands r (line_spot b n) → nat_le n 65535 ≡ true
-  line_at_most b n r h = let high : pos n ≤ℤ pos 65535 = subst (λ z. z ≤ℤ pos 65535) (sym h.from) h.sound.0.from_number.2 in is_true (nat_le n 65535) high.le
+  line_at_most : (b : SavedBits) (n : ℕ) (r : RowView) → Stands r (line_spot b n) → nat_le n most_number ≡ true
+  line_at_most b n r h = let high : pos n ≤ℤ pos most_number = subst (λ z. z ≤ℤ pos most_number) (sym h.from) h.sound.0.from_number.2 in is_true (nat_le n most_number) high.le
 
   line_some : (b : SavedBits) (n : ℕ) (r : RowView) → Stands r (line_spot b n) → nat_lt 0 n ≡ true
   line_some b n r h = let low : pos 0 <ℤ pos n = subst (λ z. pos 0 <ℤ z) (sym h.from) (h.sound.0.one_line refl).1 in is_true (nat_lt 0 n) low.lt
 
-  lines_few : (b : SavedBits) (ns : List ℕ) (rs : List RowView) → AllZip Stands rs (map (line_spot b) ns) → AllByRecursion (λ n. n ≤ 65535) ns
+  lines_few : (b : SavedBits) (ns : List ℕ) (rs : List RowView) → AllZip Stands rs (map (line_spot b) ns) → AllByRecursion (λ n. n ≤ most_number) ns
   lines_few b [] rs h = tt
   lines_few b (n ∷ ns) [] h = absurd h
-  lines_few b (n ∷ ns) (r ∷ rs) h = (leb-true n 65535 (line_at_most b n r h.0), lines_few b ns rs h.1)
+  lines_few b (n ∷ ns) (r ∷ rs) h = (leb-true n most_number (line_at_most b n r h.0), lines_few b ns rs h.1)
 
   is_read : (b : SavedBits) (ns : List ℕ) (rs : List RowView) → ns ≢ [] → IsNumbits ns b.numbits.items → AllZip Stands rs (map (line_spot b) ns) → IsRead b
   is_read b [] rs some packed h = absurd (some refl)

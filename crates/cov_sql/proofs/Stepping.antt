@@ -1,17 +1,20 @@
 -- One step of writing after the other.
-use Rattle.std.proofs.Common.{◌≡◌, inl, ℕ, List, [], ◌∷◌, ◌++◌, arith, Result, Ok, Err, IsTrue, OnOk, OnErr, refl, sym, subst, ◌∙◌}
+use Rattle.std.proofs.Common.{◌≡◌, ◌≤◌, inl, inr, ℕ, List, [], ◌∷◌, ◌++◌, arith, Result, Ok, Err, IsTrue, OnOk, OnErr, refl, sym, subst, ◌∙◌}
 use Rattle.sqlite_value.specs.Order.{Row}
 use Rattle.sqlite_trees.specs.declared.store.Store.{Ghosts}
 use Rattle.sqlite.specs.Held.{Held, state}
 use Rattle.sqlite.specs.State.{State, Survives, KeepsCommit}
 use Rattle.sqlite.proofs.StateLemmas.{survives_then}
+use Rattle.cov_outside.specs.Counts.{Rose}
 use Rattle.cov_sql.specs.declared.statements.StatementError.{StatementError}
 use Rattle.cov_sql.specs.declared.statements.StatementError.TheVariants.{Missing, Refused, NoMemory}
 use Rattle.cov_sql.specs.declared.errors.SqlError.TheVariants as sql
 use Rattle.cov_sql.specs.Refusals.{refusal}
 use Rattle.cov_sql.specs.SqlTexts.{IsWritten}
 use Rattle.cov_sql.specs.Written.{Ran, RunsIn}
+use Rattle.cov_sql.specs.Calls.{Does, IsRefused, GoesOn, WorksAs}
 use Rattle.cov_sql.specs.Works.{Step, RanAll, Reaches, NamesAbsent, Works}
+use Rattle.cov_sql.specs.Steps.{WorksBy}
 
 pub keeps_itself : (a : State) → KeepsCommit a a
 keeps_itself a = record { was_open = λ o. o; committed = λ o. refl }
@@ -83,9 +86,6 @@ module _ {S : Type 0} (g : Ghosts S) where
         kept = keeps_then (state g a) (state g b) (state g c) first.kept second.kept;
       }
 
-  pub works_then : (a b c : Held S) (r : Result (Unit {0}) StatementError) → Survives (state g b) (state g c) (λ _. ⊥) → Works g a b (Ok tt) → Works g b c r → Works g a c r
-  works_then a b c r s one two = works_after tt a b c r s one two
-
   pub still : (a b c : Held S) → Survives (state g a) (state g b) (λ _. ⊥) → Survives (state g b) (state g c) (λ _. ⊥) → Survives (state g a) (state g c) (λ _. ⊥)
   still a b c s t = survives_then (state g a) (state g b) (state g c) (λ _. ⊥) (λ _. ⊥) (λ _. ⊥) (λ _ _ none. none) (λ _ _ none. none) s t
 
@@ -98,6 +98,45 @@ module _ {S : Type 0} (g : Ghosts S) where
 
   pub stays : (a : Held S) → Survives (state g a) (state g a) (λ _. ⊥)
   stays a = record { clean = omega arith; shield = λ h. h; counts = omega arith; limit = refl; closes = λ clean is. inl is; crash = λ clean db may. inl may }
+
+rose_later : (a b c : ℕ) → a ≤ b → Rose b c → Rose a c
+rose_later a b c low (inl more) = inl (omega (arith, low, more))
+rose_later a b c low (inr top) = inr top
+
+-- ---- steps by statements
+
+module _ {S Q : Type 0} {g : Ghosts S} {telling : Q → Type 0} {counted : Q → ℕ} where
+  pub works_none : (a : Held S) (p : Q) → WorksBy g telling counted a a p p (Ok tt)
+  works_none a p = record {
+    works = λ tells. nothing_done g a (Ok tt) refl;
+    survives = λ tells. stays g a;
+    goes_on = record { tells = λ tells. tells; count = omega arith; refused = λ no. absurd (let ok = no in cc) };
+  }
+
+  -- a statement that was run
+  pub works_one : {text : List ℕ} {does : Does} {a b : Held S} {p q : Q} {r : Result (Unit {0}) StatementError} → IsWritten text → (telling p → WorksAs g text does a b r) → GoesOn telling counted p q (IsRefused r)
+      → WorksBy g telling counted a b p q r
+  works_one {text = text} {a = a} {b = b} {r = r} is one on = record {
+    works = λ tells. worked g text a b r is (one tells).ran;
+    survives = λ tells. (one tells).survives;
+    goes_on = on;
+  }
+
+  -- a step after one that went on
+  pub works_on : {a b c : Held S} {p q s : Q} {v : Unit {0}} {r : Result (Unit {0}) StatementError} → WorksBy g telling counted a b p q (Ok v) → WorksBy g telling counted b c q s r → WorksBy g telling counted a c p s r
+  works_on {a = a} {b = b} {c = c} {p = p} {q = q} {s = s} {v = v} {r = r} one two = record {
+    works = λ tells. let told = one.goes_on.tells tells in works_after g v a b c r (two.survives told) (one.works tells) (two.works told);
+    survives = λ tells. still g a b c (one.survives tells) (two.survives (one.goes_on.tells tells));
+    goes_on = record {
+      tells = λ tells. two.goes_on.tells (one.goes_on.tells tells);
+      count = omega (arith, one.goes_on.count, two.goes_on.count);
+      refused = λ no. rose_later (counted p) (counted q) (counted s) one.goes_on.count (two.goes_on.refused no);
+    };
+  }
+
+  -- one that failed ends the whole
+  pub works_end : {a b : Held S} {p q : Q} {e : StatementError} {r : Result (Unit {0}) StatementError} → WorksBy g telling counted a b p q (Err e) → r ≡ Err e → WorksBy g telling counted a b p q r
+  works_end {a = a} {b = b} {p = p} {q = q} one is = subst (WorksBy g telling counted a b p q) (sym is) one
 
 -- a base is judged so where a table or a column is named as not there
 pub refused_as : (s : StatementError) → refusal s ≡ sql.NotSchema7 → s ≡ Missing

@@ -30,8 +30,8 @@ use Rattle.cov_sql.specs.Holding.{IsReplaceable}
 use Rattle.cov_sql.specs.Making.{IsBare, LacksCounts, IsReady}
 use Rattle.cov_sql.specs.SavedData.{HoldsSaved}
 
--- data may be saved in a base: a fresh one is bare, and the rows of any other may be replaced, or it
--- lacks the counts alone and has room for them
+-- data may be saved in a base: a fresh one is bare, and the rows of any other may be replaced, or
+-- it lacks the counts alone and has room for them
 abbrev pub IsReadyFor : Bool → Database → Type 0
 IsReadyFor true db = IsBare db
 IsReadyFor false db = IsReplaceable db ⊎ LacksCounts db

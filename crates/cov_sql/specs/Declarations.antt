@@ -100,8 +100,8 @@ declared_tracer = table (codes "tracer")
     (column (codes "file_id") Integer ∷ column (codes "tracer") Text ∷ []) (Some 0) (0 ∷ []) []
     (reference 0 (codes "file") ∷ [])
 
--- hits (file_id, context_id, fromno, tono, count), the first four unique together, which refers to no
--- table
+-- hits (file_id, context_id, fromno, tono, count), the first four unique together, which refers to
+-- no table
 abbrev pub declared_hits : ℕ → Table
 declared_hits = table (codes "hits")
     (column (codes "file_id") Integer ∷ column (codes "context_id") Integer

@@ -11,6 +11,7 @@ use Rattle.std.specs.Prelude.{◌≡◌, ℕ, ℤ, pos, negsuc, ◌≤◌, Bool,
 use Rattle.std.specs.Ordering.{nat_cmp}
 use Rattle.std.specs.List.{AllByRecursion}
 use Rattle.std.specs.List.Sorted.{IsStrictlySortedBy}
+use Rattle.cov_data.specs.DataSet.{most_number}
 use Rattle.cov_data.specs.Numbits.{IsNumbits, lines_of_bits}
 use Rattle.cov_data.specs.Rows.{distinct_in_order}
 use Rattle.cov_tables.specs.Hits.{spot_cmp}
@@ -32,7 +33,7 @@ group_view g = record { file_id = g.file_id; context_id = g.context_id; lines = 
 
 -- 0 where there is none
 abbrev pub line_in : ℤ → ℕ
-line_in (pos n) = cond (nat_le n 65535) n 0
+line_in (pos n) = cond (nat_le n most_number) n 0
 line_in (negsuc n) = 0
 
 -- whether two groups are of one file and one context
@@ -73,12 +74,12 @@ pub record IsBlobOf (g : Group) (b : SavedBits) : Type 0 where
   pub packed : IsNumbits g.lines.items b.numbits.items
   pub back : lines_of_bits b.numbits.items ≡ distinct_in_order nat_cmp g.lines.items
 
--- a row is of one line, from 0 to 65535
+-- a row is of one line, from 0 to the greatest
 pub record IsLine (r : SavedRow) : Type 0 where
   pub line : ℕ
   pub from : r.from ≡ pos line
   pub to : r.to ≡ pos line
-  pub within : line ≤ 65535
+  pub within : line ≤ most_number
 
 -- the rows are of lines, and rise
 pub record AreLines (rows : List SavedRow) : Type 0 where

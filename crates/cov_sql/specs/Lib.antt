@@ -11,6 +11,7 @@ pub mod Refusals
 pub mod Content
 pub mod Finds
 pub mod Works
+pub mod Steps
 pub mod Failures
 pub mod Holding
 pub mod Blobs

@@ -1,17 +1,24 @@
 -- The rows that are written of data.
 --     flag_row, numbered                  the row of `meta`; texts with their numbers, as in `file`
 --                                         and `context`
+--     table_of, InsertsText               the table that numbers such texts; so a call inserts one
 --     arc_row, bits_row, hits_row         the rows of what is kept of data until it is written
 --     with_names, with_data, with_all     the rows of all tables with those of names, with those of
 --                                         data, and with both
 --     no_data_rows                        the rows of a data file of schema 7 without data
-use Rattle.std.specs.Prelude.{ℕ, pos, ◌+◌, Bool, cond, List, [], ◌∷◌, map, codes, string_bytes}
+use Rattle.std.specs.Prelude.{ℕ, ℤ, pos, ◌+◌, Bool, cond, List, [], ◌∷◌, map, codes, string_bytes}
 use Rattle.sqlite_value.specs.Order.{Row}
 use Rattle.sqlite_value.specs.declared.value.Value.TheVariants.{Int, Text, Blob}
 use Rattle.cov_sql.specs.declared.saved.Saved.{Saved}
 use Rattle.cov_sql.specs.declared.saved.SavedRow.{SavedRow}
 use Rattle.cov_sql.specs.declared.saved.SavedBits.{SavedBits}
+use Rattle.cov_sql.specs.declared.inserting.Texts.{Texts}
+use Rattle.cov_sql.specs.declared.inserting.Texts.TheVariants as texts
+use Rattle.cov_sql.specs.declared.tables.Table.{Table as Name}
 use Rattle.cov_sql.specs.declared.tables.Table.TheVariants as name
+use Rattle.cov_sql.specs.ByName.{shape_of, declared_as}
+use Rattle.cov_sql.specs.Written.{Inserts}
+use Rattle.cov_sql.specs.Calls.{Does}
 use Rattle.cov_sql.specs.Holding.{Rows, with_rows}
 
 -- the row of `meta` that tells whether data are of arcs
@@ -22,6 +29,16 @@ flag_row arcs = Text (codes "has_arcs") ∷ Text (cond arcs (codes "1") (codes "
 abbrev pub numbered : ℕ → List (List ℕ) → List Row
 numbered k [] = []
 numbered k (t ∷ ts) = (Int (pos k) ∷ Text t ∷ []) ∷ numbered (k + 1) ts
+
+-- the table that numbers texts of a kind
+abbrev pub table_of : Texts → Name
+table_of texts.Paths = name.File
+table_of texts.Contexts = name.Context
+
+-- a call that inserts a text with its number
+abbrev pub InsertsText : Texts → ℤ → List ℕ → Does
+InsertsText kind id text = Inserts (shape_of (table_of kind)) (declared_as (table_of kind))
+    (Int id ∷ Text text ∷ [])
 
 -- a row of `arc`
 abbrev pub arc_row : SavedRow → Row

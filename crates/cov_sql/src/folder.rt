@@ -18,8 +18,8 @@ use std::io::ErrorKind;
 use std::path::{Path, PathBuf};
 use std::{fs, io};
 
-/// The data files of a folder, each under its name. Files that the database keeps beside a data file
-/// have no name of their own.
+/// The data files of a folder, each under its name. Files that the database keeps beside a data
+/// file have no name of their own.
 #[derive(Drop)]
 pub struct FolderVault {
     rt: HostRuntime,
@@ -106,7 +106,7 @@ impl FolderVault {
         let mut base = self.open(path)?;
         let loaded = read_data(alloc, &mut base, &mut self.by);
         // What stays beside the file is read by the next open.
-        let _ = base.close();
+        drop(base.close());
         match loaded {
             Ok(data) => Ok(data),
             Err(error) => Err(failure_of(error)),
@@ -129,7 +129,7 @@ impl FolderVault {
         let mut base = self.open(path)?;
         let saved = write_data(alloc, &mut base, &mut self.by, content, fresh);
         // What stays beside the file is read by the next open.
-        let _ = base.close();
+        drop(base.close());
         match saved {
             Ok(()) => Ok(()),
             Err(error) => Err(failure_of(error)),
@@ -183,8 +183,8 @@ impl Vault for FolderVault {
         }
         match fs::remove_file(&self.rt, path.as_path()) {
             Ok(()) => {
-                // The name is gone. What stays beside it counts, and the next save of this name takes
-                // it.
+                // The name is gone. What stays beside it counts, and the next save of this name
+                // takes it.
                 let _ = self.take_companions(alloc, &path);
                 Ok(())
             }

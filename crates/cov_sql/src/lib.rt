@@ -1,6 +1,6 @@
 //! Data files of coverage.py's schema 7: `read_data` and `write_data` turn them into data and back.
-//! `FolderVault` keeps them in a folder, and `SqlVault` in memory. `Statements` has a method for each
-//! statement on their tables, and `Counted` runs them and counts what the database refuses.
+//! `FolderVault` keeps them in a folder, and `SqlVault` in memory. `Statements` has a method for
+//! each statement on their tables, and `Counted` runs them and counts what the database refuses.
 #![tactic(auto)]
 
 mod bits;

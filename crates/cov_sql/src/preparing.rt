@@ -4,8 +4,7 @@ ghost use Rattle.sqlite.specs.Held.{state};
 ghost use Rattle.cov_sql.specs.declared.preparing.Start.TheVariants as start;
 ghost use Rattle.cov_sql.specs.ByName.{shape_of, declared_as};
 ghost use Rattle.cov_sql.specs.Written.{Makes};
-ghost use Rattle.cov_sql.specs.Calls.{IsRefused, GoesOn, LeavesNoMore};
-ghost use Rattle.cov_sql.specs.Works.{Works};
+ghost use Rattle.cov_sql.specs.Steps.{WorksBy};
 ghost use Rattle.cov_sql.specs.Holding.{cleared, cleared_all, Empties};
 ghost use Rattle.cov_sql.specs.Making.{Builds, Prepares, Denies, RefusesIfThere, NeverLacks};
 
@@ -49,14 +48,12 @@ fn make_table<S: Alter, Q: Statements>(
     by: &mut Q,
     table: Table,
 ) -> Result<(), StatementError>
-    ensures works { Q.tells by.old → Works S.Store work.old.conn.now work.new.conn.now result }
+    ensures steps { WorksBy S.Store Q.tells Q.refusals
+        work.old.conn.now work.new.conn.now by.old by.new result }
     ensures told { Q.tells by.old
         → Makes (shape_of table) (declared_as table) (state S.Store work.old.conn.now)
         (state S.Store work.new.conn.now) result }
-    ensures survives { Q.tells by.old
-        → LeavesNoMore S.Store work.old.conn.now work.new.conn.now }
     ensures same_reference { work.new.conn.ghost_name ≡ work.old.conn.ghost_name }
-    ensures goes_on { GoesOn Q.tells Q.refusals by.old by.new (IsRefused result) }
 {
     match table {
         Table::CoverageSchema => by.make_coverage_schema(work),
@@ -75,13 +72,11 @@ fn empty_table<S: Alter, Q: Statements>(
     by: &mut Q,
     table: Table,
 ) -> Result<(), StatementError>
-    ensures works { Q.tells by.old → Works S.Store work.old.conn.now work.new.conn.now result }
+    ensures steps { WorksBy S.Store Q.tells Q.refusals
+        work.old.conn.now work.new.conn.now by.old by.new result }
     ensures empties { Q.tells by.old → Empties S.Store (cleared table)
         work.old.conn.now work.new.conn.now result }
-    ensures survives { Q.tells by.old
-        → LeavesNoMore S.Store work.old.conn.now work.new.conn.now }
     ensures same_reference { work.new.conn.ghost_name ≡ work.old.conn.ghost_name }
-    ensures goes_on { GoesOn Q.tells Q.refusals by.old by.new (IsRefused result) }
 {
     match table {
         // The row of the version stays.
@@ -101,15 +96,13 @@ fn make_tables<S: Alter, Q: Statements>(
     by: &mut Q,
     tables: &[Table],
 ) -> Result<(), StatementError>
-    ensures works { Q.tells by.old → Works S.Store work.old.conn.now work.new.conn.now result }
+    ensures steps { WorksBy S.Store Q.tells Q.refusals
+        work.old.conn.now work.new.conn.now by.old by.new result }
     ensures builds { Q.tells by.old → Builds S.Store tables.now
         work.old.conn.now work.new.conn.now result }
     ensures denies { Q.tells by.old → Denies S.Store tables.now
         work.old.conn.now work.new.conn.now result }
-    ensures survives { Q.tells by.old
-        → LeavesNoMore S.Store work.old.conn.now work.new.conn.now }
     ensures same_reference { work.new.conn.ghost_name ≡ work.old.conn.ghost_name }
-    ensures goes_on { GoesOn Q.tells Q.refusals by.old by.new (IsRefused result) }
 {
     for table in tables {
         make_table(work, by, *table)?;
@@ -122,13 +115,11 @@ fn empty_tables<S: Alter, Q: Statements>(
     by: &mut Q,
     tables: &[Table],
 ) -> Result<(), StatementError>
-    ensures works { Q.tells by.old → Works S.Store work.old.conn.now work.new.conn.now result }
+    ensures steps { WorksBy S.Store Q.tells Q.refusals
+        work.old.conn.now work.new.conn.now by.old by.new result }
     ensures empties { Q.tells by.old → Empties S.Store (cleared_all tables.now)
         work.old.conn.now work.new.conn.now result }
-    ensures survives { Q.tells by.old
-        → LeavesNoMore S.Store work.old.conn.now work.new.conn.now }
     ensures same_reference { work.new.conn.ghost_name ≡ work.old.conn.ghost_name }
-    ensures goes_on { GoesOn Q.tells Q.refusals by.old by.new (IsRefused result) }
 {
     for table in tables {
         empty_table(work, by, *table)?;
@@ -141,17 +132,15 @@ fn make_all<S: Alter, Q: Statements>(
     work: &mut Transaction<'_, S>,
     by: &mut Q,
 ) -> Result<(), StatementError>
-    ensures works { Q.tells by.old → Works S.Store work.old.conn.now work.new.conn.now result }
+    ensures steps { WorksBy S.Store Q.tells Q.refusals
+        work.old.conn.now work.new.conn.now by.old by.new result }
     ensures prepares { Q.tells by.old → Prepares S.Store Start.Nothing
         work.old.conn.now work.new.conn.now result }
     ensures refuses { Q.tells by.old → RefusesIfThere S.Store Start.Nothing
         work.old.conn.now work.new.conn.now result }
     ensures never { Q.tells by.old → NeverLacks S.Store Start.Nothing
         work.old.conn.now work.new.conn.now result }
-    ensures survives { Q.tells by.old
-        → LeavesNoMore S.Store work.old.conn.now work.new.conn.now }
     ensures same_reference { work.new.conn.ghost_name ≡ work.old.conn.ghost_name }
-    ensures goes_on { GoesOn Q.tells Q.refusals by.old by.new (IsRefused result) }
 {
     make_tables(work, by, &TABLES)?;
     by.insert_coverage_schema(work, 7)
@@ -162,15 +151,13 @@ fn empty_and_count<S: Alter, Q: Statements>(
     work: &mut Transaction<'_, S>,
     by: &mut Q,
 ) -> Result<(), StatementError>
-    ensures works { Q.tells by.old → Works S.Store work.old.conn.now work.new.conn.now result }
+    ensures steps { WorksBy S.Store Q.tells Q.refusals
+        work.old.conn.now work.new.conn.now by.old by.new result }
     ensures prepares { Q.tells by.old → Prepares S.Store (start.Tables false)
         work.old.conn.now work.new.conn.now result }
     ensures never { Q.tells by.old → NeverLacks S.Store (start.Tables false)
         work.old.conn.now work.new.conn.now result }
-    ensures survives { Q.tells by.old
-        → LeavesNoMore S.Store work.old.conn.now work.new.conn.now }
     ensures same_reference { work.new.conn.ghost_name ≡ work.old.conn.ghost_name }
-    ensures goes_on { GoesOn Q.tells Q.refusals by.old by.new (IsRefused result) }
 {
     make_table(work, by, Table::Hits)?;
     empty_tables(work, by, &OLD_TABLES)
@@ -182,17 +169,15 @@ pub(crate) fn prepare<S: Alter, Q: Statements>(
     by: &mut Q,
     start: Start,
 ) -> Result<(), StatementError>
-    ensures works { Q.tells by.old → Works S.Store work.old.conn.now work.new.conn.now result }
+    ensures steps { WorksBy S.Store Q.tells Q.refusals
+        work.old.conn.now work.new.conn.now by.old by.new result }
     ensures prepares { Q.tells by.old → Prepares S.Store start
         work.old.conn.now work.new.conn.now result }
     ensures refuses { Q.tells by.old → RefusesIfThere S.Store start
         work.old.conn.now work.new.conn.now result }
     ensures never { Q.tells by.old → NeverLacks S.Store start
         work.old.conn.now work.new.conn.now result }
-    ensures survives { Q.tells by.old
-        → LeavesNoMore S.Store work.old.conn.now work.new.conn.now }
     ensures same_reference { work.new.conn.ghost_name ≡ work.old.conn.ghost_name }
-    ensures goes_on { GoesOn Q.tells Q.refusals by.old by.new (IsRefused result) }
 {
     match start {
         Start::Nothing => make_all(work, by),

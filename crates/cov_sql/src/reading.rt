@@ -11,6 +11,7 @@ ghost use Rattle.cov_sql.specs.Told.{LeavesAll};
 ghost use Rattle.cov_sql.specs.Calls.{IsFault, GoesOn, Asks};
 ghost use Rattle.cov_sql.specs.Content.{content_in, AreUnhidden, IsFound};
 ghost use Rattle.cov_sql.specs.Finds.{EndsAs, SeeksCounts, IsNamed, IsMeasured, FindsNamed, FindsMeasured, FindsAll, LeavesFile};
+ghost use Rattle.cov_sql.specs.Steps.{ReadsBy};
 
 use crate::errors::SqlError;
 use crate::statements::{StatementError, Statements};
@@ -74,11 +75,7 @@ fn read_named<S: Alter, Q: Statements>(
 ) -> Result<Named, SqlError>
     ensures told { Q.tells by.old
         → FindsNamed (state S.Store base.old) (state S.Store base.new) result }
-    ensures survives { Q.tells by.old
-        → LeavesFile (state S.Store base.old) (state S.Store base.new) }
-    ensures not_bad_row { (row : ℕ) → IsErrOf result (SqlError.BadRow row) → ⊥ }
-    ensures asks { Asks S.Store base.old base.new }
-    ensures goes_on { GoesOn Q.tells Q.refusals by.old by.new (IsFault result) }
+    ensures reads { ReadsBy S.Store Q.tells Q.refusals base.old base.new by.old by.new result }
 {
     let coverage_schema = by.read_coverage_schema(alloc, base)?;
     let meta = by.read_meta(alloc, base)?;
@@ -99,11 +96,7 @@ fn read_measured<S: Alter, Q: Statements>(
 ) -> Result<Measured, SqlError>
     ensures told { Q.tells by.old
         → FindsMeasured (state S.Store base.old) (state S.Store base.new) result }
-    ensures survives { Q.tells by.old
-        → LeavesFile (state S.Store base.old) (state S.Store base.new) }
-    ensures not_bad_row { (row : ℕ) → IsErrOf result (SqlError.BadRow row) → ⊥ }
-    ensures asks { Asks S.Store base.old base.new }
-    ensures goes_on { GoesOn Q.tells Q.refusals by.old by.new (IsFault result) }
+    ensures reads { ReadsBy S.Store Q.tells Q.refusals base.old base.new by.old by.new result }
 {
     let line_bits = by.read_line_bits(alloc, base)?;
     let arc = by.read_arc(alloc, base)?;
@@ -124,11 +117,7 @@ pub(crate) fn read_tables<S: Alter, Q: Statements>(
 ) -> Result<Found, SqlError>
     ensures told { Q.tells by.old
         → FindsAll (state S.Store base.old) (state S.Store base.new) result }
-    ensures survives { Q.tells by.old
-        → LeavesFile (state S.Store base.old) (state S.Store base.new) }
-    ensures not_bad_row { (row : ℕ) → IsErrOf result (SqlError.BadRow row) → ⊥ }
-    ensures asks { Asks S.Store base.old base.new }
-    ensures goes_on { GoesOn Q.tells Q.refusals by.old by.new (IsFault result) }
+    ensures reads { ReadsBy S.Store Q.tells Q.refusals base.old base.new by.old by.new result }
 {
     let named = read_named(alloc, base, by)?;
     let measured = read_measured(alloc, base, by)?;

@@ -1,5 +1,5 @@
 //! The rows that a data file has of data.
-ghost use Rattle.std.specs.Prelude.{◌≡◌, true, false, [], map, string_bytes, IfOk, IfSome};
+ghost use Rattle.std.specs.Prelude.{◌≡◌, true, false, cond, [], map, string_bytes, IfOk, IfSome};
 ghost use Rattle.std.specs.List.{AllZip};
 ghost use Rattle.cov_data.specs.Rows.{row_view};
 ghost use Rattle.cov_sql.specs.Blobs.{AreBitsOf};
@@ -59,6 +59,13 @@ impl Saved {
             rows,
             bits,
         })
+    }
+
+    /// The rows of arcs, of which lines have none.
+    pub(crate) fn arc_rows(&self) -> &[SavedRow]
+        ensures { result.now ≡ cond self.now.arcs self.now.rows.items [] }
+    {
+        if self.arcs { self.rows.as_slice() } else { &[] }
     }
 }
 

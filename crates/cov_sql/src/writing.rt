@@ -5,9 +5,7 @@ ghost use Rattle.sqlite.specs.Held.{state};
 ghost use Rattle.sqlite.specs.State.{HasCleanDisk, KeepsCommit};
 ghost use Rattle.cov_vault.specs.declared.vault.Content.TheVariants.{NotSchema7};
 ghost use Rattle.cov_sql.specs.Content.{content_in, AreUnhidden};
-ghost use Rattle.cov_sql.specs.Finds.{LeavesFile};
-ghost use Rattle.cov_sql.specs.Calls.{IsRefused, IsFault, GoesOn, Asks, LeavesNoMore};
-ghost use Rattle.cov_sql.specs.Works.{Works};
+ghost use Rattle.cov_sql.specs.Steps.{ReadsBy, WorksBy};
 ghost use Rattle.cov_sql.specs.Making.{Saves, RefusesIfThere, NeverLacks};
 ghost use Rattle.cov_sql.specs.Committed.{IsReadyFor, HasTable, Judges, EndsSaved, LacksInWork, LeavesSaved};
 
@@ -28,17 +26,15 @@ fn write_all<S: Alter, Q: Statements>(
     start: Start,
     saved: &Saved,
 ) -> Result<(), StatementError>
-    ensures works { Q.tells by.old → Works S.Store work.old.conn.now work.new.conn.now result }
+    ensures steps { WorksBy S.Store Q.tells Q.refusals
+        work.old.conn.now work.new.conn.now by.old by.new result }
     ensures saves { Q.tells by.old → Saves S.Store start saved.now
         work.old.conn.now work.new.conn.now result }
     ensures refuses { Q.tells by.old → RefusesIfThere S.Store start
         work.old.conn.now work.new.conn.now result }
     ensures never { Q.tells by.old → NeverLacks S.Store start
         work.old.conn.now work.new.conn.now result }
-    ensures survives { Q.tells by.old
-        → LeavesNoMore S.Store work.old.conn.now work.new.conn.now }
     ensures same_reference { work.new.conn.ghost_name ≡ work.old.conn.ghost_name }
-    ensures goes_on { GoesOn Q.tells Q.refusals by.old by.new (IsRefused result) }
 {
     prepare(work, by, start)?;
     insert_all(work, by, saved)
@@ -53,11 +49,7 @@ fn judged<S: Alter, Q: Statements>(
 ) -> Result<Start, SqlError>
     ensures told { Q.tells by.old
         → Judges fresh (state S.Store base.old) (state S.Store base.new) result }
-    ensures survives { Q.tells by.old
-        → LeavesFile (state S.Store base.old) (state S.Store base.new) }
-    ensures not_bad_row { (row : ℕ) → IsErrOf result (SqlError.BadRow row) → ⊥ }
-    ensures asks { Asks S.Store base.old base.new }
-    ensures goes_on { GoesOn Q.tells Q.refusals by.old by.new (IsFault result) }
+    ensures reads { ReadsBy S.Store Q.tells Q.refusals base.old base.new by.old by.new result }
 {
     if fresh {
         return Ok(Start::Nothing);
@@ -74,7 +66,6 @@ fn judged<S: Alter, Q: Statements>(
 /// Saves data in place of those that the base holds, in one transaction. A `fresh` base has none of
 /// the tables, and they are made. After an error the base is out of any transaction, so its tables
 /// are those that were committed.
-#[tactic(auto, using(crate::proofs::Stepping::refused_as))]
 pub fn write_data<S: Alter, Q: Statements>(
     alloc: Global,
     base: &mut Connection<S>,

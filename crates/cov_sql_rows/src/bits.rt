@@ -1,11 +1,11 @@
-//! Bits of lines in the last byte that may have one, and behind it.
+//! Bits of lines in the last byte that may have one, and after it.
 
 use crate::bases::{START, held, run};
 use sqlite::{Connection, Error, MemStore, params};
 use std::alloc::{AllocError, Global};
 use std::test::Fail;
 
-/// How many bytes of 0 there are, the byte behind them, and what a base with these bits holds.
+/// How many bytes of 0 there are, the byte after them, and what a base with these bits holds.
 static LAST: [(usize, u8, &str); 5] = [
     (8191, 0x01, "lines;a.py . 65528 65528 1;"),
     (8191, 0x80, "lines;a.py . 65535 65535 1;"),

@@ -56,8 +56,8 @@ fn a_folder_keeps_data_by_name(rt: HostRuntime) -> Result<(), Fail> {
     Ok(())
 }
 
-/// What is left of a data file, and the answers of calls: data are saved and their file is spoilt, and
-/// then they are loaded, others are saved, these are loaded, and the name is removed.
+/// What is left of a data file, and the answers of calls: data are saved and their file is spoilt,
+/// and then they are loaded, others are saved, these are loaded, and the name is removed.
 static SPOILT: [(&str, &str); 6] = [
     ("half", "saved, Failed, Failed, Failed, removed"),
     ("all but a byte", "saved, Failed, Failed, Failed, removed"),
@@ -134,8 +134,8 @@ fn a_file_that_is_cut_short_is_a_fault(rt: HostRuntime) -> Result<(), Fail> {
     Ok(())
 }
 
-/// The answers of calls, of which all but the first come while a folder stands in place of a file that the
-/// database keeps beside `b`.
+/// The answers of calls, of which all but the first come while a folder stands in place of a file
+/// that the database keeps beside `b`.
 fn answers_beside_a_folder(
     rt: &HostRuntime,
     alloc: Global,

@@ -398,8 +398,8 @@ fn a_table_or_a_column_is_missing(rt: HostRuntime) -> Result<(), Fail> {
     Ok(())
 }
 
-/// The tables and rows of a file that coverage.py 6.5 wrote of two runs with `--branch`, the second with
-/// the context `c`.
+/// The tables and rows of a file that coverage.py 6.5 wrote of two runs with `--branch`, the second
+/// with the context `c`.
 const COVERAGE_PY: &str = "CREATE TABLE coverage_schema (
     -- One row, to record the version of the schema in this db.
     version integer

@@ -1,4 +1,5 @@
-//! Rows of data files as tests: over databases in memory, over disks in memory that stop, and in a folder.
+//! Rows of data files as tests: over databases in memory, over disks in memory that stop, and in a
+//! folder.
 #![tactic(auto)]
 
 #[cfg(test)]

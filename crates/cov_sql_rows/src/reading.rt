@@ -67,7 +67,7 @@ fn push_row(alloc: Global, text: &mut String, row: &[Cell]) -> Result<(), AllocE
     text.push('|')
 }
 
-/// All rows, with a bar behind each.
+/// All rows, with a bar after each.
 fn rows_text(alloc: Global, rows: &[Vec<Cell>]) -> Result<String, AllocError> {
     let mut text = String::new(alloc);
     for row in rows {

@@ -28,8 +28,8 @@ fn put(file: &mut [u8], at: usize, byte: u8) {
     }
 }
 
-/// A data file whose table `tracer`, which has no row, has no rowids either. The number of its page stands
-/// before its text, which is followed by blanks.
+/// A data file whose table `tracer`, which has no row, has no rowids either. The number of its page
+/// stands before its text, which is followed by blanks.
 pub(crate) fn without_rowids(alloc: Global, bytes: &[u8]) -> Result<Vec<u8>, AllocError> {
     let mut file = Vec::from_slice(alloc, bytes)?;
     let Some(at) = place_of(bytes, TRACER) else {

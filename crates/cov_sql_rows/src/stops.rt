@@ -1,8 +1,8 @@
 //! Savings whose files stop: what is read afterwards is what was there, or what was saved.
 //!
-//! The files are disks in memory. One of them takes so many calls, and then each call of it fails. The files
-//! are opened again as a crash of the machine leaves them, without what was not synced, or as the end of the
-//! process alone leaves them, with all that was written.
+//! The files are disks in memory. One of them takes so many calls, and then each call of it fails.
+//! The files are opened again as a crash of the machine leaves them, without what was not synced,
+//! or as the end of the process alone leaves them, with all that was written.
 
 use crate::bases::{held, save};
 use crate::texts::{Given, data_of};

@@ -3,8 +3,8 @@
 use cov_data::{Data, Row};
 use std::alloc::{AllocError, Global};
 
-/// A row of data: its path and context, its two numbers and its count. One with a 0 in front is a path
-/// without a row.
+/// A row of data: its path and context, its two numbers and its count. One with a 0 in front is a
+/// path without a row.
 pub(crate) type Given = (&'static str, &'static str, i32, i32, u32);
 
 fn add(
@@ -78,8 +78,8 @@ impl Listing {
     }
 }
 
-/// `arcs` or `lines`, the paths without a row, and the rows as `path context from to count`, each with `;`
-/// after it. A context `.` is the empty one.
+/// `arcs` or `lines`, the paths without a row, and the rows as `path context from to count`, each
+/// with `;` after it. A context `.` is the empty one.
 pub(crate) fn shown(alloc: Global, data: &Data) -> Result<String, AllocError> {
     let paths = data.paths()?;
     let rows = data.rows()?;

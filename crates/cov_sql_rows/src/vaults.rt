@@ -41,7 +41,6 @@ static CALLS: [(&str, &str, &str); 27] = [
 ];
 
 /// Adds a base that these texts make.
-#[tactic(auto, using(crate::proofs::Idle::idle_pushed))]
 fn add_base(
     alloc: Global,
     bases: &mut Vec<(String, Connection<MemStore>)>,
@@ -54,15 +53,15 @@ fn add_base(
     let name = String::from_str(alloc, name)?;
     let mut base = Connection::open_in_memory(alloc)?;
     run(&mut base, texts)?;
-    if base.is_autocommit() {
-        bases.push((name, base))?;
+    if !base.is_autocommit() {
+        return Ok(());
     }
+    bases.push((name, base))?;
     Ok(())
 }
 
 /// Three names, one of them twice, of which the first counts.
 #[test]
-#[tactic(auto, using(crate::proofs::Idle::idle_none))]
 fn bases_keep_data_by_name(rt: HostRuntime) -> Result<(), Fail> {
     let alloc = rt.alloc();
     let mut bases = Vec::new(alloc);

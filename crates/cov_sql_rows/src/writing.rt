@@ -8,7 +8,7 @@ use std::alloc::{AllocError, Global};
 use std::process::Abort;
 use std::test::Fail;
 
-/// The tables, each behind those that its rows refer to.
+/// The tables, each after those that its rows refer to.
 const TABLES: [&str; 8] = [
     "coverage_schema",
     "meta",

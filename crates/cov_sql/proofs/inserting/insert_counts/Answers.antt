@@ -1,4 +1,4 @@
-use Rattle.std.proofs.Common.{rules, arith, ◌≡◌, pos, [], ◌∷◌, Ok, Err, sym, subst, ◌∙◌, map, take, get_or, w64, refl}
+use Rattle.std.proofs.Common.{rules, ◌≡◌, pos, [], ◌∷◌, Ok, Err, sym, subst, ◌∙◌, map, take, get_or, w64, refl}
 use mir.Val.{SFits}
 use Rattle.std.proofs.Math.Facts.{to_z-of_z}
 use Rattle.std.proofs.lemmas.List.{take_all}
@@ -6,26 +6,19 @@ use Rattle.sqlite_value.specs.declared.value.Value.TheVariants.{Int}
 use Rattle.cov_sql.specs.declared.saved.SavedRow.{SavedRow}
 use Rattle.cov_sql.specs.declared.tables.Table.TheVariants as name
 use Rattle.cov_sql.specs.ByName.{shape_of, declared_as}
-use Rattle.cov_sql.specs.Works.{Works}
 use Rattle.cov_sql.specs.Written.{Inserts}
 use Rattle.sqlite.specs.Held.{state}
 use Rattle.cov_sql.specs.Holding.{with_rows, Fills}
 use Rattle.cov_sql.specs.SavedRows.{hits_row}
-use Rattle.cov_sql.proofs.Stepping.{worked, works_then, still, stays, nothing_done}
-use Rattle.cov_sql.proofs.Filling.{no_fill, fills_next, map_got, fills_none}
-use Rattle.cov_sql.specs.SqlTexts.{insert_hits_text}
+use Rattle.cov_sql.proofs.Stepping.{works_none, works_one, works_on, works_end}
+use Rattle.cov_sql.proofs.Filling.{no_fill, fills_none, fills_more, map_got}
 use Rattle.cov_sql.proofs.WrittenTexts.{of_insert_hits}
 use Rattle.cov_sql.proofs.inserting.insert_counts.Goals as goal
 
-pub returns-in_err-insert_hits-clause-works : goal.returns-in_err-insert_hits-clause-works
-returns-in_err-insert_hits-clause-works g c tells =
-    let first = c.args.work.now.conn.now in
-    let now = c.loop-row.work.conn.now in
-    let next = c.insert_hits.new.work.conn.now in
-    let told = c.loop-row.invariant.tells tells in
-    let one = worked g.S.Store insert_hits_text now next (Err c.in_err-insert_hits.field-0.0) of_insert_hits (c.in_err-insert_hits.ensures.works told).ran in
+pub returns-in_err-insert_hits-clause-steps : goal.returns-in_err-insert_hits-clause-steps
+returns-in_err-insert_hits-clause-steps g c =
     let is : c.from_residual.result ≡ Err c.in_err-insert_hits.field-0.0 = search rules in
-    subst (λ r. Works g.S.Store first next r) (sym is) (works_then g.S.Store first now next _ (c.insert_hits.ensures.works told).survives (c.loop-row.invariant.works tells) one)
+    works_end (works_on c.loop-row.invariant.steps (works_one of_insert_hits c.in_err-insert_hits.ensures.works c.in_err-insert_hits.ensures.goes_on)) is
 
 pub returns-in_err-insert_hits-clause-fills : goal.returns-in_err-insert_hits-clause-fills
 returns-in_err-insert_hits-clause-fills g c tells =
@@ -36,25 +29,16 @@ pub returns-clause-fills : goal.returns-clause-fills
 returns-clause-fills g c tells =
     subst (λ rows. Fills g.S.Store (with_rows name.Hits (map hits_row rows)) c.args.work.now.conn.now c.loop-row.work.conn.now (Ok tt)) (take_all c.loop-row.row-index c.args.rows.now c.loop-row-test.false) (c.loop-row.invariant.fills tells)
 
-pub returns-in_err-insert_hits-clause-survives : goal.returns-in_err-insert_hits-clause-survives
-returns-in_err-insert_hits-clause-survives g c tells =
-    still g.S.Store c.args.work.now.conn.now c.loop-row.work.conn.now c.insert_hits.new.work.conn.now (c.loop-row.invariant.survives tells) (c.insert_hits.ensures.works (c.loop-row.invariant.tells tells)).survives
-
 pub loop-row-init : goal.loop-row-init
-loop-row-init g c =
-    let first = c.args.work.now.conn.now in
-    record {
-      works = λ tells. nothing_done g.S.Store first (Ok tt) refl;
-      fills = λ tells. fills_none g.S.Store name.Hits first;
-      survives = λ tells. stays g.S.Store first;
-      same_reference = refl;
-      tells = λ tells. tells;
-      count = omega arith;
-    }
+loop-row-init g c = record {
+  steps = works_none _ _;
+  fills = λ tells. fills_none g.S.Store name.Hits c.args.work.now.conn.now;
+  same_reference = refl;
+}
 
 pub loop-row-preserved : goal.loop-row-preserved
 loop-row-preserved g c =
-    let first = c.args.work.now.conn.now in
+    let before = c.loop-row.invariant in
     let now = c.loop-row.work.conn.now in
     let next = c.insert_hits.new.work.conn.now in
     let all = c.args.rows.now in
@@ -66,16 +50,12 @@ loop-row-preserved g c =
     let from_fits : SFits w64 it.from = search rules in
     let to_fits : SFits w64 it.to = search rules in
     let count_fits : SFits w64 it.count = search rules in
+    let step = works_one of_insert_hits c.in_ok-insert_hits.ensures.works c.in_ok-insert_hits.ensures.goes_on in
     record {
-      works = λ tells. let told = c.loop-row.invariant.tells tells in
-          works_then g.S.Store first now next (Ok tt) (c.insert_hits.ensures.works told).survives (c.loop-row.invariant.works tells) (worked g.S.Store insert_hits_text now next (Ok tt) of_insert_hits (c.in_ok-insert_hits.ensures.works told).ran);
+      steps = works_on before.steps step;
       fills = λ tells.
-          subst (λ rows. Fills g.S.Store (with_rows name.Hits rows) first next (Ok tt)) (sym (map_got hits_row all i zero c.loop-row-test.true))
-          (fills_next g.S.Store name.Hits (map hits_row (take i all)) (hits_row it) first now next tt (c.insert_hits.ensures.works (c.loop-row.invariant.tells tells)).survives (c.loop-row.invariant.works tells) (c.loop-row.invariant.fills tells)
-          (subst (λ r. Inserts (shape_of name.Hits) (declared_as name.Hits) r (state g.S.Store now) (state g.S.Store next) (Ok tt)) (λ k. Int (to_z-of_z file_id_fits k) ∷ Int (to_z-of_z context_id_fits k) ∷ Int (to_z-of_z from_fits k) ∷ Int (to_z-of_z to_fits k) ∷ Int (to_z-of_z count_fits k) ∷ [])
-          (c.in_ok-insert_hits.ensures.works (c.loop-row.invariant.tells tells)).told));
-      survives = λ tells. still g.S.Store first now next (c.loop-row.invariant.survives tells) (c.insert_hits.ensures.works (c.loop-row.invariant.tells tells)).survives;
-      same_reference = c.insert_hits.ensures.same_reference ∙ c.loop-row.invariant.same_reference;
-      tells = λ tells. c.insert_hits.ensures.goes_on.tells (c.loop-row.invariant.tells tells);
-      count = omega (arith, c.insert_hits.ensures.goes_on.count, c.loop-row.invariant.count);
+          subst (λ rows. Fills g.S.Store (with_rows name.Hits rows) c.args.work.now.conn.now next (Ok tt)) (sym (map_got hits_row all i zero c.loop-row-test.true))
+          (fills_more name.Hits (map hits_row (take i all)) (hits_row it) before.steps step before.fills
+          (λ told. subst (λ r. Inserts (shape_of name.Hits) (declared_as name.Hits) r (state g.S.Store now) (state g.S.Store next) (Ok tt)) (λ k. Int (to_z-of_z file_id_fits k) ∷ Int (to_z-of_z context_id_fits k) ∷ Int (to_z-of_z from_fits k) ∷ Int (to_z-of_z to_fits k) ∷ Int (to_z-of_z count_fits k) ∷ []) (c.in_ok-insert_hits.ensures.works told).told) tells);
+      same_reference = c.insert_hits.ensures.same_reference ∙ before.same_reference;
     }

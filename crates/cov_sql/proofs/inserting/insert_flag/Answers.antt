@@ -3,13 +3,12 @@ use Rattle.sqlite_value.specs.declared.value.Value.TheVariants.{Text}
 use Rattle.cov_sql.specs.declared.tables.Table.TheVariants as name
 use Rattle.cov_sql.specs.Holding.{with_rows, Fills}
 use Rattle.cov_sql.proofs.Filling.{fills_one}
-use Rattle.cov_sql.proofs.Stepping.{worked}
-use Rattle.cov_sql.specs.SqlTexts.{insert_meta_text}
+use Rattle.cov_sql.proofs.Stepping.{works_one}
 use Rattle.cov_sql.proofs.WrittenTexts.{of_insert_meta}
 use Rattle.cov_sql.proofs.inserting.insert_flag.Goals as goal
 
-pub returns-clause-works : goal.returns-clause-works
-returns-clause-works g c tells = worked g.S.Store insert_meta_text c.args.work.now.conn.now c.insert_meta.new.work.conn.now _ of_insert_meta (c.insert_meta.ensures.works tells).ran
+pub returns-clause-steps : goal.returns-clause-steps
+returns-clause-steps g c = works_one of_insert_meta c.insert_meta.ensures.works c.insert_meta.ensures.goes_on
 
 pub returns-clause-fills : goal.returns-clause-fills
 returns-clause-fills g c tells =

@@ -1,32 +1,31 @@
-use Rattle.std.proofs.Common.{Ok, sym, subst, refl}
+use Rattle.std.proofs.Common.{Ok, sym, subst}
 use Rattle.cov_sql.specs.Holding.{cleared, Empties}
 use Rattle.cov_sql.specs.declared.tables.Table.TheVariants as name
 use Rattle.cov_sql.proofs.Making.{empties_one, empties_none}
-use Rattle.cov_sql.proofs.Stepping.{worked, stays, nothing_done}
-use Rattle.cov_sql.specs.SqlTexts.{delete_arc_text, delete_context_text, delete_file_text, delete_hits_text, delete_line_bits_text, delete_meta_text, delete_tracer_text}
+use Rattle.cov_sql.proofs.Stepping.{works_none, works_one}
 use Rattle.cov_sql.proofs.WrittenTexts.{of_delete_arc, of_delete_context, of_delete_file, of_delete_hits, of_delete_line_bits, of_delete_meta, of_delete_tracer}
 use Rattle.cov_sql.proofs.preparing.empty_table.Goals as goal
 
-pub returns-in-Meta-clause-works : goal.returns-in-Meta-clause-works
-returns-in-Meta-clause-works g c tells = worked g.S.Store delete_meta_text c.args.work.now.conn.now c.delete_meta.new.work.conn.now _ of_delete_meta (c.delete_meta.ensures.works tells).ran
+pub returns-in-Meta-clause-steps : goal.returns-in-Meta-clause-steps
+returns-in-Meta-clause-steps g c = works_one of_delete_meta c.delete_meta.ensures.works c.delete_meta.ensures.goes_on
 
-pub returns-in-File-clause-works : goal.returns-in-File-clause-works
-returns-in-File-clause-works g c tells = worked g.S.Store delete_file_text c.args.work.now.conn.now c.delete_file.new.work.conn.now _ of_delete_file (c.delete_file.ensures.works tells).ran
+pub returns-in-File-clause-steps : goal.returns-in-File-clause-steps
+returns-in-File-clause-steps g c = works_one of_delete_file c.delete_file.ensures.works c.delete_file.ensures.goes_on
 
-pub returns-in-Context-clause-works : goal.returns-in-Context-clause-works
-returns-in-Context-clause-works g c tells = worked g.S.Store delete_context_text c.args.work.now.conn.now c.delete_context.new.work.conn.now _ of_delete_context (c.delete_context.ensures.works tells).ran
+pub returns-in-Context-clause-steps : goal.returns-in-Context-clause-steps
+returns-in-Context-clause-steps g c = works_one of_delete_context c.delete_context.ensures.works c.delete_context.ensures.goes_on
 
-pub returns-in-LineBits-clause-works : goal.returns-in-LineBits-clause-works
-returns-in-LineBits-clause-works g c tells = worked g.S.Store delete_line_bits_text c.args.work.now.conn.now c.delete_line_bits.new.work.conn.now _ of_delete_line_bits (c.delete_line_bits.ensures.works tells).ran
+pub returns-in-LineBits-clause-steps : goal.returns-in-LineBits-clause-steps
+returns-in-LineBits-clause-steps g c = works_one of_delete_line_bits c.delete_line_bits.ensures.works c.delete_line_bits.ensures.goes_on
 
-pub returns-in-Arc-clause-works : goal.returns-in-Arc-clause-works
-returns-in-Arc-clause-works g c tells = worked g.S.Store delete_arc_text c.args.work.now.conn.now c.delete_arc.new.work.conn.now _ of_delete_arc (c.delete_arc.ensures.works tells).ran
+pub returns-in-Arc-clause-steps : goal.returns-in-Arc-clause-steps
+returns-in-Arc-clause-steps g c = works_one of_delete_arc c.delete_arc.ensures.works c.delete_arc.ensures.goes_on
 
-pub returns-in-Tracer-clause-works : goal.returns-in-Tracer-clause-works
-returns-in-Tracer-clause-works g c tells = worked g.S.Store delete_tracer_text c.args.work.now.conn.now c.delete_tracer.new.work.conn.now _ of_delete_tracer (c.delete_tracer.ensures.works tells).ran
+pub returns-in-Tracer-clause-steps : goal.returns-in-Tracer-clause-steps
+returns-in-Tracer-clause-steps g c = works_one of_delete_tracer c.delete_tracer.ensures.works c.delete_tracer.ensures.goes_on
 
-pub returns-in-Hits-clause-works : goal.returns-in-Hits-clause-works
-returns-in-Hits-clause-works g c tells = worked g.S.Store delete_hits_text c.args.work.now.conn.now c.delete_hits.new.work.conn.now _ of_delete_hits (c.delete_hits.ensures.works tells).ran
+pub returns-in-Hits-clause-steps : goal.returns-in-Hits-clause-steps
+returns-in-Hits-clause-steps g c = works_one of_delete_hits c.delete_hits.ensures.works c.delete_hits.ensures.goes_on
 
 pub returns-in-Meta-clause-empties : goal.returns-in-Meta-clause-empties
 returns-in-Meta-clause-empties g c tells =
@@ -67,8 +66,5 @@ pub returns-in-CoverageSchema-clause-empties : goal.returns-in-CoverageSchema-cl
 returns-in-CoverageSchema-clause-empties g c tells =
     subst (λ t. Empties g.S.Store (cleared t) c.args.work.now.conn.now c.args.work.now.conn.now (Ok tt)) (sym c.in-CoverageSchema.is) (empties_none g.S.Store c.args.work.now.conn.now)
 
-pub returns-in-CoverageSchema-clause-works : goal.returns-in-CoverageSchema-clause-works
-returns-in-CoverageSchema-clause-works g c tells = nothing_done g.S.Store c.args.work.now.conn.now (Ok tt) refl
-
-pub returns-in-CoverageSchema-clause-survives : goal.returns-in-CoverageSchema-clause-survives
-returns-in-CoverageSchema-clause-survives g c tells = stays g.S.Store c.args.work.now.conn.now
+pub returns-in-CoverageSchema-clause-steps : goal.returns-in-CoverageSchema-clause-steps
+returns-in-CoverageSchema-clause-steps g c = works_none _ _

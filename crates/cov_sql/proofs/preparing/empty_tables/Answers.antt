@@ -1,8 +1,7 @@
-use Rattle.std.proofs.Common.{rules, arith, ◌≡◌, Ok, Err, sym, subst, ◌∙◌, take, refl}
+use Rattle.std.proofs.Common.{rules, ◌≡◌, Ok, Err, sym, subst, ◌∙◌, take, refl}
 use Rattle.std.proofs.lemmas.List.{take_all}
-use Rattle.cov_sql.specs.Works.{Works}
 use Rattle.cov_sql.specs.Holding.{cleared_all, Empties}
-use Rattle.cov_sql.proofs.Stepping.{works_then, still, stays, nothing_done}
+use Rattle.cov_sql.proofs.Stepping.{works_none, works_on, works_end}
 use Rattle.cov_sql.proofs.Filling.{take_got}
 use Rattle.cov_sql.proofs.Making.{no_empty, empties_next, empties_none}
 use Rattle.cov_sql.proofs.preparing.empty_tables.Goals as goal
@@ -16,28 +15,18 @@ pub returns-clause-empties : goal.returns-clause-empties
 returns-clause-empties g c tells =
     subst (λ names. Empties g.S.Store (cleared_all names) c.args.work.now.conn.now c.loop-table.work.conn.now (Ok tt)) (take_all c.loop-table.table-index c.args.tables.now c.loop-table-test.false) (c.loop-table.invariant.empties tells)
 
-pub returns-in_err-empty_table-clause-works : goal.returns-in_err-empty_table-clause-works
-returns-in_err-empty_table-clause-works g c tells =
-    let first = c.args.work.now.conn.now in
-    let next = c.empty_table.new.work.conn.now in
-    let told = c.loop-table.invariant.tells tells in
+pub returns-in_err-empty_table-clause-steps : goal.returns-in_err-empty_table-clause-steps
+returns-in_err-empty_table-clause-steps g c =
     let is : c.from_residual.result ≡ Err c.in_err-empty_table.field-0.0 = search rules in
-    subst (λ r. Works g.S.Store first next r) (sym is) (works_then g.S.Store first c.loop-table.work.conn.now next _ (c.empty_table.ensures.survives told) (c.loop-table.invariant.works tells) (c.in_err-empty_table.ensures.works told))
-
-pub returns-in_err-empty_table-clause-survives : goal.returns-in_err-empty_table-clause-survives
-returns-in_err-empty_table-clause-survives g c tells =
-    still g.S.Store c.args.work.now.conn.now c.loop-table.work.conn.now c.empty_table.new.work.conn.now (c.loop-table.invariant.survives tells) (c.empty_table.ensures.survives (c.loop-table.invariant.tells tells))
+    works_end (works_on c.loop-table.invariant.steps c.in_err-empty_table.ensures.steps) is
 
 pub loop-table-init : goal.loop-table-init
 loop-table-init g c =
     let first = c.args.work.now.conn.now in
     record {
-      works = λ tells. nothing_done g.S.Store first (Ok tt) refl;
+      steps = works_none _ _;
       empties = λ tells. empties_none g.S.Store first;
-      survives = λ tells. stays g.S.Store first;
       same_reference = refl;
-      tells = λ tells. tells;
-      count = omega arith;
     }
 
 pub loop-table-preserved : goal.loop-table-preserved
@@ -48,13 +37,9 @@ loop-table-preserved g c =
     let all = c.args.tables.now in
     let i = c.loop-table.table-index in
     record {
-      works = λ tells. let told = c.loop-table.invariant.tells tells in
-          works_then g.S.Store first now next (Ok tt) (c.empty_table.ensures.survives told) (c.loop-table.invariant.works tells) (c.in_ok-empty_table.ensures.works told);
-      empties = λ tells. let told = c.loop-table.invariant.tells tells in
+      steps = works_on c.loop-table.invariant.steps c.in_ok-empty_table.ensures.steps;
+      empties = λ tells. let told = c.loop-table.invariant.steps.goes_on.tells tells in
           subst (λ names. Empties g.S.Store (cleared_all names) first next (Ok tt)) (sym (take_got all i _ c.loop-table-test.true))
-          (empties_next g.S.Store (take i all) _ first now next tt (c.empty_table.ensures.survives told) (c.loop-table.invariant.works tells) (c.loop-table.invariant.empties tells) (c.in_ok-empty_table.ensures.empties told));
-      survives = λ tells. still g.S.Store first now next (c.loop-table.invariant.survives tells) (c.empty_table.ensures.survives (c.loop-table.invariant.tells tells));
+          (empties_next g.S.Store (take i all) _ first now next tt (c.empty_table.ensures.steps.survives told) (c.loop-table.invariant.steps.works tells) (c.loop-table.invariant.empties tells) (c.in_ok-empty_table.ensures.empties told));
       same_reference = c.empty_table.ensures.same_reference ∙ c.loop-table.invariant.same_reference;
-      tells = λ tells. c.empty_table.ensures.goes_on.tells (c.loop-table.invariant.tells tells);
-      count = omega (arith, c.empty_table.ensures.goes_on.count, c.loop-table.invariant.count);
     }

@@ -1,8 +1,7 @@
-use Rattle.std.proofs.Common.{rules, arith, ◌≡◌, Ok, Err, refl, sym, subst, ◌∙◌, take}
+use Rattle.std.proofs.Common.{rules, ◌≡◌, Ok, Err, refl, sym, subst, ◌∙◌, take}
 use Rattle.std.proofs.lemmas.List.{take_all}
-use Rattle.cov_sql.specs.Works.{Works}
 use Rattle.cov_sql.specs.Making.{Builds, Denies}
-use Rattle.cov_sql.proofs.Stepping.{works_then, still, stays, nothing_done}
+use Rattle.cov_sql.proofs.Stepping.{works_none, works_on, works_end}
 use Rattle.cov_sql.proofs.Filling.{take_got}
 use Rattle.cov_sql.proofs.Making.{no_build, builds_none, builds_next}
 use Rattle.cov_sql.proofs.Denying.{denies_none, denies_next, denies_stop}
@@ -20,37 +19,27 @@ returns-clause-builds g c tells =
 pub returns-in_err-make_table-clause-denies : goal.returns-in_err-make_table-clause-denies
 returns-in_err-make_table-clause-denies g c tells =
     let is : c.from_residual.result ≡ Err c.in_err-make_table.field-0.0 = search rules in
-    let told = c.loop-table.invariant.tells tells in
-    denies_stop g.S.Store (take c.loop-table.table-index c.args.tables.now) c.args.tables.now _ c.args.work.now.conn.now c.loop-table.work.conn.now c.make_table.new.work.conn.now tt _ _ is (c.make_table.ensures.survives told)
-    (c.loop-table.invariant.works tells) (c.loop-table.invariant.denies tells) (c.in_err-make_table.ensures.told told)
+    let told = c.loop-table.invariant.steps.goes_on.tells tells in
+    denies_stop g.S.Store (take c.loop-table.table-index c.args.tables.now) c.args.tables.now _ c.args.work.now.conn.now c.loop-table.work.conn.now c.make_table.new.work.conn.now tt _ _ is (c.make_table.ensures.steps.survives told)
+    (c.loop-table.invariant.steps.works tells) (c.loop-table.invariant.denies tells) (c.in_err-make_table.ensures.told told)
 
 pub returns-clause-denies : goal.returns-clause-denies
 returns-clause-denies g c tells =
     subst (λ names. Denies g.S.Store names c.args.work.now.conn.now c.loop-table.work.conn.now (Ok tt)) (take_all c.loop-table.table-index c.args.tables.now c.loop-table-test.false) (c.loop-table.invariant.denies tells)
 
-pub returns-in_err-make_table-clause-works : goal.returns-in_err-make_table-clause-works
-returns-in_err-make_table-clause-works g c tells =
-    let first = c.args.work.now.conn.now in
-    let next = c.make_table.new.work.conn.now in
-    let told = c.loop-table.invariant.tells tells in
+pub returns-in_err-make_table-clause-steps : goal.returns-in_err-make_table-clause-steps
+returns-in_err-make_table-clause-steps g c =
     let is : c.from_residual.result ≡ Err c.in_err-make_table.field-0.0 = search rules in
-    subst (λ r. Works g.S.Store first next r) (sym is) (works_then g.S.Store first c.loop-table.work.conn.now next _ (c.make_table.ensures.survives told) (c.loop-table.invariant.works tells) (c.in_err-make_table.ensures.works told))
-
-pub returns-in_err-make_table-clause-survives : goal.returns-in_err-make_table-clause-survives
-returns-in_err-make_table-clause-survives g c tells =
-    still g.S.Store c.args.work.now.conn.now c.loop-table.work.conn.now c.make_table.new.work.conn.now (c.loop-table.invariant.survives tells) (c.make_table.ensures.survives (c.loop-table.invariant.tells tells))
+    works_end (works_on c.loop-table.invariant.steps c.in_err-make_table.ensures.steps) is
 
 pub loop-table-init : goal.loop-table-init
 loop-table-init g c =
     let first = c.args.work.now.conn.now in
     record {
-      works = λ tells. nothing_done g.S.Store first (Ok tt) refl;
+      steps = works_none _ _;
       builds = λ tells. builds_none g.S.Store first;
       denies = λ tells. denies_none g.S.Store first;
-      survives = λ tells. stays g.S.Store first;
       same_reference = refl;
-      tells = λ tells. tells;
-      count = omega arith;
     }
 
 pub loop-table-preserved : goal.loop-table-preserved
@@ -61,16 +50,12 @@ loop-table-preserved g c =
     let all = c.args.tables.now in
     let i = c.loop-table.table-index in
     record {
-      works = λ tells. let told = c.loop-table.invariant.tells tells in
-          works_then g.S.Store first now next (Ok tt) (c.make_table.ensures.survives told) (c.loop-table.invariant.works tells) (c.in_ok-make_table.ensures.works told);
-      builds = λ tells. let told = c.loop-table.invariant.tells tells in
+      steps = works_on c.loop-table.invariant.steps c.in_ok-make_table.ensures.steps;
+      builds = λ tells. let told = c.loop-table.invariant.steps.goes_on.tells tells in
           subst (λ names. Builds g.S.Store names first next (Ok tt)) (sym (take_got all i _ c.loop-table-test.true))
-          (builds_next g.S.Store (take i all) _ first now next tt (c.make_table.ensures.survives told) (c.loop-table.invariant.works tells) (c.loop-table.invariant.builds tells) (c.in_ok-make_table.ensures.told told));
-      denies = λ tells. let told = c.loop-table.invariant.tells tells in
+          (builds_next g.S.Store (take i all) _ first now next tt (c.make_table.ensures.steps.survives told) (c.loop-table.invariant.steps.works tells) (c.loop-table.invariant.builds tells) (c.in_ok-make_table.ensures.told told));
+      denies = λ tells. let told = c.loop-table.invariant.steps.goes_on.tells tells in
           subst (λ names. Denies g.S.Store names first next (Ok tt)) (sym (take_got all i _ c.loop-table-test.true))
-          (denies_next g.S.Store (take i all) _ first now next tt (c.make_table.ensures.survives told) (c.loop-table.invariant.works tells) (c.loop-table.invariant.denies tells) (c.in_ok-make_table.ensures.told told));
-      survives = λ tells. still g.S.Store first now next (c.loop-table.invariant.survives tells) (c.make_table.ensures.survives (c.loop-table.invariant.tells tells));
+          (denies_next g.S.Store (take i all) _ first now next tt (c.make_table.ensures.steps.survives told) (c.loop-table.invariant.steps.works tells) (c.loop-table.invariant.denies tells) (c.in_ok-make_table.ensures.told told));
       same_reference = c.make_table.ensures.same_reference ∙ c.loop-table.invariant.same_reference;
-      tells = λ tells. c.make_table.ensures.goes_on.tells (c.loop-table.invariant.tells tells);
-      count = omega (arith, c.make_table.ensures.goes_on.count, c.loop-table.invariant.count);
     }

@@ -1,17 +1,12 @@
-use Rattle.std.proofs.Common.{◌≡◌, ◌≤◌, Ok, take}
-use Rattle.sqlite.specs.Held.{state}
-use Rattle.sqlite.specs.State.{Survives}
-use Rattle.cov_sql.specs.Works.{Works}
+use Rattle.std.proofs.Common.{◌≡◌, Ok, take}
+use Rattle.cov_sql.specs.Steps.{WorksBy}
 use Rattle.cov_sql.specs.Making.{Builds, Denies}
 use Rattle.cov_sql.proofs.preparing.make_tables.Given as goal
 
 abbrev pub invariant-loop-table : goal.invariant-loop-table
 invariant-loop-table g l = record {
-  works : g.Q.Statements.tells l.fn.by → Works g.S.Store l.fn.work.conn.now l.work.conn.now (Ok tt);
+  steps : WorksBy g.S.Store g.Q.Statements.tells g.Q.Statements.refusals l.fn.work.conn.now l.work.conn.now l.fn.by l.by (Ok tt);
   builds : g.Q.Statements.tells l.fn.by → Builds g.S.Store (take l.table-index l.tables) l.fn.work.conn.now l.work.conn.now (Ok tt);
   denies : g.Q.Statements.tells l.fn.by → Denies g.S.Store (take l.table-index l.tables) l.fn.work.conn.now l.work.conn.now (Ok tt);
-  survives : g.Q.Statements.tells l.fn.by → Survives (state g.S.Store l.fn.work.conn.now) (state g.S.Store l.work.conn.now) (λ _. ⊥);
   same_reference : l.work.conn.ghost_name ≡ l.fn.work.conn.ghost_name;
-  tells : g.Q.Statements.tells l.fn.by → g.Q.Statements.tells l.by;
-  count : g.Q.Statements.refusals l.fn.by ≤ g.Q.Statements.refusals l.by;
 }

@@ -31,7 +31,7 @@ pub returns-in-Tables-true-clause-never : goal.returns-in-Tables-true-clause-nev
 returns-in-Tables-true-clause-never g c tells =
     let is : c.args.start ≡ start.Tables true = search rules in
     subst (λ s. NeverLacks g.S.Store s c.args.work.now.conn.now c.empty_tables.new.work.conn.now c.empty_tables.result) (sym is)
-    (never_emptying g.S.Store c.args.work.now.conn.now c.empty_tables.new.work.conn.now c.empty_tables.result (c.empty_tables.ensures.works tells))
+    (never_emptying g.S.Store c.args.work.now.conn.now c.empty_tables.new.work.conn.now c.empty_tables.result (c.empty_tables.ensures.steps.works tells))
 
 pub returns-in-Tables-false-clause-never : goal.returns-in-Tables-false-clause-never
 returns-in-Tables-false-clause-never g c tells =

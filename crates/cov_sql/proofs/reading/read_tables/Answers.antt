@@ -10,8 +10,8 @@ returns-in_err-measured-clause-told g c tells clean hidden =
     let s0 = state g.S.Store c.args.base.now in
     let s1 = state g.S.Store c.read_named.new.base in
     let s2 = state g.S.Store c.read_measured.new.base in
-    let f1 = c.in_ok-named.ensures.told tells (c.read_measured.ensures.asks.clean clean) hidden in
-    let f2 = later IsMeasured LacksOne s0 s1 s2 _ f1.kept (c.in_err-measured.ensures.told (c.read_named.ensures.goes_on.tells tells) clean (still_hidden s0 s1 f1.kept hidden)) in
+    let f1 = c.in_ok-named.ensures.told tells (c.read_measured.ensures.reads.asks.clean clean) hidden in
+    let f2 = later IsMeasured LacksOne s0 s1 s2 _ f1.kept (c.in_err-measured.ensures.told (c.read_named.ensures.reads.goes_on.tells tells) clean (still_hidden s0 s1 f1.kept hidden)) in
     let is : c.from_residual-in_err-measured.result ≡ Err c.in_err-measured.field-0.0 = search rules in
     subst (λ r. Finds IsFound LacksOne s0 s2 r) (sym is) (stopped IsMeasured LacksOne IsFound LacksOne s0 s2 _ (λ lacks. lacks) f2)
 
@@ -20,6 +20,6 @@ returns-clause-told g c tells clean hidden =
     let s0 = state g.S.Store c.args.base.now in
     let s1 = state g.S.Store c.read_named.new.base in
     let s2 = state g.S.Store c.read_measured.new.base in
-    let f1 = c.in_ok-named.ensures.told tells (c.read_measured.ensures.asks.clean clean) hidden in
-    let f2 = later IsMeasured LacksOne s0 s1 s2 _ f1.kept (c.in_ok-measured.ensures.told (c.read_named.ensures.goes_on.tells tells) clean (still_hidden s0 s1 f1.kept hidden)) in
+    let f1 = c.in_ok-named.ensures.told tells (c.read_measured.ensures.reads.asks.clean clean) hidden in
+    let f2 = later IsMeasured LacksOne s0 s1 s2 _ f1.kept (c.in_ok-measured.ensures.told (c.read_named.ensures.reads.goes_on.tells tells) clean (still_hidden s0 s1 f1.kept hidden)) in
     went IsFound LacksOne s0 s2 _ (c.found_in.ensures s0.now f1.rows f2.rows) f2.kept
