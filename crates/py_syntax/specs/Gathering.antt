@@ -2,8 +2,8 @@
 -- 8).
 --     Within                     whether what stands in a `def` is gathered too
 --     Gathering                  what a statement itself gives, and a test, a clause and a case
---     gather, gather_kind        what statements give with all that stands in them; gather_suite and
---                                the like for what stands in them
+--     gather, gather_kind        what statements give with all that stands in them; gather_suite
+--                                and the like for what stands in them
 use Rattle.std.specs.Prelude.{ℕ, Bool, if◌then◌else◌, List, [], ◌++◌, Option}
 use Rattle.py_syntax.specs.Tree.{Text, Expr, Pattern, Stmts, no_stmts, stmt, Suite, suite, OptSuite, no_suite, has_suite, Arms, no_arms, arm, Clauses, no_clauses, clause, Cases, no_cases, case, StmtKind, expr, assign, aug_assign, pass, break, continue, return, raise, assert, global, import, from, if', while, for, try, def, match}
 
@@ -22,8 +22,8 @@ pub record Gathering (A : Type 0) : Type 0 where
   pub of_case : Pattern → Option Expr → Suite → List A
   pub within : Within
 
--- What a `def` gives itself, and then of its suite what is gathered. The last two are what the whole
--- suite gives, and what it gives without a first statement for which something holds.
+-- What a `def` gives itself, and then of its suite what is gathered. The last two are what the
+-- whole suite gives, and what it gives without a first statement for which something holds.
 abbrev pub with_body : {A : Type 0} → List A → Within → List A → ((StmtKind → Bool) → List A)
     → List A
 with_body own nothing body but = own
@@ -55,7 +55,8 @@ abbrev mutual
   gather_kind g own (for t e s o) = own ++ (gather_suite g s ++ gather_opt g o)
   gather_kind g own (try s cs o fin) =
       own ++ (gather_suite g s ++ (gather_clauses g cs ++ (gather_opt g o ++ gather_opt g fin)))
-  gather_kind g own (def x ps ds c s) = with_body own g.within (gather_suite g s) (λ leads. gather_body g leads s)
+  gather_kind g own (def x ps ds c s) =
+      with_body own g.within (gather_suite g s) (λ leads. gather_body g leads s)
   gather_kind g own (match e last cs) = own ++ gather_cases g cs
 
   -- of a suite

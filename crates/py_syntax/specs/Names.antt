@@ -125,8 +125,8 @@ own_bindings (try s cs o fin) = []
 own_bindings (def x ps ds c s) = assigns x ∷ []
 own_bindings (match e last cs) = []
 
--- A clause binds the name of its exception, and a case what its pattern captures. What the body of a
--- function binds is the function's own.
+-- A clause binds the name of its exception, and a case what its pattern captures. What the body of
+-- a function binds is the function's own.
 abbrev pub binding : Gathering Binding
 binding = record {
   of_kind = λ first last k. own_bindings k;
