@@ -27,7 +27,8 @@ impl From<AllocError> for CombineError {
     }
 }
 
-/// The union of the inputs, each path under its alias. The counts of rows that become one are added.
+/// The union of the inputs, each path under its alias. The counts of rows that become one are
+/// added.
 pub fn combine(alloc: Global, inputs: &[Data], rules: &AliasRules) -> Result<Data, CombineError>
     requires { 0 < length inputs.now }
     ensures ok { IfOk result (λ all. all ≡ combined (alias_of rules.now) inputs.now) }

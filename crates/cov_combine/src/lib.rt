@@ -1,6 +1,6 @@
 //! The data of several runs become one, in which each path stands under its alias.
-//! `AliasRules::read` takes the rules of the aliases, `AliasRules::alias` gives the alias of a path,
-//! and `combine` unites the data by such rules.
+//! `AliasRules::read` takes the rules of the aliases, `AliasRules::alias` gives the alias of a
+//! path, and `combine` unites the data by such rules.
 #![tactic(auto)]
 
 mod aliases;

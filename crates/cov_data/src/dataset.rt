@@ -164,9 +164,9 @@ impl Data {
         }
     }
 
-    /// Adds the paths and rows of `other`. The counts of equal rows are added. One walk goes over both
-    /// data side by side, so its time is linear in their rows. `with_file` suits small additions to
-    /// large data.
+    /// Adds the paths and rows of `other`. The counts of equal rows are added. One walk goes over
+    /// both data side by side, so its time is linear in their rows. `with_file` suits small
+    /// additions to large data.
     pub fn union(&mut self, other: &Data) -> Result<(), DataError>
         ensures ok { OnOk result (self.new ≡ union self.old other.now) }
         ensures paths { OnOk result ((path : List ℕ)

@@ -94,8 +94,8 @@ impl FileCounts {
         Ok(())
     }
 
-    /// Adds all counts of `other`, one by one, since the counts here may be many more. After a refusal
-    /// some of them are added.
+    /// Adds all counts of `other`, one by one, since the counts here may be many more. After a
+    /// refusal some of them are added.
     pub(crate) fn merge(&mut self, other: &FileCounts) -> Result<(), AllocError>
         ensures ok { OnOk result (self.new ≡ merged self.old other.now) }
     {

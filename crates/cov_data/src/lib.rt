@@ -1,8 +1,9 @@
 //! Rows of executed arcs or lines become data, data become one, and data become lists and bits.
-//! `Data::new` begins without a path, `accepts` tells whether a row may come in, `add` and `add_path`
-//! take rows and paths; `union` adds other data (`is_arcs` tells beforehand whether it can), and
-//! `with_file` the rows of one path under another; `paths`, `rows`, `path_rows`, `lines` and `arcs`
-//! list what is there; `numbits_of` packs lines into bits, which `lines_of_numbits` and `has_line` read.
+//! `Data::new` begins without a path, `accepts` tells whether a row may come in, `add` and
+//! `add_path` take rows and paths; `union` adds other data (`is_arcs` tells beforehand whether it
+//! can), and `with_file` the rows of one path under another; `paths`, `rows`, `path_rows`, `lines`
+//! and `arcs` list what is there; `numbits_of` packs lines into bits, which `lines_of_numbits` and
+//! `has_line` read.
 #![tactic(auto)]
 
 mod dataset;

@@ -1,5 +1,5 @@
-//! The rows of the tables of a data file become data: `Cell` is a value of a row, `Tables` holds what was
-//! read of each table, and `content_of` joins, orders and counts its rows.
+//! The rows of the tables of a data file become data: `Cell` is a value of a row, `Tables` holds
+//! what was read of each table, and `content_of` joins, orders and counts its rows.
 #![tactic(auto)]
 
 mod adding;

@@ -1,6 +1,6 @@
-//! Data between runs, by name: `Vault` lists its names, loads, saves and removes. Each vault counts its
-//! faults, and a vault in memory also tells what its names hold, so that a contract can say what a
-//! program keeps.
+//! Data between runs, by name: `Vault` lists its names, loads, saves and removes. Each vault counts
+//! its faults, and a vault in memory also tells what its names hold, so that a contract can say
+//! what a program keeps.
 //!
 //! Tests hand in the vaults in memory: `MemVault` fails at chosen calls, `SureVault` never.
 #![tactic(auto)]

@@ -20,8 +20,8 @@ pub struct MemVault {
 impl MemVault {
     ghost use Rattle.cov_vault.specs.Memory.{vault_contents, vault_calls, vault_faults};
 
-    /// Of two pairs with one name the first counts. Calls, of any kind, are counted from 0. A failing
-    /// call leaves the contents as they were.
+    /// Of two pairs with one name the first counts. Calls, of any kind, are counted from 0. A
+    /// failing call leaves the contents as they were.
     pub fn new(_alloc: Global, contents: Vec<(String, Content)>, failing: Vec<u64>) -> MemVault
         ensures contents { vault_contents result ≡ contents_of contents.items }
         ensures calls { vault_calls result ≡ record { failing = failing.items; count = 0 } }

@@ -86,7 +86,8 @@ pub trait Vault {
         ensures failed { IsErrOf result VaultError.Failed
             → Rose (faults self.old) (faults self.new) };
 
-    /// Sets what a name holds, unless that is no data file of schema 7. A refused call keeps the contents.
+    /// Sets what a name holds, unless that is no data file of schema 7. A refused call keeps the
+    /// contents.
     fn save(&mut self, alloc: Global, name: &str, content: &Data) -> Result<(), VaultError>
         ensures ok { tells self.old
             → OnOk result (contents self.new

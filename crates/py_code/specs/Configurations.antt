@@ -37,8 +37,8 @@ pub record Locals (L : Type 0) : Type 0 where
   pub set : CodeId → L → ℕ → PlainValue → L
   pub unset : CodeId → L → ℕ → L
 
--- A frame: its code, the place of its instruction, its operands, the top one first, its local names,
--- the line that is kept, and how many frames stand on each other up to this one.
+-- A frame: its code, the place of its instruction, its operands, the top one first, its local
+-- names, the line that is kept, and how many frames stand on each other up to this one.
 pub record Frame (L : Type 0) : Type 0 where
   pub code : CodeId
   pub place : ℕ
@@ -54,8 +54,8 @@ pub record Effects : Type 0 where
   pub out : List ℕ
   pub events : List Event
 
--- The frame that runs, those that wait for it, the innermost first, the steps that are left, and what
--- was changed.
+-- The frame that runs, those that wait for it, the innermost first, the steps that are left, and
+-- what was changed.
 pub record Configuration (L : Type 0) : Type 0 where
   pub top : Frame L
   pub callers : List (Frame L)

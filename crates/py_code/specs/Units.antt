@@ -16,8 +16,8 @@ use Rattle.py_code.specs.declared.unit.Constant.TheVariants.{None as NoneConstan
 use Rattle.py_code.specs.declared.unit.Handler.{Handler}
 
 -- A unit: the name of the function, empty for the body of a module, its first line, its parameters,
--- how many of the last of them have defaults, the names of its local slots, the parameters first, and
--- its lists and tables.
+-- how many of the last of them have defaults, the names of its local slots, the parameters first,
+-- and its lists and tables.
 pub record Code : Type 0 where
   pub name : List ℕ
   pub first : ℕ

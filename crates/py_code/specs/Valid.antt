@@ -98,8 +98,8 @@ LeadAll u depths p rest [] = Unit {0}
 LeadAll u depths p rest (e ∷ es) =
     Leads u depths p e.to (e.leaves + rest) × LeadAll u depths p rest es
 
--- From a place to its handler, where at least so many operands are left: these are cut to its depth,
--- and the exception is put on top.
+-- From a place to its handler, where at least so many operands are left: these are cut to its
+-- depth, and the exception is put on top.
 pub record Lands (depths : List ℕ) (p rest : ℕ) (h : Handler) : Type 0 where
   pub enough : h.depth ≤ rest
   pub stands : slice_get depths h.target ≡ Some (suc h.depth)
@@ -122,8 +122,8 @@ pub record FitsAt (u : Code) (units : ℕ) (depths : List ℕ) (p depth : ℕ) (
   pub leads : LeadAll u depths p (depth - (footprint p i).takes) (footprint p i).exits
   pub lands : LandsIf (footprint p i).raises u depths p (depth - (footprint p i).takes)
 
--- an entry of the handler table: its range lies inside, and its target after that, where one operand
--- more than its depth stands
+-- an entry of the handler table: its range lies inside, and its target after that, where one
+-- operand more than its depth stands
 pub record IsHandler (u : Code) (depths : List ℕ) (h : Handler) : Type 0 where
   pub ordered : h.from ≤ h.to
   pub inside : h.to ≤ length u.instrs

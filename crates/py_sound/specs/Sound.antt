@@ -1,5 +1,6 @@
--- What a prediction promises of every run: each arc of each activation is possible in its module, and each that isn't predicted
--- was thrown, at each of its places. (coverage.py documentation, "Branch coverage measurement"; the promise is this project's own)
+-- What a prediction promises of every run: each arc of each activation is possible in its module,
+-- and each that isn't predicted was thrown, at each of its places. (coverage.py documentation,
+-- "Branch coverage measurement"; the promise is this project's own)
 --     IsProper                             what is asked of a module
 --     IsForeseen, AreForeseen              arcs that are as promised
 --     ProgramSoundness, ModulesSoundness   those of a program, and of a list of modules

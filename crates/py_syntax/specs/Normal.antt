@@ -318,8 +318,8 @@ abbrev mutual
   height_parts (text x ps) = height_parts ps
   height_parts (field e ps) = max (height e) (height_parts ps)
 
--- The precedence of a pattern: of a list with commas, of one pattern with its `as`, of alternatives,
--- of a closed pattern.
+-- The precedence of a pattern: of a list with commas, of one pattern with its `as`, of
+-- alternatives, of a closed pattern.
 abbrev pub pattern_rank : Pattern → ℕ
 pattern_rank (literal minus c) = 3
 pattern_rank (capture x) = 3

@@ -1,4 +1,5 @@
--- Compilation keeps what a program does (its trace): the law for modules that the check of scopes accepts.
+-- Compilation keeps what a program does (its trace): the law for modules that the check of scopes
+-- accepts.
 --     AreWellFormed              modules without a fault of scope
 --     HavePremises               such modules have what the laws of code ask for
 --     SettlesReply               a call that a larger budget doesn't change
@@ -20,21 +21,22 @@ abbrev pub AreWellFormed : List LoadedModule → Type 0
 AreWellFormed [] = Unit {0}
 AreWellFormed (l ∷ ls) = IsWellFormed l.body × AreWellFormed ls
 
--- In modules without a fault no alternative of a pattern binds a name. No two parameters of a function have one name, and none is
--- declared `global`.
+-- In modules without a fault no alternative of a pattern binds a name. No two parameters of a
+-- function have one name, and none is declared `global`.
 pub record HavePremises : Type 0 where
   pub proper : (ms : List LoadedModule) → AreWellFormed ms → AreProperModules ms
   pub parameters : (ms : List LoadedModule) → AreWellFormed ms → HaveOwnParameters ms
 
--- What a call that isn't cut says of another budget: the reply is the same where that is at least the steps that it took, and is cut
--- where it is less.
+-- What a call that isn't cut says of another budget: the reply is the same where that is at least
+-- the steps that it took, and is cut where it is less.
 abbrev pub SettlesReply : machine.Reply → ℕ → machine.Reply → Type 0
 SettlesReply reply budget other =
     (reply.steps ≤ budget → other ≡ reply) × (budget < reply.steps → other.returned ≡ returns.cut)
 
--- Code is faithful to one or more modules without a fault. Then a machine runs it as these mean, with all words, every input and budget:
--- same ending, output, input left, steps, events and world. It answers a call as they mean it, on every world. So it is where it keeps
--- local names in slots, and where it keeps them by themselves. And a larger budget changes nothing.
+-- Code is faithful to one or more modules without a fault. Then a machine runs it as these mean,
+-- with all words, every input and budget: same ending, output, input left, steps, events and world.
+-- It answers a call as they mean it, on every world. So it is where it keeps local names in slots,
+-- and where it keeps them by themselves. And a larger budget changes nothing.
 pub record TracesKept : Type 0 where
   pub runs : (cs : List Module) (ms : List LoadedModule) → AreFaithful cs ms → AreWellFormed ms
       → 0 < length ms → (words : List Text) (input : List ℕ) (budget : ℕ)

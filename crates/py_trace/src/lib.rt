@@ -1,5 +1,5 @@
-//! That compilation keeps what a program does: laws over meanings and code. The functions below do nothing, and each stands for
-//! the law that its contract states.
+//! That compilation keeps what a program does: laws over meanings and code. The functions below do
+//! nothing, and each stands for the law that its contract states.
 #![tactic(auto)]
 
 ghost use Rattle.py_trace.specs.Traces.{HavePremises, TracesKept};
