@@ -4,13 +4,14 @@
 use Rattle.std.specs.Prelude.{ℕ, ◌≤◌, List, All}
 use Rattle.py_token.specs.OnLines.{AreOnLines}
 use Rattle.py_token.specs.Plain.{PToken}
+use Rattle.py_token.specs.Source.{most_lines}
 use Rattle.py_syntax.specs.Marks.{statement_lines}
 use Rattle.py_syntax.specs.Spelling.{Spells}
 use Rattle.py_syntax.specs.Tree.{Stmts}
 
--- lines are from 1 on, and a text has at most 65,535 of them
+-- lines are from 1 on, and a text has at most `most_lines` of them
 abbrev pub IsLine : ℕ → Type 0
-IsLine l = (1 ≤ l) × (l ≤ 65535)
+IsLine l = (1 ≤ l) × (l ≤ most_lines)
 
 -- where tokens keep the lines of a text, so does the module that they spell
 abbrev pub LinesLaw : Type 0
