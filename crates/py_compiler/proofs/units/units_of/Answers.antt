@@ -1,6 +1,7 @@
-use Rattle.std.proofs.Common.{◌≡◌, [], ◌∷◌, ◌++◌, length, map, ap, sym, ◌∙◌, arith}
+use Rattle.std.proofs.Common.{◌≡◌, ◌<◌, [], ◌∷◌, ◌++◌, length, map, ap, sym, ◌∙◌, arith}
 use Rattle.std.proofs.lemmas.List.{length-map}
 use Rattle.py_code.specs.Units.{plain_unit}
+use Rattle.py_code.specs.Valid.{most_units}
 use Rattle.py_compile.specs.Definitions.{definitions}
 use Rattle.py_compile.specs.Units.{module_code, function_code, body_cells}
 use Rattle.py_compiler.proofs.NamesOfDefs.{names_are}
@@ -20,7 +21,9 @@ add_functions-requires c =
 pub returns-clause-few : goal.returns-clause-few
 returns-clause-few c =
     let found = ap length c.in_ok-defs.ensures in
-    omega (arith, found, length-map c.in_ok-defs.defs.items definition_of, c.len-count.ensures, c.if-count-ge-MOST_UNITS.false)
+    let few : length (definitions (plain_module c.args.module.now)) < most_units =
+    omega (arith, found, length-map c.in_ok-defs.defs.items definition_of, c.len-count.ensures, c.if-count-ge-MOST_UNITS.false) in
+    few
 
 pub returns-clause-units : goal.returns-clause-units
 returns-clause-units c =
