@@ -12,6 +12,7 @@ ghost use Rattle.py_instructions.specs.Reaching.{plain_reach};
 ghost use Rattle.py_instructions.specs.View.{plain_frame, Does, Calls, Acts, ActsAlone};
 
 use crate::frame::{Frame, State};
+use crate::lending::{emptied, list_for_call};
 use crate::operand::Operand;
 use crate::reach::Reach;
 use crate::slots::Slots;
@@ -42,7 +43,10 @@ impl State {
             Acts (modules_of programs.now) (plain_unit unit.now) (Call n) self.old store.old
             self.new store.new t) }
     {
-        let Some(values) = self.top.operands.take_values(alloc, n as usize)? else {
+        let count = n as usize;
+        let are_lent = self.top.operands.borrows_values(count);
+        let list = list_for_call(alloc, are_lent, &mut self.spare);
+        let Some(values) = self.top.operands.take_values(list, count)? else {
             return Ok(Turn::Stuck);
         };
         let Some(f) = self.top.operands.pop() else {
@@ -70,7 +74,10 @@ impl State {
             (reach_callee (modules_of programs.now) (a_method method (plain on))
             (plains values.items)) self.old store.old self.new store.new) }
     {
-        match call_method(alloc, method, &on, &values, &mut store.heap)? {
+        let answer = call_method(alloc, method, &on, &values, &mut store.heap)?;
+        drop(on);
+        self.spare = emptied(values);
+        match answer {
             Ok(value) => self.push(Operand::Value(value)),
             Err(raised) => Ok(Turn::Throws(raised)),
         }

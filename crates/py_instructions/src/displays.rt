@@ -50,7 +50,8 @@ impl State {
         requires { self.old.top.place < usize.MAX }
         ensures { IfOk result (ActsAlone unit.now (Tuple n) self.old self.new) }
     {
-        let Some(values) = self.top.operands.take_values(alloc, n as usize)? else {
+        let list = Vec::new(alloc);
+        let Some(values) = self.top.operands.take_values(list, n as usize)? else {
             return Ok(Turn::Stuck);
         };
         match new_tuple(alloc, values)? {
@@ -63,7 +64,8 @@ impl State {
         requires { self.old.top.place < usize.MAX }
         ensures { IfOk result (ActsIn unit.now (MakeList n) self.old store.old self.new store.new) }
     {
-        let Some(values) = self.top.operands.take_values(alloc, n as usize)? else {
+        let list = Vec::new(alloc);
+        let Some(values) = self.top.operands.take_values(list, n as usize)? else {
             return Ok(Turn::Stuck);
         };
         match new_list(alloc, values, &mut store.heap)? {

@@ -3,6 +3,7 @@ use crate::operand::Operand;
 use crate::slots::Slots;
 use crate::stack::Stack;
 use cov_event::CodeId;
+use py_value::Value;
 
 /// A frame: its code, the place of its instruction, its operands, its slots, the line that is kept,
 /// and how many frames stand on each other up to this one.
@@ -16,10 +17,12 @@ pub struct Frame {
     pub depth: u32,
 }
 
-/// The frame that runs, those that wait for it, and the steps that are left.
+/// The frame that runs, those that wait for it, and the steps that are left. `spare` is a list that is kept for its room:
+/// methods and built-in functions get their values in it.
 #[derive(Drop)]
 pub struct State {
     pub top: Frame,
     pub callers: Stack<Frame>,
     pub steps: u64,
+    pub spare: Vec<Value>,
 }

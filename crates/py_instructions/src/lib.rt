@@ -15,6 +15,7 @@ mod frame;
 mod going;
 mod imports;
 mod jumps;
+mod lending;
 mod loops;
 mod making;
 mod marks;
@@ -31,6 +32,7 @@ mod ways;
 
 pub use calls::new_frame;
 pub use frame::{Frame, State};
+pub use lending::emptied;
 pub use operand::{Operand, Walk, Way};
 pub use reach::Reach;
 pub use slots::Slots;

@@ -9,11 +9,8 @@ ghost use Rattle.py_builtins.specs.Methods.{new_list};
 ghost use Rattle.py_code.specs.Operands.{text_in_value};
 ghost use Rattle.py_store.specs.Values.{plain_option};
 
-use py_value::{Cause, Heap, Items, NoMemory, Raised, Text, Value, slice};
+use py_value::{Cause, Heap, Items, MOST_ITEMS, NoMemory, Raised, Text, Value, slice};
 use std::alloc::Global;
-
-/// The most items of a tuple or a list.
-const MOST_ITEMS: usize = 1_048_576;
 
 /// The text that a value is taken for.
 pub fn into_text(alloc: Global, value: Value) -> Result<Text, NoMemory>

@@ -102,6 +102,19 @@ impl Operand {
         }
     }
 
+    /// Whether a call of it only borrows its values: a frame and an exception keep them.
+    pub fn borrows_values(&self) -> bool {
+        match self {
+            Operand::Value(value) => match value {
+                Value::Builtin(_) => true,
+                _ => false,
+            },
+            Operand::Method(_, _) => true,
+            Operand::Walk(_, _, _) => false,
+            Operand::Way(_) => false,
+        }
+    }
+
     /// The value that it is taken for.
     pub fn into_value(self) -> Value
         ensures { plain result ≡ value_in (plain_operand self) }

@@ -87,15 +87,30 @@ impl Stack<Operand> {
         }
     }
 
-    /// Takes so many values away, the lowest first, where there are so many.
-    pub fn take_values(&mut self, alloc: Global, n: usize) -> Result<Option<Vec<Value>>, NoMemory>
+    /// Whether a call of the operand so many below the top one only borrows its values.
+    pub fn borrows_values(&self, below: usize) -> bool {
+        match self.get(below) {
+            None => false,
+            Some(operand) => operand.borrows_values(),
+        }
+    }
+
+    /// Takes so many values away, the lowest first, where there are so many. They come in this list, in place of what it held.
+    pub fn take_values(
+        &mut self,
+        list: Vec<Value>,
+        n: usize,
+    ) -> Result<Option<Vec<Value>>, NoMemory>
         ensures { IfOk result (λ vs.
             TakesValues vs n (plain_operands self.old) (plain_operands self.new)) }
     {
         if n > self.len() {
+            drop(list);
             return Ok(None);
         }
-        let mut values = Vec::with_capacity(alloc, n)?;
+        let mut values = list;
+        values.clear();
+        values.reserve_exact(n)?;
         while values.len() < n {
             match self.pop() {
                 None => return Ok(None),

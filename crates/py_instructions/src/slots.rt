@@ -15,7 +15,7 @@ pub struct Slots {
 }
 
 impl Slots {
-    /// These values, and unset slots behind them, so many together.
+    /// These values, and unset slots after them, so many together.
     pub fn fresh(alloc: Global, values: Vec<Value>, count: usize) -> Result<Slots, NoMemory>
         ensures { IfOk result (λ slots.
             slots_of slots

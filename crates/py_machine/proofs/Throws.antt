@@ -48,7 +48,7 @@ module _ {T : Type 0} (moves : T → Event → T → Type 0) (ms : List Module) 
         ∙ ap (λ k. let n : Next Slots = Ends (record { how = failed (plain_raised raised); steps = k; effects = effects_of s1 (and_told (p.events ++ Returned ∷ []) o) }) in n) (sym same);
   }
 
-  module _ (d : T) (k : moves c (Throw raised.kind) d) (f : RawFrame) (fs : List RawFrame) (cs : m.callers ≡ f ∷ fs) (m2 m3 : State) (top : m2 ≡ record { top = f; callers = fs; steps = m.steps }) (is : Bool)
+  module _ (d : T) (k : moves c (Throw raised.kind) d) (f : RawFrame) (fs : List RawFrame) (cs : m.callers ≡ f ∷ fs) (m2 m3 : State) (top : m2 ≡ record m { top = f; callers = fs }) (is : Bool)
       (caught : (o : Outside) (out : Next Slots) → land (by_slots ms) ms (handler_at ms m2.top.code m2.top.place) out (plain_raised raised) true (seen m2 s1 o) ≡ catching is out (seen m3 s1 o)) where
     abbrev both : List Event
     both = Returned ∷ Throw raised.kind ∷ []
@@ -134,8 +134,8 @@ tells_one moves a b event before now how k h = record { events = event ∷ []; h
 -- the frame that waits goes on with the value
 pub given_back : (ms : List Module) (m : State) (f : RawFrame) (fs : List RawFrame) → m.callers ≡ f ∷ fs → (v : Value) (place : ℕ) → place ≡ suc f.place → (pushed : List RawOperand) → pushed ≡ OfValue v ∷ f.operands → (s : Store) (o : Outside)
     → give (by_slots ms) ms (plain v) (map plain_frame m.callers) m.steps (effects_of s o)
-    ≡ Goes (seen (record { top = record f { place = place; operands = pushed }; callers = fs; steps = m.steps }) s (and_told (Returned ∷ []) o))
+    ≡ Goes (seen (record m { top = record f { place = place; operands = pushed }; callers = fs }) s (and_told (Returned ∷ []) o))
 given_back ms m f fs cs v place e pushed g s o =
     ap (λ x. give (by_slots ms) ms (plain v) (map plain_frame x) m.steps (effects_of s o)) cs
-    ∙ ap (λ p. let n : Next Slots = Goes (seen (record { top = record f { place = p; operands = OfValue v ∷ f.operands }; callers = fs; steps = m.steps }) s (and_told (Returned ∷ []) o)) in n) (sym e)
-    ∙ ap (λ xs. let n : Next Slots = Goes (seen (record { top = record f { place = place; operands = xs }; callers = fs; steps = m.steps }) s (and_told (Returned ∷ []) o)) in n) (sym g)
+    ∙ ap (λ p. let n : Next Slots = Goes (seen (record m { top = record f { place = p; operands = OfValue v ∷ f.operands }; callers = fs }) s (and_told (Returned ∷ []) o)) in n) (sym e)
+    ∙ ap (λ xs. let n : Next Slots = Goes (seen (record m { top = record f { place = place; operands = xs }; callers = fs }) s (and_told (Returned ∷ []) o)) in n) (sym g)

@@ -17,7 +17,7 @@ use cov_event::Tracer;
 use cov_outside::{Sink, Source};
 use py_builtins::RunFault;
 use py_code::Programs;
-use py_instructions::{Operand, State, Turn};
+use py_instructions::{Operand, State, Turn, emptied};
 use py_store::Store;
 use py_value::{Builtin, Value};
 use std::alloc::Global;
@@ -56,6 +56,7 @@ fn ask<T: Tracer, I: Source, O: Sink>(
         → Rose (O.faults out.old) (O.faults out.new) }
 {
     let answer = call_to_end(alloc, which, &values, &mut store.heap, at_end, input, out)?;
+    m.spare = emptied(values);
     match answer {
         Ok(value) => match m.top.place.checked_add(1) {
             None => {

@@ -157,6 +157,7 @@ fn first(
         top,
         callers: Stack::new(alloc),
         steps,
+        spare: Vec::new(alloc),
     })
 }
 

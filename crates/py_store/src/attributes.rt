@@ -1,4 +1,4 @@
-// Names behind dots: of modules, and methods of values.
+// Names after dots: of modules, and methods of values.
 ghost use Rattle.std.specs.Prelude.{◌≡◌, IfOk};
 ghost use Rattle.py_value.specs.Keys.{is_same_text};
 ghost use Rattle.py_value.specs.View.{plain, plain_value_answer};
@@ -22,7 +22,7 @@ pub struct Callee {
     pub value: Value,
 }
 
-/// A name behind a dot.
+/// A name after a dot.
 pub fn attribute(
     alloc: Global,
     value: &Value,
@@ -62,7 +62,7 @@ pub fn taken(
     }
 }
 
-/// What is called behind a dot: a name of a module, or a method of the value.
+/// What is called after a dot: a name of a module, or a method of the value.
 pub fn callee_of(
     alloc: Global,
     value: Value,

@@ -1,5 +1,5 @@
 //! What a program's modules hold as they run, and what the machine finds in it: globals and names that no module sets, names
-//! behind dots, modules, units and handlers by their numbers, items of values, and values of parameters.
+//! after dots, modules, units and handlers by their numbers, items of values, and values of parameters.
 #![tactic(auto)]
 
 mod attributes;

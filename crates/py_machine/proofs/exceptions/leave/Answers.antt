@@ -20,13 +20,13 @@ returns-in_err-event-clause-given_up g c =
 pub loop-raised-preserved : goal.loop-raised-preserved
 loop-raised-preserved g c =
     goes_up g.T.Tracer.moves (modules_of c.args.programs.now) c.args.raised c.args.tracer.now c.loop-raised.tracer c.event.new.self _ c.loop-raised.m c.loop-raised.store c.fail.new.self c.fail.ensures c.loop-raised.invariant c.in_ok-event.ensures.moved
-    c.event-in-loop-raised.new.self c.in_ok-event-2.ensures.moved c.in-Some.f c.pop.new.self c.in-Some.ensures (record { top = c.in-Some.f; callers = c.pop.new.self; steps = c.loop-raised.m.steps }) c.catch.new.self refl c.in_ok-catch.field-0
+    c.event-in-loop-raised.new.self c.in_ok-event-2.ensures.moved c.in-Some.f c.pop.new.self c.in-Some.ensures (record c.loop-raised.m { top = c.in-Some.f; callers = c.pop.new.self }) c.catch.new.self refl c.in_ok-catch.field-0
     (λ o out. c.in_ok-catch.ensures.caught c.fail.new.self o out) c.if-branch.false (c.in_ok-catch.ensures.kept c.if-branch.false)
 
 pub returns-then-branch-clause-ok : goal.returns-then-branch-clause-ok
 returns-then-branch-clause-ok g c =
     lands_here g.T.Tracer.moves (modules_of c.args.programs.now) c.args.raised c.args.tracer.now c.loop-raised.tracer c.event.new.self _ c.loop-raised.m c.loop-raised.store c.fail.new.self c.fail.ensures c.loop-raised.invariant c.in_ok-event.ensures.moved
-    c.event-in-loop-raised.new.self c.in_ok-event-2.ensures.moved c.in-Some.f c.pop.new.self c.in-Some.ensures (record { top = c.in-Some.f; callers = c.pop.new.self; steps = c.loop-raised.m.steps }) c.catch.new.self refl c.in_ok-catch.field-0
+    c.event-in-loop-raised.new.self c.in_ok-event-2.ensures.moved c.in-Some.f c.pop.new.self c.in-Some.ensures (record c.loop-raised.m { top = c.in-Some.f; callers = c.pop.new.self }) c.catch.new.self refl c.in_ok-catch.field-0
     (λ o out. c.in_ok-catch.ensures.caught c.fail.new.self o out) c.if-branch.true
 
 pub returns-in_err-event-2-clause-given_up : goal.returns-in_err-event-2-clause-given_up
