@@ -14,23 +14,12 @@ pub fn is_docstring(kind: &StmtKind) -> bool
 {
     match kind {
         StmtKind::Expr(e) => is_string(e),
-        StmtKind::Assign { .. }
-        | StmtKind::AugAssign { .. }
-        | StmtKind::Pass
-        | StmtKind::Break
-        | StmtKind::Continue
-        | StmtKind::Return(_)
-        | StmtKind::Raise(_)
-        | StmtKind::Assert(_, _)
-        | StmtKind::Global(_)
-        | StmtKind::Import(_)
-        | StmtKind::From(_, _)
-        | StmtKind::If { .. }
-        | StmtKind::While { .. }
-        | StmtKind::For { .. }
-        | StmtKind::Try { .. }
-        | StmtKind::Def { .. }
-        | StmtKind::Match { .. } => false,
+        StmtKind::Assign { .. } | StmtKind::AugAssign { .. } => false,
+        StmtKind::Pass | StmtKind::Break | StmtKind::Continue => false,
+        StmtKind::Return(_) | StmtKind::Raise(_) | StmtKind::Assert(_, _) => false,
+        StmtKind::Global(_) | StmtKind::Import(_) | StmtKind::From(_, _) => false,
+        StmtKind::If { .. } | StmtKind::While { .. } | StmtKind::For { .. } => false,
+        StmtKind::Try { .. } | StmtKind::Def { .. } | StmtKind::Match { .. } => false,
     }
 }
 
