@@ -25,7 +25,7 @@ use Rattle.py_code.specs.Operands.{asked}
 use Rattle.py_code.specs.Slots.{by_names}
 use Rattle.py_code.specs.Units.{Code, Module, unit_at, constant_value}
 use Rattle.py_compile_expr.specs.Cells.{plain, Guard, cell}
-use Rattle.py_compile_expr.specs.Patterns.{kept_constant, constant_question, captured, captured_each, pattern_size, items_size, one_size, Site, behind, with_captured, pattern_code, items_code, one_code}
+use Rattle.py_compile_expr.specs.Patterns.{kept_constant, constant_question, captured, captured_each, pattern_size, items_size, one_size, Site, with_waiting, with_captured, pattern_code, items_code, one_code}
 use Rattle.py_compile_expr.specs.Runs.{Spot, conf, from as going, thrown, after, on_top, Fits, Matches, part_of, CallsRun}
 use Rattle.py_compile_expr.specs.Stands.{StandsAt, HasAt}
 use Rattle.py_compile_expr.proofs.InstructionRuns.{constant_runs, name_runs}
@@ -157,7 +157,7 @@ module _ (cs : List Module) (ms : List LoadedModule) (matches : Matches cs ms) (
   items_none s p has W R F wait le f fits (v ∷ vs) long = absurd (omega arith)
 
   -- a match of one pattern with a match of others after it
-  then_both : (m : ℕ) (s : Site) (mid end : ℕ) (V W R F : List Operand) (r rest : Ans Match) (xs : List Text) (first : End) → first ≡ after_match cs w (behind m s) mid V R F r t n → HasNames xs r
+  then_both : (m : ℕ) (s : Site) (mid end : ℕ) (V W R F : List Operand) (r rest : Ans Match) (xs : List Text) (first : End) → first ≡ after_match cs w (with_waiting m s) mid V R F r t n → HasNames xs r
       → ((ns : Names) → names_in ns ≡ xs → going cs w mid (V ++ pushed (values_in ns) R) t n ≡ after_match cs w s end W R F (and_then (Some ns) rest) t n) → first ≡ after_match cs w s end W R F (r >>= λ found. and_then found rest) t n
   then_both m s mid end V W R F (Ok None) rest xs first e h next = e
   then_both m s mid end V W R F (Ok (Some ns)) rest xs first e h next = e ∙ next ns h
@@ -174,7 +174,7 @@ module _ (cs : List Module) (ms : List LoadedModule) (matches : Matches cs ms) (
   unfolding matched_each
   items_some q qs ok rq rqs s p has W R F wait le f fits [] long = absurd (omega arith)
   items_some q qs ok rq rqs s p has W R F wait le f fits (v ∷ vs) long =
-      let s1 = behind (pattern_count qs) s in
+      let s1 = with_waiting (pattern_count qs) s in
       let V = map of_value vs ++ W in
       let mid = p + pattern_size q in
       let last = mid + items_size qs in
@@ -278,10 +278,10 @@ module _ (cs : List Module) (ms : List LoadedModule) (matches : Matches cs ms) (
       let cq = length (captured q) in
       let ys = of_value v ∷ (W ++ R) in
       let all : Falls (cq + 1) s.extra W R F = falls_fewer (cq + 1) (length (captured q ++ x ∷ [])) s.extra W R F (at_least (texts_more (captured q) (x ∷ []))) f in
-      let tail = part_at cs ms matches c k calls w u is handled (p + 1) (pattern_size q) (pattern_code (behind 1 s) (p + 1) q) _ (pattern_length (behind 1 s) (p + 1) q) has.1 in
+      let tail = part_at cs ms matches c k calls w u is handled (p + 1) (pattern_size q) (pattern_code (with_waiting 1 s) (p + 1) q) _ (pattern_length (with_waiting 1 s) (p + 1) q) has.1 in
       led_on cs w u is p (Copy 0) ys (of_value v ∷ ys) t t n has.0.instr refl
       ∙ then_both 1 s mid end (of_value v ∷ W) W R F (matched sc t.now q v) (Ok (Some ((x, v) ∷ []))) (captured q) (going cs w (p + 1) (of_value v ∷ ys) t n)
-      (rq (behind 1 s) (p + 1) (has_front u (p + 1) (pattern_code (behind 1 s) (p + 1) q) _ has.1) (of_value v ∷ W) R F (omega arith) (omega arith) (as_falls (of_value v) W R F cq s.extra all) (fits_less s.guard end mid (length R) (omega arith) fits) v)
+      (rq (with_waiting 1 s) (p + 1) (has_front u (p + 1) (pattern_code (with_waiting 1 s) (p + 1) q) _ has.1) (of_value v ∷ W) R F (omega arith) (omega arith) (as_falls (of_value v) W R F cq s.extra all) (fits_less s.guard end mid (length R) (omega arith) fits) v)
       (has_names sc t.now q ok v)
       (λ ns e. sink_runs s.guard mid s.waiting v W (pushed (values_in ns) R) tail.0 wait
       ∙ (ap (λ m. going cs w m (W ++ of_value v ∷ pushed (values_in ns) R) t n) (omega arith)

@@ -11,7 +11,7 @@ use Rattle.py_syntax.specs.Tree.{Pattern, Patterns, no_patterns, patterns}
 use Rattle.py_syntax.specs.View.{plain_pattern, plain_patterns}
 use Rattle.py_meaning.specs.Patterns.{pattern_count}
 use Rattle.py_compile_expr.specs.Cells.{Cell}
-use Rattle.py_compile_expr.specs.Patterns.{Site, behind, with_captured, captured, pattern_size, pattern_code, items_size, items_code, one_size, one_code}
+use Rattle.py_compile_expr.specs.Patterns.{Site, with_waiting, with_captured, captured, pattern_size, pattern_code, items_size, items_code, one_size, one_code}
 use Rattle.py_compile_expr.specs.Pieces.{alternative_size, alternative_code, choice_code}
 use Rattle.py_compile_expr.proofs.Turns.{the_drop, two_not_one, a_turn}
 
@@ -96,16 +96,16 @@ pub items_size-turn : (qs : List PatternNode) (i : ℕ) (q : PatternNode) → i 
     → items_size (plain_patterns (drop i qs)) ≡ pattern_size (plain_pattern q) + items_size (plain_patterns (drop (i + 1) qs))
 items_size-turn qs i q lt is = ap (λ ds. items_size (plain_patterns ds)) (the_drop qs i q lt is)
 
-waiting_behind : (qs : List PatternNode) (i : ℕ) (q : PatternNode) → i < length qs → q ≡ get_or qs i q → pattern_count (plain_patterns (drop (i + 1) qs)) ≡ length qs - i - 1
-waiting_behind qs i q lt is = let a = patterns-are (drop (i + 1) qs) in let b = left_of qs i q lt is in omega (arith, a, b)
+waiting_after : (qs : List PatternNode) (i : ℕ) (q : PatternNode) → i < length qs → q ≡ get_or qs i q → pattern_count (plain_patterns (drop (i + 1) qs)) ≡ length qs - i - 1
+waiting_after qs i q lt is = let a = patterns-are (drop (i + 1) qs) in let b = left_of qs i q lt is in omega (arith, a, b)
 
 pub items_code-turn : (s inside next : Site) (p waiting found : ℕ) (qs : List PatternNode) (i : ℕ) (q : PatternNode) → i < length qs → q ≡ get_or qs i q
-    → waiting ≡ length qs - i - 1 → inside ≡ behind waiting s → found ≡ length (captured (plain_pattern q)) → next ≡ with_captured found s
+    → waiting ≡ length qs - i - 1 → inside ≡ with_waiting waiting s → found ≡ length (captured (plain_pattern q)) → next ≡ with_captured found s
     → items_code s p (plain_patterns (drop i qs)) ≡ pattern_code inside p (plain_pattern q) ++ items_code next (p + pattern_size (plain_pattern q)) (plain_patterns (drop (i + 1) qs))
 items_code-turn s inside next p waiting found qs i q lt is w e f n =
     ap (λ ds. items_code s p (plain_patterns ds)) (the_drop qs i q lt is)
     ∙ ap (λ site. pattern_code site p (plain_pattern q) ++ items_code (with_captured (length (captured (plain_pattern q))) s) (p + pattern_size (plain_pattern q)) (plain_patterns (drop (i + 1) qs)))
-    (ap (λ k. behind k s) (waiting_behind qs i q lt is ∙ sym w) ∙ sym e)
+    (ap (λ k. with_waiting k s) (waiting_after qs i q lt is ∙ sym w) ∙ sym e)
     ∙ ap (λ site. pattern_code inside p (plain_pattern q) ++ items_code site (p + pattern_size (plain_pattern q)) (plain_patterns (drop (i + 1) qs)))
     (ap (λ k. with_captured k s) (sym f) ∙ sym n)
 
@@ -132,7 +132,7 @@ left_counted qs i q p r w lt is e h =
     left_turn qs i q p (pattern_size (plain_pattern q)) (alternative_size (pattern_size (plain_pattern q)) (length qs - i)) r w lt is refl refl e h
 
 pub items_added : (s inside next' : Site) (p r waiting found : ℕ) (qs : List PatternNode) (i : ℕ) (q : PatternNode) (now next w : List Cell) → i < length qs → q ≡ get_or qs i q
-    → waiting ≡ length qs - i - 1 → inside ≡ behind waiting s → found ≡ length (captured (plain_pattern q)) → next' ≡ with_captured found s
+    → waiting ≡ length qs - i - 1 → inside ≡ with_waiting waiting s → found ≡ length (captured (plain_pattern q)) → next' ≡ with_captured found s
     → next ≡ now ++ pattern_code inside p (plain_pattern q) → r ≡ p + pattern_size (plain_pattern q)
     → now ++ items_code s p (plain_patterns (drop i qs)) ≡ w → next ++ items_code next' r (plain_patterns (drop (i + 1) qs)) ≡ w
 items_added s inside next' p r waiting found qs i q now next w lt is a b d f e place h =

@@ -16,7 +16,7 @@ use Rattle.py_syntax.specs.View.{plain_expr, plain_exprs, opt_of, plain_pattern,
 use Rattle.py_compile_expr.specs.Callees.{callee_code}
 use Rattle.py_compile_expr.specs.Cells.{attribute, plain, Guard, put}
 use Rattle.py_compile_expr.specs.Expressions.{bounds, count, expr_size, expr_code, each_size, each_code, opt_size, opt_code}
-use Rattle.py_compile_expr.specs.Patterns.{Site, behind, pattern_code, items_code}
+use Rattle.py_compile_expr.specs.Patterns.{Site, with_waiting, pattern_code, items_code}
 use Rattle.py_compile_expr.proofs.Alternatives.{patterns-are}
 use Rattle.py_compile_expr.proofs.Calls.{call_size, call_code}
 
@@ -91,11 +91,11 @@ as_is q x = search pattern_node.the_lemmas
 sequence_is : (b : Brackets) (qs : Vec PatternNode) (c : Bool) → plain_pattern (pattern_variant.Sequence b qs c) ≡ sequence b (plain_patterns qs.items) c
 sequence_is b qs c = search pattern_node.the_lemmas
 
-pub as_node : (s inside : Site) (p q : ℕ) (e : PatternNode) (a : Box PatternNode Global) (x : Text) (d : PatternNode) → e ≡ pattern_variant.As a x → d ≡ a.value → inside ≡ behind 1 s → q ≡ p + 1
+pub as_node : (s inside : Site) (p q : ℕ) (e : PatternNode) (a : Box PatternNode Global) (x : Text) (d : PatternNode) → e ≡ pattern_variant.As a x → d ≡ a.value → inside ≡ with_waiting 1 s → q ≡ p + 1
     → pattern_code s p (plain_pattern e) ≡ put s.guard (plain (Copy 0)) [] ++ (pattern_code inside q (plain_pattern d) ++ put s.guard (plain (Sink s.waiting)) [])
 as_node s inside p q e a x d is same site place =
     ap (λ n. pattern_code s p (plain_pattern n)) is ∙ ap (pattern_code s p) (as_is a x)
-    ∙ ap (λ n. put s.guard (plain (Copy 0)) (pattern_code (behind 1 s) (p + 1) (plain_pattern n) ++ put s.guard (plain (Sink s.waiting)) [])) (sym same)
+    ∙ ap (λ n. put s.guard (plain (Copy 0)) (pattern_code (with_waiting 1 s) (p + 1) (plain_pattern n) ++ put s.guard (plain (Sink s.waiting)) [])) (sym same)
     ∙ ap (λ k. put s.guard (plain (Copy 0)) (pattern_code k (p + 1) (plain_pattern d) ++ put s.guard (plain (Sink s.waiting)) [])) (sym site)
     ∙ ap (λ n. put s.guard (plain (Copy 0)) (pattern_code inside n (plain_pattern d) ++ put s.guard (plain (Sink s.waiting)) [])) (sym place)
 

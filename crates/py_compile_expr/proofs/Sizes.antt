@@ -5,7 +5,7 @@ use Rattle.py_syntax.specs.Tree.{Text, Expr, name, int, str, fstr, none, bool, t
 use Rattle.py_syntax.specs.Tree.{Pattern, literal, capture, wild, member, sequence, p_or, p_as, p_paren, Patterns, no_patterns, patterns}
 use Rattle.py_compile_expr.specs.Cells.{Guard, Cell}
 use Rattle.py_compile_expr.specs.Expressions.{expr_size, each_size, pairs_size, links_size, opt_size, fragments_size, parts_size, expr_code, each_code, pairs_code, links_code, opt_code, fragments_code, parts_code}
-use Rattle.py_compile_expr.specs.Patterns.{Site, behind, pattern_size, items_size, one_size, names_size, pattern_code, items_code, one_code, names_code}
+use Rattle.py_compile_expr.specs.Patterns.{Site, with_waiting, pattern_size, items_size, one_size, names_size, pattern_code, items_code, one_code, names_code}
 use Rattle.py_compile_expr.specs.Targets.{target_size, targets_size, all_size, target_code, targets_code, all_code}
 
 -- one after the other
@@ -128,7 +128,7 @@ mutual
   pattern_length s p (sequence brackets qs comma) = let h = items_length s (p + 1) qs in omega arith
   pattern_length s p (p_or qs) = one_length s p (p + one_size qs) qs
   pattern_length s p (p_as q x) =
-      ap suc (both (pattern_code (behind 1 s) (p + 1) q) _ (pattern_size q) 1 (pattern_length (behind 1 s) (p + 1) q) refl) ∙ omega arith
+      ap suc (both (pattern_code (with_waiting 1 s) (p + 1) q) _ (pattern_size q) 1 (pattern_length (with_waiting 1 s) (p + 1) q) refl) ∙ omega arith
   pattern_length s p (p_paren q) = pattern_length s p q
 
   pub items_length : (s : Site) (p : ℕ) (qs : Patterns) → length (items_code s p qs) ≡ items_size qs

@@ -2,6 +2,7 @@
 --     none_counted, none_added       the end of a loop: nothing of the list is left
 --     the_drop                       a turn of it: the next one of the list
 --     a_turn                         what is added in it
+--     kept                           a part under another name
 --     then, three, four              parts in a row
 use Rattle.std.proofs.Common.{◌≡◌, ℕ, suc, ◌+◌, ◌<◌, ◌≤◌, ◌==◌, false, List, [], ◌∷◌, ◌++◌, Result, Ok, Err, OnOk, IfOk, drop, length, get_or, refl, sym, ap, ◌∙◌, arith, append_assoc, drop-cons, add-one}
 use Rattle.std.proofs.Math.ListN.{drop_of_length-le}
@@ -22,6 +23,11 @@ the_drop xs i x lt is = drop-cons xs i x lt ∙ ap (λ y. y ∷ drop (suc i) xs)
 -- two more than none is not one
 pub two_not_one : (n : ℕ) → (suc (suc n) == 1) ≡ false
 two_not_one n = grind (arith, nat_tests)
+
+-- a part under another name
+pub kept : {A E R : Type 0} (r : Result R E) (s n x y : List A) → y ≡ x → OnOk r (n ≡ s ++ x) → OnOk r (n ≡ s ++ y)
+kept (Ok u) s n x y e h = h ∙ ap (λ k. s ++ k) (sym e)
+kept (Err f) s n x y e h = h
 
 -- one part, and then another
 pub then : {A E R : Type 0} (r : Result R E) (s m n : List A) (x y z : List A) → OnOk r (n ≡ m ++ y) → m ≡ s ++ x → z ≡ x ++ y → OnOk r (n ≡ s ++ z)

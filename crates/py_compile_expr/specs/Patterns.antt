@@ -79,8 +79,8 @@ pub record Site : Type 0 where
   pub extra : ℕ
 
 -- with so many more values that wait
-abbrev pub behind : ℕ → Site → Site
-behind n s = record s { waiting = n + s.waiting; extra = n + s.extra }
+abbrev pub with_waiting : ℕ → Site → Site
+with_waiting n s = record s { waiting = n + s.waiting; extra = n + s.extra }
 
 -- with so many captured values
 abbrev pub with_captured : ℕ → Site → Site
@@ -104,14 +104,14 @@ abbrev mutual
   pattern_code s p (p_or qs) = one_code s p (p + one_size qs) qs
   pattern_code s p (p_as q x) =
       put s.guard (plain (Copy 0))
-      (pattern_code (behind 1 s) (p + 1) q ++ put s.guard (plain (Sink s.waiting)) [])
+      (pattern_code (with_waiting 1 s) (p + 1) q ++ put s.guard (plain (Sink s.waiting)) [])
   pattern_code s p (p_paren q) = pattern_code s p q
 
   -- the first item is on top, and the others wait
   pub items_code : Site → ℕ → Patterns → List Cell
   items_code s p no_patterns = []
   items_code s p (patterns q qs) =
-      pattern_code (behind (pattern_count qs) s) p q
+      pattern_code (with_waiting (pattern_count qs) s) p q
       ++ items_code (with_captured (length (captured q)) s) (p + pattern_size q) qs
 
   -- each alternative but the last matches a copy

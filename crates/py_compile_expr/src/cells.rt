@@ -68,7 +68,6 @@ pub struct Cell {
 /// The cells of a unit so far, seen as their list.
 #[derive(Drop)]
 pub struct Builder {
-    alloc: Global,
     cells: Vec<Cell>,
 }
 
@@ -87,14 +86,13 @@ impl Builder {
         ensures { result ≡ [] }
     {
         Builder {
-            alloc,
             cells: Vec::new(alloc),
         }
     }
 
     /// The allocator of the cells.
     pub fn alloc(&self) -> Global {
-        self.alloc
+        *self.cells.allocator()
     }
 
     /// The cells so far.
@@ -111,9 +109,8 @@ impl Builder {
             ≡ self.old ++ put (plain_guard guard) (plain_op op) []) }
         ensures place { IfOk result (λ n. n ≡ at + 1) }
     {
-        let next = sum(at, 1)?;
         self.cells.push(Cell { op, guard })?;
-        Ok(next)
+        sum(at, 1)
     }
 }
 

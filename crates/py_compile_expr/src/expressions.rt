@@ -1,10 +1,12 @@
 // Emission of expressions: each leaves its value on top.
 
-ghost use Rattle.std.specs.Prelude.{◌≡◌, ◌+◌, ◌++◌, IfOk, OnOk};
+ghost use Rattle.std.specs.Prelude.{◌≡◌, ◌+◌, [], ◌++◌, IfOk, OnOk};
 ghost use Rattle.std.specs.Option.{option_map};
 ghost use Rattle.py_syntax.specs.View.{plain_expr, plain_exprs, plain_pairs, plain_links, plain_fragments, plain_parts, opt_of};
-ghost use Rattle.py_compile_expr.specs.CellView.{plain_guard};
+ghost use Rattle.py_compile_expr.specs.Cells.{load, put};
+ghost use Rattle.py_compile_expr.specs.CellView.{plain_op, plain_guard};
 ghost use Rattle.py_compile_expr.specs.Callees.{callee_code};
+ghost use Rattle.py_compile_expr.specs.Pieces.{then_code, after_code, row_code};
 ghost use Rattle.py_compile_expr.specs.Expressions.{count, expr_size, expr_code, each_size, each_code, pairs_size, pairs_code, links_size, links_code, opt_size, opt_code, fragments_size, fragments_code, parts_size, parts_code};
 
 use crate::cells::{Builder, Guard, Op, sum};
@@ -13,7 +15,7 @@ use crate::operators::{bounds, count, link_instr, question, sign_operator};
 use crate::texts::{put_chars, put_string, put_text};
 use py_code::{Constant, Instr};
 use py_syntax::{Expr, FormatPart, Fragment, Link, Pair};
-use py_value::NoMemory;
+use py_value::{NoMemory, Text};
 
 /// Adds the code of an expression at a place, with the handler that holds there. Answers the place
 /// after it.
@@ -24,10 +26,7 @@ pub fn put_expr(out: &mut Builder, guard: Option<Guard>, at: u32, e: &Expr) -> R
     ensures place { IfOk result (λ n. n ≡ at + expr_size (plain_expr e.now)) }
 {
     match e {
-        Expr::Name(name) => {
-            let name = name.copy()?;
-            out.put(guard, at, Op::Load(name))
-        }
+        Expr::Name(name) => put_load(out, guard, at, name),
         Expr::Int(n) => out.put(guard, at, Op::Constant(Constant::Int(*n))),
         Expr::Str(pieces) => put_string(out, guard, at, pieces),
         Expr::FStr(pieces) => {
@@ -38,63 +37,48 @@ pub fn put_expr(out: &mut Builder, guard: Option<Guard>, at: u32, e: &Expr) -> R
         Expr::Bool(b) => out.put(guard, at, Op::Constant(Constant::Bool(*b))),
         Expr::Tuple { items, comma: _ } => {
             let size = count(items)?;
-            let at = put_each(out, guard, at, items)?;
-            out.put(guard, at, Op::Plain(Instr::Tuple(size)))
+            put_row(out, guard, at, items, Instr::Tuple(size))
         }
         Expr::List { items, comma: _ } => {
             let size = count(items)?;
-            let at = put_each(out, guard, at, items)?;
-            out.put(guard, at, Op::Plain(Instr::List(size)))
+            put_row(out, guard, at, items, Instr::List(size))
         }
         Expr::Dict { items, comma: _ } => {
             let at = out.put(guard, at, Op::Plain(Instr::Dict))?;
             put_pairs(out, guard, at, items)
         }
         Expr::Paren(inner) => put_expr(out, guard, at, inner),
-        Expr::Not(operand) => {
-            let at = put_expr(out, guard, at, operand)?;
-            out.put(guard, at, Op::Plain(Instr::Not))
-        }
+        Expr::Not(operand) => put_then(out, guard, at, operand, Op::Plain(Instr::Not)),
         Expr::And(left, right) => {
-            let size = expr_size(right)?;
             let at = put_expr(out, guard, at, left)?;
-            let end = over(at, size)?;
-            let at = out.put(guard, at, Op::Plain(Instr::And(end)))?;
-            put_expr(out, guard, at, right)
+            let end = past(at, right)?;
+            put_after(out, guard, at, Instr::And(end), right)
         }
         Expr::Or(left, right) => {
-            let size = expr_size(right)?;
             let at = put_expr(out, guard, at, left)?;
-            let end = over(at, size)?;
-            let at = out.put(guard, at, Op::Plain(Instr::Or(end)))?;
-            put_expr(out, guard, at, right)
+            let end = past(at, right)?;
+            put_after(out, guard, at, Instr::Or(end), right)
         }
         Expr::Unary(sign, operand) => {
             let at = out.put(guard, at, Op::Constant(Constant::Int(0)))?;
-            let at = put_expr(out, guard, at, operand)?;
-            out.put(guard, at, Op::Plain(Instr::Binary(sign_operator(*sign))))
+            let instr = Instr::Binary(sign_operator(*sign));
+            put_then(out, guard, at, operand, Op::Plain(instr))
         }
         Expr::Binary(op, left, right) => {
             let at = put_expr(out, guard, at, left)?;
-            let at = put_expr(out, guard, at, right)?;
-            out.put(guard, at, Op::Plain(Instr::Binary(*op)))
+            put_then(out, guard, at, right, Op::Plain(Instr::Binary(*op)))
         }
         Expr::Compare(first, links) => {
-            let size = links_size(links)?;
             let at = put_expr(out, guard, at, first)?;
-            let end = sum(at, size)?;
+            let end = sum(at, links_size(links)?)?;
             put_links(out, guard, at, end, links)
         }
         Expr::Cond { body, test, orelse } => {
-            let body_size = expr_size(body)?;
-            let orelse_size = expr_size(orelse)?;
             let at = put_expr(out, guard, at, test)?;
-            let no = sum(over(at, body_size)?, 1)?;
-            let end = sum(no, orelse_size)?;
-            let at = out.put(guard, at, Op::Plain(Instr::IfFalse(no)))?;
-            let at = put_expr(out, guard, at, body)?;
-            let at = out.put(guard, at, Op::Plain(Instr::Goto(end)))?;
-            put_expr(out, guard, at, orelse)
+            let no = sum(past(at, body)?, 1)?;
+            let at = put_after(out, guard, at, Instr::IfFalse(no), body)?;
+            let end = past(at, orelse)?;
+            put_after(out, guard, at, Instr::Goto(end), orelse)
         }
         Expr::Call {
             callee,
@@ -103,13 +87,11 @@ pub fn put_expr(out: &mut Builder, guard: Option<Guard>, at: u32, e: &Expr) -> R
         } => {
             let size = count(args)?;
             let at = put_callee(out, guard, at, callee)?;
-            let at = put_each(out, guard, at, args)?;
-            out.put(guard, at, Op::Plain(Instr::Call(size)))
+            put_row(out, guard, at, args, Instr::Call(size))
         }
         Expr::Index(of, index) => {
             let at = put_expr(out, guard, at, of)?;
-            let at = put_expr(out, guard, at, index)?;
-            out.put(guard, at, Op::Plain(Instr::Index))
+            put_then(out, guard, at, index, Op::Plain(Instr::Index))
         }
         Expr::Slice { of, from, to } => {
             let at = put_expr(out, guard, at, of)?;
@@ -119,10 +101,77 @@ pub fn put_expr(out: &mut Builder, guard: Option<Guard>, at: u32, e: &Expr) -> R
         }
         Expr::Attr(of, name) => {
             let name = name.copy()?;
-            let at = put_expr(out, guard, at, of)?;
-            out.put(guard, at, Op::Attribute(name))
+            put_then(out, guard, at, of, Op::Attribute(name))
         }
     }
+}
+
+/// The value of a name.
+fn put_load(out: &mut Builder, guard: Option<Guard>, at: u32, name: &Text) -> Result<u32, NoMemory>
+    ensures cells { OnOk result (out.new ≡ out.old ++ put (plain_guard guard) (load name.now) []) }
+    ensures place { IfOk result (λ n. n ≡ at + 1) }
+{
+    let name = name.copy()?;
+    out.put(guard, at, Op::Load(name))
+}
+
+/// An expression, and an instruction after it.
+#[cycle(expressions)]
+fn put_then(
+    out: &mut Builder,
+    guard: Option<Guard>,
+    at: u32,
+    e: &Expr,
+    op: Op,
+) -> Result<u32, NoMemory>
+    ensures cells { OnOk result (out.new
+        ≡ out.old ++ then_code (plain_guard guard) at (plain_expr e.now) (plain_op op)) }
+    ensures place { IfOk result (λ n. n ≡ at + expr_size (plain_expr e.now) + 1) }
+{
+    let at = put_expr(out, guard, at, e)?;
+    out.put(guard, at, op)
+}
+
+/// An instruction, and an expression after it.
+#[cycle(expressions)]
+fn put_after(
+    out: &mut Builder,
+    guard: Option<Guard>,
+    at: u32,
+    instr: Instr,
+    e: &Expr,
+) -> Result<u32, NoMemory>
+    ensures cells { OnOk result (out.new
+        ≡ out.old ++ after_code (plain_guard guard) at instr (plain_expr e.now)) }
+    ensures place { IfOk result (λ n. n ≡ at + 1 + expr_size (plain_expr e.now)) }
+{
+    let at = out.put(guard, at, Op::Plain(instr))?;
+    put_expr(out, guard, at, e)
+}
+
+/// Expressions in a row, and an instruction after them.
+#[cycle(expressions)]
+fn put_row(
+    out: &mut Builder,
+    guard: Option<Guard>,
+    at: u32,
+    items: &[Expr],
+    instr: Instr,
+) -> Result<u32, NoMemory>
+    ensures cells { OnOk result (out.new
+        ≡ out.old ++ row_code (plain_guard guard) at (plain_exprs items.now) instr) }
+    ensures place { IfOk result (λ n. n ≡ at + each_size (plain_exprs items.now) + 1) }
+{
+    let at = put_each(out, guard, at, items)?;
+    out.put(guard, at, Op::Plain(instr))
+}
+
+/// The place after one instruction and an expression.
+fn past(at: u32, e: &Expr) -> Result<u32, NoMemory>
+    ensures { IfOk result (λ n. n ≡ at + 1 + expr_size (plain_expr e.now)) }
+{
+    let size = expr_size(e)?;
+    over(at, size)
 }
 
 /// The place after one instruction and a part of this size.
@@ -160,8 +209,7 @@ fn put_callee(
         Expr::Index(_, _) | Expr::Slice { .. } => put_expr(out, guard, at, callee),
         Expr::Attr(of, name) => {
             let name = name.copy()?;
-            let at = put_expr(out, guard, at, of)?;
-            out.put(guard, at, Op::Method(name))
+            put_then(out, guard, at, of, Op::Method(name))
         }
     }
 }

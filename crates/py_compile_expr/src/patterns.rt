@@ -12,7 +12,7 @@ ghost use Rattle.py_compile_expr.specs.Patterns.{kept_constant, constant_questio
 
 use crate::cells::{Builder, Guard, Op, sum};
 use crate::operators::number;
-use crate::site::{Site, behind, with_captured};
+use crate::site::{Site, with_captured, with_waiting};
 use crate::texts::run_together;
 use py_code::{Constant, Instr, Question};
 use py_syntax::{Constant as Literal, Pattern};
@@ -222,7 +222,7 @@ pub fn put_pattern(
             put_one(out, site, at, end, items)
         }
         Pattern::As(inner, _) => {
-            let inside = behind(1, site)?;
+            let inside = with_waiting(1, site)?;
             let at = out.put(site.guard, at, Op::Plain(Instr::Copy(0)))?;
             let at = put_pattern(out, inside, at, inner)?;
             out.put(site.guard, at, Op::Plain(Instr::Sink(site.waiting)))
@@ -287,7 +287,7 @@ fn put_items(out: &mut Builder, site: Site, at: u32, items: &[Pattern]) -> Resul
     let mut here = site;
     for i in 0..items.len() {
         let waiting = number(items.len() - i - 1)?;
-        let inside = behind(waiting, here)?;
+        let inside = with_waiting(waiting, here)?;
         let item = &items[i];
         let next = with_captured(captures(item)?, here)?;
         to = put_pattern(out, inside, to, item)?;

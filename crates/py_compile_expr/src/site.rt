@@ -2,7 +2,7 @@
 
 ghost use Rattle.std.specs.Prelude.{◌≡◌, ◌+◌, IfOk};
 ghost use Rattle.py_compile_expr.specs.CellView.{plain_site};
-ghost use Rattle.py_compile_expr.specs.Patterns.{behind, with_captured};
+ghost use Rattle.py_compile_expr.specs.Patterns.{with_waiting, with_captured};
 
 use crate::cells::{Guard, sum};
 use py_value::NoMemory;
@@ -18,8 +18,8 @@ pub struct Site {
 }
 
 /// The site with so many more values that wait.
-pub(crate) fn behind(count: u32, site: Site) -> Result<Site, NoMemory>
-    ensures { IfOk result (λ s. plain_site s ≡ behind count (plain_site site)) }
+pub(crate) fn with_waiting(count: u32, site: Site) -> Result<Site, NoMemory>
+    ensures { IfOk result (λ s. plain_site s ≡ with_waiting count (plain_site site)) }
 {
     let waiting = sum(count, site.waiting)?;
     let extra = sum(count, site.extra)?;

@@ -6,7 +6,7 @@ use Rattle.py_code.specs.declared.instr.Instr.TheVariants.{Pop, Copy, Sink, Roll
 use Rattle.py_code.specs.declared.instr.Question.TheVariants.{Eq}
 use Rattle.py_code.specs.declared.unit.Constant.TheVariants.{Bool as BoolConstant}
 use Rattle.py_compile_expr.specs.Cells.{constant, load, store, attribute, plain, Guard, Cell}
-use Rattle.py_compile_expr.specs.Patterns.{kept_constant, constant_question, captured, captured_each, Site, behind, with_captured, pattern_size, pattern_code, items_size, items_code, one_size, one_code, names_size, names_code}
+use Rattle.py_compile_expr.specs.Patterns.{kept_constant, constant_question, captured, captured_each, Site, with_waiting, with_captured, pattern_size, pattern_code, items_size, items_code, one_size, one_code, names_size, names_code}
 use Rattle.py_meaning.specs.Patterns.{pattern_count}
 use Rattle.py_compile.specs.Proper.{BindsNone, NoneBind, ProperPattern, ProperPatterns}
 use Rattle.py_fit.proofs.Blocks.{Layout, Block, resize, seq}
@@ -77,7 +77,7 @@ mutual
       let c = length (captured t) in
       let more = length-append (captured t) (x ∷ []) in
       resize (omega arith) (only (calm (plain (Copy 0)) 1 2 (s.extra + b) d (suc d) refl (omega arith) (omega arith) tt (omega arith)
-      (beside refl (omega arith) (pattern_fits (behind 1 s) m b (p + 1) (suc d) (p + 1 + pattern_size t) (c + (1 + s.extra + b)) t ok refl (omega arith) le (omega arith) (omega arith) refl)
+      (beside refl (omega arith) (pattern_fits (with_waiting 1 s) m b (p + 1) (suc d) (p + 1 + pattern_size t) (c + (1 + s.extra + b)) t ok refl (omega arith) le (omega arith) (omega arith) refl)
       (calm (plain (Sink s.waiting)) (suc s.waiting) (suc s.waiting) (c + (s.extra + b) - s.waiting) (c + (1 + s.extra + b)) (c + (1 + s.extra + b)) refl (omega arith) (omega arith) tt (omega arith) (finish (omega arith) (omega arith))))))
   pattern_fits s m b p d q f (p_paren t) ok at ahead le is low out = pattern_fits s m b p d q f t ok at ahead le is low out
 
@@ -88,7 +88,7 @@ mutual
       let n = pattern_count ts in
       let c = length (captured t) in
       let more = length-append (captured t) (captured_each ts) in
-      only (beside refl (omega arith) (pattern_fits (behind n s) m b p d (p + pattern_size t) (c + (n + s.extra + b)) t ok.0 refl (omega arith) le (omega arith) (omega arith) refl)
+      only (beside refl (omega arith) (pattern_fits (with_waiting n s) m b p d (p + pattern_size t) (c + (n + s.extra + b)) t ok.0 refl (omega arith) le (omega arith) (omega arith) refl)
       (items_fit (with_captured c s) m b (p + pattern_size t) (c + (n + s.extra + b)) q f ts ok.1 (omega arith) ahead le (omega arith) (omega arith) (omega arith)))
 
   one_fits : {units : ℕ} (s : Site) (m b p d q f end : ℕ) (ts : Patterns) → NoneBind ts → p + one_size ts ≡ end → end ≡ q → q ≤ s.fail → m ≤ b → d ≡ suc (s.extra + b) → s.waiting ≤ s.extra + b → f ≡ s.extra + b

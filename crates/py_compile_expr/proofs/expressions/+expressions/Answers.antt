@@ -4,7 +4,7 @@ use Rattle.py_compile_expr.specs.CellView.{plain_guard}
 use Rattle.py_compile_expr.specs.Expressions.{count}
 use Rattle.py_compile_expr.proofs.Chains.{rest_size, rest_code, chain_size, chain_code, links_added, links_counted}
 use Rattle.py_compile_expr.proofs.Nodes.{bound_is, call_shown, index_shown, slice_shown, attr_shown, call_node, call_node-size, index_node, slice_node, slice_node-size, attr_node}
-use Rattle.py_compile_expr.proofs.Turns.{none_counted, none_added, then, three, four, the_number}
+use Rattle.py_compile_expr.proofs.Turns.{none_counted, none_added, kept, then, four, the_number}
 use Rattle.py_compile_expr.proofs.expressions.+expressions.Goals as goal
 
 pub put_links-loop-i-preserved : goal.put_links-loop-i-preserved
@@ -23,23 +23,23 @@ put_links-returns-clause-place t c =
     none_counted (λ xs. rest_size (plain_links xs)) refl _ _ _ _ c.loop-i-test.false c.loop-i.invariant.place
     ∙ ap (λ n. c.args.at + n) (sym (chain_size c.args.items.now (sym c.is_empty.ensures ∙ c.if-is_empty.false)))
 
-pub put_expr-returns-in_ok-at-in-Call-2-clause-cells : goal.put_expr-returns-in_ok-at-in-Call-2-clause-cells
-put_expr-returns-in_ok-at-in-Call-2-clause-cells t c =
+pub put_expr-returns-in_ok-at-in-Call-clause-cells : goal.put_expr-returns-in_ok-at-in-Call-clause-cells
+put_expr-returns-in_ok-at-in-Call-clause-cells t c =
     let e = call_shown c.args.e.now c.in-Call.callee c.in-Call.args c.in-Call.comma c.deref-in-Call-2.result.now c.deref-in-Call-3.result.now c.in-Call.is c.deref-in-Call-2.ensures c.deref-in-Call-3.ensures.value in
     let n = c.in_ok-size-in-Call.ensures ∙ ap (λ xs. count (plain_exprs xs)) (c.deref-in-Call.ensures.value ∙ sym c.deref-in-Call-3.ensures.value) in
-    three c.put-in-Call.result _ _ _ _ _ _ _ _ c.in_ok-at-in-Call.ensures.cells c.in_ok-at-in-Call-2.ensures.cells c.put-in-Call.ensures.cells
+    then c.put_row-in-Call.result _ _ _ _ _ _ c.put_row-in-Call.ensures.cells c.in_ok-at-in-Call.ensures.cells
     (call_node (plain_guard c.args.guard) c.args.at c.in_ok-at-in-Call.at c.in_ok-size-in-Call.size (plain_expr c.args.e.now) (plain_expr c.deref-in-Call-2.result.now) (plain_exprs c.deref-in-Call-3.result.now) c.in-Call.comma e c.in_ok-at-in-Call.ensures.place n)
 
-pub put_expr-returns-in_ok-at-in-Call-2-clause-place : goal.put_expr-returns-in_ok-at-in-Call-2-clause-place
-put_expr-returns-in_ok-at-in-Call-2-clause-place t c =
+pub put_expr-returns-in_ok-at-in-Call-clause-place : goal.put_expr-returns-in_ok-at-in-Call-clause-place
+put_expr-returns-in_ok-at-in-Call-clause-place t c =
     let e = call_shown c.args.e.now c.in-Call.callee c.in-Call.args c.in-Call.comma c.deref-in-Call-2.result.now c.deref-in-Call-3.result.now c.in-Call.is c.deref-in-Call-2.ensures c.deref-in-Call-3.ensures.value in
-    the_number c.put-in-Call.result _ _ c.put-in-Call.ensures.place
-    (let a = c.in_ok-at-in-Call.ensures.place in let b = c.in_ok-at-in-Call-2.ensures.place in
-    let d = call_node-size (plain_expr c.args.e.now) (plain_expr c.deref-in-Call-2.result.now) (plain_exprs c.deref-in-Call-3.result.now) c.in-Call.comma e in omega (arith, a, b, d))
+    the_number c.put_row-in-Call.result _ _ c.put_row-in-Call.ensures.place
+    (let a = c.in_ok-at-in-Call.ensures.place in
+    let d = call_node-size (plain_expr c.args.e.now) (plain_expr c.deref-in-Call-2.result.now) (plain_exprs c.deref-in-Call-3.result.now) c.in-Call.comma e in omega (arith, a, d))
 
-pub put_expr-returns-in_ok-at-in-Index-2-clause-cells : goal.put_expr-returns-in_ok-at-in-Index-2-clause-cells
-put_expr-returns-in_ok-at-in-Index-2-clause-cells t c =
-    three c.put-in-Index.result _ _ _ _ _ _ _ _ c.in_ok-at-in-Index.ensures.cells c.in_ok-at-in-Index-2.ensures.cells c.put-in-Index.ensures.cells
+pub put_expr-returns-in_ok-at-in-Index-clause-cells : goal.put_expr-returns-in_ok-at-in-Index-clause-cells
+put_expr-returns-in_ok-at-in-Index-clause-cells t c =
+    then c.put_then-in-Index.result _ _ _ _ _ _ c.put_then-in-Index.ensures.cells c.in_ok-at-in-Index.ensures.cells
     (index_node (plain_guard c.args.guard) c.args.at c.in_ok-at-in-Index.at (plain_expr c.args.e.now) (plain_expr c.deref-in-Index.result.now) (plain_expr c.deref-in-Index-2.result.now)
     (index_shown c.args.e.now c.in-Index.of c.in-Index.index c.deref-in-Index.result.now c.deref-in-Index-2.result.now c.in-Index.is c.deref-in-Index.ensures c.deref-in-Index-2.ensures) c.in_ok-at-in-Index.ensures.place)
 
@@ -56,8 +56,8 @@ put_expr-returns-in_ok-at-in-Slice-3-clause-place t c =
     (let a = c.in_ok-at-in-Slice.ensures.place in let b = c.in_ok-at-in-Slice-2.ensures.place in let f = c.in_ok-at-in-Slice-3.ensures.place in
     let d = slice_node-size (plain_expr c.args.e.now) (plain_expr c.deref-in-Slice.result.now) (bound_is c.in-Slice.from) (bound_is c.in-Slice.to) e in omega (arith, a, b, f, d))
 
-pub put_expr-returns-in_ok-at-in-Attr-clause-cells : goal.put_expr-returns-in_ok-at-in-Attr-clause-cells
-put_expr-returns-in_ok-at-in-Attr-clause-cells t c =
-    then c.put-in-Attr.result _ _ _ _ _ _ c.put-in-Attr.ensures.cells c.in_ok-at-in-Attr.ensures.cells
+pub put_expr-returns-in_ok-name-in-Attr-clause-cells : goal.put_expr-returns-in_ok-name-in-Attr-clause-cells
+put_expr-returns-in_ok-name-in-Attr-clause-cells t c =
+    kept c.put_then-in-Attr.result _ _ _ _
     (attr_node (plain_guard c.args.guard) c.args.at (plain_expr c.args.e.now) (plain_expr c.deref-in-Attr.result.now) c.in_ok-name-in-Attr.name
-    (attr_shown c.args.e.now c.in-Attr.of c.deref-in-Attr.result.now c.in-Attr.name c.in_ok-name-in-Attr.name c.in-Attr.is c.deref-in-Attr.ensures c.in_ok-name-in-Attr.ensures))
+    (attr_shown c.args.e.now c.in-Attr.of c.deref-in-Attr.result.now c.in-Attr.name c.in_ok-name-in-Attr.name c.in-Attr.is c.deref-in-Attr.ensures c.in_ok-name-in-Attr.ensures)) c.put_then-in-Attr.ensures.cells
