@@ -11,7 +11,7 @@ use Rattle.py_syntax.specs.Spelling.{HEIGHT}
 use Rattle.py_syntax.specs.Tree.{Expr, none, Exprs, no_exprs, exprs}
 use Rattle.py_syntax.specs.Normal.{Precedence, LEnd, LExprs, LExpr, LOr, LAnd, LNot, LCmp, LSum, LTerm, LUnary, LPost}
 use Rattle.py_syntax.specs.View.{plain_expr}
-use Rattle.py_parse_expr.specs.declared.expr_classes.Precedence as code_precedence
+use Rattle.py_parse_fields.specs.declared.operators.Precedence as code_precedence
 use Rattle.py_parse_expr.specs.declared.expr_nodes.Row.{Row}
 use Rattle.py_parse_expr.specs.declared.expr_stack.Goal as code_goal
 use Rattle.py_parse_expr.specs.declared.expr_stack.Goal.TheVariants as goal_
@@ -23,7 +23,8 @@ use Rattle.py_parse_expr.specs.declared.expr_stack.Stack.{Stack}
 use Rattle.py_grammar.specs.Machine.{at_most, Goal, any, one, target, targets, Frame, exprs_first, exprs_rest, cond_first, cond_test, cond_else, first, right, not_of, compare_first, compare_rest, unary_of, post_rest, in_items, index_first, in_index, slice_to, in_paren, in_key, in_value, Ctx, Outside, on, upto_exprs, upto_cond, upto_or, upto_and, upto_compare, upto_sum, upto_term}
 use Rattle.py_grammar.specs.Least.{wants}
 use Rattle.py_grammar.specs.Budgets.{budget}
-use Rattle.py_parse_expr.specs.ExprViews.{view_precedence, view_operator, view_measured, view_row, view_entries, view_links, view_opener, view_bound, IsMeasured, AreMeasured, AreEntries, IsChain, ValidOpener, ValidBound}
+use Rattle.py_parse_fields.specs.Frames.{view_precedence, view_operator}
+use Rattle.py_parse_expr.specs.ExprViews.{view_measured, view_row, view_entries, view_links, view_opener, view_bound, IsMeasured, AreMeasured, AreEntries, IsChain, ValidOpener, ValidBound}
 
 -- the first of some items
 abbrev pub head_of : Exprs → Expr

@@ -1,7 +1,7 @@
 -- What a token makes of an expression that is read, as the code holds it.
 --     view_at, ValidAt           a place in an expression
 --     IsWithin, is_within        whether the least expression from there on is within the limit
---     closes                     tokens that close brackets with items
+--     is_comma, closes           a comma, and tokens that close brackets with items
 --     BecomesAs .. Meets         what one frame makes of a token
 --     prefixed .. in_braces      what begins, and what stands in brackets
 --     StaysAs .. Leaves          a step that leaves what is open as it is
@@ -13,7 +13,7 @@ use Rattle.py_syntax.specs.Spelling.{HEIGHT}
 use Rattle.py_syntax.specs.Tree.{dict, Pairs}
 use Rattle.py_syntax.specs.Normal.{LExpr}
 use Rattle.py_syntax.specs.View.{plain_expr}
-use Rattle.py_parse_expr.specs.declared.expr_classes.Precedence.{Precedence}
+use Rattle.py_parse_fields.specs.declared.operators.Precedence.{Precedence}
 use Rattle.py_parse_expr.specs.declared.expr_classes.TokenClass as code_class
 use Rattle.py_parse_expr.specs.declared.expr_nodes.Chain.{Chain}
 use Rattle.py_parse_expr.specs.declared.expr_nodes.Entries.{Entries}
@@ -30,10 +30,11 @@ use Rattle.py_parse_expr.specs.declared.expr_turns.FrameStep.{FrameStep}
 use Rattle.py_parse_expr.specs.declared.expr_turns.FrameStep.TheVariants as frame_step_
 use Rattle.py_parse_expr.specs.declared.expr_turns.Turn.{Turn}
 use Rattle.py_parse_expr.specs.declared.expr_turns.Turn.TheVariants as turn_
-use Rattle.py_grammar.specs.TokenClasses.{TokenClass, t_right_paren, t_right_bracket, t_right_brace}
+use Rattle.py_grammar.specs.TokenClasses.{TokenClass, t_comma, t_right_paren, t_right_bracket, t_right_brace}
 use Rattle.py_grammar.specs.Machine.{at_most, Opener, a_call, a_list, post_rest, in_items, in_key, Ctx, on, State, Want, Have, Strings, AfterOpen, AfterComma, AfterTarget, ItemsOpen, ItemsComma, DictOpen, DictComma, IndexOpen, SliceColon, AfterDot, AfterNot, AfterIs, AfterIsNot, Linked, Out, Next, Stuck, Left, close_items, leave, begin, give, step}
 use Rattle.py_grammar.specs.Least.{least}
-use Rattle.py_parse_expr.specs.ExprViews.{view_precedence, view_class, view_measured, view_row, view_entries, view_links, view_opener, view_bound, view_strings, IsMeasured, AreMeasured, AreEntries, IsChain, ValidOpener, ValidBound, ValidStrings}
+use Rattle.py_parse_fields.specs.Frames.{view_precedence}
+use Rattle.py_parse_expr.specs.ExprViews.{view_class, view_measured, view_row, view_entries, view_links, view_opener, view_bound, view_strings, IsMeasured, AreMeasured, AreEntries, IsChain, ValidOpener, ValidBound, ValidStrings}
 use Rattle.py_parse_expr.specs.ExprStacks.{head_of, tail_of, ValidItems, view_goal, view_frame, ValidFrame, IsBudget, view_stack, Valid, opened}
 
 -- a place in an expression, with what is open round it
@@ -83,6 +84,11 @@ IsWithin b p answer =
 -- the same at the place that a stack has
 abbrev pub is_within : code_progress.Progress → Stack → Bool
 is_within p s = nat_le (least (view_at p (view_stack s))) s.limit
+
+-- whether the token is a comma
+abbrev pub is_comma : TokenClass → Bool
+is_comma t_comma = true
+is_comma t = false
 
 -- whether the token closes a bracket with items
 abbrev pub closes : Opener → TokenClass → Bool

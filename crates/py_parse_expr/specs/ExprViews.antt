@@ -1,5 +1,4 @@
 -- Classes of tokens and expressions as the code holds them.
---     view_precedence, view_operator          precedences and operators
 --     view_fields, view_class, ValidClass     the class of a token
 --     plain_class .. word_class               its class without what it holds
 --     capped, view_measured, IsMeasured       an expression with its height
@@ -12,13 +11,9 @@ use Rattle.py_token.specs.declared.token.Keyword.{Keyword}
 use Rattle.py_token.specs.declared.token.Mark.{Mark}
 use Rattle.py_syntax.specs.Tree.{Text, Expr, Exprs, Pairs, Links, OptExpr, absent, present, Fragments, no_fragments, plain, Parts}
 use Rattle.py_syntax.specs.Kinds.{Word, Sign, End}
-use Rattle.py_syntax.specs.Normal.{Precedence, LExprs, LExpr, LOr, LAnd, LNot, LCmp, LSum, LTerm, LUnary, LPost, is_target, are_targets, height, heights, height_entries, height_links, height_fragments, height_parts}
+use Rattle.py_syntax.specs.Normal.{is_target, are_targets, height, heights, height_entries, height_links, height_fragments, height_parts}
 use Rattle.py_syntax.specs.View.{plain_expr, plain_exprs, plain_pairs, plain_links, plain_fragments, plain_parts}
 use Rattle.py_syntax.specs.Spelling.{HEIGHT}
-use Rattle.py_parse_expr.specs.declared.expr_classes.Precedence as code_precedence
-use Rattle.py_parse_expr.specs.declared.expr_classes.Precedence.TheVariants as precedence_
-use Rattle.py_parse_expr.specs.declared.expr_classes.BinaryOperator as code_operator
-use Rattle.py_parse_expr.specs.declared.expr_classes.BinaryOperator.TheVariants as operator_
 use Rattle.py_parse_expr.specs.declared.expr_classes.TokenClass as code_class
 use Rattle.py_parse_expr.specs.declared.expr_classes.TokenClass.TheVariants as class_
 use Rattle.py_parse_expr.specs.declared.expr_nodes.Measured.{Measured}
@@ -30,27 +25,9 @@ use Rattle.py_parse_expr.specs.declared.expr_nodes.Strings as code_strings
 use Rattle.py_parse_expr.specs.declared.expr_nodes.Strings.TheVariants as strings_
 use Rattle.py_parse_expr.specs.declared.expr_nodes.Opener as code_opener
 use Rattle.py_parse_expr.specs.declared.expr_nodes.Opener.TheVariants as opener_
-use Rattle.py_grammar.specs.TokenClasses.{BinaryOperator, b_or, b_and, b_op, TokenClass, t_name, t_int, t_none, t_bool, t_string, t_format, t_bad_format, t_not, t_is, t_if, t_else, t_compare, t_operator, t_comma, t_colon, t_dot, t_left_paren, t_right_paren, t_left_bracket, t_right_bracket, t_left_brace, t_right_brace, t_other}
+use Rattle.py_grammar.specs.TokenClasses.{TokenClass, t_name, t_int, t_none, t_bool, t_string, t_format, t_bad_format, t_other}
 use Rattle.py_grammar.specs.Machine.{Opener, a_call, a_list, has_format, class}
-
--- a precedence of the grammar
-abbrev pub view_precedence : code_precedence.Precedence → Precedence
-view_precedence precedence_.Exprs = LExprs
-view_precedence precedence_.Expr = LExpr
-view_precedence precedence_.Or = LOr
-view_precedence precedence_.And = LAnd
-view_precedence precedence_.Not = LNot
-view_precedence precedence_.Compare = LCmp
-view_precedence precedence_.Sum = LSum
-view_precedence precedence_.Term = LTerm
-view_precedence precedence_.Unary = LUnary
-view_precedence precedence_.Post = LPost
-
--- an operator that joins two operands
-abbrev pub view_operator : code_operator.BinaryOperator → BinaryOperator
-view_operator operator_.Or = b_or
-view_operator operator_.And = b_and
-view_operator (operator_.Op op) = b_op op
+use Rattle.py_parse_fields.specs.Frames.{view_symbol}
 
 -- the parts of an f-string
 abbrev pub view_fields : Fields → Parts
@@ -64,22 +41,7 @@ view_class class_.NoneWord = t_none
 view_class (class_.Bool b) = t_bool b
 view_class (class_.Str x) = t_string x
 view_class (class_.Format fs) = t_format (view_fields fs)
-view_class class_.Not = t_not
-view_class class_.Is = t_is
-view_class class_.If = t_if
-view_class class_.Else = t_else
-view_class (class_.Compare op) = t_compare op
-view_class (class_.BinaryOperator j) = t_operator (view_operator j)
-view_class class_.Comma = t_comma
-view_class class_.Colon = t_colon
-view_class class_.Dot = t_dot
-view_class class_.LeftParen = t_left_paren
-view_class class_.RightParen = t_right_paren
-view_class class_.LeftBracket = t_left_bracket
-view_class class_.RightBracket = t_right_bracket
-view_class class_.LeftBrace = t_left_brace
-view_class class_.RightBrace = t_right_brace
-view_class class_.Other = t_other End
+view_class (class_.Symbol s) = view_symbol s
 
 -- a class where all that stand in no expression are one, and all f-strings too
 abbrev pub plain_class : TokenClass → TokenClass
@@ -87,18 +49,6 @@ plain_class (t_format ps) = t_other End
 plain_class (t_bad_format ps) = t_other End
 plain_class (t_other k) = t_other End
 plain_class r = r
-
--- a class where all that hold something or are expressions are one
-abbrev pub symbol_class : TokenClass → TokenClass
-symbol_class (t_name x) = t_other End
-symbol_class (t_int n) = t_other End
-symbol_class t_none = t_other End
-symbol_class (t_bool b) = t_other End
-symbol_class (t_string x) = t_other End
-symbol_class (t_format ps) = t_other End
-symbol_class (t_bad_format ps) = t_other End
-symbol_class (t_other k) = t_other End
-symbol_class r = r
 
 -- the class of a mark
 abbrev pub mark_class : Mark → TokenClass

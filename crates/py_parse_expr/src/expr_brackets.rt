@@ -4,12 +4,14 @@ ghost use Rattle.py_parse_expr.specs.ExprViews.{IsMeasured, AreMeasured, AreEntr
 ghost use Rattle.py_parse_expr.specs.ExprStacks.{Valid};
 ghost use Rattle.py_parse_expr.specs.ExprTurns.{in_bracket, in_braces, Moves, Steps};
 
-use crate::expr_classes::{Precedence, TokenClass};
+use crate::expr_classes::TokenClass;
 use crate::expr_frames::closes;
 use crate::expr_nodes::{Entries, Measured, Opener, Row, dict, made, slice, tuple};
 use crate::expr_stack::{Frame, Stack};
 use crate::expr_steps::begin_in;
 use crate::expr_turns::{Progress, Turn};
+use py_parse_fields::operators::Precedence;
+use py_parse_fields::token_classes::Symbol;
 use py_value::NoMemory;
 use std::alloc::Global;
 
@@ -19,7 +21,7 @@ pub fn after_open(alloc: Global, stack: &mut Stack, class: TokenClass) -> Result
     ensures { Steps Progress.AfterOpen class stack.old stack.new result }
 {
     match class {
-        TokenClass::RightParen => {
+        TokenClass::Symbol(Symbol::RightParen) => {
             stack.push(Frame::PostRest)?;
             let measured = tuple(alloc, Row::new(alloc), false)?;
             Ok(Turn::Next(Progress::Have(measured)))
@@ -72,7 +74,7 @@ pub fn in_dict(
     ensures { Moves (in_braces entries comma class) stack.old stack.new result }
 {
     match class {
-        TokenClass::RightBrace => {
+        TokenClass::Symbol(Symbol::RightBrace) => {
             stack.push(Frame::PostRest)?;
             let measured = dict(alloc, entries, comma)?;
             Ok(Turn::Next(Progress::Have(measured)))
@@ -93,7 +95,7 @@ pub fn index_open(
     ensures { Steps (Progress.IndexOpen of) class stack.old stack.new result }
 {
     match class {
-        TokenClass::Colon => Ok(Turn::Next(Progress::SliceColon(of, None))),
+        TokenClass::Symbol(Symbol::Colon) => Ok(Turn::Next(Progress::SliceColon(of, None))),
         rest => begin_in(alloc, stack, Frame::IndexFirst(of), Precedence::Expr, rest),
     }
 }
@@ -112,7 +114,7 @@ pub fn slice_colon(
     ensures { Steps (Progress.SliceColon of from) class stack.old stack.new result }
 {
     match class {
-        TokenClass::RightBracket => {
+        TokenClass::Symbol(Symbol::RightBracket) => {
             let measured = slice(alloc, of, from, None)?;
             stack.push(Frame::PostRest)?;
             Ok(Turn::Next(Progress::Have(measured)))

@@ -7,12 +7,14 @@ ghost use Rattle.py_parse_expr.specs.ExprViews.{view_class, view_measured, view_
 ghost use Rattle.py_parse_expr.specs.ExprStacks.{Valid};
 ghost use Rattle.py_parse_expr.specs.ExprTurns.{view_at, Stays, Steps};
 
-use crate::expr_classes::{Precedence, TokenClass};
+use crate::expr_classes::TokenClass;
 use crate::expr_frames::link;
 use crate::expr_nodes::{Chain, Measured};
 use crate::expr_stack::{Frame, Stack};
 use crate::expr_steps::have;
 use crate::expr_turns::{FrameStep, Progress, Turn};
+use py_parse_fields::operators::Precedence;
+use py_parse_fields::token_classes::Symbol;
 use py_syntax::{Comparison, Expr};
 use py_value::{CmpOp, NoMemory};
 use std::alloc::Global;
@@ -23,7 +25,7 @@ pub fn after_not(stack: &mut Stack, chain: Chain, class: TokenClass) -> Result<T
     ensures { Steps (Progress.AfterNot chain) class stack.old stack.new result }
 {
     match class {
-        TokenClass::Compare(CmpOp::In) => {
+        TokenClass::Symbol(Symbol::Compare(CmpOp::In)) => {
             stack.push(Frame::CompareRest(chain, CmpOp::NotIn))?;
             Ok(Turn::Next(Progress::Want(Precedence::Sum)))
         }
@@ -49,7 +51,7 @@ pub fn after_is(alloc: Global, chain: Chain, class: TokenClass) -> Result<Turn, 
     ensures { Stays (λ k. step (view_at (Progress.AfterIs chain) k) (view_class class)) result }
 {
     match class {
-        TokenClass::Not => Ok(Turn::Next(Progress::AfterIsNot(chain))),
+        TokenClass::Symbol(Symbol::Not) => Ok(Turn::Next(Progress::AfterIsNot(chain))),
         TokenClass::NoneWord => {
             let measured = Measured::low(alloc, Expr::None)?;
             constant(chain, Comparison::Is, measured)

@@ -10,12 +10,14 @@ ghost use Rattle.py_parse_expr.specs.ExprStacks.{Valid};
 ghost use Rattle.py_parse_expr.specs.ExprTurns.{view_at, ValidAt};
 ghost use Rattle.py_parse_expr.specs.ExprFields.{takes_string, has_spelled_fields, HasPieces, ended_turn, IsField, AreParts, Takes};
 
-use crate::expr_classes::{Precedence, TokenClass, class_of};
+use crate::expr_classes::{TokenClass, class_of};
 use crate::expr_limits::step;
 use crate::expr_nodes::{Fields, Measured, higher};
 use crate::expr_stack::{Goal, Stack};
 use crate::expr_turns::{Progress, Turn};
 use py_parse_fields::is_spelled;
+use py_parse_fields::operators::Precedence;
+use py_parse_fields::token_classes::Symbol;
 use py_syntax::FormatPart;
 use py_token::{Piece, Token, TokenKind};
 use py_value::NoMemory;
@@ -105,7 +107,7 @@ pub fn turn(
         return step(alloc, stack, progress, class_of(kind)?);
     };
     if !takes_string(&progress) {
-        return step(alloc, stack, progress, TokenClass::Other);
+        return step(alloc, stack, progress, TokenClass::Symbol(Symbol::Other));
     }
     match fields(alloc, pieces, stack.limit)? {
         Ok(fields) => step(alloc, stack, progress, TokenClass::Format(fields)),
@@ -163,7 +165,12 @@ fn field(
             }
         }
     }
-    Ok(ended(step(alloc, &mut stack, progress, TokenClass::Other)?))
+    Ok(ended(step(
+        alloc,
+        &mut stack,
+        progress,
+        TokenClass::Symbol(Symbol::Other),
+    )?))
 }
 
 /// Whether the fields of a token are expressions.

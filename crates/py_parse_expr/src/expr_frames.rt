@@ -3,15 +3,17 @@
 ghost use Rattle.std.specs.Prelude.{◌≡◌};
 ghost use Rattle.py_parse_expr.specs.ExprViews.{view_class, view_opener, IsMeasured, AreMeasured, AreEntries, IsChain, ValidOpener, ValidBound};
 ghost use Rattle.py_parse_expr.specs.ExprStacks.{ValidFrame};
-ghost use Rattle.py_parse_expr.specs.ExprTurns.{closes, Links, MeetsAs, Meets};
+ghost use Rattle.py_parse_expr.specs.ExprTurns.{is_comma, closes, Links, MeetsAs, Meets};
 
-use crate::expr_classes::{BinaryOperator, Precedence, TokenClass};
+use crate::expr_classes::TokenClass;
 use crate::expr_nodes::{
     Chain, Entries, Measured, Opener, Row, comparison, dict, index, joined, made, paren, slice,
     tuple,
 };
 use crate::expr_stack::Frame;
 use crate::expr_turns::{FrameStep, Progress};
+use py_parse_fields::operators::{BinaryOperator, Precedence};
+use py_parse_fields::token_classes::Symbol;
 use py_syntax::Comparison;
 use py_value::{CmpOp, NoMemory};
 use std::alloc::Global;
@@ -25,9 +27,9 @@ pub fn exprs_first(
     ensures { Meets measured Frame.ExprsFirst class.now result }
 {
     match class {
-        TokenClass::Comma => Ok(FrameStep::Next(Progress::AfterComma(Row::new(alloc).with(
-            measured,
-        )?))),
+        TokenClass::Symbol(Symbol::Comma) => Ok(FrameStep::Next(Progress::AfterComma(Row::new(
+            alloc,
+        ).with(measured)?))),
         _ => Ok(FrameStep::Passes(measured)),
     }
 }
@@ -44,7 +46,7 @@ pub fn exprs_rest(
 {
     let items = items.with(measured)?;
     match class {
-        TokenClass::Comma => Ok(FrameStep::Next(Progress::AfterComma(items))),
+        TokenClass::Symbol(Symbol::Comma) => Ok(FrameStep::Next(Progress::AfterComma(items))),
         _ => Ok(FrameStep::Passes(tuple(alloc, items, false)?)),
     }
 }
@@ -54,7 +56,7 @@ pub fn cond_first(measured: Measured, class: &TokenClass) -> FrameStep
     ensures { MeetsAs measured Frame.CondFirst class.now result }
 {
     match class {
-        TokenClass::If => FrameStep::Opens(
+        TokenClass::Symbol(Symbol::If) => FrameStep::Opens(
             Frame::CondTest(measured),
             Progress::Want(Precedence::Or),
         ),
@@ -68,7 +70,7 @@ pub fn cond_test(body: Measured, measured: Measured, class: &TokenClass) -> Fram
     ensures { MeetsAs measured (Frame.CondTest body) class.now result }
 {
     match class {
-        TokenClass::Else => FrameStep::Opens(
+        TokenClass::Symbol(Symbol::Else) => FrameStep::Opens(
             Frame::CondElse(body, measured),
             Progress::Want(Precedence::Expr),
         ),
@@ -82,7 +84,7 @@ pub fn operand(precedence: Precedence, measured: Measured, class: &TokenClass) -
     ensures { MeetsAs measured (Frame.First precedence) class.now result }
 {
     match class {
-        TokenClass::BinaryOperator(operator) => {
+        TokenClass::Symbol(Symbol::BinaryOperator(operator)) => {
             if precedence.is(operator.precedence()) {
                 return FrameStep::Opens(
                     Frame::Right(*operator, measured),
@@ -119,12 +121,16 @@ pub fn compare_first(
     ensures { Meets measured Frame.CompareFirst class.now result }
 {
     match class {
-        TokenClass::Compare(op) => Ok(FrameStep::Opens(
+        TokenClass::Symbol(Symbol::Compare(op)) => Ok(FrameStep::Opens(
             Frame::CompareRest(Chain::new(alloc, measured), *op),
             Progress::Want(Precedence::Sum),
         )),
-        TokenClass::Not => Ok(FrameStep::Next(Progress::AfterNot(Chain::new(alloc, measured)))),
-        TokenClass::Is => Ok(FrameStep::Next(Progress::AfterIs(Chain::new(alloc, measured)))),
+        TokenClass::Symbol(Symbol::Not) => Ok(FrameStep::Next(Progress::AfterNot(Chain::new(
+            alloc, measured,
+        )))),
+        TokenClass::Symbol(Symbol::Is) => Ok(FrameStep::Next(Progress::AfterIs(Chain::new(
+            alloc, measured,
+        )))),
         _ => Ok(FrameStep::Passes(measured)),
     }
 }
@@ -135,12 +141,12 @@ pub fn link(alloc: Global, chain: Chain, class: &TokenClass) -> Result<FrameStep
     ensures { Links chain class.now result }
 {
     match class {
-        TokenClass::Compare(op) => Ok(FrameStep::Opens(
+        TokenClass::Symbol(Symbol::Compare(op)) => Ok(FrameStep::Opens(
             Frame::CompareRest(chain, *op),
             Progress::Want(Precedence::Sum),
         )),
-        TokenClass::Not => Ok(FrameStep::Next(Progress::AfterNot(chain))),
-        TokenClass::Is => Ok(FrameStep::Next(Progress::AfterIs(chain))),
+        TokenClass::Symbol(Symbol::Not) => Ok(FrameStep::Next(Progress::AfterNot(chain))),
+        TokenClass::Symbol(Symbol::Is) => Ok(FrameStep::Next(Progress::AfterIs(chain))),
         _ => Ok(FrameStep::Passes(comparison(alloc, chain)?)),
     }
 }
@@ -164,11 +170,20 @@ pub fn post_rest(measured: Measured, class: &TokenClass) -> FrameStep
     ensures { MeetsAs measured Frame.PostRest class.now result }
 {
     match class {
-        TokenClass::LeftParen => FrameStep::Next(Progress::ItemsOpen(Opener::Call(measured))),
-        TokenClass::LeftBracket => FrameStep::Next(Progress::IndexOpen(measured)),
-        TokenClass::Dot => FrameStep::Next(Progress::AfterDot(measured)),
+        TokenClass::Symbol(Symbol::LeftParen) => FrameStep::Next(Progress::ItemsOpen(Opener::Call(
+            measured,
+        ))),
+        TokenClass::Symbol(Symbol::LeftBracket) => FrameStep::Next(Progress::IndexOpen(measured)),
+        TokenClass::Symbol(Symbol::Dot) => FrameStep::Next(Progress::AfterDot(measured)),
         _ => FrameStep::Passes(measured),
     }
+}
+
+/// Whether a token is a comma.
+pub fn is_comma(class: &TokenClass) -> bool
+    ensures { result ≡ is_comma (view_class class.now) }
+{
+    matches!(class, TokenClass::Symbol(Symbol::Comma))
 }
 
 /// Whether a token closes a bracket with items.
@@ -176,8 +191,8 @@ pub fn closes(opener: &Opener, class: &TokenClass) -> bool
     ensures { result ≡ closes (view_opener opener.now) (view_class class.now) }
 {
     match opener {
-        Opener::Call(_) => matches!(class, TokenClass::RightParen),
-        Opener::List => matches!(class, TokenClass::RightBracket),
+        Opener::Call(_) => matches!(class, TokenClass::Symbol(Symbol::RightParen)),
+        Opener::List => matches!(class, TokenClass::Symbol(Symbol::RightBracket)),
     }
 }
 
@@ -194,16 +209,14 @@ pub fn in_items(
     ensures { Meets measured (Frame.InItems opener items) class.now result }
 {
     let items = items.with(measured)?;
-    match class {
-        TokenClass::Comma => Ok(FrameStep::Next(Progress::ItemsComma(opener, items))),
-        _ => {
-            if !closes(&opener, class) {
-                return Ok(FrameStep::Stuck);
-            }
-            let measured = made(alloc, opener, items, false)?;
-            Ok(FrameStep::Opens(Frame::PostRest, Progress::Have(measured)))
-        }
+    if is_comma(class) {
+        return Ok(FrameStep::Next(Progress::ItemsComma(opener, items)));
     }
+    if !closes(&opener, class) {
+        return Ok(FrameStep::Stuck);
+    }
+    let measured = made(alloc, opener, items, false)?;
+    Ok(FrameStep::Opens(Frame::PostRest, Progress::Have(measured)))
 }
 
 pub fn index_first(
@@ -217,12 +230,15 @@ pub fn index_first(
     ensures { Meets measured (Frame.IndexFirst of) class.now result }
 {
     match class {
-        TokenClass::Comma => {
+        TokenClass::Symbol(Symbol::Comma) => {
             let items = Row::new(alloc).with(measured)?;
             Ok(FrameStep::Opens(Frame::InIndex(of), Progress::AfterComma(items)))
         }
-        TokenClass::Colon => Ok(FrameStep::Next(Progress::SliceColon(of, Some(measured)))),
-        TokenClass::RightBracket => {
+        TokenClass::Symbol(Symbol::Colon) => Ok(FrameStep::Next(Progress::SliceColon(
+            of,
+            Some(measured),
+        ))),
+        TokenClass::Symbol(Symbol::RightBracket) => {
             let whole = index(alloc, of, measured)?;
             Ok(FrameStep::Opens(Frame::PostRest, Progress::Have(whole)))
         }
@@ -241,7 +257,7 @@ pub fn in_index(
     ensures { Meets measured (Frame.InIndex of) class.now result }
 {
     match class {
-        TokenClass::RightBracket => {
+        TokenClass::Symbol(Symbol::RightBracket) => {
             let whole = index(alloc, of, measured)?;
             Ok(FrameStep::Opens(Frame::PostRest, Progress::Have(whole)))
         }
@@ -262,7 +278,7 @@ pub fn slice_to(
     ensures { Meets measured (Frame.SliceTo of from) class.now result }
 {
     match class {
-        TokenClass::RightBracket => {
+        TokenClass::Symbol(Symbol::RightBracket) => {
             let whole = slice(alloc, of, from, Some(measured))?;
             Ok(FrameStep::Opens(Frame::PostRest, Progress::Have(whole)))
         }
@@ -279,7 +295,7 @@ pub fn in_paren(
     ensures { Meets measured Frame.InParen class.now result }
 {
     match class {
-        TokenClass::RightParen => {
+        TokenClass::Symbol(Symbol::RightParen) => {
             let whole = paren(alloc, measured)?;
             Ok(FrameStep::Opens(Frame::PostRest, Progress::Have(whole)))
         }
@@ -293,7 +309,7 @@ pub fn in_key(entries: Entries, measured: Measured, class: &TokenClass) -> Frame
     ensures { MeetsAs measured (Frame.InKey entries) class.now result }
 {
     match class {
-        TokenClass::Colon => FrameStep::Opens(
+        TokenClass::Symbol(Symbol::Colon) => FrameStep::Opens(
             Frame::InValue(entries, measured),
             Progress::Want(Precedence::Expr),
         ),
@@ -314,8 +330,10 @@ pub fn in_value(
     ensures { Meets measured (Frame.InValue entries key) class.now result }
 {
     match class {
-        TokenClass::Comma => Ok(FrameStep::Next(Progress::DictComma(entries.with(key, measured)?))),
-        TokenClass::RightBrace => {
+        TokenClass::Symbol(Symbol::Comma) => Ok(FrameStep::Next(Progress::DictComma(entries.with(
+            key, measured,
+        )?))),
+        TokenClass::Symbol(Symbol::RightBrace) => {
             let whole = dict(alloc, entries.with(key, measured)?, false)?;
             Ok(FrameStep::Opens(Frame::PostRest, Progress::Have(whole)))
         }

@@ -7,9 +7,10 @@ ghost use Rattle.py_syntax.specs.Normal.{is_target, height, height_bound};
 ghost use Rattle.py_syntax.specs.View.{plain_expr, opt_of};
 ghost use Rattle.py_grammar.specs.TokenClasses.{joined};
 ghost use Rattle.py_grammar.specs.Machine.{snoc, snoc_pair, snoc_link, made};
-ghost use Rattle.py_parse_expr.specs.ExprViews.{view_operator, view_measured, view_row, view_entries, view_links, view_opener, view_bound, capped, IsMeasured, AreMeasured, AreEntries, IsChain, ValidOpener, ValidBound, Makes};
+ghost use Rattle.py_parse_fields.specs.Frames.{view_operator};
+ghost use Rattle.py_parse_expr.specs.ExprViews.{view_measured, view_row, view_entries, view_links, view_opener, view_bound, capped, IsMeasured, AreMeasured, AreEntries, IsChain, ValidOpener, ValidBound, Makes};
 
-use crate::expr_classes::BinaryOperator;
+use py_parse_fields::operators::BinaryOperator;
 use py_syntax::{Comparison, Expr, FormatPart, Fragment, HEIGHT_LIMIT, Link, Pair, Sign};
 use py_value::{NoMemory, Text};
 use std::alloc::Global;

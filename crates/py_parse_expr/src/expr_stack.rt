@@ -4,11 +4,12 @@ ghost use Rattle.std.specs.Prelude.{◌≡◌, ℕ, ◌≤◌, cond, true, false
 ghost use Rattle.py_syntax.specs.Spelling.{HEIGHT};
 ghost use Rattle.py_grammar.specs.Machine.{on, Ctx, Outside};
 ghost use Rattle.py_grammar.specs.Budgets.{under, budget, postfix};
-ghost use Rattle.py_parse_expr.specs.ExprViews.{IsMeasured, view_precedence, AreMeasured, ValidOpener};
+ghost use Rattle.py_parse_fields.specs.Frames.{view_precedence};
+ghost use Rattle.py_parse_expr.specs.ExprViews.{IsMeasured, AreMeasured, ValidOpener};
 ghost use Rattle.py_parse_expr.specs.ExprStacks.{opened, opened_with, view_goal, view_frame, view_stack, ValidGoal, ValidItems, ValidFrame, IsBudget, IsInside, Valid, Pops, Opens};
 ghost use Rattle.py_parse_expr.specs.ExprTurns.{Meets};
 
-use crate::expr_classes::{BinaryOperator, Precedence, TokenClass};
+use crate::expr_classes::TokenClass;
 use crate::expr_frames::{
     compare_first, compare_rest, cond_first, cond_test, exprs_first, exprs_rest, in_index,
     in_items, in_key, in_paren, in_value, index_first, operand, post_rest, right, slice_to,
@@ -17,6 +18,7 @@ use crate::expr_nodes::{
     Chain, Entries, Measured, Opener, Row, both, bound_height, conditional, higher, negation, unary,
 };
 use crate::expr_turns::FrameStep;
+use py_parse_fields::operators::{BinaryOperator, Precedence};
 use py_syntax::Sign;
 use py_value::{CmpOp, NoMemory};
 use std::alloc::Global;

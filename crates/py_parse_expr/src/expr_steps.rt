@@ -3,15 +3,19 @@
 ghost use Rattle.std.specs.Prelude.{◌≡◌, false};
 ghost use Rattle.py_syntax.specs.View.{plain_expr};
 ghost use Rattle.py_syntax.specs.Normal.{height, is_target};
-ghost use Rattle.py_grammar.specs.Machine.{Next, Have};
+ghost use Rattle.py_grammar.specs.Machine.{Next, Have, begin};
+ghost use Rattle.py_parse_fields.specs.Frames.{view_symbol, view_precedence};
 ghost use Rattle.py_parse_expr.specs.ExprViews.{IsMeasured, ValidClass, ValidStrings};
 ghost use Rattle.py_parse_expr.specs.ExprStacks.{upto_post, upto_bracket, ValidGoal, ValidItems, ValidFrame, Valid};
 ghost use Rattle.py_parse_expr.specs.ExprTurns.{view_at, ValidAt, prefixed, begin_in, Leaves, Moves, Steps};
 
-use crate::expr_classes::{BinaryOperator, Precedence, TokenClass};
+use crate::expr_classes::TokenClass;
+use crate::expr_frames::is_comma;
 use crate::expr_nodes::{Measured, Opener, Row, Strings, attribute, tuple};
 use crate::expr_stack::{Frame, Goal, Stack};
 use crate::expr_turns::{FrameStep, Progress, Turn};
+use py_parse_fields::operators::{BinaryOperator, Precedence};
+use py_parse_fields::token_classes::Symbol;
 use py_syntax::{Expr, Sign};
 use py_value::{BinOp, NoMemory};
 use std::alloc::Global;
@@ -25,7 +29,7 @@ fn leave_first(alloc: Global, measured: Measured, class: &TokenClass) -> Result<
         return Ok(Turn::Stuck);
     }
     match class {
-        TokenClass::Comma => {
+        TokenClass::Symbol(Symbol::Comma) => {
             let items = Row::new(alloc).with(measured)?;
             Ok(Turn::Next(Progress::AfterTarget(items)))
         }
@@ -48,9 +52,10 @@ fn leave_next(
         return Ok(Turn::Stuck);
     }
     let items = items.with(measured)?;
-    match class {
-        TokenClass::Comma => Ok(Turn::Next(Progress::AfterTarget(items))),
-        _ => Ok(Turn::Left(tuple(alloc, items, false)?)),
+    if is_comma(class) {
+        Ok(Turn::Next(Progress::AfterTarget(items)))
+    } else {
+        Ok(Turn::Left(tuple(alloc, items, false)?))
     }
 }
 
@@ -186,6 +191,27 @@ fn bracket(stack: &mut Stack, precedence: Precedence, progress: Progress) -> Res
     Ok(Turn::Next(progress))
 }
 
+/// A token that is no expression by itself begins one of that precedence, or of a tighter one.
+fn begin_by(stack: &mut Stack, precedence: Precedence, symbol: Symbol) -> Result<Turn, NoMemory>
+    requires { Valid stack.old.limit stack.old }
+    ensures { Moves (λ k. begin (view_precedence precedence) k (view_symbol symbol))
+        stack.old stack.new result }
+{
+    match symbol {
+        Symbol::Not => prefixed(stack, precedence, Frame::NotOf, Precedence::Not),
+        Symbol::BinaryOperator(BinaryOperator::Op(BinOp::Add)) => {
+            signed(stack, precedence, Sign::Plus)
+        }
+        Symbol::BinaryOperator(BinaryOperator::Op(BinOp::Sub)) => {
+            signed(stack, precedence, Sign::Minus)
+        }
+        Symbol::LeftParen => bracket(stack, precedence, Progress::AfterOpen),
+        Symbol::LeftBracket => bracket(stack, precedence, Progress::ItemsOpen(Opener::List)),
+        Symbol::LeftBrace => bracket(stack, precedence, Progress::DictOpen),
+        _ => Ok(Turn::Stuck),
+    }
+}
+
 /// An expression of that precedence, or of a tighter one, begins.
 pub fn begin(
     alloc: Global,
@@ -213,20 +239,7 @@ pub fn begin(
             let strings = Strings::format(alloc, fields)?;
             atom(stack, precedence, Progress::Strings(strings))
         }
-        TokenClass::Not => prefixed(stack, precedence, Frame::NotOf, Precedence::Not),
-        TokenClass::BinaryOperator(BinaryOperator::Op(BinOp::Add)) => {
-            signed(stack, precedence, Sign::Plus)
-        }
-        TokenClass::BinaryOperator(BinaryOperator::Op(BinOp::Sub)) => {
-            signed(stack, precedence, Sign::Minus)
-        }
-        TokenClass::LeftParen => bracket(stack, precedence, Progress::AfterOpen),
-        TokenClass::LeftBracket => bracket(stack, precedence, Progress::ItemsOpen(Opener::List)),
-        TokenClass::LeftBrace => bracket(stack, precedence, Progress::DictOpen),
-        other => {
-            drop(other);
-            Ok(Turn::Stuck)
-        }
+        TokenClass::Symbol(symbol) => begin_by(stack, precedence, symbol),
     }
 }
 

@@ -6,10 +6,11 @@ ghost use Rattle.py_parse_expr.specs.ExprTurns.{ValidAt, Steps};
 
 use crate::expr_brackets::{after_open, in_dict, in_items, index_open, slice_colon};
 use crate::expr_chains::{after_is, after_is_not, after_not, linked};
-use crate::expr_classes::{Precedence, TokenClass};
+use crate::expr_classes::TokenClass;
 use crate::expr_nodes::{Chain, Entries, Measured, Opener, Row, Strings};
 use crate::expr_stack::{Frame, Stack};
 use crate::expr_steps::{after_comma, after_dot, after_target, begin, have, in_strings};
+use py_parse_fields::operators::Precedence;
 use py_value::NoMemory;
 use std::alloc::Global;
 

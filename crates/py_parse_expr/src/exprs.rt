@@ -4,16 +4,16 @@ ghost use Rattle.std.specs.Prelude.{◌≡◌, ◌≤◌, length};
 ghost use Rattle.py_token.specs.View.{view_kind, view_tokens};
 ghost use Rattle.py_syntax.specs.Kinds.{bare, bare_kind};
 ghost use Rattle.py_grammar.specs.Machine.{Outside, Want, start};
-ghost use Rattle.py_parse_expr.specs.ExprViews.{view_precedence};
+ghost use Rattle.py_parse_fields.specs.Frames.{view_precedence};
 ghost use Rattle.py_parse_expr.specs.ExprStacks.{view_goal, ValidGoal};
 ghost use Rattle.py_parse_expr.specs.ExprReads.{goal_of, FollowsMachine, is_end};
 ghost use Rattle.py_parse_expr.specs.Refusal.{Parses};
 
-use crate::expr_classes::Precedence;
 use crate::expr_fields::{has_spelled_fields, turn};
 use crate::expr_stack::{Goal, Stack};
 use crate::expr_turns::{Progress, Turn};
 use py_grammar::ReadError;
+use py_parse_fields::operators::Precedence;
 use py_syntax::{Expr, HEIGHT_LIMIT};
 use py_token::{Token, TokenKind};
 use std::alloc::Global;

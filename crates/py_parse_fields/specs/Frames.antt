@@ -1,23 +1,26 @@
 -- What is open in an expression as the code holds it, without trees.
---     bare_class, view_operator, view_class     classes of tokens, without what they hold
---     view_precedence, view_opener              precedences, and what opened a bracket
---     view_frame                                one frame
---     view_open, view_stack                     the stack
---     Opens, Pops                               frames more, and one fewer
+--     bare_class                       classes of tokens, without what they hold
+--     view_operator .. view_class      operators and classes as the code holds them
+--     view_precedence, view_opener     precedences, and what opened a bracket
+--     view_frame                       one frame
+--     view_open, view_stack            the stack
+--     Opens, Pops                      frames more, and one fewer
 use Rattle.std.specs.Prelude.{◌≡◌, ◌<◌, length, pos, List, [], ◌∷◌, reverse, Option, Some, None}
 use Rattle.std.specs.Global.{Vec}
 use Rattle.py_syntax.specs.Tree.{no_exprs, no_pairs, no_links, absent}
 use Rattle.py_syntax.specs.Kinds.{End, no_pieces}
-use Rattle.py_syntax.specs.Normal.{Precedence, LExprs, LExpr, LOr, LAnd, LNot, LCmp, LSum, LTerm, LUnary}
+use Rattle.py_syntax.specs.Normal.{Precedence, LExprs, LExpr, LOr, LAnd, LNot, LCmp, LSum, LTerm, LUnary, LPost}
 use Rattle.py_grammar.specs.TokenClasses.{BinaryOperator, b_or, b_and, b_op, TokenClass, t_name, t_int, t_none, t_bool, t_string, t_format, t_bad_format, t_not, t_is, t_if, t_else, t_compare, t_operator, t_comma, t_colon, t_dot, t_left_paren, t_right_paren, t_left_bracket, t_right_bracket, t_left_brace, t_right_brace, t_other}
 use Rattle.py_grammar.specs.Machine.{any, Opener, a_call, a_list, Frame, exprs_first, exprs_rest, cond_first, cond_test, cond_else, first, right, not_of, compare_first, compare_rest, unary_of, post_rest, in_items, index_first, in_index, slice_to, in_paren, in_key, in_value, Ctx, Outside, on}
 use Rattle.py_grammar.specs.Least.{least_name}
-use Rattle.py_parse_fields.specs.declared.token_classes.BinaryOperator as code_operator
-use Rattle.py_parse_fields.specs.declared.token_classes.BinaryOperator.TheVariants as operator_
+use Rattle.py_parse_fields.specs.declared.operators.BinaryOperator as code_operator
+use Rattle.py_parse_fields.specs.declared.operators.BinaryOperator.TheVariants as operator_
+use Rattle.py_parse_fields.specs.declared.operators.Precedence as code_precedence
+use Rattle.py_parse_fields.specs.declared.operators.Precedence.TheVariants as precedence_
+use Rattle.py_parse_fields.specs.declared.token_classes.Symbol as code_symbol
+use Rattle.py_parse_fields.specs.declared.token_classes.Symbol.TheVariants as symbol_
 use Rattle.py_parse_fields.specs.declared.token_classes.TokenClass as code_class
 use Rattle.py_parse_fields.specs.declared.token_classes.TokenClass.TheVariants as class_
-use Rattle.py_parse_fields.specs.declared.frames.Precedence as code_precedence
-use Rattle.py_parse_fields.specs.declared.frames.Precedence.TheVariants as precedence_
 use Rattle.py_parse_fields.specs.declared.frames.Opener as code_opener
 use Rattle.py_parse_fields.specs.declared.frames.Opener.TheVariants as opener_
 use Rattle.py_parse_fields.specs.declared.frames.Frame as code_frame
@@ -40,6 +43,25 @@ view_operator operator_.Or = b_or
 view_operator operator_.And = b_and
 view_operator (operator_.Op op) = b_op op
 
+-- the class of a token that is no expression by itself and holds no text
+abbrev pub view_symbol : code_symbol.Symbol → TokenClass
+view_symbol symbol_.Not = t_not
+view_symbol symbol_.Is = t_is
+view_symbol symbol_.If = t_if
+view_symbol symbol_.Else = t_else
+view_symbol (symbol_.Compare op) = t_compare op
+view_symbol (symbol_.BinaryOperator j) = t_operator (view_operator j)
+view_symbol symbol_.Comma = t_comma
+view_symbol symbol_.Colon = t_colon
+view_symbol symbol_.Dot = t_dot
+view_symbol symbol_.LeftParen = t_left_paren
+view_symbol symbol_.RightParen = t_right_paren
+view_symbol symbol_.LeftBracket = t_left_bracket
+view_symbol symbol_.RightBracket = t_right_bracket
+view_symbol symbol_.LeftBrace = t_left_brace
+view_symbol symbol_.RightBrace = t_right_brace
+view_symbol symbol_.Other = t_other End
+
 -- the class of a token
 abbrev pub view_class : code_class.TokenClass → TokenClass
 view_class class_.Name = t_name []
@@ -47,22 +69,7 @@ view_class class_.Number = t_int (pos 0)
 view_class class_.Constant = t_none
 view_class class_.Text = t_string []
 view_class class_.BadFormat = t_bad_format no_pieces
-view_class class_.Not = t_not
-view_class class_.Is = t_is
-view_class class_.If = t_if
-view_class class_.Else = t_else
-view_class (class_.Compare op) = t_compare op
-view_class (class_.BinaryOperator j) = t_operator (view_operator j)
-view_class class_.Comma = t_comma
-view_class class_.Colon = t_colon
-view_class class_.Dot = t_dot
-view_class class_.LeftParen = t_left_paren
-view_class class_.RightParen = t_right_paren
-view_class class_.LeftBracket = t_left_bracket
-view_class class_.RightBracket = t_right_bracket
-view_class class_.LeftBrace = t_left_brace
-view_class class_.RightBrace = t_right_brace
-view_class class_.Other = t_other End
+view_class (class_.Symbol s) = view_symbol s
 
 -- a precedence of the grammar
 abbrev pub view_precedence : code_precedence.Precedence → Precedence
@@ -75,6 +82,7 @@ view_precedence precedence_.Compare = LCmp
 view_precedence precedence_.Sum = LSum
 view_precedence precedence_.Term = LTerm
 view_precedence precedence_.Unary = LUnary
+view_precedence precedence_.Post = LPost
 
 -- what opened a bracket that holds items
 abbrev pub view_opener : code_opener.Opener → Opener

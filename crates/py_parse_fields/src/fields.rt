@@ -6,9 +6,9 @@ ghost use Rattle.py_grammar.specs.Refusal.{AreSpelled};
 ghost use Rattle.py_parse_fields.specs.Reader.{view_turn, is_left};
 ghost use Rattle.py_parse_fields.specs.Order.{plain_pieces, WaitsFor, AsksField, AsksPieces};
 
-use crate::frames::Precedence;
+use crate::operators::Precedence;
 use crate::reader::{Progress, Reader, Turn, act};
-use crate::token_classes::{TokenClass, mark_class, word_class};
+use crate::token_classes::{Symbol, TokenClass, mark_symbol, word_class};
 use py_token::{Piece, Token, TokenKind};
 use py_value::NoMemory;
 use std::alloc::Global;
@@ -32,8 +32,8 @@ fn class_of<'a>(kind: &'a TokenKind, waiting: &mut Vec<&'a [Piece]>) -> Result<T
             waiting.push(pieces.as_slice())?;
             Ok(TokenClass::Text)
         }
-        TokenKind::Mark(mark) => Ok(mark_class(*mark)),
-        _ => Ok(TokenClass::Other),
+        TokenKind::Mark(mark) => Ok(TokenClass::Symbol(mark_symbol(*mark))),
+        _ => Ok(TokenClass::Symbol(Symbol::Other)),
     }
 }
 
@@ -56,7 +56,7 @@ fn is_field<'a>(
             Turn::Left => return Ok(false),
         }
     }
-    Ok(is_left(act(reader, TokenClass::Other)?))
+    Ok(is_left(act(reader, TokenClass::Symbol(Symbol::Other))?))
 }
 
 /// Whether the fields of an f-string are expressions, but for the f-strings in them, which wait.

@@ -1,9 +1,10 @@
 //! Whether the fields of an f-string are expressions, whatever their height: `is_spelled`, which
-//! builds no trees.
+//! builds no trees. `operators` and `token_classes` are also for the reader that builds them.
 #![tactic(auto)]
 
 mod fields;
 mod frames;
+pub mod operators;
 mod reader;
 mod replies;
 pub mod token_classes;

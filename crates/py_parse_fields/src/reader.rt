@@ -2,15 +2,16 @@
 
 ghost use Rattle.std.specs.Prelude.{◌≡◌, cond};
 ghost use Rattle.py_syntax.specs.Normal.{LUnary};
-ghost use Rattle.py_grammar.specs.TokenClasses.{t_not, begins};
+ghost use Rattle.py_grammar.specs.TokenClasses.{t_not};
 ghost use Rattle.py_grammar.specs.Machine.{post_rest, unary_of, on, Want, Have, Next, Stuck, upto_term, at_most, give, begin, step};
 ghost use Rattle.py_grammar.specs.Least.{least_name};
-ghost use Rattle.py_parse_fields.specs.Frames.{view_precedence, view_frame, view_stack, view_class};
+ghost use Rattle.py_parse_fields.specs.Frames.{view_precedence, view_frame, view_stack, view_symbol, view_class};
 ghost use Rattle.py_parse_fields.specs.Reader.{view_at, view_turn, view_reader, Acts, Steps, Reaches};
 
-use crate::frames::{Frame, Opener, Precedence, at_most, pop, push, raise_to_not, raise_to_unary};
+use crate::frames::{Frame, Opener, pop, push, raise_to_not, raise_to_unary};
+use crate::operators::{BinaryOperator, Precedence};
 use crate::replies::{Reply, closes, offer};
-use crate::token_classes::{BinaryOperator, TokenClass};
+use crate::token_classes::{Symbol, TokenClass};
 use py_syntax::Sign;
 use py_value::{BinOp, CmpOp, NoMemory};
 
@@ -105,7 +106,7 @@ fn signed(precedence: Precedence, frames: Vec<Frame>, sign: Sign) -> Result<Turn
         (on (unary_of sign) (upto_term (view_precedence precedence) (view_stack frames.items)))))
         Stuck) result }
 {
-    if !at_most(precedence, Precedence::Unary) {
+    if !precedence.at_most(Precedence::Unary) {
         return Ok(Turn::Stuck);
     }
     let mut frames = frames;
@@ -121,12 +122,36 @@ fn signed(precedence: Precedence, frames: Vec<Frame>, sign: Sign) -> Result<Turn
 fn negated(precedence: Precedence, frames: Vec<Frame>) -> Result<Turn, NoMemory>
     ensures { Acts (begin (view_precedence precedence) (view_stack frames.items) t_not) result }
 {
-    if !at_most(precedence, Precedence::Not) {
+    if !precedence.at_most(Precedence::Not) {
         return Ok(Turn::Stuck);
     }
     let mut frames = frames;
     raise_to_not(precedence, &mut frames)?;
     open(frames, Frame::NotOf, Progress::Want(Precedence::Not))
+}
+
+/// A token that is no expression by itself begins one of that precedence, or of a tighter one.
+fn begin_by(precedence: Precedence, frames: Vec<Frame>, symbol: Symbol) -> Result<Turn, NoMemory>
+    ensures { Acts (begin (view_precedence precedence) (view_stack frames.items)
+        (view_symbol symbol)) result }
+{
+    match symbol {
+        Symbol::Not => negated(precedence, frames),
+        Symbol::BinaryOperator(BinaryOperator::Op(BinOp::Add)) => signed(
+            precedence,
+            frames,
+            Sign::Plus,
+        ),
+        Symbol::BinaryOperator(BinaryOperator::Op(BinOp::Sub)) => signed(
+            precedence,
+            frames,
+            Sign::Minus,
+        ),
+        Symbol::LeftParen => bracket(precedence, frames, Progress::AfterOpen),
+        Symbol::LeftBracket => bracket(precedence, frames, Progress::ItemsOpen(Opener::List)),
+        Symbol::LeftBrace => bracket(precedence, frames, Progress::DictOpen),
+        _ => Ok(Turn::Stuck),
+    }
 }
 
 /// An expression of that precedence, or of a tighter one, begins.
@@ -138,52 +163,8 @@ fn begin(precedence: Precedence, frames: Vec<Frame>, class: TokenClass) -> Resul
         TokenClass::Number => operand(precedence, frames, Progress::Have),
         TokenClass::Constant => operand(precedence, frames, Progress::Have),
         TokenClass::Text => operand(precedence, frames, Progress::Strings),
-        TokenClass::Not => negated(precedence, frames),
-        TokenClass::BinaryOperator(BinaryOperator::Op(BinOp::Add)) => signed(
-            precedence,
-            frames,
-            Sign::Plus,
-        ),
-        TokenClass::BinaryOperator(BinaryOperator::Op(BinOp::Sub)) => signed(
-            precedence,
-            frames,
-            Sign::Minus,
-        ),
-        TokenClass::LeftParen => bracket(precedence, frames, Progress::AfterOpen),
-        TokenClass::LeftBracket => bracket(precedence, frames, Progress::ItemsOpen(Opener::List)),
-        TokenClass::LeftBrace => bracket(precedence, frames, Progress::DictOpen),
-        _ => Ok(Turn::Stuck),
-    }
-}
-
-/// Whether an expression may begin with it.
-fn begins(class: TokenClass) -> bool
-    ensures { result ≡ begins (view_class class) }
-{
-    match class {
-        TokenClass::Name => true,
-        TokenClass::Number => true,
-        TokenClass::Constant => true,
-        TokenClass::Text => true,
-        TokenClass::BadFormat => true,
-        TokenClass::Not => true,
-        TokenClass::Is => false,
-        TokenClass::If => false,
-        TokenClass::Else => false,
-        TokenClass::Compare(_) => false,
-        TokenClass::BinaryOperator(BinaryOperator::Op(BinOp::Add)) => true,
-        TokenClass::BinaryOperator(BinaryOperator::Op(BinOp::Sub)) => true,
-        TokenClass::BinaryOperator(_) => false,
-        TokenClass::Comma => false,
-        TokenClass::Colon => false,
-        TokenClass::Dot => false,
-        TokenClass::LeftParen => true,
-        TokenClass::RightParen => false,
-        TokenClass::LeftBracket => true,
-        TokenClass::RightBracket => false,
-        TokenClass::LeftBrace => true,
-        TokenClass::RightBrace => false,
-        TokenClass::Other => false,
+        TokenClass::BadFormat => Ok(Turn::Stuck),
+        TokenClass::Symbol(symbol) => begin_by(precedence, frames, symbol),
     }
 }
 
@@ -226,7 +207,7 @@ fn entries(frames: Vec<Frame>, class: TokenClass) -> Result<Turn, NoMemory>
     ensures comma { Steps Progress.DictComma frames.items class result }
 {
     match class {
-        TokenClass::RightBrace => closed(frames),
+        TokenClass::Symbol(Symbol::RightBrace) => closed(frames),
         rest => begin_in(frames, Frame::InKey, Precedence::Expr, rest),
     }
 }
@@ -235,7 +216,7 @@ fn entries(frames: Vec<Frame>, class: TokenClass) -> Result<Turn, NoMemory>
 fn after_comma(frames: Vec<Frame>, class: TokenClass) -> Result<Turn, NoMemory>
     ensures { Steps Progress.AfterComma frames.items class result }
 {
-    if begins(class) {
+    if class.begins() {
         return begin_in(frames, Frame::ExprsRest, Precedence::Expr, class);
     }
     give(frames, class)
@@ -246,13 +227,13 @@ fn linked(frames: Vec<Frame>, class: TokenClass) -> Result<Turn, NoMemory>
     ensures { Steps Progress.Linked frames.items class result }
 {
     match class {
-        TokenClass::Compare(op) => open(
+        TokenClass::Symbol(Symbol::Compare(op)) => open(
             frames,
             Frame::CompareRest(op),
             Progress::Want(Precedence::Sum),
         ),
-        TokenClass::Not => Ok(next(frames, Progress::AfterNot)),
-        TokenClass::Is => Ok(next(frames, Progress::AfterIs)),
+        TokenClass::Symbol(Symbol::Not) => Ok(next(frames, Progress::AfterNot)),
+        TokenClass::Symbol(Symbol::Is) => Ok(next(frames, Progress::AfterIs)),
         rest => give(frames, rest),
     }
 }
@@ -273,7 +254,7 @@ fn after_not(frames: Vec<Frame>, class: TokenClass) -> Result<Turn, NoMemory>
     ensures { Steps Progress.AfterNot frames.items class result }
 {
     match class {
-        TokenClass::Compare(CmpOp::In) => open(
+        TokenClass::Symbol(Symbol::Compare(CmpOp::In)) => open(
             frames,
             Frame::CompareRest(CmpOp::NotIn),
             Progress::Want(Precedence::Sum),
@@ -287,7 +268,7 @@ fn after_is(frames: Vec<Frame>, class: TokenClass) -> Result<Turn, NoMemory>
     ensures { Steps Progress.AfterIs frames.items class result }
 {
     match class {
-        TokenClass::Not => Ok(next(frames, Progress::AfterIsNot)),
+        TokenClass::Symbol(Symbol::Not) => Ok(next(frames, Progress::AfterIsNot)),
         TokenClass::Constant => Ok(next(frames, Progress::Linked)),
         _ => Ok(Turn::Stuck),
     }
@@ -313,7 +294,7 @@ pub fn act(reader: Reader, class: TokenClass) -> Result<Turn, NoMemory>
         Progress::Have => give(frames, class),
         Progress::Strings => strings(frames, class),
         Progress::AfterOpen => match class {
-            TokenClass::RightParen => closed(frames),
+            TokenClass::Symbol(Symbol::RightParen) => closed(frames),
             rest => begin_in(frames, Frame::InParen, Precedence::Exprs, rest),
         },
         Progress::AfterComma => after_comma(frames, class),
@@ -322,11 +303,11 @@ pub fn act(reader: Reader, class: TokenClass) -> Result<Turn, NoMemory>
         Progress::DictOpen => entries(frames, class),
         Progress::DictComma => entries(frames, class),
         Progress::IndexOpen => match class {
-            TokenClass::Colon => Ok(next(frames, Progress::SliceColon)),
+            TokenClass::Symbol(Symbol::Colon) => Ok(next(frames, Progress::SliceColon)),
             rest => begin_in(frames, Frame::IndexFirst, Precedence::Expr, rest),
         },
         Progress::SliceColon => match class {
-            TokenClass::RightBracket => closed(frames),
+            TokenClass::Symbol(Symbol::RightBracket) => closed(frames),
             rest => begin_in(frames, Frame::SliceTo, Precedence::Expr, rest),
         },
         Progress::AfterDot => match class {

@@ -10,11 +10,10 @@ ghost use Rattle.py_grammar.specs.Least.{least_name};
 ghost use Rattle.py_parse_fields.specs.Frames.{view_precedence, view_frame, view_class, view_opener};
 ghost use Rattle.py_parse_fields.specs.Reader.{Offers};
 
-use crate::frames::{
-    Frame, Opener, Precedence, operator_precedence, operator_right, same_precedence,
-};
+use crate::frames::{Frame, Opener};
+use crate::operators::Precedence;
 use crate::reader::Progress;
-use crate::token_classes::TokenClass;
+use crate::token_classes::{Symbol, TokenClass};
 use py_value::CmpOp;
 
 /// What a frame does with a token after the part that it waits for.
@@ -34,12 +33,9 @@ fn join(precedence: Precedence, class: TokenClass) -> Reply
         → Offers (right j least_name) (view_class class) result }
 {
     match class {
-        TokenClass::BinaryOperator(operator) => {
-            if same_precedence(precedence, operator_precedence(operator)) {
-                return Reply::Opens(
-                    Frame::Right(operator),
-                    Progress::Want(operator_right(operator)),
-                );
+        TokenClass::Symbol(Symbol::BinaryOperator(operator)) => {
+            if precedence.is(operator.precedence()) {
+                return Reply::Opens(Frame::Right(operator), Progress::Want(operator.right()));
             }
             Reply::Pass
         }
@@ -54,12 +50,12 @@ fn chain(class: TokenClass) -> Reply
         → Offers (compare_rest least_name no_links op) (view_class class) result }
 {
     match class {
-        TokenClass::Compare(op) => Reply::Opens(
+        TokenClass::Symbol(Symbol::Compare(op)) => Reply::Opens(
             Frame::CompareRest(op),
             Progress::Want(Precedence::Sum),
         ),
-        TokenClass::Not => Reply::Goes(Progress::AfterNot),
-        TokenClass::Is => Reply::Goes(Progress::AfterIs),
+        TokenClass::Symbol(Symbol::Not) => Reply::Goes(Progress::AfterNot),
+        TokenClass::Symbol(Symbol::Is) => Reply::Goes(Progress::AfterIs),
         _ => Reply::Pass,
     }
 }
@@ -69,9 +65,9 @@ fn postfix(class: TokenClass) -> Reply
     ensures { Offers post_rest (view_class class) result }
 {
     match class {
-        TokenClass::LeftParen => Reply::Goes(Progress::ItemsOpen(Opener::Call)),
-        TokenClass::LeftBracket => Reply::Goes(Progress::IndexOpen),
-        TokenClass::Dot => Reply::Goes(Progress::AfterDot),
+        TokenClass::Symbol(Symbol::LeftParen) => Reply::Goes(Progress::ItemsOpen(Opener::Call)),
+        TokenClass::Symbol(Symbol::LeftBracket) => Reply::Goes(Progress::IndexOpen),
+        TokenClass::Symbol(Symbol::Dot) => Reply::Goes(Progress::AfterDot),
         _ => Reply::Pass,
     }
 }
@@ -83,8 +79,8 @@ pub fn closes(opener: Opener, class: TokenClass) -> bool
         ≡ cond result (bare_out (Next (Have least_name (on post_rest k)))) (bare_out o) }
 {
     match opener {
-        Opener::Call => matches!(class, TokenClass::RightParen),
-        Opener::List => matches!(class, TokenClass::RightBracket),
+        Opener::Call => matches!(class, TokenClass::Symbol(Symbol::RightParen)),
+        Opener::List => matches!(class, TokenClass::Symbol(Symbol::RightBracket)),
     }
 }
 
@@ -92,7 +88,7 @@ pub fn closes(opener: Opener, class: TokenClass) -> bool
 fn item(opener: Opener, class: TokenClass) -> Reply
     ensures { Offers (in_items (view_opener opener) no_exprs) (view_class class) result }
 {
-    if matches!(class, TokenClass::Comma) {
+    if matches!(class, TokenClass::Symbol(Symbol::Comma)) {
         return Reply::Goes(Progress::ItemsComma(opener));
     }
     if closes(opener, class) {
@@ -106,9 +102,9 @@ fn index(class: TokenClass) -> Reply
     ensures { Offers (index_first least_name) (view_class class) result }
 {
     match class {
-        TokenClass::Comma => Reply::Opens(Frame::InIndex, Progress::AfterComma),
-        TokenClass::Colon => Reply::Goes(Progress::SliceColon),
-        TokenClass::RightBracket => Reply::Opens(Frame::PostRest, Progress::Have),
+        TokenClass::Symbol(Symbol::Comma) => Reply::Opens(Frame::InIndex, Progress::AfterComma),
+        TokenClass::Symbol(Symbol::Colon) => Reply::Goes(Progress::SliceColon),
+        TokenClass::Symbol(Symbol::RightBracket) => Reply::Opens(Frame::PostRest, Progress::Have),
         _ => Reply::Stuck,
     }
 }
@@ -119,7 +115,7 @@ fn index_end(class: TokenClass) -> Reply
     ensures slice { Offers (slice_to least_name absent) (view_class class) result }
 {
     match class {
-        TokenClass::RightBracket => Reply::Opens(Frame::PostRest, Progress::Have),
+        TokenClass::Symbol(Symbol::RightBracket) => Reply::Opens(Frame::PostRest, Progress::Have),
         _ => Reply::Stuck,
     }
 }
@@ -129,8 +125,8 @@ fn entry(class: TokenClass) -> Reply
     ensures { Offers (in_value no_pairs least_name) (view_class class) result }
 {
     match class {
-        TokenClass::Comma => Reply::Goes(Progress::DictComma),
-        TokenClass::RightBrace => Reply::Opens(Frame::PostRest, Progress::Have),
+        TokenClass::Symbol(Symbol::Comma) => Reply::Goes(Progress::DictComma),
+        TokenClass::Symbol(Symbol::RightBrace) => Reply::Opens(Frame::PostRest, Progress::Have),
         _ => Reply::Stuck,
     }
 }
@@ -141,7 +137,7 @@ fn several(class: TokenClass) -> Reply
     ensures rest { Offers (exprs_rest least_name no_exprs) (view_class class) result }
 {
     match class {
-        TokenClass::Comma => Reply::Goes(Progress::AfterComma),
+        TokenClass::Symbol(Symbol::Comma) => Reply::Goes(Progress::AfterComma),
         _ => Reply::Pass,
     }
 }
@@ -151,7 +147,10 @@ fn condition(class: TokenClass) -> Reply
     ensures { Offers cond_first (view_class class) result }
 {
     match class {
-        TokenClass::If => Reply::Opens(Frame::CondTest, Progress::Want(Precedence::Or)),
+        TokenClass::Symbol(Symbol::If) => Reply::Opens(
+            Frame::CondTest,
+            Progress::Want(Precedence::Or),
+        ),
         _ => Reply::Pass,
     }
 }
@@ -161,7 +160,10 @@ fn test(class: TokenClass) -> Reply
     ensures { Offers (cond_test least_name) (view_class class) result }
 {
     match class {
-        TokenClass::Else => Reply::Opens(Frame::CondElse, Progress::Want(Precedence::Expr)),
+        TokenClass::Symbol(Symbol::Else) => Reply::Opens(
+            Frame::CondElse,
+            Progress::Want(Precedence::Expr),
+        ),
         _ => Reply::Stuck,
     }
 }
@@ -171,7 +173,7 @@ fn paren(class: TokenClass) -> Reply
     ensures { Offers in_paren (view_class class) result }
 {
     match class {
-        TokenClass::RightParen => Reply::Opens(Frame::PostRest, Progress::Have),
+        TokenClass::Symbol(Symbol::RightParen) => Reply::Opens(Frame::PostRest, Progress::Have),
         _ => Reply::Stuck,
     }
 }
@@ -181,7 +183,10 @@ fn key(class: TokenClass) -> Reply
     ensures { Offers (in_key no_pairs) (view_class class) result }
 {
     match class {
-        TokenClass::Colon => Reply::Opens(Frame::InValue, Progress::Want(Precedence::Expr)),
+        TokenClass::Symbol(Symbol::Colon) => Reply::Opens(
+            Frame::InValue,
+            Progress::Want(Precedence::Expr),
+        ),
         _ => Reply::Stuck,
     }
 }
@@ -197,7 +202,7 @@ pub fn offer(frame: Frame, class: TokenClass) -> Reply
         Frame::CondTest => test(class),
         Frame::CondElse => Reply::Pass,
         Frame::First(precedence) => join(precedence, class),
-        Frame::Right(operator) => join(operator_precedence(operator), class),
+        Frame::Right(operator) => join(operator.precedence(), class),
         Frame::NotOf => Reply::Pass,
         Frame::CompareFirst => chain(class),
         Frame::CompareRest(_) => chain(class),

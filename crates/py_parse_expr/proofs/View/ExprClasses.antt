@@ -13,7 +13,7 @@ use Rattle.py_syntax.specs.Kinds.{Sign, End, Pieces, bare_kind, bare_pieces}
 use Rattle.py_grammar.specs.TokenClasses.{t_other}
 use Rattle.py_grammar.specs.Machine.{format_class, class, parts}
 use Rattle.py_parse_fields.specs.Frames.{bare_class}
-use Rattle.py_parse_expr.specs.ExprViews.{plain_class, symbol_class}
+use Rattle.py_parse_expr.specs.ExprViews.{plain_class}
 
 plain_format : (ps : Pieces) (o : Option Parts) → plain_class (format_class ps o) ≡ t_other End
 plain_format ps (Some qs) = refl
@@ -24,7 +24,7 @@ plain_fstring ps =
     let qs = bare_pieces (piece_row (view_pieces ps.items)) in
     ap (λ k. plain_class (class (bare_kind k))) (plain-fstring ps) ∙ plain_format qs (parts qs)
 
--- a mark holds nothing and is no expression
-pub mark_symbol : (m : Mark) → symbol_class (bare_class (class (Sign m))) ≡ plain_class (class (Sign m))
-mark_symbol mark.Comma = refl
-mark_symbol m = refl
+-- a mark holds nothing
+pub mark_plain : (m : Mark) → bare_class (class (Sign m)) ≡ plain_class (class (Sign m))
+mark_plain mark.Comma = refl
+mark_plain m = refl

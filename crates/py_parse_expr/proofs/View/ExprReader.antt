@@ -6,7 +6,7 @@ use Rattle.py_token.specs.declared.token.Token.{Token}
 use Rattle.py_syntax.specs.Spelling.{HEIGHT}
 use Rattle.py_syntax.specs.Kinds.{Kind}
 use Rattle.py_parse_expr.specs.declared.expr_nodes.Measured.{Measured}
-use Rattle.py_parse_expr.specs.declared.expr_classes.Precedence.{Precedence}
+use Rattle.py_parse_fields.specs.declared.operators.Precedence.{Precedence}
 use Rattle.py_parse_expr.specs.declared.expr_stack.Stack.{Stack}
 use Rattle.py_parse_expr.specs.declared.expr_turns.Progress.{Progress}
 use Rattle.py_parse_expr.specs.declared.expr_turns.Progress.TheVariants as progress_
@@ -15,7 +15,8 @@ use Rattle.py_parse_expr.specs.declared.expr_turns.Turn.TheVariants as turn_
 use Rattle.py_grammar.specs.Machine.{Goal, Outside, State, Want, Out, Next, Stuck, Left, step, start, class}
 use Rattle.py_grammar.specs.Least.{least}
 use Rattle.py_grammar.specs.Reading.{Ending, Unexpected, TooDeep, Reads, within, EndsAt}
-use Rattle.py_parse_expr.specs.ExprViews.{view_precedence, view_measured}
+use Rattle.py_parse_fields.specs.Frames.{view_precedence}
+use Rattle.py_parse_expr.specs.ExprViews.{view_measured}
 use Rattle.py_parse_expr.specs.ExprStacks.{view_stack, Valid}
 use Rattle.py_parse_expr.specs.ExprTurns.{view_at, ValidAt}
 use Rattle.py_parse_expr.specs.ExprFields.{has_spelled_fields, IsHighIf, GoesTo}

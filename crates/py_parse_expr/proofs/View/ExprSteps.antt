@@ -4,17 +4,15 @@ use Rattle.std.specs.declared.alloc.AllocError.{AllocError}
 use Rattle.py_syntax.specs.Tree.{Expr, tuple, Exprs, no_exprs, exprs, Pairs, no_pairs}
 use Rattle.py_syntax.specs.Normal.{is_target}
 use Rattle.py_parse_expr.specs.declared.expr_nodes.Measured.{Measured}
-use Rattle.py_parse_expr.specs.declared.expr_classes.TokenClass as code_class
-use Rattle.py_parse_expr.specs.declared.expr_classes.TokenClass.TheVariants as class_
 use Rattle.py_parse_expr.specs.declared.expr_stack.Frame as code_frame
 use Rattle.py_parse_expr.specs.declared.expr_stack.Stack.{Stack}
 use Rattle.py_parse_expr.specs.declared.expr_turns.Turn.{Turn}
 use Rattle.py_parse_expr.specs.declared.expr_turns.Turn.TheVariants as turn_
 use Rattle.py_grammar.specs.TokenClasses.{TokenClass, t_comma, t_right_brace}
 use Rattle.py_grammar.specs.Machine.{snoc, targets, AfterTarget, Ctx, on, DictOpen, DictComma, Out, Next, Stuck, Left, leave, give, step}
-use Rattle.py_parse_expr.specs.ExprViews.{view_measured, view_class, IsMeasured}
+use Rattle.py_parse_expr.specs.ExprViews.{view_measured, IsMeasured}
 use Rattle.py_parse_expr.specs.ExprStacks.{head_of, tail_of, AreSome, view_frame, view_stack, Valid, Pops}
-use Rattle.py_parse_expr.specs.ExprTurns.{close_dict, Stays, Acts}
+use Rattle.py_parse_expr.specs.ExprTurns.{is_comma, close_dict, Stays, Acts}
 
 -- an expression that goes through the frames
 pub record Giving (o : Out) (limit : ℕ) (t : TokenClass) (e : Measured) (s : Stack) : Type 0 where
@@ -39,14 +37,15 @@ stays_acts o limit s (Ok (turn_.Left t)) valid h = (h.0 (view_stack s), h.1)
 stays_acts o limit s (Err e) valid h = tt
 
 -- the target of a `for` after a further item
-pub leave_comma : (es ns : Exprs) (e : Expr) → AreSome es → ns ≡ snoc es e → is_target e ≡ true → leave e (targets (head_of es) (tail_of es)) t_comma ≡ Next (AfterTarget (head_of ns) (tail_of ns))
-leave_comma no_exprs ns e some is t = absurd some
-leave_comma (exprs f es) ns e some is t = ap (λ (b : Bool). cond b (Next (AfterTarget f (snoc es e))) Stuck) t ∙ ap (λ (x : Exprs). Next (AfterTarget (head_of x) (tail_of x))) (sym is)
+pub leave_comma : (es ns : Exprs) (e : Expr) (t : TokenClass) → is_comma t ≡ true → AreSome es → ns ≡ snoc es e → is_target e ≡ true → leave e (targets (head_of es) (tail_of es)) t ≡ Next (AfterTarget (head_of ns) (tail_of ns))
+leave_comma no_exprs ns e t h some is yes_it = absurd some
+leave_comma (exprs f es) ns e t_comma h some is yes_it = ap (λ (b : Bool). cond b (Next (AfterTarget f (snoc es e))) Stuck) yes_it ∙ ap (λ (x : Exprs). Next (AfterTarget (head_of x) (tail_of x))) (sym is)
+leave_comma (exprs f es) ns e t h some is yes_it = absurd cc
 
-pub leave_other : (es ns : Exprs) (e : Expr) (r : code_class.TokenClass) → (r ≡ class_.Comma → ⊥) → AreSome es → ns ≡ snoc es e → is_target e ≡ true → leave e (targets (head_of es) (tail_of es)) (view_class r) ≡ Left (tuple ns false)
-leave_other no_exprs ns e r h some is t = absurd some
-leave_other (exprs f es) ns e class_.Comma h some is t = absurd (h refl)
-leave_other (exprs f es) ns e r h some is t = ap (λ (b : Bool). cond b (Left (tuple (exprs f (snoc es e)) false)) Stuck) t ∙ ap (λ (x : Exprs). Left (tuple x false)) (sym is)
+pub leave_other : (es ns : Exprs) (e : Expr) (t : TokenClass) → is_comma t ≡ false → AreSome es → ns ≡ snoc es e → is_target e ≡ true → leave e (targets (head_of es) (tail_of es)) t ≡ Left (tuple ns false)
+leave_other no_exprs ns e t h some is yes_it = absurd some
+leave_other (exprs f es) ns e t_comma h some is yes_it = absurd cc
+leave_other (exprs f es) ns e t h some is yes_it = ap (λ (b : Bool). cond b (Left (tuple (exprs f (snoc es e)) false)) Stuck) yes_it ∙ ap (λ (x : Exprs). Left (tuple x false)) (sym is)
 
 pub some_more : (es ns : Exprs) (e : Expr) → ns ≡ snoc es e → AreSome ns
 some_more es ns e is = subst AreSome (sym is) (go es)

@@ -2,7 +2,8 @@ use Rattle.std.proofs.Common.{sym, subst, ap, ◌∙◌}
 use Rattle.py_syntax.specs.Tree.{Expr}
 use Rattle.py_grammar.specs.TokenClasses.{joined}
 use Rattle.py_grammar.specs.Machine.{on, first, give, Out}
-use Rattle.py_parse_expr.specs.ExprViews.{view_precedence, view_operator, view_measured, view_class}
+use Rattle.py_parse_fields.specs.Frames.{view_precedence, view_operator}
+use Rattle.py_parse_expr.specs.ExprViews.{view_measured, view_class}
 use Rattle.py_parse_expr.specs.ExprTurns.{BecomesAs}
 use Rattle.py_parse_expr.proofs.View.ExprFrames.{give_right}
 use Rattle.py_parse_expr.proofs.expr_frames.right.Goals as goal

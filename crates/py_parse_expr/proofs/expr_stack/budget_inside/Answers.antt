@@ -3,7 +3,8 @@ use Rattle.py_syntax.specs.Normal.{height, height_entries, height_links, height_
 use Rattle.py_syntax.specs.View.{plain_expr}
 use Rattle.py_grammar.specs.Machine.{on, cond_test, cond_else, right, compare_rest, index_first, in_index, slice_to, in_key, in_value}
 use Rattle.py_grammar.specs.Budgets.{budget, postfix}
-use Rattle.py_parse_expr.specs.ExprViews.{view_operator, view_measured, view_entries, view_links, view_bound}
+use Rattle.py_parse_fields.specs.Frames.{view_operator}
+use Rattle.py_parse_expr.specs.ExprViews.{view_measured, view_entries, view_links, view_bound}
 use Rattle.py_parse_expr.proofs.Least.Budgets.{budget_low, postfix_low, below_budget}
 use Rattle.py_parse_expr.proofs.expr_stack.budget_inside.Goals as goal
 

@@ -1,6 +1,6 @@
 use Rattle.std.proofs.Common.{◌+◌, ◌*◌}
 use Rattle.py_syntax.specs.Normal.{rank}
-use Rattle.py_parse_expr.specs.ExprViews.{view_precedence}
+use Rattle.py_parse_fields.specs.Frames.{view_precedence}
 use Rattle.py_parse_expr.proofs.expr_stack.Stack.+opened.Given as goal
 
 abbrev pub decreases-opened : goal.decreases-opened
