@@ -1,14 +1,9 @@
--- Ends of loops, and answers that are passed on.
---     kept                           code under another name
+-- Ends of loops.
 --     one_counted                    the end of a sum that begins with one
 --     not_none                       a list with an item is not empty
-use Rattle.std.proofs.Common.{◌≡◌, ℕ, suc, ◌+◌, ◌≤◌, ◌==◌, false, List, [], ◌++◌, Result, Ok, Err, OnOk, drop, length, sym, ap, ◌∙◌, arith}
+use Rattle.std.proofs.Common.{◌≡◌, ℕ, suc, ◌+◌, ◌≤◌, ◌==◌, false, List, [], drop, length, ap, ◌∙◌, arith}
 use Rattle.std.proofs.lemmas.Bool.Decides.{nat_tests}
 use Rattle.std.proofs.Math.ListN.{drop_of_length-le}
-
-pub kept : {A E R : Type 0} (r : Result R E) (s n x y : List A) → y ≡ x → OnOk r (n ≡ s ++ x) → OnOk r (n ≡ s ++ y)
-kept (Ok u) s n x y e h = h ∙ ap (λ k. s ++ k) (sym e)
-kept (Err f) s n x y e h = h
 
 pub one_counted : {X : Type 0} (F : List X → ℕ) → F [] ≡ 1 → (now w : ℕ) (xs : List X) (i : ℕ) → length xs ≤ i → now + F (drop i xs) ≡ 1 + w → now ≡ w
 one_counted F e now w xs i le h = let k : F (drop i xs) ≡ 1 = ap F (drop_of_length-le xs le) ∙ e in omega (arith, k, h)

@@ -4,7 +4,9 @@
 --     while_begin .. case_begin           places
 --     finally_ways .. clause_ways         ways out of suites
 --     read_item_code, written_item_code   parts of `place op= e`
+--     if_code, match_code                 statements
 --     while_head .. case_head             code in front of suites and after them
+--     while_code, for_code                loops up to their `else`
 --     handlers_code, finally_code         what follows the suite of a `try`
 --     at_lines                            functions by the lines of their `def`s alone
 use Rattle.std.specs.Prelude.{ℕ, ◌+◌, Bool, true, List, [], ◌++◌, map, Option, Some, None}
@@ -15,11 +17,11 @@ use Rattle.py_code.specs.declared.instr.Instr.TheVariants.{Pop, Copy, Sink, InPl
 use Rattle.py_compile_expr.specs.Cells.{store, unset, marks, marks_again, plain, Guard, Cell, put}
 use Rattle.py_compile_expr.specs.Expressions.{expr_size, expr_code}
 use Rattle.py_compile_expr.specs.Patterns.{captured, pattern_size, pattern_code, names_size, names_code}
-use Rattle.py_compile_expr.specs.Targets.{target_size}
+use Rattle.py_compile_expr.specs.Targets.{target_size, target_code}
 use Rattle.py_meaning.specs.Modules.{unit_at}
 use Rattle.py_meaning.specs.Statements.{has_clauses}
 use Rattle.py_compile.specs.Statements.{function_code, tried_size, caught_size, caught_code, guard_size, guard_code, exits_code, stmts_size, stmts_code, opt_size, opt_code, arms_size, arms_code, clauses_size, clauses_code, cases_size, cases_code}
-use Rattle.py_compile.specs.Ways.{Ways, under, in_finally, in_try, in_hand}
+use Rattle.py_compile.specs.Ways.{Ways, under, in_loop, in_finally, in_try, in_hand}
 
 -- the statements of a suite
 abbrev pub suite_body : Suite → Stmts
@@ -199,6 +201,27 @@ case_head g p l next q guard =
     (pattern_code (record { guard = g; waiting = 0; fail = next; extra = 0 }) (p + 2) q
     ++ (names_code g (captured q)
     ++ (guard_code g (bind + names_size (captured q)) next guard ++ put g (plain Pop) []))))
+
+-- a `while` up to its `else`
+abbrev pub while_code : List Function → Ways → ℕ → (line : ℕ) → Expr → Suite → OptSuite → List Cell
+while_code fs w p l test s orelse =
+    let back = while_back (in_hand w) p test s in
+    let inside = in_loop w 0 (back + 1 + opt_size (in_hand w) orelse) back in
+    while_head w.guard p l test (back + 1)
+    ++ (stmts_code fs inside (while_begin p test) (suite_body s)
+    ++ put w.guard (plain (Goto (p + 2))) [])
+
+-- a `for` up to its `else`
+abbrev pub for_code : List Function → Ways → ℕ → (line : ℕ) → (target items : Expr) → Suite
+    → OptSuite → List Cell
+for_code fs w p l target items s orelse =
+    let again = for_again p items in
+    let back = for_back (in_hand w) p target items s in
+    let inside = in_loop (under w) 1 (back + 1 + opt_size (in_hand w) orelse) back in
+    for_head w.guard p l items (back + 1)
+    ++ (target_code w.guard (again + 2) target
+    ++ (stmts_code fs inside (for_begin p target items) (suite_body s)
+    ++ put w.guard (plain (Goto again)) []))
 
 -- the clauses of a `try`, and the jump over them
 abbrev pub handlers_code : List Function → Ways → ℕ → (end : ℕ) → Clauses → List Cell

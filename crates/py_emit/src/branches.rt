@@ -1,20 +1,21 @@
-// Emission of what a compound statement has several of: tests, clauses and cases.
+// Emission of `match`, and of what a compound statement has several of: tests, clauses and cases.
 
 ghost use Rattle.std.specs.Prelude.{◌≡◌, ◌+◌, ◌++◌, IfOk, OnOk};
-ghost use Rattle.py_syntax.specs.View.{plain_arms, plain_clauses, plain_cases};
+ghost use Rattle.py_syntax.specs.View.{plain_expr, plain_arms, plain_clauses, plain_cases};
+ghost use Rattle.py_compile_expr.specs.Expressions.{expr_size};
 ghost use Rattle.py_compile.specs.Statements.{arms_size, arms_code, clauses_size, clauses_code, cases_size, cases_code};
 ghost use Rattle.py_compile.specs.Ways.{in_hand};
-ghost use Rattle.py_emit.specs.Parts.{at_lines};
+ghost use Rattle.py_emit.specs.Parts.{match_code, at_lines};
 ghost use Rattle.py_emit.specs.WaysView.{plain_ways};
 
 use crate::defs::Defs;
 use crate::heads::{put_arm_head, put_case_head, put_clause_end, put_clause_head};
-use crate::places::{arm_next, case_next, clause_places};
+use crate::places::{arm_next, case_next, clause_places, match_end};
 use crate::statements::put_suite;
 use crate::ways::{Ways, in_clause, in_hand};
 use py_code::Instr;
-use py_compile_expr::{Builder, Op};
-use py_syntax::{Arm, Case, Clause};
+use py_compile_expr::{Builder, Op, put_expr};
+use py_syntax::{Arm, Case, Clause, Expr};
 use py_value::NoMemory;
 
 /// Tests with their suites.
@@ -76,6 +77,30 @@ pub(crate) fn put_clauses(
         to = put_clause_end(out, ways, left, end, &clause.name)?;
     }
     out.put(ways.guard, to, Op::Plain(Instr::Uncaught))
+}
+
+/// `match`. The cases come first among the trees, since they are what the recursion goes down.
+#[cycle(statements)]
+pub(crate) fn put_match(
+    out: &mut Builder,
+    defs: &Defs,
+    ways: Ways,
+    at: u32,
+    line: u32,
+    cases: &[Case],
+    subject: &Expr,
+) -> Result<u32, NoMemory>
+    ensures cells { OnOk result (out.new
+        ≡ out.old ++ match_code (at_lines defs.now) (plain_ways ways) at line
+        (plain_expr subject.now) (plain_cases cases.now)) }
+    ensures place { IfOk result (λ n.
+        n ≡ at + (1 + expr_size (plain_expr subject.now)
+        + cases_size (in_hand (plain_ways ways)) (plain_cases cases.now))) }
+{
+    let end = match_end(in_hand(ways), at, subject, cases)?;
+    let begin = out.put(ways.guard, at, Op::Mark(line))?;
+    let first = put_expr(out, ways.guard, begin, subject)?;
+    put_cases(out, defs, ways, first, end, cases)
 }
 
 /// Cases. The subject is on top till one is chosen.

@@ -5,6 +5,7 @@ ghost use Rattle.std.specs.Option.{option_map};
 ghost use Rattle.py_syntax.specs.View.{plain_expr, plain_pattern};
 ghost use Rattle.py_compile_expr.specs.Expressions.{expr_size};
 ghost use Rattle.py_compile_expr.specs.CellView.{plain_guard};
+ghost use Rattle.py_compile_expr.specs.Patterns.{captured, names_size, names_code};
 ghost use Rattle.py_emit.specs.Parts.{arm_head, while_head, for_head, clause_begin, clause_head, clause_end, clause_end_size, release_code, case_begin, case_head};
 ghost use Rattle.py_emit.specs.WaysView.{plain_ways};
 
@@ -142,11 +143,27 @@ fn put_release(out: &mut Builder, ways: Ways, at: u32, name: &Text) -> Result<u3
     ensures place { IfOk result (λ n. n ≡ at + 6) }
 {
     let lower = under(ways)?;
-    let unset = name.copy()?;
     let at = out.put(ways.guard, at, Op::Plain(Instr::Ending))?;
+    let unset = name.copy()?;
     let at = out.put(ways.guard, at, Op::Unset(unset))?;
     let at = out.put(ways.guard, at, Op::Plain(Instr::Release))?;
     put_exits(out, lower, at)
+}
+
+/// Binds the names that a pattern captures, whose values stand on top.
+fn put_captured(
+    out: &mut Builder,
+    guard: Option<Guard>,
+    at: u32,
+    pattern: &Pattern,
+) -> Result<u32, NoMemory>
+    ensures cells { OnOk result (out.new
+        ≡ out.old ++ names_code (plain_guard guard) (captured (plain_pattern pattern.now))) }
+    ensures place { IfOk result (λ n. n ≡ at + names_size (captured (plain_pattern pattern.now))) }
+{
+    let mut names = Vec::new(out.alloc());
+    push_captured(&mut names, pattern)?;
+    put_names(out, guard, at, &names)
 }
 
 /// A case in front of its suite: the mark, the pattern on a copy of the subject, its names, and the
@@ -166,8 +183,6 @@ pub(crate) fn put_case_head(
     ensures place { IfOk result (λ n.
         n ≡ case_begin at (plain_pattern pattern.now) (option_map plain_expr guard.now)) }
 {
-    let mut names = Vec::new(out.alloc());
-    push_captured(&mut names, pattern)?;
     let site = Site {
         guard: handler,
         waiting: 0,
@@ -177,7 +192,7 @@ pub(crate) fn put_case_head(
     let at = out.put(handler, at, Op::Mark(line))?;
     let at = out.put(handler, at, Op::Plain(Instr::Copy(0)))?;
     let at = put_pattern(out, site, at, pattern)?;
-    let at = put_names(out, handler, at, &names)?;
+    let at = put_captured(out, handler, at, pattern)?;
     let at = put_guard(out, handler, at, next, guard)?;
     out.put(handler, at, Op::Plain(Instr::Pop))
 }

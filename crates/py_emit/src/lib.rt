@@ -6,6 +6,7 @@ mod branches;
 mod compound;
 mod defs;
 mod heads;
+mod loops;
 mod parts;
 mod places;
 mod simple;

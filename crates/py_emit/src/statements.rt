@@ -7,18 +7,17 @@ ghost use Rattle.py_compile.specs.Ways.{in_hand};
 ghost use Rattle.py_emit.specs.Parts.{suite_body, suite_size, at_lines};
 ghost use Rattle.py_emit.specs.WaysView.{plain_ways};
 
-use crate::branches::{put_arms, put_cases};
+use crate::branches::{put_arms, put_match};
 use crate::compound::{put_def, put_finally, put_handlers};
 use crate::defs::Defs;
-use crate::heads::{put_for_head, put_while_head};
-use crate::places::{for_places, if_end, match_end, try_places, while_places};
+use crate::loops::{put_for, put_while};
+use crate::places::{if_end, try_places};
 use crate::simple::{
     put_assert, put_assign, put_aug_assign, put_break, put_continue, put_from, put_import,
     put_raise, put_return, put_value,
 };
 use crate::ways::{Ways, in_hand};
-use py_code::Instr;
-use py_compile_expr::{Builder, Op, put_expr, put_target};
+use py_compile_expr::{Builder, Op};
 use py_syntax::{Stmt, StmtKind, Suite};
 use py_value::NoMemory;
 
@@ -80,10 +79,7 @@ fn put_kind(
             put_opt(out, defs, ways, next, orelse)
         }
         StmtKind::While { test, body, orelse } => {
-            let places = while_places(ways, at, test, body, orelse)?;
-            let begin = put_while_head(out, ways.guard, at, line, test, places.rest)?;
-            let back = put_suite(out, defs, places.inside, begin, body)?;
-            let rest = out.put(ways.guard, back, Op::Plain(Instr::Goto(places.again)))?;
+            let rest = put_while(out, defs, ways, at, line, body, test, orelse)?;
             put_opt(out, defs, ways, rest, orelse)
         }
         StmtKind::For {
@@ -92,11 +88,7 @@ fn put_kind(
             body,
             orelse,
         } => {
-            let places = for_places(ways, at, over, target, body, orelse)?;
-            let taken = put_for_head(out, ways.guard, at, line, over, places.rest)?;
-            let begin = put_target(out, ways.guard, taken, target)?;
-            let back = put_suite(out, defs, places.inside, begin, body)?;
-            let rest = out.put(ways.guard, back, Op::Plain(Instr::Goto(places.again)))?;
+            let rest = put_for(out, defs, ways, at, line, body, target, over, orelse)?;
             put_opt(out, defs, ways, rest, orelse)
         }
         StmtKind::Try {
@@ -112,22 +104,11 @@ fn put_kind(
             let end = put_handlers(out, defs, places.inside, jump, places.end, clauses)?;
             put_finally(out, defs, ways, end, finally)
         }
-        StmtKind::Def {
-            name,
-            params: _,
-            defaults,
-            comma: _,
-            body: _,
-        } => put_def(out, defs, ways.guard, at, line, name, defaults),
-        StmtKind::Match {
-            subject,
-            header_last: _,
-            cases,
-        } => {
-            let end = match_end(in_hand(ways), at, subject, cases)?;
-            let begin = out.put(ways.guard, at, Op::Mark(line))?;
-            let first = put_expr(out, ways.guard, begin, subject)?;
-            put_cases(out, defs, ways, first, end, cases)
+        StmtKind::Def { name, defaults, .. } => {
+            put_def(out, defs, ways.guard, at, line, name, defaults)
+        }
+        StmtKind::Match { subject, cases, .. } => {
+            put_match(out, defs, ways, at, line, cases, subject)
         }
     }
 }

@@ -22,14 +22,6 @@ fn both(left: u32, right: u32, more: u32) -> Result<u32, NoMemory>
     sum(parts, more)
 }
 
-/// The size of three parts and so many instructions.
-fn all_of(first: u32, second: u32, third: u32, more: u32) -> Result<u32, NoMemory>
-    ensures { IfOk result (λ n. n ≡ first + second + third + more) }
-{
-    let parts = sum(first, second)?;
-    both(parts, third, more)
-}
-
 /// So many parts of one size.
 fn times(count: usize, size: u32) -> Result<u32, NoMemory>
     ensures { IfOk result (λ n. n ≡ count * size) }
@@ -140,11 +132,7 @@ pub(crate) fn kind_size(handled: bool, kind: &StmtKind) -> Result<u32, NoMemory>
     match kind {
         StmtKind::Expr(e) => sum(expr_size(e)?, 2),
         StmtKind::Assign { targets, value } => both(expr_size(value)?, all_size(targets)?, 1),
-        StmtKind::AugAssign {
-            place,
-            op: _,
-            value,
-        } => sum(augment_size(place, value)?, 1),
+        StmtKind::AugAssign { place, value, .. } => sum(augment_size(place, value)?, 1),
         StmtKind::Pass => Ok(1),
         StmtKind::Break => Ok(2),
         StmtKind::Continue => Ok(2),
@@ -154,16 +142,10 @@ pub(crate) fn kind_size(handled: bool, kind: &StmtKind) -> Result<u32, NoMemory>
         StmtKind::Global(_) => Ok(0),
         StmtKind::Import(names) => sum(import_size(names)?, 1),
         StmtKind::From(_, names) => sum(take_size(names)?, 4),
-        StmtKind::If { arms, orelse } => {
-            let tests = arms_size(handled, arms)?;
-            let last = opt_size(handled, orelse)?;
-            sum(tests, last)
-        }
+        StmtKind::If { arms, orelse } => sum(arms_size(handled, arms)?, opt_size(handled, orelse)?),
         StmtKind::While { test, body, orelse } => {
-            let head = expr_size(test)?;
-            let turn = suite_size(handled, body)?;
-            let last = opt_size(handled, orelse)?;
-            all_of(head, turn, last, 5)
+            let suites = sum(suite_size(handled, body)?, opt_size(handled, orelse)?)?;
+            both(expr_size(test)?, suites, 5)
         }
         StmtKind::For {
             target,
@@ -171,11 +153,9 @@ pub(crate) fn kind_size(handled: bool, kind: &StmtKind) -> Result<u32, NoMemory>
             body,
             orelse,
         } => {
-            let items = expr_size(over)?;
-            let head = both(items, target_size(target)?, 1)?;
-            let turn = suite_size(handled, body)?;
-            let last = opt_size(handled, orelse)?;
-            all_of(head, turn, last, 5)
+            let head = both(expr_size(over)?, target_size(target)?, 1)?;
+            let suites = sum(suite_size(handled, body)?, opt_size(handled, orelse)?)?;
+            both(head, suites, 5)
         }
         StmtKind::Try {
             body,
@@ -183,27 +163,16 @@ pub(crate) fn kind_size(handled: bool, kind: &StmtKind) -> Result<u32, NoMemory>
             orelse,
             finally,
         } => {
-            let tried = suite_size(handled, body)?;
-            let normal = opt_size(handled, orelse)?;
-            let handlers = handlers_size(handled, clauses)?;
-            let last = finally_size(handled, finally)?;
-            sum(all_of(tried, normal, handlers, 1)?, last)
+            let tried = sum(suite_size(handled, body)?, opt_size(handled, orelse)?)?;
+            let last = sum(
+                handlers_size(handled, clauses)?,
+                finally_size(handled, finally)?,
+            )?;
+            both(tried, last, 1)
         }
-        StmtKind::Def {
-            name: _,
-            params: _,
-            defaults,
-            comma: _,
-            body: _,
-        } => sum(function_size(defaults)?, 2),
-        StmtKind::Match {
-            subject,
-            header_last: _,
-            cases,
-        } => {
-            let head = expr_size(subject)?;
-            let rest = cases_size(handled, cases)?;
-            both(head, rest, 1)
+        StmtKind::Def { defaults, .. } => sum(function_size(defaults)?, 2),
+        StmtKind::Match { subject, cases, .. } => {
+            both(expr_size(subject)?, cases_size(handled, cases)?, 1)
         }
     }
 }

@@ -6,16 +6,15 @@ use Rattle.py_syntax.specs.declared.stmt.Clause.{out-Clause}
 use Rattle.py_syntax.specs.declared.stmt.Case.{out-Case}
 use Rattle.py_syntax.specs.declared.stmt.Suite.{out-Suite}
 use Rattle.py_syntax.specs.View.{plain_expr, plain_pattern, plain_stmts, plain_kind, plain_suite, plain_opt_suite, plain_arms, plain_clauses, plain_cases}
-use Rattle.py_compile_expr.proofs.Turns.{then, three, four, the_number, none_added, none_counted}
+use Rattle.py_compile_expr.proofs.Turns.{kept, then, three, four, the_number, none_added, none_counted}
 use Rattle.py_compile_expr.specs.Expressions.{expr_size}
 use Rattle.py_compile.specs.Statements.{kind_size, kind_code, opt_size, opt_code, arms_size, arms_code, cases_size, stmts_size, stmts_code}
 use Rattle.py_compile.specs.Ways.{in_hand}
 use Rattle.py_emit.specs.Parts.{at_lines, suite_size, try_begin, try_end, tried_ways, clause_begin, clause_ways, case_begin, handlers_size}
 use Rattle.py_emit.specs.WaysView.{plain_ways}
-use Rattle.py_emit.proofs.Ends.{kept}
 use Rattle.py_emit.proofs.Forms.{while_size, for_size, try_size, try_end-size}
 use Rattle.py_emit.proofs.KindViews.{body_is, line_is, opt_some_size, opt_some_code, if_shown, while_shown, for_shown, try_shown, match_shown, handlers_node, handlers_size-is, handlers_size-none, handlers_code-none, finally_hand, tried_hand}
-use Rattle.py_emit.proofs.Loops.{if_node, while_node, for_node, try_node, finally_node, match_node, five}
+use Rattle.py_emit.proofs.Compounds.{if_node, while_node, while_whole, for_node, for_whole, try_node, finally_node, match_node, five}
 use Rattle.py_emit.proofs.SuiteTurns.{stmts_added, stmts_counted, arms_added, arms_counted, clauses_added, clauses_counted, clause_next-is, clause_counts, clause_hand, cases_added, cases_counted, case_begin-is}
 use Rattle.py_emit.proofs.+statements.Goals as goal
 
@@ -148,6 +147,51 @@ compound::put_finally_suite-returns-clause-place t c =
     let last = c.in_ok-exits.ensures.place in
     the_number c.put_exits.result _ _ c.put_exits.ensures.place (omega (arith, one, two, last))
 
+pub loops::put_while-returns-clause-cells : goal.loops::put_while-returns-clause-cells
+loops::put_while-returns-clause-cells t c =
+    let place = c.in_ok-places.ensures in
+    three c.put.result _ _ _ _ _ _ _ _ c.in_ok-begin.ensures.cells c.in_ok-back.ensures.cells c.put.ensures.cells
+    (while_node (at_lines c.args.defs.now) (plain_ways c.args.ways) c.args.at c.args.line (plain_expr c.args.test.now) (plain_suite c.args.body.now) (plain_opt_suite c.args.orelse.now) c.in_ok-places.places.rest c.in_ok-places.places.again c.in_ok-begin.begin (plain_ways c.in_ok-places.places.inside)
+    place.rest place.inside place.again c.in_ok-begin.ensures.place)
+
+pub loops::put_while-returns-clause-place : goal.loops::put_while-returns-clause-place
+loops::put_while-returns-clause-place t c =
+    let one = c.in_ok-begin.ensures.place in
+    let two = c.in_ok-back.ensures.place ∙ ap (λ v. c.in_ok-begin.begin + suite_size (in_hand v) (plain_suite c.args.body.now)) c.in_ok-places.ensures.inside in
+    the_number c.put.result _ _ c.put.ensures.place (omega (arith, one, two))
+
+pub loops::put_for-returns-clause-cells : goal.loops::put_for-returns-clause-cells
+loops::put_for-returns-clause-cells t c =
+    let place = c.in_ok-places.ensures in
+    let one = c.in_ok-taken.ensures.place in
+    let two = c.in_ok-begin.ensures.place in
+    four c.put.result _ _ _ _ _ _ _ _ _ _ c.in_ok-taken.ensures.cells c.in_ok-begin.ensures.cells c.in_ok-back.ensures.cells c.put.ensures.cells
+    (for_node (at_lines c.args.defs.now) (plain_ways c.args.ways) c.args.at c.args.line (plain_expr c.args.target.now) (plain_expr c.args.over.now) (plain_suite c.args.body.now) (plain_opt_suite c.args.orelse.now) c.in_ok-places.places.rest c.in_ok-places.places.again c.in_ok-taken.taken c.in_ok-begin.begin (plain_ways c.in_ok-places.places.inside)
+    place.again place.rest place.inside (omega (arith, one)) (omega (arith, one, two)))
+
+pub loops::put_for-returns-clause-place : goal.loops::put_for-returns-clause-place
+loops::put_for-returns-clause-place t c =
+    let one = c.in_ok-taken.ensures.place in
+    let two = c.in_ok-begin.ensures.place in
+    let three = c.in_ok-back.ensures.place ∙ ap (λ v. c.in_ok-begin.begin + suite_size (in_hand v) (plain_suite c.args.body.now)) c.in_ok-places.ensures.inside in
+    the_number c.put.result _ _ c.put.ensures.place (omega (arith, one, two, three))
+
+pub branches::put_match-returns-clause-cells : goal.branches::put_match-returns-clause-cells
+branches::put_match-returns-clause-cells t c =
+    let e = plain_expr c.args.subject.now in
+    let cs = plain_cases c.args.cases.now in
+    let end = c.in_ok-end.ensures ∙ ap (λ h. c.args.at + 1 + expr_size e + cases_size h cs) c.in_hand.ensures in
+    let one = c.in_ok-begin.ensures.place in
+    let two = c.in_ok-first.ensures.place in
+    three c.put_cases.result _ _ _ _ _ _ _ _ c.in_ok-begin.ensures.cells c.in_ok-first.ensures.cells c.put_cases.ensures.cells
+    (match_node (at_lines c.args.defs.now) (plain_ways c.args.ways) c.args.at c.args.line c.in_ok-end.end c.in_ok-begin.begin c.in_ok-first.first e cs end one (omega (arith, one, two)))
+
+pub branches::put_match-returns-clause-place : goal.branches::put_match-returns-clause-place
+branches::put_match-returns-clause-place t c =
+    let one = c.in_ok-begin.ensures.place in
+    let two = c.in_ok-first.ensures.place in
+    the_number c.put_cases.result _ _ c.put_cases.ensures.place (omega (arith, one, two))
+
 -- ---- which statement it is
 
 pub statements::put_kind-returns-in_ok-next-in-If-clause-cells : goal.statements::put_kind-returns-in_ok-next-in-If-clause-cells
@@ -172,55 +216,37 @@ statements::put_kind-returns-in_ok-next-in-If-clause-place t c =
 pub statements::put_kind-returns-in_ok-rest-in-While-clause-cells : goal.statements::put_kind-returns-in_ok-rest-in-While-clause-cells
 statements::put_kind-returns-in_ok-rest-in-While-clause-cells t c =
     let w = plain_ways c.args.ways in
+    let e = plain_expr c.in-While.test in
     let s = plain_suite c.in-While.body in
-    let inside = c.in_ok-places-in-While.ensures.inside in
-    let rest = c.in_ok-places-in-While.ensures.rest in
-    let one = c.in_ok-begin-in-While.ensures.place in
-    let two = c.in_ok-back-in-While.ensures.place ∙ ap (λ v. c.in_ok-begin-in-While.begin + suite_size (in_hand v) s) inside in
-    let last = c.in_ok-rest-in-While.ensures.place in
-    four c.put_opt-in-While.result _ _ _ _ _ _ _ _ _ _ c.in_ok-begin-in-While.ensures.cells c.in_ok-back-in-While.ensures.cells c.in_ok-rest-in-While.ensures.cells c.put_opt-in-While.ensures.cells
-    (ap (kind_code (at_lines c.args.defs.now) (plain_ways c.args.ways) c.args.at c.args.line) (while_shown c.args.kind.now c.in-While.test c.in-While.body c.in-While.orelse c.in-While.is) ∙ while_node (at_lines c.args.defs.now) w c.args.at c.args.line (plain_expr c.in-While.test) s (plain_opt_suite c.in-While.orelse) c.in_ok-places-in-While.places.rest c.in_ok-places-in-While.places.again c.in_ok-begin-in-While.begin c.in_ok-rest-in-While.rest (plain_ways c.in_ok-places-in-While.places.inside)
-    rest inside c.in_ok-places-in-While.ensures.again one (omega (arith, one, two, last, rest)))
+    let o = plain_opt_suite c.in-While.orelse in
+    then c.put_opt-in-While.result _ _ _ _ _ _ c.put_opt-in-While.ensures.cells c.in_ok-rest-in-While.ensures.cells
+    (ap (kind_code (at_lines c.args.defs.now) w c.args.at c.args.line) (while_shown c.args.kind.now c.in-While.test c.in-While.body c.in-While.orelse c.in-While.is) ∙ while_whole (at_lines c.args.defs.now) w c.args.at c.args.line e s o c.in_ok-rest-in-While.rest c.in_ok-rest-in-While.ensures.place)
 
 pub statements::put_kind-returns-in_ok-rest-in-While-clause-place : goal.statements::put_kind-returns-in_ok-rest-in-While-clause-place
 statements::put_kind-returns-in_ok-rest-in-While-clause-place t c =
-    let s = plain_suite c.in-While.body in
-    let k = ap (kind_size (in_hand (plain_ways c.args.ways))) (while_shown c.args.kind.now c.in-While.test c.in-While.body c.in-While.orelse c.in-While.is)
-    ∙ while_size (in_hand (plain_ways c.args.ways)) (plain_expr c.in-While.test) s (plain_opt_suite c.in-While.orelse) in
-    let one = c.in_ok-begin-in-While.ensures.place in
-    let two = c.in_ok-back-in-While.ensures.place ∙ ap (λ v. c.in_ok-begin-in-While.begin + suite_size (in_hand v) s) c.in_ok-places-in-While.ensures.inside in
-    let last = c.in_ok-rest-in-While.ensures.place in
-    the_number c.put_opt-in-While.result _ _ c.put_opt-in-While.ensures.place (omega (arith, one, two, last, k))
+    let h = in_hand (plain_ways c.args.ways) in
+    let k = ap (kind_size h) (while_shown c.args.kind.now c.in-While.test c.in-While.body c.in-While.orelse c.in-While.is)
+    ∙ while_size h (plain_expr c.in-While.test) (plain_suite c.in-While.body) (plain_opt_suite c.in-While.orelse) in
+    let one = c.in_ok-rest-in-While.ensures.place in
+    the_number c.put_opt-in-While.result _ _ c.put_opt-in-While.ensures.place (omega (arith, one, k))
 
 pub statements::put_kind-returns-in_ok-rest-in-For-clause-cells : goal.statements::put_kind-returns-in_ok-rest-in-For-clause-cells
 statements::put_kind-returns-in_ok-rest-in-For-clause-cells t c =
-    let place = c.in_ok-places-in-For.ensures in
     let w = plain_ways c.args.ways in
-    let h = in_hand w in
+    let x = plain_expr c.in-For.target in
+    let e = plain_expr c.in-For.over in
     let s = plain_suite c.in-For.body in
     let o = plain_opt_suite c.in-For.orelse in
-    let e = plain_expr c.in-For.target in
-    let again = place.again in
-    let rest = place.rest in
-    let inside = place.inside in
-    let one = c.in_ok-taken-in-For.ensures.place in
-    let two = c.in_ok-begin-in-For.ensures.place in
-    let three = c.in_ok-back-in-For.ensures.place ∙ ap (λ v. c.in_ok-begin-in-For.begin + suite_size (in_hand v) s) inside in
-    let last = c.in_ok-rest-in-For.ensures.place in
-    five c.put_opt-in-For.result _ _ _ _ _ _ _ _ _ _ _ _ c.in_ok-taken-in-For.ensures.cells c.in_ok-begin-in-For.ensures.cells c.in_ok-back-in-For.ensures.cells c.in_ok-rest-in-For.ensures.cells c.put_opt-in-For.ensures.cells
-    (ap (kind_code (at_lines c.args.defs.now) (plain_ways c.args.ways) c.args.at c.args.line) (for_shown c.args.kind.now c.in-For.target c.in-For.over c.in-For.body c.in-For.orelse c.in-For.is) ∙ for_node (at_lines c.args.defs.now) w c.args.at c.args.line e (plain_expr c.in-For.over) s o c.in_ok-places-in-For.places.rest c.in_ok-places-in-For.places.again c.in_ok-taken-in-For.taken c.in_ok-begin-in-For.begin c.in_ok-rest-in-For.rest (plain_ways c.in_ok-places-in-For.places.inside) again
-    rest inside (omega (arith, one)) (omega (arith, one, two)) (omega (arith, one, two, three, last, rest, again)))
+    then c.put_opt-in-For.result _ _ _ _ _ _ c.put_opt-in-For.ensures.cells c.in_ok-rest-in-For.ensures.cells
+    (ap (kind_code (at_lines c.args.defs.now) w c.args.at c.args.line) (for_shown c.args.kind.now c.in-For.target c.in-For.over c.in-For.body c.in-For.orelse c.in-For.is) ∙ for_whole (at_lines c.args.defs.now) w c.args.at c.args.line x e s o c.in_ok-rest-in-For.rest c.in_ok-rest-in-For.ensures.place)
 
 pub statements::put_kind-returns-in_ok-rest-in-For-clause-place : goal.statements::put_kind-returns-in_ok-rest-in-For-clause-place
 statements::put_kind-returns-in_ok-rest-in-For-clause-place t c =
-    let s = plain_suite c.in-For.body in
-    let k = ap (kind_size (in_hand (plain_ways c.args.ways))) (for_shown c.args.kind.now c.in-For.target c.in-For.over c.in-For.body c.in-For.orelse c.in-For.is)
-    ∙ for_size (in_hand (plain_ways c.args.ways)) (plain_expr c.in-For.target) (plain_expr c.in-For.over) s (plain_opt_suite c.in-For.orelse) in
-    let one = c.in_ok-taken-in-For.ensures.place in
-    let two = c.in_ok-begin-in-For.ensures.place in
-    let three = c.in_ok-back-in-For.ensures.place ∙ ap (λ v. c.in_ok-begin-in-For.begin + suite_size (in_hand v) s) c.in_ok-places-in-For.ensures.inside in
-    let last = c.in_ok-rest-in-For.ensures.place in
-    the_number c.put_opt-in-For.result _ _ c.put_opt-in-For.ensures.place (omega (arith, one, two, three, last, k))
+    let h = in_hand (plain_ways c.args.ways) in
+    let k = ap (kind_size h) (for_shown c.args.kind.now c.in-For.target c.in-For.over c.in-For.body c.in-For.orelse c.in-For.is)
+    ∙ for_size h (plain_expr c.in-For.target) (plain_expr c.in-For.over) (plain_suite c.in-For.body) (plain_opt_suite c.in-For.orelse) in
+    let one = c.in_ok-rest-in-For.ensures.place in
+    the_number c.put_opt-in-For.result _ _ c.put_opt-in-For.ensures.place (omega (arith, one, k))
 
 pub statements::put_kind-returns-in_ok-end-in-Try-clause-cells : goal.statements::put_kind-returns-in_ok-end-in-Try-clause-cells
 statements::put_kind-returns-in_ok-end-in-Try-clause-cells t c =
@@ -266,24 +292,15 @@ statements::put_kind-returns-in_ok-end-in-Try-clause-place t c =
     let k = ap (kind_size h) (try_shown c.args.kind.now c.in-Try.body c.in-Try.clauses c.in-Try.orelse c.in-Try.finally c.deref-in-Try-2.result.now c.in-Try.is c.deref-in-Try-2.ensures.value) ∙ try_size h s cs o fin in
     the_number c.put_finally.result _ _ c.put_finally.ensures.place (omega (arith, one, two, three, last, k))
 
-pub statements::put_kind-returns-in_ok-first-in-Match-clause-cells : goal.statements::put_kind-returns-in_ok-first-in-Match-clause-cells
-statements::put_kind-returns-in_ok-first-in-Match-clause-cells t c =
-    let w = plain_ways c.args.ways in
-    let e = plain_expr c.in-Match.subject in
-    let cs = plain_cases c.deref-in-Match-2.result.now in
-    let same = ap plain_cases (c.deref-in-Match.ensures.value ∙ sym c.deref-in-Match-2.ensures.value) in
-    let end = c.in_ok-end-in-Match.ensures ∙ ap (λ h. c.args.at + 1 + expr_size e + cases_size h (plain_cases c.deref-in-Match.result.now)) c.in_hand-in-Match.ensures ∙ ap (λ ys. c.args.at + 1 + expr_size e + cases_size (in_hand w) ys) same in
-    let one = c.in_ok-begin-in-Match.ensures.place in
-    let two = c.in_ok-first-in-Match.ensures.place in
-    three c.put_cases.result _ _ _ _ _ _ _ _ c.in_ok-begin-in-Match.ensures.cells c.in_ok-first-in-Match.ensures.cells c.put_cases.ensures.cells
-    (ap (kind_code (at_lines c.args.defs.now) (plain_ways c.args.ways) c.args.at c.args.line) (match_shown c.args.kind.now c.in-Match.subject c.in-Match.header_last c.in-Match.cases c.deref-in-Match-2.result.now c.in-Match.is c.deref-in-Match-2.ensures.value) ∙ match_node (at_lines c.args.defs.now) w c.args.at c.args.line c.in_ok-end-in-Match.end c.in_ok-begin-in-Match.begin c.in_ok-first-in-Match.first e cs end one (omega (arith, one, two)))
+pub statements::put_kind-returns-in-Match-clause-cells : goal.statements::put_kind-returns-in-Match-clause-cells
+statements::put_kind-returns-in-Match-clause-cells t c =
+    kept c.put_match.result _ _ _ _
+    (ap (kind_code (at_lines c.args.defs.now) (plain_ways c.args.ways) c.args.at c.args.line) (match_shown c.args.kind.now c.in-Match.subject c.in-Match.header_last c.in-Match.cases c.deref-in-Match.result.now c.in-Match.is c.deref-in-Match.ensures.value)) c.put_match.ensures.cells
 
-pub statements::put_kind-returns-in_ok-first-in-Match-clause-place : goal.statements::put_kind-returns-in_ok-first-in-Match-clause-place
-statements::put_kind-returns-in_ok-first-in-Match-clause-place t c =
+pub statements::put_kind-returns-in-Match-clause-place : goal.statements::put_kind-returns-in-Match-clause-place
+statements::put_kind-returns-in-Match-clause-place t c =
     let h = in_hand (plain_ways c.args.ways) in
     let e = plain_expr c.in-Match.subject in
-    let cs = plain_cases c.deref-in-Match-2.result.now in
-    let one = c.in_ok-begin-in-Match.ensures.place in
-    let two = c.in_ok-first-in-Match.ensures.place in
-    let k : kind_size h (plain_kind c.args.kind.now) ≡ 1 + expr_size e + cases_size h cs = ap (kind_size h) (match_shown c.args.kind.now c.in-Match.subject c.in-Match.header_last c.in-Match.cases c.deref-in-Match-2.result.now c.in-Match.is c.deref-in-Match-2.ensures.value) in
-    the_number c.put_cases.result _ _ c.put_cases.ensures.place (omega (arith, one, two, k))
+    let cs = plain_cases c.deref-in-Match.result.now in
+    let k : kind_size h (plain_kind c.args.kind.now) ≡ 1 + expr_size e + cases_size h cs = ap (kind_size h) (match_shown c.args.kind.now c.in-Match.subject c.in-Match.header_last c.in-Match.cases c.deref-in-Match.result.now c.in-Match.is c.deref-in-Match.ensures.value) in
+    the_number c.put_match.result _ _ c.put_match.ensures.place (omega (arith, k))

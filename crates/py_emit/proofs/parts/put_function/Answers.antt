@@ -1,7 +1,6 @@
 use Rattle.std.proofs.Common.{◌+◌, sym, ap, ◌∙◌, arith}
-use Rattle.py_compile_expr.proofs.Turns.{three, the_number}
+use Rattle.py_compile_expr.proofs.Turns.{kept, three, the_number}
 use Rattle.py_compile_expr.specs.CellView.{plain_guard}
-use Rattle.py_emit.proofs.Ends.{kept}
 use Rattle.py_emit.proofs.SimpleSizes.{function_size-is, function_size-none, function_code-none, function_node}
 use Rattle.py_emit.proofs.parts.put_function.Goals as goal
 

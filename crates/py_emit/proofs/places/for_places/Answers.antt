@@ -4,7 +4,7 @@ use Rattle.py_compile.specs.Statements.{opt_size}
 use Rattle.py_compile.specs.Ways.{in_loop, under}
 use Rattle.py_emit.specs.Parts.{suite_size}
 use Rattle.py_emit.specs.WaysView.{plain_ways}
-use Rattle.py_emit.proofs.Loops.{looped}
+use Rattle.py_emit.proofs.Compounds.{looped}
 use Rattle.py_emit.proofs.places.for_places.Goals as goal
 
 pub returns-clause-rest : goal.returns-clause-rest

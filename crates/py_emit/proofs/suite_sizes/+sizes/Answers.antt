@@ -68,54 +68,57 @@ opt_size-returns-in-Some t c =
 
 -- ---- which statement it is
 
-pub kind_size-returns-in_ok-last-in-If : goal.kind_size-returns-in_ok-last-in-If
-kind_size-returns-in_ok-last-in-If t c =
+pub kind_size-returns-in_ok-opt_size-in-If : goal.kind_size-returns-in_ok-opt_size-in-If
+kind_size-returns-in_ok-opt_size-in-If t c =
     let h = c.args.handled in
-    let one = c.in_ok-tests-in-If.ensures in
-    let two = c.in_ok-last-in-If.ensures in
+    let one = c.in_ok-arms_size-in-If.ensures in
+    let two = c.in_ok-opt_size-in-If.ensures in
     let k : kind_size h (plain_kind c.args.kind.now) ≡ arms_size h (plain_arms c.deref-in-If.result.now) + opt_size h (plain_opt_suite c.in-If.orelse) =
     ap (kind_size h) (if_shown c.args.kind.now c.in-If.arms c.in-If.orelse c.deref-in-If.result.now c.in-If.is c.deref-in-If.ensures.value) in
     the_number c.sum-in-If.result _ _ c.sum-in-If.ensures (omega (arith, one, two, k))
 
-pub kind_size-returns-in_ok-last-in-While : goal.kind_size-returns-in_ok-last-in-While
-kind_size-returns-in_ok-last-in-While t c =
+pub kind_size-returns-in_ok-expr_size-in-While : goal.kind_size-returns-in_ok-expr_size-in-While
+kind_size-returns-in_ok-expr_size-in-While t c =
     let h = c.args.handled in
-    let one = c.in_ok-head-in-While.ensures in
-    let two = c.in_ok-turn-in-While.ensures in
-    let last = c.in_ok-last-in-While.ensures in
+    let one = c.in_ok-suite_size-in-While.ensures in
+    let two = c.in_ok-opt_size-in-While.ensures in
+    let three = c.in_ok-suites-in-While.ensures in
+    let head = c.in_ok-expr_size-in-While.ensures in
     let k = ap (kind_size h) (while_shown c.args.kind.now c.in-While.test c.in-While.body c.in-While.orelse c.in-While.is)
     ∙ while_size h (plain_expr c.in-While.test) (plain_suite c.in-While.body) (plain_opt_suite c.in-While.orelse) in
-    the_number c.all_of.result _ _ c.all_of.ensures (omega (arith, one, two, last, k))
+    the_number c.both-in-While.result _ _ c.both-in-While.ensures (omega (arith, one, two, three, head, k))
 
-pub kind_size-returns-in_ok-last-in-For : goal.kind_size-returns-in_ok-last-in-For
-kind_size-returns-in_ok-last-in-For t c =
+pub kind_size-returns-in_ok-suites-in-For : goal.kind_size-returns-in_ok-suites-in-For
+kind_size-returns-in_ok-suites-in-For t c =
     let h = c.args.handled in
-    let one = c.in_ok-items-in-For.ensures in
+    let one = c.in_ok-expr_size-in-For.ensures in
     let two = c.in_ok-target_size-in-For.ensures in
-    let three = c.in_ok-head-in-For.ensures in
-    let four = c.in_ok-turn-in-For.ensures in
-    let last = c.in_ok-last-in-For.ensures in
+    let head = c.in_ok-head-in-For.ensures in
+    let three = c.in_ok-suite_size-in-For.ensures in
+    let four = c.in_ok-opt_size-in-For.ensures in
+    let five = c.in_ok-suites-in-For.ensures in
     let k = ap (kind_size h) (for_shown c.args.kind.now c.in-For.target c.in-For.over c.in-For.body c.in-For.orelse c.in-For.is)
     ∙ for_size h (plain_expr c.in-For.target) (plain_expr c.in-For.over) (plain_suite c.in-For.body) (plain_opt_suite c.in-For.orelse) in
-    the_number c.all_of-in-For.result _ _ c.all_of-in-For.ensures (omega (arith, one, two, three, four, last, k))
+    the_number c.both-in-For-2.result _ _ c.both-in-For-2.ensures (omega (arith, one, two, head, three, four, five, k))
 
-pub kind_size-returns-in_ok-all_of-in-Try : goal.kind_size-returns-in_ok-all_of-in-Try
-kind_size-returns-in_ok-all_of-in-Try t c =
+pub kind_size-returns-in_ok-last-in-Try : goal.kind_size-returns-in_ok-last-in-Try
+kind_size-returns-in_ok-last-in-Try t c =
     let h = c.args.handled in
-    let one = c.in_ok-tried-in-Try.ensures in
-    let two = c.in_ok-normal-in-Try.ensures in
-    let three = c.in_ok-handlers-in-Try.ensures in
-    let four = c.in_ok-last-in-Try.ensures in
-    let five = c.in_ok-all_of-in-Try.ensures in
+    let one = c.in_ok-suite_size-in-Try.ensures in
+    let two = c.in_ok-opt_size-in-Try.ensures in
+    let three = c.in_ok-tried-in-Try.ensures in
+    let four = c.in_ok-handlers_size-in-Try.ensures in
+    let five = c.in_ok-finally_size-in-Try.ensures in
+    let six = c.in_ok-last-in-Try.ensures in
     let k = ap (kind_size h) (try_shown c.args.kind.now c.in-Try.body c.in-Try.clauses c.in-Try.orelse c.in-Try.finally c.deref-in-Try.result.now c.in-Try.is c.deref-in-Try.ensures.value)
     ∙ try_size h (plain_suite c.in-Try.body) (plain_clauses c.deref-in-Try.result.now) (plain_opt_suite c.in-Try.orelse) (plain_opt_suite c.in-Try.finally) in
-    the_number c.sum-in-Try.result _ _ c.sum-in-Try.ensures (omega (arith, one, two, three, four, five, k))
+    the_number c.both-in-Try.result _ _ c.both-in-Try.ensures (omega (arith, one, two, three, four, five, six, k))
 
-pub kind_size-returns-in_ok-rest-in-Match : goal.kind_size-returns-in_ok-rest-in-Match
-kind_size-returns-in_ok-rest-in-Match t c =
+pub kind_size-returns-in_ok-cases_size-in-Match : goal.kind_size-returns-in_ok-cases_size-in-Match
+kind_size-returns-in_ok-cases_size-in-Match t c =
     let h = c.args.handled in
-    let one = c.in_ok-head-in-Match.ensures in
-    let two = c.in_ok-rest-in-Match.ensures in
+    let one = c.in_ok-expr_size-in-Match.ensures in
+    let two = c.in_ok-cases_size-in-Match.ensures in
     let k : kind_size h (plain_kind c.args.kind.now) ≡ 1 + expr_size (plain_expr c.in-Match.subject) + cases_size h (plain_cases c.deref-in-Match.result.now) =
     ap (kind_size h) (match_shown c.args.kind.now c.in-Match.subject c.in-Match.header_last c.in-Match.cases c.deref-in-Match.result.now c.in-Match.is c.deref-in-Match.ensures.value) in
     the_number c.both-in-Match.result _ _ c.both-in-Match.ensures (omega (arith, one, two, k))

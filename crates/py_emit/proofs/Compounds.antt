@@ -4,10 +4,10 @@ use Rattle.py_compile_expr.proofs.Turns.{and_then, four}
 use Rattle.py_syntax.specs.Functions.{Function}
 use Rattle.py_syntax.specs.Tree.{Expr, Suite, OptSuite, has_suite, Arms, Clauses, Cases, while, for, try}
 use Rattle.py_code.specs.declared.instr.Instr.TheVariants.{Goto, Ending, Settle}
-use Rattle.py_compile_expr.specs.Cells.{marks, plain, put}
+use Rattle.py_compile_expr.specs.Cells.{marks, plain, Cell, put}
 use Rattle.py_compile_expr.specs.Expressions.{expr_size, expr_code}
 use Rattle.py_compile_expr.specs.Targets.{target_code}
-use Rattle.py_emit.specs.Parts.{suite_body, suite_size, while_begin, while_back, for_again, for_begin, for_back, try_end, try_begin, finally_ways, tried_ways, while_head, for_head, handlers_code, finally_code, if_code, match_code}
+use Rattle.py_emit.specs.Parts.{suite_body, suite_size, while_begin, while_back, for_again, for_begin, for_back, try_end, try_begin, finally_ways, tried_ways, while_head, for_head, handlers_code, finally_code, if_code, match_code, while_code, for_code}
 use Rattle.py_compile.specs.Statements.{exits_code, stmts_code, kind_code, opt_size, opt_code, arms_size, arms_code, cases_size, cases_code}
 use Rattle.py_compile.specs.Ways.{Ways, under, in_loop, in_hand}
 use Rattle.py_emit.proofs.Forms.{while_form, for_form, try_form}
@@ -16,30 +16,56 @@ use Rattle.py_emit.proofs.Forms.{while_form, for_form, try_form}
 pub looped : (v w : Ways) (k e b f c : ℕ) → v ≡ in_loop w k e b → e ≡ f → b ≡ c → v ≡ in_loop w k f c
 looped v w k e b f c h x y = h ∙ ap (λ n. in_loop w k n b) x ∙ ap (λ n. in_loop w k f n) y
 
-pub while_node : (fs : List Function) (w : Ways) (p l : ℕ) (t : Expr) (s : Suite) (o : OptSuite) (rest again first third : ℕ) (inside : Ways)
-    → rest ≡ while_back (in_hand w) p t s + 1 → inside ≡ in_loop w 0 (rest + opt_size (in_hand w) o) (while_back (in_hand w) p t s) → again ≡ p + 2 → first ≡ while_begin p t → third ≡ rest
-    → kind_code fs w p l (while t s o) ≡ while_head w.guard p l t rest ++ (stmts_code fs inside first (suite_body s) ++ (put w.guard (plain (Goto again)) [] ++ opt_code fs w third o))
-while_node fs w p l t s o rest again first third inside r i a b d =
-    while_form fs w p l t s o
-    ∙ ap (λ n. while_head w.guard p l t n ++ (stmts_code fs (in_loop w 0 (n + opt_size (in_hand w) o) (while_back (in_hand w) p t s)) (while_begin p t) (suite_body s) ++ put w.guard (plain (Goto (p + 2))) (opt_code fs w n o))) (sym r)
-    ∙ ap (λ v. while_head w.guard p l t rest ++ (stmts_code fs v (while_begin p t) (suite_body s) ++ put w.guard (plain (Goto (p + 2))) (opt_code fs w rest o))) (sym i)
-    ∙ ap (λ n. while_head w.guard p l t rest ++ (stmts_code fs inside (while_begin p t) (suite_body s) ++ put w.guard (plain (Goto n)) (opt_code fs w rest o))) (sym a)
-    ∙ ap (λ n. while_head w.guard p l t rest ++ (stmts_code fs inside n (suite_body s) ++ put w.guard (plain (Goto again)) (opt_code fs w rest o))) (sym b)
-    ∙ ap (λ n. while_head w.guard p l t rest ++ (stmts_code fs inside first (suite_body s) ++ put w.guard (plain (Goto again)) (opt_code fs w n o))) (sym d)
+-- a part more at the end
+regroup : (h s g o : List Cell) → h ++ (s ++ (g ++ o)) ≡ (h ++ (s ++ g)) ++ o
+regroup h s g o = ap (λ cs. h ++ cs) (sym (append_assoc s g o)) ∙ sym (append_assoc h (s ++ g) o)
 
-pub for_node : (fs : List Function) (w : Ways) (p l : ℕ) (t e : Expr) (s : Suite) (o : OptSuite) (rest again first second third : ℕ) (inside : Ways)
+pub while_node : (fs : List Function) (w : Ways) (p l : ℕ) (t : Expr) (s : Suite) (o : OptSuite) (rest again first : ℕ) (inside : Ways)
+    → rest ≡ while_back (in_hand w) p t s + 1 → inside ≡ in_loop w 0 (rest + opt_size (in_hand w) o) (while_back (in_hand w) p t s) → again ≡ p + 2 → first ≡ while_begin p t
+    → while_code fs w p l t s o ≡ while_head w.guard p l t rest ++ (stmts_code fs inside first (suite_body s) ++ put w.guard (plain (Goto again)) [])
+while_node fs w p l t s o rest again first inside r i a b =
+    ap (λ n. while_head w.guard p l t n ++ (stmts_code fs (in_loop w 0 (n + opt_size (in_hand w) o) (while_back (in_hand w) p t s)) (while_begin p t) (suite_body s) ++ put w.guard (plain (Goto (p + 2))) [])) (sym r)
+    ∙ ap (λ v. while_head w.guard p l t rest ++ (stmts_code fs v (while_begin p t) (suite_body s) ++ put w.guard (plain (Goto (p + 2))) [])) (sym i)
+    ∙ ap (λ n. while_head w.guard p l t rest ++ (stmts_code fs inside (while_begin p t) (suite_body s) ++ put w.guard (plain (Goto n)) [])) (sym a)
+    ∙ ap (λ n. while_head w.guard p l t rest ++ (stmts_code fs inside n (suite_body s) ++ put w.guard (plain (Goto again)) [])) (sym b)
+
+-- a `while` with its `else`
+pub while_whole : (fs : List Function) (w : Ways) (p l : ℕ) (t : Expr) (s : Suite) (o : OptSuite) (rest : ℕ) → rest ≡ while_back (in_hand w) p t s + 1
+    → kind_code fs w p l (while t s o) ≡ while_code fs w p l t s o ++ opt_code fs w rest o
+while_whole fs w p l t s o rest r =
+    let back = while_back (in_hand w) p t s in
+    let inside = in_loop w 0 (back + 1 + opt_size (in_hand w) o) back in
+    while_form fs w p l t s o
+    ∙ regroup (while_head w.guard p l t (back + 1)) (stmts_code fs inside (while_begin p t) (suite_body s)) (put w.guard (plain (Goto (p + 2))) []) (opt_code fs w (back + 1) o)
+    ∙ ap (λ n. while_code fs w p l t s o ++ opt_code fs w n o) (sym r)
+
+pub for_node : (fs : List Function) (w : Ways) (p l : ℕ) (t e : Expr) (s : Suite) (o : OptSuite) (rest again first second : ℕ) (inside : Ways)
     → again ≡ for_again p e → rest ≡ for_back (in_hand w) p t e s + 1 → inside ≡ in_loop (under w) 1 (rest + opt_size (in_hand w) o) (for_back (in_hand w) p t e s)
-    → first ≡ for_again p e + 2 → second ≡ for_begin p t e → third ≡ rest
-    → kind_code fs w p l (for t e s o) ≡ for_head w.guard p l e rest ++ (target_code w.guard first t ++ (stmts_code fs inside second (suite_body s) ++ (put w.guard (plain (Goto again)) [] ++ opt_code fs w third o)))
-for_node fs w p l t e s o rest again first second third inside a r i b c d =
+    → first ≡ for_again p e + 2 → second ≡ for_begin p t e
+    → for_code fs w p l t e s o ≡ for_head w.guard p l e rest ++ (target_code w.guard first t ++ (stmts_code fs inside second (suite_body s) ++ put w.guard (plain (Goto again)) []))
+for_node fs w p l t e s o rest again first second inside a r i b c =
     let at = for_again p e + 2 in
+    ap (λ n. for_head w.guard p l e n ++ (target_code w.guard at t ++ (stmts_code fs (in_loop (under w) 1 (n + opt_size (in_hand w) o) (for_back (in_hand w) p t e s)) (for_begin p t e) (suite_body s) ++ put w.guard (plain (Goto (for_again p e))) []))) (sym r)
+    ∙ ap (λ v. for_head w.guard p l e rest ++ (target_code w.guard at t ++ (stmts_code fs v (for_begin p t e) (suite_body s) ++ put w.guard (plain (Goto (for_again p e))) []))) (sym i)
+    ∙ ap (λ n. for_head w.guard p l e rest ++ (target_code w.guard at t ++ (stmts_code fs inside (for_begin p t e) (suite_body s) ++ put w.guard (plain (Goto n)) []))) (sym a)
+    ∙ ap (λ n. for_head w.guard p l e rest ++ (target_code w.guard n t ++ (stmts_code fs inside (for_begin p t e) (suite_body s) ++ put w.guard (plain (Goto again)) []))) (sym b)
+    ∙ ap (λ n. for_head w.guard p l e rest ++ (target_code w.guard first t ++ (stmts_code fs inside n (suite_body s) ++ put w.guard (plain (Goto again)) []))) (sym c)
+
+-- a `for` with its `else`
+pub for_whole : (fs : List Function) (w : Ways) (p l : ℕ) (t e : Expr) (s : Suite) (o : OptSuite) (rest : ℕ) → rest ≡ for_back (in_hand w) p t e s + 1
+    → kind_code fs w p l (for t e s o) ≡ for_code fs w p l t e s o ++ opt_code fs w rest o
+for_whole fs w p l t e s o rest r =
+    let back = for_back (in_hand w) p t e s in
+    let inside = in_loop (under w) 1 (back + 1 + opt_size (in_hand w) o) back in
+    let head = for_head w.guard p l e (back + 1) in
+    let bind = target_code w.guard (for_again p e + 2) t in
+    let body = stmts_code fs inside (for_begin p t e) (suite_body s) in
+    let jump = put w.guard (plain (Goto (for_again p e))) [] in
+    let other = opt_code fs w (back + 1) o in
     for_form fs w p l t e s o
-    ∙ ap (λ n. for_head w.guard p l e n ++ (target_code w.guard at t ++ (stmts_code fs (in_loop (under w) 1 (n + opt_size (in_hand w) o) (for_back (in_hand w) p t e s)) (for_begin p t e) (suite_body s) ++ put w.guard (plain (Goto (for_again p e))) (opt_code fs w n o)))) (sym r)
-    ∙ ap (λ v. for_head w.guard p l e rest ++ (target_code w.guard at t ++ (stmts_code fs v (for_begin p t e) (suite_body s) ++ put w.guard (plain (Goto (for_again p e))) (opt_code fs w rest o)))) (sym i)
-    ∙ ap (λ n. for_head w.guard p l e rest ++ (target_code w.guard at t ++ (stmts_code fs inside (for_begin p t e) (suite_body s) ++ put w.guard (plain (Goto n)) (opt_code fs w rest o)))) (sym a)
-    ∙ ap (λ n. for_head w.guard p l e rest ++ (target_code w.guard n t ++ (stmts_code fs inside (for_begin p t e) (suite_body s) ++ put w.guard (plain (Goto again)) (opt_code fs w rest o)))) (sym b)
-    ∙ ap (λ n. for_head w.guard p l e rest ++ (target_code w.guard first t ++ (stmts_code fs inside n (suite_body s) ++ put w.guard (plain (Goto again)) (opt_code fs w rest o)))) (sym c)
-    ∙ ap (λ n. for_head w.guard p l e rest ++ (target_code w.guard first t ++ (stmts_code fs inside second (suite_body s) ++ put w.guard (plain (Goto again)) (opt_code fs w n o)))) (sym d)
+    ∙ ap (λ cs. head ++ cs) (regroup bind body jump other)
+    ∙ sym (append_assoc head (bind ++ (body ++ jump)) other)
+    ∙ ap (λ n. for_code fs w p l t e s o ++ opt_code fs w n o) (sym r)
 
 pub try_node : (fs : List Function) (w : Ways) (p l : ℕ) (s : Suite) (cs : Clauses) (o fin : OptSuite) (end first second third fourth : ℕ) (tried inside : Ways)
     → end ≡ try_end (in_hand w) p s cs o → inside ≡ finally_ways fin w (end + 1) → tried ≡ tried_ways cs inside (try_begin (in_hand w) p s o)
