@@ -17,7 +17,7 @@ use Rattle.cov_run.specs.declared.loading.File.{File}
 use Rattle.cov_run.specs.declared.loading.Loading.{Loading}
 use Rattle.cov_run.specs.declared.loading.File.TheVariants.{Bytes, TooLarge}
 use Rattle.cov_run.specs.Reading.{Reading}
-use Rattle.cov_run.specs.Loading.{is_there}
+use Rattle.cov_run.specs.Loading.{most_total, most_modules, is_there}
 use Rattle.cov_run.specs.Refusals.{fault_of, IsNamed, Refuses}
 use Rattle.cov_run.specs.State.{State, nothing, Holds, Adds, Settles, Tells, GrowsOrStays}
 
@@ -89,8 +89,8 @@ absent-no-fault path w h e = let s = h (λ k. apart (sym e ∙ k)) in other s.0 
 
 -- ---- the limits
 
-pub few-after : (old new : Loading) → GrowsOrStays old new → length old.sources.items ≤ 256 → length new.sources.items ≤ 256
+pub few-after : (old new : Loading) → GrowsOrStays old new → length old.sources.items ≤ most_modules → length new.sources.items ≤ most_modules
 few-after old new h few = elim h [ inl e ↦ let l = e.0 in let k = e.1 in omega (arith, l, k) | inr e ↦ let l = ap length e.0 in omega (arith, l) ]
 
-pub light-after : (old new : Loading) → GrowsOrStays old new → old.bytes ≤ 16777216 → new.bytes ≤ 16777216
+pub light-after : (old new : Loading) → GrowsOrStays old new → old.bytes ≤ most_total → new.bytes ≤ most_total
 light-after old new h light = elim h [ inl e ↦ let l = e.2 in omega (arith, l) | inr e ↦ let l = e.2 in omega (arith, l) ]

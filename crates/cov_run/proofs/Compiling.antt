@@ -13,6 +13,7 @@ use Rattle.py_syntax.specs.declared.stmt.Module.{Module}
 use Rattle.py_trace.specs.Traces.{AreWellFormed}
 use Rattle.py_syntax.specs.Tree.{Text}
 use Rattle.cov_run.specs.declared.programs.Loaded.{Loaded}
+use Rattle.cov_run.specs.Loading.{most_modules}
 use Rattle.cov_run.specs.Loads.{Loads, IsCompiled, loaded_module, loaded_modules, loaded_pairs, program, HavePaths}
 use Rattle.cov_run.proofs.Telling.{Moves}
 
@@ -79,7 +80,7 @@ pub compiled-code : {H : Type 0} (moves : Moves H) (old new : H) (script name : 
 compiled-code moves old new script name ls l h same beside faithful well paths =
     let told = (h.comes h.some.0 h.some.1).0 in
     let some : 0 < length ls = told.some in
-    let few : length ls ≤ 256 = told.loaded.few in
+    let few : length ls ≤ most_modules = told.loaded.few in
     let long : length (loaded_modules l) ≡ length l.programs.modules.items = pairs-length l.programs.modules.items l.modules.items beside in
     let are : length (modules_of l.programs) ≡ length l.programs.modules.items = length-map l.programs.modules.items module_of in
     let all : length (loaded_modules l) ≡ length ls = ap length same in

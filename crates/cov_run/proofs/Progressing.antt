@@ -9,7 +9,7 @@ use Rattle.py_meaning.specs.Loading.{imported, folder_of, file_of}
 use Rattle.py_meaning.specs.Modules.{LoadedModule}
 use Rattle.cov_words.specs.declared.why.Why.{Why}
 use Rattle.cov_run.specs.Asking.{has_own_file}
-use Rattle.cov_run.specs.Loading.{most_total, Told, file_bytes, content_at, is_there, total_bytes, all_imported, has_file, is_wanted, wanted, IsRead, AreLoaded, IsLoaded}
+use Rattle.cov_run.specs.Loading.{most_total, most_modules, Told, file_bytes, content_at, is_there, total_bytes, all_imported, has_file, is_wanted, wanted, IsRead, AreLoaded, IsLoaded}
 use Rattle.cov_run.specs.Refusals.{Refuses, next_file, IsStopped}
 use Rattle.cov_run.specs.State.{State, nothing, Adds, Settles}
 use Rattle.cov_run.specs.Progress.{IsAt}
@@ -131,7 +131,7 @@ stays told script name s at x h k absent = record {
 
 -- the modules and one more
 loads : (told : Told) (script name : Text) (ms : List LoadedModule) (m : LoadedModule) (bytes : List ℕ) → AreLoaded told script name ms → 0 < length ms → IsRead (file_bytes told.modules m.path) m → file_bytes told.modules m.path ≡ Some bytes
-    → wanted told.modules (folder_of script) ms ≡ Some m.name → m.path ≡ file_of (folder_of script) m.name → length ms < 256 → total_bytes told ms + length bytes ≤ most_total → AreLoaded told script name (ms ++ m ∷ [])
+    → wanted told.modules (folder_of script) ms ≡ Some m.name → m.path ≡ file_of (folder_of script) m.name → length ms < most_modules → total_bytes told ms + length bytes ≤ most_total → AreLoaded told script name (ms ++ m ∷ [])
 loads told script name ms m bytes h some read there next lies few light = record {
   read = λ i n k. elim (get-append ms m n i k) [
     | inl e ↦ h.read i n e

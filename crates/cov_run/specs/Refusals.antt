@@ -6,6 +6,7 @@
 use Rattle.std.specs.Prelude.{◌≡◌, ℕ, suc, ◌+◌, ◌≤◌, ◌<◌, List, [], ◌∷◌, length, Option, Some, None, option_map, String, string_bytes, encode_utf8_all}
 use Rattle.std.specs.declared.alloc.Global.{Global}
 use Rattle.cov_outside.specs.Files.{Files}
+use Rattle.py_syntax.specs.Spelling.{HEIGHT, NESTING}
 use Rattle.py_syntax.specs.Tree.{Text}
 use Rattle.py_token.specs.declared.error.TokenError.TheVariants as token_error
 use Rattle.py_parse.specs.declared.error.DepthKind.TheVariants as depth
@@ -84,10 +85,10 @@ Refuses modules total path file (why.Limit limits.Modules n) =
     (bytes : List ℕ) × (file ≡ Some bytes) × (most_modules ≤ modules) × (n ≡ suc most_modules)
 Refuses modules total path file (why.Limit limits.Expressions n) =
     (bytes : List ℕ) × (line : ℕ) × HasRoom modules total file bytes
-    × Reads bytes (no_tree (syntax_error.TooDeep depth.Expressions line)) × (n ≡ 201)
+    × Reads bytes (no_tree (syntax_error.TooDeep depth.Expressions line)) × (n ≡ suc HEIGHT)
 Refuses modules total path file (why.Limit limits.Suites n) =
     (bytes : List ℕ) × (line : ℕ) × HasRoom modules total file bytes
-    × Reads bytes (no_tree (syntax_error.TooDeep depth.Suites line)) × (n ≡ 65)
+    × Reads bytes (no_tree (syntax_error.TooDeep depth.Suites line)) × (n ≡ suc NESTING)
 Refuses modules total path file (why.Limit limits.Patterns n) = ⊥
 Refuses modules total path file (why.Limit limits.PatternBytes n) = ⊥
 Refuses modules total path file (why.BadConfig key) = ⊥

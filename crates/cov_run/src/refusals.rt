@@ -11,6 +11,7 @@ use crate::source::SourceError;
 use cov_words::{LimitKind, SyntaxKind, Why};
 use py_parse::{DepthKind, SyntaxError};
 use py_scope::ScopeError;
+use py_syntax::HEIGHT_LIMIT;
 use py_token::TokenError;
 use py_value::Text;
 use std::alloc::Global;
@@ -29,7 +30,7 @@ pub(crate) fn refused(alloc: Global, path: &Text, error: &SourceError) -> Why
             syntax(alloc, path, *line, SyntaxKind::Unexpected)
         }
         SourceError::Syntax(SyntaxError::TooDeep(DepthKind::Expressions, _)) => {
-            Why::Limit(LimitKind::Expressions, 201)
+            Why::Limit(LimitKind::Expressions, HEIGHT_LIMIT as u64 + 1)
         }
         SourceError::Syntax(SyntaxError::TooDeep(DepthKind::Suites, _)) => {
             Why::Limit(LimitKind::Suites, 65)

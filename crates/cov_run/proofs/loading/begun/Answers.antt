@@ -2,6 +2,7 @@ use Rattle.std.proofs.Common.{◌≡◌, ℕ, List, Option, Err, sym, ap, ◌∙
 use Rattle.std.specs.Str.{chars}
 use Rattle.std.proofs.lemmas.List.{length-map}
 use Rattle.cov_outside.specs.Reads.{IsTold}
+use Rattle.cov_run.specs.Loading.{most_bytes}
 use Rattle.cov_run.specs.Loads.{EndsWith}
 use Rattle.cov_run.specs.State.{State, IsFound, Holds, state_of}
 use Rattle.cov_run.specs.View.{plain_source}
@@ -36,7 +37,7 @@ returns-in_err-add-in-Some-clause-ends g c =
     let script = chars c.args.script.now in
     let name = chars c.args.name.now in
     let f = c.in_ok-file.ensures.found in
-    let holds : (content : Option (List ℕ)) → IsTold content 1048576 f.answer → Holds content c.in-Some.file = λ content told. subst (λ o. IsFound content o) c.in-Some.is (f.finds content told) in
+    let holds : (content : Option (List ℕ)) → IsTold content most_bytes f.answer → Holds content c.in-Some.file = λ content told. subst (λ o. IsFound content o) c.in-Some.is (f.finds content told) in
     let is : c.from_residual-in_err-add-in-Some.result ≡ Err c.in_err-add-in-Some.field-0.0 = search rules in
     let none = sym (length-map c.new-loading.result.sources.items plain_source) ∙ ap (λ (s : State). length s.modules) c.new-loading.ensures in
     refused-as c.from_residual-in_err-add-in-Some.result c.in_err-add-in-Some.field-0.0 (λ v. EndsWith g.H.Shelf.reads c.args.shelf.now (chars c.args.script.now) (chars c.args.name.now) v c.find.new.shelf) is
@@ -50,7 +51,7 @@ returns-in_ok-add-in-Some-clause-come g c =
     let script = chars c.args.script.now in
     let name = chars c.args.name.now in
     let f = c.in_ok-file.ensures.found in
-    let holds : (content : Option (List ℕ)) → IsTold content 1048576 f.answer → Holds content c.in-Some.file = λ content told. subst (λ o. IsFound content o) c.in-Some.is (f.finds content told) in
+    let holds : (content : Option (List ℕ)) → IsTold content most_bytes f.answer → Holds content c.in-Some.file = λ content told. subst (λ o. IsFound content o) c.in-Some.is (f.finds content told) in
     script-result-come g.H.Shelf.reads c.args.shelf.now c.find.new.shelf script name c.in-Ok.path c.in-Ok.ensures f.answer f.led f.fits (state_of c.add.new.self)
     (λ content told. script-added content (chars c.args.script.now) (chars c.args.name.now) c.in-Ok.path c.in-Ok-from_str.name (state_of c.new-loading.result) (state_of c.add.new.self) c.in-Ok.ensures c.in-Ok-from_str.ensures c.new-loading.ensures
     (c.in_ok-add-in-Some.ensures.added content (holds content told)))

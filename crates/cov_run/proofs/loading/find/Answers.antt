@@ -1,11 +1,12 @@
 use Rattle.std.proofs.Common.{Err, ap, subst}
+use Rattle.cov_run.specs.Loading.{most_bytes}
 use Rattle.cov_run.proofs.Answering.{memory-no-fault}
 use Rattle.cov_run.proofs.loading.find.Goals as goal
 
 pub returns-in-Err-Failed-clause-found : goal.returns-in-Err-Failed-clause-found
 returns-in-Err-Failed-clause-found g c = record {
   answer = Err c.in-Err-Failed.field-0;
-  led = subst (λ n. g.H.Shelf.reads c.args.shelf.now n 1048576 (Err c.in-Err-Failed.field-0) c.read.new.self) c.as_str.ensures.bytes c.in-Err-Failed.ensures.moved;
+  led = subst (λ n. g.H.Shelf.reads c.args.shelf.now n most_bytes (Err c.in-Err-Failed.field-0) c.read.new.self) c.as_str.ensures.bytes c.in-Err-Failed.ensures.moved;
   fits = tt;
   finds = λ content t. tt;
   failed = λ e. ap (λ v. Err v) c.in-Err-Failed.field-0-is;
@@ -14,7 +15,7 @@ returns-in-Err-Failed-clause-found g c = record {
 pub returns-in-Err-NoMemory-clause-found : goal.returns-in-Err-NoMemory-clause-found
 returns-in-Err-NoMemory-clause-found g c = record {
   answer = Err c.in-Err-NoMemory.field-0;
-  led = subst (λ n. g.H.Shelf.reads c.args.shelf.now n 1048576 (Err c.in-Err-NoMemory.field-0) c.read.new.self) c.as_str.ensures.bytes c.in-Err-NoMemory.ensures.moved;
+  led = subst (λ n. g.H.Shelf.reads c.args.shelf.now n most_bytes (Err c.in-Err-NoMemory.field-0) c.read.new.self) c.as_str.ensures.bytes c.in-Err-NoMemory.ensures.moved;
   fits = tt;
   finds = λ content t. tt;
   failed = λ e. absurd (memory-no-fault e);

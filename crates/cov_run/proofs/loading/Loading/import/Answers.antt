@@ -4,6 +4,7 @@ use Rattle.cov_outside.specs.Reads.{IsTold}
 use Rattle.py_meaning.specs.Loading.{file_of}
 use Rattle.cov_words.specs.declared.why.Why.{Why}
 use Rattle.cov_run.specs.Asking.{has_own_file}
+use Rattle.cov_run.specs.Loading.{most_bytes}
 use Rattle.cov_run.specs.Loads.{EndsWith}
 use Rattle.cov_run.specs.State.{IsFound, Holds, state_of}
 use Rattle.cov_run.specs.View.{plain_source}
@@ -34,7 +35,7 @@ returns-in-Some-clause-come g c = λ start script called at h folder k.
     let own : has_own_file c.args.name ≡ true = ap not (sys-tested c.args.name c.as_str.result.now c.eq.result c.as_str.ensures.bytes c.eq.ensures ∙ c.if-eq.false) in
     let lies = c.in-Ok.ensures ∙ ap (λ d. file_of d c.args.name) folder in
     let f = c.in_ok-file.ensures.found in
-    let holds : (content : Option (List ℕ)) → IsTold content 1048576 f.answer → Holds content c.in-Some.file = λ content told. subst (λ o. IsFound content o) c.in-Some.is (f.finds content told) in
+    let holds : (content : Option (List ℕ)) → IsTold content most_bytes f.answer → Holds content c.in-Some.file = λ content told. subst (λ o. IsFound content o) c.in-Some.is (f.finds content told) in
     result-come g.H.Shelf.reads start c.args.shelf.now c.find.new.shelf script called (state_of c.args.self.now) at c.args.name c.in-Ok.path h k own lies f.answer f.led f.fits (state_of c.add.new.self) c.add.result
     (λ content told. settles-added content c.args.name c.in-Ok.path (state_of c.args.self.now) (state_of c.add.new.self) c.add.result (c.add.ensures.added content (holds content told)))
 
@@ -43,7 +44,7 @@ returns-in-Some-clause-ends g c = λ start script called at h folder k.
     let own : has_own_file c.args.name ≡ true = ap not (sys-tested c.args.name c.as_str.result.now c.eq.result c.as_str.ensures.bytes c.eq.ensures ∙ c.if-eq.false) in
     let lies = c.in-Ok.ensures ∙ ap (λ d. file_of d c.args.name) folder in
     let f = c.in_ok-file.ensures.found in
-    let holds : (content : Option (List ℕ)) → IsTold content 1048576 f.answer → Holds content c.in-Some.file = λ content told. subst (λ o. IsFound content o) c.in-Some.is (f.finds content told) in
+    let holds : (content : Option (List ℕ)) → IsTold content most_bytes f.answer → Holds content c.in-Some.file = λ content told. subst (λ o. IsFound content o) c.in-Some.is (f.finds content told) in
     result-ends g.H.Shelf.reads start c.args.shelf.now c.find.new.shelf script called (state_of c.args.self.now) at c.args.name c.in-Ok.path h k own lies f.answer f.led f.fits (length c.args.self.now.sources.items) c.add.result
     (sym (length-map c.args.self.now.sources.items plain_source))
     (λ content told. (there content c.in-Some.file (holds content told), c.add.ensures.refused content (holds content told)))
