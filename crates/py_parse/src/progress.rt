@@ -211,7 +211,6 @@ fn pattern(
 
 /// Goes on by a token, and where it begins an expression or a pattern after that and the token
 /// there.
-#[tactic(auto, using(crate::proofs::View::Answering::turn_rules))]
 pub fn advance(
     alloc: Global,
     tokens: &[Token],

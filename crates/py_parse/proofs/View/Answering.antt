@@ -1,14 +1,15 @@
 -- What the answers of the code say of the list of tokens.
-use Rattle.std.proofs.Common.{◌≡◌, ℕ, ◌+◌, ◌-◌, ◌<◌, ◌≤◌, Bool, List, length, get_or, Option, Some, None, option_map, Ok, Err, Vec, sym, ap, subst, ◌∙◌, arith}
+use Rattle.std.proofs.Common.{◌≡◌, ℕ, ◌+◌, ◌-◌, ◌<◌, ◌≤◌, Bool, true, List, length, get_or, Option, Some, None, option_map, Ok, Err, Vec, sym, ap, subst, ◌∙◌, arith}
+use Rattle.std.specs.Prelude.{Box}
 use Rattle.std.specs.Global.{Global}
 use Rattle.std.proofs.lemmas.List.{length-map}
 use Rattle.py_token.specs.declared.token.Token.{Token}
-use Rattle.py_token.specs.Plain.{PToken}
 use Rattle.py_token.specs.View.{view_token, view_tokens}
 use Rattle.py_syntax.specs.Tree.{Expr, Cases, Pattern, Stmts}
 use Rattle.py_syntax.specs.Kinds.{Kind, bare}
 use Rattle.py_syntax.specs.Spelling.{HEIGHT, NESTING}
-use Rattle.py_syntax.specs.View.{plain_stmts}
+use Rattle.py_syntax.specs.Headers.{is_match}
+use Rattle.py_syntax.specs.View.{plain_expr, plain_cases, plain_stmts}
 use Rattle.py_syntax.specs.declared.stmt.Stmt.{Stmt}
 use Rattle.py_grammar.specs.declared.error.ReadError.{ReadError}
 use Rattle.py_grammar.specs.declared.error.ReadError.TheVariants as read_error_
@@ -17,19 +18,21 @@ use Rattle.py_grammar.specs.Reading as reading_
 use Rattle.py_parse_pattern.specs.Machine as pattern
 use Rattle.py_parse_pattern.specs.Reads as pattern_reads
 use Rattle.py_statements.specs.declared.places.State as code_state
+use Rattle.py_statements.specs.declared.purposes.Continuation as code_continuation
+use Rattle.py_statements.specs.declared.suite_of.PartialMatch.{PartialMatch}
+use Rattle.py_statements.specs.declared.suite_stack.Span as code_span
+use Rattle.py_statements.specs.declared.suite_stack.SuiteStack as code_suites
 use Rattle.py_statements.specs.declared.places.Turn.{Turn}
 use Rattle.py_statements.specs.declared.places.Turn.TheVariants as turn_
 use Rattle.py_parse_expr.specs.declared.exprs.ExprPart.{ExprPart}
-use Rattle.py_parse.specs.declared.error.SyntaxError.{SyntaxError}
-use Rattle.py_parse.specs.declared.error.SyntaxError.TheVariants as error_
 use Rattle.py_statements.specs.Open.{SuiteStack}
 use Rattle.py_statements.specs.Machine.{Continuation, Span, State, Line, at, After, Choosing, Over, goal, resume, resume_pattern, done, onward, step}
 use Rattle.py_statements.specs.Levels.{level}
-use Rattle.py_parse.specs.Refusal.{IsUnexpected, HasDeepSuites, HasDeepExpressions, IsParsed, IsRefused}
-use Rattle.py_statements.specs.ViewStates.{kind_at, first_at, last_at, view_state, ActsAs, IsDone}
+use Rattle.py_parse.specs.Refusal.{IsUnexpected, HasDeepSuites, HasDeepExpressions, IsParsed}
+use Rattle.py_statements.specs.ViewStates.{kind_at, first_at, last_at, view_suites, view_span, view_continuation, view_state, ActsAs, IsDone}
 use Rattle.py_parse_expr.specs.ExprReads.{goal_of, FollowsMachine}
 use Rattle.py_statements.specs.ViewMarks.{header_at}
-use Rattle.py_parse.specs.Progress.{StandsAt, Turns, ReadsFrom, MatchesFrom, Resumes}
+use Rattle.py_parse.specs.Progress.{StandsAt, Turns, ReadsFrom, MatchesFrom, ReadsThere, MatchesThere, Resumes}
 use Rattle.py_parse.proofs.Exact.ReadsBetween.{first_place, taken, too_deep, stuck, expression_read, pattern_read, whole, too_short}
 use Rattle.py_parse.proofs.Exact.ReadsBetween as between
 use Rattle.py_statements.proofs.View.HeaderPlaces.{header_match}
@@ -45,10 +48,6 @@ stands_inside tokens place s h = let e = tokens_length tokens in let inside = h.
 
 pub not_first : (tokens : List Token) (place q : ℕ) (o : Span → Kind → ℕ → Option State) (n : Span) → Resumes (view_tokens tokens) place q o n → 1 ≤ q
 not_first tokens place q o n h = let later = h.later in omega arith
-
--- want of memory says nothing of the list
-pub for_memory : (ts : List PToken) (e : SyntaxError) → e ≡ error_.NoMemory → IsRefused ts e
-for_memory ts e is = subst (IsRefused ts) (sym is) tt
 
 -- ---- after a token
 
@@ -127,6 +126,20 @@ next_turns tokens place t s header turn n lt there is stands acts same = turning
 pub stuck_turns : (tokens : List Token) (place : ℕ) (t : Token) (s : State) (header : Bool) (turn : Turn) → place < length tokens → t ≡ get_or tokens place t → header ≡ header_at (bare (view_tokens tokens)) place → StandsAt (view_tokens tokens) place s → DoesAs t s header turn → turn ≡ turn_.Stuck → Turns (view_tokens tokens) place (λ t o. o ≡ None)
 stuck_turns tokens place t s header turn lt there is stands acts same = turning tokens place t s header None lt is stands (subst (λ (u : Token). the_step u s header ≡ None) there (subst (DoesAs t s header) same acts))
 
+-- where a header begins, the name `match` stands
+pub header_named : (tokens : List Token) (place : ℕ) (t : Token) (header : Bool) → place < length tokens → t ≡ get_or tokens place t → header ≡ header_at (bare (view_tokens tokens)) place → header ≡ true → is_match (kind_at t) ≡ true
+header_named tokens place t header lt there is named = subst (λ (u : Token). is_match (kind_at u) ≡ true) (sym there) (header_match tokens place t header lt is named)
+
+pub reads_there : (tokens : List Token) (place : ℕ) (t : Token) (s : State) (header : Bool) (turn : Turn) (r : code_continuation.Continuation) (n : code_span.Span) (b : code_suites.SuiteStack) → place < length tokens → t ≡ get_or tokens place t → header ≡ header_at (bare (view_tokens tokens)) place → StandsAt (view_tokens tokens) place s → DoesAs t s header turn → turn ≡ turn_.Reads r n b → ReadsThere tokens place r n b
+reads_there tokens place t s header turn r n b lt there is stands acts same =
+    let h = subst (λ (u : Token). DoesAs u s header (turn_.Reads r n b)) there (subst (DoesAs t s header) same acts) in
+    reading_turn tokens place t s header (view_continuation r) (view_span n) (view_suites b) lt is stands h.0 h.1
+
+pub matches_there : (tokens : List Token) (place : ℕ) (t : Token) (s : State) (header : Bool) (turn : Turn) (c : Box PartialMatch Global) (n : code_span.Span) (b : code_suites.SuiteStack) → place < length tokens → t ≡ get_or tokens place t → header ≡ header_at (bare (view_tokens tokens)) place → StandsAt (view_tokens tokens) place s → DoesAs t s header turn → turn ≡ turn_.Matches c n b → MatchesThere tokens place c n b
+matches_there tokens place t s header turn c n b lt there is stands acts same =
+    let h = subst (λ (u : Token). DoesAs u s header (turn_.Matches c n b)) there (subst (DoesAs t s header) same acts) in
+    matching_turn tokens place t s header (plain_expr c.value.subject) c.value.header_last (plain_cases c.value.cases.items) (view_span n) (view_suites b) lt is stands h
+
 -- ---- the end
 
 -- where the end was read, the machine stands after it
@@ -143,8 +156,6 @@ parsed tokens place s body h le is = let e = tokens_length tokens in whole (view
 pub unparsed : (tokens : List Token) (place : ℕ) (s : State) → StandsAt (view_tokens tokens) place s → length tokens ≤ place → IsDone s None → IsUnexpected (view_tokens tokens) place
 unparsed tokens place s h le is = let e = tokens_length tokens in too_short (view_tokens tokens) place s h (omega arith) is
 
--- ---- the rules of each answer
+-- ---- the rules of the whole
 
 pub ruleset module_rules = (first_place, parsed, unparsed, stands_inside)
-
-pub ruleset turn_rules = (reading_turn, matching_turn, header_match, for_memory)
