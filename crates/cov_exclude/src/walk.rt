@@ -98,7 +98,11 @@ fn statement(
             tests(out, rule, whole, arms)?;
             opt(out, rule, whole, orelse)
         }
-        StmtKind::While { body, orelse, .. } | StmtKind::For { body, orelse, .. } => {
+        StmtKind::While { body, orelse, .. } => {
+            headed(out, rule, whole, false, line, body)?;
+            opt(out, rule, whole, orelse)
+        }
+        StmtKind::For { body, orelse, .. } => {
             headed(out, rule, whole, false, line, body)?;
             opt(out, rule, whole, orelse)
         }

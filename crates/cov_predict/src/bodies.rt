@@ -91,7 +91,11 @@ fn in_statement(
             in_arms(out, rules, arms)?;
             in_optional(out, rules, orelse)
         }
-        StmtKind::While { body, orelse, .. } | StmtKind::For { body, orelse, .. } => {
+        StmtKind::While { body, orelse, .. } => {
+            in_suite(out, rules, body)?;
+            in_optional(out, rules, orelse)
+        }
+        StmtKind::For { body, orelse, .. } => {
             in_suite(out, rules, body)?;
             in_optional(out, rules, orelse)
         }

@@ -53,7 +53,11 @@ fn statement(alloc: Global, names: &mut NameSet, kind: &StmtKind) -> Result<(), 
             in_arms(alloc, names, arms)?;
             in_optional(alloc, names, orelse)
         }
-        StmtKind::While { body, orelse, .. } | StmtKind::For { body, orelse, .. } => {
+        StmtKind::While { body, orelse, .. } => {
+            in_suite(alloc, names, body)?;
+            in_optional(alloc, names, orelse)
+        }
+        StmtKind::For { body, orelse, .. } => {
             in_suite(alloc, names, body)?;
             in_optional(alloc, names, orelse)
         }
