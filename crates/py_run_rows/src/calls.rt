@@ -346,7 +346,7 @@ fn ending(alloc: Global, answer: Result<Answer, RunFault>, heap: &Heap) -> Resul
                 Ok(shown) => text.put(shown.as_str()),
                 Err(_) => text.put("no text"),
             },
-            Called::Raised(kind, why) => text.raised(alloc, *kind, why),
+            Called::Raised(kind, why) => text.raised(*kind, why),
             Called::Cut => text.put("cut"),
         },
         Err(fault) => text.made(format!(in alloc; "{fault:?}")),

@@ -4,6 +4,7 @@ ghost use Rattle.cov_event.specs.declared.event.Event.{Event};
 
 use crate::writer::Writer;
 use cov_event::{CodeId, Event, Tracer};
+use py_builtins::kind_name;
 use py_code::Programs;
 use py_value::{ExcKind, NoMemory};
 use std::alloc::{AllocError, Global};
@@ -49,7 +50,7 @@ impl Log {
             match event {
                 Event::Call(code) => put_code(&mut out, *code),
                 Event::Line(line) => out.number(*line as i64),
-                Event::Throw(kind) => put_kind(alloc, &mut out, *kind),
+                Event::Throw(kind) => put_kind(&mut out, *kind),
                 Event::Return => out.put(")"),
             }
         }
@@ -94,10 +95,9 @@ fn put_code(out: &mut Writer, code: CodeId) {
     out.put("(");
 }
 
-pub(crate) fn put_kind(alloc: Global, out: &mut Writer, kind: ExcKind) {
+fn put_kind(out: &mut Writer, kind: ExcKind) {
     out.put("!");
-    let text = format!(in alloc; "{kind:?}");
-    out.made(text);
+    out.put(kind_name(kind));
 }
 
 fn written_arcs(alloc: Global, arcs: &[(i64, i64)]) -> Result<String, Fail> {

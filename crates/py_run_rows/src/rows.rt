@@ -155,7 +155,7 @@ fn put_outcome(alloc: Global, text: &mut Writer, outcome: &Outcome) {
                 text.put(why.as_str());
             }
         }
-        Outcome::Raised(kind, why) => text.raised(alloc, *kind, why),
+        Outcome::Raised(kind, why) => text.raised(*kind, why),
         Outcome::Cut => text.put("cut"),
     }
 }

@@ -1,5 +1,6 @@
 // The text that what was told is written into.
 
+use py_builtins::kind_name;
 use py_value::{ExcKind, Text};
 use std::alloc::{AllocError, Global};
 use std::test::Fail;
@@ -69,9 +70,8 @@ impl Writer {
     }
 
     /// An exception, by its kind and its text.
-    pub(crate) fn raised(&mut self, alloc: Global, kind: ExcKind, why: &Text) {
-        let text = format!(in alloc; "{kind:?}");
-        self.made(text);
+    pub(crate) fn raised(&mut self, kind: ExcKind, why: &Text) {
+        self.put(kind_name(kind));
         if !why.is_empty() {
             self.put(": ");
             self.put(why.as_str());
