@@ -96,6 +96,11 @@ fn all_have_depths(units: &[Unit], written: &[Written]) -> bool
     true
 }
 
+/// Why the units that are written down are no code.
+fn no_code(why: &'static str) -> Fail {
+    Fail::new(why)
+}
+
 /// The code of these units, where they are one.
 fn code_of(alloc: Global, written: &[Written]) -> Result<Code, Fail> {
     let mut units = Vec::with_capacity(alloc, written.len())?;
@@ -104,13 +109,13 @@ fn code_of(alloc: Global, written: &[Written]) -> Result<Code, Fail> {
     }
     let count = units.len();
     if count == 0 {
-        return Err(Fail::new("no unit is written down"));
+        return Err(no_code("no unit is written down"));
     }
     if count > MOST_UNITS {
-        return Err(Fail::new("too many units are written down"));
+        return Err(no_code("too many units are written down"));
     }
     if !all_have_depths(&units, written) {
-        return Err(Fail::new("what is written down is no code"));
+        return Err(no_code("what is written down is no code"));
     }
     Ok(Code::new(units))
 }
