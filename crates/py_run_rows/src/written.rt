@@ -218,6 +218,47 @@ pub(crate) static PAIR: [Written; 2] = [
     },
 ];
 
+/// A function that gives what a call of itself gives.
+pub(crate) static DEEP: [Written; 2] = [
+    Written {
+        name: "",
+        first: 1,
+        params: &[],
+        defaults: 0,
+        locals: &[],
+        names: &["deep"],
+        constants: &[Literal::None],
+        lines: &[1],
+        handlers: &[],
+        instrs: &[
+            Instr::Mark(0),
+            Instr::Function(1),
+            Instr::StoreGlobal(0),
+            Instr::Constant(0),
+            Instr::Return,
+        ],
+        depths: &[0, 0, 1, 0, 1],
+    },
+    Written {
+        name: "deep",
+        first: 1,
+        params: &[],
+        defaults: 0,
+        locals: &[],
+        names: &["deep"],
+        constants: &[],
+        lines: &[2],
+        handlers: &[],
+        instrs: &[
+            Instr::Mark(0),
+            Instr::LoadGlobal(0),
+            Instr::Call(0),
+            Instr::Return,
+        ],
+        depths: &[0, 0, 1, 1],
+    },
+];
+
 /// Functions that go through 1 and 2, with a `try` whose `finally` prints the number. In `f` the
 /// `try` is left in the way of the argument. In `g` it raises, and the `finally` is left in that way.
 pub(crate) static FINALLY: [Written; 3] = [

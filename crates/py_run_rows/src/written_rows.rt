@@ -4,7 +4,7 @@ use crate::calls::{Row as CallRow, wrong};
 use crate::codes::{Written, programs_by};
 use crate::rows::{Row, compare, run_in, run_new, store_of, unlimited};
 use crate::writer::Writer;
-use crate::written::{FINALLY, FIRST_RUN, FIVE_FRAMES, PAIR};
+use crate::written::{DEEP, FINALLY, FIRST_RUN, FIVE_FRAMES, PAIR};
 use std::alloc::Global;
 use std::test::Fail;
 
@@ -116,6 +116,18 @@ static PAIRED: [CallRow; 6] = [
         events: "0.1( 2 )",
     },
 ];
+
+/// A thousand frames of two steps each, and one more.
+static DEPTHS: [CallRow; 1] = [CallRow {
+    module: 0,
+    function: "deep",
+    args: &[],
+    budget: 1_000_000,
+    out: "",
+    end: "RecursionError: maximum recursion depth exceeded",
+    steps: 2000,
+    events: "",
+}];
 
 /// A `finally` that is entered at the end of its `try`, and by `break`, `continue`, `return` and an
 /// exception.
@@ -239,6 +251,8 @@ fn calls_wrong(alloc: Global, units: &[Written], rows: &[CallRow]) -> Result<Str
 fn calls_of_written_functions(rt: HostRuntime) -> Result<(), Fail> {
     let alloc = rt.alloc();
     let found = calls_wrong(alloc, &PAIR, &PAIRED)?;
+    assert_eq!(rt; found.as_str(), "");
+    let found = calls_wrong(alloc, &DEEP, &DEPTHS)?;
     assert_eq!(rt; found.as_str(), "");
     let found = calls_wrong(alloc, &FINALLY, &ENTERED)?;
     assert_eq!(rt; found.as_str(), "");
