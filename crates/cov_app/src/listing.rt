@@ -1,6 +1,7 @@
 //! The lines of a run's arcs.
 ghost use Rattle.std.specs.Prelude.{◌≡◌, ◌≤◌, map, length, string_bytes, IfOk, OnOk};
 ghost use Rattle.std.specs.Option.{option_map, unwrap_or};
+ghost use Rattle.py_code.specs.Loaded.{most_numbered};
 ghost use Rattle.py_meaning.specs.Crossings.{ordered};
 ghost use Rattle.cov_app.specs.Kept.{kept_in, keys_if_any};
 ghost use Rattle.cov_app.specs.Listing.{arc_line, arc_lines, arcs_on, listing, paths_in};
@@ -13,7 +14,7 @@ use std::collections::BTreeSet;
 
 /// The arcs of a run, one line `PATH FROM TO` each, in order of path, from and to.
 pub(crate) fn listing(alloc: Global, programs: &Programs, arcs: &Arcs) -> Result<String, NoMemory>
-    requires { length programs.now.modules.items ≤ 4294967295 }
+    requires { length programs.now.modules.items ≤ most_numbered }
     ensures { IfOk result (λ text. string_bytes text ≡ listing (kept_in programs.now arcs.now)) }
 {
     let paths = paths_in(alloc, programs)?;
@@ -51,7 +52,7 @@ fn arcs_on(
     arcs: &Arcs,
     path: &str,
 ) -> Result<Vec<(i64, i64)>, NoMemory>
-    requires { length programs.now.modules.items ≤ 4294967295 }
+    requires { length programs.now.modules.items ≤ most_numbered }
     ensures { IfOk result (λ list.
         list.items ≡ arcs_on (kept_in programs.now arcs.now) path.now) }
 {

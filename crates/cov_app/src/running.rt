@@ -4,7 +4,7 @@ ghost use Rattle.std.specs.Str.{chars};
 ghost use Rattle.cov_outside.specs.Counts.{Rose};
 ghost use Rattle.cov_outside.specs.Prefixes.{GainsPrefix};
 ghost use Rattle.py_builtins.specs.Inputs.{Wrote};
-ghost use Rattle.py_code.specs.Loaded.{modules_of};
+ghost use Rattle.py_code.specs.Loaded.{modules_of, most_numbered};
 ghost use Rattle.py_code.specs.Units.{plain_unit};
 ghost use Rattle.py_machine.specs.Outcomes.{plain_outcome};
 ghost use Rattle.py_meaning.specs.Modules.{LoadedModule};
@@ -34,7 +34,7 @@ pub(crate) fn run_programs<I: Source, O: Sink, G: Engine>(
     engine: &mut G,
 ) -> Result<Outcome, RunFault>
     requires some { 0 < length (modules_of programs.now) }
-    requires few { length (modules_of programs.now) ≤ 4294967295 }
+    requires few { length (modules_of programs.now) ≤ most_numbered }
     ensures ended { (ms : List LoadedModule) → AreProgramsOf programs.now ms → G.faithful
         → IfOk result (λ o. EndsAs (plain_outcome o)
         (became I.tells (I.left input.old) (I.left input.new))
@@ -80,7 +80,7 @@ fn run_kept<I: Source, O: Sink, G: Engine>(
     engine: &mut G,
 ) -> Result<Kept, RunFault>
     requires some { 0 < length (modules_of programs.now) }
-    requires few { length (modules_of programs.now) ≤ 4294967295 }
+    requires few { length (modules_of programs.now) ≤ most_numbered }
     ensures ended { (ms : List LoadedModule) → AreProgramsOf programs.now ms → G.faithful
         → IfOk result (λ kept. EndedKept ms programs.now (words_in words.now) budget kept
         I.tells (I.left input.old) (I.left input.new)
@@ -141,7 +141,7 @@ fn write_listing<O: Sink>(
     arcs: &Arcs,
     out: &mut O,
 ) -> Result<(), RunFault>
-    requires { length programs.now.modules.items ≤ 4294967295 }
+    requires { length programs.now.modules.items ≤ most_numbered }
     ensures ok { O.tells → OnOk result (O.contents out.new
         ≡ O.contents out.old ++ listing (kept_in programs.now arcs.now)) }
     ensures err { O.tells → OnErr result (GainsPrefix (O.contents out.old) (O.contents out.new)

@@ -2,7 +2,7 @@
 ghost use Rattle.std.specs.Prelude.{◌≡◌, ◌≤◌, map, string_bytes, IfOk, OnOk, OnErr};
 ghost use Rattle.std.specs.Option.{option_copied};
 ghost use Rattle.std.specs.FinMap as finite;
-ghost use Rattle.cov_data.specs.DataSet.{no_files, add_path, add_row, add_file, all_files};
+ghost use Rattle.cov_data.specs.DataSet.{most_count, no_files, add_path, add_row, add_file, all_files};
 
 use crate::file::{FileCounts, Place};
 use crate::rows::Row;
@@ -64,7 +64,7 @@ impl FileMap {
         ensures ok { OnOk result (self.new
             ≡ add_row self.old (string_bytes path) (place_view place) count) }
         ensures err { OnErr result (self.new ≡ self.old) }
-        ensures fits { count ≤ 4294967295 }
+        ensures fits { count ≤ most_count }
     {
         match self.files.get_mut(path.as_str()) {
             Some(file) => file.add(place, count),

@@ -4,13 +4,13 @@ use crate::texts::{BRANCH, COVER, IF, WHILE, patterns_of};
 use cov_exclude::{excluded, no_branch};
 use py_parse::parse;
 use py_syntax::Module;
-use py_token::{count_lines, tokens};
+use py_token::{LINE_LIMIT, count_lines, tokens};
 use std::alloc::Global;
 use std::test::Fail;
 
 /// The module of a source.
 fn read(alloc: Global, source: &str) -> Result<Module, Fail> {
-    if count_lines(source) > 65535 {
+    if count_lines(source) > LINE_LIMIT {
         return Err(Fail::new("too many lines"));
     }
     match tokens(alloc, source) {

@@ -3,7 +3,7 @@
 use cov_predict::{ArcSet, possible, predict, statements};
 use py_parse::parse;
 use py_syntax::Module;
-use py_token::{count_lines, tokens};
+use py_token::{LINE_LIMIT, count_lines, tokens};
 use std::alloc::{AllocError, Global};
 use std::test::Fail;
 
@@ -44,7 +44,7 @@ fn is_so(alloc: Global, row: &Row) -> Result<bool, Fail> {
 
 /// The module of a short source.
 fn module(alloc: Global, source: &str) -> Result<Module, Fail> {
-    if count_lines(source) > 65535 {
+    if count_lines(source) > LINE_LIMIT {
         return Err(AllocError.into());
     }
     Ok(parse(alloc, &tokens(alloc, source)?)?)

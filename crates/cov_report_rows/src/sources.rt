@@ -15,7 +15,7 @@ use cov_lcov::{annotate, lcov_report};
 use cov_text::text_report;
 use py_parse::parse;
 use py_syntax::Module;
-use py_token::{Token, count_lines, tokens};
+use py_token::{LINE_LIMIT, Token, count_lines, tokens};
 use std::alloc::Global;
 use std::test::Fail;
 
@@ -275,7 +275,7 @@ fn module_of(alloc: Global, source: &str) -> Result<Module, Fail>
 fn tokens_of(alloc: Global, source: &str) -> Result<Vec<Token>, Fail>
     ensures { IfOk result (λ tokens. AreOnLines (view_tokens tokens.items)) }
 {
-    if count_lines(source) > 65535 {
+    if count_lines(source) > LINE_LIMIT {
         return Err(Fail::new("too many lines"));
     }
     match tokens(alloc, source) {

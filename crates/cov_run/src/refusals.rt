@@ -11,7 +11,7 @@ use crate::source::SourceError;
 use cov_words::{LimitKind, SyntaxKind, Why};
 use py_parse::{DepthKind, SyntaxError};
 use py_scope::ScopeError;
-use py_syntax::HEIGHT_LIMIT;
+use py_syntax::{HEIGHT_LIMIT, NESTING_LIMIT};
 use py_token::TokenError;
 use py_value::Text;
 use std::alloc::Global;
@@ -33,7 +33,7 @@ pub(crate) fn refused(alloc: Global, path: &Text, error: &SourceError) -> Why
             Why::Limit(LimitKind::Expressions, HEIGHT_LIMIT as u64 + 1)
         }
         SourceError::Syntax(SyntaxError::TooDeep(DepthKind::Suites, _)) => {
-            Why::Limit(LimitKind::Suites, 65)
+            Why::Limit(LimitKind::Suites, NESTING_LIMIT as u64 + 1)
         }
         SourceError::Syntax(SyntaxError::NoMemory) => Why::NoMemory,
         SourceError::Scopes(error) => ill_formed(alloc, path, error),

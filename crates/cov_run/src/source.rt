@@ -12,11 +12,8 @@ use crate::bytes::text_of;
 use py_parse::{SyntaxError, parse};
 use py_scope::{ScopeError, Scopes, check};
 use py_syntax::Module;
-use py_token::{TokenError, count_lines, tokens};
+use py_token::{LINE_LIMIT, TokenError, count_lines, tokens};
 use std::alloc::Global;
-
-/// The most lines of a source.
-const MAX_LINES: usize = 65_535;
 
 /// Why no tree was read from a source, by the first check that fails. Lines count from 1.
 #[derive(Debug, Drop)]
@@ -86,7 +83,7 @@ fn read_text(alloc: Global, text: &str) -> Result<Source, SourceError>
     ensures refused { IfErr result (λ e. Reads text.now (reading_of e)) }
 {
     let lines = count_lines(text);
-    if lines > MAX_LINES {
+    if lines > LINE_LIMIT {
         return Err(SourceError::Long(lines));
     }
     let tokens = tokens(alloc, text)?;

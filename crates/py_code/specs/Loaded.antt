@@ -1,5 +1,5 @@
 -- Programs in memory, as the modules that they are.
-use Rattle.std.specs.Prelude.{List, map}
+use Rattle.std.specs.Prelude.{ℕ, List, map}
 use Rattle.std.specs.Str.{chars}
 use Rattle.std.specs.String.{string_bytes}
 use Rattle.py_code.specs.declared.code.Program.{Program}
@@ -13,3 +13,7 @@ module_of p = record { name = chars (string_bytes p.name); units = p.code }
 -- the script first
 abbrev pub modules_of : Programs → List Module
 modules_of ps = map module_of ps.modules.items
+
+-- the most modules: the number of each is one of 32 bits
+abbrev pub most_numbered : ℕ
+most_numbered = 4294967295

@@ -1,6 +1,6 @@
 // One instruction, as far as the machine does it alone.
 ghost use Rattle.std.specs.Prelude.{◌≡◌, ◌<◌, ◌≤◌, length, IfOk};
-ghost use Rattle.py_code.specs.Loaded.{modules_of};
+ghost use Rattle.py_code.specs.Loaded.{modules_of, most_numbered};
 ghost use Rattle.py_code.specs.Machine.{move};
 ghost use Rattle.py_code.specs.Slots.{by_slots};
 ghost use Rattle.py_code.specs.Units.{plain_unit};
@@ -21,7 +21,7 @@ impl State {
         store: &mut Store,
         programs: &Programs,
     ) -> Result<Turn, NoMemory>
-        requires { length (modules_of programs.now) ≤ 4294967295 }
+        requires { length (modules_of programs.now) ≤ most_numbered }
         ensures { IfOk result (λ t.
             (o : Outside)
             → move (by_slots (modules_of programs.now)) (modules_of programs.now)
@@ -50,7 +50,7 @@ impl State {
         programs: &Programs,
     ) -> Result<Turn, NoMemory>
         requires room { self.old.top.place < usize.MAX }
-        requires few { length (modules_of programs.now) ≤ 4294967295 }
+        requires few { length (modules_of programs.now) ≤ most_numbered }
         ensures { IfOk result (λ t.
             Acts (modules_of programs.now) (plain_unit unit.now) instr self.old store.old self.new
             store.new t) }

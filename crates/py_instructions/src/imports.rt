@@ -1,7 +1,7 @@
 // Imports, and names of modules.
 ghost use Rattle.std.specs.Prelude.{◌<◌, ◌≤◌, length, IfOk};
 ghost use Rattle.py_code.specs.declared.instr.Instr.TheVariants.{Attribute, Method as MethodOf, Import, Module as LoadModule, Take};
-ghost use Rattle.py_code.specs.Loaded.{modules_of};
+ghost use Rattle.py_code.specs.Loaded.{modules_of, most_numbered};
 ghost use Rattle.py_code.specs.Units.{plain_unit};
 ghost use Rattle.py_store.specs.declared.store.Store.{Store as Kept};
 ghost use Rattle.py_instructions.specs.View.{Acts, ActsIn};
@@ -74,7 +74,7 @@ impl State {
 
     pub fn load_module(&mut self, alloc: Global, unit: &Unit, n: u32, programs: &Programs) -> Acted
         requires room { self.old.top.place < usize.MAX }
-        requires few { length (modules_of programs.now) ≤ 4294967295 }
+        requires few { length (modules_of programs.now) ≤ most_numbered }
         ensures { IfOk result (λ t.
             (s : Kept)
             → Acts (modules_of programs.now) (plain_unit unit.now) (LoadModule n) self.old s
@@ -98,7 +98,7 @@ impl State {
         programs: &Programs,
     ) -> Acted
         requires room { self.old.top.place < usize.MAX }
-        requires few { length (modules_of programs.now) ≤ 4294967295 }
+        requires few { length (modules_of programs.now) ≤ most_numbered }
         ensures { IfOk result (λ t.
             Acts (modules_of programs.now) (plain_unit unit.now) (Import n) self.old store.old
             self.new store.new t) }

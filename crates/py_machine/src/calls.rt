@@ -5,7 +5,7 @@ ghost use Rattle.cov_event.specs.Moves.{Takes};
 ghost use Rattle.cov_outside.specs.Counts.{Rose};
 ghost use Rattle.py_value.specs.View.{plains};
 ghost use Rattle.py_builtins.specs.Inputs.{Wrote};
-ghost use Rattle.py_code.specs.Loaded.{modules_of};
+ghost use Rattle.py_code.specs.Loaded.{modules_of, most_numbered};
 ghost use Rattle.py_code.specs.Machine.{outer_call, follows};
 ghost use Rattle.py_code.specs.Slots.{by_slots};
 ghost use Rattle.py_code.specs.Valid.{AreCodes};
@@ -44,7 +44,7 @@ pub fn call<T: Tracer, I: Source, O: Sink>(
     out: &mut O,
 ) -> Result<Answer, RunFault>
     requires some { 0 < length (modules_of programs.now) }
-    requires few { length (modules_of programs.now) ≤ 4294967295 }
+    requires few { length (modules_of programs.now) ≤ most_numbered }
     ensures ok { IfOk result (λ answer. Heard I.tells (I.left input.old) (I.left input.new)
         (IsCall (λ es. Takes T.moves tracer.old es tracer.new)
         (Wrote O.tells (O.contents out.old) (O.contents out.new)) (modules_of programs.now)
@@ -87,7 +87,7 @@ fn finish<T: Tracer, I: Source, O: Sink>(
     out: &mut O,
 ) -> Result<Ended, RunFault>
     requires some { 0 < length (modules_of programs.now) }
-    requires few { length (modules_of programs.now) ≤ 4294967295 }
+    requires few { length (modules_of programs.now) ≤ most_numbered }
     requires valid { AreCodes (modules_of programs.now) }
     requires unit { BeginsUnit (modules_of programs.now) reach }
     ensures ok { IfOk result (λ e. Heard I.tells (I.left input.old) (I.left input.new)

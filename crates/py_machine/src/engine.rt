@@ -3,7 +3,7 @@ ghost use Rattle.std.specs.Prelude.{◌<◌, ◌≤◌, length, IfOk, OnErr, IsE
 ghost use Rattle.cov_event.specs.Moves.{Takes};
 ghost use Rattle.cov_outside.specs.Counts.{Rose};
 ghost use Rattle.py_builtins.specs.Inputs.{Wrote};
-ghost use Rattle.py_code.specs.Loaded.{modules_of};
+ghost use Rattle.py_code.specs.Loaded.{modules_of, most_numbered};
 ghost use Rattle.py_machine.specs.Fitting.{RunFits};
 ghost use Rattle.py_machine.specs.Runs.{IsRun, StopsRun};
 ghost use Rattle.py_machine.specs.Told.{Heard, TakesSome, CallsSome, HeardSome};
@@ -34,7 +34,7 @@ pub trait Engine {
         out: &mut O,
     ) -> Result<Ran, RunFault>
         requires some { 0 < length (modules_of programs.now) }
-        requires few { length (modules_of programs.now) ≤ 4294967295 }
+        requires few { length (modules_of programs.now) ≤ most_numbered }
         ensures ok { faithful
             → IfOk result (λ ran. Heard I.tells (I.left input.old) (I.left input.new)
             (IsRun (λ es. Takes T.moves tracer.old es tracer.new)

@@ -3,7 +3,7 @@ ghost use Rattle.std.specs.Prelude.{◌≡◌, ◌≤◌, true, length, IfOk, On
 ghost use Rattle.cov_event.specs.Moves.{Takes};
 ghost use Rattle.cov_outside.specs.Counts.{Rose};
 ghost use Rattle.py_builtins.specs.Inputs.{Wrote};
-ghost use Rattle.py_code.specs.Loaded.{modules_of};
+ghost use Rattle.py_code.specs.Loaded.{modules_of, most_numbered};
 ghost use Rattle.py_code.specs.Machine.{move};
 ghost use Rattle.py_code.specs.Slots.{by_slots};
 ghost use Rattle.py_instructions.specs.declared.turn.Turn.TheVariants.{Asks};
@@ -136,7 +136,7 @@ pub fn step<T: Tracer, I: Source, O: Sink>(
     input: &mut I,
     out: &mut O,
 ) -> Result<Option<Ending>, RunFault>
-    requires few { length (modules_of programs.now) ≤ 4294967295 }
+    requires few { length (modules_of programs.now) ≤ most_numbered }
     requires end { IsAtEnd at_end.old I.tells (I.left input.old) }
     ensures ok { IfOk result (λ how. Step I.tells (I.left input.old) (I.left input.new)
         at_end.old at_end.new

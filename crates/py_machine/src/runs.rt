@@ -4,7 +4,7 @@ ghost use Rattle.cov_event.specs.Moves.{Takes};
 ghost use Rattle.cov_outside.specs.Counts.{Rose};
 ghost use Rattle.py_value.specs.View.{plains};
 ghost use Rattle.py_builtins.specs.Inputs.{Wrote};
-ghost use Rattle.py_code.specs.Loaded.{modules_of};
+ghost use Rattle.py_code.specs.Loaded.{modules_of, most_numbered};
 ghost use Rattle.py_code.specs.Machine.{machine, new_frame, outermost, follows};
 ghost use Rattle.py_code.specs.Run.{go};
 ghost use Rattle.py_code.specs.Slots.{by_slots};
@@ -39,7 +39,7 @@ pub fn run<T: Tracer, I: Source, O: Sink>(
     out: &mut O,
 ) -> Result<Ran, RunFault>
     requires some { 0 < length (modules_of programs.now) }
-    requires few { length (modules_of programs.now) ≤ 4294967295 }
+    requires few { length (modules_of programs.now) ≤ most_numbered }
     ensures ok { IfOk result (λ ran. Heard I.tells (I.left input.old) (I.left input.new)
         (IsRun (λ es. Takes T.moves tracer.old es tracer.new)
         (Wrote O.tells (O.contents out.old) (O.contents out.new)) (modules_of programs.now)
@@ -95,7 +95,7 @@ pub fn begin<T: Tracer, I: Source, O: Sink>(
     input: &mut I,
     out: &mut O,
 ) -> Result<Ended, RunFault>
-    requires few { length (modules_of programs.now) ≤ 4294967295 }
+    requires few { length (modules_of programs.now) ≤ most_numbered }
     requires some { 0 < length (modules_of programs.now) }
     requires valid { AreCodes (modules_of programs.now) }
     requires unit { HasUnit (modules_of programs.now) code }
@@ -171,7 +171,7 @@ fn go_on<T: Tracer, I: Source, O: Sink>(
     input: &mut I,
     out: &mut O,
 ) -> Result<Ending, RunFault>
-    requires few { length (modules_of programs.now) ≤ 4294967295 }
+    requires few { length (modules_of programs.now) ≤ most_numbered }
     requires some { 0 < length (modules_of programs.now) }
     requires valid { AreCodes (modules_of programs.now) }
     requires start { AtStart (modules_of programs.now) m.old }

@@ -19,10 +19,9 @@ use py_parse_pattern::{PatternRead, read_patterns};
 use py_statements::{
     Continuation, PartialMatch, Span, State, SuiteStack, Turn, is_header, resume_pattern, step,
 };
+use py_syntax::NESTING_LIMIT;
 use py_token::Token;
 use std::alloc::Global;
-
-const NESTING_LIMIT: usize = 64;
 
 /// The state at a place in the tokens.
 #[derive(Drop)]

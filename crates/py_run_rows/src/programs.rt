@@ -4,7 +4,7 @@ use py_code::{Code, Program, Programs};
 use py_compiler::compile;
 use py_parse::parse;
 use py_scope::check;
-use py_token::{count_lines, tokens};
+use py_token::{LINE_LIMIT, count_lines, tokens};
 use std::alloc::Global;
 use std::test::Fail;
 
@@ -31,7 +31,7 @@ fn program_of(alloc: Global, name: &str, source: &str) -> Result<Program, Fail> 
 
 /// The code of a source of at most 65,535 lines.
 fn code_of(alloc: Global, source: &str) -> Result<Code, Fail> {
-    if count_lines(source) > 65535 {
+    if count_lines(source) > LINE_LIMIT {
         return Err(Fail::new("too many lines"));
     }
     let tokens = tokens(alloc, source)?;

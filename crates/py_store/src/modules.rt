@@ -1,7 +1,7 @@
 // The modules that imports name.
 ghost use Rattle.std.specs.Prelude.{◌≡◌, ◌≤◌, length, IfOk};
 ghost use Rattle.py_value.specs.View.{plain_value_answer};
-ghost use Rattle.py_code.specs.Loaded.{modules_of};
+ghost use Rattle.py_code.specs.Loaded.{modules_of, most_numbered};
 ghost use Rattle.py_code.specs.Machine.{imported};
 ghost use Rattle.py_code.specs.Units.{imported_number};
 
@@ -18,7 +18,7 @@ pub fn imported(
     name: &Text,
     programs: &Programs,
 ) -> Result<Result<Value, Raised>, NoMemory>
-    requires { length (modules_of programs.now) ≤ 4294967295 }
+    requires { length (modules_of programs.now) ≤ most_numbered }
     ensures { IfOk result (λ answer.
         plain_value_answer answer ≡ imported (modules_of programs.now) name.now) }
 {
@@ -33,7 +33,7 @@ pub fn imported(
 
 /// The number of the module of a name: never the script.
 pub fn imported_number(name: &Text, programs: &Programs) -> Option<u32>
-    requires { length (modules_of programs.now) ≤ 4294967295 }
+    requires { length (modules_of programs.now) ≤ most_numbered }
     ensures { result ≡ imported_number (modules_of programs.now) name.now }
 {
     let mut number = 1;

@@ -11,3 +11,6 @@ pub use stmt::{Alias, Arm, Case, Clause, LineEnd, Module, Stmt, StmtKind, Suite}
 
 /// The most nodes of an expression or a pattern above each other.
 pub const HEIGHT_LIMIT: usize = 200;
+
+/// The most suites inside each other.
+pub const NESTING_LIMIT: usize = 64;

@@ -1,8 +1,8 @@
 -- What the loop over the items of an f-string keeps.
-use Rattle.std.proofs.Common.{◌≡◌, ◌≤◌, ◌<◌, ◌+◌, ◌-◌, ℕ, Bool, true, false, cond, ◌&&◌, not, eqb, List, [], ◌∷◌, ◌++◌, length, drop, Result, Ok, Err, refl, sym, ap, subst, ◌∙◌, arith, append_assoc, append-nil, length-drop}
+use Rattle.std.proofs.Common.{◌≡◌, ◌≤◌, ◌<◌, ◌+◌, ◌-◌, ℕ, suc, Bool, true, false, cond, ◌&&◌, not, eqb, List, [], ◌∷◌, ◌++◌, length, drop, Result, Ok, Err, refl, sym, ap, subst, ◌∙◌, arith, append_assoc, append-nil, length-drop}
 use Rattle.py_token.specs.declared.error.TokenError.{TokenError}
 use Rattle.py_token.specs.declared.error.TokenError.TheVariants.{BadCharacter, BadIndent, OpenString, OpenBracket, WideNumber, NoMemory}
-use Rattle.py_token.specs.Source.{begins, line_count}
+use Rattle.py_token.specs.Source.{begins, line_count, most_lines}
 use Rattle.py_token.specs.Plain.{PTokens, PPiece, chars, field, fstring, piece_row}
 use Rattle.py_token.specs.Strings.{◌>>=◌, doubled, StringItem, holds, closing, fault, Body, more_of, after_of, text_item, body_of}
 use Rattle.py_token.specs.Fields.{field_item, chars_item, fstring_item, fstring_body, with_chars, normal, is_format_prefix, matched_pieces, fstring_at, token_at}
@@ -22,7 +22,7 @@ with_pieces ps held read = read >>= λ x. Ok (ps ++ with_chars held x.0, x.1, x.
 
 pub record Reads (quote : ℕ) (triple : Bool) (first : ℕ) (text : List ℕ) (ps : List PPiece) (held : List ℕ) (line : ℕ) (rest : List ℕ) (limit : ℕ) : Type 0 where
   pub same : with_pieces ps held (pieces_of (body_of (fstring_item quote triple first) first 0 line rest)) ≡ pieces_of (fstring_body quote triple first text)
-  pub lines : line + line_count rest ≤ 65536
+  pub lines : line + line_count rest ≤ suc most_lines
   pub long : length rest ≤ length text
   pub known : Known quote triple limit rest
 
@@ -56,7 +56,7 @@ none_before : (r : Result (List PPiece × ℕ × ℕ) TokenError) → with_piece
 none_before (Ok x) = refl
 none_before (Err e) = refl
 
-pub starts : (quote : ℕ) (triple : Bool) (first : ℕ) (text : List ℕ) (ps : List PPiece) (held : List ℕ) (limit : ℕ) → ps ≡ [] → held ≡ [] → first + line_count text ≤ 65536 → length text < limit → Reads quote triple first text ps held first text limit
+pub starts : (quote : ℕ) (triple : Bool) (first : ℕ) (text : List ℕ) (ps : List PPiece) (held : List ℕ) (limit : ℕ) → ps ≡ [] → held ≡ [] → first + line_count text ≤ suc most_lines → length text < limit → Reads quote triple first text ps held first text limit
 unfolding fstring_body
 starts quote triple first text ps held limit ps_is held_is few low = record {
   same = ap (λ x. with_pieces x held (pieces_of (body_of (fstring_item quote triple first) first 0 first text))) ps_is
@@ -70,10 +70,10 @@ starts quote triple first text ps held limit ps_is held_is few low = record {
 pub known_after : (quote : ℕ) (triple : Bool) (limit c : ℕ) (rest cs : List ℕ) → Known quote triple limit rest → rest ≡ c ∷ cs → Known quote triple limit cs
 known_after quote triple limit c rest cs h is = known_tail quote triple limit c cs (subst (λ x. Known quote triple limit x) is h)
 
-pub lines_after : (line c : ℕ) (rest cs : List ℕ) → line + line_count rest ≤ 65536 → rest ≡ c ∷ cs → line + line_count cs ≤ 65536
+pub lines_after : (line c : ℕ) (rest cs : List ℕ) → line + line_count rest ≤ suc most_lines → rest ≡ c ∷ cs → line + line_count cs ≤ suc most_lines
 lines_after line c rest cs h is = let e = ap line_count is in let m = (line_count-cons c cs).0 in omega (arith, h, e, m)
 
-pub on_a_line : (line c : ℕ) (rest cs : List ℕ) → line + line_count rest ≤ 65536 → rest ≡ c ∷ cs → line < 65536
+pub on_a_line : (line c : ℕ) (rest cs : List ℕ) → line + line_count rest ≤ suc most_lines → rest ≡ c ∷ cs → line ≤ most_lines
 on_a_line line c rest cs h is = let e = ap line_count is in let m = (line_count-cons c cs).1 in omega (arith, h, e, m)
 
 pub fits : (quote : ℕ) (triple : Bool) (first line c : ℕ) (cs : List ℕ) (b : StringItem PPiece) → b ≡ fstring_item quote triple first line c cs → after_of b ≤ length cs

@@ -2,7 +2,7 @@
 use Rattle.std.proofs.Common.{◌≡◌, ◌≤◌, ◌+◌, ℕ, zero, suc, Bool, true, false, cond, ◌&&◌, eqb, List, [], ◌∷◌, ◌++◌, length, drop, Result, Ok, Err, refl, sym, ap, subst, ◌∙◌, arith, append_assoc, append-nil, length-drop}
 use Rattle.py_token.specs.declared.error.TokenError.{TokenError}
 use Rattle.py_token.specs.declared.error.TokenError.TheVariants.{BadCharacter, BadIndent, OpenString, OpenBracket, WideNumber, NoMemory}
-use Rattle.py_token.specs.Source.{line_count}
+use Rattle.py_token.specs.Source.{line_count, most_lines}
 use Rattle.py_token.specs.Answers.{Gives}
 use Rattle.py_token.proofs.Answering.{gives_error}
 use Rattle.py_token.proofs.Lines.{line_count-cons, line_count-drop}
@@ -18,7 +18,7 @@ with_tokens ts read = read >>= λ x. Ok (ts ++ x.0, x.1)
 
 pub record Reads (limit : TokenError) (line : ℕ) (chars : List ℕ) (ts : List PToken) (depth : ℕ) (rest : List ℕ) : Type 0 where
   pub same : with_tokens ts (tokens_of (field_tokens limit line 0 depth rest)) ≡ tokens_of (field_tokens limit line 0 0 chars)
-  pub lines : line + line_count rest ≤ 65536
+  pub lines : line + line_count rest ≤ suc most_lines
   pub deep : depth + length rest ≤ length chars
 
 field_skip : (limit : TokenError) (line n depth : ℕ) (cs : List ℕ) → field_tokens limit line n depth cs ≡ field_tokens limit line 0 depth (drop n cs)

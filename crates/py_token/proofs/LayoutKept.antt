@@ -111,11 +111,11 @@ ends_on_lines : (s : State) (brackets : List ℕ) (last : ℕ) (ts : List PToken
 ends_on_lines s [] last ts low high h = subst AreOnLines (list_is (newline_if s.begun last ++ closing_tokens last (length s.indents)) ts h) (append_on_lines (newline_if s.begun last) (closing_tokens last (length s.indents)) (newline_on_lines s.begun last low high) (closing_on_lines last (length s.indents) low high))
 ends_on_lines s (b ∷ bs) last ts low high h = absurd cc
 
-token_fits : (line c : ℕ) (cs : List ℕ) (r : Result Match TokenError) → 1 ≤ line → line + line_count (c ∷ cs) ≤ 65536 → token_at line c cs ≡ r → FitsLines (token_segment line r).lexeme line (token_segment line r).next
+token_fits : (line c : ℕ) (cs : List ℕ) (r : Result Match TokenError) → 1 ≤ line → line + line_count (c ∷ cs) ≤ suc most_lines → token_at line c cs ≡ r → FitsLines (token_segment line r).lexeme line (token_segment line r).next
 token_fits line c cs (Ok t) low lines is = let h = token_fair line c cs t is in let on = h.on_line in (h.later, omega (arith, on, lines), token_kind line c cs t low lines is)
 token_fits line c cs (Err e) low lines is = tt
 
-segment_fits : (line c : ℕ) (cs : List ℕ) → 1 ≤ line → line + line_count (c ∷ cs) ≤ 65536 → FitsLines (segment_at line c cs).lexeme line (segment_at line c cs).next
+segment_fits : (line c : ℕ) (cs : List ℕ) → 1 ≤ line → line + line_count (c ∷ cs) ≤ suc most_lines → FitsLines (segment_at line c cs).lexeme line (segment_at line c cs).next
 unfolding segment_at
 segment_fits line c cs low lines = go (is_blank c) (eqb c 10) (eqb c 35) ((eqb c 92) && begins 10 cs)
   where
@@ -126,7 +126,7 @@ segment_fits line c cs low lines = go (is_blank c) (eqb c 10) (eqb c 35) ((eqb c
     go false false false true = tt
     go false false false false = token_fits line c cs (token_at line c cs) low lines refl
 
-layout_on_lines : (s : State) (last skip line : ℕ) (cs : List ℕ) (ts : List PToken) → 1 ≤ last → last ≤ most_lines → 1 ≤ line → line + line_count (drop skip cs) ≤ 65536 → layout s last (segments skip line cs) ≡ the_list ts → AreOnLines ts
+layout_on_lines : (s : State) (last skip line : ℕ) (cs : List ℕ) (ts : List PToken) → 1 ≤ last → last ≤ most_lines → 1 ≤ line → line + line_count (drop skip cs) ≤ suc most_lines → layout s last (segments skip line cs) ≡ the_list ts → AreOnLines ts
 unfolding layout segments
 layout_on_lines s last zero line [] ts some high low lines h = ends_on_lines s s.brackets last ts some high h
 layout_on_lines s last (suc skip) line [] ts some high low lines h = ends_on_lines s s.brackets last ts some high h

@@ -166,7 +166,7 @@ step_on_lines line cs (holds p n next) (Err e) b here more is = absurd cc
 step_on_lines line cs (closing n) body b here more is = subst (λ (w : Body PPiece). ArePieces w.values) (pieces_is (record { values = []; rest = drop n cs; next = line }) b is) tt
 step_on_lines line cs (fault e) body b here more is = absurd cc
 
-body_on_lines : (quote : ℕ) (triple : Bool) (first skip line : ℕ) (cs : List ℕ) (b : Body PPiece) → 1 ≤ line → line + line_count (drop skip cs) ≤ 65536 → body_of (fstring_item quote triple first) first skip line cs ≡ the_pieces b → ArePieces b.values
+body_on_lines : (quote : ℕ) (triple : Bool) (first skip line : ℕ) (cs : List ℕ) (b : Body PPiece) → 1 ≤ line → line + line_count (drop skip cs) ≤ suc most_lines → body_of (fstring_item quote triple first) first skip line cs ≡ the_pieces b → ArePieces b.values
 unfolding body_of
 body_on_lines quote triple first zero line [] b low lines is = absurd cc
 body_on_lines quote triple first (suc skip) line [] b low lines is = absurd cc
@@ -192,7 +192,7 @@ normal_on_lines [] h = tt
 normal_on_lines (chars xs ∷ ps) h = with_chars_on_lines xs (normal ps) (normal_on_lines ps h.1)
 normal_on_lines (field ts ∷ ps) h = (h.0, normal_on_lines ps h.1)
 
-pieces_kind : (triple : Bool) (quote line : ℕ) (cs text : List ℕ) (t : Match) → 1 ≤ line → line + line_count text ≤ 65536 → matched_pieces cs (fstring_body quote triple line text) ≡ the_match t → IsKindOnLines t.kind
+pieces_kind : (triple : Bool) (quote line : ℕ) (cs text : List ℕ) (t : Match) → 1 ≤ line → line + line_count text ≤ suc most_lines → matched_pieces cs (fstring_body quote triple line text) ≡ the_match t → IsKindOnLines t.kind
 unfolding fstring_body
 pieces_kind triple quote line cs text t low lines is = go (body_of (fstring_item quote triple line) line 0 line text) refl is
   where
@@ -200,7 +200,7 @@ pieces_kind triple quote line cs text t low lines is = go (body_of (fstring_item
     go (Ok b) reads is = subst (λ (w : Match). IsKindOnLines w.kind) (match_is (record { kind = fstring (piece_row (normal b.values)); after = length cs - length b.rest; next = b.next }) t is) (normal_on_lines b.values (body_on_lines quote triple line 0 line text b low lines reads))
     go (Err e) reads is = absurd cc
 
-fstring_kind : (line : ℕ) (cs : List ℕ) (t : Match) → 1 ≤ line → line + line_count cs ≤ 65536 → fstring_at line cs ≡ the_match t → IsKindOnLines t.kind
+fstring_kind : (line : ℕ) (cs : List ℕ) (t : Match) → 1 ≤ line → line + line_count cs ≤ suc most_lines → fstring_at line cs ≡ the_match t → IsKindOnLines t.kind
 fstring_kind line [] t low lines is = absurd cc
 fstring_kind line (d ∷ ds) t low lines is = prefix_kind (cond (doubled d ds) (matched_pieces ds (fstring_body d true line (drop 2 ds))) (matched_pieces ds (fstring_body d false line ds))) t (λ u e. go (doubled d ds) u e) is
   where
@@ -208,7 +208,7 @@ fstring_kind line (d ∷ ds) t low lines is = prefix_kind (cond (doubled d ds) (
     go true u e = pieces_kind true d line ds (drop 2 ds) u low (let h = line_count-drop 2 ds in let m = (line_count-cons d ds).0 in omega (arith, lines, h, m)) e
     go false u e = pieces_kind false d line ds ds u low (let m = (line_count-cons d ds).0 in omega (arith, lines, m)) e
 
-pub token_kind : (line c : ℕ) (cs : List ℕ) (t : Match) → 1 ≤ line → line + line_count (c ∷ cs) ≤ 65536 → token_at line c cs ≡ the_match t → IsKindOnLines t.kind
+pub token_kind : (line c : ℕ) (cs : List ℕ) (t : Match) → 1 ≤ line → line + line_count (c ∷ cs) ≤ suc most_lines → token_at line c cs ≡ the_match t → IsKindOnLines t.kind
 unfolding token_at
 token_kind line c cs t low lines is = go (is_format_prefix c && begins_quote cs) is
   where

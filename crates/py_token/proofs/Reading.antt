@@ -86,7 +86,7 @@ with_front front read = read >>= λ ts. Ok (front ++ ts)
 
 pub record Reads (chars : List ℕ) (last : ℕ) (out : List PToken) (state : State) (line : ℕ) (rest : List ℕ) : Type 0 where
   pub same : with_front out (layout state last (segments 0 line rest)) ≡ spelling chars
-  pub lines : line + line_count rest ≤ 65536
+  pub lines : line + line_count rest ≤ suc most_lines
   pub long : length rest ≤ length chars
 
 none_before : (r : Result (List PToken) TokenError) → with_front [] r ≡ r

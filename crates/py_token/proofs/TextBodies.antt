@@ -1,10 +1,10 @@
 -- What the loop over the items of a string keeps.
-use Rattle.std.proofs.Common.{◌≡◌, ◌≤◌, ◌<◌, ◌+◌, ◌-◌, ℕ, Bool, List, [], ◌∷◌, ◌++◌, length, drop, Result, Ok, Err, refl, sym, ap, subst, ◌∙◌, arith, append_assoc, append-nil, length-drop}
+use Rattle.std.proofs.Common.{◌≡◌, ◌≤◌, ◌+◌, ◌-◌, ℕ, suc, Bool, List, [], ◌∷◌, ◌++◌, length, drop, Result, Ok, Err, refl, sym, ap, subst, ◌∙◌, arith, append_assoc, append-nil, length-drop}
 use Rattle.py_token.specs.declared.error.TokenError.{TokenError}
 use Rattle.py_token.specs.declared.error.TokenError.TheVariants.{OpenString}
 use Rattle.py_token.specs.Rules.{joined}
 use Rattle.py_token.proofs.Lines.{line_count-cons}
-use Rattle.py_token.specs.Source.{line_count}
+use Rattle.py_token.specs.Source.{line_count, most_lines}
 use Rattle.py_token.specs.Strings.{◌>>=◌, StringItem, holds, closing, fault, Body, more_of, after_of, text_item, body_of, text_body}
 use Rattle.py_token.specs.StringItems.{text_of}
 use Rattle.py_token.proofs.Bodies.{body_step, body_end, bounded}
@@ -16,7 +16,7 @@ with_text text read = read >>= λ x. Ok (text ++ x.0, x.1, x.2)
 
 pub record Reads (raw : Bool) (quote : ℕ) (triple : Bool) (first : ℕ) (chars text : List ℕ) (line : ℕ) (rest : List ℕ) : Type 0 where
   pub same : with_text text (text_of (body_of (text_item raw quote triple first) first 0 line rest)) ≡ text_of (text_body raw quote triple first chars)
-  pub lines : line + line_count rest ≤ 65536
+  pub lines : line + line_count rest ≤ suc most_lines
   pub long : length rest ≤ length chars
 
 no_text : (r : Result (List ℕ × ℕ × ℕ) TokenError) → with_text [] r ≡ r
@@ -27,7 +27,7 @@ more_text : (text xs : List ℕ) (body : Result (Body (List ℕ)) TokenError) �
 more_text text xs (Ok b) = ap (λ (t : List ℕ). Ok (t, length b.rest, b.next)) (sym (append_assoc text xs (joined b.values)))
 more_text text xs (Err e) = refl
 
-pub starts : (raw : Bool) (quote : ℕ) (triple : Bool) (first : ℕ) (chars text : List ℕ) → text ≡ [] → first + line_count chars ≤ 65536 → Reads raw quote triple first chars text first chars
+pub starts : (raw : Bool) (quote : ℕ) (triple : Bool) (first : ℕ) (chars text : List ℕ) → text ≡ [] → first + line_count chars ≤ suc most_lines → Reads raw quote triple first chars text first chars
 unfolding text_body
 starts raw quote triple first chars text is few = record {
   same = ap (λ t. with_text t (text_of (body_of (text_item raw quote triple first) first 0 first chars))) is ∙ no_text (text_of (body_of (text_item raw quote triple first) first 0 first chars));
@@ -36,7 +36,7 @@ starts raw quote triple first chars text is few = record {
 }
 
 -- a line on which characters are left
-pub on_a_line : {raw : Bool} {quote : ℕ} {triple : Bool} {first : ℕ} {chars text : List ℕ} {line : ℕ} (rest cs : List ℕ) (c : ℕ) → Reads raw quote triple first chars text line rest → rest ≡ c ∷ cs → line < 65536
+pub on_a_line : {raw : Bool} {quote : ℕ} {triple : Bool} {first : ℕ} {chars text : List ℕ} {line : ℕ} (rest cs : List ℕ) (c : ℕ) → Reads raw quote triple first chars text line rest → rest ≡ c ∷ cs → line ≤ most_lines
 on_a_line rest cs c h is = let lines = h.lines in let e = ap line_count is in let some = (line_count-cons c cs).1 in omega (arith, lines, e, some)
 
 pub fits : (raw : Bool) (quote : ℕ) (triple : Bool) (first line c : ℕ) (cs : List ℕ) (b : StringItem (List ℕ)) → b ≡ text_item raw quote triple first line c cs → after_of b ≤ length cs

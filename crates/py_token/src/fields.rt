@@ -1,7 +1,7 @@
 // Fields of f-strings.
 
-ghost use Rattle.std.specs.Prelude.{◌≡◌, ◌==◌, ◌&&◌, ◌≤◌, ◌<◌, ◌+◌, ◌^◌, length};
-ghost use Rattle.py_token.specs.Source.{line_count};
+ghost use Rattle.std.specs.Prelude.{◌≡◌, ◌==◌, ◌&&◌, ◌≤◌, ◌<◌, ◌+◌, ◌^◌, length, suc};
+ghost use Rattle.py_token.specs.Source.{line_count, most_lines};
 ghost use Rattle.py_token.specs.View.{view_kind};
 ghost use Rattle.py_token.specs.Fields.{is_blank, is_format_prefix, may_stand, reach, change_of, change_of_mark, field_tokens, field_fault, limit_fault, depth_after};
 ghost use Rattle.py_token.specs.ViewMatch.{view_match, view_change, field_token_of, tokens_of, view_field};
@@ -103,7 +103,7 @@ pub fn change_of(kind: &TokenKind) -> BracketChange
 /// The token at the front of a field, where no other f-string can stand.
 fn field_token(alloc: Global, line: u32, chars: &[char]) -> Result<Match, TokenError>
     requires some { 0 < length chars.now }
-    requires lines { line + line_count chars.now ≤ 65536 }
+    requires lines { line + line_count chars.now ≤ suc most_lines }
     ensures { Gives view_match result (field_token_of line chars.now) }
 {
     if is_format_prefix(chars[0]) && begins_quote(after(chars, 1)) {
@@ -149,7 +149,7 @@ pub fn field_tokens(
     line: u32,
     chars: &[char],
 ) -> Result<FieldBody, TokenError>
-    requires lines { line + line_count chars.now ≤ 65536 }
+    requires lines { line + line_count chars.now ≤ suc most_lines }
     requires few { length chars.now < 2 ^ 63 }
     ensures { Gives view_field result (tokens_of (field_tokens limit line 0 0 chars.now)) }
 {

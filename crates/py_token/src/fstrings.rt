@@ -1,7 +1,7 @@
 // F-strings after their opening marks.
 
-ghost use Rattle.std.specs.Prelude.{◌≡◌, ◌≤◌, ◌<◌, ◌+◌, ◌^◌, ◌∷◌, [], length, false, OnOk};
-ghost use Rattle.py_token.specs.Source.{line_count};
+ghost use Rattle.std.specs.Prelude.{◌≡◌, ◌≤◌, ◌<◌, ◌+◌, ◌^◌, ◌∷◌, [], length, false, OnOk, suc};
+ghost use Rattle.py_token.specs.Source.{line_count, most_lines};
 ghost use Rattle.py_token.specs.Fields.{reach, chars_item, fstring_at};
 ghost use Rattle.py_token.specs.StringItems.{item_of};
 ghost use Rattle.py_token.specs.View.{view_piece};
@@ -34,7 +34,7 @@ fn piece_item(
     c: char,
     others: &[char],
 ) -> Result<StringItem, TokenError>
-    requires on_a_line { line < 65536 }
+    requires on_a_line { line ≤ most_lines }
     requires not_raw { opening.raw ≡ false }
     requires no_field { false ≡ opens_field c others.now }
     ensures { chars_item (item_of result) ≡ piece_after opening line c others.now }
@@ -73,7 +73,7 @@ fn field_at(
     n: usize,
 ) -> Result<FieldBody, TokenError>
     requires reached { n ≡ reach opening.quote opening.triple others.now }
-    requires lines { line + line_count others.now ≤ 65536 }
+    requires lines { line + line_count others.now ≤ suc most_lines }
     requires few { length others.now < 2 ^ 63 }
     ensures { Gives view_field result (field_after opening line others.now) }
 {
@@ -110,7 +110,7 @@ fn push_field(
     n: usize,
 ) -> Result<usize, TokenError>
     requires reached { n ≡ reach opening.quote opening.triple others.now }
-    requires lines { line + line_count others.now ≤ 65536 }
+    requires lines { line + line_count others.now ≤ suc most_lines }
     requires few { length others.now < 2 ^ 63 }
     ensures { AppendsField result opening line others.now held pieces.old pieces.new }
 {
@@ -136,7 +136,7 @@ pub fn fstring_body(
     chars: &[char],
 ) -> Result<FStringBody, TokenError>
     requires not_raw { opening.raw ≡ false }
-    requires lines { opening.line + line_count chars.now ≤ 65536 }
+    requires lines { opening.line + line_count chars.now ≤ suc most_lines }
     requires few { length chars.now < 2 ^ 63 }
     ensures { Gives view_fstring result (pieces_after opening chars.now) }
 {
@@ -183,7 +183,7 @@ pub fn fstring_body(
 
 /// An f-string, with these characters after its prefix.
 fn fstring_at(alloc: Global, line: u32, others: &[char]) -> Result<Match, TokenError>
-    requires lines { line + line_count others.now ≤ 65536 }
+    requires lines { line + line_count others.now ≤ suc most_lines }
     requires few { length others.now < 2 ^ 63 }
     ensures { Gives view_match result (fstring_at line others.now) }
 {
@@ -210,7 +210,7 @@ fn fstring_at(alloc: Global, line: u32, others: &[char]) -> Result<Match, TokenE
 #[tactic(auto, unfolding(crate::specs::Fields::token_at))]
 pub fn token_at(alloc: Global, line: u32, chars: &[char]) -> Result<Match, TokenError>
     requires some { 0 < length chars.now }
-    requires lines { line + line_count chars.now ≤ 65536 }
+    requires lines { line + line_count chars.now ≤ suc most_lines }
     requires few { length chars.now < 2 ^ 63 }
     ensures { Gives view_match result (token_at_of line chars.now) }
 {

@@ -21,6 +21,6 @@ mod words;
 
 pub use error::TokenError;
 pub use laws::one_spelling;
-pub use source::count_lines;
+pub use source::{LINE_LIMIT, count_lines};
 pub use token::{Keyword, Mark, Piece, Token, TokenKind};
 pub use tokenizer::tokens;

@@ -1,7 +1,7 @@
 // Tokens but f-strings, at a place of a text.
 
-ghost use Rattle.std.specs.Prelude.{◌≡◌, ◌≤◌, ◌<◌, ◌+◌, length};
-ghost use Rattle.py_token.specs.Source.{line_count};
+ghost use Rattle.std.specs.Prelude.{◌≡◌, ◌≤◌, ◌<◌, ◌+◌, length, suc};
+ghost use Rattle.py_token.specs.Source.{line_count, most_lines};
 ghost use Rattle.py_token.specs.Rules.{is_quote, begins_quote, is_raw_prefix, string_at, raw_string, marked};
 ghost use Rattle.py_token.specs.Marks.{mark_at};
 ghost use Rattle.py_token.specs.ViewMatch.{view_match, word_text, number_text_at, plain_token_of};
@@ -53,7 +53,7 @@ fn string_at(
     quote: char,
     others: &[char],
 ) -> Result<Match, TokenError>
-    requires { line + line_count others.now ≤ 65536 }
+    requires { line + line_count others.now ≤ suc most_lines }
     ensures { Gives view_match result (string_at raw line quote others.now) }
 {
     let triple = doubled(quote, others);
@@ -74,7 +74,7 @@ fn string_at(
 
 /// A raw string, with these characters after its prefix.
 fn raw_string(alloc: Global, line: u32, others: &[char]) -> Result<Match, TokenError>
-    requires { line + line_count others.now ≤ 65536 }
+    requires { line + line_count others.now ≤ suc most_lines }
     ensures { Gives view_match result (raw_string line others.now) }
 {
     let Some((quote, rest)) = split_first(others) else {
@@ -133,7 +133,7 @@ fn marked(line: u32, c: char, others: &[char]) -> Result<Match, TokenError>
 #[tactic(auto, unfolding(crate::specs::Rules::plain_token))]
 pub fn plain_token(alloc: Global, line: u32, chars: &[char]) -> Result<Match, TokenError>
     requires some { 0 < length chars.now }
-    requires lines { line + line_count chars.now ≤ 65536 }
+    requires lines { line + line_count chars.now ≤ suc most_lines }
     ensures { Gives view_match result (plain_token_of line chars.now) }
 {
     let c = chars[0];

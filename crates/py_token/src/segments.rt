@@ -1,8 +1,8 @@
 // The segments that a text is cut into.
 
-ghost use Rattle.std.specs.Prelude.{◌≡◌, ◌≤◌, ◌<◌, ◌+◌, ◌^◌, length};
+ghost use Rattle.std.specs.Prelude.{◌≡◌, ◌≤◌, ◌<◌, ◌+◌, ◌^◌, length, suc};
 ghost use Rattle.std.specs.List.{prefix_len};
-ghost use Rattle.py_token.specs.Source.{line_count};
+ghost use Rattle.py_token.specs.Source.{line_count, most_lines};
 ghost use Rattle.py_token.specs.Segments.{in_comment};
 ghost use Rattle.py_token.specs.ViewSegments.{segment_of, token_segment_of, view_segment};
 ghost use Rattle.py_token.specs.Answers.{Gives};
@@ -45,7 +45,7 @@ fn comment_len(chars: &[char]) -> usize
 /// The token at the front, or the fault of the place where no rule takes one.
 fn token_segment(alloc: Global, line: u32, chars: &[char]) -> Result<Segment, TokenError>
     requires some { 0 < length chars.now }
-    requires lines { line + line_count chars.now ≤ 65536 }
+    requires lines { line + line_count chars.now ≤ suc most_lines }
     requires few { length chars.now < 2 ^ 63 }
     ensures { Gives view_segment result (token_segment_of line chars.now) }
 {
@@ -68,7 +68,7 @@ fn token_segment(alloc: Global, line: u32, chars: &[char]) -> Result<Segment, To
 #[tactic(auto, unfolding(crate::specs::Segments::segment_at))]
 pub fn front_segment(alloc: Global, line: u32, chars: &[char]) -> Result<Segment, TokenError>
     requires some { 0 < length chars.now }
-    requires lines { line + line_count chars.now ≤ 65536 }
+    requires lines { line + line_count chars.now ≤ suc most_lines }
     requires few { length chars.now < 2 ^ 63 }
     ensures { Gives view_segment result (segment_of line chars.now) }
 {

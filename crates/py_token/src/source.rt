@@ -7,6 +7,9 @@ ghost use Rattle.py_token.specs.Source.{begins, without_mark, joined_ends, sourc
 use crate::characters::{begins, split_first};
 use std::alloc::{AllocError, Global};
 
+/// The most lines of a source.
+pub const LINE_LIMIT: usize = 65_535;
+
 fn ends_line(c: char) -> bool
     ensures { result ≡ (c == 10) }
 {

@@ -1,9 +1,9 @@
 // Strings after their opening marks.
 
-ghost use Rattle.std.specs.Prelude.{◌≡◌, ◌≤◌, ◌<◌, ◌+◌, ◌++◌, length, drop, if◌then◌else◌, IsTrue, OnOk, SomeIff, true};
+ghost use Rattle.std.specs.Prelude.{◌≡◌, ◌≤◌, ◌<◌, ◌+◌, ◌++◌, length, drop, if◌then◌else◌, IsTrue, OnOk, SomeIff, true, suc};
 ghost use Rattle.std.specs.List.{list_all};
 ghost use Rattle.py_token.specs.Numbers.{is_digit_of};
-ghost use Rattle.py_token.specs.Source.{line_count};
+ghost use Rattle.py_token.specs.Source.{line_count, most_lines};
 ghost use Rattle.py_token.specs.Strings.{closes, escaped, digits_asked, is_character, hex_item, octal_len, octal_item, escape_item, raw_item};
 ghost use Rattle.py_token.specs.StringItems.{denoted_text, item_of, item_after, text_after, view_text};
 ghost use Rattle.py_token.specs.Answers.{Gives};
@@ -142,7 +142,7 @@ fn octal_item(line: u32, chars: &[char]) -> Result<StringItem, TokenError>
 
 /// A backslash, with these characters after it.
 fn escape_item(line: u32, chars: &[char]) -> Result<StringItem, TokenError>
-    requires { line < 65536 }
+    requires { line ≤ most_lines }
     ensures { item_of result ≡ escape_item line chars.now }
 {
     let Some((d, others)) = split_first(chars) else {
@@ -168,7 +168,7 @@ fn escape_item(line: u32, chars: &[char]) -> Result<StringItem, TokenError>
 
 /// A backslash in a raw string, with these characters after it.
 fn raw_item(line: u32, chars: &[char]) -> Result<StringItem, TokenError>
-    requires { line < 65536 }
+    requires { line ≤ most_lines }
     ensures { item_of result ≡ raw_item line chars.now }
 {
     match split_first(chars) {
@@ -187,7 +187,7 @@ pub fn text_item(
     c: char,
     others: &[char],
 ) -> Result<StringItem, TokenError>
-    requires { line < 65536 }
+    requires { line ≤ most_lines }
     ensures { item_of result ≡ item_after opening line c others.now }
 {
     if closes(opening, c, others) {
@@ -234,7 +234,7 @@ pub struct TextBody {
 }
 
 pub fn text_body(alloc: Global, opening: Opening, chars: &[char]) -> Result<TextBody, TokenError>
-    requires { opening.line + line_count chars.now ≤ 65536 }
+    requires { opening.line + line_count chars.now ≤ suc most_lines }
     ensures { Gives view_text result (text_after opening chars.now) }
 {
     let mut text = Text::new(alloc);

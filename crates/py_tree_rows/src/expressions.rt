@@ -4,7 +4,7 @@
 use crate::writer::Writer;
 use py_parse_expr::{ExprPart, parse_expr, read_expr};
 use py_syntax::{Comparison, Expr, FormatPart, Fragment, Sign};
-use py_token::{Token, count_lines, tokens};
+use py_token::{LINE_LIMIT, Token, count_lines, tokens};
 use py_value::{BinOp, CmpOp};
 use std::alloc::Global;
 use std::test::Fail;
@@ -195,7 +195,7 @@ fn show(out: &mut Writer, expr: &Expr) {
 /// What is read from the beginning of a source, written down.
 fn shown(alloc: Global, source: &str, part: ExprPart) -> Result<String, Fail> {
     let mut out = Writer::new(alloc);
-    if count_lines(source) > 65535 {
+    if count_lines(source) > LINE_LIMIT {
         return out.done();
     }
     let Ok(tokens) = tokens(alloc, source) else {
@@ -216,7 +216,7 @@ fn shown(alloc: Global, source: &str, part: ExprPart) -> Result<String, Fail> {
 /// What is read from a source as a whole list without the end of its line, written down.
 fn shown_whole(alloc: Global, source: &str) -> Result<String, Fail> {
     let mut out = Writer::new(alloc);
-    if count_lines(source) > 65535 {
+    if count_lines(source) > LINE_LIMIT {
         return out.done();
     }
     let Ok(mut tokens) = tokens(alloc, source) else {

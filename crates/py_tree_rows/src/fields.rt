@@ -2,13 +2,13 @@
 
 use py_grammar::ReadError;
 use py_parse_expr::{ExprPart, read_expr};
-use py_token::{TokenKind, count_lines, tokens};
+use py_token::{LINE_LIMIT, TokenKind, count_lines, tokens};
 use std::alloc::Global;
 use std::test::Fail;
 
 /// What is told of the f-string that a source begins with.
 fn told(alloc: Global, source: &str) -> Result<&'static str, Fail> {
-    if count_lines(source) > 65535 {
+    if count_lines(source) > LINE_LIMIT {
         return Ok("lines");
     }
     let Ok(tokens) = tokens(alloc, source) else {

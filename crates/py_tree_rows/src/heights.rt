@@ -2,7 +2,7 @@
 
 use crate::writer::Writer;
 use py_parse_expr::{ExprPart, read_expr};
-use py_token::{Piece, Token, TokenKind, count_lines, tokens};
+use py_token::{LINE_LIMIT, Piece, Token, TokenKind, count_lines, tokens};
 use std::alloc::Global;
 use std::test::Fail;
 
@@ -21,7 +21,7 @@ fn outcome(alloc: Global, tokens: &[Token], part: ExprPart) -> Result<String, Fa
 
 /// Where the reading of a source ends.
 fn ends(alloc: Global, source: &str, part: ExprPart) -> Result<String, Fail> {
-    if count_lines(source) > 65535 {
+    if count_lines(source) > LINE_LIMIT {
         return Ok(String::new(alloc));
     }
     let Ok(tokens) = tokens(alloc, source) else {
@@ -59,7 +59,7 @@ fn nested_field(alloc: Global, count: usize, middle: &str) -> Result<String, Fai
 
 /// Where the reading of a source ends that stands in so many f-strings inside each other.
 fn nested_strings(alloc: Global, count: usize, source: &str) -> Result<String, Fail> {
-    if count_lines(source) > 65535 {
+    if count_lines(source) > LINE_LIMIT {
         return Ok(String::new(alloc));
     }
     let Ok(mut tokens) = tokens(alloc, source) else {

@@ -3,7 +3,7 @@
 use crate::writer::Writer;
 use py_parse_pattern::read_patterns;
 use py_syntax::{Brackets, Constant, Pattern};
-use py_token::{count_lines, tokens};
+use py_token::{LINE_LIMIT, count_lines, tokens};
 use std::alloc::Global;
 use std::test::Fail;
 
@@ -87,7 +87,7 @@ fn show_all(out: &mut Writer, patterns: &[Pattern]) {
 /// What is read from the beginning of a source, written down.
 fn shown(alloc: Global, source: &str) -> Result<String, Fail> {
     let mut out = Writer::new(alloc);
-    if count_lines(source) > 65535 {
+    if count_lines(source) > LINE_LIMIT {
         return out.done();
     }
     let Ok(tokens) = tokens(alloc, source) else {
@@ -174,7 +174,7 @@ fn nested(alloc: Global, count: usize, middle: &str) -> Result<String, Fail> {
     source.put(":");
     let source = source.done()?;
     let mut out = Writer::new(alloc);
-    if count_lines(source.as_str()) > 65535 {
+    if count_lines(source.as_str()) > LINE_LIMIT {
         return out.done();
     }
     let Ok(tokens) = tokens(alloc, source.as_str()) else {

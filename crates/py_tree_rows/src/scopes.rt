@@ -4,7 +4,7 @@ use crate::writer::Writer;
 use py_parse::parse;
 use py_scope::{ScopeError, Scopes, check};
 use py_syntax::Module;
-use py_token::{count_lines, tokens};
+use py_token::{LINE_LIMIT, count_lines, tokens};
 use py_value::Text;
 use std::alloc::{AllocError, Global};
 use std::test::Fail;
@@ -94,7 +94,7 @@ static FIRST: [Row; 4] = [
 
 /// The module of a short source.
 fn module(alloc: Global, source: &str) -> Result<Module, Fail> {
-    if count_lines(source) > 65535 {
+    if count_lines(source) > LINE_LIMIT {
         return Err(AllocError.into());
     }
     Ok(parse(alloc, &tokens(alloc, source)?)?)

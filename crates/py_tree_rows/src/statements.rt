@@ -3,7 +3,7 @@
 use crate::writer::Writer;
 use py_parse::{SyntaxError, parse};
 use py_syntax::{Alias, Case, Clause, Module, Stmt, StmtKind, Suite};
-use py_token::{count_lines, tokens};
+use py_token::{LINE_LIMIT, count_lines, tokens};
 use py_value::BinOp;
 use std::alloc::Global;
 use std::test::Fail;
@@ -186,7 +186,7 @@ fn show(out: &mut Writer, kind: &StmtKind) {
 
 /// What a source is read as.
 fn read(alloc: Global, source: &str) -> Option<Result<Module, SyntaxError>> {
-    if count_lines(source) > 65535 {
+    if count_lines(source) > LINE_LIMIT {
         return None;
     }
     match tokens(alloc, source) {

@@ -1,7 +1,7 @@
 // What sources spell, row by row: each token, with its lines where they aren't the first, or the fault.
 
 use crate::writer::Writer;
-use py_token::{Piece, Token, TokenKind, count_lines, tokens};
+use py_token::{LINE_LIMIT, Piece, Token, TokenKind, count_lines, tokens};
 use std::alloc::Global;
 use std::test::Fail;
 
@@ -66,7 +66,7 @@ fn show_pieces(out: &mut Writer, pieces: &[Piece]) {
 /// The tokens of a source, or its fault, written down.
 fn shown(alloc: Global, source: &str) -> Result<String, Fail> {
     let mut out = Writer::new(alloc);
-    if count_lines(source) > 65535 {
+    if count_lines(source) > LINE_LIMIT {
         return out.done();
     }
     match tokens(alloc, source) {
@@ -275,7 +275,7 @@ fn long_lines(rt: HostRuntime) -> Result<(), Fail> {
     source.nest("abc", 100000, "'\nf'", "");
     source.nest("{a}{ }", 60000, "'", "");
     let source = source.done()?;
-    if count_lines(source.as_str()) > 65535 {
+    if count_lines(source.as_str()) > LINE_LIMIT {
         return Ok(());
     }
     match tokens(rt.alloc(), source.as_str()) {
