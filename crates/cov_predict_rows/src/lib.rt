@@ -1,5 +1,6 @@
-//! Rows of statement lines, of predicted, possible and branching arcs, and of sets of arcs, as tests. They stand in a crate
-//! of their own so that the library is proved once and not a second time with its tests.
+//! Rows of statement lines, of predicted, possible and branching arcs, and of sets of arcs, as
+//! tests. They stand in a crate of their own so that the library is proved once and not a second
+//! time with its tests.
 #![tactic(auto)]
 
 #[cfg(test)]

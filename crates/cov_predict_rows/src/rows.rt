@@ -7,7 +7,8 @@ use py_token::{LINE_LIMIT, count_lines, tokens};
 use std::alloc::{AllocError, Global};
 use std::test::Fail;
 
-/// A source, its statement lines, its arcs, and its branches: predicted arcs from a line that has more than one.
+/// A source, its statement lines, its arcs, and its branches: predicted arcs from a line that has
+/// more than one.
 pub(crate) struct Row {
     pub(crate) title: &'static str,
     pub(crate) source: &'static str,

@@ -1,7 +1,7 @@
 -- The code of patterns, which take the value on top (Python Language Reference, 8.6.4, "Patterns").
 -- After a match the values of the captured names stand below what still waits to be matched, the
 -- first lowest.
---     captures                        how many names a pattern captures
+--     captured                        the names that a pattern captures
 --     pattern_size, pattern_code      patterns
 --     names_code                      the names of a match bound
 use Rattle.std.specs.Prelude.{ℕ, ◌+◌, Bool, false, List, [], ◌∷◌, ◌++◌, length, Option}

@@ -194,8 +194,18 @@ fn address_of(value: &Value) -> Option<Addr>
     ensures { option_map place_of result ≡ address_of (plain value.now) }
 {
     match value {
+        Value::None => None,
+        Value::Bool(_) => None,
+        Value::Int(_) => None,
+        Value::Str(_) => None,
+        Value::Tuple(_) => None,
         Value::List(addr) => Some(*addr),
-        _ => None,
+        Value::Dict(_) => None,
+        Value::Func(_, _) => None,
+        Value::Module(_) => None,
+        Value::Kind(_) => None,
+        Value::Exc(_, _) => None,
+        Value::Builtin(_) => None,
     }
 }
 

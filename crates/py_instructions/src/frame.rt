@@ -17,8 +17,8 @@ pub struct Frame {
     pub depth: u32,
 }
 
-/// The frame that runs, those that wait for it, and the steps that are left. `spare` is a list that is kept for its room:
-/// methods and built-in functions get their values in it.
+/// The frame that runs, those that wait for it, and the steps that are left. `spare` is a list that
+/// is kept for its room: methods and built-in functions get their values in it.
 #[derive(Drop)]
 pub struct State {
     pub top: Frame,

@@ -1,8 +1,8 @@
 //! Instructions over a machine in memory: what the machine holds, and what each instruction does to
 //! it, as far as the machine does it alone.
 //!
-//! `State::decide` does the instruction at the present place, and answers a `Turn`, which is what is
-//! left to do of it.
+//! `State::decide` does the instruction at the present place, and answers a `Turn`, which is what
+//! is left to do of it.
 #![tactic(auto)]
 
 mod calls;

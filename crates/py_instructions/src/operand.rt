@@ -5,7 +5,7 @@ ghost use Rattle.py_value.specs.View.{plain, plain_raised};
 ghost use Rattle.py_code.specs.Configurations.{on};
 ghost use Rattle.py_code.specs.Operands.{value_in, callee_in, operand_of, walk_in, way_in, exception_of_way, exception_in};
 ghost use Rattle.py_store.specs.Values.{plain_callee};
-ghost use Rattle.py_instructions.specs.Operands.{plain_way, plain_operand, plain_walk};
+ghost use Rattle.py_instructions.specs.Operands.{plain_way, plain_operand, plain_walk, is_builtin, borrows_values};
 
 use py_store::Callee;
 use py_value::{Argument, ExcKind, Method, NoMemory, Raised, Value};
@@ -22,8 +22,8 @@ pub enum Way {
     Raise(Raised, bool),
 }
 
-/// What stands on the operands: a value; a method with the value that it is called on; the walk over
-/// a value, with its number of items at the start and the place of the next one; or a way out.
+/// What stands on the operands: a value; a method with the value that it is called on; the walk
+/// over a value, with its number of items at the start and the place of the next one; or a way out.
 pub enum Operand {
     Value(Value),
     Method(Method, Value),
@@ -60,6 +60,26 @@ pub fn copy_raised(raised: &Raised) -> Result<Raised, NoMemory>
         kind: raised.kind,
         arg,
     })
+}
+
+/// Whether a value is a built-in function.
+fn is_builtin(value: &Value) -> bool
+    ensures { result ≡ is_builtin (plain value.now) }
+{
+    match value {
+        Value::None => false,
+        Value::Bool(_) => false,
+        Value::Int(_) => false,
+        Value::Str(_) => false,
+        Value::Tuple(_) => false,
+        Value::List(_) => false,
+        Value::Dict(_) => false,
+        Value::Func(_, _) => false,
+        Value::Module(_) => false,
+        Value::Kind(_) => false,
+        Value::Exc(_, _) => false,
+        Value::Builtin(_) => true,
+    }
 }
 
 impl Way {
@@ -103,12 +123,11 @@ impl Operand {
     }
 
     /// Whether a call of it only borrows its values: a frame and an exception keep them.
-    pub fn borrows_values(&self) -> bool {
+    pub fn borrows_values(&self) -> bool
+        ensures { result ≡ borrows_values (plain_operand self.now) }
+    {
         match self {
-            Operand::Value(value) => match value {
-                Value::Builtin(_) => true,
-                _ => false,
-            },
+            Operand::Value(value) => is_builtin(value),
             Operand::Method(_, _) => true,
             Operand::Walk(_, _, _) => false,
             Operand::Way(_) => false,

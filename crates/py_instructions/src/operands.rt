@@ -4,7 +4,7 @@ ghost use Rattle.py_value.specs.HeapView.{plain_heap};
 ghost use Rattle.py_value.specs.View.{plains};
 ghost use Rattle.py_code.specs.Configurations.{of_value};
 ghost use Rattle.py_code.specs.Operands.{value_in};
-ghost use Rattle.py_instructions.specs.Operands.{plain_operand};
+ghost use Rattle.py_instructions.specs.Operands.{plain_operand, borrows_if_any};
 ghost use Rattle.py_instructions.specs.View.{plain_operands, Discards, Inserts, TakesValues, TakesTwo, TakesTruth};
 
 use crate::operand::Operand;
@@ -88,14 +88,17 @@ impl Stack<Operand> {
     }
 
     /// Whether a call of the operand so many below the top one only borrows its values.
-    pub fn borrows_values(&self, below: usize) -> bool {
-        match self.get(below) {
+    pub fn borrows_values(&self, below: usize) -> bool
+        ensures { result ≡ borrows_if_any (slice_get (plain_operands self.now) below) }
+    {
+        match self.operand(below) {
             None => false,
             Some(operand) => operand.borrows_values(),
         }
     }
 
-    /// Takes so many values away, the lowest first, where there are so many. They come in this list, in place of what it held.
+    /// Takes so many values away, the lowest first, where there are so many. They come in this
+    /// list, in place of what it held.
     pub fn take_values(
         &mut self,
         list: Vec<Value>,

@@ -37,8 +37,8 @@ impl Source for NoInput {
     }
 }
 
-/// Calls a built-in function. Once it found no input left, the source isn't read again: it might give bytes after its end, as a
-/// terminal does.
+/// Calls a built-in function. Once it found no input left, the source isn't read again: it might
+/// give bytes after its end, as a terminal does.
 pub fn call_to_end<I: Source, O: Sink>(
     alloc: Global,
     which: Builtin,

@@ -1,7 +1,7 @@
 //! The machine of frames: runs programs of code, and calls their functions.
 //!
-//! `run` runs the script of programs on a store, `call` calls what a global of a module holds. An `Engine` is whoever runs programs,
-//! and `Machine` is one that does it as `run` does.
+//! `run` runs the script of programs on a store, `call` calls what a global of a module holds. An
+//! `Engine` is whoever runs programs, and `Machine` is one that does it as `run` does.
 #![tactic(auto)]
 
 mod calls;

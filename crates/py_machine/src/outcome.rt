@@ -14,8 +14,9 @@ use py_builtins::str_of;
 use py_value::{Argument, ExcKind, Heap, NoMemory, Raised, Text, Value};
 use std::alloc::Global;
 
-/// How a program ended: normally; by `sys.exit`, with a status, and with a text where it was given no number; by an exception
-/// that nothing caught, with its text; or it was cut, as its budget was spent.
+/// How a program ended: normally; by `sys.exit`, with a status, and with a text where it was given
+/// no number; by an exception that nothing caught, with its text; or it was cut, as its budget was
+/// spent.
 #[derive(Drop)]
 pub enum Outcome {
     Finished,

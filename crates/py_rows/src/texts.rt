@@ -10,7 +10,7 @@ use std::alloc::Global;
 
 mod rows;
 
-use rows::{CONTAINERS, EXCEPTIONS, MISSPELT, PLAIN, Row, STRINGS};
+use rows::{MISSPELT, Row, VALUES};
 
 fn kind_named(name: &str) -> Option<ExcKind> {
     for kind in &KINDS {
@@ -222,35 +222,8 @@ fn is_right(alloc: Global, row: &Row) -> Result<bool, NoMemory> {
 }
 
 #[test]
-fn plain_values(rt: HostRuntime) {
-    for row in &PLAIN {
-        let right = is_right(rt.alloc(), row).expect(&rt, "memory");
-        let words = row.0;
-        assert!(rt; right, "at {words}");
-    }
-}
-
-#[test]
-fn strings(rt: HostRuntime) {
-    for row in &STRINGS {
-        let right = is_right(rt.alloc(), row).expect(&rt, "memory");
-        let words = row.0;
-        assert!(rt; right, "at {words}");
-    }
-}
-
-#[test]
-fn containers(rt: HostRuntime) {
-    for row in &CONTAINERS {
-        let right = is_right(rt.alloc(), row).expect(&rt, "memory");
-        let words = row.0;
-        assert!(rt; right, "at {words}");
-    }
-}
-
-#[test]
-fn exceptions(rt: HostRuntime) {
-    for row in &EXCEPTIONS {
+fn values(rt: HostRuntime) {
+    for row in &VALUES {
         let right = is_right(rt.alloc(), row).expect(&rt, "memory");
         let words = row.0;
         assert!(rt; right, "at {words}");

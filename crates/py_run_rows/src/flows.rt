@@ -87,19 +87,13 @@ fn lands_at(depths: &[usize], place: usize, rest: usize, handler: Handler) -> bo
     stands(depths, target, depth + 1)
 }
 
-/// Goes on at the next place.
-fn falls(
-    unit: &Unit,
-    depths: &[usize],
-    place: usize,
-    depth: usize,
-    takes: usize,
-    leaves: usize,
-) -> bool
+/// Takes and leaves so many operands, and goes on at the next place.
+fn falls(unit: &Unit, depths: &[usize], place: usize, depth: usize, moves: (usize, usize)) -> bool
     requires { place < usize.MAX }
     ensures { IsTrue result
-        → Flows (plain_unit unit.now) depths.now place depth (quiet place takes leaves) }
+        → Flows (plain_unit unit.now) depths.now place depth (quiet place moves.0 moves.1) }
 {
+    let (takes, leaves) = moves;
     if takes > depth {
         return false;
     }
@@ -107,18 +101,12 @@ fn falls(
 }
 
 /// The same, or raises an exception.
-fn risks(
-    unit: &Unit,
-    depths: &[usize],
-    place: usize,
-    depth: usize,
-    takes: usize,
-    leaves: usize,
-) -> bool
+fn risks(unit: &Unit, depths: &[usize], place: usize, depth: usize, moves: (usize, usize)) -> bool
     requires { place < usize.MAX }
     ensures { IsTrue result
-        → Flows (plain_unit unit.now) depths.now place depth (risky place takes leaves) }
+        → Flows (plain_unit unit.now) depths.now place depth (risky place moves.0 moves.1) }
 {
+    let (takes, leaves) = moves;
     if takes > depth {
         return false;
     }
@@ -236,28 +224,28 @@ pub(crate) fn flows(unit: &Unit, depths: &[usize], place: usize, depth: usize, i
         → Flows (plain_unit unit.now) depths.now place depth (footprint place instr) }
 {
     match instr {
-        Instr::Constant(_) => falls(unit, depths, place, depth, 0, 1),
-        Instr::Pop => falls(unit, depths, place, depth, 1, 0),
-        Instr::LoadLocal(_) => risks(unit, depths, place, depth, 0, 1),
-        Instr::StoreLocal(_) => falls(unit, depths, place, depth, 1, 0),
-        Instr::LoadGlobal(_) => risks(unit, depths, place, depth, 0, 1),
-        Instr::StoreGlobal(_) => falls(unit, depths, place, depth, 1, 0),
-        Instr::Tuple(n) => risks(unit, depths, place, depth, n as usize, 1),
-        Instr::List(n) => risks(unit, depths, place, depth, n as usize, 1),
-        Instr::Compare(_) => risks(unit, depths, place, depth, 2, 1),
+        Instr::Constant(_) => falls(unit, depths, place, depth, (0, 1)),
+        Instr::Pop => falls(unit, depths, place, depth, (1, 0)),
+        Instr::LoadLocal(_) => risks(unit, depths, place, depth, (0, 1)),
+        Instr::StoreLocal(_) => falls(unit, depths, place, depth, (1, 0)),
+        Instr::LoadGlobal(_) => risks(unit, depths, place, depth, (0, 1)),
+        Instr::StoreGlobal(_) => falls(unit, depths, place, depth, (1, 0)),
+        Instr::Tuple(n) => risks(unit, depths, place, depth, (n as usize, 1)),
+        Instr::List(n) => risks(unit, depths, place, depth, (n as usize, 1)),
+        Instr::Compare(_) => risks(unit, depths, place, depth, (2, 1)),
         Instr::Goto(to) => jumps(unit, depths, place, depth, 0, to, 0),
         Instr::IfFalse(to) => forks(unit, depths, place, depth, to),
-        Instr::Mark(_) => falls(unit, depths, place, depth, 0, 0),
-        Instr::Again(_) => falls(unit, depths, place, depth, 0, 0),
-        Instr::Walk => risks(unit, depths, place, depth, 1, 1),
+        Instr::Mark(_) => falls(unit, depths, place, depth, (0, 0)),
+        Instr::Again(_) => falls(unit, depths, place, depth, (0, 0)),
+        Instr::Walk => risks(unit, depths, place, depth, (1, 1)),
         Instr::Next(to) => walks(unit, depths, place, depth, to),
-        Instr::Call(n) => risks(unit, depths, place, depth, n as usize + 1, 1),
+        Instr::Call(n) => risks(unit, depths, place, depth, (n as usize + 1, 1)),
         Instr::Return => ends(unit, depths, place, depth),
-        Instr::Function(_) => falls(unit, depths, place, depth, 0, 1),
-        Instr::FunctionWith(_) => falls(unit, depths, place, depth, 1, 1),
+        Instr::Function(_) => falls(unit, depths, place, depth, (0, 1)),
+        Instr::FunctionWith(_) => falls(unit, depths, place, depth, (1, 1)),
         Instr::Raise => raises(unit, depths, place, depth),
         Instr::Leave(n, to) => jumps(unit, depths, place, depth, n as usize, to, 0),
-        Instr::Ending => falls(unit, depths, place, depth, 0, 1),
+        Instr::Ending => falls(unit, depths, place, depth, (0, 1)),
         Instr::Breaking(n, to) => jumps(unit, depths, place, depth, n as usize, to, 1),
         Instr::Continuing(n, to) => jumps(unit, depths, place, depth, n as usize, to, 1),
         Instr::Returning(n, to) => jumps(unit, depths, place, depth, n as usize + 1, to, 1),

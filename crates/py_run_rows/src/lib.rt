@@ -1,6 +1,6 @@
 //! Turns worked rows of programs into tests: what a source writes, how it ends, its steps and its
-//! events. They stand in a crate of their own so that the libraries are proved once and not a second
-//! time with their tests.
+//! events. They stand in a crate of their own so that the libraries are proved once and not a
+//! second time with their tests.
 #![tactic(auto)]
 
 #[cfg(test)]

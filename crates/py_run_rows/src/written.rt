@@ -260,7 +260,8 @@ pub(crate) static DEEP: [Written; 2] = [
 ];
 
 /// Functions that go through 1 and 2, with a `try` whose `finally` prints the number. In `f` the
-/// `try` is left in the way of the argument. In `g` it raises, and the `finally` is left in that way.
+/// `try` is left in the way of the argument. In `g` it raises, and the `finally` is left in that
+/// way.
 pub(crate) static FINALLY: [Written; 3] = [
     Written {
         name: "",

@@ -18,7 +18,8 @@ pub struct Global {
     pub value: Option<Value>,
 }
 
-/// Names with their values, each at its number, and the numbers of those that are set, in the order in which they were.
+/// Names with their values, each at its number, and the numbers of those that are set, in the order
+/// in which they were.
 #[derive(Drop)]
 pub struct Globals {
     pub(crate) items: Vec<Global>,
@@ -103,7 +104,8 @@ impl Globals {
         }
     }
 
-    /// Sets a name: one that is set keeps its place, and a new one goes last. The name is looked for at this number first.
+    /// Sets a name: one that is set keeps its place, and a new one goes last. The name is looked
+    /// for at this number first.
     pub fn set(&mut self, name: &Text, likely: Option<usize>, value: Value) -> Result<(), NoMemory>
         ensures { OnOk result (names_of self.new
             ≡ with_name name.now (plain value) (names_of self.old)) }

@@ -1,4 +1,4 @@
-// Names that no module sets.
+// Names that are predefined: they are found where a module sets none of that name.
 ghost use Rattle.std.specs.Prelude.{◌≡◌, ◌++◌, map, Some, None, MatchOption};
 ghost use Rattle.py_value.specs.Keys.{is_same_text};
 ghost use Rattle.py_value.specs.Plain.{builtin_value, kind_value};

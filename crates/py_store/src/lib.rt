@@ -1,5 +1,6 @@
-//! What a program's modules hold as they run, and what the machine finds in it: globals and names that no module sets, names
-//! after dots, modules, units and handlers by their numbers, items of values, and values of parameters.
+//! What a program's modules hold as they run, and what the machine finds in it: globals and
+//! predefined names, names after dots, modules, units and handlers by their numbers, items of
+//! values, and values of parameters.
 #![tactic(auto)]
 
 mod attributes;

@@ -6,8 +6,8 @@ use cov_event::CodeId;
 use py_value::NoMemory;
 use std::alloc::Global;
 
-/// For each unit of each module, the numbers of its names among the globals of the module. Whoever looks at such a number looks
-/// whether the name stands there.
+/// For each unit of each module, the numbers of its names among the globals of the module. Whoever
+/// looks at such a number looks whether the name stands there.
 #[derive(Drop)]
 pub struct Links {
     pub modules: Vec<Vec<Vec<usize>>>,

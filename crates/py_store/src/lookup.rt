@@ -40,7 +40,8 @@ pub fn handler_among(handlers: &[Handler], place: usize) -> Option<Handler>
     found
 }
 
-/// The handler, if its range holds the place and isn't wider than that of another, or else that one.
+/// The handler, if its range holds the place and isn't wider than that of another, or else that
+/// one.
 fn nearer(handler: Handler, place: usize, other: Option<Handler>) -> Option<Handler>
     ensures { result ≡ (if guards place handler then Some (inner handler other) else other) }
 {

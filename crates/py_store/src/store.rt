@@ -24,7 +24,8 @@ use py_value::value::ModId;
 use py_value::{Addr, Builtin, Heap, NoMemory, Text, Value};
 use std::alloc::Global as Alloc;
 
-/// The globals of the modules, the modules that were begun, the lists and dicts, and the list of the words.
+/// The globals of the modules, the modules that were begun, the lists and dicts, and the list of
+/// the words.
 #[derive(Drop)]
 pub struct Store {
     pub(crate) globals: Vec<Globals>,
@@ -80,7 +81,8 @@ impl Store {
         self.found(module, name, None)
     }
 
-    /// The value of a global of the module of a code, if it is set. Its name has this number in the code.
+    /// The value of a global of the module of a code, if it is set. Its name has this number in the
+    /// code.
     pub fn global_at(&self, code: CodeId, n: u32, name: &Text) -> Option<&Value>
         ensures { MatchOption result (global_of code.module name.now (world_of self.now) ≡ None)
             (λ v. global_of code.module name.now (world_of self.now) ≡ Some (plain v.now)) }
@@ -268,7 +270,8 @@ fn forget(numbers: &mut Vec<u32>, number: u32)
     }
 }
 
-/// The globals of modules, none of which is set, and where the names of their units stand among them.
+/// The globals of modules, none of which is set, and where the names of their units stand among
+/// them.
 fn no_globals(
     alloc: Alloc,
     modules: &[Program],

@@ -3,7 +3,8 @@
 --     AreWellFormed              modules without a fault of scope
 --     HavePremises               such modules have what the laws of code ask for
 --     SettlesReply               a call that a larger budget doesn't change
---     TracesKept                 a machine that runs faithful code of such modules does what they mean
+--     TracesKept                 a machine that runs faithful code of such modules does what these
+--                                mean
 use Rattle.std.specs.Prelude.{◌≡◌, ◌≢◌, ◌<◌, ◌≤◌, ℕ, List, [], ◌∷◌, length}
 use Rattle.py_builtins.specs.Outcomes as outcomes
 use Rattle.py_builtins.specs.Returns as returns

@@ -1,5 +1,5 @@
-// What expressions are read from sources, row by row: the expression with the place after it, or the refusal with its
-// place.
+// What expressions are read from sources, row by row: the expression with the place after it, or
+// the refusal with its place.
 
 use crate::writer::Writer;
 use py_parse_expr::{ExprPart, parse_expr, read_expr};
@@ -235,7 +235,8 @@ fn shown_whole(alloc: Global, source: &str) -> Result<String, Fail> {
     out.done()
 }
 
-/// The rows that are read otherwise; without a part, as whole lists. Each row is a source and what is read from it, with
+/// The rows that are read otherwise; without a part, as whole lists. Each row is a source and what
+/// is read from it, with
 /// `~~` between them and `^` after them.
 fn misread(alloc: Global, rows: &str, part: Option<ExprPart>) -> Result<String, Fail> {
     let mut out = Writer::new(alloc);

@@ -31,7 +31,8 @@ fn told(alloc: Global, source: &str) -> Result<&'static str, Fail> {
     }
 }
 
-// A row is an f-string and whether its fields are expressions, with `~` between them and `^` after them.
+// A row is an f-string and whether its fields are expressions, with `~` between them and `^` after
+// them.
 
 fn rows() -> &'static str {
     "\

@@ -290,7 +290,7 @@ fn deep_strings(rt: HostRuntime) -> Result<(), Fail> {
 }
 
 /// So many brackets in a field, what stands in them, and where the reading ends.
-const FIELDS: [(&str, usize, &str, &str); 4] = [
+static FIELDS: [(&str, usize, &str, &str); 4] = [
     ("A name at the limit", 198, "a", "@1"),
     ("A name past it", 199, "a", "TooDeep(0)"),
     ("A name far past it", 300, "a", "TooDeep(0)"),
@@ -299,15 +299,15 @@ const FIELDS: [(&str, usize, &str, &str); 4] = [
 
 #[test]
 fn deep_fields(rt: HostRuntime) -> Result<(), Fail> {
-    for (title, count, middle, wanted) in FIELDS {
-        let found = nested_field(rt.alloc(), count, middle)?;
-        assert_eq!(rt; found.as_str(), wanted, "{title}");
+    for (title, count, middle, wanted) in &FIELDS {
+        let found = nested_field(rt.alloc(), *count, middle)?;
+        assert_eq!(rt; found.as_str(), *wanted, "{title}");
     }
     Ok(())
 }
 
 /// So many f-strings inside each other, what stands in them, and where the reading ends.
-const NESTED_STRINGS: [(&str, usize, &str, &str); 4] = [
+static NESTED_STRINGS: [(&str, usize, &str, &str); 4] = [
     ("A name at the limit", 199, "a", "@1"),
     ("A name past it", 200, "a", "TooDeep(0)"),
     ("A name far past it", 1000, "a", "TooDeep(0)"),
@@ -316,9 +316,9 @@ const NESTED_STRINGS: [(&str, usize, &str, &str); 4] = [
 
 #[test]
 fn strings_inside_each_other(rt: HostRuntime) -> Result<(), Fail> {
-    for (title, count, middle, wanted) in NESTED_STRINGS {
-        let found = nested_strings(rt.alloc(), count, middle)?;
-        assert_eq!(rt; found.as_str(), wanted, "{title}");
+    for (title, count, middle, wanted) in &NESTED_STRINGS {
+        let found = nested_strings(rt.alloc(), *count, middle)?;
+        assert_eq!(rt; found.as_str(), *wanted, "{title}");
     }
     Ok(())
 }

@@ -1,5 +1,5 @@
-//! Worked rows of sources, as tests: tokens, trees, limits and scopes. They stand in a crate of their
-//! own so that the libraries are proved once and not a second time with their tests.
+//! Worked rows of sources, as tests: tokens, trees, limits and scopes. They stand in a crate of
+//! their own so that the libraries are proved once and not a second time with their tests.
 #![tactic(auto)]
 
 #[cfg(test)]

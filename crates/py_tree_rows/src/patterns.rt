@@ -1,4 +1,5 @@
-// What patterns are read from sources, row by row: the pattern with the place after it, or the refusal with its place.
+// What patterns are read from sources, row by row: the pattern with the place after it, or the
+// refusal with its place.
 
 use crate::writer::Writer;
 use py_parse_pattern::read_patterns;

@@ -206,7 +206,8 @@ fn shown(alloc: Global, source: &str) -> Result<String, Fail> {
     out.done()
 }
 
-// A row is a source and what it is read as, with `~` between them and `^` after them; `$` stands for a new line.
+// A row is a source and what it is read as, with `~` between them and `^` after them; `$` stands
+// for a new line.
 
 fn simple_rows() -> &'static str {
     "\

@@ -1,4 +1,5 @@
-// What sources spell, row by row: each token, with its lines where they aren't the first, or the fault.
+// What sources spell, row by row: each token, with its lines where they aren't the first, or the
+// fault.
 
 use crate::writer::Writer;
 use py_token::{LINE_LIMIT, Piece, Token, TokenKind, count_lines, tokens};

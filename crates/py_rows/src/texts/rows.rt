@@ -1,4 +1,4 @@
-// The rows, a table for each kind of value.
+// The rows, and words that make no value.
 
 /// The words that make a value, its text and its display. The words have `;` between them, and
 /// operands come first: a text after `'`, a number, `(n`, `[n` and `{n` for a tuple, a list and a
@@ -6,8 +6,9 @@
 /// with an argument, and `@` for a built-in function.
 pub struct Row(pub &'static str, pub &'static str, pub &'static str);
 
-/// Values that hold no others.
-pub static PLAIN: [Row; 38] = [
+/// The rows of values.
+pub static VALUES: [Row; 110] = [
+    // Values that hold no others.
     Row("None", "None", "None"),
     Row("True", "True", "True"),
     Row("False", "False", "False"),
@@ -138,10 +139,7 @@ pub static PLAIN: [Row; 38] = [
         "<class 'ValueError'>",
         "<class 'ValueError'>",
     ),
-];
-
-/// Texts: quotes, escapes and characters past ASCII.
-pub static STRINGS: [Row; 24] = [
+    // Texts: quotes, escapes and characters past ASCII.
     Row("'", "", "''"),
     Row("'abc", "abc", "'abc'"),
     Row("'it's", "it's", "\"it's\""),
@@ -166,10 +164,7 @@ pub static STRINGS: [Row; 24] = [
     Row("''", "'", "\"'\""),
     Row("'\u{b}\u{c}", "\u{b}\u{c}", "'\\x0b\\x0c'"),
     Row("'{}%", "{}%", "'{}%'"),
-];
-
-/// Tuples, lists and dicts.
-pub static CONTAINERS: [Row; 25] = [
+    // Tuples, lists and dicts.
     Row("(0", "()", "()"),
     Row("1;(1", "(1,)", "(1,)"),
     Row("1;2;(2", "(1, 2)", "(1, 2)"),
@@ -211,10 +206,7 @@ pub static CONTAINERS: [Row; 25] = [
     Row("1;(1;(1;(1", "(((1,),),)", "(((1,),),)"),
     Row("1;'a;(2;2;{1", "{(1, 'a'): 2}", "{(1, 'a'): 2}"),
     Row("-5;[1;(1", "([-5],)", "([-5],)"),
-];
-
-/// Exceptions.
-pub static EXCEPTIONS: [Row; 23] = [
+    // Exceptions.
     Row("!ValueError", "", "ValueError()"),
     Row("'a;?ValueError", "a", "ValueError('a')"),
     Row("'it's;?ValueError", "it's", "ValueError(\"it's\")"),
