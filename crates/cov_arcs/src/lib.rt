@@ -8,8 +8,6 @@ mod arcs;
 mod frames;
 mod laws;
 mod sets;
-#[cfg(test)]
-mod tests;
 
 pub use arcs::Arcs;
 pub use frames::Frame;

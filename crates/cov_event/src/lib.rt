@@ -11,8 +11,6 @@
 mod ask;
 mod event;
 mod plugin;
-#[cfg(test)]
-mod tests;
 mod tracer;
 
 pub use ask::{Ask, Nobody};

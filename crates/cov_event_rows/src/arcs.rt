@@ -1,4 +1,6 @@
-use crate::Arcs;
+// Events, and the arcs that they tell.
+
+use cov_arcs::Arcs;
 use cov_event::{CodeId, Event, Tracer};
 use py_value::{ExcKind, NoMemory};
 use std::alloc::Global;

@@ -1,9 +1,11 @@
+// A tracer and a plugin of the tests' own, and those that do nothing.
+
 ghost use Rattle.std.specs.Prelude.{◌≡◌, true, List, [], ◌∷◌, ◌++◌, if◌then◌else◌};
 ghost use Rattle.std.specs.Str.{chars};
 ghost use Rattle.cov_event.specs.declared.event.Event.{Event};
 ghost use Rattle.cov_event.specs.declared.plugin.Verdict.TheVariants.{Quiet, Label};
 
-use crate::{Ask, CodeId, ContextPlugin, Event, Nobody, Silent, Tracer, Verdict};
+use cov_event::{Ask, CodeId, ContextPlugin, Event, Nobody, Silent, Tracer, Verdict};
 use py_value::{ExcKind, NoMemory, Text};
 use std::alloc::Global;
 use std::test::Fail;
