@@ -9,6 +9,7 @@ use Rattle.sqlite_value.specs.declared.value.Value.TheVariants.{Int, Text}
 use Rattle.sqlite_trees.specs.declared.store.Store.{Ghosts}
 use Rattle.sqlite.specs.Effect.{Database}
 use Rattle.sqlite.specs.Held.{Held, state}
+use Rattle.sqlite.specs.declared.transaction.Transaction.{Transaction}
 use Rattle.sqlite.specs.State.{State, HasCleanDisk, Survives}
 use Rattle.cov_sql.specs.declared.statements.StatementError.{StatementError}
 use Rattle.cov_sql.specs.declared.tables.Table.{Table as Name}
@@ -70,18 +71,19 @@ module _ {S : Type 0} (g : Ghosts S) where
 
 module _ {S Q : Type 0} {g : Ghosts S} {telling : Q → Type 0} {counted : Q → ℕ} where
   -- the same of steps by statements
-  pub fills_on : (f k : Rows → Rows) {a b c : Held S} {p q s : Q} {v : Unit {0}} {r : Result (Unit {0}) StatementError} → WorksBy g telling counted a b p q (Ok v) → WorksBy g telling counted b c q s r
-      → (telling p → Fills g f a b (Ok v)) → (telling q → Fills g k b c r) → telling p → Fills g (λ rows. k (f rows)) a c r
+  pub fills_on : (f k : Rows → Rows) {a b c : Transaction S} {p q s : Q} {v : Unit {0}} {r : Result (Unit {0}) StatementError} → WorksBy g telling counted a b p q (Ok v) → WorksBy g telling counted b c q s r
+      → (telling p → Fills g f a.conn.now b.conn.now (Ok v)) → (telling q → Fills g k b.conn.now c.conn.now r) → telling p → Fills g (λ rows. k (f rows)) a.conn.now c.conn.now r
   fills_on f k {a = a} {b = b} {c = c} {v = v} {r = r} one two first second tells =
       let told = one.goes_on.tells tells in
-      fills_then g f k a b c v r (two.survives told) (one.works tells) (first tells) (second told)
+      fills_then g f k a.conn.now b.conn.now c.conn.now v r (two.survives told) (one.works tells) (first tells) (second told)
 
   -- a row more of one table
-  pub fills_more : (n : Name) (xs : List Row) (row : Row) {a b c : Held S} {p q s : Q} {v w : Unit {0}} → WorksBy g telling counted a b p q (Ok v) → WorksBy g telling counted b c q s (Ok w)
-      → (telling p → Fills g (with_rows n xs) a b (Ok v)) → (telling q → Inserts (shape_of n) (declared_as n) row (state g b) (state g c) (Ok w)) → telling p → Fills g (with_rows n (xs ++ row ∷ [])) a c (Ok w)
+  pub fills_more : (n : Name) (xs : List Row) (row : Row) {a b c : Transaction S} {p q s : Q} {v w : Unit {0}} → WorksBy g telling counted a b p q (Ok v) → WorksBy g telling counted b c q s (Ok w)
+      → (telling p → Fills g (with_rows n xs) a.conn.now b.conn.now (Ok v)) → (telling q → Inserts (shape_of n) (declared_as n) row (state g b.conn.now) (state g c.conn.now) (Ok w)) → telling p
+      → Fills g (with_rows n (xs ++ row ∷ [])) a.conn.now c.conn.now (Ok w)
   fills_more n xs row {b = b} {c = c} {w = w} one two first told tells clean inside rows h =
-      one_more n xs row (state g c).now rows
-      (fills_on (with_rows n xs) (with_rows n (row ∷ [])) one two first (λ still. fills_one g n row b c (Ok w) (told still)) tells clean inside rows h)
+      one_more n xs row (state g c.conn.now).now rows
+      (fills_on (with_rows n xs) (with_rows n (row ∷ [])) one two first (λ still. fills_one g n row b.conn.now c.conn.now (Ok w) (told still)) tells clean inside rows h)
 
 -- ---- lists so far
 

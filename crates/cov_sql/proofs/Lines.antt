@@ -63,7 +63,11 @@ cut R (x ∷ xs) ys (r ∷ rs) h = let c = cut R xs ys rs h.1 in record { front 
 
 -- ---- few bytes
 
-needed_few : (ns : List ℕ) (a : ℕ) → AllByRecursion (λ n. n ≤ most_number) ns → a ≤ 8192 → fold (λ most n. max most (n / 8 + 1)) a ns ≤ 8192
+-- the most bytes of the bits of lines up to `most_number`
+abbrev most_bytes : ℕ
+most_bytes = 8192
+
+needed_few : (ns : List ℕ) (a : ℕ) → AllByRecursion (λ n. n ≤ most_number) ns → a ≤ most_bytes → fold (λ most n. max most (n / 8 + 1)) a ns ≤ most_bytes
 needed_few [] a h few = few
 needed_few (n ∷ ns) a h few = needed_few ns (max a (n / 8 + 1)) h.1 (omega (arith, h.0, few))
 
@@ -83,7 +87,7 @@ module _ (ps cs : List Text) (counts : Spot → ℕ) where
 
   -- a blob whose ids are known, of few bytes
   abbrev IsRead : SavedBits → Type 0
-  IsRead b = IsKnown ps b.file_id × IsKnown cs b.context_id × (length b.numbits.items ≤ 8192)
+  IsRead b = IsKnown ps b.file_id × IsKnown cs b.context_id × (length b.numbits.items ≤ most_bytes)
 
   line_at_most : (b : SavedBits) (n : ℕ) (r : RowView) → Stands r (line_spot b n) → nat_le n most_number ≡ true
   line_at_most b n r h = let high : pos n ≤ℤ pos most_number = subst (λ z. z ≤ℤ pos most_number) (sym h.from) h.sound.0.from_number.2 in is_true (nat_le n most_number) high.le
@@ -102,7 +106,7 @@ module _ (ps cs : List Text) (counts : Spot → ℕ) where
   is_read b (n ∷ ns) (r ∷ rs) some packed h = (
     known ps r.path b.file_id h.0.file,
     known cs r.context b.context_id h.0.context,
-    subst (λ (m : ℕ). m ≤ 8192) (sym packed.size) (needed_few (n ∷ ns) 0 (lines_few b (n ∷ ns) (r ∷ rs) h) (omega arith)),
+    subst (λ (m : ℕ). m ≤ most_bytes) (sym packed.size) (needed_few (n ∷ ns) 0 (lines_few b (n ∷ ns) (r ∷ rs) h) (omega arith)),
   )
 
   all_read : (bs : List SavedBits) (rs : List RowView) → AllByRecursion IsPacked bs → AllZip Stands rs (flat_map spots_in bs) → AllByRecursion IsRead bs
@@ -126,7 +130,7 @@ module _ (ps cs : List Text) (counts : Spot → ℕ) where
 
   all_good : (bs : List SavedBits) → AllByRecursion IsRead bs → AllByRecursion (λ e. is_bad_bits e ≡ false) (map blob_entry bs)
   all_good [] h = tt
-  all_good (b ∷ bs) h = (ap (λ xs. not (list_all (λ byte. nat_eq byte 0) xs)) (drop_all 8192 b.numbits.items h.0.2), all_good bs h.1)
+  all_good (b ∷ bs) h = (ap (λ xs. not (list_all (λ byte. nat_eq byte 0) xs)) (drop_all most_bytes b.numbits.items h.0.2), all_good bs h.1)
 
   line_again : (b : SavedBits) (n : ℕ) (r : RowView) → Stands r (line_spot b n) → line_row counts (blob_entry b) n ≡ r ∷ []
   line_again b n r h =
@@ -140,9 +144,9 @@ module _ (ps cs : List Text) (counts : Spot → ℕ) where
   lines_again b (n ∷ ns) [] h = absurd h
   lines_again b (n ∷ ns) (r ∷ rs) h = λ i. line_again b n r h.0 i ++ lines_again b ns rs h.1 i
 
-  blob_again : (b : SavedBits) (rs : List RowView) → length b.numbits.items ≤ 8192 → AllZip Stands rs (spots_in b) → bits_rows counts (blob_entry b) ≡ rs
+  blob_again : (b : SavedBits) (rs : List RowView) → length b.numbits.items ≤ most_bytes → AllZip Stands rs (spots_in b) → bits_rows counts (blob_entry b) ≡ rs
   blob_again b rs few h =
-      ap (λ xs. flat_map (line_row counts (blob_entry b)) (lines_of_bits xs)) (take_all 8192 b.numbits.items few)
+      ap (λ xs. flat_map (line_row counts (blob_entry b)) (lines_of_bits xs)) (take_all most_bytes b.numbits.items few)
       ∙ lines_again b (lines_of_bits b.numbits.items) rs h
 
   rows_again : (bs : List SavedBits) (rs : List RowView) → AllByRecursion IsRead bs → AllZip Stands rs (flat_map spots_in bs) → flat_map (bits_rows counts) (map blob_entry bs) ≡ rs

@@ -3,6 +3,7 @@ use Rattle.std.proofs.Common.{◌≡◌, ◌≤◌, inl, inr, ℕ, List, [], ◌
 use Rattle.sqlite_value.specs.Order.{Row}
 use Rattle.sqlite_trees.specs.declared.store.Store.{Ghosts}
 use Rattle.sqlite.specs.Held.{Held, state}
+use Rattle.sqlite.specs.declared.transaction.Transaction.{Transaction}
 use Rattle.sqlite.specs.State.{State, Survives, KeepsCommit}
 use Rattle.sqlite.proofs.StateLemmas.{survives_then}
 use Rattle.cov_outside.specs.Counts.{Rose}
@@ -106,36 +107,39 @@ rose_later a b c low (inr top) = inr top
 -- ---- steps by statements
 
 module _ {S Q : Type 0} {g : Ghosts S} {telling : Q → Type 0} {counted : Q → ℕ} where
-  pub works_none : (a : Held S) (p : Q) → WorksBy g telling counted a a p p (Ok tt)
+  pub works_none : (a : Transaction S) (p : Q) → WorksBy g telling counted a a p p (Ok tt)
   works_none a p = record {
-    works = λ tells. nothing_done g a (Ok tt) refl;
-    survives = λ tells. stays g a;
+    works = λ tells. nothing_done g a.conn.now (Ok tt) refl;
+    survives = λ tells. stays g a.conn.now;
     goes_on = record { tells = λ tells. tells; count = omega arith; refused = λ no. absurd (let ok = no in cc) };
+    same_reference = refl;
   }
 
   -- a statement that was run
-  pub works_one : {text : List ℕ} {does : Does} {a b : Held S} {p q : Q} {r : Result (Unit {0}) StatementError} → IsWritten text → (telling p → WorksAs g text does a b r) → GoesOn telling counted p q (IsRefused r)
-      → WorksBy g telling counted a b p q r
-  works_one {text = text} {a = a} {b = b} {r = r} is one on = record {
-    works = λ tells. worked g text a b r is (one tells).ran;
+  pub works_one : {text : List ℕ} {does : Does} {a b : Transaction S} {p q : Q} {r : Result (Unit {0}) StatementError} → IsWritten text → (telling p → WorksAs g text does a.conn.now b.conn.now r)
+      → GoesOn telling counted p q (IsRefused r) → b.conn.ghost_name ≡ a.conn.ghost_name → WorksBy g telling counted a b p q r
+  works_one {text = text} {a = a} {b = b} {r = r} is one on same = record {
+    works = λ tells. worked g text a.conn.now b.conn.now r is (one tells).ran;
     survives = λ tells. (one tells).survives;
     goes_on = on;
+    same_reference = same;
   }
 
   -- a step after one that went on
-  pub works_on : {a b c : Held S} {p q s : Q} {v : Unit {0}} {r : Result (Unit {0}) StatementError} → WorksBy g telling counted a b p q (Ok v) → WorksBy g telling counted b c q s r → WorksBy g telling counted a c p s r
+  pub works_on : {a b c : Transaction S} {p q s : Q} {v : Unit {0}} {r : Result (Unit {0}) StatementError} → WorksBy g telling counted a b p q (Ok v) → WorksBy g telling counted b c q s r → WorksBy g telling counted a c p s r
   works_on {a = a} {b = b} {c = c} {p = p} {q = q} {s = s} {v = v} {r = r} one two = record {
-    works = λ tells. let told = one.goes_on.tells tells in works_after g v a b c r (two.survives told) (one.works tells) (two.works told);
-    survives = λ tells. still g a b c (one.survives tells) (two.survives (one.goes_on.tells tells));
+    works = λ tells. let told = one.goes_on.tells tells in works_after g v a.conn.now b.conn.now c.conn.now r (two.survives told) (one.works tells) (two.works told);
+    survives = λ tells. still g a.conn.now b.conn.now c.conn.now (one.survives tells) (two.survives (one.goes_on.tells tells));
     goes_on = record {
       tells = λ tells. two.goes_on.tells (one.goes_on.tells tells);
       count = omega (arith, one.goes_on.count, two.goes_on.count);
       refused = λ no. rose_later (counted p) (counted q) (counted s) one.goes_on.count (two.goes_on.refused no);
     };
+    same_reference = two.same_reference ∙ one.same_reference;
   }
 
   -- one that failed ends the whole
-  pub works_end : {a b : Held S} {p q : Q} {e : StatementError} {r : Result (Unit {0}) StatementError} → WorksBy g telling counted a b p q (Err e) → r ≡ Err e → WorksBy g telling counted a b p q r
+  pub works_end : {a b : Transaction S} {p q : Q} {e : StatementError} {r : Result (Unit {0}) StatementError} → WorksBy g telling counted a b p q (Err e) → r ≡ Err e → WorksBy g telling counted a b p q r
   works_end {a = a} {b = b} {p = p} {q = q} one is = subst (WorksBy g telling counted a b p q) (sym is) one
 
 -- a base is judged so where a table or a column is named as not there

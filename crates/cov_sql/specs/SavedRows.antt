@@ -3,6 +3,8 @@
 --                                         and `context`
 --     table_of, InsertsText               the table that numbers such texts; so a call inserts one
 --     arc_row, bits_row, hits_row         the rows of what is kept of data until it is written
+--     name_of, row_in, InsertsRow         a table that has a row for each row of data; that row; so
+--                                         a call inserts one
 --     with_names, with_data, with_all     the rows of all tables with those of names, with those of
 --                                         data, and with both
 --     no_data_rows                        the rows of a data file of schema 7 without data
@@ -14,6 +16,8 @@ use Rattle.cov_sql.specs.declared.saved.SavedRow.{SavedRow}
 use Rattle.cov_sql.specs.declared.saved.SavedBits.{SavedBits}
 use Rattle.cov_sql.specs.declared.inserting.Texts.{Texts}
 use Rattle.cov_sql.specs.declared.inserting.Texts.TheVariants as texts
+use Rattle.cov_sql.specs.declared.inserting.RowTable.{RowTable}
+use Rattle.cov_sql.specs.declared.inserting.RowTable.TheVariants as table
 use Rattle.cov_sql.specs.declared.tables.Table.{Table as Name}
 use Rattle.cov_sql.specs.declared.tables.Table.TheVariants as name
 use Rattle.cov_sql.specs.ByName.{shape_of, declared_as}
@@ -51,6 +55,20 @@ bits_row b = Int b.file_id ∷ Int b.context_id ∷ Blob b.numbits.items ∷ []
 -- a row of `hits`
 abbrev pub hits_row : SavedRow → Row
 hits_row r = Int r.file_id ∷ Int r.context_id ∷ Int r.from ∷ Int r.to ∷ Int r.count ∷ []
+
+-- a table that has a row for each row of data
+abbrev pub name_of : RowTable → Name
+name_of table.Arc = name.Arc
+name_of table.Hits = name.Hits
+
+-- the row of such a table for a row of data
+abbrev pub row_in : RowTable → SavedRow → Row
+row_in table.Arc r = arc_row r
+row_in table.Hits r = hits_row r
+
+-- a call that inserts it
+abbrev pub InsertsRow : RowTable → SavedRow → Does
+InsertsRow t r = Inserts (shape_of (name_of t)) (declared_as (name_of t)) (row_in t r)
 
 -- the rows of `meta`, `file` and `context` more
 abbrev pub with_names : Saved → Rows → Rows

@@ -5,7 +5,7 @@ ghost use Rattle.cov_sql.specs.Blobs.{AreBitsOf};
 ghost use Rattle.cov_sql.specs.Groups.{line_in, group_view, is_of, one_line, with_line, groups_from, groups, IsBlobOf, AreLines};
 
 use crate::saved::{SavedBits, SavedRow};
-use cov_data::numbits_of;
+use cov_data::{MOST_NUMBER, numbits_of};
 use std::alloc::{AllocError, Global};
 
 /// The lines of one file in one context.
@@ -20,7 +20,7 @@ pub(crate) struct Group {
 fn line_in(number: i64) -> u32
     ensures { result ≡ line_in number }
 {
-    if 0 <= number && number <= 65_535 {
+    if 0 <= number && number <= MOST_NUMBER as i64 {
         number as u32
     } else {
         0

@@ -1,5 +1,5 @@
 //! Making the tables of a data file, and emptying them.
-ghost use Rattle.std.specs.Prelude.{◌≡◌, false};
+ghost use Rattle.std.specs.Prelude.{false};
 ghost use Rattle.sqlite.specs.Held.{state};
 ghost use Rattle.cov_sql.specs.declared.preparing.Start.TheVariants as start;
 ghost use Rattle.cov_sql.specs.ByName.{shape_of, declared_as};
@@ -48,12 +48,10 @@ fn make_table<S: Alter, Q: Statements>(
     by: &mut Q,
     table: Table,
 ) -> Result<(), StatementError>
-    ensures steps { WorksBy S.Store Q.tells Q.refusals
-        work.old.conn.now work.new.conn.now by.old by.new result }
+    ensures steps { WorksBy S.Store Q.tells Q.refusals work.old work.new by.old by.new result }
     ensures told { Q.tells by.old
         → Makes (shape_of table) (declared_as table) (state S.Store work.old.conn.now)
         (state S.Store work.new.conn.now) result }
-    ensures same_reference { work.new.conn.ghost_name ≡ work.old.conn.ghost_name }
 {
     match table {
         Table::CoverageSchema => by.make_coverage_schema(work),
@@ -72,11 +70,9 @@ fn empty_table<S: Alter, Q: Statements>(
     by: &mut Q,
     table: Table,
 ) -> Result<(), StatementError>
-    ensures steps { WorksBy S.Store Q.tells Q.refusals
-        work.old.conn.now work.new.conn.now by.old by.new result }
+    ensures steps { WorksBy S.Store Q.tells Q.refusals work.old work.new by.old by.new result }
     ensures empties { Q.tells by.old → Empties S.Store (cleared table)
         work.old.conn.now work.new.conn.now result }
-    ensures same_reference { work.new.conn.ghost_name ≡ work.old.conn.ghost_name }
 {
     match table {
         // The row of the version stays.
@@ -96,13 +92,11 @@ fn make_tables<S: Alter, Q: Statements>(
     by: &mut Q,
     tables: &[Table],
 ) -> Result<(), StatementError>
-    ensures steps { WorksBy S.Store Q.tells Q.refusals
-        work.old.conn.now work.new.conn.now by.old by.new result }
+    ensures steps { WorksBy S.Store Q.tells Q.refusals work.old work.new by.old by.new result }
     ensures builds { Q.tells by.old → Builds S.Store tables.now
         work.old.conn.now work.new.conn.now result }
     ensures denies { Q.tells by.old → Denies S.Store tables.now
         work.old.conn.now work.new.conn.now result }
-    ensures same_reference { work.new.conn.ghost_name ≡ work.old.conn.ghost_name }
 {
     for table in tables {
         make_table(work, by, *table)?;
@@ -115,11 +109,9 @@ fn empty_tables<S: Alter, Q: Statements>(
     by: &mut Q,
     tables: &[Table],
 ) -> Result<(), StatementError>
-    ensures steps { WorksBy S.Store Q.tells Q.refusals
-        work.old.conn.now work.new.conn.now by.old by.new result }
+    ensures steps { WorksBy S.Store Q.tells Q.refusals work.old work.new by.old by.new result }
     ensures empties { Q.tells by.old → Empties S.Store (cleared_all tables.now)
         work.old.conn.now work.new.conn.now result }
-    ensures same_reference { work.new.conn.ghost_name ≡ work.old.conn.ghost_name }
 {
     for table in tables {
         empty_table(work, by, *table)?;
@@ -132,15 +124,13 @@ fn make_all<S: Alter, Q: Statements>(
     work: &mut Transaction<'_, S>,
     by: &mut Q,
 ) -> Result<(), StatementError>
-    ensures steps { WorksBy S.Store Q.tells Q.refusals
-        work.old.conn.now work.new.conn.now by.old by.new result }
+    ensures steps { WorksBy S.Store Q.tells Q.refusals work.old work.new by.old by.new result }
     ensures prepares { Q.tells by.old → Prepares S.Store Start.Nothing
         work.old.conn.now work.new.conn.now result }
     ensures refuses { Q.tells by.old → RefusesIfThere S.Store Start.Nothing
         work.old.conn.now work.new.conn.now result }
     ensures never { Q.tells by.old → NeverLacks S.Store Start.Nothing
         work.old.conn.now work.new.conn.now result }
-    ensures same_reference { work.new.conn.ghost_name ≡ work.old.conn.ghost_name }
 {
     make_tables(work, by, &TABLES)?;
     by.insert_coverage_schema(work, 7)
@@ -151,13 +141,11 @@ fn empty_and_count<S: Alter, Q: Statements>(
     work: &mut Transaction<'_, S>,
     by: &mut Q,
 ) -> Result<(), StatementError>
-    ensures steps { WorksBy S.Store Q.tells Q.refusals
-        work.old.conn.now work.new.conn.now by.old by.new result }
+    ensures steps { WorksBy S.Store Q.tells Q.refusals work.old work.new by.old by.new result }
     ensures prepares { Q.tells by.old → Prepares S.Store (start.Tables false)
         work.old.conn.now work.new.conn.now result }
     ensures never { Q.tells by.old → NeverLacks S.Store (start.Tables false)
         work.old.conn.now work.new.conn.now result }
-    ensures same_reference { work.new.conn.ghost_name ≡ work.old.conn.ghost_name }
 {
     make_table(work, by, Table::Hits)?;
     empty_tables(work, by, &OLD_TABLES)
@@ -169,15 +157,13 @@ pub(crate) fn prepare<S: Alter, Q: Statements>(
     by: &mut Q,
     start: Start,
 ) -> Result<(), StatementError>
-    ensures steps { WorksBy S.Store Q.tells Q.refusals
-        work.old.conn.now work.new.conn.now by.old by.new result }
+    ensures steps { WorksBy S.Store Q.tells Q.refusals work.old work.new by.old by.new result }
     ensures prepares { Q.tells by.old → Prepares S.Store start
         work.old.conn.now work.new.conn.now result }
     ensures refuses { Q.tells by.old → RefusesIfThere S.Store start
         work.old.conn.now work.new.conn.now result }
     ensures never { Q.tells by.old → NeverLacks S.Store start
         work.old.conn.now work.new.conn.now result }
-    ensures same_reference { work.new.conn.ghost_name ≡ work.old.conn.ghost_name }
 {
     match start {
         Start::Nothing => make_all(work, by),

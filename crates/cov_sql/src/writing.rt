@@ -26,15 +26,13 @@ fn write_all<S: Alter, Q: Statements>(
     start: Start,
     saved: &Saved,
 ) -> Result<(), StatementError>
-    ensures steps { WorksBy S.Store Q.tells Q.refusals
-        work.old.conn.now work.new.conn.now by.old by.new result }
+    ensures steps { WorksBy S.Store Q.tells Q.refusals work.old work.new by.old by.new result }
     ensures saves { Q.tells by.old → Saves S.Store start saved.now
         work.old.conn.now work.new.conn.now result }
     ensures refuses { Q.tells by.old → RefusesIfThere S.Store start
         work.old.conn.now work.new.conn.now result }
     ensures never { Q.tells by.old → NeverLacks S.Store start
         work.old.conn.now work.new.conn.now result }
-    ensures same_reference { work.new.conn.ghost_name ≡ work.old.conn.ghost_name }
 {
     prepare(work, by, start)?;
     insert_all(work, by, saved)

@@ -16,9 +16,9 @@ returns-in_err-insert_names-clause-fills g c tells =
     no_fill g.S.Store (λ rows. with_data saved (with_names saved rows)) c.args.work.now.conn.now c.insert_names.new.work.conn.now _ _ is
 
 pub returns-clause-steps : goal.returns-clause-steps
-returns-clause-steps g c = works_on c.in_ok-insert_names.ensures.steps c.insert_rows.ensures.steps
+returns-clause-steps g c = works_on c.in_ok-insert_names.ensures.steps c.insert_data.ensures.steps
 
 pub returns-clause-fills : goal.returns-clause-fills
 returns-clause-fills g c =
     let saved = c.args.saved.now in
-    fills_on (with_names saved) (with_data saved) c.in_ok-insert_names.ensures.steps c.insert_rows.ensures.steps c.in_ok-insert_names.ensures.fills c.insert_rows.ensures.fills
+    fills_on (with_names saved) (with_data saved) c.in_ok-insert_names.ensures.steps c.insert_data.ensures.steps c.in_ok-insert_names.ensures.fills c.insert_data.ensures.fills

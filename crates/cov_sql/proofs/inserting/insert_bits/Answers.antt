@@ -1,4 +1,4 @@
-use Rattle.std.proofs.Common.{rules, ◌≡◌, [], ◌∷◌, Ok, Err, sym, subst, ◌∙◌, map, take, w64, refl}
+use Rattle.std.proofs.Common.{rules, ◌≡◌, [], ◌∷◌, Ok, Err, sym, subst, map, take, w64}
 use mir.Val.{SFits}
 use Rattle.std.proofs.Math.Facts.{to_z-of_z}
 use Rattle.std.proofs.lemmas.List.{take_all}
@@ -17,7 +17,7 @@ use Rattle.cov_sql.proofs.inserting.insert_bits.Goals as goal
 pub returns-in_err-insert_line_bits-clause-steps : goal.returns-in_err-insert_line_bits-clause-steps
 returns-in_err-insert_line_bits-clause-steps g c =
     let is : c.from_residual.result ≡ Err c.in_err-insert_line_bits.field-0.0 = search rules in
-    works_end (works_on c.loop-set.invariant.steps (works_one of_insert_line_bits c.in_err-insert_line_bits.ensures.works c.in_err-insert_line_bits.ensures.goes_on)) is
+    works_end (works_on c.loop-set.invariant.steps (works_one of_insert_line_bits c.in_err-insert_line_bits.ensures.works c.in_err-insert_line_bits.ensures.goes_on c.insert_line_bits.ensures.same_reference)) is
 
 pub returns-in_err-insert_line_bits-clause-fills : goal.returns-in_err-insert_line_bits-clause-fills
 returns-in_err-insert_line_bits-clause-fills g c tells =
@@ -32,25 +32,23 @@ pub loop-set-init : goal.loop-set-init
 loop-set-init g c = record {
   steps = works_none _ _;
   fills = λ tells. fills_none g.S.Store name.LineBits c.args.work.now.conn.now;
-  same_reference = refl;
 }
 
 pub loop-set-preserved : goal.loop-set-preserved
 loop-set-preserved g c =
     let before = c.loop-set.invariant in
-    let now = c.loop-set.work.conn.now in
-    let next = c.insert_line_bits.new.work.conn.now in
+    let now = c.loop-set.work in
+    let next = c.insert_line_bits.new.work in
     let all = c.args.bits.now in
     let i = c.loop-set.set-index in
     let it = c.set-item.result in
     let file_id_fits : SFits w64 it.file_id = search rules in
     let context_id_fits : SFits w64 it.context_id = search rules in
-    let step = works_one of_insert_line_bits c.in_ok-insert_line_bits.ensures.works c.in_ok-insert_line_bits.ensures.goes_on in
+    let step = works_one {a = now} {b = next} of_insert_line_bits c.in_ok-insert_line_bits.ensures.works c.in_ok-insert_line_bits.ensures.goes_on c.insert_line_bits.ensures.same_reference in
     record {
       steps = works_on before.steps step;
       fills = λ tells.
-          subst (λ rows. Fills g.S.Store (with_rows name.LineBits rows) c.args.work.now.conn.now next (Ok tt)) (sym (map_at bits_row all i it c.loop-set-test.true c.set-item.is))
+          subst (λ rows. Fills g.S.Store (with_rows name.LineBits rows) c.args.work.now.conn.now next.conn.now (Ok tt)) (sym (map_at bits_row all i it c.loop-set-test.true c.set-item.is))
           (fills_more name.LineBits (map bits_row (take i all)) (bits_row it) before.steps step before.fills
-          (λ told. subst (λ r. Inserts (shape_of name.LineBits) (declared_as name.LineBits) r (state g.S.Store now) (state g.S.Store next) (Ok tt)) (λ k. Int (to_z-of_z file_id_fits k) ∷ Int (to_z-of_z context_id_fits k) ∷ Blob (c.deref.ensures.value k) ∷ []) (c.in_ok-insert_line_bits.ensures.works told).told) tells);
-      same_reference = c.insert_line_bits.ensures.same_reference ∙ before.same_reference;
+          (λ told. subst (λ r. Inserts (shape_of name.LineBits) (declared_as name.LineBits) r (state g.S.Store now.conn.now) (state g.S.Store next.conn.now) (Ok tt)) (λ k. Int (to_z-of_z file_id_fits k) ∷ Int (to_z-of_z context_id_fits k) ∷ Blob (c.deref.ensures.value k) ∷ []) (c.in_ok-insert_line_bits.ensures.works told).told) tells);
     }

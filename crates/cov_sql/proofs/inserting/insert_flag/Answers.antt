@@ -8,7 +8,7 @@ use Rattle.cov_sql.proofs.WrittenTexts.{of_insert_meta}
 use Rattle.cov_sql.proofs.inserting.insert_flag.Goals as goal
 
 pub returns-clause-steps : goal.returns-clause-steps
-returns-clause-steps g c = works_one of_insert_meta c.insert_meta.ensures.works c.insert_meta.ensures.goes_on
+returns-clause-steps g c = works_one of_insert_meta c.insert_meta.ensures.works c.insert_meta.ensures.goes_on c.insert_meta.ensures.same_reference
 
 pub returns-clause-fills : goal.returns-clause-fills
 returns-clause-fills g c tells =

@@ -10,10 +10,10 @@ use Rattle.cov_sql.proofs.WrittenTexts.{of_insert_file, of_insert_context}
 use Rattle.cov_sql.proofs.inserting.insert_text.Goals as goal
 
 pub returns-in-Paths-clause-steps : goal.returns-in-Paths-clause-steps
-returns-in-Paths-clause-steps g c = works_one of_insert_file c.insert_file.ensures.works c.insert_file.ensures.goes_on
+returns-in-Paths-clause-steps g c = works_one of_insert_file c.insert_file.ensures.works c.insert_file.ensures.goes_on c.insert_file.ensures.same_reference
 
 pub returns-in-Contexts-clause-steps : goal.returns-in-Contexts-clause-steps
-returns-in-Contexts-clause-steps g c = works_one of_insert_context c.insert_context.ensures.works c.insert_context.ensures.goes_on
+returns-in-Contexts-clause-steps g c = works_one of_insert_context c.insert_context.ensures.works c.insert_context.ensures.goes_on c.insert_context.ensures.same_reference
 
 pub returns-in-Paths-clause-inserts : goal.returns-in-Paths-clause-inserts
 returns-in-Paths-clause-inserts g c tells =

@@ -1,4 +1,4 @@
-use Rattle.std.proofs.Common.{rules, ◌≡◌, ◌+◌, pos, [], ◌∷◌, Ok, Err, sym, subst, ◌∙◌, map, take, string_bytes, refl}
+use Rattle.std.proofs.Common.{rules, ◌≡◌, ◌+◌, pos, [], ◌∷◌, Ok, Err, sym, subst, map, take, string_bytes}
 use Rattle.std.proofs.lemmas.List.{take_all}
 use Rattle.sqlite_value.specs.declared.value.Value.TheVariants.{Int, Text}
 use Rattle.sqlite.specs.Held.{state}
@@ -29,7 +29,6 @@ loop-text-init g c = record {
   number_is = search rules;
   steps = works_none _ _;
   fills = λ tells. fills_none g.S.Store (table_of c.args.kind) c.args.work.now.conn.now;
-  same_reference = refl;
 }
 
 pub loop-text-preserved : goal.loop-text-preserved
@@ -49,5 +48,4 @@ loop-text-preserved g c =
           subst (λ rows. Fills g.S.Store (with_rows table rows) c.args.work.now.conn.now next (Ok tt)) (sym (numbered_at all i it c.loop-text-test.true c.text-item.is))
           (fills_more table (numbered 1 (map string_bytes (take i all))) (Int (pos (i + 1)) ∷ Text (string_bytes it) ∷ []) before.steps c.in_ok-insert_text.ensures.steps before.fills
           (λ told. as_row (shape_of table) (declared_as table) (state g.S.Store now) (state g.S.Store next) (Ok tt) (pos (i + 1)) (string_bytes it) (c.in_ok-insert_text.ensures.inserts told) (search rules) c.as_str.ensures.value) tells);
-      same_reference = c.insert_text.ensures.same_reference ∙ before.same_reference;
     }

@@ -7,7 +7,6 @@ use Rattle.cov_sql.proofs.inserting.insert_texts.Given as goal
 abbrev pub invariant-loop-text : goal.invariant-loop-text
 invariant-loop-text g l = record {
   number_is : l.number ≡ pos l.text-index;
-  steps : WorksBy g.S.Store g.Q.Statements.tells g.Q.Statements.refusals l.fn.work.conn.now l.work.conn.now l.fn.by l.by (Ok tt);
+  steps : WorksBy g.S.Store g.Q.Statements.tells g.Q.Statements.refusals l.fn.work l.work l.fn.by l.by (Ok tt);
   fills : g.Q.Statements.tells l.fn.by → Fills g.S.Store (with_rows (table_of l.kind) (numbered 1 (map string_bytes (take l.text-index l.texts)))) l.fn.work.conn.now l.work.conn.now (Ok tt);
-  same_reference : l.work.conn.ghost_name ≡ l.fn.work.conn.ghost_name;
 }

@@ -7,25 +7,25 @@ use Rattle.cov_sql.proofs.WrittenTexts.{of_delete_arc, of_delete_context, of_del
 use Rattle.cov_sql.proofs.preparing.empty_table.Goals as goal
 
 pub returns-in-Meta-clause-steps : goal.returns-in-Meta-clause-steps
-returns-in-Meta-clause-steps g c = works_one of_delete_meta c.delete_meta.ensures.works c.delete_meta.ensures.goes_on
+returns-in-Meta-clause-steps g c = works_one of_delete_meta c.delete_meta.ensures.works c.delete_meta.ensures.goes_on c.delete_meta.ensures.same_reference
 
 pub returns-in-File-clause-steps : goal.returns-in-File-clause-steps
-returns-in-File-clause-steps g c = works_one of_delete_file c.delete_file.ensures.works c.delete_file.ensures.goes_on
+returns-in-File-clause-steps g c = works_one of_delete_file c.delete_file.ensures.works c.delete_file.ensures.goes_on c.delete_file.ensures.same_reference
 
 pub returns-in-Context-clause-steps : goal.returns-in-Context-clause-steps
-returns-in-Context-clause-steps g c = works_one of_delete_context c.delete_context.ensures.works c.delete_context.ensures.goes_on
+returns-in-Context-clause-steps g c = works_one of_delete_context c.delete_context.ensures.works c.delete_context.ensures.goes_on c.delete_context.ensures.same_reference
 
 pub returns-in-LineBits-clause-steps : goal.returns-in-LineBits-clause-steps
-returns-in-LineBits-clause-steps g c = works_one of_delete_line_bits c.delete_line_bits.ensures.works c.delete_line_bits.ensures.goes_on
+returns-in-LineBits-clause-steps g c = works_one of_delete_line_bits c.delete_line_bits.ensures.works c.delete_line_bits.ensures.goes_on c.delete_line_bits.ensures.same_reference
 
 pub returns-in-Arc-clause-steps : goal.returns-in-Arc-clause-steps
-returns-in-Arc-clause-steps g c = works_one of_delete_arc c.delete_arc.ensures.works c.delete_arc.ensures.goes_on
+returns-in-Arc-clause-steps g c = works_one of_delete_arc c.delete_arc.ensures.works c.delete_arc.ensures.goes_on c.delete_arc.ensures.same_reference
 
 pub returns-in-Tracer-clause-steps : goal.returns-in-Tracer-clause-steps
-returns-in-Tracer-clause-steps g c = works_one of_delete_tracer c.delete_tracer.ensures.works c.delete_tracer.ensures.goes_on
+returns-in-Tracer-clause-steps g c = works_one of_delete_tracer c.delete_tracer.ensures.works c.delete_tracer.ensures.goes_on c.delete_tracer.ensures.same_reference
 
 pub returns-in-Hits-clause-steps : goal.returns-in-Hits-clause-steps
-returns-in-Hits-clause-steps g c = works_one of_delete_hits c.delete_hits.ensures.works c.delete_hits.ensures.goes_on
+returns-in-Hits-clause-steps g c = works_one of_delete_hits c.delete_hits.ensures.works c.delete_hits.ensures.goes_on c.delete_hits.ensures.same_reference
 
 pub returns-in-Meta-clause-empties : goal.returns-in-Meta-clause-empties
 returns-in-Meta-clause-empties g c tells =

@@ -1,4 +1,4 @@
-use Rattle.std.proofs.Common.{rules, ◌≡◌, Ok, Err, sym, subst, ◌∙◌, take, refl}
+use Rattle.std.proofs.Common.{rules, ◌≡◌, Ok, Err, sym, subst, take}
 use Rattle.std.proofs.lemmas.List.{take_all}
 use Rattle.cov_sql.specs.Holding.{cleared_all, Empties}
 use Rattle.cov_sql.proofs.Stepping.{works_none, works_on, works_end}
@@ -26,7 +26,6 @@ loop-table-init g c =
     record {
       steps = works_none _ _;
       empties = λ tells. empties_none g.S.Store first;
-      same_reference = refl;
     }
 
 pub loop-table-preserved : goal.loop-table-preserved
@@ -41,5 +40,4 @@ loop-table-preserved g c =
       empties = λ tells. let told = c.loop-table.invariant.steps.goes_on.tells tells in
           subst (λ names. Empties g.S.Store (cleared_all names) first next (Ok tt)) (sym (take_got all i _ c.loop-table-test.true))
           (empties_next g.S.Store (take i all) _ first now next tt (c.empty_table.ensures.steps.survives told) (c.loop-table.invariant.steps.works tells) (c.loop-table.invariant.empties tells) (c.in_ok-empty_table.ensures.empties told));
-      same_reference = c.empty_table.ensures.same_reference ∙ c.loop-table.invariant.same_reference;
     }

@@ -14,7 +14,7 @@ returns-in_err-make_tables-clause-steps g c =
     works_end c.in_err-make_tables.ensures.steps is
 
 pub returns-clause-steps : goal.returns-clause-steps
-returns-clause-steps g c = works_on c.in_ok-make_tables.ensures.steps (works_one of_insert_coverage_schema c.insert_coverage_schema.ensures.works c.insert_coverage_schema.ensures.goes_on)
+returns-clause-steps g c = works_on c.in_ok-make_tables.ensures.steps (works_one of_insert_coverage_schema c.insert_coverage_schema.ensures.works c.insert_coverage_schema.ensures.goes_on c.insert_coverage_schema.ensures.same_reference)
 
 pub returns-in_err-make_tables-clause-prepares : goal.returns-in_err-make_tables-clause-prepares
 returns-in_err-make_tables-clause-prepares g c tells =

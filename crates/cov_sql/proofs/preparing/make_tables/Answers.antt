@@ -1,4 +1,4 @@
-use Rattle.std.proofs.Common.{rules, ◌≡◌, Ok, Err, refl, sym, subst, ◌∙◌, take}
+use Rattle.std.proofs.Common.{rules, ◌≡◌, Ok, Err, sym, subst, take}
 use Rattle.std.proofs.lemmas.List.{take_all}
 use Rattle.cov_sql.specs.Making.{Builds, Denies}
 use Rattle.cov_sql.proofs.Stepping.{works_none, works_on, works_end}
@@ -39,7 +39,6 @@ loop-table-init g c =
       steps = works_none _ _;
       builds = λ tells. builds_none g.S.Store first;
       denies = λ tells. denies_none g.S.Store first;
-      same_reference = refl;
     }
 
 pub loop-table-preserved : goal.loop-table-preserved
@@ -57,5 +56,4 @@ loop-table-preserved g c =
       denies = λ tells. let told = c.loop-table.invariant.steps.goes_on.tells tells in
           subst (λ names. Denies g.S.Store names first next (Ok tt)) (sym (take_got all i _ c.loop-table-test.true))
           (denies_next g.S.Store (take i all) _ first now next tt (c.make_table.ensures.steps.survives told) (c.loop-table.invariant.steps.works tells) (c.loop-table.invariant.denies tells) (c.in_ok-make_table.ensures.told told));
-      same_reference = c.make_table.ensures.same_reference ∙ c.loop-table.invariant.same_reference;
     }
