@@ -1,14 +1,13 @@
 -- The code of compound statements, at the places and by the ways that the code computes.
-use Rattle.std.proofs.Common.{◌≡◌, ℕ, ◌+◌, List, [], ◌++◌, Result, OnOk, refl, sym, ap, ◌∙◌, append_assoc}
-use Rattle.py_compile_expr.proofs.Turns.{and_then, four}
+use Rattle.std.proofs.Common.{◌≡◌, ℕ, ◌+◌, List, [], ◌++◌, sym, ap, ◌∙◌, append_assoc}
 use Rattle.py_syntax.specs.Functions.{Function}
-use Rattle.py_syntax.specs.Tree.{Expr, Suite, OptSuite, has_suite, Arms, Clauses, Cases, while, for, try}
+use Rattle.py_syntax.specs.Tree.{Expr, Suite, OptSuite, has_suite, Arms, Clauses, Cases, if', while, for, try}
 use Rattle.py_code.specs.declared.instr.Instr.TheVariants.{Goto, Ending, Settle}
 use Rattle.py_compile_expr.specs.Cells.{marks, plain, Cell, put}
 use Rattle.py_compile_expr.specs.Expressions.{expr_size, expr_code}
 use Rattle.py_compile_expr.specs.Targets.{target_code}
-use Rattle.py_emit.specs.Parts.{suite_body, suite_size, while_begin, while_back, for_again, for_begin, for_back, try_end, try_begin, finally_ways, tried_ways, while_head, for_head, handlers_code, finally_code, if_code, match_code, while_code, for_code}
-use Rattle.py_compile.specs.Statements.{exits_code, stmts_code, kind_code, opt_size, opt_code, arms_size, arms_code, cases_size, cases_code}
+use Rattle.py_emit.specs.Parts.{suite_body, suite_size, while_begin, while_back, for_again, for_begin, for_back, try_end, try_begin, finally_ways, tried_ways, while_head, for_head, try_body, handlers_code, finally_code, if_code, match_code, while_code, for_code}
+use Rattle.py_compile.specs.Statements.{exits_code, stmts_code, kind_code, opt_size, opt_code, arms_size, cases_size, cases_code}
 use Rattle.py_compile.specs.Ways.{Ways, under, in_loop, in_hand}
 use Rattle.py_emit.proofs.Forms.{while_form, for_form, try_form}
 
@@ -67,24 +66,33 @@ for_whole fs w p l t e s o rest r =
     ∙ sym (append_assoc head (bind ++ (body ++ jump)) other)
     ∙ ap (λ n. for_code fs w p l t e s o ++ opt_code fs w n o) (sym r)
 
-pub try_node : (fs : List Function) (w : Ways) (p l : ℕ) (s : Suite) (cs : Clauses) (o fin : OptSuite) (end first second third fourth : ℕ) (tried inside : Ways)
-    → end ≡ try_end (in_hand w) p s cs o → inside ≡ finally_ways fin w (end + 1) → tried ≡ tried_ways cs inside (try_begin (in_hand w) p s o)
-    → first ≡ p + 1 → second ≡ p + 1 + suite_size (in_hand w) s → third ≡ p + 1 + suite_size (in_hand w) s + opt_size (in_hand w) o → fourth ≡ end
+pub try_body_node : (fs : List Function) (w : Ways) (p l : ℕ) (s : Suite) (cs : Clauses) (o fin : OptSuite) (end first : ℕ) (tried inside : Ways)
+    → end ≡ try_end (in_hand w) p s cs o → inside ≡ finally_ways fin w (end + 1) → tried ≡ tried_ways cs inside (try_begin (in_hand w) p s o) → first ≡ p + 1
+    → try_body fs w p l s cs o fin ≡ put w.guard (marks l) [] ++ stmts_code fs tried first (suite_body s)
+try_body_node fs w p l s cs o fin end first tried inside e i t a =
+    let begin = try_begin (in_hand w) p s o in
+    ap (λ n. put w.guard (marks l) (stmts_code fs (tried_ways cs (finally_ways fin w (n + 1)) begin) (p + 1) (suite_body s))) (sym e)
+    ∙ ap (λ v. put w.guard (marks l) (stmts_code fs (tried_ways cs v begin) (p + 1) (suite_body s))) (sym i)
+    ∙ ap (λ v. put w.guard (marks l) (stmts_code fs v (p + 1) (suite_body s))) (sym t)
+    ∙ ap (λ n. put w.guard (marks l) (stmts_code fs tried n (suite_body s))) (sym a)
+
+-- a `try` with its `else`, its clauses and its `finally`
+pub try_whole : (fs : List Function) (w : Ways) (p l : ℕ) (s : Suite) (cs : Clauses) (o fin : OptSuite) (end second third fourth : ℕ) (inside : Ways)
+    → end ≡ try_end (in_hand w) p s cs o → inside ≡ finally_ways fin w (end + 1)
+    → second ≡ p + 1 + suite_size (in_hand w) s → third ≡ p + 1 + suite_size (in_hand w) s + opt_size (in_hand w) o → fourth ≡ end
     → kind_code fs w p l (try s cs o fin)
-    ≡ put w.guard (marks l) [] ++ (stmts_code fs tried first (suite_body s) ++ (opt_code fs inside second o ++ (handlers_code fs inside third end cs ++ finally_code fs w fourth fin)))
-try_node fs w p l s cs o fin end first second third fourth tried inside e i t a b c d =
+    ≡ try_body fs w p l s cs o fin ++ (opt_code fs inside second o ++ (handlers_code fs inside third end cs ++ finally_code fs w fourth fin))
+try_whole fs w p l s cs o fin end second third fourth inside e i b c d =
     let q = p + 1 + suite_size (in_hand w) s in
     let r = p + 1 + suite_size (in_hand w) s + opt_size (in_hand w) o in
-    let begin = try_begin (in_hand w) p s o in
+    let body = try_body fs w p l s cs o fin in
     let last : end ≡ fourth = sym d in
     try_form fs w p l s cs o fin
-    ∙ ap (λ n. put w.guard (marks l) (stmts_code fs (tried_ways cs (finally_ways fin w (n + 1)) begin) (p + 1) (suite_body s) ++ (opt_code fs (finally_ways fin w (n + 1)) q o ++ (handlers_code fs (finally_ways fin w (n + 1)) r n cs ++ finally_code fs w n fin)))) (sym e)
-    ∙ ap (λ v. put w.guard (marks l) (stmts_code fs (tried_ways cs v begin) (p + 1) (suite_body s) ++ (opt_code fs v q o ++ (handlers_code fs v r end cs ++ finally_code fs w end fin)))) (sym i)
-    ∙ ap (λ v. put w.guard (marks l) (stmts_code fs v (p + 1) (suite_body s) ++ (opt_code fs inside q o ++ (handlers_code fs inside r end cs ++ finally_code fs w end fin)))) (sym t)
-    ∙ ap (λ n. put w.guard (marks l) (stmts_code fs tried n (suite_body s) ++ (opt_code fs inside q o ++ (handlers_code fs inside r end cs ++ finally_code fs w end fin)))) (sym a)
-    ∙ ap (λ n. put w.guard (marks l) (stmts_code fs tried first (suite_body s) ++ (opt_code fs inside n o ++ (handlers_code fs inside r end cs ++ finally_code fs w end fin)))) (sym b)
-    ∙ ap (λ n. put w.guard (marks l) (stmts_code fs tried first (suite_body s) ++ (opt_code fs inside second o ++ (handlers_code fs inside n end cs ++ finally_code fs w end fin)))) (sym c)
-    ∙ ap (λ n. put w.guard (marks l) (stmts_code fs tried first (suite_body s) ++ (opt_code fs inside second o ++ (handlers_code fs inside third end cs ++ finally_code fs w n fin)))) last
+    ∙ ap (λ n. body ++ (opt_code fs (finally_ways fin w (n + 1)) q o ++ (handlers_code fs (finally_ways fin w (n + 1)) r n cs ++ finally_code fs w n fin))) (sym e)
+    ∙ ap (λ v. body ++ (opt_code fs v q o ++ (handlers_code fs v r end cs ++ finally_code fs w end fin))) (sym i)
+    ∙ ap (λ n. body ++ (opt_code fs inside n o ++ (handlers_code fs inside r end cs ++ finally_code fs w end fin))) (sym b)
+    ∙ ap (λ n. body ++ (opt_code fs inside second o ++ (handlers_code fs inside n end cs ++ finally_code fs w end fin))) (sym c)
+    ∙ ap (λ n. body ++ (opt_code fs inside second o ++ (handlers_code fs inside third end cs ++ finally_code fs w n fin))) last
 
 -- ---- the suite of a `finally`
 
@@ -97,19 +105,13 @@ finally_node fs w lower p first third s l a b =
 
 -- ---- `if` and `match`
 
-pub if_node : (fs : List Function) (w : Ways) (p end second : ℕ) (arms : Arms) (o : OptSuite) → end ≡ p + arms_size (in_hand w) arms + opt_size (in_hand w) o → second ≡ p + arms_size (in_hand w) arms
-    → if_code fs w p arms o ≡ arms_code fs w p end arms ++ opt_code fs w second o
-if_node fs w p end second arms o e a =
-    ap (λ n. arms_code fs w p n arms ++ opt_code fs w (p + arms_size (in_hand w) arms) o) (sym e)
-    ∙ ap (λ n. arms_code fs w p end arms ++ opt_code fs w n o) (sym a)
+-- an `if` with its `else`
+pub if_whole : (fs : List Function) (w : Ways) (p l : ℕ) (arms : Arms) (o : OptSuite) (rest : ℕ) → rest ≡ p + arms_size (in_hand w) arms
+    → kind_code fs w p l (if' arms o) ≡ if_code fs w p arms o ++ opt_code fs w rest o
+if_whole fs w p l arms o rest r = ap (λ n. if_code fs w p arms o ++ opt_code fs w n o) (sym r)
 
-pub match_node : (fs : List Function) (w : Ways) (p l end first third : ℕ) (e : Expr) (cs : Cases) → end ≡ p + 1 + expr_size e + cases_size (in_hand w) cs → first ≡ p + 1 → third ≡ p + 1 + expr_size e
-    → match_code fs w p l e cs ≡ put w.guard (marks l) [] ++ (expr_code w.guard first e ++ cases_code fs w third end cs)
-match_node fs w p l end first third e cs is a b =
+pub match_node : (fs : List Function) (w : Ways) (p l end first : ℕ) (e : Expr) (cs : Cases) → end ≡ p + 1 + expr_size e + cases_size (in_hand w) cs → first ≡ p + 1 + expr_size e
+    → match_code fs w p l e cs ≡ put w.guard (marks l) (expr_code w.guard (p + 1) e) ++ cases_code fs w first end cs
+match_node fs w p l end first e cs is a =
     ap (λ n. put w.guard (marks l) (expr_code w.guard (p + 1) e ++ cases_code fs w (p + 1 + expr_size e) n cs)) (sym is)
-    ∙ ap (λ n. put w.guard (marks l) (expr_code w.guard n e ++ cases_code fs w (p + 1 + expr_size e) end cs)) (sym a)
-    ∙ ap (λ n. put w.guard (marks l) (expr_code w.guard first e ++ cases_code fs w n end cs)) (sym b)
-
--- five parts in a row
-pub five : {A E R : Type 0} (r : Result R E) (s i j k m n v w x y z all : List A) → i ≡ s ++ v → j ≡ i ++ w → k ≡ j ++ x → m ≡ k ++ y → OnOk r (n ≡ m ++ z) → all ≡ v ++ (w ++ (x ++ (y ++ z))) → OnOk r (n ≡ s ++ all)
-five r s i j k m n v w x y z all c d e f h is = four r s j k m n (v ++ w) x y z all (and_then s i j v w (v ++ w) d c refl) e f h (is ∙ sym (append_assoc v w (x ++ (y ++ z))))
+    ∙ ap (λ n. put w.guard (marks l) (expr_code w.guard (p + 1) e ++ cases_code fs w n end cs)) (sym a)

@@ -1,4 +1,4 @@
--- The plain view of compound statements, and of the parts of their lists.
+-- The plain view of statements with several parts, and of the parts of their lists.
 use Rattle.std.proofs.Common.{◌≡◌, ℕ, ◌+◌, ◌==◌, Bool, true, false, List, [], ◌∷◌, ◌++◌, length, Option, Some, None, Vec, true≢false, refl, sym, ap, ◌∙◌}
 use Rattle.std.specs.Global.{Global}
 use Rattle.std.specs.Option.{option_map}
@@ -16,14 +16,21 @@ use Rattle.py_syntax.specs.declared.stmt.Stmt as stmts
 use Rattle.py_syntax.specs.declared.stmt.Suite.{Suite as SuiteNode, out-Suite}
 use Rattle.py_syntax.specs.declared.stmt.Suite as suites
 use Rattle.py_syntax.specs.Functions.{Function}
-use Rattle.py_syntax.specs.Tree.{stmt, Suite, suite, OptSuite, no_suite, has_suite, arm, Clauses, no_clauses, clause, case, if', while, for, try, match}
-use Rattle.py_syntax.specs.View.{plain_expr, plain_pattern, plain_stmts, plain_kind, plain_suite, plain_opt_suite, plain_arms, plain_clauses, plain_cases}
+use Rattle.py_syntax.specs.Tree.{stmt, Suite, suite, OptSuite, no_suite, has_suite, arm, clause, case, assign, assert, if', while, for, try, match}
+use Rattle.py_syntax.specs.View.{plain_expr, plain_exprs, plain_pattern, plain_stmts, plain_kind, plain_suite, plain_opt_suite, plain_arms, plain_clauses, plain_cases}
 use Rattle.py_code.specs.declared.instr.Instr.TheVariants.{Goto}
 use Rattle.py_compile_expr.specs.Cells.{plain, put}
 use Rattle.py_compile.specs.Statements.{stmts_code, opt_size, opt_code, clauses_size, clauses_code}
 use Rattle.py_compile.specs.Ways.{Ways, in_try, in_hand}
 use Rattle.py_emit.proofs.Ends.{not_none}
 use Rattle.py_emit.specs.Parts.{suite_body, suite_line, suite_size, finally_ways, tried_ways, handlers_size, handlers_code}
+
+assign_is : (ts : Vec Node Global) (e : Node) → plain_kind (kind.Assign ts e) ≡ assign (plain_exprs ts.items) (plain_expr e)
+assign_is ts e = search kind.the_lemmas
+
+assert_is : (t : Node) (why : Option Node) → plain_kind (kind.Assert t why) ≡ assert (plain_expr t) (option_map plain_expr why)
+assert_is t None = search kind.the_lemmas
+assert_is t (Some e) = search kind.the_lemmas
 
 if_is : (items : Vec ArmNode Global) (o : Option SuiteNode) → plain_kind (kind.If items o) ≡ if' (plain_arms items.items) (plain_opt_suite o)
 if_is items None = search kind.the_lemmas
@@ -65,6 +72,12 @@ pub cases_are : (c : CaseNode) (rest : List CaseNode) → plain_cases (c ∷ res
 cases_are c rest = search cases.the_lemmas
 
 -- ---- what is shown of a statement, by its parts as the code holds them
+
+pub assign_shown : (k : KindNode) (ts : Vec Node Global) (e : Node) (xs : List Node) → k ≡ kind.Assign ts e → xs ≡ ts.items → plain_kind k ≡ assign (plain_exprs xs) (plain_expr e)
+assign_shown k ts e xs is same = ap plain_kind is ∙ assign_is ts e ∙ ap (λ ys. assign (plain_exprs ys) (plain_expr e)) (sym same)
+
+pub assert_shown : (k : KindNode) (t : Node) (why : Option Node) → k ≡ kind.Assert t why → plain_kind k ≡ assert (plain_expr t) (option_map plain_expr why)
+assert_shown k t why is = ap plain_kind is ∙ assert_is t why
 
 pub if_shown : (k : KindNode) (items : Vec ArmNode Global) (o : Option SuiteNode) (xs : List ArmNode) → k ≡ kind.If items o → xs ≡ items.items → plain_kind k ≡ if' (plain_arms xs) (plain_opt_suite o)
 if_shown k items o xs is same = ap plain_kind is ∙ if_is items o ∙ ap (λ ys. if' (plain_arms ys) (plain_opt_suite o)) (sym same)
@@ -121,10 +134,6 @@ stmts_are s rest = search stmts.the_lemmas
 pub finally_hand : (o : OptSuite) (w : Ways) (to : ℕ) → in_hand (finally_ways o w to) ≡ in_hand w
 finally_hand no_suite w to = refl
 finally_hand (has_suite s) w to = refl
-
-pub tried_hand : (cs : Clauses) (w : Ways) (to : ℕ) → in_hand (tried_ways cs w to) ≡ in_hand w
-tried_hand no_clauses w to = refl
-tried_hand (clause kind x s rest) w to = refl
 
 -- ---- the suite of an `else`
 

@@ -1,17 +1,33 @@
--- The sizes of imports and of functions, and the code of functions with defaults.
-use Rattle.std.proofs.Common.{◌≡◌, ℕ, ◌+◌, ◌*◌, ◌==◌, List, [], ◌∷◌, ◌++◌, length, true, false, true≢false, Option, refl, sym, ap, ◌∙◌, arith, append_assoc}
+-- The sizes of two parts, of imports and of functions, the place after a part, and the code of functions with defaults.
+use Rattle.std.proofs.Common.{◌≡◌, ℕ, ◌+◌, ◌*◌, ◌==◌, List, [], ◌∷◌, ◌++◌, length, true, false, true≢false, Option, Result, Ok, IfOk, refl, sym, ap, subst, ◌∙◌, arith, append_assoc}
 use Rattle.py_syntax.specs.declared.expr.Expr.{Expr as Node}
 use Rattle.py_syntax.specs.declared.stmt.Alias.{Alias as AliasNode}
 use Rattle.py_value.specs.declared.operator.BinOp.{BinOp}
 use Rattle.py_syntax.specs.Tree.{Text, Expr, index}
 use Rattle.py_syntax.specs.View.{plain_exprs, plain_aliases}
 use Rattle.py_code.specs.declared.instr.Instr.TheVariants.{List as MakeList, Function as MakeFunction, FunctionWith}
+use Rattle.py_compile_expr.proofs.Turns.{the_number}
 use Rattle.py_compile_expr.specs.Cells.{plain, Guard, put}
 use Rattle.py_compile_expr.specs.Patterns.{names_size}
 use Rattle.py_compile_expr.specs.Expressions.{count, expr_size, expr_code, each_size, each_code}
 use Rattle.py_compile.specs.Statements.{import_size, take_size, function_size, function_code, augment_code}
 use Rattle.py_emit.proofs.Ends.{not_none}
 use Rattle.py_emit.specs.Parts.{read_item_code, written_item_code}
+
+-- two parts and so many instructions
+pub both_sized : {E : Type 0} (left right s : Result ℕ E) (a b parts more : ℕ) → left ≡ Ok a → right ≡ Ok b → parts ≡ a + b → IfOk s (λ n. n ≡ parts + more)
+    → (l r : ℕ) → IfOk left (λ n. n ≡ l) → IfOk right (λ n. n ≡ r) → IfOk s (λ n. n ≡ l + r + more)
+both_sized {E} left right s a b parts more is also p h l r x y =
+    let x' : a ≡ l = subst (λ (z : Result ℕ E). IfOk z (λ n. n ≡ l)) is x in
+    let y' : b ≡ r = subst (λ (z : Result ℕ E). IfOk z (λ n. n ≡ r)) also y in
+    the_number s (parts + more) (l + r + more) h (omega (arith, p, x', y'))
+
+-- the place after a part and so many instructions
+pub after_sized : {E : Type 0} (size r : Result ℕ E) (at b end more : ℕ) → size ≡ Ok b → end ≡ at + b → IfOk r (λ n. n ≡ end + more)
+    → (s : ℕ) → IfOk size (λ n. n ≡ s) → IfOk r (λ n. n ≡ at + s + more)
+after_sized {E} size r at b end more is p h s x =
+    let x' : b ≡ s = subst (λ (z : Result ℕ E). IfOk z (λ n. n ≡ s)) is x in
+    the_number r (end + more) (at + s + more) h (omega (arith, p, x'))
 
 pub import_size-is : (xs : List AliasNode) → length xs * 4 ≡ import_size (plain_aliases xs)
 import_size-is [] = refl

@@ -6,8 +6,8 @@
 --     read_item_code, written_item_code   parts of `place op= e`
 --     if_code, match_code                 statements
 --     while_head .. case_head             code in front of suites and after them
---     while_code, for_code                loops up to their `else`
---     handlers_code, finally_code         what follows the suite of a `try`
+--     while_code, for_code, try_body      up to an `else`
+--     handlers_code, finally_code         what follows the `else` of a `try`
 --     at_lines                            functions by the lines of their `def`s alone
 use Rattle.std.specs.Prelude.{ℕ, ◌+◌, Bool, true, List, [], ◌++◌, map, Option, Some, None}
 use Rattle.py_value.specs.declared.operator.BinOp.{BinOp}
@@ -20,7 +20,7 @@ use Rattle.py_compile_expr.specs.Patterns.{captured, pattern_size, pattern_code,
 use Rattle.py_compile_expr.specs.Targets.{target_size, target_code}
 use Rattle.py_meaning.specs.Modules.{unit_at}
 use Rattle.py_meaning.specs.Statements.{has_clauses}
-use Rattle.py_compile.specs.Statements.{function_code, tried_size, caught_size, caught_code, guard_size, guard_code, exits_code, stmts_size, stmts_code, opt_size, opt_code, arms_size, arms_code, clauses_size, clauses_code, cases_size, cases_code}
+use Rattle.py_compile.specs.Statements.{function_code, tried_size, caught_size, caught_code, guard_size, guard_code, exits_code, stmts_size, stmts_code, opt_size, arms_size, arms_code, clauses_size, clauses_code, cases_size, cases_code}
 use Rattle.py_compile.specs.Ways.{Ways, under, in_loop, in_finally, in_try, in_hand}
 
 -- the statements of a suite
@@ -138,11 +138,10 @@ written_item_code g op =
 
 -- ---- statements
 
--- tests with their suites, and an `else`
+-- tests with their suites, up to an `else`
 abbrev pub if_code : List Function → Ways → ℕ → Arms → OptSuite → List Cell
 if_code fs w p arms orelse =
-    let rest = p + arms_size (in_hand w) arms in
-    arms_code fs w p (rest + opt_size (in_hand w) orelse) arms ++ opt_code fs w rest orelse
+    arms_code fs w p (p + arms_size (in_hand w) arms + opt_size (in_hand w) orelse) arms
 
 -- a subject with its cases
 abbrev pub match_code : List Function → Ways → ℕ → (line : ℕ) → Expr → Cases → List Cell
@@ -222,6 +221,14 @@ for_code fs w p l target items s orelse =
     ++ (target_code w.guard (again + 2) target
     ++ (stmts_code fs inside (for_begin p target items) (suite_body s)
     ++ put w.guard (plain (Goto again)) []))
+
+-- a `try` up to its `else`
+abbrev pub try_body : List Function → Ways → ℕ → (line : ℕ) → Suite → Clauses → OptSuite → OptSuite
+    → List Cell
+try_body fs w p l s cs orelse finally =
+    let inside = finally_ways finally w (try_end (in_hand w) p s cs orelse + 1) in
+    put w.guard (marks l)
+    (stmts_code fs (tried_ways cs inside (try_begin (in_hand w) p s orelse)) (p + 1) (suite_body s))
 
 -- the clauses of a `try`, and the jump over them
 abbrev pub handlers_code : List Function → Ways → ℕ → (end : ℕ) → Clauses → List Cell

@@ -1,26 +1,27 @@
-// Emission of `match`, and of what a compound statement has several of: tests, clauses and cases.
+// Emission of `if` and `match`, and of what there are several of: tests, clauses and cases.
 
 ghost use Rattle.std.specs.Prelude.{◌≡◌, ◌+◌, ◌++◌, IfOk, OnOk};
-ghost use Rattle.py_syntax.specs.View.{plain_expr, plain_arms, plain_clauses, plain_cases};
+ghost use Rattle.py_syntax.specs.View.{plain_expr, plain_opt_suite, plain_arms, plain_clauses, plain_cases};
 ghost use Rattle.py_compile_expr.specs.Expressions.{expr_size};
 ghost use Rattle.py_compile.specs.Statements.{arms_size, arms_code, clauses_size, clauses_code, cases_size, cases_code};
 ghost use Rattle.py_compile.specs.Ways.{in_hand};
-ghost use Rattle.py_emit.specs.Parts.{match_code, at_lines};
+ghost use Rattle.py_emit.specs.Parts.{if_code, match_code, at_lines};
 ghost use Rattle.py_emit.specs.WaysView.{plain_ways};
 
 use crate::defs::Defs;
 use crate::heads::{put_arm_head, put_case_head, put_clause_end, put_clause_head};
-use crate::places::{arm_next, case_next, clause_places, match_end};
+use crate::parts::put_marked_expr;
+use crate::places::{arm_next, case_next, clause_places, if_end, match_end};
 use crate::statements::put_suite;
 use crate::ways::{Ways, in_clause, in_hand};
 use py_code::Instr;
-use py_compile_expr::{Builder, Op, put_expr};
-use py_syntax::{Arm, Case, Clause, Expr};
+use py_compile_expr::{Builder, Op};
+use py_syntax::{Arm, Case, Clause, Expr, Suite};
 use py_value::NoMemory;
 
 /// Tests with their suites.
 #[cycle(statements)]
-pub(crate) fn put_arms(
+fn put_arms(
     out: &mut Builder,
     defs: &Defs,
     ways: Ways,
@@ -42,6 +43,26 @@ pub(crate) fn put_arms(
         to = out.put(ways.guard, jump, Op::Plain(Instr::Goto(end)))?;
     }
     Ok(to)
+}
+
+/// `if`, up to its `else`.
+#[cycle(statements)]
+pub(crate) fn put_if(
+    out: &mut Builder,
+    defs: &Defs,
+    ways: Ways,
+    at: u32,
+    arms: &[Arm],
+    orelse: &Option<Suite>,
+) -> Result<u32, NoMemory>
+    ensures cells { OnOk result (out.new
+        ≡ out.old ++ if_code (at_lines defs.now) (plain_ways ways) at (plain_arms arms.now)
+        (plain_opt_suite orelse.now)) }
+    ensures place { IfOk result (λ n.
+        n ≡ at + arms_size (in_hand (plain_ways ways)) (plain_arms arms.now)) }
+{
+    let end = if_end(in_hand(ways), at, arms, orelse)?;
+    put_arms(out, defs, ways, at, end, arms)
 }
 
 /// Clauses. The exception stays on top till one ends.
@@ -98,8 +119,7 @@ pub(crate) fn put_match(
         + cases_size (in_hand (plain_ways ways)) (plain_cases cases.now))) }
 {
     let end = match_end(in_hand(ways), at, subject, cases)?;
-    let begin = out.put(ways.guard, at, Op::Mark(line))?;
-    let first = put_expr(out, ways.guard, begin, subject)?;
+    let first = put_marked_expr(out, ways.guard, at, line, subject)?;
     put_cases(out, defs, ways, first, end, cases)
 }
 

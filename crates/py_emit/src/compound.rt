@@ -1,4 +1,4 @@
-// Emission of the clauses and the `finally` of a `try`, and of `def`.
+// Emission of `try` and of `def`.
 
 ghost use Rattle.std.specs.Prelude.{◌≡◌, ◌+◌, ◌++◌, IfOk, OnOk};
 ghost use Rattle.py_syntax.specs.Tree.{has_suite};
@@ -6,18 +6,50 @@ ghost use Rattle.py_syntax.specs.View.{plain_exprs, plain_suite, plain_opt_suite
 ghost use Rattle.py_compile_expr.specs.CellView.{plain_guard};
 ghost use Rattle.py_compile.specs.Statements.{function_size};
 ghost use Rattle.py_compile.specs.Ways.{in_hand};
-ghost use Rattle.py_emit.specs.Parts.{handlers_size, handlers_code, finally_size, finally_code, def_code, at_lines};
+ghost use Rattle.py_emit.specs.Parts.{suite_size, try_end, finally_ways, try_body, handlers_size, handlers_code, finally_size, finally_code, def_code, at_lines};
 ghost use Rattle.py_emit.specs.WaysView.{plain_ways};
 
 use crate::branches::put_clauses;
 use crate::defs::Defs;
 use crate::parts::{put_exits, put_function, put_store};
+use crate::places::{TryPlaces, try_places};
 use crate::statements::put_suite;
 use crate::ways::{Ways, under};
 use py_code::Instr;
 use py_compile_expr::{Builder, Guard, Op};
 use py_syntax::{Clause, Expr, Suite};
 use py_value::{NoMemory, Text};
+
+/// `try`, up to its `else`. The suite comes first among the trees, since it is what the recursion
+/// goes down.
+#[cycle(statements)]
+pub(crate) fn put_try_body(
+    out: &mut Builder,
+    defs: &Defs,
+    ways: Ways,
+    at: u32,
+    line: u32,
+    body: &Suite,
+    clauses: &[Clause],
+    orelse: &Option<Suite>,
+    finally: &Option<Suite>,
+) -> Result<TryPlaces, NoMemory>
+    ensures cells { OnOk result (out.new
+        ≡ out.old ++ try_body (at_lines defs.now) (plain_ways ways) at line (plain_suite body.now)
+        (plain_clauses clauses.now) (plain_opt_suite orelse.now) (plain_opt_suite finally.now)) }
+    ensures normal { IfOk result (λ r.
+        r.normal ≡ at + 1 + suite_size (in_hand (plain_ways ways)) (plain_suite body.now)) }
+    ensures end { IfOk result (λ r. r.end
+        ≡ try_end (in_hand (plain_ways ways)) at (plain_suite body.now)
+        (plain_clauses clauses.now) (plain_opt_suite orelse.now)) }
+    ensures inside { IfOk result (λ r. plain_ways r.inside
+        ≡ finally_ways (plain_opt_suite finally.now) (plain_ways ways) (r.end + 1)) }
+{
+    let places = try_places(ways, at, body, clauses, orelse, finally)?;
+    let begin = out.put(ways.guard, at, Op::Mark(line))?;
+    put_suite(out, defs, places.tried, begin, body)?;
+    Ok(places)
+}
 
 /// The clauses of a `try`, and the jump over them.
 #[cycle(statements)]

@@ -9,7 +9,7 @@ ghost use Rattle.py_compile_expr.specs.Patterns.{captured, names_size, names_cod
 ghost use Rattle.py_emit.specs.Parts.{arm_head, while_head, for_head, clause_begin, clause_head, clause_end, clause_end_size, release_code, case_begin, case_head};
 ghost use Rattle.py_emit.specs.WaysView.{plain_ways};
 
-use crate::parts::{put_caught, put_exits, put_guard, put_store};
+use crate::parts::{put_caught, put_exits, put_guard, put_marked_expr, put_store};
 use crate::ways::{Ways, under};
 use py_code::Instr;
 use py_compile_expr::{
@@ -52,8 +52,7 @@ pub(crate) fn put_arm_head(
         ≡ out.old ++ arm_head (plain_guard guard) at line next (plain_expr test.now)) }
     ensures place { IfOk result (λ n. n ≡ at + 1 + expr_size (plain_expr test.now) + 1) }
 {
-    let at = out.put(guard, at, Op::Mark(line))?;
-    let at = put_expr(out, guard, at, test)?;
+    let at = put_marked_expr(out, guard, at, line, test)?;
     out.put(guard, at, Op::Plain(Instr::IfFalse(next)))
 }
 
@@ -70,8 +69,7 @@ pub(crate) fn put_for_head(
         ≡ out.old ++ for_head (plain_guard guard) at line (plain_expr items.now) rest) }
     ensures place { IfOk result (λ n. n ≡ at + 1 + expr_size (plain_expr items.now) + 4) }
 {
-    let at = out.put(guard, at, Op::Mark(line))?;
-    let at = put_expr(out, guard, at, items)?;
+    let at = put_marked_expr(out, guard, at, line, items)?;
     let again = sum(at, 2)?;
     let first = sum(again, 1)?;
     let at = out.put(guard, at, Op::Plain(Instr::Walk))?;

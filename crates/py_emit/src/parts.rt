@@ -5,9 +5,9 @@ ghost use Rattle.std.specs.Option.{option_map};
 ghost use Rattle.py_syntax.specs.Names.{alias_name};
 ghost use Rattle.py_syntax.specs.Tree.{name, index};
 ghost use Rattle.py_syntax.specs.View.{plain_expr, plain_exprs, plain_alias, plain_aliases};
-ghost use Rattle.py_compile_expr.specs.Cells.{store, takes, put};
+ghost use Rattle.py_compile_expr.specs.Cells.{store, takes, marks, put};
 ghost use Rattle.py_compile_expr.specs.CellView.{plain_guard};
-ghost use Rattle.py_compile_expr.specs.Expressions.{expr_size};
+ghost use Rattle.py_compile_expr.specs.Expressions.{expr_size, expr_code};
 ghost use Rattle.py_compile.specs.Statements.{option_size, option_code, module_code, import_size, import_code, take_size, take_code, no_place_code, augment_size, augment_code, raise_size, raise_code, assert_size, assert_code, function_size, function_code, caught_size, caught_code, guard_size, guard_code, exits_code};
 ghost use Rattle.py_compile.specs.Ways.{in_hand};
 ghost use Rattle.py_emit.specs.Parts.{read_item_code, written_item_code};
@@ -34,6 +34,23 @@ pub(crate) fn put_option(
         None => out.put(guard, at, Op::Constant(Constant::None)),
         Some(e) => put_expr(out, guard, at, e),
     }
+}
+
+/// The mark of a line, and an expression.
+pub(crate) fn put_marked_expr(
+    out: &mut Builder,
+    guard: Option<Guard>,
+    at: u32,
+    line: u32,
+    e: &Expr,
+) -> Result<u32, NoMemory>
+    ensures cells { OnOk result (out.new
+        ≡ out.old ++ put (plain_guard guard) (marks line)
+        (expr_code (plain_guard guard) (at + 1) (plain_expr e.now))) }
+    ensures place { IfOk result (λ n. n ≡ at + 1 + expr_size (plain_expr e.now)) }
+{
+    let at = out.put(guard, at, Op::Mark(line))?;
+    put_expr(out, guard, at, e)
 }
 
 /// Stores the top operand under a name.

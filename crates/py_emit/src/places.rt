@@ -10,10 +10,10 @@ ghost use Rattle.py_compile.specs.Ways.{in_loop, in_hand, under};
 ghost use Rattle.py_emit.specs.WaysView.{plain_ways};
 
 use crate::suite_sizes::{
-    arms_size, case_head_size, cases_size, caught_size, handlers_size, opt_size, suite_size,
+    after, arms_size, case_head_size, cases_size, caught_size, handlers_size, opt_size, suite_size,
 };
 use crate::ways::{Ways, in_finally, in_hand, in_loop, in_try, under};
-use py_compile_expr::{expr_size, over, sum, target_size};
+use py_compile_expr::{expr_size, sum, target_size};
 use py_syntax::{Arm, Case, Clause, Expr, Pattern, Suite};
 use py_value::{NoMemory, Text};
 
@@ -43,10 +43,10 @@ pub(crate) fn while_places(
 {
     let handled = in_hand(ways);
     let again = sum(at, 2)?;
-    let begin = sum(over(again, expr_size(test)?)?, 1)?;
-    let back = sum(begin, suite_size(handled, body)?)?;
+    let begin = after(again, expr_size(test), 2)?;
+    let back = after(begin, suite_size(handled, body), 0)?;
     let rest = sum(back, 1)?;
-    let end = sum(rest, opt_size(handled, orelse)?)?;
+    let end = after(rest, opt_size(handled, orelse), 0)?;
     Ok(LoopPlaces {
         again,
         rest,
@@ -72,12 +72,11 @@ pub(crate) fn for_places(
         (plain_expr target.now) (plain_expr items.now) (plain_suite body.now))) }
 {
     let handled = in_hand(ways);
-    let again = sum(over(at, expr_size(items)?)?, 2)?;
-    let first = sum(again, 2)?;
-    let begin = sum(first, target_size(target)?)?;
-    let back = sum(begin, suite_size(handled, body)?)?;
+    let again = after(at, expr_size(items), 3)?;
+    let begin = after(again, target_size(target), 2)?;
+    let back = after(begin, suite_size(handled, body), 0)?;
     let rest = sum(back, 1)?;
-    let end = sum(rest, opt_size(handled, orelse)?)?;
+    let end = after(rest, opt_size(handled, orelse), 0)?;
     let lower = under(ways)?;
     Ok(LoopPlaces {
         again,
@@ -86,12 +85,13 @@ pub(crate) fn for_places(
     })
 }
 
-/// Of a `try`: the ways out of its body and of its other suites, and where it goes on in front of
-/// its `finally`.
+/// Of a `try`: the ways out of its body and of its other suites, where its `else` begins, and where
+/// it goes on in front of its `finally`.
 #[derive(Clone, Copy)]
 pub(crate) struct TryPlaces {
     pub tried: Ways,
     pub inside: Ways,
+    pub normal: u32,
     pub end: u32,
 }
 
@@ -103,6 +103,8 @@ pub(crate) fn try_places(
     orelse: &Option<Suite>,
     finally: &Option<Suite>,
 ) -> Result<TryPlaces, NoMemory>
+    ensures normal { IfOk result (λ r.
+        r.normal ≡ at + 1 + suite_size (in_hand (plain_ways ways)) (plain_suite body.now)) }
     ensures end { IfOk result (λ r. r.end
         ≡ try_end (in_hand (plain_ways ways)) at (plain_suite body.now)
         (plain_clauses clauses.now) (plain_opt_suite orelse.now)) }
@@ -114,14 +116,19 @@ pub(crate) fn try_places(
         (plain_suite body.now) (plain_opt_suite orelse.now))) }
 {
     let handled = in_hand(ways);
-    let normal = over(at, suite_size(handled, body)?)?;
-    let jump = sum(normal, opt_size(handled, orelse)?)?;
+    let normal = after(at, suite_size(handled, body), 1)?;
+    let jump = after(normal, opt_size(handled, orelse), 0)?;
     let begin = sum(jump, 1)?;
-    let end = sum(jump, handlers_size(handled, clauses)?)?;
+    let end = after(jump, handlers_size(handled, clauses), 0)?;
     let suite = sum(end, 1)?;
     let inside = finally_ways(finally, ways, suite);
     let tried = tried_ways(clauses, inside, begin);
-    Ok(TryPlaces { tried, inside, end })
+    Ok(TryPlaces {
+        tried,
+        inside,
+        normal,
+        end,
+    })
 }
 
 /// In front of a `finally`, if there is one, whose suite begins at the place.
@@ -167,18 +174,14 @@ pub(crate) fn clause_places(
         (clause_begin at (option_map plain_expr kind.now) name.now
         + suite_size true (plain_suite body.now) + 1)) }
 {
-    let first = over(at, caught_size(kind)?)?;
-    let size = suite_size(true, body)?;
+    let first = after(at, caught_size(kind), 1)?;
     match name {
         None => {
-            let end = sum(first, size)?;
-            let next = sum(end, 2)?;
+            let next = after(first, suite_size(true, body), 2)?;
             Ok(ClausePlaces { next, inside })
         }
         Some(_) => {
-            let begin = sum(first, 2)?;
-            let end = sum(begin, size)?;
-            let release = sum(end, 1)?;
+            let release = after(first, suite_size(true, body), 3)?;
             let next = sum(release, 7)?;
             Ok(ClausePlaces {
                 next,
@@ -199,8 +202,8 @@ pub(crate) fn if_end(
         n ≡ at + arms_size handled (plain_arms arms.now)
         + opt_size handled (plain_opt_suite orelse.now)) }
 {
-    let rest = sum(at, arms_size(handled, arms)?)?;
-    sum(rest, opt_size(handled, orelse)?)
+    let rest = after(at, arms_size(handled, arms), 0)?;
+    after(rest, opt_size(handled, orelse), 0)
 }
 
 /// Where the test after this one begins.
@@ -209,9 +212,8 @@ pub(crate) fn arm_next(handled: bool, at: u32, test: &Expr, body: &Suite) -> Res
         n ≡ at + 1 + expr_size (plain_expr test.now) + 1
         + suite_size handled (plain_suite body.now) + 1) }
 {
-    let begin = sum(over(at, expr_size(test)?)?, 1)?;
-    let jump = sum(begin, suite_size(handled, body)?)?;
-    sum(jump, 1)
+    let begin = after(at, expr_size(test), 2)?;
+    after(begin, suite_size(handled, body), 1)
 }
 
 /// Where the case after this one begins.
@@ -226,9 +228,8 @@ pub(crate) fn case_next(
         n ≡ case_begin at (plain_pattern pattern.now) (option_map plain_expr guard.now)
         + suite_size handled (plain_suite body.now) + 1) }
 {
-    let begin = sum(at, case_head_size(pattern, guard)?)?;
-    let jump = sum(begin, suite_size(handled, body)?)?;
-    sum(jump, 1)
+    let begin = after(at, case_head_size(pattern, guard), 0)?;
+    after(begin, suite_size(handled, body), 1)
 }
 
 /// Where a `match` ends.
@@ -242,6 +243,6 @@ pub(crate) fn match_end(
         n ≡ at + 1 + expr_size (plain_expr subject.now)
         + cases_size handled (plain_cases cases.now)) }
 {
-    let first = over(at, expr_size(subject)?)?;
-    sum(first, cases_size(handled, cases)?)
+    let first = after(at, expr_size(subject), 1)?;
+    after(first, cases_size(handled, cases), 0)
 }

@@ -11,12 +11,13 @@ ghost use Rattle.py_compile.specs.Ways.{in_hand};
 ghost use Rattle.py_emit.specs.WaysView.{plain_ways};
 
 use crate::parts::{
-    put_augment, put_failure, put_imported, put_module, put_option, put_raised, put_taken,
+    put_augment, put_failure, put_imported, put_marked_expr, put_module, put_option, put_raised,
+    put_taken,
 };
 use crate::suite_sizes::assert_size;
 use crate::ways::{Ways, break_exit, continue_exit, return_exit};
 use py_code::Instr;
-use py_compile_expr::{Builder, Guard, Op, over, put_all, put_expr, sum};
+use py_compile_expr::{Builder, Guard, Op, over, put_all, sum};
 use py_syntax::{Alias, Expr};
 use py_value::{BinOp, NoMemory, Text};
 
@@ -33,8 +34,7 @@ pub(crate) fn put_value(
     ensures place { IfOk result (λ n.
         n ≡ at + kind_size (in_hand (plain_ways ways)) (expr (plain_expr e.now))) }
 {
-    let at = out.put(ways.guard, at, Op::Mark(line))?;
-    let at = put_expr(out, ways.guard, at, e)?;
+    let at = put_marked_expr(out, ways.guard, at, line, e)?;
     out.put(ways.guard, at, Op::Plain(Instr::Pop))
 }
 
@@ -54,8 +54,7 @@ pub(crate) fn put_assign(
         n ≡ at + kind_size (in_hand (plain_ways ways)) (assign (plain_exprs targets.now)
         (plain_expr value.now))) }
 {
-    let at = out.put(ways.guard, at, Op::Mark(line))?;
-    let at = put_expr(out, ways.guard, at, value)?;
+    let at = put_marked_expr(out, ways.guard, at, line, value)?;
     put_all(out, ways.guard, at, targets)
 }
 
@@ -175,8 +174,7 @@ pub(crate) fn put_assert(
         (option_map plain_expr why.now))) }
 {
     let size = assert_size(why)?;
-    let at = out.put(ways.guard, at, Op::Mark(line))?;
-    let at = put_expr(out, ways.guard, at, test)?;
+    let at = put_marked_expr(out, ways.guard, at, line, test)?;
     let end = over(at, size)?;
     let at = out.put(ways.guard, at, Op::Plain(Instr::IfTrue(end)))?;
     put_failure(out, ways.guard, at, why)

@@ -7,16 +7,15 @@ ghost use Rattle.py_compile.specs.Ways.{in_hand};
 ghost use Rattle.py_emit.specs.Parts.{suite_body, suite_size, at_lines};
 ghost use Rattle.py_emit.specs.WaysView.{plain_ways};
 
-use crate::branches::{put_arms, put_match};
-use crate::compound::{put_def, put_finally, put_handlers};
+use crate::branches::{put_if, put_match};
+use crate::compound::{put_def, put_finally, put_handlers, put_try_body};
 use crate::defs::Defs;
 use crate::loops::{put_for, put_while};
-use crate::places::{if_end, try_places};
 use crate::simple::{
     put_assert, put_assign, put_aug_assign, put_break, put_continue, put_from, put_import,
     put_raise, put_return, put_value,
 };
-use crate::ways::{Ways, in_hand};
+use crate::ways::Ways;
 use py_compile_expr::{Builder, Op};
 use py_syntax::{Stmt, StmtKind, Suite};
 use py_value::NoMemory;
@@ -74,8 +73,7 @@ fn put_kind(
         StmtKind::Import(names) => put_import(out, ways, at, line, names),
         StmtKind::From(of, names) => put_from(out, ways, at, line, of, names),
         StmtKind::If { arms, orelse } => {
-            let end = if_end(in_hand(ways), at, arms, orelse)?;
-            let next = put_arms(out, defs, ways, at, end, arms)?;
+            let next = put_if(out, defs, ways, at, arms, orelse)?;
             put_opt(out, defs, ways, next, orelse)
         }
         StmtKind::While { test, body, orelse } => {
@@ -97,11 +95,9 @@ fn put_kind(
             orelse,
             finally,
         } => {
-            let places = try_places(ways, at, body, clauses, orelse, finally)?;
-            let begin = out.put(ways.guard, at, Op::Mark(line))?;
-            let normal = put_suite(out, defs, places.tried, begin, body)?;
-            let jump = put_opt(out, defs, places.inside, normal, orelse)?;
-            let end = put_handlers(out, defs, places.inside, jump, places.end, clauses)?;
+            let tried = put_try_body(out, defs, ways, at, line, body, clauses, orelse, finally)?;
+            let jump = put_opt(out, defs, tried.inside, tried.normal, orelse)?;
+            let end = put_handlers(out, defs, tried.inside, jump, tried.end, clauses)?;
             put_finally(out, defs, ways, end, finally)
         }
         StmtKind::Def { name, defaults, .. } => {

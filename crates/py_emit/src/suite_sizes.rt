@@ -1,6 +1,6 @@
 // How many instructions the code of statements takes.
 
-ghost use Rattle.std.specs.Prelude.{◌≡◌, ◌+◌, ◌*◌, true, IfOk};
+ghost use Rattle.std.specs.Prelude.{◌≡◌, ℕ, ◌+◌, ◌*◌, true, IfOk};
 ghost use Rattle.std.specs.Option.{option_map};
 ghost use Rattle.py_syntax.specs.Tree.{index};
 ghost use Rattle.py_syntax.specs.View.{plain_expr, plain_exprs, plain_pattern, plain_aliases, plain_stmts, plain_kind, plain_suite, plain_opt_suite, plain_arms, plain_clauses, plain_cases};
@@ -14,12 +14,25 @@ use py_syntax::{Alias, Arm, Case, Clause, Expr, Pattern, Stmt, StmtKind, Suite};
 use py_value::{NoMemory, Text};
 use std::alloc::AllocError;
 
-/// The size of two parts and so many instructions.
-fn both(left: u32, right: u32, more: u32) -> Result<u32, NoMemory>
-    ensures { IfOk result (λ n. n ≡ left + right + more) }
+/// The size of two parts and so many instructions, where both parts have a size.
+fn both(
+    left: Result<u32, NoMemory>,
+    right: Result<u32, NoMemory>,
+    more: u32,
+) -> Result<u32, NoMemory>
+    ensures { (l r : ℕ) → IfOk left (λ n. n ≡ l) → IfOk right (λ n. n ≡ r)
+        → IfOk result (λ n. n ≡ l + r + more) }
 {
-    let parts = sum(left, right)?;
+    let parts = sum(left?, right?)?;
     sum(parts, more)
+}
+
+/// The place after a part of this size and so many instructions, where the part has a size.
+pub(crate) fn after(at: u32, size: Result<u32, NoMemory>, more: u32) -> Result<u32, NoMemory>
+    ensures { (s : ℕ) → IfOk size (λ n. n ≡ s) → IfOk result (λ n. n ≡ at + s + more) }
+{
+    let end = sum(at, size?)?;
+    sum(end, more)
 }
 
 /// So many parts of one size.
@@ -74,8 +87,8 @@ fn augment_item_size(of: &Expr, key: &Expr, e: &Expr) -> Result<u32, NoMemory>
     ensures { IfOk result (λ n.
         n ≡ augment_size (index (plain_expr of.now) (plain_expr key.now)) (plain_expr e.now)) }
 {
-    let read = both(expr_size(of)?, expr_size(key)?, 3)?;
-    both(read, expr_size(e)?, 3)
+    let read = both(expr_size(of), expr_size(key), 3);
+    both(read, expr_size(e), 3)
 }
 
 fn raise_size(handled: bool, e: &Option<Expr>) -> Result<u32, NoMemory>
@@ -131,21 +144,25 @@ pub(crate) fn kind_size(handled: bool, kind: &StmtKind) -> Result<u32, NoMemory>
 {
     match kind {
         StmtKind::Expr(e) => sum(expr_size(e)?, 2),
-        StmtKind::Assign { targets, value } => both(expr_size(value)?, all_size(targets)?, 1),
+        StmtKind::Assign { targets, value } => both(expr_size(value), all_size(targets), 1),
         StmtKind::AugAssign { place, value, .. } => sum(augment_size(place, value)?, 1),
         StmtKind::Pass => Ok(1),
         StmtKind::Break => Ok(2),
         StmtKind::Continue => Ok(2),
         StmtKind::Return(e) => sum(option_size(e)?, 2),
         StmtKind::Raise(e) => sum(raise_size(handled, e)?, 1),
-        StmtKind::Assert(test, why) => both(expr_size(test)?, assert_size(why)?, 2),
+        StmtKind::Assert(test, why) => both(expr_size(test), assert_size(why), 2),
         StmtKind::Global(_) => Ok(0),
         StmtKind::Import(names) => sum(import_size(names)?, 1),
         StmtKind::From(_, names) => sum(take_size(names)?, 4),
-        StmtKind::If { arms, orelse } => sum(arms_size(handled, arms)?, opt_size(handled, orelse)?),
+        StmtKind::If { arms, orelse } => both(
+            arms_size(handled, arms),
+            opt_size(handled, orelse),
+            0,
+        ),
         StmtKind::While { test, body, orelse } => {
-            let suites = sum(suite_size(handled, body)?, opt_size(handled, orelse)?)?;
-            both(expr_size(test)?, suites, 5)
+            let suites = both(suite_size(handled, body), opt_size(handled, orelse), 0);
+            both(expr_size(test), suites, 5)
         }
         StmtKind::For {
             target,
@@ -153,8 +170,8 @@ pub(crate) fn kind_size(handled: bool, kind: &StmtKind) -> Result<u32, NoMemory>
             body,
             orelse,
         } => {
-            let head = both(expr_size(over)?, target_size(target)?, 1)?;
-            let suites = sum(suite_size(handled, body)?, opt_size(handled, orelse)?)?;
+            let head = both(expr_size(over), target_size(target), 1);
+            let suites = both(suite_size(handled, body), opt_size(handled, orelse), 0);
             both(head, suites, 5)
         }
         StmtKind::Try {
@@ -163,16 +180,13 @@ pub(crate) fn kind_size(handled: bool, kind: &StmtKind) -> Result<u32, NoMemory>
             orelse,
             finally,
         } => {
-            let tried = sum(suite_size(handled, body)?, opt_size(handled, orelse)?)?;
-            let last = sum(
-                handlers_size(handled, clauses)?,
-                finally_size(handled, finally)?,
-            )?;
-            both(tried, last, 1)
+            let tried = both(suite_size(handled, body), opt_size(handled, orelse), 0);
+            let caught = both(tried, handlers_size(handled, clauses), 1);
+            both(caught, finally_size(handled, finally), 0)
         }
         StmtKind::Def { defaults, .. } => sum(function_size(defaults)?, 2),
         StmtKind::Match { subject, cases, .. } => {
-            both(expr_size(subject)?, cases_size(handled, cases)?, 1)
+            both(expr_size(subject), cases_size(handled, cases), 1)
         }
     }
 }
@@ -183,7 +197,7 @@ pub(crate) fn stmts_size(handled: bool, items: &[Stmt]) -> Result<u32, NoMemory>
 {
     let mut size = 0;
     for s in items {
-        size = sum(size, kind_size(handled, &s.kind)?)?;
+        size = after(size, kind_size(handled, &s.kind), 0)?;
     }
     Ok(size)
 }
@@ -233,8 +247,8 @@ pub(crate) fn arms_size(handled: bool, items: &[Arm]) -> Result<u32, NoMemory>
 {
     let mut size = 0;
     for arm in items {
-        let one = both(expr_size(&arm.test)?, suite_size(handled, &arm.body)?, 3)?;
-        size = sum(size, one)?;
+        let one = both(expr_size(&arm.test), suite_size(handled, &arm.body), 3);
+        size = after(size, one, 0)?;
     }
     Ok(size)
 }
@@ -247,11 +261,11 @@ pub(crate) fn clauses_size(handled: bool, items: &[Clause]) -> Result<u32, NoMem
     for clause in items {
         let rest = named_size(&clause.name);
         let one = both(
-            caught_size(&clause.kind)?,
-            suite_size(true, &clause.body)?,
+            caught_size(&clause.kind),
+            suite_size(true, &clause.body),
             rest,
-        )?;
-        size = sum(size, one)?;
+        );
+        size = after(size, one, 0)?;
     }
     Ok(size)
 }
@@ -272,9 +286,9 @@ pub(crate) fn cases_size(handled: bool, items: &[Case]) -> Result<u32, NoMemory>
 {
     let mut size = 1;
     for case in items {
-        let head = case_head_size(&case.pattern, &case.guard)?;
-        let one = both(head, suite_size(handled, &case.body)?, 1)?;
-        size = sum(size, one)?;
+        let head = case_head_size(&case.pattern, &case.guard);
+        let one = both(head, suite_size(handled, &case.body), 1);
+        size = after(size, one, 0)?;
     }
     Ok(size)
 }
@@ -285,6 +299,6 @@ pub(crate) fn case_head_size(pattern: &Pattern, guard: &Option<Expr>) -> Result<
         n ≡ case_head_size (plain_pattern pattern.now) (option_map plain_expr guard.now)) }
 {
     let names = captures(pattern)?;
-    let bound = both(pattern_size(pattern)?, names, names)?;
-    both(bound, guard_size(guard)?, 3)
+    let bound = both(pattern_size(pattern), sum(names, names), 3);
+    both(bound, guard_size(guard), 0)
 }

@@ -6,15 +6,16 @@ use Rattle.py_syntax.specs.declared.stmt.Clause.{out-Clause}
 use Rattle.py_syntax.specs.declared.stmt.Case.{out-Case}
 use Rattle.py_syntax.specs.declared.stmt.Suite.{out-Suite}
 use Rattle.py_syntax.specs.View.{plain_expr, plain_pattern, plain_stmts, plain_kind, plain_suite, plain_opt_suite, plain_arms, plain_clauses, plain_cases}
-use Rattle.py_compile_expr.proofs.Turns.{kept, then, three, four, the_number, none_added, none_counted}
+use Rattle.py_compile_expr.proofs.Turns.{kept, then, and_then, three, four, the_number, none_added, none_counted}
 use Rattle.py_compile_expr.specs.Expressions.{expr_size}
-use Rattle.py_compile.specs.Statements.{kind_size, kind_code, opt_size, opt_code, arms_size, arms_code, cases_size, stmts_size, stmts_code}
+use Rattle.py_compile.specs.Statements.{kind_size, kind_code, opt_size, opt_code, arms_size, arms_code, clauses_size, clauses_code, cases_size, cases_code, stmts_size, stmts_code}
 use Rattle.py_compile.specs.Ways.{in_hand}
-use Rattle.py_emit.specs.Parts.{at_lines, suite_size, try_begin, try_end, tried_ways, clause_begin, clause_ways, case_begin, handlers_size}
+use Rattle.py_emit.specs.Parts.{at_lines, suite_size, try_end, try_body, clause_begin, clause_ways, case_begin, handlers_size}
 use Rattle.py_emit.specs.WaysView.{plain_ways}
+use Rattle.py_emit.proofs.Ends.{one_more, one_added}
 use Rattle.py_emit.proofs.Forms.{while_size, for_size, try_size, try_end-size}
-use Rattle.py_emit.proofs.KindViews.{body_is, line_is, opt_some_size, opt_some_code, if_shown, while_shown, for_shown, try_shown, match_shown, handlers_node, handlers_size-is, handlers_size-none, handlers_code-none, finally_hand, tried_hand}
-use Rattle.py_emit.proofs.Compounds.{if_node, while_node, while_whole, for_node, for_whole, try_node, finally_node, match_node, five}
+use Rattle.py_emit.proofs.KindViews.{body_is, line_is, opt_some_size, opt_some_code, if_shown, while_shown, for_shown, try_shown, match_shown, handlers_node, handlers_size-is, handlers_size-none, handlers_code-none, finally_hand}
+use Rattle.py_emit.proofs.Compounds.{if_whole, while_node, while_whole, for_node, for_whole, try_body_node, try_whole, finally_node, match_node}
 use Rattle.py_emit.proofs.SuiteTurns.{stmts_added, stmts_counted, arms_added, arms_counted, clauses_added, clauses_counted, clause_next-is, clause_counts, clause_hand, cases_added, cases_counted, case_begin-is}
 use Rattle.py_emit.proofs.+statements.Goals as goal
 
@@ -25,6 +26,13 @@ statements::put_stmts-loop-s-preserved t c = record {
   cells = stmts_added (at_lines c.args.defs.now) (plain_ways c.args.ways) c.loop-s.to c.in_ok-to.to c.args.items.now c.loop-s.s-index c.s-item.result _ _ _ c.loop-s-test.true c.s-item.is c.in_ok-to.ensures.place c.in_ok-to.ensures.cells c.loop-s.invariant.cells;
   place = stmts_counted (in_hand (plain_ways c.args.ways)) c.args.items.now c.loop-s.s-index c.s-item.result c.loop-s.to c.in_ok-to.to _ c.loop-s-test.true c.s-item.is c.in_ok-to.ensures.place c.loop-s.invariant.place;
 }
+
+pub statements::put_stmts-returns-clause-cells : goal.statements::put_stmts-returns-clause-cells
+statements::put_stmts-returns-clause-cells t c =
+    none_added (λ xs. stmts_code (at_lines c.args.defs.now) (plain_ways c.args.ways) c.loop-s.to (plain_stmts xs)) refl _ _ _ _ c.loop-s-test.false c.loop-s.invariant.cells
+
+pub statements::put_stmts-returns-clause-place : goal.statements::put_stmts-returns-clause-place
+statements::put_stmts-returns-clause-place t c = none_counted (λ xs. stmts_size (in_hand (plain_ways c.args.ways)) (plain_stmts xs)) refl _ _ _ _ c.loop-s-test.false c.loop-s.invariant.place
 
 -- ---- suites
 
@@ -109,7 +117,30 @@ branches::put_arms-returns-clause-cells t c =
 pub branches::put_arms-returns-clause-place : goal.branches::put_arms-returns-clause-place
 branches::put_arms-returns-clause-place t c = none_counted (λ xs. arms_size (in_hand (plain_ways c.args.ways)) (plain_arms xs)) refl _ _ _ _ c.loop-arm-test.false c.loop-arm.invariant.place
 
+pub branches::put_clauses-returns-clause-cells : goal.branches::put_clauses-returns-clause-cells
+branches::put_clauses-returns-clause-cells t c =
+    one_added (λ xs. clauses_code (at_lines c.args.defs.now) (plain_ways c.args.ways) c.loop-clause.to c.args.end (plain_clauses xs)) _ refl c.put.result _ _ _ _ _ c.loop-clause-test.false c.put.ensures.cells c.loop-clause.invariant.cells
+
+pub branches::put_clauses-returns-clause-place : goal.branches::put_clauses-returns-clause-place
+branches::put_clauses-returns-clause-place t c =
+    the_number c.put.result _ _ c.put.ensures.place (one_more (λ xs. clauses_size (in_hand (plain_ways c.args.ways)) (plain_clauses xs)) refl _ _ _ _ c.loop-clause-test.false c.loop-clause.invariant.place)
+
+pub branches::put_cases-returns-clause-cells : goal.branches::put_cases-returns-clause-cells
+branches::put_cases-returns-clause-cells t c =
+    one_added (λ xs. cases_code (at_lines c.args.defs.now) (plain_ways c.args.ways) c.loop-case.to c.args.end (plain_cases xs)) _ refl c.put-2.result _ _ _ _ _ c.loop-case-test.false c.put-2.ensures.cells c.loop-case.invariant.cells
+
+pub branches::put_cases-returns-clause-place : goal.branches::put_cases-returns-clause-place
+branches::put_cases-returns-clause-place t c =
+    the_number c.put-2.result _ _ c.put-2.ensures.place (one_more (λ xs. cases_size (in_hand (plain_ways c.args.ways)) (plain_cases xs)) refl _ _ _ _ c.loop-case-test.false c.loop-case.invariant.place)
+
 -- ---- compound statements
+
+pub compound::put_try_body-returns-clause-cells : goal.compound::put_try_body-returns-clause-cells
+compound::put_try_body-returns-clause-cells t c =
+    let place = c.in_ok-places.ensures in
+    and_then _ _ _ _ _ _ c.in_ok-put_suite.ensures.cells c.in_ok-begin.ensures.cells
+    (try_body_node (at_lines c.args.defs.now) (plain_ways c.args.ways) c.args.at c.args.line (plain_suite c.args.body.now) (plain_clauses c.args.clauses.now) (plain_opt_suite c.args.orelse.now) (plain_opt_suite c.args.finally.now) c.in_ok-places.places.end c.in_ok-begin.begin (plain_ways c.in_ok-places.places.tried) (plain_ways c.in_ok-places.places.inside)
+    place.end place.inside place.tried c.in_ok-begin.ensures.place)
 
 pub compound::put_handlers-returns-clause-cells : goal.compound::put_handlers-returns-clause-cells
 compound::put_handlers-returns-clause-cells t c =
@@ -176,41 +207,42 @@ loops::put_for-returns-clause-place t c =
     let three = c.in_ok-back.ensures.place ∙ ap (λ v. c.in_ok-begin.begin + suite_size (in_hand v) (plain_suite c.args.body.now)) c.in_ok-places.ensures.inside in
     the_number c.put.result _ _ c.put.ensures.place (omega (arith, one, two, three))
 
+pub branches::put_if-returns-clause-cells : goal.branches::put_if-returns-clause-cells
+branches::put_if-returns-clause-cells t c =
+    let fs = at_lines c.args.defs.now in
+    let w = plain_ways c.args.ways in
+    let xs = plain_arms c.args.arms.now in
+    let end = c.in_ok-end.ensures ∙ ap (λ h. c.args.at + arms_size h xs + opt_size h (plain_opt_suite c.args.orelse.now)) c.in_hand.ensures in
+    kept c.put_arms.result _ _ _ _ (ap (λ n. arms_code fs w c.args.at n xs) (sym end)) c.put_arms.ensures.cells
+
 pub branches::put_match-returns-clause-cells : goal.branches::put_match-returns-clause-cells
 branches::put_match-returns-clause-cells t c =
     let e = plain_expr c.args.subject.now in
     let cs = plain_cases c.args.cases.now in
     let end = c.in_ok-end.ensures ∙ ap (λ h. c.args.at + 1 + expr_size e + cases_size h cs) c.in_hand.ensures in
-    let one = c.in_ok-begin.ensures.place in
-    let two = c.in_ok-first.ensures.place in
-    three c.put_cases.result _ _ _ _ _ _ _ _ c.in_ok-begin.ensures.cells c.in_ok-first.ensures.cells c.put_cases.ensures.cells
-    (match_node (at_lines c.args.defs.now) (plain_ways c.args.ways) c.args.at c.args.line c.in_ok-end.end c.in_ok-begin.begin c.in_ok-first.first e cs end one (omega (arith, one, two)))
+    then c.put_cases.result _ _ _ _ _ _ c.put_cases.ensures.cells c.in_ok-first.ensures.cells
+    (match_node (at_lines c.args.defs.now) (plain_ways c.args.ways) c.args.at c.args.line c.in_ok-end.end c.in_ok-first.first e cs end c.in_ok-first.ensures.place)
 
 pub branches::put_match-returns-clause-place : goal.branches::put_match-returns-clause-place
 branches::put_match-returns-clause-place t c =
-    let one = c.in_ok-begin.ensures.place in
-    let two = c.in_ok-first.ensures.place in
-    the_number c.put_cases.result _ _ c.put_cases.ensures.place (omega (arith, one, two))
+    let one = c.in_ok-first.ensures.place in
+    the_number c.put_cases.result _ _ c.put_cases.ensures.place (omega (arith, one))
 
 -- ---- which statement it is
 
 pub statements::put_kind-returns-in_ok-next-in-If-clause-cells : goal.statements::put_kind-returns-in_ok-next-in-If-clause-cells
 statements::put_kind-returns-in_ok-next-in-If-clause-cells t c =
     let w = plain_ways c.args.ways in
-    let xs = plain_arms c.deref-in-If-2.result.now in
+    let xs = plain_arms c.deref-in-If.result.now in
     let o = plain_opt_suite c.in-If.orelse in
-    let same = ap plain_arms (c.deref-in-If.ensures.value ∙ sym c.deref-in-If-2.ensures.value) in
-    let end = c.in_ok-end-in-If.ensures ∙ ap (λ h. c.args.at + arms_size h (plain_arms c.deref-in-If.result.now) + opt_size h o) c.in_hand.ensures ∙ ap (λ ys. c.args.at + arms_size (in_hand w) ys + opt_size (in_hand w) o) same in
     then c.put_opt.result _ _ _ _ _ _ c.put_opt.ensures.cells c.in_ok-next-in-If.ensures.cells
-    (ap (kind_code (at_lines c.args.defs.now) (plain_ways c.args.ways) c.args.at c.args.line) (if_shown c.args.kind.now c.in-If.arms c.in-If.orelse c.deref-in-If-2.result.now c.in-If.is c.deref-in-If-2.ensures.value) ∙ if_node (at_lines c.args.defs.now) w c.args.at c.in_ok-end-in-If.end c.in_ok-next-in-If.next xs o end c.in_ok-next-in-If.ensures.place)
+    (ap (kind_code (at_lines c.args.defs.now) w c.args.at c.args.line) (if_shown c.args.kind.now c.in-If.arms c.in-If.orelse c.deref-in-If.result.now c.in-If.is c.deref-in-If.ensures.value) ∙ if_whole (at_lines c.args.defs.now) w c.args.at c.args.line xs o c.in_ok-next-in-If.next c.in_ok-next-in-If.ensures.place)
 
 pub statements::put_kind-returns-in_ok-next-in-If-clause-place : goal.statements::put_kind-returns-in_ok-next-in-If-clause-place
 statements::put_kind-returns-in_ok-next-in-If-clause-place t c =
     let h = in_hand (plain_ways c.args.ways) in
-    let xs = plain_arms c.deref-in-If-2.result.now in
-    let o = plain_opt_suite c.in-If.orelse in
     let one = c.in_ok-next-in-If.ensures.place in
-    let k : kind_size h (plain_kind c.args.kind.now) ≡ arms_size h xs + opt_size h o = ap (kind_size h) (if_shown c.args.kind.now c.in-If.arms c.in-If.orelse c.deref-in-If-2.result.now c.in-If.is c.deref-in-If-2.ensures.value) in
+    let k = ap (kind_size h) (if_shown c.args.kind.now c.in-If.arms c.in-If.orelse c.deref-in-If.result.now c.in-If.is c.deref-in-If.ensures.value) in
     the_number c.put_opt.result _ _ c.put_opt.ensures.place (omega (arith, one, k))
 
 pub statements::put_kind-returns-in_ok-rest-in-While-clause-cells : goal.statements::put_kind-returns-in_ok-rest-in-While-clause-cells
@@ -250,7 +282,7 @@ statements::put_kind-returns-in_ok-rest-in-For-clause-place t c =
 
 pub statements::put_kind-returns-in_ok-end-in-Try-clause-cells : goal.statements::put_kind-returns-in_ok-end-in-Try-clause-cells
 statements::put_kind-returns-in_ok-end-in-Try-clause-cells t c =
-    let place = c.in_ok-places-in-Try.ensures in
+    let fs = at_lines c.args.defs.now in
     let w = plain_ways c.args.ways in
     let h = in_hand w in
     let s = plain_suite c.in-Try.body in
@@ -258,39 +290,32 @@ statements::put_kind-returns-in_ok-end-in-Try-clause-cells t c =
     let same = ap plain_clauses (c.deref-in-Try.ensures.value ∙ sym c.deref-in-Try-2.ensures.value) in
     let o = plain_opt_suite c.in-Try.orelse in
     let fin = plain_opt_suite c.in-Try.finally in
-    let hand = ap in_hand place.inside ∙ finally_hand fin w (c.in_ok-places-in-Try.places.end + 1) in
-    let begin = try_begin h c.args.at s o in
-    let ways = place.tried ∙ ap (λ ys. tried_ways ys (plain_ways c.in_ok-places-in-Try.places.inside) begin) same in
-    let tried = ap in_hand ways ∙ tried_hand cs (plain_ways c.in_ok-places-in-Try.places.inside) begin ∙ hand in
-    let one = c.in_ok-begin-in-Try.ensures.place in
-    let two = c.in_ok-normal-in-Try.ensures.place ∙ ap (λ b. c.in_ok-begin-in-Try.begin + suite_size b s) tried in
-    let three = c.in_ok-jump-in-Try.ensures.place ∙ ap (λ b. c.in_ok-normal-in-Try.normal + opt_size b o) hand in
+    let place = c.in_ok-tried-in-Try.ensures in
+    let hand = ap in_hand place.inside ∙ finally_hand fin w (c.in_ok-tried-in-Try.tried.end + 1) in
+    let one = place.normal in
+    let two = c.in_ok-jump-in-Try.ensures.place ∙ ap (λ b. c.in_ok-tried-in-Try.tried.normal + opt_size b o) hand in
     let last = c.in_ok-end-in-Try.ensures.place ∙ ap (λ b. c.in_ok-jump-in-Try.jump + handlers_size b cs) hand in
     let end = place.end ∙ ap (λ ys. try_end h c.args.at s ys o) same in
-    five c.put_finally.result _ _ _ _ _ _ _ _ _ _ _ _ c.in_ok-begin-in-Try.ensures.cells c.in_ok-normal-in-Try.ensures.cells c.in_ok-jump-in-Try.ensures.cells c.in_ok-end-in-Try.ensures.cells c.put_finally.ensures.cells
-    (ap (kind_code (at_lines c.args.defs.now) (plain_ways c.args.ways) c.args.at c.args.line) (try_shown c.args.kind.now c.in-Try.body c.in-Try.clauses c.in-Try.orelse c.in-Try.finally c.deref-in-Try-2.result.now c.in-Try.is c.deref-in-Try-2.ensures.value) ∙ try_node (at_lines c.args.defs.now) w c.args.at c.args.line s cs o fin c.in_ok-places-in-Try.places.end c.in_ok-begin-in-Try.begin c.in_ok-normal-in-Try.normal c.in_ok-jump-in-Try.jump c.in_ok-end-in-Try.end (plain_ways c.in_ok-places-in-Try.places.tried) (plain_ways c.in_ok-places-in-Try.places.inside)
-    end place.inside ways one (omega (arith, one, two)) (omega (arith, one, two, three)) (omega (arith, one, two, three, last, end, try_end-size h c.args.at s cs o)))
+    four c.put_finally.result _ _ _ _ _ _ _ _ _ _ (place.cells ∙ ap (λ ys. c.args.out.now ++ try_body fs w c.args.at c.args.line s ys o fin) same) c.in_ok-jump-in-Try.ensures.cells c.in_ok-end-in-Try.ensures.cells c.put_finally.ensures.cells
+    (ap (kind_code fs w c.args.at c.args.line) (try_shown c.args.kind.now c.in-Try.body c.in-Try.clauses c.in-Try.orelse c.in-Try.finally c.deref-in-Try-2.result.now c.in-Try.is c.deref-in-Try-2.ensures.value)
+    ∙ try_whole fs w c.args.at c.args.line s cs o fin c.in_ok-tried-in-Try.tried.end c.in_ok-tried-in-Try.tried.normal c.in_ok-jump-in-Try.jump c.in_ok-end-in-Try.end (plain_ways c.in_ok-tried-in-Try.tried.inside)
+    end place.inside one (omega (arith, one, two)) (omega (arith, one, two, last, end, try_end-size h c.args.at s cs o)))
 
 pub statements::put_kind-returns-in_ok-end-in-Try-clause-place : goal.statements::put_kind-returns-in_ok-end-in-Try-clause-place
 statements::put_kind-returns-in_ok-end-in-Try-clause-place t c =
-    let place = c.in_ok-places-in-Try.ensures in
     let w = plain_ways c.args.ways in
     let h = in_hand w in
     let s = plain_suite c.in-Try.body in
     let cs = plain_clauses c.deref-in-Try-2.result.now in
-    let same = ap plain_clauses (c.deref-in-Try.ensures.value ∙ sym c.deref-in-Try-2.ensures.value) in
     let o = plain_opt_suite c.in-Try.orelse in
     let fin = plain_opt_suite c.in-Try.finally in
-    let hand = ap in_hand place.inside ∙ finally_hand fin w (c.in_ok-places-in-Try.places.end + 1) in
-    let begin = try_begin h c.args.at s o in
-    let ways = place.tried ∙ ap (λ ys. tried_ways ys (plain_ways c.in_ok-places-in-Try.places.inside) begin) same in
-    let tried = ap in_hand ways ∙ tried_hand cs (plain_ways c.in_ok-places-in-Try.places.inside) begin ∙ hand in
-    let one = c.in_ok-begin-in-Try.ensures.place in
-    let two = c.in_ok-normal-in-Try.ensures.place ∙ ap (λ b. c.in_ok-begin-in-Try.begin + suite_size b s) tried in
-    let three = c.in_ok-jump-in-Try.ensures.place ∙ ap (λ b. c.in_ok-normal-in-Try.normal + opt_size b o) hand in
+    let place = c.in_ok-tried-in-Try.ensures in
+    let hand = ap in_hand place.inside ∙ finally_hand fin w (c.in_ok-tried-in-Try.tried.end + 1) in
+    let one = place.normal in
+    let two = c.in_ok-jump-in-Try.ensures.place ∙ ap (λ b. c.in_ok-tried-in-Try.tried.normal + opt_size b o) hand in
     let last = c.in_ok-end-in-Try.ensures.place ∙ ap (λ b. c.in_ok-jump-in-Try.jump + handlers_size b cs) hand in
     let k = ap (kind_size h) (try_shown c.args.kind.now c.in-Try.body c.in-Try.clauses c.in-Try.orelse c.in-Try.finally c.deref-in-Try-2.result.now c.in-Try.is c.deref-in-Try-2.ensures.value) ∙ try_size h s cs o fin in
-    the_number c.put_finally.result _ _ c.put_finally.ensures.place (omega (arith, one, two, three, last, k))
+    the_number c.put_finally.result _ _ c.put_finally.ensures.place (omega (arith, one, two, last, k))
 
 pub statements::put_kind-returns-in-Match-clause-cells : goal.statements::put_kind-returns-in-Match-clause-cells
 statements::put_kind-returns-in-Match-clause-cells t c =

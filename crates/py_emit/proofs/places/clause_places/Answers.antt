@@ -11,12 +11,9 @@ pub returns-in_ok-next-in-None-clause-next : goal.returns-in_ok-next-in-None-cla
 returns-in_ok-next-in-None-clause-next c =
     let k = option_map plain_expr c.args.kind.now in
     let s = plain_suite c.args.body.now in
-    let one = c.in_ok-caught_size.ensures in
-    let two = c.in_ok-first.ensures in
-    let three = c.in_ok-size.ensures in
-    let four = c.in_ok-end-in-None.ensures in
-    let five = c.in_ok-next-in-None.ensures in
-    let e : c.in_ok-next-in-None.next ≡ c.args.at + 1 + caught_size k + suite_size true s + 2 = omega (arith, one, two, three, four, five) in
+    let one = c.in_ok-first.ensures _ c.caught_size.ensures in
+    let two = c.in_ok-next-in-None.ensures _ c.suite_size.ensures in
+    let e : c.in_ok-next-in-None.next ≡ c.args.at + 1 + caught_size k + suite_size true s + 2 = omega (arith, one, two) in
     e ∙ sym (ap (λ x. clause_next c.args.at k x s) c.in-None.is)
 
 pub returns-in_ok-next-in-None-clause-inside : goal.returns-in_ok-next-in-None-clause-inside
@@ -28,26 +25,18 @@ pub returns-in_ok-next-in-Some-clause-next : goal.returns-in_ok-next-in-Some-cla
 returns-in_ok-next-in-Some-clause-next c =
     let k = option_map plain_expr c.args.kind.now in
     let s = plain_suite c.args.body.now in
-    let one = c.in_ok-caught_size.ensures in
-    let two = c.in_ok-first.ensures in
-    let three = c.in_ok-size.ensures in
-    let four = c.in_ok-begin-in-Some.ensures in
-    let five = c.in_ok-end-in-Some.ensures in
-    let six = c.in_ok-release-in-Some.ensures in
+    let one = c.in_ok-first.ensures _ c.caught_size.ensures in
+    let two = c.in_ok-release-in-Some.ensures _ c.suite_size-in-Some.ensures in
     let last = c.in_ok-next-in-Some.ensures in
-    let e : c.in_ok-next-in-Some.next ≡ c.args.at + 1 + caught_size k + 2 + suite_size true s + 1 + 7 = omega (arith, one, two, three, four, five, six, last) in
+    let e : c.in_ok-next-in-Some.next ≡ c.args.at + 1 + caught_size k + 2 + suite_size true s + 1 + 7 = omega (arith, one, two, last) in
     e ∙ sym (ap (λ x. clause_next c.args.at k x s) c.in-Some.is)
 
 pub returns-in_ok-next-in-Some-clause-inside : goal.returns-in_ok-next-in-Some-clause-inside
 returns-in_ok-next-in-Some-clause-inside c =
     let k = option_map plain_expr c.args.kind.now in
     let s = plain_suite c.args.body.now in
-    let one = c.in_ok-caught_size.ensures in
-    let two = c.in_ok-first.ensures in
-    let three = c.in_ok-size.ensures in
-    let four = c.in_ok-begin-in-Some.ensures in
-    let five = c.in_ok-end-in-Some.ensures in
-    let six = c.in_ok-release-in-Some.ensures in
-    let e : c.in_ok-release-in-Some.release ≡ c.args.at + 1 + caught_size k + 2 + suite_size true s + 1 = omega (arith, one, two, three, four, five, six) in
+    let one = c.in_ok-first.ensures _ c.caught_size.ensures in
+    let two = c.in_ok-release-in-Some.ensures _ c.suite_size-in-Some.ensures in
+    let e : c.in_ok-release-in-Some.release ≡ c.args.at + 1 + caught_size k + 2 + suite_size true s + 1 = omega (arith, one, two) in
     c.in_finally.ensures ∙ ap (in_finally (plain_ways c.args.inside)) e
     ∙ sym (ap (λ x. clause_ways x (plain_ways c.args.inside) (clause_begin c.args.at k x + suite_size true s + 1)) c.in-Some.is)

@@ -7,30 +7,25 @@ use Rattle.py_emit.specs.WaysView.{plain_ways}
 use Rattle.py_emit.proofs.Compounds.{looped}
 use Rattle.py_emit.proofs.places.for_places.Goals as goal
 
+pub returns-clause-again : goal.returns-clause-again
+returns-clause-again c = let one = c.in_ok-again.ensures _ c.expr_size.ensures in omega (arith, one)
+
 pub returns-clause-rest : goal.returns-clause-rest
 returns-clause-rest c =
-    let one = c.in_ok-again.ensures in
-    let two = c.in_ok-expr_size.ensures in
-    let three = c.in_ok-over.ensures in
-    let first = c.in_ok-first.ensures in
-    let target = c.in_ok-target_size.ensures in
-    let four = c.in_ok-begin.ensures in
-    let five = c.in_ok-suite_size.ensures ∙ ap (λ h. suite_size h (plain_suite c.args.body.now)) c.in_hand-handled.ensures in
-    let six = c.in_ok-back.ensures in
+    let one = c.in_ok-again.ensures _ c.expr_size.ensures in
+    let two = c.in_ok-begin.ensures _ c.target_size.ensures in
+    let three = c.in_ok-back.ensures _ c.suite_size.ensures in
+    let hand = ap (λ h. suite_size h (plain_suite c.args.body.now)) c.in_hand-handled.ensures in
     let last = c.in_ok-rest.ensures in
-    omega (arith, one, two, three, first, target, four, five, six, last)
+    omega (arith, one, two, three, hand, last)
 
 pub returns-clause-inside : goal.returns-clause-inside
 returns-clause-inside c =
-    let one = c.in_ok-again.ensures in
-    let two = c.in_ok-expr_size.ensures in
-    let three = c.in_ok-over.ensures in
-    let first = c.in_ok-first.ensures in
-    let target = c.in_ok-target_size.ensures in
-    let four = c.in_ok-begin.ensures in
-    let five = c.in_ok-suite_size.ensures ∙ ap (λ h. suite_size h (plain_suite c.args.body.now)) c.in_hand-handled.ensures in
-    let six = c.in_ok-back.ensures in
-    let seven = c.in_ok-opt_size.ensures ∙ ap (λ h. opt_size h (plain_opt_suite c.args.orelse.now)) c.in_hand-handled.ensures in
-    let last = c.in_ok-end.ensures in
+    let one = c.in_ok-again.ensures _ c.expr_size.ensures in
+    let two = c.in_ok-begin.ensures _ c.target_size.ensures in
+    let three = c.in_ok-back.ensures _ c.suite_size.ensures in
+    let hand = ap (λ h. suite_size h (plain_suite c.args.body.now)) c.in_hand-handled.ensures in
+    let last = c.in_ok-end.ensures _ c.opt_size.ensures in
+    let other = ap (λ h. opt_size h (plain_opt_suite c.args.orelse.now)) c.in_hand-handled.ensures in
     looped _ (under (plain_ways c.args.ways)) 1 c.in_ok-end.end c.in_ok-back.back _ _ (c.in_loop.ensures ∙ ap (λ w. in_loop w 1 c.in_ok-end.end c.in_ok-back.back) c.in_ok-lower.ensures)
-    (omega (arith, seven, last)) (omega (arith, one, two, three, first, target, four, five, six))
+    (omega (arith, last, other)) (omega (arith, one, two, three, hand))

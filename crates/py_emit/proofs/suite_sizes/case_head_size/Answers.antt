@@ -8,8 +8,6 @@ use Rattle.py_emit.proofs.suite_sizes.case_head_size.Goals as goal
 pub returns : goal.returns
 returns c =
     let one = c.in_ok-names.ensures in
-    let two = c.in_ok-pattern_size.ensures in
-    let three = c.in_ok-bound.ensures in
-    let four = c.in_ok-guard_size.ensures in
-    let k = names_size-is (captured (plain_pattern c.args.pattern.now)) in
-    the_number c.both-2.result _ _ c.both-2.ensures (omega (arith, one, two, three, four, k))
+    let two = names_size-is (captured (plain_pattern c.args.pattern.now)) in
+    let bound = c.both-bound.ensures _ _ c.pattern_size.ensures c.sum.ensures in
+    the_number c.both.result _ _ (c.both.ensures _ _ bound c.guard_size.ensures) (omega (arith, one, two))
