@@ -1,9 +1,9 @@
 -- A prompt, and the line after it.
-use Rattle.std.proofs.Common.{◌≡◌, ℕ, List, [], ◌∷◌, ◌++◌, Result, Ok, Err, IfOk, OnOk, refl, ap, sym, ◌∙◌, subst, append-nil, encode_utf8_all}
-use Rattle.cov_outside.specs.Prefixes.{LosesPrefix}
+use Rattle.std.proofs.Common.{◌≡◌, ◌≢◌, ℕ, List, [], ◌∷◌, ◌++◌, Result, Ok, Err, IfOk, OnOk, refl, ap, sym, ◌∙◌, subst, append-nil, encode_utf8_all}
+use Rattle.cov_outside.specs.Prefixes.{GainsPrefix, LosesPrefix}
 use Rattle.cov_outside.proofs.PrefixLemmas.{loses_nothing}
 use Rattle.py_value.specs.declared.builtin.Builtin.{Builtin}
-use Rattle.py_value.specs.declared.builtin.Builtin.TheVariants.{Print}
+use Rattle.py_value.specs.declared.builtin.Builtin.TheVariants.{Print, Len, Range, Str, Repr, Int, Input, Exit}
 use Rattle.py_value.specs.declared.cause.Cause.{Cause}
 use Rattle.py_value.specs.declared.value.Raised.{Raised}
 use Rattle.py_value.specs.declared.value.Value.{Value}
@@ -55,6 +55,10 @@ reads_none tells left answer wrote F e = record {
   holds = λ all rest f. let g = e all in (g.0, g.1, sym f ∙ g.2);
 }
 
+-- all of it was written
+pub gains_all : (before after bytes : List ℕ) → after ≡ before ++ bytes → GainsPrefix before after bytes
+gains_all before after bytes e = record { front = bytes; prefix = record { rest = []; is = sym (append-nil bytes) }; is = e }
+
 -- the answer of a line that was read
 pub line_gives : (tells : Type 0) (before after prompt : List ℕ) (h : PlainHeap) (text : Result (List ℕ) Cause) (answer : Answer) (wrote : List ℕ → Type 0) → answer ≡ in_words raised_by (text >>= λ s. Ok (str_value s, h)) → wrote (encode_utf8_all prompt)
     → OnReads tells before after (λ all rest. (text, rest) ≡ line_read all) → OnReads tells before after (λ all rest. Gives (asked (Ok prompt) h all) answer wrote rest)
@@ -64,15 +68,28 @@ line_gives tells before after prompt h text answer wrote e o w =
 
 -- ---- the other built-ins
 
-for_any : (tells : Type 0) (left : List ℕ) (which w : Builtin) (args : List PlainValue) (h : PlainHeap) (answer : Answer) (wrote : List ℕ → Type 0) → which ≡ w → ((all : List ℕ) → Gives (builtin_of w args h all) answer wrote all)
-    → OnReads tells left left (λ all rest. Gives (builtin_of which args h all) answer wrote rest)
-for_any tells left which w args h answer wrote e f =
-    reads_none tells left answer wrote (builtin_of which args h) (λ all. subst (λ (b : Builtin). Gives (builtin_of b args h all) answer wrote all) (sym e) (f all))
+-- they neither write nor read
+is_quiet : (which : Builtin) (args : List PlainValue) (h : PlainHeap) (input : List ℕ) → which ≢ Print → which ≢ Input → quiet (builtin_of which args h []).answer input ≡ builtin_of which args h input
+is_quiet Print args h input p i = absurd (p refl)
+is_quiet Len args h input p i = refl
+is_quiet Range args h input p i = refl
+is_quiet Str args h input p i = refl
+is_quiet Repr args h input p i = refl
+is_quiet Int args h input p i = refl
+is_quiet Input args h input p i = absurd (i refl)
+is_quiet Exit args h input p i = refl
 
-pub for_quiet : (tells sink : Type 0) (left out : List ℕ) (which w : Builtin) (args : List PlainValue) (h : PlainHeap) (answer : Answer) → which ≡ w → ((all : List ℕ) → quiet answer all ≡ builtin_of w args h all)
+pub quiet_writes : (which : Builtin) (args : List PlainValue) (h : PlainHeap) (input before : List ℕ) → which ≢ Print → which ≢ Input → before ≡ before ++ (builtin_of which args h input).written
+quiet_writes which args h input before p i = sym (append-nil before) ∙ ap (λ (d : Done). before ++ d.written) (is_quiet which args h input p i)
+
+pub quiet_leaves : (which : Builtin) (args : List PlainValue) (h : PlainHeap) (input : List ℕ) → which ≢ Print → which ≢ Input → input ≡ (builtin_of which args h input).left
+quiet_leaves which args h input p i = ap (λ (d : Done). d.left) (is_quiet which args h input p i)
+
+pub for_quiet : (tells sink : Type 0) (left out : List ℕ) (which : Builtin) (args : List PlainValue) (h : PlainHeap) (answer : Answer) → which ≢ Print → which ≢ Input → answer ≡ (builtin_of which args h []).answer
     → OnReads tells left left (λ all rest. Gives (builtin_of which args h all) answer (Wrote sink out out) rest)
-for_quiet tells sink left out which w args h answer e f =
-    for_any tells left which w args h answer (Wrote sink out out) e (λ all. subst (λ (d : Done). Gives d answer (Wrote sink out out) all) (f all) (refl, (λ t. sym (append-nil out)), refl))
+for_quiet tells sink left out which args h answer p i e =
+    reads_none tells left answer (Wrote sink out out) (builtin_of which args h)
+    (λ all. subst (λ (d : Done). Gives d answer (Wrote sink out out) all) (is_quiet which args h all p i) (e, (λ t. sym (append-nil out)), refl))
 
 printed_gives : (r : Result (List (List ℕ)) PlainRaised) (h : PlainHeap) (answer : Answer) (wrote : List ℕ → Type 0) (all : List ℕ) → answer ≡ (printed r h []).answer → wrote (printed r h []).written → Gives (printed r h all) answer wrote all
 printed_gives (Ok ts) h answer wrote all e o = (e, o, refl)
@@ -82,5 +99,6 @@ pub for_print : (r : Result (Result Value Raised) RunFault) (tells sink : Type 0
     → IfOk r (λ answer. plain_outcome answer h ≡ (print_of args h []).answer) → (sink → OnOk r (after ≡ before ++ (print_of args h []).written))
     → IfOk r (λ answer. OnReads tells left left (λ all rest. Gives (builtin_of which args h all) (plain_outcome answer h) (Wrote sink before after) rest))
 for_print (Ok answer) tells sink left before after which args h e w o =
-    for_any tells left which Print args h (plain_outcome answer h) (Wrote sink before after) e (λ all. printed_gives (str_texts args h) h (plain_outcome answer h) (Wrote sink before after) all w o)
+    reads_none tells left (plain_outcome answer h) (Wrote sink before after) (builtin_of which args h)
+    (λ all. subst (λ (b : Builtin). Gives (builtin_of b args h all) (plain_outcome answer h) (Wrote sink before after) all) (sym e) (printed_gives (str_texts args h) h (plain_outcome answer h) (Wrote sink before after) all w o))
 for_print (Err fault) tells sink left before after which args h e w o = tt

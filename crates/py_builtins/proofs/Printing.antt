@@ -1,10 +1,10 @@
 -- The line that `print` writes, text by text.
-use Rattle.std.proofs.Common.{ℕ, zero, suc, List, [], ◌∷◌, ◌++◌, Result, Ok}
+use Rattle.std.proofs.Common.{◌≡◌, ℕ, zero, suc, List, [], ◌∷◌, ◌++◌, Result, Ok, Err, ap, encode_utf8_all}
 use Rattle.py_value.specs.declared.value.Value.{Value}
 use Rattle.py_value.specs.Answers.{◌>>=◌}
-use Rattle.py_value.specs.Plain.{PlainValue, PlainHeap, PlainRaised}
+use Rattle.py_value.specs.Plain.{PlainValue, none_value, PlainHeap, PlainRaised}
 use Rattle.py_value.specs.View.{plains}
-use Rattle.py_builtins.specs.Builtins.{str_texts, line_of}
+use Rattle.py_builtins.specs.Builtins.{Done, str_texts, line_of, printed}
 use Rattle.py_builtins.specs.Methods.{each_after}
 
 -- the line from the text at a place on
@@ -18,3 +18,10 @@ line_after done i vs h = str_texts vs h >>= λ ts. Ok (done ++ ending i ts)
 
 abbrev pub line_from : List ℕ → ℕ → List Value → PlainHeap → Result (List ℕ) PlainRaised
 line_from done i vs h = line_after done i (plains vs) h
+
+-- what `print` does, where the line is made
+pub printed_line : (r : Result (List (List ℕ)) PlainRaised) (h : PlainHeap) (line : List ℕ) → Ok line ≡ (r >>= λ ts. Ok (line_of ts)) → record { answer = Ok (none_value, h); written = encode_utf8_all line; left = [] } ≡ printed r h []
+printed_line (Ok ts) h line e =
+    let same : line ≡ line_of ts = cc in
+    ap (λ s. let d : Done = record { answer = Ok (none_value, h); written = encode_utf8_all s; left = [] } in d) same
+printed_line (Err x) h line e = absurd (cc)

@@ -37,6 +37,9 @@ pub after_next : (line before mid after : List ℕ) (o : Option ℕ) (b : ℕ) �
 after_next line before mid after o b e h w = append_assoc line (b ∷ []) after ∙ with_next line before mid after o b e h w
 
 -- the reading of a byte failed
+pub failed_lost : (line before mid after : List ℕ) → line ++ mid ≡ before → after ≡ mid → LosesPrefix before after
+failed_lost line before mid after w k = record { front = line; is = sym w ∙ ap (λ xs. line ++ xs) (sym k) }
+
 pub failed_further : (line before mid after : List ℕ) → IsOpen line → length line ≤ suc most_items → line ++ mid ≡ before → after ≡ mid → LosesPrefix after (bytes_read before).1
 failed_further line before mid after h l w k =
     subst (λ xs. LosesPrefix xs (bytes_read before).1) (sym k) (subst (λ xs. LosesPrefix mid (bytes_read xs).1) w (still_read line mid h l))

@@ -1,17 +1,17 @@
 -- Displays of values, step by step.
-use Rattle.std.proofs.Common.{◌≡◌, ℕ, zero, suc, ◌-◌, ◌<◌, Bool, false, List, [], length, map, get_or, Result, Some, refl, ap, sym, ◌∙◌, arith, if◌then◌else◌, unwrap_or}
+use Rattle.std.proofs.Common.{◌≡◌, ℕ, zero, suc, ◌-◌, ◌<◌, Bool, false, List, [], ◌∷◌, ◌++◌, codes, length, map, get_or, Result, Some, refl, ap, sym, ◌∙◌, arith, if◌then◌else◌, unwrap_or}
 use Rattle.std.specs.List.{slice_get}
 use Rattle.std.specs.Option.{option_map}
 use Rattle.std.proofs.lemmas.Option.{slice_get-map, slice_get-get_or, slice_get_read, slice_get_within}
 use Rattle.std.proofs.lemmas.List.{length-map}
 use Rattle.py_value.specs.declared.value.Value.{Value}
-use Rattle.py_value.specs.Heaps.{pairs_of, values_of}
-use Rattle.py_value.specs.Plain.{PlainValue, none_value, PlainHeap, PlainObject, list_object, dict_object}
+use Rattle.py_value.specs.Heaps.{list_items, dict_pairs, pairs_of, values_of}
+use Rattle.py_value.specs.Plain.{PlainValue, none_value, list_at, dict_at, PlainHeap, PlainObject, list_object, dict_object}
 use Rattle.py_value.specs.View.{plain, plains}
 use Rattle.py_builtins.specs.declared.writer.Stop.{Stop}
-use Rattle.py_builtins.specs.Displays.{display_step}
-use Rattle.py_builtins.specs.Texts.{display_within, text_within, text_step}
-use Rattle.py_builtins.specs.Writing.{Writing, broken}
+use Rattle.py_builtins.specs.Displays.{has, list_display, dict_display, display_step}
+use Rattle.py_builtins.specs.Texts.{display_within, display_around, text_within, text_step}
+use Rattle.py_builtins.specs.Writing.{Writing, whole, broken}
 use Rattle.py_builtins.specs.Written.{IsWritten}
 use Rattle.py_builtins.proofs.Pieces.{written_same}
 
@@ -26,8 +26,22 @@ display_more zero h inside v e = absurd (e refl)
 display_more (suc n) h inside v e = let f : suc n - 1 ≡ n = omega arith in ap (λ k. display_step (display_within k h) h inside v) f
 
 -- a list or a dict that is entered
-pub entered : (r : Result (Unit {0}) Stop) (a b : List ℕ) (t : Bool) (w v : Writing) → t ≡ false → IsWritten r a b v → IsWritten r a b (if t then w else v)
+entered : (r : Result (Unit {0}) Stop) (a b : List ℕ) (t : Bool) (w v : Writing) → t ≡ false → IsWritten r a b v → IsWritten r a b (if t then w else v)
 entered r a b t w v e h = written_same r a b v (if t then w else v) (sym (ap (λ (x : Bool). let y : Writing = (if x then w else v) in y) e)) h
+
+pub list_entered : (r : Result (Unit {0}) Stop) (a b : List ℕ) (levels : ℕ) (h : PlainHeap) (inside now : List ℕ) (place : ℕ) (vs : List PlainValue) → has place inside ≡ false → now ≡ inside ++ place ∷ [] → vs ≡ list_items h place
+    → IsWritten r a b (list_display (display_within levels h now) vs) → IsWritten r a b (display_around levels h inside (list_at place))
+list_entered r a b levels h inside now place vs e f g w =
+    let items = list_display (display_within levels h (inside ++ place ∷ [])) in
+    entered r a b (has place inside) (whole (codes "[...]")) (items (list_items h place)) e
+    (written_same r a b (list_display (display_within levels h now) vs) (items (list_items h place)) (ap (λ is. list_display (display_within levels h is) vs) f ∙ ap items g) w)
+
+pub dict_entered : (r : Result (Unit {0}) Stop) (a b : List ℕ) (levels : ℕ) (h : PlainHeap) (inside now : List ℕ) (place : ℕ) → has place inside ≡ false → now ≡ inside ++ place ∷ []
+    → IsWritten r a b (dict_display (display_within levels h now) (dict_pairs h place)) → IsWritten r a b (display_around levels h inside (dict_at place))
+dict_entered r a b levels h inside now place e f w =
+    let shown : List ℕ → Writing = λ is. dict_display (display_within levels h is) (dict_pairs h place) in
+    entered r a b (has place inside) (whole (codes "{...}")) (shown (inside ++ place ∷ [])) e
+    (written_same r a b (shown now) (shown (inside ++ place ∷ [])) (ap shown f) w)
 
 -- an item of a list, as the code reads it
 pub item_at : (vs : List Value) (i : ℕ) (v : Value) → i < length vs → v ≡ get_or vs i v → slice_get (plains vs) i ≡ Some (plain v)

@@ -1,13 +1,17 @@
 -- How calls of built-ins come out in the code.
-use Rattle.std.specs.Prelude.{ℕ, zero, suc, min, nat_lt, if◌then◌else◌, List, [], ◌∷◌, length, drop, Option, Some, None, Vec, Result, Ok, Err}
+use Rattle.std.specs.Prelude.{◌≡◌, ℕ, zero, suc, min, nat_lt, if◌then◌else◌, List, [], ◌∷◌, length, drop, Option, Some, None, Vec, Result, Ok, Err, IfOk}
 use Rattle.std.specs.Global.{Global}
 use Rattle.std.specs.Str.{chars, is_utf8}
 use Rattle.py_value.specs.declared.cause.Cause.{Cause}
 use Rattle.py_value.specs.declared.cause.Cause.TheVariants.{WrongArgumentCount, InputNotUtf8, NoInput, TooManyItems}
-use Rattle.py_value.specs.Answers.{◌>>=◌}
+use Rattle.py_value.specs.declared.value.Raised.{Raised}
+use Rattle.py_value.specs.declared.value.Value.{Value}
+use Rattle.py_value.specs.Answers.{◌>>=◌, in_words}
 use Rattle.py_value.specs.Causes.{raised_by}
-use Rattle.py_value.specs.Plain.{PlainValue, PlainHeap, PlainRaised}
+use Rattle.py_value.specs.Plain.{PlainValue, str_value, PlainHeap, PlainRaised}
 use Rattle.py_value.specs.Sequences.{most_items}
+use Rattle.py_value.specs.View.{plain_outcome}
+use Rattle.py_builtins.specs.Arguments.{Answer}
 use Rattle.py_builtins.specs.Builtins.{str_texts, line_of, first_line, after_line}
 use Rattle.py_builtins.specs.Texts.{str_text}
 
@@ -47,3 +51,14 @@ decoded line = if is_utf8 line then Ok (chars line) else Err InputNotUtf8
 abbrev pub line_bytes : Result (Vec ℕ Global) Cause → Result (List ℕ) Cause
 line_bytes (Ok line) = Ok line.items
 line_bytes (Err cause) = Err cause
+
+-- the code answers so on whatever heap: it gives each answer that is this one
+abbrev pub AnswersAnywhere : {E : Type 0} → Result (Result Value Raised) E → (PlainHeap → Answer)
+    → Type 0
+AnswersAnywhere result answer_on =
+    (h : PlainHeap) (answer : Answer) → answer_on h ≡ answer
+    → IfOk result (λ given. plain_outcome given h ≡ answer)
+
+-- a text as an answer, or what its cause raises
+abbrev pub text_answer : Result (List ℕ) Cause → PlainHeap → Answer
+text_answer text h = in_words raised_by (text >>= λ s. Ok (str_value s, h))

@@ -1,6 +1,6 @@
 // The built-in functions.
 
-ghost use Rattle.std.specs.Prelude.{◌≡◌, ◌≢◌, ◌≤◌, ◌++◌, IfOk, OnOk, OnErr, IsErrOf};
+ghost use Rattle.std.specs.Prelude.{◌≡◌, ◌≢◌, ◌≤◌, ◌++◌, [], IfOk, OnOk, OnErr, IsErrOf};
 ghost use Rattle.cov_outside.specs.Counts.{Rose};
 ghost use Rattle.cov_outside.specs.Prefixes.{GainsPrefix, LosesPrefix};
 ghost use Rattle.py_value.specs.HeapView.{plain_heap};
@@ -16,6 +16,7 @@ use crate::input::ask;
 use crate::lengths::len;
 use crate::literals::int;
 use crate::print::print;
+use crate::raising::raise;
 use crate::ranges::range;
 use crate::texts::{repr_of, str_of};
 use cov_outside::{Sink, Source};
@@ -67,13 +68,34 @@ pub fn call_builtin<I: Source, O: Sink>(
 {
     match which {
         Builtin::Print => print(alloc, args, heap, out),
-        Builtin::Len => Ok(len(alloc, args, heap)?),
-        Builtin::Range => Ok(range(alloc, args, heap)?),
-        Builtin::Str => Ok(text(alloc, args, heap)?),
-        Builtin::Repr => Ok(display(alloc, args, heap)?),
-        Builtin::Int => Ok(int(alloc, args, heap)?),
         Builtin::Input => ask(alloc, args, heap, input, out),
+        // `call_quiet` lists the others.
+        _ => Ok(call_quiet(alloc, which, args, heap)?),
+    }
+}
+
+/// A built-in that neither writes nor reads.
+fn call_quiet(
+    alloc: Global,
+    which: Builtin,
+    args: &[Value],
+    heap: &mut Heap,
+) -> Result<Result<Value, Raised>, NoMemory>
+    requires not_print { which ≢ Builtin.Print }
+    requires not_input { which ≢ Builtin.Input }
+    ensures answer { Answers result heap.new
+        ((builtin_of which (plains args.now) (plain_heap heap.old) []).answer) }
+    ensures raised { RaiseKeeps result heap.old heap.new }
+    ensures err { OnErr result (plain_heap heap.new ≡ plain_heap heap.old) }
+{
+    match which {
+        Builtin::Len => len(alloc, args, heap),
+        Builtin::Range => range(alloc, args, heap),
+        Builtin::Str => text(alloc, args, heap),
+        Builtin::Repr => display(alloc, args, heap),
+        Builtin::Int => int(alloc, args, heap),
         Builtin::Exit => Ok(Err(raised_with(alloc, ExcKind::SystemExit, args)?)),
+        Builtin::Print | Builtin::Input => unreachable!(),
     }
 }
 
@@ -82,7 +104,7 @@ fn text(alloc: Global, args: &[Value], heap: &Heap) -> Result<Result<Value, Rais
     ensures { Answers result heap.now (str_of (plains args.now) (plain_heap heap.now)) }
 {
     match only(args) {
-        None => Ok(Err(Raised::of(alloc, Cause::WrongArgumentCount)?)),
+        None => raise(alloc, Cause::WrongArgumentCount),
         Some(value) => match str_of(alloc, value, heap)? {
             Ok(text) => Ok(Ok(Value::Str(text))),
             Err(raised) => Ok(Err(raised)),
@@ -95,7 +117,7 @@ fn display(alloc: Global, args: &[Value], heap: &Heap) -> Result<Result<Value, R
     ensures { Answers result heap.now (repr_of (plains args.now) (plain_heap heap.now)) }
 {
     match only(args) {
-        None => Ok(Err(Raised::of(alloc, Cause::WrongArgumentCount)?)),
+        None => raise(alloc, Cause::WrongArgumentCount),
         Some(value) => match repr_of(alloc, value, heap)? {
             Ok(text) => Ok(Ok(Value::Str(text))),
             Err(raised) => Ok(Err(raised)),

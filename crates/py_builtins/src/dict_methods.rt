@@ -9,6 +9,7 @@ ghost use Rattle.py_builtins.specs.Methods.{pop_key, pop_key_or, pop_of_dict, ge
 
 use crate::arguments::{are_none, only, pair};
 use crate::pairs::pair_count;
+use crate::raising::raise;
 use py_value::key::is_key;
 use py_value::{Addr, Cause, Heap, NoMemory, Raised, Value};
 use std::alloc::Global;
@@ -29,7 +30,7 @@ pub(crate) fn pop_value(
         Some(key) => pop_key(alloc, dict, key, heap),
         None => match pair(args) {
             Some((key, absent)) => pop_key_or(alloc, dict, key, absent, heap),
-            None => Ok(Err(Raised::of(alloc, Cause::WrongArgumentCount)?)),
+            None => raise(alloc, Cause::WrongArgumentCount),
         },
     }
 }
@@ -46,7 +47,7 @@ fn pop_key(
     ensures err { OnErr result (plain_heap heap.new ≡ plain_heap heap.old) }
 {
     if !is_key(key) {
-        return Ok(Err(Raised::of(alloc, Cause::UnhashableKey)?));
+        return raise(alloc, Cause::UnhashableKey);
     }
     match heap.place_of(dict, key) {
         Some(at) => Ok(Ok(heap.take(dict, at))),
@@ -67,7 +68,7 @@ fn pop_key_or(
     ensures err { OnErr result (plain_heap heap.new ≡ plain_heap heap.old) }
 {
     if !is_key(key) {
-        return Ok(Err(Raised::of(alloc, Cause::UnhashableKey)?));
+        return raise(alloc, Cause::UnhashableKey);
     }
     match heap.place_of(dict, key) {
         Some(place) => Ok(Ok(heap.take(dict, place))),
@@ -92,7 +93,7 @@ pub(crate) fn get_value(
         }
         None => match pair(args) {
             Some((key, absent)) => get_or(alloc, dict, key, absent, heap),
-            None => Ok(Err(Raised::of(alloc, Cause::WrongArgumentCount)?)),
+            None => raise(alloc, Cause::WrongArgumentCount),
         },
     }
 }
@@ -108,7 +109,7 @@ fn get_or(
         (get_or dict.place (plain key.now) (plain absent.now) (plain_heap heap.now)) }
 {
     if !is_key(key) {
-        return Ok(Err(Raised::of(alloc, Cause::UnhashableKey)?));
+        return raise(alloc, Cause::UnhashableKey);
     }
     match heap.value_of(dict, key) {
         Some(value) => Ok(Ok(value.copy(alloc)?)),
@@ -129,7 +130,7 @@ pub(crate) fn list_keys(
     ensures err { OnErr result (plain_heap heap.new ≡ plain_heap heap.old) }
 {
     if !are_none(args) {
-        return Ok(Err(Raised::of(alloc, Cause::WrongArgumentCount)?));
+        return raise(alloc, Cause::WrongArgumentCount);
     }
     let keys = copy_keys(alloc, dict, heap)?;
     let made = heap.make_list(keys)?;

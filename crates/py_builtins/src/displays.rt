@@ -1,13 +1,13 @@
 // Displays of values: a walk from left to right, which enters no list or dict again inside itself.
 
-ghost use Rattle.std.specs.Prelude.{◌≡◌, ◌++◌, ◌∷◌, [], OnOk, codes};
+ghost use Rattle.std.specs.Prelude.{◌≡◌, ◌++◌, ◌∷◌, [], IsTrue, OnOk, codes};
 ghost use Rattle.py_value.specs.View.{plain, plains};
 ghost use Rattle.py_value.specs.HeapView.{plain_heap};
 ghost use Rattle.py_value.specs.Plain.{list_at};
 ghost use Rattle.py_builtins.specs.Displays.{has, separated, tuple_display, kind_name, builtin_name, exception_display, argument_display};
 ghost use Rattle.py_builtins.specs.Texts.{display_around, display_within};
-ghost use Rattle.py_builtins.specs.Writing.{whole};
-ghost use Rattle.py_builtins.specs.Written.{IsWritten};
+ghost use Rattle.py_builtins.specs.Writing.{whole, ◌▸◌};
+ghost use Rattle.py_builtins.specs.Written.{IsWritten, are_ascii};
 
 use crate::names::{builtin_name, kind_name};
 use crate::pairs::display_dict;
@@ -96,13 +96,36 @@ fn display_tuple(
         (plains items.now)) }
     ensures inside { OnOk result (inside.new.items ≡ inside.old.items) }
 {
-    out.push_word("(")?;
-    display_items(levels, items, heap, inside, out)?;
     if items.len() == 1 {
-        out.push_word(",)")
+        display_between(levels, "(", items, ",)", heap, inside, out)
     } else {
-        out.push_word(")")
+        display_between(levels, "(", items, ")", heap, inside, out)
     }
+}
+
+/// Items between an opening and a closing word.
+#[cycle(display)]
+fn display_between(
+    levels: u32,
+    opening: &str,
+    items: &[Value],
+    closing: &str,
+    heap: &Heap,
+    inside: &mut Vec<usize>,
+    out: &mut Writer,
+) -> Result<(), Stop>
+    requires opening { IsTrue (are_ascii opening.now) }
+    requires closing { IsTrue (are_ascii closing.now) }
+    ensures written { IsWritten result out.old.text out.new.text
+        (whole opening.now
+        ▸ separated (display_within levels (plain_heap heap.now) inside.old.items)
+        (plains items.now)
+        ▸ whole closing.now) }
+    ensures inside { OnOk result (inside.new.items ≡ inside.old.items) }
+{
+    out.push_word(opening)?;
+    display_items(levels, items, heap, inside, out)?;
+    out.push_word(closing)
 }
 
 #[cycle(display)]
@@ -121,9 +144,7 @@ fn display_list(
         return out.push_word("[...]");
     }
     inside.push(list.place as usize)?;
-    out.push_word("[")?;
-    display_items(levels, heap.items(list), heap, inside, out)?;
-    out.push_word("]")?;
+    display_between(levels, "[", heap.items(list), "]", heap, inside, out)?;
     inside.pop();
     Ok(())
 }

@@ -1,10 +1,12 @@
 // Exceptions that a program makes, and `sys.exit`.
 
 ghost use Rattle.std.specs.Prelude.{◌≡◌, IfOk};
-ghost use Rattle.py_value.specs.View.{plains, plain_raised, plain_value_answer};
+ghost use Rattle.py_value.specs.Plain.{argument};
+ghost use Rattle.py_value.specs.View.{plain, plains, plain_raised, plain_value_answer};
 ghost use Rattle.py_builtins.specs.Builtins.{raised_with, exception_of};
 
 use crate::arguments::{are_none, only};
+use crate::raising::raise;
 use py_value::{Argument, Cause, ExcKind, NoMemory, Raised, Value};
 use std::alloc::Global;
 
@@ -22,12 +24,12 @@ pub fn exception_of(
         return Ok(Ok(Value::Exc(kind, Argument::none())));
     }
     match only(args) {
-        None => Ok(Err(Raised::of(alloc, Cause::WrongArgumentCount)?)),
+        None => raise(alloc, Cause::WrongArgumentCount),
         Some(value) => {
             if !value.may_nest() {
-                return Ok(Err(Raised::of(alloc, Cause::TooDeep)?));
+                return raise(alloc, Cause::TooDeep);
             }
-            let arg = Argument::of(alloc, value.copy(alloc)?)?;
+            let arg = argument_of(alloc, value)?;
             Ok(Ok(Value::Exc(kind, arg)))
         }
     }
@@ -49,8 +51,15 @@ pub(crate) fn raised_with(alloc: Global, kind: ExcKind, args: &[Value]) -> Resul
             if !value.may_nest() {
                 return Raised::of(alloc, Cause::TooDeep);
             }
-            let arg = Argument::of(alloc, value.copy(alloc)?)?;
+            let arg = argument_of(alloc, value)?;
             Ok(Raised { kind, arg })
         }
     }
+}
+
+/// A copy of the value as an argument.
+fn argument_of(alloc: Global, value: &Value) -> Result<Argument, NoMemory>
+    ensures { IfOk result (λ arg. arg ≡ argument (plain value.now)) }
+{
+    Argument::of(alloc, value.copy(alloc)?)
 }

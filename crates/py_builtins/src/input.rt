@@ -12,6 +12,7 @@ ghost use Rattle.py_builtins.specs.Inputs.{OnReads, Gives, Wrote};
 use crate::arguments::{are_none, only};
 use crate::fault::{RunFault, write};
 use crate::lines::read_text;
+use crate::raising::text_answer;
 use crate::texts::str_of;
 use cov_outside::{Sink, Source};
 use py_value::{Cause, Heap, NoMemory, Raised, Text, Value};
@@ -88,10 +89,8 @@ fn ask_with<I: Source, O: Sink>(
         → Rose (O.faults out.old) (O.faults out.new) }
 {
     write_prompt(alloc, prompt, out)?;
-    match read_text(alloc, input)? {
-        Ok(text) => Ok(Ok(Value::Str(text))),
-        Err(cause) => Ok(Err(Raised::of(alloc, cause)?)),
-    }
+    let text = read_text(alloc, input)?;
+    Ok(text_answer(alloc, text)?)
 }
 
 /// The text of the prompt; without a prompt the empty one.

@@ -10,6 +10,7 @@ ghost use Rattle.py_builtins.specs.Builtins.{size_of, len_of};
 
 use crate::arguments::only;
 use crate::pairs::pair_count;
+use crate::raising::raise;
 use py_value::{Cause, Heap, NoMemory, Raised, Value};
 use std::alloc::{AllocError, Global};
 
@@ -22,9 +23,9 @@ pub(crate) fn len(
     ensures { Answers result heap.now (len_of (plains args.now) (plain_heap heap.now)) }
 {
     match only(args) {
-        None => Ok(Err(Raised::of(alloc, Cause::WrongArgumentCount)?)),
+        None => raise(alloc, Cause::WrongArgumentCount),
         Some(value) => match size_of(value, heap) {
-            None => Ok(Err(Raised::of(alloc, Cause::BadArgument)?)),
+            None => raise(alloc, Cause::BadArgument),
             Some(size) => Ok(Ok(number_of(size)?)),
         },
     }

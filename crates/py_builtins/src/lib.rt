@@ -29,6 +29,7 @@ mod names;
 mod pairs;
 mod print;
 mod quotes;
+mod raising;
 mod ranges;
 mod text_methods;
 mod texts;

@@ -7,6 +7,7 @@ ghost use Rattle.py_builtins.specs.Answering.{Answers, RaiseKeeps};
 ghost use Rattle.py_builtins.specs.Methods.{append_value, append_of, take_item, pop_of_list};
 
 use crate::arguments::{are_none, only};
+use crate::raising::raise;
 use py_value::{Addr, Cause, Heap, MOST_ITEMS, NoMemory, Raised, Value, place_among};
 use std::alloc::Global;
 
@@ -24,7 +25,7 @@ pub(crate) fn append(
 {
     match only(args) {
         Some(value) => append_value(alloc, list, value, heap),
-        None => Ok(Err(Raised::of(alloc, Cause::WrongArgumentCount)?)),
+        None => raise(alloc, Cause::WrongArgumentCount),
     }
 }
 
@@ -40,7 +41,7 @@ fn append_value(
     ensures err { OnErr result (plain_heap heap.new ≡ plain_heap heap.old) }
 {
     if heap.items(list).len() >= MOST_ITEMS {
-        return Ok(Err(Raised::of(alloc, Cause::TooManyItems)?));
+        return raise(alloc, Cause::TooManyItems);
     }
     let value = value.copy(alloc)?;
     heap.push(list, value)?;
@@ -62,13 +63,13 @@ pub(crate) fn pop_item(
     match only(args) {
         Some(at) => match at.number() {
             Some(i) => take_item(alloc, list, i, heap),
-            None => Ok(Err(Raised::of(alloc, Cause::BadArgument)?)),
+            None => raise(alloc, Cause::BadArgument),
         },
         None => {
             if are_none(args) {
                 take_item(alloc, list, -1, heap)
             } else {
-                Ok(Err(Raised::of(alloc, Cause::WrongArgumentCount)?))
+                raise(alloc, Cause::WrongArgumentCount)
             }
         }
     }
@@ -87,6 +88,6 @@ fn take_item(
 {
     match place_among(heap.items(list).len(), at) {
         Some(k) => Ok(Ok(heap.take(list, k))),
-        None => Ok(Err(Raised::of(alloc, Cause::PopIndex)?)),
+        None => raise(alloc, Cause::PopIndex),
     }
 }

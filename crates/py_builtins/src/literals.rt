@@ -10,6 +10,7 @@ ghost use Rattle.py_builtins.specs.Calls.{capped};
 
 use crate::arguments::only;
 use crate::char_lists::characters_of;
+use crate::raising::raise;
 use py_value::{Cause, Heap, NoMemory, Raised, Value};
 use std::alloc::Global;
 
@@ -22,10 +23,10 @@ pub(crate) fn int(
     ensures { Answers result heap.now (int_of (plains args.now) (plain_heap heap.now)) }
 {
     match only(args) {
-        None => Ok(Err(Raised::of(alloc, Cause::WrongArgumentCount)?)),
+        None => raise(alloc, Cause::WrongArgumentCount),
         Some(value) => match number_in(alloc, value)? {
             Ok(n) => Ok(Ok(Value::Int(n))),
-            Err(cause) => Ok(Err(Raised::of(alloc, cause)?)),
+            Err(cause) => raise(alloc, cause),
         },
     }
 }

@@ -1,9 +1,10 @@
 // The methods of values.
 
-ghost use Rattle.std.specs.Prelude.{◌≡◌, IfOk, OnErr};
-ghost use Rattle.py_value.specs.View.{plain, plains, plain_raised};
+ghost use Rattle.std.specs.Prelude.{◌≡◌, Err, OnErr};
+ghost use Rattle.py_value.specs.View.{plain, plains};
 ghost use Rattle.py_value.specs.HeapView.{plain_heap};
 ghost use Rattle.py_builtins.specs.Answering.{Answers, RaiseKeeps};
+ghost use Rattle.py_builtins.specs.Calls.{AnswersAnywhere};
 ghost use Rattle.py_builtins.specs.Methods.{method_name, absent_text, no_attribute, method_of, is_list_method, is_dict_method, is_text_method, has_method};
 
 use crate::dict_methods::{get_value, list_keys, pop_value};
@@ -31,7 +32,7 @@ pub fn call_method(
             Method::Append => append(alloc, *list, args, heap),
             Method::Pop => pop_item(alloc, *list, args, heap),
             Method::Get | Method::Keys | Method::StartsWith | Method::Join | Method::Split => {
-                Ok(Err(no_attribute(alloc, which)?))
+                lack(alloc, which)
             }
         },
         Value::Dict(dict) => match which {
@@ -39,16 +40,14 @@ pub fn call_method(
             Method::Get => get_value(alloc, *dict, args, heap),
             Method::Keys => list_keys(alloc, *dict, args, heap),
             Method::Append | Method::StartsWith | Method::Join | Method::Split => {
-                Ok(Err(no_attribute(alloc, which)?))
+                lack(alloc, which)
             }
         },
         Value::Str(text) => match which {
             Method::StartsWith => test_start(alloc, text, args, heap),
             Method::Join => join_list(alloc, text, args, heap),
             Method::Split => split(alloc, text, args, heap),
-            Method::Append | Method::Pop | Method::Get | Method::Keys => {
-                Ok(Err(no_attribute(alloc, which)?))
-            }
+            Method::Append | Method::Pop | Method::Get | Method::Keys => lack(alloc, which),
         },
         Value::None
         | Value::Bool(_)
@@ -58,7 +57,7 @@ pub fn call_method(
         | Value::Module(_)
         | Value::Kind(_)
         | Value::Exc(_, _)
-        | Value::Builtin(_) => Ok(Err(no_attribute(alloc, which)?)),
+        | Value::Builtin(_) => lack(alloc, which),
     }
 }
 
@@ -82,15 +81,16 @@ pub fn has_method(which: Method, on: &Value) -> bool
     }
 }
 
-fn no_attribute(alloc: Global, which: Method) -> Result<Raised, NoMemory>
-    ensures { IfOk result (λ raised. plain_raised raised ≡ no_attribute (method_name which)) }
+/// The answer of a value that lacks the method, on whatever heap.
+fn lack(alloc: Global, which: Method) -> Result<Result<Value, Raised>, NoMemory>
+    ensures { AnswersAnywhere result (λ _. Err (no_attribute (method_name which))) }
 {
     let text = Text::from_str(alloc, absent_text(which))?;
     let arg = Argument::of(alloc, Value::Str(text))?;
-    Ok(Raised {
+    Ok(Err(Raised {
         kind: ExcKind::AttributeError,
         arg,
-    })
+    }))
 }
 
 fn absent_text(which: Method) -> &'static str

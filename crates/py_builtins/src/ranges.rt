@@ -6,6 +6,7 @@ ghost use Rattle.py_value.specs.HeapView.{plain_heap};
 ghost use Rattle.py_value.specs.Sequences.{most_items};
 ghost use Rattle.py_builtins.specs.Builtins.{is_before, is_too_long, numbers_before, range_between, bounds_of, range_of};
 
+use crate::raising::raise;
 use crate::text_methods::new_list;
 use py_value::{Cause, Heap, MOST_ITEMS, NoMemory, Raised, Value};
 use std::alloc::Global;
@@ -25,7 +26,7 @@ pub(crate) fn range(
 {
     match bounds_of(args) {
         Some((from, to, step)) => range_between(alloc, from, to, step, heap),
-        None => Ok(Err(Raised::of(alloc, Cause::WrongArgumentCount)?)),
+        None => raise(alloc, Cause::WrongArgumentCount),
     }
 }
 
@@ -57,13 +58,13 @@ fn range_between(
     ensures err { OnErr result (plain_heap heap.new ≡ plain_heap heap.old) }
 {
     let (Some(from), Some(to), Some(step)) = (from, to, step) else {
-        return Ok(Err(Raised::of(alloc, Cause::BadArgument)?));
+        return raise(alloc, Cause::BadArgument);
     };
     if step == 0 {
-        return Ok(Err(Raised::of(alloc, Cause::ZeroStep)?));
+        return raise(alloc, Cause::ZeroStep);
     }
     if is_too_long(step, from, to) {
-        return Ok(Err(Raised::of(alloc, Cause::TooManyItems)?));
+        return raise(alloc, Cause::TooManyItems);
     }
     let numbers = numbers_before(alloc, MOST_ITEMS, to, step, from)?;
     new_list(alloc, numbers, heap)

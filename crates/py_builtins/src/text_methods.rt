@@ -10,6 +10,7 @@ ghost use Rattle.py_builtins.specs.Methods.{new_list, starts_with, starts_with_o
 
 use crate::arguments::{are_none, only};
 use crate::char_lists::characters_of;
+use crate::raising::{raise, text_answer};
 use py_value::{Cause, Heap, MOST_ITEMS, NoMemory, Raised, Text, Value};
 use std::alloc::Global;
 
@@ -25,7 +26,7 @@ pub(crate) fn test_start(
 {
     match only(args) {
         Some(front) => starts_with(alloc, text, front, heap),
-        None => Ok(Err(Raised::of(alloc, Cause::WrongArgumentCount)?)),
+        None => raise(alloc, Cause::WrongArgumentCount),
     }
 }
 
@@ -43,7 +44,7 @@ fn starts_with(
             let begun = text.part(0, front.len())?;
             Ok(Ok(Value::Bool(begun.is_same(front))))
         }
-        _ => Ok(Err(Raised::of(alloc, Cause::BadArgument)?)),
+        _ => raise(alloc, Cause::BadArgument),
     }
 }
 
@@ -61,9 +62,9 @@ pub(crate) fn join_list(
         Some(list) => match list {
             Value::List(addr) => join_items(alloc, between, heap.items(*addr), heap),
             Value::Tuple(items) => join_items(alloc, between, items.as_slice(), heap),
-            _ => Ok(Err(Raised::of(alloc, Cause::BadArgument)?)),
+            _ => raise(alloc, Cause::BadArgument),
         },
-        None => Ok(Err(Raised::of(alloc, Cause::WrongArgumentCount)?)),
+        None => raise(alloc, Cause::WrongArgumentCount),
     }
 }
 
@@ -76,10 +77,8 @@ fn join_items(
     ensures { Answers result _heap.now
         (join_items between.now (plains items.now) (plain_heap _heap.now)) }
 {
-    match joined_texts(alloc, between, items)? {
-        Ok(text) => Ok(Ok(Value::Str(text))),
-        Err(cause) => Ok(Err(Raised::of(alloc, cause)?)),
-    }
+    let joined = joined_texts(alloc, between, items)?;
+    text_answer(alloc, joined)
 }
 
 fn joined_texts(
@@ -99,7 +98,7 @@ fn joined_texts(
     if !fit_after(first.len(), between.len(), &items[1..]) {
         return Ok(Err(Cause::TooManyItems));
     }
-    Ok(Ok(with_rest(alloc, first, between, &items[1..])?))
+    Ok(Ok(with_rest(first, between, &items[1..])?))
 }
 
 fn are_texts(items: &[Value]) -> bool
@@ -123,7 +122,7 @@ fn copy_text(alloc: Global, value: &Value) -> Result<Text, NoMemory>
     ensures { IfOk result (λ text. text ≡ characters_in (plain value.now)) }
 {
     match value {
-        Value::Str(text) => Ok(text.copy()?),
+        Value::Str(text) => text.copy(),
         _ => Ok(Text::new(alloc)),
     }
 }
@@ -160,17 +159,26 @@ fn fit_after(start: usize, between: usize, items: &[Value]) -> bool
     true
 }
 
-fn with_rest(alloc: Global, first: Text, between: &Text, items: &[Value]) -> Result<Text, NoMemory>
+fn with_rest(first: Text, between: &Text, items: &[Value]) -> Result<Text, NoMemory>
     ensures { IfOk result (λ text.
         text ≡ first ++ each_after between.now (map characters_in (plains items.now))) }
 {
     let mut text = first;
     for item in items {
         text.append(between)?;
-        let copy = copy_text(alloc, item)?;
-        text.append(&copy)?;
+        append_text(&mut text, item)?;
     }
     Ok(text)
+}
+
+/// Adds the characters of a text; of another value none.
+fn append_text(text: &mut Text, value: &Value) -> Result<(), NoMemory>
+    ensures { OnOk result (text.new ≡ text.old ++ characters_in (plain value.now)) }
+{
+    match value {
+        Value::Str(more) => text.append(more),
+        _ => Ok(()),
+    }
 }
 
 /// `s.split()`, `s.split(t)`.
@@ -193,7 +201,7 @@ pub(crate) fn split(
                 let parts = nonempty_parts(alloc, &characters)?;
                 new_list(alloc, parts, heap)
             } else {
-                Ok(Err(Raised::of(alloc, Cause::WrongArgumentCount)?))
+                raise(alloc, Cause::WrongArgumentCount)
             }
         }
     }
@@ -213,12 +221,12 @@ fn split_at(
     match separator {
         Value::Str(separator) => {
             if separator.is_empty() {
-                return Ok(Err(Raised::of(alloc, Cause::EmptySeparator)?));
+                return raise(alloc, Cause::EmptySeparator);
             }
             let parts = parts_between(alloc, separator.as_str(), text.as_str())?;
             new_list(alloc, parts, heap)
         }
-        _ => Ok(Err(Raised::of(alloc, Cause::BadArgument)?)),
+        _ => raise(alloc, Cause::BadArgument),
     }
 }
 
@@ -233,7 +241,7 @@ pub(crate) fn new_list(
     ensures err { OnErr result (plain_heap heap.new ≡ plain_heap heap.old) }
 {
     if items.len() > MOST_ITEMS {
-        return Ok(Err(Raised::of(alloc, Cause::TooManyItems)?));
+        return raise(alloc, Cause::TooManyItems);
     }
     let made = heap.make_list(items)?;
     Ok(Ok(Value::List(made)))

@@ -1,16 +1,16 @@
-use Rattle.std.proofs.Common.{◌∷◌, ◌++◌, [], get_or, ap, sym, ◌∙◌, arith, codes}
+use Rattle.std.proofs.Common.{Ok, get_or, ap, sym, ◌∙◌, arith, codes}
 use Rattle.std.proofs.lemmas.Option.{slice_get-get_or}
 use Rattle.py_value.specs.declared.cause.Cause.TheVariants.{TooDeep}
-use Rattle.py_value.specs.Heaps.{list_items, dict_pairs, object_at}
+use Rattle.py_value.specs.Heaps.{dict_pairs, object_at}
 use Rattle.py_value.specs.HeapView.{plain_heap}
 use Rattle.py_value.specs.Plain.{none_value}
 use Rattle.py_value.specs.View.{plain, plains}
 use Rattle.py_builtins.specs.declared.writer.Stop.TheVariants.{Raises}
-use Rattle.py_builtins.specs.Displays.{has, separated, display_step, tuple_end, pair_display, kind_name, argument_display}
+use Rattle.py_builtins.specs.Displays.{has, separated, display_step, pair_display, kind_name, argument_display}
 use Rattle.py_builtins.specs.Texts.{display_within}
 use Rattle.py_builtins.specs.Writing.{whole, ◌▸◌}
 use Rattle.py_builtins.proofs.Pieces.{written_same, settles_same, stopped, stopped_then, wrote_then, too_deep, item_written, stops_at_separator, stops_at_item}
-use Rattle.py_builtins.proofs.Values.{display_none, display_more, entered, item_at, some_item, key_of_pair, value_of_pair}
+use Rattle.py_builtins.proofs.Values.{display_none, display_more, list_entered, dict_entered, item_at, some_item, key_of_pair, value_of_pair}
 use Rattle.py_builtins.proofs.+display.Goals as goal
 
 pub displays::display-returns-then-levels-eq0-clause-written : goal.displays::display-returns-then-levels-eq0-clause-written
@@ -48,6 +48,16 @@ displays::display_exception-returns-in_err-display_argument-clause-written t c =
     (ap (λ s. whole c.args.out.now.text ▸ whole s) (sym c.kind_name.ensures) ∙ c.in_ok-push_word.ensures)
     (wrote_then r c.push_word.new.self.text c.push_word-2.new.self.text c.display_argument.new.out.text (whole (codes "(")) (inner ▸ whole (codes ")")) c.in_ok-push_word-2.ensures
     (stopped_then r c.in_err-display_argument.field-0.0 c.push_word-2.new.self.text c.display_argument.new.out.text inner (whole (codes ")")) c.from_residual-in_err-display_argument.ensures.1 c.in_err-display_argument.ensures.written))
+
+pub displays::display_exception-returns-clause-written : goal.displays::display_exception-returns-clause-written
+displays::display_exception-returns-clause-written t c =
+    let name = whole (kind_name c.args.kind) in
+    let inner = argument_display (display_within c.args.levels (plain_heap c.args.heap.now) c.args.inside.now.items) c.args.arg.now in
+    let r = c.push_word-3.result in
+    wrote_then r c.args.out.now.text c.push_word.new.self.text c.push_word-3.new.self.text name (whole (codes "(") ▸ (inner ▸ whole (codes ")")))
+    (ap (λ s. whole c.args.out.now.text ▸ whole s) (sym c.kind_name.ensures) ∙ c.in_ok-push_word.ensures)
+    (wrote_then r c.push_word.new.self.text c.push_word-2.new.self.text c.push_word-3.new.self.text (whole (codes "(")) (inner ▸ whole (codes ")")) c.in_ok-push_word-2.ensures
+    (wrote_then r c.push_word-2.new.self.text c.display_argument.new.out.text c.push_word-3.new.self.text inner (whole (codes ")")) c.in_ok-display_argument.ensures.written c.push_word-3.ensures))
 
 pub displays::display_inside-returns-in-Func-clause-written : goal.displays::display_inside-returns-in-Func-clause-written
 displays::display_inside-returns-in-Func-clause-written t c =
@@ -91,59 +101,76 @@ displays::display_items-loop-i-preserved t c =
           (ap (λ is. whole c.separate.new.self.text ▸ display_within c.args.levels h is (plain x)) (sym c.loop-i.invariant.inside) ∙ c.in_ok-display.ensures.written);
     }
 
-pub displays::display_list-returns-in_err-push_word-clause-written : goal.displays::display_list-returns-in_err-push_word-clause-written
-displays::display_list-returns-in_err-push_word-clause-written t c =
-    let h = plain_heap c.args.heap.now in
+pub displays::display_list-returns-in_err-display_between-clause-written : goal.displays::display_list-returns-in_err-display_between-clause-written
+displays::display_list-returns-in_err-display_between-clause-written t c =
     let outside = ap (has c.args.list.place) (sym c.deref.ensures.value) ∙ sym c.is_among.ensures ∙ c.if-is_among.false in
-    let inner = separated (display_within c.args.levels h (c.args.inside.now.items ++ c.args.list.place ∷ [])) (list_items h c.args.list.place) in
-    let r = c.from_residual-in_err-push_word.result in
-    entered r c.args.out.now.text c.push_word-2.new.self.text (has c.args.list.place c.args.inside.now.items) (whole (codes "[...]")) (whole (codes "[") ▸ (inner ▸ whole (codes "]"))) outside
-    (stopped_then r c.in_err-push_word.field-0.0 c.args.out.now.text c.push_word-2.new.self.text (whole (codes "[")) (inner ▸ whole (codes "]")) c.from_residual-in_err-push_word.ensures.1 c.in_err-push_word.ensures)
+    let r = c.from_residual-in_err-display_between.result in
+    list_entered r c.args.out.now.text c.display_between.new.out.text c.args.levels (plain_heap c.args.heap.now) c.args.inside.now.items c.push.new.self.items c.args.list.place _ outside c.in_ok-push.ensures.items c.items.ensures
+    (stopped r c.in_err-display_between.field-0.0 c.args.out.now.text c.display_between.new.out.text _ c.from_residual-in_err-display_between.ensures.1 c.in_err-display_between.ensures.written)
 
-pub displays::display_list-returns-in_err-display_items-clause-written : goal.displays::display_list-returns-in_err-display_items-clause-written
-displays::display_list-returns-in_err-display_items-clause-written t c =
-    let h = plain_heap c.args.heap.now in
+pub displays::display_list-returns-clause-written : goal.displays::display_list-returns-clause-written
+displays::display_list-returns-clause-written t c =
     let outside = ap (has c.args.list.place) (sym c.deref.ensures.value) ∙ sym c.is_among.ensures ∙ c.if-is_among.false in
-    let inner = separated (display_within c.args.levels h (c.args.inside.now.items ++ c.args.list.place ∷ [])) (list_items h c.args.list.place) in
-    let r = c.from_residual-in_err-display_items.result in
-    entered r c.args.out.now.text c.display_items.new.out.text (has c.args.list.place c.args.inside.now.items) (whole (codes "[...]")) (whole (codes "[") ▸ (inner ▸ whole (codes "]"))) outside
-    (wrote_then r c.args.out.now.text c.push_word-2.new.self.text c.display_items.new.out.text (whole (codes "[")) (inner ▸ whole (codes "]")) c.in_ok-push_word.ensures
-    (stopped_then r c.in_err-display_items.field-0.0 c.push_word-2.new.self.text c.display_items.new.out.text inner (whole (codes "]")) c.from_residual-in_err-display_items.ensures.1
-    (settles_same c.in_err-display_items.field-0.0 _ _ (ap (λ is. whole c.push_word-2.new.self.text ▸ separated (display_within c.args.levels h is) (plains c.items.result.now)) c.in_ok-push.ensures.items ∙ ap (λ vs. whole c.push_word-2.new.self.text ▸ separated (display_within c.args.levels h (c.args.inside.now.items ++ c.args.list.place ∷ [])) vs) c.items.ensures) c.in_err-display_items.ensures.written)))
+    list_entered (Ok tt) c.args.out.now.text c.display_between.new.out.text c.args.levels (plain_heap c.args.heap.now) c.args.inside.now.items c.push.new.self.items c.args.list.place _ outside c.in_ok-push.ensures.items c.items.ensures
+    c.in_ok-display_between.ensures.written
 
-pub displays::display_tuple-returns-in_err-push_word-clause-written : goal.displays::display_tuple-returns-in_err-push_word-clause-written
-displays::display_tuple-returns-in_err-push_word-clause-written t c =
+pub displays::display_between-returns-in_err-push_word-clause-written : goal.displays::display_between-returns-in_err-push_word-clause-written
+displays::display_between-returns-in_err-push_word-clause-written t c =
     let inner = separated (display_within c.args.levels (plain_heap c.args.heap.now) c.args.inside.now.items) (plains c.args.items.now) in
-    let end = whole (tuple_end (plains c.args.items.now)) in
-    stopped_then c.from_residual.result c.in_err-push_word.field-0.0 c.args.out.now.text c.push_word.new.self.text (whole (codes "(")) (inner ▸ end) c.from_residual.ensures.1 c.in_err-push_word.ensures
+    stopped_then c.from_residual.result c.in_err-push_word.field-0.0 c.args.out.now.text c.push_word.new.self.text (whole c.args.opening.now) (inner ▸ whole c.args.closing.now) c.from_residual.ensures.1 c.in_err-push_word.ensures
 
-pub displays::display_tuple-returns-in_err-display_items-clause-written : goal.displays::display_tuple-returns-in_err-display_items-clause-written
-displays::display_tuple-returns-in_err-display_items-clause-written t c =
+pub displays::display_between-returns-in_err-display_items-clause-written : goal.displays::display_between-returns-in_err-display_items-clause-written
+displays::display_between-returns-in_err-display_items-clause-written t c =
     let inner = separated (display_within c.args.levels (plain_heap c.args.heap.now) c.args.inside.now.items) (plains c.args.items.now) in
-    let end = whole (tuple_end (plains c.args.items.now)) in
     let r = c.from_residual-in_err-display_items.result in
-    wrote_then r c.args.out.now.text c.push_word.new.self.text c.display_items.new.out.text (whole (codes "(")) (inner ▸ end) c.in_ok-push_word.ensures
-    (stopped_then r c.in_err-display_items.field-0.0 c.push_word.new.self.text c.display_items.new.out.text inner end c.from_residual-in_err-display_items.ensures.1 c.in_err-display_items.ensures.written)
+    wrote_then r c.args.out.now.text c.push_word.new.self.text c.display_items.new.out.text (whole c.args.opening.now) (inner ▸ whole c.args.closing.now) c.in_ok-push_word.ensures
+    (stopped_then r c.in_err-display_items.field-0.0 c.push_word.new.self.text c.display_items.new.out.text inner (whole c.args.closing.now) c.from_residual-in_err-display_items.ensures.1 c.in_err-display_items.ensures.written)
+
+pub displays::display_between-returns-clause-written : goal.displays::display_between-returns-clause-written
+displays::display_between-returns-clause-written t c =
+    let inner = separated (display_within c.args.levels (plain_heap c.args.heap.now) c.args.inside.now.items) (plains c.args.items.now) in
+    let r = c.push_word-2.result in
+    wrote_then r c.args.out.now.text c.push_word.new.self.text c.push_word-2.new.self.text (whole c.args.opening.now) (inner ▸ whole c.args.closing.now) c.in_ok-push_word.ensures
+    (wrote_then r c.push_word.new.self.text c.display_items.new.out.text c.push_word-2.new.self.text inner (whole c.args.closing.now) c.in_ok-display_items.ensures.written c.push_word-2.ensures)
 
 pub pairs::display_dict-returns-in_err-push_word-clause-written : goal.pairs::display_dict-returns-in_err-push_word-clause-written
 pairs::display_dict-returns-in_err-push_word-clause-written t c =
     let h = plain_heap c.args.heap.now in
     let outside = ap (has c.args.dict.place) (sym c.deref.ensures.value) ∙ sym c.is_among.ensures ∙ c.if-is_among.false in
-    let inner = separated (pair_display (display_within c.args.levels h (c.args.inside.now.items ++ c.args.dict.place ∷ []))) (dict_pairs h c.args.dict.place) in
+    let inner = separated (pair_display (display_within c.args.levels h c.push.new.self.items)) (dict_pairs h c.args.dict.place) in
     let r = c.from_residual-in_err-push_word.result in
-    entered r c.args.out.now.text c.push_word-2.new.self.text (has c.args.dict.place c.args.inside.now.items) (whole (codes "{...}")) (whole (codes "{") ▸ (inner ▸ whole (codes "}"))) outside
+    dict_entered r c.args.out.now.text c.push_word-2.new.self.text c.args.levels h c.args.inside.now.items c.push.new.self.items c.args.dict.place outside c.in_ok-push.ensures.items
     (stopped_then r c.in_err-push_word.field-0.0 c.args.out.now.text c.push_word-2.new.self.text (whole (codes "{")) (inner ▸ whole (codes "}")) c.from_residual-in_err-push_word.ensures.1 c.in_err-push_word.ensures)
 
 pub pairs::display_dict-returns-in_err-display_pairs-clause-written : goal.pairs::display_dict-returns-in_err-display_pairs-clause-written
 pairs::display_dict-returns-in_err-display_pairs-clause-written t c =
     let h = plain_heap c.args.heap.now in
     let outside = ap (has c.args.dict.place) (sym c.deref.ensures.value) ∙ sym c.is_among.ensures ∙ c.if-is_among.false in
-    let inner = separated (pair_display (display_within c.args.levels h (c.args.inside.now.items ++ c.args.dict.place ∷ []))) (dict_pairs h c.args.dict.place) in
+    let inner = separated (pair_display (display_within c.args.levels h c.push.new.self.items)) (dict_pairs h c.args.dict.place) in
     let r = c.from_residual-in_err-display_pairs.result in
-    entered r c.args.out.now.text c.display_pairs.new.out.text (has c.args.dict.place c.args.inside.now.items) (whole (codes "{...}")) (whole (codes "{") ▸ (inner ▸ whole (codes "}"))) outside
+    dict_entered r c.args.out.now.text c.display_pairs.new.out.text c.args.levels h c.args.inside.now.items c.push.new.self.items c.args.dict.place outside c.in_ok-push.ensures.items
     (wrote_then r c.args.out.now.text c.push_word-2.new.self.text c.display_pairs.new.out.text (whole (codes "{")) (inner ▸ whole (codes "}")) c.in_ok-push_word.ensures
-    (stopped_then r c.in_err-display_pairs.field-0.0 c.push_word-2.new.self.text c.display_pairs.new.out.text inner (whole (codes "}")) c.from_residual-in_err-display_pairs.ensures.1
-    (settles_same c.in_err-display_pairs.field-0.0 _ _ (ap (λ is. whole c.push_word-2.new.self.text ▸ separated (pair_display (display_within c.args.levels h is)) (dict_pairs h c.args.dict.place)) c.in_ok-push.ensures.items) c.in_err-display_pairs.ensures.written)))
+    (stopped_then r c.in_err-display_pairs.field-0.0 c.push_word-2.new.self.text c.display_pairs.new.out.text inner (whole (codes "}")) c.from_residual-in_err-display_pairs.ensures.1 c.in_err-display_pairs.ensures.written))
+
+pub pairs::display_dict-returns-in_err-push_word-2-clause-written : goal.pairs::display_dict-returns-in_err-push_word-2-clause-written
+pairs::display_dict-returns-in_err-push_word-2-clause-written t c =
+    let h = plain_heap c.args.heap.now in
+    let outside = ap (has c.args.dict.place) (sym c.deref.ensures.value) ∙ sym c.is_among.ensures ∙ c.if-is_among.false in
+    let inner = separated (pair_display (display_within c.args.levels h c.push.new.self.items)) (dict_pairs h c.args.dict.place) in
+    let r = c.from_residual-in_err-push_word-2.result in
+    dict_entered r c.args.out.now.text c.push_word-3.new.self.text c.args.levels h c.args.inside.now.items c.push.new.self.items c.args.dict.place outside c.in_ok-push.ensures.items
+    (wrote_then r c.args.out.now.text c.push_word-2.new.self.text c.push_word-3.new.self.text (whole (codes "{")) (inner ▸ whole (codes "}")) c.in_ok-push_word.ensures
+    (wrote_then r c.push_word-2.new.self.text c.display_pairs.new.out.text c.push_word-3.new.self.text inner (whole (codes "}")) c.in_ok-display_pairs.ensures.written
+    (stopped r c.in_err-push_word-2.field-0.0 c.display_pairs.new.out.text c.push_word-3.new.self.text (whole (codes "}")) c.from_residual-in_err-push_word-2.ensures.1 c.in_err-push_word-2.ensures)))
+
+pub pairs::display_dict-returns-clause-written : goal.pairs::display_dict-returns-clause-written
+pairs::display_dict-returns-clause-written t c =
+    let h = plain_heap c.args.heap.now in
+    let outside = ap (has c.args.dict.place) (sym c.deref.ensures.value) ∙ sym c.is_among.ensures ∙ c.if-is_among.false in
+    let inner = separated (pair_display (display_within c.args.levels h c.push.new.self.items)) (dict_pairs h c.args.dict.place) in
+    dict_entered (Ok tt) c.args.out.now.text c.push_word-3.new.self.text c.args.levels h c.args.inside.now.items c.push.new.self.items c.args.dict.place outside c.in_ok-push.ensures.items
+    (wrote_then (Ok tt) c.args.out.now.text c.push_word-2.new.self.text c.push_word-3.new.self.text (whole (codes "{")) (inner ▸ whole (codes "}")) c.in_ok-push_word.ensures
+    (wrote_then (Ok tt) c.push_word-2.new.self.text c.display_pairs.new.out.text c.push_word-3.new.self.text inner (whole (codes "}")) c.in_ok-display_pairs.ensures.written c.in_ok-push_word-2.ensures))
 
 pub pairs::display_pair-returns-in_err-display-clause-written : goal.pairs::display_pair-returns-in_err-display-clause-written
 pairs::display_pair-returns-in_err-display-clause-written t c =

@@ -14,6 +14,9 @@ decreases-displays::display l = 8 * l.levels
 abbrev pub decreases-displays::display_argument : goal.decreases-displays::display_argument
 decreases-displays::display_argument l = 8 * l.levels + 5
 
+abbrev pub decreases-displays::display_between : goal.decreases-displays::display_between
+decreases-displays::display_between l = 8 * l.levels + 5
+
 abbrev pub decreases-displays::display_exception : goal.decreases-displays::display_exception
 decreases-displays::display_exception l = 8 * l.levels + 6
 
@@ -21,7 +24,7 @@ abbrev pub decreases-displays::display_inside : goal.decreases-displays::display
 decreases-displays::display_inside l = 8 * l.levels + 7
 
 abbrev pub decreases-displays::display_items : goal.decreases-displays::display_items
-decreases-displays::display_items l = 8 * l.levels + 5
+decreases-displays::display_items l = 8 * l.levels + 4
 
 abbrev pub decreases-displays::display_list : goal.decreases-displays::display_list
 decreases-displays::display_list l = 8 * l.levels + 6

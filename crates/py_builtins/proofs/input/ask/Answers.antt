@@ -1,4 +1,5 @@
 use Rattle.std.proofs.Common.{◌≡◌, ◌++◌, Ok, Err, OnOk, ap, refl, sym, ◌∙◌, subst, append-nil}
+use Rattle.cov_outside.proofs.PrefixLemmas.{gains_nothing, loses_nothing}
 use Rattle.py_value.specs.declared.text.Text.{Text}
 use Rattle.py_value.specs.HeapView.{plain_heap}
 use Rattle.py_value.specs.View.{plains, plain_answer, plain_raised}
@@ -8,6 +9,12 @@ use Rattle.py_builtins.specs.Inputs.{Gives, Wrote}
 use Rattle.py_builtins.proofs.Turns.{on_err}
 use Rattle.py_builtins.proofs.Asking.{asks_with, still_asked, gives_same, reads_none}
 use Rattle.py_builtins.proofs.input.ask.Goals as goal
+
+pub returns-in_err-prompt-clause-gained : goal.returns-in_err-prompt-clause-gained
+returns-in_err-prompt-clause-gained g c = λ t. on_err c.from_residual.result (gains_nothing _ _ _ refl)
+
+pub returns-in_err-prompt-clause-lost : goal.returns-in_err-prompt-clause-lost
+returns-in_err-prompt-clause-lost g c = λ t. on_err c.from_residual.result (loses_nothing _ _ refl)
 
 pub returns-in_err-prompt-clause-no_further : goal.returns-in_err-prompt-clause-no_further
 returns-in_err-prompt-clause-no_further g c = λ t. on_err c.from_residual.result (still_asked (plains c.args.args.now) (plain_heap c.args.heap.now) (g.I.Source.left c.args.input.now))

@@ -2,8 +2,11 @@ use Rattle.std.proofs.Common.{◌≡◌, suc, ◌≤◌, [], ◌∷◌, ◌++◌
 use Rattle.py_value.specs.Sequences.{most_items}
 use Rattle.py_builtins.specs.Calls.{line_bytes}
 use Rattle.py_builtins.proofs.Reading.{open_more, left_whole}
-use Rattle.py_builtins.proofs.Turns.{on_err, goes_on, after_next, failed_further, none_line, ended_line, dropped_lost, dropped_further, many_line}
+use Rattle.py_builtins.proofs.Turns.{on_err, goes_on, after_next, failed_lost, failed_further, none_line, ended_line, dropped_lost, dropped_further, many_line}
 use Rattle.py_builtins.proofs.lines.read_line.Goals as goal
+
+pub returns-in_err-read_byte-clause-lost : goal.returns-in_err-read_byte-clause-lost
+returns-in_err-read_byte-clause-lost g c = λ t. on_err c.from_residual.result (failed_lost c.loop-count.line.items _ _ _ (c.loop-count.invariant.told t) (c.in_err-read_byte.ensures.kept t))
 
 pub returns-in_err-read_byte-clause-no_further : goal.returns-in_err-read_byte-clause-no_further
 returns-in_err-read_byte-clause-no_further g c = λ t.
