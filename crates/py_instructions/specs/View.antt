@@ -8,6 +8,7 @@
 --     Calls                            what a call does
 --     Acts, ActsIn, ActsAlone          what an instruction does
 --     Discards, Inserts, TakesValues   operands taken away, and put below others
+--     TakesValue, TakesTwoValues       one and two of them taken away as values
 --     TakesTwo, TakesTruth             two operands taken away, and the truth of one
 --     catching                         where an exception goes on
 use Rattle.std.specs.Prelude.{◌≡◌, ◌⊎◌, ℕ, nat_le, Bool, true, false, List, [], ◌∷◌, ◌++◌, length, map, take, drop, reverse, Option, Some, None, Vec}
@@ -139,6 +140,18 @@ TakesValues (Some vs) n xs ys =
     (nat_le n (length xs) ≡ true) × (plains vs.items ≡ map value_in (reverse (take n xs)))
     × (ys ≡ drop n xs)
 TakesValues None n xs ys = nat_le n (length xs) ≡ false
+
+-- the topmost operand was taken away, as this value, or there is none
+abbrev pub TakesValue : Option Value → List Operand → List Operand → Type 0
+TakesValue (Some v) xs ys = (x : Operand) × (xs ≡ x ∷ ys) × (plain v ≡ value_in x)
+TakesValue None xs ys = xs ≡ []
+
+-- two operands were taken away, as these values, the lower one first, or there are fewer
+abbrev pub TakesTwoValues : Option (Value × Value) → List Operand → List Operand → Type 0
+TakesTwoValues (Some p) xs ys =
+    (x : Operand) × (y : Operand) × (xs ≡ y ∷ x ∷ ys) × (plain p.0 ≡ value_in x)
+    × (plain p.1 ≡ value_in y)
+TakesTwoValues None xs ys = (xs ≡ []) ⊎ ((x : Operand) × (xs ≡ x ∷ []))
 
 -- two operands were taken away, the lower one first, or there are fewer
 abbrev pub TakesTwo : Option (RawOperand × RawOperand) → List RawOperand → List RawOperand

@@ -154,9 +154,9 @@ impl State {
     pub fn give_back(&mut self, unit: &Unit) -> Turn
         ensures { ActsAlone unit.now Return self.old self.new result }
     {
-        match self.top.operands.pop() {
+        match self.top.operands.take_value() {
             None => Turn::Stuck,
-            Some(x) => Turn::Gives(x.into_value()),
+            Some(value) => Turn::Gives(value),
         }
     }
 
@@ -175,10 +175,9 @@ impl State {
         requires { self.old.top.place < usize.MAX }
         ensures { IfOk result (ActsAlone unit.now (FunctionWith k) self.old self.new) }
     {
-        let Some(x) = self.top.operands.pop() else {
+        let Some(value) = self.top.operands.take_value() else {
             return Ok(Turn::Stuck);
         };
-        let value = x.into_value();
         let defaults = address_of(&value);
         drop(value);
         let function = FuncId {

@@ -6,6 +6,7 @@ ghost use Rattle.py_code.specs.Units.{constant_value};
 ghost use Rattle.py_instructions.specs.View.{ActsAlone};
 
 use crate::frame::State;
+use crate::numbered::numbered;
 use crate::operand::Operand;
 use crate::turn::{Acted, Turn};
 use py_code::{Constant, Unit};
@@ -29,7 +30,7 @@ impl State {
         requires { self.old.top.place < usize.MAX }
         ensures { IfOk result (ActsAlone unit.now (Const n) self.old self.new) }
     {
-        match unit.constants.get(n as usize) {
+        match numbered(&unit.constants, n) {
             None => Ok(Turn::Stuck),
             Some(constant) => {
                 let value = value_of_constant(constant)?;

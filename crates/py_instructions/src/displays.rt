@@ -18,11 +18,12 @@ impl State {
         requires { self.old.top.place < usize.MAX }
         ensures { IfOk result (ActsIn unit.now TextOf self.old store.now self.new store.now) }
     {
-        let Some(x) = self.top.operands.pop() else {
+        let Some(value) = self.top.operands.take_value() else {
             return Ok(Turn::Stuck);
         };
-        let value = x.into_value();
-        match str_of(alloc, &value, &store.heap)? {
+        let answer = str_of(alloc, &value, &store.heap);
+        drop(value);
+        match answer? {
             Ok(text) => self.push(Operand::Value(Value::Str(text))),
             Err(raised) => Ok(Turn::Throws(raised)),
         }
@@ -32,12 +33,14 @@ impl State {
         requires { self.old.top.place < usize.MAX }
         ensures { IfOk result (ActsIn unit.now Extend self.old store.old self.new store.new) }
     {
-        let Some((x, y)) = self.top.operands.take_two() else {
+        let Some((left, right)) = self.top.operands.take_two_values() else {
             return Ok(Turn::Stuck);
         };
-        let mut text = Value::Str(into_text(alloc, x.into_value())?);
-        let more = Value::Str(into_text(alloc, y.into_value())?);
-        match update(alloc, BinOp::Add, &mut text, &more, &mut store.heap)? {
+        let mut text = Value::Str(into_text(alloc, left)?);
+        let more = Value::Str(into_text(alloc, right)?);
+        let answer = update(alloc, BinOp::Add, &mut text, &more, &mut store.heap);
+        drop(more);
+        match answer? {
             Ok(()) => self.push(Operand::Value(text)),
             Err(raised) => {
                 drop(text);
@@ -54,10 +57,8 @@ impl State {
         let Some(values) = self.top.operands.take_values(list, n as usize)? else {
             return Ok(Turn::Stuck);
         };
-        match new_tuple(alloc, values)? {
-            Ok(value) => self.push(Operand::Value(value)),
-            Err(raised) => Ok(Turn::Throws(raised)),
-        }
+        let answer = new_tuple(alloc, values)?;
+        self.push_answer(answer)
     }
 
     pub fn list(&mut self, alloc: Global, unit: &Unit, n: u32, store: &mut Store) -> Acted
@@ -86,23 +87,17 @@ impl State {
         requires { self.old.top.place < usize.MAX }
         ensures { IfOk result (ActsIn unit.now AddPair self.old store.old self.new store.new) }
     {
-        let none = Value::None;
-        let Some((k, v)) = self.top.operands.take_two() else {
+        let Some((key, value)) = self.top.operands.take_two_values() else {
             return Ok(Turn::Stuck);
         };
         let Some(d) = self.top.operands.pop() else {
-            drop(k);
-            drop(v);
             return Ok(Turn::Stuck);
         };
-        let key = k.into_value();
-        match store_value(
-            alloc,
-            d.value_or(&none),
-            &key,
-            v.into_value(),
-            &mut store.heap,
-        )? {
+        let none = Value::None;
+        let answer = store_value(alloc, d.value_or(&none), &key, value, &mut store.heap);
+        drop(none);
+        drop(key);
+        match answer? {
             Ok(()) => self.push(d),
             Err(raised) => {
                 drop(d);

@@ -1,12 +1,17 @@
 // Where an instruction goes on.
-ghost use Rattle.std.specs.Prelude.{◌∷◌, ◌<◌, IfOk};
-ghost use Rattle.py_code.specs.Machine.{falls, jumps};
+ghost use Rattle.std.specs.Prelude.{◌∷◌, ◌<◌, List, IfOk};
+ghost use Rattle.py_value.specs.View.{plain_value_answer};
+ghost use Rattle.py_code.specs.Machine.{falls, jumps, pushes_answer};
+ghost use Rattle.py_code.specs.Slots.{by_slots};
+ghost use Rattle.py_code.specs.Units.{Module};
+ghost use Rattle.py_store.specs.declared.store.Store.{Store as Kept};
 ghost use Rattle.py_instructions.specs.Operands.{plain_operand};
-ghost use Rattle.py_instructions.specs.View.{DoesAlone};
+ghost use Rattle.py_instructions.specs.View.{Does, DoesAlone};
 
 use crate::frame::State;
 use crate::operand::Operand;
 use crate::turn::{Acted, Turn};
+use py_value::{Raised, Value};
 
 impl State {
     /// Goes on at the next place.
@@ -35,5 +40,18 @@ impl State {
         self.top.operands.push(x)?;
         self.top.place += 1;
         Ok(Turn::Goes)
+    }
+
+    /// Goes on at the next place, with the value of an answer on top, or throws its exception.
+    pub(crate) fn push_answer(&mut self, answer: Result<Value, Raised>) -> Acted
+        requires { self.old.top.place < usize.MAX }
+        ensures { IfOk result (λ t. (ms : List Module) (s : Kept) → Does ms
+            (pushes_answer (by_slots ms) ms (plain_value_answer answer)) self.old s self.new s
+            t) }
+    {
+        match answer {
+            Ok(value) => self.push(Operand::Value(value)),
+            Err(raised) => Ok(Turn::Throws(raised)),
+        }
     }
 }

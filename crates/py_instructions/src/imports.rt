@@ -7,6 +7,7 @@ ghost use Rattle.py_store.specs.declared.store.Store.{Store as Kept};
 ghost use Rattle.py_instructions.specs.View.{Acts, ActsIn};
 
 use crate::frame::State;
+use crate::numbered::numbered;
 use crate::operand::Operand;
 use crate::turn::{Acted, Turn};
 use cov_event::CodeId;
@@ -21,30 +22,28 @@ impl State {
         ensures { IfOk result
             (ActsIn unit.now (Attribute n) self.old store.now self.new store.now) }
     {
-        let Some(name) = unit.names.get(n as usize) else {
+        let Some(name) = numbered(&unit.names, n) else {
             return Ok(Turn::Stuck);
         };
-        let Some(x) = self.top.operands.pop() else {
+        let Some(value) = self.top.operands.take_value() else {
             return Ok(Turn::Stuck);
         };
-        let value = x.into_value();
-        match attribute(alloc, &value, name, store)? {
-            Ok(found) => self.push(Operand::Value(found)),
-            Err(raised) => Ok(Turn::Throws(raised)),
-        }
+        let answer = attribute(alloc, &value, name, store);
+        drop(value);
+        self.push_answer(answer?)
     }
 
     pub fn method(&mut self, alloc: Global, unit: &Unit, n: u32, store: &Store) -> Acted
         requires { self.old.top.place < usize.MAX }
         ensures { IfOk result (ActsIn unit.now (MethodOf n) self.old store.now self.new store.now) }
     {
-        let Some(name) = unit.names.get(n as usize) else {
+        let Some(name) = numbered(&unit.names, n) else {
             return Ok(Turn::Stuck);
         };
-        let Some(x) = self.top.operands.pop() else {
+        let Some(value) = self.top.operands.take_value() else {
             return Ok(Turn::Stuck);
         };
-        match callee_of(alloc, x.into_value(), name, store)? {
+        match callee_of(alloc, value, name, store)? {
             Ok(callee) => self.push(Operand::of_callee(callee)),
             Err(raised) => Ok(Turn::Throws(raised)),
         }
@@ -54,22 +53,19 @@ impl State {
         requires { self.old.top.place < usize.MAX }
         ensures { IfOk result (ActsIn unit.now (Take m n) self.old store.now self.new store.now) }
     {
+        let Some(from) = numbered(&unit.names, m) else {
+            return Ok(Turn::Stuck);
+        };
+        let Some(name) = numbered(&unit.names, n) else {
+            return Ok(Turn::Stuck);
+        };
+        let Some(x) = self.top.operands.operand(0) else {
+            return Ok(Turn::Stuck);
+        };
         let none = Value::None;
-        let Some(from) = unit.names.get(m as usize) else {
-            return Ok(Turn::Stuck);
-        };
-        let Some(name) = unit.names.get(n as usize) else {
-            return Ok(Turn::Stuck);
-        };
-        let Some(x) = self.top.operands.pop() else {
-            return Ok(Turn::Stuck);
-        };
-        let answer = taken(alloc, from, x.value_or(&none), name, store)?;
-        self.top.operands.push(x)?;
-        match answer {
-            Ok(found) => self.push(Operand::Value(found)),
-            Err(raised) => Ok(Turn::Throws(raised)),
-        }
+        let answer = taken(alloc, from, x.value_or(&none), name, store);
+        drop(none);
+        self.push_answer(answer?)
     }
 
     pub fn load_module(&mut self, alloc: Global, unit: &Unit, n: u32, programs: &Programs) -> Acted
@@ -80,13 +76,11 @@ impl State {
             → Acts (modules_of programs.now) (plain_unit unit.now) (LoadModule n) self.old s
             self.new s t) }
     {
-        let Some(name) = unit.names.get(n as usize) else {
+        let Some(name) = numbered(&unit.names, n) else {
             return Ok(Turn::Stuck);
         };
-        match imported(alloc, name, programs)? {
-            Ok(found) => self.push(Operand::Value(found)),
-            Err(raised) => Ok(Turn::Throws(raised)),
-        }
+        let answer = imported(alloc, name, programs)?;
+        self.push_answer(answer)
     }
 
     pub fn import(
@@ -103,7 +97,7 @@ impl State {
             Acts (modules_of programs.now) (plain_unit unit.now) (Import n) self.old store.old
             self.new store.new t) }
     {
-        let Some(name) = unit.names.get(n as usize) else {
+        let Some(name) = numbered(&unit.names, n) else {
             return Ok(Turn::Stuck);
         };
         if is_sys(name) {

@@ -45,11 +45,13 @@ impl State {
         requires { self.old.top.place < usize.MAX }
         ensures { IfOk result (ActsIn unit.now (And to) self.old store.now self.new store.now) }
     {
-        let none = Value::None;
         let Some(x) = self.top.operands.pop() else {
             return Ok(Turn::Stuck);
         };
-        if truth(x.value_or(&none), &store.heap) {
+        let none = Value::None;
+        let holds = truth(x.value_or(&none), &store.heap);
+        drop(none);
+        if holds {
             drop(x);
             Ok(self.fall())
         } else {
@@ -62,11 +64,13 @@ impl State {
         requires { self.old.top.place < usize.MAX }
         ensures { IfOk result (ActsIn unit.now (Or to) self.old store.now self.new store.now) }
     {
-        let none = Value::None;
         let Some(x) = self.top.operands.pop() else {
             return Ok(Turn::Stuck);
         };
-        if truth(x.value_or(&none), &store.heap) {
+        let none = Value::None;
+        let holds = truth(x.value_or(&none), &store.heap);
+        drop(none);
+        if holds {
             self.top.operands.push(x)?;
             Ok(self.jump(to))
         } else {
@@ -87,12 +91,15 @@ impl State {
         ensures { IfOk result
             (ActsIn unit.now (Link question to) self.old store.now self.new store.now) }
     {
-        let none = Value::None;
         let Some((x, y)) = self.top.operands.take_two() else {
             return Ok(Turn::Stuck);
         };
         let left = x.into_value();
-        match compared(alloc, question, &left, y.value_or(&none), &store.heap)? {
+        let none = Value::None;
+        let answer = compared(alloc, question, &left, y.value_or(&none), &store.heap);
+        drop(none);
+        drop(left);
+        match answer? {
             Ok(true) => self.push(y),
             Ok(false) => {
                 drop(y);
@@ -136,16 +143,18 @@ impl State {
         ensures { IfOk result
             (ActsIn unit.now (Sequence count n to) self.old store.now self.new store.now) }
     {
-        let Some(x) = self.top.operands.pop() else {
+        let Some(value) = self.top.operands.take_value() else {
             return Ok(Turn::Stuck);
         };
-        let value = x.into_value();
         match sequence_of(count as usize, &value, &store.heap) {
             Some(items) => {
-                self.top.operands.spread_copies(alloc, items)?;
+                let spread = self.top.operands.spread_copies(alloc, items);
+                drop(value);
+                spread?;
                 Ok(self.fall())
             }
             None => {
+                drop(value);
                 if self.top.operands.discard(n as usize) {
                     Ok(self.jump(to))
                 } else {

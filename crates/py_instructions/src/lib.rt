@@ -20,6 +20,7 @@ mod loops;
 mod making;
 mod marks;
 mod names;
+mod numbered;
 mod operand;
 mod operands;
 mod operators;

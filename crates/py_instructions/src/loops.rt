@@ -15,10 +15,9 @@ impl State {
         requires { self.old.top.place < usize.MAX }
         ensures { IfOk result (ActsIn unit.now Walk self.old store.now self.new store.now) }
     {
-        let Some(x) = self.top.operands.pop() else {
+        let Some(value) = self.top.operands.take_value() else {
             return Ok(Turn::Stuck);
         };
-        let value = x.into_value();
         match walk_length(alloc, &value, &store.heap)? {
             Ok(count) => self.push(Operand::Walk(value, count, 0)),
             Err(raised) => {

@@ -4,6 +4,7 @@ ghost use Rattle.py_code.specs.declared.instr.Instr.TheVariants.{Mark, Again};
 ghost use Rattle.py_instructions.specs.View.{ActsAlone};
 
 use crate::frame::State;
+use crate::numbered::numbered;
 use crate::turn::Turn;
 use cov_event::Event;
 use py_code::Unit;
@@ -13,7 +14,7 @@ impl State {
         requires { self.old.top.place < usize.MAX }
         ensures { ActsAlone unit.now (Mark n) self.old self.new result }
     {
-        match unit.lines.get(n as usize) {
+        match numbered(&unit.lines, n) {
             None => Turn::Stuck,
             Some(line) => {
                 if self.steps == 0 {
@@ -35,7 +36,7 @@ impl State {
         requires { self.old.top.place < usize.MAX }
         ensures { ActsAlone unit.now (Again n) self.old self.new result }
     {
-        match unit.lines.get(n as usize) {
+        match numbered(&unit.lines, n) {
             None => Turn::Stuck,
             Some(line) => {
                 if self.steps == 0 {

@@ -4,6 +4,7 @@ ghost use Rattle.py_code.specs.declared.instr.Instr.TheVariants.{LoadLocal, Stor
 ghost use Rattle.py_instructions.specs.View.{ActsIn, ActsAlone};
 
 use crate::frame::State;
+use crate::numbered::numbered;
 use crate::operand::Operand;
 use crate::turn::{Acted, Turn};
 use py_code::Unit;
@@ -15,7 +16,7 @@ impl State {
         requires { self.old.top.place < usize.MAX }
         ensures { IfOk result (ActsAlone unit.now (LoadLocal n) self.old self.new) }
     {
-        let Some(name) = unit.locals.get(n as usize) else {
+        let Some(name) = numbered(&unit.locals, n) else {
             return Ok(Turn::Stuck);
         };
         match self.top.slots.look(n as usize) {
@@ -31,13 +32,12 @@ impl State {
         requires { self.old.top.place < usize.MAX }
         ensures { ActsAlone unit.now (StoreLocal n) self.old self.new result }
     {
-        let Some(_) = unit.locals.get(n as usize) else {
+        let Some(_) = numbered(&unit.locals, n) else {
             return Turn::Stuck;
         };
-        let Some(x) = self.top.operands.pop() else {
+        let Some(value) = self.top.operands.take_value() else {
             return Turn::Stuck;
         };
-        let value = x.into_value();
         self.top.slots.set(n as usize, value);
         self.fall()
     }
@@ -46,7 +46,7 @@ impl State {
         requires { self.old.top.place < usize.MAX }
         ensures { ActsAlone unit.now (UnsetLocal n) self.old self.new result }
     {
-        let Some(_) = unit.locals.get(n as usize) else {
+        let Some(_) = numbered(&unit.locals, n) else {
             return Turn::Stuck;
         };
         self.top.slots.unset(n as usize);
@@ -58,7 +58,7 @@ impl State {
         ensures { IfOk result
             (ActsIn unit.now (LoadGlobal n) self.old store.now self.new store.now) }
     {
-        let Some(name) = unit.names.get(n as usize) else {
+        let Some(name) = numbered(&unit.names, n) else {
             return Ok(Turn::Stuck);
         };
         match store.global_at(self.top.code, n, name) {
@@ -78,13 +78,12 @@ impl State {
         ensures { IfOk result
             (ActsIn unit.now (StoreGlobal n) self.old store.old self.new store.new) }
     {
-        let Some(name) = unit.names.get(n as usize) else {
+        let Some(name) = numbered(&unit.names, n) else {
             return Ok(Turn::Stuck);
         };
-        let Some(x) = self.top.operands.pop() else {
+        let Some(value) = self.top.operands.take_value() else {
             return Ok(Turn::Stuck);
         };
-        let value = x.into_value();
         store.set_global(alloc, self.top.code, n, name, value)?;
         Ok(self.fall())
     }
@@ -94,7 +93,7 @@ impl State {
         ensures { IfOk result
             (ActsIn unit.now (UnsetGlobal n) self.old store.old self.new store.new) }
     {
-        let Some(name) = unit.names.get(n as usize) else {
+        let Some(name) = numbered(&unit.names, n) else {
             return Ok(Turn::Stuck);
         };
         store.unset_global(alloc, self.top.code, n, name)?;

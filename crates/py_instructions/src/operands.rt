@@ -5,7 +5,7 @@ ghost use Rattle.py_value.specs.View.{plains};
 ghost use Rattle.py_code.specs.Configurations.{of_value};
 ghost use Rattle.py_code.specs.Operands.{value_in};
 ghost use Rattle.py_instructions.specs.Operands.{plain_operand, borrows_if_any};
-ghost use Rattle.py_instructions.specs.View.{plain_operands, Discards, Inserts, TakesValues, TakesTwo, TakesTruth};
+ghost use Rattle.py_instructions.specs.View.{plain_operands, Discards, Inserts, TakesValues, TakesValue, TakesTwo, TakesTwoValues, TakesTruth};
 
 use crate::operand::Operand;
 use crate::stack::Stack;
@@ -46,15 +46,40 @@ impl Stack<Operand> {
         }
     }
 
+    /// Takes the topmost operand away, as a value.
+    pub fn take_value(&mut self) -> Option<Value>
+        ensures { TakesValue result (plain_operands self.old) (plain_operands self.new) }
+    {
+        match self.pop() {
+            None => None,
+            Some(x) => Some(x.into_value()),
+        }
+    }
+
+    /// Takes two operands away, as values, the lower one first.
+    pub fn take_two_values(&mut self) -> Option<(Value, Value)>
+        ensures { TakesTwoValues result (plain_operands self.old) (plain_operands self.new) }
+    {
+        let Some(right) = self.take_value() else {
+            return None;
+        };
+        match self.take_value() {
+            None => {
+                drop(right);
+                None
+            }
+            Some(left) => Some((left, right)),
+        }
+    }
+
     /// Takes the topmost operand away, and says whether it is true.
     pub fn take_truth(&mut self, heap: &Heap) -> Option<bool>
         ensures { TakesTruth result (plain_heap heap.now) (plain_operands self.old)
             (plain_operands self.new) }
     {
-        let Some(x) = self.pop() else {
+        let Some(value) = self.take_value() else {
             return None;
         };
-        let value = x.into_value();
         let holds = truth(&value, heap);
         drop(value);
         Some(holds)

@@ -30,12 +30,13 @@ impl State {
         requires { self.old.top.place < usize.MAX }
         ensures { IfOk result (ActsIn unit.now (Binary op) self.old store.old self.new store.new) }
     {
-        let Some((x, y)) = self.top.operands.take_two() else {
+        let Some((left, right)) = self.top.operands.take_two_values() else {
             return Ok(Turn::Stuck);
         };
-        let left = x.into_value();
-        let right = y.into_value();
-        match binary(alloc, op, &left, &right, &mut store.heap)? {
+        let answer = binary(alloc, op, &left, &right, &mut store.heap);
+        drop(left);
+        drop(right);
+        match answer? {
             Ok(value) => self.push(Operand::Value(value)),
             Err(raised) => Ok(Turn::Throws(raised)),
         }
@@ -45,12 +46,13 @@ impl State {
         requires { self.old.top.place < usize.MAX }
         ensures { IfOk result (ActsIn unit.now (InPlace op) self.old store.old self.new store.new) }
     {
-        let Some((x, y)) = self.top.operands.take_two() else {
+        let Some((left, right)) = self.top.operands.take_two_values() else {
             return Ok(Turn::Stuck);
         };
-        let left = x.into_value();
-        let right = y.into_value();
-        match in_place(alloc, op, &left, &right, &mut store.heap)? {
+        let answer = in_place(alloc, op, &left, &right, &mut store.heap);
+        drop(left);
+        drop(right);
+        match answer? {
             Ok(value) => self.push(Operand::Value(value)),
             Err(raised) => Ok(Turn::Throws(raised)),
         }
@@ -67,12 +69,13 @@ impl State {
         ensures { IfOk result
             (ActsIn unit.now (Compare question) self.old store.now self.new store.now) }
     {
-        let Some((x, y)) = self.top.operands.take_two() else {
+        let Some((left, right)) = self.top.operands.take_two_values() else {
             return Ok(Turn::Stuck);
         };
-        let left = x.into_value();
-        let right = y.into_value();
-        match compared(alloc, question, &left, &right, &store.heap)? {
+        let answer = compared(alloc, question, &left, &right, &store.heap);
+        drop(left);
+        drop(right);
+        match answer? {
             Ok(holds) => self.push(Operand::Value(Value::Bool(holds))),
             Err(raised) => Ok(Turn::Throws(raised)),
         }
@@ -82,32 +85,29 @@ impl State {
         requires { self.old.top.place < usize.MAX }
         ensures { IfOk result (ActsIn unit.now Index self.old store.now self.new store.now) }
     {
-        let Some((x, y)) = self.top.operands.take_two() else {
+        let Some((of, at)) = self.top.operands.take_two_values() else {
             return Ok(Turn::Stuck);
         };
-        let of = x.into_value();
-        let at = y.into_value();
-        match index(alloc, &of, &at, &store.heap)? {
-            Ok(value) => self.push(Operand::Value(value)),
-            Err(raised) => Ok(Turn::Throws(raised)),
-        }
+        let answer = index(alloc, &of, &at, &store.heap);
+        drop(of);
+        drop(at);
+        self.push_answer(answer?)
     }
 
     pub fn store_index(&mut self, alloc: Global, unit: &Unit, store: &mut Store) -> Acted
         requires { self.old.top.place < usize.MAX }
         ensures { IfOk result (ActsIn unit.now StoreIndex self.old store.old self.new store.new) }
     {
-        let Some((x, i)) = self.top.operands.take_two() else {
+        let Some((of, at)) = self.top.operands.take_two_values() else {
             return Ok(Turn::Stuck);
         };
-        let Some(v) = self.top.operands.pop() else {
-            drop(x);
-            drop(i);
+        let Some(value) = self.top.operands.take_value() else {
             return Ok(Turn::Stuck);
         };
-        let of = x.into_value();
-        let at = i.into_value();
-        match store_value(alloc, &of, &at, v.into_value(), &mut store.heap)? {
+        let answer = store_value(alloc, &of, &at, value, &mut store.heap);
+        drop(of);
+        drop(at);
+        match answer? {
             Ok(()) => Ok(self.fall()),
             Err(raised) => Ok(Turn::Throws(raised)),
         }
@@ -117,15 +117,18 @@ impl State {
         requires { self.old.top.place < usize.MAX }
         ensures { IfOk result (ActsIn unit.now (Unpack n) self.old store.now self.new store.now) }
     {
-        let Some(x) = self.top.operands.pop() else {
+        let Some(value) = self.top.operands.take_value() else {
             return Ok(Turn::Stuck);
         };
-        let value = x.into_value();
         if let Some(items) = sequence_of(n as usize, &value, &store.heap) {
-            self.top.operands.spread_copies(alloc, items)?;
+            let spread = self.top.operands.spread_copies(alloc, items);
+            drop(value);
+            spread?;
             return Ok(self.fall());
         }
-        match unpacked(alloc, n as usize, &value, &store.heap)? {
+        let answer = unpacked(alloc, n as usize, &value, &store.heap);
+        drop(value);
+        match answer? {
             Ok(items) => {
                 self.top.operands.spread(items)?;
                 Ok(self.fall())
@@ -152,11 +155,12 @@ impl State {
         ensures { IfOk result
             (ActsIn unit.now (Slice Neither) self.old store.old self.new store.new) }
     {
-        let Some(x) = self.top.operands.pop() else {
+        let Some(of) = self.top.operands.take_value() else {
             return Ok(Turn::Stuck);
         };
-        let of = x.into_value();
-        match sliced(alloc, &of, &None, &None, &mut store.heap)? {
+        let answer = sliced(alloc, &of, &None, &None, &mut store.heap);
+        drop(of);
+        match answer? {
             Ok(value) => self.push(Operand::Value(value)),
             Err(raised) => Ok(Turn::Throws(raised)),
         }
@@ -167,12 +171,14 @@ impl State {
         ensures { IfOk result
             (ActsIn unit.now (Slice FromOnly) self.old store.old self.new store.new) }
     {
-        let Some((x, a)) = self.top.operands.take_two() else {
+        let Some((of, first)) = self.top.operands.take_two_values() else {
             return Ok(Turn::Stuck);
         };
-        let of = x.into_value();
-        let from = Some(a.into_value());
-        match sliced(alloc, &of, &from, &None, &mut store.heap)? {
+        let from = Some(first);
+        let answer = sliced(alloc, &of, &from, &None, &mut store.heap);
+        drop(of);
+        drop(from);
+        match answer? {
             Ok(value) => self.push(Operand::Value(value)),
             Err(raised) => Ok(Turn::Throws(raised)),
         }
@@ -182,18 +188,19 @@ impl State {
         requires { self.old.top.place < usize.MAX }
         ensures { IfOk result (ActsIn unit.now (Slice Both) self.old store.old self.new store.new) }
     {
-        let Some((a, b)) = self.top.operands.take_two() else {
+        let Some((first, last)) = self.top.operands.take_two_values() else {
             return Ok(Turn::Stuck);
         };
-        let Some(x) = self.top.operands.pop() else {
-            drop(a);
-            drop(b);
+        let Some(of) = self.top.operands.take_value() else {
             return Ok(Turn::Stuck);
         };
-        let of = x.into_value();
-        let from = Some(a.into_value());
-        let to = Some(b.into_value());
-        match sliced(alloc, &of, &from, &to, &mut store.heap)? {
+        let from = Some(first);
+        let to = Some(last);
+        let answer = sliced(alloc, &of, &from, &to, &mut store.heap);
+        drop(of);
+        drop(from);
+        drop(to);
+        match answer? {
             Ok(value) => self.push(Operand::Value(value)),
             Err(raised) => Ok(Turn::Throws(raised)),
         }
@@ -204,12 +211,14 @@ impl State {
         ensures { IfOk result
             (ActsIn unit.now (Slice ToOnly) self.old store.old self.new store.new) }
     {
-        let Some((x, b)) = self.top.operands.take_two() else {
+        let Some((of, last)) = self.top.operands.take_two_values() else {
             return Ok(Turn::Stuck);
         };
-        let to = Some(b.into_value());
-        let of = x.into_value();
-        match sliced(alloc, &of, &None, &to, &mut store.heap)? {
+        let to = Some(last);
+        let answer = sliced(alloc, &of, &None, &to, &mut store.heap);
+        drop(of);
+        drop(to);
+        match answer? {
             Ok(value) => self.push(Operand::Value(value)),
             Err(raised) => Ok(Turn::Throws(raised)),
         }

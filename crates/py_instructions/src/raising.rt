@@ -17,10 +17,9 @@ impl State {
     pub fn raise(&mut self, alloc: Global, unit: &Unit) -> Acted
         ensures { IfOk result (ActsAlone unit.now Raise self.old self.new) }
     {
-        let Some(x) = self.top.operands.pop() else {
+        let Some(value) = self.top.operands.take_value() else {
             return Ok(Turn::Stuck);
         };
-        let value = x.into_value();
         match &value {
             Value::Kind(kind) => Ok(Turn::Escapes(
                 Raised {
@@ -58,10 +57,9 @@ impl State {
     pub fn assertion_with(&mut self, alloc: Global, unit: &Unit) -> Acted
         ensures { IfOk result (ActsAlone unit.now AssertionWith self.old self.new) }
     {
-        let Some(x) = self.top.operands.pop() else {
+        let Some(value) = self.top.operands.take_value() else {
             return Ok(Turn::Stuck);
         };
-        let value = x.into_value();
         if value.may_nest() {
             let arg = Argument::of(alloc, value)?;
             Ok(Turn::Throws(Raised {
@@ -84,7 +82,9 @@ impl State {
         let value = x.into_value();
         let kind = w.kind();
         self.top.operands.push(w)?;
-        match catches(alloc, &value, kind)? {
+        let answer = catches(alloc, &value, kind);
+        drop(value);
+        match answer? {
             Ok(holds) => self.push(Operand::Value(Value::Bool(holds))),
             Err(raised) => Ok(Turn::Throws(raised)),
         }

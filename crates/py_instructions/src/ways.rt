@@ -1,7 +1,7 @@
 // Ways out of suites.
 ghost use Rattle.std.specs.Prelude.{◌≡◌, ◌+◌, ◌<◌, List, IfOk};
 ghost use Rattle.py_code.specs.declared.instr.Instr.TheVariants.{Leave, Ending as Ends, Breaking, Continuing, Returning, Settle, Release};
-ghost use Rattle.py_code.specs.Machine.{jumps, resumes};
+ghost use Rattle.py_code.specs.Machine.{jumps, puts_way, resumes};
 ghost use Rattle.py_code.specs.Slots.{by_slots};
 ghost use Rattle.py_code.specs.Units.{Module, plain_unit};
 ghost use Rattle.py_store.specs.declared.store.Store.{Store as Kept};
@@ -35,36 +35,22 @@ impl State {
     pub fn breaking(&mut self, unit: &Unit, n: u32, to: u32) -> Acted
         ensures { IfOk result (ActsAlone unit.now (Breaking n to) self.old self.new) }
     {
-        if !self.top.operands.discard(n as usize) {
-            return Ok(Turn::Stuck);
-        }
-        self.top.operands.push(Operand::Way(Way::Break))?;
-        Ok(self.jump(to))
+        self.leave_by(n, Way::Break, to)
     }
 
     pub fn continuing(&mut self, unit: &Unit, n: u32, to: u32) -> Acted
         ensures { IfOk result (ActsAlone unit.now (Continuing n to) self.old self.new) }
     {
-        if !self.top.operands.discard(n as usize) {
-            return Ok(Turn::Stuck);
-        }
-        self.top.operands.push(Operand::Way(Way::Continue))?;
-        Ok(self.jump(to))
+        self.leave_by(n, Way::Continue, to)
     }
 
     pub fn returning(&mut self, unit: &Unit, n: u32, to: u32) -> Acted
         ensures { IfOk result (ActsAlone unit.now (Returning n to) self.old self.new) }
     {
-        let Some(x) = self.top.operands.pop() else {
+        let Some(value) = self.top.operands.take_value() else {
             return Ok(Turn::Stuck);
         };
-        let value = x.into_value();
-        if !self.top.operands.discard(n as usize) {
-            drop(value);
-            return Ok(Turn::Stuck);
-        }
-        self.top.operands.push(Operand::Way(Way::Return(value)))?;
-        Ok(self.jump(to))
+        self.leave_by(n, Way::Return(value), to)
     }
 
     pub fn settle(&mut self, unit: &Unit) -> Acted
@@ -85,6 +71,19 @@ impl State {
         };
         let way = x.into_way();
         way.resume(self, false)
+    }
+
+    /// Takes so many operands away, and goes on with a way out on top.
+    fn leave_by(&mut self, n: u32, way: Way, to: u32) -> Acted
+        ensures { IfOk result (λ t. (ms : List Module) (s : Kept) → Does ms
+            (puts_way (by_slots ms) ms n (plain_way way) to) self.old s self.new s t) }
+    {
+        if !self.top.operands.discard(n as usize) {
+            drop(way);
+            return Ok(Turn::Stuck);
+        }
+        self.top.operands.push(Operand::Way(way))?;
+        Ok(self.jump(to))
     }
 
     /// Goes so many places ahead.

@@ -4,7 +4,7 @@
 --     view_frame, ValidFrame     one frame
 --     IsBudget, IsInside         the height that is left at a place, and inside a frame
 --     view_frames .. Valid       the stack
---     opened .. upto_bracket     frames more
+--     opened .. upto_post        frames more
 --     Opens, Pops                the stack with frames more, and with one fewer
 use Rattle.std.specs.Prelude.{◌≡◌, ℕ, suc, ◌≤◌, true, false, cond, List, [], ◌∷◌, length, reverse, Option, Some, None}
 use Rattle.py_syntax.specs.Spelling.{HEIGHT}
@@ -154,10 +154,6 @@ opened_with from looser l f k =
 -- what is open after what may be called, indexed or asked for a name
 abbrev pub upto_post : code_precedence.Precedence → Ctx → Ctx
 upto_post from k = on post_rest (upto_term (view_precedence from) k)
-
--- the same in the bracket of a tree
-abbrev pub upto_bracket : code_precedence.Precedence → Ctx → Ctx
-upto_bracket from k = upto_term (view_precedence from) k
 
 -- the stack with more frames
 abbrev pub Opens : (Ctx → Ctx) → Stack → Stack → Type 0

@@ -75,8 +75,8 @@ pub fn in_dict(
 {
     match class {
         TokenClass::Symbol(Symbol::RightBrace) => {
-            stack.push(Frame::PostRest)?;
             let measured = dict(alloc, entries, comma)?;
+            stack.push(Frame::PostRest)?;
             Ok(Turn::Next(Progress::Have(measured)))
         }
         rest => begin_in(alloc, stack, Frame::InKey(entries), Precedence::Expr, rest),

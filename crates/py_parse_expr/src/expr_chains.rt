@@ -1,9 +1,10 @@
 // Chains of comparisons, a token at a time.
 
-ghost use Rattle.std.specs.Prelude.{◌≡◌};
+ghost use Rattle.std.specs.Prelude.{◌≡◌, false};
+ghost use Rattle.py_syntax.specs.Normal.{height, is_target};
 ghost use Rattle.py_syntax.specs.View.{plain_expr};
 ghost use Rattle.py_grammar.specs.Machine.{snoc_link, Linked, Next, step};
-ghost use Rattle.py_parse_expr.specs.ExprViews.{view_class, view_measured, view_links, IsMeasured, IsChain, ValidClass};
+ghost use Rattle.py_parse_expr.specs.ExprViews.{view_class, view_links, IsChain};
 ghost use Rattle.py_parse_expr.specs.ExprStacks.{Valid};
 ghost use Rattle.py_parse_expr.specs.ExprTurns.{view_at, Stays, Steps};
 
@@ -11,7 +12,7 @@ use crate::expr_classes::TokenClass;
 use crate::expr_frames::link;
 use crate::expr_nodes::{Chain, Measured};
 use crate::expr_stack::{Frame, Stack};
-use crate::expr_steps::have;
+use crate::expr_steps::give;
 use crate::expr_turns::{FrameStep, Progress, Turn};
 use py_parse_fields::operators::Precedence;
 use py_parse_fields::token_classes::Symbol;
@@ -31,19 +32,27 @@ pub fn after_not(stack: &mut Stack, chain: Chain, class: TokenClass) -> Result<T
         }
         other => {
             drop(other);
+            drop(chain);
             Ok(Turn::Stuck)
         }
     }
 }
 
 /// After `is` or `is not`, a word stands that is an expression.
-fn constant(chain: Chain, op: Comparison, measured: Measured) -> Result<Turn, NoMemory>
+fn constant(alloc: Global, chain: Chain, op: Comparison, expr: Expr) -> Result<Turn, NoMemory>
     requires chain { IsChain chain }
-    requires measured { IsMeasured measured }
+    requires height { height (plain_expr expr) ≡ 1 }
+    requires target { is_target (plain_expr expr) ≡ false }
     ensures { Stays (λ k. Next (Linked (plain_expr chain.first.value)
-        (snoc_link (view_links chain) op (view_measured measured)) k)) result }
+        (snoc_link (view_links chain) op (plain_expr expr)) k)) result }
 {
-    Ok(Turn::Next(Progress::Linked(chain.with(op, measured)?)))
+    match Measured::low(alloc, expr) {
+        Ok(measured) => Ok(Turn::Next(Progress::Linked(chain.with(op, measured)?))),
+        Err(error) => {
+            drop(chain);
+            Err(error)
+        }
+    }
 }
 
 pub fn after_is(alloc: Global, chain: Chain, class: TokenClass) -> Result<Turn, NoMemory>
@@ -52,16 +61,11 @@ pub fn after_is(alloc: Global, chain: Chain, class: TokenClass) -> Result<Turn, 
 {
     match class {
         TokenClass::Symbol(Symbol::Not) => Ok(Turn::Next(Progress::AfterIsNot(chain))),
-        TokenClass::NoneWord => {
-            let measured = Measured::low(alloc, Expr::None)?;
-            constant(chain, Comparison::Is, measured)
-        }
-        TokenClass::Bool(truth) => {
-            let measured = Measured::low(alloc, Expr::Bool(truth))?;
-            constant(chain, Comparison::Is, measured)
-        }
+        TokenClass::NoneWord => constant(alloc, chain, Comparison::Is, Expr::None),
+        TokenClass::Bool(truth) => constant(alloc, chain, Comparison::Is, Expr::Bool(truth)),
         other => {
             drop(other);
+            drop(chain);
             Ok(Turn::Stuck)
         }
     }
@@ -72,16 +76,11 @@ pub fn after_is_not(alloc: Global, chain: Chain, class: TokenClass) -> Result<Tu
     ensures { Stays (λ k. step (view_at (Progress.AfterIsNot chain) k) (view_class class)) result }
 {
     match class {
-        TokenClass::NoneWord => {
-            let measured = Measured::low(alloc, Expr::None)?;
-            constant(chain, Comparison::IsNot, measured)
-        }
-        TokenClass::Bool(truth) => {
-            let measured = Measured::low(alloc, Expr::Bool(truth))?;
-            constant(chain, Comparison::IsNot, measured)
-        }
+        TokenClass::NoneWord => constant(alloc, chain, Comparison::IsNot, Expr::None),
+        TokenClass::Bool(truth) => constant(alloc, chain, Comparison::IsNot, Expr::Bool(truth)),
         other => {
             drop(other);
+            drop(chain);
             Ok(Turn::Stuck)
         }
     }
@@ -91,27 +90,19 @@ pub fn linked(
     alloc: Global,
     stack: &mut Stack,
     chain: Chain,
-    class: TokenClass,
+    class: &TokenClass,
 ) -> Result<Turn, NoMemory>
     requires valid { Valid stack.old.limit stack.old }
     requires chain { IsChain chain }
-    requires class { ValidClass class }
-    ensures { Steps (Progress.Linked chain) class stack.old stack.new result }
+    ensures { Steps (Progress.Linked chain) class.now stack.old stack.new result }
 {
-    match link(alloc, chain, &class)? {
-        FrameStep::Next(progress) => {
-            drop(class);
-            Ok(Turn::Next(progress))
-        }
+    match link(alloc, chain, class)? {
+        FrameStep::Next(progress) => Ok(Turn::Next(progress)),
         FrameStep::Opens(frame, progress) => {
-            drop(class);
             stack.push(frame)?;
             Ok(Turn::Next(progress))
         }
-        FrameStep::Stuck => {
-            drop(class);
-            Ok(Turn::Stuck)
-        }
-        FrameStep::Passes(measured) => have(alloc, stack, measured, class),
+        FrameStep::Stuck => Ok(Turn::Stuck),
+        FrameStep::Passes(measured) => give(alloc, stack, measured, class),
     }
 }

@@ -74,7 +74,11 @@ pub fn cond_test(body: Measured, measured: Measured, class: &TokenClass) -> Fram
             Frame::CondElse(body, measured),
             Progress::Want(Precedence::Expr),
         ),
-        _ => FrameStep::Stuck,
+        _ => {
+            drop(body);
+            drop(measured);
+            FrameStep::Stuck
+        }
     }
 }
 
@@ -213,6 +217,8 @@ pub fn in_items(
         return Ok(FrameStep::Next(Progress::ItemsComma(opener, items)));
     }
     if !closes(&opener, class) {
+        drop(opener);
+        drop(items);
         return Ok(FrameStep::Stuck);
     }
     let measured = made(alloc, opener, items, false)?;
@@ -242,7 +248,11 @@ pub fn index_first(
             let whole = index(alloc, of, measured)?;
             Ok(FrameStep::Opens(Frame::PostRest, Progress::Have(whole)))
         }
-        _ => Ok(FrameStep::Stuck),
+        _ => {
+            drop(of);
+            drop(measured);
+            Ok(FrameStep::Stuck)
+        }
     }
 }
 
@@ -261,7 +271,11 @@ pub fn in_index(
             let whole = index(alloc, of, measured)?;
             Ok(FrameStep::Opens(Frame::PostRest, Progress::Have(whole)))
         }
-        _ => Ok(FrameStep::Stuck),
+        _ => {
+            drop(of);
+            drop(measured);
+            Ok(FrameStep::Stuck)
+        }
     }
 }
 
@@ -282,7 +296,12 @@ pub fn slice_to(
             let whole = slice(alloc, of, from, Some(measured))?;
             Ok(FrameStep::Opens(Frame::PostRest, Progress::Have(whole)))
         }
-        _ => Ok(FrameStep::Stuck),
+        _ => {
+            drop(of);
+            drop(from);
+            drop(measured);
+            Ok(FrameStep::Stuck)
+        }
     }
 }
 
@@ -299,7 +318,10 @@ pub fn in_paren(
             let whole = paren(alloc, measured)?;
             Ok(FrameStep::Opens(Frame::PostRest, Progress::Have(whole)))
         }
-        _ => Ok(FrameStep::Stuck),
+        _ => {
+            drop(measured);
+            Ok(FrameStep::Stuck)
+        }
     }
 }
 
@@ -313,7 +335,11 @@ pub fn in_key(entries: Entries, measured: Measured, class: &TokenClass) -> Frame
             Frame::InValue(entries, measured),
             Progress::Want(Precedence::Expr),
         ),
-        _ => FrameStep::Stuck,
+        _ => {
+            drop(entries);
+            drop(measured);
+            FrameStep::Stuck
+        }
     }
 }
 
@@ -337,6 +363,11 @@ pub fn in_value(
             let whole = dict(alloc, entries.with(key, measured)?, false)?;
             Ok(FrameStep::Opens(Frame::PostRest, Progress::Have(whole)))
         }
-        _ => Ok(FrameStep::Stuck),
+        _ => {
+            drop(entries);
+            drop(key);
+            drop(measured);
+            Ok(FrameStep::Stuck)
+        }
     }
 }

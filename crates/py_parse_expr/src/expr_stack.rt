@@ -64,7 +64,10 @@ impl Drop for Frame {
             Frame::ExprsRest(items) => drop(items),
             Frame::CondFirst => (),
             Frame::CondTest(body) => drop(body),
-            Frame::CondElse(body, test) => drop((body, test)),
+            Frame::CondElse(body, test) => {
+                drop(body);
+                drop(test)
+            }
             Frame::First(_) => (),
             Frame::Right(_, left) => drop(left),
             Frame::NotOf => (),
@@ -72,13 +75,22 @@ impl Drop for Frame {
             Frame::CompareRest(chain, _) => drop(chain),
             Frame::UnaryOf(_) => (),
             Frame::PostRest => (),
-            Frame::InItems(opener, items) => drop((opener, items)),
+            Frame::InItems(opener, items) => {
+                drop(opener);
+                drop(items)
+            }
             Frame::IndexFirst(of) => drop(of),
             Frame::InIndex(of) => drop(of),
-            Frame::SliceTo(of, from) => drop((of, from)),
+            Frame::SliceTo(of, from) => {
+                drop(of);
+                drop(from)
+            }
             Frame::InParen => (),
             Frame::InKey(entries) => drop(entries),
-            Frame::InValue(entries, key) => drop((entries, key)),
+            Frame::InValue(entries, key) => {
+                drop(entries);
+                drop(key)
+            }
         }
     }
 }

@@ -6,7 +6,7 @@ ghost use Rattle.py_syntax.specs.Normal.{height, is_target};
 ghost use Rattle.py_grammar.specs.Machine.{Next, Have, begin};
 ghost use Rattle.py_parse_fields.specs.Frames.{view_symbol, view_precedence};
 ghost use Rattle.py_parse_expr.specs.ExprViews.{IsMeasured, ValidClass, ValidStrings};
-ghost use Rattle.py_parse_expr.specs.ExprStacks.{upto_post, upto_bracket, ValidGoal, ValidItems, ValidFrame, Valid};
+ghost use Rattle.py_parse_expr.specs.ExprStacks.{opened, upto_post, ValidGoal, ValidItems, ValidFrame, Valid};
 ghost use Rattle.py_parse_expr.specs.ExprTurns.{view_at, ValidAt, prefixed, begin_in, Leaves, Moves, Steps};
 
 use crate::expr_classes::TokenClass;
@@ -26,6 +26,7 @@ fn leave_first(alloc: Global, measured: Measured, class: &TokenClass) -> Result<
     ensures { Leaves measured Goal.Target class.now result }
 {
     if !measured.target {
+        drop(measured);
         return Ok(Turn::Stuck);
     }
     match class {
@@ -49,6 +50,8 @@ fn leave_next(
     ensures { Leaves measured (Goal.Targets items) class.now result }
 {
     if !measured.target {
+        drop(items);
+        drop(measured);
         return Ok(Turn::Stuck);
     }
     let items = items.with(measured)?;
@@ -123,14 +126,20 @@ pub fn have(
     turn
 }
 
-/// A token is an expression, or begins strings.
-fn atom(stack: &mut Stack, precedence: Precedence, progress: Progress) -> Result<Turn, NoMemory>
+/// A token begins a part that has the second precedence, where one of the first was to begin.
+fn part(
+    stack: &mut Stack,
+    from: Precedence,
+    to: Precedence,
+    progress: Progress,
+) -> Result<Turn, NoMemory>
     requires valid { Valid stack.old.limit stack.old }
     requires at { ValidAt progress }
-    ensures { Moves (λ k. Next (view_at progress (upto_post precedence k)))
+    ensures { Moves (λ k. Next
+        (view_at progress (opened (view_precedence from) (view_precedence to) k)))
         stack.old stack.new result }
 {
-    stack.opened(precedence, Precedence::Post)?;
+    stack.opened(from, to)?;
     Ok(Turn::Next(progress))
 }
 
@@ -148,7 +157,12 @@ fn low(
         stack.old stack.new result }
 {
     let measured = Measured::low(alloc, expr)?;
-    atom(stack, precedence, Progress::Have(measured))
+    part(
+        stack,
+        precedence,
+        Precedence::Post,
+        Progress::Have(measured),
+    )
 }
 
 /// An operator stands in front of its one operand, which has the operator's own precedence.
@@ -180,17 +194,6 @@ fn signed(stack: &mut Stack, precedence: Precedence, sign: Sign) -> Result<Turn,
     prefixed(stack, precedence, Frame::UnaryOf(sign), Precedence::Unary)
 }
 
-/// A bracket begins an operand.
-fn bracket(stack: &mut Stack, precedence: Precedence, progress: Progress) -> Result<Turn, NoMemory>
-    requires valid { Valid stack.old.limit stack.old }
-    requires at { ValidAt progress }
-    ensures { Moves (λ k. Next (view_at progress (upto_bracket precedence k)))
-        stack.old stack.new result }
-{
-    stack.opened(precedence, Precedence::Term)?;
-    Ok(Turn::Next(progress))
-}
-
 /// A token that is no expression by itself begins one of that precedence, or of a tighter one.
 fn begin_by(stack: &mut Stack, precedence: Precedence, symbol: Symbol) -> Result<Turn, NoMemory>
     requires { Valid stack.old.limit stack.old }
@@ -205,9 +208,14 @@ fn begin_by(stack: &mut Stack, precedence: Precedence, symbol: Symbol) -> Result
         Symbol::BinaryOperator(BinaryOperator::Op(BinOp::Sub)) => {
             signed(stack, precedence, Sign::Minus)
         }
-        Symbol::LeftParen => bracket(stack, precedence, Progress::AfterOpen),
-        Symbol::LeftBracket => bracket(stack, precedence, Progress::ItemsOpen(Opener::List)),
-        Symbol::LeftBrace => bracket(stack, precedence, Progress::DictOpen),
+        Symbol::LeftParen => part(stack, precedence, Precedence::Term, Progress::AfterOpen),
+        Symbol::LeftBracket => part(
+            stack,
+            precedence,
+            Precedence::Term,
+            Progress::ItemsOpen(Opener::List),
+        ),
+        Symbol::LeftBrace => part(stack, precedence, Precedence::Term, Progress::DictOpen),
         _ => Ok(Turn::Stuck),
     }
 }
@@ -226,18 +234,33 @@ pub fn begin(
     match class {
         TokenClass::Name(text) => {
             let measured = Measured::name(alloc, text)?;
-            atom(stack, precedence, Progress::Have(measured))
+            part(
+                stack,
+                precedence,
+                Precedence::Post,
+                Progress::Have(measured),
+            )
         }
         TokenClass::Int(number) => low(alloc, stack, precedence, Expr::Int(number)),
         TokenClass::NoneWord => low(alloc, stack, precedence, Expr::None),
         TokenClass::Bool(truth) => low(alloc, stack, precedence, Expr::Bool(truth)),
         TokenClass::Str(text) => {
             let strings = Strings::text(alloc, text)?;
-            atom(stack, precedence, Progress::Strings(strings))
+            part(
+                stack,
+                precedence,
+                Precedence::Post,
+                Progress::Strings(strings),
+            )
         }
         TokenClass::Format(fields) => {
             let strings = Strings::format(alloc, fields)?;
-            atom(stack, precedence, Progress::Strings(strings))
+            part(
+                stack,
+                precedence,
+                Precedence::Post,
+                Progress::Strings(strings),
+            )
         }
         TokenClass::Symbol(symbol) => begin_by(stack, precedence, symbol),
     }
@@ -352,12 +375,13 @@ pub fn after_dot(
 {
     match class {
         TokenClass::Name(text) => {
-            stack.push(Frame::PostRest)?;
             let measured = attribute(alloc, of, text)?;
+            stack.push(Frame::PostRest)?;
             Ok(Turn::Next(Progress::Have(measured)))
         }
         other => {
             drop(other);
+            drop(of);
             Ok(Turn::Stuck)
         }
     }

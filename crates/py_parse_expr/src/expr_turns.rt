@@ -46,11 +46,17 @@ impl Drop for Progress {
             Progress::AfterComma(items) => drop(items),
             Progress::AfterTarget(items) => drop(items),
             Progress::ItemsOpen(opener) => drop(opener),
-            Progress::ItemsComma(opener, items) => drop((opener, items)),
+            Progress::ItemsComma(opener, items) => {
+                drop(opener);
+                drop(items)
+            }
             Progress::DictOpen => (),
             Progress::DictComma(entries) => drop(entries),
             Progress::IndexOpen(of) => drop(of),
-            Progress::SliceColon(of, from) => drop((of, from)),
+            Progress::SliceColon(of, from) => {
+                drop(of);
+                drop(from)
+            }
             Progress::AfterDot(of) => drop(of),
             Progress::AfterNot(chain) => drop(chain),
             Progress::AfterIs(chain) => drop(chain),
@@ -110,7 +116,11 @@ impl Progress {
             Progress::AfterNot(chain) => after_not(stack, chain, class),
             Progress::AfterIs(chain) => after_is(alloc, chain, class),
             Progress::AfterIsNot(chain) => after_is_not(alloc, chain, class),
-            Progress::Linked(chain) => linked(alloc, stack, chain, class),
+            Progress::Linked(chain) => {
+                let turn = linked(alloc, stack, chain, &class);
+                drop(class);
+                turn
+            }
         }
     }
 }

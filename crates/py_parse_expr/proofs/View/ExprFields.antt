@@ -74,6 +74,10 @@ quiet_goes s limit new t ps r is quiet h = subst (λ (x : Kind). Goes (step s (c
 pub format_goes : (s : State) (limit : ℕ) (new : Stack) (t : Kind) (ps : Pieces) (fs : Fields) (r : Result Turn AllocError) → t ≡ FString ps → AreParts limit (parts ps) (Ok fs) → Turns (step s (t_format (view_fields fs))) limit new r → Goes (step s (class t)) limit new t r
 format_goes s limit new t ps fs r is are h = subst (λ (x : Kind). Goes (step s (class x)) limit new x r) (sym is) (high_turns (step s (class (FString ps))) (step s (t_format (view_fields fs))) limit new (FString ps) r (ap (λ (o : Option Parts). step s (format_class ps o)) (sym are.0)) (ap is_some are.0) h)
 
+-- one with a field that is no expression
+pub bad_goes : (s : State) (limit : ℕ) (new : Stack) (t : Kind) (ps : Pieces) → t ≡ FString ps → takes_string s ≡ true → AreParts limit (parts ps) (Err unread_.Unspelled) → GoesTo (step s (class t)) limit new t turn_.Stuck
+bad_goes s limit new t ps is takes none = ap (λ (x : Kind). step s (class x)) is ∙ ap (λ (o : Option Parts). step s (format_class ps o)) none ∙ step_bad s ps takes
+
 -- one that is too high
 pub deep_goes : (s : State) (limit : ℕ) (new : Stack) (t : Kind) (ps : Pieces) → t ≡ FString ps → takes_string s ≡ true → AreParts limit (parts ps) (Err unread_.TooDeep) → GoesTo (step s (class t)) limit new t turn_.Deep
 deep_goes s limit new t ps is takes high = subst (λ (x : Kind). GoesTo (step s (class x)) limit new x turn_.Deep) (sym is) (go (parts ps) high)
@@ -114,6 +118,9 @@ module _ (limit : ℕ) (all : Option Expr) (ts : List Token) (i : ℕ) (t : Toke
 
   pub field_next : (n : Progress) → turn ≡ turn_.Next n → FieldSoFar limit all n new (row (drop (i + 1) ts))
   field_next n is = let g = as_turn (turn_.Next n) is in record { is = stepped ∙ ap (λ (w : Out). field_after w (row (drop (i + 1) ts))) g.0; place = g.1; valid = subst (λ (l : ℕ). Valid l new) h.valid.same g.2 }
+
+  pub field_stuck : turn ≡ turn_.Stuck → all ≡ None
+  field_stuck is = stepped ∙ ap (λ (w : Out). field_after w (row (drop (i + 1) ts))) (as_turn turn_.Stuck is)
 
   pub field_left : (e : Measured) → turn ≡ turn_.Left e → all ≡ None
   field_left e is = stepped ∙ ap (λ (w : Out). field_after w (row (drop (i + 1) ts))) (as_turn (turn_.Left e) is).0

@@ -8,11 +8,11 @@ use Rattle.py_parse_expr.specs.declared.expr_stack.Frame as code_frame
 use Rattle.py_parse_expr.specs.declared.expr_stack.Stack.{Stack}
 use Rattle.py_parse_expr.specs.declared.expr_turns.Turn.{Turn}
 use Rattle.py_parse_expr.specs.declared.expr_turns.Turn.TheVariants as turn_
-use Rattle.py_grammar.specs.TokenClasses.{TokenClass, t_comma, t_right_brace}
-use Rattle.py_grammar.specs.Machine.{snoc, targets, AfterTarget, Ctx, on, DictOpen, DictComma, Out, Next, Stuck, Left, leave, give, step}
+use Rattle.py_grammar.specs.TokenClasses.{TokenClass, t_comma, t_right_paren, t_right_bracket, t_right_brace}
+use Rattle.py_grammar.specs.Machine.{snoc, targets, AfterTarget, Opener, a_call, a_list, made, post_rest, Ctx, on, Have, DictOpen, DictComma, Out, Next, Stuck, Left, close_items, leave, give, step}
 use Rattle.py_parse_expr.specs.ExprViews.{view_measured, IsMeasured}
 use Rattle.py_parse_expr.specs.ExprStacks.{head_of, tail_of, AreSome, view_frame, view_stack, Valid, Pops}
-use Rattle.py_parse_expr.specs.ExprTurns.{is_comma, close_dict, Stays, Acts}
+use Rattle.py_parse_expr.specs.ExprTurns.{is_comma, closes, close_dict, Stays, Acts}
 
 -- an expression that goes through the frames
 pub record Giving (o : Out) (limit : ℕ) (t : TokenClass) (e : Measured) (s : Stack) : Type 0 where
@@ -27,6 +27,18 @@ dict_open k t = refl
 pub dict_comma : (ps : Pairs) (k : Ctx) (t : TokenClass) → step (DictComma ps k) t ≡ close_dict ps true k t
 dict_comma ps k t_right_brace = refl
 dict_comma ps k t = refl
+
+-- a bracket with items is closed, or another item begins
+pub closed_items : (o : Opener) (es : Exprs) (c : Bool) (k n : Ctx) (t : TokenClass) (e : Expr) (other : Out) → closes o t ≡ true → e ≡ made o es c → n ≡ on post_rest k → close_items o es c k t other ≡ Next (Have e n)
+closed_items (a_call f) es c k n t_right_paren e other h is view = ap (λ (x : Expr). Next (Have x (on post_rest k))) (sym is) ∙ ap (λ (x : Ctx). Next (Have e x)) (sym view)
+closed_items a_list es c k n t_right_bracket e other h is view = ap (λ (x : Expr). Next (Have x (on post_rest k))) (sym is) ∙ ap (λ (x : Ctx). Next (Have e x)) (sym view)
+closed_items o es c k n t e other h is view = absurd cc
+
+pub open_items : (o : Opener) (es : Exprs) (c : Bool) (k : Ctx) (t : TokenClass) (other : Out) → closes o t ≡ false → close_items o es c k t other ≡ other
+open_items (a_call f) es c k t_right_paren other h = absurd cc
+open_items a_list es c k t_right_bracket other h = absurd cc
+open_items (a_call f) es c k t other h = refl
+open_items a_list es c k t other h = refl
 
 -- a step that leaves the stack as it is
 pub stays_acts : (o : Ctx → Out) (limit : ℕ) (s : Stack) (r : Result Turn AllocError) → Valid limit s → Stays o r → Acts (o (view_stack s)) limit s r

@@ -16,8 +16,8 @@ returns-in_ok-push-in-Opens c = let h = rw c.in-Opens.is at (c.in_ok-progress.en
 pub returns-in-Stuck : goal.returns-in-Stuck
 returns-in-Stuck c = rw c.in-Stuck.is at (c.in_ok-progress.ensures (view_stack c.args.stack.now))
 
-pub have-requires-clause-measured : goal.have-requires-clause-measured
-have-requires-clause-measured c = let h = rw c.in-Passes.is at (c.in_ok-progress.ensures (view_stack c.args.stack.now)) in h.1
+pub give-requires-clause-measured : goal.give-requires-clause-measured
+give-requires-clause-measured c = let h = rw c.in-Passes.is at (c.in_ok-progress.ensures (view_stack c.args.stack.now)) in h.1
 
 pub returns-in-Passes : goal.returns-in-Passes
-returns-in-Passes c = let h = rw c.in-Passes.is at (c.in_ok-progress.ensures (view_stack c.args.stack.now)) in subst (λ (o : Out). Acts o c.args.stack.now.limit c.have.new.stack c.have.result) (sym h.0) c.have.ensures
+returns-in-Passes c = let h = rw c.in-Passes.is at (c.in_ok-progress.ensures (view_stack c.args.stack.now)) in subst (λ (o : Out). Acts o c.args.stack.now.limit c.give.new.stack c.give.result) (sym h.0) c.give.ensures

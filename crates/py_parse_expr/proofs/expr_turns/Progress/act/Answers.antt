@@ -69,4 +69,4 @@ pub returns-in-AfterIsNot : goal.returns-in-AfterIsNot
 returns-in-AfterIsNot c = rw c.in-AfterIsNot.is (stays_acts (λ k. step (view_at (progress_.AfterIsNot c.in-AfterIsNot.chain) k) (view_class c.args.class)) c.args.stack.now.limit c.args.stack.now c.after_is_not.result c.requires.valid c.after_is_not.ensures)
 
 pub returns-in-Linked : goal.returns-in-Linked
-returns-in-Linked c = rw c.in-Linked.is c.linked.ensures
+returns-in-Linked c = rw c.in-Linked.is c.linked-turn.ensures
