@@ -15,7 +15,8 @@ use Rattle.py_syntax.specs.Tree.{Text, Expr, call, index, slice, attr, Exprs, Op
 use Rattle.py_syntax.specs.View.{plain_expr, plain_exprs, opt_of, plain_pattern, plain_patterns}
 use Rattle.py_compile_expr.specs.Callees.{callee_code}
 use Rattle.py_compile_expr.specs.Cells.{attribute, plain, Guard, put}
-use Rattle.py_compile_expr.specs.Expressions.{bounds, count, expr_size, expr_code, each_size, each_code, opt_size, opt_code}
+use Rattle.py_compile_expr.specs.Expressions.{bounds, count, expr_size, expr_code, each_size, opt_size, opt_code}
+use Rattle.py_compile_expr.specs.Pieces.{row_code}
 use Rattle.py_compile_expr.specs.Patterns.{Site, with_waiting, pattern_code, items_code}
 use Rattle.py_compile_expr.proofs.Alternatives.{patterns-are}
 use Rattle.py_compile_expr.proofs.Calls.{call_size, call_code}
@@ -59,12 +60,8 @@ attr_shown e a x y z is first same = ap plain_expr is ∙ attr_is a y ∙ ap (λ
 pub call_node-size : (e f : Expr) (es : Exprs) (c : Bool) → e ≡ call f es c → expr_size e ≡ expr_size f + each_size es + 1
 call_node-size e f es c is = ap expr_size is ∙ call_size f es c
 
-pub call_node : (g : Option Guard) (p q size : ℕ) (e f : Expr) (es : Exprs) (c : Bool) → e ≡ call f es c → q ≡ p + expr_size f → size ≡ count es
-    → expr_code g p e ≡ callee_code g p f ++ (each_code g q es ++ put g (plain (Call size)) [])
-call_node g p q size e f es c is place counts =
-    ap (expr_code g p) is ∙ call_code g p f es c
-    ∙ ap (λ n. callee_code g p f ++ (each_code g n es ++ put g (plain (Call (count es))) [])) (sym place)
-    ∙ ap (λ n. callee_code g p f ++ (each_code g q es ++ put g (plain (Call n)) [])) (sym counts)
+pub call_node : (g : Option Guard) (p q : ℕ) (e f : Expr) (es : Exprs) (c : Bool) → e ≡ call f es c → q ≡ p + expr_size f → expr_code g p e ≡ callee_code g p f ++ row_code g q es (Call (count es))
+call_node g p q e f es c is place = ap (expr_code g p) is ∙ call_code g p f es c ∙ ap (λ n. callee_code g p f ++ row_code g n es (Call (count es))) (sym place)
 
 pub index_node : (g : Option Guard) (p q : ℕ) (e a b : Expr) → e ≡ index a b → q ≡ p + expr_size a → expr_code g p e ≡ expr_code g p a ++ (expr_code g q b ++ put g (plain Index) [])
 index_node g p q e a b is place = ap (expr_code g p) is ∙ ap (λ n. expr_code g p a ++ (expr_code g n b ++ put g (plain Index) [])) (sym place)

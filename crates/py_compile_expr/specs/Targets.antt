@@ -78,6 +78,10 @@ abbrev mutual
   targets_code g p no_exprs = []
   targets_code g p (exprs t ts) = target_code g p t ++ targets_code g (p + target_size t) ts
 
+-- the items of a value to targets in a row
+abbrev pub unpack_code : Option Guard → ℕ → Exprs → List Cell
+unpack_code g p ts = put g (plain (Unpack (count ts))) (targets_code g (p + 1) ts)
+
 -- one value to each of these targets, which is gone then
 abbrev pub all_size : Exprs → ℕ
 all_size no_exprs = 1

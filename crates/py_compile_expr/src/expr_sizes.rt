@@ -33,27 +33,32 @@ pub fn expr_size(e: &Expr) -> Result<u32, NoMemory>
         Expr::Dict { items, comma: _ } => sum(pairs_size(items)?, 1),
         Expr::Paren(inner) => expr_size(inner),
         Expr::Not(operand) => sum(expr_size(operand)?, 1),
-        Expr::And(left, right) => both(expr_size(left)?, expr_size(right)?),
-        Expr::Or(left, right) => both(expr_size(left)?, expr_size(right)?),
+        Expr::And(left, right) => past(expr_size(left)?, right),
+        Expr::Or(left, right) => past(expr_size(left)?, right),
         Expr::Unary(_, operand) => sum(expr_size(operand)?, 2),
-        Expr::Binary(_, left, right) => both(expr_size(left)?, expr_size(right)?),
+        Expr::Binary(_, left, right) => past(expr_size(left)?, right),
         Expr::Compare(first, links) => sum(expr_size(first)?, links_size(links)?),
-        Expr::Cond { body, test, orelse } => {
-            let chosen = both(expr_size(test)?, expr_size(body)?)?;
-            both(chosen, expr_size(orelse)?)
-        }
+        Expr::Cond { body, test, orelse } => past(past(expr_size(test)?, body)?, orelse),
         Expr::Call {
             callee,
             args,
             comma: _,
         } => both(expr_size(callee)?, each_size(args)?),
-        Expr::Index(of, at) => both(expr_size(of)?, expr_size(at)?),
+        Expr::Index(of, at) => past(expr_size(of)?, at),
         Expr::Slice { of, from, to } => {
             let first = sum(expr_size(of)?, bound_size(from)?)?;
             both(first, bound_size(to)?)
         }
         Expr::Attr(of, _) => sum(expr_size(of)?, 1),
     }
+}
+
+/// A size or a place with one instruction and an expression after it.
+#[cycle(sizes)]
+pub(crate) fn past(at: u32, e: &Expr) -> Result<u32, NoMemory>
+    ensures { IfOk result (λ n. n ≡ at + 1 + expr_size (plain_expr e.now)) }
+{
+    both(at, expr_size(e)?)
 }
 
 #[cycle(sizes)]

@@ -2,7 +2,9 @@
 
 ghost use Rattle.std.specs.Prelude.{◌≡◌, ◌+◌, [], ◌++◌, IfOk, OnOk};
 ghost use Rattle.std.specs.Option.{option_map};
+ghost use Rattle.py_syntax.specs.Tree.{unary};
 ghost use Rattle.py_syntax.specs.View.{plain_expr, plain_exprs, plain_pairs, plain_links, plain_fragments, plain_parts, opt_of};
+ghost use Rattle.py_code.specs.declared.instr.Instr.TheVariants.{And as AndInstr, Or as OrInstr, IfFalse, Goto, Call as CallInstr};
 ghost use Rattle.py_compile_expr.specs.Cells.{load, put};
 ghost use Rattle.py_compile_expr.specs.CellView.{plain_op, plain_guard};
 ghost use Rattle.py_compile_expr.specs.Callees.{callee_code};
@@ -10,11 +12,11 @@ ghost use Rattle.py_compile_expr.specs.Pieces.{then_code, after_code, row_code};
 ghost use Rattle.py_compile_expr.specs.Expressions.{count, expr_size, expr_code, each_size, each_code, pairs_size, pairs_code, links_size, links_code, opt_size, opt_code, fragments_size, fragments_code, parts_size, parts_code};
 
 use crate::cells::{Builder, Guard, Op, sum};
-use crate::expr_sizes::{expr_size, links_size};
+use crate::expr_sizes::{links_size, past};
 use crate::operators::{bounds, count, link_instr, question, sign_operator};
 use crate::texts::{put_chars, put_string, put_text};
 use py_code::{Constant, Instr};
-use py_syntax::{Expr, FormatPart, Fragment, Link, Pair};
+use py_syntax::{Expr, FormatPart, Fragment, Link, Pair, Sign};
 use py_value::{NoMemory, Text};
 
 /// Adds the code of an expression at a place, with the handler that holds there. Answers the place
@@ -51,43 +53,33 @@ pub fn put_expr(out: &mut Builder, guard: Option<Guard>, at: u32, e: &Expr) -> R
         Expr::Not(operand) => put_then(out, guard, at, operand, Op::Plain(Instr::Not)),
         Expr::And(left, right) => {
             let at = put_expr(out, guard, at, left)?;
-            let end = past(at, right)?;
-            put_after(out, guard, at, Instr::And(end), right)
+            put_and(out, guard, at, right)
         }
         Expr::Or(left, right) => {
             let at = put_expr(out, guard, at, left)?;
-            let end = past(at, right)?;
-            put_after(out, guard, at, Instr::Or(end), right)
+            put_or(out, guard, at, right)
         }
-        Expr::Unary(sign, operand) => {
-            let at = out.put(guard, at, Op::Constant(Constant::Int(0)))?;
-            let instr = Instr::Binary(sign_operator(*sign));
-            put_then(out, guard, at, operand, Op::Plain(instr))
-        }
+        Expr::Unary(sign, operand) => put_unary(out, guard, at, *sign, operand),
         Expr::Binary(op, left, right) => {
             let at = put_expr(out, guard, at, left)?;
             put_then(out, guard, at, right, Op::Plain(Instr::Binary(*op)))
         }
         Expr::Compare(first, links) => {
             let at = put_expr(out, guard, at, first)?;
-            let end = sum(at, links_size(links)?)?;
-            put_links(out, guard, at, end, links)
+            put_chain(out, guard, at, links)
         }
         Expr::Cond { body, test, orelse } => {
             let at = put_expr(out, guard, at, test)?;
-            let no = sum(past(at, body)?, 1)?;
-            let at = put_after(out, guard, at, Instr::IfFalse(no), body)?;
-            let end = past(at, orelse)?;
-            put_after(out, guard, at, Instr::Goto(end), orelse)
+            let at = put_chosen(out, guard, at, body)?;
+            put_other(out, guard, at, orelse)
         }
         Expr::Call {
             callee,
             args,
             comma: _,
         } => {
-            let size = count(args)?;
             let at = put_callee(out, guard, at, callee)?;
-            put_row(out, guard, at, args, Instr::Call(size))
+            put_args(out, guard, at, args)
         }
         Expr::Index(of, index) => {
             let at = put_expr(out, guard, at, of)?;
@@ -104,6 +96,122 @@ pub fn put_expr(out: &mut Builder, guard: Option<Guard>, at: u32, e: &Expr) -> R
             put_then(out, guard, at, of, Op::Attribute(name))
         }
     }
+}
+
+/// The second operand, which a false first one skips.
+#[cycle(expressions)]
+fn put_and(out: &mut Builder, guard: Option<Guard>, at: u32, right: &Expr) -> Result<u32, NoMemory>
+    ensures cells { OnOk result (out.new
+        ≡ out.old
+        ++ after_code (plain_guard guard) at (AndInstr (at + 1 + expr_size (plain_expr right.now)))
+        (plain_expr right.now)) }
+    ensures place { IfOk result (λ n. n ≡ at + 1 + expr_size (plain_expr right.now)) }
+{
+    let end = past(at, right)?;
+    put_after(out, guard, at, Instr::And(end), right)
+}
+
+/// The second operand, which a true first one skips.
+#[cycle(expressions)]
+fn put_or(out: &mut Builder, guard: Option<Guard>, at: u32, right: &Expr) -> Result<u32, NoMemory>
+    ensures cells { OnOk result (out.new
+        ≡ out.old
+        ++ after_code (plain_guard guard) at (OrInstr (at + 1 + expr_size (plain_expr right.now)))
+        (plain_expr right.now)) }
+    ensures place { IfOk result (λ n. n ≡ at + 1 + expr_size (plain_expr right.now)) }
+{
+    let end = past(at, right)?;
+    put_after(out, guard, at, Instr::Or(end), right)
+}
+
+/// A sign is the operator after 0.
+#[cycle(expressions)]
+fn put_unary(
+    out: &mut Builder,
+    guard: Option<Guard>,
+    at: u32,
+    sign: Sign,
+    operand: &Expr,
+) -> Result<u32, NoMemory>
+    ensures cells { OnOk result (out.new
+        ≡ out.old ++ expr_code (plain_guard guard) at (unary sign (plain_expr operand.now))) }
+    ensures place { IfOk result (λ n. n ≡ at + expr_size (unary sign (plain_expr operand.now))) }
+{
+    let at = out.put(guard, at, Op::Constant(Constant::Int(0)))?;
+    let instr = Instr::Binary(sign_operator(sign));
+    put_then(out, guard, at, operand, Op::Plain(instr))
+}
+
+/// The comparisons after the first operand of a chain.
+#[cycle(expressions)]
+fn put_chain(
+    out: &mut Builder,
+    guard: Option<Guard>,
+    at: u32,
+    links: &[Link],
+) -> Result<u32, NoMemory>
+    ensures cells { OnOk result (out.new
+        ≡ out.old
+        ++ links_code (plain_guard guard) at (at + links_size (plain_links links.now))
+        (plain_links links.now)) }
+    ensures place { IfOk result (λ n. n ≡ at + links_size (plain_links links.now)) }
+{
+    let end = sum(at, links_size(links)?)?;
+    put_links(out, guard, at, end, links)
+}
+
+/// The value where a test is true. A false one skips it and what leads past the other value.
+#[cycle(expressions)]
+fn put_chosen(
+    out: &mut Builder,
+    guard: Option<Guard>,
+    at: u32,
+    body: &Expr,
+) -> Result<u32, NoMemory>
+    ensures cells { OnOk result (out.new
+        ≡ out.old
+        ++ after_code (plain_guard guard) at
+        (IfFalse (at + 1 + expr_size (plain_expr body.now) + 1)) (plain_expr body.now)) }
+    ensures place { IfOk result (λ n. n ≡ at + 1 + expr_size (plain_expr body.now)) }
+{
+    let no = sum(past(at, body)?, 1)?;
+    put_after(out, guard, at, Instr::IfFalse(no), body)
+}
+
+/// The value where a test is false, which the other value skips.
+#[cycle(expressions)]
+fn put_other(
+    out: &mut Builder,
+    guard: Option<Guard>,
+    at: u32,
+    orelse: &Expr,
+) -> Result<u32, NoMemory>
+    ensures cells { OnOk result (out.new
+        ≡ out.old
+        ++ after_code (plain_guard guard) at (Goto (at + 1 + expr_size (plain_expr orelse.now)))
+        (plain_expr orelse.now)) }
+    ensures place { IfOk result (λ n. n ≡ at + 1 + expr_size (plain_expr orelse.now)) }
+{
+    let end = past(at, orelse)?;
+    put_after(out, guard, at, Instr::Goto(end), orelse)
+}
+
+/// The arguments of a call, and the call.
+#[cycle(expressions)]
+fn put_args(
+    out: &mut Builder,
+    guard: Option<Guard>,
+    at: u32,
+    args: &[Expr],
+) -> Result<u32, NoMemory>
+    ensures cells { OnOk result (out.new
+        ≡ out.old
+        ++ row_code (plain_guard guard) at (plain_exprs args.now)
+        (CallInstr (count (plain_exprs args.now)))) }
+    ensures place { IfOk result (λ n. n ≡ at + each_size (plain_exprs args.now) + 1) }
+{
+    let size = count(args)?;
+    put_row(out, guard, at, args, Instr::Call(size))
 }
 
 /// The value of a name.
@@ -164,14 +272,6 @@ fn put_row(
 {
     let at = put_each(out, guard, at, items)?;
     out.put(guard, at, Op::Plain(instr))
-}
-
-/// The place after one instruction and an expression.
-fn past(at: u32, e: &Expr) -> Result<u32, NoMemory>
-    ensures { IfOk result (λ n. n ≡ at + 1 + expr_size (plain_expr e.now)) }
-{
-    let size = expr_size(e)?;
-    over(at, size)
 }
 
 /// The place after one instruction and a part of this size.

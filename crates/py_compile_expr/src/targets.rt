@@ -1,9 +1,11 @@
 // Emission of targets: each takes the value on top.
 
-ghost use Rattle.std.specs.Prelude.{◌≡◌, ◌+◌, ◌++◌, IfOk, OnOk};
+ghost use Rattle.std.specs.Prelude.{◌≡◌, ◌+◌, [], ◌++◌, IfOk, OnOk};
+ghost use Rattle.py_syntax.specs.Tree.{index};
 ghost use Rattle.py_syntax.specs.View.{plain_expr, plain_exprs};
+ghost use Rattle.py_compile_expr.specs.Cells.{store, put};
 ghost use Rattle.py_compile_expr.specs.CellView.{plain_guard};
-ghost use Rattle.py_compile_expr.specs.Targets.{no_target_code, target_size, target_code, targets_size, targets_code, all_size, all_code};
+ghost use Rattle.py_compile_expr.specs.Targets.{no_target_code, target_size, target_code, targets_size, targets_code, unpack_code, all_size, all_code};
 
 use crate::cells::{Builder, Guard, Op, sum};
 use crate::expr_sizes::{both, expr_size};
@@ -11,7 +13,7 @@ use crate::expressions::put_expr;
 use crate::operators::count;
 use py_code::{Constant, Instr};
 use py_syntax::Expr;
-use py_value::NoMemory;
+use py_value::{NoMemory, Text};
 
 /// How many instructions a target takes.
 #[cycle(target_sizes)]
@@ -85,23 +87,12 @@ pub fn put_target(
     ensures place { IfOk result (λ n. n ≡ at + target_size (plain_expr e.now)) }
 {
     match e {
-        Expr::Name(name) => {
-            let name = name.copy()?;
-            out.put(guard, at, Op::Store(name))
-        }
+        Expr::Name(name) => put_store(out, guard, at, name),
         Expr::Int(_) | Expr::Str(_) | Expr::FStr(_) | Expr::None | Expr::Bool(_) => {
             put_no_target(out, guard, at)
         }
-        Expr::Tuple { items, comma: _ } => {
-            let size = count(items)?;
-            let at = out.put(guard, at, Op::Plain(Instr::Unpack(size)))?;
-            put_targets(out, guard, at, items)
-        }
-        Expr::List { items, comma: _ } => {
-            let size = count(items)?;
-            let at = out.put(guard, at, Op::Plain(Instr::Unpack(size)))?;
-            put_targets(out, guard, at, items)
-        }
+        Expr::Tuple { items, comma: _ } => put_unpack(out, guard, at, items),
+        Expr::List { items, comma: _ } => put_unpack(out, guard, at, items),
         Expr::Dict { .. } => put_no_target(out, guard, at),
         Expr::Paren(inner) => put_target(out, guard, at, inner),
         Expr::Not(_)
@@ -112,13 +103,54 @@ pub fn put_target(
         | Expr::Compare(_, _)
         | Expr::Cond { .. }
         | Expr::Call { .. } => put_no_target(out, guard, at),
-        Expr::Index(of, index) => {
-            let at = put_expr(out, guard, at, of)?;
-            let at = put_expr(out, guard, at, index)?;
-            out.put(guard, at, Op::Plain(Instr::StoreIndex))
-        }
+        Expr::Index(of, key) => put_item(out, guard, at, of, key),
         Expr::Slice { .. } | Expr::Attr(_, _) => put_no_target(out, guard, at),
     }
+}
+
+/// A name takes the value.
+fn put_store(out: &mut Builder, guard: Option<Guard>, at: u32, name: &Text) -> Result<u32, NoMemory>
+    ensures cells { OnOk result (out.new ≡ out.old ++ put (plain_guard guard) (store name.now) []) }
+    ensures place { IfOk result (λ n. n ≡ at + 1) }
+{
+    let name = name.copy()?;
+    out.put(guard, at, Op::Store(name))
+}
+
+/// The place under a key takes the value.
+fn put_item(
+    out: &mut Builder,
+    guard: Option<Guard>,
+    at: u32,
+    of: &Expr,
+    key: &Expr,
+) -> Result<u32, NoMemory>
+    ensures cells { OnOk result (out.new
+        ≡ out.old
+        ++ target_code (plain_guard guard) at (index (plain_expr of.now) (plain_expr key.now))) }
+    ensures place { IfOk result (λ n.
+        n ≡ at + target_size (index (plain_expr of.now) (plain_expr key.now))) }
+{
+    let at = put_expr(out, guard, at, of)?;
+    let at = put_expr(out, guard, at, key)?;
+    out.put(guard, at, Op::Plain(Instr::StoreIndex))
+}
+
+/// Targets in a row take the items of the value.
+#[cycle(targets)]
+fn put_unpack(
+    out: &mut Builder,
+    guard: Option<Guard>,
+    at: u32,
+    items: &[Expr],
+) -> Result<u32, NoMemory>
+    ensures cells { OnOk result (out.new
+        ≡ out.old ++ unpack_code (plain_guard guard) at (plain_exprs items.now)) }
+    ensures place { IfOk result (λ n. n ≡ at + 1 + targets_size (plain_exprs items.now)) }
+{
+    let size = count(items)?;
+    let at = out.put(guard, at, Op::Plain(Instr::Unpack(size)))?;
+    put_targets(out, guard, at, items)
 }
 
 /// Targets in a row, the first for the value on top.

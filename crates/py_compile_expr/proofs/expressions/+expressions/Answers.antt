@@ -1,7 +1,6 @@
 use Rattle.std.proofs.Common.{refl, sym, ap, ◌∙◌, ◌+◌, ◌++◌, arith}
 use Rattle.py_syntax.specs.View.{plain_exprs, plain_expr, plain_links}
 use Rattle.py_compile_expr.specs.CellView.{plain_guard}
-use Rattle.py_compile_expr.specs.Expressions.{count}
 use Rattle.py_compile_expr.proofs.Chains.{rest_size, rest_code, chain_size, chain_code, links_added, links_counted}
 use Rattle.py_compile_expr.proofs.Nodes.{bound_is, call_shown, index_shown, slice_shown, attr_shown, call_node, call_node-size, index_node, slice_node, slice_node-size, attr_node}
 use Rattle.py_compile_expr.proofs.Turns.{none_counted, none_added, kept, then, four, the_number}
@@ -25,17 +24,16 @@ put_links-returns-clause-place t c =
 
 pub put_expr-returns-in_ok-at-in-Call-clause-cells : goal.put_expr-returns-in_ok-at-in-Call-clause-cells
 put_expr-returns-in_ok-at-in-Call-clause-cells t c =
-    let e = call_shown c.args.e.now c.in-Call.callee c.in-Call.args c.in-Call.comma c.deref-in-Call-2.result.now c.deref-in-Call-3.result.now c.in-Call.is c.deref-in-Call-2.ensures c.deref-in-Call-3.ensures.value in
-    let n = c.in_ok-size-in-Call.ensures ∙ ap (λ xs. count (plain_exprs xs)) (c.deref-in-Call.ensures.value ∙ sym c.deref-in-Call-3.ensures.value) in
-    then c.put_row-in-Call.result _ _ _ _ _ _ c.put_row-in-Call.ensures.cells c.in_ok-at-in-Call.ensures.cells
-    (call_node (plain_guard c.args.guard) c.args.at c.in_ok-at-in-Call.at c.in_ok-size-in-Call.size (plain_expr c.args.e.now) (plain_expr c.deref-in-Call-2.result.now) (plain_exprs c.deref-in-Call-3.result.now) c.in-Call.comma e c.in_ok-at-in-Call.ensures.place n)
+    let e = call_shown c.args.e.now c.in-Call.callee c.in-Call.args c.in-Call.comma c.deref-in-Call.result.now c.deref-in-Call-2.result.now c.in-Call.is c.deref-in-Call.ensures c.deref-in-Call-2.ensures.value in
+    then c.put_args.result _ _ _ _ _ _ c.put_args.ensures.cells c.in_ok-at-in-Call.ensures.cells
+    (call_node (plain_guard c.args.guard) c.args.at c.in_ok-at-in-Call.at (plain_expr c.args.e.now) (plain_expr c.deref-in-Call.result.now) (plain_exprs c.deref-in-Call-2.result.now) c.in-Call.comma e c.in_ok-at-in-Call.ensures.place)
 
 pub put_expr-returns-in_ok-at-in-Call-clause-place : goal.put_expr-returns-in_ok-at-in-Call-clause-place
 put_expr-returns-in_ok-at-in-Call-clause-place t c =
-    let e = call_shown c.args.e.now c.in-Call.callee c.in-Call.args c.in-Call.comma c.deref-in-Call-2.result.now c.deref-in-Call-3.result.now c.in-Call.is c.deref-in-Call-2.ensures c.deref-in-Call-3.ensures.value in
-    the_number c.put_row-in-Call.result _ _ c.put_row-in-Call.ensures.place
+    let e = call_shown c.args.e.now c.in-Call.callee c.in-Call.args c.in-Call.comma c.deref-in-Call.result.now c.deref-in-Call-2.result.now c.in-Call.is c.deref-in-Call.ensures c.deref-in-Call-2.ensures.value in
+    the_number c.put_args.result _ _ c.put_args.ensures.place
     (let a = c.in_ok-at-in-Call.ensures.place in
-    let d = call_node-size (plain_expr c.args.e.now) (plain_expr c.deref-in-Call-2.result.now) (plain_exprs c.deref-in-Call-3.result.now) c.in-Call.comma e in omega (arith, a, d))
+    let d = call_node-size (plain_expr c.args.e.now) (plain_expr c.deref-in-Call.result.now) (plain_exprs c.deref-in-Call-2.result.now) c.in-Call.comma e in omega (arith, a, d))
 
 pub put_expr-returns-in_ok-at-in-Index-clause-cells : goal.put_expr-returns-in_ok-at-in-Index-clause-cells
 put_expr-returns-in_ok-at-in-Index-clause-cells t c =
