@@ -56,10 +56,8 @@ fn operation(
     }
     match op {
         BinOp::Add => add(alloc, left, right, heap),
-        BinOp::Sub => Ok(numbers(BinOp::Sub, left, right)),
         BinOp::Mul => multiply(alloc, left, right, heap),
-        BinOp::Floor => Ok(numbers(BinOp::Floor, left, right)),
-        BinOp::Mod => Ok(numbers(BinOp::Mod, left, right)),
+        BinOp::Sub | BinOp::Floor | BinOp::Mod => Ok(numbers(op, left, right)),
     }
 }
 
@@ -136,13 +134,13 @@ fn multiply(
     ensures err { OnErr result (plain_heap heap.new ≡ plain_heap heap.old) }
 {
     match left {
-        Value::Str(_) => repeat_sequence(alloc, left, right, heap),
-        Value::Tuple(_) => repeat_sequence(alloc, left, right, heap),
-        Value::List(_) => repeat_sequence(alloc, left, right, heap),
+        Value::Str(_) | Value::Tuple(_) | Value::List(_) => {
+            repeat_sequence(alloc, left, right, heap)
+        }
         _ => match right {
-            Value::Str(_) => repeat_sequence(alloc, right, left, heap),
-            Value::Tuple(_) => repeat_sequence(alloc, right, left, heap),
-            Value::List(_) => repeat_sequence(alloc, right, left, heap),
+            Value::Str(_) | Value::Tuple(_) | Value::List(_) => {
+                repeat_sequence(alloc, right, left, heap)
+            }
             _ => Ok(numbers(BinOp::Mul, left, right)),
         },
     }

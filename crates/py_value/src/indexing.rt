@@ -14,6 +14,7 @@ use crate::cause::Cause;
 use crate::heap::Heap;
 use crate::key::is_key;
 use crate::places::place_among;
+use crate::raised::raise;
 use crate::text::Text;
 use crate::value::{Addr, Raised, Value};
 use std::alloc::Global;
@@ -33,7 +34,7 @@ pub fn index(
         Value::Tuple(items) => item_among(alloc, items.as_slice(), at, Cause::TupleIndex),
         Value::Str(text) => character(alloc, text, at),
         Value::Dict(addr) => value_of_key(alloc, *addr, at, heap),
-        _ => Ok(Err(Raised::of(alloc, Cause::NotSubscriptable)?)),
+        _ => raise(alloc, Cause::NotSubscriptable),
     }
 }
 
@@ -48,11 +49,11 @@ fn item_among(
         ≡ in_words raised_by (item_answer outside (plains items.now) (number_of (plain at.now)))) }
 {
     match at.number() {
-        None => Ok(Err(Raised::of(alloc, Cause::NotSubscriptable)?)),
+        None => raise(alloc, Cause::NotSubscriptable),
         Some(i) => match place_among(items.len(), i) {
-            None => Ok(Err(Raised::of(alloc, outside)?)),
+            None => raise(alloc, outside),
             Some(k) => match items.get(k) {
-                None => Ok(Err(Raised::of(alloc, outside)?)),
+                None => raise(alloc, outside),
                 Some(item) => Ok(Ok(item.copy(alloc)?)),
             },
         },
@@ -65,11 +66,11 @@ fn character(alloc: Global, text: &Text, at: &Value) -> Result<Result<Value, Rai
         ≡ in_words raised_by (character_answer text.now (number_of (plain at.now)))) }
 {
     match at.number() {
-        None => Ok(Err(Raised::of(alloc, Cause::NotSubscriptable)?)),
+        None => raise(alloc, Cause::NotSubscriptable),
         Some(i) => match place_among(text.len(), i) {
-            None => Ok(Err(Raised::of(alloc, Cause::StringIndex)?)),
+            None => raise(alloc, Cause::StringIndex),
             Some(k) => match text.char_at(k) {
-                None => Ok(Err(Raised::of(alloc, Cause::StringIndex)?)),
+                None => raise(alloc, Cause::StringIndex),
                 Some(c) => Ok(Ok(Value::Str(Text::of_char(alloc, c)?))),
             },
         },
@@ -87,7 +88,7 @@ fn value_of_key(
         ≡ value_answer (plain key.now) (dict_pairs (plain_heap heap.now) dict.place)) }
 {
     if !is_key(key) {
-        return Ok(Err(Raised::of(alloc, Cause::UnhashableKey)?));
+        return raise(alloc, Cause::UnhashableKey);
     }
     match heap.value_of(dict, key) {
         None => Ok(Err(Raised::of_key(alloc, key)?)),

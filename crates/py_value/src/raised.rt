@@ -1,7 +1,7 @@
 // Exceptions that operations raise.
 
-ghost use Rattle.std.specs.Prelude.{◌≡◌, IfOk};
-ghost use Rattle.py_value.specs.View.{plain, plain_raised};
+ghost use Rattle.std.specs.Prelude.{◌≡◌, IfOk, Err};
+ghost use Rattle.py_value.specs.View.{plain, plain_raised, plain_value_answer};
 ghost use Rattle.py_value.specs.Plain.{may_nest};
 ghost use Rattle.py_value.specs.Causes.{raised_by, key_error};
 
@@ -48,6 +48,13 @@ impl Raised {
             Raised::of(alloc, Cause::TooDeep)
         }
     }
+}
+
+/// The exception of a cause, in place of a value.
+pub(crate) fn raise(alloc: Global, cause: Cause) -> Result<Result<Value, Raised>, NoMemory>
+    ensures { IfOk result (λ answer. plain_value_answer answer ≡ Err (raised_by cause)) }
+{
+    Ok(Err(Raised::of(alloc, cause)?))
 }
 
 impl Value {
