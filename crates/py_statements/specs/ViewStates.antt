@@ -2,20 +2,21 @@
 --     kind_at, first_at, last_at          the kind of a token, and its lines
 --     suite_stack, view_suites, Opens     open suites
 --     view_span .. view_state             places and states
---     ActsAs, Acts, Makes, MakesPlace     what a token does
+--     ActsAs .. MakesPlace                what a token does
 --     Steps, step_marked                  the same of a step
 --     ActsAt, TurnsAt, MakesAt            the same of a place inside a statement
---     Continuing .. ContinuesTo           the same after a part of a statement
+--     Continuing .. EndsMade              the same after a part of a statement
 --     SharesLine .. is_top                what is said of the innermost suite
 --     IsDone, Rests                       where the module ends, or a statement may begin
 use Rattle.std.specs.Prelude.{◌≡◌, ℕ, Bool, true, false, cond, List, [], ◌∷◌, reverse, Option, Some}
-use Rattle.std.specs.Prelude.{None, option_map, Result, Ok, Err, Vec}
+use Rattle.std.specs.Prelude.{None, option_map, Result, Ok, Err, IfOk, Vec, Box}
 use Rattle.std.specs.declared.alloc.AllocError.{AllocError}
 use Rattle.std.specs.Global.{Global}
 use Rattle.py_token.specs.View.{view_kind}
 use Rattle.py_token.specs.declared.token.Token.{Token, out-Token}
 use Rattle.py_syntax.specs.declared.stmt.Stmt.{Stmt}
-use Rattle.py_syntax.specs.Tree.{Text, Expr, Stmts, stmt}
+use Rattle.py_syntax.specs.declared.stmt.StmtKind.{StmtKind as KindNode}
+use Rattle.py_syntax.specs.Tree.{Text, Expr, Stmts, stmt, StmtKind}
 use Rattle.py_syntax.specs.Kinds.{Kind, bare_kind}
 use Rattle.py_syntax.specs.View.{plain_exprs, plain_stmts, plain_arms, plain_aliases}
 use Rattle.py_statements.specs.declared.suite_of.PartialTry.{PartialTry}
@@ -44,7 +45,7 @@ use Rattle.py_statements.specs.Machine.{ParamsWanted, ParamWanted, ParamRead, Ex
 use Rattle.py_statements.specs.Machine.{ColonWanted, SuiteWanted, IndentWanted, MatchLine}
 use Rattle.py_statements.specs.Machine.{MatchBlock, Span, State, Line, at, After, Choosing, Over}
 use Rattle.py_statements.specs.Machine.{wanted, begin_expr, begin_case, act, close, over_line}
-use Rattle.py_statements.specs.Machine.{at_line, step, done}
+use Rattle.py_statements.specs.Machine.{end_simple, at_line, step, done}
 use Rattle.py_statements.specs.ViewSuiteOf.{boxed_expr, boxed_pattern, boxed_kind, of_match, of_try}
 use Rattle.py_statements.specs.ViewSuiteOf.{of_signature, boxed_suite_of}
 
@@ -193,6 +194,10 @@ abbrev pub Makes : Option State → Made → Type 0
 Makes o (Ok s) = o ≡ option_map view_state s
 Makes o (Err e) = Unit {0}
 
+-- What is made is what a token does that makes it.
+abbrev pub TurnsInto : Made → Turned → Type 0
+TurnsInto made r = (t : Token) (o : Option State) → Makes o made → Acts t o r
+
 -- The place of an optional step.
 abbrev pub MakesPlace : Option Place → Result (Option code_place.Place) AllocError → Type 0
 MakesPlace o (Ok p) = o ≡ option_map view_place p
@@ -231,6 +236,16 @@ Continues t way n b r = Makes (way (view_span n) (view_suites b) (kind_at t) (la
 abbrev pub ContinuesTo :
     Token → Continuing → code_span.Span → code_suites.SuiteStack → Option code_state.State → Type 0
 ContinuesTo t way n b s = Continues t way n b (Ok s)
+
+-- a kind of statement in a box, where memory lasts
+abbrev pub MadeKind : Type 0
+MadeKind = Result (Box KindNode Global) AllocError
+
+-- The token ends the simple statement that was made.
+abbrev pub EndsMade :
+    Token → MadeKind → code_span.Span → code_suites.SuiteStack → Made → Type 0
+EndsMade t made n b r =
+    (k : StmtKind) → IfOk made (λ w. boxed_kind w ≡ k) → Continues t (end_simple k) n b r
 
 -- whether the innermost suite shares the line of its header
 abbrev pub SharesLine : SuiteStack → Bool → Type 0

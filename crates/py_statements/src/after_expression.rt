@@ -1,6 +1,6 @@
 // What comes after an expression or a pattern.
 
-ghost use Rattle.std.specs.Prelude.{◌≡◌, false, IfOk, ◌++◌, ◌∷◌, []};
+ghost use Rattle.std.specs.Prelude.{◌≡◌, false, IfOk};
 ghost use Rattle.py_syntax.specs.View.{plain_expr, plain_exprs};
 ghost use Rattle.py_grammar.specs.Machine.{snoc};
 ghost use Rattle.py_statements.specs.Machine.{asserted, for_target, clause_kind, subject};
@@ -17,7 +17,7 @@ use crate::kinds::{asserted, assigned, boxed, boxed_suite_of};
 use crate::lists::{Class, has_exprs, is_a};
 use crate::places::{Place, State};
 use crate::purposes::Continuation;
-use crate::statement_end::{end_header, end_simple};
+use crate::statement_end::{end_header, end_made};
 use crate::suite_of::{PartialMatch, PartialTry, Signature, SuiteOf};
 use crate::suite_stack::{Span, SuiteStack};
 use crate::targets::{is_place, is_target};
@@ -41,7 +41,7 @@ fn in_place_op(token: &Token) -> Option<BinOp>
 }
 
 /// An expression more.
-fn add_expr(exprs: Vec<Expr>, expr: Expr) -> Result<Vec<Expr>, NoMemory>
+pub fn add_expr(exprs: Vec<Expr>, expr: Expr) -> Result<Vec<Expr>, NoMemory>
     ensures { IfOk result (λ r.
         plain_exprs r.items ≡ snoc (plain_exprs exprs.items) (plain_expr expr)) }
 {
@@ -84,8 +84,8 @@ fn after_last(
     ensures { Continues token.now (after_value no_exprs (boxed_expr expr)) span suites result }
 {
     let Some(op) = in_place_op(token) else {
-        let kind = boxed(alloc, StmtKind::Expr(Box::into_inner(expr)))?;
-        return end_simple(alloc, kind, span, suites, token);
+        let kind = StmtKind::Expr(Box::into_inner(expr));
+        return end_made(alloc, boxed(alloc, kind), span, suites, token);
     };
     if !is_place(&expr) {
         return Ok(None);
@@ -112,42 +112,10 @@ pub fn after_value(
     if is_a(token, Class::EqualSign) {
         after_target(targets, expr, span, suites, token)
     } else if has_exprs(&targets) {
-        end_simple(alloc, assigned(alloc, targets, expr)?, span, suites, token)
+        end_made(alloc, assigned(alloc, targets, expr), span, suites, token)
     } else {
         after_last(alloc, expr, span, suites, token)
     }
-}
-
-/// A parameter more.
-fn add_param(signature: Signature, param: Text) -> Result<Signature, NoMemory>
-    ensures name { IfOk result (λ s. s.name ≡ signature.name) }
-    ensures params { IfOk result (λ s. s.params.items ≡ signature.params.items ++ param ∷ []) }
-    ensures defaults { IfOk result (λ s.
-        plain_exprs s.defaults.items ≡ plain_exprs signature.defaults.items) }
-{
-    let mut signature = signature;
-    signature.params.push(param)?;
-    Ok(signature)
-}
-
-/// And its default.
-fn add_default(signature: Signature, default: Expr) -> Result<Signature, NoMemory>
-    ensures name { IfOk result (λ s. s.name ≡ signature.name) }
-    ensures params { IfOk result (λ s. s.params ≡ signature.params) }
-    ensures defaults { IfOk result (λ s. plain_exprs s.defaults.items
-        ≡ snoc (plain_exprs signature.defaults.items) (plain_expr default)) }
-{
-    let Signature {
-        name,
-        params,
-        defaults,
-    } = signature;
-    let defaults = add_expr(defaults, default)?;
-    Ok(Signature {
-        name,
-        params,
-        defaults,
-    })
 }
 
 /// After a parameter that has a default, or after others that have none.
@@ -199,7 +167,7 @@ pub fn after_param(
     if has_exprs(&signature.defaults) {
         return Ok(None);
     }
-    let signature = add_param(signature, param)?;
+    let signature = signature.with_param(param)?;
     after_default(alloc, signature, span, suites, token)
 }
 
@@ -213,15 +181,14 @@ pub fn after_test(
 ) -> Result<Option<State>, NoMemory>
     ensures { Continues token.now (resume asserted (boxed_expr test)) span suites result }
 {
-    match &token.kind {
-        TokenKind::Mark(Mark::Comma) => Ok(Some(State::At(
+    if is_a(token, Class::Comma) {
+        return Ok(Some(State::At(
             Place::Wanted(Continuation::Reason(test)),
             span.onward(token.last),
             suites,
-        ))),
-        // Any other token: the `assert` has no reason, and ends.
-        _ => end_simple(alloc, asserted(alloc, test, None)?, span, suites, token),
+        )));
     }
+    end_made(alloc, asserted(alloc, test, None), span, suites, token)
 }
 
 /// After the target of a `for`.
@@ -264,8 +231,8 @@ pub fn after_kind(
         ))),
         // Any other token: the clause binds no name, and its header ends.
         _ => {
-            let suite_of = boxed_suite_of(alloc, SuiteOf::Clause(partial_try, Some(kind), None))?;
-            Ok(end_header(suite_of, span, suites, token))
+            let suite_of = SuiteOf::Clause(partial_try, Some(kind), None);
+            after_header(alloc, suite_of, span, suites, token)
         }
     }
 }
@@ -305,8 +272,8 @@ pub fn resume_pattern(
         ))),
         // Any other token: the case has no guard, and its header ends.
         _ => {
-            let suite_of = boxed_suite_of(alloc, SuiteOf::Case(partial_match, pattern, None))?;
-            Ok(end_header(suite_of, span, suites, token))
+            let suite_of = SuiteOf::Case(partial_match, pattern, None);
+            after_header(alloc, suite_of, span, suites, token)
         }
     }
 }
@@ -324,8 +291,8 @@ pub fn after_param_default(
     ensures { Continues token.now (resume (default_of signature param) (boxed_expr value))
         span suites result }
 {
-    let signature = add_param(signature, param)?;
-    let signature = add_default(signature, Box::into_inner(value))?;
+    let signature = signature.with_param(param)?;
+    let signature = signature.with_default(Box::into_inner(value))?;
     after_default(alloc, signature, span, suites, token)
 }
 

@@ -12,7 +12,7 @@ ghost use Rattle.py_statements.specs.ViewSuiteOf.{boxed_kind, try_of, finally_of
 ghost use Rattle.py_statements.specs.ViewStates.{view_place};
 ghost use Rattle.py_statements.specs.ViewParts.{IsPart, IsPartAt};
 
-use crate::kinds::{boxed, boxed_suite_of, tried};
+use crate::kinds::{boxed, boxed_suite_of};
 use crate::lists::has_clauses;
 use crate::places::Place;
 use crate::purposes::Continuation;
@@ -120,7 +120,7 @@ fn after_try_else(
         TokenKind::Keyword(Keyword::Finally) => {
             Ok(Part::Next(finally_wanted(alloc, partial_try, Some(orelse))?))
         }
-        _ => Ok(Part::Whole(boxed(alloc, tried(partial_try, Some(orelse), None))?)),
+        _ => Ok(Part::Whole(partial_try.tried(alloc, Some(orelse), None)?)),
     }
 }
 
@@ -131,7 +131,7 @@ fn try_else(alloc: Global, partial_try: PartialTry) -> Result<Part, NoMemory>
     if has_clauses(&partial_try.clauses) {
         Ok(Part::Next(else_wanted(alloc, ElseOf::Try(partial_try))?))
     } else {
-        Ok(Part::Whole(boxed(alloc, tried(partial_try, None, None))?))
+        Ok(Part::Whole(partial_try.tried(alloc, None, None)?))
     }
 }
 
@@ -145,7 +145,7 @@ fn after_clauses(alloc: Global, partial_try: PartialTry, token: &Token) -> Resul
         TokenKind::Keyword(Keyword::Finally) => {
             Ok(Part::Next(finally_wanted(alloc, partial_try, None)?))
         }
-        _ => Ok(Part::Whole(boxed(alloc, tried(partial_try, None, None))?)),
+        _ => Ok(Part::Whole(partial_try.tried(alloc, None, None)?)),
     }
 }
 

@@ -7,19 +7,20 @@ ghost use Rattle.py_statements.specs.Machine.{BoundWanted, ModuleWanted, ImportW
 ghost use Rattle.py_statements.specs.Machine.{FunctionWanted, ParamsWanted, ParamWanted, Except};
 ghost use Rattle.py_statements.specs.Machine.{SuiteWanted, IndentWanted, MatchLine, MatchBlock};
 ghost use Rattle.py_statements.specs.ViewStates.{view_listed, view_state, ActsAs, ActsAt, MakesAt};
-ghost use Rattle.py_statements.specs.ViewStates.{TurnsAt, bound_of};
+ghost use Rattle.py_statements.specs.ViewStates.{TurnsAt, TurnsInto, bound_of};
 ghost use Rattle.py_statements.specs.ViewSuiteOf.{boxed_expr, boxed_kind, boxed_suite_of};
 ghost use Rattle.py_statements.specs.ViewSuiteOf.{of_signature, of_try};
 
+use crate::after_expression::after_header;
 use crate::kinds::{boxed_suite_of, left};
 use crate::lists::{Class, has_names, is_a, name_in};
 use crate::names::{after_name, may_bind};
 use crate::places::{Listed, Place, State, Turn};
 use crate::purposes::Continuation;
-use crate::statement_end::{end_header, end_line, end_simple};
+use crate::statement_end::{end_line, end_made};
 use crate::statement_start::begin_simple;
 use crate::suite_of::{PartialMatch, PartialTry, Signature, SuiteOf};
-use crate::suite_stack::{Span, SuiteStack, add, opened};
+use crate::suite_stack::{Span, SuiteStack};
 use py_syntax::{Expr, LineEnd, StmtKind};
 use py_token::{Keyword, Mark, Token, TokenKind};
 use py_value::{NoMemory, Text};
@@ -32,6 +33,16 @@ pub fn turn(state: Option<State>) -> Turn
     match state {
         Some(state) => Turn::Next(state),
         None => Turn::Stuck,
+    }
+}
+
+/// The same, where memory lasts.
+pub fn turned(made: Result<Option<State>, NoMemory>) -> Result<Turn, NoMemory>
+    ensures { TurnsInto made result }
+{
+    match made {
+        Ok(state) => Ok(turn(state)),
+        Err(error) => Err(error),
     }
 }
 
@@ -48,8 +59,7 @@ pub fn after_semicolon(
     if is_a(token, Class::Newline) {
         return Ok(Turn::Next(end_line(alloc, kind, true, span, suites, token.last)?));
     }
-    let suites = add(
-        suites,
+    let suites = suites.add(
         span.begun,
         span.last,
         kind,
@@ -72,9 +82,8 @@ pub fn after_leaving(
     ensures { ActsAt token.now (Leaving raises) span suites result }
 {
     if is_a(token, Class::SimpleEnd) {
-        let kind = left(alloc, raises, None)?;
-        let state = end_simple(alloc, kind, span, suites, token)?;
-        return Ok(turn(state));
+        let kind = left(alloc, raises, None);
+        return turned(end_made(alloc, kind, span, suites, token));
     }
     Ok(Turn::Reads(
         Continuation::Leaving(raises),
@@ -116,6 +125,7 @@ pub fn after_listed(
     match &token.kind {
         TokenKind::Keyword(Keyword::As) => {
             if !may_bind(&names) {
+                drop(name);
                 return Ok(None);
             }
             Ok(Some(State::At(
@@ -142,6 +152,7 @@ pub fn at_bound(
     ensures { ActsAt token.now (BoundWanted (view_listed names) name) span suites result }
 {
     let Some(bound) = name_in(token)? else {
+        drop(name);
         return Ok(Turn::Stuck);
     };
     let names = names.with_name(name, Some(bound))?;
@@ -257,8 +268,8 @@ pub fn after_except(
     ensures { ActsAt token.now (of_try Except partial_try) span suites result }
 {
     if is_a(token, Class::Colon) {
-        let suite_of = boxed_suite_of(alloc, SuiteOf::Clause(partial_try, None, None))?;
-        return Ok(turn(end_header(suite_of, span, suites, token)));
+        let suite_of = SuiteOf::Clause(partial_try, None, None);
+        return turned(after_header(alloc, suite_of, span, suites, token));
     }
     Ok(Turn::Reads(
         Continuation::ClauseKind(partial_try),
@@ -302,7 +313,7 @@ pub fn at_suite(
     if is_a(token, Class::Newline) {
         return Ok(Turn::Next(State::At(Place::IndentWanted(suite_of), span, suites)));
     }
-    let suites = opened(alloc, suites, true, span, suite_of)?;
+    let suites = suites.opened(alloc, true, span, suite_of)?;
     begin_simple(alloc, suites, token)
 }
 
@@ -319,7 +330,7 @@ pub fn at_block(
     if !is_a(token, Class::Indent) {
         return Ok(None);
     }
-    Ok(Some(State::Line(opened(alloc, suites, false, span, suite_of)?)))
+    Ok(Some(State::Line(suites.opened(alloc, false, span, suite_of)?)))
 }
 
 /// After the colon of a `match` header.

@@ -1,14 +1,14 @@
 // Kinds of statements, in boxes, and what stands in boxes in them.
 
 ghost use Rattle.std.specs.Prelude.{◌≡◌, IfOk, option_map};
-ghost use Rattle.py_syntax.specs.View.{plain_expr, plain_exprs, plain_kind, plain_opt_suite};
+ghost use Rattle.py_syntax.specs.View.{plain_expr, plain_exprs};
 ghost use Rattle.py_syntax.specs.Tree.{aug_assign, assert, match};
 ghost use Rattle.py_statements.specs.Machine.{assigned, left};
-ghost use Rattle.py_statements.specs.ViewSuiteOf.{boxed_expr, boxed_kind, of_match, try_of};
+ghost use Rattle.py_statements.specs.ViewSuiteOf.{boxed_expr, boxed_kind, of_match};
 
 use crate::lists::has_exprs;
-use crate::suite_of::{PartialMatch, PartialTry, SuiteOf};
-use py_syntax::{Expr, StmtKind, Suite};
+use crate::suite_of::{PartialMatch, SuiteOf};
+use py_syntax::{Expr, StmtKind};
 use py_value::{BinOp, NoMemory};
 use std::alloc::Global;
 
@@ -95,19 +95,6 @@ pub fn asserted(
 {
     let test = Box::into_inner(test);
     boxed(alloc, StmtKind::Assert(test, unboxed(reason)))
-}
-
-/// A `try` with its clauses so far, and further suites.
-pub fn tried(partial_try: PartialTry, orelse: Option<Suite>, finally: Option<Suite>) -> StmtKind
-    ensures { plain_kind result
-        ≡ try_of partial_try (plain_opt_suite orelse) (plain_opt_suite finally) }
-{
-    StmtKind::Try {
-        body: partial_try.body,
-        clauses: partial_try.clauses,
-        orelse,
-        finally,
-    }
 }
 
 /// The `match` statement with its cases.

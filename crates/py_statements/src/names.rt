@@ -7,7 +7,7 @@ ghost use Rattle.py_statements.specs.ViewStates.{view_listed, Continues};
 
 use crate::lists::{Class, is_a};
 use crate::places::{Listed, Place, State};
-use crate::statement_end::end_simple;
+use crate::statement_end::end_made;
 use crate::suite_stack::{Span, SuiteStack};
 use py_token::Token;
 use py_value::NoMemory;
@@ -36,5 +36,5 @@ pub fn after_name(
     if is_a(token, Class::Comma) {
         return Ok(Some(State::At(Place::NameWanted(names), span.onward(token.last), suites)));
     }
-    end_simple(alloc, names.listed(alloc)?, span, suites, token)
+    end_made(alloc, names.listed(alloc), span, suites, token)
 }

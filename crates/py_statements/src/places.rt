@@ -12,7 +12,7 @@ use crate::after_expression::after_param;
 use crate::in_statement::{
     after_except, after_leaving, after_listed, after_module, after_semicolon, at_block, at_bound,
     at_clause_name, at_function, at_match_block, at_match_line, at_module, at_name, at_param,
-    at_params, at_suite, turn,
+    at_params, at_suite, turn, turned,
 };
 use crate::kinds::boxed;
 use crate::names::after_name;
@@ -186,6 +186,7 @@ impl Listed {
     {
         match self {
             Listed::Globals(names) => {
+                drop(bound);
                 let mut names = names;
                 names.push(name)?;
                 Ok(Listed::Globals(names))
@@ -218,32 +219,32 @@ impl Place {
         match self {
             Place::Wanted(purpose) => Ok(Turn::Reads(purpose, span.onward(token.last), suites)),
             Place::PatternWanted(partial_match) => Ok(Turn::Matches(partial_match, span, suites)),
-            Place::Simple(kind) => Ok(turn(end_simple(alloc, kind, span, suites, token)?)),
+            Place::Simple(kind) => turned(end_simple(alloc, kind, span, suites, token)),
             Place::Semicolon(kind) => after_semicolon(alloc, kind, span, suites, token),
             Place::Leaving(raises) => after_leaving(alloc, raises, span, suites, token),
             Place::NameWanted(names) => at_name(names, span, suites, token),
-            Place::NameRead(names, name) => Ok(turn(after_listed(
-                alloc, names, name, span, suites, token,
-            )?)),
+            Place::NameRead(names, name) => {
+                turned(after_listed(alloc, names, name, span, suites, token))
+            }
             Place::BoundWanted(names, name) => at_bound(names, name, span, suites, token),
-            Place::BoundRead(names) => Ok(turn(after_name(alloc, names, span, suites, token)?)),
+            Place::BoundRead(names) => turned(after_name(alloc, names, span, suites, token)),
             Place::ModuleWanted => at_module(span, suites, token),
             Place::ImportWanted(name) => Ok(after_module(alloc, name, span, suites, token)),
             Place::FunctionWanted => at_function(span, suites, token),
             Place::ParamsWanted(name) => Ok(at_params(alloc, name, span, suites, token)),
             Place::ParamWanted(signature) => at_param(alloc, signature, span, suites, token),
-            Place::ParamRead(signature, param) => Ok(turn(after_param(
-                alloc, signature, param, span, suites, token,
-            )?)),
+            Place::ParamRead(signature, param) => {
+                turned(after_param(alloc, signature, param, span, suites, token))
+            }
             Place::Except(partial_try) => after_except(alloc, partial_try, span, suites, token),
             Place::ClauseBound(partial_try, kind) => {
                 at_clause_name(alloc, partial_try, kind, span, suites, token)
             }
             Place::ColonWanted(suite_of) => Ok(turn(end_header(suite_of, span, suites, token))),
             Place::SuiteWanted(suite_of) => at_suite(alloc, suite_of, span, suites, token),
-            Place::IndentWanted(suite_of) => Ok(turn(at_block(
-                alloc, suite_of, span, suites, token,
-            )?)),
+            Place::IndentWanted(suite_of) => {
+                turned(at_block(alloc, suite_of, span, suites, token))
+            }
             Place::MatchLine(subject, last) => {
                 Ok(at_match_line(subject, last, span, suites, token))
             }
@@ -296,7 +297,7 @@ impl State {
                 after(alloc, kind, first, last, suites, token)
             }
             State::Choosing(partial_match, first, suites) => {
-                Ok(turn(choose(alloc, partial_match, first, suites, token)?))
+                turned(choose(alloc, partial_match, first, suites, token))
             }
             State::Over(body) => {
                 drop(body);

@@ -13,7 +13,7 @@ use crate::after_expression::{
 use crate::kinds::{asserted, augmented, left};
 use crate::lists::has_arms;
 use crate::places::State;
-use crate::statement_end::end_simple;
+use crate::statement_end::end_made;
 use crate::suite_of::{PartialMatch, PartialTry, Signature, SuiteOf};
 use crate::suite_stack::{Span, SuiteStack};
 use py_syntax::{Arm, Expr, Pattern};
@@ -104,17 +104,17 @@ impl Continuation {
         match self {
             Continuation::Value(targets) => after_value(alloc, targets, expr, span, suites, token),
             Continuation::Augmented(place, op) => {
-                let kind = augmented(alloc, place, op, expr)?;
-                end_simple(alloc, kind, span, suites, token)
+                let kind = augmented(alloc, place, op, expr);
+                end_made(alloc, kind, span, suites, token)
             }
             Continuation::Leaving(raises) => {
-                let kind = left(alloc, raises, Some(expr))?;
-                end_simple(alloc, kind, span, suites, token)
+                let kind = left(alloc, raises, Some(expr));
+                end_made(alloc, kind, span, suites, token)
             }
             Continuation::Asserted => after_test(alloc, expr, span, suites, token),
             Continuation::Reason(test) => {
-                let kind = asserted(alloc, test, Some(expr))?;
-                end_simple(alloc, kind, span, suites, token)
+                let kind = asserted(alloc, test, Some(expr));
+                end_made(alloc, kind, span, suites, token)
             }
             Continuation::ArmTest(arms) => {
                 after_header(alloc, SuiteOf::Arm(arms, expr), span, suites, token)

@@ -1,51 +1,27 @@
 // Statements, lines and suites end.
 
 ghost use Rattle.std.specs.Prelude.{◌≡◌, IfOk, true};
-ghost use Rattle.py_statements.specs.Machine.{close, over_line, end_simple, end_header};
+ghost use Rattle.py_statements.specs.Machine.{over_line, end_simple, end_header};
 ghost use Rattle.py_statements.specs.Open.{add};
 ghost use Rattle.py_statements.specs.ViewStates.{view_suites, view_state, Continues, ContinuesTo};
+ghost use Rattle.py_statements.specs.ViewStates.{EndsMade};
 ghost use Rattle.py_statements.specs.ViewSuiteOf.{boxed_kind, boxed_suite_of};
 
 use crate::lists::{Class, is_a};
 use crate::places::{Place, State};
 use crate::suite_of::SuiteOf;
-use crate::suite_stack::{Open, Span, SuiteStack, add, innermost};
-use py_syntax::{LineEnd, StmtKind, Suite};
+use crate::suite_stack::{Span, SuiteStack};
+use py_syntax::{LineEnd, StmtKind};
 use py_token::{Mark, Token, TokenKind};
 use py_value::NoMemory;
 use std::alloc::Global;
-
-/// A suite ends with a token whose last line is this.
-pub fn close(alloc: Global, suites: SuiteStack, last: u32) -> Result<State, NoMemory>
-    ensures { IfOk result (λ s. view_state s ≡ close (view_suites suites) last) }
-{
-    let SuiteStack { body, open } = suites;
-    let mut open = open;
-    let Some(inner) = innermost(&body, &mut open) else {
-        return Ok(State::Line(SuiteStack { body, open }));
-    };
-    let Open {
-        inline,
-        span,
-        suite_of,
-        outer,
-    } = inner;
-    let suite = Suite {
-        first: span.first,
-        last: span.last,
-        inline,
-        body,
-    };
-    let outer = SuiteStack { body: outer, open };
-    Box::into_inner(suite_of).over_suite(alloc, suite, span.begun, last, outer)
-}
 
 /// A line ends, and a suite that shares it.
 fn over_line(alloc: Global, suites: SuiteStack, last: u32) -> Result<State, NoMemory>
     ensures { IfOk result (λ s. view_state s ≡ over_line (view_suites suites) last) }
 {
     if suites.shares_line() {
-        close(alloc, suites, last)
+        suites.close(alloc, last)
     } else {
         Ok(State::Line(suites))
     }
@@ -64,8 +40,7 @@ pub fn end_line(
         span.begun span.last (boxed_kind kind)
         (record { semicolon = semicolon; newline = true })) last) }
 {
-    let suites = add(
-        suites,
+    let suites = suites.add(
         span.begun,
         span.last,
         kind,
@@ -95,6 +70,22 @@ pub fn end_simple(
     }
     drop(kind);
     Ok(None)
+}
+
+/// The same of a simple statement that was just made, where memory lasts.
+pub fn end_made(
+    alloc: Global,
+    made: Result<Box<StmtKind>, NoMemory>,
+    span: Span,
+    suites: SuiteStack,
+    token: &Token,
+) -> Result<Option<State>, NoMemory>
+    ensures { EndsMade token.now made span suites result }
+{
+    match made {
+        Ok(kind) => end_simple(alloc, kind, span, suites, token),
+        Err(error) => Err(error),
+    }
 }
 
 /// A header is whole.

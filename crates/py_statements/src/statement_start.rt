@@ -11,7 +11,6 @@ use crate::kinds::{boxed, boxed_suite_of};
 use crate::lists::{Class, is_a};
 use crate::places::{Listed, Place, State, Turn};
 use crate::purposes::Continuation;
-use crate::statement_end::close;
 use crate::suite_of::SuiteOf;
 use crate::suite_stack::{Span, SuiteStack};
 use py_syntax::StmtKind;
@@ -118,10 +117,10 @@ pub fn line(alloc: Global, suites: SuiteStack, token: &Token) -> Result<Turn, No
     ensures { Steps token.now (line (view_suites suites)) result }
 {
     if ends_module(&suites, token) {
-        return Ok(Turn::Next(State::Over(suites.body)));
+        return Ok(Turn::Next(State::Over(suites.into_body())));
     }
     if ends_block(&suites, token) {
-        return Ok(Turn::Next(close(alloc, suites, token.last)?));
+        return Ok(Turn::Next(suites.close(alloc, token.last)?));
     }
     begin_line(alloc, suites, token)
 }

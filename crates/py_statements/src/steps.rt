@@ -15,7 +15,7 @@ use crate::places::{Place, State, Turn};
 use crate::purposes::Continuation;
 use crate::statement_start::{begun_at, line};
 use crate::suite_of::PartialMatch;
-use crate::suite_stack::{Span, SuiteStack, add};
+use crate::suite_stack::{Span, SuiteStack};
 use py_syntax::{LineEnd, StmtKind};
 use py_token::Token;
 use py_value::NoMemory;
@@ -73,8 +73,7 @@ pub fn put(
         drop(kind);
         return Ok(None);
     }
-    Ok(Some(add(
-        suites,
+    Ok(Some(suites.add(
         first,
         last,
         kind,

@@ -1,19 +1,22 @@
 // What an open suite belongs to: a part of a compound statement, with what was read of the
 // statement before it.
 
-ghost use Rattle.std.specs.Prelude.{◌≡◌, IfOk, option_map};
-ghost use Rattle.py_syntax.specs.View.{plain_expr, plain_pattern, plain_kind, plain_suite};
+ghost use Rattle.std.specs.Prelude.{◌≡◌, ◌++◌, ◌∷◌, [], IfOk, option_map};
+ghost use Rattle.py_syntax.specs.View.{plain_expr, plain_exprs, plain_pattern};
+ghost use Rattle.py_syntax.specs.View.{plain_suite, plain_opt_suite};
 ghost use Rattle.py_syntax.specs.View.{plain_arms, plain_clauses, plain_cases};
-ghost use Rattle.py_statements.specs.Open.{a_for, with_else, closed, snoc_arm, snoc_clause};
-ghost use Rattle.py_statements.specs.Open.{snoc_case};
+ghost use Rattle.py_grammar.specs.Machine.{snoc};
+ghost use Rattle.py_statements.specs.Open.{an_arm, a_while, a_for, a_try, with_else, closed};
+ghost use Rattle.py_statements.specs.Open.{snoc_arm, snoc_clause, snoc_case};
 ghost use Rattle.py_statements.specs.Levels.{begins_at};
 ghost use Rattle.py_statements.specs.Machine.{ColonWanted, case_closed, over_suite};
-ghost use Rattle.py_statements.specs.ViewSuiteOf.{boxed_expr, boxed_pattern, view_else_of};
-ghost use Rattle.py_statements.specs.ViewSuiteOf.{view_suite_of, of_match, clause_of, def_of};
-ghost use Rattle.py_statements.specs.ViewSuiteOf.{case_of};
+ghost use Rattle.py_statements.specs.ViewSuiteOf.{boxed_expr, boxed_kind, boxed_pattern};
+ghost use Rattle.py_statements.specs.ViewSuiteOf.{view_else_of, view_suite_of, of_match};
+ghost use Rattle.py_statements.specs.ViewSuiteOf.{try_of, clause_of, def_of, case_of};
 ghost use Rattle.py_statements.specs.ViewStates.{view_suites, view_state};
 
-use crate::kinds::{boxed, tried, unboxed};
+use crate::after_expression::add_expr;
+use crate::kinds::{boxed, unboxed};
 use crate::places::State;
 use crate::suite_stack::SuiteStack;
 use py_syntax::{Arm, Case, Clause, Expr, Pattern, StmtKind, Suite};
@@ -29,18 +32,38 @@ pub struct PartialMatch {
 }
 
 /// A `try` statement with its clauses so far.
-#[derive(Drop)]
 pub struct PartialTry {
     pub body: Suite,
     pub clauses: Vec<Clause>,
 }
 
+// As of `Suite`: letting it go is one call.
+impl Drop for PartialTry {
+    fn drop(self) {
+        let PartialTry { body, clauses } = self;
+        drop(body);
+        drop(clauses)
+    }
+}
+
 /// The name of a `def` and its parameters so far.
-#[derive(Drop)]
 pub struct Signature {
     pub name: Text,
     pub params: Vec<Text>,
     pub defaults: Vec<Expr>,
+}
+
+impl Drop for Signature {
+    fn drop(self) {
+        let Signature {
+            name,
+            params,
+            defaults,
+        } = self;
+        drop(name);
+        drop(params);
+        drop(defaults)
+    }
 }
 
 /// A statement that may take an `else`, and has none yet.
@@ -159,83 +182,197 @@ fn add_case(
 
 impl ElseOf {
     /// The statement with its `else` suite.
-    fn with_else(self, suite: Suite) -> StmtKind
-        ensures { plain_kind result ≡ with_else (view_else_of self) (plain_suite suite) }
+    fn with_else(self, alloc: Global, suite: Suite) -> Result<Box<StmtKind>, NoMemory>
+        ensures { IfOk result (λ k.
+            boxed_kind k ≡ with_else (view_else_of self) (plain_suite suite)) }
     {
+        let orelse = Some(suite);
         match self {
-            ElseOf::If(arms) => StmtKind::If {
-                arms,
-                orelse: Some(suite),
-            },
-            ElseOf::While(test, body) => StmtKind::While {
-                test,
-                body,
-                orelse: Some(suite),
-            },
-            ElseOf::For(target, over, body) => StmtKind::For {
-                target,
-                over,
-                body,
-                orelse: Some(suite),
-            },
-            ElseOf::Try(partial_try) => tried(partial_try, Some(suite), None),
+            ElseOf::If(arms) => boxed(alloc, StmtKind::If { arms, orelse }),
+            ElseOf::While(test, body) => boxed(alloc, StmtKind::While { test, body, orelse }),
+            ElseOf::For(target, over, body) => {
+                let kind = StmtKind::For {
+                    target,
+                    over,
+                    body,
+                    orelse,
+                };
+                boxed(alloc, kind)
+            }
+            ElseOf::Try(partial_try) => partial_try.tried(alloc, orelse, None),
         }
     }
 }
 
-/// A `for` with its suite.
-fn looped(target: Box<Expr>, over: Box<Expr>, body: Suite) -> StmtKind
-    ensures { plain_kind result
-        ≡ closed (a_for (boxed_expr target) (boxed_expr over)) (plain_suite body) }
+/// An `if` with one test more.
+fn tested(
+    alloc: Global,
+    arms: Vec<Arm>,
+    test: Box<Expr>,
+    body: Suite,
+) -> Result<Box<StmtKind>, NoMemory>
+    ensures { IfOk result (λ k. boxed_kind k
+        ≡ closed (an_arm (plain_arms arms.items) (boxed_expr test)) (plain_suite body)) }
 {
-    StmtKind::For {
+    let arms = add_arm(arms, Box::into_inner(test), body)?;
+    boxed(alloc, StmtKind::If { arms, orelse: None })
+}
+
+/// A `while` with its suite.
+fn repeated(alloc: Global, test: Box<Expr>, body: Suite) -> Result<Box<StmtKind>, NoMemory>
+    ensures { IfOk result (λ k.
+        boxed_kind k ≡ closed (a_while (boxed_expr test)) (plain_suite body)) }
+{
+    let kind = StmtKind::While {
+        test: Box::into_inner(test),
+        body,
+        orelse: None,
+    };
+    boxed(alloc, kind)
+}
+
+/// A `for` with its suite.
+fn looped(
+    alloc: Global,
+    target: Box<Expr>,
+    over: Box<Expr>,
+    body: Suite,
+) -> Result<Box<StmtKind>, NoMemory>
+    ensures { IfOk result (λ k. boxed_kind k
+        ≡ closed (a_for (boxed_expr target) (boxed_expr over)) (plain_suite body)) }
+{
+    let kind = StmtKind::For {
         target: Box::into_inner(target),
         over: Box::into_inner(over),
         body,
         orelse: None,
+    };
+    boxed(alloc, kind)
+}
+
+/// A `try` with its suite.
+fn begun_try(alloc: Global, body: Suite) -> Result<Box<StmtKind>, NoMemory>
+    ensures { IfOk result (λ k. boxed_kind k ≡ closed a_try (plain_suite body)) }
+{
+    let kind = StmtKind::Try {
+        body,
+        clauses: Vec::new(alloc),
+        orelse: None,
+        finally: None,
+    };
+    boxed(alloc, kind)
+}
+
+impl PartialTry {
+    /// The statement with its clauses so far, and further suites.
+    pub(crate) fn tried(
+        self,
+        alloc: Global,
+        orelse: Option<Suite>,
+        finally: Option<Suite>,
+    ) -> Result<Box<StmtKind>, NoMemory>
+        ensures { IfOk result (λ k. boxed_kind k
+            ≡ try_of self (plain_opt_suite orelse) (plain_opt_suite finally)) }
+    {
+        let PartialTry { body, clauses } = self;
+        let kind = StmtKind::Try {
+            body,
+            clauses,
+            orelse,
+            finally,
+        };
+        boxed(alloc, kind)
+    }
+
+    /// The statement with one clause more.
+    fn handled(
+        self,
+        alloc: Global,
+        kind: Option<Expr>,
+        bound: Option<Text>,
+        suite: Suite,
+    ) -> Result<Box<StmtKind>, NoMemory>
+        ensures { IfOk result (λ k. boxed_kind k ≡ closed
+            (clause_of self (option_map plain_expr kind) bound) (plain_suite suite)) }
+    {
+        let PartialTry { body, clauses } = self;
+        let clauses = add_clause(clauses, kind, bound, suite)?;
+        PartialTry { body, clauses }.tried(alloc, None, None)
     }
 }
 
-/// A `try` with one clause more.
-fn handled(
-    partial_try: PartialTry,
-    kind: Option<Expr>,
-    bound: Option<Text>,
-    suite: Suite,
-) -> Result<StmtKind, NoMemory>
-    ensures { IfOk result (λ k. plain_kind k ≡ closed
-        (clause_of partial_try (option_map plain_expr kind) bound) (plain_suite suite)) }
-{
-    let clauses = add_clause(partial_try.clauses, kind, bound, suite)?;
-    Ok(StmtKind::Try {
-        body: partial_try.body,
-        clauses,
-        orelse: None,
-        finally: None,
-    })
-}
+impl Signature {
+    /// With a parameter more.
+    pub(crate) fn with_param(self, param: Text) -> Result<Signature, NoMemory>
+        ensures name { IfOk result (λ s. s.name ≡ self.name) }
+        ensures params { IfOk result (λ s. s.params.items ≡ self.params.items ++ param ∷ []) }
+        ensures defaults { IfOk result (λ s.
+            plain_exprs s.defaults.items ≡ plain_exprs self.defaults.items) }
+    {
+        let Signature {
+            name,
+            params,
+            defaults,
+        } = self;
+        let mut params = params;
+        params.push(param)?;
+        Ok(Signature {
+            name,
+            params,
+            defaults,
+        })
+    }
 
-/// A `def` with its body.
-fn defined(signature: Signature, comma: bool, body: Suite) -> StmtKind
-    ensures { plain_kind result ≡ closed (def_of signature comma) (plain_suite body) }
-{
-    StmtKind::Def {
-        name: signature.name,
-        params: signature.params,
-        defaults: signature.defaults,
-        comma,
-        body,
+    /// And its default.
+    pub(crate) fn with_default(self, default: Expr) -> Result<Signature, NoMemory>
+        ensures name { IfOk result (λ s. s.name ≡ self.name) }
+        ensures params { IfOk result (λ s. s.params ≡ self.params) }
+        ensures defaults { IfOk result (λ s. plain_exprs s.defaults.items
+            ≡ snoc (plain_exprs self.defaults.items) (plain_expr default)) }
+    {
+        let Signature {
+            name,
+            params,
+            defaults,
+        } = self;
+        let defaults = add_expr(defaults, default)?;
+        Ok(Signature {
+            name,
+            params,
+            defaults,
+        })
+    }
+
+    /// A `def` with its body.
+    fn defined(self, alloc: Global, comma: bool, body: Suite) -> Result<Box<StmtKind>, NoMemory>
+        ensures { IfOk result (λ k.
+            boxed_kind k ≡ closed (def_of self comma) (plain_suite body)) }
+    {
+        let Signature {
+            name,
+            params,
+            defaults,
+        } = self;
+        let kind = StmtKind::Def {
+            name,
+            params,
+            defaults,
+            comma,
+            body,
+        };
+        boxed(alloc, kind)
     }
 }
 
 /// A `match` with one case more.
 fn chosen(
+    alloc: Global,
     partial_match: Box<PartialMatch>,
     pattern: Box<Pattern>,
     guard: Option<Box<Expr>>,
     suite: Suite,
-) -> Result<StmtKind, NoMemory>
-    ensures { IfOk result (λ k. plain_kind k ≡ closed
+) -> Result<Box<StmtKind>, NoMemory>
+    ensures { IfOk result (λ k. boxed_kind k ≡ closed
         (case_of partial_match (boxed_pattern pattern) (option_map boxed_expr guard))
         (plain_suite suite)) }
 {
@@ -245,11 +382,12 @@ fn chosen(
         cases,
     } = Box::into_inner(partial_match);
     let cases = add_case(cases, Box::into_inner(pattern), unboxed(guard), suite)?;
-    Ok(StmtKind::Match {
+    let kind = StmtKind::Match {
         subject,
         header_last,
         cases,
-    })
+    };
+    boxed(alloc, kind)
 }
 
 /// After a case.
@@ -282,47 +420,26 @@ fn choosing(
 
 impl SuiteOf {
     /// The statement so far, where the suite is closed.
-    fn closed(self, alloc: Global, suite: Suite) -> Result<StmtKind, NoMemory>
+    fn closed(self, alloc: Global, suite: Suite) -> Result<Box<StmtKind>, NoMemory>
         ensures { IfOk result (λ k.
-            plain_kind k ≡ closed (view_suite_of self) (plain_suite suite)) }
+            boxed_kind k ≡ closed (view_suite_of self) (plain_suite suite)) }
     {
         match self {
-            SuiteOf::Arm(arms, test) => Ok(StmtKind::If {
-                arms: add_arm(arms, Box::into_inner(test), suite)?,
-                orelse: None,
-            }),
-            SuiteOf::While(test) => Ok(StmtKind::While {
-                test: Box::into_inner(test),
-                body: suite,
-                orelse: None,
-            }),
-            SuiteOf::For(target, over) => Ok(looped(target, over, suite)),
-            SuiteOf::Try => Ok(StmtKind::Try {
-                body: suite,
-                clauses: Vec::new(alloc),
-                orelse: None,
-                finally: None,
-            }),
-            SuiteOf::Clause(partial_try, kind, bound) => handled(
-                partial_try,
-                unboxed(kind),
-                bound,
-                suite,
-            ),
-            SuiteOf::Else(else_of) => Ok(else_of.with_else(suite)),
-            SuiteOf::Finally(partial_try, orelse) => Ok(StmtKind::Try {
-                body: partial_try.body,
-                clauses: partial_try.clauses,
-                orelse,
-                finally: Some(suite),
-            }),
-            SuiteOf::Def(signature, comma) => Ok(defined(signature, comma, suite)),
-            SuiteOf::Case(partial_match, pattern, guard) => chosen(
-                partial_match,
-                pattern,
-                guard,
-                suite,
-            ),
+            SuiteOf::Arm(arms, test) => tested(alloc, arms, test, suite),
+            SuiteOf::While(test) => repeated(alloc, test, suite),
+            SuiteOf::For(target, over) => looped(alloc, target, over, suite),
+            SuiteOf::Try => begun_try(alloc, suite),
+            SuiteOf::Clause(partial_try, kind, bound) => {
+                partial_try.handled(alloc, unboxed(kind), bound, suite)
+            }
+            SuiteOf::Else(else_of) => else_of.with_else(alloc, suite),
+            SuiteOf::Finally(partial_try, orelse) => {
+                partial_try.tried(alloc, orelse, Some(suite))
+            }
+            SuiteOf::Def(signature, comma) => signature.defined(alloc, comma, suite),
+            SuiteOf::Case(partial_match, pattern, guard) => {
+                chosen(alloc, partial_match, pattern, guard, suite)
+            }
         }
     }
 
@@ -348,7 +465,7 @@ impl SuiteOf {
             | SuiteOf::Finally(..)
             | SuiteOf::Def(..)) => {
                 let kind = suite_of.closed(alloc, suite)?;
-                Ok(State::After(boxed(alloc, kind)?, begun, last, outer))
+                Ok(State::After(kind, begun, last, outer))
             }
             SuiteOf::Case(partial_match, pattern, guard) => {
                 choosing(alloc, partial_match, pattern, guard, suite, begun, outer)

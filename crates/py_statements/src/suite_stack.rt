@@ -4,13 +4,14 @@ ghost use Rattle.std.specs.Prelude.{◌≡◌, IfOk};
 ghost use Rattle.py_syntax.specs.Tree.{no_stmts};
 ghost use Rattle.py_syntax.specs.View.{plain_stmts};
 ghost use Rattle.py_statements.specs.Open.{inside, add};
-ghost use Rattle.py_statements.specs.Machine.{onward};
+ghost use Rattle.py_statements.specs.Machine.{onward, close};
 ghost use Rattle.py_statements.specs.ViewSuiteOf.{boxed_kind, boxed_suite_of};
-ghost use Rattle.py_statements.specs.ViewStates.{view_span, view_suites, Opens, SharesLine};
-ghost use Rattle.py_statements.specs.ViewStates.{is_closable, is_top};
+ghost use Rattle.py_statements.specs.ViewStates.{view_span, view_state, view_suites, Opens};
+ghost use Rattle.py_statements.specs.ViewStates.{SharesLine, is_closable, is_top};
 
+use crate::places::State;
 use crate::suite_of::SuiteOf;
-use py_syntax::{LineEnd, Stmt, StmtKind};
+use py_syntax::{LineEnd, Stmt, StmtKind, Suite};
 use py_value::NoMemory;
 use std::alloc::Global;
 
@@ -47,58 +48,18 @@ pub struct Open {
 }
 
 /// The statements of the innermost suite so far, and the suites that are open, the innermost last.
-#[derive(Drop)]
 pub struct SuiteStack {
     pub body: Vec<Stmt>,
     pub open: Vec<Open>,
 }
 
-/// A statement more in the innermost suite.
-pub fn add(
-    suites: SuiteStack,
-    first: u32,
-    last: u32,
-    kind: Box<StmtKind>,
-    end: LineEnd,
-) -> Result<SuiteStack, NoMemory>
-    ensures { IfOk result (λ b.
-        view_suites b ≡ add (view_suites suites) first last (boxed_kind kind) end) }
-{
-    let SuiteStack { body, open } = suites;
-    let mut body = body;
-    let kind = Box::into_inner(kind);
-    body.push(Stmt {
-        first,
-        last,
-        kind,
-        end,
-    })?;
-    Ok(SuiteStack { body, open })
-}
-
-/// A suite opens.
-pub fn opened(
-    alloc: Global,
-    suites: SuiteStack,
-    inline: bool,
-    span: Span,
-    suite_of: Box<SuiteOf>,
-) -> Result<SuiteStack, NoMemory>
-    ensures { IfOk result (λ b. view_suites b ≡ inside no_stmts inline
-        span.first span.last span.begun (boxed_suite_of suite_of) (view_suites suites)) }
-{
-    let SuiteStack { body, open } = suites;
-    let mut open = open;
-    open.push(Open {
-        inline,
-        span,
-        suite_of,
-        outer: body,
-    })?;
-    Ok(SuiteStack {
-        body: Vec::new(alloc),
-        open,
-    })
+// As of `Suite`: letting them go is one call.
+impl Drop for SuiteStack {
+    fn drop(self) {
+        let SuiteStack { body, open } = self;
+        drop(body);
+        drop(open)
+    }
 }
 
 /// The innermost of the suites that are open.
@@ -109,6 +70,88 @@ pub fn innermost(body: &[Stmt], others: &mut Vec<Open>) -> Option<Open>
 }
 
 impl SuiteStack {
+    /// A statement more in the innermost suite.
+    pub(crate) fn add(
+        self,
+        first: u32,
+        last: u32,
+        kind: Box<StmtKind>,
+        end: LineEnd,
+    ) -> Result<SuiteStack, NoMemory>
+        ensures { IfOk result (λ b.
+            view_suites b ≡ add (view_suites self) first last (boxed_kind kind) end) }
+    {
+        let SuiteStack { body, open } = self;
+        let mut body = body;
+        let kind = Box::into_inner(kind);
+        body.push(Stmt {
+            first,
+            last,
+            kind,
+            end,
+        })?;
+        Ok(SuiteStack { body, open })
+    }
+
+    /// A suite opens.
+    pub(crate) fn opened(
+        self,
+        alloc: Global,
+        inline: bool,
+        span: Span,
+        suite_of: Box<SuiteOf>,
+    ) -> Result<SuiteStack, NoMemory>
+        ensures { IfOk result (λ b. view_suites b ≡ inside no_stmts inline
+            span.first span.last span.begun (boxed_suite_of suite_of) (view_suites self)) }
+    {
+        let SuiteStack { body, open } = self;
+        let mut open = open;
+        open.push(Open {
+            inline,
+            span,
+            suite_of,
+            outer: body,
+        })?;
+        Ok(SuiteStack {
+            body: Vec::new(alloc),
+            open,
+        })
+    }
+
+    /// A suite ends with a token whose last line is this.
+    pub(crate) fn close(self, alloc: Global, last: u32) -> Result<State, NoMemory>
+        ensures { IfOk result (λ s. view_state s ≡ close (view_suites self) last) }
+    {
+        let SuiteStack { body, open } = self;
+        let mut open = open;
+        let Some(inner) = innermost(&body, &mut open) else {
+            return Ok(State::Line(SuiteStack { body, open }));
+        };
+        let Open {
+            inline,
+            span,
+            suite_of,
+            outer,
+        } = inner;
+        let suite = Suite {
+            first: span.first,
+            last: span.last,
+            inline,
+            body,
+        };
+        let outer = SuiteStack { body: outer, open };
+        Box::into_inner(suite_of).over_suite(alloc, suite, span.begun, last, outer)
+    }
+
+    /// The statements of the innermost suite.
+    pub(crate) fn into_body(self) -> Vec<Stmt>
+        ensures { result ≡ self.body }
+    {
+        let SuiteStack { body, open } = self;
+        drop(open);
+        body
+    }
+
     /// Whether the innermost suite stands on the line of its header.
     pub fn shares_line(&self) -> bool
         ensures { SharesLine (view_suites self.now) result }

@@ -4,7 +4,7 @@ use Rattle.std.specs.declared.alloc.AllocError.{AllocError}
 use Rattle.py_value.specs.declared.operator.BinOp.{BinOp}
 use Rattle.py_token.specs.declared.token.Mark.TheVariants as mark
 use Rattle.py_token.specs.declared.token.Token.{Token}
-use Rattle.py_syntax.specs.Tree.{Text, Expr, Exprs, no_exprs, exprs, Stmts, no_stmts, stmt, Suite, suite, Clauses, expr, Cases, no_cases, case, StmtKind, match}
+use Rattle.py_syntax.specs.Tree.{Text, Expr, Exprs, no_exprs, exprs, Stmts, no_stmts, stmt, Suite, suite, Clauses, expr, Cases, no_cases, case, StmtKind, assert, match}
 use Rattle.py_syntax.specs.View.{plain_stmts}
 use Rattle.py_syntax.specs.Kinds.{Kind, Name, Sign, Newline, Dedent, End}
 use Rattle.py_syntax.specs.Headers.{is_colon}
@@ -18,11 +18,11 @@ use Rattle.py_statements.specs.declared.suite_stack.Open.{Open}
 use Rattle.py_statements.specs.declared.suite_of.SuiteOf as code_suite_of
 use Rattle.py_statements.specs.declared.places.Turn.{Turn}
 use Rattle.py_statements.specs.Open.{SuiteOf, a_clause, a_def, a_case, newline_end, semicolon_end, SuiteStack, top, inside, add}
-use Rattle.py_statements.specs.Machine.{Place, Line, Semicolon, Leaving, After, Over, Matching, choose, close, over_suite, over_line, begin_line, line, value, augmented, default, ParamWanted, ParamRead, ColonWanted, SuiteWanted, IndentWanted, Except, Span, State, at, wanted, onward, left, after_name, in_place_op, assigned, end_simple, end_header, begin_simple, after_value, after_default, act}
+use Rattle.py_statements.specs.Machine.{Place, Line, Semicolon, Leaving, After, Over, Matching, choose, close, over_suite, over_line, begin_line, line, value, augmented, default, ParamWanted, ParamRead, ColonWanted, SuiteWanted, IndentWanted, Except, Span, State, at, wanted, onward, left, after_name, in_place_op, assigned, end_simple, end_header, begin_simple, after_value, after_default, asserted, resume, act}
 use Rattle.py_statements.specs.Listed.{Listed, listed}
 use Rattle.py_statements.specs.ViewLists.{some_exprs, some_cases, is_equal_sign, is_semicolon, ends_simple, is_comma, is_right_paren, is_dedent, is_end, is_case}
 use Rattle.py_statements.specs.ViewMarks.{is_newline}
-use Rattle.py_statements.specs.ViewStates.{kind_at, first_at, last_at, Acts, view_state, view_place, suite_stack, Opens, SharesLine, is_closable, is_top, Makes, ActsAs}
+use Rattle.py_statements.specs.ViewStates.{kind_at, first_at, last_at, Acts, view_state, view_place, suite_stack, Opens, SharesLine, is_closable, is_top, Made, Makes, ActsAs, TurnsInto}
 use Rattle.py_statements.specs.ViewSuiteOf.{view_suite_of}
 
 -- ---- simple statements end
@@ -56,13 +56,14 @@ acts_so o t f l s turn is acts = subst (λ (w : Option State). ActsAs t f l w tu
 pub acts_in : (held : code_place.Place) (p : Place) (n : Span) (b : SuiteStack) (t : Kind) (f l : ℕ) (s : Option code_state.State) (turn : Turn) → view_place held ≡ p → act p n b t f l ≡ option_map view_state s → ((t : Kind) (f l : ℕ) → ActsAs t f l (option_map view_state s) turn) → ActsAs t f l (act (view_place held) n b t f l) turn
 acts_in held p n b t f l s turn same is acts = acts_so (act (view_place held) n b t f l) t f l s turn (ap (λ (q : Place). act q n b t f l) same ∙ is) acts
 
-pub leaving_ends : (r : Bool) (k : StmtKind) (n : Span) (b : SuiteStack) (t : Kind) (f l : ℕ) (o : Option State) → ends_simple t ≡ true → k ≡ left r None → end_simple k n b t l ≡ o → act (Leaving r) n b t f l ≡ o
-leaving_ends r k n b t f l o h same is = go t h ∙ ap (λ (x : StmtKind). end_simple x n b t l) (sym same) ∙ is
-  where
-    go : (t : Kind) → ends_simple t ≡ true → act (Leaving r) n b t f l ≡ end_simple (left r None) n b t l
-    go (Sign mark.Semicolon) h = refl
-    go Newline h = refl
-    go t h = absurd cc
+-- what is made, and what the code does then
+pub turns_so : (made : Made) (s : Option code_state.State) (turn : Turn) → made ≡ Ok s → ((t : Kind) (f l : ℕ) → ActsAs t f l (option_map view_state s) turn) → TurnsInto made (Ok turn)
+turns_so made s turn is acts t o m = acts_so o (kind_at t) (first_at t) (last_at t) s turn (subst (λ (r : Made). Makes o r) is m) acts
+
+pub leaving_makes : (r : Bool) (n : Span) (b : SuiteStack) (t : Kind) (f l : ℕ) (m : Made) → ends_simple t ≡ true → Makes (end_simple (left r None) n b t l) m → Makes (act (Leaving r) n b t f l) m
+leaving_makes r n b (Sign mark.Semicolon) f l m h makes = makes
+leaving_makes r n b Newline f l m h makes = makes
+leaving_makes r n b t f l m h makes = absurd cc
 
 -- ---- values
 
@@ -131,10 +132,16 @@ default_none x ps ds n b (Sign mark.Comma) l h i = absurd cc
 default_none x ps ds n b (Sign mark.RightParen) l h i = absurd cc
 default_none x ps ds n b k l h i = refl
 
+-- ---- tests
+
+pub test_ends : (e : Expr) (n : Span) (b : SuiteStack) (t : Kind) (l : ℕ) (r : Made) → is_comma t ≡ false → Makes (end_simple (assert e None) n b t l) r → Makes (resume asserted e n b t l) r
+test_ends e n b (Sign mark.Comma) l r h m = absurd cc
+test_ends e n b t l r h m = m
+
 -- ---- names
 
-pub name_ends : (xs : Listed) (k : StmtKind) (n : Span) (b : SuiteStack) (t : Kind) (l : ℕ) (r : Result (Option code_state.State) AllocError) → is_comma t ≡ false → k ≡ listed xs → Makes (end_simple k n b t l) r → Makes (after_name xs n b t l) r
-name_ends xs k n b t l r h same m = subst (λ (o : Option State). Makes o r) (ap (λ (x : StmtKind). end_simple x n b t l) same ∙ go t h) m
+pub name_ends : (xs : Listed) (n : Span) (b : SuiteStack) (t : Kind) (l : ℕ) (r : Made) → is_comma t ≡ false → Makes (end_simple (listed xs) n b t l) r → Makes (after_name xs n b t l) r
+name_ends xs n b t l r h m = subst (λ (o : Option State). Makes o r) (go t h) m
   where
     go : (t : Kind) → is_comma t ≡ false → end_simple (listed xs) n b t l ≡ after_name xs n b t l
     go (Sign mark.Comma) h = absurd cc
@@ -155,9 +162,9 @@ suite_turn o n b c t r h is acts =
     let k = kind_at t in let f = first_at t in let l = last_at t in
     subst (λ (w : Option State). Acts t w r) (ap (λ (d : SuiteStack). begin_simple d k f l) is ∙ suite_begins o n b k f l h) acts
 
-pub except_ends : (body : Suite) (cs : Clauses) (n : Span) (b : SuiteStack) (k : Kind) (f l : ℕ) (o : Option State) → is_colon k ≡ true → end_header (a_clause body cs None None) n b k l ≡ o → act (Except body cs) n b k f l ≡ o
-except_ends body cs n b (Sign mark.Colon) f l o h is = is
-except_ends body cs n b k f l o h is = absurd cc
+pub except_makes : (body : Suite) (cs : Clauses) (n : Span) (b : SuiteStack) (k : Kind) (f l : ℕ) (m : Made) → is_colon k ≡ true → Makes (end_header (a_clause body cs None None) n b k l) m → Makes (act (Except body cs) n b k f l) m
+except_makes body cs n b (Sign mark.Colon) f l m h makes = makes
+except_makes body cs n b k f l m h makes = absurd cc
 
 -- ---- between cases
 

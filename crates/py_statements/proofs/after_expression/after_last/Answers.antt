@@ -2,18 +2,18 @@ use Rattle.std.proofs.Common.{◌∙◌, sym, ap}
 use Rattle.py_syntax.specs.declared.expr.Expr.{Expr as Node}
 use Rattle.py_syntax.specs.Tree.{expr}
 use Rattle.py_syntax.specs.Normal.{is_place}
-use Rattle.py_syntax.specs.View.{plain_expr, plain_kind}
-use Rattle.py_statements.specs.ViewSuiteOf.{boxed_expr, boxed_kind}
+use Rattle.py_syntax.specs.View.{plain_expr}
+use Rattle.py_statements.specs.ViewSuiteOf.{boxed_expr}
 use Rattle.py_statements.specs.ViewStates.{kind_at, last_at, view_span, view_suites}
 use Rattle.py_statements.proofs.View.Acts.{value_augments, value_misplaced, value_ends}
-use Rattle.py_statements.proofs.View.Tails.{ends_so, plain-Expr}
+use Rattle.py_statements.proofs.View.Tails.{boxes, plain-Expr}
 use Rattle.py_statements.proofs.after_expression.after_last.Goals as goal
 
 pub returns-in_default : goal.returns-in_default
 returns-in_default c =
     let a = c.args in
-    value_ends (boxed_expr a.expr) (view_span a.span) (view_suites a.suites) (kind_at a.token.now) (last_at a.token.now) c.end_simple.result c.requires c.in_default.ensures
-    (ends_so a.token.now (boxed_kind c.in_ok-kind.kind) (expr (boxed_expr a.expr)) a.span a.suites c.end_simple.result (ap plain_kind c.in_ok-kind.ensures ∙ plain-Expr c.into_inner.result ∙ ap (λ (e : Node). expr (plain_expr e)) c.into_inner.ensures) c.end_simple.ensures)
+    value_ends (boxed_expr a.expr) (view_span a.span) (view_suites a.suites) (kind_at a.token.now) (last_at a.token.now) c.end_made.result c.requires c.in_default.ensures
+    (c.end_made.ensures (expr (boxed_expr a.expr)) (boxes c.boxed.result _ _ (plain-Expr c.into_inner.result ∙ ap (λ (e : Node). expr (plain_expr e)) c.into_inner.ensures) c.boxed.ensures))
 
 pub returns-then-not-is_place : goal.returns-then-not-is_place
 returns-then-not-is_place c =

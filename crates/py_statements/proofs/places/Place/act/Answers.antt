@@ -3,45 +3,30 @@ use Rattle.py_statements.specs.declared.places.Place.{Place}
 use Rattle.py_statements.specs.Machine.{Span, act, begin_expr}
 use Rattle.py_statements.specs.ViewStates.{kind_at, first_at, last_at, view_span, view_suites, view_continuation, view_place}
 use Rattle.py_statements.proofs.View.Acts.{acts_in}
-use Rattle.py_statements.proofs.View.Tails.{acts_at}
+use Rattle.py_statements.proofs.View.Tails.{acts_at, made_at}
 use Rattle.py_statements.proofs.View.Wanted.{wanted_reads}
 use Rattle.py_statements.proofs.places.Place.act.Goals as goal
 
-pub returns-in_ok-end_simple-in-Simple : goal.returns-in_ok-end_simple-in-Simple
-returns-in_ok-end_simple-in-Simple c =
-    let a = c.args in
-    let t = a.token.now in
-    acts_in a.self _ (view_span a.span) (view_suites a.suites) (kind_at t) (first_at t) (last_at t) c.in_ok-end_simple-in-Simple.field-0 c.turn.result (ap view_place c.in-Simple.is) c.in_ok-end_simple-in-Simple.ensures c.turn.ensures
+pub returns-in-Simple : goal.returns-in-Simple
+returns-in-Simple c = made_at c.args.token.now c.args.self _ c.args.span c.args.suites c.end_simple.result c.turned.result c.in-Simple.is c.end_simple.ensures c.turned.ensures
 
-pub returns-in_ok-after_listed-in-NameRead : goal.returns-in_ok-after_listed-in-NameRead
-returns-in_ok-after_listed-in-NameRead c =
-    let a = c.args in
-    let t = a.token.now in
-    acts_in a.self _ (view_span a.span) (view_suites a.suites) (kind_at t) (first_at t) (last_at t) c.in_ok-after_listed-in-NameRead.field-0 c.turn-in-NameRead.result (ap view_place c.in-NameRead.is) c.in_ok-after_listed-in-NameRead.ensures c.turn-in-NameRead.ensures
+pub returns-in-NameRead : goal.returns-in-NameRead
+returns-in-NameRead c = made_at c.args.token.now c.args.self _ c.args.span c.args.suites c.after_listed.result c.turned-in-NameRead.result c.in-NameRead.is c.after_listed.ensures c.turned-in-NameRead.ensures
 
-pub returns-in_ok-after_name-in-BoundRead : goal.returns-in_ok-after_name-in-BoundRead
-returns-in_ok-after_name-in-BoundRead c =
-    let a = c.args in
-    let t = a.token.now in
-    acts_in a.self _ (view_span a.span) (view_suites a.suites) (kind_at t) (first_at t) (last_at t) c.in_ok-after_name-in-BoundRead.field-0 c.turn-in-BoundRead.result (ap view_place c.in-BoundRead.is) c.in_ok-after_name-in-BoundRead.ensures c.turn-in-BoundRead.ensures
+pub returns-in-BoundRead : goal.returns-in-BoundRead
+returns-in-BoundRead c = made_at c.args.token.now c.args.self _ c.args.span c.args.suites c.after_name.result c.turned-in-BoundRead.result c.in-BoundRead.is c.after_name.ensures c.turned-in-BoundRead.ensures
 
-pub returns-in_ok-after_param-in-ParamRead : goal.returns-in_ok-after_param-in-ParamRead
-returns-in_ok-after_param-in-ParamRead c =
-    let a = c.args in
-    let t = a.token.now in
-    acts_in a.self _ (view_span a.span) (view_suites a.suites) (kind_at t) (first_at t) (last_at t) c.in_ok-after_param-in-ParamRead.field-0 c.turn-in-ParamRead.result (ap view_place c.in-ParamRead.is) c.in_ok-after_param-in-ParamRead.ensures c.turn-in-ParamRead.ensures
+pub returns-in-ParamRead : goal.returns-in-ParamRead
+returns-in-ParamRead c = made_at c.args.token.now c.args.self _ c.args.span c.args.suites c.after_param.result c.turned-in-ParamRead.result c.in-ParamRead.is c.after_param.ensures c.turned-in-ParamRead.ensures
 
 pub returns-in-ColonWanted : goal.returns-in-ColonWanted
 returns-in-ColonWanted c =
     let a = c.args in
     let t = a.token.now in
-    acts_in a.self _ (view_span a.span) (view_suites a.suites) (kind_at t) (first_at t) (last_at t) c.end_header.result c.turn-in-ColonWanted.result (ap view_place c.in-ColonWanted.is) c.end_header.ensures c.turn-in-ColonWanted.ensures
+    acts_in a.self _ (view_span a.span) (view_suites a.suites) (kind_at t) (first_at t) (last_at t) c.end_header.result c.turn.result (ap view_place c.in-ColonWanted.is) c.end_header.ensures c.turn.ensures
 
-pub returns-in_ok-at_block-in-IndentWanted : goal.returns-in_ok-at_block-in-IndentWanted
-returns-in_ok-at_block-in-IndentWanted c =
-    let a = c.args in
-    let t = a.token.now in
-    acts_in a.self _ (view_span a.span) (view_suites a.suites) (kind_at t) (first_at t) (last_at t) c.in_ok-at_block-in-IndentWanted.field-0 c.turn-in-IndentWanted.result (ap view_place c.in-IndentWanted.is) c.in_ok-at_block-in-IndentWanted.ensures c.turn-in-IndentWanted.ensures
+pub returns-in-IndentWanted : goal.returns-in-IndentWanted
+returns-in-IndentWanted c = made_at c.args.token.now c.args.self _ c.args.span c.args.suites c.at_block.result c.turned-in-IndentWanted.result c.in-IndentWanted.is c.at_block.ensures c.turned-in-IndentWanted.ensures
 
 pub returns-in-Semicolon : goal.returns-in-Semicolon
 returns-in-Semicolon c = acts_at c.args.token.now c.args.self _ c.args.span c.args.suites c.after_semicolon.result c.in-Semicolon.is c.after_semicolon.ensures

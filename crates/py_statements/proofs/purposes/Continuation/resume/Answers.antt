@@ -1,6 +1,6 @@
 use Rattle.std.proofs.Common.{Ok}
-use Rattle.py_statements.specs.ViewSuiteOf.{boxed_expr, boxed_kind}
-use Rattle.py_statements.proofs.View.Tails.{resumes_so, ends_so}
+use Rattle.py_statements.specs.ViewSuiteOf.{boxed_expr}
+use Rattle.py_statements.proofs.View.Tails.{resumes_so}
 use Rattle.py_statements.proofs.purposes.Continuation.resume.Goals as goal
 
 pub returns-in-Value : goal.returns-in-Value
@@ -53,20 +53,17 @@ returns-in-Default c =
     let a = c.args in
     resumes_so a.token.now a.self _ (boxed_expr a.expr) a.span a.suites c.after_param_default.result c.in-Default.is c.after_param_default.ensures
 
-pub returns-in_ok-kind-in-Augmented : goal.returns-in_ok-kind-in-Augmented
-returns-in_ok-kind-in-Augmented c =
+pub returns-in-Augmented : goal.returns-in-Augmented
+returns-in-Augmented c =
     let a = c.args in
-    resumes_so a.token.now a.self _ (boxed_expr a.expr) a.span a.suites c.end_simple.result c.in-Augmented.is
-    (ends_so a.token.now (boxed_kind c.in_ok-kind-in-Augmented.kind) _ a.span a.suites c.end_simple.result c.in_ok-kind-in-Augmented.ensures c.end_simple.ensures)
+    resumes_so a.token.now a.self _ (boxed_expr a.expr) a.span a.suites c.end_made.result c.in-Augmented.is (c.end_made.ensures _ c.augmented-kind.ensures)
 
-pub returns-in_ok-kind-in-Leaving : goal.returns-in_ok-kind-in-Leaving
-returns-in_ok-kind-in-Leaving c =
+pub returns-in-Leaving : goal.returns-in-Leaving
+returns-in-Leaving c =
     let a = c.args in
-    resumes_so a.token.now a.self _ (boxed_expr a.expr) a.span a.suites c.end_simple-in-Leaving.result c.in-Leaving.is
-    (ends_so a.token.now (boxed_kind c.in_ok-kind-in-Leaving.kind) _ a.span a.suites c.end_simple-in-Leaving.result c.in_ok-kind-in-Leaving.ensures c.end_simple-in-Leaving.ensures)
+    resumes_so a.token.now a.self _ (boxed_expr a.expr) a.span a.suites c.end_made-in-Leaving.result c.in-Leaving.is (c.end_made-in-Leaving.ensures _ c.left-kind.ensures)
 
-pub returns-in_ok-kind-in-Reason : goal.returns-in_ok-kind-in-Reason
-returns-in_ok-kind-in-Reason c =
+pub returns-in-Reason : goal.returns-in-Reason
+returns-in-Reason c =
     let a = c.args in
-    resumes_so a.token.now a.self _ (boxed_expr a.expr) a.span a.suites c.end_simple-in-Reason.result c.in-Reason.is
-    (ends_so a.token.now (boxed_kind c.in_ok-kind-in-Reason.kind) _ a.span a.suites c.end_simple-in-Reason.result c.in_ok-kind-in-Reason.ensures c.end_simple-in-Reason.ensures)
+    resumes_so a.token.now a.self _ (boxed_expr a.expr) a.span a.suites c.end_made-in-Reason.result c.in-Reason.is (c.end_made-in-Reason.ensures _ c.asserted-kind.ensures)
