@@ -3,12 +3,15 @@
 --     then_code, after_code      an expression with an instruction after it, or before it
 --     row_code                   expressions in a row with an instruction after them
 --     link_instr                 the instruction of a comparison in a chain
+--     skip_instr                 one that leads past an expression
 --     alternative_size, choice_code and the like        alternatives of a pattern
 use Rattle.std.specs.Prelude.{ℕ, ◌+◌, ◌==◌, false, if◌then◌else◌, List, [], ◌++◌, Option}
 use Rattle.py_syntax.specs.Tree.{Text, Expr, Exprs, Pattern}
 use Rattle.py_code.specs.declared.instr.Instr.{Instr}
-use Rattle.py_code.specs.declared.instr.Instr.TheVariants.{Pop, Copy, Extend, Compare, Goto, Link, Unless}
+use Rattle.py_code.specs.declared.instr.Instr.TheVariants.{Pop, Copy, Extend, Compare, Goto, And, Or, Link, Unless}
 use Rattle.py_code.specs.declared.instr.Question.{Question}
+use Rattle.py_compile_expr.specs.declared.operators.Skip.{Skip}
+use Rattle.py_compile_expr.specs.declared.operators.Skip.TheVariants.{And as SkipAnd, Or as SkipOr, Goto as SkipGoto}
 use Rattle.py_code.specs.declared.unit.Constant.TheVariants.{Bool as BoolConstant, Str as StrConstant}
 use Rattle.py_compile_expr.specs.Cells.{Op, constant, plain, Guard, Cell, put}
 use Rattle.py_compile_expr.specs.Expressions.{expr_code, each_code}
@@ -33,6 +36,12 @@ row_code g p es i = each_code g p es ++ put g (plain i) []
 -- where so many comparisons are left, this one among them
 abbrev pub link_instr : Question → (end left : ℕ) → Instr
 link_instr q end left = if left == 1 then Compare q else Link q end
+
+-- what leads past an expression, to a place
+abbrev pub skip_instr : Skip → ℕ → Instr
+skip_instr SkipAnd to = And to
+skip_instr SkipOr to = Or to
+skip_instr SkipGoto to = Goto to
 
 -- ---- pieces of patterns
 

@@ -4,16 +4,16 @@ ghost use Rattle.std.specs.Prelude.{◌≡◌, ◌+◌, [], ◌++◌, IfOk, OnOk
 ghost use Rattle.std.specs.Option.{option_map};
 ghost use Rattle.py_syntax.specs.Tree.{unary};
 ghost use Rattle.py_syntax.specs.View.{plain_expr, plain_exprs, plain_pairs, plain_links, plain_fragments, plain_parts, opt_of};
-ghost use Rattle.py_code.specs.declared.instr.Instr.TheVariants.{And as AndInstr, Or as OrInstr, IfFalse, Goto, Call as CallInstr};
+ghost use Rattle.py_code.specs.declared.instr.Instr.TheVariants.{IfFalse, Call as CallInstr};
 ghost use Rattle.py_compile_expr.specs.Cells.{load, put};
 ghost use Rattle.py_compile_expr.specs.CellView.{plain_op, plain_guard};
 ghost use Rattle.py_compile_expr.specs.Callees.{callee_code};
-ghost use Rattle.py_compile_expr.specs.Pieces.{then_code, after_code, row_code};
+ghost use Rattle.py_compile_expr.specs.Pieces.{then_code, after_code, row_code, skip_instr};
 ghost use Rattle.py_compile_expr.specs.Expressions.{count, expr_size, expr_code, each_size, each_code, pairs_size, pairs_code, links_size, links_code, opt_size, opt_code, fragments_size, fragments_code, parts_size, parts_code};
 
 use crate::cells::{Builder, Guard, Op, sum};
 use crate::expr_sizes::{links_size, past};
-use crate::operators::{bounds, count, link_instr, question, sign_operator};
+use crate::operators::{Skip, bounds, count, link_instr, question, sign_operator, skip_instr};
 use crate::texts::{put_chars, put_string, put_text};
 use py_code::{Constant, Instr};
 use py_syntax::{Expr, FormatPart, Fragment, Link, Pair, Sign};
@@ -53,11 +53,11 @@ pub fn put_expr(out: &mut Builder, guard: Option<Guard>, at: u32, e: &Expr) -> R
         Expr::Not(operand) => put_then(out, guard, at, operand, Op::Plain(Instr::Not)),
         Expr::And(left, right) => {
             let at = put_expr(out, guard, at, left)?;
-            put_and(out, guard, at, right)
+            put_skipped(out, guard, at, right, Skip::And)
         }
         Expr::Or(left, right) => {
             let at = put_expr(out, guard, at, left)?;
-            put_or(out, guard, at, right)
+            put_skipped(out, guard, at, right, Skip::Or)
         }
         Expr::Unary(sign, operand) => put_unary(out, guard, at, *sign, operand),
         Expr::Binary(op, left, right) => {
@@ -71,7 +71,7 @@ pub fn put_expr(out: &mut Builder, guard: Option<Guard>, at: u32, e: &Expr) -> R
         Expr::Cond { body, test, orelse } => {
             let at = put_expr(out, guard, at, test)?;
             let at = put_chosen(out, guard, at, body)?;
-            put_other(out, guard, at, orelse)
+            put_skipped(out, guard, at, orelse, Skip::Goto)
         }
         Expr::Call {
             callee,
@@ -98,30 +98,23 @@ pub fn put_expr(out: &mut Builder, guard: Option<Guard>, at: u32, e: &Expr) -> R
     }
 }
 
-/// The second operand, which a false first one skips.
+/// An expression that an instruction in front of it may lead past.
 #[cycle(expressions)]
-fn put_and(out: &mut Builder, guard: Option<Guard>, at: u32, right: &Expr) -> Result<u32, NoMemory>
+fn put_skipped(
+    out: &mut Builder,
+    guard: Option<Guard>,
+    at: u32,
+    e: &Expr,
+    skip: Skip,
+) -> Result<u32, NoMemory>
     ensures cells { OnOk result (out.new
         ≡ out.old
-        ++ after_code (plain_guard guard) at (AndInstr (at + 1 + expr_size (plain_expr right.now)))
-        (plain_expr right.now)) }
-    ensures place { IfOk result (λ n. n ≡ at + 1 + expr_size (plain_expr right.now)) }
+        ++ after_code (plain_guard guard) at
+        (skip_instr skip (at + 1 + expr_size (plain_expr e.now))) (plain_expr e.now)) }
+    ensures place { IfOk result (λ n. n ≡ at + 1 + expr_size (plain_expr e.now)) }
 {
-    let end = past(at, right)?;
-    put_after(out, guard, at, Instr::And(end), right)
-}
-
-/// The second operand, which a true first one skips.
-#[cycle(expressions)]
-fn put_or(out: &mut Builder, guard: Option<Guard>, at: u32, right: &Expr) -> Result<u32, NoMemory>
-    ensures cells { OnOk result (out.new
-        ≡ out.old
-        ++ after_code (plain_guard guard) at (OrInstr (at + 1 + expr_size (plain_expr right.now)))
-        (plain_expr right.now)) }
-    ensures place { IfOk result (λ n. n ≡ at + 1 + expr_size (plain_expr right.now)) }
-{
-    let end = past(at, right)?;
-    put_after(out, guard, at, Instr::Or(end), right)
+    let end = past(at, e)?;
+    put_after(out, guard, at, skip_instr(skip, end), e)
 }
 
 /// A sign is the operator after 0.
@@ -176,24 +169,6 @@ fn put_chosen(
 {
     let no = sum(past(at, body)?, 1)?;
     put_after(out, guard, at, Instr::IfFalse(no), body)
-}
-
-/// The value where a test is false, which the other value skips.
-#[cycle(expressions)]
-fn put_other(
-    out: &mut Builder,
-    guard: Option<Guard>,
-    at: u32,
-    orelse: &Expr,
-) -> Result<u32, NoMemory>
-    ensures cells { OnOk result (out.new
-        ≡ out.old
-        ++ after_code (plain_guard guard) at (Goto (at + 1 + expr_size (plain_expr orelse.now)))
-        (plain_expr orelse.now)) }
-    ensures place { IfOk result (λ n. n ≡ at + 1 + expr_size (plain_expr orelse.now)) }
-{
-    let end = past(at, orelse)?;
-    put_after(out, guard, at, Instr::Goto(end), orelse)
 }
 
 /// The arguments of a call, and the call.

@@ -5,7 +5,7 @@ ghost use Rattle.std.specs.Option.{option_map};
 ghost use Rattle.py_syntax.specs.View.{plain_expr, plain_exprs, opt_of};
 ghost use Rattle.py_meaning.specs.Literals.{sign_operator};
 ghost use Rattle.py_compile_expr.specs.Expressions.{count, question, bounds};
-ghost use Rattle.py_compile_expr.specs.Pieces.{link_instr};
+ghost use Rattle.py_compile_expr.specs.Pieces.{link_instr, skip_instr};
 
 use py_code::{Bounds, Instr, Question};
 use py_syntax::{Comparison, Expr, Sign};
@@ -55,6 +55,25 @@ pub(crate) fn link_instr(question: Question, end: u32, left: usize) -> Instr
         Instr::Compare(question)
     } else {
         Instr::Link(question, end)
+    }
+}
+
+/// What leads past an expression: a test of what is on top that keeps it there, or a jump.
+#[derive(Clone, Copy, Drop)]
+pub(crate) enum Skip {
+    And,
+    Or,
+    Goto,
+}
+
+/// The instruction that leads to a place so.
+pub(crate) fn skip_instr(skip: Skip, to: u32) -> Instr
+    ensures { result ≡ skip_instr skip to }
+{
+    match skip {
+        Skip::And => Instr::And(to),
+        Skip::Or => Instr::Or(to),
+        Skip::Goto => Instr::Goto(to),
     }
 }
 

@@ -74,11 +74,7 @@ pub fn cond_test(body: Measured, measured: Measured, class: &TokenClass) -> Fram
             Frame::CondElse(body, measured),
             Progress::Want(Precedence::Expr),
         ),
-        _ => {
-            drop(body);
-            drop(measured);
-            FrameStep::Stuck
-        }
+        _ => FrameStep::Stuck,
     }
 }
 
@@ -335,11 +331,7 @@ pub fn in_key(entries: Entries, measured: Measured, class: &TokenClass) -> Frame
             Frame::InValue(entries, measured),
             Progress::Want(Precedence::Expr),
         ),
-        _ => {
-            drop(entries);
-            drop(measured);
-            FrameStep::Stuck
-        }
+        _ => FrameStep::Stuck,
     }
 }
 

@@ -268,8 +268,13 @@ pub fn after_except(
     ensures { ActsAt token.now (of_try Except partial_try) span suites result }
 {
     if is_a(token, Class::Colon) {
-        let suite_of = SuiteOf::Clause(partial_try, None, None);
-        return turned(after_header(alloc, suite_of, span, suites, token));
+        return turned(after_header(
+            alloc,
+            SuiteOf::Clause(partial_try, None, None),
+            span,
+            suites,
+            token,
+        ));
     }
     Ok(Turn::Reads(
         Continuation::ClauseKind(partial_try),
