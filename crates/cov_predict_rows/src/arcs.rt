@@ -4,7 +4,7 @@ use cov_predict::ArcSet;
 use std::alloc::Global;
 use std::test::Fail;
 
-/// The arcs of a loop on one line behind another line, in no order, and one of them twice.
+/// The arcs of a loop on one line after another line, in no order, and one of them twice.
 fn one_line_loop(alloc: Global) -> Result<ArcSet, Fail> {
     Ok(ArcSet::new(vec![in alloc; (2, 2), (1, 2), (-1, 1), (2, -1), (1, 2)]?))
 }

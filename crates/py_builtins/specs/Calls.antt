@@ -1,4 +1,4 @@
--- How calls of built-ins come out in the code.
+-- How calls of built-ins and methods come out in the code.
 use Rattle.std.specs.Prelude.{◌≡◌, ℕ, zero, suc, min, nat_lt, if◌then◌else◌, List, [], ◌∷◌, length, drop, Option, Some, None, Vec, Result, Ok, Err, IfOk}
 use Rattle.std.specs.Global.{Global}
 use Rattle.std.specs.Str.{chars, is_utf8}

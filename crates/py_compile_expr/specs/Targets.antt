@@ -2,6 +2,7 @@
 -- statements").
 --     no_target_code                  what is no target
 --     target_size, target_code        a target; targets_size and targets_code of several in a row
+--     unpack_code                     the items of a value, to targets in a row
 --     all_size, all_code              one value to each of several targets
 use Rattle.std.specs.Prelude.{ℕ, ◌+◌, List, [], ◌++◌, Option}
 use Rattle.py_syntax.specs.Tree.{Expr, name, int, str, fstr, none, bool, tuple, list, dict, paren, not', and, or, unary, binary, compare, cond, call, index, slice, attr, Exprs, no_exprs, exprs}

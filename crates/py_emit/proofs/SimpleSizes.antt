@@ -1,4 +1,5 @@
--- The sizes of two parts, of imports and of functions, the place after a part, and the code of functions with defaults.
+-- The sizes of two parts, of imports and of functions, the place after a part,
+-- and the code of functions with defaults.
 use Rattle.std.proofs.Common.{◌≡◌, ℕ, ◌+◌, ◌*◌, ◌==◌, List, [], ◌∷◌, ◌++◌, length, true, false, true≢false, Option, Result, Ok, IfOk, refl, sym, ap, subst, ◌∙◌, arith, append_assoc}
 use Rattle.py_syntax.specs.declared.expr.Expr.{Expr as Node}
 use Rattle.py_syntax.specs.declared.stmt.Alias.{Alias as AliasNode}

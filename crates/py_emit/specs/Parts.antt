@@ -4,10 +4,10 @@
 --     while_begin .. case_begin           places
 --     finally_ways .. clause_ways         ways out of suites
 --     read_item_code, written_item_code   parts of `place op= e`
---     if_code, match_code                 statements
+--     if_code, match_code                 an `if` up to its `else`, and a `match`
 --     while_head .. case_head             code in front of suites and after them
 --     while_code, for_code, try_body      up to an `else`
---     handlers_code, finally_code         what follows the `else` of a `try`
+--     handlers_code .. def_code           what follows the `else` of a `try`, and a `def`
 --     at_lines                            functions by the lines of their `def`s alone
 use Rattle.std.specs.Prelude.{ℕ, ◌+◌, Bool, true, List, [], ◌++◌, map, Option, Some, None}
 use Rattle.py_value.specs.declared.operator.BinOp.{BinOp}

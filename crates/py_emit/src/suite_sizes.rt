@@ -27,7 +27,7 @@ fn both(
     sum(parts, more)
 }
 
-/// The place after a part of this size and so many instructions, where the part has a size.
+/// A place or a size with a part and so many instructions after it, where the part has a size.
 pub(crate) fn after(at: u32, size: Result<u32, NoMemory>, more: u32) -> Result<u32, NoMemory>
     ensures { (s : ℕ) → IfOk size (λ n. n ≡ s) → IfOk result (λ n. n ≡ at + s + more) }
 {

@@ -29,7 +29,8 @@ pub enum Reply {
 /// After an operand that may be the left one of an operator of that precedence.
 fn join(precedence: Precedence, class: TokenClass) -> Reply
     ensures first { Offers (first (view_precedence precedence)) (view_class class) result }
-    ensures right { (j : classes_.BinaryOperator) → operator_precedence j ≡ view_precedence precedence
+    ensures right { (j : classes_.BinaryOperator)
+        → operator_precedence j ≡ view_precedence precedence
         → Offers (right j least_name) (view_class class) result }
 {
     match class {

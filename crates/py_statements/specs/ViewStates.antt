@@ -2,7 +2,7 @@
 --     kind_at, first_at, last_at          the kind of a token, and its lines
 --     suite_stack, view_suites, Opens     open suites
 --     view_span .. view_state             places and states
---     ActsAs .. MakesPlace                what a token does
+--     Turned .. MakesPlace                what a token does
 --     Steps, step_marked                  the same of a step
 --     ActsAt, TurnsAt, MakesAt            the same of a place inside a statement
 --     Continuing .. EndsMade              the same after a part of a statement
@@ -194,7 +194,7 @@ abbrev pub Makes : Option State → Made → Type 0
 Makes o (Ok s) = o ≡ option_map view_state s
 Makes o (Err e) = Unit {0}
 
--- What is made is what a token does that makes it.
+-- The turn does what a token does, whichever token makes this.
 abbrev pub TurnsInto : Made → Turned → Type 0
 TurnsInto made r = (t : Token) (o : Option State) → Makes o made → Acts t o r
 

@@ -296,7 +296,7 @@ pub fn after_param_default(
     after_default(alloc, signature, span, suites, token)
 }
 
-/// After a header that ends in an expression.
+/// After a header whose suite is this one's.
 pub fn after_header(
     alloc: Global,
     suite_of: SuiteOf,

@@ -1,4 +1,4 @@
-// Statements, lines and suites end.
+// Statements, lines and headers end.
 
 ghost use Rattle.std.specs.Prelude.{◌≡◌, IfOk, true};
 ghost use Rattle.py_statements.specs.Machine.{over_line, end_simple, end_header};

@@ -1,5 +1,5 @@
-//! Turns the text of a source into its tokens: `count_lines` tells whether a text is short enough,
-//! and `tokens` cuts it.
+//! Turns the text of a source into its tokens: `count_lines` tells how many lines a text has,
+//! `LINE_LIMIT` how many it may have, and `tokens` cuts it.
 #![tactic(auto)]
 
 mod characters;

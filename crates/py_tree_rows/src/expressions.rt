@@ -236,8 +236,7 @@ fn shown_whole(alloc: Global, source: &str) -> Result<String, Fail> {
 }
 
 /// The rows that are read otherwise; without a part, as whole lists. Each row is a source and what
-/// is read from it, with
-/// `~~` between them and `^` after them.
+/// is read from it, with `~~` between them and `^` after them.
 fn misread(alloc: Global, rows: &str, part: Option<ExprPart>) -> Result<String, Fail> {
     let mut out = Writer::new(alloc);
     for row in rows.split('^') {

@@ -14,13 +14,11 @@ use lib.Utf8.{scalars, scalar}
 one_scalar : (c : ℕ) → scalar c ≡ true → scalars (c ∷ []) ≡ true
 one_scalar c s = ap (λ b. b && true) s
 
--- the bytes of one character
-pub chars-one : (c : ℕ) → scalar c ≡ true → chars (encode_utf8 c) ≡ c ∷ []
-chars-one c s = ap chars (sym (append-nil (encode_utf8 c))) ∙ chars-encodes (c ∷ []) (one_scalar c s)
-
 -- one more character
 pub chars-push : (bs : List ℕ) (c : ℕ) → IsUtf8 bs → scalar c ≡ true → chars (bs ++ encode_utf8 c) ≡ chars bs ++ c ∷ []
-chars-push bs c u s = chars-append bs (encode_utf8 c) u ∙ ap (λ cs. chars bs ++ cs) (chars-one c s)
+chars-push bs c u s =
+    chars-append bs (encode_utf8 c) u
+    ∙ ap (λ cs. chars bs ++ cs) (ap chars (sym (append-nil (encode_utf8 c))) ∙ chars-encodes (c ∷ []) (one_scalar c s))
 
 -- a text is empty where its bytes are
 pub empty_text : (bs cs : List ℕ) → bs ≡ encode_utf8_all cs → chars bs ≡ cs → (IsTrue (length bs == 0) → cs ≡ []) × (cs ≡ [] → IsTrue (length bs == 0))

@@ -93,8 +93,16 @@ impl Text {
         ensures ok { OnOk result (self.new ≡ self.old ++ c ∷ []) }
         ensures err { OnErr result (self.new ≡ self.old) }
     {
-        let mut bytes = [0u8; 4];
-        self.extend(c.encode_utf8(&mut bytes), 1)
+        if let Some(shared) = &mut self.shared {
+            if let Some(body) = Rc::get_mut(shared) {
+                return body.push(c);
+            }
+        }
+        let mut body = self.body_with_room(4)?;
+        body.push(c)?;
+        let text = Text::of_body(self.alloc, body)?;
+        *self = text;
+        Ok(())
     }
 
     /// Adds the characters of another text at the end, in place where no copy shares those before.

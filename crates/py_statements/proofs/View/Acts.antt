@@ -132,7 +132,7 @@ default_none x ps ds n b (Sign mark.Comma) l h i = absurd cc
 default_none x ps ds n b (Sign mark.RightParen) l h i = absurd cc
 default_none x ps ds n b k l h i = refl
 
--- ---- tests
+-- ---- the test of an `assert`
 
 pub test_ends : (e : Expr) (n : Span) (b : SuiteStack) (t : Kind) (l : ℕ) (r : Made) → is_comma t ≡ false → Makes (end_simple (assert e None) n b t l) r → Makes (resume asserted e n b t l) r
 test_ends e n b (Sign mark.Comma) l r h m = absurd cc
