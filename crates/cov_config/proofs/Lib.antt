@@ -1,4 +1,3 @@
-mod Colons
 mod TextLists
 mod Readings
 mod Rules

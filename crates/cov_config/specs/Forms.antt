@@ -2,18 +2,11 @@
 --     or_default                        an absent key has its default
 --     filled, test_function, up_to      forms of texts and numbers that TOML has no word for
 --     hook_text, texts, rule_texts      those of a hook, a list and a rule
-use Rattle.std.specs.Prelude.{ℕ, ℤ, pos, negsuc, ◌==◌, nat_le, Bool, true, ◌||◌, if◌then◌else◌, List, [], ◌∷◌, length, codes, Option, Some, None, option_map, option_and_then}
-use Rattle.std.specs.List.{before_last, after_last, list_any}
+use Rattle.std.specs.Prelude.{ℕ, ℤ, pos, negsuc, nat_le, Bool, true, ◌||◌, if◌then◌else◌, List, [], ◌∷◌, codes, Option, Some, None, option_map, option_and_then}
+use Rattle.std.specs.List.{list_any}
 use Rattle.std.specs.Str.{bytes_eq}
 use Rattle.toml.specs.Data.{Data, Items, no_items, item, as_str, as_integer, as_array}
-
--- the bytes of a text
-abbrev pub Text : Type 0
-Text = List ℕ
-
--- whether a list has no element
-abbrev pub is_empty : {A : Type 0} → List A → Bool
-is_empty xs = length xs == 0
+use Rattle.cov_forms.specs.Forms.{Text, is_empty, file_and_name}
 
 -- an absent key has its default
 abbrev pub or_default : {A : Type 0} → A → (Data → Option A) → Option Data → Option A
@@ -38,17 +31,6 @@ within most (negsuc n) = None
 -- a whole number from 0 to this one
 abbrev pub up_to : ℕ → Data → Option ℕ
 up_to most d = option_and_then (within most) (as_integer d)
-
--- `:`
-abbrev pub is_colon : ℕ → Bool
-is_colon b = b == 58
-
--- what is before the last `:` and what is after it, where neither is empty
-abbrev pub file_and_name : Text → Option (Text × Text)
-file_and_name t =
-    let file = before_last is_colon t in
-    let name = after_last is_colon t in
-    if is_empty file || is_empty name then None else Some (file, name)
 
 -- a text FILE:NAME
 abbrev pub hook_text : Data → Option (Option (Text × Text))

@@ -2,26 +2,13 @@
 ghost use Rattle.std.specs.Prelude.{◌≡◌, map, string_bytes, option_map, IfOk};
 ghost use Rattle.std.specs.List.{list_any};
 ghost use Rattle.toml.specs.View.{view, array_view};
-ghost use Rattle.cov_config.specs.Forms.{is_empty, file_and_name, texts_in, texts, rule_texts};
+ghost use Rattle.cov_config.specs.Forms.{texts_in, texts, rule_texts};
+ghost use Rattle.cov_forms.specs.Forms.{is_empty};
 ghost use Rattle.cov_config.specs.Plain.{texts_view};
 
 use crate::NoMemory;
 use std::alloc::Global;
 use toml::Value;
-
-/// What is before the last `:` and what is after it, where neither is empty.
-pub fn file_and_name(text: &str) -> Option<(&str, &str)>
-    ensures { option_map (λ p. (p.0.now, p.1.now)) result ≡ file_and_name text.now }
-{
-    let (file, name) = text.rsplit_once(':')?;
-    if file.is_empty() {
-        return None;
-    }
-    if name.is_empty() {
-        return None;
-    }
-    Some((file, name))
-}
 
 pub(crate) fn owned_texts(alloc: Global, texts: &[&str]) -> Result<Vec<String>, NoMemory>
     ensures { IfOk result (λ owned. texts_view owned ≡ map (λ t. t.now) texts.now) }

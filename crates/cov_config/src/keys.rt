@@ -6,8 +6,9 @@ ghost use Rattle.cov_config.specs.Forms.{or_default, filled, test_function, up_t
 ghost use Rattle.cov_config.specs.Settings.{section, setting, key_name, reading};
 ghost use Rattle.cov_config.specs.Plain.{Answers, Names, hook_view, texts_view};
 
-use crate::forms::{file_and_name, owned_texts, texts_of};
+use crate::forms::{owned_texts, texts_of};
 use crate::{ConfigError, NoMemory};
+use cov_forms::file_and_name;
 use std::alloc::Global;
 use toml::{Table, Value};
 

@@ -11,7 +11,6 @@ mod rows;
 mod sections;
 
 pub use config::{Config, ConfigError, read_config};
-pub use forms::file_and_name;
 pub use omits::is_omitted;
 
 /// Want of memory.

@@ -7,7 +7,7 @@ use Rattle.std.proofs.lemmas.Str.Pattern.{NoCharPasses-char}
 use Rattle.std.proofs.lemmas.List.{get_or-drop}
 use Rattle.std.proofs.lemmas.List.Sums.{suffix_len_is}
 use Rattle.std.proofs.lemmas.Bool.Decides.{nat_tests}
-use Rattle.cov_config.specs.Forms.{Text, is_empty, is_colon, file_and_name}
+use Rattle.cov_forms.specs.Forms.{Text, is_empty, is_colon, file_and_name}
 
 no_colon : (b : ℕ) → b ≢ 58 → not (is_colon b) ≡ true
 no_colon b h = grind (arith, nat_tests)

@@ -1,7 +1,7 @@
 use Rattle.std.proofs.Common.{ap, sym, ◌∙◌, option_map, Bor}
-use Rattle.cov_config.specs.Forms.{Text}
-use Rattle.cov_config.proofs.Colons.{cut_nowhere-none, no_file, no_name, file_with_name}
-use Rattle.cov_config.proofs.forms.file_and_name.Goals as goal
+use Rattle.cov_forms.specs.Forms.{Text}
+use Rattle.cov_forms.proofs.Colons.{cut_nowhere-none, no_file, no_name, file_with_name}
+use Rattle.cov_forms.proofs.file_and_name.Goals as goal
 
 pub returns-in_err-file : goal.returns-in_err-file
 returns-in_err-file c =
