@@ -2,6 +2,7 @@
 
 use cov_outside::MemShelf;
 use cov_run::{Loaded, LoadedSource, load, load_sources};
+use cov_words::Why;
 use std::alloc::Global;
 use std::process::Abort;
 use std::test::Fail;
@@ -37,7 +38,7 @@ impl Files {
         let mut shelf = MemShelf::new(alloc, self.pairs, failing);
         match load_sources(alloc, script, "__main__", &mut shelf) {
             Ok(sources) => listed(alloc, sources.as_slice()),
-            Err(why) => Ok(format!(in alloc; "{why:?}")?),
+            Err(why) => refused(alloc, &why),
         }
     }
 
@@ -46,8 +47,22 @@ impl Files {
         let mut shelf = MemShelf::new(alloc, self.pairs, Vec::new(alloc));
         match load(alloc, script, "__main__", &mut shelf) {
             Ok(loaded) => compiled(alloc, &loaded),
-            Err(why) => Ok(format!(in alloc; "{why:?}")?),
+            Err(why) => refused(alloc, &why),
         }
+    }
+}
+
+/// An answer of loading, with its fields.
+fn refused(alloc: Global, why: &Why) -> Result<String, Fail> {
+    match why {
+        Why::NoSuchFile(name) => Ok(format!(in alloc; "NoSuchFile({name:?})")?),
+        Why::Syntax(file, line, kind) => {
+            Ok(format!(in alloc; "Syntax({file:?}, {line}, {kind:?})")?)
+        }
+        Why::Limit(kind, count) => Ok(format!(in alloc; "Limit({kind:?}, {count})")?),
+        Why::ShelfFault => Ok(String::from_str(alloc, "ShelfFault")?),
+        Why::NoMemory => Ok(String::from_str(alloc, "NoMemory")?),
+        _ => Ok(String::from_str(alloc, "an answer of another command")?),
     }
 }
 

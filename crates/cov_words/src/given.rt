@@ -3,7 +3,7 @@ ghost use Rattle.std.specs.Prelude.{◌≡◌, IfOk, map, string_bytes, option_m
 ghost use Rattle.cov_words.specs.Commands.{text_in, number_in, file_named_in};
 ghost use Rattle.cov_words.specs.Options.{value_in, is_given};
 ghost use Rattle.cov_words.specs.Plain.{value_view, given_of, words_of, texts_view, pair_view};
-ghost use Rattle.cov_words.specs.declared.options.OptionName.TheVariants.{Budget, Hook};
+ghost use Rattle.cov_words.specs.declared.options.OptionName.TheVariants.{Budget, Hook, DataFile, Rcfile};
 
 use crate::NoMemory;
 use crate::options::OptionName;
@@ -39,6 +39,21 @@ pub(crate) fn text_in(
         Some(Value::Text(text)) => Ok(Some(String::from_str(alloc, text)?)),
         _ => Ok(None),
     }
+}
+
+/// The data file and the file of settings.
+pub(crate) fn files_in(
+    alloc: Global,
+    given: &[(OptionName, Value<'_>)],
+) -> Result<(Option<String>, Option<String>), NoMemory>
+    ensures data { IfOk result (λ files.
+        option_map string_bytes files.0 ≡ text_in DataFile (given_of given.now)) }
+    ensures settings { IfOk result (λ files.
+        option_map string_bytes files.1 ≡ text_in Rcfile (given_of given.now)) }
+{
+    let data_file = text_in(alloc, OptionName::DataFile, given)?;
+    let rcfile = text_in(alloc, OptionName::Rcfile, given)?;
+    Ok((data_file, rcfile))
 }
 
 pub(crate) fn number_in(option: OptionName, given: &[(OptionName, Value<'_>)]) -> Option<u32>

@@ -6,7 +6,7 @@ ghost use Rattle.cov_words.specs.declared.options.CommandName.TheVariants.{Arcs,
 
 use crate::NoMemory;
 use crate::command::Command;
-use crate::given::{hook_in, is_on, number_in, owned, steps_in, text_in};
+use crate::given::{files_in, hook_in, is_on, number_in, owned, steps_in, text_in};
 use crate::operands::MOST_SIZE;
 use crate::options::{CommandName, OptionName};
 use crate::reading::Reading;
@@ -81,14 +81,15 @@ fn run(
     let Some((script, args)) = operands.split_first() else {
         return Ok(None);
     };
+    let (data_file, rcfile) = files_in(alloc, given)?;
     Ok(Some(Command::Run {
         branch: is_on(OptionName::Branch, given),
         append: is_on(OptionName::Append, given),
         context: text_in(alloc, OptionName::Context, given)?,
         budget: steps_in(given),
         hook: hook_in(alloc, given)?,
-        data_file: text_in(alloc, OptionName::DataFile, given)?,
-        rcfile: text_in(alloc, OptionName::Rcfile, given)?,
+        data_file,
+        rcfile,
         script: String::from_str(alloc, script)?,
         args: owned(alloc, args)?,
     }))
@@ -101,11 +102,12 @@ fn combine(
 ) -> Result<Option<Command>, NoMemory>
     ensures { IfOk result (λ made. Makes Combine given.now operands.now made) }
 {
+    let (data_file, rcfile) = files_in(alloc, given)?;
     Ok(Some(Command::Combine {
         append: is_on(OptionName::Append, given),
         keep: is_on(OptionName::Keep, given),
-        data_file: text_in(alloc, OptionName::DataFile, given)?,
-        rcfile: text_in(alloc, OptionName::Rcfile, given)?,
+        data_file,
+        rcfile,
         names: owned(alloc, operands)?,
     }))
 }
@@ -117,11 +119,12 @@ fn report(
 ) -> Result<Option<Command>, NoMemory>
     ensures { IfOk result (λ made. Makes Report given.now operands.now made) }
 {
+    let (data_file, rcfile) = files_in(alloc, given)?;
     Ok(Some(Command::Report {
         show_missing: is_on(OptionName::ShowMissing, given),
         fail_under: number_in(OptionName::FailUnder, given),
-        data_file: text_in(alloc, OptionName::DataFile, given)?,
-        rcfile: text_in(alloc, OptionName::Rcfile, given)?,
+        data_file,
+        rcfile,
     }))
 }
 
@@ -132,11 +135,12 @@ fn json(
 ) -> Result<Option<Command>, NoMemory>
     ensures { IfOk result (λ made. Makes Json given.now operands.now made) }
 {
+    let (data_file, rcfile) = files_in(alloc, given)?;
     Ok(Some(Command::Json {
         name: text_in(alloc, OptionName::Output, given)?,
         fail_under: number_in(OptionName::FailUnder, given),
-        data_file: text_in(alloc, OptionName::DataFile, given)?,
-        rcfile: text_in(alloc, OptionName::Rcfile, given)?,
+        data_file,
+        rcfile,
     }))
 }
 
@@ -147,11 +151,12 @@ fn lcov(
 ) -> Result<Option<Command>, NoMemory>
     ensures { IfOk result (λ made. Makes Lcov given.now operands.now made) }
 {
+    let (data_file, rcfile) = files_in(alloc, given)?;
     Ok(Some(Command::Lcov {
         name: text_in(alloc, OptionName::Output, given)?,
         fail_under: number_in(OptionName::FailUnder, given),
-        data_file: text_in(alloc, OptionName::DataFile, given)?,
-        rcfile: text_in(alloc, OptionName::Rcfile, given)?,
+        data_file,
+        rcfile,
     }))
 }
 
@@ -165,9 +170,10 @@ fn annotate(
     let Some(file) = operands.first() else {
         return Ok(None);
     };
+    let (data_file, rcfile) = files_in(alloc, given)?;
     Ok(Some(Command::Annotate {
-        data_file: text_in(alloc, OptionName::DataFile, given)?,
-        rcfile: text_in(alloc, OptionName::Rcfile, given)?,
+        data_file,
+        rcfile,
         file: String::from_str(alloc, file)?,
     }))
 }
@@ -179,10 +185,8 @@ fn erase(
 ) -> Result<Option<Command>, NoMemory>
     ensures { IfOk result (λ made. Makes Erase given.now operands.now made) }
 {
-    Ok(Some(Command::Erase {
-        data_file: text_in(alloc, OptionName::DataFile, given)?,
-        rcfile: text_in(alloc, OptionName::Rcfile, given)?,
-    }))
+    let (data_file, rcfile) = files_in(alloc, given)?;
+    Ok(Some(Command::Erase { data_file, rcfile }))
 }
 
 fn script(
@@ -229,11 +233,12 @@ fn suite(
     let Some(file) = operands.first() else {
         return Ok(None);
     };
+    let (data_file, rcfile) = files_in(alloc, given)?;
     Ok(Some(Command::Suite {
         branch: is_on(OptionName::Branch, given),
         budget: steps_in(given),
-        data_file: text_in(alloc, OptionName::DataFile, given)?,
-        rcfile: text_in(alloc, OptionName::Rcfile, given)?,
+        data_file,
+        rcfile,
         file: String::from_str(alloc, file)?,
     }))
 }

@@ -1,7 +1,7 @@
 //! How a command ends.
 
 /// How a command ended. Each variant but `Done`, `Program` and `Tests` is a refusal.
-#[derive(Debug, Drop)]
+#[derive(Drop)]
 pub enum Why {
     Done,
     /// The program ended with this status.
@@ -47,7 +47,7 @@ pub enum Why {
 }
 
 /// What is wrong with a source.
-#[derive(Clone, Copy, Debug, PartialEq, Eq)]
+#[derive(Clone, Copy, Debug)]
 pub enum SyntaxKind {
     /// A byte or character that can't stand here, a bad escape or a malformed number.
     BadCharacter,
@@ -76,7 +76,7 @@ pub enum SyntaxKind {
 }
 
 /// What has a limit.
-#[derive(Clone, Copy, Debug, PartialEq, Eq)]
+#[derive(Clone, Copy, Debug)]
 pub enum LimitKind {
     /// 1,048,576 bytes of a file.
     FileBytes,
@@ -97,7 +97,7 @@ pub enum LimitKind {
 }
 
 /// Why a data file can't be read.
-#[derive(Clone, Copy, Debug, PartialEq, Eq)]
+#[derive(Clone, Copy)]
 pub enum BadKind {
     /// It isn't of schema 7.
     NotSchema7,
