@@ -16,7 +16,7 @@ use py_token::{LINE_LIMIT, TokenError, count_lines, tokens};
 use std::alloc::Global;
 
 /// Why no tree was read from a source, by the first check that fails. Lines count from 1.
-#[derive(Debug, Drop)]
+#[derive(Drop)]
 pub(crate) enum SourceError {
     /// The bytes are not UTF-8 from this line on.
     NoText(u32),

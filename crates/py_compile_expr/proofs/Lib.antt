@@ -9,5 +9,7 @@ pub mod Turns
 pub mod Chains
 pub mod Alternatives
 pub mod Calls
+pub mod Forms
+pub mod Arms
 pub mod Nodes
 pub mod NumberLaws

@@ -1,7 +1,7 @@
 -- Loops over lists, and code that is added part by part.
 --     none_counted, none_added       the end of a loop: nothing of the list is left
 --     the_drop                       a turn of it: the next one of the list
---     a_turn                         what is added in it
+--     a_turn, counted_turn           what is added in it
 --     kept                           a part under another name
 --     then, three, four              parts in a row
 use Rattle.std.proofs.Common.{◌≡◌, ℕ, suc, ◌+◌, ◌<◌, ◌≤◌, ◌==◌, false, List, [], ◌∷◌, ◌++◌, Result, Ok, Err, OnOk, IfOk, drop, length, get_or, refl, sym, ap, ◌∙◌, arith, append_assoc, drop-cons, add-one}
@@ -52,3 +52,23 @@ three r s k m n x y z all e f h is = then r s m n (x ++ y) z all h (and_then s k
 
 pub four : {A E R : Type 0} (r : Result R E) (s j k m n w x y z all : List A) → j ≡ s ++ w → k ≡ j ++ x → m ≡ k ++ y → OnOk r (n ≡ m ++ z) → all ≡ w ++ (x ++ (y ++ z)) → OnOk r (n ≡ s ++ all)
 four r s j k m n w x y z all d e f h is = three r s k m n (w ++ x) y z all (and_then s j k w x (w ++ x) e d refl) f h (is ∙ sym (append_assoc w x (y ++ z)))
+
+-- a turn of a loop that counts
+pub counted_turn : {X : Type 0} (F : List X → ℕ) (G : X → ℕ) → ((x : X) (xs : List X) → F (x ∷ xs) ≡ G x + F xs) → (xs : List X) (i : ℕ) (x : X) (now next w : ℕ) → i < length xs → x ≡ get_or xs i x → next ≡ now + G x → now + F (drop i xs) ≡ w → next + F (drop (i + 1) xs) ≡ w
+counted_turn F G step xs i x now next w lt is e h =
+    let t : F (drop i xs) ≡ G x + F (drop (i + 1) xs) = ap F (the_drop xs i x lt is) ∙ step x (drop (i + 1) xs) in
+    omega (arith, e, h, t)
+
+-- ---- sums
+
+pub added : (a b m n : ℕ) → m ≡ a → n ≡ b → m + n ≡ a + b
+added a b m n e f = omega (arith, e, f)
+
+pub one_between : (a b : ℕ) → a + 1 + b ≡ a + b + 1
+one_between a b = omega arith
+
+pub one_first : (n : ℕ) → n + 1 ≡ 1 + n
+one_first n = omega arith
+
+pub two_around : (n : ℕ) → n + 2 ≡ 1 + n + 1
+two_around n = omega arith

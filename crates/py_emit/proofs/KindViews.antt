@@ -2,7 +2,9 @@
 use Rattle.std.proofs.Common.{◌≡◌, ℕ, ◌+◌, ◌==◌, Bool, true, false, List, [], ◌∷◌, ◌++◌, length, Option, Some, None, Vec, true≢false, refl, sym, ap, ◌∙◌}
 use Rattle.std.specs.Global.{Global}
 use Rattle.std.specs.Option.{option_map}
+use Rattle.py_value.specs.declared.operator.BinOp.{BinOp}
 use Rattle.py_syntax.specs.declared.expr.Expr.{Expr as Node}
+use Rattle.py_syntax.specs.declared.stmt.Alias.{Alias as AliasNode}
 use Rattle.py_syntax.specs.declared.stmt.StmtKind as kind
 use Rattle.py_syntax.specs.declared.stmt.StmtKind.{StmtKind as KindNode}
 use Rattle.py_syntax.specs.declared.stmt.Arm.{Arm as ArmNode, out-Arm}
@@ -16,14 +18,49 @@ use Rattle.py_syntax.specs.declared.stmt.Stmt as stmts
 use Rattle.py_syntax.specs.declared.stmt.Suite.{Suite as SuiteNode, out-Suite}
 use Rattle.py_syntax.specs.declared.stmt.Suite as suites
 use Rattle.py_syntax.specs.Functions.{Function}
-use Rattle.py_syntax.specs.Tree.{stmt, Suite, suite, OptSuite, no_suite, has_suite, arm, clause, case, assign, assert, if', while, for, try, match}
-use Rattle.py_syntax.specs.View.{plain_expr, plain_exprs, plain_pattern, plain_stmts, plain_kind, plain_suite, plain_opt_suite, plain_arms, plain_clauses, plain_cases}
+use Rattle.py_syntax.specs.Tree.{stmt, Suite, suite, OptSuite, no_suite, has_suite, arm, clause, case, expr, assign, aug_assign, pass, break, continue, return, raise, assert, global, import, from, if', while, for, try, def, match, Text}
+use Rattle.py_syntax.specs.View.{plain_expr, plain_exprs, plain_pattern, plain_aliases, plain_stmts, plain_kind, plain_suite, plain_opt_suite, plain_arms, plain_clauses, plain_cases}
 use Rattle.py_code.specs.declared.instr.Instr.TheVariants.{Goto}
 use Rattle.py_compile_expr.specs.Cells.{plain, put}
 use Rattle.py_compile.specs.Statements.{stmts_code, opt_size, opt_code, clauses_size, clauses_code}
 use Rattle.py_compile.specs.Ways.{Ways, in_try, in_hand}
 use Rattle.py_emit.proofs.Ends.{not_none}
 use Rattle.py_emit.specs.Parts.{suite_body, suite_line, suite_size, finally_ways, tried_ways, handlers_size, handlers_code}
+
+expr_is : (e : Node) → plain_kind (kind.Expr e) ≡ expr (plain_expr e)
+expr_is e = search kind.the_lemmas
+
+aug_assign_is : (t : Node) (op : BinOp) (e : Node) → plain_kind (kind.AugAssign t op e) ≡ aug_assign (plain_expr t) op (plain_expr e)
+aug_assign_is t op e = search kind.the_lemmas
+
+pass_is : plain_kind kind.Pass ≡ pass
+pass_is = search kind.the_lemmas
+
+break_is : plain_kind kind.Break ≡ break
+break_is = search kind.the_lemmas
+
+continue_is : plain_kind kind.Continue ≡ continue
+continue_is = search kind.the_lemmas
+
+return_is : (e : Option Node) → plain_kind (kind.Return e) ≡ return (option_map plain_expr e)
+return_is None = search kind.the_lemmas
+return_is (Some e) = search kind.the_lemmas
+
+raise_is : (e : Option Node) → plain_kind (kind.Raise e) ≡ raise (option_map plain_expr e)
+raise_is None = search kind.the_lemmas
+raise_is (Some e) = search kind.the_lemmas
+
+global_is : (xs : Vec Text Global) → plain_kind (kind.Global xs) ≡ global xs.items
+global_is xs = search kind.the_lemmas
+
+import_is : (names : Vec AliasNode Global) → plain_kind (kind.Import names) ≡ import (plain_aliases names.items)
+import_is names = search kind.the_lemmas
+
+from_is : (m : Text) (names : Vec AliasNode Global) → plain_kind (kind.From m names) ≡ from m (plain_aliases names.items)
+from_is m names = search kind.the_lemmas
+
+def_is : (x : Text) (ps : Vec Text Global) (ds : Vec Node Global) (c : Bool) (b : SuiteNode) → plain_kind (kind.Def x ps ds c b) ≡ def x ps.items (plain_exprs ds.items) c (plain_suite b)
+def_is x ps ds c b = search kind.the_lemmas
 
 assign_is : (ts : Vec Node Global) (e : Node) → plain_kind (kind.Assign ts e) ≡ assign (plain_exprs ts.items) (plain_expr e)
 assign_is ts e = search kind.the_lemmas
@@ -72,6 +109,40 @@ pub cases_are : (c : CaseNode) (rest : List CaseNode) → plain_cases (c ∷ res
 cases_are c rest = search cases.the_lemmas
 
 -- ---- what is shown of a statement, by its parts as the code holds them
+
+pub expr_shown : (k : KindNode) (e : Node) → k ≡ kind.Expr e → plain_kind k ≡ expr (plain_expr e)
+expr_shown k e is = ap plain_kind is ∙ expr_is e
+
+pub aug_assign_shown : (k : KindNode) (t : Node) (op : BinOp) (e : Node) → k ≡ kind.AugAssign t op e → plain_kind k ≡ aug_assign (plain_expr t) op (plain_expr e)
+aug_assign_shown k t op e is = ap plain_kind is ∙ aug_assign_is t op e
+
+pub pass_shown : (k : KindNode) → k ≡ kind.Pass → plain_kind k ≡ pass
+pass_shown k is = ap plain_kind is ∙ pass_is
+
+pub break_shown : (k : KindNode) → k ≡ kind.Break → plain_kind k ≡ break
+break_shown k is = ap plain_kind is ∙ break_is
+
+pub continue_shown : (k : KindNode) → k ≡ kind.Continue → plain_kind k ≡ continue
+continue_shown k is = ap plain_kind is ∙ continue_is
+
+pub return_shown : (k : KindNode) (e : Option Node) → k ≡ kind.Return e → plain_kind k ≡ return (option_map plain_expr e)
+return_shown k e is = ap plain_kind is ∙ return_is e
+
+pub raise_shown : (k : KindNode) (e : Option Node) → k ≡ kind.Raise e → plain_kind k ≡ raise (option_map plain_expr e)
+raise_shown k e is = ap plain_kind is ∙ raise_is e
+
+pub global_shown : (k : KindNode) (xs : Vec Text Global) → k ≡ kind.Global xs → plain_kind k ≡ global xs.items
+global_shown k xs is = ap plain_kind is ∙ global_is xs
+
+pub import_shown : (k : KindNode) (names : Vec AliasNode Global) (xs : List AliasNode) → k ≡ kind.Import names → xs ≡ names.items → plain_kind k ≡ import (plain_aliases xs)
+import_shown k names xs is same = ap plain_kind is ∙ import_is names ∙ ap (λ ys. import (plain_aliases ys)) (sym same)
+
+pub from_shown : (k : KindNode) (m : Text) (names : Vec AliasNode Global) (xs : List AliasNode) → k ≡ kind.From m names → xs ≡ names.items → plain_kind k ≡ from m (plain_aliases xs)
+from_shown k m names xs is same = ap plain_kind is ∙ from_is m names ∙ ap (λ ys. from m (plain_aliases ys)) (sym same)
+
+pub def_shown : (k : KindNode) (x : Text) (ps : Vec Text Global) (ds : Vec Node Global) (c : Bool) (b : SuiteNode) (xs : List Node) → k ≡ kind.Def x ps ds c b → xs ≡ ds.items
+    → plain_kind k ≡ def x ps.items (plain_exprs xs) c (plain_suite b)
+def_shown k x ps ds c b xs is same = ap plain_kind is ∙ def_is x ps ds c b ∙ ap (λ ys. def x ps.items (plain_exprs ys) c (plain_suite b)) (sym same)
 
 pub assign_shown : (k : KindNode) (ts : Vec Node Global) (e : Node) (xs : List Node) → k ≡ kind.Assign ts e → xs ≡ ts.items → plain_kind k ≡ assign (plain_exprs xs) (plain_expr e)
 assign_shown k ts e xs is same = ap plain_kind is ∙ assign_is ts e ∙ ap (λ ys. assign (plain_exprs ys) (plain_expr e)) (sym same)

@@ -1,8 +1,10 @@
 pub mod Compounds
 pub mod Ends
 pub mod Forms
+pub mod HeadForms
 pub mod KindViews
 pub mod Lines
 pub mod Numbers
+pub mod Rows
 pub mod SimpleSizes
 pub mod SuiteTurns

@@ -1,17 +1,18 @@
 -- The sizes of two parts, of imports and of functions, the place after a part,
 -- and the code of functions with defaults.
-use Rattle.std.proofs.Common.{◌≡◌, ℕ, ◌+◌, ◌*◌, ◌==◌, List, [], ◌∷◌, ◌++◌, length, true, false, true≢false, Option, Result, Ok, IfOk, refl, sym, ap, subst, ◌∙◌, arith, append_assoc}
+use Rattle.std.proofs.Common.{◌≡◌, ℕ, ◌+◌, ◌*◌, ◌<◌, ◌==◌, List, [], ◌∷◌, ◌++◌, drop, get_or, length, true, false, true≢false, Option, Result, Ok, IfOk, refl, sym, ap, subst, ◌∙◌, arith, append_assoc}
 use Rattle.py_syntax.specs.declared.expr.Expr.{Expr as Node}
 use Rattle.py_syntax.specs.declared.stmt.Alias.{Alias as AliasNode}
 use Rattle.py_value.specs.declared.operator.BinOp.{BinOp}
+use Rattle.py_syntax.specs.Names.{alias_name}
 use Rattle.py_syntax.specs.Tree.{Text, Expr, index}
-use Rattle.py_syntax.specs.View.{plain_exprs, plain_aliases}
+use Rattle.py_syntax.specs.View.{plain_exprs, plain_alias, plain_aliases}
 use Rattle.py_code.specs.declared.instr.Instr.TheVariants.{List as MakeList, Function as MakeFunction, FunctionWith}
-use Rattle.py_compile_expr.proofs.Turns.{the_number}
-use Rattle.py_compile_expr.specs.Cells.{plain, Guard, put}
+use Rattle.py_compile_expr.proofs.Turns.{a_turn, and_then, the_drop, the_number}
+use Rattle.py_compile_expr.specs.Cells.{store, takes, plain, Guard, Cell, put}
 use Rattle.py_compile_expr.specs.Patterns.{names_size}
 use Rattle.py_compile_expr.specs.Expressions.{count, expr_size, expr_code, each_size, each_code}
-use Rattle.py_compile.specs.Statements.{import_size, take_size, function_size, function_code, augment_code}
+use Rattle.py_compile.specs.Statements.{module_code, import_size, import_code, take_size, take_code, function_size, function_code, augment_code}
 use Rattle.py_emit.proofs.Ends.{not_none}
 use Rattle.py_emit.specs.Parts.{read_item_code, written_item_code}
 
@@ -75,3 +76,33 @@ augment_index g p of key op e = simp append_assoc
 pub augment_node : (g : Option Guard) (p q : ℕ) (of key : Expr) (op : BinOp) (e : Expr) → q ≡ p + expr_size of + expr_size key + 3
     → augment_code g p (index of key) op e ≡ read_item_code g p of key ++ (expr_code g q e ++ written_item_code g op)
 augment_node g p q of key op e a = augment_index g p of key op e ∙ ap (λ n. read_item_code g p of key ++ (expr_code g n e ++ written_item_code g op)) (sym a)
+
+-- ---- turns of loops over imported names
+
+aliases_shown : (xs : List AliasNode) (i : ℕ) (a : AliasNode) → i < length xs → a ≡ get_or xs i a → plain_aliases (drop i xs) ≡ plain_alias a ∷ plain_aliases (drop (i + 1) xs)
+aliases_shown xs i a lt is = ap plain_aliases (the_drop xs i a lt is)
+
+pub imported_turn : (g : Option Guard) (xs : List AliasNode) (i : ℕ) (a : AliasNode) (now one next w : List Cell) → i < length xs → a ≡ get_or xs i a
+    → one ≡ now ++ module_code g a.name → next ≡ one ++ put g (store (alias_name (plain_alias a))) []
+    → now ++ import_code g (plain_aliases (drop i xs)) ≡ w → next ++ import_code g (plain_aliases (drop (i + 1) xs)) ≡ w
+imported_turn g xs i a now one next w lt is e f h =
+    let y = put g (store (alias_name (plain_alias a))) [] in
+    a_turn now next w (module_code g a.name ++ y) (import_code g (plain_aliases (drop (i + 1) xs))) (import_code g (plain_aliases (drop i xs)))
+    (and_then now one next (module_code g a.name) y (module_code g a.name ++ y) f e refl) (ap (import_code g) (aliases_shown xs i a lt is)) h
+
+pub imported_counted : (xs : List AliasNode) (i : ℕ) (a : AliasNode) (p one next w : ℕ) → i < length xs → a ≡ get_or xs i a → one ≡ p + 3 → next ≡ one + 1
+    → p + import_size (plain_aliases (drop i xs)) ≡ w → next + import_size (plain_aliases (drop (i + 1) xs)) ≡ w
+imported_counted xs i a p one next w lt is e f h = let t = ap import_size (aliases_shown xs i a lt is) in omega (arith, e, f, h, t)
+
+pub taken_turn : (g : Option Guard) (m : Text) (xs : List AliasNode) (i : ℕ) (a : AliasNode) (now one next w : List Cell) → i < length xs → a ≡ get_or xs i a
+    → one ≡ now ++ put g (takes m a.name) [] → next ≡ one ++ put g (store (alias_name (plain_alias a))) []
+    → now ++ take_code g m (plain_aliases (drop i xs)) ≡ w → next ++ take_code g m (plain_aliases (drop (i + 1) xs)) ≡ w
+taken_turn g m xs i a now one next w lt is e f h =
+    let x = put g (takes m a.name) [] in
+    let y = put g (store (alias_name (plain_alias a))) [] in
+    a_turn now next w (x ++ y) (take_code g m (plain_aliases (drop (i + 1) xs))) (take_code g m (plain_aliases (drop i xs)))
+    (and_then now one next x y (x ++ y) f e refl) (ap (take_code g m) (aliases_shown xs i a lt is)) h
+
+pub taken_counted : (xs : List AliasNode) (i : ℕ) (a : AliasNode) (p one next w : ℕ) → i < length xs → a ≡ get_or xs i a → one ≡ p + 1 → next ≡ one + 1
+    → p + take_size (plain_aliases (drop i xs)) ≡ w → next + take_size (plain_aliases (drop (i + 1) xs)) ≡ w
+taken_counted xs i a p one next w lt is e f h = let t = ap take_size (aliases_shown xs i a lt is) in omega (arith, e, f, h, t)

@@ -3,3 +3,5 @@ mod Taken
 mod TakenValues
 mod Nested
 mod Leading
+mod Made
+mod Acting

@@ -77,10 +77,7 @@ impl State {
         let answer = call_method(alloc, method, &on, &values, &mut store.heap)?;
         drop(on);
         self.spare = emptied(values);
-        match answer {
-            Ok(value) => self.push(Operand::Value(value)),
-            Err(raised) => Ok(Turn::Throws(raised)),
-        }
+        self.push_answer(answer)
     }
 
     /// Calls a value.

@@ -69,10 +69,8 @@ impl State {
         let Some(values) = self.top.operands.take_values(list, n as usize)? else {
             return Ok(Turn::Stuck);
         };
-        match new_list(alloc, values, &mut store.heap)? {
-            Ok(value) => self.push(Operand::Value(value)),
-            Err(raised) => Ok(Turn::Throws(raised)),
-        }
+        let answer = new_list(alloc, values, &mut store.heap)?;
+        self.push_answer(answer)
     }
 
     pub fn dict(&mut self, unit: &Unit, store: &mut Store) -> Acted

@@ -1,14 +1,22 @@
 // The operands of a frame.
-ghost use Rattle.std.specs.Prelude.{◌≡◌, ◌∷◌, ◌++◌, None, Some, length, map, take, drop, remove, reverse, nat_le, slice_get, IfOk, OnOk, MatchOption};
+ghost use Rattle.std.specs.Prelude.{◌≡◌, ◌∷◌, ◌++◌, List, None, Some, length, map, take, drop, remove, reverse, nat_le, slice_get, IfOk, OnOk, MatchOption};
 ghost use Rattle.py_value.specs.HeapView.{plain_heap};
-ghost use Rattle.py_value.specs.View.{plains};
-ghost use Rattle.py_code.specs.Configurations.{of_value};
+ghost use Rattle.py_value.specs.View.{plain, plains};
+ghost use Rattle.py_builtins.specs.Making.{sliced};
+ghost use Rattle.py_code.specs.declared.instr.Instr.TheVariants.{Slice};
+ghost use Rattle.py_code.specs.Changes.{halted, heap_of};
+ghost use Rattle.py_code.specs.Configurations.{Configuration, of_value, stuck};
+ghost use Rattle.py_code.specs.Machine.{act, makes};
 ghost use Rattle.py_code.specs.Operands.{value_in};
+ghost use Rattle.py_code.specs.Slots.{by_slots};
+ghost use Rattle.py_code.specs.Units.{Code, Module};
+ghost use Rattle.py_store.specs.Values.{plain_option};
 ghost use Rattle.py_instructions.specs.Operands.{plain_operand, borrows_if_any};
-ghost use Rattle.py_instructions.specs.View.{plain_operands, Discards, Inserts, TakesValues, TakesValue, TakesTwo, TakesTwoValues, TakesTruth};
+ghost use Rattle.py_instructions.specs.View.{Slots, plain_operands, Discards, Inserts, TakesValues, TakesValue, TakesTwo, TakesTwoValues, TakesTruth};
 
 use crate::operand::Operand;
 use crate::stack::Stack;
+use py_code::Bounds;
 use py_value::{Heap, NoMemory, Value, truth};
 use std::alloc::Global;
 
@@ -69,6 +77,46 @@ impl Stack<Operand> {
                 None
             }
             Some(left) => Some((left, right)),
+        }
+    }
+
+    /// Takes the value that a slice is of away, and those of the bounds that it has.
+    pub fn take_sliced(&mut self, bounds: Bounds) -> Option<(Value, Option<Value>, Option<Value>)>
+        ensures { MatchOption result
+            ((ms : List Module) (u : Code) (c : Configuration Slots) →
+            act (by_slots ms) ms u (Slice bounds) (plain_operands self.old) c ≡ halted stuck c)
+            (λ x. (ms : List Module) (u : Code) (c : Configuration Slots) →
+            act (by_slots ms) ms u (Slice bounds) (plain_operands self.old) c
+            ≡ makes (by_slots ms) ms
+            (sliced (plain x.0) (plain_option x.1) (plain_option x.2) (heap_of c))
+            (plain_operands self.new) c) }
+    {
+        match bounds {
+            Bounds::Neither => match self.take_value() {
+                None => None,
+                Some(of) => Some((of, None, None)),
+            },
+            Bounds::From => match self.take_two_values() {
+                None => None,
+                Some((of, first)) => Some((of, Some(first), None)),
+            },
+            Bounds::To => match self.take_two_values() {
+                None => None,
+                Some((of, last)) => Some((of, None, Some(last))),
+            },
+            Bounds::Both => {
+                let Some((first, last)) = self.take_two_values() else {
+                    return None;
+                };
+                match self.take_value() {
+                    None => {
+                        drop(first);
+                        drop(last);
+                        None
+                    }
+                    Some(of) => Some((of, Some(first), Some(last))),
+                }
+            }
         }
     }
 

@@ -1,6 +1,5 @@
 // Operators, items and attributes.
 ghost use Rattle.std.specs.Prelude.{◌<◌, IfOk};
-ghost use Rattle.py_code.specs.declared.instr.Bounds.TheVariants.{Neither, From as FromOnly, To as ToOnly, Both};
 ghost use Rattle.py_code.specs.declared.instr.Instr.TheVariants.{Not, Binary, InPlace, Compare, Index, Slice, StoreIndex, Unpack};
 ghost use Rattle.py_instructions.specs.View.{ActsIn};
 
@@ -36,10 +35,7 @@ impl State {
         let answer = binary(alloc, op, &left, &right, &mut store.heap);
         drop(left);
         drop(right);
-        match answer? {
-            Ok(value) => self.push(Operand::Value(value)),
-            Err(raised) => Ok(Turn::Throws(raised)),
-        }
+        self.push_answer(answer?)
     }
 
     pub fn in_place(&mut self, alloc: Global, unit: &Unit, op: BinOp, store: &mut Store) -> Acted
@@ -52,10 +48,7 @@ impl State {
         let answer = in_place(alloc, op, &left, &right, &mut store.heap);
         drop(left);
         drop(right);
-        match answer? {
-            Ok(value) => self.push(Operand::Value(value)),
-            Err(raised) => Ok(Turn::Throws(raised)),
-        }
+        self.push_answer(answer?)
     }
 
     pub fn compare(
@@ -142,85 +135,13 @@ impl State {
         ensures { IfOk result
             (ActsIn unit.now (Slice bounds) self.old store.old self.new store.new) }
     {
-        match bounds {
-            Bounds::Neither => self.slice_whole(alloc, unit, store),
-            Bounds::From => self.slice_from(alloc, unit, store),
-            Bounds::To => self.slice_to(alloc, unit, store),
-            Bounds::Both => self.slice_between(alloc, unit, store),
-        }
-    }
-
-    fn slice_whole(&mut self, alloc: Global, unit: &Unit, store: &mut Store) -> Acted
-        requires { self.old.top.place < usize.MAX }
-        ensures { IfOk result
-            (ActsIn unit.now (Slice Neither) self.old store.old self.new store.new) }
-    {
-        let Some(of) = self.top.operands.take_value() else {
+        let Some((of, from, to)) = self.top.operands.take_sliced(bounds) else {
             return Ok(Turn::Stuck);
         };
-        let answer = sliced(alloc, &of, &None, &None, &mut store.heap);
-        drop(of);
-        match answer? {
-            Ok(value) => self.push(Operand::Value(value)),
-            Err(raised) => Ok(Turn::Throws(raised)),
-        }
-    }
-
-    fn slice_from(&mut self, alloc: Global, unit: &Unit, store: &mut Store) -> Acted
-        requires { self.old.top.place < usize.MAX }
-        ensures { IfOk result
-            (ActsIn unit.now (Slice FromOnly) self.old store.old self.new store.new) }
-    {
-        let Some((of, first)) = self.top.operands.take_two_values() else {
-            return Ok(Turn::Stuck);
-        };
-        let from = Some(first);
-        let answer = sliced(alloc, &of, &from, &None, &mut store.heap);
-        drop(of);
-        drop(from);
-        match answer? {
-            Ok(value) => self.push(Operand::Value(value)),
-            Err(raised) => Ok(Turn::Throws(raised)),
-        }
-    }
-
-    fn slice_between(&mut self, alloc: Global, unit: &Unit, store: &mut Store) -> Acted
-        requires { self.old.top.place < usize.MAX }
-        ensures { IfOk result (ActsIn unit.now (Slice Both) self.old store.old self.new store.new) }
-    {
-        let Some((first, last)) = self.top.operands.take_two_values() else {
-            return Ok(Turn::Stuck);
-        };
-        let Some(of) = self.top.operands.take_value() else {
-            return Ok(Turn::Stuck);
-        };
-        let from = Some(first);
-        let to = Some(last);
         let answer = sliced(alloc, &of, &from, &to, &mut store.heap);
         drop(of);
         drop(from);
         drop(to);
-        match answer? {
-            Ok(value) => self.push(Operand::Value(value)),
-            Err(raised) => Ok(Turn::Throws(raised)),
-        }
-    }
-
-    fn slice_to(&mut self, alloc: Global, unit: &Unit, store: &mut Store) -> Acted
-        requires { self.old.top.place < usize.MAX }
-        ensures { IfOk result
-            (ActsIn unit.now (Slice ToOnly) self.old store.old self.new store.new) }
-    {
-        let Some((of, last)) = self.top.operands.take_two_values() else {
-            return Ok(Turn::Stuck);
-        };
-        let to = Some(last);
-        let answer = sliced(alloc, &of, &None, &to, &mut store.heap);
-        drop(of);
-        drop(to);
-        match answer? {
-            Ok(value) => self.push(Operand::Value(value)),
-            Err(raised) => Ok(Turn::Throws(raised)),
-        }
+        self.push_answer(answer?)
     }
 }

@@ -1,6 +1,9 @@
 // What stands in brackets, a token at a time.
 
-ghost use Rattle.py_parse_expr.specs.ExprViews.{IsMeasured, AreMeasured, AreEntries, ValidOpener, ValidBound, ValidClass};
+ghost use Rattle.std.specs.Prelude.{IfOk};
+ghost use Rattle.py_syntax.specs.Tree.{Expr};
+ghost use Rattle.py_grammar.specs.Machine.{on, post_rest, Next, Have};
+ghost use Rattle.py_parse_expr.specs.ExprViews.{IsMeasured, AreMeasured, AreEntries, ValidOpener, ValidBound, ValidClass, Makes};
 ghost use Rattle.py_parse_expr.specs.ExprStacks.{Valid};
 ghost use Rattle.py_parse_expr.specs.ExprTurns.{in_bracket, in_braces, Moves, Steps};
 
@@ -15,6 +18,21 @@ use py_parse_fields::token_classes::Symbol;
 use py_value::NoMemory;
 use std::alloc::Global;
 
+/// A tree is made that may be called, indexed or asked for a name.
+pub fn closed(stack: &mut Stack, whole: Result<Measured, NoMemory>) -> Result<Turn, NoMemory>
+    requires { Valid stack.old.limit stack.old }
+    ensures { (e : Expr) → IfOk whole (Makes e)
+        → Moves (λ k. Next (Have e (on post_rest k))) stack.old stack.new result }
+{
+    match whole {
+        Ok(measured) => {
+            stack.push(Frame::PostRest)?;
+            Ok(Turn::Next(Progress::Have(measured)))
+        }
+        Err(error) => Err(error),
+    }
+}
+
 pub fn after_open(alloc: Global, stack: &mut Stack, class: TokenClass) -> Result<Turn, NoMemory>
     requires valid { Valid stack.old.limit stack.old }
     requires class { ValidClass class }
@@ -22,9 +40,8 @@ pub fn after_open(alloc: Global, stack: &mut Stack, class: TokenClass) -> Result
 {
     match class {
         TokenClass::Symbol(Symbol::RightParen) => {
-            stack.push(Frame::PostRest)?;
-            let measured = tuple(alloc, Row::new(alloc), false)?;
-            Ok(Turn::Next(Progress::Have(measured)))
+            let whole = tuple(alloc, Row::new(alloc), false);
+            closed(stack, whole)
         }
         rest => begin_in(alloc, stack, Frame::InParen, Precedence::Exprs, rest),
     }
@@ -47,9 +64,8 @@ pub fn in_items(
 {
     if closes(&opener, &class) {
         drop(class);
-        let measured = made(alloc, opener, items, comma)?;
-        stack.push(Frame::PostRest)?;
-        return Ok(Turn::Next(Progress::Have(measured)));
+        let whole = made(alloc, opener, items, comma);
+        return closed(stack, whole);
     }
     begin_in(
         alloc,
@@ -75,9 +91,8 @@ pub fn in_dict(
 {
     match class {
         TokenClass::Symbol(Symbol::RightBrace) => {
-            let measured = dict(alloc, entries, comma)?;
-            stack.push(Frame::PostRest)?;
-            Ok(Turn::Next(Progress::Have(measured)))
+            let whole = dict(alloc, entries, comma);
+            closed(stack, whole)
         }
         rest => begin_in(alloc, stack, Frame::InKey(entries), Precedence::Expr, rest),
     }
@@ -115,9 +130,8 @@ pub fn slice_colon(
 {
     match class {
         TokenClass::Symbol(Symbol::RightBracket) => {
-            let measured = slice(alloc, of, from, None)?;
-            stack.push(Frame::PostRest)?;
-            Ok(Turn::Next(Progress::Have(measured)))
+            let whole = slice(alloc, of, from, None);
+            closed(stack, whole)
         }
         rest => begin_in(
             alloc,

@@ -1,9 +1,12 @@
 // An expression is whole as far as the stack knows, and a token comes: one function for each frame.
 
-ghost use Rattle.std.specs.Prelude.{◌≡◌};
-ghost use Rattle.py_parse_expr.specs.ExprViews.{view_class, view_opener, IsMeasured, AreMeasured, AreEntries, IsChain, ValidOpener, ValidBound};
+ghost use Rattle.std.specs.Prelude.{◌≡◌, IfOk};
+ghost use Rattle.py_syntax.specs.Tree.{Expr};
+ghost use Rattle.py_grammar.specs.TokenClasses as classes_;
+ghost use Rattle.py_grammar.specs.Machine.{Ctx, give};
+ghost use Rattle.py_parse_expr.specs.ExprViews.{view_class, view_opener, IsMeasured, AreMeasured, AreEntries, IsChain, ValidOpener, ValidBound, Makes};
 ghost use Rattle.py_parse_expr.specs.ExprStacks.{ValidFrame};
-ghost use Rattle.py_parse_expr.specs.ExprTurns.{is_comma, closes, Links, MeetsAs, Meets};
+ghost use Rattle.py_parse_expr.specs.ExprTurns.{is_comma, closes, Becomes, Links, MeetsAs, Meets};
 
 use crate::expr_classes::TokenClass;
 use crate::expr_nodes::{
@@ -17,6 +20,17 @@ use py_parse_fields::token_classes::Symbol;
 use py_syntax::Comparison;
 use py_value::{CmpOp, NoMemory};
 use std::alloc::Global;
+
+/// A tree is made for the next frame.
+pub fn passed(whole: Result<Measured, NoMemory>) -> Result<FrameStep, NoMemory>
+    ensures { (e : Expr) (k : Ctx) (t : classes_.TokenClass) → IfOk whole (Makes e)
+        → Becomes (give e k t) k t result }
+{
+    match whole {
+        Ok(measured) => Ok(FrameStep::Passes(measured)),
+        Err(error) => Err(error),
+    }
+}
 
 pub fn exprs_first(
     alloc: Global,

@@ -12,7 +12,7 @@ ghost use Rattle.py_parse_expr.specs.ExprTurns.{Meets};
 use crate::expr_classes::TokenClass;
 use crate::expr_frames::{
     compare_first, compare_rest, cond_first, cond_test, exprs_first, exprs_rest, in_index,
-    in_items, in_key, in_paren, in_value, index_first, operand, post_rest, right, slice_to,
+    in_items, in_key, in_paren, in_value, index_first, operand, passed, post_rest, right, slice_to,
 };
 use crate::expr_nodes::{
     Chain, Entries, Measured, Opener, Row, both, bound_height, conditional, higher, negation, unary,
@@ -112,15 +112,13 @@ impl Frame {
             Frame::ExprsRest(items) => exprs_rest(alloc, items, measured, class),
             Frame::CondFirst => Ok(cond_first(measured, class)),
             Frame::CondTest(body) => Ok(cond_test(body, measured, class)),
-            Frame::CondElse(body, test) => {
-                Ok(FrameStep::Passes(conditional(alloc, body, test, measured)?))
-            }
+            Frame::CondElse(body, test) => passed(conditional(alloc, body, test, measured)),
             Frame::First(precedence) => Ok(operand(precedence, measured, class)),
             Frame::Right(operator, left) => right(alloc, operator, left, measured, class),
-            Frame::NotOf => Ok(FrameStep::Passes(negation(alloc, measured)?)),
+            Frame::NotOf => passed(negation(alloc, measured)),
             Frame::CompareFirst => compare_first(alloc, measured, class),
             Frame::CompareRest(chain, op) => compare_rest(alloc, chain, op, measured, class),
-            Frame::UnaryOf(sign) => Ok(FrameStep::Passes(unary(alloc, sign, measured)?)),
+            Frame::UnaryOf(sign) => passed(unary(alloc, sign, measured)),
             Frame::PostRest => Ok(post_rest(measured, class)),
             Frame::InItems(opener, items) => in_items(alloc, opener, items, measured, class),
             Frame::IndexFirst(of) => index_first(alloc, of, measured, class),

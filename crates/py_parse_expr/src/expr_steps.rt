@@ -9,6 +9,7 @@ ghost use Rattle.py_parse_expr.specs.ExprViews.{IsMeasured, ValidClass, ValidStr
 ghost use Rattle.py_parse_expr.specs.ExprStacks.{opened, upto_post, ValidGoal, ValidItems, ValidFrame, Valid};
 ghost use Rattle.py_parse_expr.specs.ExprTurns.{view_at, ValidAt, prefixed, begin_in, Leaves, Moves, Steps};
 
+use crate::expr_brackets::closed;
 use crate::expr_classes::TokenClass;
 use crate::expr_frames::is_comma;
 use crate::expr_nodes::{Measured, Opener, Row, Strings, attribute, tuple};
@@ -375,9 +376,8 @@ pub fn after_dot(
 {
     match class {
         TokenClass::Name(text) => {
-            let measured = attribute(alloc, of, text)?;
-            stack.push(Frame::PostRest)?;
-            Ok(Turn::Next(Progress::Have(measured)))
+            let whole = attribute(alloc, of, text);
+            closed(stack, whole)
         }
         other => {
             drop(other);

@@ -3,19 +3,21 @@ use Rattle.std.proofs.Common.{◌≡◌, ℕ, ◌+◌, ◌<◌, ◌≤◌, Bool,
 use Rattle.py_syntax.specs.declared.expr.Comparison.TheVariants.{Op}
 use Rattle.py_syntax.specs.Tree.{Expr, Parts, no_parts, tuple, not', unary, compare, exprs}
 use Rattle.py_syntax.specs.Tree as tree_
-use Rattle.py_syntax.specs.Kinds.{Kind, FString, Pieces, no_pieces, chars_piece, field_piece, Kinds, kinds}
-use Rattle.py_grammar.specs.TokenClasses.{TokenClass, t_format, t_bad_format, joined}
+use Rattle.py_syntax.specs.Kinds.{Kind, FString, Pieces, End, no_pieces, chars_piece, field_piece, Kinds, no_kinds, kinds}
+use Rattle.py_grammar.specs.TokenClasses.{TokenClass, t_format, t_bad_format, t_other, joined}
 use Rattle.py_grammar.specs.Machine.{snoc, snoc_link, any, one, target, targets, a_call, a_list, exprs_first, exprs_rest, cond_first, cond_test, cond_else, first, right, not_of, compare_first, compare_rest, unary_of, post_rest, in_items, index_first, in_index, slice_to, in_paren, in_key, in_value, Ctx, Outside, on, State, Want, Have, Strings, AfterOpen, AfterComma, AfterTarget, ItemsOpen, ItemsComma, DictOpen, DictComma, IndexOpen, SliceColon, AfterDot, AfterNot, AfterIs, AfterIsNot, Linked, Out, Next, Stuck, Left, leave, give, step, start, format_class, class, parts, field_expr}
 use Rattle.py_parse_fields.specs.declared.token_classes.TokenClass as code_class
 use Rattle.py_parse_fields.specs.declared.reader.Reader.{Reader}
 use Rattle.py_parse_fields.specs.declared.reader.Turn.{Turn}
+use Rattle.py_parse_fields.specs.declared.reader.Turn.TheVariants as turn_
 use Rattle.py_parse_fields.specs.Frames.{bare_class, view_class}
-use Rattle.py_parse_fields.specs.Reader.{view_reader, view_turn, Acts}
+use Rattle.py_parse_fields.specs.Reader.{view_reader, view_turn, is_left, Acts}
 use Rattle.py_parse_fields.specs.Order.{shallow, formats, each_spelled, weight, field_weight, kind_weight, load}
-use Rattle.py_grammar.proofs.Sound.Spelled.{field_after}
+use Rattle.py_grammar.specs.Bare.{bare_out}
+use Rattle.py_grammar.proofs.Sound.Spelled.{field_after, ended_by}
 use Rattle.py_parse_fields.proofs.TokenClasses.{same_step}
 use Rattle.std.proofs.Common.{drop, length, get_or}
-use Rattle.std.proofs.lemmas.List.{append-nil, at_drop_more}
+use Rattle.std.proofs.lemmas.List.{append-nil, at_drop_all, at_drop_more}
 use Rattle.std.specs.Borrow.{Bor}
 use Rattle.std.specs.Global.{Vec}
 use Rattle.py_token.specs.declared.token.Token.{Token, out-Token}
@@ -177,6 +179,29 @@ field_next ts i t r class turn all bound old now new h at w acts inv =
       omega (arith, load_append inv.added (formats k), formats_load k),
     )
 
+ended_told : (o : Out) (turn : Turn) → bare_out o ≡ bare_out (view_turn turn) → is_left (view_turn turn) ≡ is_some (ended_by o)
+ended_told (Next s) (turn_.Next r) is = refl
+ended_told (Next s) turn_.Stuck is = refl
+ended_told (Next s) turn_.Left is = absurd cc
+ended_told Stuck (turn_.Next r) is = refl
+ended_told Stuck turn_.Stuck is = refl
+ended_told Stuck turn_.Left is = absurd cc
+ended_told (Left e) (turn_.Next r) is = absurd cc
+ended_told (Left e) turn_.Stuck is = absurd cc
+ended_told (Left e) turn_.Left is = refl
+
+-- after the last token
+pub field_ends : (ts : List Token) (i : ℕ) (r : Reader) (turn : Turn) (all told : Bool) (bound : ℕ) (old now : List Pieces) → length ts ≤ i → Acts (step (view_reader r) (t_other End)) (Ok turn) → told ≡ is_left (view_turn turn) → FieldSoFar all bound old now (view_reader r) (row (drop i ts)) → Asks all told bound old now
+field_ends ts i r turn all told bound old now over acts is inv =
+    let none : row (drop i ts) ≡ no_kinds = at_drop_all row ts i over in
+    let low = inv.few in
+    record {
+      added = inv.added;
+      waits = inv.waits;
+      is = inv.is ∙ ap (λ (x : Kinds). is_some (field_expr (view_reader r) x) && each_spelled inv.added) none ∙ ap (λ (b : Bool). b && each_spelled inv.added) (sym (is ∙ ended_told (step (view_reader r) (t_other End)) turn acts));
+      few = omega arith;
+    }
+
 -- ---- the pieces of an f-string
 
 pub pieces_begin : (old : List Pieces) (ps : Pieces) → PiecesSoFar (is_some (parts ps)) (weight ps) old old ps
@@ -221,11 +246,31 @@ pieces_field ps i p v ts b told all bound old now new h at is items same asks in
       omega (arith, load_append inv.added asks.added),
     )
 
+-- after the last piece
+pub pieces_end : (ps : List Piece) (i : ℕ) (all : Bool) (bound : ℕ) (old now : List Pieces) → length ps ≤ i → PiecesSoFar all bound old now (plain_pieces (drop i ps)) → Asks all true bound old now
+pieces_end ps i all bound old now over inv =
+    let none : plain_pieces (drop i ps) ≡ no_pieces = at_drop_all plain_pieces ps i over in
+    let weighs = ap weight none in
+    let low = inv.few in
+    record {
+      added = inv.added;
+      waits = inv.waits;
+      is = inv.is ∙ ap (λ (x : Pieces). is_some (parts x) && each_spelled inv.added) none;
+      few = omega arith;
+    }
+
 -- ---- the f-strings that wait
 
 waiting_append : (xs : List (Bor (List Piece))) (w : Bor (List Piece)) → waiting_of (xs ++ w ∷ []) ≡ waiting_of xs ++ plain_pieces w.now ∷ []
 waiting_append [] w = refl
 waiting_append (x ∷ xs) w = ap (λ (ys : List Pieces). plain_pieces x.now ∷ ys) (waiting_append xs w)
+
+-- one f-string waits
+pub one_waits : (none all : List (Bor (List Piece))) (w : Bor (List Piece)) → none ≡ [] → all ≡ none ++ w ∷ [] → is_some (parts (plain_pieces w.now)) ≡ each_spelled (waiting_of all)
+one_waits none all w empty is =
+    sym (and_true (is_some (parts (plain_pieces w.now))))
+    ∙ ap (λ (ws : List (Bor (List Piece))). each_spelled (waiting_of (ws ++ w ∷ []))) (sym empty)
+    ∙ ap (λ (ws : List (Bor (List Piece))). each_spelled (waiting_of ws)) (sym is)
 
 pub next_told : (all b told : Bool) (before taken : List (Bor (List Piece))) (w : Bor (List Piece)) (new : List Pieces) → before ≡ taken ++ w ∷ [] → b ≡ told → Asks (is_some (parts (plain_pieces w.now))) b (weight (plain_pieces w.now)) (waiting_of taken) new → all ≡ each_spelled (waiting_of before) → (all ≡ (told && each_spelled new)) × (load new < load (waiting_of before))
 next_told all b told before taken w new is same asks inv =

@@ -346,8 +346,13 @@ fn give(alloc: Global, measured: Measured, rows: Rows, class: TokenClass) -> Res
         }
         rest => {
             let (rows, alternatives) = parted(alloc, rows);
-            let measured = joined(alternatives, measured)?;
-            offer(alloc, measured, rows, rest)
+            match joined(alternatives, measured) {
+                Ok(measured) => offer(alloc, measured, rows, rest),
+                Err(error) => {
+                    drop(rest);
+                    Err(error)
+                }
+            }
         }
     }
 }

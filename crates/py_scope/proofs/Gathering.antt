@@ -2,6 +2,8 @@
 use Rattle.std.proofs.Common.{◌≡◌, ℕ, suc, ◌+◌, ◌<◌, ◌≤◌, List, [], ◌∷◌, ◌++◌, Bool, true, false, ◌||◌, Result, Ok, Err, OnOk, drop, length, get_or, refl, ap, sym, ◌∙◌, append_assoc, drop-cons, add-one}
 use Rattle.std.proofs.Math.ListN.{drop_of_length-le}
 use Rattle.std.proofs.lemmas.List.{append-nil}
+use Rattle.std.proofs.lemmas.Result.{IfOk-from_err}
+use Rattle.std.specs.Result.{IsErr}
 use Rattle.py_syntax.specs.Tree.{Text}
 use Rattle.py_syntax.specs.Names.{add_name, add_names}
 use Rattle.py_scope.specs.declared.occurrence.Occurrence.{Occurrence}
@@ -83,6 +85,30 @@ pub goes_on : {S L E : Type 0} (G : Gathers S L) (r : Result (Unit {0}) E) (s m 
 goes_on G (Ok u) s m n x y z h e f = h ∙ ap (λ k. G.put k y) e ∙ sym (G.joined s x y) ∙ ap (G.put s) (sym f)
 goes_on G (Err e') s m n x y z h e f = h
 
+-- three parts in a row, and four
+pub three : {S L E : Type 0} (G : Gathers S L) (r : Result (Unit {0}) E) (s k m n : S) (x y z all : L) → k ≡ G.put s x → m ≡ G.put k y → OnOk r (n ≡ G.put m z) → all ≡ G.join x (G.join y z) → OnOk r (n ≡ G.put s all)
+three G r s k m n x y z all e f h is = goes_on G r s k n x (G.join y z) all (goes_on G r k m n y z (G.join y z) h f refl) e is
+
+pub four_parts : {S L E : Type 0} (G : Gathers S L) (r : Result (Unit {0}) E) (s j k m n : S) (w x y z all : L) → j ≡ G.put s w → k ≡ G.put j x → m ≡ G.put k y → OnOk r (n ≡ G.put m z) → all ≡ G.join w (G.join x (G.join y z)) → OnOk r (n ≡ G.put s all)
+four_parts G r s j k m n w x y z all d e f h is = goes_on G r s j n w (G.join x (G.join y z)) all (three G r j k m n x y z (G.join x (G.join y z)) e f h refl) d is
+
+-- two parts that were taken
+pub both_taken : {S L : Type 0} (G : Gathers S L) (s m n : S) (x y : L) → m ≡ G.put s x → n ≡ G.put m y → n ≡ G.put s (G.join x y)
+both_taken G s m n x y e h = h ∙ ap (λ k. G.put k y) e ∙ sym (G.joined s x y)
+
+-- a part under another name
+pub renamed : {S L E : Type 0} (G : Gathers S L) (r : Result (Unit {0}) E) (s n : S) (x y : L) → y ≡ x → OnOk r (n ≡ G.put s x) → OnOk r (n ≡ G.put s y)
+renamed G (Ok u) s n x y e h = h ∙ ap (G.put s) (sym e)
+renamed G (Err e') s n x y e h = h
+
+-- a part with nothing in it
+pub silent : {S L : Type 0} (G : Gathers S L) (s : S) (x : L) → x ≡ G.unit → s ≡ G.put s x
+silent G s x e = sym (G.none s) ∙ ap (G.put s) (sym e)
+
+-- where memory doesn't suffice
+pub stopped : {T E : Type 0} (P : Type 0) (r : Result T E) → IsErr r → OnOk r P
+stopped P r h = IfOk-from_err r (λ _. P) h
+
 -- the end of a loop over a list: nothing is left
 pub at_end : {S L X : Type 0} (G : Gathers S L) (F : List X → L) → F [] ≡ G.unit → (now was : S) (xs : List X) (i : ℕ) → length xs ≤ i → G.put now (F (drop i xs)) ≡ G.put was (F xs) → now ≡ G.put was (F xs)
 at_end G F e now was xs i le h = sym (G.none now) ∙ ap (G.put now) (sym e ∙ ap F (sym (drop_of_length-le xs le))) ∙ h
@@ -95,6 +121,12 @@ pub a_turn : {S L X : Type 0} (G : Gathers S L) (F : List X → L) (f : X → L)
     → next ≡ G.put now (f x) → G.put now (F (drop i xs)) ≡ w → G.put next (F (drop (i + 1) xs)) ≡ w
 a_turn G F f step now next w xs i x lt is e h =
     ap (λ k. G.put k (F (drop (i + 1) xs))) e ∙ sym (G.joined now (f x) (F (drop (i + 1) xs))) ∙ ap (G.put now) (sym (step x (drop (i + 1) xs)) ∙ ap F (sym (the_drop xs i x lt is))) ∙ h
+
+-- the same where what is put is told apart by the element's form
+pub turned : {S L X : Type 0} (G : Gathers S L) (F : List X → L) (now next w : S) (xs : List X) (i : ℕ) (x : X) (y : L) → i < length xs → x ≡ get_or xs i x
+    → F (x ∷ drop (i + 1) xs) ≡ G.join y (F (drop (i + 1) xs)) → next ≡ G.put now y → G.put now (F (drop i xs)) ≡ w → G.put next (F (drop (i + 1) xs)) ≡ w
+turned G F now next w xs i x y lt is step e h =
+    ap (λ k. G.put k (F (drop (i + 1) xs))) e ∙ sym (G.joined now y (F (drop (i + 1) xs))) ∙ ap (G.put now) (sym step ∙ ap F (sym (the_drop xs i x lt is))) ∙ h
 
 -- the same for a function that takes nothing but the list
 pub all_told : {S L X : Type 0} (G : Gathers S L) (F : List X → L) → F [] ≡ G.unit → (now : S) (w : S) (xs : List X) (i : ℕ) → length xs ≤ i → G.put now (F (drop i xs)) ≡ w → now ≡ w

@@ -1,7 +1,12 @@
 pub mod Alternatives
+pub mod Bindings
 pub mod Firsts
+pub mod Forms
+pub mod Found
 pub mod Gathering
 pub mod Linking
 pub mod NameSets
+pub mod Nodes
 pub mod Scoped
+pub mod Statements
 pub mod Turns

@@ -1,32 +1,21 @@
 -- A turn over clauses and cases, where it counts whether another one follows.
 use Rattle.std.proofs.Common.{◌≡◌, ℕ, suc, lt-ltb, ◌+◌, ◌<◌, nat_lt, ◌&&◌, List, [], ◌∷◌, length, drop, get_or, Option, Some, None, is_none, is_some, refl, ap, sym, ◌∙◌, length-drop, arith}
 use Rattle.py_syntax.specs.declared.stmt.Case.{Case, out-Case}
-use Rattle.py_syntax.specs.declared.stmt.Case as cases_
 use Rattle.py_syntax.specs.declared.stmt.Clause.{Clause, out-Clause}
-use Rattle.py_syntax.specs.declared.stmt.Clause as clauses_
 use Rattle.std.proofs.Common.{Vec, Global, Result, OnOk}
 use Rattle.py_syntax.specs.declared.stmt.StmtKind as kind_
 use Rattle.py_syntax.specs.declared.stmt.StmtKind.{StmtKind}
 use Rattle.py_syntax.specs.declared.stmt.Suite.{Suite, out-Suite}
-use Rattle.py_syntax.specs.declared.stmt.Suite as suites
-use Rattle.py_syntax.specs.Tree.{try, Expr, Pattern, Suite as PlainSuite, Clauses, clause, Cases, case, suite, Text}
+use Rattle.py_syntax.specs.Tree.{Expr, Pattern, Suite as PlainSuite, Clauses, clause, Cases, case, suite, Text}
 use Rattle.py_syntax.specs.declared.expr.Expr.{Expr as Node}
-use Rattle.py_syntax.specs.View.{plain_expr, plain_pattern, plain_stmts, plain_kind, plain_suite, plain_opt_suite, plain_clauses, plain_cases}
+use Rattle.py_syntax.specs.View.{plain_expr, plain_pattern, plain_kind, plain_suite, plain_opt_suite, plain_clauses, plain_cases}
 use Rattle.std.specs.Option.{option_map}
 use Rattle.py_scope.specs.declared.place.Place.{Place}
 use Rattle.py_scope.specs.declared.error.ScopeError.TheVariants.{EarlyIrrefutable}
 use Rattle.py_scope.specs.Faults.{Findings, ◌&◌, blame, blame_case, findings, suite_findings, clauses_findings, cases_findings, has_clause, has_case, in_clause, in_finally, kind_findings, opt_findings}
 use Rattle.py_scope.specs.Parts.{clause_part, case_part}
 use Rattle.py_scope.proofs.Gathering.{found, the_drop, goes_on}
-
-plain-Suite : (s : Suite) → plain_suite s ≡ suite (out-Suite s).first (out-Suite s).last (out-Suite s).inline (plain_stmts (out-Suite s).body.items)
-plain-Suite s = search suites.the_lemmas
-
-plain-clauses : (c : Clause) (cs : List Clause) → plain_clauses (c ∷ cs) ≡ clause (option_map plain_expr (out-Clause c).kind) (out-Clause c).name (plain_suite (out-Clause c).body) (plain_clauses cs)
-plain-clauses c cs = search clauses_.the_lemmas
-
-plain-cases : (c : Case) (cs : List Case) → plain_cases (c ∷ cs) ≡ case (plain_pattern (out-Case c).pattern) (option_map plain_expr (out-Case c).guard) (plain_suite (out-Case c).body) (plain_cases cs)
-plain-cases c cs = search cases_.the_lemmas
+use Rattle.py_scope.proofs.Forms.{plain-Suite, plain-clauses, plain-cases, plain-Try}
 
 abbrev suite_first : PlainSuite → ℕ
 suite_first (suite first last inline b) = first
@@ -94,12 +83,6 @@ case_turn at now next w cs i n c lt is count e h =
     ∙ ap (λ z. now & z) (sym (case-step at c (drop (i + 1) cs) n (left_over cs i n count)))
     ∙ ap (λ xs. now & cases_findings at (plain_cases xs)) (sym (the_drop cs i c lt is))
     ∙ h
-
-plain-Try : (b : Suite) (cs : Vec Clause Global) (o f : Option Suite) → plain_kind (kind_.Try b cs o f) ≡ try (plain_suite b) (plain_clauses cs.items) (plain_opt_suite o) (plain_opt_suite f)
-plain-Try b cs None None = search kind_.the_lemmas
-plain-Try b cs None (Some f) = search kind_.the_lemmas
-plain-Try b cs (Some o) None = search kind_.the_lemmas
-plain-Try b cs (Some o) (Some f) = search kind_.the_lemmas
 
 -- what is found in a `try`
 try-is : (at inner : Place) (line : ℕ) (k : StmtKind) (b : Suite) (cs : Vec Clause Global) (slice : List Clause) (o f : Option Suite) → k ≡ kind_.Try b cs o f → slice ≡ cs.items → inner ≡ in_finally at

@@ -1,5 +1,6 @@
 pub mod Lookups
 mod Walked
+mod Copied
 mod SetNames
 mod Rooms
 mod OfModules

@@ -22,36 +22,65 @@ fn between(alloc: Global, front: &str, name: &Text, back: &str) -> Result<Text, 
 {
     let mut text = Text::from_str(alloc, front)?;
     text.append(name)?;
-    text.append(&Text::from_str(alloc, back)?)?;
+    text.push_str(back)?;
     Ok(text)
+}
+
+/// An exception of a kind, whose text has a name between two others.
+fn named(
+    alloc: Global,
+    kind: ExcKind,
+    front: &str,
+    name: &Text,
+    back: &str,
+) -> Result<Raised, NoMemory>
+    ensures { IfOk result (λ raised.
+        plain_raised raised ≡ fault kind (chars front.now ++ name.now ++ chars back.now)) }
+{
+    let text = between(alloc, front, name, back)?;
+    Ok(fault(alloc, kind, text)?)
 }
 
 pub fn name_unknown(alloc: Global, name: &Text) -> Result<Raised, NoMemory>
     ensures { IfOk result (λ raised. plain_raised raised ≡ name_unknown name.now) }
 {
-    let text = between(alloc, "name '", name, "' is not defined")?;
-    Ok(fault(alloc, ExcKind::NameError, text)?)
+    Ok(named(
+        alloc,
+        ExcKind::NameError,
+        "name '",
+        name,
+        "' is not defined",
+    )?)
 }
 
 pub fn local_unset(alloc: Global, name: &Text) -> Result<Raised, NoMemory>
     ensures { IfOk result (λ raised. plain_raised raised ≡ local_unset name.now) }
 {
-    let text = between(alloc, "local variable '", name, "' is not set")?;
-    Ok(fault(alloc, ExcKind::UnboundLocalError, text)?)
+    Ok(named(
+        alloc,
+        ExcKind::UnboundLocalError,
+        "local variable '",
+        name,
+        "' is not set",
+    )?)
 }
 
 pub fn no_attribute(alloc: Global, name: &Text) -> Result<Raised, NoMemory>
     ensures { IfOk result (λ raised. plain_raised raised ≡ no_attribute name.now) }
 {
-    let text = between(alloc, "no attribute '", name, "'")?;
-    Ok(fault(alloc, ExcKind::AttributeError, text)?)
+    Ok(named(alloc, ExcKind::AttributeError, "no attribute '", name, "'")?)
 }
 
 pub fn no_module(alloc: Global, name: &Text) -> Result<Raised, NoMemory>
     ensures { IfOk result (λ raised. plain_raised raised ≡ no_module name.now) }
 {
-    let text = between(alloc, "No module named '", name, "'")?;
-    Ok(fault(alloc, ExcKind::ModuleNotFoundError, text)?)
+    Ok(named(
+        alloc,
+        ExcKind::ModuleNotFoundError,
+        "No module named '",
+        name,
+        "'",
+    )?)
 }
 
 pub fn no_import(alloc: Global, module: &Text, name: &Text) -> Result<Raised, NoMemory>
@@ -59,6 +88,6 @@ pub fn no_import(alloc: Global, module: &Text, name: &Text) -> Result<Raised, No
 {
     let mut text = between(alloc, "cannot import name '", name, "' from '")?;
     text.append(module)?;
-    text.append(&Text::from_str(alloc, "'")?)?;
+    text.push_str("'")?;
     Ok(fault(alloc, ExcKind::ImportError, text)?)
 }

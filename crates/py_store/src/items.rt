@@ -136,18 +136,32 @@ pub fn item_of(
     match value {
         Value::List(addr) => Ok(Ok(copy_at(alloc, heap.items(*addr), place)?)),
         Value::Tuple(items) => Ok(Ok(copy_at(alloc, items.as_slice(), place)?)),
-        Value::Str(text) => match text.char_at(place) {
-            None => Ok(Ok(None)),
-            Some(c) => Ok(Ok(Some(Value::Str(Text::of_char(alloc, c)?)))),
-        },
-        Value::Dict(addr) => {
-            if place < key_count(*addr, heap) {
-                Ok(Ok(Some(heap.key(*addr, place)?)))
-            } else {
-                Ok(Ok(None))
-            }
-        }
+        Value::Str(text) => Ok(Ok(character_at(alloc, text, place)?)),
+        Value::Dict(addr) => Ok(Ok(key_at(*addr, heap, place)?)),
         _ => Ok(Err(Raised::of(alloc, Cause::NotIterable)?)),
+    }
+}
+
+/// The character at a place, as a text.
+fn character_at(alloc: Global, text: &Text, place: usize) -> Result<Option<Value>, NoMemory>
+    ensures { IfOk result (λ found.
+        plain_option found ≡ slice_get (characters text.now) place) }
+{
+    match text.char_at(place) {
+        None => Ok(None),
+        Some(c) => Ok(Some(Value::Str(Text::of_char(alloc, c)?))),
+    }
+}
+
+/// A copy of the key at a place.
+fn key_at(dict: Addr, heap: &Heap, place: usize) -> Result<Option<Value>, NoMemory>
+    ensures { IfOk result (λ found.
+        plain_option found ≡ slice_get (dict_keys (plain_heap heap.now) dict.place) place) }
+{
+    if place < key_count(dict, heap) {
+        Ok(Some(heap.key(dict, place)?))
+    } else {
+        Ok(None)
     }
 }
 

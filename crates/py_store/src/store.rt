@@ -216,9 +216,10 @@ impl Store {
         ensures { OnOk result (world_of self.new
             ≡ with_begun «module» (first_names name) (world_of self.old)) }
     {
+        let name = Value::Str(name);
         make_room(alloc, &mut self.globals, module as usize)?;
         let mut names = self.globals[module as usize].unset_all(alloc)?;
-        names.set(&Text::from_str(alloc, "__name__")?, None, Value::Str(name))?;
+        names.set(&Text::from_str(alloc, "__name__")?, None, name)?;
         self.globals[module as usize] = names;
         self.begun.push(module)?;
         Ok(())

@@ -14,7 +14,7 @@ use Rattle.py_emit.specs.Parts.{at_lines, suite_size, try_end, try_body, clause_
 use Rattle.py_emit.specs.WaysView.{plain_ways}
 use Rattle.py_emit.proofs.Ends.{one_more, one_added}
 use Rattle.py_emit.proofs.Forms.{while_size, for_size, try_size, try_end-size}
-use Rattle.py_emit.proofs.KindViews.{body_is, line_is, opt_some_size, opt_some_code, if_shown, while_shown, for_shown, try_shown, match_shown, handlers_node, handlers_size-is, handlers_size-none, handlers_code-none, finally_hand}
+use Rattle.py_emit.proofs.KindViews.{body_is, line_is, opt_some_size, opt_some_code, expr_shown, assign_shown, aug_assign_shown, pass_shown, break_shown, continue_shown, return_shown, raise_shown, assert_shown, import_shown, from_shown, def_shown, if_shown, while_shown, for_shown, try_shown, match_shown, handlers_node, handlers_size-is, handlers_size-none, handlers_code-none, finally_hand}
 use Rattle.py_emit.proofs.Compounds.{if_whole, while_node, while_whole, for_node, for_whole, try_body_node, try_whole, finally_node, match_node}
 use Rattle.py_emit.proofs.SuiteTurns.{stmts_added, stmts_counted, arms_added, arms_counted, clauses_added, clauses_counted, clause_next-is, clause_counts, clause_hand, cases_added, cases_counted, case_begin-is}
 use Rattle.py_emit.proofs.+statements.Goals as goal
@@ -229,6 +229,102 @@ branches::put_match-returns-clause-place t c =
     the_number c.put_cases.result _ _ c.put_cases.ensures.place (omega (arith, one))
 
 -- ---- which statement it is
+
+pub statements::put_kind-returns-in-Expr-clause-cells : goal.statements::put_kind-returns-in-Expr-clause-cells
+statements::put_kind-returns-in-Expr-clause-cells t c =
+    kept c.put_value.result _ _ _ _ (ap (kind_code (at_lines c.args.defs.now) (plain_ways c.args.ways) c.args.at c.args.line) (expr_shown c.args.kind.now c.in-Expr.e c.in-Expr.is)) c.put_value.ensures.cells
+
+pub statements::put_kind-returns-in-Expr-clause-place : goal.statements::put_kind-returns-in-Expr-clause-place
+statements::put_kind-returns-in-Expr-clause-place t c =
+    the_number c.put_value.result _ _ c.put_value.ensures.place (ap (λ n. c.args.at + n) (sym (ap (kind_size (in_hand (plain_ways c.args.ways))) (expr_shown c.args.kind.now c.in-Expr.e c.in-Expr.is))))
+
+pub statements::put_kind-returns-in-Assign-clause-cells : goal.statements::put_kind-returns-in-Assign-clause-cells
+statements::put_kind-returns-in-Assign-clause-cells t c =
+    kept c.put_assign.result _ _ _ _ (ap (kind_code (at_lines c.args.defs.now) (plain_ways c.args.ways) c.args.at c.args.line) (assign_shown c.args.kind.now c.in-Assign.targets c.in-Assign.value c.deref.result.now c.in-Assign.is c.deref.ensures.value)) c.put_assign.ensures.cells
+
+pub statements::put_kind-returns-in-Assign-clause-place : goal.statements::put_kind-returns-in-Assign-clause-place
+statements::put_kind-returns-in-Assign-clause-place t c =
+    the_number c.put_assign.result _ _ c.put_assign.ensures.place (ap (λ n. c.args.at + n) (sym (ap (kind_size (in_hand (plain_ways c.args.ways))) (assign_shown c.args.kind.now c.in-Assign.targets c.in-Assign.value c.deref.result.now c.in-Assign.is c.deref.ensures.value))))
+
+pub statements::put_kind-returns-in-AugAssign-clause-cells : goal.statements::put_kind-returns-in-AugAssign-clause-cells
+statements::put_kind-returns-in-AugAssign-clause-cells t c =
+    kept c.put_aug_assign.result _ _ _ _ (ap (kind_code (at_lines c.args.defs.now) (plain_ways c.args.ways) c.args.at c.args.line) (aug_assign_shown c.args.kind.now c.in-AugAssign.place c.in-AugAssign.op c.in-AugAssign.value c.in-AugAssign.is)) c.put_aug_assign.ensures.cells
+
+pub statements::put_kind-returns-in-AugAssign-clause-place : goal.statements::put_kind-returns-in-AugAssign-clause-place
+statements::put_kind-returns-in-AugAssign-clause-place t c =
+    the_number c.put_aug_assign.result _ _ c.put_aug_assign.ensures.place (ap (λ n. c.args.at + n) (sym (ap (kind_size (in_hand (plain_ways c.args.ways))) (aug_assign_shown c.args.kind.now c.in-AugAssign.place c.in-AugAssign.op c.in-AugAssign.value c.in-AugAssign.is))))
+
+pub statements::put_kind-returns-in-Pass-clause-cells : goal.statements::put_kind-returns-in-Pass-clause-cells
+statements::put_kind-returns-in-Pass-clause-cells t c =
+    kept c.put.result _ _ _ _ (ap (kind_code (at_lines c.args.defs.now) (plain_ways c.args.ways) c.args.at c.args.line) (pass_shown c.args.kind.now c.in-Pass.is)) c.put.ensures.cells
+
+pub statements::put_kind-returns-in-Pass-clause-place : goal.statements::put_kind-returns-in-Pass-clause-place
+statements::put_kind-returns-in-Pass-clause-place t c =
+    the_number c.put.result _ _ c.put.ensures.place (ap (λ n. c.args.at + n) (sym (ap (kind_size (in_hand (plain_ways c.args.ways))) (pass_shown c.args.kind.now c.in-Pass.is))))
+
+pub statements::put_kind-returns-in-Break-clause-cells : goal.statements::put_kind-returns-in-Break-clause-cells
+statements::put_kind-returns-in-Break-clause-cells t c =
+    kept c.put_break.result _ _ _ _ (ap (kind_code (at_lines c.args.defs.now) (plain_ways c.args.ways) c.args.at c.args.line) (break_shown c.args.kind.now c.in-Break.is)) c.put_break.ensures.cells
+
+pub statements::put_kind-returns-in-Break-clause-place : goal.statements::put_kind-returns-in-Break-clause-place
+statements::put_kind-returns-in-Break-clause-place t c =
+    the_number c.put_break.result _ _ c.put_break.ensures.place (ap (λ n. c.args.at + n) (sym (ap (kind_size (in_hand (plain_ways c.args.ways))) (break_shown c.args.kind.now c.in-Break.is))))
+
+pub statements::put_kind-returns-in-Continue-clause-cells : goal.statements::put_kind-returns-in-Continue-clause-cells
+statements::put_kind-returns-in-Continue-clause-cells t c =
+    kept c.put_continue.result _ _ _ _ (ap (kind_code (at_lines c.args.defs.now) (plain_ways c.args.ways) c.args.at c.args.line) (continue_shown c.args.kind.now c.in-Continue.is)) c.put_continue.ensures.cells
+
+pub statements::put_kind-returns-in-Continue-clause-place : goal.statements::put_kind-returns-in-Continue-clause-place
+statements::put_kind-returns-in-Continue-clause-place t c =
+    the_number c.put_continue.result _ _ c.put_continue.ensures.place (ap (λ n. c.args.at + n) (sym (ap (kind_size (in_hand (plain_ways c.args.ways))) (continue_shown c.args.kind.now c.in-Continue.is))))
+
+pub statements::put_kind-returns-in-Return-clause-cells : goal.statements::put_kind-returns-in-Return-clause-cells
+statements::put_kind-returns-in-Return-clause-cells t c =
+    kept c.put_return.result _ _ _ _ (ap (kind_code (at_lines c.args.defs.now) (plain_ways c.args.ways) c.args.at c.args.line) (return_shown c.args.kind.now c.in-Return.e c.in-Return.is)) c.put_return.ensures.cells
+
+pub statements::put_kind-returns-in-Return-clause-place : goal.statements::put_kind-returns-in-Return-clause-place
+statements::put_kind-returns-in-Return-clause-place t c =
+    the_number c.put_return.result _ _ c.put_return.ensures.place (ap (λ n. c.args.at + n) (sym (ap (kind_size (in_hand (plain_ways c.args.ways))) (return_shown c.args.kind.now c.in-Return.e c.in-Return.is))))
+
+pub statements::put_kind-returns-in-Raise-clause-cells : goal.statements::put_kind-returns-in-Raise-clause-cells
+statements::put_kind-returns-in-Raise-clause-cells t c =
+    kept c.put_raise.result _ _ _ _ (ap (kind_code (at_lines c.args.defs.now) (plain_ways c.args.ways) c.args.at c.args.line) (raise_shown c.args.kind.now c.in-Raise.e c.in-Raise.is)) c.put_raise.ensures.cells
+
+pub statements::put_kind-returns-in-Raise-clause-place : goal.statements::put_kind-returns-in-Raise-clause-place
+statements::put_kind-returns-in-Raise-clause-place t c =
+    the_number c.put_raise.result _ _ c.put_raise.ensures.place (ap (λ n. c.args.at + n) (sym (ap (kind_size (in_hand (plain_ways c.args.ways))) (raise_shown c.args.kind.now c.in-Raise.e c.in-Raise.is))))
+
+pub statements::put_kind-returns-in-Assert-clause-cells : goal.statements::put_kind-returns-in-Assert-clause-cells
+statements::put_kind-returns-in-Assert-clause-cells t c =
+    kept c.put_assert.result _ _ _ _ (ap (kind_code (at_lines c.args.defs.now) (plain_ways c.args.ways) c.args.at c.args.line) (assert_shown c.args.kind.now c.in-Assert.test c.in-Assert.why c.in-Assert.is)) c.put_assert.ensures.cells
+
+pub statements::put_kind-returns-in-Assert-clause-place : goal.statements::put_kind-returns-in-Assert-clause-place
+statements::put_kind-returns-in-Assert-clause-place t c =
+    the_number c.put_assert.result _ _ c.put_assert.ensures.place (ap (λ n. c.args.at + n) (sym (ap (kind_size (in_hand (plain_ways c.args.ways))) (assert_shown c.args.kind.now c.in-Assert.test c.in-Assert.why c.in-Assert.is))))
+
+pub statements::put_kind-returns-in-Import-clause-cells : goal.statements::put_kind-returns-in-Import-clause-cells
+statements::put_kind-returns-in-Import-clause-cells t c =
+    kept c.put_import.result _ _ _ _ (ap (kind_code (at_lines c.args.defs.now) (plain_ways c.args.ways) c.args.at c.args.line) (import_shown c.args.kind.now c.in-Import.names c.deref-in-Import.result.now c.in-Import.is c.deref-in-Import.ensures.value)) c.put_import.ensures.cells
+
+pub statements::put_kind-returns-in-Import-clause-place : goal.statements::put_kind-returns-in-Import-clause-place
+statements::put_kind-returns-in-Import-clause-place t c =
+    the_number c.put_import.result _ _ c.put_import.ensures.place (ap (λ n. c.args.at + n) (sym (ap (kind_size (in_hand (plain_ways c.args.ways))) (import_shown c.args.kind.now c.in-Import.names c.deref-in-Import.result.now c.in-Import.is c.deref-in-Import.ensures.value))))
+
+pub statements::put_kind-returns-in-From-clause-cells : goal.statements::put_kind-returns-in-From-clause-cells
+statements::put_kind-returns-in-From-clause-cells t c =
+    kept c.put_from.result _ _ _ _ (ap (kind_code (at_lines c.args.defs.now) (plain_ways c.args.ways) c.args.at c.args.line) (from_shown c.args.kind.now c.in-From.of c.in-From.names c.deref-in-From.result.now c.in-From.is c.deref-in-From.ensures.value)) c.put_from.ensures.cells
+
+pub statements::put_kind-returns-in-From-clause-place : goal.statements::put_kind-returns-in-From-clause-place
+statements::put_kind-returns-in-From-clause-place t c =
+    the_number c.put_from.result _ _ c.put_from.ensures.place (ap (λ n. c.args.at + n) (sym (ap (kind_size (in_hand (plain_ways c.args.ways))) (from_shown c.args.kind.now c.in-From.of c.in-From.names c.deref-in-From.result.now c.in-From.is c.deref-in-From.ensures.value))))
+
+pub statements::put_kind-returns-in-Def-clause-cells : goal.statements::put_kind-returns-in-Def-clause-cells
+statements::put_kind-returns-in-Def-clause-cells t c =
+    kept c.put_def.result _ _ _ _ (ap (kind_code (at_lines c.args.defs.now) (plain_ways c.args.ways) c.args.at c.args.line) (def_shown c.args.kind.now c.in-Def.name c.in-Def.params c.in-Def.defaults c.in-Def.comma c.in-Def.body c.deref-in-Def.result.now c.in-Def.is c.deref-in-Def.ensures.value)) c.put_def.ensures.cells
+
+pub statements::put_kind-returns-in-Def-clause-place : goal.statements::put_kind-returns-in-Def-clause-place
+statements::put_kind-returns-in-Def-clause-place t c =
+    the_number c.put_def.result _ _ c.put_def.ensures.place (ap (λ n. c.args.at + n) (sym (ap (kind_size (in_hand (plain_ways c.args.ways))) (def_shown c.args.kind.now c.in-Def.name c.in-Def.params c.in-Def.defaults c.in-Def.comma c.in-Def.body c.deref-in-Def.result.now c.in-Def.is c.deref-in-Def.ensures.value))))
 
 pub statements::put_kind-returns-in_ok-next-in-If-clause-cells : goal.statements::put_kind-returns-in_ok-next-in-If-clause-cells
 statements::put_kind-returns-in_ok-next-in-If-clause-cells t c =

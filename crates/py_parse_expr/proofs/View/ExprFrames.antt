@@ -1,14 +1,11 @@
 -- What the machine does with a frame, in the forms in which the code does it.
-use Rattle.std.proofs.Common.{◌≡◌, true, false, refl, sym, ap, ◌∙◌}
+use Rattle.std.proofs.Common.{◌≡◌, true, false, refl, sym, ap}
 use Rattle.py_syntax.specs.declared.expr.Comparison.TheVariants.{Op}
 use Rattle.py_syntax.specs.Tree.{Expr, Exprs, Links}
 use Rattle.py_value.specs.declared.operator.CmpOp.{CmpOp}
 use Rattle.py_grammar.specs.TokenClasses.{BinaryOperator, TokenClass, t_compare, t_operator, t_not, t_is, t_comma, t_right_paren, t_right_bracket, operator_precedence, joined}
-use Rattle.py_grammar.specs.Machine.{snoc, snoc_link, Opener, a_call, a_list, Frame, Ctx, on, first, right, compare_rest, in_items, ItemsComma, Linked, Next, Stuck, give, step}
-use Rattle.py_parse_expr.specs.declared.expr_nodes.Measured.{Measured}
-use Rattle.py_parse_expr.specs.declared.expr_turns.FrameStep.TheVariants as frame_step_
-use Rattle.py_parse_expr.specs.ExprViews.{Makes}
-use Rattle.py_parse_expr.specs.ExprTurns.{is_comma, closes, BecomesAs}
+use Rattle.py_grammar.specs.Machine.{snoc, snoc_link, Opener, a_call, a_list, Ctx, on, first, right, compare_rest, in_items, ItemsComma, Linked, Next, Stuck, give, step}
+use Rattle.py_parse_expr.specs.ExprTurns.{is_comma, closes}
 
 pub give_right : (e a : Expr) (i : BinaryOperator) (k : Ctx) (t : TokenClass) → give e (on (right i a) k) t ≡ give (joined i a e) (on (first (operator_precedence i)) k) t
 give_right e a i k (t_operator j) = refl
@@ -30,7 +27,3 @@ give_unclosed e (a_call f) es k t_right_paren h i = absurd cc
 give_unclosed e a_list es k t_right_bracket h i = absurd cc
 give_unclosed e (a_call f) es k t h i = refl
 give_unclosed e a_list es k t h i = refl
-
--- a frame that makes a tree for the next one
-pub passes : (f : Frame) (whole e : Expr) (t : TokenClass) (n : Measured) → ((k : Ctx) → give e (on f k) t ≡ give whole k t) → Makes whole n → (k : Ctx) → BecomesAs (give e (on f k) t) k t (frame_step_.Passes n)
-passes f whole e t n same makes = λ k. (same k ∙ ap (λ (x : Expr). give x k t) (sym makes.is), makes.valid)

@@ -1,10 +1,11 @@
-use Rattle.std.proofs.Common.{refl, sym, ap, ◌∙◌, arith}
+use Rattle.std.proofs.Common.{◌+◌, refl, sym, ap, ◌∙◌, arith}
 use Rattle.py_syntax.specs.View.{plain_expr, plain_stmts, plain_suite, plain_opt_suite, plain_arms, plain_clauses, plain_cases}
 use Rattle.py_compile_expr.proofs.Turns.{the_number, none_counted}
 use Rattle.py_compile.specs.Statements.{kind_size, stmts_size, opt_size, arms_size, clauses_size, cases_size}
 use Rattle.py_emit.proofs.Ends.{one_counted}
 use Rattle.py_emit.proofs.Forms.{while_size, for_size, try_size}
-use Rattle.py_emit.proofs.KindViews.{assign_shown, assert_shown, if_shown, while_shown, for_shown, try_shown, match_shown, body_is, opt_some_size, handlers_size-is, handlers_size-none}
+use Rattle.py_emit.proofs.KindViews.{expr_shown, aug_assign_shown, pass_shown, break_shown, continue_shown, return_shown, raise_shown, global_shown, import_shown, from_shown, def_shown, assign_shown, assert_shown, if_shown, while_shown, for_shown, try_shown, match_shown, body_is, opt_some_size, handlers_size-is, handlers_size-none}
+use Rattle.py_emit.proofs.Rows.{one_each_side, one_in_front, four_in_front}
 use Rattle.py_emit.proofs.SuiteTurns.{stmts_counted, arms_counted, clauses_counted, cases_counted}
 use Rattle.py_emit.proofs.suite_sizes.+sizes.Goals as goal
 
@@ -59,6 +60,46 @@ opt_size-returns-in-Some t c =
     the_number c.suite_size.result _ _ c.suite_size.ensures (sym (ap (λ o. opt_size c.args.handled (plain_opt_suite o)) c.in-Some.is ∙ opt_some_size c.args.handled (plain_suite c.in-Some.s)))
 
 -- ---- which statement it is
+
+pub kind_size-returns-in_ok-expr_size-in-Expr : goal.kind_size-returns-in_ok-expr_size-in-Expr
+kind_size-returns-in_ok-expr_size-in-Expr t c =
+    the_number c.sum.result _ _ c.sum.ensures (ap (λ n. n + 2) c.in_ok-expr_size-in-Expr.ensures ∙ one_each_side _ ∙ sym (ap (kind_size c.args.handled) (expr_shown c.args.kind.now c.in-Expr.e c.in-Expr.is)))
+
+pub kind_size-returns-in_ok-augment_size-in-AugAssign : goal.kind_size-returns-in_ok-augment_size-in-AugAssign
+kind_size-returns-in_ok-augment_size-in-AugAssign t c =
+    the_number c.sum-in-AugAssign.result _ _ c.sum-in-AugAssign.ensures (ap (λ n. n + 1) c.in_ok-augment_size-in-AugAssign.ensures ∙ one_in_front _ ∙ sym (ap (kind_size c.args.handled) (aug_assign_shown c.args.kind.now c.in-AugAssign.place c.in-AugAssign.op c.in-AugAssign.value c.in-AugAssign.is)))
+
+pub kind_size-returns-in_ok-option_size-in-Return : goal.kind_size-returns-in_ok-option_size-in-Return
+kind_size-returns-in_ok-option_size-in-Return t c =
+    the_number c.sum-in-Return.result _ _ c.sum-in-Return.ensures (ap (λ n. n + 2) c.in_ok-option_size-in-Return.ensures ∙ one_each_side _ ∙ sym (ap (kind_size c.args.handled) (return_shown c.args.kind.now c.in-Return.e c.in-Return.is)))
+
+pub kind_size-returns-in_ok-raise_size-in-Raise : goal.kind_size-returns-in_ok-raise_size-in-Raise
+kind_size-returns-in_ok-raise_size-in-Raise t c =
+    the_number c.sum-in-Raise.result _ _ c.sum-in-Raise.ensures (ap (λ n. n + 1) c.in_ok-raise_size-in-Raise.ensures ∙ one_in_front _ ∙ sym (ap (kind_size c.args.handled) (raise_shown c.args.kind.now c.in-Raise.e c.in-Raise.is)))
+
+pub kind_size-returns-in_ok-import_size-in-Import : goal.kind_size-returns-in_ok-import_size-in-Import
+kind_size-returns-in_ok-import_size-in-Import t c =
+    the_number c.sum-in-Import.result _ _ c.sum-in-Import.ensures (ap (λ n. n + 1) c.in_ok-import_size-in-Import.ensures ∙ one_in_front _ ∙ sym (ap (kind_size c.args.handled) (import_shown c.args.kind.now c.in-Import.names c.deref-in-Import.result.now c.in-Import.is c.deref-in-Import.ensures.value)))
+
+pub kind_size-returns-in_ok-take_size-in-From : goal.kind_size-returns-in_ok-take_size-in-From
+kind_size-returns-in_ok-take_size-in-From t c =
+    the_number c.sum-in-From.result _ _ c.sum-in-From.ensures (ap (λ n. n + 4) c.in_ok-take_size-in-From.ensures ∙ four_in_front _ ∙ sym (ap (kind_size c.args.handled) (from_shown c.args.kind.now c.in-From.field-0 c.in-From.names c.deref-in-From.result.now c.in-From.is c.deref-in-From.ensures.value)))
+
+pub kind_size-returns-in_ok-function_size-in-Def : goal.kind_size-returns-in_ok-function_size-in-Def
+kind_size-returns-in_ok-function_size-in-Def t c =
+    the_number c.sum-in-Def.result _ _ c.sum-in-Def.ensures (ap (λ n. n + 2) c.in_ok-function_size-in-Def.ensures ∙ one_each_side _ ∙ sym (ap (kind_size c.args.handled) (def_shown c.args.kind.now c.in-Def.name c.in-Def.params c.in-Def.defaults c.in-Def.comma c.in-Def.body c.deref-in-Def.result.now c.in-Def.is c.deref-in-Def.ensures.value)))
+
+pub kind_size-returns-in-Pass : goal.kind_size-returns-in-Pass
+kind_size-returns-in-Pass t c = sym (ap (kind_size c.args.handled) (pass_shown c.args.kind.now c.in-Pass.is))
+
+pub kind_size-returns-in-Break : goal.kind_size-returns-in-Break
+kind_size-returns-in-Break t c = sym (ap (kind_size c.args.handled) (break_shown c.args.kind.now c.in-Break.is))
+
+pub kind_size-returns-in-Continue : goal.kind_size-returns-in-Continue
+kind_size-returns-in-Continue t c = sym (ap (kind_size c.args.handled) (continue_shown c.args.kind.now c.in-Continue.is))
+
+pub kind_size-returns-in-Global : goal.kind_size-returns-in-Global
+kind_size-returns-in-Global t c = sym (ap (kind_size c.args.handled) (global_shown c.args.kind.now c.in-Global.field-0 c.in-Global.is))
 
 pub kind_size-returns-in-Assign : goal.kind_size-returns-in-Assign
 kind_size-returns-in-Assign t c =

@@ -1,4 +1,4 @@
-use Rattle.std.proofs.Common.{None, ap, inl, inr}
+use Rattle.std.proofs.Common.{ℕ, ◌≤◌, None, ap, inl, inr, refl, arith}
 use Rattle.py_value.proofs.Changes.{on_err}
 use Rattle.py_code.specs.Loaded.{modules_of}
 use Rattle.py_instructions.specs.declared.turn.Turn.TheVariants.{Tells}
@@ -10,6 +10,9 @@ use Rattle.py_machine.proofs.Performs.{only_told, quiet, step_as}
 use Rattle.py_machine.proofs.Stops.{only_given_up, broken_as}
 use Rattle.py_machine.proofs.Throws.{tells_as, tells_one}
 use Rattle.py_machine.proofs.perform.perform.Goals as goal
+
+same : (n : ℕ) → n ≤ n
+same n = omega arith
 
 pub returns-in-Goes-clause-ok : goal.returns-in-Goes-clause-ok
 returns-in-Goes-clause-ok g c =
@@ -129,3 +132,217 @@ returns-in_ok-give-in-Gives-clause-calls g c =
 pub returns-in_err-ask-in-Asks-clause-given_up : goal.returns-in_err-ask-in-Asks-clause-given_up
 returns-in_err-ask-in-Asks-clause-given_up g c =
     on_err _ _ (broken_as _ _ _ _ _ _ _ _ c.args.store.now c.args.store.now _ _ (λ o. ap (λ t. turned (modules_of c.args.programs.now) t (seen c.args.m.now c.args.store.now o)) c.in-Asks.is) c.in_err-ask-in-Asks.ensures.given_up)
+
+-- what is left of each of them: nothing is read or written but by a built-in function
+pub returns-in-Goes-clause-unread : goal.returns-in-Goes-clause-unread
+returns-in-Goes-clause-unread g c = λ _. refl
+
+pub returns-in-Goes-clause-reads : goal.returns-in-Goes-clause-reads
+returns-in-Goes-clause-reads g c = same (g.I.Source.faults c.args.input.now)
+
+pub returns-in-Goes-clause-writes : goal.returns-in-Goes-clause-writes
+returns-in-Goes-clause-writes g c = same (g.O.Sink.faults c.args.out.now)
+
+pub returns-in-Steps-clause-unread : goal.returns-in-Steps-clause-unread
+returns-in-Steps-clause-unread g c = λ _. refl
+
+pub returns-in-Steps-clause-reads : goal.returns-in-Steps-clause-reads
+returns-in-Steps-clause-reads g c = same (g.I.Source.faults c.args.input.now)
+
+pub returns-in-Steps-clause-writes : goal.returns-in-Steps-clause-writes
+returns-in-Steps-clause-writes g c = same (g.O.Sink.faults c.args.out.now)
+
+pub returns-in_ok-event-in-Tells-clause-unread : goal.returns-in_ok-event-in-Tells-clause-unread
+returns-in_ok-event-in-Tells-clause-unread g c = λ _. refl
+
+pub returns-in_ok-event-in-Tells-clause-reads : goal.returns-in_ok-event-in-Tells-clause-reads
+returns-in_ok-event-in-Tells-clause-reads g c = same (g.I.Source.faults c.args.input.now)
+
+pub returns-in_ok-event-in-Tells-clause-writes : goal.returns-in_ok-event-in-Tells-clause-writes
+returns-in_ok-event-in-Tells-clause-writes g c = same (g.O.Sink.faults c.args.out.now)
+
+pub returns-in_ok-throw-in-Throws-clause-unread : goal.returns-in_ok-throw-in-Throws-clause-unread
+returns-in_ok-throw-in-Throws-clause-unread g c = λ _. refl
+
+pub returns-in_ok-throw-in-Throws-clause-reads : goal.returns-in_ok-throw-in-Throws-clause-reads
+returns-in_ok-throw-in-Throws-clause-reads g c = same (g.I.Source.faults c.args.input.now)
+
+pub returns-in_ok-throw-in-Throws-clause-writes : goal.returns-in_ok-throw-in-Throws-clause-writes
+returns-in_ok-throw-in-Throws-clause-writes g c = same (g.O.Sink.faults c.args.out.now)
+
+pub returns-in_ok-escape-in-Escapes-clause-unread : goal.returns-in_ok-escape-in-Escapes-clause-unread
+returns-in_ok-escape-in-Escapes-clause-unread g c = λ _. refl
+
+pub returns-in_ok-escape-in-Escapes-clause-reads : goal.returns-in_ok-escape-in-Escapes-clause-reads
+returns-in_ok-escape-in-Escapes-clause-reads g c = same (g.I.Source.faults c.args.input.now)
+
+pub returns-in_ok-escape-in-Escapes-clause-writes : goal.returns-in_ok-escape-in-Escapes-clause-writes
+returns-in_ok-escape-in-Escapes-clause-writes g c = same (g.O.Sink.faults c.args.out.now)
+
+pub returns-in_ok-give-in-Gives-clause-unread : goal.returns-in_ok-give-in-Gives-clause-unread
+returns-in_ok-give-in-Gives-clause-unread g c = λ _. refl
+
+pub returns-in_ok-give-in-Gives-clause-reads : goal.returns-in_ok-give-in-Gives-clause-reads
+returns-in_ok-give-in-Gives-clause-reads g c = same (g.I.Source.faults c.args.input.now)
+
+pub returns-in_ok-give-in-Gives-clause-writes : goal.returns-in_ok-give-in-Gives-clause-writes
+returns-in_ok-give-in-Gives-clause-writes g c = same (g.O.Sink.faults c.args.out.now)
+
+pub returns-in-Spent-clause-unread : goal.returns-in-Spent-clause-unread
+returns-in-Spent-clause-unread g c = λ _. refl
+
+pub returns-in-Spent-clause-reads : goal.returns-in-Spent-clause-reads
+returns-in-Spent-clause-reads g c = same (g.I.Source.faults c.args.input.now)
+
+pub returns-in-Spent-clause-writes : goal.returns-in-Spent-clause-writes
+returns-in-Spent-clause-writes g c = same (g.O.Sink.faults c.args.out.now)
+
+pub returns-in-Stuck-clause-unread : goal.returns-in-Stuck-clause-unread
+returns-in-Stuck-clause-unread g c = λ _. refl
+
+pub returns-in-Stuck-clause-reads : goal.returns-in-Stuck-clause-reads
+returns-in-Stuck-clause-reads g c = same (g.I.Source.faults c.args.input.now)
+
+pub returns-in-Stuck-clause-writes : goal.returns-in-Stuck-clause-writes
+returns-in-Stuck-clause-writes g c = same (g.O.Sink.faults c.args.out.now)
+
+pub returns-in_err-event-in-Tells-clause-unread : goal.returns-in_err-event-in-Tells-clause-unread
+returns-in_err-event-in-Tells-clause-unread g c = λ _. refl
+
+pub returns-in_err-event-in-Tells-clause-reads : goal.returns-in_err-event-in-Tells-clause-reads
+returns-in_err-event-in-Tells-clause-reads g c = same (g.I.Source.faults c.args.input.now)
+
+pub returns-in_err-event-in-Tells-clause-writes : goal.returns-in_err-event-in-Tells-clause-writes
+returns-in_err-event-in-Tells-clause-writes g c = same (g.O.Sink.faults c.args.out.now)
+
+pub returns-in_err-throw-in-Throws-clause-unread : goal.returns-in_err-throw-in-Throws-clause-unread
+returns-in_err-throw-in-Throws-clause-unread g c = λ _. refl
+
+pub returns-in_err-throw-in-Throws-clause-reads : goal.returns-in_err-throw-in-Throws-clause-reads
+returns-in_err-throw-in-Throws-clause-reads g c = same (g.I.Source.faults c.args.input.now)
+
+pub returns-in_err-throw-in-Throws-clause-writes : goal.returns-in_err-throw-in-Throws-clause-writes
+returns-in_err-throw-in-Throws-clause-writes g c = same (g.O.Sink.faults c.args.out.now)
+
+pub returns-in_err-escape-in-Escapes-clause-unread : goal.returns-in_err-escape-in-Escapes-clause-unread
+returns-in_err-escape-in-Escapes-clause-unread g c = λ _. refl
+
+pub returns-in_err-escape-in-Escapes-clause-reads : goal.returns-in_err-escape-in-Escapes-clause-reads
+returns-in_err-escape-in-Escapes-clause-reads g c = same (g.I.Source.faults c.args.input.now)
+
+pub returns-in_err-escape-in-Escapes-clause-writes : goal.returns-in_err-escape-in-Escapes-clause-writes
+returns-in_err-escape-in-Escapes-clause-writes g c = same (g.O.Sink.faults c.args.out.now)
+
+pub returns-in_err-give-in-Gives-clause-unread : goal.returns-in_err-give-in-Gives-clause-unread
+returns-in_err-give-in-Gives-clause-unread g c = λ _. refl
+
+pub returns-in_err-give-in-Gives-clause-reads : goal.returns-in_err-give-in-Gives-clause-reads
+returns-in_err-give-in-Gives-clause-reads g c = same (g.I.Source.faults c.args.input.now)
+
+pub returns-in_err-give-in-Gives-clause-writes : goal.returns-in_err-give-in-Gives-clause-writes
+returns-in_err-give-in-Gives-clause-writes g c = same (g.O.Sink.faults c.args.out.now)
+
+pub returns-in-Goes-clause-given_up : goal.returns-in-Goes-clause-given_up
+returns-in-Goes-clause-given_up g c = tt
+
+pub returns-in-Goes-clause-read_fault : goal.returns-in-Goes-clause-read_fault
+returns-in-Goes-clause-read_fault g c = λ e. absurd cc
+
+pub returns-in-Goes-clause-write_fault : goal.returns-in-Goes-clause-write_fault
+returns-in-Goes-clause-write_fault g c = λ e. absurd cc
+
+pub returns-in-Steps-clause-given_up : goal.returns-in-Steps-clause-given_up
+returns-in-Steps-clause-given_up g c = tt
+
+pub returns-in-Steps-clause-read_fault : goal.returns-in-Steps-clause-read_fault
+returns-in-Steps-clause-read_fault g c = λ e. absurd cc
+
+pub returns-in-Steps-clause-write_fault : goal.returns-in-Steps-clause-write_fault
+returns-in-Steps-clause-write_fault g c = λ e. absurd cc
+
+pub returns-in_ok-event-in-Tells-clause-given_up : goal.returns-in_ok-event-in-Tells-clause-given_up
+returns-in_ok-event-in-Tells-clause-given_up g c = tt
+
+pub returns-in_ok-event-in-Tells-clause-read_fault : goal.returns-in_ok-event-in-Tells-clause-read_fault
+returns-in_ok-event-in-Tells-clause-read_fault g c = λ e. absurd cc
+
+pub returns-in_ok-event-in-Tells-clause-write_fault : goal.returns-in_ok-event-in-Tells-clause-write_fault
+returns-in_ok-event-in-Tells-clause-write_fault g c = λ e. absurd cc
+
+pub returns-in_ok-throw-in-Throws-clause-given_up : goal.returns-in_ok-throw-in-Throws-clause-given_up
+returns-in_ok-throw-in-Throws-clause-given_up g c = tt
+
+pub returns-in_ok-throw-in-Throws-clause-read_fault : goal.returns-in_ok-throw-in-Throws-clause-read_fault
+returns-in_ok-throw-in-Throws-clause-read_fault g c = λ e. absurd cc
+
+pub returns-in_ok-throw-in-Throws-clause-write_fault : goal.returns-in_ok-throw-in-Throws-clause-write_fault
+returns-in_ok-throw-in-Throws-clause-write_fault g c = λ e. absurd cc
+
+pub returns-in_ok-escape-in-Escapes-clause-given_up : goal.returns-in_ok-escape-in-Escapes-clause-given_up
+returns-in_ok-escape-in-Escapes-clause-given_up g c = tt
+
+pub returns-in_ok-escape-in-Escapes-clause-read_fault : goal.returns-in_ok-escape-in-Escapes-clause-read_fault
+returns-in_ok-escape-in-Escapes-clause-read_fault g c = λ e. absurd cc
+
+pub returns-in_ok-escape-in-Escapes-clause-write_fault : goal.returns-in_ok-escape-in-Escapes-clause-write_fault
+returns-in_ok-escape-in-Escapes-clause-write_fault g c = λ e. absurd cc
+
+pub returns-in_ok-give-in-Gives-clause-given_up : goal.returns-in_ok-give-in-Gives-clause-given_up
+returns-in_ok-give-in-Gives-clause-given_up g c = tt
+
+pub returns-in_ok-give-in-Gives-clause-read_fault : goal.returns-in_ok-give-in-Gives-clause-read_fault
+returns-in_ok-give-in-Gives-clause-read_fault g c = λ e. absurd cc
+
+pub returns-in_ok-give-in-Gives-clause-write_fault : goal.returns-in_ok-give-in-Gives-clause-write_fault
+returns-in_ok-give-in-Gives-clause-write_fault g c = λ e. absurd cc
+
+pub returns-in-Spent-clause-given_up : goal.returns-in-Spent-clause-given_up
+returns-in-Spent-clause-given_up g c = tt
+
+pub returns-in-Spent-clause-read_fault : goal.returns-in-Spent-clause-read_fault
+returns-in-Spent-clause-read_fault g c = λ e. absurd cc
+
+pub returns-in-Spent-clause-write_fault : goal.returns-in-Spent-clause-write_fault
+returns-in-Spent-clause-write_fault g c = λ e. absurd cc
+
+pub returns-in-Stuck-clause-given_up : goal.returns-in-Stuck-clause-given_up
+returns-in-Stuck-clause-given_up g c = tt
+
+pub returns-in-Stuck-clause-read_fault : goal.returns-in-Stuck-clause-read_fault
+returns-in-Stuck-clause-read_fault g c = λ e. absurd cc
+
+pub returns-in-Stuck-clause-write_fault : goal.returns-in-Stuck-clause-write_fault
+returns-in-Stuck-clause-write_fault g c = λ e. absurd cc
+
+pub returns-in_ok-ask-in-Asks-clause-unread : goal.returns-in_ok-ask-in-Asks-clause-unread
+returns-in_ok-ask-in-Asks-clause-unread g c = c.in_ok-ask-in-Asks.ensures.unread
+
+pub returns-in_ok-ask-in-Asks-clause-reads : goal.returns-in_ok-ask-in-Asks-clause-reads
+returns-in_ok-ask-in-Asks-clause-reads g c = c.in_ok-ask-in-Asks.ensures.reads
+
+pub returns-in_ok-ask-in-Asks-clause-writes : goal.returns-in_ok-ask-in-Asks-clause-writes
+returns-in_ok-ask-in-Asks-clause-writes g c = c.in_ok-ask-in-Asks.ensures.writes
+
+pub returns-in_ok-ask-in-Asks-clause-calls : goal.returns-in_ok-ask-in-Asks-clause-calls
+returns-in_ok-ask-in-Asks-clause-calls g c = c.in_ok-ask-in-Asks.ensures.calls
+
+pub returns-in_err-ask-in-Asks-clause-unread : goal.returns-in_err-ask-in-Asks-clause-unread
+returns-in_err-ask-in-Asks-clause-unread g c = c.in_err-ask-in-Asks.ensures.unread
+
+pub returns-in_err-ask-in-Asks-clause-reads : goal.returns-in_err-ask-in-Asks-clause-reads
+returns-in_err-ask-in-Asks-clause-reads g c = c.in_err-ask-in-Asks.ensures.reads
+
+pub returns-in_err-ask-in-Asks-clause-writes : goal.returns-in_err-ask-in-Asks-clause-writes
+returns-in_err-ask-in-Asks-clause-writes g c = c.in_err-ask-in-Asks.ensures.writes
+
+pub returns-in_err-ask-in-Asks-clause-calls : goal.returns-in_err-ask-in-Asks-clause-calls
+returns-in_err-ask-in-Asks-clause-calls g c = c.in_err-ask-in-Asks.ensures.calls
+
+pub returns-in_ok-ask-in-Asks-clause-given_up : goal.returns-in_ok-ask-in-Asks-clause-given_up
+returns-in_ok-ask-in-Asks-clause-given_up g c = tt
+
+pub returns-in_ok-ask-in-Asks-clause-read_fault : goal.returns-in_ok-ask-in-Asks-clause-read_fault
+returns-in_ok-ask-in-Asks-clause-read_fault g c = λ e. absurd cc
+
+pub returns-in_ok-ask-in-Asks-clause-write_fault : goal.returns-in_ok-ask-in-Asks-clause-write_fault
+returns-in_ok-ask-in-Asks-clause-write_fault g c = λ e. absurd cc

@@ -10,5 +10,8 @@ next-requires-clause-at c = joined_valid SLACK c.parted-rows.result.1 c.args.row
 pub offer-requires : goal.offer-requires
 offer-requires c = record {
   rows = c.parted-rows-in_default.ensures.rows;
-  measured = joined_valid (HEIGHT + 2) c.parted-rows-in_default.result.1 c.args.rows.row.alternatives c.args.measured c.in_ok-measured-in_default.measured (omega arith) c.parted-rows-in_default.ensures.alternatives c.requires.rows.row.alternatives c.requires.rows.row.low_alternatives c.requires.measured c.in_ok-measured-in_default.ensures;
+  measured = joined_valid (HEIGHT + 2) c.parted-rows-in_default.result.1 c.args.rows.row.alternatives c.args.measured c.in-Ok.measured (omega arith) c.parted-rows-in_default.ensures.alternatives c.requires.rows.row.alternatives c.requires.rows.row.low_alternatives c.requires.measured c.in-Ok.ensures;
 }
+
+pub returns-in-Bar : goal.returns-in-Bar
+returns-in-Bar c = rw c.in-Bar.is c.after_bar.ensures

@@ -5,4 +5,4 @@ use Rattle.py_store.proofs.Spelled.{framed_unset}
 use Rattle.py_store.proofs.faults.local_unset.Goals as goal
 
 pub returns : goal.returns
-returns c = c.in_ok-fault.ensures ∙ ap (fault UnboundLocalError) (c.in_ok-text.ensures ∙ framed_unset c.args.name.now)
+returns c = c.in_ok-named.ensures ∙ ap (fault UnboundLocalError) (framed_unset c.args.name.now)

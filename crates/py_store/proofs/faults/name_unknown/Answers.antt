@@ -5,4 +5,4 @@ use Rattle.py_store.proofs.Spelled.{framed_unknown}
 use Rattle.py_store.proofs.faults.name_unknown.Goals as goal
 
 pub returns : goal.returns
-returns c = c.in_ok-fault.ensures ∙ ap (fault NameError) (c.in_ok-text.ensures ∙ framed_unknown c.args.name.now)
+returns c = c.in_ok-named.ensures ∙ ap (fault NameError) (framed_unknown c.args.name.now)

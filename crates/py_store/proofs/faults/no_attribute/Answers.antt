@@ -5,4 +5,4 @@ use Rattle.py_store.proofs.Spelled.{framed_attribute}
 use Rattle.py_store.proofs.faults.no_attribute.Goals as goal
 
 pub returns : goal.returns
-returns c = c.in_ok-fault.ensures ∙ ap (fault AttributeError) (c.in_ok-text.ensures ∙ framed_attribute c.args.name.now)
+returns c = c.in_ok-named.ensures ∙ ap (fault AttributeError) (framed_attribute c.args.name.now)

@@ -5,4 +5,4 @@ use Rattle.py_store.proofs.Spelled.{framed_module}
 use Rattle.py_store.proofs.faults.no_module.Goals as goal
 
 pub returns : goal.returns
-returns c = c.in_ok-fault.ensures ∙ ap (fault ModuleNotFoundError) (c.in_ok-text.ensures ∙ framed_module c.args.name.now)
+returns c = c.in_ok-named.ensures ∙ ap (fault ModuleNotFoundError) (framed_module c.args.name.now)

@@ -1,4 +1,5 @@
-use Rattle.std.proofs.Common.{ap, sym, ◌∙◌, Ok}
+use Rattle.std.proofs.Common.{ap, sym, ◌∙◌, Ok, arith}
+use Rattle.std.proofs.lemmas.Grind.{common_steps}
 use Rattle.py_value.specs.View.{plain}
 use Rattle.py_value.specs.HeapView.{plain_heap}
 use Rattle.py_value.specs.Comparison.{equal_within, equal_step}
@@ -17,3 +18,24 @@ pub equal_inside-returns-in-Str-right : goal.equal_inside-returns-in-Str-right
 equal_inside-returns-in-Str-right t c =
     ap Ok (text_test c.is_same.result c.in-Str.s c.in-Str-right.t c.is_same.ensures)
     ∙ sym (in_both (equal_step (equal_within c.args.levels (plain_heap c.args.heap.now)) (plain_heap c.args.heap.now)) _ _ _ _ (ap plain c.in-Str.is) (ap plain c.in-Str-right.is))
+
+pub equal_items-loop-i-preserved : goal.equal_items-loop-i-preserved
+equal_items-loop-i-preserved t c = grind (arith, common_steps)
+
+pub equal_items-returns-in-Ok-false : goal.equal_items-returns-in-Ok-false
+equal_items-returns-in-Ok-false t c = grind (arith, common_steps)
+
+pub equal_items-returns-in-Err : goal.equal_items-returns-in-Err
+equal_items-returns-in-Err t c = grind (arith, common_steps)
+
+pub equal_pairs-loop-i-preserved : goal.equal_pairs-loop-i-preserved
+equal_pairs-loop-i-preserved t c = grind (arith, common_steps)
+
+pub equal_pairs-returns-in-Ok-false : goal.equal_pairs-returns-in-Ok-false
+equal_pairs-returns-in-Ok-false t c = grind (arith, common_steps)
+
+pub equal_pairs-returns-in-Err : goal.equal_pairs-returns-in-Err
+equal_pairs-returns-in-Err t c = grind (arith, common_steps)
+
+pub equal_pairs-returns-in-None : goal.equal_pairs-returns-in-None
+equal_pairs-returns-in-None t c = grind (arith, common_steps)

@@ -1,4 +1,5 @@
 use Rattle.std.proofs.Common.{ap, sym, ◌∙◌, arith}
+use Rattle.std.proofs.lemmas.Grind.{common_steps}
 use Rattle.py_value.specs.Plain.{tuple_value}
 use Rattle.py_value.specs.View.{plain}
 use Rattle.py_value.specs.Keys.{is_same_key}
@@ -23,3 +24,9 @@ is_same_key-returns-else-hash t c =
 
 pub are_same_keys-is_same_key-requires : goal.are_same_keys-is_same_key-requires
 are_same_keys-is_same_key-requires t c = (omega (arith, smaller_item c.args.left.now c.loop-i.i c.index-left-i.result c.loop-i-test.true c.index-left-i.is), tt)
+
+pub are_same_keys-loop-i-preserved : goal.are_same_keys-loop-i-preserved
+are_same_keys-loop-i-preserved t c = grind (arith, common_steps)
+
+pub are_same_keys-returns-then-not-is_same_key : goal.are_same_keys-returns-then-not-is_same_key
+are_same_keys-returns-then-not-is_same_key t c = grind (arith, common_steps)

@@ -1,4 +1,5 @@
 use Rattle.std.proofs.Common.{◌≡◌, min, length, ap, ◌∙◌, Ok, arith}
+use Rattle.std.proofs.lemmas.Grind.{common_steps}
 use Rattle.py_value.specs.View.{plain}
 use Rattle.py_value.specs.HeapView.{plain_heap}
 use Rattle.py_value.specs.Comparison.{equal_within, order_within}
@@ -15,3 +16,12 @@ pub order_items-returns : goal.order_items-returns
 order_items-returns t c =
     let e : c.loop-i.i ≡ min (length c.args.left.now) (length c.args.right.now) = omega (arith, c.min-both.ensures) in
     ap Ok c.cmp.ensures ∙ order-ended (equal_within c.args.levels (plain_heap c.args.heap.now)) (order_within c.args.levels (plain_heap c.args.heap.now)) c.args.left.now c.args.right.now c.loop-i.i e ∙ c.loop-i.invariant
+
+pub order_items-loop-i-preserved : goal.order_items-loop-i-preserved
+order_items-loop-i-preserved t c = grind (arith, common_steps)
+
+pub order_items-returns-in-Ok-false : goal.order_items-returns-in-Ok-false
+order_items-returns-in-Ok-false t c = grind (arith, common_steps)
+
+pub order_items-returns-in-Err : goal.order_items-returns-in-Err
+order_items-returns-in-Err t c = grind (arith, common_steps)

@@ -1,0 +1,12 @@
+use Rattle.std.proofs.Common.{arith}
+use Rattle.std.proofs.lemmas.Grind.{common_steps}
+use Rattle.py_value.proofs.augmented.repeat.Goals as goal
+
+pub returns-in_ok-of-in-None-clause-answer : goal.returns-in_ok-of-in-None-clause-answer
+returns-in_ok-of-in-None-clause-answer c = grind (arith, common_steps)
+
+pub returns-in-Ok-clause-answer : goal.returns-in-Ok-clause-answer
+returns-in-Ok-clause-answer c = grind (arith, common_steps)
+
+pub returns-in_ok-of-in-Err-clause-answer : goal.returns-in_ok-of-in-Err-clause-answer
+returns-in_ok-of-in-Err-clause-answer c = grind (arith, common_steps)
