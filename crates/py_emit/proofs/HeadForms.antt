@@ -1,5 +1,5 @@
 -- The code in front of suites and after them, by the places of its parts.
-use Rattle.std.proofs.Common.{◌≡◌, ℕ, ◌+◌, Option, Some, None, List, [], ◌++◌, refl, sym, ap, ◌∙◌}
+use Rattle.std.proofs.Common.{◌≡◌, ℕ, ◌+◌, Option, Some, None, [], ◌++◌, sym, ap, ◌∙◌}
 use Rattle.std.proofs.lemmas.List.{append-nil}
 use Rattle.py_syntax.specs.Tree.{Text, Expr, Pattern}
 use Rattle.py_code.specs.declared.instr.Instr.TheVariants.{Pop, Copy, Goto, IfFalse, Walk, Next, Caught, Ending, Release}

@@ -2,7 +2,7 @@
 use Rattle.std.specs.Prelude.{◌≡◌}
 use Rattle.py_token.specs.declared.token.Keyword.{Keyword}
 use Rattle.py_token.specs.declared.token.Mark.{Mark}
-use Rattle.py_syntax.specs.Tree.{Pattern, Patterns, patterns}
+use Rattle.py_syntax.specs.Tree.{Pattern, Patterns}
 use Rattle.py_syntax.specs.Kinds.{Word, Sign}
 use Rattle.py_syntax.specs.Normal.{pattern_height, pattern_heights}
 use Rattle.py_syntax.specs.View.{plain_pattern, plain_patterns}

@@ -2,9 +2,8 @@
 use Rattle.std.proofs.Common.{◌≡◌, ℕ, ◌+◌, ◌≤◌, max, pos, Bool, true, false, List, refl, sym, ap, subst, ◌∙◌, arith}
 use Rattle.py_syntax.specs.Tree.{Text, c_int, c_str, Pattern, literal, wild, member, p_as, Patterns, no_patterns, patterns}
 use Rattle.py_syntax.specs.Kinds.{Kind}
-use Rattle.py_syntax.specs.Tokens.{alternatives}
 use Rattle.py_syntax.specs.Normal.{pattern_height, pattern_heights}
-use Rattle.py_parse_pattern.specs.Machine.{TokenClass, class, is_some, named, Frame, stack, Want, Minus, Named, Dotted, Strings, Have, Naming, Item, Next, act, step, put, whole, settled, some_name, least}
+use Rattle.py_parse_pattern.specs.Machine.{TokenClass, class, is_some, named, Frame, stack, Next, act, step, put, whole, settled, some_name, least}
 use Rattle.py_parse_pattern.specs.Heights.{levels, raised, depth, base_outside}
 use Rattle.py_parse_pattern.proofs.Least.{put_height, whole_height, closed_height as closed_is, at_least_one, named_height}
 use Rattle.py_parse_pattern.proofs.Least.Outside.{base_is, outside, next_outside}

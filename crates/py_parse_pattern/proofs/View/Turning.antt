@@ -1,7 +1,6 @@
 -- What the open rows keep, as the code holds them.
 use Rattle.std.proofs.Common.{◌≡◌, ℕ, suc, ◌+◌, ◌≤◌, max, List, [], ◌∷◌, ◌++◌, length, refl, sym, ap, subst, ◌∙◌, arith}
 use Rattle.py_syntax.specs.Tree.{Pattern, Patterns, no_patterns, patterns}
-use Rattle.py_syntax.specs.Tokens.{alternatives}
 use Rattle.py_syntax.specs.Normal.{pattern_height, pattern_heights}
 use Rattle.py_parse_pattern.specs.declared.token_classes.Bracket.{Bracket}
 use Rattle.py_parse_pattern.specs.Machine.{snoc, joined, enclosed, Frame, frame}

@@ -1,4 +1,4 @@
-use Rattle.std.proofs.Common.{ap, sym, ◌∙◌, []}
+use Rattle.std.proofs.Common.{ap, []}
 use Rattle.std.specs.Prelude.{unwrap_or}
 use Rattle.py_compile_expr.proofs.Turns.{kept}
 use Rattle.py_compile_expr.specs.Cells.{store, put}

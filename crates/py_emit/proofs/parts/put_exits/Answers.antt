@@ -1,8 +1,6 @@
-use Rattle.std.proofs.Common.{◌∙◌, sym, ap, []}
+use Rattle.std.proofs.Common.{◌∙◌, sym, ap}
 use Rattle.py_compile_expr.proofs.Turns.{three, the_number}
-use Rattle.py_compile_expr.specs.Cells.{plain, put}
-use Rattle.py_compile_expr.specs.CellView.{plain_guard}
-use Rattle.py_compile.specs.Ways.{break_exit, continue_exit, return_exit}
+use Rattle.py_compile.specs.Ways.{break_exit, continue_exit}
 use Rattle.py_emit.specs.WaysView.{plain_ways}
 use Rattle.py_emit.proofs.Rows.{three_more, three_instrs}
 use Rattle.py_emit.proofs.parts.put_exits.Goals as goal

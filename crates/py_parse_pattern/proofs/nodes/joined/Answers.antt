@@ -1,4 +1,4 @@
-use Rattle.std.proofs.Common.{rules, ◌-◌}
+use Rattle.std.proofs.Common.{rules}
 use Rattle.py_parse_pattern.proofs.nodes.joined.Goals as goal
 use Rattle.py_parse_pattern.proofs.View.Built.{makes_joined}
 

@@ -1,4 +1,3 @@
-use Rattle.std.proofs.Common.{◌-◌}
 use Rattle.py_parse_pattern.proofs.nodes.sequence.Goals as goal
 use Rattle.py_parse_pattern.proofs.View.Built.{makes_sequence}
 

@@ -1,4 +1,3 @@
-use Rattle.std.proofs.Common.{◌-◌}
 use Rattle.py_parse_pattern.proofs.nodes.Many.push.Goals as goal
 use Rattle.py_parse_pattern.proofs.View.Built.{plain_snoc}
 use Rattle.py_syntax.specs.View.{plain_patterns}
