@@ -3,7 +3,7 @@
 use cov_words::Why;
 
 /// How a call of `coverage` ended.
-#[derive(Debug, Drop)]
+#[derive(Drop)]
 pub struct End {
     /// The exit status, from 0 to 255.
     pub status: u8,

@@ -122,7 +122,7 @@ fn run_command<H: Shelf, I: Source, O: Sink, G: Engine>(
             script,
             args,
         } => arcs(alloc, budget, script, args, shelf, input, out, engine),
-        Command::Run { .. }
+        other @ (Command::Run { .. }
         | Command::Combine { .. }
         | Command::Report { .. }
         | Command::Json { .. }
@@ -133,6 +133,9 @@ fn run_command<H: Shelf, I: Source, O: Sink, G: Engine>(
         | Command::Make { .. }
         | Command::Suite { .. }
         | Command::Select { .. }
-        | Command::Mutate { .. } => (Why::Usage(0), None),
+        | Command::Mutate { .. }) => {
+            drop(other);
+            (Why::Usage(0), None)
+        }
     }
 }

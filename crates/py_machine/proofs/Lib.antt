@@ -13,3 +13,4 @@ mod StopsRuns
 mod StopsCalls
 mod TracerCalls
 mod Fitted
+mod Errs

@@ -1,7 +1,7 @@
 -- The `def`s of a text: statements by their parts.
 use Rattle.std.proofs.Common.{◌≡◌, ℕ, ◌+◌, ◌<◌, Bool, List, [], ◌∷◌, ◌++◌, map, drop, length, get_or, Vec, Global, Result, Ok, Err, OnOk, refl, ap, sym, ◌∙◌}
 use Rattle.std.specs.Option.{option_map}
-use Rattle.std.proofs.lemmas.List.{map-append}
+use Rattle.std.proofs.lemmas.List.{append-nil, map-append}
 use Rattle.std.specs.Prelude.{Option, Some, None}
 use Rattle.py_syntax.specs.declared.expr.Expr.{Expr as ExprNode}
 use Rattle.py_syntax.specs.declared.stmt.Stmt.{Stmt, out-Stmt}
@@ -16,13 +16,13 @@ use Rattle.py_syntax.specs.declared.stmt.Clause.{Clause, out-Clause}
 use Rattle.py_syntax.specs.declared.stmt.Clause as clauses_
 use Rattle.py_syntax.specs.declared.stmt.StmtKind.{StmtKind as KindNode}
 use Rattle.py_syntax.specs.declared.stmt.StmtKind as kind_
-use Rattle.py_syntax.specs.Tree.{Text, Expr, Exprs, Pattern, stmt, Suite, suite, OptSuite, Arms, arm, Clauses, clause, Cases, case, while, for, try, def, match}
+use Rattle.py_syntax.specs.Tree.{Text, Expr, Exprs, Pattern, stmt, Suite, suite, OptSuite, has_suite, Arms, arm, Clauses, clause, Cases, case, if', while, for, try, def, match}
 use Rattle.py_syntax.specs.View.{plain_expr, plain_exprs, plain_pattern, plain_stmts, plain_kind, plain_suite, plain_opt_suite, plain_arms, plain_clauses, plain_cases}
 use Rattle.py_compile.specs.Definitions.{Definition, definitions, definitions_in, opt_definitions, arms_definitions, clauses_definitions, cases_definitions}
 use Rattle.py_compile_expr.proofs.Turns.{the_drop, a_turn}
 use Rattle.py_compile_expr.specs.Expressions.{count}
 use Rattle.py_unit.specs.declared.functions.Def.{Def}
-use Rattle.py_unit.specs.Defs.{definition_of, suite_definitions, suite_body, defined}
+use Rattle.py_unit.specs.Defs.{definition_of, line_of, suite_definitions, suite_body, defined}
 
 -- ---- with suites of which nothing is known
 
@@ -48,6 +48,9 @@ clause-shape e x (suite f g i b) xs = refl
 case-shape : (p : Pattern) (e : Option Expr) (s : Suite) (xs : Cases) → cases_definitions (case p e s xs) ≡ suite_definitions s ++ cases_definitions xs
 case-shape p e (suite f g i b) xs = refl
 
+opt-shape : (s : Suite) → opt_definitions (has_suite s) ≡ suite_definitions s
+opt-shape (suite f g i b) = refl
+
 -- ---- by the nodes
 
 plain-Suite : (s : SuiteNode) → plain_suite s ≡ suite (out-Suite s).first (out-Suite s).last (out-Suite s).inline (plain_stmts (out-Suite s).body.items)
@@ -68,6 +71,15 @@ plain-stmts s ss = search stmts_.the_lemmas
 pub suite_body-is : (s : SuiteNode) → suite_body (plain_suite s) ≡ plain_stmts (out-Suite s).body.items
 suite_body-is s = ap suite_body (plain-Suite s)
 
+pub stmts-are : (s : SuiteNode) (slice : List Stmt) → slice ≡ (out-Suite s).body.items → suite_definitions (plain_suite s) ≡ definitions (plain_stmts slice)
+stmts-are s slice same = ap suite_definitions (plain-Suite s) ∙ ap (λ ss. definitions (plain_stmts ss)) (sym same)
+
+pub some-is : (o : Option SuiteNode) (s : SuiteNode) → o ≡ Some s → opt_definitions (plain_opt_suite o) ≡ suite_definitions (plain_suite s)
+some-is o s is = ap (λ q. opt_definitions (plain_opt_suite q)) is ∙ opt-shape (plain_suite s)
+
+pub none-is : (now : List Definition) (o : Option SuiteNode) → o ≡ None → now ≡ now ++ opt_definitions (plain_opt_suite o)
+none-is now o is = sym (append-nil now) ∙ ap (λ q. now ++ opt_definitions (plain_opt_suite q)) (sym is)
+
 pub stmts-step : (s : Stmt) (ss : List Stmt) → definitions (plain_stmts (s ∷ ss)) ≡ definitions_in (out-Stmt s).first (plain_kind (out-Stmt s).kind) ++ definitions (plain_stmts ss)
 stmts-step s ss = ap definitions (plain-stmts s ss)
 
@@ -81,6 +93,16 @@ pub cases-step : (c : Case) (cs : List Case) → cases_definitions (plain_cases 
 cases-step c cs = ap cases_definitions (plain-cases c cs) ∙ case-shape (plain_pattern (out-Case c).pattern) (option_map plain_expr (out-Case c).guard) (plain_suite (out-Case c).body) (plain_cases cs)
 
 -- ---- statements
+
+plain-If : (arms : Vec Arm Global) (o : Option SuiteNode) → plain_kind (kind_.If arms o) ≡ if' (plain_arms arms.items) (plain_opt_suite o)
+plain-If arms None = search kind_.the_lemmas
+plain-If arms (Some o) = search kind_.the_lemmas
+
+pub if-is : (l : ℕ) (k : KindNode) (arms : Vec Arm Global) (slice : List Arm) (o : Option SuiteNode) → k ≡ kind_.If arms o → slice ≡ arms.items
+    → definitions_in l (plain_kind k) ≡ arms_definitions (plain_arms slice) ++ opt_definitions (plain_opt_suite o)
+if-is l k arms slice o is same =
+    ap (λ q. definitions_in l (plain_kind q)) is ∙ ap (definitions_in l) (plain-If arms o)
+    ∙ ap (λ xs. arms_definitions (plain_arms xs) ++ opt_definitions (plain_opt_suite o)) (sym same)
 
 plain-While : (e : ExprNode) (b : SuiteNode) (o : Option SuiteNode) → plain_kind (kind_.While e b o) ≡ while (plain_expr e) (plain_suite b) (plain_opt_suite o)
 plain-While e b None = search kind_.the_lemmas
@@ -146,3 +168,12 @@ turn_of F f step now next w xs i x lt is e h = a_turn now next w (f x) (F (drop 
 pub said : {R E : Type 0} (r : Result R E) (now next x y : List Definition) → y ≡ x → OnOk r (next ≡ now ++ x) → OnOk r (next ≡ now ++ y)
 said (Ok u) now next x y e h = h ∙ ap (λ z. now ++ z) (sym e)
 said (Err f) now next x y e h = h
+
+-- the lines of `def`s, one after the other
+pub lines_first : (now : List ℕ) (ds : List Def) → now ≡ [] → now ++ map line_of (map definition_of ds) ≡ map line_of (map definition_of ds)
+lines_first now ds e = ap (λ k. k ++ map line_of (map definition_of ds)) e
+
+pub line_turn : (now next w : List ℕ) (ds : List Def) (i : ℕ) (d : Def) → i < length ds → d ≡ get_or ds i d → next ≡ now ++ d.line ∷ []
+    → now ++ map line_of (map definition_of (drop i ds)) ≡ w → next ++ map line_of (map definition_of (drop (i + 1) ds)) ≡ w
+line_turn now next w ds i d lt is e h =
+    a_turn now next w (d.line ∷ []) (map line_of (map definition_of (drop (i + 1) ds))) (map line_of (map definition_of (drop i ds))) e (ap (λ k. map line_of (map definition_of k)) (the_drop ds i d lt is)) h

@@ -12,7 +12,7 @@ use crate::handlers::handlers_of;
 use crate::lines::Lines;
 use crate::names::Names;
 use crate::numbering::{Lists, numbered};
-use py_code::Unit;
+use py_code::{Constant, Unit};
 use py_compile_expr::Cell;
 use py_value::{NoMemory, Text};
 use std::alloc::Global;
@@ -47,16 +47,19 @@ pub fn unit_of(
     };
     let instrs = numbered(alloc, &mut lists, cells)?;
     let handlers = handlers_of(alloc, cells)?;
-    let locals = lists.own.texts(alloc)?;
-    let names = lists.names.texts(alloc)?;
-    let constants = lists.constants.list(alloc)?;
-    let lines = lists.lines.list(alloc)?;
+    let named = listed(alloc, &lists)?;
     let Heading {
         name,
         first,
         params,
         defaults,
     } = heading;
+    let Named {
+        locals,
+        names,
+        constants,
+        lines,
+    } = named;
     Ok(Unit {
         name,
         first,
@@ -68,5 +71,32 @@ pub fn unit_of(
         instrs,
         lines,
         handlers,
+    })
+}
+
+/// What the instructions of a unit name, as a unit keeps it.
+#[derive(Drop)]
+struct Named {
+    locals: Vec<Text>,
+    names: Vec<Text>,
+    constants: Vec<Constant>,
+    lines: Vec<u32>,
+}
+
+fn listed(alloc: Global, lists: &Lists) -> Result<Named, NoMemory>
+    ensures locals { IfOk result (λ r. r.locals.items ≡ lists.now.own) }
+    ensures names { IfOk result (λ r. r.names.items ≡ lists.now.names) }
+    ensures constants { IfOk result (λ r. r.constants.items ≡ lists.now.constants) }
+    ensures lines { IfOk result (λ r. r.lines.items ≡ lists.now.lines) }
+{
+    let locals = lists.own.texts(alloc)?;
+    let names = lists.names.texts(alloc)?;
+    let constants = lists.constants.list(alloc)?;
+    let lines = lists.lines.list(alloc)?;
+    Ok(Named {
+        locals,
+        names,
+        constants,
+        lines,
     })
 }

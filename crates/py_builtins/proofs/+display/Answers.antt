@@ -1,3 +1,4 @@
+use Rattle.std.proofs.lemmas.Grind.{common_steps}
 use Rattle.std.proofs.Common.{Ok, get_or, ap, sym, ◌∙◌, arith, codes}
 use Rattle.std.proofs.lemmas.Option.{slice_get-get_or}
 use Rattle.py_value.specs.declared.cause.Cause.TheVariants.{TooDeep}
@@ -240,3 +241,15 @@ pairs::display_pairs-loop-i-preserved t c =
           item_written show ps c.loop-i.i p all c.loop-i.out.text c.separate.new.self.text c.display_pair.new.out.text got c.loop-i.invariant.written c.in_ok-separate.ensures
           (ap (λ is. whole c.separate.new.self.text ▸ pair_display (display_within c.args.levels h is) p) (sym c.loop-i.invariant.inside) ∙ c.in_ok-display_pair.ensures.written p got);
     }
+
+pub pairs::display_pairs-returns-clause-written : goal.pairs::display_pairs-returns-clause-written
+pairs::display_pairs-returns-clause-written t c = grind (arith, common_steps)
+
+pub pairs::display_dict-returns-clause-inside : goal.pairs::display_dict-returns-clause-inside
+pairs::display_dict-returns-clause-inside t c = grind (arith, common_steps)
+
+pub displays::display_list-returns-clause-inside : goal.displays::display_list-returns-clause-inside
+displays::display_list-returns-clause-inside t c = grind (arith, common_steps)
+
+pub displays::display_items-returns-clause-written : goal.displays::display_items-returns-clause-written
+displays::display_items-returns-clause-written t c = grind (arith, common_steps)

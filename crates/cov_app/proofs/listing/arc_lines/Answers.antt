@@ -1,3 +1,4 @@
+use Rattle.std.proofs.lemmas.Grind.{common_steps}
 use Rattle.std.proofs.Common.{◌≡◌, ◌∙◌, arith, pos, w64, to_z, of_z, add-one, get_or}
 use Rattle.std.proofs.lemmas.Int.{to_z-of_z}
 use Rattle.cov_app.proofs.Lines.{lines-on}
@@ -9,3 +10,6 @@ loop-arc-preserved c =
     let to : to_z w64 (of_z w64 (get_or c.args.arcs.now c.loop-arc.arc-index (pos 0, pos 0)).1) ≡ (get_or c.args.arcs.now c.loop-arc.arc-index (pos 0, pos 0)).1 = grind (arith, to_z-of_z) in
     rw (add-one c.loop-arc.arc-index)
     (lines-on c.args.path.now _ _ _ c.args.arcs.now c.loop-arc.arc-index (pos 0, pos 0) _ _ c.loop-arc-test.true from to (c.as_str.ensures.value ∙ c.in_ok-line.ensures) c.in_ok-push_str.ensures.bytes c.loop-arc.invariant)
+
+pub returns : goal.returns
+returns c = grind (arith, common_steps)

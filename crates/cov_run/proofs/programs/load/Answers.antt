@@ -1,4 +1,5 @@
-use Rattle.std.proofs.Common.{◌≡◌, Err, rules}
+use Rattle.std.proofs.lemmas.Grind.{common_steps}
+use Rattle.std.proofs.Common.{◌≡◌, Err, rules, arith}
 use Rattle.std.specs.Str.{chars}
 use Rattle.cov_run.specs.Loads.{IsLoadRefusal}
 use Rattle.cov_run.specs.View.{plain_sources}
@@ -23,3 +24,6 @@ returns-in-Ok-clause-code g c =
 pub returns-in-Err-clause-loads : goal.returns-in-Err-clause-loads
 returns-in-Err-clause-loads g c =
     program-unread g.H.Shelf.reads c.args.shelf.now c.load_sources.new.shelf (chars c.args.script.now) (chars c.args.name.now) (plain_sources c.in_ok-sources.sources.items) c.in_ok-sources.ensures.loads
+
+pub returns-in-Ok-clause-loads : goal.returns-in-Ok-clause-loads
+returns-in-Ok-clause-loads g c = grind (arith, common_steps)

@@ -1,4 +1,5 @@
-use Rattle.std.proofs.Common.{◌≡◌, true, ap, sym, ◌∙◌, rules, Err}
+use Rattle.std.proofs.lemmas.Grind.{common_steps}
+use Rattle.std.proofs.Common.{◌≡◌, true, ap, sym, ◌∙◌, rules, Err, arith}
 use Rattle.py_value.specs.Keys.{is_key}
 use Rattle.py_value.specs.Causes.{key_error}
 use Rattle.py_value.specs.Heaps.{dict_pairs, object_at}
@@ -23,3 +24,6 @@ returns-in_ok-of_key-in-None-clause-answer c =
     let known : is_key (plain c.args.key.now) ≡ true = search rules in
     ap (λ (r : PlainRaised). Err r) c.in_ok-of_key-in-None.ensures
     ∙ not_found (plain_heap c.args.heap.now) c.args.dict.place (plain c.args.key.now) (Err (key_error (plain c.args.key.now))) known (sym c.in-None.ensures)
+
+pub take-requires-clause-place : goal.take-requires-clause-place
+take-requires-clause-place c = grind (arith, common_steps)

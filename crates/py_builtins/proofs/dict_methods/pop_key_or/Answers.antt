@@ -1,4 +1,5 @@
-use Rattle.std.proofs.Common.{◌≡◌, true, ap, sym, ◌∙◌, rules, Ok}
+use Rattle.std.proofs.lemmas.Grind.{common_steps}
+use Rattle.std.proofs.Common.{◌≡◌, true, ap, sym, ◌∙◌, rules, Ok, arith}
 use Rattle.py_value.specs.Keys.{is_key}
 use Rattle.py_value.specs.Heaps.{dict_pairs, object_at}
 use Rattle.py_value.specs.View.{plain}
@@ -22,3 +23,6 @@ returns-in_ok-copy-in-None-clause-answer c =
     let known : is_key (plain c.args.key.now) ≡ true = search rules in
     ap (λ (v : PlainValue). Ok (v, plain_heap c.args.heap.now)) c.in_ok-copy-in-None.ensures
     ∙ not_found (plain_heap c.args.heap.now) c.args.dict.place (plain c.args.key.now) (Ok (plain c.args.absent.now, plain_heap c.args.heap.now)) known (sym c.in-None.ensures)
+
+pub take-requires-clause-place : goal.take-requires-clause-place
+take-requires-clause-place c = grind (arith, common_steps)

@@ -5,3 +5,6 @@ use Rattle.py_builtins.proofs.literals.int.Goals as goal
 
 pub returns-in-Err : goal.returns-in-Err
 returns-in-Err c = c.raise-in-Err.ensures.answer (plain_heap c.args.heap.now) _ (first_of (search rules, grind (arith, common_steps)))
+
+pub returns-in-Ok : goal.returns-in-Ok
+returns-in-Ok c = grind (arith, common_steps)

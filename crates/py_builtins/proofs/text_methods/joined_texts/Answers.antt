@@ -1,4 +1,5 @@
-use Rattle.std.proofs.Common.{◌≡◌, ◌+◌, ◌-◌, ◌==◌, ◌++◌, nat_le, true, false, List, length, map, take, drop, ap, ◌∙◌, rules}
+use Rattle.std.proofs.lemmas.Grind.{common_steps}
+use Rattle.std.proofs.Common.{◌≡◌, ◌+◌, ◌-◌, ◌==◌, ◌++◌, nat_le, true, false, List, length, map, take, drop, ap, ◌∙◌, rules, arith}
 use Rattle.py_value.specs.declared.value.Value.{Value}
 use Rattle.py_value.specs.View.{plain, plains}
 use Rattle.py_value.specs.Sequences.{most_items}
@@ -29,3 +30,6 @@ returns c =
     let made : c.in_ok-with_rest.field-0 ≡ c.in_ok-first.first ++ each_after c.args.between.now (map characters_in (plains (take (length c.args.items.now - 1) (drop 1 c.args.items.now)))) = search rules in
     let whole : c.in_ok-with_rest.field-0 ≡ characters_in (plain c.index-items-0.result) ++ each_after c.args.between.now (map characters_in (plains (drop 1 c.args.items.now))) = made ∙ ap (λ t. t ++ each_after c.args.between.now (map characters_in (plains (take (length c.args.items.now - 1) (drop 1 c.args.items.now))))) copied ∙ ap (λ (vs : List Value). characters_in (plain c.index-items-0.result) ++ each_after c.args.between.now (map characters_in (plains vs))) (whole_rest c.args.items.now 1) in
     fits_joined c.args.between.now c.args.items.now c.index-items-0.result c.len.result c.len-2.result c.in_ok-with_rest.field-0 some c.index-items-0.is texts first gap fits whole
+
+pub returns-then-is_empty : goal.returns-then-is_empty
+returns-then-is_empty c = grind (arith, common_steps)

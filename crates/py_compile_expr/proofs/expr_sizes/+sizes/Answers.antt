@@ -1,4 +1,5 @@
-use Rattle.std.proofs.Common.{refl, sym, ap, ◌∙◌, ◌+◌}
+use Rattle.std.proofs.lemmas.Grind.{common_steps}
+use Rattle.std.proofs.Common.{refl, sym, ap, ◌∙◌, ◌+◌, arith}
 use Rattle.std.proofs.lemmas.Result.{IfOk-from_err}
 use Rattle.py_syntax.specs.declared.expr.Pair.{out-Pair}
 use Rattle.py_syntax.specs.View.{plain_expr, plain_exprs, plain_pairs, plain_links, plain_fragments, plain_parts}
@@ -256,3 +257,6 @@ parts_size-returns-in_err-sum-in-Field t c = IfOk-from_err c.from_residual-in_er
 
 pub past-returns-in_err-expr_size : goal.past-returns-in_err-expr_size
 past-returns-in_err-expr_size t c = IfOk-from_err c.from_residual.result _ c.from_residual.ensures.0
+
+pub links_size-returns-then-is_empty : goal.links_size-returns-then-is_empty
+links_size-returns-then-is_empty t c = grind (arith, common_steps)

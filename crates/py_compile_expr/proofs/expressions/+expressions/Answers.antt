@@ -1,3 +1,4 @@
+use Rattle.std.proofs.lemmas.Grind.{common_steps}
 use Rattle.std.proofs.Common.{refl, sym, ap, ◌∙◌, ◌+◌, ◌++◌, arith}
 use Rattle.std.proofs.lemmas.Result.{IfOk-from_err}
 use Rattle.py_syntax.specs.declared.expr.Pair.{out-Pair}
@@ -435,3 +436,12 @@ put_then-returns-in_err-at t c = record { cells = IfOk-from_err c.from_residual.
 
 pub put_unary-returns-in_err-at : goal.put_unary-returns-in_err-at
 put_unary-returns-in_err-at t c = record { cells = IfOk-from_err c.from_residual.result _ c.from_residual.ensures.0; place = IfOk-from_err c.from_residual.result _ c.from_residual.ensures.0 }
+
+pub put_links-returns-then-is_empty-clause-place : goal.put_links-returns-then-is_empty-clause-place
+put_links-returns-then-is_empty-clause-place t c = grind (arith, common_steps)
+
+pub put_links-returns-then-is_empty-clause-cells : goal.put_links-returns-then-is_empty-clause-cells
+put_links-returns-then-is_empty-clause-cells t c = grind (arith, common_steps)
+
+pub put_unary-returns-clause-cells : goal.put_unary-returns-clause-cells
+put_unary-returns-clause-cells t c = grind (arith, common_steps)

@@ -1,4 +1,5 @@
-use Rattle.std.proofs.Common.{refl, sym, ap, ◌∙◌, ◌+◌}
+use Rattle.std.proofs.lemmas.Grind.{common_steps}
+use Rattle.std.proofs.Common.{refl, sym, ap, ◌∙◌, ◌+◌, arith}
 use Rattle.std.proofs.lemmas.Result.{IfOk-from_err}
 use Rattle.py_syntax.specs.View.{plain_pattern, plain_patterns}
 use Rattle.py_compile_expr.specs.Patterns.{pattern_size, items_size}
@@ -43,3 +44,6 @@ pattern_size-returns-in_err-items_size-in-Sequence t c = IfOk-from_err c.from_re
 
 pub pattern_size-returns-in_err-pattern_size-in-As : goal.pattern_size-returns-in_err-pattern_size-in-As
 pattern_size-returns-in_err-pattern_size-in-As t c = IfOk-from_err c.from_residual-in_err-pattern_size-in-As.result _ c.from_residual-in_err-pattern_size-in-As.ensures.0
+
+pub one_size-returns-then-is_empty : goal.one_size-returns-then-is_empty
+one_size-returns-then-is_empty t c = grind (arith, common_steps)

@@ -1,4 +1,5 @@
-use Rattle.std.proofs.Common.{refl, sym, ap, ◌∙◌, ◌+◌, ◌++◌, length}
+use Rattle.std.proofs.lemmas.Grind.{common_steps}
+use Rattle.std.proofs.Common.{refl, sym, ap, ◌∙◌, ◌+◌, ◌++◌, length, arith}
 use Rattle.std.proofs.lemmas.Result.{IfOk-from_err}
 use Rattle.py_syntax.specs.View.{plain_patterns}
 use Rattle.py_compile_expr.specs.CellView.{plain_site}
@@ -109,3 +110,6 @@ put_pattern-returns-in_err-one_size-in-Or t c = record { cells = IfOk-from_err c
 
 pub put_pattern-returns-in_err-size-in-Sequence : goal.put_pattern-returns-in_err-size-in-Sequence
 put_pattern-returns-in_err-size-in-Sequence t c = record { cells = IfOk-from_err c.from_residual.result _ c.from_residual.ensures.0; place = IfOk-from_err c.from_residual.result _ c.from_residual.ensures.0 }
+
+pub put_alternative-returns-clause-cells : goal.put_alternative-returns-clause-cells
+put_alternative-returns-clause-cells t c = grind (arith, common_steps)

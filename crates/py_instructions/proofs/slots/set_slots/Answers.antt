@@ -7,3 +7,6 @@ use Rattle.py_instructions.proofs.slots.set_slots.Goals as goal
 
 pub returns : goal.returns
 returns c = ap (map plain_option) c.reverse.ensures.items ∙ map-reverse plain_option c.loop-value.slots.items ∙ first_of (search rules, grind (arith, common_steps))
+
+pub loop-value-preserved : goal.loop-value-preserved
+loop-value-preserved c = grind (arith, common_steps)

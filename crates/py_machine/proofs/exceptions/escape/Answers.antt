@@ -5,6 +5,7 @@ use Rattle.py_code.specs.Loaded.{modules_of}
 use Rattle.py_code.specs.Machine.{leave}
 use Rattle.py_code.specs.Slots.{by_slots}
 use Rattle.py_instructions.specs.View.{plain_frame, effects_of, seen, catching}
+use Rattle.py_machine.proofs.Errs.{if_err}
 use Rattle.py_machine.proofs.GivesUp.{gives_up_first, given_up_as}
 use Rattle.py_machine.proofs.Grows.{escape, grown_same}
 use Rattle.py_machine.proofs.Throws.{caught_here, tells_as}
@@ -46,3 +47,15 @@ returns-in_err-leave-clause-given_up g c =
     (seen c.catch.new.self c.args.store.now o)) c.if-branch.false
     ∙ ap (λ x. leave (by_slots (modules_of c.args.programs.now)) (modules_of c.args.programs.now) (plain_raised c.args.raised) x.top.code (map plain_frame x.callers) x.steps (effects_of c.args.store.now o)) (sym (c.in_ok-catch.ensures.kept c.if-branch.false)))
     c.in_err-leave.ensures.given_up)
+
+pub returns-in_err-catch-clause-ok : goal.returns-in_err-catch-clause-ok
+returns-in_err-catch-clause-ok g c = if_err _ _ c.from_residual.ensures.0
+
+pub returns-in_err-leave-clause-ok : goal.returns-in_err-leave-clause-ok
+returns-in_err-leave-clause-ok g c = if_err _ _ c.from_residual-in_err-leave.ensures.0
+
+pub returns-clause-given_up : goal.returns-clause-given_up
+returns-clause-given_up g c = tt
+
+pub returns-then-branch-clause-given_up : goal.returns-then-branch-clause-given_up
+returns-then-branch-clause-given_up g c = tt

@@ -6,6 +6,7 @@ use Rattle.py_code.specs.Loaded.{modules_of}
 use Rattle.py_code.specs.Machine.{give}
 use Rattle.py_code.specs.Slots.{by_slots}
 use Rattle.py_instructions.specs.View.{plain_frame, effects_of}
+use Rattle.py_machine.proofs.Errs.{if_err}
 use Rattle.py_machine.proofs.GivesUp.{gives_up, gives_up_first}
 use Rattle.py_machine.proofs.Grows.{gives, gives_from, grown_same}
 use Rattle.py_machine.proofs.Throws.{and_told, tells_one, given_back}
@@ -37,3 +38,18 @@ returns-in_err-push-in-Some-checked_add-clause-given_up g c =
     on_err _ _ (gives_up g.T.Tracer.moves g.T.Tracer.recorded c.args.tracer.now _ (Returned ∷ []) c.args.store.now _ (c.event.new.self, (c.event.new.self, c.in_ok-event.ensures.moved, refl), refl)
     (λ o. gives_from (by_slots (modules_of c.args.programs.now)) (modules_of c.args.programs.now) (effects_of c.args.store.now (and_told (Returned ∷ []) o)) (plain c.args.value) (map plain_frame c.args.m.now.callers) c.args.m.now.steps (effects_of c.args.store.now o)
     (grown_same (effects_of c.args.store.now (and_told (Returned ∷ []) o)))))
+
+pub returns-in_err-event-clause-ok : goal.returns-in_err-event-clause-ok
+returns-in_err-event-clause-ok g c = if_err _ _ c.from_residual.ensures.0
+
+pub returns-in_err-push-in-Some-checked_add-clause-ok : goal.returns-in_err-push-in-Some-checked_add-clause-ok
+returns-in_err-push-in-Some-checked_add-clause-ok g c = if_err _ _ c.from_residual-in_err-push-in-Some-checked_add.ensures.0
+
+pub returns-in-None-checked_add-clause-ok : goal.returns-in-None-checked_add-clause-ok
+returns-in-None-checked_add-clause-ok g c = tt
+
+pub returns-in-None-clause-given_up : goal.returns-in-None-clause-given_up
+returns-in-None-clause-given_up g c = tt
+
+pub returns-in_ok-push-in-Some-checked_add-clause-given_up : goal.returns-in_ok-push-in-Some-checked_add-clause-given_up
+returns-in_ok-push-in-Some-checked_add-clause-given_up g c = tt

@@ -1,6 +1,7 @@
 use Rattle.std.proofs.Common.{refl}
 use Rattle.py_code.specs.Loaded.{modules_of}
 use Rattle.py_value.proofs.Changes.{on_err}
+use Rattle.py_machine.proofs.Errs.{if_err}
 use Rattle.py_machine.proofs.GivesUp.{stays, stays_left, stays_thrown}
 use Rattle.py_machine.proofs.Throws.{leaves_all, lands_here, goes_up, passed_none}
 use Rattle.py_machine.proofs.exceptions.leave.Goals as goal
@@ -38,3 +39,18 @@ pub returns-in_err-catch-clause-given_up : goal.returns-in_err-catch-clause-give
 returns-in_err-catch-clause-given_up g c =
     on_err _ _ (stays_thrown g.T.Tracer.moves g.T.Tracer.recorded (modules_of c.args.programs.now) c.args.raised c.args.tracer.now c.loop-raised.tracer _ c.loop-raised.m c.args.store.now c.loop-raised.store c.loop-raised.invariant c.in-Some.f c.pop.new.self c.in-Some.ensures
     c.event.new.self c.event-in-loop-raised.new.self c.event-in-loop-raised.new.self c.in_ok-event.ensures.moved c.in_ok-event-2.ensures.moved refl)
+
+pub returns-in_err-event-clause-ok : goal.returns-in_err-event-clause-ok
+returns-in_err-event-clause-ok g c = if_err _ _ c.from_residual.ensures.0
+
+pub returns-in_err-catch-clause-ok : goal.returns-in_err-catch-clause-ok
+returns-in_err-catch-clause-ok g c = if_err _ _ c.from_residual-in_err-catch.ensures.0
+
+pub returns-in_err-event-2-clause-ok : goal.returns-in_err-event-2-clause-ok
+returns-in_err-event-2-clause-ok g c = if_err _ _ c.from_residual-in_err-event-2.ensures.0
+
+pub returns-in-None-clause-given_up : goal.returns-in-None-clause-given_up
+returns-in-None-clause-given_up g c = tt
+
+pub returns-then-branch-clause-given_up : goal.returns-then-branch-clause-given_up
+returns-then-branch-clause-given_up g c = tt

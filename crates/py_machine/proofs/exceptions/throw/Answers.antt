@@ -5,6 +5,7 @@ use Rattle.py_value.specs.View.{plain_raised}
 use Rattle.py_code.specs.Loaded.{modules_of}
 use Rattle.py_code.specs.Slots.{by_slots}
 use Rattle.py_instructions.specs.View.{effects_of, seen}
+use Rattle.py_machine.proofs.Errs.{if_err}
 use Rattle.py_machine.proofs.GivesUp.{gives_up_first, given_up_after}
 use Rattle.py_machine.proofs.Grows.{fling, grown_same}
 use Rattle.py_machine.proofs.Throws.{tells_after}
@@ -22,3 +23,12 @@ pub returns-in_err-escape-clause-given_up : goal.returns-in_err-escape-clause-gi
 returns-in_err-escape-clause-given_up g c =
     on_err _ _ (given_up_after g.T.Tracer.moves g.T.Tracer.recorded c.args.tracer.now c.event.new.self c.escape.new.tracer (Throw c.args.raised.kind ∷ []) c.args.store.now c.args.store.now _ _
     (c.event.new.self, c.in_ok-event.ensures.moved, refl) (λ o. refl) c.in_err-escape.ensures.given_up)
+
+pub returns-in_err-event-clause-ok : goal.returns-in_err-event-clause-ok
+returns-in_err-event-clause-ok g c = if_err _ _ c.from_residual.ensures.0
+
+pub returns-in_err-escape-clause-ok : goal.returns-in_err-escape-clause-ok
+returns-in_err-escape-clause-ok g c = if_err _ _ c.from_residual-in_err-escape.ensures.0
+
+pub returns-clause-given_up : goal.returns-clause-given_up
+returns-clause-given_up g c = tt

@@ -4,7 +4,8 @@ use Rattle.py_value.specs.HeapView.{plain_heap}
 use Rattle.py_value.specs.View.{plain_outcome}
 use Rattle.py_builtins.specs.Inputs.{Wrote}
 use Rattle.py_code.specs.Loaded.{modules_of}
-use Rattle.py_machine.proofs.TracerCalls.{calls_some, calls_taken}
+use Rattle.py_machine.proofs.Errs.{if_err, memory_not_read, memory_not_write, passed}
+use Rattle.py_machine.proofs.TracerCalls.{calls_none, calls_some, calls_taken}
 use Rattle.py_machine.proofs.Performs.{asked_gives, asked_raises, raised_keeps, hears_of, gains_of}
 use Rattle.py_machine.proofs.Stops.{asks_some, asked_stops, thrown_stops}
 use Rattle.py_machine.proofs.perform.ask.Goals as goal
@@ -38,3 +39,123 @@ returns-in_ok-throw-in-Err-clause-calls g c = let p = c.in_ok-throw-in-Err.ensur
 
 pub returns-in_err-throw-in-Err-clause-calls : goal.returns-in_err-throw-in-Err-clause-calls
 returns-in_err-throw-in-Err-clause-calls g c = let p = c.in_err-throw-in-Err.ensures.given_up in calls_some g.T.Tracer.moves g.T.Tracer.recorded c.args.tracer.now c.throw.new.tracer p.events p.has_told
+
+pub returns-in_ok-push-in-Some-clause-calls : goal.returns-in_ok-push-in-Some-clause-calls
+returns-in_ok-push-in-Some-clause-calls g c = calls_none g.T.Tracer.moves g.T.Tracer.recorded c.args.tracer.now
+
+pub returns-in_ok-push-in-Some-clause-unread : goal.returns-in_ok-push-in-Some-clause-unread
+returns-in_ok-push-in-Some-clause-unread g c = c.in_ok-answer.ensures.unread
+
+pub returns-in_ok-push-in-Some-clause-reads : goal.returns-in_ok-push-in-Some-clause-reads
+returns-in_ok-push-in-Some-clause-reads g c = c.in_ok-answer.ensures.reads
+
+pub returns-in_ok-push-in-Some-clause-writes : goal.returns-in_ok-push-in-Some-clause-writes
+returns-in_ok-push-in-Some-clause-writes g c = c.in_ok-answer.ensures.writes
+
+pub returns-in_ok-push-in-Some-clause-given_up : goal.returns-in_ok-push-in-Some-clause-given_up
+returns-in_ok-push-in-Some-clause-given_up g c = tt
+
+pub returns-in_ok-push-in-Some-clause-read_fault : goal.returns-in_ok-push-in-Some-clause-read_fault
+returns-in_ok-push-in-Some-clause-read_fault g c = λ e. absurd cc
+
+pub returns-in_ok-push-in-Some-clause-write_fault : goal.returns-in_ok-push-in-Some-clause-write_fault
+returns-in_ok-push-in-Some-clause-write_fault g c = λ e. absurd cc
+
+pub returns-in-None-clause-calls : goal.returns-in-None-clause-calls
+returns-in-None-clause-calls g c = calls_none g.T.Tracer.moves g.T.Tracer.recorded c.args.tracer.now
+
+pub returns-in-None-clause-unread : goal.returns-in-None-clause-unread
+returns-in-None-clause-unread g c = c.in_ok-answer.ensures.unread
+
+pub returns-in-None-clause-reads : goal.returns-in-None-clause-reads
+returns-in-None-clause-reads g c = c.in_ok-answer.ensures.reads
+
+pub returns-in-None-clause-writes : goal.returns-in-None-clause-writes
+returns-in-None-clause-writes g c = c.in_ok-answer.ensures.writes
+
+pub returns-in-None-clause-ok : goal.returns-in-None-clause-ok
+returns-in-None-clause-ok g c = tt
+
+pub returns-in-None-clause-read_fault : goal.returns-in-None-clause-read_fault
+returns-in-None-clause-read_fault g c = λ e. absurd cc
+
+pub returns-in-None-clause-write_fault : goal.returns-in-None-clause-write_fault
+returns-in-None-clause-write_fault g c = λ e. absurd cc
+
+pub returns-in_err-push-in-Some-clause-calls : goal.returns-in_err-push-in-Some-clause-calls
+returns-in_err-push-in-Some-clause-calls g c = calls_none g.T.Tracer.moves g.T.Tracer.recorded c.args.tracer.now
+
+pub returns-in_err-push-in-Some-clause-unread : goal.returns-in_err-push-in-Some-clause-unread
+returns-in_err-push-in-Some-clause-unread g c = c.in_ok-answer.ensures.unread
+
+pub returns-in_err-push-in-Some-clause-reads : goal.returns-in_err-push-in-Some-clause-reads
+returns-in_err-push-in-Some-clause-reads g c = c.in_ok-answer.ensures.reads
+
+pub returns-in_err-push-in-Some-clause-writes : goal.returns-in_err-push-in-Some-clause-writes
+returns-in_err-push-in-Some-clause-writes g c = c.in_ok-answer.ensures.writes
+
+pub returns-in_ok-throw-in-Err-clause-unread : goal.returns-in_ok-throw-in-Err-clause-unread
+returns-in_ok-throw-in-Err-clause-unread g c = c.in_ok-answer.ensures.unread
+
+pub returns-in_ok-throw-in-Err-clause-reads : goal.returns-in_ok-throw-in-Err-clause-reads
+returns-in_ok-throw-in-Err-clause-reads g c = c.in_ok-answer.ensures.reads
+
+pub returns-in_ok-throw-in-Err-clause-writes : goal.returns-in_ok-throw-in-Err-clause-writes
+returns-in_ok-throw-in-Err-clause-writes g c = c.in_ok-answer.ensures.writes
+
+pub returns-in_ok-throw-in-Err-clause-given_up : goal.returns-in_ok-throw-in-Err-clause-given_up
+returns-in_ok-throw-in-Err-clause-given_up g c = tt
+
+pub returns-in_ok-throw-in-Err-clause-read_fault : goal.returns-in_ok-throw-in-Err-clause-read_fault
+returns-in_ok-throw-in-Err-clause-read_fault g c = λ e. absurd cc
+
+pub returns-in_ok-throw-in-Err-clause-write_fault : goal.returns-in_ok-throw-in-Err-clause-write_fault
+returns-in_ok-throw-in-Err-clause-write_fault g c = λ e. absurd cc
+
+pub returns-in_err-throw-in-Err-clause-unread : goal.returns-in_err-throw-in-Err-clause-unread
+returns-in_err-throw-in-Err-clause-unread g c = c.in_ok-answer.ensures.unread
+
+pub returns-in_err-throw-in-Err-clause-reads : goal.returns-in_err-throw-in-Err-clause-reads
+returns-in_err-throw-in-Err-clause-reads g c = c.in_ok-answer.ensures.reads
+
+pub returns-in_err-throw-in-Err-clause-writes : goal.returns-in_err-throw-in-Err-clause-writes
+returns-in_err-throw-in-Err-clause-writes g c = c.in_ok-answer.ensures.writes
+
+pub returns-in_err-answer-clause-calls : goal.returns-in_err-answer-clause-calls
+returns-in_err-answer-clause-calls g c = calls_none g.T.Tracer.moves g.T.Tracer.recorded c.args.tracer.now
+
+pub returns-in_err-answer-clause-unread : goal.returns-in_err-answer-clause-unread
+returns-in_err-answer-clause-unread g c = c.in_err-answer.ensures.unread
+
+pub returns-in_err-answer-clause-reads : goal.returns-in_err-answer-clause-reads
+returns-in_err-answer-clause-reads g c = c.in_err-answer.ensures.reads
+
+pub returns-in_err-answer-clause-writes : goal.returns-in_err-answer-clause-writes
+returns-in_err-answer-clause-writes g c = c.in_err-answer.ensures.writes
+
+pub returns-in_err-answer-clause-ok : goal.returns-in_err-answer-clause-ok
+returns-in_err-answer-clause-ok g c = if_err _ _ c.from_residual.ensures.0
+
+pub returns-in_err-push-in-Some-clause-ok : goal.returns-in_err-push-in-Some-clause-ok
+returns-in_err-push-in-Some-clause-ok g c = if_err _ _ c.from_residual-in_err-push-in-Some.ensures.0
+
+pub returns-in_err-push-in-Some-clause-read_fault : goal.returns-in_err-push-in-Some-clause-read_fault
+returns-in_err-push-in-Some-clause-read_fault g c = memory_not_read _ _ c.from_residual-in_err-push-in-Some.ensures.1
+
+pub returns-in_err-push-in-Some-clause-write_fault : goal.returns-in_err-push-in-Some-clause-write_fault
+returns-in_err-push-in-Some-clause-write_fault g c = memory_not_write _ _ c.from_residual-in_err-push-in-Some.ensures.1
+
+pub returns-in_err-throw-in-Err-clause-ok : goal.returns-in_err-throw-in-Err-clause-ok
+returns-in_err-throw-in-Err-clause-ok g c = if_err _ _ c.from_residual-in_err-throw-in-Err.ensures.0
+
+pub returns-in_err-throw-in-Err-clause-read_fault : goal.returns-in_err-throw-in-Err-clause-read_fault
+returns-in_err-throw-in-Err-clause-read_fault g c = memory_not_read _ _ c.from_residual-in_err-throw-in-Err.ensures.1
+
+pub returns-in_err-throw-in-Err-clause-write_fault : goal.returns-in_err-throw-in-Err-clause-write_fault
+returns-in_err-throw-in-Err-clause-write_fault g c = memory_not_write _ _ c.from_residual-in_err-throw-in-Err.ensures.1
+
+pub returns-in_err-answer-clause-read_fault : goal.returns-in_err-answer-clause-read_fault
+returns-in_err-answer-clause-read_fault g c = passed _ _ _ _ c.from_residual.ensures.1 c.in_err-answer.ensures.read_fault
+
+pub returns-in_err-answer-clause-write_fault : goal.returns-in_err-answer-clause-write_fault
+returns-in_err-answer-clause-write_fault g c = passed _ _ _ _ c.from_residual.ensures.1 c.in_err-answer.ensures.write_fault

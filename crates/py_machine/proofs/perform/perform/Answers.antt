@@ -1,8 +1,9 @@
-use Rattle.std.proofs.Common.{ℕ, ◌≤◌, None, ap, inl, inr, refl, arith}
+use Rattle.std.proofs.Common.{None, ap, inl, inr, refl}
 use Rattle.py_value.proofs.Changes.{on_err}
 use Rattle.py_code.specs.Loaded.{modules_of}
 use Rattle.py_instructions.specs.declared.turn.Turn.TheVariants.{Tells}
 use Rattle.py_instructions.specs.View.{effects_of, seen, turned}
+use Rattle.py_machine.proofs.Errs.{if_err, memory_not_read, memory_not_write, passed, same}
 use Rattle.py_machine.proofs.TracerCalls.{calls_none, calls_one, calls_refused, calls_taken, calls_some}
 use Rattle.py_machine.proofs.GivesUp.{gives_up_first, given_up_as}
 use Rattle.py_machine.proofs.Grows.{told_on, grown_same}
@@ -10,9 +11,6 @@ use Rattle.py_machine.proofs.Performs.{only_told, quiet, step_as}
 use Rattle.py_machine.proofs.Stops.{only_given_up, broken_as}
 use Rattle.py_machine.proofs.Throws.{tells_as, tells_one}
 use Rattle.py_machine.proofs.perform.perform.Goals as goal
-
-same : (n : ℕ) → n ≤ n
-same n = omega arith
 
 pub returns-in-Goes-clause-ok : goal.returns-in-Goes-clause-ok
 returns-in-Goes-clause-ok g c =
@@ -346,3 +344,48 @@ returns-in_ok-ask-in-Asks-clause-read_fault g c = λ e. absurd cc
 
 pub returns-in_ok-ask-in-Asks-clause-write_fault : goal.returns-in_ok-ask-in-Asks-clause-write_fault
 returns-in_ok-ask-in-Asks-clause-write_fault g c = λ e. absurd cc
+
+pub returns-in_err-event-in-Tells-clause-ok : goal.returns-in_err-event-in-Tells-clause-ok
+returns-in_err-event-in-Tells-clause-ok g c = if_err _ _ c.from_residual.ensures.0
+
+pub returns-in_err-event-in-Tells-clause-read_fault : goal.returns-in_err-event-in-Tells-clause-read_fault
+returns-in_err-event-in-Tells-clause-read_fault g c = memory_not_read _ _ c.from_residual.ensures.1
+
+pub returns-in_err-event-in-Tells-clause-write_fault : goal.returns-in_err-event-in-Tells-clause-write_fault
+returns-in_err-event-in-Tells-clause-write_fault g c = memory_not_write _ _ c.from_residual.ensures.1
+
+pub returns-in_err-throw-in-Throws-clause-ok : goal.returns-in_err-throw-in-Throws-clause-ok
+returns-in_err-throw-in-Throws-clause-ok g c = if_err _ _ c.from_residual-in_err-throw-in-Throws.ensures.0
+
+pub returns-in_err-throw-in-Throws-clause-read_fault : goal.returns-in_err-throw-in-Throws-clause-read_fault
+returns-in_err-throw-in-Throws-clause-read_fault g c = memory_not_read _ _ c.from_residual-in_err-throw-in-Throws.ensures.1
+
+pub returns-in_err-throw-in-Throws-clause-write_fault : goal.returns-in_err-throw-in-Throws-clause-write_fault
+returns-in_err-throw-in-Throws-clause-write_fault g c = memory_not_write _ _ c.from_residual-in_err-throw-in-Throws.ensures.1
+
+pub returns-in_err-escape-in-Escapes-clause-ok : goal.returns-in_err-escape-in-Escapes-clause-ok
+returns-in_err-escape-in-Escapes-clause-ok g c = if_err _ _ c.from_residual-in_err-escape-in-Escapes.ensures.0
+
+pub returns-in_err-escape-in-Escapes-clause-read_fault : goal.returns-in_err-escape-in-Escapes-clause-read_fault
+returns-in_err-escape-in-Escapes-clause-read_fault g c = memory_not_read _ _ c.from_residual-in_err-escape-in-Escapes.ensures.1
+
+pub returns-in_err-escape-in-Escapes-clause-write_fault : goal.returns-in_err-escape-in-Escapes-clause-write_fault
+returns-in_err-escape-in-Escapes-clause-write_fault g c = memory_not_write _ _ c.from_residual-in_err-escape-in-Escapes.ensures.1
+
+pub returns-in_err-give-in-Gives-clause-ok : goal.returns-in_err-give-in-Gives-clause-ok
+returns-in_err-give-in-Gives-clause-ok g c = if_err _ _ c.from_residual-in_err-give-in-Gives.ensures.0
+
+pub returns-in_err-give-in-Gives-clause-read_fault : goal.returns-in_err-give-in-Gives-clause-read_fault
+returns-in_err-give-in-Gives-clause-read_fault g c = memory_not_read _ _ c.from_residual-in_err-give-in-Gives.ensures.1
+
+pub returns-in_err-give-in-Gives-clause-write_fault : goal.returns-in_err-give-in-Gives-clause-write_fault
+returns-in_err-give-in-Gives-clause-write_fault g c = memory_not_write _ _ c.from_residual-in_err-give-in-Gives.ensures.1
+
+pub returns-in_err-ask-in-Asks-clause-ok : goal.returns-in_err-ask-in-Asks-clause-ok
+returns-in_err-ask-in-Asks-clause-ok g c = if_err _ _ c.from_residual-in_err-ask-in-Asks.ensures.0
+
+pub returns-in_err-ask-in-Asks-clause-read_fault : goal.returns-in_err-ask-in-Asks-clause-read_fault
+returns-in_err-ask-in-Asks-clause-read_fault g c = passed _ _ _ _ c.from_residual-in_err-ask-in-Asks.ensures.1 c.in_err-ask-in-Asks.ensures.read_fault
+
+pub returns-in_err-ask-in-Asks-clause-write_fault : goal.returns-in_err-ask-in-Asks-clause-write_fault
+returns-in_err-ask-in-Asks-clause-write_fault g c = passed _ _ _ _ c.from_residual-in_err-ask-in-Asks.ensures.1 c.in_err-ask-in-Asks.ensures.write_fault

@@ -1,6 +1,7 @@
 use Rattle.std.proofs.Common.{false, arith}
 use Rattle.py_value.proofs.Changes.{on_err}
 use Rattle.py_code.specs.Loaded.{modules_of}
+use Rattle.py_machine.proofs.Errs.{if_err}
 use Rattle.py_machine.proofs.Begins.{begun, starts}
 use Rattle.py_machine.proofs.TracerCalls.{calls_none, calls_then}
 use Rattle.py_machine.proofs.Hearing.{over_then}
@@ -64,3 +65,27 @@ returns-in-Some-clause-calls g c = calls_then g.T.Tracer.moves g.T.Tracer.record
 
 pub step-requires-clause-end : goal.step-requires-clause-end
 step-requires-clause-end g c = over_then g.I.Source.tells (g.I.Source.left c.args.input.now) (g.I.Source.left c.loop-ending.input) false c.loop-ending.at_end _ c.loop-ending.invariant.reached
+
+pub returns-in-Some-clause-given_up : goal.returns-in-Some-clause-given_up
+returns-in-Some-clause-given_up g c = tt
+
+pub returns-in-Some-clause-read_fault : goal.returns-in-Some-clause-read_fault
+returns-in-Some-clause-read_fault g c = λ e. absurd cc
+
+pub returns-in-Some-clause-write_fault : goal.returns-in-Some-clause-write_fault
+returns-in-Some-clause-write_fault g c = λ e. absurd cc
+
+pub returns-in_err-ending-clause-ok : goal.returns-in_err-ending-clause-ok
+returns-in_err-ending-clause-ok g c = if_err _ _ c.from_residual.ensures.0
+
+pub returns-in-Some-clause-reads : goal.returns-in-Some-clause-reads
+returns-in-Some-clause-reads g c = omega (arith, c.loop-ending.invariant.reads, c.in_ok-ending.ensures.reads)
+
+pub returns-in_err-ending-clause-reads : goal.returns-in_err-ending-clause-reads
+returns-in_err-ending-clause-reads g c = omega (arith, c.loop-ending.invariant.reads, c.in_err-ending.ensures.reads)
+
+pub returns-in-Some-clause-writes : goal.returns-in-Some-clause-writes
+returns-in-Some-clause-writes g c = omega (arith, c.loop-ending.invariant.writes, c.in_ok-ending.ensures.writes)
+
+pub returns-in_err-ending-clause-writes : goal.returns-in_err-ending-clause-writes
+returns-in_err-ending-clause-writes g c = omega (arith, c.loop-ending.invariant.writes, c.in_err-ending.ensures.writes)

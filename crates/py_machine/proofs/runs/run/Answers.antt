@@ -11,6 +11,7 @@ use Rattle.py_code.specs.Slots.{by_slots}
 use Rattle.py_instructions.specs.View.{effects_of}
 use Rattle.py_machine.specs.Told.{TakesSome}
 use Rattle.py_store.specs.Stores.{world_of}
+use Rattle.py_machine.proofs.Errs.{if_err, memory_not_read, memory_not_write, passed}
 use Rattle.py_machine.proofs.AtOnce.{ran_as}
 use Rattle.py_machine.proofs.Fitted.{run_fits}
 use Rattle.py_machine.proofs.StopsCalls.{run_stops}
@@ -55,3 +56,63 @@ into_outcome-requires g c =
     (ran_as g.I.Source.tells (g.I.Source.left c.args.input.now) (g.I.Source.left c.begin.new.input) _ _ _ _ c.in_ok-ended.ended.ending c.in_ok-ended.ended.steps c.begin.new.store
     (λ o. ap (λ (vs : List PlainValue). follows (by_slots (modules_of c.args.programs.now)) (modules_of c.args.programs.now) (outermost (by_slots (modules_of c.args.programs.now)) (modules_of c.args.programs.now) script vs c.args.budget (effects_of c.args.store.now o))) (sym (ap plains c.new.ensures.items)))
     c.in_ok-ended.ensures.ok)
+
+pub returns-in_err-ended-clause-ok : goal.returns-in_err-ended-clause-ok
+returns-in_err-ended-clause-ok g c = if_err _ _ c.from_residual.ensures.0
+
+pub returns-in_err-ended-clause-fits : goal.returns-in_err-ended-clause-fits
+returns-in_err-ended-clause-fits g c = if_err _ _ c.from_residual.ensures.0
+
+pub returns-in_err-ended-clause-read_fault : goal.returns-in_err-ended-clause-read_fault
+returns-in_err-ended-clause-read_fault g c = passed _ _ _ _ c.from_residual.ensures.1 c.in_err-ended.ensures.read_fault
+
+pub returns-in_err-ended-clause-write_fault : goal.returns-in_err-ended-clause-write_fault
+returns-in_err-ended-clause-write_fault g c = passed _ _ _ _ c.from_residual.ensures.1 c.in_err-ended.ensures.write_fault
+
+pub returns-in_err-ended-clause-calls : goal.returns-in_err-ended-clause-calls
+returns-in_err-ended-clause-calls g c = c.in_err-ended.ensures.calls
+
+pub returns-in_err-ended-clause-reads : goal.returns-in_err-ended-clause-reads
+returns-in_err-ended-clause-reads g c = c.in_err-ended.ensures.reads
+
+pub returns-in_err-ended-clause-writes : goal.returns-in_err-ended-clause-writes
+returns-in_err-ended-clause-writes g c = c.in_err-ended.ensures.writes
+
+pub returns-in_err-outcome-clause-ok : goal.returns-in_err-outcome-clause-ok
+returns-in_err-outcome-clause-ok g c = if_err _ _ c.from_residual-in_err-outcome.ensures.0
+
+pub returns-in_err-outcome-clause-fits : goal.returns-in_err-outcome-clause-fits
+returns-in_err-outcome-clause-fits g c = if_err _ _ c.from_residual-in_err-outcome.ensures.0
+
+pub returns-in_err-outcome-clause-read_fault : goal.returns-in_err-outcome-clause-read_fault
+returns-in_err-outcome-clause-read_fault g c = memory_not_read _ _ c.from_residual-in_err-outcome.ensures.1
+
+pub returns-in_err-outcome-clause-write_fault : goal.returns-in_err-outcome-clause-write_fault
+returns-in_err-outcome-clause-write_fault g c = memory_not_write _ _ c.from_residual-in_err-outcome.ensures.1
+
+pub returns-in_err-outcome-clause-calls : goal.returns-in_err-outcome-clause-calls
+returns-in_err-outcome-clause-calls g c = c.in_ok-ended.ensures.calls
+
+pub returns-in_err-outcome-clause-reads : goal.returns-in_err-outcome-clause-reads
+returns-in_err-outcome-clause-reads g c = c.in_ok-ended.ensures.reads
+
+pub returns-in_err-outcome-clause-writes : goal.returns-in_err-outcome-clause-writes
+returns-in_err-outcome-clause-writes g c = c.in_ok-ended.ensures.writes
+
+pub returns-clause-calls : goal.returns-clause-calls
+returns-clause-calls g c = c.in_ok-ended.ensures.calls
+
+pub returns-clause-reads : goal.returns-clause-reads
+returns-clause-reads g c = c.in_ok-ended.ensures.reads
+
+pub returns-clause-writes : goal.returns-clause-writes
+returns-clause-writes g c = c.in_ok-ended.ensures.writes
+
+pub returns-clause-given_up : goal.returns-clause-given_up
+returns-clause-given_up g c = tt
+
+pub returns-clause-read_fault : goal.returns-clause-read_fault
+returns-clause-read_fault g c = λ e. absurd cc
+
+pub returns-clause-write_fault : goal.returns-clause-write_fault
+returns-clause-write_fault g c = λ e. absurd cc

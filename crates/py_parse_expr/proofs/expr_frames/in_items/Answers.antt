@@ -1,4 +1,5 @@
-use Rattle.std.proofs.Common.{sym, ◌∙◌}
+use Rattle.std.proofs.lemmas.Grind.{common_steps}
+use Rattle.std.proofs.Common.{sym, ◌∙◌, arith}
 use Rattle.py_parse_expr.specs.ExprViews.{view_measured, view_row, view_opener, view_class}
 use Rattle.py_parse_expr.proofs.View.ExprFrames.{give_comma, give_unclosed}
 use Rattle.py_parse_expr.proofs.expr_frames.in_items.Goals as goal
@@ -11,3 +12,6 @@ returns-then-is_comma c = λ k. (
 
 pub returns-then-not-closes : goal.returns-then-not-closes
 returns-then-not-closes c = λ k. give_unclosed (view_measured c.args.measured) (view_opener c.args.opener) (view_row c.args.items) k (view_class c.args.class.now) (sym c.is_comma.ensures ∙ c.if-is_comma.false) (sym c.closes.ensures ∙ c.if-not-closes.true)
+
+pub returns : goal.returns
+returns c = grind (arith, common_steps)

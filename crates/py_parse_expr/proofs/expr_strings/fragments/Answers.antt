@@ -1,4 +1,5 @@
-use Rattle.std.proofs.Common.{add-one, ◌∷◌, ◌++◌, [], take, ap, sym, ◌∙◌}
+use Rattle.std.proofs.lemmas.Grind.{common_steps}
+use Rattle.std.proofs.Common.{add-one, ◌∷◌, ◌++◌, [], take, ap, sym, ◌∙◌, arith}
 use Rattle.std.proofs.Math.Seq.{take-suc}
 use Rattle.py_syntax.specs.View.{plain_fragments}
 use Rattle.py_grammar.specs.Machine.{snoc_plain}
@@ -17,3 +18,6 @@ loop-text-preserved c =
     ∙ sym (plains_more (take i c.args.texts.now) x)
     ∙ ap (λ y. plains (take i c.args.texts.now ++ y ∷ [])) same
     ∙ ap plains (sym (ap (λ n. take n c.args.texts.now) (add-one i) ∙ take-suc c.args.texts.now i c.text-item.result c.loop-text-test.true))
+
+pub returns : goal.returns
+returns c = grind (arith, common_steps)

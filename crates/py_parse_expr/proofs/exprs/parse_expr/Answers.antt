@@ -1,3 +1,5 @@
+use Rattle.std.proofs.lemmas.Grind.{common_steps}
+use Rattle.std.proofs.Common.{arith}
 use Rattle.py_syntax.specs.View.{plain_expr}
 use Rattle.py_grammar.proofs.View.Places.{kinds_of_all}
 use Rattle.py_parse_expr.proofs.Exact.ExprWhole.{answer_other, answer_more, answer_whole, answer_refused, next_inside}
@@ -17,3 +19,9 @@ returns-then-next-tokens c = answer_more c.args.tokens.now c.in_ok-read.read c.i
 
 pub returns : goal.returns
 returns c = answer_whole c.args.tokens.now c.in_ok-read.read c.index-tokens-next.result c.in_ok-read.ensures.follows c.into_inner.result c.into_inner.ensures c.if-not-is_end.ensures c.if-next-tokens.false
+
+pub offset_bounds-tokens-next : goal.offset_bounds-tokens-next
+offset_bounds-tokens-next c = grind (arith, common_steps)
+
+pub overflow_add-next : goal.overflow_add-next
+overflow_add-next c = grind (arith, common_steps)

@@ -1,4 +1,5 @@
-use Rattle.std.proofs.Common.{Ok, Err}
+use Rattle.std.proofs.lemmas.Grind.{common_steps}
+use Rattle.std.proofs.Common.{Ok, Err, arith}
 use Rattle.py_grammar.specs.declared.error.ReadError.TheVariants as error
 use Rattle.py_grammar.proofs.View.Places.{kinds_of_all}
 use Rattle.py_parse_pattern.proofs.View.Tokens.{turn_stuck, turn_deep, turn_left, turn_next, over_there, reads}
@@ -27,3 +28,9 @@ tokens-preserved c = turn_next c.args.tokens.now c.args.at c.tokens.place c.toke
 
 pub returns-clause-is_read : goal.returns-clause-is_read
 returns-clause-is_read c = reads (kinds_of_all c.args.tokens.now) c.args.at (Err (error.Unexpected c.tokens.place)) (over_there c.args.tokens.now c.args.at c.tokens.place c.tokens.reader c.tokens.invariant c.tokens-test.false)
+
+pub returns-clause-follows : goal.returns-clause-follows
+returns-clause-follows c = grind (arith, common_steps)
+
+pub tokens-init : goal.tokens-init
+tokens-init c = grind (arith, common_steps)

@@ -1,6 +1,10 @@
-use Rattle.std.proofs.Common.{refl}
+use Rattle.std.proofs.lemmas.Grind.{common_steps}
+use Rattle.std.proofs.Common.{refl, arith}
 use Rattle.py_scope.proofs.Gathering.{named, at_end}
 use Rattle.py_scope.proofs.body.add_all.Goals as goal
 
 pub returns : goal.returns
 returns c = at_end named (λ xs. xs) refl _ _ _ _ c.loop-name-test.false c.loop-name.invariant
+
+pub loop-name-preserved : goal.loop-name-preserved
+loop-name-preserved c = grind (arith, common_steps)

@@ -1,3 +1,4 @@
+use Rattle.std.proofs.lemmas.Grind.{common_steps}
 use Rattle.std.proofs.Common.{arith, ◌-◌, refl, sym, ap, ◌∙◌}
 use Rattle.py_syntax.specs.View.{plain_pattern, plain_kind, plain_suite, plain_stmts, plain_arms, plain_clauses, plain_cases}
 use Rattle.py_scope.specs.Faults.{◌&◌, blame, blame_case, kind_findings, suite_findings, function_findings, findings, arms_findings, clauses_findings, cases_findings}
@@ -209,3 +210,6 @@ pub branches-loop-arm-preserved : goal.branches-loop-arm-preserved
 branches-loop-arm-preserved t c =
     a_turn found (λ xs. arms_findings c.args.at (plain_arms xs)) (λ a. suite_findings c.args.at (plain_suite (out-Arm a).body)) (arms-step c.args.at) c.loop-arm.report c.suite.new.report _ c.args.items.now c.loop-arm.arm-index c.arm-item.result
     c.loop-arm-test.true c.arm-item.is c.in_ok-suite.ensures c.loop-arm.invariant
+
+pub one_clause-returns : goal.one_clause-returns
+one_clause-returns t c = grind (arith, common_steps)

@@ -1,3 +1,4 @@
+use Rattle.std.proofs.lemmas.Grind.{common_steps}
 use Rattle.std.proofs.Common.{◌+◌, ◌<◌, ◌≤◌, length, drop, map, sym, ap, ◌∙◌, arith}
 use Rattle.std.specs.Str.{chars}
 use Rattle.py_value.specs.Keys.{is_same_text}
@@ -41,3 +42,6 @@ returns c =
     sym (sym c.loop-number.invariant.same
     ∙ ap (λ ys. number_from c.loop-number.number (map module_of ys) c.args.name.now) (all_dropped c.args.programs.now.modules.items c.loop-number.number le)
     ∙ number_none c.loop-number.number c.args.name.now)
+
+pub overflow_cast-result : goal.overflow_cast-result
+overflow_cast-result c = grind (arith, common_steps)

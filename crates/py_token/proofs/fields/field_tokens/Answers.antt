@@ -1,4 +1,5 @@
-use Rattle.std.proofs.Common.{ap, ◌∙◌}
+use Rattle.std.proofs.lemmas.Grind.{common_steps}
+use Rattle.std.proofs.Common.{ap, ◌∙◌, arith}
 use Rattle.py_token.specs.Fields.{depth_after}
 use Rattle.py_token.specs.View.{view_tokens}
 use Rattle.py_token.specs.ViewMatch.{view_match, view_field}
@@ -23,3 +24,6 @@ tokens-preserved c = rw c.after-rest.ensures (goes_on c.in-Some.c c.in-Some.othe
 
 pub returns : goal.returns
 returns c = gives_error view_field _ c.args.limit (open_end c.tokens.invariant c.in_default.ensures)
+
+pub tokens-smaller : goal.tokens-smaller
+tokens-smaller c = grind (arith, common_steps)

@@ -1,3 +1,4 @@
+use Rattle.std.proofs.lemmas.Grind.{common_steps}
 use Rattle.std.proofs.Common.{arith, ap}
 use Rattle.py_token.specs.Source.{line_count}
 use Rattle.std.proofs.Common.{length}
@@ -21,3 +22,6 @@ overflow_sub-result c =
     let shorter = length-marks c.doubled-triple.result c.in-Some.rest.now in
     let e = ap length c.after_marks-text.ensures in
     omega (arith, left, shorter, e)
+
+pub returns-in_err-body : goal.returns-in_err-body
+returns-in_err-body c = grind (arith, common_steps)

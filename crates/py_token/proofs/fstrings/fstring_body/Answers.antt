@@ -1,3 +1,4 @@
+use Rattle.std.proofs.lemmas.Grind.{common_steps}
 use Rattle.std.proofs.Common.{sym, ap, ◌∙◌, arith}
 use Rattle.std.proofs.lemmas.Result.{err_from_is_err_and}
 use Rattle.std.specs.Prelude.{Ok}
@@ -48,3 +49,9 @@ string_items-preserved c = rw c.after-rest-in-Holds.ensures (goes_on c.in-Some.c
 
 pub returns : goal.returns
 returns c = gives_error view_fstring _ _ (open_end c.string_items.invariant c.in_default.ensures)
+
+pub string_items-smaller : goal.string_items-smaller
+string_items-smaller c = grind (arith, common_steps)
+
+pub string_items-smaller-then-opens_field : goal.string_items-smaller-then-opens_field
+string_items-smaller-then-opens_field c = grind (arith, common_steps)

@@ -1,4 +1,5 @@
-use Rattle.std.proofs.Common.{sym, ap, ◌∙◌}
+use Rattle.std.proofs.lemmas.Grind.{common_steps}
+use Rattle.std.proofs.Common.{sym, ap, ◌∙◌, arith}
 use Rattle.std.proofs.lemmas.Result.{err_from_is_err_and}
 use Rattle.std.specs.Prelude.{Ok}
 use Rattle.py_token.specs.StringItems.{item_of, denoted_text, view_text}
@@ -29,3 +30,6 @@ string_items-preserved c = rw c.after-rest.ensures (goes_on c.in-Some.c c.in-Som
 
 pub returns : goal.returns
 returns c = open_end c.string_items.invariant c.in_default.ensures
+
+pub string_items-smaller : goal.string_items-smaller
+string_items-smaller c = grind (arith, common_steps)

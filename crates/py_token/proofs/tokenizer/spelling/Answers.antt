@@ -1,3 +1,4 @@
+use Rattle.std.proofs.lemmas.Grind.{common_steps}
 use Rattle.std.proofs.Common.{false, reverse, ap, arith, rules}
 use Rattle.std.proofs.lemmas.Result.{err_from_is_err_and}
 use Rattle.std.specs.Global.{Vec}
@@ -34,3 +35,6 @@ returns-in_err-finish c = let p = err_from_is_err_and c.from_residual-in_err-fin
 
 pub returns : goal.returns
 returns c = let r = c.in_ok-finish.ensures in finished c.segments.rest.now r.0 _ (search (rules, c.segments-test.ensures)) c.segments.invariant r.1 r.2
+
+pub segments-smaller : goal.segments-smaller
+segments-smaller c = grind (arith, common_steps)

@@ -1,4 +1,5 @@
-use Rattle.std.proofs.Common.{ap, ◌∙◌, ◌++◌}
+use Rattle.std.proofs.lemmas.Grind.{common_steps}
+use Rattle.std.proofs.Common.{ap, ◌∙◌, ◌++◌, arith}
 use Rattle.py_compile_expr.specs.CellView.{plain_guard}
 use Rattle.py_compile.specs.Units.{ranges}
 use Rattle.py_unit.proofs.CellTurns.{ranges_turn}
@@ -11,3 +12,6 @@ loop-cell-preserved c =
     (λ op cs.
     ap (λ n. c.continued.new.handlers.items ++ ranges c.in_ok-range.range.from (plain_guard c.in_ok-range.range.guard) n cs) c.in_ok-next.ensures
     ∙ c.in_ok-range.ensures op cs) c.loop-cell.invariant
+
+pub returns : goal.returns
+returns c = grind (arith, common_steps)

@@ -30,3 +30,6 @@ are_same_keys-loop-i-preserved t c = grind (arith, common_steps)
 
 pub are_same_keys-returns-then-not-is_same_key : goal.are_same_keys-returns-then-not-is_same_key
 are_same_keys-returns-then-not-is_same_key t c = grind (arith, common_steps)
+
+pub are_same_keys-returns : goal.are_same_keys-returns
+are_same_keys-returns t c = grind (arith, common_steps)

@@ -1,3 +1,4 @@
+use Rattle.std.proofs.lemmas.Grind.{common_steps}
 use Rattle.std.proofs.Common.{◌≡◌, ◌∷◌, ◌++◌, [], length, map, take, drop, ap, suc, arith, rules, sym, ◌∙◌, length-append}
 use Rattle.py_code.specs.Operands.{value_in}
 use Rattle.py_instructions.specs.View.{plain_operands}
@@ -24,3 +25,6 @@ pub returns : goal.returns
 returns c =
     all_taken c.args.self.now c.loop-self.self c.loop-self.values.items c.reverse.new.self.items c.args.n (length c.loop-self.values.items)
     (omega (arith, c.loop-self.invariant.count, c.loop-self-test.false)) (omega (arith, c.if-n-len.false, c.len.ensures)) c.loop-self.invariant.rest c.loop-self.invariant.front c.reverse.ensures.items
+
+pub returns-then-n-len : goal.returns-then-n-len
+returns-then-n-len c = grind (arith, common_steps)

@@ -1,3 +1,4 @@
+use Rattle.std.proofs.lemmas.Grind.{common_steps}
 use Rattle.std.proofs.Common.{◌≡◌, ◌+◌, ◌-◌, ◌++◌, ◌∷◌, [], None, suc, map, replicate, ap, sym, ◌∙◌, append_assoc, arith}
 use Rattle.std.proofs.lemmas.List.{map-append}
 use Rattle.py_store.specs.Values.{plain_option}
@@ -14,3 +15,6 @@ unset-preserved c =
     ∙ append_assoc (map plain_option slots) (None ∷ []) left
     ∙ ap (λ k. map plain_option slots ++ replicate k None) (sym one)
     ∙ c.unset.invariant
+
+pub returns : goal.returns
+returns c = grind (arith, common_steps)

@@ -1,5 +1,5 @@
 use Rattle.std.proofs.Common.{◌≡◌, ◌++◌, map, drop}
-use Rattle.py_store.specs.Links.{units_in, links_in}
+use Rattle.py_store.specs.Links.{units_in}
 use Rattle.py_store.proofs.links.Links.copy.Given as goal
 
 abbrev pub invariant-loop-units : goal.invariant-loop-units

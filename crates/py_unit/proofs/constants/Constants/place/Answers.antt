@@ -6,6 +6,7 @@ use Rattle.py_unit.specs.contracts.keys.KeyPartialEq.TheImpl.{ghosts}
 use Rattle.py_unit.specs.declared.keys.Key.{Key}
 use Rattle.py_unit.specs.declared.keys.Key.TheVariants as key_
 use Rattle.py_unit.specs.Keys.{constant_of}
+use Rattle.py_unit.proofs.Errs.{if_err}
 use Rattle.py_unit.proofs.Numbers.{place_new, constant_is_same}
 use Rattle.py_unit.proofs.constants.Constants.place.Goals as goal
 
@@ -49,3 +50,15 @@ returns-clause-added c =
     (ap (map constant_of) c.in_ok-place.ensures.keys
     ∙ sym (added-shown is_same_constant ghosts.eq constant_of keys_agree c.self.inside.all.keys c.in_ok-key.key)
     ∙ ap (λ s. add_new is_same_constant s (constant_of c.in_ok-key.key)) c.self.view_is ∙ ap (add_new is_same_constant c.args.self.now) c.in_ok-key.ensures)
+
+pub returns-in_err-key-clause-added : goal.returns-in_err-key-clause-added
+returns-in_err-key-clause-added c = if_err _ _ c.from_residual.ensures.0
+
+pub returns-in_err-key-clause-place : goal.returns-in_err-key-clause-place
+returns-in_err-key-clause-place c = if_err _ _ c.from_residual.ensures.0
+
+pub returns-in_err-place-clause-added : goal.returns-in_err-place-clause-added
+returns-in_err-place-clause-added c = if_err _ _ c.from_residual-in_err-place.ensures.0
+
+pub returns-in_err-place-clause-place : goal.returns-in_err-place-clause-place
+returns-in_err-place-clause-place c = if_err _ _ c.from_residual-in_err-place.ensures.0

@@ -1,3 +1,4 @@
+use Rattle.std.proofs.lemmas.Grind.{common_steps}
 use Rattle.std.proofs.Common.{◌<◌, ◌++◌, ◌∷◌, [], length, arith}
 use Rattle.py_value.specs.View.{plain}
 use Rattle.py_value.specs.Heaps.{with_items}
@@ -13,3 +14,6 @@ pub returns-in_err-push-clause-err : goal.returns-in_err-push-clause-err
 returns-in_err-push-clause-err c =
     let inside : c.args.list.place < length c.args.self.now.objects.items = omega arith in
     on_err _ _ (unchanged c.args.self.now.objects.items c.args.list.place c.index_mut.result.now c.push.new.self inside c.index_mut.ensures.value c.in_err-push.ensures.err)
+
+pub returns-else-list-len-clause-ok : goal.returns-else-list-len-clause-ok
+returns-else-list-len-clause-ok c = grind (arith, common_steps)

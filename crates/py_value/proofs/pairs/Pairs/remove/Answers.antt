@@ -1,3 +1,4 @@
+use Rattle.std.proofs.lemmas.Grind.{common_steps}
 use Rattle.std.proofs.Common.{map, ap, ◌∙◌, length, ◌<◌, arith}
 use Rattle.std.proofs.lemmas.List.{length-map}
 use Rattle.py_value.specs.Keys.{has_only_keys, has_distinct_keys}
@@ -21,3 +22,6 @@ returns-clause-value c =
 
 pub returns-clause-removed : goal.returns-clause-removed
 returns-clause-removed c = ap (λ ps. map plain_pair ps) c.remove-pair.ensures.items ∙ map-remove plain_pair c.args.self.now.pairs.items c.args.at
+
+pub remove-pair-requires : goal.remove-pair-requires
+remove-pair-requires c = grind (arith, common_steps)

@@ -1,0 +1,12 @@
+use Rattle.std.proofs.lemmas.Grind.{common_steps}
+use Rattle.std.proofs.Common.{arith}
+use Rattle.cov_words.proofs.command.read_on.Goals as goal
+
+pub loop-word-preserved : goal.loop-word-preserved
+loop-word-preserved c = grind (arith, common_steps)
+
+pub returns : goal.returns
+returns c = grind (arith, common_steps)
+
+pub returns-then-not-branch : goal.returns-then-not-branch
+returns-then-not-branch c = grind (arith, common_steps)

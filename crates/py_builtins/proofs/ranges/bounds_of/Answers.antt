@@ -1,0 +1,9 @@
+use Rattle.std.proofs.lemmas.Grind.{common_steps}
+use Rattle.std.proofs.Common.{arith}
+use Rattle.py_builtins.proofs.ranges.bounds_of.Goals as goal
+
+pub returns-in-3 : goal.returns-in-3
+returns-in-3 c = grind (arith, common_steps)
+
+pub returns-in-2 : goal.returns-in-2
+returns-in-2 c = grind (arith, common_steps)

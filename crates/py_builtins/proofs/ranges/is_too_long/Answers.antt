@@ -1,0 +1,9 @@
+use Rattle.std.proofs.lemmas.Grind.{common_steps}
+use Rattle.std.proofs.Common.{arith}
+use Rattle.py_builtins.proofs.ranges.is_too_long.Goals as goal
+
+pub returns-then-step-ge0 : goal.returns-then-step-ge0
+returns-then-step-ge0 c = grind (arith, common_steps)
+
+pub returns-else-step-ge0 : goal.returns-else-step-ge0
+returns-else-step-ge0 c = grind (arith, common_steps)

@@ -1,0 +1,6 @@
+use Rattle.std.proofs.lemmas.Grind.{common_steps}
+use Rattle.std.proofs.Common.{arith}
+use Rattle.py_value.proofs.heap.Object.push.Goals as goal
+
+pub returns-in_ok-push-in-List-clause-ok : goal.returns-in_ok-push-in-List-clause-ok
+returns-in_ok-push-in-List-clause-ok c = grind (arith, common_steps)
