@@ -19,11 +19,7 @@ mod PatternNames
 mod PatternOperands
 mod PatternRuns
 mod MatchRuns
-mod Agreement
+pub mod Agreement
 mod RunRows
 mod ExceptionRows
 mod LoopRows
-mod MatchRows
-mod ValueRows
-mod DefaultRows
-mod ModuleRows

@@ -1,0 +1,4 @@
+mod MatchRows
+mod ValueRows
+mod DefaultRows
+mod ModuleRows
