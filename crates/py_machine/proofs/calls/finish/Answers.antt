@@ -8,12 +8,10 @@ use Rattle.py_code.specs.Machine.{outer_call, follows}
 use Rattle.py_code.specs.Slots.{by_slots}
 use Rattle.py_instructions.specs.View.{effects_of}
 use Rattle.py_instructions.specs.Reaching.{plain_reach}
-use Rattle.py_machine.proofs.Errs.{if_err, passed, same}
 use Rattle.py_machine.proofs.AtOnce.{ran_as, asks_gives, asks_raises, gives_at_once, raises_at_once}
 use Rattle.py_machine.proofs.Performs.{raised_keeps, reads_of, gains_of}
 use Rattle.py_machine.proofs.StopsCalls.{ask_stops}
 use Rattle.py_machine.proofs.StopsRuns.{stops_as}
-use Rattle.py_machine.proofs.TracerCalls.{calls_none}
 use Rattle.py_machine.proofs.calls.finish.Goals as goal
 
 pub returns-in-Gives-clause-ok : goal.returns-in-Gives-clause-ok
@@ -44,129 +42,3 @@ pub returns-in_err-value-in-Asks-clause-given_up : goal.returns-in_err-value-in-
 returns-in_err-value-in-Asks-clause-given_up g c =
     on_err _ _ (ask_stops g.T.Tracer.moves g.T.Tracer.recorded g.O.Sink.tells g.I.Source.tells (g.O.Sink.contents c.args.out.now) (g.O.Sink.contents c.call_builtin.new.out) (g.I.Source.left c.args.input.now) (g.I.Source.left c.call_builtin.new.input) (modules_of c.args.programs.now) c.in-Asks.which c.in-Asks.values c.args.budget c.args.store.now c.args.reach c.in-Asks.is
     c.in_err-value-in-Asks.ensures.lost (gains_of g.O.Sink.tells (g.O.Sink.contents c.args.out.now) (g.O.Sink.contents c.call_builtin.new.out) c.in-Asks.which (plain_heap c.args.store.now.heap) (g.I.Source.left c.args.input.now) c.deref.result.now c.in-Asks.values.items c.deref.ensures.value c.in_err-value-in-Asks.ensures.gained) c.args.tracer.now)
-
-pub returns-in-Gives-clause-calls : goal.returns-in-Gives-clause-calls
-returns-in-Gives-clause-calls g c = calls_none g.T.Tracer.moves g.T.Tracer.recorded c.args.tracer.now
-
-pub returns-in-Gives-clause-reads : goal.returns-in-Gives-clause-reads
-returns-in-Gives-clause-reads g c = same (g.I.Source.faults c.args.input.now)
-
-pub returns-in-Gives-clause-writes : goal.returns-in-Gives-clause-writes
-returns-in-Gives-clause-writes g c = same (g.O.Sink.faults c.args.out.now)
-
-pub returns-in-Gives-clause-given_up : goal.returns-in-Gives-clause-given_up
-returns-in-Gives-clause-given_up g c = tt
-
-pub returns-in-Gives-clause-read_fault : goal.returns-in-Gives-clause-read_fault
-returns-in-Gives-clause-read_fault g c = λ e. absurd cc
-
-pub returns-in-Gives-clause-write_fault : goal.returns-in-Gives-clause-write_fault
-returns-in-Gives-clause-write_fault g c = λ e. absurd cc
-
-pub returns-in-Raises-clause-calls : goal.returns-in-Raises-clause-calls
-returns-in-Raises-clause-calls g c = calls_none g.T.Tracer.moves g.T.Tracer.recorded c.args.tracer.now
-
-pub returns-in-Raises-clause-reads : goal.returns-in-Raises-clause-reads
-returns-in-Raises-clause-reads g c = same (g.I.Source.faults c.args.input.now)
-
-pub returns-in-Raises-clause-writes : goal.returns-in-Raises-clause-writes
-returns-in-Raises-clause-writes g c = same (g.O.Sink.faults c.args.out.now)
-
-pub returns-in-Raises-clause-given_up : goal.returns-in-Raises-clause-given_up
-returns-in-Raises-clause-given_up g c = tt
-
-pub returns-in-Raises-clause-read_fault : goal.returns-in-Raises-clause-read_fault
-returns-in-Raises-clause-read_fault g c = λ e. absurd cc
-
-pub returns-in-Raises-clause-write_fault : goal.returns-in-Raises-clause-write_fault
-returns-in-Raises-clause-write_fault g c = λ e. absurd cc
-
-pub returns-in-Begins-clause-calls : goal.returns-in-Begins-clause-calls
-returns-in-Begins-clause-calls g c = c.in_ok-begin-in-Begins.ensures.calls
-
-pub returns-in-Begins-clause-reads : goal.returns-in-Begins-clause-reads
-returns-in-Begins-clause-reads g c = c.in_ok-begin-in-Begins.ensures.reads
-
-pub returns-in-Begins-clause-writes : goal.returns-in-Begins-clause-writes
-returns-in-Begins-clause-writes g c = c.in_ok-begin-in-Begins.ensures.writes
-
-pub returns-in-Begins-clause-given_up : goal.returns-in-Begins-clause-given_up
-returns-in-Begins-clause-given_up g c = tt
-
-pub returns-in-Begins-clause-read_fault : goal.returns-in-Begins-clause-read_fault
-returns-in-Begins-clause-read_fault g c = λ e. absurd cc
-
-pub returns-in-Begins-clause-write_fault : goal.returns-in-Begins-clause-write_fault
-returns-in-Begins-clause-write_fault g c = λ e. absurd cc
-
-pub returns-in_err-begin-in-Begins-clause-calls : goal.returns-in_err-begin-in-Begins-clause-calls
-returns-in_err-begin-in-Begins-clause-calls g c = c.in_err-begin-in-Begins.ensures.calls
-
-pub returns-in_err-begin-in-Begins-clause-reads : goal.returns-in_err-begin-in-Begins-clause-reads
-returns-in_err-begin-in-Begins-clause-reads g c = c.in_err-begin-in-Begins.ensures.reads
-
-pub returns-in_err-begin-in-Begins-clause-writes : goal.returns-in_err-begin-in-Begins-clause-writes
-returns-in_err-begin-in-Begins-clause-writes g c = c.in_err-begin-in-Begins.ensures.writes
-
-pub returns-in-Ok-clause-calls : goal.returns-in-Ok-clause-calls
-returns-in-Ok-clause-calls g c = calls_none g.T.Tracer.moves g.T.Tracer.recorded c.args.tracer.now
-
-pub returns-in-Ok-clause-reads : goal.returns-in-Ok-clause-reads
-returns-in-Ok-clause-reads g c = c.in_ok-value-in-Asks.ensures.reads
-
-pub returns-in-Ok-clause-writes : goal.returns-in-Ok-clause-writes
-returns-in-Ok-clause-writes g c = c.in_ok-value-in-Asks.ensures.writes
-
-pub returns-in-Ok-clause-given_up : goal.returns-in-Ok-clause-given_up
-returns-in-Ok-clause-given_up g c = tt
-
-pub returns-in-Ok-clause-read_fault : goal.returns-in-Ok-clause-read_fault
-returns-in-Ok-clause-read_fault g c = λ e. absurd cc
-
-pub returns-in-Ok-clause-write_fault : goal.returns-in-Ok-clause-write_fault
-returns-in-Ok-clause-write_fault g c = λ e. absurd cc
-
-pub returns-clause-calls : goal.returns-clause-calls
-returns-clause-calls g c = calls_none g.T.Tracer.moves g.T.Tracer.recorded c.args.tracer.now
-
-pub returns-clause-reads : goal.returns-clause-reads
-returns-clause-reads g c = c.in_ok-value-in-Asks.ensures.reads
-
-pub returns-clause-writes : goal.returns-clause-writes
-returns-clause-writes g c = c.in_ok-value-in-Asks.ensures.writes
-
-pub returns-clause-given_up : goal.returns-clause-given_up
-returns-clause-given_up g c = tt
-
-pub returns-clause-read_fault : goal.returns-clause-read_fault
-returns-clause-read_fault g c = λ e. absurd cc
-
-pub returns-clause-write_fault : goal.returns-clause-write_fault
-returns-clause-write_fault g c = λ e. absurd cc
-
-pub returns-in_err-value-in-Asks-clause-calls : goal.returns-in_err-value-in-Asks-clause-calls
-returns-in_err-value-in-Asks-clause-calls g c = calls_none g.T.Tracer.moves g.T.Tracer.recorded c.args.tracer.now
-
-pub returns-in_err-value-in-Asks-clause-reads : goal.returns-in_err-value-in-Asks-clause-reads
-returns-in_err-value-in-Asks-clause-reads g c = c.in_err-value-in-Asks.ensures.reads
-
-pub returns-in_err-value-in-Asks-clause-writes : goal.returns-in_err-value-in-Asks-clause-writes
-returns-in_err-value-in-Asks-clause-writes g c = c.in_err-value-in-Asks.ensures.writes
-
-pub returns-in_err-begin-in-Begins-clause-ok : goal.returns-in_err-begin-in-Begins-clause-ok
-returns-in_err-begin-in-Begins-clause-ok g c = if_err _ _ c.from_residual.ensures.0
-
-pub returns-in_err-value-in-Asks-clause-ok : goal.returns-in_err-value-in-Asks-clause-ok
-returns-in_err-value-in-Asks-clause-ok g c = if_err _ _ c.from_residual-in_err-value-in-Asks.ensures.0
-
-pub returns-in_err-begin-in-Begins-clause-read_fault : goal.returns-in_err-begin-in-Begins-clause-read_fault
-returns-in_err-begin-in-Begins-clause-read_fault g c = passed _ _ _ _ c.from_residual.ensures.1 c.in_err-begin-in-Begins.ensures.read_fault
-
-pub returns-in_err-begin-in-Begins-clause-write_fault : goal.returns-in_err-begin-in-Begins-clause-write_fault
-returns-in_err-begin-in-Begins-clause-write_fault g c = passed _ _ _ _ c.from_residual.ensures.1 c.in_err-begin-in-Begins.ensures.write_fault
-
-pub returns-in_err-value-in-Asks-clause-read_fault : goal.returns-in_err-value-in-Asks-clause-read_fault
-returns-in_err-value-in-Asks-clause-read_fault g c = passed _ _ _ _ c.from_residual-in_err-value-in-Asks.ensures.1 c.in_err-value-in-Asks.ensures.read_fault
-
-pub returns-in_err-value-in-Asks-clause-write_fault : goal.returns-in_err-value-in-Asks-clause-write_fault
-returns-in_err-value-in-Asks-clause-write_fault g c = passed _ _ _ _ c.from_residual-in_err-value-in-Asks.ensures.1 c.in_err-value-in-Asks.ensures.write_fault
