@@ -1,6 +1,6 @@
 mod Ordered
 mod Following
-mod Everywhere
+pub mod Everywhere
 mod Runs
 mod Places
 mod Adding

@@ -18,9 +18,17 @@ use Rattle.py_meaning.specs.Program.{run_of, run_modules, meaning, script_body, 
 use Rattle.py_meaning.specs.Statements.{Out}
 use Rattle.cov_arcs.specs.Laws.{unit_lines, firsts_of, ArcsAgree, ProgramArcsLaw, ModulesArcsLaw, CallArcsLaw}
 use Rattle.cov_arcs.specs.Told.{or_one, line_in, first_line, arcs_told}
-use Rattle.cov_arcs.proofs.Everywhere.{IsMark, Ways, in-exec, in-value, in-ask, in-enter, in-call_value}
+use Rattle.cov_arcs.proofs.Everywhere.{AreOn, IsOn, Ways, in-exec, in-value, in-ask, in-enter, in-call_value}
 use Rattle.cov_arcs.proofs.Following.{AreEnded, IsEnded, AreCutLast, IsCutLast, ended-cut, arcs-of_items}
 use Rattle.cov_arcs.proofs.Tracing.{tracing_law}
+
+-- nothing is asked of a line here
+abbrev IsAny : ℕ → Type 0
+IsAny l = Unit {0}
+
+are-any : (lines : List ℕ) → AreOn IsAny lines
+are-any [] = tt
+are-any (l ∷ lines) = (tt, are-any lines)
 
 -- what a computation leaves
 abbrev IsLeft : {A : Type 0} → Res A → Type 0
@@ -31,7 +39,7 @@ IsLeft (cut s) = AreCutLast s.items
 Closes : (A : Type 0) → M A → Type 0
 Closes A m = (s : State) (n : ℕ) → AreEnded s.items → IsLeft (m s n)
 
-with-mark : (i : Item) (items : Items) → IsMark i → AreEnded items → AreEnded (more items i)
+with-mark : (i : Item) (items : Items) → IsOn IsAny i → AreEnded items → AreEnded (more items i)
 unfolding AreEnded
 with-mark (mark l) items at e = e
 with-mark (again l) items at e = e
@@ -55,12 +63,12 @@ closes-chain : {A B : Type 0} (m : M A) (f : A → M B) → Closes A m → ((a :
 unfolding Closes chain
 closes-chain m f h g s n e = closes-bind (m s n) f (h s n e) g
 
-closes-step : {A : Type 0} (i : Item) (m : M A) → Closes A m → IsMark i → Closes A (step i m)
+closes-step : {A : Type 0} (i : Item) (m : M A) → Closes A m → IsOn IsAny i → Closes A (step i m)
 unfolding Closes step
 closes-step i m h at s zero e = ended-cut s.items e
 closes-step i m h at s (suc n) e = h (add i s) n (with-mark i s.items at e)
 
-closes-note : {A : Type 0} (i : Item) (m : M A) → Closes A m → IsMark i → Closes A (note i m)
+closes-note : {A : Type 0} (i : Item) (m : M A) → Closes A m → IsOn IsAny i → Closes A (note i m)
 unfolding Closes note
 closes-note i m h at s n e = h (add i s) n (with-mark i s.items at e)
 
@@ -85,7 +93,7 @@ closes-within : {A : Type 0} (f : ℕ → M A) → ((n : ℕ) → Closes A (f n)
 unfolding Closes within
 closes-within f h s n e = h n s n e
 
-ways : Ways Closes
+ways : Ways Closes IsAny
 ways = record {
   give = closes-give;
   stop = closes-stop;
@@ -126,7 +134,7 @@ closes-in_unit ms m (suc k) body h = h
 closes-calls : (ms : List LoadedModule) (depth m u : ℕ) (vs : List PlainValue) → Closes (Ans PlainValue) (calls ms depth m u vs)
 unfolding calls
 closes-calls ms zero m u vs = closes-stop _
-closes-calls ms (suc k) m u vs = closes-tick _ (closes-in_unit ms m u _ (closes-framed _ _ _ (in-exec Closes ways (calls ms k) (closes-calls ms k) _ _)))
+closes-calls ms (suc k) m u vs = closes-tick _ (closes-in_unit ms m u _ (closes-framed _ _ _ (in-exec Closes IsAny ways (calls ms k) _ (λ m u vs found. closes-calls ms k m u vs) _ (are-any _))))
 
 -- ---- runs
 
@@ -138,7 +146,7 @@ modules-left : (ms : List LoadedModule) (words : List Text) (input : List ℕ) (
 unfolding run_modules Closes
 modules-left ms words input budget =
     run-left budget (script_body ms budget (at_rest (first_world ms words) input) budget)
-    (in-enter Closes ways _ (closes-calls ms (suc budget) 0 0 []) (at_rest (first_world ms words) input) budget no-items)
+    (in-enter Closes IsAny ways _ (closes-calls ms (suc budget) 0 0 []) (at_rest (first_world ms words) input) budget no-items)
 
 answer-left : (budget : ℕ) (r : Res (Ans PlainValue)) → IsLeft r → AreCutLast (answer_in budget r).items
 answer-left budget (done a s n) h = ended-cut s.items h
@@ -148,7 +156,7 @@ call-left : (ms : List LoadedModule) (w : World) (input : List ℕ) (r : Request
 unfolding called Closes
 call-left ms w input r budget =
     answer-left budget (call_global ms r budget (at_rest w input) budget)
-    (in-value Closes ways _ _ (in-ask Closes ways _) (λ f. in-call_value Closes ways (calls ms (suc budget)) (closes-calls ms (suc budget)) ms f r.values) (at_rest w input) budget no-items)
+    (in-value Closes IsAny ways _ _ (in-ask Closes IsAny ways _) (λ f. in-call_value Closes IsAny ways (calls ms (suc budget)) ms (λ m u vs found. closes-calls ms (suc budget) m u vs) f r.values) (at_rest w input) budget no-items)
 
 -- ---- the first lines of units
 
