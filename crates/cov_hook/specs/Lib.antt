@@ -1,0 +1,4 @@
+pub mod Functions
+pub mod States
+pub mod Questions
+pub mod View

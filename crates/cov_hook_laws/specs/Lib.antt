@@ -1,0 +1,2 @@
+pub mod MeantHooks
+pub mod Laws

@@ -1,0 +1,13 @@
+pub mod Plan
+pub mod Recording
+pub mod Labels
+pub mod Counters
+pub mod Rows
+pub mod Frames
+pub mod Codes
+pub mod Steps
+pub mod Names
+pub mod Records
+pub mod States
+pub mod Asking
+pub mod Laws

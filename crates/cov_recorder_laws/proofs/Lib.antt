@@ -1,0 +1,10 @@
+mod Lists
+mod Pairs
+mod Walk
+mod Beside
+mod Lines
+mod Law
+mod Rows
+mod Bodies
+mod Known
+mod Foreseen
