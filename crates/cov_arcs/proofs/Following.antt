@@ -1,8 +1,8 @@
 -- What events tell of arcs, item by item.
-use Rattle.std.proofs.Common.{◌≡◌, ℕ, Bool, true, false, ◌||◌, nat_eq, if◌then◌else◌, List, [], ◌∷◌, ◌++◌, map, ℤ, refl, sym, ap, ◌∙◌, append_assoc}
+use Rattle.std.proofs.Common.{◌≡◌, ℕ, ◌+◌, Bool, true, false, cond, ◌||◌, nat_eq, nat_lt, if◌then◌else◌, List, [], ◌∷◌, ◌++◌, map, ℤ, count_by, refl, sym, ap, ◌∙◌, append_assoc, arith}
 use Rattle.std.specs.List.{list_any}
-use Rattle.std.proofs.lemmas.List.Folds.{list_any-append}
-use Rattle.std.proofs.lemmas.Bool.{eqb-true}
+use Rattle.std.proofs.lemmas.List.Sums.{sum_by-append, sum_by-cons}
+use Rattle.std.proofs.lemmas.Bool.{eqb-true, lt-ltb}
 use Rattle.std.proofs.lemmas.List.{map-append}
 use Rattle.py_value.specs.declared.exception.ExcKind.{ExcKind}
 use Rattle.cov_event.specs.declared.event.CodeId.{CodeId}
@@ -58,20 +58,20 @@ ended-cut (more is (throw kind)) h = h
 ended-cut (more is (sub a)) h = (h.0, ended-last a h.1)
 
 -- the frames after some events
-abbrev all_after : List (List ℕ) → List Frame → List Event → List Frame
+abbrev pub all_after : List (List ℕ) → List Frame → List Event → List Frame
 all_after firsts frames [] = frames
 all_after firsts frames (e ∷ es) = all_after firsts (after firsts frames e) es
 
-after-append : (firsts : List (List ℕ)) (frames : List Frame) (es fs : List Event) → all_after firsts frames (es ++ fs) ≡ all_after firsts (all_after firsts frames es) fs
+pub after-append : (firsts : List (List ℕ)) (frames : List Frame) (es fs : List Event) → all_after firsts frames (es ++ fs) ≡ all_after firsts (all_after firsts frames es) fs
 after-append firsts frames [] fs = refl
 after-append firsts frames (e ∷ es) fs = after-append firsts (after firsts frames e) es fs
 
-after-line : (firsts : List (List ℕ)) (frames : List Frame) (k l : ℕ) → all_after firsts (at_line frames k) (Line l ∷ []) ≡ at_line frames l
+pub after-line : (firsts : List (List ℕ)) (frames : List Frame) (k l : ℕ) → all_after firsts (at_line frames k) (Line l ∷ []) ≡ at_line frames l
 after-line firsts [] k l = refl
 after-line firsts (f ∷ outer) k l = refl
 
 -- what events tell after others
-told-append : (firsts : List (List ℕ)) (m : ℕ) (frames : List Frame) (es fs : List Event) → arcs_told firsts m frames (es ++ fs) ≡ arcs_told firsts m frames es ++ arcs_told firsts m (all_after firsts frames es) fs
+pub told-append : (firsts : List (List ℕ)) (m : ℕ) (frames : List Frame) (es fs : List Event) → arcs_told firsts m frames (es ++ fs) ≡ arcs_told firsts m frames es ++ arcs_told firsts m (all_after firsts frames es) fs
 unfolding arcs_told
 told-append firsts m frames [] fs = refl
 told-append firsts m frames (e ∷ es) fs =
@@ -84,31 +84,31 @@ beginning_law firsts m front whole h = record {
   is = ap (arcs_told firsts m []) h.is ∙ told-append firsts m [] front h.rest;
 }
 
-map-map : {A B C : Type 0} (f : A → B) (g : B → C) (xs : List A) → map g (map f xs) ≡ map (λ x. g (f x)) xs
+pub map-map : {A B C : Type 0} (f : A → B) (g : B → C) (xs : List A) → map g (map f xs) ≡ map (λ x. g (f x)) xs
 map-map f g [] = refl
 map-map f g (x ∷ xs) = ap (λ rest. g (f x) ∷ rest) (map-map f g xs)
 
-swap : (a b c : Bool) → ((a || b) || c) ≡ ((a || c) || b)
-swap true b c = refl
-swap false true true = refl
-swap false true false = refl
-swap false false true = refl
-swap false false false = refl
+pub count-append : {X : Type 0} (p : X → Bool) (xs ys : List X) → count_by p (xs ++ ys) ≡ count_by p xs + count_by p ys
+count-append p xs ys = sum_by-append (λ x. cond (p x) 1 0) xs ys
 
-or-assoc : (a b c : Bool) → ((a || b) || c) ≡ (a || (b || c))
-or-assoc true b c = refl
-or-assoc false b c = refl
+swap : (a b c : ℕ) → ((a + b) + c) ≡ ((a + c) + b)
+swap a b c = omega arith
 
-or-false : (a : Bool) → (a || false) ≡ a
-or-false true = refl
-or-false false = refl
+add-assoc : (a b c : ℕ) → ((a + b) + c) ≡ (a + (b + c))
+add-assoc a b c = omega arith
+
+pub none-add : (a : ℕ) → a ≡ (0 + a)
+none-add a = omega arith
+
+pub add-none : (a : ℕ) → (a + 0) ≡ a
+add-none a = omega arith
 
 module _ (ms : List LoadedModule) (firsts : List (List ℕ)) (agree : (code : CodeId) → first_line firsts code ≡ (unit_of ms code).line) (m : ℕ) (p : ℤ × ℤ → Bool) where
   abbrev told_in : List Frame → List Event → List (ℤ × ℤ)
   told_in frames es = arcs_told firsts m frames es
 
-  any-told : (frames : List Frame) (es fs : List Event) → list_any p (told_in frames (es ++ fs)) ≡ (list_any p (told_in frames es) || list_any p (told_in (all_after firsts frames es) fs))
-  any-told frames es fs = ap (list_any p) (told-append firsts m frames es fs) ∙ list_any-append p (told_in frames es) (told_in (all_after firsts frames es) fs)
+  count-told : (frames : List Frame) (es fs : List Event) → count_by p (told_in frames (es ++ fs)) ≡ (count_by p (told_in frames es) + count_by p (told_in (all_after firsts frames es) fs))
+  count-told frames es fs = ap (count_by p) (told-append firsts m frames es fs) ∙ count-append p (told_in frames es) (told_in (all_after firsts frames es) fs)
 
   -- these arcs of a body with this first line, where it stands in the module
   abbrev shown : Bool → ℕ → List Arc → List (ℤ × ℤ)
@@ -154,52 +154,52 @@ module _ (ms : List LoadedModule) (firsts : List (List ℕ)) (agree : (code : Co
 
   -- one activation, and those that were entered in it
   inner-first : (code : CodeId) (arcs : List Arc) (rest : List Activation) (b : Bool)
-      → list_any p (map ends (if b then map (crossing (unit_of ms code).line) arcs ++ crossings_of ms m rest else crossings_of ms m rest)) ≡ (list_any p (shown b (first_line firsts code) arcs) || list_any p (inner rest))
+      → count_by p (map ends (if b then map (crossing (unit_of ms code).line) arcs ++ crossings_of ms m rest else crossings_of ms m rest)) ≡ (count_by p (shown b (first_line firsts code) arcs) + count_by p (inner rest))
   inner-first code arcs rest true =
-      ap (list_any p) (map-append ends (map (crossing (unit_of ms code).line) arcs) (crossings_of ms m rest))
-      ∙ list_any-append p (map ends (map (crossing (unit_of ms code).line) arcs)) (inner rest)
-      ∙ ap (λ w. list_any p w || list_any p (inner rest)) (map-map (crossing (unit_of ms code).line) ends arcs ∙ ap (λ first. shown true first arcs) (sym (agree code)))
-  inner-first code arcs rest false = refl
+      ap (count_by p) (map-append ends (map (crossing (unit_of ms code).line) arcs) (crossings_of ms m rest))
+      ∙ count-append p (map ends (map (crossing (unit_of ms code).line) arcs)) (inner rest)
+      ∙ ap (λ w. count_by p w + count_by p (inner rest)) (map-map (crossing (unit_of ms code).line) ends arcs ∙ ap (λ first. shown true first arcs) (sym (agree code)))
+  inner-first code arcs rest false = none-add (count_by p (inner rest))
 
   record Follows (frames : List Frame) (items : Items) : Type 0 where
     pub frames_are : all_after firsts (at_line frames 0) (told [] items) ≡ at_line frames (kept_line items)
-    pub arcs_are : list_any p (told_in (at_line frames 0) (told [] items)) ≡ (list_any p (own frames (arcs_so_far items)) || list_any p (inner (activations items)))
+    pub arcs_are : count_by p (told_in (at_line frames 0) (told [] items)) ≡ (count_by p (own frames (arcs_so_far items)) + count_by p (inner (activations items)))
 
   record Enters (frames : List Frame) (a : Activation) : Type 0 where
     pub frames_are : all_after firsts frames (told_of [] a) ≡ frames
-    pub arcs_are : list_any p (told_in frames (told_of [] a)) ≡ list_any p (inner (activations_from a))
+    pub arcs_are : count_by p (told_in frames (told_of [] a)) ≡ count_by p (inner (activations_from a))
 
   -- a line event comes
   line-frames : (frames : List Frame) (items : Items) → Follows frames items → (l : ℕ) → all_after firsts (at_line frames 0) (told [] items ++ Line l ∷ []) ≡ at_line frames l
   line-frames frames items h l =
       after-append firsts (at_line frames 0) (told [] items) (Line l ∷ []) ∙ ap (λ fs. all_after firsts fs (Line l ∷ [])) h.frames_are ∙ after-line firsts frames (kept_line items) l
 
-  pushed-any : (frames : List Frame) (items : Items) (l : ℕ) (inside : Bool)
-      → ((list_any p (own frames (arcs_so_far items)) || inside) || list_any p (told_in (at_line frames (kept_line items)) (Line l ∷ []))) ≡ (list_any p (own frames (arcs_so_far items ++ arc_to items l ∷ [])) || inside)
-  pushed-any frames items l inside =
-      swap (list_any p (own frames (arcs_so_far items))) inside (list_any p (told_in (at_line frames (kept_line items)) (Line l ∷ [])))
-      ∙ ap (λ b. b || inside) (sym (list_any-append p (own frames (arcs_so_far items)) (told_in (at_line frames (kept_line items)) (Line l ∷ []))) ∙ ap (list_any p) (sym (own-push frames (arcs_so_far items) (arc_to items l))))
+  pushed-count : (frames : List Frame) (items : Items) (l : ℕ) (inside : ℕ)
+      → ((count_by p (own frames (arcs_so_far items)) + inside) + count_by p (told_in (at_line frames (kept_line items)) (Line l ∷ []))) ≡ (count_by p (own frames (arcs_so_far items ++ arc_to items l ∷ [])) + inside)
+  pushed-count frames items l inside =
+      swap (count_by p (own frames (arcs_so_far items))) inside (count_by p (told_in (at_line frames (kept_line items)) (Line l ∷ [])))
+      ∙ ap (λ b. b + inside) (sym (count-append p (own frames (arcs_so_far items)) (told_in (at_line frames (kept_line items)) (Line l ∷ []))) ∙ ap (count_by p) (sym (own-push frames (arcs_so_far items) (arc_to items l))))
 
   line-arcs : (frames : List Frame) (items : Items) → Follows frames items → (l : ℕ)
-      → list_any p (told_in (at_line frames 0) (told [] items ++ Line l ∷ [])) ≡ (list_any p (own frames (arcs_so_far items ++ arc_to items l ∷ [])) || list_any p (inner (activations items)))
+      → count_by p (told_in (at_line frames 0) (told [] items ++ Line l ∷ [])) ≡ (count_by p (own frames (arcs_so_far items ++ arc_to items l ∷ [])) + count_by p (inner (activations items)))
   line-arcs frames items h l =
-      any-told (at_line frames 0) (told [] items) (Line l ∷ [])
-      ∙ ap (λ fs. list_any p (told_in (at_line frames 0) (told [] items)) || list_any p (told_in fs (Line l ∷ []))) h.frames_are
-      ∙ ap (λ b. b || list_any p (told_in (at_line frames (kept_line items)) (Line l ∷ []))) h.arcs_are
-      ∙ pushed-any frames items l (list_any p (inner (activations items)))
+      count-told (at_line frames 0) (told [] items) (Line l ∷ [])
+      ∙ ap (λ fs. count_by p (told_in (at_line frames 0) (told [] items)) + count_by p (told_in fs (Line l ∷ []))) h.frames_are
+      ∙ ap (λ b. b + count_by p (told_in (at_line frames (kept_line items)) (Line l ∷ []))) h.arcs_are
+      ∙ pushed-count frames items l (count_by p (inner (activations items)))
 
   -- items that a mark may join, which is no event on the line that is kept
   marked-follows : (frames : List Frame) (items : Items) → Follows frames items → (l : ℕ) → (kept : Bool) → is_kept l items ≡ kept → Follows frames (more items (mark l))
   unfolding told arcs_so_far activations
   marked-follows frames items h l true same = record {
     frames_are = ap (λ b. all_after firsts (at_line frames 0) (line_unless b l (told [] items))) same ∙ h.frames_are ∙ ap (at_line frames) (sym (eqb-true l (kept_line items) same));
-    arcs_are = ap (λ b. list_any p (told_in (at_line frames 0) (line_unless b l (told [] items)))) same ∙ h.arcs_are
-        ∙ ap (λ b. list_any p (own frames (if b then arcs_so_far items else arcs_so_far items ++ arc_to items l ∷ [])) || list_any p (inner (activations items))) (sym same);
+    arcs_are = ap (λ b. count_by p (told_in (at_line frames 0) (line_unless b l (told [] items)))) same ∙ h.arcs_are
+        ∙ ap (λ b. count_by p (own frames (if b then arcs_so_far items else arcs_so_far items ++ arc_to items l ∷ [])) + count_by p (inner (activations items))) (sym same);
   }
   marked-follows frames items h l false same = record {
     frames_are = ap (λ b. all_after firsts (at_line frames 0) (line_unless b l (told [] items))) same ∙ line-frames frames items h l;
-    arcs_are = ap (λ b. list_any p (told_in (at_line frames 0) (line_unless b l (told [] items)))) same ∙ line-arcs frames items h l
-        ∙ ap (λ b. list_any p (own frames (if b then arcs_so_far items else arcs_so_far items ++ arc_to items l ∷ [])) || list_any p (inner (activations items))) (sym same);
+    arcs_are = ap (λ b. count_by p (told_in (at_line frames 0) (line_unless b l (told [] items)))) same ∙ line-arcs frames items h l
+        ∙ ap (λ b. count_by p (own frames (if b then arcs_so_far items else arcs_so_far items ++ arc_to items l ∷ [])) + count_by p (inner (activations items))) (sym same);
   }
 
   again-follows : (frames : List Frame) (items : Items) → Follows frames items → (l : ℕ) → Follows frames (more items (again l))
@@ -210,23 +210,23 @@ module _ (ms : List LoadedModule) (firsts : List (List ℕ)) (agree : (code : Co
   unfolding told arcs_so_far activations arcs_told
   thrown-follows frames items h kind = record {
     frames_are = after-append firsts (at_line frames 0) (told [] items) (Throw kind ∷ []) ∙ h.frames_are;
-    arcs_are = any-told (at_line frames 0) (told [] items) (Throw kind ∷ []) ∙ or-false (list_any p (told_in (at_line frames 0) (told [] items))) ∙ h.arcs_are;
+    arcs_are = count-told (at_line frames 0) (told [] items) (Throw kind ∷ []) ∙ add-none (count_by p (told_in (at_line frames 0) (told [] items))) ∙ h.arcs_are;
   }
 
   -- an activation comes, which tells what it tells by itself
-  sub-any : (frames : List Frame) (items : Items) (a : Activation) → Follows frames items
-      → list_any p (told_in (at_line frames (kept_line items)) (told_of [] a)) ≡ list_any p (inner (activations_from a))
-      → list_any p (told_in (at_line frames 0) (told [] (more items (sub a)))) ≡ (list_any p (own frames (arcs_so_far (more items (sub a)))) || list_any p (inner (activations (more items (sub a)))))
+  sub-count : (frames : List Frame) (items : Items) (a : Activation) → Follows frames items
+      → count_by p (told_in (at_line frames (kept_line items)) (told_of [] a)) ≡ count_by p (inner (activations_from a))
+      → count_by p (told_in (at_line frames 0) (told [] (more items (sub a)))) ≡ (count_by p (own frames (arcs_so_far (more items (sub a)))) + count_by p (inner (activations (more items (sub a)))))
   unfolding told arcs_so_far activations
-  sub-any frames items a h e =
-      ap (λ es. list_any p (told_in (at_line frames 0) es)) (told-after_of (told [] items) a)
-      ∙ any-told (at_line frames 0) (told [] items) (told_of [] a)
-      ∙ ap (λ fs. list_any p (told_in (at_line frames 0) (told [] items)) || list_any p (told_in fs (told_of [] a))) h.frames_are
-      ∙ ap (λ b. b || list_any p (told_in (at_line frames (kept_line items)) (told_of [] a))) h.arcs_are
-      ∙ or-assoc (list_any p (own frames (arcs_so_far items))) (list_any p (inner (activations items))) (list_any p (told_in (at_line frames (kept_line items)) (told_of [] a)))
-      ∙ ap (λ b. list_any p (own frames (arcs_so_far items)) || (list_any p (inner (activations items)) || b)) e
-      ∙ ap (λ b. list_any p (own frames (arcs_so_far items)) || b)
-      (sym (list_any-append p (inner (activations items)) (inner (activations_from a))) ∙ ap (list_any p) (sym (inner-append (activations items) (activations_from a))))
+  sub-count frames items a h e =
+      ap (λ es. count_by p (told_in (at_line frames 0) es)) (told-after_of (told [] items) a)
+      ∙ count-told (at_line frames 0) (told [] items) (told_of [] a)
+      ∙ ap (λ fs. count_by p (told_in (at_line frames 0) (told [] items)) + count_by p (told_in fs (told_of [] a))) h.frames_are
+      ∙ ap (λ b. b + count_by p (told_in (at_line frames (kept_line items)) (told_of [] a))) h.arcs_are
+      ∙ add-assoc (count_by p (own frames (arcs_so_far items))) (count_by p (inner (activations items))) (count_by p (told_in (at_line frames (kept_line items)) (told_of [] a)))
+      ∙ ap (λ b. count_by p (own frames (arcs_so_far items)) + (count_by p (inner (activations items)) + b)) e
+      ∙ ap (λ b. count_by p (own frames (arcs_so_far items)) + b)
+      (sym (count-append p (inner (activations items)) (inner (activations_from a))) ∙ ap (count_by p) (sym (inner-append (activations items) (activations_from a))))
 
   sub-frames : (frames : List Frame) (items : Items) (a : Activation) → Follows frames items → all_after firsts (at_line frames (kept_line items)) (told_of [] a) ≡ at_line frames (kept_line items)
       → all_after firsts (at_line frames 0) (told [] (more items (sub a))) ≡ at_line frames (kept_line items)
@@ -241,24 +241,24 @@ module _ (ms : List LoadedModule) (firsts : List (List ℕ)) (agree : (code : Co
     frames_are = ap (λ es. all_after firsts outer (es ++ Return ∷ [])) (told-after_it (Call code ∷ []) items)
         ∙ after-append firsts (opened firsts code ∷ outer) (told [] items) (Return ∷ [])
         ∙ ap (λ fs. all_after firsts fs (Return ∷ [])) h.frames_are;
-    arcs_are = ap (λ es. list_any p (told_in outer (es ++ Return ∷ []))) (told-after_it (Call code ∷ []) items)
-        ∙ any-told (opened firsts code ∷ outer) (told [] items) (Return ∷ [])
-        ∙ ap (λ fs. list_any p (told_in (opened firsts code ∷ outer) (told [] items)) || list_any p (told_in fs (Return ∷ []))) h.frames_are
-        ∙ ap (λ b. b || list_any p (told_in (at_line (opened firsts code ∷ outer) (kept_line items)) (Return ∷ []))) h.arcs_are
-        ∙ pushed-any (opened firsts code ∷ outer) items 0 (list_any p (inner (activations items)))
+    arcs_are = ap (λ es. count_by p (told_in outer (es ++ Return ∷ []))) (told-after_it (Call code ∷ []) items)
+        ∙ count-told (opened firsts code ∷ outer) (told [] items) (Return ∷ [])
+        ∙ ap (λ fs. count_by p (told_in (opened firsts code ∷ outer) (told [] items)) + count_by p (told_in fs (Return ∷ []))) h.frames_are
+        ∙ ap (λ b. b + count_by p (told_in (at_line (opened firsts code ∷ outer) (kept_line items)) (Return ∷ []))) h.arcs_are
+        ∙ pushed-count (opened firsts code ∷ outer) items 0 (count_by p (inner (activations items)))
         ∙ sym (inner-first code (arcs_so_far items ++ arc_to items 0 ∷ []) (activations items) (nat_eq code.module m));
   }
 
   stays : (outer : List Frame) (code : CodeId) (items : Items)
-      → list_any p (told_in (opened firsts code ∷ outer) (told [] items)) ≡ (list_any p (own (opened firsts code ∷ outer) (arcs_so_far items)) || list_any p (inner (activations items)))
-      → list_any p (told_in outer (told_of [] (activation code items false))) ≡ list_any p (inner (activations_from (activation code items false)))
+      → count_by p (told_in (opened firsts code ∷ outer) (told [] items)) ≡ (count_by p (own (opened firsts code ∷ outer) (arcs_so_far items)) + count_by p (inner (activations items)))
+      → count_by p (told_in outer (told_of [] (activation code items false))) ≡ count_by p (inner (activations_from (activation code items false)))
   unfolding told_of activations_from arcs_told crossings_of arcs_of
   stays outer code items e =
-      ap (λ es. list_any p (told_in outer es)) (told-after_it (Call code ∷ []) items) ∙ e ∙ sym (inner-first code (arcs_so_far items) (activations items) (nat_eq code.module m))
+      ap (λ es. count_by p (told_in outer es)) (told-after_it (Call code ∷ []) items) ∙ e ∙ sym (inner-first code (arcs_so_far items) (activations items) (nat_eq code.module m))
 
   none-follows : (frames : List Frame) → Follows frames no_items
   unfolding told arcs_so_far activations arcs_told crossings_of
-  none-follows frames = record { frames_are = refl; arcs_are = ap (list_any p) (sym (own-none frames)) ∙ sym (or-false (list_any p (own frames []))) }
+  none-follows frames = record { frames_are = refl; arcs_are = ap (count_by p) (sym (own-none frames)) ∙ sym (add-none (count_by p (own frames []))) }
 
   mutual
     unfolding AreEnded IsEnded
@@ -270,7 +270,7 @@ module _ (ms : List LoadedModule) (firsts : List (List ℕ)) (agree : (code : Co
     follows (more is (throw kind)) h frames = thrown-follows frames is (follows is h frames) kind
     follows (more is (sub a)) h frames = record {
       frames_are = sub-frames frames is a (follows is h.0 frames) (enters a h.1 (at_line frames (kept_line is))).frames_are;
-      arcs_are = sub-any frames is a (follows is h.0 frames) (enters a h.1 (at_line frames (kept_line is))).arcs_are;
+      arcs_are = sub-count frames is a (follows is h.0 frames) (enters a h.1 (at_line frames (kept_line is))).arcs_are;
     }
 
     enters : (a : Activation) → IsEnded a → (outer : List Frame) → Enters outer a
@@ -280,21 +280,33 @@ module _ (ms : List LoadedModule) (firsts : List (List ℕ)) (agree : (code : Co
   mutual
     unfolding AreCutLast IsCutLast
 
-    follows-cut : (items : Items) → AreCutLast items → (frames : List Frame) → list_any p (told_in (at_line frames 0) (told [] items)) ≡ (list_any p (own frames (arcs_so_far items)) || list_any p (inner (activations items)))
+    follows-cut : (items : Items) → AreCutLast items → (frames : List Frame) → count_by p (told_in (at_line frames 0) (told [] items)) ≡ (count_by p (own frames (arcs_so_far items)) + count_by p (inner (activations items)))
     follows-cut no_items h frames = (none-follows frames).arcs_are
     follows-cut (more is (mark l)) h frames = (marked-follows frames is (follows is h frames) l (is_kept l is) refl).arcs_are
     follows-cut (more is (again l)) h frames = (again-follows frames is (follows is h frames) l).arcs_are
     follows-cut (more is (throw kind)) h frames = (thrown-follows frames is (follows is h frames) kind).arcs_are
-    follows-cut (more is (sub a)) h frames = sub-any frames is a (follows is h.0 frames) (enters-cut a h.1 (at_line frames (kept_line is)))
+    follows-cut (more is (sub a)) h frames = sub-count frames is a (follows is h.0 frames) (enters-cut a h.1 (at_line frames (kept_line is)))
 
-    enters-cut : (a : Activation) → IsCutLast a → (outer : List Frame) → list_any p (told_in outer (told_of [] a)) ≡ list_any p (inner (activations_from a))
+    enters-cut : (a : Activation) → IsCutLast a → (outer : List Frame) → count_by p (told_in outer (told_of [] a)) ≡ count_by p (inner (activations_from a))
     enters-cut (activation code items true) h outer = (left outer code items (follows items h (opened firsts code ∷ outer))).arcs_are
     enters-cut (activation code items false) h outer = stays outer code items (follows-cut items h (opened firsts code ∷ outer))
 
   -- outside all frames
-  any-arc : (items : Items) → AreCutLast items → list_any p (arcs_told firsts m [] (events_in items)) ≡ list_any p (map ends (crossings ms m items))
-  any-arc items h = follows-cut items h []
+  pub each-count : (items : Items) → AreCutLast items → count_by p (arcs_told firsts m [] (events_in items)) ≡ count_by p (map ends (crossings ms m items))
+  each-count items h = follows-cut items h [] ∙ sym (none-add (count_by p (inner (activations items))))
+
+-- one more, which is of the kind or isn't
+any-more : (b : Bool) (n : ℕ) (any : Bool) → any ≡ nat_lt 0 n → (b || any) ≡ nat_lt 0 (cond b 1 0 + n)
+any-more true n any e = sym (lt-ltb 0 (1 + n) (omega arith))
+any-more false n any e = e ∙ ap (nat_lt 0) (none-add n)
+
+-- a kind of arcs is among them exactly where its number isn't 0
+counted-any : {X : Type 0} (p : X → Bool) (xs : List X) → list_any p xs ≡ nat_lt 0 (count_by p xs)
+counted-any p [] = refl
+counted-any p (x ∷ xs) = any-more (p x) (count_by p xs) (list_any p xs) (counted-any p xs) ∙ ap (nat_lt 0) (sym (sum_by-cons (λ x. cond (p x) 1 0) x xs))
 
 pub arcs-of_items : (ms : List LoadedModule) (firsts : List (List ℕ)) → ((code : CodeId) → first_line firsts code ≡ (unit_of ms code).line) → (items : Items) → AreCutLast items
     → (m : ℕ) → ordered [] (arcs_told firsts m [] (events_in items)) ≡ lines_crossed (crossings ms m items)
-arcs-of_items ms firsts agree items h m = same-in_order (arcs_told firsts m [] (events_in items)) (map ends (crossings ms m items)) (λ p. any-arc ms firsts agree m p items h)
+arcs-of_items ms firsts agree items h m =
+    same-in_order (arcs_told firsts m [] (events_in items)) (map ends (crossings ms m items))
+    (λ p. counted-any p (arcs_told firsts m [] (events_in items)) ∙ ap (nat_lt 0) (each-count ms firsts agree m p items h) ∙ sym (counted-any p (map ends (crossings ms m items))))

@@ -1,8 +1,8 @@
-mod Ordered
-mod Following
+pub mod Ordered
+pub mod Following
 pub mod Everywhere
-mod Runs
-mod Places
-mod Adding
-mod Tracing
-mod Rows
+pub mod Runs
+pub mod Places
+pub mod Adding
+pub mod Tracing
+pub mod Rows

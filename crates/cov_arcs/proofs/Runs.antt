@@ -19,7 +19,7 @@ use Rattle.py_meaning.specs.Statements.{Out}
 use Rattle.cov_arcs.specs.Laws.{unit_lines, firsts_of, ArcsAgree, ProgramArcsLaw, ModulesArcsLaw, CallArcsLaw}
 use Rattle.cov_arcs.specs.Told.{or_one, line_in, first_line, arcs_told}
 use Rattle.cov_arcs.proofs.Everywhere.{AreOn, IsOn, Ways, in-exec, in-value, in-ask, in-enter, in-call_value}
-use Rattle.cov_arcs.proofs.Following.{AreEnded, IsEnded, AreCutLast, IsCutLast, ended-cut, arcs-of_items}
+use Rattle.cov_arcs.proofs.Following.{AreEnded, IsEnded, AreCutLast, IsCutLast, ended-cut, each-count, arcs-of_items}
 use Rattle.cov_arcs.proofs.Tracing.{tracing_law}
 
 -- nothing is asked of a line here
@@ -142,7 +142,7 @@ run-left : (budget : ℕ) (r : Res (Ans PlainValue)) → IsLeft r → AreCutLast
 run-left budget (done a s n) h = ended-cut s.items h
 run-left budget (cut s) h = h
 
-modules-left : (ms : List LoadedModule) (words : List Text) (input : List ℕ) (budget : ℕ) → AreCutLast (run_modules ms words input budget).items
+pub modules-left : (ms : List LoadedModule) (words : List Text) (input : List ℕ) (budget : ℕ) → AreCutLast (run_modules ms words input budget).items
 unfolding run_modules Closes
 modules-left ms words input budget =
     run-left budget (script_body ms budget (at_rest (first_world ms words) input) budget)
@@ -152,7 +152,7 @@ answer-left : (budget : ℕ) (r : Res (Ans PlainValue)) → IsLeft r → AreCutL
 answer-left budget (done a s n) h = ended-cut s.items h
 answer-left budget (cut s) h = h
 
-call-left : (ms : List LoadedModule) (w : World) (input : List ℕ) (r : Request) (budget : ℕ) → AreCutLast (called ms w input r budget).items
+pub call-left : (ms : List LoadedModule) (w : World) (input : List ℕ) (r : Request) (budget : ℕ) → AreCutLast (called ms w input r budget).items
 unfolding called Closes
 call-left ms w input r budget =
     answer-left budget (call_global ms r budget (at_rest w input) budget)
@@ -173,7 +173,7 @@ unit-line (x ∷ ms) zero zero = refl
 unit-line (x ∷ ms) zero (suc k) = line-at x.body (functions x.body) k
 unit-line (x ∷ ms) (suc m) u = unit-line ms m u
 
-unit-first : (ms : List LoadedModule) (code : CodeId) → first_line (firsts_of ms) code ≡ (unit_of ms code).line
+pub unit-first : (ms : List LoadedModule) (code : CodeId) → first_line (firsts_of ms) code ≡ (unit_of ms code).line
 unit-first ms code = unit-line ms code.module code.unit
 
 -- ---- the laws
@@ -182,6 +182,7 @@ agree : (ms : List LoadedModule) (items : Items) → AreCutLast items → ArcsAg
 agree ms items h =
     let told : (m : ℕ) → ordered [] (arcs_told (firsts_of ms) m [] (events_in items)) ≡ lines_crossed (crossings ms m items) = arcs-of_items ms (firsts_of ms) (unit-first ms) items h in
     record {
+      places = λ m p. each-count ms (firsts_of ms) (unit-first ms) m p items h;
       told = told;
       kept = λ new takes m within. tracing_law.from_first (firsts_of ms) (events_in items) new takes m (subst (λ n. m < n) (sym (length-map ms unit_lines)) within) ∙ ap Some (told m);
     }

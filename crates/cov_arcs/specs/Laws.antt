@@ -3,7 +3,7 @@
 --     ArcsAgree                                      of events and items
 --     ProgramArcsLaw, ModulesArcsLaw, CallArcsLaw    for each run
 --     BeginningLaw                                   for some first events
-use Rattle.std.specs.Prelude.{◌≡◌, ℕ, ◌<◌, List, [], ◌∷◌, length, map, Some, slice_get}
+use Rattle.std.specs.Prelude.{◌≡◌, ℕ, ◌<◌, Bool, List, [], ◌∷◌, length, map, ℤ, Some, slice_get, count_by}
 use Rattle.cov_event.specs.declared.event.Event.{Event}
 use Rattle.cov_event.specs.Moves.{Takes}
 use Rattle.cov_outside.specs.Prefixes.{IsPrefix}
@@ -11,7 +11,7 @@ use Rattle.py_syntax.specs.Functions.{functions}
 use Rattle.py_syntax.specs.Tree.{Text}
 use Rattle.py_builtins.specs.World.{World}
 use Rattle.py_meaning.specs.Activations.{Items}
-use Rattle.py_meaning.specs.Crossings.{crossings, lines_crossed, ordered}
+use Rattle.py_meaning.specs.Crossings.{ends, crossings, lines_crossed, ordered}
 use Rattle.py_meaning.specs.Events.{events_in}
 use Rattle.py_meaning.specs.Loading.{Program, loaded}
 use Rattle.py_meaning.specs.Modules.{LoadedModule}
@@ -28,9 +28,13 @@ unit_lines m = 1 ∷ map (λ f. f.line) (functions m.body)
 abbrev pub firsts_of : List LoadedModule → List (List ℕ)
 firsts_of ms = map unit_lines ms
 
--- In each module, each once and in order: the events of these items tell the arcs that the items
--- cross, and a tracer that took the events keeps these arcs.
+-- In each module: the events of these items tell as many arcs of each kind as the items cross, at all
+-- places. Each once and in order, they tell the arcs that the items cross, and a tracer that took
+-- the events keeps these arcs.
 pub record ArcsAgree (ms : List LoadedModule) (items : Items) : Type 0 where
+  pub places : (m : ℕ) (p : ℤ × ℤ → Bool) →
+      count_by p (arcs_told (firsts_of ms) m [] (events_in items))
+      ≡ count_by p (map ends (crossings ms m items))
   pub told : (m : ℕ) →
       ordered [] (arcs_told (firsts_of ms) m [] (events_in items))
       ≡ lines_crossed (crossings ms m items)

@@ -87,13 +87,17 @@ impl Tracer for Arcs {
 
     ghost moves = { IsNext };
 
+    ghost refused = { λ old _ new. new ≡ old };
+
     ghost Record = { Tracing };
 
     ghost recorded = { λ arcs. arcs };
 
+    ghost kept = { λ _ _ _ same. same };
+
     fn event(&mut self, _alloc: Global, ev: &Event) -> Result<(), NoMemory>
         ensures moved { OnOk result (self.new ≡ next self.old ev.now) }
-        ensures kept { OnErr result (self.new ≡ self.old) }
+        ensures refused { OnErr result (self.new ≡ self.old) }
     {
         match *ev {
             Event::Call(code) => {

@@ -9,11 +9,10 @@ Takes moves old [] new = new ≡ old
 Takes {T} moves old (event ∷ events) new =
     (mid : T) × moves old event mid × Takes moves mid events new
 
--- so do calls with these events, of which those with `true` were taken, and the others refused and
--- not recorded
-abbrev pub Calls : {T R : Type 0} → (T → Event → T → Type 0) → (T → R) → T → List (Event × Bool)
-    → T → Type 0
-Calls moves recorded old [] new = new ≡ old
-Calls {T} moves recorded old (call ∷ calls) new =
-    (mid : T) × MatchBool call.1 (moves old call.0 mid) (recorded mid ≡ recorded old)
-    × Calls moves recorded mid calls new
+-- so do calls with these events, of which those with `true` were taken, and the others refused
+abbrev pub Calls : {T : Type 0} → (T → Event → T → Type 0) → (T → Event → T → Type 0) → T
+    → List (Event × Bool) → T → Type 0
+Calls moves refused old [] new = new ≡ old
+Calls {T} moves refused old (call ∷ calls) new =
+    (mid : T) × MatchBool call.1 (moves old call.0 mid) (refused old call.0 mid)
+    × Calls moves refused mid calls new

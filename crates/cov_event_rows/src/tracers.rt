@@ -19,9 +19,13 @@ struct Log {
 impl Tracer for Log {
     ghost moves = { λ old ev new. new.events.items ≡ old.events.items ++ ev ∷ [] };
 
+    ghost refused = { λ old _ new. new.events.items ≡ old.events.items };
+
     ghost Record = { List Event };
 
     ghost recorded = { λ log. log.events.items };
+
+    ghost kept = { λ _ _ _ same. same };
 
     fn event(&mut self, _alloc: Global, ev: &Event) -> Result<(), NoMemory> {
         self.events.push(*ev)?;

@@ -1,3 +1,3 @@
-mod Names
-mod Law
-mod Rows
+pub mod Names
+pub mod Law
+pub mod Rows

@@ -3,12 +3,12 @@
 --     source_left, source_calls, source_faults    a source that fails at chosen calls
 --     sink_contents, sink_calls, sink_faults      a sink that does
 --     shelf_files, shelf_calls, shelf_faults      a shelf that does
---     CountsCall, ReadsMemory, IsPut, PutsMemory  what its reads and puts do
+--     CountsCall, ReadsMemory, PutsMemory         what its reads and puts do
 --     sure_files, ReadsSure, PutsSure             the same of a shelf that never fails
-use Rattle.std.specs.Prelude.{◌≡◌, ◌≢◌, ◌↔◌, ℕ, List, Option, Some, None, Result, Err}
+use Rattle.std.specs.Prelude.{◌≡◌, ◌≢◌, ◌↔◌, ℕ, List, Option, Some, Result, Err}
 use Rattle.cov_outside.specs.Calls.{Calls, FailsNext, after_call}
-use Rattle.cov_outside.specs.Files.{Files, files_of, with_file}
-use Rattle.cov_outside.specs.Reads.{IsTold}
+use Rattle.cov_outside.specs.Files.{Files, files_of}
+use Rattle.cov_outside.specs.Reads.{IsTold, IsPut}
 use Rattle.cov_outside.specs.declared.shelf.ShelfError.{ShelfError}
 use Rattle.cov_outside.specs.declared.shelf.ShelfError.TheVariants.{Failed}
 use Rattle.cov_outside.specs.Pairs.{plain_pairs}
@@ -62,10 +62,11 @@ shelf_calls shelf = calls_of shelf.failing
 abbrev pub shelf_faults : MemShelf → ℕ
 shelf_faults shelf = faults_of shelf.failing
 
--- a call fails exactly where the list names it, and is counted
+-- a call fails exactly where the list names it, and is counted; only one that fails is a fault
 pub record CountsCall (failed : Type 0) (old new : MemShelf) : Type 0 where
   pub fails : failed ↔ FailsNext (shelf_calls old)
   pub counted : shelf_calls new ≡ after_call (shelf_calls old)
+  pub stays : (failed → ⊥) → shelf_faults new ≡ shelf_faults old
 
 -- a read is answered by the files, and leaves them
 pub record ReadsMemory (old : MemShelf) (name : List ℕ) (most : ℕ)
@@ -73,11 +74,6 @@ pub record ReadsMemory (old : MemShelf) (name : List ℕ) (most : ℕ)
   pub told : IsTold (shelf_files old name) most answer
   pub kept : shelf_files new ≡ shelf_files old
   pub call : CountsCall (answer ≡ Err Failed) old new
-
--- a put that isn't refused sets the name, and a refused one changes nothing
-abbrev pub IsPut : Files → List ℕ → List ℕ → Option ShelfError → Files → Type 0
-IsPut old name bytes None new = new ≡ with_file name bytes old
-IsPut old name bytes (Some error) new = new ≡ old
 
 -- a put sets its name where it isn't refused, and is counted
 pub record PutsMemory (old : MemShelf) (name bytes : List ℕ) (refusal : Option ShelfError)

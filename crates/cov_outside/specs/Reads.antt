@@ -1,9 +1,11 @@
 -- What a shelf answers to reads and puts, and reads one after another.
 --     IsTold                    what a file's content says of the answer to a read
+--     IsPut                     what the files are after a put
 --     bytes_read, refusal_of    the answers of the code, seen plainly
 --     Read, Reads               reads that lead from one state to another
 use Rattle.std.specs.Prelude.{◌≡◌, ℕ, ◌<◌, ◌≤◌, List, [], ◌∷◌, length, Option, Some, None, Result, Ok, Err, Vec}
 use Rattle.std.specs.declared.alloc.Global.{Global}
+use Rattle.cov_outside.specs.Files.{Files, with_file}
 use Rattle.cov_outside.specs.declared.shelf.ShelfError.{ShelfError}
 use Rattle.cov_outside.specs.declared.shelf.ShelfError.TheVariants.{Absent, TooLarge, Failed, NoMemory}
 
@@ -16,6 +18,11 @@ IsTold content most (Err TooLarge) =
     (bytes : List ℕ) × (content ≡ Some bytes) × (most < length bytes)
 IsTold content most (Err Failed) = Unit {0}
 IsTold content most (Err NoMemory) = Unit {0}
+
+-- a put that isn't refused sets the name, and a refused one changes nothing
+abbrev pub IsPut : Files → List ℕ → List ℕ → Option ShelfError → Files → Type 0
+IsPut old name bytes None new = new ≡ with_file name bytes old
+IsPut old name bytes (Some error) new = new ≡ old
 
 -- the answer to a read, by its bytes
 abbrev pub bytes_read : Result (Vec ℕ Global) ShelfError → Result (List ℕ) ShelfError

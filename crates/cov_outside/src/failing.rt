@@ -1,5 +1,5 @@
 // The calls of an object in memory that fail.
-ghost use Rattle.std.specs.Prelude.{◌≡◌, ◌≤◌, ◌↔◌, IsTrue};
+ghost use Rattle.std.specs.Prelude.{◌≡◌, ◌≤◌, ◌↔◌, IsTrue, IsFalse};
 ghost use Rattle.cov_outside.specs.Counts.{greatest, Rose};
 
 /// Which calls of an object fail, by their numbers from 0, and how many have failed.
@@ -33,6 +33,7 @@ impl Failing {
 
         ensures count { faults_of self.old ≤ faults_of self.new }
         ensures failed { IsTrue result → Rose (faults_of self.old) (faults_of self.new) }
+        ensures stays { IsFalse result → faults_of self.new ≡ faults_of self.old }
     {
         let fails = self.numbers.contains(&self.calls);
         self.calls = self.calls.saturating_add(1);

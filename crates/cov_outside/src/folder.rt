@@ -71,6 +71,8 @@ impl Shelf for FolderShelf {
 
     ghost truthful = { λ no. absurd no };
 
+    ghost puts_whole = { λ no. absurd no };
+
     ghost bounded = { λ shelf. shelf.bounded };
 
     fn read(&mut self, alloc: Global, name: &str, most: usize) -> Result<Vec<u8>, ShelfError> {

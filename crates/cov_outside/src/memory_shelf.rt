@@ -103,6 +103,8 @@ impl Shelf for MemShelf {
 
     ghost truthful = { λ _ _ _ _ _ _ moved. (moved.told, moved.kept) };
 
+    ghost puts_whole = { λ _ _ _ _ _ _ moved. moved.put };
+
     ghost bounded = { λ shelf. shelf.failing.bounded };
 
     fn read(&mut self, alloc: Global, name: &str, most: usize) -> Result<Vec<u8>, ShelfError>
@@ -111,6 +113,8 @@ impl Shelf for MemShelf {
         // Exactly the calls fail that the list names.
         ensures fails { IsErrOf result ShelfError.Failed ↔ FailsNext (shelf_calls self.old) }
         ensures calls { shelf_calls self.new ≡ after_call (shelf_calls self.old) }
+        ensures stays { (FailsNext (shelf_calls self.old) → ⊥)
+            → shelf_faults self.new ≡ shelf_faults self.old }
 
         ensures found { IfOk result (λ bytes. shelf_files self.old name.now ≡ Some bytes.items) }
         ensures fits { IfOk result (λ bytes. length bytes.items ≤ most) }
@@ -136,6 +140,8 @@ impl Shelf for MemShelf {
         // Exactly the calls fail that the list names.
         ensures fails { IsErrOf result ShelfError.Failed ↔ FailsNext (shelf_calls self.old) }
         ensures calls { shelf_calls self.new ≡ after_call (shelf_calls self.old) }
+        ensures stays { (FailsNext (shelf_calls self.old) → ⊥)
+            → shelf_faults self.new ≡ shelf_faults self.old }
 
         ensures ok { OnOk result (shelf_files self.new
             ≡ with_file name.now bytes.now (shelf_files self.old)) }
@@ -188,6 +194,8 @@ impl Shelf for SureShelf {
     ghost puts = { PutsSure };
 
     ghost truthful = { λ _ _ _ _ _ _ moved. (moved.told, moved.kept) };
+
+    ghost puts_whole = { λ _ _ _ _ _ _ moved. moved.put };
 
     ghost bounded = { λ _. lit≤ tt };
 

@@ -4,7 +4,7 @@ ghost use Rattle.cov_outside.specs.declared.shelf.ShelfError.{ShelfError as Erro
 ghost use Rattle.cov_outside.specs.declared.shelf.ShelfError.TheVariants.{NoMemory};
 ghost use Rattle.cov_outside.specs.Counts.{greatest, Rose};
 ghost use Rattle.cov_outside.specs.Files.{Files, with_file};
-ghost use Rattle.cov_outside.specs.Reads.{IsTold, bytes_read, refusal_of};
+ghost use Rattle.cov_outside.specs.Reads.{IsTold, IsPut, bytes_read, refusal_of};
 
 use std::alloc::{AllocError, Global};
 use thiserror::Error;
@@ -51,6 +51,11 @@ pub trait Shelf {
     ghost truthful: { tells → (old : Self) (name : List ℕ) (most : ℕ)
         (answer : Result (List ℕ) Error) (new : Self) → reads old name most answer new
         → IsTold (files old name) most answer × (files new ≡ files old) };
+
+    // It takes a put as a whole, or not at all.
+    ghost puts_whole: { tells → (old : Self) (name bytes : List ℕ) (refusal : Option Error)
+        (new : Self) → puts old name bytes refusal new
+        → IsPut (files old) name bytes refusal (files new) };
 
     /// The whole file, where it has at most `most` bytes.
     fn read(&mut self, alloc: Global, name: &str, most: usize) -> Result<Vec<u8>, ShelfError>

@@ -15,7 +15,7 @@ use Rattle.cov_data.proofs.FileViews.{place_cmp_total, place_cmp_same, text_cmp_
 use Rattle.cov_data.proofs.Soundness.{file_in-insert, file_in-none}
 use Rattle.cov_recorder.specs.Plan.{Named, Plan, unit_of, set_of}
 use Rattle.cov_recorder.specs.Recording.{Open, Recording, after, is_line, has_arc, step, told_in, told_now, rows_told, paths_told, with_told}
-use Rattle.cov_recorder.specs.Labels.{Labelled, IsNext}
+use Rattle.cov_recorder.specs.Labels.{Labelled, IsNext, IsRefused}
 use Rattle.cov_recorder.specs.Laws.{Tells, TellsTaken, taken_of, all_paths, is_path, is_row, IsCounted, RecordingLaw}
 use Rattle.cov_recorder.proofs.Summing.{path-commutes}
 
@@ -168,9 +168,12 @@ told_first d paths first later more =
     ∙ sym (fold-append with_row (fold with_path (fold with_path d paths) more) first later)
     ∙ ap (λ x. fold with_row x (first ++ later)) (sym (fold-append with_path d paths more))
 
-module _ {S C : Type 0} (asks : C → Text → Text → Option (List ℕ) → C → Type 0) (state : S → Recording × C) where
+module _ {S C : Type 0} (asks : C → Text → Text → Option (List ℕ) → C → Type 0) (leaves : Plan → List Open → Event → C → C → Type 0) (state : S → Recording × C) where
   abbrev Moves : S → Event → S → Type 0
   Moves before event later = IsNext asks (state before) event (state later)
+
+  abbrev Refused : S → Event → S → Type 0
+  Refused before event later = IsRefused leaves (state before) event (state later)
 
   abbrev at : Plan → List Open → DataSet → C → Recording × C
   at plan frames d c = (record { plan = plan; frames = frames; «data» = d }, c)
@@ -209,7 +212,7 @@ module _ {S C : Type 0} (asks : C → Text → Text → Option (List ℕ) → C 
   record KeptTaken (plan : Plan) (frames : List Open) (d : DataSet) (old : C) (calls : List (Event × Bool)) (new : Recording × C) : Type 0 where
     pub rows : List RowView
     pub ones : Ones rows
-    pub told : TellsTaken asks plan frames old calls rows new.1
+    pub told : TellsTaken asks leaves plan frames old calls rows new.1
     pub found : new.0.data ≡ with_told d (all_paths plan (taken_of calls)) rows
 
   -- one call more in front
@@ -222,19 +225,19 @@ module _ {S C : Type 0} (asks : C → Text → Text → Option (List ℕ) → C 
         record {
           rows = first ++ later.rows;
           ones = ones_append first later.rows (ones_told plan frames event) later.ones;
-          told = (label, mid.1, later.rows, (labelled, later.told, refl));
+          told = (mid.1, later.rows, (label, labelled, later.told, refl));
           found = later.found ∙ told_first d (paths_told plan event) first later.rows (all_paths plan (taken_of rest));
         }
 
-    add_refused : KeptTaken plan frames d mid.1 rest new → KeptTaken plan frames d c ((event, false) ∷ rest) new
-    add_refused later = record {
+    add_refused : leaves plan frames event c mid.1 → KeptTaken plan frames d mid.1 rest new → KeptTaken plan frames d c ((event, false) ∷ rest) new
+    add_refused left later = record {
       rows = later.rows;
       ones = later.ones;
-      told = (None, mid.1, later.rows, (later.told, refl));
+      told = (mid.1, later.rows, (left, later.told, refl));
       found = later.found;
     }
 
-  kept_taken : (plan : Plan) (frames : List Open) (d : DataSet) (c : C) (calls : List (Event × Bool)) (old new : S) → state old ≡ at plan frames d c → Calls Moves (λ s. (state s).0) old calls new → KeptTaken plan frames d c calls (state new)
+  kept_taken : (plan : Plan) (frames : List Open) (d : DataSet) (c : C) (calls : List (Event × Bool)) (old new : S) → state old ≡ at plan frames d c → Calls Moves Refused old calls new → KeptTaken plan frames d c calls (state new)
   kept_taken plan frames d c [] old new is h =
       let same : state new ≡ at plan frames d c = ap state h ∙ is in
       record {
@@ -249,10 +252,11 @@ module _ {S C : Type 0} (asks : C → Text → Text → Option (List ℕ) → C 
       add_taken plan frames d c event rest (state h.0) (state new) moved.0 moved.1
       (kept_taken plan (after moved.0 frames event) (with_told d (paths_told plan event) (rows_told plan frames event)) (state h.0).1 rest h.0 new there h.2)
   kept_taken plan frames d c ((event, false) ∷ rest) old new is h =
-      let there : state h.0 ≡ at plan frames d (state h.0).1 = λ i. ((h.1 ∙ ap (λ (s : Recording × C). s.0) is) i, (state h.0).1) in
-      add_refused plan frames d c event rest (state h.0) (state new) (kept_taken plan frames d (state h.0).1 rest h.0 new there h.2)
+      let there : state h.0 ≡ at plan frames d (state h.0).1 = λ i. ((h.1.0 ∙ ap (λ (s : Recording × C). s.0) is) i, (state h.0).1) in
+      let left : leaves plan frames event c (state h.0).1 = subst (λ (s : Recording × C). leaves s.0.plan s.0.frames event s.1 (state h.0).1) is h.1.1 in
+      add_refused plan frames d c event rest (state h.0) (state new) left (kept_taken plan frames d (state h.0).1 rest h.0 new there h.2)
 
-  pub recording_law : RecordingLaw asks state
+  pub recording_law : RecordingLaw asks leaves state
   recording_law = record {
     of_taken = λ plan sources old new events is h.
         let all = kept plan [] (no_data plan.arcs) sources events old new is h in

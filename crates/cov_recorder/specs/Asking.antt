@@ -11,8 +11,8 @@ use Rattle.cov_contexts.specs.declared.plugins.Plugin.{Ghosts as PluginOf}
 use Rattle.cov_contexts.specs.Asking.{Labels, LabelRefused}
 use Rattle.cov_contexts.specs.Sources.{Sources}
 use Rattle.cov_data.specs.DataSet.{Text}
-use Rattle.cov_recorder.specs.Plan.{Named}
-use Rattle.cov_recorder.specs.Recording.{Recording, label_now}
+use Rattle.cov_recorder.specs.Plan.{Named, Plan}
+use Rattle.cov_recorder.specs.Recording.{Open, label_now}
 use Rattle.cov_recorder.specs.Labels.{question, IsLabel}
 
 -- the sources are asked about a function of a module, by their names
@@ -38,11 +38,11 @@ IsInFrame Return = Unit {0}
 -- A refused call leaves the sources in the states that their answers gave: the question was
 -- refused, or they gave a label before memory was wanted. No other event is refused.
 abbrev pub SourcesLeft : {A P : Type 0} → HookOf A → PluginOf P →
-    Recording → Event → Sources A P → Sources A P → Type 0
-SourcesLeft hook plugin r (Call code) old new =
-    AskRefused hook plugin (question r.plan code) old new
+    Plan → List Open → Event → Sources A P → Sources A P → Type 0
+SourcesLeft hook plugin plan frames (Call code) old new =
+    AskRefused hook plugin (question plan code) old new
     ⊎ ((label : Option (List ℕ))
-    × IsLabel (asks hook plugin) (label_now r.frames) (question r.plan code) old label new)
-SourcesLeft hook plugin r (Line line) old new = ⊥
-SourcesLeft hook plugin r (Throw kind) old new = ⊥
-SourcesLeft hook plugin r Return old new = ⊥
+    × IsLabel (asks hook plugin) (label_now frames) (question plan code) old label new)
+SourcesLeft hook plugin plan frames (Line line) old new = ⊥
+SourcesLeft hook plugin plan frames (Throw kind) old new = ⊥
+SourcesLeft hook plugin plan frames Return old new = ⊥

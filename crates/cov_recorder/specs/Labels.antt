@@ -4,6 +4,7 @@
 --     IsLabel           the label of a frame that begins, and what it makes of the sources
 --     Labelled          the same for each event
 --     IsNext            how an event changes a recording and the sources
+--     IsRefused         what it leaves of them where it is refused
 use Rattle.std.specs.Prelude.{◌≡◌, ℕ, zero, suc, List, Option, Some, None}
 use Rattle.cov_event.specs.declared.event.CodeId.{CodeId}
 use Rattle.cov_event.specs.declared.event.Event.{Event}
@@ -48,3 +49,10 @@ abbrev pub IsNext : {C : Type 0} → (C → Text → Text → Option (List ℕ) 
 IsNext asks old event new =
     (label : Option (List ℕ)) × Labelled asks old.0.plan old.0.frames event old.1 label new.1
     × (new.0 ≡ next label old.0 event)
+
+-- The same after an event that was refused: the recording is as before. The sources went on as
+-- this says of the plan, the open frames and the event.
+abbrev pub IsRefused : {C : Type 0} → (Plan → List Open → Event → C → C → Type 0)
+    → Recording × C → Event → Recording × C → Type 0
+IsRefused leaves old event new =
+    (new.0 ≡ old.0) × leaves old.0.plan old.0.frames event old.1 new.1

@@ -18,7 +18,7 @@ use Rattle.cov_data.specs.DataSet.{Text, text_cmp, place_cmp, most_count, DataSe
 use Rattle.cov_data.specs.Rows.{RowView}
 use Rattle.cov_recorder.specs.Plan.{Plan}
 use Rattle.cov_recorder.specs.Recording.{Open, Recording, at_first, after, rows_told, paths_told}
-use Rattle.cov_recorder.specs.Labels.{Labelled, IsNext}
+use Rattle.cov_recorder.specs.Labels.{Labelled, IsNext, IsRefused}
 
 -- These events tell these rows, one for each place, where these frames are open. The sources of
 -- labels go from one state to another.
@@ -32,17 +32,19 @@ Tells {C} asks plan frames old (event ∷ rest) rows new =
     × (rows ≡ rows_told plan frames event ++ later)
 
 -- So do calls with these events, of which those with `true` were taken. A refused one tells
--- nothing, and the sources may have moved.
+-- nothing, and leaves the sources as this says of the plan, the open frames and the event.
 abbrev pub TellsTaken : {C : Type 0} → (C → Text → Text → Option (List ℕ) → C → Type 0)
-    → Plan → List Open → C → List (Event × Bool) → List RowView → C → Type 0
-TellsTaken asks plan frames old [] rows new = (rows ≡ []) × (new ≡ old)
-TellsTaken {C} asks plan frames old (call ∷ rest) rows new =
-    (label : Option (List ℕ)) × (mid : C) × (later : List RowView)
+    → (Plan → List Open → Event → C → C → Type 0) → Plan → List Open → C → List (Event × Bool)
+    → List RowView → C → Type 0
+TellsTaken asks leaves plan frames old [] rows new = (rows ≡ []) × (new ≡ old)
+TellsTaken {C} asks leaves plan frames old (call ∷ rest) rows new =
+    (mid : C) × (later : List RowView)
     × MatchBool call.1
-    (Labelled asks plan frames call.0 old label mid
-    × TellsTaken asks plan (after label frames call.0) mid rest later new
+    ((label : Option (List ℕ)) × Labelled asks plan frames call.0 old label mid
+    × TellsTaken asks leaves plan (after label frames call.0) mid rest later new
     × (rows ≡ rows_told plan frames call.0 ++ later))
-    (TellsTaken asks plan frames mid rest later new × (rows ≡ later))
+    (leaves plan frames call.0 old mid
+    × TellsTaken asks leaves plan frames mid rest later new × (rows ≡ later))
 
 -- the events that were taken
 abbrev pub taken_of : List (Event × Bool) → List Event
@@ -84,16 +86,19 @@ pub record IsRecordingOf {C : Type 0}
 
 -- the same of calls, of which some were refused
 pub record IsRecordingOfTaken {C : Type 0}
-    (asks : C → Text → Text → Option (List ℕ) → C → Type 0) (plan : Plan) (sources : C)
+    (asks : C → Text → Text → Option (List ℕ) → C → Type 0)
+    (leaves : Plan → List Open → Event → C → C → Type 0) (plan : Plan) (sources : C)
     (calls : List (Event × Bool)) (new : Recording × C) : Type 0 where
   pub rows : List RowView
-  pub told : TellsTaken asks plan [] sources calls rows new.1
+  pub told : TellsTaken asks leaves plan [] sources calls rows new.1
   pub counted : IsCounted plan.arcs (all_paths plan (taken_of calls)) rows new.0.data
 
 -- What a new recorder keeps of events, one after another, are the paths and rows that the whole
--- list tells: of all events where it took them all, and else of those that it took.
+-- list tells: of all events where it took them all, and else of those that it took. The sources of
+-- labels go on with each event that was taken, and with a refused one as far as it leaves them.
 pub record RecordingLaw {S C : Type 0} (asks : C → Text → Text → Option (List ℕ) → C → Type 0)
-    (state : S → Recording × C) : Type 0 where
+    (leaves : Plan → List Open → Event → C → C → Type 0) (state : S → Recording × C)
+    : Type 0 where
   pub of_taken : (plan : Plan) (sources : C) (old new : S) (events : List Event) →
       state old ≡ (at_first plan, sources) →
       Takes (λ before event later. IsNext asks (state before) event (state later)) old events new →
@@ -101,5 +106,5 @@ pub record RecordingLaw {S C : Type 0} (asks : C → Text → Text → Option (L
   pub of_calls : (plan : Plan) (sources : C) (old new : S) (calls : List (Event × Bool)) →
       state old ≡ (at_first plan, sources) →
       Calls (λ before event later. IsNext asks (state before) event (state later))
-      (λ s. (state s).0) old calls new →
-      IsRecordingOfTaken asks plan sources calls (state new)
+      (λ before event later. IsRefused leaves (state before) event (state later)) old calls new →
+      IsRecordingOfTaken asks leaves plan sources calls (state new)

@@ -69,23 +69,27 @@ impl<A: Ask, P: Plugin> Recorder<A, P> {
 
 impl<A: Ask, P: Plugin> Tracer for Recorder<A, P> {
     ghost use Rattle.cov_recorder.specs.Asking.{asks, IsInFrame, SourcesLeft};
-    ghost use Rattle.cov_recorder.specs.Labels.{IsNext};
+    ghost use Rattle.cov_recorder.specs.Labels.{IsNext, IsRefused};
     ghost use Rattle.cov_recorder.specs.Recording.{Recording};
-    ghost use Rattle.cov_recorder.specs.States.{recording_of, sources_of, state_of};
+    ghost use Rattle.cov_recorder.specs.States.{recording_of, state_of};
 
     ghost moves = { λ old event new.
         IsNext (asks A.Ask P.Plugin) (state_of old) event (state_of new) };
+
+    ghost refused = { λ old event new.
+        IsRefused (SourcesLeft A.Ask P.Plugin) (state_of old) event (state_of new) };
 
     ghost Record = { Recording };
 
     ghost recorded = { λ recorder. recording_of recorder };
 
+    ghost kept = { λ _ _ _ left. left.0 };
+
     fn event(&mut self, alloc: Global, ev: &Event) -> Result<(), NoMemory>
         ensures moved { OnOk result (
             IsNext (asks A.Ask P.Plugin) (state_of self.old) ev.now (state_of self.new)) }
-        ensures kept { OnErr result (recording_of self.new ≡ recording_of self.old) }
-        ensures sources { OnErr result (SourcesLeft A.Ask P.Plugin
-            (recording_of self.old) ev.now (sources_of self.old) (sources_of self.new)) }
+        ensures refused { OnErr result (IsRefused (SourcesLeft A.Ask P.Plugin)
+            (state_of self.old) ev.now (state_of self.new)) }
         ensures ok { IsInFrame ev.now → IsOk result }
     {
         match *ev {
@@ -118,7 +122,7 @@ fn label_of<A: Ask, P: Plugin>(
         IsLabel (asks A.Ask P.Plugin) (label_now records.now.frames)
         (question records.now.plan code) contexts.old label contexts.new) }
     ensures refused { OnErr result (SourcesLeft A.Ask P.Plugin
-        records.now (Call code) contexts.old contexts.new) }
+        records.now.plan records.now.frames (Call code) contexts.old contexts.new) }
 {
     match records.asked(code) {
         Some(unit) => contexts.label(alloc, unit.module.as_str(), unit.function.as_str()),

@@ -21,19 +21,19 @@ use Rattle.cov_recorder_laws.proofs.Walk.{Told}
 
 -- ---- the first line of a unit
 
-unit_first : (units : List Named) (k : ℕ) (unit : Named) → slice_get units k ≡ Some unit → or_one (slice_get (map (λ unit. unit.first) units) k) ≡ unit.first
+pub unit_first : (units : List Named) (k : ℕ) (unit : Named) → slice_get units k ≡ Some unit → or_one (slice_get (map (λ unit. unit.first) units) k) ≡ unit.first
 unit_first [] k unit e = cc
 unit_first (x ∷ units) zero unit e =
     let same : x ≡ unit = cc in
     ap (λ (n : Named). n.first) same
 unit_first (x ∷ units) (suc k) unit e = unit_first units k unit e
 
-first_in : (units : List (List Named)) (m u : ℕ) (unit : Named) → unit_in (slice_get units m) u ≡ Some unit → line_in (slice_get (map (λ units. map (λ unit. unit.first) units) units) m) u ≡ unit.first
+pub first_in : (units : List (List Named)) (m u : ℕ) (unit : Named) → unit_in (slice_get units m) u ≡ Some unit → line_in (slice_get (map (λ units. map (λ unit. unit.first) units) units) m) u ≡ unit.first
 first_in [] m u unit e = cc
 first_in (x ∷ units) zero u unit e = unit_first x u unit e
 first_in (x ∷ units) (suc m) u unit e = first_in units m u unit e
 
-end-is : (first line : ℕ) → end_of first line ≡ shown_line first line
+pub end-is : (first line : ℕ) → end_of first line ≡ shown_line first line
 end-is first zero = refl
 end-is first (suc line) = refl
 
@@ -74,11 +74,11 @@ module _ (plan : Plan) where
 
   -- ---- the frames after an event
 
-  beside-line : (frames : List Open) (line : ℕ) → beside (at_line frames line) ≡ arcs.at_line (beside frames) line
+  pub beside-line : (frames : List Open) (line : ℕ) → beside (at_line frames line) ≡ arcs.at_line (beside frames) line
   beside-line [] line = refl
   beside-line (frame ∷ outer) line = refl
 
-  beside-outer : (frames : List Open) → beside (outer_frames frames) ≡ arcs.outer_frames (beside frames)
+  pub beside-outer : (frames : List Open) → beside (outer_frames frames) ≡ arcs.outer_frames (beside frames)
   beside-outer [] = refl
   beside-outer (frame ∷ outer) = refl
 
@@ -142,7 +142,7 @@ module _ (plan : Plan) where
     )
 
     module _ (kind : plan.arcs ≡ true) where
-      step-is : (frame : Open) (unit : Named) (line : ℕ) → unit_of plan frame.code ≡ Some unit → step plan.arcs unit.first frame.line line ≡ arc_to (framed frame) line
+      pub step-is : (frame : Open) (unit : Named) (line : ℕ) → unit_of plan frame.code ≡ Some unit → step plan.arcs unit.first frame.line line ≡ arc_to (framed frame) line
       step-is frame unit line e =
           ap (λ b. step b unit.first frame.line line) kind
           ∙ ap (λ z. (z, end_of unit.first line)) (end-is unit.first frame.line)

@@ -28,14 +28,14 @@ use Rattle.cov_recorder_laws.proofs.Bodies.{IsBodyOn, from_in_order, modules-on}
 
 -- what happened is in lines of a text and in units of these modules
 unfoldable mutual
-  AreIn : List LoadedModule → Items → Type 0
+  pub AreIn : List LoadedModule → Items → Type 0
   AreIn ms no_items = Unit {0}
   AreIn ms (more before (mark l)) = AreIn ms before × IsFirst l
   AreIn ms (more before (again l)) = AreIn ms before × IsFirst l
   AreIn ms (more before (throw kind)) = AreIn ms before
   AreIn ms (more before (sub a)) = AreIn ms before × IsIn ms a
 
-  IsIn : List LoadedModule → Activation → Type 0
+  pub IsIn : List LoadedModule → Activation → Type 0
   IsIn ms (activation code items end) = IsSome (function_found ms code) × AreIn ms items
 
 module _ (ms : List LoadedModule) where
@@ -152,7 +152,7 @@ module _ (ms : List LoadedModule) where
     run-left budget (done a s n) h = h
     run-left budget (cut s) h = h
 
-    modules-in : IsFound ms 0 0 → (words : List Text) (input : List ℕ) (budget : ℕ) → AreIn ms (run_modules ms words input budget).items
+    pub modules-in : IsFound ms 0 0 → (words : List Text) (input : List ℕ) (budget : ℕ) → AreIn ms (run_modules ms words input budget).items
     unfolding run_modules Keeps
     modules-in found words input budget =
         run-left budget (script_body ms budget (at_rest (first_world ms words) input) budget)
@@ -162,7 +162,7 @@ module _ (ms : List LoadedModule) where
     answer-left budget (done a s n) h = h
     answer-left budget (cut s) h = h
 
-    call-in : (w : World) (input : List ℕ) (r : Request) (budget : ℕ) → AreIn ms (called ms w input r budget).items
+    pub call-in : (w : World) (input : List ℕ) (r : Request) (budget : ℕ) → AreIn ms (called ms w input r budget).items
     unfolding called Keeps
     call-in w input r budget =
         answer-left budget (call_global ms r budget (at_rest w input) budget)
@@ -170,7 +170,7 @@ module _ (ms : List LoadedModule) where
 
 -- ---- units of a plan
 
-abbrev line_in : Option (List ℕ) → ℕ → Option ℕ
+abbrev pub line_in : Option (List ℕ) → ℕ → Option ℕ
 line_in None u = None
 line_in (Some lines) u = slice_get lines u
 
@@ -179,22 +179,22 @@ some_mapped f [] k = refl
 some_mapped f (x ∷ xs) zero = refl
 some_mapped f (x ∷ xs) (suc k) = some_mapped f xs k
 
-in_plan : (units : List (List Named)) (m u : ℕ) → is_some (line_in (slice_get (map (λ units. map (λ unit. unit.first) units) units) m) u) ≡ is_some (unit_in (slice_get units m) u)
+pub in_plan : (units : List (List Named)) (m u : ℕ) → is_some (line_in (slice_get (map (λ units. map (λ unit. unit.first) units) units) m) u) ≡ is_some (unit_in (slice_get units m) u)
 in_plan [] m u = refl
 in_plan (x ∷ units) zero u = some_mapped (λ unit. unit.first) x u
 in_plan (x ∷ units) (suc m) u = in_plan units m u
 
-in_modules : (ms : List LoadedModule) (m u : ℕ) → is_some (line_in (slice_get (map unit_lines ms) m) u) ≡ is_some (function_in (slice_get ms m) u)
+pub in_modules : (ms : List LoadedModule) (m u : ℕ) → is_some (line_in (slice_get (map unit_lines ms) m) u) ≡ is_some (function_in (slice_get ms m) u)
 in_modules [] m u = refl
 in_modules (x ∷ ms) zero zero = refl
 in_modules (x ∷ ms) zero (suc k) = some_mapped (λ f. f.line) (functions x.body) k
 in_modules (x ∷ ms) (suc m) u = in_modules ms m u
 
-is_line-from : (l : ℕ) → IsFirst l → is_line l ≡ true
+pub is_line-from : (l : ℕ) → IsFirst l → is_line l ≡ true
 is_line-from l h = (λ i. lt-ltb 0 l (omega (arith, h.0)) i && nat_lt l 65536) ∙ lt-ltb l 65536 (omega (arith, h.1))
 
 module _ (ms : List LoadedModule) (plan : Plan) (same : first_lines plan ≡ firsts_of ms) where
-  has_unit : (code : CodeId) → IsSome (function_found ms code) → IsSome (unit_of plan code)
+  pub has_unit : (code : CodeId) → IsSome (function_found ms code) → IsSome (unit_of plan code)
   has_unit code h = sym (in_plan plan.units code.module code.unit) ∙ ap (λ table. is_some (line_in (slice_get table code.module) code.unit)) same ∙ in_modules ms code.module code.unit ∙ h
 
   abbrev AreKnown : List Event → Type 0
@@ -231,11 +231,11 @@ module _ (ms : List LoadedModule) (plan : Plan) (same : first_lines plan ≡ fir
 
 -- ---- the modules of texts
 
-bodies : (ms : List LoadedModule) → All HasTextLines ms → AllByRecursion (λ (m : LoadedModule). AreOn IsFirst (body_marks m.body)) ms
+pub bodies : (ms : List LoadedModule) → All HasTextLines ms → AllByRecursion (λ (m : LoadedModule). AreOn IsFirst (body_marks m.body)) ms
 bodies [] h = tt
 bodies (m ∷ ms) h = (from_in_order IsFirst (body_marks m.body) (recursion_from_All IsFirst (statement_lines m.body) (All-head HasTextLines m ms h)), bodies ms (All-tail HasTextLines m ms h))
 
-script_found : (ms : List LoadedModule) → 0 < length ms → IsFound ms 0 0
+pub script_found : (ms : List LoadedModule) → 0 < length ms → IsFound ms 0 0
 script_found [] h = absurd (omega (arith, h))
 script_found (m ∷ ms) h = refl
 

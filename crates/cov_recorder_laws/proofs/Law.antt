@@ -24,7 +24,7 @@ use Rattle.cov_recorder_laws.proofs.Lines as lines
 use Rattle.cov_recorder_laws.proofs.Known.{modules-known, call-known}
 
 -- arcs in order, each once, are the same arcs
-ordered-is : (arcs found : List (ℤ × ℤ)) → ordered found arcs ≡ fold (insert_key arc_cmp) found arcs
+pub ordered-is : (arcs found : List (ℤ × ℤ)) → ordered found arcs ≡ fold (insert_key arc_cmp) found arcs
 unfolding ordered
 ordered-is [] found = refl
 ordered-is (a ∷ arcs) found = ordered-is arcs (insert_key arc_cmp found a)

@@ -1,10 +1,9 @@
-mod Lists
-mod Pairs
-mod Walk
-mod Beside
-mod Lines
-mod Law
-mod Rows
-mod Bodies
-mod Known
-mod Foreseen
+pub mod Lists
+pub mod Pairs
+pub mod Walk
+pub mod Beside
+pub mod Lines
+pub mod Law
+pub mod Rows
+pub mod Bodies
+pub mod Known

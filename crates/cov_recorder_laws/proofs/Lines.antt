@@ -26,12 +26,12 @@ use Rattle.cov_recorder_laws.proofs.Beside.{no_element, if_there, is_there, row_
 
 -- ---- lines and numbers
 
-shown-is : (first line : ℕ) → 0 < line → shown_line first line ≡ pos line
+pub shown-is : (first line : ℕ) → 0 < line → shown_line first line ≡ pos line
 shown-is first zero h = absurd (omega (arith, h))
 shown-is first (suc line) h = refl
 
 -- the outside is no line
-outside : (first line : ℕ) → 0 < line → pos line ≡ neg_ℤ (pos first) → ⊥
+pub outside : (first line : ℕ) → 0 < line → pos line ≡ neg_ℤ (pos first) → ⊥
 outside zero line h e =
     let none : line ≡ 0 = cc in
     omega (arith, h, none)

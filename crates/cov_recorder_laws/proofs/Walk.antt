@@ -31,7 +31,7 @@ bare-outer : (frames : List Open) → bare (outer_frames frames) ≡ outer_frame
 bare-outer [] = refl
 bare-outer (frame ∷ outer) = refl
 
-bare-after : (label : Option (List ℕ)) (frames : List Open) (event : Event) → bare (after label frames event) ≡ after None (bare frames) event
+pub bare-after : (label : Option (List ℕ)) (frames : List Open) (event : Event) → bare (after label frames event) ≡ after None (bare frames) event
 bare-after label frames (Call code) = refl
 bare-after label frames (Line line) = bare-if (is_line line) frames line
 bare-after label frames (Throw kind) = refl
@@ -92,7 +92,7 @@ module _ {S C : Type 0} (asks : C → Text → Text → Option (List ℕ) → C 
   Moves before event later = IsNext asks (state before) event (state later)
 
   abbrev Called : S → List (Event × Bool) → S → Type 0
-  Called old calls new = Calls Moves (λ s. (state s).0) old calls new
+  Called old calls new = Calls Moves (λ before _ later. (state later).0 ≡ (state before).0) old calls new
 
   abbrev at : Plan → List Open → DataSet → C → Recording × C
   at plan frames d c = (record { plan = plan; frames = frames; «data» = d }, c)
@@ -148,11 +148,11 @@ module _ {S C : Type 0} (asks : C → Text → Text → Option (List ℕ) → C 
       kind_from plan frames d (state h.0).1 rest h.0 new there h.2
 
   -- events that were all taken, as calls
-  abbrev all_taken : List Event → List (Event × Bool)
+  abbrev pub all_taken : List Event → List (Event × Bool)
   all_taken [] = []
   all_taken (event ∷ rest) = (event, true) ∷ all_taken rest
 
-  taken-all : (events : List Event) → taken_of (all_taken events) ≡ events
+  pub taken-all : (events : List Event) → taken_of (all_taken events) ≡ events
   taken-all [] = refl
   taken-all (event ∷ rest) = ap (λ es. event ∷ es) (taken-all rest)
 

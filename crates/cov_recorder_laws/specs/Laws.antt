@@ -72,7 +72,7 @@ Took {S} {C} asks state plan events new =
     (old : S) × (sources : C) × (state old ≡ (at_first plan, sources))
     × (Takes moves old events new
     ⊎ ((calls : List (Event × Bool)) × (taken_of calls ≡ events)
-    × Calls moves (λ s. (state s).0) old calls new))
+    × Calls moves (λ before _ later. (state later).0 ≡ (state before).0) old calls new))
 
 -- A recorder that took known events has what they tell. Neither labels nor sources of labels stand
 -- in that: it holds whatever these answer.

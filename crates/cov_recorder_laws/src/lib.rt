@@ -4,13 +4,11 @@
 
 ghost use Rattle.cov_recorder.specs.Asking.{asks};
 ghost use Rattle.cov_recorder.specs.States.{state_of};
-ghost use Rattle.cov_recorder_laws.specs.Foreseen.{ForeseenStepsLaw, ProgramForeseenLaw, ModulesForeseenLaw, CallForeseenLaw};
 ghost use Rattle.cov_recorder_laws.specs.Laws.{RecordedStepsLaw, ProgramStepsLaw, ModulesStepsLaw, CallStepsLaw, SameStepsLaw};
 
 use cov_arcs::{told_arcs, told_arcs_of_call, told_arcs_of_modules};
 use cov_contexts::Plugin;
 use cov_event::Ask;
-use py_sound::{foreseen_arcs, foreseen_arcs_of_call, foreseen_arcs_of_modules};
 
 /// The arcs in the data of a recorder, over all contexts, are those that its events tell, as far as
 /// its plan has them. In data of lines so are the lines.
@@ -45,34 +43,3 @@ pub fn recorded_steps_of_call<A: Ask, P: Plugin>()
 pub fn same_steps<A: Ask, P: Plugin, B: Ask, Q: Plugin>()
     ensures { SameStepsLaw (asks A.Ask P.Plugin) state_of (asks B.Ask Q.Plugin) state_of }
 {}
-
-/// Where data have what items cross of the predicted arcs, each arc that the items took is in the
-/// data, or an exception crossed it.
-pub fn recorded_or_thrown()
-    ensures { ForeseenStepsLaw }
-{}
-
-/// So it is of a recorder that counts the predicted arcs and took the events of a program's run,
-/// also where the run was cut.
-pub fn recorded_or_thrown_of_program<A: Ask, P: Plugin>()
-    ensures { ProgramForeseenLaw (asks A.Ask P.Plugin) state_of }
-{
-    told_arcs();
-    foreseen_arcs();
-}
-
-/// The same of a list of modules, whatever they were loaded from.
-pub fn recorded_or_thrown_of_modules<A: Ask, P: Plugin>()
-    ensures { ModulesForeseenLaw (asks A.Ask P.Plugin) state_of }
-{
-    told_arcs_of_modules();
-    foreseen_arcs_of_modules();
-}
-
-/// The same of one call.
-pub fn recorded_or_thrown_of_call<A: Ask, P: Plugin>()
-    ensures { CallForeseenLaw (asks A.Ask P.Plugin) state_of }
-{
-    told_arcs_of_call();
-    foreseen_arcs_of_call();
-}

@@ -1,10 +1,12 @@
 -- Moves that are given up in the middle.
-use Rattle.std.proofs.Common.{◌≡◌, List, [], ◌∷◌, ◌++◌, map, refl, sym, ap, subst, append_assoc, append-nil}
+use Rattle.std.proofs.Common.{◌≡◌, List, [], ◌∷◌, ◌++◌, map, inl, inr, refl, sym, ap, ◌∙◌, subst, append_assoc, append-nil}
 use Rattle.cov_event.specs.declared.event.Event.{Event}
 use Rattle.cov_event.specs.declared.event.Event.TheVariants.{Throw, Return as Returned}
 use Rattle.cov_event.specs.Moves.{Takes}
 use Rattle.py_value.specs.declared.value.Raised.{Raised}
 use Rattle.py_value.specs.View.{plain_raised}
+use Rattle.py_builtins.specs.declared.fault.RunFault.{RunFault}
+use Rattle.py_builtins.specs.declared.fault.RunFault.TheVariants.{ReadFault, WriteFault, NoMemory}
 use Rattle.py_code.specs.Configurations.{Next}
 use Rattle.py_code.specs.Machine.{told, leave}
 use Rattle.py_code.specs.Run.{Goes, Ticks, Ends}
@@ -14,20 +16,45 @@ use Rattle.py_store.specs.declared.store.Store.{Store}
 use Rattle.py_instructions.specs.declared.frame.Frame.{Frame as RawFrame}
 use Rattle.py_instructions.specs.declared.frame.State.{State}
 use Rattle.py_instructions.specs.View.{Slots, Outside, plain_frame, effects_of}
-use Rattle.py_machine.specs.Told.{Grown, Grows, Passed, TakesSome, GivenUp}
-use Rattle.py_machine.proofs.Grows.{grown_same, leaves, left_by, thrown_by}
+use Rattle.py_machine.specs.Told.{Grown, Grows, Passed, TakesSome, TakesUntil, GivenUp}
+use Rattle.py_machine.proofs.Grows.{grown_same, left_first, thrown_by}
 use Rattle.py_machine.proofs.Joins.{takes_then}
 use Rattle.py_machine.proofs.Throws.{and_told, told_twice}
 
--- a tracer that refused an event after those that it took
-pub takes_some_then : {T R : Type 0} (moves : T → Event → T → Type 0) (recorded : T → R) (a b c : T) (es fs : List Event) → Takes moves a es b → TakesSome moves recorded b fs c → TakesSome moves recorded a (es ++ fs) c
-takes_some_then moves recorded a b c es fs h k = (k.0, takes_then moves a b k.0 es fs h k.1, k.2)
+-- a tracer that may have refused the last event after those that it took
+pub takes_some_then : {T : Type 0} (moves refused : T → Event → T → Type 0) (a b c : T) (es fs : List Event) → Takes moves a es b → TakesSome moves refused b fs c → TakesSome moves refused a (es ++ fs) c
+takes_some_then moves refused a b c es fs h (inl k) = inl (takes_then moves a b c es fs h k)
+takes_some_then moves refused a b c es fs h (inr k) =
+    inr (record {
+      taken = es ++ k.taken;
+      last = k.last;
+      is = ap (λ z. es ++ z) k.is ∙ sym (append_assoc es k.taken (k.last ∷ []));
+      mid = k.mid;
+      has_taken = takes_then moves a b k.mid es k.taken h k.has_taken;
+      has_refused = k.has_refused;
+    })
 
-pub takes_all : {T R : Type 0} (moves : T → Event → T → Type 0) (recorded : T → R) (a b : T) (es : List Event) → Takes moves a es b → TakesSome moves recorded a es b
-takes_all moves recorded a b es h = (b, h, refl)
+pub takes_all : {T : Type 0} (moves refused : T → Event → T → Type 0) (a b : T) (es : List Event) → Takes moves a es b → TakesSome moves refused a es b
+takes_all moves refused a b es h = inl h
 
-pub takes_none : {T R : Type 0} (moves : T → Event → T → Type 0) (recorded : T → R) (a b : T) → recorded b ≡ recorded a → TakesSome moves recorded a [] b
-takes_none moves recorded a b h = (a, refl, h)
+-- one that took these events and refused another
+pub refuses_after : {T : Type 0} (moves refused : T → Event → T → Type 0) (a b c : T) (es : List Event) (event : Event) → Takes moves a es b → refused b event c → TakesSome moves refused a (es ++ event ∷ []) c
+refuses_after moves refused a b c es event h k = inr (record { taken = es; last = event; is = refl; mid = b; has_taken = h; has_refused = k })
+
+-- one that refused one event
+pub refuses_one : {T : Type 0} (moves refused : T → Event → T → Type 0) (a b : T) (event : Event) → refused a event b → TakesSome moves refused a (event ∷ []) b
+refuses_one moves refused a b event k = refuses_after moves refused a a b [] event refl k
+
+-- the same, until a fault
+pub takes_until_then : {T : Type 0} (moves refused : T → Event → T → Type 0) (fault : RunFault) (a b c : T) (es fs : List Event) → Takes moves a es b → TakesUntil moves refused fault b fs c → TakesUntil moves refused fault a (es ++ fs) c
+takes_until_then moves refused ReadFault a b c es fs h k = takes_then moves a b c es fs h k
+takes_until_then moves refused WriteFault a b c es fs h k = takes_then moves a b c es fs h k
+takes_until_then moves refused NoMemory a b c es fs h k = takes_some_then moves refused a b c es fs h k
+
+pub takes_until_all : {T : Type 0} (moves refused : T → Event → T → Type 0) (fault : RunFault) (a b : T) (es : List Event) → Takes moves a es b → TakesUntil moves refused fault a es b
+takes_until_all moves refused ReadFault a b es h = h
+takes_until_all moves refused WriteFault a b es h = h
+takes_until_all moves refused NoMemory a b es h = inl h
 
 -- the same of another move
 pub given_up_as : (took : List Event → Type 0) (s : Store) (before other : Outside → Next Slots) → ((o : Outside) → before o ≡ other o) → GivenUp took s other → GivenUp took s before
@@ -44,54 +71,66 @@ elsewhere s s1 o (Ticks c) h = record { holds = h.holds }
 elsewhere s s1 o (Ends r) h = record { holds = h.holds }
 
 -- these events, and then a move that was given up
-pub given_up_after : {T R : Type 0} (moves : T → Event → T → Type 0) (recorded : T → R) (a b c : T) (es : List Event) (s s1 : Store) (before other : Outside → Next Slots)
-    → Takes moves a es b → ((o : Outside) → before o ≡ other (and_told es o)) → GivenUp (λ fs. TakesSome moves recorded b fs c) s1 other → GivenUp (λ fs. TakesSome moves recorded a fs c) s before
-given_up_after moves recorded a b c es s s1 before other k h p = record {
+pub given_up_after : {T : Type 0} (moves refused : T → Event → T → Type 0) (a b c : T) (es : List Event) (s s1 : Store) (before other : Outside → Next Slots)
+    → Takes moves a es b → ((o : Outside) → before o ≡ other (and_told es o)) → GivenUp (λ fs. TakesSome moves refused b fs c) s1 other → GivenUp (λ fs. TakesSome moves refused a fs c) s before
+given_up_after moves refused a b c es s s1 before other k h p = record {
   events = es ++ p.events;
-  has_told = takes_some_then moves recorded a b c es p.events k p.has_told;
+  has_told = takes_some_then moves refused a b c es p.events k p.has_told;
   is = λ o.
       subst (λ x. Grows (effects_of s x) (before o)) (told_twice es p.events o)
       (elsewhere s1 s (and_told p.events (and_told es o)) (before o) (subst (λ n. Grows (effects_of s1 (and_told p.events (and_told es o))) n) (sym (h o)) (p.is (and_told es o))));
 }
 
 -- nothing more was told than a move begins with
-pub gives_up : {T R : Type 0} (moves : T → Event → T → Type 0) (recorded : T → R) (a b : T) (es : List Event) (s : Store) (before : Outside → Next Slots)
-    → TakesSome moves recorded a es b → ((o : Outside) → Grows (effects_of s (and_told es o)) (before o)) → GivenUp (λ fs. TakesSome moves recorded a fs b) s before
-gives_up moves recorded a b es s before k h = record { events = es; has_told = k; is = h }
+pub gives_up : {T : Type 0} (moves refused : T → Event → T → Type 0) (a b : T) (es : List Event) (s : Store) (before : Outside → Next Slots)
+    → TakesSome moves refused a es b → ((o : Outside) → Grows (effects_of s (and_told es o)) (before o)) → GivenUp (λ fs. TakesSome moves refused a fs b) s before
+gives_up moves refused a b es s before k h = record { events = es; has_told = k; is = h }
 
 untold : (s : Store) (o : Outside) (n : Next Slots) → Grows (effects_of s o) n → Grows (effects_of s (and_told [] o)) n
 untold s o n h = subst (λ z. Grows (effects_of s (record o { events = z })) n) (sym (append-nil o.events)) h
 
-pub gives_up_first : {T R : Type 0} (moves : T → Event → T → Type 0) (recorded : T → R) (a b : T) (s : Store) (before : Outside → Next Slots)
-    → recorded b ≡ recorded a → ((o : Outside) → Grows (effects_of s o) (before o)) → GivenUp (λ fs. TakesSome moves recorded a fs b) s before
-gives_up_first moves recorded a b s before k h = gives_up moves recorded a b [] s before (takes_none moves recorded a b k) (λ o. untold s o (before o) (h o))
+pub gives_up_first : {T : Type 0} (moves refused : T → Event → T → Type 0) (a : T) (s : Store) (before : Outside → Next Slots)
+    → ((o : Outside) → Grows (effects_of s o) (before o)) → GivenUp (λ fs. TakesSome moves refused a fs a) s before
+gives_up_first moves refused a s before h = gives_up moves refused a a [] s before (inl refl) (λ o. untold s o (before o) (h o))
 
-module _ {T R : Type 0} (moves : T → Event → T → Type 0) (recorded : T → R) (ms : List Module) (raised : Raised) (a b : T) (before : Outside → Next Slots) (m : State) (s0 s : Store)
+-- the first event of a move was refused
+pub gives_up_refused : {T : Type 0} (moves refused : T → Event → T → Type 0) (a b : T) (event : Event) (s : Store) (before : Outside → Next Slots)
+    → refused a event b → ((o : Outside) → Grows (effects_of s (and_told (event ∷ []) o)) (before o)) → GivenUp (λ fs. TakesSome moves refused a fs b) s before
+gives_up_refused moves refused a b event s before k h = gives_up moves refused a b (event ∷ []) s before (refuses_one moves refused a b event k) h
+
+module _ {T : Type 0} (moves refused : T → Event → T → Type 0) (ms : List Module) (raised : Raised) (a b : T) (before : Outside → Next Slots) (m : State) (s0 s : Store)
     (p : Passed (λ es. Takes moves a es b) before (λ o. leave (by_slots ms) ms (plain_raised raised) m.top.code (map plain_frame m.callers) m.steps (effects_of s o))) where
   abbrev leaving : Outside → Next Slots
   leaving o = leave (by_slots ms) ms (plain_raised raised) m.top.code (map plain_frame m.callers) m.steps (effects_of s o)
 
   -- before the frame is left
-  pub stays : (c : T) → recorded c ≡ recorded b → GivenUp (λ es. TakesSome moves recorded a es c) s0 before
+  pub stays : (c : T) → refused b Returned c → GivenUp (λ es. TakesSome moves refused a es c) s0 before
   stays c k =
-      given_up_after moves recorded a b c p.events s0 s before leaving p.has_told p.is
-      (gives_up_first moves recorded b c s leaving k (λ o. leaves (by_slots ms) ms (effects_of s o) (plain_raised raised) m.top.code (map plain_frame m.callers) m.steps (effects_of s o) (grown_same (effects_of s o))))
+      given_up_after moves refused a b c p.events s0 s before leaving p.has_told p.is
+      (gives_up_refused moves refused b c Returned s leaving k (λ o. left_first (by_slots ms) ms (effects_of s (and_told (Returned ∷ []) o)) (plain_raised raised) m.top.code (map plain_frame m.callers) m.steps (effects_of s o) (grown_same (effects_of s (and_told (Returned ∷ []) o)))))
 
   module _ (f : RawFrame) (fs : List RawFrame) (cs : m.callers ≡ f ∷ fs) where
+    abbrev both : List Event
+    both = Returned ∷ Throw raised.kind ∷ []
+
     unfolded : (o : Outside) → leaving o ≡ leave (by_slots ms) ms (plain_raised raised) m.top.code (plain_frame f ∷ map plain_frame fs) m.steps (effects_of s o)
     unfolded o = ap (λ x. leave (by_slots ms) ms (plain_raised raised) m.top.code (map plain_frame x) m.steps (effects_of s o)) cs
 
+    -- the exception is thrown once more
+    throws : (o : Outside) → Grows (effects_of s (and_told both o)) (leaving o)
+    throws o =
+        subst (λ n. Grows (effects_of s (and_told both o)) n) (sym (unfolded o))
+        (thrown_by (by_slots ms) ms (effects_of s (and_told both o)) (plain_raised raised) m.top.code (plain_frame f) (map plain_frame fs) m.steps (effects_of s o)
+        (subst (λ z. Grown (effects_of s (record o { events = z })) (told (Throw raised.kind) (effects_of s (and_told (Returned ∷ []) o)))) (append_assoc o.events (Returned ∷ []) (Throw raised.kind ∷ [])) (grown_same (told (Throw raised.kind) (effects_of s (and_told (Returned ∷ []) o))))))
+
     -- after the frame
-    pub stays_left : (c d : T) → moves b Returned c → recorded d ≡ recorded c → GivenUp (λ es. TakesSome moves recorded a es d) s0 before
+    pub stays_left : (c d : T) → moves b Returned c → refused c (Throw raised.kind) d → GivenUp (λ es. TakesSome moves refused a es d) s0 before
     stays_left c d h k =
-        given_up_after moves recorded a b d p.events s0 s before leaving p.has_told p.is
-        (gives_up moves recorded b d (Returned ∷ []) s leaving (c, (c, h, refl), k) (λ o. subst (λ n. Grows (effects_of s (and_told (Returned ∷ []) o)) n) (sym (unfolded o))
-        (left_by (by_slots ms) ms (effects_of s (and_told (Returned ∷ []) o)) (plain_raised raised) m.top.code (plain_frame f) (map plain_frame fs) m.steps (effects_of s o) (grown_same (effects_of s (and_told (Returned ∷ []) o))))))
+        given_up_after moves refused a b d p.events s0 s before leaving p.has_told p.is
+        (gives_up moves refused b d both s leaving (refuses_after moves refused b c d (Returned ∷ []) (Throw raised.kind) (c, h, refl) k) throws)
 
     -- where the exception was thrown once more
-    pub stays_thrown : (c d e : T) → moves b Returned c → moves c (Throw raised.kind) d → recorded e ≡ recorded d → GivenUp (λ es. TakesSome moves recorded a es e) s0 before
-    stays_thrown c d e h g k =
-        given_up_after moves recorded a b e p.events s0 s before leaving p.has_told p.is
-        (gives_up moves recorded b e (Returned ∷ Throw raised.kind ∷ []) s leaving (d, (c, h, (d, g, refl)), k) (λ o. subst (λ n. Grows (effects_of s (and_told (Returned ∷ Throw raised.kind ∷ []) o)) n) (sym (unfolded o))
-        (thrown_by (by_slots ms) ms (effects_of s (and_told (Returned ∷ Throw raised.kind ∷ []) o)) (plain_raised raised) m.top.code (plain_frame f) (map plain_frame fs) m.steps (effects_of s o)
-        (subst (λ z. Grown (effects_of s (record o { events = z })) (told (Throw raised.kind) (effects_of s (and_told (Returned ∷ []) o)))) (append_assoc o.events (Returned ∷ []) (Throw raised.kind ∷ [])) (grown_same (told (Throw raised.kind) (effects_of s (and_told (Returned ∷ []) o))))))))
+    pub stays_thrown : (c d : T) → moves b Returned c → moves c (Throw raised.kind) d → GivenUp (λ es. TakesSome moves refused a es d) s0 before
+    stays_thrown c d h g =
+        given_up_after moves refused a b d p.events s0 s before leaving p.has_told p.is
+        (gives_up moves refused b d both s leaving (inl (c, h, (d, g, refl))) throws)

@@ -82,14 +82,23 @@ module _ {L : Type 0} (locals : Locals L) (ms : List Module) (e : Effects) where
   pub thrown_by : (raised : PlainRaised) (code : CodeId) (f : Frame L) (fs : List (Frame L)) (n : ℕ) (w : Effects) → Grown e (told (Throw raised.kind) (escaped code w)) → Grows e (leave locals ms raised code (f ∷ fs) n w)
   thrown_by raised code f fs n w h = lands (handler_at ms f.code f.place) _ raised true _ (leaves raised f.code fs n (told (Throw raised.kind) (escaped code w)) h) h
 
-  pub left_by : (raised : PlainRaised) (code : CodeId) (f : Frame L) (fs : List (Frame L)) (n : ℕ) (w : Effects) → Grown e (escaped code w) → Grows e (leave locals ms raised code (f ∷ fs) n w)
+  left_by : (raised : PlainRaised) (code : CodeId) (f : Frame L) (fs : List (Frame L)) (n : ℕ) (w : Effects) → Grown e (escaped code w) → Grows e (leave locals ms raised code (f ∷ fs) n w)
   left_by raised code f fs n w h = thrown_by raised code f fs n w (told_on e (escaped code w) (Throw raised.kind) h)
+
+  -- from after the frame, whether another waits or not
+  pub left_first : (raised : PlainRaised) (code : CodeId) (fs : List (Frame L)) (n : ℕ) (w : Effects) → Grown e (told Returned w) → Grows e (leave locals ms raised code fs n w)
+  left_first raised code [] n w h = record { holds = h }
+  left_first raised code (f ∷ fs) n w h = left_by raised code f fs n w h
 
   pub escape : (raised : PlainRaised) (t : Bool) (c : Configuration L) → Grown e c.effects → Grows e (escapes locals ms raised t c)
   escape raised t c g = lands (handler_at ms c.top.code c.top.place) _ raised t c (leaves raised c.top.code c.callers c.steps c.effects g) g
 
+  -- from where the exception was thrown
+  pub flung : (raised : PlainRaised) (c : Configuration L) → Grown e (told (Throw raised.kind) c.effects) → Grows e (throw locals ms raised c)
+  flung raised c h = escape raised true (record c { effects = told (Throw raised.kind) c.effects }) h
+
   pub fling : (raised : PlainRaised) (c : Configuration L) → Grown e c.effects → Grows e (throw locals ms raised c)
-  fling raised c g = escape raised true (record c { effects = told (Throw raised.kind) c.effects }) (told_on e c.effects (Throw raised.kind) g)
+  fling raised c g = flung raised c (told_on e c.effects (Throw raised.kind) g)
 
   pub gives : (v : PlainValue) (fs : List (Frame L)) (n : ℕ) (w : Effects) → Grown e w → Grows e (give locals ms v fs n w)
   gives v [] n w g = record { holds = told_on e w Returned g }

@@ -1,5 +1,5 @@
 -- Parts of a run that are given up.
-use Rattle.std.proofs.Common.{◌≡◌, ℕ, Bool, List, [], ◌++◌, refl, sym, ap, ◌∙◌, subst, append_assoc, append-nil}
+use Rattle.std.proofs.Common.{◌≡◌, ℕ, Bool, List, [], ◌++◌, inl, refl, sym, ap, ◌∙◌, subst, append_assoc, append-nil}
 use Rattle.std.specs.Prelude.{Vec, Result, Ok, Err}
 use Rattle.std.specs.declared.alloc.Global.{Global}
 use Rattle.cov_event.specs.declared.event.Event.{Event}
@@ -10,6 +10,8 @@ use Rattle.py_value.specs.declared.value.Value.{Value}
 use Rattle.py_value.specs.HeapView.{plain_heap}
 use Rattle.py_value.specs.Plain.{PlainHeap}
 use Rattle.py_value.specs.View.{plains, plain_raised, plain_outcome}
+use Rattle.py_builtins.specs.declared.fault.RunFault.{RunFault}
+use Rattle.py_builtins.specs.declared.fault.RunFault.TheVariants.{NoMemory}
 use Rattle.py_builtins.specs.Arguments.{Answer}
 use Rattle.py_builtins.specs.Builtins.{Done, builtin_of}
 use Rattle.py_code.specs.Configurations.{Effects, Configuration, Next}
@@ -22,10 +24,10 @@ use Rattle.py_store.specs.Stores.{world_of}
 use Rattle.py_instructions.specs.declared.frame.State.{State}
 use Rattle.py_instructions.specs.declared.turn.Turn.TheVariants.{Asks}
 use Rattle.py_instructions.specs.View.{Slots, Outside, plain_operands, effects_of, seen, turned}
-use Rattle.py_machine.specs.Told.{IsAtEnd, Hears, Grown, Grows, TakesSome, GivenUp, Broken, HearsSome}
+use Rattle.py_machine.specs.Told.{IsAtEnd, Hears, Grown, Grows, TakesSome, TakesUntil, GivenUp, Broken, HearsSome}
 use Rattle.py_builtins.specs.World.{with_heap}
 use Rattle.py_machine.proofs.Grows.{grown_same, prefix_then, called_at_once}
-use Rattle.py_machine.proofs.GivesUp.{takes_none, elsewhere}
+use Rattle.py_machine.proofs.GivesUp.{takes_until_all, elsewhere}
 use Rattle.py_machine.proofs.Hearing.{lost_none, hears_some_as, hears_some, hears_lost}
 use Rattle.py_machine.proofs.Following.{same_written}
 use Rattle.py_machine.proofs.Performs.{Given, seen_in}
@@ -71,7 +73,7 @@ broken_as tells i0 i1 was took said o0 o1 s s1 before other h p =
     same : (all w : List ℕ) (es : List Event) (o : Outside) → Grows (effects_of s1 o) (other (record { input = all; out = w; events = es })) → Grows (effects_of s o) (before (record { input = all; out = w; events = es }))
     same all w es o g = subst (λ n. Grows (effects_of s o) n) (sym (h (record { input = all; out = w; events = es }))) (elsewhere s1 s o _ g)
 
-module _ {T R : Type 0} (moves : T → Event → T → Type 0) (recorded : T → R) (said : Type 0) (tells : Type 0) (o0 o1 i0 i1 : List ℕ) (was : Bool) (ms : List Module) (which : Builtin) (values : Vec Value Global) (m : State) (s : Store) where
+module _ {T : Type 0} (moves refused : T → Event → T → Type 0) (fault : RunFault) (said : Type 0) (tells : Type 0) (o0 o1 i0 i1 : List ℕ) (was : Bool) (ms : List Module) (which : Builtin) (values : Vec Value Global) (m : State) (s : Store) where
   abbrev asking : Outside → Next Slots
   asking o = turned ms (Asks which values) (seen m s o)
 
@@ -94,11 +96,11 @@ module _ {T R : Type 0} (moves : T → Event → T → Type 0) (recorded : T →
       reach (Err raised) last c g = called_at_once (by_slots ms) ms (effects_of s (record { input = all; out = w ++ out; events = es })) (Err raised) last c.top.operands c g
 
   -- the function itself was given up
-  pub asks_some : IsAtEnd was tells i0 → (tells → LosesPrefix i0 i1) → (said → GainsPrefix o0 o1 (done_with i0).written) → (a : T) → HearsSome tells i0 i1 was (Broken (λ es. TakesSome moves recorded a es a) said o0 o1 s asking)
+  pub asks_some : IsAtEnd was tells i0 → (tells → LosesPrefix i0 i1) → (said → GainsPrefix o0 o1 (done_with i0).written) → (a : T) → HearsSome tells i0 i1 was (Broken (λ es. TakesUntil moves refused fault a es a) said o0 o1 s asking)
   asks_some over lost gained a =
-      hears_lost tells was i0 i1 over lost (Broken (λ es. TakesSome moves recorded a es a) said o0 o1 s asking) (λ all. record {
+      hears_lost tells was i0 i1 over lost (Broken (λ es. TakesUntil moves refused fault a es a) said o0 o1 s asking) (λ all. record {
         events = [];
-        has_told = takes_none moves recorded a a refl;
+        has_told = takes_until_all moves refused fault a a [] refl;
         is = λ w es. subst (λ z. Grows (effects_of s z) (asking (record { input = all; out = w; events = es }))) (both all w es) (asks all w [] es (record { rest = (done_with all).written; is = refl }));
         wrote = λ t.
             let g = gained t in
@@ -109,7 +111,7 @@ module _ {T R : Type 0} (moves : T → Event → T → Type 0) (recorded : T →
       both all w es =
           ap (λ z. let x : Outside = record { input = all; out = z; events = es } in x) (append-nil w) ∙ ap (λ z. let x : Outside = record { input = all; out = w; events = z } in x) (sym (append-nil es))
 
-  module _ (answer : Answer) (is : Bool) (r : Hears tells i0 i1 was is (Given said o0 o1 which values s answer)) (a b : T) (events : List Event) (took : TakesSome moves recorded a events b)
+  module _ (answer : Answer) (is : Bool) (r : Hears tells i0 i1 was is (Given said o0 o1 which values s answer)) (a b : T) (events : List Event) (took : TakesUntil moves refused fault a events b)
       (goes : (o : Outside) → Grows (effects_of s (record o { events = o.events ++ events })) (calls (by_slots ms) ms (by_answer answer (effects_of s o)) (plain_operands m.top.operands) (seen m s o))) where
     abbrev after_call : Answer → Outside → Outside → Next Slots
     after_call x now then_seen = calls (by_slots ms) ms (by_answer x (effects_of s now)) (plain_operands m.top.operands) (seen m s then_seen)
@@ -127,8 +129,8 @@ module _ {T R : Type 0} (moves : T → Event → T → Type 0) (recorded : T →
         ∙ same answer (record { input = rest; out = w ++ (done_with all).written; events = es }) first (record { input = rest; out = w ++ (done_with all).written; events = es })
 
     -- what followed the function was given up
-    pub asks_then_some : HearsSome tells i0 i1 was (Broken (λ es. TakesSome moves recorded a es b) said o0 o1 s asking)
-    asks_then_some = hears_some tells i0 i1 was is (Given said o0 o1 which values s answer) (Broken (λ es. TakesSome moves recorded a es b) said o0 o1 s asking) part r
+    pub asks_then_some : HearsSome tells i0 i1 was (Broken (λ es. TakesUntil moves refused fault a es b) said o0 o1 s asking)
+    asks_then_some = hears_some tells i0 i1 was is (Given said o0 o1 which values s answer) (Broken (λ es. TakesUntil moves refused fault a es b) said o0 o1 s asking) part r
       where
         fronts : {A : Type 0} (xs ys zs : List A) → IsPrefix (xs ++ ys) zs → IsPrefix xs zs
         fronts xs ys zs q = prefix_then xs (xs ++ ys) zs (record { rest = ys; is = refl }) q
@@ -145,7 +147,7 @@ module _ {T R : Type 0} (moves : T → Event → T → Type 0) (recorded : T →
         fewer all rest w es written (Ticks c) h = record { holds = (fronts es events c.effects.events h.holds.0, h.holds.1) }
         fewer all rest w es written (Ends c) h = record { holds = (fronts es events c.effects.events h.holds.0, h.holds.1) }
 
-        part : (all rest : List ℕ) → Given said o0 o1 which values s answer all rest → Broken (λ es. TakesSome moves recorded a es b) said o0 o1 s asking all
+        part : (all rest : List ℕ) → Given said o0 o1 which values s answer all rest → Broken (λ es. TakesUntil moves refused fault a es b) said o0 o1 s asking all
         part all rest gives =
             let written = (done_with all).written in
             record {
@@ -174,17 +176,17 @@ quiet_call ms m s answer o = by_case answer
     by_case (Err e) = called_at_once (by_slots ms) ms (effects_of s (record o { events = o.events ++ [] })) (Err e) (effects_of s o) (plain_operands m.top.operands) (seen m s o) same
 
 -- what followed a built-in function that the top frame asked for was given up
-module _ {T R : Type 0} (moves : T → Event → T → Type 0) (recorded : T → R) (said : Type 0) (tells : Type 0) (o0 o1 i0 i1 : List ℕ) (was is : Bool) (ms : List Module) (which : Builtin) (values : Vec Value Global) (m : State) (s : Store)
+module _ {T : Type 0} (moves refused : T → Event → T → Type 0) (said : Type 0) (tells : Type 0) (o0 o1 i0 i1 : List ℕ) (was is : Bool) (ms : List Module) (which : Builtin) (values : Vec Value Global) (m : State) (s : Store)
     (answer : Result Value Raised) (h : PlainHeap) (r : Hears tells i0 i1 was is (Given said o0 o1 which values s (plain_outcome answer h))) where
   -- for want of memory
-  pub asked_stops : (a : T) → HearsSome tells i0 i1 was (Broken (λ es. TakesSome moves recorded a es a) said o0 o1 s (λ o. turned ms (Asks which values) (seen m s o)))
-  asked_stops a = asks_then_some moves recorded said tells o0 o1 i0 i1 was ms which values m s (plain_outcome answer h) is r a a [] (takes_none moves recorded a a refl) (quiet_call ms m s (plain_outcome answer h))
+  pub asked_stops : (a : T) → HearsSome tells i0 i1 was (Broken (λ es. TakesSome moves refused a es a) said o0 o1 s (λ o. turned ms (Asks which values) (seen m s o)))
+  asked_stops a = asks_then_some moves refused NoMemory said tells o0 o1 i0 i1 was ms which values m s (plain_outcome answer h) is r a a [] (inl refl) (quiet_call ms m s (plain_outcome answer h))
 
   -- as its exception was thrown
   pub thrown_stops : (a b : T) (raised : Raised) (s2 : Store) → answer ≡ Err raised → world_of s2 ≡ world_of s
-      → GivenUp (λ es. TakesSome moves recorded a es b) s2 (λ o. throw (by_slots ms) ms (plain_raised raised) (seen m s2 o))
-      → HearsSome tells i0 i1 was (Broken (λ es. TakesSome moves recorded a es b) said o0 o1 s (λ o. turned ms (Asks which values) (seen m s o)))
+      → GivenUp (λ es. TakesSome moves refused a es b) s2 (λ o. throw (by_slots ms) ms (plain_raised raised) (seen m s2 o))
+      → HearsSome tells i0 i1 was (Broken (λ es. TakesSome moves refused a es b) said o0 o1 s (λ o. turned ms (Asks which values) (seen m s o)))
   thrown_stops a b raised s2 e w p =
-      asks_then_some moves recorded said tells o0 o1 i0 i1 was ms which values m s (Err (plain_raised raised)) is (subst (λ x. Hears tells i0 i1 was is (Given said o0 o1 which values s (plain_outcome x h))) e r)
+      asks_then_some moves refused NoMemory said tells o0 o1 i0 i1 was ms which values m s (Err (plain_raised raised)) is (subst (λ x. Hears tells i0 i1 was is (Given said o0 o1 which values s (plain_outcome x h))) e r)
       a b p.events p.has_told
       (λ o. elsewhere s2 s (and_told p.events o) _ (subst (λ n. Grows (effects_of s2 (and_told p.events o)) n) (ap (λ x. throw (by_slots ms) ms (plain_raised raised) (seen_in m x o)) w) (p.is o)))

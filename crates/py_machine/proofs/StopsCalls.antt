@@ -1,15 +1,17 @@
 -- Calls, and whole runs, that are given up.
-use Rattle.std.proofs.Common.{◌≡◌, ℕ, List, [], ◌++◌, refl, sym, ap, ◌∙◌, subst, append_assoc, append-nil}
+use Rattle.std.proofs.Common.{◌≡◌, ℕ, suc, List, [], ◌∷◌, ◌++◌, refl, sym, ap, ◌∙◌, subst, append_assoc, append-nil}
 use Rattle.std.specs.Prelude.{Vec, Ok, Err}
 use Rattle.std.specs.declared.alloc.Global.{Global}
 use Rattle.cov_event.specs.declared.event.CodeId.{CodeId}
 use Rattle.cov_event.specs.declared.event.Event.{Event}
+use Rattle.cov_event.specs.declared.event.Event.TheVariants.{Call as Called}
 use Rattle.cov_outside.specs.Prefixes.{IsPrefix, GainsPrefix, LosesPrefix}
 use Rattle.py_value.specs.declared.builtin.Builtin.{Builtin}
 use Rattle.py_value.specs.declared.value.Value.{Value}
 use Rattle.py_value.specs.HeapView.{plain_heap}
 use Rattle.py_value.specs.Plain.{PlainValue}
 use Rattle.py_value.specs.View.{plains}
+use Rattle.py_builtins.specs.declared.fault.RunFault.{RunFault}
 use Rattle.py_builtins.specs.Arguments.{Answer}
 use Rattle.py_builtins.specs.Attributes.{or_raise}
 use Rattle.py_builtins.specs.Builtins.{Done, builtin_of}
@@ -27,14 +29,15 @@ use Rattle.py_instructions.specs.declared.reach.Reach.{Reach as RawReach}
 use Rattle.py_instructions.specs.declared.reach.Reach.TheVariants.{Asks}
 use Rattle.py_instructions.specs.Reaching.{plain_reach}
 use Rattle.py_machine.specs.Runs.{StopsRun, StopsCall}
-use Rattle.py_machine.specs.Told.{Grown, TakesSome, HeardSome, Stopped}
-use Rattle.py_machine.proofs.GivesUp.{takes_none}
+use Rattle.py_machine.specs.Told.{Grown, TakesUntil, HeardSome, Stopped}
+use Rattle.py_machine.proofs.GivesUp.{takes_until_all}
 use Rattle.py_machine.proofs.Grows.{grown_same, follows_grow, outermost_grows, outer_grows, global_reached}
 use Rattle.py_machine.proofs.Hearing.{heard_as, heard_lost}
 use Rattle.py_machine.proofs.Following.{same_written}
+use Rattle.py_machine.proofs.Throws.{and_told}
 
 -- a built-in function that nothing waits for, and that was given up
-module _ {T R : Type 0} (moves : T → Event → T → Type 0) (recorded : T → R) (said : Type 0) (tells : Type 0) (o0 o1 i0 i1 : List ℕ) (ms : List Module) (which : Builtin) (values : Vec Value Global) (budget : ℕ)
+module _ {T : Type 0} (moves refused : T → Event → T → Type 0) (fault : RunFault) (said : Type 0) (tells : Type 0) (o0 o1 i0 i1 : List ℕ) (ms : List Module) (which : Builtin) (values : Vec Value Global) (budget : ℕ)
     (s : Store) (reach : RawReach) (is : reach ≡ Asks which values) where
   abbrev outside : List ℕ → List ℕ → List Event → Outside
   outside all w es = record { input = all; out = w; events = es }
@@ -57,11 +60,11 @@ module _ {T R : Type 0} (moves : T → Event → T → Type 0) (recorded : T →
       at_end (Ok p) last g = g
       at_end (Err raised) last g = g
 
-  pub ask_stops : (tells → LosesPrefix i0 i1) → (said → GainsPrefix o0 o1 (done_with i0).written) → (a : T) → HeardSome tells i0 i1 (Stopped (λ es. TakesSome moves recorded a es a) said o0 o1 s (to reach))
+  pub ask_stops : (tells → LosesPrefix i0 i1) → (said → GainsPrefix o0 o1 (done_with i0).written) → (a : T) → HeardSome tells i0 i1 (Stopped (λ es. TakesUntil moves refused fault a es a) said o0 o1 s (to reach))
   ask_stops lost gained a =
-      heard_lost tells i0 i1 lost (Stopped (λ es. TakesSome moves recorded a es a) said o0 o1 s (to reach)) (λ all. record {
+      heard_lost tells i0 i1 lost (Stopped (λ es. TakesUntil moves refused fault a es a) said o0 o1 s (to reach)) (λ all. record {
         events = [];
-        has_told = takes_none moves recorded a a refl;
+        has_told = takes_until_all moves refused fault a a [] refl;
         is = λ w es. subst (λ z. Grown (effects_of s z) (to reach (outside all w es)).effects) (both all w es) (begins all w [] es (record { rest = (done_with all).written; is = refl }));
         wrote = λ t.
             let g = gained t in
@@ -99,6 +102,13 @@ module _ (took : List Event → Type 0) (said : Type 0) (o0 o1 : List ℕ) (ms :
 pub outermost_first : (ms : List Module) (code : CodeId) (vs : List PlainValue) (budget : ℕ) (s : Store) (o : Outside) → Grown (effects_of s o) (follows (by_slots ms) ms (outermost (by_slots ms) ms code vs budget (effects_of s o))).effects
 outermost_first ms code vs budget s o =
     follows_grow (by_slots ms) ms (effects_of s o) (outermost (by_slots ms) ms code vs budget (effects_of s o)) (outermost_grows (by_slots ms) ms (effects_of s o) code vs budget (effects_of s o) (grown_same (effects_of s o)))
+
+-- and where a step is left for it, with its call
+pub outermost_called : (ms : List Module) (code : CodeId) (vs : List PlainValue) (less budget : ℕ) → budget ≡ suc less → (s : Store) (o : Outside)
+    → Grown (effects_of s (and_told (Called code ∷ []) o)) (follows (by_slots ms) ms (outermost (by_slots ms) ms code vs budget (effects_of s o))).effects
+outermost_called ms code vs less budget e s o =
+    subst (λ n. Grown (effects_of s (and_told (Called code ∷ []) o)) (follows (by_slots ms) ms (outermost (by_slots ms) ms code vs n (effects_of s o))).effects) (sym e)
+    (follows_grow (by_slots ms) ms (effects_of s (and_told (Called code ∷ []) o)) (outermost (by_slots ms) ms code vs (suc less) (effects_of s o)) (record { holds = grown_same (effects_of s (and_told (Called code ∷ []) o)) }))
 
 -- a whole call that was given up
 module _ (took : List Event → Type 0) (said : Type 0) (o0 o1 : List ℕ) (ms : List Module) (s : Store) (r : Request) (budget : ℕ) where

@@ -9,16 +9,20 @@
 --     Reached, Ran        a run on its way, and one that ended
 --     AtStart             where it begins
 --     Grown, Grows        events and bytes that only grow
---     TakesSome           a tracer that may have refused the last event
---     CallsSome           a tracer that was called, whatever it did
+--     RefusesLast         a tracer that refused the last of its events
+--     TakesSome           one that may have refused the last
+--     TakesUntil          one that may have, where memory was wanting
+--     CallsSome           one that was called, whatever it did
 --     HeardSome           what holds of every input, where a read may have been given up
 --     HearsSome           the same of a part of a run
 --     GivenUp, Broken     a part of a run that was given up
 --     Stopped             a run that was given up
-use Rattle.std.specs.Prelude.{◌≡◌, ℕ, Bool, true, false, List, [], ◌++◌, Option, Some, None, ◌⊎◌}
+use Rattle.std.specs.Prelude.{◌≡◌, ℕ, Bool, true, false, List, [], ◌∷◌, ◌++◌, Option, Some, None, ◌⊎◌}
 use Rattle.cov_event.specs.declared.event.Event.{Event}
 use Rattle.cov_event.specs.Moves.{Takes, Calls}
 use Rattle.cov_outside.specs.Prefixes.{IsPrefix, LosesPrefix}
+use Rattle.py_builtins.specs.declared.fault.RunFault.{RunFault}
+use Rattle.py_builtins.specs.declared.fault.RunFault.TheVariants.{ReadFault, WriteFault, NoMemory}
 use Rattle.py_builtins.specs.Inputs.{Fed}
 use Rattle.py_code.specs.Configurations.{Effects, Configuration, End, Next}
 use Rattle.py_code.specs.Machine.{halted, machine}
@@ -156,16 +160,33 @@ GrowsTo e (Ends r) = Grown e r.effects
 pub record Grows {L : Type 0} (e : Effects) (n : Next L) : Type 0 where
   pub holds : GrowsTo e n
 
--- these events were taken, and maybe one more was refused and not recorded
-abbrev pub TakesSome : {T R : Type 0} → (T → Event → T → Type 0) → (T → R) → T → List Event → T
-    → Type 0
-TakesSome {T} moves recorded old events new =
-    (mid : T) × Takes moves old events mid × (recorded new ≡ recorded mid)
+-- the last of these events was refused, and each before it was taken
+pub record RefusesLast {T : Type 0} (moves refused : T → Event → T → Type 0) (old : T)
+    (events : List Event) (new : T) : Type 0 where
+  pub taken : List Event
+  pub last : Event
+  pub is : events ≡ taken ++ last ∷ []
+  pub mid : T
+  pub has_taken : Takes moves old taken mid
+  pub has_refused : refused mid last new
 
--- by calls of `event`, each taken or refused
-abbrev pub CallsSome : {T R : Type 0} → (T → Event → T → Type 0) → (T → R) → T → T → Type 0
-CallsSome moves recorded old new =
-    (calls : List (Event × Bool)) × Calls moves recorded old calls new
+-- a tracer that was told these events: each was taken, or the last was refused
+abbrev pub TakesSome : {T : Type 0} → (T → Event → T → Type 0) → (T → Event → T → Type 0) → T
+    → List Event → T → Type 0
+TakesSome moves refused old events new =
+    Takes moves old events new ⊎ RefusesLast moves refused old events new
+
+-- so it is for want of memory; where reading or writing failed, each was taken
+abbrev pub TakesUntil : {T : Type 0} → (T → Event → T → Type 0) → (T → Event → T → Type 0)
+    → RunFault → T → List Event → T → Type 0
+TakesUntil moves refused ReadFault old events new = Takes moves old events new
+TakesUntil moves refused WriteFault old events new = Takes moves old events new
+TakesUntil moves refused NoMemory old events new = TakesSome moves refused old events new
+
+-- a tracer that was called, each event taken or refused
+abbrev pub CallsSome : {T : Type 0} → (T → Event → T → Type 0) → (T → Event → T → Type 0) → T → T
+    → Type 0
+CallsSome moves refused old new = (calls : List (Event × Bool)) × Calls moves refused old calls new
 
 -- a move that was given up: the events that were told are those that the move begins with
 pub record GivenUp (took : List Event → Type 0) (s : Store)

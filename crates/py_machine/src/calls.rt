@@ -1,5 +1,5 @@
 // Calls of one function.
-ghost use Rattle.std.specs.Prelude.{◌<◌, ◌≤◌, length, IfOk, OnErr, IsErrOf};
+ghost use Rattle.std.specs.Prelude.{◌<◌, ◌≤◌, length, IfOk, IfErr, IsErrOf};
 ghost use Rattle.std.specs.Str.{chars};
 ghost use Rattle.cov_event.specs.Moves.{Takes};
 ghost use Rattle.cov_outside.specs.Counts.{Rose};
@@ -12,7 +12,7 @@ ghost use Rattle.py_code.specs.Valid.{AreCodes};
 ghost use Rattle.py_machine.specs.Fitting.{CallFits};
 ghost use Rattle.py_instructions.specs.Reaching.{plain_reach, BeginsUnit};
 ghost use Rattle.py_machine.specs.Runs.{IsCall, StopsCall, request};
-ghost use Rattle.py_machine.specs.Told.{Heard, Ran as Ends, TakesSome, CallsSome, HeardSome, Stopped};
+ghost use Rattle.py_machine.specs.Told.{Heard, Ran as Ends, TakesUntil, CallsSome, HeardSome, Stopped};
 ghost use Rattle.py_instructions.specs.View.{effects_of};
 ghost use Rattle.py_store.specs.Stores.{world_of};
 
@@ -52,12 +52,13 @@ pub fn call<T: Tracer, I: Source, O: Sink>(
         answer (world_of store.new))) }
     ensures fits { IfOk result (λ answer. CallFits (modules_of programs.now) (world_of store.old)
         (plains args.now) answer.called (world_of store.new)) }
-    ensures given_up { OnErr result (HeardSome I.tells (I.left input.old) (I.left input.new)
-        (StopsCall (λ es. TakesSome T.moves T.recorded tracer.old es tracer.new) O.tells
+    ensures given_up { IfErr result (λ fault. HeardSome I.tells (I.left input.old)
+        (I.left input.new)
+        (StopsCall (λ es. TakesUntil T.moves T.refused fault tracer.old es tracer.new) O.tells
         (O.contents out.old) (O.contents out.new) (modules_of programs.now)
         (world_of store.old) (request «module» (chars function.now) (plains args.now))
         budget)) }
-    ensures calls { CallsSome T.moves T.recorded tracer.old tracer.new }
+    ensures calls { CallsSome T.moves T.refused tracer.old tracer.new }
     ensures reads { I.faults input.old ≤ I.faults input.new }
     ensures writes { O.faults out.old ≤ O.faults out.new }
     ensures read_fault { IsErrOf result RunFault.ReadFault
@@ -97,13 +98,14 @@ fn finish<T: Tracer, I: Source, O: Sink>(
         (outer_call (by_slots (modules_of programs.now)) (modules_of programs.now)
         (plain_reach reach (effects_of store.old o)) budget (effects_of store.old o)))
         e.ending e.steps store.new)) }
-    ensures given_up { OnErr result (HeardSome I.tells (I.left input.old) (I.left input.new)
-        (Stopped (λ es. TakesSome T.moves T.recorded tracer.old es tracer.new) O.tells
+    ensures given_up { IfErr result (λ fault. HeardSome I.tells (I.left input.old)
+        (I.left input.new)
+        (Stopped (λ es. TakesUntil T.moves T.refused fault tracer.old es tracer.new) O.tells
         (O.contents out.old) (O.contents out.new) store.old
         (λ o. follows (by_slots (modules_of programs.now)) (modules_of programs.now)
         (outer_call (by_slots (modules_of programs.now)) (modules_of programs.now)
         (plain_reach reach (effects_of store.old o)) budget (effects_of store.old o))))) }
-    ensures calls { CallsSome T.moves T.recorded tracer.old tracer.new }
+    ensures calls { CallsSome T.moves T.refused tracer.old tracer.new }
     ensures reads { I.faults input.old ≤ I.faults input.new }
     ensures writes { O.faults out.old ≤ O.faults out.new }
     ensures read_fault { IsErrOf result RunFault.ReadFault

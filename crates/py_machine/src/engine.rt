@@ -1,12 +1,13 @@
 // Whoever runs programs.
-ghost use Rattle.std.specs.Prelude.{◌<◌, ◌≤◌, length, IfOk, OnErr, IsErrOf};
-ghost use Rattle.cov_event.specs.Moves.{Takes};
+ghost use Rattle.std.specs.Prelude.{◌<◌, ◌≤◌, Bool, List, length, IfOk, IfErr, IsErrOf};
+ghost use Rattle.cov_event.specs.declared.event.Event.{Event};
+ghost use Rattle.cov_event.specs.Moves.{Takes, Calls};
 ghost use Rattle.cov_outside.specs.Counts.{Rose};
 ghost use Rattle.py_builtins.specs.Inputs.{Wrote};
 ghost use Rattle.py_code.specs.Loaded.{modules_of, most_numbered};
 ghost use Rattle.py_machine.specs.Fitting.{RunFits};
 ghost use Rattle.py_machine.specs.Runs.{IsRun, StopsRun};
-ghost use Rattle.py_machine.specs.Told.{Heard, TakesSome, CallsSome, HeardSome};
+ghost use Rattle.py_machine.specs.Told.{Heard, TakesUntil, HeardSome};
 ghost use Rattle.py_store.specs.Stores.{world_of};
 
 use crate::outcome::Ran;
@@ -22,6 +23,9 @@ use std::alloc::Global;
 pub trait Engine {
     // Whether it is true.
     ghost faithful: { Type 0 };
+
+    // In a run it told these events, of which those with `true` were taken, and the others refused.
+    ghost told: { Self → List (Event × Bool) → Self → Type 0 };
 
     fn run<T: Tracer, I: Source, O: Sink>(
         &mut self,
@@ -44,12 +48,14 @@ pub trait Engine {
             → IfOk result (λ ran. RunFits (modules_of programs.now) (world_of store.old)
             (world_of store.new)) }
         ensures given_up { faithful
-            → OnErr result (HeardSome I.tells (I.left input.old) (I.left input.new)
-            (StopsRun (λ es. TakesSome T.moves T.recorded tracer.old es tracer.new) O.tells
+            → IfErr result (λ fault. HeardSome I.tells (I.left input.old)
+            (I.left input.new)
+            (StopsRun (λ es. TakesUntil T.moves T.refused fault tracer.old es tracer.new) O.tells
             (O.contents out.old) (O.contents out.new) (modules_of programs.now)
             (world_of store.old) budget)) }
         // Whether it is true or not:
-        ensures calls { CallsSome T.moves T.recorded tracer.old tracer.new }
+        ensures calls { (calls : List (Event × Bool)) × told self.old calls self.new
+            × Calls T.moves T.refused tracer.old calls tracer.new }
         ensures reads { I.faults input.old ≤ I.faults input.new }
         ensures writes { O.faults out.old ≤ O.faults out.new }
         ensures read_fault { IsErrOf result RunFault.ReadFault
@@ -64,6 +70,9 @@ pub struct Machine;
 
 impl Engine for Machine {
     ghost faithful = { Unit {0} };
+
+    // What a true engine tells is what the code tells.
+    ghost told = { λ _ _ _. Unit {0} };
 
     fn run<T: Tracer, I: Source, O: Sink>(
         &mut self,

@@ -31,7 +31,7 @@ fn leave<T: Tracer>(
         (effects_of store.old o))
         (seen m.new store.new) how) }
     ensures given_up { OnErr result (GivenUp
-        (λ es. TakesSome T.moves T.recorded tracer.old es tracer.new) store.old
+        (λ es. TakesSome T.moves T.refused tracer.old es tracer.new) store.old
         (λ o. leave (by_slots (modules_of programs.now)) (modules_of programs.now)
         (plain_raised raised) m.old.top.code (map plain_frame m.old.callers) m.old.steps
         (effects_of store.old o))) }
@@ -68,7 +68,7 @@ pub fn escape<T: Tracer>(
         (plain_raised raised) is_thrown (seen m.old store.old o))
         (seen m.new store.new) how) }
     ensures given_up { OnErr result (GivenUp
-        (λ es. TakesSome T.moves T.recorded tracer.old es tracer.new) store.old
+        (λ es. TakesSome T.moves T.refused tracer.old es tracer.new) store.old
         (λ o. escapes (by_slots (modules_of programs.now)) (modules_of programs.now)
         (plain_raised raised) is_thrown (seen m.old store.old o))) }
 {
@@ -93,7 +93,7 @@ pub fn throw<T: Tracer>(
         (plain_raised raised) (seen m.old store.old o))
         (seen m.new store.new) how) }
     ensures given_up { OnErr result (GivenUp
-        (λ es. TakesSome T.moves T.recorded tracer.old es tracer.new) store.old
+        (λ es. TakesSome T.moves T.refused tracer.old es tracer.new) store.old
         (λ o. throw (by_slots (modules_of programs.now)) (modules_of programs.now)
         (plain_raised raised) (seen m.old store.old o))) }
 {
@@ -115,7 +115,7 @@ pub fn give<T: Tracer>(
         (map plain_frame m.old.callers) m.old.steps (effects_of store.now o))
         (seen m.new store.now) how) }
     ensures given_up { OnErr result (GivenUp
-        (λ es. TakesSome T.moves T.recorded tracer.old es tracer.new) store.now
+        (λ es. TakesSome T.moves T.refused tracer.old es tracer.new) store.now
         (λ o. give (by_slots (modules_of programs.now)) (modules_of programs.now) (plain value)
         (map plain_frame m.old.callers) m.old.steps (effects_of store.now o))) }
 {

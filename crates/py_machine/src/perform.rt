@@ -1,5 +1,5 @@
 // What is left of an instruction: events, output and input.
-ghost use Rattle.std.specs.Prelude.{◌≡◌, ◌≤◌, true, length, IfOk, OnErr, IsErrOf};
+ghost use Rattle.std.specs.Prelude.{◌≡◌, ◌≤◌, true, length, IfOk, IfErr, IsErrOf};
 ghost use Rattle.cov_event.specs.Moves.{Takes};
 ghost use Rattle.cov_outside.specs.Counts.{Rose};
 ghost use Rattle.py_builtins.specs.Inputs.{Wrote};
@@ -7,7 +7,7 @@ ghost use Rattle.py_code.specs.Loaded.{modules_of, most_numbered};
 ghost use Rattle.py_code.specs.Machine.{move};
 ghost use Rattle.py_code.specs.Slots.{by_slots};
 ghost use Rattle.py_instructions.specs.declared.turn.Turn.TheVariants.{Asks};
-ghost use Rattle.py_machine.specs.Told.{IsAtEnd, Step, TakesSome, CallsSome, HearsSome, Broken};
+ghost use Rattle.py_machine.specs.Told.{IsAtEnd, Step, TakesUntil, CallsSome, HearsSome, Broken};
 ghost use Rattle.py_instructions.specs.View.{seen, turned};
 
 use crate::ending::Ending;
@@ -42,12 +42,13 @@ fn ask<T: Tracer, I: Source, O: Sink>(
         (Wrote O.tells (O.contents out.old) (O.contents out.new))
         (λ o. turned (modules_of programs.now) (Asks which values) (seen m.old store.old o))
         (seen m.new store.new) how) }
-    ensures given_up { OnErr result (HearsSome I.tells (I.left input.old) (I.left input.new)
-        at_end.old (Broken (λ es. TakesSome T.moves T.recorded tracer.old es tracer.new) O.tells
+    ensures given_up { IfErr result (λ fault. HearsSome I.tells (I.left input.old)
+        (I.left input.new) at_end.old
+        (Broken (λ es. TakesUntil T.moves T.refused fault tracer.old es tracer.new) O.tells
         (O.contents out.old) (O.contents out.new) store.old
         (λ o. turned (modules_of programs.now) (Asks which values) (seen m.old store.old o)))) }
     ensures unread { at_end.old ≡ true → input.new ≡ input.old }
-    ensures calls { CallsSome T.moves T.recorded tracer.old tracer.new }
+    ensures calls { CallsSome T.moves T.refused tracer.old tracer.new }
     ensures reads { I.faults input.old ≤ I.faults input.new }
     ensures writes { O.faults out.old ≤ O.faults out.new }
     ensures read_fault { IsErrOf result RunFault.ReadFault
@@ -92,12 +93,13 @@ fn perform<T: Tracer, I: Source, O: Sink>(
         (Wrote O.tells (O.contents out.old) (O.contents out.new))
         (λ o. turned (modules_of programs.now) turn (seen m.old store.old o))
         (seen m.new store.new) how) }
-    ensures given_up { OnErr result (HearsSome I.tells (I.left input.old) (I.left input.new)
-        at_end.old (Broken (λ es. TakesSome T.moves T.recorded tracer.old es tracer.new) O.tells
+    ensures given_up { IfErr result (λ fault. HearsSome I.tells (I.left input.old)
+        (I.left input.new) at_end.old
+        (Broken (λ es. TakesUntil T.moves T.refused fault tracer.old es tracer.new) O.tells
         (O.contents out.old) (O.contents out.new) store.old
         (λ o. turned (modules_of programs.now) turn (seen m.old store.old o)))) }
     ensures unread { at_end.old ≡ true → input.new ≡ input.old }
-    ensures calls { CallsSome T.moves T.recorded tracer.old tracer.new }
+    ensures calls { CallsSome T.moves T.refused tracer.old tracer.new }
     ensures reads { I.faults input.old ≤ I.faults input.new }
     ensures writes { O.faults out.old ≤ O.faults out.new }
     ensures read_fault { IsErrOf result RunFault.ReadFault
@@ -144,13 +146,14 @@ pub fn step<T: Tracer, I: Source, O: Sink>(
         (Wrote O.tells (O.contents out.old) (O.contents out.new))
         (λ o. move (by_slots (modules_of programs.now)) (modules_of programs.now)
         (seen m.old store.old o)) (seen m.new store.new) how) }
-    ensures given_up { OnErr result (HearsSome I.tells (I.left input.old) (I.left input.new)
-        at_end.old (Broken (λ es. TakesSome T.moves T.recorded tracer.old es tracer.new) O.tells
+    ensures given_up { IfErr result (λ fault. HearsSome I.tells (I.left input.old)
+        (I.left input.new) at_end.old
+        (Broken (λ es. TakesUntil T.moves T.refused fault tracer.old es tracer.new) O.tells
         (O.contents out.old) (O.contents out.new) store.old
         (λ o. move (by_slots (modules_of programs.now)) (modules_of programs.now)
         (seen m.old store.old o)))) }
     ensures unread { at_end.old ≡ true → input.new ≡ input.old }
-    ensures calls { CallsSome T.moves T.recorded tracer.old tracer.new }
+    ensures calls { CallsSome T.moves T.refused tracer.old tracer.new }
     ensures reads { I.faults input.old ≤ I.faults input.new }
     ensures writes { O.faults out.old ≤ O.faults out.new }
     ensures read_fault { IsErrOf result RunFault.ReadFault

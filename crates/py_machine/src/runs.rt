@@ -1,5 +1,5 @@
 // Runs of programs.
-ghost use Rattle.std.specs.Prelude.{◌≡◌, ◌<◌, ◌≤◌, length, IfOk, OnErr, IsErrOf};
+ghost use Rattle.std.specs.Prelude.{◌≡◌, ◌<◌, ◌≤◌, length, IfOk, IfErr, IsErrOf};
 ghost use Rattle.cov_event.specs.Moves.{Takes};
 ghost use Rattle.cov_outside.specs.Counts.{Rose};
 ghost use Rattle.py_value.specs.View.{plains};
@@ -11,7 +11,7 @@ ghost use Rattle.py_code.specs.Slots.{by_slots};
 ghost use Rattle.py_code.specs.Valid.{AreCodes};
 ghost use Rattle.py_machine.specs.Fitting.{RunFits};
 ghost use Rattle.py_machine.specs.Runs.{IsRun, StopsRun};
-ghost use Rattle.py_machine.specs.Told.{Heard, Ran as Ends, AtStart, TakesSome, CallsSome, HeardSome, Stopped};
+ghost use Rattle.py_machine.specs.Told.{Heard, Ran as Ends, AtStart, TakesUntil, CallsSome, HeardSome, Stopped};
 ghost use Rattle.py_instructions.specs.Reaching.{HasUnit};
 ghost use Rattle.py_store.specs.Stores.{world_of};
 ghost use Rattle.py_instructions.specs.View.{plain_frame, effects_of, seen};
@@ -46,11 +46,12 @@ pub fn run<T: Tracer, I: Source, O: Sink>(
         (world_of store.old) budget ran (world_of store.new))) }
     ensures fits { IfOk result (λ ran. RunFits (modules_of programs.now) (world_of store.old)
         (world_of store.new)) }
-    ensures given_up { OnErr result (HeardSome I.tells (I.left input.old) (I.left input.new)
-        (StopsRun (λ es. TakesSome T.moves T.recorded tracer.old es tracer.new) O.tells
+    ensures given_up { IfErr result (λ fault. HeardSome I.tells (I.left input.old)
+        (I.left input.new)
+        (StopsRun (λ es. TakesUntil T.moves T.refused fault tracer.old es tracer.new) O.tells
         (O.contents out.old) (O.contents out.new) (modules_of programs.now)
         (world_of store.old) budget)) }
-    ensures calls { CallsSome T.moves T.recorded tracer.old tracer.new }
+    ensures calls { CallsSome T.moves T.refused tracer.old tracer.new }
     ensures reads { I.faults input.old ≤ I.faults input.new }
     ensures writes { O.faults out.old ≤ O.faults out.new }
     ensures read_fault { IsErrOf result RunFault.ReadFault
@@ -106,13 +107,14 @@ pub fn begin<T: Tracer, I: Source, O: Sink>(
         (outermost (by_slots (modules_of programs.now)) (modules_of programs.now) code
         (plains values.items) budget (effects_of store.old o)))
         e.ending e.steps store.new)) }
-    ensures given_up { OnErr result (HeardSome I.tells (I.left input.old) (I.left input.new)
-        (Stopped (λ es. TakesSome T.moves T.recorded tracer.old es tracer.new) O.tells
+    ensures given_up { IfErr result (λ fault. HeardSome I.tells (I.left input.old)
+        (I.left input.new)
+        (Stopped (λ es. TakesUntil T.moves T.refused fault tracer.old es tracer.new) O.tells
         (O.contents out.old) (O.contents out.new) store.old
         (λ o. follows (by_slots (modules_of programs.now)) (modules_of programs.now)
         (outermost (by_slots (modules_of programs.now)) (modules_of programs.now) code
         (plains values.items) budget (effects_of store.old o))))) }
-    ensures calls { CallsSome T.moves T.recorded tracer.old tracer.new }
+    ensures calls { CallsSome T.moves T.refused tracer.old tracer.new }
     ensures reads { I.faults input.old ≤ I.faults input.new }
     ensures writes { O.faults out.old ≤ O.faults out.new }
     ensures read_fault { IsErrOf result RunFault.ReadFault
@@ -181,12 +183,13 @@ fn go_on<T: Tracer, I: Source, O: Sink>(
         (λ o. go (machine (by_slots (modules_of programs.now)) (modules_of programs.now))
         (seen m.old store.old o))
         ending m.new.steps store.new)) }
-    ensures given_up { OnErr result (HeardSome I.tells (I.left input.old) (I.left input.new)
-        (Stopped (λ es. TakesSome T.moves T.recorded tracer.old es tracer.new) O.tells
+    ensures given_up { IfErr result (λ fault. HeardSome I.tells (I.left input.old)
+        (I.left input.new)
+        (Stopped (λ es. TakesUntil T.moves T.refused fault tracer.old es tracer.new) O.tells
         (O.contents out.old) (O.contents out.new) store.old
         (λ o. go (machine (by_slots (modules_of programs.now)) (modules_of programs.now))
         (seen m.old store.old o)))) }
-    ensures calls { CallsSome T.moves T.recorded tracer.old tracer.new }
+    ensures calls { CallsSome T.moves T.refused tracer.old tracer.new }
     ensures reads { I.faults input.old ≤ I.faults input.new }
     ensures writes { O.faults out.old ≤ O.faults out.new }
     ensures read_fault { IsErrOf result RunFault.ReadFault

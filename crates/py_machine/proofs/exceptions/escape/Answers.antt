@@ -1,4 +1,4 @@
-use Rattle.std.proofs.Common.{ap, ◌∙◌, sym, map, refl}
+use Rattle.std.proofs.Common.{ap, ◌∙◌, sym, map}
 use Rattle.py_value.proofs.Changes.{on_err}
 use Rattle.py_value.specs.View.{plain_raised}
 use Rattle.py_code.specs.Loaded.{modules_of}
@@ -33,7 +33,7 @@ returns-clause-ok g c =
 
 pub returns-in_err-catch-clause-given_up : goal.returns-in_err-catch-clause-given_up
 returns-in_err-catch-clause-given_up g c =
-    on_err _ _ (gives_up_first g.T.Tracer.moves g.T.Tracer.recorded c.args.tracer.now _ c.args.store.now _ refl
+    on_err _ _ (gives_up_first g.T.Tracer.moves g.T.Tracer.refused c.args.tracer.now c.args.store.now _
     (λ o. escape (by_slots (modules_of c.args.programs.now)) (modules_of c.args.programs.now) (effects_of c.args.store.now o) (plain_raised c.args.raised) c.args.is_thrown (seen c.args.m.now c.args.store.now o) (grown_same (effects_of c.args.store.now o))))
 
 pub returns-in_err-leave-clause-given_up : goal.returns-in_err-leave-clause-given_up

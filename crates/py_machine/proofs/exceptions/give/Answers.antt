@@ -7,8 +7,8 @@ use Rattle.py_code.specs.Machine.{give}
 use Rattle.py_code.specs.Slots.{by_slots}
 use Rattle.py_instructions.specs.View.{plain_frame, effects_of}
 use Rattle.py_machine.proofs.Errs.{if_err}
-use Rattle.py_machine.proofs.GivesUp.{gives_up, gives_up_first}
-use Rattle.py_machine.proofs.Grows.{gives, gives_from, grown_same}
+use Rattle.py_machine.proofs.GivesUp.{gives_up, gives_up_refused}
+use Rattle.py_machine.proofs.Grows.{gives_from, grown_same}
 use Rattle.py_machine.proofs.Throws.{and_told, tells_one, given_back}
 use Rattle.py_machine.proofs.exceptions.give.Goals as goal
 
@@ -24,18 +24,18 @@ returns-in_ok-push-in-Some-checked_add-clause-ok g c =
 
 pub returns-in_err-event-clause-given_up : goal.returns-in_err-event-clause-given_up
 returns-in_err-event-clause-given_up g c =
-    on_err _ _ (gives_up_first g.T.Tracer.moves g.T.Tracer.recorded c.args.tracer.now c.event.new.self c.args.store.now _ c.in_err-event.ensures.kept
-    (λ o. gives (by_slots (modules_of c.args.programs.now)) (modules_of c.args.programs.now) (effects_of c.args.store.now o) (plain c.args.value) (map plain_frame c.args.m.now.callers) c.args.m.now.steps (effects_of c.args.store.now o) (grown_same (effects_of c.args.store.now o))))
+    on_err _ _ (gives_up_refused g.T.Tracer.moves g.T.Tracer.refused c.args.tracer.now c.event.new.self Returned c.args.store.now _ c.in_err-event.ensures.refused
+    (λ o. gives_from (by_slots (modules_of c.args.programs.now)) (modules_of c.args.programs.now) (effects_of c.args.store.now (and_told (Returned ∷ []) o)) (plain c.args.value) (map plain_frame c.args.m.now.callers) c.args.m.now.steps (effects_of c.args.store.now o) (grown_same (effects_of c.args.store.now (and_told (Returned ∷ []) o)))))
 
 pub returns-in-None-checked_add-clause-given_up : goal.returns-in-None-checked_add-clause-given_up
 returns-in-None-checked_add-clause-given_up g c =
-    gives_up g.T.Tracer.moves g.T.Tracer.recorded c.args.tracer.now _ (Returned ∷ []) c.args.store.now _ (c.event.new.self, (c.event.new.self, c.in_ok-event.ensures.moved, refl), refl)
+    gives_up g.T.Tracer.moves g.T.Tracer.refused c.args.tracer.now _ (Returned ∷ []) c.args.store.now _ (inl (c.event.new.self, c.in_ok-event.ensures.moved, refl))
     (λ o. gives_from (by_slots (modules_of c.args.programs.now)) (modules_of c.args.programs.now) (effects_of c.args.store.now (and_told (Returned ∷ []) o)) (plain c.args.value) (map plain_frame c.args.m.now.callers) c.args.m.now.steps (effects_of c.args.store.now o)
     (grown_same (effects_of c.args.store.now (and_told (Returned ∷ []) o))))
 
 pub returns-in_err-push-in-Some-checked_add-clause-given_up : goal.returns-in_err-push-in-Some-checked_add-clause-given_up
 returns-in_err-push-in-Some-checked_add-clause-given_up g c =
-    on_err _ _ (gives_up g.T.Tracer.moves g.T.Tracer.recorded c.args.tracer.now _ (Returned ∷ []) c.args.store.now _ (c.event.new.self, (c.event.new.self, c.in_ok-event.ensures.moved, refl), refl)
+    on_err _ _ (gives_up g.T.Tracer.moves g.T.Tracer.refused c.args.tracer.now _ (Returned ∷ []) c.args.store.now _ (inl (c.event.new.self, c.in_ok-event.ensures.moved, refl))
     (λ o. gives_from (by_slots (modules_of c.args.programs.now)) (modules_of c.args.programs.now) (effects_of c.args.store.now (and_told (Returned ∷ []) o)) (plain c.args.value) (map plain_frame c.args.m.now.callers) c.args.m.now.steps (effects_of c.args.store.now o)
     (grown_same (effects_of c.args.store.now (and_told (Returned ∷ []) o)))))
 

@@ -16,7 +16,7 @@ returns-in-None-clause-ok g c =
 
 pub returns-in_err-event-clause-given_up : goal.returns-in_err-event-clause-given_up
 returns-in_err-event-clause-given_up g c =
-    on_err _ _ (stays g.T.Tracer.moves g.T.Tracer.recorded (modules_of c.args.programs.now) c.args.raised c.args.tracer.now c.loop-raised.tracer _ c.loop-raised.m c.args.store.now c.loop-raised.store c.loop-raised.invariant c.event.new.self c.in_err-event.ensures.kept)
+    on_err _ _ (stays g.T.Tracer.moves g.T.Tracer.refused (modules_of c.args.programs.now) c.args.raised c.args.tracer.now c.loop-raised.tracer _ c.loop-raised.m c.args.store.now c.loop-raised.store c.loop-raised.invariant c.event.new.self c.in_err-event.ensures.refused)
 
 pub loop-raised-preserved : goal.loop-raised-preserved
 loop-raised-preserved g c =
@@ -32,13 +32,13 @@ returns-then-branch-clause-ok g c =
 
 pub returns-in_err-event-2-clause-given_up : goal.returns-in_err-event-2-clause-given_up
 returns-in_err-event-2-clause-given_up g c =
-    on_err _ _ (stays_left g.T.Tracer.moves g.T.Tracer.recorded (modules_of c.args.programs.now) c.args.raised c.args.tracer.now c.loop-raised.tracer _ c.loop-raised.m c.args.store.now c.loop-raised.store c.loop-raised.invariant c.in-Some.f c.pop.new.self c.in-Some.ensures
-    c.event.new.self c.event-in-loop-raised.new.self c.in_ok-event.ensures.moved c.in_err-event-2.ensures.kept)
+    on_err _ _ (stays_left g.T.Tracer.moves g.T.Tracer.refused (modules_of c.args.programs.now) c.args.raised c.args.tracer.now c.loop-raised.tracer _ c.loop-raised.m c.args.store.now c.loop-raised.store c.loop-raised.invariant c.in-Some.f c.pop.new.self c.in-Some.ensures
+    c.event.new.self c.event-in-loop-raised.new.self c.in_ok-event.ensures.moved c.in_err-event-2.ensures.refused)
 
 pub returns-in_err-catch-clause-given_up : goal.returns-in_err-catch-clause-given_up
 returns-in_err-catch-clause-given_up g c =
-    on_err _ _ (stays_thrown g.T.Tracer.moves g.T.Tracer.recorded (modules_of c.args.programs.now) c.args.raised c.args.tracer.now c.loop-raised.tracer _ c.loop-raised.m c.args.store.now c.loop-raised.store c.loop-raised.invariant c.in-Some.f c.pop.new.self c.in-Some.ensures
-    c.event.new.self c.event-in-loop-raised.new.self c.event-in-loop-raised.new.self c.in_ok-event.ensures.moved c.in_ok-event-2.ensures.moved refl)
+    on_err _ _ (stays_thrown g.T.Tracer.moves g.T.Tracer.refused (modules_of c.args.programs.now) c.args.raised c.args.tracer.now c.loop-raised.tracer _ c.loop-raised.m c.args.store.now c.loop-raised.store c.loop-raised.invariant c.in-Some.f c.pop.new.self c.in-Some.ensures
+    c.event.new.self c.event-in-loop-raised.new.self c.in_ok-event.ensures.moved c.in_ok-event-2.ensures.moved)
 
 pub returns-in_err-event-clause-ok : goal.returns-in_err-event-clause-ok
 returns-in_err-event-clause-ok g c = if_err _ _ c.from_residual.ensures.0

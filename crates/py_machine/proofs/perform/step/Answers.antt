@@ -1,9 +1,8 @@
 use Rattle.std.proofs.Common.{refl}
-use Rattle.py_value.proofs.Changes.{on_err}
 use Rattle.py_code.specs.Loaded.{modules_of}
 use Rattle.py_code.specs.Slots.{by_slots}
 use Rattle.py_instructions.specs.View.{seen}
-use Rattle.py_machine.proofs.Errs.{if_err, memory_not_read, memory_not_write, passed, same}
+use Rattle.py_machine.proofs.Errs.{if_err, if_fault, memory_not_read, memory_not_write, passed, same}
 use Rattle.py_machine.proofs.TracerCalls.{calls_none}
 use Rattle.py_machine.proofs.GivesUp.{gives_up_first}
 use Rattle.py_machine.proofs.Grows.{moves_grow}
@@ -16,16 +15,16 @@ returns-clause-ok g c = step_as _ _ _ _ _ _ _ _ _ _ c.in_ok-perform.field-0 c.in
 
 pub returns-in_err-turn-clause-given_up : goal.returns-in_err-turn-clause-given_up
 returns-in_err-turn-clause-given_up g c =
-    on_err _ _ (only_given_up _ g.O.Sink.tells (g.O.Sink.contents c.args.out.now) c.args.store.now _ g.I.Source.tells c.args.at_end.now (g.I.Source.left c.args.input.now) c.requires.end
-    (gives_up_first g.T.Tracer.moves g.T.Tracer.recorded c.args.tracer.now c.args.tracer.now c.args.store.now _ refl
+    if_fault _ _ _ c.from_residual.ensures.1 (only_given_up _ g.O.Sink.tells (g.O.Sink.contents c.args.out.now) c.args.store.now _ g.I.Source.tells c.args.at_end.now (g.I.Source.left c.args.input.now) c.requires.end
+    (gives_up_first g.T.Tracer.moves g.T.Tracer.refused c.args.tracer.now c.args.store.now _
     (λ o. moves_grow (by_slots (modules_of c.args.programs.now)) (modules_of c.args.programs.now) (seen c.args.m.now c.args.store.now o))))
 
 pub returns-in_err-turn-clause-calls : goal.returns-in_err-turn-clause-calls
-returns-in_err-turn-clause-calls g c = calls_none g.T.Tracer.moves g.T.Tracer.recorded c.args.tracer.now
+returns-in_err-turn-clause-calls g c = calls_none g.T.Tracer.moves g.T.Tracer.refused c.args.tracer.now
 
 pub returns-in_err-perform-clause-given_up : goal.returns-in_err-perform-clause-given_up
 returns-in_err-perform-clause-given_up g c =
-    on_err _ _ (broken_as _ _ _ _ _ _ _ _ c.args.store.now c.decide.new.store _ _ c.in_ok-turn.ensures c.in_err-perform.ensures.given_up)
+    if_fault _ _ _ c.from_residual-in_err-perform.ensures.1 (broken_as _ _ _ _ _ _ _ _ c.args.store.now c.decide.new.store _ _ c.in_ok-turn.ensures c.in_err-perform.ensures.given_up)
 
 pub returns-in_err-turn-clause-ok : goal.returns-in_err-turn-clause-ok
 returns-in_err-turn-clause-ok g c = if_err _ _ c.from_residual.ensures.0

@@ -1,7 +1,6 @@
 use Rattle.std.proofs.Common.{false, arith}
-use Rattle.py_value.proofs.Changes.{on_err}
 use Rattle.py_code.specs.Loaded.{modules_of}
-use Rattle.py_machine.proofs.Errs.{if_err}
+use Rattle.py_machine.proofs.Errs.{if_err, if_fault}
 use Rattle.py_machine.proofs.Begins.{begun, starts}
 use Rattle.py_machine.proofs.TracerCalls.{calls_none, calls_then}
 use Rattle.py_machine.proofs.Hearing.{over_then}
@@ -13,7 +12,7 @@ pub loop-ending-init : goal.loop-ending-init
 loop-ending-init g c = record {
   reached = begun g.T.Tracer.moves c.args.tracer.now g.O.Sink.tells (g.O.Sink.contents c.args.out.now) g.I.Source.tells (g.I.Source.left c.args.input.now) (modules_of c.args.programs.now) c.args.m.now c.args.store.now;
   stand = starts (modules_of c.args.programs.now) c.requires.some c.requires.valid c.args.m.now c.args.store.now c.requires.start;
-  calls = calls_none g.T.Tracer.moves g.T.Tracer.recorded c.args.tracer.now;
+  calls = calls_none g.T.Tracer.moves g.T.Tracer.refused c.args.tracer.now;
   writes = omega arith;
   reads = omega arith;
 }
@@ -46,7 +45,7 @@ loop-ending-preserved g c =
             g.O.Sink.tells (g.O.Sink.contents c.args.out.now) (g.O.Sink.contents c.loop-ending.out) (g.O.Sink.contents c.step.new.out) g.I.Source.tells (g.I.Source.left c.args.input.now) (g.I.Source.left c.loop-ending.input) (g.I.Source.left c.step.new.input) false c.loop-ending.at_end c.step.new.at_end
             c.args.m.now c.loop-ending.m c.step.new.m c.args.store.now c.loop-ending.store c.step.new.store st.2 c.in_ok-ending.field-0 c.in_default.is c.in_ok-ending.ensures.ok,
       );
-      calls = calls_then g.T.Tracer.moves g.T.Tracer.recorded c.args.tracer.now c.loop-ending.tracer c.step.new.tracer c.loop-ending.invariant.calls c.in_ok-ending.ensures.calls;
+      calls = calls_then g.T.Tracer.moves g.T.Tracer.refused c.args.tracer.now c.loop-ending.tracer c.step.new.tracer c.loop-ending.invariant.calls c.in_ok-ending.ensures.calls;
       writes = omega (arith, c.loop-ending.invariant.writes, c.in_ok-ending.ensures.writes);
       reads = omega (arith, c.loop-ending.invariant.reads, c.in_ok-ending.ensures.reads);
     }
@@ -54,14 +53,14 @@ loop-ending-preserved g c =
 pub returns-in_err-ending-clause-given_up : goal.returns-in_err-ending-clause-given_up
 returns-in_err-ending-clause-given_up g c =
     let st = c.loop-ending.invariant.stand in
-    on_err _ _ (stops_on g.T.Tracer.moves g.T.Tracer.recorded c.args.tracer.now c.loop-ending.tracer c.step.new.tracer g.O.Sink.tells (g.O.Sink.contents c.args.out.now) (g.O.Sink.contents c.loop-ending.out) (g.O.Sink.contents c.step.new.out) g.I.Source.tells (g.I.Source.left c.args.input.now) (g.I.Source.left c.loop-ending.input) (g.I.Source.left c.step.new.input) false c.loop-ending.at_end
+    if_fault _ _ _ c.from_residual.ensures.1 (stops_on g.T.Tracer.moves g.T.Tracer.refused _ c.args.tracer.now c.loop-ending.tracer c.step.new.tracer g.O.Sink.tells (g.O.Sink.contents c.args.out.now) (g.O.Sink.contents c.loop-ending.out) (g.O.Sink.contents c.step.new.out) g.I.Source.tells (g.I.Source.left c.args.input.now) (g.I.Source.left c.loop-ending.input) (g.I.Source.left c.step.new.input) false c.loop-ending.at_end
     (modules_of c.args.programs.now) st.0 st.1 c.args.m.now c.loop-ending.m c.args.store.now c.loop-ending.store st.2 c.loop-ending.invariant.reached c.in_err-ending.ensures.given_up)
 
 pub returns-in_err-ending-clause-calls : goal.returns-in_err-ending-clause-calls
-returns-in_err-ending-clause-calls g c = calls_then g.T.Tracer.moves g.T.Tracer.recorded c.args.tracer.now c.loop-ending.tracer c.step.new.tracer c.loop-ending.invariant.calls c.in_err-ending.ensures.calls
+returns-in_err-ending-clause-calls g c = calls_then g.T.Tracer.moves g.T.Tracer.refused c.args.tracer.now c.loop-ending.tracer c.step.new.tracer c.loop-ending.invariant.calls c.in_err-ending.ensures.calls
 
 pub returns-in-Some-clause-calls : goal.returns-in-Some-clause-calls
-returns-in-Some-clause-calls g c = calls_then g.T.Tracer.moves g.T.Tracer.recorded c.args.tracer.now c.loop-ending.tracer c.step.new.tracer c.loop-ending.invariant.calls c.in_ok-ending.ensures.calls
+returns-in-Some-clause-calls g c = calls_then g.T.Tracer.moves g.T.Tracer.refused c.args.tracer.now c.loop-ending.tracer c.step.new.tracer c.loop-ending.invariant.calls c.in_ok-ending.ensures.calls
 
 pub step-requires-clause-end : goal.step-requires-clause-end
 step-requires-clause-end g c = over_then g.I.Source.tells (g.I.Source.left c.args.input.now) (g.I.Source.left c.loop-ending.input) false c.loop-ending.at_end _ c.loop-ending.invariant.reached

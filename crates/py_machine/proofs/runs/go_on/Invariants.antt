@@ -16,7 +16,7 @@ invariant-loop-ending g l = record {
   reached : Hears g.I.Source.tells (g.I.Source.left l.fn.input) (g.I.Source.left l.input) false l.at_end
       (Reached (λ es. Takes g.T.Tracer.moves l.fn.tracer es l.tracer) (Wrote g.O.Sink.tells (g.O.Sink.contents l.fn.out) (g.O.Sink.contents l.out)) (modules_of l.programs) (seen l.fn.m l.fn.store) (seen l.m l.store));
   stand : (depths : CodeId → List ℕ) × (valid : AreValid (modules_of l.programs) depths) × StandAt (modules_of l.programs) depths valid l.m l.store;
-  calls : CallsSome g.T.Tracer.moves g.T.Tracer.recorded l.fn.tracer l.tracer;
+  calls : CallsSome g.T.Tracer.moves g.T.Tracer.refused l.fn.tracer l.tracer;
   writes : g.O.Sink.faults l.fn.out ≤ g.O.Sink.faults l.out;
   reads : g.I.Source.faults l.fn.input ≤ g.I.Source.faults l.input;
 }

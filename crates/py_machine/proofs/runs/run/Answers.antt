@@ -1,17 +1,16 @@
 use Rattle.std.proofs.Common.{List, ap, sym}
 use Rattle.cov_event.specs.Moves.{Takes}
-use Rattle.py_value.proofs.Changes.{on_err}
 use Rattle.py_value.specs.Plain.{PlainValue}
 use Rattle.py_value.specs.View.{plains}
+use Rattle.py_builtins.specs.declared.fault.RunFault.TheVariants.{NoMemory}
 use Rattle.py_builtins.specs.Inputs.{Wrote}
 use Rattle.py_code.specs.Loaded.{modules_of}
 use Rattle.py_code.specs.Machine.{outermost, follows}
 use Rattle.py_code.specs.Programs.{script}
 use Rattle.py_code.specs.Slots.{by_slots}
 use Rattle.py_instructions.specs.View.{effects_of}
-use Rattle.py_machine.specs.Told.{TakesSome}
 use Rattle.py_store.specs.Stores.{world_of}
-use Rattle.py_machine.proofs.Errs.{if_err, memory_not_read, memory_not_write, passed}
+use Rattle.py_machine.proofs.Errs.{if_err, if_fault, memory_not_read, memory_not_write, passed}
 use Rattle.py_machine.proofs.AtOnce.{ran_as}
 use Rattle.py_machine.proofs.Fitted.{run_fits}
 use Rattle.py_machine.proofs.StopsCalls.{run_stops}
@@ -37,15 +36,15 @@ returns-clause-fits g c =
 
 pub returns-in_err-ended-clause-given_up : goal.returns-in_err-ended-clause-given_up
 returns-in_err-ended-clause-given_up g c =
-    on_err _ _ (run_stops (λ es. TakesSome g.T.Tracer.moves g.T.Tracer.recorded c.args.tracer.now es c.begin.new.tracer) g.O.Sink.tells (g.O.Sink.contents c.args.out.now) (g.O.Sink.contents c.begin.new.out) (modules_of c.args.programs.now) c.args.store.now c.args.budget g.I.Source.tells (g.I.Source.left c.args.input.now) (g.I.Source.left c.begin.new.input)
-    (stops_as g.I.Source.tells (g.I.Source.left c.args.input.now) (g.I.Source.left c.begin.new.input) (λ es. TakesSome g.T.Tracer.moves g.T.Tracer.recorded c.args.tracer.now es c.begin.new.tracer) g.O.Sink.tells (g.O.Sink.contents c.args.out.now) (g.O.Sink.contents c.begin.new.out) c.args.store.now c.args.store.now _ _
+    if_fault _ _ _ c.from_residual.ensures.1 (run_stops _ g.O.Sink.tells (g.O.Sink.contents c.args.out.now) (g.O.Sink.contents c.begin.new.out) (modules_of c.args.programs.now) c.args.store.now c.args.budget g.I.Source.tells (g.I.Source.left c.args.input.now) (g.I.Source.left c.begin.new.input)
+    (stops_as g.I.Source.tells (g.I.Source.left c.args.input.now) (g.I.Source.left c.begin.new.input) _ g.O.Sink.tells (g.O.Sink.contents c.args.out.now) (g.O.Sink.contents c.begin.new.out) c.args.store.now c.args.store.now _ _
     (λ o. ap (λ (vs : List PlainValue). follows (by_slots (modules_of c.args.programs.now)) (modules_of c.args.programs.now) (outermost (by_slots (modules_of c.args.programs.now)) (modules_of c.args.programs.now) script vs c.args.budget (effects_of c.args.store.now o))) (sym (ap plains c.new.ensures.items)))
     c.in_err-ended.ensures.given_up))
 
 pub returns-in_err-outcome-clause-given_up : goal.returns-in_err-outcome-clause-given_up
 returns-in_err-outcome-clause-given_up g c =
-    on_err _ _ (run_stops (λ es. TakesSome g.T.Tracer.moves g.T.Tracer.recorded c.args.tracer.now es c.begin.new.tracer) g.O.Sink.tells (g.O.Sink.contents c.args.out.now) (g.O.Sink.contents c.begin.new.out) (modules_of c.args.programs.now) c.args.store.now c.args.budget g.I.Source.tells (g.I.Source.left c.args.input.now) (g.I.Source.left c.begin.new.input)
-    (stops_after_events g.T.Tracer.moves g.T.Tracer.recorded c.args.tracer.now c.begin.new.tracer g.O.Sink.tells (g.O.Sink.contents c.args.out.now) (g.O.Sink.contents c.begin.new.out) g.I.Source.tells (g.I.Source.left c.args.input.now) (g.I.Source.left c.begin.new.input) _ c.in_ok-ended.ended.ending c.in_ok-ended.ended.steps c.args.store.now c.begin.new.store
+    if_fault _ _ _ c.from_residual-in_err-outcome.ensures.1 (run_stops _ g.O.Sink.tells (g.O.Sink.contents c.args.out.now) (g.O.Sink.contents c.begin.new.out) (modules_of c.args.programs.now) c.args.store.now c.args.budget g.I.Source.tells (g.I.Source.left c.args.input.now) (g.I.Source.left c.begin.new.input)
+    (stops_after_events g.T.Tracer.moves g.T.Tracer.refused NoMemory c.args.tracer.now c.begin.new.tracer g.O.Sink.tells (g.O.Sink.contents c.args.out.now) (g.O.Sink.contents c.begin.new.out) g.I.Source.tells (g.I.Source.left c.args.input.now) (g.I.Source.left c.begin.new.input) _ c.in_ok-ended.ended.ending c.in_ok-ended.ended.steps c.args.store.now c.begin.new.store
     (ran_as g.I.Source.tells (g.I.Source.left c.args.input.now) (g.I.Source.left c.begin.new.input) _ _ _ _ c.in_ok-ended.ended.ending c.in_ok-ended.ended.steps c.begin.new.store
     (λ o. ap (λ (vs : List PlainValue). follows (by_slots (modules_of c.args.programs.now)) (modules_of c.args.programs.now) (outermost (by_slots (modules_of c.args.programs.now)) (modules_of c.args.programs.now) script vs c.args.budget (effects_of c.args.store.now o))) (sym (ap plains c.new.ensures.items)))
     c.in_ok-ended.ensures.ok)))
