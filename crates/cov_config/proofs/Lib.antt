@@ -6,3 +6,4 @@ mod Documents
 mod Places
 mod Steps
 mod Wide
+mod Nothing

@@ -4,7 +4,8 @@
 --     run_of, report_of, paths_of       the three sections
 --     in_order                          members in the byte order of their names
 --     settings_of, meaning_of           the settings of a document, and of bytes
-use Rattle.std.specs.Prelude.{ℕ, Bool, false, if◌then◌else◌, List, [], ◌∷◌, ◌++◌, codes, Option, Some, None, option_and_then, Result, Ok, Err}
+--     defaults, AreDefaults             the settings where nothing is set, as in an empty file
+use Rattle.std.specs.Prelude.{◌≡◌, ℕ, Bool, false, if◌then◌else◌, List, [], ◌∷◌, ◌++◌, codes, Option, Some, None, option_and_then, Result, Ok, Err}
 use Rattle.std.specs.Cmp.Lexicographic.{slice_cmp}
 use Rattle.std.specs.Option.{ok_or}
 use Rattle.std.specs.Ordering.{nat_cmp, is_lt}
@@ -157,3 +158,30 @@ meaning_of_document (Some ms) = settings_of ms
 -- the settings of a file's bytes, or the first bad key
 abbrev pub meaning_of : List ℕ → Result Settings Text
 meaning_of bytes = meaning_of_document (if is_utf8 bytes then parse_document bytes else None)
+
+-- the settings where nothing is set
+abbrev pub defaults : Settings
+defaults = record {
+  run = record {
+    branch = false;
+    context = [];
+    data_file = codes ".coverage";
+    dynamic_context = false;
+    budget = 1000000;
+    hook = None;
+  };
+  report = record {
+    fail_under = 0;
+    show_missing = false;
+    omit = [];
+    exclude_lines = no_cover ∷ [];
+    exclude_also = [];
+    partial_branches = no_branch ∷ [];
+  };
+  paths = [];
+}
+
+-- the settings are those of an empty file, which are the defaults
+pub record AreDefaults (s : Settings) : Type 0 where
+  pub usual : s ≡ defaults
+  pub empty : meaning_of [] ≡ Ok s

@@ -1,11 +1,12 @@
 //! The settings, and how they are read.
-ghost use Rattle.std.specs.Prelude.{◌≡◌};
+ghost use Rattle.std.specs.Prelude.{◌≡◌, IfOk};
 ghost use Rattle.toml.specs.View.{table_view};
-ghost use Rattle.cov_config.specs.Settings.{settings_of, meaning_of};
+ghost use Rattle.cov_config.specs.Settings.{AreDefaults, settings_of, meaning_of};
 ghost use Rattle.cov_config.specs.Plain.{settings_view, Answers};
 
+use crate::forms::owned_texts;
 use crate::paths::read_paths;
-use crate::sections::{read_report, read_run};
+use crate::sections::{NO_BRANCH, NO_COVER, read_report, read_run};
 use std::alloc::{AllocError, Global};
 use toml::Table;
 
@@ -34,6 +35,29 @@ pub struct Config {
     pub partial_branches: Vec<String>,
     /// The rules of the aliases, in the byte order of their names.
     pub paths: Vec<(String, Vec<String>)>,
+}
+
+impl Config {
+    /// The settings where no file sets any.
+    pub fn defaults(alloc: Global) -> Result<Config, AllocError>
+        ensures { IfOk result (λ c. AreDefaults (settings_view c)) }
+    {
+        Ok(Config {
+            branch: false,
+            context: String::new(alloc),
+            data_file: String::from_str(alloc, ".coverage")?,
+            dynamic_context: false,
+            budget: 1_000_000,
+            hook: None,
+            fail_under: 0,
+            show_missing: false,
+            omit: Vec::new(alloc),
+            exclude_lines: owned_texts(alloc, &[NO_COVER])?,
+            exclude_also: Vec::new(alloc),
+            partial_branches: owned_texts(alloc, &[NO_BRANCH])?,
+            paths: Vec::new(alloc),
+        })
+    }
 }
 
 /// Why settings weren't read.

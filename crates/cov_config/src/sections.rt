@@ -10,10 +10,10 @@ use std::alloc::Global;
 use toml::Table;
 
 /// The pattern of `# pragma: no cover`.
-const NO_COVER: &str = r"#\s*(pragma|PRAGMA)[:\s]?\s*(no|NO)\s*(cover|COVER)";
+pub(crate) const NO_COVER: &str = r"#\s*(pragma|PRAGMA)[:\s]?\s*(no|NO)\s*(cover|COVER)";
 
 /// The pattern of `# pragma: no branch`.
-const NO_BRANCH: &str = r"#\s*(pragma|PRAGMA)[:\s]?\s*(no|NO)\s*(branch|BRANCH)";
+pub(crate) const NO_BRANCH: &str = r"#\s*(pragma|PRAGMA)[:\s]?\s*(no|NO)\s*(branch|BRANCH)";
 
 #[derive(Drop)]
 pub(crate) struct RunKeys {

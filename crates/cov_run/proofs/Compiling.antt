@@ -1,7 +1,6 @@
 -- Programs beside their trees, and one more.
-use Rattle.std.proofs.Common.{◌≡◌, ℕ, suc, ◌<◌, ◌≤◌, List, [], ◌∷◌, ◌++◌, map, length, refl, sym, ap, ◌∙◌, subst, arith, encode_utf8_all}
+use Rattle.std.proofs.Common.{◌≡◌, Ok, suc, ◌<◌, ◌≤◌, List, [], ◌∷◌, ◌++◌, map, length, refl, sym, ap, ◌∙◌, subst, arith, encode_utf8_all}
 use Rattle.std.specs.Prelude.{string_bytes}
-use Rattle.std.specs.Str.{chars}
 use Rattle.std.proofs.lemmas.List.{map-append, length-map}
 use Rattle.py_code.specs.declared.code.Program.{Program}
 use Rattle.py_code.specs.Loaded.{module_of, modules_of}
@@ -14,7 +13,7 @@ use Rattle.py_trace.specs.Traces.{AreWellFormed}
 use Rattle.py_syntax.specs.Tree.{Text}
 use Rattle.cov_run.specs.declared.programs.Loaded.{Loaded}
 use Rattle.cov_run.specs.Loading.{most_modules}
-use Rattle.cov_run.specs.Loads.{Loads, IsCompiled, loaded_module, loaded_modules, loaded_pairs, program, HavePaths}
+use Rattle.cov_run.specs.Loads.{Loads, IsCompiled, loaded_module, loaded_modules, loaded_pairs, HavePaths}
 use Rattle.cov_run.proofs.Telling.{Moves}
 
 pairs-more : (ps : List Program) (ms : List Module) (p : Program) (m : Module) → length ms ≡ length ps → loaded_pairs (ps ++ p ∷ []) (ms ++ m ∷ []) ≡ loaded_pairs ps ms ++ loaded_module p m ∷ []
@@ -75,7 +74,7 @@ pairs-length (q ∷ ps) [] h = absurd (omega (arith, h))
 pairs-length (q ∷ ps) (n ∷ ms) h = ap suc (pairs-length ps ms (omega (arith, h)))
 
 -- the code of the modules that loading came to
-pub compiled-code : {H : Type 0} (moves : Moves H) (old new : H) (script name : Text) (ls : List LoadedModule) (l : Loaded) → Loads moves old script name (program ls) new → loaded_modules l ≡ ls → length l.modules.items ≡ length l.programs.modules.items
+pub compiled-code : {H : Type 0} (moves : Moves H) (old new : H) (script name : Text) (ls : List LoadedModule) (l : Loaded) → Loads moves old script name (Ok ls) new → loaded_modules l ≡ ls → length l.modules.items ≡ length l.programs.modules.items
     → AreFaithful (modules_of l.programs) ls → AreWellFormed ls → HavePaths l.programs.modules.items (loaded_modules l) → IsCompiled l
 compiled-code moves old new script name ls l h same beside faithful well paths =
     let told = (h.comes h.some.0 h.some.1).0 in

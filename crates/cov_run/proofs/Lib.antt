@@ -9,3 +9,4 @@ pub mod Answering
 pub mod Telling
 pub mod Coming
 pub mod Compiling
+pub mod SourceReadings

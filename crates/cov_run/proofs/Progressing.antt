@@ -7,7 +7,7 @@ use Rattle.py_syntax.specs.Names.{is_among, add_names, distinct}
 use Rattle.py_syntax.specs.Tree.{Text}
 use Rattle.py_meaning.specs.Loading.{imported, folder_of, file_of}
 use Rattle.py_meaning.specs.Modules.{LoadedModule}
-use Rattle.cov_words.specs.declared.why.Why.{Why}
+use Rattle.cov_why.specs.Answers.{Refusal}
 use Rattle.cov_run.specs.Asking.{has_own_file}
 use Rattle.cov_run.specs.Loading.{most_total, most_modules, Told, file_bytes, content_at, is_there, total_bytes, all_imported, has_file, is_wanted, wanted, IsRead, AreLoaded, IsLoaded}
 use Rattle.cov_run.specs.Refusals.{Refuses, next_file, IsStopped}
@@ -66,7 +66,7 @@ begins told script name s a =
     the_state s a = let t : s.bytes ≡ 0 + length a.bytes = a.total in let u : s.bytes ≡ length a.bytes = omega (arith, t) in three s.modules _ s.names _ s.bytes _ a.modules a.names u
 
 -- no module is loaded, and the script is refused
-pub script-refused : (told : Told) (script name : Text) (w : Why) → Refuses 0 0 script told.script w → (stop : IsStopped told script name w) × (stop.ms ≡ []) × (stop.path ≡ script)
+pub script-refused : (told : Told) (script name : Text) (w : Refusal) → Refuses 0 0 script told.script w → (stop : IsStopped told script name w) × (stop.ms ≡ []) × (stop.path ≡ script)
 script-refused told script name w h = (record { ms = []; loaded = no-modules told script name; path = script; next = refl; refuses = h }, refl, refl)
 
 -- ---- an imported name
@@ -95,7 +95,7 @@ next-wanted told script name s at x h k there =
     cut_at (y ∷ xs) x (suc i) h = ap (λ t. y ∷ t) (cut_at xs x i h)
 
 -- where its file is refused, the program is
-pub import-refused : (told : Told) (script name : Text) (s : State) (at : ℕ) (x : Text) (w : Why) → IsAt told script name s at → slice_get s.names at ≡ Some x → has_own_file x ≡ true
+pub import-refused : (told : Told) (script name : Text) (s : State) (at : ℕ) (x : Text) (w : Refusal) → IsAt told script name s at → slice_get s.names at ≡ Some x → has_own_file x ≡ true
     → is_there (file_bytes told.modules (file_of (folder_of script) x)) ≡ true → Refuses (length s.modules) s.bytes (file_of (folder_of script) x) (file_bytes told.modules (file_of (folder_of script) x)) w
     → (stop : IsStopped told script name w) × (stop.ms ≡ s.modules) × (stop.path ≡ file_of (folder_of script) x)
 import-refused told script name s at x w h k own there r = (

@@ -1,7 +1,6 @@
 -- Reads one after another, and the contents that agree with their answers.
-use Rattle.std.proofs.Common.{◌≡◌, ℕ, suc, ◌+◌, ◌<◌, ◌≤◌, Bool, true, false, not, ◌||◌, cond, List, [], ◌∷◌, ◌++◌, map, length, Option, Some, None, Result, Ok, Err, IfOk, refl, sym, ap, ◌∙◌, subst, arith, codes, encode_utf8_all, replicate}
+use Rattle.std.proofs.Common.{◌≡◌, ℕ, suc, ◌≤◌, Bool, true, false, cond, List, [], ◌∷◌, ◌++◌, map, length, Option, Some, None, Result, Ok, Err, IfOk, refl, sym, ap, ◌∙◌, subst, arith, codes, encode_utf8_all, replicate}
 use Rattle.std.specs.Prelude.{filter}
-use Rattle.std.specs.List.{slice_get}
 use Rattle.std.specs.Str.{bytes_eq}
 use Rattle.std.proofs.lemmas.Bool.{false≢true, or_parts}
 use Rattle.std.proofs.lemmas.List.{append_cancel_left, append_cancel_right, length-replicate}
@@ -16,7 +15,7 @@ use Rattle.py_syntax.specs.Names.{is_among}
 use Rattle.py_syntax.specs.Tree.{Text}
 use Rattle.py_meaning.specs.Loading.{folder_of, file_of}
 use Rattle.cov_run.specs.Asking.{has_own_file, file_name, asked_for, names_read, AreTold, Agrees, EndsFailed}
-use Rattle.cov_run.specs.Loading.{Told, told_by, file_bytes}
+use Rattle.cov_run.specs.Loading.{Told, told_by}
 
 -- how a shelf moves from one state to another by reads
 abbrev pub Moves : Type 0 → Type 1

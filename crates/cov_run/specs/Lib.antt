@@ -7,3 +7,4 @@ pub mod State
 pub mod Asking
 pub mod Progress
 pub mod Loads
+pub mod Alone

@@ -4,8 +4,7 @@
 --     Finds                    a read of a file, and what was found
 --     Adds, Settles            one module more, and what a file comes to
 --     Grows                    the limits that are kept
-use Rattle.std.specs.Prelude.{◌≡◌, ◌⊎◌, ℕ, suc, ◌+◌, ◌≤◌, ◌<◌, List, [], ◌∷◌, ◌++◌, length, Option, Some, None, Result, Err, IfOk, IsErrOf, String, encode_utf8_all}
-use Rattle.std.specs.declared.alloc.Global.{Global}
+use Rattle.std.specs.Prelude.{◌≡◌, ◌⊎◌, ℕ, suc, ◌+◌, ◌≤◌, ◌<◌, List, [], ◌∷◌, ◌++◌, length, Option, Some, None, Result, Err, IfOk, IsErrOf, encode_utf8_all}
 use Rattle.cov_outside.specs.declared.shelf.ShelfError.{ShelfError}
 use Rattle.cov_outside.specs.declared.shelf.ShelfError.TheVariants.{Failed}
 use Rattle.cov_outside.specs.Reads.{IsTold}
@@ -13,15 +12,14 @@ use Rattle.py_syntax.specs.Names.{add_names}
 use Rattle.py_syntax.specs.Tree.{Text, Stmts}
 use Rattle.py_meaning.specs.Loading.{imported}
 use Rattle.py_meaning.specs.Modules.{LoadedModule}
-use Rattle.cov_words.specs.declared.why.Why.{Why}
-use Rattle.cov_words.specs.declared.why.Why.TheVariants as why
-use Rattle.cov_words.specs.declared.why.SyntaxKind.{SyntaxKind}
+use Rattle.cov_why.specs.declared.why.Why.{Why}
+use Rattle.cov_why.specs.declared.why.Why.TheVariants as why
 use Rattle.cov_run.specs.declared.loading.File.{File}
 use Rattle.cov_run.specs.declared.loading.File.TheVariants.{Bytes, TooLarge}
 use Rattle.cov_run.specs.declared.loading.Loading.{Loading}
-use Rattle.cov_run.specs.Reading.{Reading, tree, Reads}
+use Rattle.cov_run.specs.Reading.{tree, Reads}
 use Rattle.cov_run.specs.Loading.{most_bytes, most_total, most_modules}
-use Rattle.cov_run.specs.Refusals.{fault_of, HasRoom, IsNamed}
+use Rattle.cov_run.specs.Refusals.{HasRoom}
 use Rattle.cov_run.specs.View.{plain_sources}
 
 -- the modules, the names that their imports name, each once, and the bytes of their files in all
@@ -97,12 +95,3 @@ GrowsOrStays old new =
     Grows old new
     ⊎ ((new.sources.items ≡ old.sources.items) × (new.names ≡ old.names)
     × (new.bytes ≡ old.bytes))
-
--- an answer that names the file, and the line and kind of the fault of a reading
-pub record Tells (reading : Reading) (path : Text) (w : Why) : Type 0 where
-  pub name : String Global
-  pub line : ℕ
-  pub kind : SyntaxKind
-  pub fault : fault_of reading ≡ Some (line, kind)
-  pub named : IsNamed name path
-  pub is : w ≡ why.Syntax name line kind

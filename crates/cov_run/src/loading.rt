@@ -1,6 +1,6 @@
 //! Loads the script and, in order, the modules that the loaded ones import.
 
-ghost use Rattle.std.specs.Prelude.{◌≡◌, ◌≢◌, ℕ, suc, List, [], ◌∷◌, ◌++◌, Option, ◌<◌, ◌≤◌, length, slice_get, Some, IfErr, IfOk, OnOk, IsErrOf};
+ghost use Rattle.std.specs.Prelude.{◌≡◌, ◌≢◌, ℕ, suc, List, [], ◌∷◌, ◌++◌, Option, ◌<◌, ◌≤◌, length, slice_get, Some, Ok, IfErr, IfOk, OnOk, IsErrOf};
 ghost use Rattle.std.specs.Str.{chars};
 ghost use Rattle.cov_outside.specs.Counts.{Rose};
 ghost use Rattle.py_scope.specs.Faults.{IsWellFormed, functions_of};
@@ -8,13 +8,15 @@ ghost use Rattle.py_syntax.specs.Names.{add_names};
 ghost use Rattle.py_syntax.specs.Tree.{Text as Name};
 ghost use Rattle.py_syntax.specs.View.{plain_module};
 ghost use Rattle.py_meaning.specs.Loading.{folder_of, imported, loaded};
+ghost use Rattle.cov_why.specs.Answers.{AnsweredAs, RefusedAs};
+ghost use Rattle.cov_why.specs.Answers as answer;
 ghost use Rattle.cov_run.specs.Asking.{EndsFailed};
 ghost use Rattle.cov_run.specs.Loading.{most_bytes, most_modules, most_total, program_of, told_by};
-ghost use Rattle.cov_run.specs.Loads.{EndsWith, Loads, LoadsTo, loading_of_sources, program};
+ghost use Rattle.cov_run.specs.Loads.{EndsWith, IsUnread, Loads, LoadsTo};
 ghost use Rattle.cov_run.specs.Progress.{HasCome};
 ghost use Rattle.cov_run.specs.Refusals.{Refuses};
 ghost use Rattle.cov_run.specs.State.{Adds, Finds, Grows, GrowsOrStays, Holds, IsSmall, IsSmallFound, nothing, state_of};
-ghost use Rattle.cov_run.specs.View.{plain_sources};
+ghost use Rattle.cov_run.specs.View.{listed_sources, plain_sources};
 
 use crate::imports::add_imported;
 use crate::loaded::LoadedSource;
@@ -22,13 +24,13 @@ use crate::paths::{file_of, folder_of};
 use crate::refusals::{no_such_file, refused};
 use crate::source::{Source, read_source};
 use cov_outside::{Shelf, ShelfError};
-use cov_words::{LimitKind, Why};
+use cov_why::{LimitKind, Why};
 use py_scope::NameSet;
 use py_value::{NoMemory, Text};
 use std::alloc::Global;
 
 /// The most bytes of a file.
-const MAX_BYTES: usize = 1_048_576;
+pub(crate) const MAX_BYTES: usize = 1_048_576;
 
 /// The most bytes of all files of a program.
 const MAX_TOTAL: usize = 16_777_216;
@@ -46,15 +48,15 @@ pub fn load_sources<H: Shelf>(
     name: &str,
     shelf: &mut H,
 ) -> Result<Vec<LoadedSource>, Why>
-    ensures told { H.tells → LoadsTo (told_by (H.files shelf.old) (chars script.now))
-        (chars script.now) (chars name.now) (loading_of_sources result) }
+    ensures told { H.tells → AnsweredAs listed_sources result (LoadsTo
+        (told_by (H.files shelf.old) (chars script.now)) (chars script.now) (chars name.now)) }
     // The meaning of the language loads the same modules from the trees of their files.
     ensures meant { H.tells → IfOk result (λ sources.
         loaded (program_of (chars script.now) (chars name.now) (plain_sources sources.items))
         ≡ plain_sources sources.items) }
     // What a shelf answers is passed on as it came.
-    ensures loads { Loads H.reads shelf.old (chars script.now) (chars name.now)
-        (loading_of_sources result) shelf.new }
+    ensures loads { AnsweredAs listed_sources result (λ loading.
+        Loads H.reads shelf.old (chars script.now) (chars name.now) loading shelf.new) }
     ensures failed { IsErrOf result Why.ShelfFault → EndsFailed H.reads shelf.old shelf.new }
     ensures fault { IsErrOf result Why.ShelfFault
         → Rose (H.faults shelf.old) (H.faults shelf.new) }
@@ -93,7 +95,7 @@ fn begun<H: Shelf>(alloc: Global, script: &str, name: &str, shelf: &mut H) -> Re
             loading.add(alloc, name, path, file)?;
             Ok(loading)
         }
-        None => Err(no_such_file(alloc, &path)),
+        None => Err(no_such_file(alloc, path.as_str())),
     }
 }
 
@@ -108,7 +110,7 @@ pub(crate) enum File {
 fn find<H: Shelf>(alloc: Global, path: &Text, shelf: &mut H) -> Result<Option<File>, Why>
     ensures found { Finds H.reads shelf.old path.now result shelf.new }
     ensures small { IfOk result (λ file. IsSmallFound file) }
-    ensures refused { IfErr result (λ w. w ≢ Why.NoMemory → w ≡ Why.ShelfFault) }
+    ensures refused { IfErr result (λ w. RefusedAs w IsUnread) }
     ensures fault { IsErrOf result Why.ShelfFault
         → Rose (H.faults shelf.old) (H.faults shelf.new) }
     ensures count { H.faults shelf.old ≤ H.faults shelf.new }
@@ -154,7 +156,7 @@ impl Loading {
             → HasCome H.reads start script called (state_of self.old) 0 shelf.old
             → folder.now ≡ folder_of script
             → OnOk result (Loads H.reads start script called
-            (program (plain_sources self.new.sources.items)) shelf.new) }
+            (Ok (plain_sources self.new.sources.items)) shelf.new) }
         ensures ends { (start : H) (script called : Name)
             → HasCome H.reads start script called (state_of self.old) 0 shelf.old
             → folder.now ≡ folder_of script
@@ -219,8 +221,8 @@ impl Loading {
             → OnOk result (Adds content name path (state_of self.old) (state_of self.new)) }
         ensures grows { OnOk result (Grows self.old self.new) }
         ensures refused { (content : Option (List ℕ)) → Holds content file
-            → IfErr result (λ w. w ≢ Why.NoMemory → Refuses (length self.old.sources.items)
-            self.old.bytes path content w) }
+            → IfErr result (λ w. RefusedAs w (λ r. r ≢ answer.no_memory
+            → Refuses (length self.old.sources.items) self.old.bytes path content r)) }
         ensures no_fault { IsErrOf result Why.ShelfFault → ⊥ }
     {
         if self.sources.len() >= MAX_MODULES {
@@ -240,8 +242,8 @@ impl Loading {
         ensures added { OnOk result (Adds (Some bytes.now) name path (state_of self.old)
             (state_of self.new)) }
         ensures grows { OnOk result (Grows self.old self.new) }
-        ensures refused { IfErr result (λ w. w ≢ Why.NoMemory
-            → Refuses (length self.old.sources.items) self.old.bytes path (Some bytes.now) w) }
+        ensures refused { IfErr result (λ w. RefusedAs w (λ r. r ≢ answer.no_memory
+            → Refuses (length self.old.sources.items) self.old.bytes path (Some bytes.now) r)) }
         ensures no_fault { IsErrOf result Why.ShelfFault → ⊥ }
     {
         let total = self.bytes + bytes.len();
@@ -256,7 +258,7 @@ impl Loading {
                 }
                 Err(_) => Err(Why::NoMemory),
             },
-            Err(error) => Err(refused(alloc, &path, &error)),
+            Err(error) => Err(refused(alloc, path.as_str(), &error)),
         }
     }
 

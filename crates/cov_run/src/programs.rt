@@ -1,6 +1,6 @@
 //! Loads a program: the code of its modules, and their trees.
 
-ghost use Rattle.std.specs.Prelude.{◌≡◌, ◌≤◌, length, IfOk, IfErr, IsErrOf, string_bytes, encode_utf8_all};
+ghost use Rattle.std.specs.Prelude.{◌≡◌, ◌≤◌, length, IfOk, IsErrOf, string_bytes, encode_utf8_all};
 ghost use Rattle.std.specs.Str.{chars};
 ghost use Rattle.cov_outside.specs.Counts.{Rose};
 ghost use Rattle.py_code.specs.Loaded.{modules_of};
@@ -8,15 +8,16 @@ ghost use Rattle.py_compile.specs.ProgramRuns.{AreFaithful, HasUnits};
 ghost use Rattle.py_meaning.specs.Loading.{loaded};
 ghost use Rattle.py_scope.specs.Faults.{IsWellFormed};
 ghost use Rattle.py_trace.specs.Traces.{AreWellFormed};
+ghost use Rattle.cov_why.specs.Answers.{AnsweredAs};
 ghost use Rattle.cov_run.specs.Asking.{EndsFailed};
 ghost use Rattle.cov_run.specs.Loading.{program_of, told_by};
-ghost use Rattle.cov_run.specs.Loads.{HavePaths, IsCompiled, IsLoadRefusal, Loads, LoadsTo, loaded_module, loaded_modules, loading_of};
+ghost use Rattle.cov_run.specs.Loads.{HavePaths, IsCompiled, Loads, LoadsTo, loaded_module, loaded_modules};
 ghost use Rattle.cov_run.specs.View.{plain_source, plain_sources};
 
 use crate::loaded::LoadedSource;
 use crate::loading::load_sources;
 use cov_outside::Shelf;
-use cov_words::Why;
+use cov_why::Why;
 use py_code::{Program, Programs};
 use py_compiler::compile;
 use py_syntax::Module;
@@ -33,17 +34,16 @@ pub struct Loaded {
 /// Loads the script as the module `name`, and then in order the modules that the loaded ones
 /// import, as `load_sources` does, and compiles each.
 pub fn load<H: Shelf>(alloc: Global, script: &str, name: &str, shelf: &mut H) -> Result<Loaded, Why>
-    ensures told { H.tells → LoadsTo (told_by (H.files shelf.old) (chars script.now))
-        (chars script.now) (chars name.now) (loading_of result) }
+    ensures told { H.tells → AnsweredAs loaded_modules result (LoadsTo
+        (told_by (H.files shelf.old) (chars script.now)) (chars script.now) (chars name.now)) }
     // The meaning of the language loads the same modules from the trees of their files.
     ensures meant { H.tells → IfOk result (λ l.
         loaded (program_of (chars script.now) (chars name.now) (loaded_modules l))
         ≡ loaded_modules l) }
     // What a shelf answers is passed on as it came.
-    ensures loads { Loads H.reads shelf.old (chars script.now) (chars name.now) (loading_of result)
-        shelf.new }
+    ensures loads { AnsweredAs loaded_modules result (λ loading.
+        Loads H.reads shelf.old (chars script.now) (chars name.now) loading shelf.new) }
     ensures code { IfOk result (λ l. IsCompiled l) }
-    ensures refusal { IfErr result (λ w. IsLoadRefusal w) }
     ensures failed { IsErrOf result Why.ShelfFault → EndsFailed H.reads shelf.old shelf.new }
     ensures fault { IsErrOf result Why.ShelfFault
         → Rose (H.faults shelf.old) (H.faults shelf.new) }

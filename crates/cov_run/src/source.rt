@@ -76,7 +76,7 @@ pub(crate) fn read_source(alloc: Global, bytes: &[u8]) -> Result<Source, SourceE
 }
 
 /// The same of the text of the bytes.
-fn read_text(alloc: Global, text: &str) -> Result<Source, SourceError>
+pub(crate) fn read_text(alloc: Global, text: &str) -> Result<Source, SourceError>
     requires { IsUtf8 text.now }
     ensures read { IfOk result (λ s. Reads text.now (tree (plain_module s.module))) }
     ensures names { IfOk result (λ s. s.scopes ≡ functions_of (plain_module s.module)) }

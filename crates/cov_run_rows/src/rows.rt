@@ -2,7 +2,7 @@
 
 use cov_outside::MemShelf;
 use cov_run::{Loaded, LoadedSource, load, load_sources};
-use cov_words::Why;
+use cov_why::Why;
 use std::alloc::Global;
 use std::process::Abort;
 use std::test::Fail;
@@ -53,9 +53,10 @@ impl Files {
 }
 
 /// An answer of loading, with its fields.
-fn refused(alloc: Global, why: &Why) -> Result<String, Fail> {
+pub(crate) fn refused(alloc: Global, why: &Why) -> Result<String, Fail> {
     match why {
         Why::NoSuchFile(name) => Ok(format!(in alloc; "NoSuchFile({name:?})")?),
+        Why::NoSource(path) => Ok(format!(in alloc; "NoSource({path:?})")?),
         Why::Syntax(file, line, kind) => {
             Ok(format!(in alloc; "Syntax({file:?}, {line}, {kind:?})")?)
         }

@@ -218,3 +218,13 @@ fn no_document(rt: HostRuntime) -> Result<(), Fail> {
     }
     Ok(())
 }
+
+#[test]
+fn defaults(rt: HostRuntime) -> Result<(), Fail> {
+    let alloc = rt.alloc();
+    let config = Config::defaults(alloc)?;
+    let usual = shown(alloc, &config)?;
+    let empty = read(alloc, b"")?;
+    assert_eq!(rt; usual.as_str(), empty.as_str());
+    Ok(())
+}

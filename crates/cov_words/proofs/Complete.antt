@@ -65,3 +65,7 @@ is_read command _ (spelled w c g xs ys named gives fits is) =
     ap (λ (x : Option CommandName). command_read (option_and_then (run (xs ++ ys)) (option_map (λ d. at d [] []) x))) named
     ∙ ap command_read (options_run c g xs ys gives ∙ operands_run c g [] ys fits)
     ∙ is
+
+-- no words are two commands
+pub same_command : (words : List Word) (c d : PlainCommand) → IsCommand c words → IsCommand d words → c ≡ d
+same_command words c d one other = let same : Some c ≡ Some d = sym (is_read c words one) ∙ is_read d words other in cc

@@ -3,6 +3,7 @@
 --     text_in, number_in, file_named_in        the value that an option is given
 --     command_of                               a command of its options and operands
 --     IsCommand, BeginsCommand, StopsAfter     words that are one, that begin one, and how far
+--     IsOneCommand                             words are one command at most
 use Rattle.std.specs.Prelude.{◌≡◌, ◌≤◌, ℕ, Bool, true, List, [], ◌∷◌, ◌++◌, length, take, Option, Some, None, option_map, option_and_then}
 use Rattle.cov_words.specs.declared.options.OptionName.{OptionName}
 use Rattle.cov_words.specs.declared.options.OptionName.TheVariants.{Branch, Append, Keep, ShowMissing, Context, Budget, Hook, DataFile, Rcfile, FailUnder, Output}
@@ -115,3 +116,8 @@ pub record StopsAfter (words : List Word) (i : ℕ) : Type 0 where
   pub within : i ≤ length words
   pub begins : BeginsCommand (take i words)
   pub most : (j : ℕ) → j ≤ length words → BeginsCommand (take j words) → j ≤ i
+
+-- no words are two commands
+abbrev pub IsOneCommand : Type 0
+IsOneCommand =
+    (words : List Word) (c d : PlainCommand) → IsCommand c words → IsCommand d words → c ≡ d

@@ -1,5 +1,6 @@
 //! Commands, and the words that are one.
 ghost use Rattle.std.specs.Prelude.{◌≡◌, IfOk, map, string_bytes, option_map};
+ghost use Rattle.cov_words.specs.Commands.{IsOneCommand};
 ghost use Rattle.cov_words.specs.Plain.{reading_view, command_view, IsReadOn, Answers};
 ghost use Rattle.cov_words.specs.Reading.{command_read};
 
@@ -146,3 +147,8 @@ fn read_on<'a>(reading: &mut Reading<'a>, words: &'a [String]) -> Result<usize, 
     }
     Ok(passed)
 }
+
+/// Stands for the law that its contract states, and does nothing: no words are two commands.
+pub fn one_command()
+    ensures { IsOneCommand }
+{}

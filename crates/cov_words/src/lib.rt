@@ -1,5 +1,6 @@
 //! The words of a command: `read_words` takes them to the `Command` that they are, or says how
-//! many of them begin one. `Why` says how a command ended.
+//! many of them begin one. `one_command` stands for a law on such words. `Why` of `cov_why` says how
+//! a command ended.
 #![tactic(auto)]
 
 mod command;
@@ -9,10 +10,9 @@ mod operands;
 mod options;
 mod reading;
 mod values;
-mod why;
 
-pub use command::{Command, WordsError, read_words};
-pub use why::{BadKind, LimitKind, SyntaxKind, Why};
+pub use command::{Command, WordsError, one_command, read_words};
+pub use cov_why::{BadKind, LimitKind, SyntaxKind, Why};
 
 /// Want of memory.
 pub type NoMemory = std::alloc::AllocError;

@@ -1,8 +1,11 @@
-use Rattle.std.proofs.Common.{◌≡◌, ℕ, List, Option, Err, sym, ap, ◌∙◌, subst, rules, length}
+use Rattle.std.proofs.Common.{◌≡◌, ◌≢◌, ℕ, List, Option, Err, sym, ap, ◌∙◌, subst, rules, length}
 use Rattle.std.specs.Str.{chars}
 use Rattle.std.proofs.lemmas.List.{length-map}
 use Rattle.cov_outside.specs.Reads.{IsTold}
+use Rattle.cov_why.specs.Answers.{no_memory}
+use Rattle.cov_why.proofs.Refusing.{refused-map}
 use Rattle.cov_run.specs.Loading.{most_bytes}
+use Rattle.cov_run.specs.Refusals.{Refuses}
 use Rattle.cov_run.specs.Loads.{EndsWith}
 use Rattle.cov_run.specs.State.{State, IsFound, Holds, state_of}
 use Rattle.cov_run.specs.View.{plain_source}
@@ -42,8 +45,9 @@ returns-in_err-add-in-Some-clause-ends g c =
     let none = sym (length-map c.new-loading.result.sources.items plain_source) ∙ ap (λ (s : State). length s.modules) c.new-loading.ensures in
     refused-as c.from_residual-in_err-add-in-Some.result c.in_err-add-in-Some.field-0.0 (λ v. EndsWith g.H.Shelf.reads c.args.shelf.now (chars c.args.script.now) (chars c.args.name.now) v c.find.new.shelf) is
     (script-result-ends g.H.Shelf.reads c.args.shelf.now c.find.new.shelf script name c.in-Ok.path c.in-Ok.ensures f.answer f.led f.fits c.in_err-add-in-Some.field-0.0
-    (λ content told m. script-refuses content (chars c.args.script.now) c.in-Ok.path (length c.new-loading.result.sources.items) c.new-loading.result.bytes c.in_err-add-in-Some.field-0.0 none (ap (λ (s : State). s.bytes) c.new-loading.ensures) c.in-Ok.ensures
-    (c.in_err-add-in-Some.ensures.refused content (holds content told) m))
+    (λ content told. refused-map c.in_err-add-in-Some.field-0.0 (λ r. r ≢ no_memory → Refuses (length c.new-loading.result.sources.items) c.new-loading.result.bytes c.in-Ok.path content r) (λ r. r ≢ no_memory → Refuses 0 0 (chars c.args.script.now) content r)
+    (λ r k m. script-refuses content (chars c.args.script.now) c.in-Ok.path (length c.new-loading.result.sources.items) c.new-loading.result.bytes r none (ap (λ (s : State). s.bytes) c.new-loading.ensures) c.in-Ok.ensures (k m))
+    (c.in_err-add-in-Some.ensures.refused content (holds content told)))
     (λ e. c.in_err-add-in-Some.ensures.no_fault (ap (λ v. Err v) e)))
 
 pub returns-in_ok-add-in-Some-clause-come : goal.returns-in_ok-add-in-Some-clause-come
@@ -62,5 +66,5 @@ returns-in-None-clause-ends g c =
     let name = chars c.args.name.now in
     let f = c.in_ok-file.ensures.found in
     script-result-ends g.H.Shelf.reads c.args.shelf.now c.find.new.shelf script name c.in-Ok.path c.in-Ok.ensures f.answer f.led f.fits c.no_such_file.result
-    (λ content told m. absent-refuses content (chars c.args.script.now) c.in-Ok.path c.no_such_file.result c.in-Ok.ensures (subst (λ o. IsFound content o) c.in-None.is (f.finds content told)) (c.no_such_file.ensures m))
-    (absent-no-fault c.in-Ok.path c.no_such_file.result c.no_such_file.ensures)
+    (λ content told. absent-refuses content (chars c.args.script.now) c.in-Ok.path c.as_str.result.now c.no_such_file.result c.in-Ok.ensures c.as_str.ensures.bytes (subst (λ o. IsFound content o) c.in-None.is (f.finds content told)) c.no_such_file.ensures)
+    (absent-no-fault c.as_str.result.now c.no_such_file.result c.no_such_file.ensures)

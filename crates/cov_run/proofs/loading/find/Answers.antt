@@ -1,7 +1,14 @@
 use Rattle.std.proofs.Common.{Err, ap, subst}
 use Rattle.cov_run.specs.Loading.{most_bytes}
+use Rattle.cov_run.specs.Loads.{faulted, starved}
 use Rattle.cov_run.proofs.Answering.{memory-no-fault}
 use Rattle.cov_run.proofs.loading.find.Goals as goal
+
+pub returns-in-Err-Failed-clause-refused : goal.returns-in-Err-Failed-clause-refused
+returns-in-Err-Failed-clause-refused g c = faulted
+
+pub returns-in-Err-NoMemory-clause-refused : goal.returns-in-Err-NoMemory-clause-refused
+returns-in-Err-NoMemory-clause-refused g c = starved
 
 pub returns-in-Err-Failed-clause-found : goal.returns-in-Err-Failed-clause-found
 returns-in-Err-Failed-clause-found g c = record {

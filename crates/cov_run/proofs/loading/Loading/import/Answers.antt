@@ -1,8 +1,8 @@
-use Rattle.std.proofs.Common.{◌≡◌, ℕ, true, false, not, List, Option, Result, Ok, Err, inl, refl, sym, ap, ◌∙◌, subst, length, rules, codes}
+use Rattle.std.proofs.Common.{◌≡◌, ℕ, true, false, not, List, Option, Result, Ok, Err, inl, refl, sym, ap, ◌∙◌, subst, length, rules}
 use Rattle.std.proofs.lemmas.List.{length-map}
 use Rattle.cov_outside.specs.Reads.{IsTold}
 use Rattle.py_meaning.specs.Loading.{file_of}
-use Rattle.cov_words.specs.declared.why.Why.{Why}
+use Rattle.cov_why.specs.declared.why.Why.{Why}
 use Rattle.cov_run.specs.Asking.{has_own_file}
 use Rattle.cov_run.specs.Loading.{most_bytes}
 use Rattle.cov_run.specs.Loads.{EndsWith}

@@ -1,4 +1,4 @@
-use Rattle.std.proofs.Common.{◌≡◌, Err, sym, ◌∙◌, subst, arith, rules, add-one}
+use Rattle.std.proofs.Common.{◌≡◌, Err, sym, subst, arith, rules, add-one}
 use Rattle.cov_run.specs.Loads.{EndsWith}
 use Rattle.cov_run.specs.Progress.{HasCome}
 use Rattle.cov_run.specs.State.{state_of}

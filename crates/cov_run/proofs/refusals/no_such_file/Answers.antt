@@ -1,5 +1,0 @@
-use Rattle.std.proofs.Common.{refl, ◌∙◌}
-use Rattle.cov_run.proofs.refusals.no_such_file.Goals as goal
-
-pub returns-in-Ok : goal.returns-in-Ok
-returns-in-Ok c = λ h. (c.in-Ok.name, refl, c.in-Ok.ensures.ok ∙ c.as_str.ensures.bytes)
