@@ -3,3 +3,4 @@ pub mod Matches
 pub mod RuleMaps
 pub mod Unions
 pub mod Laws
+pub mod Pointwise

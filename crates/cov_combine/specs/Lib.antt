@@ -1,3 +1,4 @@
 pub mod Aliases
 pub mod Combined
 pub mod Stored
+pub mod Pointwise

@@ -3,6 +3,7 @@ ghost use Rattle.std.specs.Prelude.{◌≡◌, ◌<◌, ◌∷◌, ◌++◌, Lis
 ghost use Rattle.cov_data.specs.DataSet.{DataSet};
 ghost use Rattle.cov_combine.specs.Aliases.{alias_of};
 ghost use Rattle.cov_combine.specs.Combined.{with_renamed, flag_of, has_both_kinds, combined, HaveSameMembers, HasOwnAliases, HoldsAlike, IsMixture};
+ghost use Rattle.cov_combine.specs.Pointwise.{HoldsInputs, PointwiseLaw};
 
 use crate::NoMemory;
 use crate::aliases::AliasRules;
@@ -32,6 +33,7 @@ impl From<AllocError> for CombineError {
 pub fn combine(alloc: Global, inputs: &[Data], rules: &AliasRules) -> Result<Data, CombineError>
     requires { 0 < length inputs.now }
     ensures ok { IfOk result (λ all. all ≡ combined (alias_of rules.now) inputs.now) }
+    ensures pointwise { IfOk result (HoldsInputs (alias_of rules.now) inputs.now) }
     ensures mixed { has_both_kinds inputs.now ≡ true
         → IsErrOf result (CombineError.Mixed (flag_of inputs.now) (not (flag_of inputs.now))) }
     ensures refused { IfErr result (IsMixture inputs.now) }
@@ -77,3 +79,9 @@ fn with_renamed(all: Data, input: &Data, rules: &AliasRules) -> Result<Data, NoM
     }
     Ok(more)
 }
+
+/// A law: combined data hold the paths and rows of their inputs, each path under its alias, and no
+/// others. It does nothing when it runs.
+pub fn combined_holds_inputs()
+    ensures { PointwiseLaw }
+{}

@@ -7,4 +7,6 @@ pub mod Unions
 pub mod Soundness
 pub mod RowLists
 pub mod Distinct
+pub mod Members
+pub mod ArcLists
 pub mod Bits

@@ -51,3 +51,4 @@ pub mod ReadAgain
 pub mod Worked
 pub mod BaseContents
 pub mod BaseCalls
+pub mod VaultCalls

@@ -22,3 +22,4 @@ pub mod SavedData
 pub mod Committed
 pub mod Laws
 pub mod Bases
+pub mod Vaults

@@ -28,8 +28,11 @@ pub struct FolderVault {
 }
 
 impl FolderVault {
+    ghost use Rattle.cov_sql.specs.Vaults.{folder_of};
+
     pub fn new(alloc: Global, rt: &HostRuntime, folder: &str) -> Result<FolderVault, AllocError>
-        ensures { IfOk result (λ vault. ⟦<FolderVault as Vault>⟧.faults vault ≡ 0) }
+        ensures folder { IfOk result (λ vault. folder_of vault ≡ folder.now) }
+        ensures faults { IfOk result (λ vault. ⟦<FolderVault as Vault>⟧.faults vault ≡ 0) }
     {
         Ok(FolderVault {
             rt: *rt,
@@ -44,6 +47,7 @@ impl FolderVault {
 
     /// A failure, which counts unless memory was missing.
     fn failure(&mut self, no_memory: bool) -> VaultError
+        ensures same { folder_of self.new ≡ folder_of self.old }
         ensures count { self.old.by.refusals ≤ self.new.by.refusals }
         ensures failed { result ≡ VaultError.Failed
             → Rose self.old.by.refusals self.new.by.refusals }
@@ -57,6 +61,7 @@ impl FolderVault {
     }
 
     fn is_there(&mut self, path: &PathBuf) -> Result<bool, VaultError>
+        ensures same { folder_of self.new ≡ folder_of self.old }
         ensures count { self.old.by.refusals ≤ self.new.by.refusals }
         ensures failed { IsErrOf result VaultError.Failed
             → Rose self.old.by.refusals self.new.by.refusals }
@@ -70,6 +75,7 @@ impl FolderVault {
 
     fn open(&mut self, path: &PathBuf) -> Result<Connection<FileStore<File>>, VaultError>
         ensures autocommit { IfOk result (λ base. base.in_transaction ≡ false) }
+        ensures same { folder_of self.new ≡ folder_of self.old }
         ensures count { self.old.by.refusals ≤ self.new.by.refusals }
         ensures failed { IsErrOf result VaultError.Failed
             → Rose self.old.by.refusals self.new.by.refusals }
@@ -84,8 +90,11 @@ impl FolderVault {
 }
 
 impl FolderVault {
+    ghost use Rattle.cov_sql.specs.Vaults.{folder_of};
+
     /// Takes away what the database keeps beside a file.
     fn take_companions(&mut self, alloc: Global, path: &PathBuf) -> Result<(), VaultError>
+        ensures same { folder_of self.new ≡ folder_of self.old }
         ensures count { self.old.by.refusals ≤ self.new.by.refusals }
         ensures failed { IsErrOf result VaultError.Failed
             → Rose self.old.by.refusals self.new.by.refusals }
@@ -99,6 +108,7 @@ impl FolderVault {
 
     fn read(&mut self, alloc: Global, path: &PathBuf) -> Result<Data, VaultError>
         ensures not_absent { IsErrOf result VaultError.Absent → ⊥ }
+        ensures same { folder_of self.new ≡ folder_of self.old }
         ensures count { self.old.by.refusals ≤ self.new.by.refusals }
         ensures failed { IsErrOf result VaultError.Failed
             → Rose self.old.by.refusals self.new.by.refusals }
@@ -122,6 +132,7 @@ impl FolderVault {
     ) -> Result<(), VaultError>
         ensures not_absent { IsErrOf result VaultError.Absent → ⊥ }
         ensures not_bad_row { (row : ℕ) → IsErrOf result (VaultError.BadRow row) → ⊥ }
+        ensures same { folder_of self.new ≡ folder_of self.old }
         ensures count { self.old.by.refusals ≤ self.new.by.refusals }
         ensures failed { IsErrOf result VaultError.Failed
             → Rose self.old.by.refusals self.new.by.refusals }
@@ -138,11 +149,29 @@ impl FolderVault {
 }
 
 impl Vault for FolderVault {
+    ghost use Rattle.cov_sql.specs.Vaults.{ListsFolder, LoadsFolder, SavesFolder, RemovesFolder};
+
     ghost tells = { λ _. ⊥ };
 
     ghost contents = { λ _. empty };
 
     ghost faults = { λ vault. vault.by.refusals };
+
+    ghost lists = { ListsFolder };
+
+    ghost loads = { LoadsFolder };
+
+    ghost saves = { SavesFolder };
+
+    ghost removes = { RemovesFolder };
+
+    ghost lists_truly = { λ _ _ _ no. absurd no };
+
+    ghost loads_truly = { λ _ _ _ _ no. absurd no };
+
+    ghost saves_whole = { λ _ _ _ _ _ no. absurd no };
+
+    ghost removes_whole = { λ _ _ _ _ no. absurd no };
 
     ghost bounded = { λ vault. vault.by.bounded };
 

@@ -72,12 +72,30 @@ impl SqlVault {
 }
 
 impl Vault for SqlVault {
-    // Where its bases have the tables of data files as they are declared.
-    ghost tells = { λ vault. AreAsDeclared vault.bases.items };
+    ghost use Rattle.cov_sql.specs.Vaults.{TellsBases, told_in, ListsBases, LoadsBases, SavesBases, RemovesBases};
 
-    ghost contents = { λ vault. bases_contents vault.bases.items };
+    // Where its bases have the tables of data files as they are declared.
+    ghost tells = { TellsBases };
+
+    ghost contents = { told_in };
 
     ghost faults = { λ vault. vault.by.refusals };
+
+    ghost lists = { ListsBases };
+
+    ghost loads = { LoadsBases };
+
+    ghost saves = { SavesBases };
+
+    ghost removes = { RemovesBases };
+
+    ghost lists_truly = { λ _ _ _ all moved. (moved.tells all, moved.told, moved.kept) };
+
+    ghost loads_truly = { λ _ _ _ _ all moved. (moved.tells all, moved.told all, moved.kept all) };
+
+    ghost saves_whole = { λ _ _ _ _ _ all moved. (moved.tells all, moved.saved all) };
+
+    ghost removes_whole = { λ _ _ _ _ all moved. (moved.tells all, moved.removed) };
 
     ghost bounded = { λ vault. vault.by.bounded };
 

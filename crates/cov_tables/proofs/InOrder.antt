@@ -1,5 +1,5 @@
 -- A sorted list with the elements of another is that one in order.
-use Rattle.std.proofs.Common.{◌≡◌, ℕ, suc, ◌+◌, ◌<◌, Bool, true, false, cond, List, [], ◌∷◌, map, length, get_or, refl, ap, sym, subst, ◌∙◌, arith}
+use Rattle.std.proofs.Common.{◌≡◌, ◌↔◌, ℕ, zero, suc, ◌+◌, ◌<◌, Bool, true, false, cond, List, [], ◌∷◌, ◌++◌, map, length, get_or, refl, ap, sym, subst, ◌∙◌, arith}
 use Rattle.std.specs.declared.cmp.Ordering.{Ordering}
 use Rattle.std.specs.declared.cmp.Ordering.TheVariants.{Less, Equal, Greater}
 use Rattle.std.specs.Ordering.{is_lt, match_ordering, ordering_reverse}
@@ -7,9 +7,10 @@ use Rattle.std.specs.Cmp.{IsTotalOrder, on_total}
 use Rattle.std.specs.FinMap.{IsAntisymmetric}
 use Rattle.std.specs.List.{fold, sum_by}
 use Rattle.std.specs.List.Sorted.{IsSorted, IsPermutation}
-use Rattle.std.proofs.lemmas.List.Sorted.{sorted_far, ranks_by, IsPermutation-map, sum_by-IsPermutation}
+use Rattle.std.proofs.lemmas.List.{append-nil}
+use Rattle.std.proofs.lemmas.List.Sorted.{sorted_far, ranks_by, IsPermutation-refl, IsPermutation-trans, IsPermutation-cons, IsPermutation-append, IsPermutation-middle, IsPermutation-map, sum_by-IsPermutation}
 use Rattle.std.proofs.lemmas.List.Sums.{sum_by-cons}
-use Rattle.cov_tables.specs.Order.{put_in, in_order}
+use Rattle.cov_tables.specs.Order.{IsInOrder, put_in, in_order}
 
 -- a number of the elements, whichever is asked
 abbrev pub Alike : {K : Type 0} → List K → List K → Type 0
@@ -53,6 +54,25 @@ module _ {K : Type 0} (R : K → K → Ordering) where
   not_counted : (b : Bool) (n : ℕ) → cond b 1 0 + n ≡ 0 → b ≡ false
   not_counted true n h = absurd (omega (arith, h))
   not_counted false n h = refl
+
+  put-permutes : (ys : List K) (x : K) → IsPermutation (x ∷ ys) (put_in R ys x)
+  put-permutes [] x = IsPermutation-refl (x ∷ [])
+  put-permutes (y ∷ ys) x =
+      elim (R x y) as (λ r. IsPermutation (x ∷ y ∷ ys) (match_ordering r (x ∷ y ∷ ys) (x ∷ y ∷ ys) (y ∷ put_in R ys x))) [
+        | Less ↦ IsPermutation-refl (x ∷ y ∷ ys)
+        | Equal ↦ IsPermutation-refl (x ∷ y ∷ ys)
+        | Greater ↦ IsPermutation-trans (x ∷ y ∷ ys) (y ∷ x ∷ ys) (y ∷ put_in R ys x) (IsPermutation-middle (x ∷ []) y ys) (IsPermutation-cons y (x ∷ ys) (put_in R ys x) (put-permutes ys x))
+      ]
+
+  folded-permutes : (xs acc : List K) → IsPermutation (acc ++ xs) (fold (put_in R) acc xs)
+  folded-permutes [] acc = subst (λ ys. IsPermutation ys acc) (sym (append-nil acc)) (IsPermutation-refl acc)
+  folded-permutes (x ∷ xs) acc =
+      IsPermutation-trans (acc ++ x ∷ xs) (x ∷ (acc ++ xs)) (fold (put_in R) (put_in R acc x) xs) (IsPermutation-middle acc x xs)
+      (IsPermutation-trans (x ∷ (acc ++ xs)) (put_in R acc x ++ xs) (fold (put_in R) (put_in R acc x) xs)
+      (IsPermutation-append (x ∷ acc) (put_in R acc x) xs xs (put-permutes acc x) (IsPermutation-refl xs)) (folded-permutes xs (put_in R acc x)))
+
+  pub in_order-permutes : (xs : List K) → IsPermutation xs (in_order R xs)
+  in_order-permutes xs = folded-permutes xs []
 
   module _ (o : IsTotalOrder R) where
     not_itself : (x : K) → is_lt (R x x) ≡ false
@@ -107,6 +127,20 @@ module _ {K : Type 0} (R : K → K → Ordering) where
     folded-ascends [] acc h = h
     folded-ascends (x ∷ xs) acc h = folded-ascends xs (put_in R acc x) (put-ascends acc x h)
 
+    -- a list that ascends is sorted
+    sorted-cons : (x y : K) (ys : List K) → is_lt (R y x) ≡ false → IsSorted R (y ∷ ys) → (k : ℕ) (d : K) → k + 1 < length (x ∷ y ∷ ys) → is_lt (R (get_or (x ∷ y ∷ ys) (k + 1) d) (get_or (x ∷ y ∷ ys) k d)) ≡ false
+    sorted-cons x y ys h s zero d b = h
+    sorted-cons x y ys h s (suc k) d b =
+        subst (λ (n : ℕ). is_lt (R (get_or (x ∷ y ∷ ys) n d) (get_or (y ∷ ys) k d)) ≡ false) {x = suc (k + 1)} {y = suc k + 1} (omega arith) (s k d (omega arith) (omega (arith, b)))
+
+    sorted-from : (xs : List K) → Ascends xs → IsSorted R xs
+    sorted-from [] h = λ k d a b. absurd (omega (arith, b))
+    sorted-from (x ∷ []) h = λ k d a b. absurd (omega (arith, b))
+    sorted-from (x ∷ y ∷ ys) h = λ k d a b. sorted-cons x y ys h.0.0 (sorted-from (y ∷ ys) h.1) k d b
+
+    pub in_order-sorted : (xs : List K) → IsSorted R (in_order R xs)
+    in_order-sorted xs = sorted-from (in_order R xs) (folded-ascends xs [] tt)
+
     -- the first of one is not less than that of another
     first_not_below : (x y : K) (xs ys : List K) → NoneBelow x xs → Alike (x ∷ xs) (y ∷ ys) → is_lt (R y x) ≡ false
     unfolding count_below
@@ -130,6 +164,13 @@ module _ {K : Type 0} (R : K → K → Ordering) where
     -- what a sort gives is the list in order
     pub in_order-is : (xs ys : List K) → IsPermutation xs ys → Ascends ys → ys ≡ in_order R xs
     in_order-is xs ys h up = one_order ys (in_order R xs) up (folded-ascends o xs [] tt) (λ f. sum_by-IsPermutation f xs ys h ∙ sym (in_order-alike f xs))
+
+    -- it is the one list that is sorted and a permutation
+    pub in_order-when : (xs ys : List K) → (ys ≡ in_order R xs) ↔ IsInOrder R xs ys
+    in_order-when xs ys = (
+      λ is. subst (IsInOrder R xs) (sym is) (record { sorted = in_order-sorted o xs; same = in_order-permutes xs }),
+      λ h. in_order-is xs ys h.same (ascends o ys h.sorted),
+    )
 
     -- only the elements matter
     pub in_order-of_alike : (xs ys : List K) → Alike xs ys → in_order R xs ≡ in_order R ys

@@ -6,3 +6,4 @@ pub mod Joins
 pub mod Kept
 pub mod Content
 pub mod Given
+pub mod Laws

@@ -1,5 +1,5 @@
 -- What a list of names holds, and what becomes of it where an entry is replaced, added or removed.
-use Rattle.std.proofs.Common.{drop, drop-cons, Result, Ok, Err, IfOk, Vec, ◌≤◌, ◌≡◌, ◌≢◌, ℕ, suc, zero, ◌+◌, ◌<◌, Bool, true, false, cond, not, List, [], ◌∷◌, ◌++◌, length, get_or, set, map, Option, Some, None, String, string_bytes, refl, sym, ap, subst, ◌∙◌, arith}
+use Rattle.std.proofs.Common.{drop, drop-cons, Result, Ok, Err, IfOk, Vec, ◌≤◌, ◌≡◌, ℕ, suc, zero, ◌+◌, ◌<◌, Bool, true, false, cond, not, List, [], ◌∷◌, ◌++◌, length, get_or, set, map, Option, Some, None, String, string_bytes, refl, sym, ap, subst, ◌∙◌, arith}
 use Rattle.std.specs.declared.alloc.Global.{Global}
 use Rattle.std.specs.declared.cmp.Ordering.TheVariants.{Less, Equal, Greater}
 use Rattle.std.specs.Prelude.{T, filter, is_some, ◌||◌}
@@ -9,14 +9,13 @@ use Rattle.std.specs.List.{position, position_from, list_any}
 use Rattle.std.specs.Str.{bytes_eq}
 use Rattle.std.specs.Ordering.{eq_by_cmp, match_ordering}
 use Rattle.std.specs.Cmp.Lexicographic.{nat_list_eq_equiv}
-use Rattle.std.specs.FinMap.{get, insert, from_entries, remove, keys, entries, entries_sorted, find, is_sorted, contains_key, contains_key-keys, get-from_entries, get-insert, get-remove, from_entries_push, same_map}
+use Rattle.std.specs.FinMap.{get, insert, from_entries, remove, keys, entries, entries_sorted, find, is_sorted, contains_key-keys, get-from_entries, get-insert, get-remove, from_entries_push, same_map}
 use Rattle.std.specs.FinMap.Entries.{below_all}
 use Rattle.std.proofs.lemmas.Map.Text.{is_eq-slice_cmp}
 use Rattle.std.proofs.lemmas.List.{map-append}
 use Rattle.std.proofs.lemmas.Iterator.Adapters.{position_from-zero}
 use Rattle.std.proofs.lemmas.List.Quantifiers.{position-Some}
 use Rattle.std.proofs.lemmas.Slice.Eq.{bytes_eq-Decides}
-use Rattle.std.proofs.lemmas.Bool.{false_from_ne_true}
 use Rattle.cov_data.specs.DataSet.{Text, text_cmp, rekeyed, DataSet, union, no_data}
 use Rattle.cov_data.proofs.Merging.{all_files-none}
 use Rattle.cov_data.proofs.FileViews.{text_cmp_total, text_cmp_same}
@@ -24,7 +23,7 @@ use Rattle.cov_data.specs.Rows.{distinct_in_order}
 use Rattle.cov_data.proofs.MapViews.{first, second, both}
 use Rattle.cov_data.proofs.Distinct.{marked, Rises, distinct_in_order-unique}
 use Rattle.cov_vault.specs.declared.vault.Content.{Content}
-use Rattle.cov_vault.specs.Contents.{Contents, contents_of}
+use Rattle.cov_vault.specs.Contents.{contents_of}
 
 abbrev pub Pair : Type 0
 Pair = String Global × Content

@@ -1,5 +1,5 @@
 -- The contents of a vault: a map from names to what each holds. A name is the bytes of its text.
-use Rattle.std.specs.Prelude.{ℕ, List, String, string_bytes}
+use Rattle.std.specs.Prelude.{List, String, string_bytes}
 use Rattle.std.specs.declared.alloc.Global.{Global}
 use Rattle.std.specs.FinMap.{FinMap, from_entries}
 use Rattle.cov_data.specs.DataSet.{text_cmp, rekeyed}

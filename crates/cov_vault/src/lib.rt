@@ -8,8 +8,10 @@
 mod entries;
 mod memory;
 mod names;
+mod sure;
 mod vault;
 
-pub use memory::{MemVault, SureVault};
+pub use memory::MemVault;
 pub use names::{first_named, names_of};
+pub use sure::SureVault;
 pub use vault::{Content, Vault, VaultError};

@@ -1,7 +1,6 @@
-//! Vaults in memory.
+//! A vault in memory that fails at chosen calls.
 ghost use Rattle.std.specs.Prelude.{◌≡◌, ◌≢◌, ℕ, ◌≤◌, ◌↔◌, Some, None, IfOk, OnOk, OnErr, IsErrOf, map, string_bytes};
 ghost use Rattle.std.specs.FinMap as finite;
-ghost use Rattle.std.proofs.Common.{lit≤};
 ghost use Rattle.cov_vault.specs.Contents.{contents_of};
 
 use crate::entries::Entries;
@@ -37,7 +36,8 @@ impl MemVault {
 impl Vault for MemVault {
     ghost use Rattle.cov_outside.specs.Calls.{FailsNext, after_call};
     ghost use Rattle.cov_outside.specs.Counts.{Rose};
-    ghost use Rattle.cov_vault.specs.Memory.{vault_contents, vault_calls, vault_faults};
+    ghost use Rattle.cov_vault.specs.Answers.{names_listed, refusal_of};
+    ghost use Rattle.cov_vault.specs.Memory.{vault_contents, vault_calls, vault_faults, ListsMemory, LoadsMemory, SavesMemory, RemovesMemory};
 
     ghost tells = { λ _. Unit {0} };
 
@@ -45,12 +45,32 @@ impl Vault for MemVault {
 
     ghost faults = { vault_faults };
 
+    ghost lists = { ListsMemory };
+
+    ghost loads = { LoadsMemory };
+
+    ghost saves = { SavesMemory };
+
+    ghost removes = { RemovesMemory };
+
+    ghost lists_truly = { λ _ _ _ _ moved. (tt, moved.told, moved.kept) };
+
+    ghost loads_truly = { λ _ _ _ _ _ moved. (tt, moved.told, moved.kept) };
+
+    ghost saves_whole = { λ _ _ _ _ _ _ moved. (tt, moved.saved) };
+
+    ghost removes_whole = { λ _ _ _ _ _ moved. (tt, moved.removed) };
+
     ghost bounded = { λ vault. vault.failing.bounded };
 
     fn names(&mut self, alloc: Global) -> Result<Vec<String>, VaultError>
+        ensures moved { ListsMemory self.old (names_listed result) self.new }
+
         // Exactly the calls fail that the list names.
         ensures fails { IsErrOf result VaultError.Failed ↔ FailsNext (vault_calls self.old) }
         ensures calls { vault_calls self.new ≡ after_call (vault_calls self.old) }
+        ensures stays { (FailsNext (vault_calls self.old) → ⊥)
+            → vault_faults self.new ≡ vault_faults self.old }
 
         ensures names { IfOk result (λ names.
             map string_bytes names.items ≡ finite.keys (vault_contents self.old)) }
@@ -70,9 +90,13 @@ impl Vault for MemVault {
     }
 
     fn load(&mut self, alloc: Global, name: &str) -> Result<Data, VaultError>
+        ensures moved { LoadsMemory self.old name.now result self.new }
+
         // Exactly the calls fail that the list names.
         ensures fails { IsErrOf result VaultError.Failed ↔ FailsNext (vault_calls self.old) }
         ensures calls { vault_calls self.new ≡ after_call (vault_calls self.old) }
+        ensures stays { (FailsNext (vault_calls self.old) → ⊥)
+            → vault_faults self.new ≡ vault_faults self.old }
 
         ensures found { IfOk result (λ loaded.
             finite.get (vault_contents self.old) name.now ≡ Some (Content.Good loaded)) }
@@ -95,9 +119,13 @@ impl Vault for MemVault {
     }
 
     fn save(&mut self, alloc: Global, name: &str, content: &Data) -> Result<(), VaultError>
+        ensures moved { SavesMemory self.old name.now content.now (refusal_of result) self.new }
+
         // Exactly the calls fail that the list names.
         ensures fails { IsErrOf result VaultError.Failed ↔ FailsNext (vault_calls self.old) }
         ensures calls { vault_calls self.new ≡ after_call (vault_calls self.old) }
+        ensures stays { (FailsNext (vault_calls self.old) → ⊥)
+            → vault_faults self.new ≡ vault_faults self.old }
 
         ensures ok { OnOk result (vault_contents self.new
             ≡ finite.insert (vault_contents self.old) name.now (Content.Good content.now)) }
@@ -120,9 +148,13 @@ impl Vault for MemVault {
     }
 
     fn remove(&mut self, _alloc: Global, name: &str) -> Result<(), VaultError>
+        ensures moved { RemovesMemory self.old name.now (refusal_of result) self.new }
+
         // Exactly the calls fail that the list names.
         ensures fails { IsErrOf result VaultError.Failed ↔ FailsNext (vault_calls self.old) }
         ensures calls { vault_calls self.new ≡ after_call (vault_calls self.old) }
+        ensures stays { (FailsNext (vault_calls self.old) → ⊥)
+            → vault_faults self.new ≡ vault_faults self.old }
 
         ensures ok { OnOk result (vault_contents self.new
             ≡ finite.remove (vault_contents self.old) name.now) }
@@ -140,49 +172,6 @@ impl Vault for MemVault {
         if self.failing.fails() {
             return Err(VaultError::Failed);
         }
-        self.entries.remove(name)
-    }
-}
-
-/// A vault in memory that never fails.
-#[derive(Drop)]
-pub struct SureVault {
-    entries: Entries,
-}
-
-impl SureVault {
-    /// Of two pairs with one name the first counts.
-    pub fn new(_alloc: Global, contents: Vec<(String, Content)>) -> SureVault
-        ensures { ⟦<SureVault as Vault>⟧.contents result ≡ contents_of contents.items }
-    {
-        SureVault {
-            entries: Entries { pairs: contents },
-        }
-    }
-}
-
-impl Vault for SureVault {
-    ghost tells = { λ _. Unit {0} };
-
-    ghost contents = { λ vault. contents_of vault.entries.pairs.items };
-
-    ghost faults = { λ _. 0 };
-
-    ghost bounded = { λ _. lit≤ tt };
-
-    fn names(&mut self, alloc: Global) -> Result<Vec<String>, VaultError> {
-        Ok(self.entries.names(alloc)?)
-    }
-
-    fn load(&mut self, alloc: Global, name: &str) -> Result<Data, VaultError> {
-        self.entries.load(alloc, name)
-    }
-
-    fn save(&mut self, alloc: Global, name: &str, content: &Data) -> Result<(), VaultError> {
-        self.entries.save(alloc, name, content)
-    }
-
-    fn remove(&mut self, _alloc: Global, name: &str) -> Result<(), VaultError> {
         self.entries.remove(name)
     }
 }

@@ -1,9 +1,12 @@
 //! Where data are kept between runs.
-ghost use Rattle.std.specs.Prelude.{◌≡◌, ◌≢◌, ℕ, ◌≤◌, Some, None, IfOk, OnOk, OnErr, IsErrOf, map, string_bytes};
+ghost use Rattle.std.specs.Prelude.{◌≡◌, ◌≢◌, ℕ, ◌≤◌, List, Option, Result, Some, None, IfOk, OnOk, OnErr, IsErrOf, map, string_bytes};
 ghost use Rattle.std.specs.FinMap as finite;
 ghost use Rattle.cov_outside.specs.Counts.{greatest, Rose};
+ghost use Rattle.cov_data.specs.DataSet.{DataSet};
+ghost use Rattle.cov_vault.specs.declared.vault.VaultError.{VaultError as Error};
 ghost use Rattle.cov_vault.specs.declared.vault.VaultError.TheVariants.{NoMemory};
 ghost use Rattle.cov_vault.specs.Contents.{Contents};
+ghost use Rattle.cov_vault.specs.Answers.{names_listed, refusal_of, IsListed, IsLoaded, IsSaved, IsRemoved};
 
 use cov_data::Data;
 use std::alloc::{AllocError, Global};
@@ -53,8 +56,41 @@ pub trait Vault {
     // How often a call has failed.
     ghost faults: { Self → ℕ };
 
+    // A list of names, or a refusal to give one, leads from one state to another.
+    ghost lists: { Self → Result (List (List ℕ)) Error → Self → Type 0 };
+
+    // So does a load of a name with its answer.
+    ghost loads: { Self → List ℕ → Result DataSet Error → Self → Type 0 };
+
+    // So do a save of data under a name, and a removal, each with its refusal, where it was refused.
+    ghost saves: { Self → List ℕ → DataSet → Option Error → Self → Type 0 };
+
+    ghost removes: { Self → List ℕ → Option Error → Self → Type 0 };
+
+    // A vault that tells its contents answers by them, and goes on to tell them.
+    ghost lists_truly: { (old : Self) (answer : Result (List (List ℕ)) Error) (new : Self)
+        → tells old → lists old answer new
+        → tells new × IsListed (contents old) answer × (contents new ≡ contents old) };
+
+    ghost loads_truly: { (old : Self) (name : List ℕ) (answer : Result DataSet Error) (new : Self)
+        → tells old → loads old name answer new
+        → tells new × IsLoaded (finite.get (contents old) name) answer
+        × (contents new ≡ contents old) };
+
+    // It takes a save and a removal as a whole, or not at all.
+    ghost saves_whole: { (old : Self) (name : List ℕ) (content : DataSet)
+        (refusal : Option Error) (new : Self)
+        → tells old → saves old name content refusal new
+        → tells new × IsSaved (contents old) name content refusal (contents new) };
+
+    ghost removes_whole: { (old : Self) (name : List ℕ) (refusal : Option Error) (new : Self)
+        → tells old → removes old name refusal new
+        → tells new × IsRemoved (contents old) name refusal (contents new) };
+
     /// The names in byte order.
     fn names(&mut self, alloc: Global) -> Result<Vec<String>, VaultError>
+        ensures moved { lists self.old (names_listed result) self.new }
+
         ensures names { tells self.old
             → IfOk result (λ names.
             map string_bytes names.items ≡ finite.keys (contents self.old)) }
@@ -70,6 +106,8 @@ pub trait Vault {
 
     /// The data that a name holds.
     fn load(&mut self, alloc: Global, name: &str) -> Result<Data, VaultError>
+        ensures moved { loads self.old name.now result self.new }
+
         ensures found { tells self.old
             → IfOk result (λ loaded.
             finite.get (contents self.old) name.now ≡ Some (Content.Good loaded)) }
@@ -89,6 +127,8 @@ pub trait Vault {
     /// Sets what a name holds, unless that is no data file of schema 7. A refused call keeps the
     /// contents.
     fn save(&mut self, alloc: Global, name: &str, content: &Data) -> Result<(), VaultError>
+        ensures moved { saves self.old name.now content.now (refusal_of result) self.new }
+
         ensures ok { tells self.old
             → OnOk result (contents self.new
             ≡ finite.insert (contents self.old) name.now (Content.Good content.now)) }
@@ -107,6 +147,8 @@ pub trait Vault {
 
     /// Removes a name and what it holds. A refused call keeps the contents.
     fn remove(&mut self, alloc: Global, name: &str) -> Result<(), VaultError>
+        ensures moved { removes self.old name.now (refusal_of result) self.new }
+
         ensures ok { tells self.old
             → OnOk result (contents self.new ≡ finite.remove (contents self.old) name.now) }
         ensures removes { tells self.old

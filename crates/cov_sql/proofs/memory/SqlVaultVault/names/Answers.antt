@@ -1,4 +1,4 @@
-use Rattle.std.proofs.Common.{rules, ◌≡◌, map, string_bytes, ap, ◌∙◌}
+use Rattle.std.proofs.Common.{rules, arith, ◌≡◌, refl, map, string_bytes, ap, ◌∙◌}
 use Rattle.cov_data.specs.DataSet.{Text, text_cmp}
 use Rattle.cov_data.specs.Rows.{distinct_in_order}
 use Rattle.cov_sql.specs.Bases.{Base}
@@ -13,3 +13,14 @@ returns-clause-names c = λ _.
     let bases = c.args.self.now.bases.items in
     let same : c.deref.result.now ≡ bases = search rules in
     c.in_ok-names_of.ensures ∙ ap (λ bs. distinct_in_order text_cmp (map name_of bs)) same ∙ bases_names bases
+
+pub returns-clause-moved : goal.returns-clause-moved
+returns-clause-moved c =
+    let bases = c.args.self.now.bases.items in
+    let same : c.deref.result.now ≡ bases = search rules in
+    record {
+      told = c.in_ok-names_of.ensures ∙ ap (λ bs. distinct_in_order text_cmp (map name_of bs)) same ∙ bases_names bases;
+      kept = refl;
+      tells = λ all. all;
+      call = record { count = omega arith; refused = λ is. absurd cc };
+    }

@@ -1,4 +1,4 @@
-use Rattle.std.proofs.Common.{rules, ap, sym, subst, ◌∙◌, ◌≡◌, All}
+use Rattle.std.proofs.Common.{rules, arith, refl, ap, sym, subst, ◌∙◌, ◌≡◌, All}
 use Rattle.std.specs.Prelude.{filter}
 use Rattle.std.proofs.lemmas.Fn.{filter_same}
 use Rattle.cov_sql.specs.Bases.{IsIdle, kept_in, IsAsDeclared, AreAsDeclared, bases_contents}
@@ -24,3 +24,20 @@ pub returns-clause-tells : goal.returns-clause-tells
 returns-clause-tells c = λ all.
     subst AreAsDeclared (sym (filter_same _ (is_another c.args.name.now) _ (λ x b f' k. search rules) _ _ c.retain.ensures.filtered))
     (each_filter (λ b. IsAsDeclared (kept_in b.1)) (is_another c.args.name.now) c.args.self.now.bases.items all)
+
+pub returns-in_default-clause-moved : goal.returns-in_default-clause-moved
+returns-in_default-clause-moved c = record {
+  removed = (bases_absent c.args.name.now c.args.self.now.bases.items (search rules), refl);
+  tells = λ all. all;
+  call = record { count = omega arith; refused = λ is. absurd cc };
+}
+
+pub returns-clause-moved : goal.returns-clause-moved
+returns-clause-moved c = record {
+  removed = (
+    λ none. bases_held c.args.name.now c.args.self.now.bases.items c.in-Some._first (search rules) none,
+    ap bases_contents (filter_same _ (is_another c.args.name.now) _ (λ x b f' k. search rules) _ _ c.retain.ensures.filtered) ∙ bases_removed c.args.name.now c.args.self.now.bases.items,
+  );
+  tells = returns-clause-tells c;
+  call = record { count = omega arith; refused = λ is. absurd cc };
+}
