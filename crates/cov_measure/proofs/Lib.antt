@@ -1,0 +1,5 @@
+mod Lists
+mod Meaning
+mod GivingUp
+mod Ending
+mod Answering

@@ -1,0 +1,4 @@
+pub mod Requests
+pub mod Measuring
+pub mod Told
+pub mod Measures

@@ -1,0 +1,9 @@
+pub mod Places
+pub mod Members
+pub mod Foreseen
+pub mod Whole
+pub mod Units
+pub mod Meant
+pub mod RunLines
+pub mod Totals
+pub mod Leaving
