@@ -1,0 +1,9 @@
+pub mod Results
+pub mod Composing
+pub mod Each
+pub mod Folding
+pub mod Later
+pub mod Telling
+pub mod Keeping
+pub mod Counting
+pub mod Parts

@@ -1,0 +1,11 @@
+pub mod Parts
+pub mod Whole
+pub mod Keeping
+pub mod Care
+pub mod Twice
+pub mod Blames
+pub mod Yielding
+pub mod Faults
+pub mod Kept
+pub mod Rising
+pub mod Leaving

@@ -1,0 +1,135 @@
+-- What holds of each command, where it holds of values, of refusals, of one part after another, and of each call with its answers.
+use Rattle.std.proofs.Common.{◌≡◌, ℕ, Bool, true, false, if◌then◌else◌, refl, List, [], ◌∷◌, ◌++◌, Option, Some, None, Result, Ok, Err}
+use Rattle.std.specs.Prelude.{◌||◌, codes}
+use Rattle.std.specs.Str.{bytes_eq}
+use Rattle.py_meaning.specs.Modules.{LoadedModule}
+use Rattle.py_syntax.specs.Tree.{Text}
+use Rattle.cov_combine.specs.Aliases.{Rules, alias_of, rules_from}
+use Rattle.cov_combine.specs.Combined.{combined}
+use Rattle.cov_config.specs.Settings.{Settings}
+use Rattle.cov_data.specs.DataSet.{DataSet}
+use Rattle.cov_json.specs.Json.{json_bytes}
+use Rattle.cov_lcov.specs.Annotated.{annotated_bytes}
+use Rattle.cov_lcov.specs.Lcov.{lcov_bytes}
+use Rattle.cov_programs.specs.Programs.{give, settle, ask, bind, each}
+use Rattle.cov_text.specs.Report.{text_bytes}
+use Rattle.cov_why.specs.Answers.{Refusal, usage}
+use Rattle.cov_words.specs.Commands.{PlainCommand}
+use Rattle.cov_words.specs.Commands as plain
+use Rattle.cov_words.specs.Values.{Word}
+use Rattle.cov_step.specs.Calls.{Answered, HookFiles, Asked, Step, refuse, spells, checks, puts, makes, crosses, measures}
+use Rattle.cov_step.specs.Answers.{given_or, Before, run_refusal, shelf_refusal, pattern_refusal, last, on, tree_of}
+use Rattle.cov_step.specs.Listing.{listing}
+use Rattle.cov_step.specs.Names.{or_else, removable}
+use Rattle.cov_step.specs.Phases.{file, needed, before, opened, settings_file, settings, own_name, patterns, source, hook_of, joins, joined, inputs, has_own, own_input, some_input, same_kind, saving, removing, removing_all, analysed, reported, judged, done, write_last, put_last, save_last, remove_last, answered_by}
+use Rattle.cov_step.specs.Commands as the
+use Rattle.cov_step.specs.Step.{doing, step}
+use Rattle.cov_step.specs.Promises.{blame_of}
+use Rattle.cov_step.proofs.Parts.{settings-so, patterns-so, source-so, hook_of-so, joins-so, own_input-so, some_input-so, same_kind-so, reported-so}
+
+module _ (P : (A : Type 0) → Step A → Type 0) (gives : (A : Type 0) (a : A) → P A (give a))
+    (refuses : (A : Type 0) (r : Refusal) → blame_of r ≡ None → P A (refuse r))
+    (binds : (A B : Type 0) (p : Step A) (next : A → Step B) → P A p → ((a : A) → P B (next a)) → P B (bind p next))
+    (eachs : (A B : Type 0) (p : A → Step B) → ((a : A) → P B (p a)) → (xs : List A) → P (List B) (each p xs))
+    (files : (absent : Refusal) → blame_of absent ≡ None → (name : Word) → P _ (file absent name))
+    (usual : P _ (settings_file None))
+    (opens : (script : Word) → P _ (opened script))
+    (checking : (path : Word) (bytes : List ℕ) → P _ (ask (checks bytes) (tree_of path bytes)))
+    (making : (n : ℕ) (texts : List (List ℕ)) → P _ (ask (makes texts) (on (pattern_refusal n))))
+    (needs : (name : Word) → P _ (needed name))
+    (standing : (name : Word) → P _ (before name))
+    (listed : (own : Word) (named : List Word) → P _ (inputs own named))
+    (crossing : (ms : List LoadedModule) (words : List Text) (n : ℕ) → P _ (ask (crosses ms words n) (given_or run_refusal)))
+    (measuring : (asked : Asked) (ms : List LoadedModule) (hook : Option HookFiles) → P _ (ask (measures asked ms hook) (given_or run_refusal)))
+    (writing : (bytes : List ℕ) (a : Answered) → P _ (write_last bytes a))
+    (putting : (name : Word) (bytes : List ℕ) (a : Answered) → P _ (ask (puts name bytes) (last shelf_refusal a)))
+    (saves-last : (name : Word) (content : DataSet) (a : Answered) → P _ (save_last name content a))
+    (saves-on : (name : Word) (content : DataSet) → P _ (saving name content))
+    (removes-last : (name : Word) (a : Answered) → P _ (remove_last name a))
+    (removes-on : (name : Word) → P _ (removing name))
+    (spelling : (words : List Word) → P _ (ask (spells words) (given_or usage))) where
+  settings-are : (rcfile : Option Word) → P _ (settings rcfile)
+  settings-are rcfile = settings-so P gives refuses binds eachs files usual opens checking making rcfile
+
+  reported-is : (data_file rcfile : Option Word) → P _ (reported data_file rcfile)
+  reported-is data_file rcfile = reported-so P gives refuses binds eachs files usual opens checking making needs data_file rcfile
+
+  either : {A : Type 0} (b : Bool) (p q : Step A) → P A p → P A q → P A (if b then p else q)
+  either true p q h g = h
+  either false p q h g = g
+
+  put-is : (name : Word) (bytes : List ℕ) (a : Answered) → P _ (put_last name bytes a)
+  put-is name bytes a = either (bytes_eq name (codes "-")) (write_last bytes a) (ask (puts name bytes) (last shelf_refusal a)) (writing bytes a) (putting name bytes a)
+
+  arcs-is : (steps : Option ℕ) (script : Word) (args : List Word) → P _ (the.arcs steps script args)
+  arcs-is steps script args = let most = or_else steps the.usual_steps in
+      binds _ _ (opened script) (λ ms. bind (ask (crosses ms (the.words_of script args) most) (given_or run_refusal)) (λ r. write_last (listing r.rows) (answered_by most r.outcome))) (opens script) (λ ms.
+      binds _ _ (ask (crosses ms (the.words_of script args) most) (given_or run_refusal)) (λ r. write_last (listing r.rows) (answered_by most r.outcome)) (crossing ms (the.words_of script args) most) (λ r.
+      writing (listing r.rows) (answered_by most r.outcome)))
+
+  measured-is : (own : Word) (asked : Asked) (ms : List LoadedModule) (hook : Option HookFiles) (old : Option DataSet) → P _ (the.measured own asked ms hook old)
+  measured-is own asked ms hook old =
+      binds _ _ (ask (measures asked ms hook) (given_or run_refusal)) (λ r. save_last own (joined old r.rows) (answered_by asked.budget r.outcome)) (measuring asked ms hook) (λ r.
+      saves-last own (joined old r.rows) (answered_by asked.budget r.outcome))
+
+  run_by-is : (own : Word) (append : Bool) (asked : Asked) (hook : Option (Word × Word)) (script : Word) → P _ (the.run_by own append asked hook script)
+  run_by-is own append asked hook script =
+      binds _ _ (opened script) (λ ms. bind (hook_of hook) (λ h. bind (before own) (λ was. bind (joins append own asked.arcs was) (the.measured own asked ms h)))) (opens script) (λ ms.
+      binds _ _ (hook_of hook) (λ h. bind (before own) (λ was. bind (joins append own asked.arcs was) (the.measured own asked ms h))) (hook_of-so P gives refuses binds eachs files usual opens checking making hook) (λ h.
+      binds _ _ (before own) (λ was. bind (joins append own asked.arcs was) (the.measured own asked ms h)) (standing own) (λ was.
+      binds _ _ (joins append own asked.arcs was) (the.measured own asked ms h) (joins-so P gives refuses binds eachs files usual opens checking making append own asked.arcs was) (λ old.
+      measured-is own asked ms h old))))
+
+  combined-is : (own : Word) (rules : Rules) (keep : Bool) (others : List Word) (first : List DataSet) → P _ (the.combined_into own rules keep others first)
+  combined-is own rules keep others first = let gone = removable own [] others in
+      binds _ _ (each needed others) (λ rest. bind (same_kind (first ++ rest)) (λ all. bind (saving own (combined (alias_of rules) all)) (λ a. bind (removing_all keep gone) (λ b. give done)))) (eachs _ _ needed needs others) (λ rest.
+      binds _ _ (same_kind (first ++ rest)) (λ all. bind (saving own (combined (alias_of rules) all)) (λ a. bind (removing_all keep gone) (λ b. give done))) (same_kind-so P gives refuses binds eachs files usual opens checking making (first ++ rest)) (λ all.
+      binds _ _ (saving own (combined (alias_of rules) all)) (λ a. bind (removing_all keep gone) (λ b. give done)) (saves-on own (combined (alias_of rules) all)) (λ a.
+      binds _ _ (removing_all keep gone) (λ b. give done) (all-go keep gone) (λ b. gives _ done))))
+    where
+      all-go : (k : Bool) (names : List Word) → P _ (removing_all k names)
+      all-go true names = gives _ []
+      all-go false names = eachs _ _ removing removes-on names
+
+  combine_by-is : (own : Word) (rules : Rules) (append keep : Bool) (named : List Word) → P _ (the.combine_by own rules append keep named)
+  combine_by-is own rules append keep named =
+      binds _ _ (before own) (λ was. bind (inputs own named) (λ others. bind (some_input own (has_own append was) others) (λ a. bind (own_input append own was) (the.combined_into own rules keep others)))) (standing own) (λ was.
+      binds _ _ (inputs own named) (λ others. bind (some_input own (has_own append was) others) (λ a. bind (own_input append own was) (the.combined_into own rules keep others))) (listed own named) (λ others.
+      binds _ _ (some_input own (has_own append was) others) (λ a. bind (own_input append own was) (the.combined_into own rules keep others)) (some_input-so P gives refuses binds eachs files usual opens checking making own (has_own append was) others) (λ a.
+      binds _ _ (own_input append own was) (the.combined_into own rules keep others) (own_input-so P gives refuses binds eachs files usual opens checking making append own was) (λ first.
+      combined-is own rules keep others first))))
+
+  annotated-is : (data_file : Option Word) (path : Word) (s : Settings) → P _ (bind (patterns s.report) (λ p. bind (needed (own_name data_file s)) (λ d. bind (source path) (λ f. write_last (annotated_bytes (analysed p d f) f.text) done))))
+  annotated-is data_file path s =
+      binds _ _ (patterns s.report) (λ p. bind (needed (own_name data_file s)) (λ d. bind (source path) (λ f. write_last (annotated_bytes (analysed p d f) f.text) done))) (patterns-so P gives refuses binds eachs files usual opens checking making s.report) (λ p.
+      binds _ _ (needed (own_name data_file s)) (λ d. bind (source path) (λ f. write_last (annotated_bytes (analysed p d f) f.text) done)) (needs (own_name data_file s)) (λ d.
+      binds _ _ (source path) (λ f. write_last (annotated_bytes (analysed p d f) f.text) done) (source-so P gives refuses binds eachs files usual opens checking making path) (λ f.
+      writing (annotated_bytes (analysed p d f) f.text) done)))
+
+  pub doing-is : (c : PlainCommand) → P _ (doing c)
+  doing-is (plain.arcs steps script args) = arcs-is steps script args
+  doing-is (plain.run branch append context steps hook data_file rcfile script args) =
+      binds _ _ (settings rcfile) (λ s. the.run_by (own_name data_file s) append (the.asked_by s branch context steps script args) (the.hook_named hook s.run.hook) script) (settings-are rcfile) (λ s.
+      run_by-is (own_name data_file s) append (the.asked_by s branch context steps script args) (the.hook_named hook s.run.hook) script)
+  doing-is (plain.combine append keep data_file rcfile named) =
+      binds _ _ (settings rcfile) (λ s. the.combine_by (own_name data_file s) (rules_from s.paths) append keep named) (settings-are rcfile) (λ s. combine_by-is (own_name data_file s) (rules_from s.paths) append keep named)
+  doing-is (plain.report show fail_under data_file rcfile) =
+      binds _ _ (reported data_file rcfile) (λ r. write_last (text_bytes r.files r.arcs (show || r.settings.report.show_missing)) (judged (or_else fail_under r.settings.report.fail_under) r.files)) (reported-is data_file rcfile) (λ r.
+      writing (text_bytes r.files r.arcs (show || r.settings.report.show_missing)) (judged (or_else fail_under r.settings.report.fail_under) r.files))
+  doing-is (plain.json name fail_under data_file rcfile) =
+      binds _ _ (reported data_file rcfile) (λ r. put_last (or_else name (codes "coverage.json")) (json_bytes r.files r.arcs) (judged (or_else fail_under r.settings.report.fail_under) r.files)) (reported-is data_file rcfile) (λ r.
+      put-is (or_else name (codes "coverage.json")) (json_bytes r.files r.arcs) (judged (or_else fail_under r.settings.report.fail_under) r.files))
+  doing-is (plain.lcov name fail_under data_file rcfile) =
+      binds _ _ (reported data_file rcfile) (λ r. put_last (or_else name (codes "coverage.lcov")) (lcov_bytes r.files r.arcs) (judged (or_else fail_under r.settings.report.fail_under) r.files)) (reported-is data_file rcfile) (λ r.
+      put-is (or_else name (codes "coverage.lcov")) (lcov_bytes r.files r.arcs) (judged (or_else fail_under r.settings.report.fail_under) r.files))
+  doing-is (plain.annotate data_file rcfile path) =
+      binds _ _ (settings rcfile) (λ s. bind (patterns s.report) (λ p. bind (needed (own_name data_file s)) (λ d. bind (source path) (λ f. write_last (annotated_bytes (analysed p d f) f.text) done)))) (settings-are rcfile) (annotated-is data_file path)
+  doing-is (plain.erase data_file rcfile) = binds _ _ (settings rcfile) (λ s. remove_last (own_name data_file s) done) (settings-are rcfile) (λ s. removes-last (own_name data_file s) done)
+  doing-is (plain.script file) = refuses _ (usage 0) refl
+  doing-is (plain.make seed size) = refuses _ (usage 0) refl
+  doing-is (plain.suite branch steps data_file rcfile file) = refuses _ (usage 0) refl
+  doing-is (plain.select steps old new) = refuses _ (usage 0) refl
+  doing-is (plain.mutate steps file) = refuses _ (usage 0) refl
+
+  pub step-is : (words : List Word) → P _ (step words)
+  step-is words = binds _ _ (ask (spells words) (given_or usage)) doing (spelling words) doing-is

@@ -1,0 +1,122 @@
+-- The calls that commands make, and how a command ends.
+--     Answered                     how a command ended
+--     PlainSource, Patterns        a source, and the patterns of a report
+--     HookFiles, Asked             a hook that was loaded, and what a run is asked
+--     Ran                          what a run came to
+--     Call, Answer                 a call, and what is answered to it
+--     Step, refuse                 a program over calls, and one that is refused
+--     IsNoMemory                   want of memory
+--     seen                         an answer of the code
+use Rattle.std.specs.Prelude.{◌≡◌, ℕ, Bool, List, Option, Result, Ok, Err}
+use Rattle.cov_outside.specs.declared.shelf.ShelfError.{ShelfError}
+use Rattle.cov_outside.specs.declared.sink.SinkError.{SinkError}
+use Rattle.py_builtins.specs.Outcomes.{Outcome}
+use Rattle.py_builtins.specs.declared.fault.RunFault.{RunFault}
+use Rattle.py_meaning.specs.Modules.{LoadedModule}
+use Rattle.py_syntax.specs.Tree.{Text, Stmts}
+use Rattle.cov_data.specs.DataSet.{DataSet}
+use Rattle.cov_exclude.specs.declared.patterns.PatternError.{PatternError}
+use Rattle.cov_programs.specs.Programs.{Program}
+use Rattle.cov_programs.specs.Programs as programs
+use Rattle.cov_run.specs.Reading.{Reading}
+use Rattle.cov_vault.specs.declared.vault.VaultError.{VaultError}
+use Rattle.cov_why.specs.Answers.{Refusal, no_memory, Ended, PlainWhy, plain_why}
+use Rattle.cov_why.specs.declared.why.Why.{Why}
+use Rattle.cov_words.specs.Commands.{PlainCommand}
+use Rattle.cov_words.specs.Values.{Word}
+
+-- How a command ended that wasn't refused, with the bytes that its program's ending writes to `err`,
+-- or the percent that was asked for.
+pub record Answered : Type 0 where
+  pub ended : Ended
+  pub ending : List ℕ
+
+-- a source that is reported: its path, its text and its tree
+pub record PlainSource : Type 0 where
+  pub path : Word
+  pub text : List ℕ
+  pub body : Stmts
+
+-- the texts of the patterns that exclude a line, and of those that free its branches
+pub record Patterns : Type 0 where
+  pub exclude : List (List ℕ)
+  pub partial : List (List ℕ)
+
+-- a hook that was loaded: its modules, the path of its file and the name of its function
+pub record HookFiles : Type 0 where
+  pub modules : List LoadedModule
+  pub script : Text
+  pub function : Text
+
+-- what a run is asked: whether it records arcs, its static context, whether names give labels, its
+-- words and its steps
+pub record Asked : Type 0 where
+  pub arcs : Bool
+  pub context : Word
+  pub by_name : Bool
+  pub words : List Text
+  pub budget : ℕ
+
+-- how a run ended, after how many steps, and the rows that were recorded
+pub record Ran : Type 0 where
+  pub outcome : Outcome
+  pub steps : ℕ
+  pub rows : DataSet
+
+-- Each call is one of a public function, and its relation is that function's clauses.
+pub data Call : Type 0 where
+  -- what words are, and what the bytes of a source are
+  spells : (words : List Word) → Call
+  checks : (bytes : List ℕ) → Call
+  -- a shelf: a read, a put, and loading of a script
+  reads : (name : Word) (most : ℕ) → Call
+  puts : (name : Word) (bytes : List ℕ) → Call
+  opens : (script : Word) → Call
+  -- a vault
+  lists : Call
+  loads : (name : Word) → Call
+  saves : (name : Word) (content : DataSet) → Call
+  removes : (name : Word) → Call
+  -- a maker of patterns
+  makes : (texts : List (List ℕ)) → Call
+  -- input and output: a write, a run with its arcs and no labels, and one that is measured
+  writes : (bytes : List ℕ) → Call
+  crosses : (modules : List LoadedModule) (words : List Text) (budget : ℕ) → Call
+  measures : (asked : Asked) (modules : List LoadedModule) (hook : Option HookFiles) → Call
+  -- a text for `err`
+  says : (text : List ℕ) → Call
+
+-- what is answered
+abbrev pub Answer : Call → Type 0
+Answer (spells words) = Result PlainCommand ℕ
+Answer (checks bytes) = Reading
+Answer (reads name most) = Result (List ℕ) ShelfError
+Answer (puts name bytes) = Option ShelfError
+Answer (opens script) = Result (List LoadedModule) Refusal
+Answer lists = Result (List Word) VaultError
+Answer (loads name) = Result DataSet VaultError
+Answer (saves name content) = Option VaultError
+Answer (removes name) = Option VaultError
+Answer (makes texts) = Option PatternError
+Answer (writes bytes) = Option SinkError
+Answer (crosses modules words budget) = Result Ran RunFault
+Answer (measures asked modules hook) = Result Ran RunFault
+Answer (says text) = Unit {0}
+
+-- A program over these calls. What the code answers in place of a value is any ending; a program is
+-- refused, or gives how it ended as its value.
+abbrev pub Step : Type 0 → Type 0
+Step A = Program Call Answer PlainWhy A
+
+-- it is refused
+abbrev pub refuse : {A : Type 0} → Refusal → Step A
+refuse refusal = programs.refuse (Err refusal)
+
+-- want of memory
+abbrev pub IsNoMemory : PlainWhy → Type 0
+IsNoMemory why = why ≡ Err no_memory
+
+-- an answer of the code, with its value seen so
+abbrev pub seen : {X A : Type 0} → (X → A) → Result X Why → Result A PlainWhy
+seen view (Ok x) = Ok (view x)
+seen view (Err why) = Err (plain_why why)

@@ -1,0 +1,9 @@
+pub mod Listing
+pub mod Calls
+pub mod Names
+pub mod Answers
+pub mod Phases
+pub mod Commands
+pub mod Step
+pub mod Objects
+pub mod Promises

@@ -1,0 +1,25 @@
+//! Laws of the commands, whatever the objects do that they call.
+ghost use Rattle.cov_step.specs.Promises.{BlameLaw, CarefulLaw, RunTwiceLaw, YieldLaw};
+
+/// A command that changes shelf or vault by its last call alone isn't refused after it. So a
+/// refusal leaves both as they were. It does nothing when it runs.
+pub fn careful()
+    ensures { CarefulLaw }
+{}
+
+/// A run calls the vault at most twice. It does nothing when it runs.
+pub fn run_calls_vault_twice()
+    ensures { RunTwiceLaw }
+{}
+
+/// A refusal that blames an object is given only after an answer that was its fault. It does
+/// nothing when it runs.
+pub fn blames_who_failed()
+    ensures { BlameLaw }
+{}
+
+/// Where an object answers that memory is wanting, so does the command. It does nothing when it
+/// runs.
+pub fn yields_to_want_of_memory()
+    ensures { YieldLaw }
+{}
