@@ -1,0 +1,5 @@
+pub mod Handing
+pub mod Looping
+pub mod Patterning
+pub mod Slashes
+pub mod Told

@@ -1,0 +1,9 @@
+pub mod Lists
+pub mod Objects
+pub mod Opening
+pub mod Files
+pub mod Texts
+pub mod Sourcing
+pub mod Judging
+pub mod Naming
+pub mod Alone

@@ -1,0 +1,14 @@
+use Rattle.std.proofs.Common.{◌∙◌, ap, List, map}
+use Rattle.cov_analysis.specs.Counts.{numbers_of, total_of}
+use Rattle.cov_analysis.specs.declared.analysis.Analysis.{Analysis}
+use Rattle.cov_step.specs.Phases.{judged_by}
+use Rattle.cov_reports.proofs.Judging.{judged-views, written-so}
+use Rattle.cov_reports.proofs.commands.write_text.Goals as goal
+
+pub returns : goal.returns
+returns g c =
+    written-so g.O.Sink c.as_bytes.ensures.value
+    (c.in-Ok.ensures
+    ∙ ap (λ (files : List Analysis). judged_by c.least_of-least.result (total_of (map numbers_of files))) c.deref.ensures.value
+    ∙ ap (λ least. judged_by least (total_of (map numbers_of c.args.findings.now.files.items))) c.least_of-least.ensures
+    ∙ judged-views _ c.args.findings.now.files.items) c.write_last.ensures

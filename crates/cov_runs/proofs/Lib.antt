@@ -1,0 +1,9 @@
+mod Beginnings
+mod Hooking
+mod KindNames
+mod Lifting
+mod Lines
+mod MeasureCalls
+mod Opened
+mod PossibleSets
+mod WordsAsked

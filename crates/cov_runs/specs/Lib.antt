@@ -1,0 +1,4 @@
+pub mod Crossed
+pub mod Hooks
+pub mod Measured
+pub mod Rests
