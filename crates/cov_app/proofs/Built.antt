@@ -1,82 +1,117 @@
--- How many of some words begin a command that is built, by how many begin any command.
-use Rattle.std.proofs.Common.{◌≡◌, ◌≤◌, ℕ, zero, suc, length, Bool, true, false, cond, List, [], ◌∷◌, ◌++◌, map, take, codes, Option, Some, None, String, Global, string_bytes, refl, sym, ap, ◌∙◌, true≢false, arith}
-use Rattle.std.specs.Prelude.{slice_get, option_and_then}
+-- The words of commands that are built: the first of them decides.
+use Rattle.std.proofs.Common.{◌≡◌, ◌≤◌, ℕ, zero, suc, length, Bool, true, false, if◌then◌else◌, List, [], ◌∷◌, ◌++◌, take, codes, Option, Some, None, Err, refl, sym, ap, ◌∙◌, subst, true≢false, arith}
+use Rattle.std.specs.Prelude.{◌||◌, option_and_then}
+use Rattle.std.specs.List.{list_any}
 use Rattle.std.specs.Str.{bytes_eq}
+use Rattle.cov_words.specs.declared.command.WordsError.{WordsError}
+use Rattle.cov_words.specs.declared.command.WordsError.TheVariants.{Usage}
+use Rattle.cov_words.specs.Plain.{Answers}
 use Rattle.cov_words.specs.Values.{Word, whole_number, number_up_to}
-use Rattle.cov_words.specs.Options.{command_named, Given, none, look_up, commands}
+use Rattle.cov_words.specs.Options.{command_named, Given, none}
 use Rattle.cov_words.specs.Commands.{PlainCommand, arcs, command_of, of_numbers, IsCommand, spelled, BeginsCommand, StopsAfter}
-use Rattle.cov_app.specs.Built.{is_built, BeginsBuilt, BuiltStopsAfter}
+use Rattle.cov_step.specs.Step.{is_built, BeginsBuilt, BuiltStopsAfter}
+use Rattle.cov_app.specs.Built.{names_built, begins_built}
 
--- ---- the commands of other names
+-- ---- names
 
-abbrev built-in : Option PlainCommand → Bool
-built-in None = false
-built-in (Some c) = is_built c
+-- what holds of a name that is found
+abbrev Found : {N : Type 0} → (Bool → N → Type 0) → Bool → Option N → Type 0
+Found P b None = Unit {0}
+Found P b (Some n) = P b n
 
-numbers-none : (seed size : Option ℕ) → built-in (of_numbers seed size) ≡ false
-numbers-none None size = refl
-numbers-none (Some m) None = refl
-numbers-none (Some m) (Some n) = refl
+by-table : {N : Type 0} (P : Bool → N → Type 0) (n1 n2 n3 n4 n5 n6 n7 n8 n9 n10 n11 n12 n13 : N)
+    → P true n1 → P true n2 → P true n3 → P true n4 → P true n5 → P true n6 → P true n7 → P true n8 → P false n9 → P false n10 → P false n11 → P false n12 → P false n13
+    → (a b c d e f g h i j k l m : Bool)
+    → Found P (a || (b || (c || (d || (e || (f || (g || (h || false)))))))) (if a then Some n1 else if b then Some n2 else if c then Some n3 else if d then Some n4 else if e then Some n5 else if f then Some n6 else if g then Some n7 else if h then Some n8 else if i then Some n9 else if j then Some n10 else if k then Some n11 else if l then Some n12 else if m then Some n13 else None)
+by-table P n1 n2 n3 n4 n5 n6 n7 n8 n9 n10 n11 n12 n13 p1 p2 p3 p4 p5 p6 p7 p8 p9 p10 p11 p12 p13 true b c d e f g h i j k l m = p1
+by-table P n1 n2 n3 n4 n5 n6 n7 n8 n9 n10 n11 n12 n13 p1 p2 p3 p4 p5 p6 p7 p8 p9 p10 p11 p12 p13 false true c d e f g h i j k l m = p2
+by-table P n1 n2 n3 n4 n5 n6 n7 n8 n9 n10 n11 n12 n13 p1 p2 p3 p4 p5 p6 p7 p8 p9 p10 p11 p12 p13 false false true d e f g h i j k l m = p3
+by-table P n1 n2 n3 n4 n5 n6 n7 n8 n9 n10 n11 n12 n13 p1 p2 p3 p4 p5 p6 p7 p8 p9 p10 p11 p12 p13 false false false true e f g h i j k l m = p4
+by-table P n1 n2 n3 n4 n5 n6 n7 n8 n9 n10 n11 n12 n13 p1 p2 p3 p4 p5 p6 p7 p8 p9 p10 p11 p12 p13 false false false false true f g h i j k l m = p5
+by-table P n1 n2 n3 n4 n5 n6 n7 n8 n9 n10 n11 n12 n13 p1 p2 p3 p4 p5 p6 p7 p8 p9 p10 p11 p12 p13 false false false false false true g h i j k l m = p6
+by-table P n1 n2 n3 n4 n5 n6 n7 n8 n9 n10 n11 n12 n13 p1 p2 p3 p4 p5 p6 p7 p8 p9 p10 p11 p12 p13 false false false false false false true h i j k l m = p7
+by-table P n1 n2 n3 n4 n5 n6 n7 n8 n9 n10 n11 n12 n13 p1 p2 p3 p4 p5 p6 p7 p8 p9 p10 p11 p12 p13 false false false false false false false true i j k l m = p8
+by-table P n1 n2 n3 n4 n5 n6 n7 n8 n9 n10 n11 n12 n13 p1 p2 p3 p4 p5 p6 p7 p8 p9 p10 p11 p12 p13 false false false false false false false false true j k l m = p9
+by-table P n1 n2 n3 n4 n5 n6 n7 n8 n9 n10 n11 n12 n13 p1 p2 p3 p4 p5 p6 p7 p8 p9 p10 p11 p12 p13 false false false false false false false false false true k l m = p10
+by-table P n1 n2 n3 n4 n5 n6 n7 n8 n9 n10 n11 n12 n13 p1 p2 p3 p4 p5 p6 p7 p8 p9 p10 p11 p12 p13 false false false false false false false false false false true l m = p11
+by-table P n1 n2 n3 n4 n5 n6 n7 n8 n9 n10 n11 n12 n13 p1 p2 p3 p4 p5 p6 p7 p8 p9 p10 p11 p12 p13 false false false false false false false false false false false true m = p12
+by-table P n1 n2 n3 n4 n5 n6 n7 n8 n9 n10 n11 n12 n13 p1 p2 p3 p4 p5 p6 p7 p8 p9 p10 p11 p12 p13 false false false false false false false false false false false false true = p13
+by-table P n1 n2 n3 n4 n5 n6 n7 n8 n9 n10 n11 n12 n13 p1 p2 p3 p4 p5 p6 p7 p8 p9 p10 p11 p12 p13 false false false false false false false false false false false false false = tt {0}
 
-abbrev tail-of : {A : Type 0} → List A → List A
-tail-of [] = []
-tail-of (x ∷ xs) = xs
+-- ---- the command of a name
 
--- whether a name in a table passes
-abbrev passes : {N : Type 0} → (N → Bool) → Option N → Bool
-passes p None = false
-passes p (Some name) = p name
+-- a command is built or not, where there is one
+abbrev Agrees : Bool → Option PlainCommand → Type 0
+Agrees b None = Unit {0}
+Agrees b (Some c) = is_built c ≡ b
 
-abbrev none-passes : {N : Type 0} → (N → Bool) → List (Word × N) → Bool
-none-passes p [] = true
-none-passes p (e ∷ es) = cond (p e.1) false (none-passes p es)
+-- the command of this name, with these options and operands
+abbrev named-so : Word → Given → List Word → Option PlainCommand
+named-so w g ys = option_and_then (λ n. command_of n g ys) (command_named w)
 
-never-found : {N : Type 0} (p : N → Bool) (w : Word) (es : List (Word × N)) → none-passes p es ≡ true → passes p (look_up w es) ≡ false
-never-found p w [] h = refl
-never-found p w (e ∷ es) h = chosen (bytes_eq w e.0) (p e.1) refl h (λ k. never-found p w es k)
-  where
-    chosen : (found first : Bool) → p e.1 ≡ first → cond first false (none-passes p es) ≡ true → (none-passes p es ≡ true → passes p (look_up w es) ≡ false) → passes p (cond found (Some e.1) (look_up w es)) ≡ false
-    chosen found true is h later = absurd (true≢false (sym h))
-    chosen true false is h later = is
-    chosen false false is h later = later h
+numbers-agree : (seed size : Option ℕ) → Agrees false (of_numbers seed size)
+numbers-agree None size = tt
+numbers-agree (Some m) None = tt
+numbers-agree (Some m) (Some n) = refl
 
-none-built : (g : Given) (ys : List Word) → none-passes (λ name. built-in (command_of name g ys)) (tail-of commands) ≡ true
-none-built g [] = refl
-none-built g (y ∷ []) = refl
-none-built g (y ∷ z ∷ ys) = ap (λ b. cond b false true) (numbers-none (whole_number y) (number_up_to 16000 z))
+arcs-agrees : (g : Given) (ys : List Word) → Agrees true (named-so (codes "arcs") g ys)
+arcs-agrees g [] = tt
+arcs-agrees g (y ∷ ys) = refl
 
--- ---- the first word of a command
+run-agrees : (g : Given) (ys : List Word) → Agrees true (named-so (codes "run") g ys)
+run-agrees g [] = tt
+run-agrees g (y ∷ ys) = refl
 
-head-same : {A : Type 0} {a b : A} {xs ys : List A} → a ∷ xs ≡ b ∷ ys → a ≡ b
-head-same e = cc
+combine-agrees : (g : Given) (ys : List Word) → Agrees true (named-so (codes "combine") g ys)
+combine-agrees g ys = refl
 
-some-same : {A : Type 0} {a b : A} → Some a ≡ Some b → a ≡ b
-some-same e = cc
+report-agrees : (g : Given) (ys : List Word) → Agrees true (named-so (codes "report") g ys)
+report-agrees g ys = refl
 
-by-first : (w : Word) → command_named w ≡ cond (bytes_eq w (codes "arcs")) (command_named (codes "arcs")) (look_up w (tail-of commands))
-by-first w = refl
+json-agrees : (g : Given) (ys : List Word) → Agrees true (named-so (codes "json") g ys)
+json-agrees g ys = refl
 
-first-is-arcs : (c : PlainCommand) (words : List Word) (w : Word) (ws : List Word) → words ≡ w ∷ ws → is_built c ≡ true → IsCommand c words → bytes_eq w (codes "arcs") ≡ true
-first-is-arcs c _ w ws e b (spelled v name g xs ys named gives fits is) =
-    chosen (bytes_eq w (codes "arcs")) refl
-  where
-    passed : passes (λ n. built-in (command_of n g ys)) (command_named w) ≡ true
-    passed = ap (λ v. passes (λ n. built-in (command_of n g ys)) (command_named v)) (sym (head-same e)) ∙ ap (passes (λ n. built-in (command_of n g ys))) named ∙ ap built-in is ∙ b
+lcov-agrees : (g : Given) (ys : List Word) → Agrees true (named-so (codes "lcov") g ys)
+lcov-agrees g ys = refl
 
-    chosen : (arcs-is : Bool) → bytes_eq w (codes "arcs") ≡ arcs-is → bytes_eq w (codes "arcs") ≡ true
-    chosen true h = h
-    chosen false h =
-        let later : command_named w ≡ look_up w (tail-of commands) = by-first w ∙ ap (λ b. cond b (command_named (codes "arcs")) (look_up w (tail-of commands))) h in
-        absurd (true≢false (sym passed ∙ ap (passes (λ n. built-in (command_of n g ys))) later ∙ never-found (λ n. built-in (command_of n g ys)) w (tail-of commands) (none-built g ys)))
+annotate-agrees : (g : Given) (ys : List Word) → Agrees true (named-so (codes "annotate") g ys)
+annotate-agrees g [] = tt
+annotate-agrees g (y ∷ ys) = refl
 
-arcs-built : (g : Given) (ys : List Word) (c : PlainCommand) → option_and_then (λ n. command_of n g ys) (command_named (codes "arcs")) ≡ Some c → is_built c ≡ true
-arcs-built g [] c e = absurd (cc)
-arcs-built g (y ∷ ys) c e = sym (ap built-in e)
+erase-agrees : (g : Given) (ys : List Word) → Agrees true (named-so (codes "erase") g ys)
+erase-agrees g ys = refl
 
-first-of-built : (c : PlainCommand) (words : List Word) (w : Word) (ws : List Word) → words ≡ w ∷ ws → bytes_eq w (codes "arcs") ≡ true → IsCommand c words → is_built c ≡ true
-first-of-built c _ w ws e same (spelled v name g xs ys named gives fits is) =
-    let first : command_named w ≡ command_named (codes "arcs") = by-first w ∙ ap (λ b. cond b (command_named (codes "arcs")) (look_up w (tail-of commands))) same in
-    arcs-built g ys c (ap (option_and_then (λ n. command_of n g ys)) (sym first ∙ ap command_named (sym (head-same e)) ∙ named) ∙ is)
+script-agrees : (g : Given) (ys : List Word) → Agrees false (named-so (codes "script") g ys)
+script-agrees g [] = tt
+script-agrees g (y ∷ ys) = refl
+
+make-agrees : (g : Given) (ys : List Word) → Agrees false (named-so (codes "make") g ys)
+make-agrees g [] = tt
+make-agrees g (y ∷ []) = tt
+make-agrees g (y ∷ z ∷ ys) = numbers-agree (whole_number y) (number_up_to 16000 z)
+
+suite-agrees : (g : Given) (ys : List Word) → Agrees false (named-so (codes "suite") g ys)
+suite-agrees g [] = tt
+suite-agrees g (y ∷ ys) = refl
+
+select-agrees : (g : Given) (ys : List Word) → Agrees false (named-so (codes "select") g ys)
+select-agrees g [] = tt
+select-agrees g (y ∷ []) = tt
+select-agrees g (y ∷ z ∷ ys) = refl
+
+mutate-agrees : (g : Given) (ys : List Word) → Agrees false (named-so (codes "mutate") g ys)
+mutate-agrees g [] = tt
+mutate-agrees g (y ∷ ys) = refl
+
+by-name : (w : Word) (g : Given) (ys : List Word) → Found (λ b n. Agrees b (command_of n g ys)) (names_built w) (command_named w)
+by-name w g ys = by-table (λ b n. Agrees b (command_of n g ys)) _ _ _ _ _ _ _ _ _ _ _ _ _ (arcs-agrees g ys) (run-agrees g ys) (combine-agrees g ys) (report-agrees g ys) (json-agrees g ys) (lcov-agrees g ys) (annotate-agrees g ys) (erase-agrees g ys) (script-agrees g ys) (make-agrees g ys) (suite-agrees g ys) (select-agrees g ys) (mutate-agrees g ys)
+    (bytes_eq w (codes "arcs")) (bytes_eq w (codes "run")) (bytes_eq w (codes "combine")) (bytes_eq w (codes "report")) (bytes_eq w (codes "json")) (bytes_eq w (codes "lcov")) (bytes_eq w (codes "annotate")) (bytes_eq w (codes "erase")) (bytes_eq w (codes "script")) (bytes_eq w (codes "make")) (bytes_eq w (codes "suite")) (bytes_eq w (codes "select")) (bytes_eq w (codes "mutate"))
+
+-- the first word tells whether a command is built
+pub first-tells : (c : PlainCommand) (words : List Word) → IsCommand c words → begins_built words ≡ is_built c
+first-tells c _ (spelled v name g xs ys named gives fits is) =
+    let found : Agrees (names_built v) (command_of name g ys) = subst (λ x. Found (λ b n. Agrees b (command_of n g ys)) (names_built v) x) named (by-name v g ys) in
+    sym (subst (Agrees (names_built v)) is found)
 
 -- ---- how many words begin one
 
@@ -84,8 +119,23 @@ first-of-built c _ w ws e same (spelled v name g xs ys named gives fits is) =
 nothing-begins : BeginsBuilt []
 nothing-begins = (codes "arcs" ∷ codes "a" ∷ [], arcs None (codes "a") [], refl, spelled (codes "arcs") _ [] [] (codes "a" ∷ []) refl none refl refl)
 
-stops-built : (w : Word) (ws : List Word) (i : ℕ) → bytes_eq w (codes "arcs") ≡ true → StopsAfter (w ∷ ws) i → BuiltStopsAfter (w ∷ ws) i
-stops-built w ws i same s = record {
+pub not-built : (words : List Word) → begins_built words ≡ false → (c : PlainCommand) → is_built c ≡ true → IsCommand c words → ⊥
+not-built words other c b h = true≢false (sym b ∙ sym (first-tells c words h) ∙ other)
+
+pub is-built : (words : List Word) → begins_built words ≡ true → (c : PlainCommand) → IsCommand c words → is_built c ≡ true
+is-built words same c h = sym (first-tells c words h) ∙ same
+
+pub stops-at-once : (words : List Word) → begins_built words ≡ false → BuiltStopsAfter words 0
+stops-at-once [] other = record { within = omega arith; begins = nothing-begins; most = λ j inside b. inside }
+stops-at-once (w ∷ ws) other = record { within = omega arith; begins = nothing-begins; most = most }
+  where
+    most : (j : ℕ) → j ≤ length (w ∷ ws) → BeginsBuilt (take j (w ∷ ws)) → j ≤ 0
+    most zero inside b = omega arith
+    most (suc j) inside b = absurd (not-built (w ∷ (take j ws ++ b.0)) other b.1 b.2 b.3)
+
+pub stops-built : (words : List Word) (i : ℕ) → begins_built words ≡ true → StopsAfter words i → BuiltStopsAfter words i
+stops-built [] i same s = absurd (true≢false (sym same))
+stops-built (w ∷ ws) i same s = record {
   within = s.within;
   begins = begins i s.begins;
   most = λ j inside b. s.most j inside (b.0, b.1, b.3);
@@ -93,30 +143,8 @@ stops-built w ws i same s = record {
   where
     begins : (k : ℕ) → BeginsCommand (take k (w ∷ ws)) → BeginsBuilt (take k (w ∷ ws))
     begins zero b = nothing-begins
-    begins (suc k) b = (b.0, b.1, first-of-built b.1 (w ∷ (take k ws ++ b.0)) w (take k ws ++ b.0) refl same b.2, b.2)
+    begins (suc k) b = (b.0, b.1, is-built (w ∷ (take k ws ++ b.0)) same b.1 b.2, b.2)
 
-stops-at-once : (w : Word) (ws : List Word) → bytes_eq w (codes "arcs") ≡ false → BuiltStopsAfter (w ∷ ws) 0
-stops-at-once w ws other = record {
-  within = omega arith;
-  begins = nothing-begins;
-  most = most;
-}
-  where
-    most : (j : ℕ) → j ≤ length (w ∷ ws) → BeginsBuilt (take j (w ∷ ws)) → j ≤ 0
-    most zero inside b = omega arith
-    most (suc j) inside b = absurd (true≢false (sym (first-is-arcs b.1 (w ∷ (take j ws ++ b.0)) w (take j ws ++ b.0) refl b.2 b.3) ∙ other))
-
--- ---- in the words of the code
-
-pub no-word-stops : (ws : List (String Global)) → None ≡ slice_get ws 0 → BuiltStopsAfter (map string_bytes ws) 0
-no-word-stops [] e = record { within = omega arith; begins = nothing-begins; most = λ j inside b. inside }
-no-word-stops (w ∷ ws) e = absurd (cc)
-
--- the word `arcs`, and any other
-pub arcs-stops : (ws : List (String Global)) (w : String Global) (i : ℕ) → Some w ≡ slice_get ws 0 → bytes_eq (string_bytes w) (codes "arcs") ≡ true → StopsAfter (map string_bytes ws) i → BuiltStopsAfter (map string_bytes ws) i
-arcs-stops [] w i e same s = absurd (cc)
-arcs-stops (x ∷ ws) w i e same s = stops-built (string_bytes x) (map string_bytes ws) i (ap (λ (y : String Global). bytes_eq (string_bytes y) (codes "arcs")) (sym (some-same e)) ∙ same) s
-
-pub other-stops : (ws : List (String Global)) (w : String Global) → Some w ≡ slice_get ws 0 → bytes_eq (string_bytes w) (codes "arcs") ≡ false → BuiltStopsAfter (map string_bytes ws) 0
-other-stops [] w e other = absurd (cc)
-other-stops (x ∷ ws) w e other = stops-at-once (string_bytes x) (map string_bytes ws) (ap (λ (y : String Global). bytes_eq (string_bytes y) (codes "arcs")) (sym (some-same e)) ∙ other)
+-- what reading says of words that are refused
+pub usage-so : (words : List Word) (e : WordsError) (n : ℕ) → e ≡ Usage n → Answers words (Err e) → ((c : PlainCommand) → IsCommand c words → ⊥) × StopsAfter words n
+usage-so words e n is a = subst (λ x. Answers words (Err x)) is a

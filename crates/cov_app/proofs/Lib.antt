@@ -1,6 +1,5 @@
+mod Opening
 mod Built
-mod Firsts
-mod KindNames
-mod Lines
-mod Showing
-mod Stepping
+mod Wide
+mod Blaming
+mod Keeping

@@ -1,7 +1,5 @@
-pub mod Messages
-pub mod Listing
-pub mod Runs
-pub mod Kept
-pub mod Endings
 pub mod Built
-pub mod Step
+pub mod Kept
+pub mod Objects
+pub mod Spelled
+pub mod Taken

@@ -1,6 +1,6 @@
 //! How a command ended.
 
-use cov_words::Why;
+use cov_why::Why;
 
 /// How a call of `coverage` ended.
 #[derive(Drop)]

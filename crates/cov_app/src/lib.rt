@@ -1,13 +1,10 @@
-//! Runs one command: from its words to what it prints and how it ends. Its one public call is
-//! `coverage`.
+//! Runs one command: from its words to what it prints, what it saves and how it ends. Its one public
+//! call is `coverage`.
 #![tactic(auto)]
 
 mod answer;
-mod arcs;
-mod endings;
-mod listing;
-mod messages;
-mod running;
+mod commands;
+mod saying;
 mod step;
 
 pub use answer::{End, Told};

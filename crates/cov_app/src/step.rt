@@ -1,141 +1,128 @@
-//! The top call: one command over a shelf, an input and two sinks.
-ghost use Rattle.std.specs.Prelude.{◌≡◌, map, string_bytes};
+//! The top call: one command over a shelf, a vault, a maker of patterns, an input and two sinks.
+ghost use Rattle.std.specs.Prelude.{◌≡◌, ℕ, true, Ok, map, string_bytes};
+ghost use Rattle.cov_app.specs.Kept.{AreLeft, ChangesLast};
+ghost use Rattle.cov_app.specs.Objects.{all_of, on_all};
+ghost use Rattle.cov_app.specs.Taken.{StepTaken, why_of, ending_in};
+ghost use Rattle.cov_calls.specs.Views.{answered_view, ended_view};
+ghost use Rattle.cov_measure.specs.Measures.{streams};
 ghost use Rattle.cov_outside.specs.Counts.{Rose};
-ghost use Rattle.cov_words.specs.Commands.{StopsAfter};
-ghost use Rattle.cov_words.specs.Plain.{command_view};
-ghost use Rattle.cov_run.specs.Asking.{EndsFailed};
-ghost use Rattle.cov_app.specs.Built.{BuiltStopsAfter};
-ghost use Rattle.cov_app.specs.Endings.{ending_of};
-ghost use Rattle.cov_app.specs.Messages.{status_of};
-ghost use Rattle.cov_app.specs.Runs.{became};
-ghost use Rattle.cov_app.specs.Step.{Does, ShelfLoads, StepTaken, TakesStep, effect};
+ghost use Rattle.cov_programs.specs.Ends.{Follows};
+ghost use Rattle.cov_step.specs.Calls.{IsNoMemory, seen};
+ghost use Rattle.cov_step.specs.Step.{step};
+ghost use Rattle.cov_why.specs.Answers.{is_refusal, plain_why};
+ghost use Rattle.cov_why.specs.Statuses.{status_of};
 
 use crate::answer::{End, Told};
-use crate::arcs::arcs;
-use crate::messages::{status_of, tell};
+use crate::commands::{command_of, run_command};
+use crate::saying::tell;
+use cov_calls::{Answered, Ended};
+use cov_contexts::Plugin;
+use cov_exclude::Maker;
 use cov_outside::{Shelf, Sink, Source};
-use cov_words::{Command, Why, WordsError, read_words};
-use py_machine::{Engine, Outcome};
+use cov_vault::Vault;
+use cov_why::Why;
+use py_machine::Engine;
 use std::alloc::Global;
 
-/// Runs the command that the words spell, over the files of a shelf and by an engine. `arcs SCRIPT`
-/// runs the script, and writes its output and then its arcs to `out`, one line `PATH FROM TO` each.
-/// The outside of a body is its first line, negative. An uncaught exception, the text of an exit,
-/// or the line of a refusal goes to `err`.
-pub fn coverage<H: Shelf, I: Source, O: Sink, E: Sink, G: Engine>(
+/// Runs the command that the words spell. Programs and settings are read from the shelf, and run by
+/// the engine with this input and output; what they took is kept in the vault. The line of a refusal
+/// goes to `err`, and so does an uncaught exception or the text of an exit. A plugin that leaves is
+/// taken from the list.
+pub fn coverage<H: Shelf, V: Vault, M: Maker, I: Source, O: Sink, E: Sink, G: Engine, P: Plugin>(
     alloc: Global,
     words: &[String],
     shelf: &mut H,
+    vault: &mut V,
+    maker: &mut M,
     input: &mut I,
     out: &mut O,
     err: &mut E,
+    plugins: &mut Vec<P>,
     engine: &mut G,
 ) -> End
-    // The answer, the bytes, and the input that is left are those of the step of the words.
-    ensures step { StepTaken (ShelfLoads H.reads H.tells (H.files shelf.old) shelf.old shelf.new)
-        G.faithful (map string_bytes words.now) result.why result.told
-        (became I.tells (I.left input.old) (I.left input.new))
-        (became O.tells (O.contents out.old) (O.contents out.new))
-        (became E.tells (E.contents err.old) (E.contents err.new)) }
-    ensures status { result.status ≡ status_of result.why }
+    // The objects follow the step of the words, and it ends as answered.
+    ensures step { StepTaken
+        (on_all H.Shelf V.Vault M.Maker I.Source O.Sink P.Plugin G.Engine)
+        (map string_bytes words.now)
+        (all_of shelf.old vault.old maker.old
+        (streams input.old out.old plugins.old.items engine.old))
+        (all_of shelf.new vault.new maker.new
+        (streams input.new out.new plugins.new.items engine.new))
+        result.why result.told E.tells (E.contents err.old) (E.contents err.new) }
+    ensures status { result.status ≡ status_of (plain_why result.why) }
 
-    // For every shelf, input, sink and engine.
+    // For all objects:
     ensures read_fault { result.why ≡ Why.ReadFault
         → Rose (I.faults input.old) (I.faults input.new) }
     ensures write_fault { result.why ≡ Why.WriteFault
         → Rose (O.faults out.old) (O.faults out.new) }
     ensures shelf_fault { result.why ≡ Why.ShelfFault
         → Rose (H.faults shelf.old) (H.faults shelf.new) }
+    ensures vault_fault { result.why ≡ Why.VaultFault
+        → Rose (V.faults vault.old) (V.faults vault.new) }
+    ensures pattern_size { (at : ℕ) → result.why ≡ Why.PatternSize at
+        → Rose (M.sizes maker.old) (M.sizes maker.new) }
     ensures told_failed { result.told ≡ Told.Failed → Rose (E.faults err.old) (E.faults err.new) }
-    ensures shelf_failed { result.why ≡ Why.ShelfFault → EndsFailed H.reads shelf.old shelf.new }
-    ensures shelf_kept { H.tells → H.files shelf.new ≡ H.files shelf.old }
+
+    // A refusal leaves files and data as they were, where words aren't those of `combine`.
+    ensures kept { is_refusal (plain_why result.why) ≡ true
+        → ChangesLast (map string_bytes words.now)
+        → AreLeft H.Shelf V.Vault shelf.old shelf.new vault.old vault.new }
 {
-    let (why, outcome) = answer(alloc, words, shelf, input, out, engine);
-    let told = tell(alloc, err, &why, &outcome);
-    drop(outcome);
-    let status = status_of(&why);
+    let answer = answer(
+        alloc, words, shelf, vault, maker, input, out, plugins, engine,
+    );
+    let (why, ending) = parts(alloc, answer);
+    let told = tell(alloc, err, &why, ending.as_str());
+    drop(ending);
+    let status = why.status();
     End { status, why, told }
 }
 
-/// The answer, and how the program ended, where one ran.
-fn answer<H: Shelf, I: Source, O: Sink, G: Engine>(
+/// The answer, and what is written to `err` besides.
+fn parts(alloc: Global, answer: Result<Answered, Why>) -> (Why, String)
+    ensures answer { plain_why result.0 ≡ why_of (seen answered_view answer) }
+    ensures ending { string_bytes result.1 ≡ ending_in (seen answered_view answer) }
+{
+    match answer {
+        Err(why) => (why, String::new(alloc)),
+        Ok(Answered { ended, ending }) => (why_of(ended), ending),
+    }
+}
+
+fn why_of(ended: Ended) -> Why
+    ensures { plain_why result ≡ Ok (ended_view ended) }
+{
+    match ended {
+        Ended::Finished => Why::Done,
+        Ended::Program(status) => Why::Program(status),
+        Ended::Budget(steps) => Why::Budget(steps),
+        Ended::Under(covered, all) => Why::Under(covered, all),
+    }
+}
+
+/// How the command of the words ended.
+fn answer<H: Shelf, V: Vault, M: Maker, I: Source, O: Sink, G: Engine, P: Plugin>(
     alloc: Global,
     words: &[String],
     shelf: &mut H,
+    vault: &mut V,
+    maker: &mut M,
     input: &mut I,
     out: &mut O,
+    plugins: &mut Vec<P>,
     engine: &mut G,
-) -> (Why, Option<Outcome>)
-    ensures step { TakesStep (ShelfLoads H.reads H.tells (H.files shelf.old) shelf.old shelf.new)
-        G.faithful (map string_bytes words.now) (effect result.0 (ending_of result.1)
-        (became I.tells (I.left input.old) (I.left input.new))
-        (became O.tells (O.contents out.old) (O.contents out.new))) }
-    ensures read_fault { result.0 ≡ Why.ReadFault → Rose (I.faults input.old) (I.faults input.new) }
-    ensures write_fault { result.0 ≡ Why.WriteFault → Rose (O.faults out.old) (O.faults out.new) }
-    ensures shelf_fault { result.0 ≡ Why.ShelfFault
-        → Rose (H.faults shelf.old) (H.faults shelf.new) }
-    ensures shelf_failed { result.0 ≡ Why.ShelfFault → EndsFailed H.reads shelf.old shelf.new }
-    ensures shelf_kept { H.tells → H.files shelf.new ≡ H.files shelf.old }
+) -> Result<Answered, Why>
+    ensures { Follows (on_all H.Shelf V.Vault M.Maker I.Source O.Sink P.Plugin G.Engine) IsNoMemory
+        (step (map string_bytes words.now))
+        (all_of shelf.old vault.old maker.old
+        (streams input.old out.old plugins.old.items engine.old))
+        (seen answered_view result)
+        (all_of shelf.new vault.new maker.new
+        (streams input.new out.new plugins.new.items engine.new)) }
 {
-    match read_words(alloc, words) {
-        Ok(command) => run_command(alloc, command, shelf, input, out, engine),
-        Err(WordsError::Usage(passed)) => (Why::Usage(begun(words, passed)), None),
-        Err(WordsError::NoMemory) => (Why::NoMemory, None),
-    }
-}
-
-/// How many of the words begin a command that is built, where so many begin one. The word of any
-/// other command is none.
-fn begun(words: &[String], passed: usize) -> usize
-    requires { StopsAfter (map string_bytes words.now) passed }
-    ensures { BuiltStopsAfter (map string_bytes words.now) result }
-{
-    match words.first() {
-        None => 0,
-        Some(word) => { if word.as_str() == "arcs" { passed } else { 0 } }
-    }
-}
-
-/// Runs a command. Words of one that isn't built are no command.
-fn run_command<H: Shelf, I: Source, O: Sink, G: Engine>(
-    alloc: Global,
-    command: Command,
-    shelf: &mut H,
-    input: &mut I,
-    out: &mut O,
-    engine: &mut G,
-) -> (Why, Option<Outcome>)
-    ensures does { Does (ShelfLoads H.reads H.tells (H.files shelf.old) shelf.old shelf.new)
-        G.faithful (effect result.0 (ending_of result.1)
-        (became I.tells (I.left input.old) (I.left input.new))
-        (became O.tells (O.contents out.old) (O.contents out.new))) (command_view command) }
-    ensures read_fault { result.0 ≡ Why.ReadFault → Rose (I.faults input.old) (I.faults input.new) }
-    ensures write_fault { result.0 ≡ Why.WriteFault → Rose (O.faults out.old) (O.faults out.new) }
-    ensures shelf_fault { result.0 ≡ Why.ShelfFault
-        → Rose (H.faults shelf.old) (H.faults shelf.new) }
-    ensures shelf_failed { result.0 ≡ Why.ShelfFault → EndsFailed H.reads shelf.old shelf.new }
-    ensures shelf_kept { H.tells → H.files shelf.new ≡ H.files shelf.old }
-{
-    match command {
-        Command::Arcs {
-            budget,
-            script,
-            args,
-        } => arcs(alloc, budget, script, args, shelf, input, out, engine),
-        other @ (Command::Run { .. }
-        | Command::Combine { .. }
-        | Command::Report { .. }
-        | Command::Json { .. }
-        | Command::Lcov { .. }
-        | Command::Annotate { .. }
-        | Command::Erase { .. }
-        | Command::Script { .. }
-        | Command::Make { .. }
-        | Command::Suite { .. }
-        | Command::Select { .. }
-        | Command::Mutate { .. }) => {
-            drop(other);
-            (Why::Usage(0), None)
-        }
-    }
+    let command = command_of(alloc, words)?;
+    run_command(
+        alloc, command, shelf, vault, maker, input, out, plugins, engine,
+    )
 }

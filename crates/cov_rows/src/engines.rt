@@ -1,7 +1,7 @@
-//! An engine that isn't true: the arcs that are listed are those that it told.
+//! An engine that isn't true: the arcs that are listed or saved are those that it told.
 
-use crate::harness::{NONE, answer_by, shelf_of};
-use cov_event::{CodeId, Event, Tracer};
+use crate::harness::{NONE, World, shelf_of};
+use cov_event::{CodeId, ContextPlugin, Event, Tracer};
 use cov_outside::{Sink, Source};
 use py_builtins::RunFault;
 use py_code::Programs;
@@ -15,6 +15,9 @@ struct Brief;
 
 impl Engine for Brief {
     ghost faithful = { ⊥ };
+
+    // Nothing is said of what it told.
+    ghost told = { λ _ _ _. Unit {0} };
 
     fn run<T: Tracer, I: Source, O: Sink>(
         &mut self,
@@ -41,8 +44,15 @@ fn another_engine(rt: HostRuntime) -> Result<(), Fail> {
     let alloc = rt.alloc();
     let source = "x = 1\nif x:\n    print(x)\nelse:\n    print(0)\n";
     let files = shelf_of(alloc, &[("a.py", source)])?;
-    let found = answer_by(alloc, "arcs a.py", files, "", NONE, &mut Brief)?;
+    let mut none: Vec<Box<dyn ContextPlugin>> = Vec::new(alloc);
+    let mut world = World::new(alloc, files, Vec::new(alloc), NONE)?;
+    let found = world.answer_by(alloc, "arcs a.py", "", &mut none, &mut Brief)?;
     assert_eq!(&rt; found.status, 0);
     assert_eq!(&rt; found.out.as_str(), "a.py -1 1\na.py 1 -1\n");
+    let found = world.answer_by(alloc, "run --branch a.py", "", &mut none, &mut Brief)?;
+    assert_eq!(&rt; found.status, 0);
+    assert_eq!(&rt; found.out.as_str(), "");
+    let rows = world.rows(alloc, ".coverage")?;
+    assert_eq!(&rt; rows.as_str(), ": a.py -1 1 1\n: a.py 1 -1 1\n");
     Ok(())
 }

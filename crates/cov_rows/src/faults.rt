@@ -1,10 +1,9 @@
 //! Commands over objects whose calls fail.
 
 use crate::harness::{Failing, NONE, answer_to};
+use crate::sources::FIRST_RUN;
 use cov_app::Told;
 use std::test::Fail;
-
-const FIRST_RUN: &str = "x = 1\nif x:\n    print(x)\nelse:\n    print(0)\n";
 
 const ASKS: &str = "print(1)\nprint(input())\n";
 
@@ -34,6 +33,7 @@ static ROWS: [Row; 8] = [
         source: FIRST_RUN,
         failing: Failing {
             shelf: &[0],
+            vault: &[],
             input: &[],
             out: &[],
             err: &[],
@@ -49,6 +49,7 @@ static ROWS: [Row; 8] = [
         source: "import m\nprint(1)\n",
         failing: Failing {
             shelf: &[1],
+            vault: &[],
             input: &[],
             out: &[],
             err: &[],
@@ -64,6 +65,7 @@ static ROWS: [Row; 8] = [
         source: FIRST_RUN,
         failing: Failing {
             shelf: &[],
+            vault: &[],
             input: &[],
             out: &[0],
             err: &[],
@@ -79,6 +81,7 @@ static ROWS: [Row; 8] = [
         source: "x = 1\n",
         failing: Failing {
             shelf: &[],
+            vault: &[],
             input: &[],
             out: &[0],
             err: &[],
@@ -94,6 +97,7 @@ static ROWS: [Row; 8] = [
         source: ASKS,
         failing: Failing {
             shelf: &[],
+            vault: &[],
             input: &[1],
             out: &[],
             err: &[],
@@ -109,6 +113,7 @@ static ROWS: [Row; 8] = [
         source: "x = y\n",
         failing: Failing {
             shelf: &[],
+            vault: &[],
             input: &[],
             out: &[],
             err: &[0],
@@ -134,6 +139,7 @@ static ROWS: [Row; 8] = [
         source: UNCAUGHT,
         failing: Failing {
             shelf: &[],
+            vault: &[],
             input: &[],
             out: &[],
             err: &[0],

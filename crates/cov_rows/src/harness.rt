@@ -1,15 +1,19 @@
 //! Runs commands over objects in memory.
 
 use cov_app::{End, Told, coverage};
-use cov_outside::{MemShelf, MemSink, MemSource, Source};
+use cov_event::ContextPlugin;
+use cov_exclude::RegexMaker;
+use cov_outside::{MemShelf, MemSink, MemSource, Shelf, Source};
+use cov_vault::{Content, MemVault, Vault};
 use py_machine::{Engine, Machine};
 use std::alloc::{AllocError, Global};
 use std::test::Fail;
 
-/// The calls that fail, counted from 0: of the shelf, the input, `out` and `err`.
+/// The calls that fail, counted from 0: of the shelf, the vault, the input, `out` and `err`.
 #[derive(Clone, Copy)]
 pub(crate) struct Failing {
     pub(crate) shelf: &'static [u64],
+    pub(crate) vault: &'static [u64],
     pub(crate) input: &'static [u64],
     pub(crate) out: &'static [u64],
     pub(crate) err: &'static [u64],
@@ -18,6 +22,7 @@ pub(crate) struct Failing {
 /// No call fails.
 pub(crate) const NONE: Failing = Failing {
     shelf: &[],
+    vault: &[],
     input: &[],
     out: &[],
     err: &[],
@@ -32,6 +37,110 @@ pub(crate) struct Answer {
     pub(crate) err: String,
     /// How many bytes of the input are left.
     pub(crate) left: usize,
+}
+
+/// Files and data in memory, over which commands run one after another, and the calls that fail.
+#[derive(Drop)]
+pub(crate) struct World {
+    shelf: MemShelf,
+    vault: MemVault,
+    failing: Failing,
+}
+
+impl World {
+    pub(crate) fn new(
+        alloc: Global,
+        files: Vec<(String, Vec<u8>)>,
+        contents: Vec<(String, Content)>,
+        failing: Failing,
+    ) -> Result<World, AllocError> {
+        Ok(World {
+            shelf: MemShelf::new(alloc, files, numbers(alloc, failing.shelf)?),
+            vault: MemVault::new(alloc, contents, numbers(alloc, failing.vault)?),
+            failing,
+        })
+    }
+
+    /// What comes of the words, by the machine, without a plugin.
+    pub(crate) fn answer(
+        &mut self,
+        alloc: Global,
+        words: &str,
+        input: &str,
+    ) -> Result<Answer, Fail> {
+        let mut none: Vec<Box<dyn ContextPlugin>> = Vec::new(alloc);
+        self.answer_by(alloc, words, input, &mut none, &mut Machine)
+    }
+
+    /// What comes of the words, by an engine.
+    pub(crate) fn answer_by<G: Engine>(
+        &mut self,
+        alloc: Global,
+        words: &str,
+        input: &str,
+        plugins: &mut Vec<Box<dyn ContextPlugin>>,
+        engine: &mut G,
+    ) -> Result<Answer, Fail> {
+        let words = split(alloc, words)?;
+        let bytes = Vec::from_slice(alloc, input.as_bytes())?;
+        let mut input = MemSource::new(bytes, numbers(alloc, self.failing.input)?);
+        let mut out = MemSink::new(alloc, Vec::new(alloc), numbers(alloc, self.failing.out)?);
+        let mut err = MemSink::new(alloc, Vec::new(alloc), numbers(alloc, self.failing.err)?);
+        let end = coverage(
+            alloc,
+            &words,
+            &mut self.shelf,
+            &mut self.vault,
+            &mut RegexMaker::new(),
+            &mut input,
+            &mut out,
+            &mut err,
+            plugins,
+            engine,
+        );
+        let End { status, why, told } = end;
+        drop(why);
+        Ok(Answer {
+            status,
+            told,
+            out: String::from_utf8(out.into_bytes())?,
+            err: String::from_utf8(err.into_bytes())?,
+            left: count_left(&mut input),
+        })
+    }
+
+    /// A line for each row of the data of a name: its context, path, numbers and count. Nothing
+    /// where there is none.
+    pub(crate) fn rows(&mut self, alloc: Global, name: &str) -> Result<String, AllocError> {
+        let mut lines = String::new(alloc);
+        if let Ok(data) = self.vault.load(alloc, name) {
+            for row in &data.rows()? {
+                let (context, path) = (row.context.as_str(), row.path.as_str());
+                let line = format!(in alloc;
+                    "{context}: {path} {} {} {}\n",
+                    row.from, row.to, row.count
+                )?;
+                lines.push_str(line.as_str())?;
+            }
+        }
+        Ok(lines)
+    }
+
+    /// The names of the data, with a blank between them. Nothing where they can't be told.
+    pub(crate) fn names(&mut self, alloc: Global) -> Result<String, AllocError> {
+        match self.vault.names(alloc) {
+            Ok(names) => names.join(alloc, " "),
+            Err(_) => Ok(String::new(alloc)),
+        }
+    }
+
+    /// The text of a file of at most 100,000 bytes. Nothing where there is none.
+    pub(crate) fn file(&mut self, alloc: Global, name: &str) -> Result<String, Fail> {
+        match self.shelf.read(alloc, name, 100_000) {
+            Ok(bytes) => Ok(String::from_utf8(bytes)?),
+            Err(_) => Ok(String::new(alloc)),
+        }
+    }
 }
 
 /// What comes of the words over files of text, by the machine.
@@ -68,24 +177,9 @@ pub(crate) fn answer_by<G: Engine>(
     failing: Failing,
     engine: &mut G,
 ) -> Result<Answer, Fail> {
-    let words = split(alloc, words)?;
-    let mut shelf = MemShelf::new(alloc, files, numbers(alloc, failing.shelf)?);
-    let bytes = Vec::from_slice(alloc, input.as_bytes())?;
-    let mut input = MemSource::new(bytes, numbers(alloc, failing.input)?);
-    let mut out = MemSink::new(alloc, Vec::new(alloc), numbers(alloc, failing.out)?);
-    let mut err = MemSink::new(alloc, Vec::new(alloc), numbers(alloc, failing.err)?);
-    let end = coverage(
-        alloc, &words, &mut shelf, &mut input, &mut out, &mut err, engine,
-    );
-    let End { status, why, told } = end;
-    drop(why);
-    Ok(Answer {
-        status,
-        told,
-        out: String::from_utf8(out.into_bytes())?,
-        err: String::from_utf8(err.into_bytes())?,
-        left: count_left(&mut input),
-    })
+    let mut none: Vec<Box<dyn ContextPlugin>> = Vec::new(alloc);
+    let mut world = World::new(alloc, files, Vec::new(alloc), failing)?;
+    world.answer_by(alloc, words, input, &mut none, engine)
 }
 
 /// The words between blanks.

@@ -9,7 +9,13 @@ mod engines;
 #[cfg(test)]
 mod faults;
 #[cfg(test)]
+mod foreign;
+#[cfg(test)]
 mod harness;
+#[cfg(test)]
+mod joins;
+#[cfg(test)]
+mod labels;
 #[cfg(test)]
 mod limits;
 #[cfg(test)]
@@ -17,7 +23,21 @@ mod programs;
 #[cfg(test)]
 mod refused;
 #[cfg(test)]
+mod reports;
+#[cfg(test)]
 mod rows;
+#[cfg(test)]
+mod runs;
+#[cfg(test)]
+mod sessions;
+#[cfg(test)]
+mod settings;
+#[cfg(test)]
+mod sources;
+#[cfg(test)]
+mod stopped;
+#[cfg(test)]
+mod sweeps;
 #[cfg(test)]
 mod values;
 #[cfg(test)]

@@ -16,10 +16,10 @@ static REFUSED: [(&str, &str, &str); 12] = [
         "arcs --budget 1000000001 s.py",
         "2",
     ),
-    ("A command that isn't built", "run s.py", "0"),
-    ("A report, which isn't built", "report", "0"),
-    ("Options of one that isn't built", "run --branch", "0"),
-    ("No option of one that isn't built", "report --frob", "0"),
+    ("A command that isn't built", "script s.py", "0"),
+    ("A run without a script", "run --branch", "2"),
+    ("No option of a report", "report --frob", "1"),
+    ("A report with an operand", "report s.py", "1"),
     ("An operand of one that isn't built", "make 1", "0"),
 ];
 

@@ -1,13 +1,15 @@
-use Rattle.std.proofs.Common.{refl}
-use Rattle.cov_words.specs.Plain.{command_view}
-use Rattle.cov_app.specs.Step.{does, no_command}
-use Rattle.cov_app.proofs.Stepping.{nothing-done, no-words}
+use Rattle.cov_calls.specs.Views.{answered_view}
+use Rattle.cov_calls.proofs.Handing.{hands-on-why}
+use Rattle.cov_programs.proofs.Composing.{goes-on}
+use Rattle.cov_step.specs.Step.{doing}
+use Rattle.cov_app.proofs.Opening.{doing-open}
+use Rattle.cov_app.proofs.Wide.{wide-words}
 use Rattle.cov_app.proofs.step.answer.Goals as goal
 
-pub returns-in-Ok-clause-step : goal.returns-in-Ok-clause-step
-returns-in-Ok-clause-step g c = does (command_view c.in-Ok.command) c.in-Ok.ensures c.run_command.ensures.does
+pub returns-in_err-command : goal.returns-in_err-command
+returns-in_err-command g c =
+    hands-on-why _ doing answered_view (wide-words g.H.Shelf g.V.Vault g.M.Maker g.I.Source g.O.Sink g.P.Plugin g.G.Engine _ _ _ _ c.in_err-command.ensures) doing-open _ c.from_residual.ensures
 
-pub returns-in-Err-Usage-clause-step : goal.returns-in-Err-Usage-clause-step
-returns-in-Err-Usage-clause-step g c =
-    let none = no-words _ c.in-Err-Usage.field-0 _ c.in-Err-Usage.field-0-is c.in-Err-Usage.ensures in
-    no_command c.begun.result none.0 c.begun.ensures refl (nothing-done _ _ _ refl refl)
+pub returns : goal.returns
+returns g c =
+    goes-on doing (wide-words g.H.Shelf g.V.Vault g.M.Maker g.I.Source g.O.Sink g.P.Plugin g.G.Engine _ _ _ _ c.in_ok-command.ensures) c.run_command.ensures

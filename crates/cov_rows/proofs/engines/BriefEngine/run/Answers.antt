@@ -1,19 +1,18 @@
 use Rattle.std.proofs.Common.{◌≡◌, List, [], ◌∷◌, true, false, refl}
-use Rattle.cov_event.specs.declared.event.Event.TheVariants.{Return}
 use Rattle.cov_rows.proofs.engines.BriefEngine.run.Goals as goal
 
 pub returns-in_err-event-clause-calls : goal.returns-in_err-event-clause-calls
 returns-in_err-event-clause-calls g c =
-    ((Return, false) ∷ [], (c.event.new.self, c.in_err-event.ensures.kept, refl))
+    ((_, false) ∷ [], tt, (c.event.new.self, c.in_err-event.ensures.refused, refl))
 
 pub returns-in_err-event-2-clause-calls : goal.returns-in_err-event-2-clause-calls
 returns-in_err-event-2-clause-calls g c =
-    ((_, true) ∷ (Return, false) ∷ [], (c.event.new.self, c.in_ok-event.ensures.moved, (c.event-2.new.self, c.in_err-event-2.ensures.kept, refl)))
+    ((_, true) ∷ (_, false) ∷ [], tt, (c.event.new.self, c.in_ok-event.ensures.moved, (c.event-2.new.self, c.in_err-event-2.ensures.refused, refl)))
 
 pub returns-in_err-event-3-clause-calls : goal.returns-in_err-event-3-clause-calls
 returns-in_err-event-3-clause-calls g c =
-    ((_, true) ∷ (_, true) ∷ (Return, false) ∷ [], (c.event.new.self, c.in_ok-event.ensures.moved, (c.event-2.new.self, c.in_ok-event-2.ensures.moved, (c.event-3.new.self, c.in_err-event-3.ensures.kept, refl))))
+    ((_, true) ∷ (_, true) ∷ (_, false) ∷ [], tt, (c.event.new.self, c.in_ok-event.ensures.moved, (c.event-2.new.self, c.in_ok-event-2.ensures.moved, (c.event-3.new.self, c.in_err-event-3.ensures.refused, refl))))
 
 pub returns-clause-calls : goal.returns-clause-calls
 returns-clause-calls g c =
-    ((_, true) ∷ (_, true) ∷ (_, true) ∷ [], (c.event.new.self, c.in_ok-event.ensures.moved, (c.event-2.new.self, c.in_ok-event-2.ensures.moved, (c.event-3.new.self, c.in_ok-event-3.ensures.moved, refl))))
+    ((_, true) ∷ (_, true) ∷ (_, true) ∷ [], tt, (c.event.new.self, c.in_ok-event.ensures.moved, (c.event-2.new.self, c.in_ok-event-2.ensures.moved, (c.event-3.new.self, c.in_ok-event-3.ensures.moved, refl))))

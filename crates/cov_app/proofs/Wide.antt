@@ -1,0 +1,94 @@
+-- Programs over some objects of a command, among all of them.
+use Rattle.std.proofs.Common.{◌≡◌, inl, inr, refl, ap, List, Result}
+use Rattle.cov_contexts.specs.declared.plugins.Plugin.{Ghosts as PluginOf}
+use Rattle.cov_exclude.specs.declared.maker.Maker.{Ghosts as MakerOf}
+use Rattle.cov_outside.specs.declared.shelf.Shelf.{Ghosts as ShelfOf}
+use Rattle.cov_outside.specs.declared.sink.Sink.{Ghosts as SinkOf}
+use Rattle.cov_outside.specs.declared.source.Source.{Ghosts as SourceOf}
+use Rattle.py_machine.specs.declared.engine.Engine.{Ghosts as EngineOf}
+use Rattle.cov_measure.specs.Measures.{Streams, streams}
+use Rattle.cov_programs.specs.Ends.{Follows}
+use Rattle.cov_programs.specs.Objects.{beside}
+use Rattle.cov_programs.proofs.Composing.{among}
+use Rattle.cov_reports.specs.Objects.{on_report}
+use Rattle.cov_step.specs.Calls.{Call, spells, checks, reads, puts, opens, lists, loads, saves, removes, makes, writes, crosses, measures, says, Answer, Step, IsNoMemory}
+use Rattle.cov_step.specs.Objects.{on_grammar, on_shelf, on_vault, on_sink}
+use Rattle.cov_streams.specs.Objects.{on_run}
+use Rattle.cov_vault.specs.declared.vault.Vault.{Ghosts as VaultOf}
+use Rattle.cov_why.specs.Answers.{PlainWhy}
+use Rattle.cov_app.specs.Objects.{all_of, on_all}
+
+-- what an output answers, it answers beside an input, plugins and an engine
+widen : {I O P G : Type 0} (source : SourceOf I) (sink : SinkOf O) (plugin : PluginOf P) (engine : EngineOf G) (i : I) (ps : List P) (g : G) (u : O) (call : Call) (x : Answer call) (v : O)
+    → on_sink sink u call x v → on_run source sink plugin engine (streams i u ps g) call x (streams i v ps g)
+widen source sink plugin engine i ps g u (spells words) x v m = absurd m
+widen source sink plugin engine i ps g u (checks bytes) x v m = absurd m
+widen source sink plugin engine i ps g u (reads name most) x v m = absurd m
+widen source sink plugin engine i ps g u (puts name bytes) x v m = absurd m
+widen source sink plugin engine i ps g u (opens script) x v m = absurd m
+widen source sink plugin engine i ps g u lists x v m = absurd m
+widen source sink plugin engine i ps g u (loads name) x v m = absurd m
+widen source sink plugin engine i ps g u (saves name content) x v m = absurd m
+widen source sink plugin engine i ps g u (removes name) x v m = absurd m
+widen source sink plugin engine i ps g u (makes texts) x v m = absurd m
+widen source sink plugin engine i ps g u (writes bytes) x v m = record { wrote = m; same = refl }
+widen source sink plugin engine i ps g u (crosses modules words budget) x v m = absurd m
+widen source sink plugin engine i ps g u (measures asked modules hook) x v m = absurd m
+widen source sink plugin engine i ps g u (says text) x v m = absurd m
+
+module _ {H V M I O P G : Type 0} (shelf : ShelfOf H) (vault : VaultOf V) (maker : MakerOf M) (source : SourceOf I) (sink : SinkOf O) (plugin : PluginOf P) (engine : EngineOf G) where
+  -- ---- what words are
+
+  words-moved : (h : H) (v : V) (m : M) (s : Streams I O P G) (u : Unit {0}) (call : Call) (x : Answer call) (w : Unit {0}) → on_grammar u call x w → on_all shelf vault maker source sink plugin engine (all_of h v m s) call x (all_of h v m s)
+  words-moved h v m s u call x w a = inl (inl (inl (inl (a, refl), refl), refl), refl)
+
+  pub wide-words : {A : Type 0} {p : Step A} {e : Result A PlainWhy} (h : H) (v : V) (m : M) (s : Streams I O P G) → Follows on_grammar IsNoMemory p tt e tt
+      → Follows (on_all shelf vault maker source sink plugin engine) IsNoMemory p (all_of h v m s) e (all_of h v m s)
+  wide-words h v m s f = among on_grammar (on_all shelf vault maker source sink plugin engine) IsNoMemory (λ u. all_of h v m s) (words-moved h v m s) f
+
+  -- ---- a shelf and a vault
+
+  data-moved : (m : M) (s : Streams I O P G) (u : H × V) (call : Call) (x : Answer call) (w : H × V) → beside (on_shelf shelf) (on_vault vault) u call x w
+      → on_all shelf vault maker source sink plugin engine (all_of u.0 u.1 m s) call x (all_of w.0 w.1 m s)
+  data-moved m s u call x w (inl (a, same)) = inl (inl (inl (inr (a, refl), same), refl), refl)
+  data-moved m s u call x w (inr (a, same)) = inl (inl (inr (a, ap (λ h. (tt, h)) same), refl), refl)
+
+  pub wide-data : {A : Type 0} {p : Step A} {e : Result A PlainWhy} {h k : H} {v w : V} (m : M) (s : Streams I O P G) → Follows (beside (on_shelf shelf) (on_vault vault)) IsNoMemory p (h, v) e (k, w)
+      → Follows (on_all shelf vault maker source sink plugin engine) IsNoMemory p (all_of h v m s) e (all_of k w m s)
+  wide-data m s f = among (beside (on_shelf shelf) (on_vault vault)) (on_all shelf vault maker source sink plugin engine) IsNoMemory (λ (u : H × V). all_of u.0 u.1 m s) (data-moved m s) f
+
+  -- ---- a shelf, a vault, a maker and an output
+
+  report-moved : (i : I) (ps : List P) (g : G) (u : ((H × V) × M) × O) (call : Call) (x : Answer call) (w : ((H × V) × M) × O) → on_report shelf vault maker sink u call x w
+      → on_all shelf vault maker source sink plugin engine (all_of u.0.0.0 u.0.0.1 u.0.1 (streams i u.1 ps g)) call x (all_of w.0.0.0 w.0.0.1 w.0.1 (streams i w.1 ps g))
+  report-moved i ps g u call x w (inl (inl (inl (a, v), m), o)) = inl (inl (inl (inr (a, refl), v), m), ap (λ y. streams i y ps g) o)
+  report-moved i ps g u call x w (inl (inl (inr (a, h), m), o)) = inl (inl (inr (a, ap (λ y. (tt, y)) h), m), ap (λ y. streams i y ps g) o)
+  report-moved i ps g u call x w (inl (inr (a, d), o)) = inl (inr (a, ap (λ (y : H × V). ((tt, y.0), y.1)) d), ap (λ y. streams i y ps g) o)
+  report-moved i ps g u call x w (inr (a, d)) = inr (widen source sink plugin engine i ps g u.1 call x w.1 a, ap (λ (y : (H × V) × M). (((tt, y.0.0), y.0.1), y.1)) d)
+
+  pub wide-report : {A : Type 0} {p : Step A} {e : Result A PlainWhy} {h k : H} {v w : V} {m n : M} {o q : O} (i : I) (ps : List P) (g : G) → Follows (on_report shelf vault maker sink) IsNoMemory p (((h, v), m), o) e (((k, w), n), q)
+      → Follows (on_all shelf vault maker source sink plugin engine) IsNoMemory p (all_of h v m (streams i o ps g)) e (all_of k w n (streams i q ps g))
+  wide-report i ps g f = among (on_report shelf vault maker sink) (on_all shelf vault maker source sink plugin engine) IsNoMemory (λ (u : ((H × V) × M) × O). all_of u.0.0.0 u.0.0.1 u.0.1 (streams i u.1 ps g)) (report-moved i ps g) f
+
+  -- ---- a shelf and streams
+
+  arcs-moved : (v : V) (m : M) (u : H × Streams I O P G) (call : Call) (x : Answer call) (w : H × Streams I O P G) → beside (on_shelf shelf) (on_run source sink plugin engine) u call x w
+      → on_all shelf vault maker source sink plugin engine (all_of u.0 v m u.1) call x (all_of w.0 v m w.1)
+  arcs-moved v m u call x w (inl (a, s)) = inl (inl (inl (inr (a, refl), refl), refl), s)
+  arcs-moved v m u call x w (inr (a, h)) = inr (a, ap (λ y. (((tt, y), v), m)) h)
+
+  pub wide-arcs : {A : Type 0} {p : Step A} {e : Result A PlainWhy} {h k : H} {s t : Streams I O P G} (v : V) (m : M) → Follows (beside (on_shelf shelf) (on_run source sink plugin engine)) IsNoMemory p (h, s) e (k, t)
+      → Follows (on_all shelf vault maker source sink plugin engine) IsNoMemory p (all_of h v m s) e (all_of k v m t)
+  wide-arcs v m f = among (beside (on_shelf shelf) (on_run source sink plugin engine)) (on_all shelf vault maker source sink plugin engine) IsNoMemory (λ (u : H × Streams I O P G). all_of u.0 v m u.1) (arcs-moved v m) f
+
+  -- ---- a shelf, a vault and streams
+
+  run-moved : (m : M) (u : (H × V) × Streams I O P G) (call : Call) (x : Answer call) (w : (H × V) × Streams I O P G) → beside (beside (on_shelf shelf) (on_vault vault)) (on_run source sink plugin engine) u call x w
+      → on_all shelf vault maker source sink plugin engine (all_of u.0.0 u.0.1 m u.1) call x (all_of w.0.0 w.0.1 m w.1)
+  run-moved m u call x w (inl (inl (a, v), s)) = inl (inl (inl (inr (a, refl), v), refl), s)
+  run-moved m u call x w (inl (inr (a, h), s)) = inl (inl (inr (a, ap (λ y. (tt, y)) h), refl), s)
+  run-moved m u call x w (inr (a, d)) = inr (a, ap (λ (y : H × V). (((tt, y.0), y.1), m)) d)
+
+  pub wide-run : {A : Type 0} {p : Step A} {e : Result A PlainWhy} {h k : H} {v w : V} {s t : Streams I O P G} (m : M) → Follows (beside (beside (on_shelf shelf) (on_vault vault)) (on_run source sink plugin engine)) IsNoMemory p ((h, v), s) e ((k, w), t)
+      → Follows (on_all shelf vault maker source sink plugin engine) IsNoMemory p (all_of h v m s) e (all_of k w m t)
+  wide-run m f = among (beside (beside (on_shelf shelf) (on_vault vault)) (on_run source sink plugin engine)) (on_all shelf vault maker source sink plugin engine) IsNoMemory (λ (u : (H × V) × Streams I O P G). all_of u.0.0 u.0.1 m u.1) (run-moved m) f

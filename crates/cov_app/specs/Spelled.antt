@@ -1,0 +1,12 @@
+-- The command that words are, as a part of their step.
+use Rattle.std.specs.Prelude.{List}
+use Rattle.cov_programs.specs.Programs.{give, ask, bind}
+use Rattle.cov_step.specs.Answers.{given_or}
+use Rattle.cov_step.specs.Calls.{spells, Step}
+use Rattle.cov_why.specs.Answers.{usage}
+use Rattle.cov_words.specs.Commands.{PlainCommand}
+use Rattle.cov_words.specs.Values.{Word}
+
+-- the command that words are, or how many of them begin one
+abbrev pub spelled : List Word → Step PlainCommand
+spelled words = bind (ask (spells words) give) (given_or usage)

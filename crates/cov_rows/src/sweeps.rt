@@ -1,0 +1,178 @@
+//! One session, in which one call of one object fails: each call in turn, until the session meets
+//! no fault.
+
+use crate::harness::{Failing, NONE, World, shelf_of};
+use crate::sources::FIRST_RUN;
+use cov_data::Data;
+use cov_vault::Content;
+use std::alloc::{AllocError, Global};
+use std::process::Abort;
+use std::test::Fail;
+
+/// The objects whose calls may fail.
+#[derive(Clone, Copy, PartialEq, Eq)]
+enum Object {
+    Shelf,
+    Vault,
+    Input,
+    Out,
+}
+
+/// Commands that run, report, join and remove.
+static COMMANDS: [&str; 7] = [
+    "run --branch a.py",
+    "run --append --branch a.py",
+    "run --data-file=e asks.py",
+    "report -m",
+    "json",
+    "combine --data-file=c",
+    "erase",
+];
+
+const JOIN: &str = "combine --data-file=c";
+
+/// The numbers of the calls that fail.
+static CALLS: [&[u64]; 24] = [
+    &[0],
+    &[1],
+    &[2],
+    &[3],
+    &[4],
+    &[5],
+    &[6],
+    &[7],
+    &[8],
+    &[9],
+    &[10],
+    &[11],
+    &[12],
+    &[13],
+    &[14],
+    &[15],
+    &[16],
+    &[17],
+    &[18],
+    &[19],
+    &[20],
+    &[21],
+    &[22],
+    &[23],
+];
+
+/// This call of this object fails.
+fn failing(object: Object, call: &'static [u64]) -> Failing {
+    match object {
+        Object::Shelf => Failing {
+            shelf: call,
+            ..NONE
+        },
+        Object::Vault => Failing {
+            vault: call,
+            ..NONE
+        },
+        Object::Input => Failing {
+            input: call,
+            ..NONE
+        },
+        Object::Out => Failing { out: call, ..NONE },
+    }
+}
+
+/// What is told of its fault.
+fn fault_of(object: Object) -> &'static str {
+    match object {
+        Object::Shelf => "coverage: files failed\n",
+        Object::Vault => "coverage: data store failed\n",
+        Object::Input => "coverage: reading input failed\n",
+        Object::Out => "coverage: writing output failed\n",
+    }
+}
+
+/// Two scripts, and two data that are joined.
+fn world_of(alloc: Global, failing: Failing) -> Result<World, AllocError> {
+    let files = shelf_of(
+        alloc,
+        &[("a.py", FIRST_RUN), ("asks.py", "print(input())\n")],
+    )?;
+    let mut contents = Vec::new(alloc);
+    for name in ["c.1", "c.2"] {
+        let name = String::from_str(alloc, name)?;
+        let mut data = Data::new(alloc, false);
+        data.add_path("b.py")?;
+        contents.push((name, Content::Good(data)))?;
+    }
+    World::new(alloc, files, contents, failing)
+}
+
+/// The rows of the data file, the report that was put, and the names of the data.
+fn state(alloc: Global, world: &mut World) -> Result<String, Fail> {
+    let mut text = world.rows(alloc, ".coverage")?;
+    text.push_str(world.file(alloc, "coverage.json")?.as_str())?;
+    text.push_str(world.names(alloc)?.as_str())?;
+    Ok(text)
+}
+
+/// Whether the call stops the session. The answer is the object's fault then, and shelf and vault
+/// are as before the command. A join that the vault stops may have saved and removed some data.
+fn stops(
+    rt: &impl Abort,
+    alloc: Global,
+    object: Object,
+    call: &'static [u64],
+) -> Result<bool, Fail> {
+    let mut world = world_of(alloc, failing(object, call))?;
+    let mut sure = world_of(alloc, NONE)?;
+    for words in &COMMANDS {
+        let found = world.answer(alloc, *words, "ab\n")?;
+        if found.status != 0 {
+            assert_eq!(rt; found.status, 74, "{words}");
+            assert_eq!(rt; found.err.as_str(), fault_of(object), "{words}");
+            if object != Object::Vault || *words != JOIN {
+                let before = state(alloc, &mut sure)?;
+                let after = state(alloc, &mut world)?;
+                assert_eq!(rt; after.as_str(), before.as_str(), "{words}");
+            }
+            return Ok(true);
+        }
+        let _ = sure.answer(alloc, *words, "ab\n")?;
+    }
+    Ok(false)
+}
+
+/// How many calls stop the session, one after the other.
+fn stopped_by(rt: &impl Abort, alloc: Global, object: Object) -> Result<usize, Fail> {
+    for (at, call) in CALLS.iter().enumerate() {
+        if !stops(rt, alloc, object, *call)? {
+            return Ok(at);
+        }
+    }
+    Ok(CALLS.len())
+}
+
+#[test]
+fn calls_of_the_shelf(rt: HostRuntime) -> Result<(), Fail> {
+    let count = stopped_by(&rt, rt.alloc(), Object::Shelf)?;
+    assert!(&rt; 0 < count && count < CALLS.len(), "{count}");
+    Ok(())
+}
+
+#[test]
+fn calls_of_the_vault(rt: HostRuntime) -> Result<(), Fail> {
+    let count = stopped_by(&rt, rt.alloc(), Object::Vault)?;
+    assert!(&rt; 0 < count && count < CALLS.len(), "{count}");
+    Ok(())
+}
+
+#[test]
+fn calls_of_the_input(rt: HostRuntime) -> Result<(), Fail> {
+    let count = stopped_by(&rt, rt.alloc(), Object::Input)?;
+    assert_eq!(&rt; count, 3, "one for each byte");
+    Ok(())
+}
+
+#[test]
+fn calls_of_the_output(rt: HostRuntime) -> Result<(), Fail> {
+    let count = stopped_by(&rt, rt.alloc(), Object::Out)?;
+    assert!(&rt; 0 < count && count < CALLS.len(), "{count}");
+    Ok(())
+}
