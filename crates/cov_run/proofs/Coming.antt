@@ -17,14 +17,15 @@ use Rattle.cov_why.specs.Answers.{Refusal, no_memory, plain_why, RefusedAs, Answ
 use Rattle.cov_why.proofs.Refusing.{refused-is, refused-so, refused-for, refused-map, refused-result, answered-map, is-memory}
 use Rattle.cov_why.specs.declared.why.Why.{Why}
 use Rattle.cov_why.specs.declared.why.Why.TheVariants as why
-use Rattle.cov_run.specs.Asking.{has_own_file, file_name, asked_for, asked, names_read, AreUpTo, Agrees, EndsFailed}
+use Rattle.cov_run.specs.Asking.{has_own_file, file_name, asked_for, asked, names_read, AreUpTo, Agrees}
 use Rattle.cov_run.specs.Loading.{most_bytes, Told, told_by, is_there, all_imported}
-use Rattle.cov_run.specs.Loads.{Loading, IsUnread, starved, LoadsTo, ComesTo, Loads, EndsWith}
+use Rattle.cov_run.specs.Loads.{Loading, IsUnread, starved, LoadsTo, ComesTo, Loads, IsAskedNext, EndsFailed, EndsWith}
 use Rattle.cov_run.specs.Progress.{IsAt, HasCome}
 use Rattle.cov_run.specs.Refusals.{Refuses}
 use Rattle.cov_run.specs.State.{State, nothing, Adds, Settles}
 use Rattle.cov_run.proofs.Lists.{take-next, take-all}
-use Rattle.cov_run.proofs.Progressing.{no-modules, begins, script-refused, fresh, import-refused, goes-on, passes, names-up-to, ends}
+use Rattle.cov_run.proofs.Modules.{content-later, file-there}
+use Rattle.cov_run.proofs.Progressing.{no-modules, begins, script-refused, fresh, next-wanted, wanted-after, import-refused, goes-on, passes, names-up-to, ends}
 use Rattle.cov_run.proofs.Telling.{Moves, reads-more, agrees-more, content-for, some-more, tells, FirstIs, first-is, agrees-by}
 
 -- ---- names
@@ -226,7 +227,7 @@ pub ends-memory : {H : Type 0} (moves : Moves H) (old new : H) (script name : Te
 ends-memory moves old new script name l = record { loads = l no_memory starved; failed = λ e. absurd (memory-or-fault e) }
 
 -- the last read failed, or wasn't done for want of memory
-pub ends-unread : {H : Type 0} (moves : Moves H) (old new : H) (script name : Text) (w : Why) → RefusedAs w IsUnread → ((r : Refusal) → IsUnread r → Loads moves old script name (Err r) new) → (w ≡ why.ShelfFault → EndsFailed moves old new) → EndsWith moves old script name w new
+pub ends-unread : {H : Type 0} (moves : Moves H) (old new : H) (script name : Text) (w : Why) → RefusedAs w IsUnread → ((r : Refusal) → IsUnread r → Loads moves old script name (Err r) new) → (w ≡ why.ShelfFault → EndsFailed moves old script name new) → EndsWith moves old script name w new
 ends-unread moves old new script name w only l failed = record { loads = refused-map w IsUnread (λ r. Loads moves old script name (Err r) new) l only; failed = failed }
 
 -- a file that was read refuses the program, or memory was wanting
@@ -259,10 +260,31 @@ module _ {H : Type 0} (moves : Moves H) (old mid new : H) (script name : Text) (
       (λ v is m. name-stops moves old mid new script name s at x h k own answer its_move fits v (λ content told. let r = refuses content told in
       (r.0, subst (λ p. Refuses (length s.modules) s.bytes p content v) lies (subst (λ j. Refuses j s.bytes path content v) e (refused-for w v (λ u. u ≢ no_memory → Refuses n s.bytes path content u) is r.1 m)))))
 
+  -- its file is asked for next
+  its_next : (told : Told) → Agrees told h.made → IsAskedNext told script name (names_read h.made) (file_of (folder_of script) x)
+  its_next told a =
+      let i = h.come told a in
+      record {
+        ms = s.modules;
+        loaded = i.loaded;
+        asked = subst (λ ns. IsPrefix ns (asked script s.modules)) (sym (ap (λ ns. ns ++ file_name script x ∷ []) h.names ∙ sym (asked-own script (take at s.names) x own) ∙ ap (asked_for script) (sym (take-next s.names x at k)))) (front-asked told script name s at (suc at) i);
+        wanted = λ there. wanted-after told script s.modules x i.some
+            (next-wanted told script name s at x i k (file-there told.modules (folder_of script) x own (sym (ap is_there (content-later told (length s.modules) (file_of (folder_of script) x) i.some)) ∙ there)));
+      }
+
   pub failure-ends : (w : Why) → RefusedAs w IsUnread → (w ≡ why.ShelfFault → answer ≡ Err Failed) → EndsWith moves old script name w new
   failure-ends w only failed =
       ends-unread moves old new script name w only (name-unread moves old mid new script name s at x h k own answer its_move fits)
-      (λ e. record { made = h.made; mid = mid; led = h.led; name = encode_utf8_all path; fails = subst (λ a. moves mid (encode_utf8_all path) most_bytes a new) (failed e) move })
+      (λ e. record {
+        made = h.made;
+        mid = mid;
+        led = h.led;
+        limit = h.limit;
+        path = path;
+        fails = subst (λ a. moves mid (encode_utf8_all path) most_bytes a new) (failed e) move;
+        next = λ told a. subst (λ (p : Text). IsAskedNext told script name (names_read h.made) p) (sym lies) (its_next told a);
+        some = h.some;
+      })
 
 -- the script was read
 module _ {H : Type 0} (moves : Moves H) (old new : H) (script name path : Text) (lies : path ≡ script) (answer : Result (List ℕ) ShelfError) (move : moves old (encode_utf8_all path) most_bytes answer new) (fits : IfOk answer (λ bytes. length bytes ≤ most_bytes)) where
@@ -281,7 +303,16 @@ module _ {H : Type 0} (moves : Moves H) (old new : H) (script name path : Text) 
   pub script-failure-ends : (w : Why) → RefusedAs w IsUnread → (w ≡ why.ShelfFault → answer ≡ Err Failed) → EndsWith moves old script name w new
   script-failure-ends w only failed =
       ends-unread moves old new script name w only (script-unread moves old new script name answer script_move fits)
-      (λ e. record { made = []; mid = old; led = refl; name = encode_utf8_all path; fails = subst (λ a. moves old (encode_utf8_all path) most_bytes a new) (failed e) move })
+      (λ e. record {
+        made = [];
+        mid = old;
+        led = refl;
+        limit = All-nil (λ r. r.most ≡ most_bytes);
+        path = path;
+        fails = subst (λ a. moves old (encode_utf8_all path) most_bytes a new) (failed e) move;
+        next = λ told a. subst (λ (p : Text). IsAskedNext told script name [] p) (sym lies) (record { ms = []; loaded = no-modules told script name; asked = record { rest = []; is = refl }; wanted = λ there. refl });
+        some = (record { script = None; modules = λ n. None }, tt);
+      })
 
 -- ---- a shelf that tells its files
 

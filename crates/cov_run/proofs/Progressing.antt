@@ -94,6 +94,11 @@ next-wanted told script name s at x h k there =
     cut_at (y ∷ xs) x zero h = cc
     cut_at (y ∷ xs) x (suc i) h = ap (λ t. y ∷ t) (cut_at xs x i h)
 
+-- the file that is read after some modules is that of the name that is wanted
+pub wanted-after : (told : Told) (script : Text) (ms : List LoadedModule) (x : Text) → 0 < length ms → wanted told.modules (folder_of script) ms ≡ Some x → next_file told.modules script ms ≡ Some (file_of (folder_of script) x)
+wanted-after told script [] x l e = absurd (omega arith)
+wanted-after told script (m ∷ ms) x l e = rw e refl
+
 -- where its file is refused, the program is
 pub import-refused : (told : Told) (script name : Text) (s : State) (at : ℕ) (x : Text) (w : Refusal) → IsAt told script name s at → slice_get s.names at ≡ Some x → has_own_file x ≡ true
     → is_there (file_bytes told.modules (file_of (folder_of script) x)) ≡ true → Refuses (length s.modules) s.bytes (file_of (folder_of script) x) (file_bytes told.modules (file_of (folder_of script) x)) w
@@ -103,17 +108,13 @@ import-refused told script name s at x w h k own there r = (
     ms = s.modules;
     loaded = h.loaded;
     path = file_of (folder_of script) x;
-    next = after (s.modules) h.some (next-wanted told script name s at x h k (file-there told.modules (folder_of script) x own there));
+    next = wanted-after told script s.modules x h.some (next-wanted told script name s at x h k (file-there told.modules (folder_of script) x own there));
     refuses = subst (λ c. Refuses (length s.modules) (total_bytes told s.modules) (file_of (folder_of script) x) c w) (sym (content-later told (length s.modules) (file_of (folder_of script) x) h.some))
         (subst (λ n. Refuses (length s.modules) n (file_of (folder_of script) x) (file_bytes told.modules (file_of (folder_of script) x)) w) h.total r);
   },
   refl,
   refl,
 )
-  where
-    after : (ms : List LoadedModule) → 0 < length ms → wanted told.modules (folder_of script) ms ≡ Some x → next_file told.modules script ms ≡ Some (file_of (folder_of script) x)
-    after [] l e = absurd (omega arith)
-    after (m ∷ ms) l e = rw e refl
 
 -- it has no file: the next name
 stays : (told : Told) (script name : Text) (s : State) (at : ℕ) (x : Text) → IsAt told script name s at → slice_get s.names at ≡ Some x → has_file told.modules (folder_of script) x ≡ false → IsAt told script name s (suc at)

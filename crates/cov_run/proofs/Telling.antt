@@ -14,7 +14,7 @@ use Rattle.cov_outside.specs.Reads.{IsTold, Read, Reads}
 use Rattle.py_syntax.specs.Names.{is_among}
 use Rattle.py_syntax.specs.Tree.{Text}
 use Rattle.py_meaning.specs.Loading.{folder_of, file_of}
-use Rattle.cov_run.specs.Asking.{has_own_file, file_name, asked_for, names_read, AreTold, Agrees, EndsFailed}
+use Rattle.cov_run.specs.Asking.{has_own_file, file_name, asked_for, names_read, AreTold, Agrees}
 use Rattle.cov_run.specs.Loading.{Told, told_by}
 
 -- how a shelf moves from one state to another by reads
@@ -26,13 +26,6 @@ Moves H = H → List ℕ → ℕ → Result (List ℕ) ShelfError → H → Type
 pub reads-more : {H : Type 0} (moves : Moves H) (old mid new : H) (rs : List Read) (r : Read) → Reads moves old rs mid → moves mid r.name r.most r.answer new → Reads moves old (rs ++ r ∷ []) new
 reads-more moves old mid new [] r h m = (new, subst (λ s. moves s r.name r.most r.answer new) h m, refl)
 reads-more moves old mid new (q ∷ rs) r h m = (h.0, h.1, reads-more moves h.0 mid new rs r h.2 m)
-
-reads-append : {H : Type 0} (moves : Moves H) (old mid new : H) (rs qs : List Read) → Reads moves old rs mid → Reads moves mid qs new → Reads moves old (rs ++ qs) new
-reads-append moves old mid new [] qs h k = subst (λ s. Reads moves s qs new) h k
-reads-append moves old mid new (r ∷ rs) qs h k = (h.0, h.1, reads-append moves h.0 mid new rs qs h.2 k)
-
-pub ends-failed : {H : Type 0} (moves : Moves H) (old mid new : H) (rs : List Read) → Reads moves old rs mid → EndsFailed moves mid new → EndsFailed moves old new
-ends-failed moves old mid new rs h e = record { made = rs ++ e.made; mid = e.mid; led = reads-append moves old mid e.mid rs e.made h e.led; name = e.name; fails = e.fails }
 
 -- ---- contents that agree
 

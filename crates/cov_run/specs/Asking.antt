@@ -2,19 +2,16 @@
 --     asked_for, asked             the files that are read for modules
 --     names_read, AreUpTo          the files that reads are of
 --     AreTold, Agrees              contents that agree with the answers to reads
---     EndsFailed                   the last read failed
-use Rattle.std.specs.Prelude.{◌≡◌, ℕ, Bool, not, List, [], ◌∷◌, ◌++◌, map, filter, Result, Err, codes, encode_utf8_all}
-use Rattle.cov_outside.specs.declared.shelf.ShelfError.{ShelfError}
-use Rattle.cov_outside.specs.declared.shelf.ShelfError.TheVariants.{Failed}
+use Rattle.std.specs.Prelude.{◌≡◌, ℕ, Bool, not, List, [], ◌∷◌, ◌++◌, map, filter, codes, encode_utf8_all}
 use Rattle.cov_outside.specs.Files.{Files}
 use Rattle.cov_outside.specs.Prefixes.{IsPrefix}
-use Rattle.cov_outside.specs.Reads.{IsTold, Read, Reads}
+use Rattle.cov_outside.specs.Reads.{IsTold, Read}
 use Rattle.py_value.specs.Keys.{is_same_text}
 use Rattle.py_syntax.specs.Names.{distinct}
 use Rattle.py_syntax.specs.Tree.{Text}
 use Rattle.py_meaning.specs.Loading.{folder_of, file_of}
 use Rattle.py_meaning.specs.Modules.{LoadedModule}
-use Rattle.cov_run.specs.Loading.{Told, all_imported, most_bytes}
+use Rattle.cov_run.specs.Loading.{Told, all_imported}
 
 -- ---- files
 
@@ -55,13 +52,3 @@ AreTold files (r ∷ rs) = IsTold (files r.name) r.most r.answer × AreTold file
 abbrev pub Agrees : Told → List Read → Type 0
 Agrees told [] = Unit {0}
 Agrees told (r ∷ rs) = IsTold told.script r.most r.answer × AreTold told.modules rs
-
--- reads lead from one state to another, and the last of them failed
-pub record EndsFailed {H : Type 0}
-    (moves : H → List ℕ → ℕ → Result (List ℕ) ShelfError → H → Type 0) (old new : H)
-    : Type 0 where
-  pub made : List Read
-  pub mid : H
-  pub led : Reads moves old made mid
-  pub name : List ℕ
-  pub fails : moves mid name most_bytes (Err Failed) new

@@ -2,11 +2,14 @@
 --     loaded_modules               the modules of programs in memory, each beside its tree
 --     Loading, IsUnread            what it comes to
 --     LoadsTo, ComesTo             what was told of the files says the same, and which are read
---     Loads, EndsWith              reads of a shelf, and what they come to
+--     Loads                        reads of a shelf, and what they come to
+--     IsAskedNext, EndsFailed      a read that failed, of the file that is asked for next
+--     EndsWith                     the answer that loading ends with
 --     IsCompiled                   the code is faithful to the trees
-use Rattle.std.specs.Prelude.{◌≡◌, ◌⊎◌, ℕ, ◌≤◌, ◌<◌, List, [], ◌∷◌, All, length, Result, Ok, Err, string_bytes, encode_utf8_all}
+use Rattle.std.specs.Prelude.{◌≡◌, ◌⊎◌, ℕ, ◌≤◌, ◌<◌, true, List, [], ◌∷◌, ◌++◌, All, length, Some, Result, Ok, Err, string_bytes, encode_utf8_all}
 use Rattle.std.specs.Str.{chars}
 use Rattle.cov_outside.specs.declared.shelf.ShelfError.{ShelfError}
+use Rattle.cov_outside.specs.declared.shelf.ShelfError.TheVariants.{Failed}
 use Rattle.cov_outside.specs.Prefixes.{IsPrefix}
 use Rattle.cov_outside.specs.Reads.{Read, Reads}
 use Rattle.py_code.specs.declared.code.Program.{Program}
@@ -21,9 +24,9 @@ use Rattle.cov_why.specs.Answers.{Refusal, shelf_fault, no_memory, RefusedAs}
 use Rattle.cov_why.specs.declared.why.Why.{Why}
 use Rattle.cov_why.specs.declared.why.Why.TheVariants as why
 use Rattle.cov_run.specs.declared.programs.Loaded.{Loaded}
-use Rattle.cov_run.specs.Asking.{Agrees, AreUpTo, EndsFailed, asked, names_read}
-use Rattle.cov_run.specs.Loading.{Told, AreLoaded, IsLoaded, most_bytes, most_modules}
-use Rattle.cov_run.specs.Refusals.{IsStopped}
+use Rattle.cov_run.specs.Asking.{Agrees, AreUpTo, asked, names_read}
+use Rattle.cov_run.specs.Loading.{Told, AreLoaded, IsLoaded, content_at, is_there, most_bytes, most_modules}
+use Rattle.cov_run.specs.Refusals.{IsStopped, next_file}
 
 -- ---- programs in memory
 
@@ -95,12 +98,38 @@ pub record Loads {H : Type 0}
       (told : Told) → Agrees told made → ComesTo told script name (names_read made) loading
   pub some : (told : Told) × Agrees told made
 
--- loading ends with this answer: a fault of the shelf only where the last read failed
+-- After the files of these names were read, this one is asked for next; and where it is there, its
+-- module is the one that is loaded next.
+pub record IsAskedNext (told : Told) (script name : Text) (names : List (List ℕ)) (path : Text)
+    : Type 0 where
+  pub ms : List LoadedModule
+  pub loaded : AreLoaded told script name ms
+  pub asked : IsPrefix (names ++ encode_utf8_all path ∷ []) (asked script ms)
+  pub wanted :
+      is_there (content_at told (length ms) path) ≡ true
+      → next_file told.modules script ms ≡ Some path
+
+-- Reads lead a shelf from one state to another, and one more failed. Whatever contents agree with
+-- the answers before it, it was of the file that is asked for next; and there are such contents.
+pub record EndsFailed {H : Type 0}
+    (moves : H → List ℕ → ℕ → Result (List ℕ) ShelfError → H → Type 0) (old : H)
+    (script name : Text) (new : H) : Type 0 where
+  pub made : List Read
+  pub mid : H
+  pub led : Reads moves old made mid
+  pub limit : All (λ r. r.most ≡ most_bytes) made
+  pub path : Text
+  pub fails : moves mid (encode_utf8_all path) most_bytes (Err Failed) new
+  pub next : (told : Told) → Agrees told made → IsAskedNext told script name (names_read made) path
+  pub some : (told : Told) × Agrees told made
+
+-- loading ends with this answer: a fault of the shelf only where the read that was asked for next
+-- failed
 pub record EndsWith {H : Type 0}
     (moves : H → List ℕ → ℕ → Result (List ℕ) ShelfError → H → Type 0) (old : H)
     (script name : Text) (w : Why) (new : H) : Type 0 where
   pub loads : RefusedAs w (λ r. Loads moves old script name (Err r) new)
-  pub failed : w ≡ why.ShelfFault → EndsFailed moves old new
+  pub failed : w ≡ why.ShelfFault → EndsFailed moves old script name new
 
 -- ---- the code
 

@@ -10,9 +10,8 @@ ghost use Rattle.py_syntax.specs.View.{plain_module};
 ghost use Rattle.py_meaning.specs.Loading.{folder_of, imported, loaded};
 ghost use Rattle.cov_why.specs.Answers.{AnsweredAs, RefusedAs};
 ghost use Rattle.cov_why.specs.Answers as answer;
-ghost use Rattle.cov_run.specs.Asking.{EndsFailed};
 ghost use Rattle.cov_run.specs.Loading.{most_bytes, most_modules, most_total, program_of, told_by};
-ghost use Rattle.cov_run.specs.Loads.{EndsWith, IsUnread, Loads, LoadsTo};
+ghost use Rattle.cov_run.specs.Loads.{EndsFailed, EndsWith, IsUnread, Loads, LoadsTo};
 ghost use Rattle.cov_run.specs.Progress.{HasCome};
 ghost use Rattle.cov_run.specs.Refusals.{Refuses};
 ghost use Rattle.cov_run.specs.State.{Adds, Finds, Grows, GrowsOrStays, Holds, IsSmall, IsSmallFound, nothing, state_of};
@@ -57,7 +56,8 @@ pub fn load_sources<H: Shelf>(
     // What a shelf answers is passed on as it came.
     ensures loads { AnsweredAs listed_sources result (λ loading.
         Loads H.reads shelf.old (chars script.now) (chars name.now) loading shelf.new) }
-    ensures failed { IsErrOf result Why.ShelfFault → EndsFailed H.reads shelf.old shelf.new }
+    ensures failed { IsErrOf result Why.ShelfFault → EndsFailed H.reads shelf.old
+        (chars script.now) (chars name.now) shelf.new }
     ensures fault { IsErrOf result Why.ShelfFault
         → Rose (H.faults shelf.old) (H.faults shelf.new) }
     ensures count { H.faults shelf.old ≤ H.faults shelf.new }

@@ -9,9 +9,8 @@ ghost use Rattle.py_meaning.specs.Loading.{loaded};
 ghost use Rattle.py_scope.specs.Faults.{IsWellFormed};
 ghost use Rattle.py_trace.specs.Traces.{AreWellFormed};
 ghost use Rattle.cov_why.specs.Answers.{AnsweredAs};
-ghost use Rattle.cov_run.specs.Asking.{EndsFailed};
 ghost use Rattle.cov_run.specs.Loading.{program_of, told_by};
-ghost use Rattle.cov_run.specs.Loads.{HavePaths, IsCompiled, Loads, LoadsTo, loaded_module, loaded_modules};
+ghost use Rattle.cov_run.specs.Loads.{EndsFailed, HavePaths, IsCompiled, Loads, LoadsTo, loaded_module, loaded_modules};
 ghost use Rattle.cov_run.specs.View.{plain_source, plain_sources};
 
 use crate::loaded::LoadedSource;
@@ -44,7 +43,8 @@ pub fn load<H: Shelf>(alloc: Global, script: &str, name: &str, shelf: &mut H) ->
     ensures loads { AnsweredAs loaded_modules result (λ loading.
         Loads H.reads shelf.old (chars script.now) (chars name.now) loading shelf.new) }
     ensures code { IfOk result (λ l. IsCompiled l) }
-    ensures failed { IsErrOf result Why.ShelfFault → EndsFailed H.reads shelf.old shelf.new }
+    ensures failed { IsErrOf result Why.ShelfFault → EndsFailed H.reads shelf.old
+        (chars script.now) (chars name.now) shelf.new }
     ensures fault { IsErrOf result Why.ShelfFault
         → Rose (H.faults shelf.old) (H.faults shelf.new) }
     ensures count { H.faults shelf.old ≤ H.faults shelf.new }
