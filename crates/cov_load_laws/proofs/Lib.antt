@@ -1,0 +1,12 @@
+pub mod Parsing
+pub mod Faults
+pub mod Readings
+pub mod Sources
+pub mod Outcomes
+pub mod Chains
+pub mod Loadings
+pub mod Completing
+pub mod Shelves
+pub mod Next
+pub mod Answers
+pub mod Example

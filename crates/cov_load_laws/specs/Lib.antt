@@ -1,0 +1,11 @@
+pub mod Parsing
+pub mod Faults
+pub mod Texts
+pub mod Readings
+pub mod Outcomes
+pub mod Loadings
+pub mod Completeness
+pub mod Shelves
+pub mod Next
+pub mod Answers
+pub mod Example
