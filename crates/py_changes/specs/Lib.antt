@@ -1,0 +1,9 @@
+pub mod Same
+pub mod Changed
+pub mod Changes
+pub mod Tests
+pub mod Regular
+pub mod Laws
+pub mod Texts
+pub mod Paths
+pub mod Mutants
