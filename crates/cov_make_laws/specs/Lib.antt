@@ -1,0 +1,5 @@
+pub mod Endings
+pub mod Loadings
+pub mod Readings
+pub mod Tokens
+pub mod Trees
