@@ -28,9 +28,10 @@ use Rattle.cov_vault.specs.declared.vault.VaultError.TheVariants as vault_error
 use Rattle.cov_why.specs.Answers.{Refusal, PlainWhy, usage}
 use Rattle.cov_words.specs.Commands.{PlainCommand}
 use Rattle.cov_words.specs.Values.{Word}
-use Rattle.cov_step.specs.Calls.{Answered, HookFiles, Asked, Step, refuse, spells, checks, puts, makes, crosses, measures}
+use Rattle.cov_step.specs.Calls.{Answered, HookFiles, Asked, Ran, Step, refuse, spells, checks, puts, makes, crosses, measures}
 use Rattle.cov_step.specs.Answers.{bytes_of, bytes_if_any, given_or, load_refusal, vault_refusal, before_of, removed, run_refusal, shelf_refusal, sink_refusal, pattern_refusal, last, on, token_refusal, depth_refusal, syntax_refusal, scope_refusal, tree_of}
 use Rattle.cov_step.specs.Phases.{file, needed, before, opened, settings_file, inputs, is_part_of, saving, removing, write_last, save_last, remove_last}
+use Rattle.cov_step.specs.Making.{ran_if_any}
 use Rattle.cov_step.specs.Step.{step}
 use Rattle.cov_step.specs.Promises.{Object, the_input, the_output, the_shelf, the_vault, the_maker, blame_of, read_blame, put_blame, load_blame, vault_blame, remove_blame, make_blame, write_blame, run_blame, by_error, by_refusal, is_object, brings}
 use Rattle.cov_step.proofs.Whole.{step-is}
@@ -170,6 +171,10 @@ module _ (o : Object) (r : Refusal) (e : blame_of r ≡ Some o) where
   inputs-blame own [] = λ x f. then-blames (brings o) (Err r) (given_or (vault_refusal own) x) (λ found. give (filter (is_part_of own) found)) (given-blames (vault_refusal own) vault_blame (vault-same own) x f) (λ found. tt)
   inputs-blame own (n ∷ ns) = tt
 
+  ran-blames : (x : Option Ran) → Blaming _ (ran_if_any x)
+  ran-blames None = clear _ refl
+  ran-blames (Some r) = tt
+
   spelled-blames : (x : Result PlainCommand ℕ) → Blaming _ (given_or usage x)
   spelled-blames (Ok c) = tt
   spelled-blames (Err n) = clear _ refl
@@ -183,7 +188,7 @@ module _ (o : Object) (r : Refusal) (e : blame_of r ≡ Some o) where
       (λ bytes a x f. last-blames sink_refusal write_blame write-same a x f) (λ name bytes a x f. last-blames shelf_refusal put_blame put-same a x f)
       (λ name content a x f. last-blames (vault_refusal name) vault_blame (vault-same name) a x f) (λ name content x f. on-blames (vault_refusal name) vault_blame (vault-same name) x f)
       (λ name a x f. remove-blames (settle a) tt x f) (λ name x f. remove-blames (give tt) tt x f)
-      (λ ws x f. spelled-blames x) words
+      (λ ms ws n x f. ran-blames x) (λ ws x f. spelled-blames x) (λ text x f. tt) (λ bytes x f. on-blames sink_refusal write_blame write-same x f) words
 
 pub law_of_blame : (o : Object) (r : Refusal) → blame_of r ≡ Some o → (words : List Word) → BlamesOnly (brings o) (Err r) (step words)
 law_of_blame o r e words = step-blames o r e words

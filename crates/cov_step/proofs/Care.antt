@@ -1,13 +1,15 @@
 -- Commands are careful: a refusal leaves shelf and vault as they were.
-use Rattle.std.proofs.Common.{◌≡◌, ℕ, Bool, true, false, if◌then◌else◌, true≢false, refl, sym, List, Option, Some, None, Result, Ok, Err}
+use Rattle.std.proofs.Common.{◌≡◌, ℕ, Bool, true, false, if◌then◌else◌, true≢false, refl, sym, List, [], ◌∷◌, Option, Some, None, Result, Ok, Err}
 use Rattle.std.specs.Prelude.{◌||◌, codes}
 use Rattle.std.specs.Str.{bytes_eq}
 use Rattle.cov_outside.specs.declared.shelf.ShelfError.{ShelfError}
 use Rattle.py_meaning.specs.Modules.{LoadedModule}
+use Rattle.cov_config.specs.Settings.{no_cover, no_branch}
 use Rattle.cov_data.specs.DataSet.{DataSet}
 use Rattle.cov_json.specs.Json.{json_bytes}
 use Rattle.cov_lcov.specs.Annotated.{annotated_bytes}
 use Rattle.cov_lcov.specs.Lcov.{lcov_bytes}
+use Rattle.cov_make.specs.Source as made
 use Rattle.cov_programs.specs.Programs.{settle, ask}
 use Rattle.cov_programs.specs.Laws.{IsSettled, IsCareful}
 use Rattle.cov_programs.proofs.Parts.{then-careful}
@@ -18,15 +20,16 @@ use Rattle.cov_why.specs.Answers.{Refusal}
 use Rattle.cov_words.specs.Commands.{PlainCommand}
 use Rattle.cov_words.specs.Commands as plain
 use Rattle.cov_words.specs.Values.{Word}
-use Rattle.cov_step.specs.Calls.{Answered, HookFiles, Asked, Step, puts, saves, removes}
-use Rattle.cov_step.specs.Answers.{given_or, before_of, run_refusal, shelf_refusal, sink_refusal, vault_refusal, removed, last}
-use Rattle.cov_step.specs.Phases.{needed, opened, settings, own_name, patterns, source, hook_of, joins, joined, analysed, reported, judged, done, write_last, put_last, save_last, remove_last, answered_by}
+use Rattle.cov_step.specs.Calls.{Answered, PlainSource, Patterns, HookFiles, Asked, Step, puts, saves, removes}
+use Rattle.cov_step.specs.Answers.{given_or, before_of, run_refusal, shelf_refusal, sink_refusal, vault_refusal, removed, last, tree_of}
+use Rattle.cov_step.specs.Phases.{needed, opened, settings, own_name, patterns_by, patterns, source, hook_of, joins, joined, analysed, reported, judged, done, write_last, put_last, save_last, remove_last, answered_by}
 use Rattle.cov_step.specs.Listing.{listing}
 use Rattle.cov_step.specs.Names.{or_else}
 use Rattle.cov_step.specs.Commands as the
+use Rattle.cov_step.specs.Making.{made_path, ran_if_any, made_line, made_by, make}
 use Rattle.cov_step.specs.Step.{doing}
 use Rattle.cov_step.specs.Promises.{keeps, changes_last}
-use Rattle.cov_step.proofs.Keeping.{given-keeps, before-keeps, opened-keeps, needed-keeps, settings-keeps, hook-keeps, joins-keeps, patterns-keeps, source-keeps, reported-keeps}
+use Rattle.cov_step.proofs.Keeping.{given-keeps, tree-keeps, ran-keeps, before-keeps, opened-keeps, needed-keeps, settings-keeps, hook-keeps, joins-keeps, patterns_by-keeps, patterns-keeps, source-keeps, reported-keeps}
 
 -- ---- the last calls
 
@@ -117,6 +120,19 @@ annotate-careful data_file rcfile path =
 erase-careful : (data_file rcfile : Option Word) → IsCareful keeps (the.erase data_file rcfile)
 erase-careful data_file rcfile = then-careful keeps (settings rcfile) _ (settings-keeps rcfile) (λ s. remove-careful (own_name data_file s) done)
 
+made-careful : (seed size : ℕ) (p : Patterns) (f : PlainSource) → IsCareful keeps (made_by seed size p f)
+made-careful seed size p f = λ x. (
+  λ e. absurd (true≢false e),
+  then-careful keeps (ran_if_any x) _ (ran-keeps x) (λ r. write-careful (made_line seed size p f r) done),
+)
+
+make-careful : (seed size : ℕ) → IsCareful keeps (make seed size)
+make-careful seed size =
+    then-careful keeps (patterns_by (no_cover ∷ []) (no_branch ∷ [])) _ (patterns_by-keeps (no_cover ∷ []) (no_branch ∷ [])) (λ p x. (
+      λ e. absurd (true≢false e),
+      then-careful keeps (tree_of made_path (made.source seed size) x) _ (tree-keeps made_path (made.source seed size) x) (made-careful seed size p),
+    ))
+
 pub law_of_care : (c : PlainCommand) → changes_last c ≡ true → IsCareful keeps (doing c)
 law_of_care (plain.arcs steps script args) e = arcs-careful steps script args
 law_of_care (plain.run branch append context steps hook data_file rcfile script args) e = run-careful branch append context steps hook data_file rcfile script args
@@ -126,8 +142,8 @@ law_of_care (plain.json name fail_under data_file rcfile) e = json-careful name 
 law_of_care (plain.lcov name fail_under data_file rcfile) e = lcov-careful name fail_under data_file rcfile
 law_of_care (plain.annotate data_file rcfile path) e = annotate-careful data_file rcfile path
 law_of_care (plain.erase data_file rcfile) e = erase-careful data_file rcfile
-law_of_care (plain.script file) e = tt
-law_of_care (plain.make seed size) e = tt
+law_of_care (plain.script file) e = absurd (true≢false (sym e))
+law_of_care (plain.make seed size) e = make-careful seed size
 law_of_care (plain.suite branch steps data_file rcfile file) e = tt
 law_of_care (plain.select steps old new) e = tt
 law_of_care (plain.mutate steps file) e = tt

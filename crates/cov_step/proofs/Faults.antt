@@ -10,7 +10,7 @@ use Rattle.cov_exclude.specs.declared.patterns.PatternError.TheVariants as patte
 use Rattle.cov_vault.specs.declared.vault.Vault.{Ghosts as VaultOf}
 use Rattle.cov_vault.specs.declared.vault.VaultError.TheVariants as vault_error
 use Rattle.cov_why.specs.Answers.{Refusal, usage, no_such_file, syntax, limit, bad_config, bad_pattern, pattern_size, no_function, no_data, mixed, bad_data, no_source, read_fault, write_fault, shelf_fault, vault_fault, no_memory, import_failed}
-use Rattle.cov_step.specs.Calls.{Call, spells, checks, reads, puts, opens, lists, loads, saves, removes, makes, writes, crosses, measures, says, Answer}
+use Rattle.cov_step.specs.Calls.{Call, spells, checks, reads, puts, opens, lists, loads, saves, removes, makes, writes, crosses, measures, tries, says, Answer}
 use Rattle.cov_step.specs.Objects.{on_grammar, on_shelf, on_vault, on_maker, on_sink, on_err, Saying}
 use Rattle.cov_step.specs.Promises.{Object, the_input, the_output, the_shelf, the_vault, the_maker, blame_of, blamed}
 
@@ -39,6 +39,7 @@ shelf-later shelf u (makes texts) x v m = absurd m
 shelf-later shelf u (writes bytes) x v m = absurd m
 shelf-later shelf u (crosses modules words budget) x v m = absurd m
 shelf-later shelf u (measures asked modules hook) x v m = absurd m
+shelf-later shelf u (tries modules words budget) x v m = absurd m
 shelf-later shelf u (says text) x v m = absurd m
 
 -- the one refusal that blames a shelf
@@ -85,6 +86,7 @@ shelf-rose shelf u (makes texts) x v m e = absurd m
 shelf-rose shelf u (writes bytes) x v m e = absurd m
 shelf-rose shelf u (crosses modules words budget) x v m e = absurd m
 shelf-rose shelf u (measures asked modules hook) x v m e = absurd m
+shelf-rose shelf u (tries modules words budget) x v m e = absurd m
 shelf-rose shelf u (says text) x v m e = absurd m
 
 -- a shelf's answer is nobody else's fault
@@ -110,6 +112,7 @@ shelf-alone shelf u (makes texts) x v o m e = absurd m
 shelf-alone shelf u (writes bytes) x v o m e = absurd m
 shelf-alone shelf u (crosses modules words budget) x v o m e = absurd m
 shelf-alone shelf u (measures asked modules hook) x v o m e = absurd m
+shelf-alone shelf u (tries modules words budget) x v o m e = absurd m
 shelf-alone shelf u (says text) x v o m e = absurd m
 
 -- ---- a vault
@@ -128,6 +131,7 @@ vault-later vault u (makes texts) x v m = absurd m
 vault-later vault u (writes bytes) x v m = absurd m
 vault-later vault u (crosses modules words budget) x v m = absurd m
 vault-later vault u (measures asked modules hook) x v m = absurd m
+vault-later vault u (tries modules words budget) x v m = absurd m
 vault-later vault u (says text) x v m = absurd m
 
 pub vault-rose : {V : Type 0} (vault : VaultOf V) (u : V) (call : Call) (x : Answer call) (v : V) → on_vault vault u call x v → blamed call x ≡ Some the_vault → Rose (vault.faults u) (vault.faults v)
@@ -164,6 +168,7 @@ vault-rose vault u (makes texts) x v m e = absurd m
 vault-rose vault u (writes bytes) x v m e = absurd m
 vault-rose vault u (crosses modules words budget) x v m e = absurd m
 vault-rose vault u (measures asked modules hook) x v m e = absurd m
+vault-rose vault u (tries modules words budget) x v m e = absurd m
 vault-rose vault u (says text) x v m e = absurd m
 
 pub vault-alone : {V : Type 0} (vault : VaultOf V) (u : V) (call : Call) (x : Answer call) (v : V) (o : Object) → on_vault vault u call x v → blamed call x ≡ Some o → o ≡ the_vault
@@ -200,6 +205,7 @@ vault-alone vault u (makes texts) x v o m e = absurd m
 vault-alone vault u (writes bytes) x v o m e = absurd m
 vault-alone vault u (crosses modules words budget) x v o m e = absurd m
 vault-alone vault u (measures asked modules hook) x v o m e = absurd m
+vault-alone vault u (tries modules words budget) x v o m e = absurd m
 vault-alone vault u (says text) x v o m e = absurd m
 
 -- ---- a maker
@@ -218,6 +224,7 @@ maker-later maker u (makes texts) x v m = m.count
 maker-later maker u (writes bytes) x v m = absurd m
 maker-later maker u (crosses modules words budget) x v m = absurd m
 maker-later maker u (measures asked modules hook) x v m = absurd m
+maker-later maker u (tries modules words budget) x v m = absurd m
 maker-later maker u (says text) x v m = absurd m
 
 pub maker-rose : {M : Type 0} (maker : MakerOf M) (u : M) (call : Call) (x : Answer call) (v : M) → on_maker maker u call x v → blamed call x ≡ Some the_maker → Rose (maker.sizes u) (maker.sizes v)
@@ -237,6 +244,7 @@ maker-rose maker u (makes texts) (Some pattern_error.NoMemory) v m e = absurd (n
 maker-rose maker u (writes bytes) x v m e = absurd m
 maker-rose maker u (crosses modules words budget) x v m e = absurd m
 maker-rose maker u (measures asked modules hook) x v m e = absurd m
+maker-rose maker u (tries modules words budget) x v m e = absurd m
 maker-rose maker u (says text) x v m e = absurd m
 
 pub maker-alone : {M : Type 0} (maker : MakerOf M) (u : M) (call : Call) (x : Answer call) (v : M) (o : Object) → on_maker maker u call x v → blamed call x ≡ Some o → o ≡ the_maker
@@ -256,6 +264,7 @@ maker-alone maker u (makes texts) (Some pattern_error.NoMemory) v o m e = absurd
 maker-alone maker u (writes bytes) x v o m e = absurd m
 maker-alone maker u (crosses modules words budget) x v o m e = absurd m
 maker-alone maker u (measures asked modules hook) x v o m e = absurd m
+maker-alone maker u (tries modules words budget) x v o m e = absurd m
 maker-alone maker u (says text) x v o m e = absurd m
 
 -- ---- an output
@@ -274,6 +283,7 @@ sink-later sink u (makes texts) x v m = absurd m
 sink-later sink u (writes bytes) x v m = m.count
 sink-later sink u (crosses modules words budget) x v m = absurd m
 sink-later sink u (measures asked modules hook) x v m = absurd m
+sink-later sink u (tries modules words budget) x v m = absurd m
 sink-later sink u (says text) x v m = absurd m
 
 -- ---- words, sources and `err`, which nobody blames
@@ -292,6 +302,7 @@ grammar-alone u (makes texts) x v o m e = m
 grammar-alone u (writes bytes) x v o m e = m
 grammar-alone u (crosses modules words budget) x v o m e = m
 grammar-alone u (measures asked modules hook) x v o m e = m
+grammar-alone u (tries modules words budget) x v o m e = m
 grammar-alone u (says text) x v o m e = m
 
 pub err-alone : {E : Type 0} (sink : SinkOf E) (u : Saying E) (call : Call) (x : Answer call) (v : Saying E) (o : Object) → on_err sink u call x v → blamed call x ≡ Some o → ⊥
@@ -308,4 +319,5 @@ err-alone sink u (makes texts) x v o m e = m
 err-alone sink u (writes bytes) x v o m e = m
 err-alone sink u (crosses modules words budget) x v o m e = m
 err-alone sink u (measures asked modules hook) x v o m e = m
+err-alone sink u (tries modules words budget) x v o m e = m
 err-alone sink u (says text) x v o m e = none-some e

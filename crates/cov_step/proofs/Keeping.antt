@@ -12,11 +12,12 @@ use Rattle.cov_vault.specs.declared.vault.VaultError.{VaultError}
 use Rattle.cov_vault.specs.declared.vault.VaultError.TheVariants as vault_error
 use Rattle.cov_why.specs.Answers.{Refusal}
 use Rattle.cov_words.specs.Values.{Word}
-use Rattle.cov_step.specs.Calls.{Step, checks, makes}
+use Rattle.cov_step.specs.Calls.{Step, Ran, checks, makes}
 use Rattle.cov_step.specs.Answers.{bytes_of, bytes_if_any, given_or, load_refusal, Before, before_of, pattern_refusal, on, tree_of}
-use Rattle.cov_step.specs.Phases.{file, needed, opened, settings_file, settings, patterns, source, hook_of, joins, reported}
+use Rattle.cov_step.specs.Phases.{file, needed, opened, settings_file, settings, patterns_by, patterns, source, hook_of, joins, reported}
+use Rattle.cov_step.specs.Making.{ran_if_any}
 use Rattle.cov_step.specs.Promises.{keeps}
-use Rattle.cov_step.proofs.Parts.{settings-so, patterns-so, source-so, hook_of-so, joins-so, reported-so}
+use Rattle.cov_step.proofs.Parts.{settings-so, patterns_by-so, patterns-so, source-so, hook_of-so, joins-so, reported-so}
 
 abbrev pub Keeping : (A : Type 0) → Step A → Type 0
 Keeping A p = OnlyKeeps keeps p
@@ -39,6 +40,10 @@ any-keeps (Err shelf_error.TooLarge) = tt
 any-keeps (Err shelf_error.Failed) = tt
 any-keeps (Err shelf_error.NoMemory) = tt
 
+pub ran-keeps : (x : Option Ran) → OnlyKeeps keeps (ran_if_any x)
+ran-keeps None = tt
+ran-keeps (Some r) = tt
+
 pub before-keeps : (name : Word) (x : Result DataSet VaultError) → OnlyKeeps keeps (before_of name x)
 before-keeps name (Ok d) = tt
 before-keeps name (Err vault_error.Absent) = tt
@@ -47,7 +52,7 @@ before-keeps name (Err (vault_error.BadRow i)) = tt
 before-keeps name (Err vault_error.Failed) = tt
 before-keeps name (Err vault_error.NoMemory) = tt
 
-tree-keeps : (path : Word) (bytes : List ℕ) (x : Reading) → OnlyKeeps keeps (tree_of path bytes x)
+pub tree-keeps : (path : Word) (bytes : List ℕ) (x : Reading) → OnlyKeeps keeps (tree_of path bytes x)
 tree-keeps path bytes (no_text line) = tt
 tree-keeps path bytes (long lines) = tt
 tree-keeps path bytes (stuck error) = tt
@@ -86,6 +91,9 @@ hook-keeps h = hook_of-so Keeping (λ A a. tt) (λ A r e. tt) (λ A B p next. th
 
 pub joins-keeps : (append : Bool) (name : Word) (arcs : Bool) (was : Before) → OnlyKeeps keeps (joins append name arcs was)
 joins-keeps append name arcs was = joins-so Keeping (λ A a. tt) (λ A r e. tt) (λ A B p next. then-keeps keeps p next) (λ A B p h xs. each-keeps keeps p h xs) (λ absent e name. file-keeps absent name) usual-keeps opened-keeps checks-keeps makes-keeps append name arcs was
+
+pub patterns_by-keeps : (exclude partial : List (List ℕ)) → OnlyKeeps keeps (patterns_by exclude partial)
+patterns_by-keeps exclude partial = patterns_by-so Keeping (λ A a. tt) (λ A r e. tt) (λ A B p next. then-keeps keeps p next) (λ A B p h xs. each-keeps keeps p h xs) (λ absent e name. file-keeps absent name) usual-keeps opened-keeps checks-keeps makes-keeps exclude partial
 
 pub patterns-keeps : (s : ReportSettings) → OnlyKeeps keeps (patterns s)
 patterns-keeps s = patterns-so Keeping (λ A a. tt) (λ A r e. tt) (λ A B p next. then-keeps keeps p next) (λ A B p h xs. each-keeps keeps p h xs) (λ absent e name. file-keeps absent name) usual-keeps opened-keeps checks-keeps makes-keeps s

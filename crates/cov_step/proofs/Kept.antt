@@ -5,7 +5,7 @@ use Rattle.cov_outside.specs.declared.shelf.ShelfError.{ShelfError}
 use Rattle.cov_vault.specs.declared.vault.Vault.{Ghosts as VaultOf}
 use Rattle.cov_vault.specs.declared.vault.VaultError.{VaultError}
 use Rattle.cov_vault.specs.declared.vault.VaultError.TheVariants as vault_error
-use Rattle.cov_step.specs.Calls.{Call, spells, checks, reads, puts, opens, lists, loads, saves, removes, makes, writes, crosses, measures, says, Answer}
+use Rattle.cov_step.specs.Calls.{Call, spells, checks, reads, puts, opens, lists, loads, saves, removes, makes, writes, crosses, measures, tries, says, Answer}
 use Rattle.cov_step.specs.Objects.{on_shelf, on_vault}
 use Rattle.cov_step.specs.Promises.{keeps}
 
@@ -24,6 +24,7 @@ shelf-kept shelf t u (makes texts) x v m e = absurd m
 shelf-kept shelf t u (writes bytes) x v m e = absurd m
 shelf-kept shelf t u (crosses modules words budget) x v m e = absurd m
 shelf-kept shelf t u (measures asked modules hook) x v m e = absurd m
+shelf-kept shelf t u (tries modules words budget) x v m e = absurd m
 shelf-kept shelf t u (says text) x v m e = absurd m
 
 -- a vault that tells goes on telling
@@ -41,6 +42,7 @@ vault-tells vault u (makes texts) x v m t = absurd m
 vault-tells vault u (writes bytes) x v m t = absurd m
 vault-tells vault u (crosses modules words budget) x v m t = absurd m
 vault-tells vault u (measures asked modules hook) x v m t = absurd m
+vault-tells vault u (tries modules words budget) x v m t = absurd m
 vault-tells vault u (says text) x v m t = absurd m
 
 pub vault-kept : {V : Type 0} (vault : VaultOf V) (u : V) (call : Call) (x : Answer call) (v : V) → on_vault vault u call x v → vault.tells u → keeps call x ≡ true → vault.contents v ≡ vault.contents u
@@ -67,4 +69,5 @@ vault-kept vault u (makes texts) x v m t e = absurd m
 vault-kept vault u (writes bytes) x v m t e = absurd m
 vault-kept vault u (crosses modules words budget) x v m t e = absurd m
 vault-kept vault u (measures asked modules hook) x v m t e = absurd m
+vault-kept vault u (tries modules words budget) x v m t e = absurd m
 vault-kept vault u (says text) x v m t e = absurd m

@@ -9,3 +9,5 @@ pub mod Faults
 pub mod Kept
 pub mod Rising
 pub mod Leaving
+pub mod Folds
+pub mod Silence

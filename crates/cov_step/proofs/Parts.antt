@@ -48,7 +48,7 @@ module _ (P : (A : Type 0) → Step A → Type 0) (gives : (A : Type 0) (a : A) 
   short-so [] = gives _ tt
   short-so (text ∷ texts) = if-so (nat_le (length text) most_pattern_bytes) (short texts) (refuse (limit limits.PatternBytes (length text))) (short-so texts) (refuses _ (limit limits.PatternBytes (length text)) refl)
 
-  patterns_by-so : (exclude partial : List (List ℕ)) → P _ (patterns_by exclude partial)
+  pub patterns_by-so : (exclude partial : List (List ℕ)) → P _ (patterns_by exclude partial)
   patterns_by-so exclude partial =
       binds _ _ (few exclude) _ (few-so exclude) (λ a.
       binds _ _ (few partial) _ (few-so partial) (λ b.

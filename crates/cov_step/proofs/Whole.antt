@@ -1,31 +1,40 @@
 -- What holds of each command, where it holds of values, of refusals, of one part after another, and of each call with its answers.
 use Rattle.std.proofs.Common.{◌≡◌, ℕ, Bool, true, false, if◌then◌else◌, refl, List, [], ◌∷◌, ◌++◌, Option, Some, None, Result, Ok, Err}
-use Rattle.std.specs.Prelude.{◌||◌, codes}
-use Rattle.std.specs.Str.{bytes_eq}
+use Rattle.std.specs.Prelude.{◌||◌, nat_le, codes}
+use Rattle.std.specs.Str.{bytes_eq, chars, is_utf8}
+use Rattle.std.specs.Str.Lines.{lines}
 use Rattle.py_meaning.specs.Modules.{LoadedModule}
 use Rattle.py_syntax.specs.Tree.{Text}
+use Rattle.py_token.specs.Source.{line_count, most_lines}
 use Rattle.cov_combine.specs.Aliases.{Rules, alias_of, rules_from}
 use Rattle.cov_combine.specs.Combined.{combined}
-use Rattle.cov_config.specs.Settings.{Settings}
+use Rattle.cov_config.specs.Settings.{Settings, no_cover, no_branch}
 use Rattle.cov_data.specs.DataSet.{DataSet}
 use Rattle.cov_json.specs.Json.{json_bytes}
 use Rattle.cov_lcov.specs.Annotated.{annotated_bytes}
 use Rattle.cov_lcov.specs.Lcov.{lcov_bytes}
+use Rattle.cov_make.specs.Source as made
 use Rattle.cov_programs.specs.Programs.{give, settle, ask, bind, each}
+use Rattle.cov_run.specs.Reading.{fault_line}
 use Rattle.cov_text.specs.Report.{text_bytes}
-use Rattle.cov_why.specs.Answers.{Refusal, usage}
+use Rattle.cov_why.specs.Answers.{Refusal, usage, no_such_file, syntax, limit}
+use Rattle.cov_why.specs.Messages.{message_of}
+use Rattle.cov_why.specs.declared.why.LimitKind.TheVariants as limits
+use Rattle.cov_why.specs.declared.why.SyntaxKind.TheVariants as kinds
 use Rattle.cov_words.specs.Commands.{PlainCommand}
 use Rattle.cov_words.specs.Commands as plain
 use Rattle.cov_words.specs.Values.{Word}
-use Rattle.cov_step.specs.Calls.{Answered, HookFiles, Asked, Step, refuse, spells, checks, puts, makes, crosses, measures}
-use Rattle.cov_step.specs.Answers.{given_or, Before, run_refusal, shelf_refusal, pattern_refusal, last, on, tree_of}
+use Rattle.cov_step.specs.Calls.{Answered, PlainSource, Patterns, HookFiles, Asked, Step, refuse, spells, checks, puts, makes, writes, crosses, measures, tries, says}
+use Rattle.cov_step.specs.Answers.{given_or, Before, run_refusal, shelf_refusal, sink_refusal, pattern_refusal, last, on, tree_of}
 use Rattle.cov_step.specs.Listing.{listing}
 use Rattle.cov_step.specs.Names.{or_else, removable}
-use Rattle.cov_step.specs.Phases.{file, needed, before, opened, settings_file, settings, own_name, patterns, source, hook_of, joins, joined, inputs, has_own, own_input, some_input, same_kind, saving, removing, removing_all, analysed, reported, judged, done, write_last, put_last, save_last, remove_last, answered_by}
+use Rattle.cov_step.specs.Phases.{file, needed, before, opened, settings_file, settings, own_name, patterns_by, patterns, source, hook_of, joins, joined, inputs, has_own, own_input, some_input, same_kind, saving, removing, removing_all, analysed, reported, judged, done, write_last, put_last, save_last, remove_last, answered_by}
 use Rattle.cov_step.specs.Commands as the
+use Rattle.cov_step.specs.Making.{made_path, made_module, ran_if_any, made_line, made_by, make}
+use Rattle.cov_step.specs.Scripts.{inside, words_in, status_line, ended_in, line_done, is_comment, words_done, line_step, is_text, is_short, is_script, script_text, lines_done, script}
 use Rattle.cov_step.specs.Step.{doing, step}
 use Rattle.cov_step.specs.Promises.{blame_of}
-use Rattle.cov_step.proofs.Parts.{settings-so, patterns-so, source-so, hook_of-so, joins-so, own_input-so, some_input-so, same_kind-so, reported-so}
+use Rattle.cov_step.proofs.Parts.{settings-so, patterns_by-so, patterns-so, source-so, hook_of-so, joins-so, own_input-so, some_input-so, same_kind-so, reported-so}
 
 module _ (P : (A : Type 0) → Step A → Type 0) (gives : (A : Type 0) (a : A) → P A (give a))
     (refuses : (A : Type 0) (r : Refusal) → blame_of r ≡ None → P A (refuse r))
@@ -47,7 +56,7 @@ module _ (P : (A : Type 0) → Step A → Type 0) (gives : (A : Type 0) (a : A) 
     (saves-on : (name : Word) (content : DataSet) → P _ (saving name content))
     (removes-last : (name : Word) (a : Answered) → P _ (remove_last name a))
     (removes-on : (name : Word) → P _ (removing name))
-    (spelling : (words : List Word) → P _ (ask (spells words) (given_or usage))) where
+    (trying : (ms : List LoadedModule) (words : List Text) (n : ℕ) → P _ (ask (tries ms words n) ran_if_any)) where
   settings-are : (rcfile : Option Word) → P _ (settings rcfile)
   settings-are rcfile = settings-so P gives refuses binds eachs files usual opens checking making rcfile
 
@@ -106,30 +115,83 @@ module _ (P : (A : Type 0) → Step A → Type 0) (gives : (A : Type 0) (a : A) 
       binds _ _ (source path) (λ f. write_last (annotated_bytes (analysed p d f) f.text) done) (source-so P gives refuses binds eachs files usual opens checking making path) (λ f.
       writing (annotated_bytes (analysed p d f) f.text) done)))
 
-  pub doing-is : (c : PlainCommand) → P _ (doing c)
-  doing-is (plain.arcs steps script args) = arcs-is steps script args
-  doing-is (plain.run branch append context steps hook data_file rcfile script args) =
+  made_by-is : (seed size : ℕ) (p : Patterns) (f : PlainSource) → P _ (made_by seed size p f)
+  made_by-is seed size p f = let tried = ask (tries (made_module f ∷ []) (the.words_of f.path []) the.usual_steps) ran_if_any in
+      binds _ _ tried (λ r. write_last (made_line seed size p f r) done) (trying (made_module f ∷ []) (the.words_of f.path []) the.usual_steps) (λ r.
+      writing (made_line seed size p f r) done)
+
+  make-is : (seed size : ℕ) → P _ (make seed size)
+  make-is seed size = let text = made.source seed size in
+      binds _ _ (patterns_by (no_cover ∷ []) (no_branch ∷ [])) (λ p. bind (ask (checks text) (tree_of made_path text)) (made_by seed size p)) (patterns_by-so P gives refuses binds eachs files usual opens checking making (no_cover ∷ []) (no_branch ∷ [])) (λ p.
+      binds _ _ (ask (checks text) (tree_of made_path text)) (made_by seed size p) (checking made_path text) (made_by-is seed size p))
+
+  pub inside-is : (c : PlainCommand) → P _ (inside c)
+  inside-is (plain.arcs steps script args) = arcs-is steps script args
+  inside-is (plain.run branch append context steps hook data_file rcfile script args) =
       binds _ _ (settings rcfile) (λ s. the.run_by (own_name data_file s) append (the.asked_by s branch context steps script args) (the.hook_named hook s.run.hook) script) (settings-are rcfile) (λ s.
       run_by-is (own_name data_file s) append (the.asked_by s branch context steps script args) (the.hook_named hook s.run.hook) script)
-  doing-is (plain.combine append keep data_file rcfile named) =
+  inside-is (plain.combine append keep data_file rcfile named) =
       binds _ _ (settings rcfile) (λ s. the.combine_by (own_name data_file s) (rules_from s.paths) append keep named) (settings-are rcfile) (λ s. combine_by-is (own_name data_file s) (rules_from s.paths) append keep named)
-  doing-is (plain.report show fail_under data_file rcfile) =
+  inside-is (plain.report show fail_under data_file rcfile) =
       binds _ _ (reported data_file rcfile) (λ r. write_last (text_bytes r.files r.arcs (show || r.settings.report.show_missing)) (judged (or_else fail_under r.settings.report.fail_under) r.files)) (reported-is data_file rcfile) (λ r.
       writing (text_bytes r.files r.arcs (show || r.settings.report.show_missing)) (judged (or_else fail_under r.settings.report.fail_under) r.files))
-  doing-is (plain.json name fail_under data_file rcfile) =
+  inside-is (plain.json name fail_under data_file rcfile) =
       binds _ _ (reported data_file rcfile) (λ r. put_last (or_else name (codes "coverage.json")) (json_bytes r.files r.arcs) (judged (or_else fail_under r.settings.report.fail_under) r.files)) (reported-is data_file rcfile) (λ r.
       put-is (or_else name (codes "coverage.json")) (json_bytes r.files r.arcs) (judged (or_else fail_under r.settings.report.fail_under) r.files))
-  doing-is (plain.lcov name fail_under data_file rcfile) =
+  inside-is (plain.lcov name fail_under data_file rcfile) =
       binds _ _ (reported data_file rcfile) (λ r. put_last (or_else name (codes "coverage.lcov")) (lcov_bytes r.files r.arcs) (judged (or_else fail_under r.settings.report.fail_under) r.files)) (reported-is data_file rcfile) (λ r.
       put-is (or_else name (codes "coverage.lcov")) (lcov_bytes r.files r.arcs) (judged (or_else fail_under r.settings.report.fail_under) r.files))
-  doing-is (plain.annotate data_file rcfile path) =
+  inside-is (plain.annotate data_file rcfile path) =
       binds _ _ (settings rcfile) (λ s. bind (patterns s.report) (λ p. bind (needed (own_name data_file s)) (λ d. bind (source path) (λ f. write_last (annotated_bytes (analysed p d f) f.text) done)))) (settings-are rcfile) (annotated-is data_file path)
-  doing-is (plain.erase data_file rcfile) = binds _ _ (settings rcfile) (λ s. remove_last (own_name data_file s) done) (settings-are rcfile) (λ s. removes-last (own_name data_file s) done)
-  doing-is (plain.script file) = refuses _ (usage 0) refl
-  doing-is (plain.make seed size) = refuses _ (usage 0) refl
-  doing-is (plain.suite branch steps data_file rcfile file) = refuses _ (usage 0) refl
-  doing-is (plain.select steps old new) = refuses _ (usage 0) refl
-  doing-is (plain.mutate steps file) = refuses _ (usage 0) refl
+  inside-is (plain.erase data_file rcfile) = binds _ _ (settings rcfile) (λ s. remove_last (own_name data_file s) done) (settings-are rcfile) (λ s. removes-last (own_name data_file s) done)
+  inside-is (plain.script file) = refuses _ (usage 0) refl
+  inside-is (plain.make seed size) = make-is seed size
+  inside-is (plain.suite branch steps data_file rcfile file) = refuses _ (usage 0) refl
+  inside-is (plain.select steps old new) = refuses _ (usage 0) refl
+  inside-is (plain.mutate steps file) = refuses _ (usage 0) refl
 
-  pub step-is : (words : List Word) → P _ (step words)
-  step-is words = binds _ _ (ask (spells words) (given_or usage)) doing (spelling words) doing-is
+  -- with what is told of a command, and words
+  module _ (spelling : (words : List Word) → P _ (ask (spells words) (given_or usage)))
+      (saying : (text : List ℕ) → P _ (ask (says text) give))
+      (noting : (bytes : List ℕ) → P _ (ask (writes bytes) (on sink_refusal))) where
+    ended-is : (a : Answered) → P _ (ended_in a)
+    ended-is a = binds _ _ (ask (says (message_of (Ok a.ended) a.ending)) give) (λ said. ask (writes (status_line a)) (on sink_refusal)) (saying (message_of (Ok a.ended) a.ending)) (λ said. noting (status_line a))
+
+    line_done-is : (words : List Word) → P _ (line_done words)
+    line_done-is words = binds _ _ (ask (spells words) (given_or usage)) (λ c. bind (inside c) ended_in) (spelling words) (λ c. binds _ _ (inside c) ended_in (inside-is c) ended-is)
+
+    words_done-is : (words : List Word) → P _ (words_done words)
+    words_done-is [] = gives _ tt
+    words_done-is (w ∷ ws) = line_done-is (w ∷ ws)
+
+    line-is : (line : List ℕ) → P _ (line_step line)
+    line-is line = either (is_comment line) (give tt) (words_done (words_in line)) (gives _ tt) (words_done-is (words_in line))
+
+    is_script-is : (name : Word) (bytes : List ℕ) → P _ (is_script name bytes)
+    is_script-is name bytes = let count = line_count (chars bytes) in
+        binds _ _ (is_text name bytes) (λ a. bind (is_short count) (λ b. give bytes)) (either (is_utf8 bytes) (give tt) (refuse (syntax name (fault_line bytes) kinds.BadCharacter)) (gives _ tt) (refuses _ (syntax name (fault_line bytes) kinds.BadCharacter) refl)) (λ a.
+        binds _ _ (is_short count) (λ b. give bytes) (either (nat_le count most_lines) (give tt) (refuse (limit limits.Lines count)) (gives _ tt) (refuses _ (limit limits.Lines count) refl)) (λ b. gives _ bytes))
+
+    lines-are : (ls : List (List ℕ)) → P _ (lines_done ls)
+    lines-are ls = binds _ _ (each line_step ls) (λ told. give done) (eachs _ _ line_step line-is ls) (λ told. gives _ done)
+
+    script-is : (name : Word) → P _ (script name)
+    script-is name = binds _ _ (script_text name) (λ text. lines_done (lines text)) (binds _ _ (file (no_such_file name) name) (is_script name) (files (no_such_file name) refl name) (is_script-is name)) (λ text. lines-are (lines text))
+
+    pub doing-is : (c : PlainCommand) → P _ (doing c)
+    doing-is (plain.arcs steps script args) = inside-is (plain.arcs steps script args)
+    doing-is (plain.run branch append context steps hook data_file rcfile script args) = inside-is (plain.run branch append context steps hook data_file rcfile script args)
+    doing-is (plain.combine append keep data_file rcfile named) = inside-is (plain.combine append keep data_file rcfile named)
+    doing-is (plain.report show fail_under data_file rcfile) = inside-is (plain.report show fail_under data_file rcfile)
+    doing-is (plain.json name fail_under data_file rcfile) = inside-is (plain.json name fail_under data_file rcfile)
+    doing-is (plain.lcov name fail_under data_file rcfile) = inside-is (plain.lcov name fail_under data_file rcfile)
+    doing-is (plain.annotate data_file rcfile path) = inside-is (plain.annotate data_file rcfile path)
+    doing-is (plain.erase data_file rcfile) = inside-is (plain.erase data_file rcfile)
+    doing-is (plain.script file) = script-is file
+    doing-is (plain.make seed size) = inside-is (plain.make seed size)
+    doing-is (plain.suite branch steps data_file rcfile file) = inside-is (plain.suite branch steps data_file rcfile file)
+    doing-is (plain.select steps old new) = inside-is (plain.select steps old new)
+    doing-is (plain.mutate steps file) = inside-is (plain.mutate steps file)
+
+    pub step-is : (words : List Word) → P _ (step words)
+    step-is words = binds _ _ (ask (spells words) (given_or usage)) doing (spelling words) doing-is

@@ -24,11 +24,12 @@ use Rattle.cov_vault.specs.declared.vault.VaultError.TheVariants as vault_error
 use Rattle.cov_why.specs.Answers.{Refusal, usage, no_such_file, syntax, limit, bad_config, bad_pattern, pattern_size, no_function, no_data, mixed, bad_data, no_source, read_fault, write_fault, shelf_fault, vault_fault, no_memory, import_failed}
 use Rattle.cov_words.specs.Commands.{PlainCommand}
 use Rattle.cov_words.specs.Values.{Word}
-use Rattle.cov_step.specs.Calls.{Answered, Step, IsNoMemory}
+use Rattle.cov_step.specs.Calls.{Answered, Ran, Step, IsNoMemory}
 use Rattle.cov_step.specs.Answers.{bytes_of, bytes_if_any, given_or, load_refusal, vault_refusal, before_of, removed, run_refusal, shelf_refusal, sink_refusal, pattern_refusal, last, on, token_refusal, syntax_refusal, scope_refusal, tree_of}
 use Rattle.cov_step.specs.Phases.{inputs, is_part_of}
+use Rattle.cov_step.specs.Making.{ran_if_any}
 use Rattle.cov_step.specs.Step.{step}
-use Rattle.cov_step.specs.Promises.{shelf_hungry, vault_hungry, pattern_hungry, sink_hungry, run_hungry, token_hungry, syntax_hungry, scope_hungry, reading_hungry, refusal_hungry, hungry_error, hungry_refusal, is_hungry}
+use Rattle.cov_step.specs.Promises.{shelf_hungry, vault_hungry, pattern_hungry, sink_hungry, run_hungry, token_hungry, syntax_hungry, scope_hungry, reading_hungry, refusal_hungry, hungry_error, hungry_refusal, is_wanting, is_hungry}
 use Rattle.cov_step.proofs.Whole.{step-is}
 
 abbrev Yielding : (A : Type 0) → Step A → Type 0
@@ -180,6 +181,10 @@ inputs-yield : (own : Word) (named : List Word) → Yielding _ (inputs own named
 inputs-yield own [] = listed-after own
 inputs-yield own (n ∷ ns) = tt
 
+ran-after : (x : Option Ran) → After (is_wanting x) (ran_if_any x)
+ran-after None = (λ h. refl, tt)
+ran-after (Some r) = (λ h. absurd (never h), tt)
+
 spelled-after : (x : Result PlainCommand ℕ) → After false (given_or usage x)
 spelled-after (Ok c) = (λ h. absurd (never h), tt)
 spelled-after (Err n) = (λ h. absurd (never h), tt)
@@ -193,4 +198,4 @@ law_of_want words = step-is Yielding (λ A a. tt) (λ A r e. tt) (λ A B p next.
     (λ bytes a x. last-after sink_refusal sink_hungry write-wants a x) (λ name bytes a x. last-after shelf_refusal shelf_hungry put-wants a x)
     (λ name content a x. last-after (vault_refusal name) vault_hungry (vault-wants name) a x) (λ name content x. on-after (vault_refusal name) vault_hungry (vault-wants name) x)
     (λ name a x. remove-after (settle a) tt x) (λ name x. remove-after (give tt) tt x)
-    (λ ws x. spelled-after x) words
+    (λ ms ws n x. ran-after x) (λ ws x. spelled-after x) (λ text x. (λ h. absurd (never h), tt)) (λ bytes x. on-after sink_refusal sink_hungry write-wants x) words

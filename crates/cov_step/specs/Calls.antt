@@ -25,8 +25,8 @@ use Rattle.cov_why.specs.declared.why.Why.{Why}
 use Rattle.cov_words.specs.Commands.{PlainCommand}
 use Rattle.cov_words.specs.Values.{Word}
 
--- How a command ended that wasn't refused, with the bytes that its program's ending writes to `err`,
--- or the percent that was asked for.
+-- How a command ended that wasn't refused, with the bytes that its program's ending writes to
+-- `err`, or the percent that was asked for.
 pub record Answered : Type 0 where
   pub ended : Ended
   pub ending : List ℕ
@@ -83,6 +83,8 @@ pub data Call : Type 0 where
   writes : (bytes : List ℕ) → Call
   crosses : (modules : List LoadedModule) (words : List Text) (budget : ℕ) → Call
   measures : (asked : Asked) (modules : List LoadedModule) (hook : Option HookFiles) → Call
+  -- a run with arcs on objects of its own: it reads nothing, and what it writes is thrown away
+  tries : (modules : List LoadedModule) (words : List Text) (budget : ℕ) → Call
   -- a text for `err`
   says : (text : List ℕ) → Call
 
@@ -101,6 +103,7 @@ Answer (makes texts) = Option PatternError
 Answer (writes bytes) = Option SinkError
 Answer (crosses modules words budget) = Result Ran RunFault
 Answer (measures asked modules hook) = Result Ran RunFault
+Answer (tries modules words budget) = Option Ran
 Answer (says text) = Unit {0}
 
 -- A program over these calls. What the code answers in place of a value is any ending; a program is

@@ -4,6 +4,8 @@ pub mod Names
 pub mod Answers
 pub mod Phases
 pub mod Commands
+pub mod Making
+pub mod Scripts
 pub mod Step
 pub mod Objects
 pub mod Promises

@@ -22,16 +22,15 @@ use Rattle.cov_exclude.specs.Refusals.{IsCauseOf, FoundLarge}
 use Rattle.cov_exclude.specs.declared.maker.Maker.{Ghosts as MakerOf}
 use Rattle.cov_exclude.specs.declared.patterns.PatternError.{PatternError}
 use Rattle.cov_programs.specs.Objects.{Moves}
-use Rattle.cov_run.specs.Asking.{EndsFailed}
 use Rattle.cov_run.specs.Loading.{told_by}
-use Rattle.cov_run.specs.Loads.{Loads, LoadsTo}
+use Rattle.cov_run.specs.Loads.{EndsFailed, Loads, LoadsTo}
 use Rattle.cov_run.specs.Reading.{Reading, Reads}
 use Rattle.cov_vault.specs.declared.vault.Vault.{Ghosts as VaultOf}
 use Rattle.cov_vault.specs.declared.vault.VaultError.{VaultError}
 use Rattle.cov_vault.specs.declared.vault.VaultError.TheVariants as vault_error
 use Rattle.cov_why.specs.Answers.{Refusal, shelf_fault}
 use Rattle.cov_words.specs.Values.{Word}
-use Rattle.cov_step.specs.Calls.{Call, spells, checks, reads, puts, opens, lists, loads, saves, removes, makes, writes, crosses, measures, says, Answer}
+use Rattle.cov_step.specs.Calls.{Call, spells, checks, reads, puts, opens, lists, loads, saves, removes, makes, writes, crosses, measures, tries, says, Answer}
 use Rattle.cov_step.specs.Promises.{Object, the_shelf, blame_of, by_error}
 use Rattle.cov_step.specs.Step.{IsSpelled}
 
@@ -58,6 +57,7 @@ on_grammar old (makes texts) refusal new = ⊥
 on_grammar old (writes bytes) refusal new = ⊥
 on_grammar old (crosses modules words budget) answer new = ⊥
 on_grammar old (measures asked modules hook) answer new = ⊥
+on_grammar old (tries modules words budget) answer new = ⊥
 on_grammar old (says text) answer new = ⊥
 
 -- ---- a shelf
@@ -91,7 +91,8 @@ pub record OpenOf {H : Type 0} (shelf : ShelfOf H) (old : H) (script : Word)
       → LoadsTo (told_by (shelf.files old) (chars script)) (chars script) main_name answer
   pub kept : shelf.tells → shelf.files new ≡ shelf.files old
   pub blames : (o : Object) → by_error blame_of answer ≡ Some o → o ≡ the_shelf
-  pub ends : answer ≡ Err shelf_fault → EndsFailed shelf.reads old new
+  pub ends :
+      answer ≡ Err shelf_fault → EndsFailed shelf.reads old (chars script) main_name new
   pub count : shelf.faults old ≤ shelf.faults new
   pub failed : answer ≡ Err shelf_fault → Rose (shelf.faults old) (shelf.faults new)
 
@@ -110,6 +111,7 @@ on_shelf shelf old (makes texts) refusal new = ⊥
 on_shelf shelf old (writes bytes) refusal new = ⊥
 on_shelf shelf old (crosses modules words budget) answer new = ⊥
 on_shelf shelf old (measures asked modules hook) answer new = ⊥
+on_shelf shelf old (tries modules words budget) answer new = ⊥
 on_shelf shelf old (says text) answer new = ⊥
 
 -- ---- a vault
@@ -165,6 +167,7 @@ on_vault vault old (makes texts) refusal new = ⊥
 on_vault vault old (writes bytes) refusal new = ⊥
 on_vault vault old (crosses modules words budget) answer new = ⊥
 on_vault vault old (measures asked modules hook) answer new = ⊥
+on_vault vault old (tries modules words budget) answer new = ⊥
 on_vault vault old (says text) answer new = ⊥
 
 -- ---- a maker of patterns
@@ -192,6 +195,7 @@ on_maker maker old (makes texts) refusal new = MakeOf maker old texts refusal ne
 on_maker maker old (writes bytes) refusal new = ⊥
 on_maker maker old (crosses modules words budget) answer new = ⊥
 on_maker maker old (measures asked modules hook) answer new = ⊥
+on_maker maker old (tries modules words budget) answer new = ⊥
 on_maker maker old (says text) answer new = ⊥
 
 -- ---- an output
@@ -224,6 +228,7 @@ on_sink sink old (makes texts) refusal new = ⊥
 on_sink sink old (writes bytes) refusal new = WriteOf sink old bytes refusal new
 on_sink sink old (crosses modules words budget) answer new = ⊥
 on_sink sink old (measures asked modules hook) answer new = ⊥
+on_sink sink old (tries modules words budget) answer new = ⊥
 on_sink sink old (says text) answer new = ⊥
 
 -- ---- `err`
@@ -272,4 +277,5 @@ on_err sink old (makes texts) refusal new = ⊥
 on_err sink old (writes bytes) refusal new = ⊥
 on_err sink old (crosses modules words budget) answer new = ⊥
 on_err sink old (measures asked modules hook) answer new = ⊥
+on_err sink old (tries modules words budget) answer new = ⊥
 on_err sink old (says text) answer new = SayOf sink old text new

@@ -183,7 +183,8 @@ inputs own [] = do
   found ← given_or (vault_refusal own) answer
   give (filter (is_part_of own) found)
 
--- whether the data file's own data are an input: where that is asked for and its name holds anything
+-- whether the data file's own data are an input: where that is asked for and its name holds
+-- anything
 abbrev pub has_own : Bool → Before → Bool
 has_own false was = false
 has_own true nothing = false

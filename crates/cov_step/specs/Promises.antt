@@ -1,10 +1,13 @@
 -- What commands promise, whatever their objects do.
 --     keeps, changes_last, CarefulLaw      a refusal leaves shelf and vault as they were
+--     is_silent, has_one_text, QuietLaw    only a script says anything before it ended
 --     calls_vault, RunTwiceLaw             a run calls the vault at most twice
 --     Object, blame_of, blamed, brings     whose fault a refusal and an answer are
 --     BlameLaw                             a fault is answered only where an object had it
 --     is_hungry, YieldLaw                  want of memory of an object is answered as that
-use Rattle.std.specs.Prelude.{◌≡◌, nat_eq, ℕ, Bool, true, false, List, Option, Some, None, Result, Ok, Err}
+--     EndsLines, IsFold, FoldLaw           a script is the fold of its lines
+use Rattle.std.specs.Prelude.{◌≡◌, ◌⊎◌, nat_eq, ℕ, Bool, true, false, List, Option, Some, None, Result, Ok, Err}
+use Rattle.std.specs.Str.Lines.{lines}
 use Rattle.cov_outside.specs.declared.shelf.ShelfError.{ShelfError}
 use Rattle.cov_outside.specs.declared.shelf.ShelfError.TheVariants as shelf_error
 use Rattle.cov_outside.specs.declared.sink.SinkError.{SinkError}
@@ -19,16 +22,20 @@ use Rattle.py_token.specs.declared.error.TokenError.{TokenError}
 use Rattle.py_token.specs.declared.error.TokenError.TheVariants as token_error
 use Rattle.cov_exclude.specs.declared.patterns.PatternError.{PatternError}
 use Rattle.cov_exclude.specs.declared.patterns.PatternError.TheVariants as pattern_error
-use Rattle.cov_programs.specs.Laws.{IsCareful, CallsAtMost, BlamesOnly, Yields}
+use Rattle.cov_programs.specs.Ends.{Follows}
+use Rattle.cov_programs.specs.Laws.{IsCareful, OnlyKeeps, CallsAtMost, BlamesOnly, Yields, Folds}
+use Rattle.cov_programs.specs.Objects.{Moves}
 use Rattle.cov_run.specs.Reading.{Reading, no_text, long, stuck, no_tree, ill_formed, tree, unread}
 use Rattle.cov_vault.specs.declared.vault.VaultError.{VaultError}
 use Rattle.cov_vault.specs.declared.vault.VaultError.TheVariants as vault_error
-use Rattle.cov_why.specs.Answers.{Refusal, usage, no_such_file, syntax, limit, bad_config, bad_pattern, pattern_size, no_function, no_data, mixed, bad_data, no_source, read_fault, write_fault, shelf_fault, vault_fault, no_memory, import_failed}
+use Rattle.cov_why.specs.Answers.{Refusal, usage, no_such_file, syntax, limit, bad_config, bad_pattern, pattern_size, no_function, no_data, mixed, bad_data, no_source, read_fault, write_fault, shelf_fault, vault_fault, no_memory, import_failed, PlainWhy}
 use Rattle.cov_words.specs.Commands.{PlainCommand}
 use Rattle.cov_words.specs.Commands as plain
 use Rattle.cov_words.specs.Values.{Word}
-use Rattle.cov_step.specs.Calls.{Call, spells, checks, reads, puts, opens, lists, loads, saves, removes, makes, writes, crosses, measures, says, Answer, IsNoMemory}
+use Rattle.cov_step.specs.Calls.{Call, spells, checks, reads, puts, opens, lists, loads, saves, removes, makes, writes, crosses, measures, tries, says, Answer, Answered, IsNoMemory}
 use Rattle.cov_step.specs.Commands.{run}
+use Rattle.cov_step.specs.Phases.{done}
+use Rattle.cov_step.specs.Scripts.{line_step, script_text, script}
 use Rattle.cov_step.specs.Step.{doing, step}
 
 -- ---- what a refusal leaves
@@ -53,6 +60,7 @@ keeps (makes texts) refusal = true
 keeps (writes bytes) refusal = true
 keeps (crosses modules words budget) answer = true
 keeps (measures asked modules hook) answer = true
+keeps (tries modules words budget) answer = true
 keeps (says text) answer = true
 
 -- a command that changes shelf or vault by its last call alone, if at all
@@ -65,7 +73,7 @@ changes_last (plain.json name fail_under data_file rcfile) = true
 changes_last (plain.lcov name fail_under data_file rcfile) = true
 changes_last (plain.annotate data_file rcfile file) = true
 changes_last (plain.erase data_file rcfile) = true
-changes_last (plain.script file) = true
+changes_last (plain.script file) = false
 changes_last (plain.make seed size) = true
 changes_last (plain.suite branch budget data_file rcfile file) = true
 changes_last (plain.select budget old new) = true
@@ -74,6 +82,46 @@ changes_last (plain.mutate budget file) = true
 -- such a command is careful: after what it changed it isn't refused
 abbrev pub CarefulLaw : Type 0
 CarefulLaw = (c : PlainCommand) → changes_last c ≡ true → IsCareful keeps (doing c)
+
+-- ---- what is said on the way
+
+-- an answer that isn't one to a text for `err`
+abbrev pub is_silent : (call : Call) → Answer call → Bool
+is_silent (spells words) answer = true
+is_silent (checks bytes) reading = true
+is_silent (reads name most) answer = true
+is_silent (puts name bytes) refusal = true
+is_silent (opens script) answer = true
+is_silent lists answer = true
+is_silent (loads name) answer = true
+is_silent (saves name content) refusal = true
+is_silent (removes name) refusal = true
+is_silent (makes texts) refusal = true
+is_silent (writes bytes) refusal = true
+is_silent (crosses modules words budget) answer = true
+is_silent (measures asked modules hook) answer = true
+is_silent (tries modules words budget) answer = true
+is_silent (says text) answer = false
+
+-- a command of one text, which is said when it ended; a script has those of its commands
+abbrev pub has_one_text : PlainCommand → Bool
+has_one_text (plain.arcs budget script args) = true
+has_one_text (plain.run branch append context budget hook data_file rcfile script args) = true
+has_one_text (plain.combine append keep data_file rcfile names) = true
+has_one_text (plain.report show_missing fail_under data_file rcfile) = true
+has_one_text (plain.json name fail_under data_file rcfile) = true
+has_one_text (plain.lcov name fail_under data_file rcfile) = true
+has_one_text (plain.annotate data_file rcfile file) = true
+has_one_text (plain.erase data_file rcfile) = true
+has_one_text (plain.script file) = false
+has_one_text (plain.make seed size) = true
+has_one_text (plain.suite branch budget data_file rcfile file) = true
+has_one_text (plain.select budget old new) = true
+has_one_text (plain.mutate budget file) = true
+
+-- such a command says nothing on the way
+abbrev pub QuietLaw : Type 0
+QuietLaw = (c : PlainCommand) → has_one_text c ≡ true → OnlyKeeps is_silent (doing c)
 
 -- ---- how often the vault is called
 
@@ -92,6 +140,7 @@ calls_vault (makes texts) = false
 calls_vault (writes bytes) = false
 calls_vault (crosses modules words budget) = false
 calls_vault (measures asked modules hook) = false
+calls_vault (tries modules words budget) = false
 calls_vault (says text) = false
 
 -- a run calls the vault at most twice
@@ -221,6 +270,7 @@ blamed (makes texts) refusal = by_refusal make_blame refusal
 blamed (writes bytes) refusal = by_refusal write_blame refusal
 blamed (crosses modules words budget) answer = by_error run_blame answer
 blamed (measures asked modules hook) answer = by_error run_blame answer
+blamed (tries modules words budget) answer = None
 blamed (says text) answer = None
 
 -- that is this object
@@ -338,6 +388,11 @@ abbrev pub hungry_refusal : {E : Type 0} → (E → Bool) → Option E → Bool
 hungry_refusal hungry None = false
 hungry_refusal hungry (Some e) = hungry e
 
+-- a try that memory was wanting for
+abbrev pub is_wanting : {A : Type 0} → Option A → Bool
+is_wanting None = true
+is_wanting (Some a) = false
+
 -- an answer that an object gives for want of memory
 abbrev pub is_hungry : (call : Call) → Answer call → Bool
 is_hungry (spells words) answer = false
@@ -353,8 +408,33 @@ is_hungry (makes texts) refusal = hungry_refusal pattern_hungry refusal
 is_hungry (writes bytes) refusal = hungry_refusal sink_hungry refusal
 is_hungry (crosses modules words budget) answer = hungry_error run_hungry answer
 is_hungry (measures asked modules hook) answer = hungry_error run_hungry answer
+is_hungry (tries modules words budget) answer = is_wanting answer
 is_hungry (says text) answer = false
 
 -- After such an answer a command is refused for want of memory.
 abbrev pub YieldLaw : Type 0
 YieldLaw = (words : List Word) → Yields IsNoMemory is_hungry (step words)
+
+-- ---- a script
+
+-- what a script answers whose lines came to this; memory may be wanting behind the last of them
+abbrev pub EndsLines : Result (List (Unit {0})) PlainWhy → Result Answered PlainWhy → Type 0
+EndsLines (Ok told) ending = (ending ≡ Ok done) ⊎ (ending ≡ Err (Err no_memory))
+EndsLines (Err why) ending = ending ≡ Err why
+
+-- Each line began where those before it led, and the first that was refused ended the script.
+pub record IsFold {W : Type 0} (moves : Moves Call Answer W) (ls : List (List ℕ)) (old : W)
+    (ending : Result Answered PlainWhy) (new : W) : Type 0 where
+  pub told : Result (List (Unit {0})) PlainWhy
+  pub folds : Folds moves IsNoMemory line_step ls old told new
+  pub ends : EndsLines told ending
+
+-- A script is that fold over the lines of its file, or its file is refused.
+abbrev pub FoldLaw : {W : Type 0} → Moves Call Answer W → Type 0
+FoldLaw {W} moves =
+    (name : Word) (old : W) (ending : Result Answered PlainWhy) (new : W)
+    → Follows moves IsNoMemory (script name) old ending new
+    → ((why : PlainWhy) × Follows moves IsNoMemory (script_text name) old (Err why) new
+    × (ending ≡ Err why))
+    ⊎ ((text : List ℕ) × (mid : W) × Follows moves IsNoMemory (script_text name) old (Ok text) mid
+    × IsFold moves (lines text) mid ending new)

@@ -12,6 +12,8 @@ use Rattle.cov_words.specs.Values.{Word}
 use Rattle.cov_step.specs.Calls.{Answered, spells, Step, refuse}
 use Rattle.cov_step.specs.Answers.{given_or}
 use Rattle.cov_step.specs.Commands.{arcs, run, combine, report, json, lcov, annotate, erase}
+use Rattle.cov_step.specs.Making.{make}
+use Rattle.cov_step.specs.Scripts.{script}
 
 -- whether a command is built
 abbrev pub is_built : PlainCommand → Bool
@@ -23,8 +25,8 @@ is_built (plain.json name fail_under data_file rcfile) = true
 is_built (plain.lcov name fail_under data_file rcfile) = true
 is_built (plain.annotate data_file rcfile file) = true
 is_built (plain.erase data_file rcfile) = true
-is_built (plain.script file) = false
-is_built (plain.make seed size) = false
+is_built (plain.script file) = true
+is_built (plain.make seed size) = true
 is_built (plain.suite branch budget data_file rcfile file) = false
 is_built (plain.select budget old new) = false
 is_built (plain.mutate budget file) = false
@@ -59,8 +61,8 @@ doing (plain.json name fail_under data_file rcfile) = json name fail_under data_
 doing (plain.lcov name fail_under data_file rcfile) = lcov name fail_under data_file rcfile
 doing (plain.annotate data_file rcfile file) = annotate data_file rcfile file
 doing (plain.erase data_file rcfile) = erase data_file rcfile
-doing (plain.script file) = refuse (usage 0)
-doing (plain.make seed size) = refuse (usage 0)
+doing (plain.script file) = script file
+doing (plain.make seed size) = make seed size
 doing (plain.suite branch budget data_file rcfile file) = refuse (usage 0)
 doing (plain.select budget old new) = refuse (usage 0)
 doing (plain.mutate budget file) = refuse (usage 0)

@@ -1,10 +1,16 @@
 //! Laws of the commands, whatever the objects do that they call.
-ghost use Rattle.cov_step.specs.Promises.{BlameLaw, CarefulLaw, RunTwiceLaw, YieldLaw};
+ghost use Rattle.cov_step.specs.Promises.{BlameLaw, CarefulLaw, QuietLaw, RunTwiceLaw, YieldLaw};
 
 /// A command that changes shelf or vault by its last call alone isn't refused after it. So a
 /// refusal leaves both as they were. It does nothing when it runs.
 pub fn careful()
     ensures { CarefulLaw }
+{}
+
+/// A command says nothing on `err` before it ended, but for a script, whose commands do. It does
+/// nothing when it runs.
+pub fn quiet()
+    ensures { QuietLaw }
 {}
 
 /// A run calls the vault at most twice. It does nothing when it runs.

@@ -4,4 +4,6 @@
 
 mod laws;
 
-pub use laws::{blames_who_failed, careful, run_calls_vault_twice, yields_to_want_of_memory};
+pub use laws::{
+    blames_who_failed, careful, quiet, run_calls_vault_twice, yields_to_want_of_memory,
+};

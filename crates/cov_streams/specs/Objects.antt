@@ -9,9 +9,10 @@ use Rattle.cov_outside.specs.declared.source.Source.{Ghosts as SourceOf}
 use Rattle.py_machine.specs.declared.engine.Engine.{Ghosts as EngineOf}
 use Rattle.cov_measure.specs.Measures.{Streams, streams}
 use Rattle.cov_programs.specs.Objects.{Moves}
-use Rattle.cov_step.specs.Calls.{Call, spells, checks, reads, puts, opens, lists, loads, saves, removes, makes, writes, crosses, measures, says, Answer}
+use Rattle.cov_step.specs.Calls.{Call, spells, checks, reads, puts, opens, lists, loads, saves, removes, makes, writes, crosses, measures, tries, says, Answer}
 use Rattle.cov_step.specs.Objects.{WriteOf}
 use Rattle.cov_streams.specs.Runs.{MeasureRun, CrossRun}
+use Rattle.cov_streams.specs.Trials.{TryRun}
 
 -- a write, which leaves the others alone
 pub record WriteRun {I O P G : Type 0} (sink : SinkOf O) (old : Streams I O P G) (bytes : List ℕ)
@@ -19,7 +20,7 @@ pub record WriteRun {I O P G : Type 0} (sink : SinkOf O) (old : Streams I O P G)
   pub wrote : WriteOf sink old.out bytes refusal new.out
   pub same : new ≡ streams old.input new.out old.plugins old.engine
 
--- input, output, plugins and engine
+-- input, output, plugins and engine; a try leaves them alone
 abbrev pub on_run : {I O P G : Type 0} → SourceOf I → SinkOf O → PluginOf P → EngineOf G
     → Moves Call Answer (Streams I O P G)
 on_run source sink plugin engine old (spells words) answer new = ⊥
@@ -32,9 +33,12 @@ on_run source sink plugin engine old (loads name) answer new = ⊥
 on_run source sink plugin engine old (saves name content) refusal new = ⊥
 on_run source sink plugin engine old (removes name) refusal new = ⊥
 on_run source sink plugin engine old (makes texts) refusal new = ⊥
-on_run source sink plugin engine old (writes bytes) refusal new = WriteRun sink old bytes refusal new
+on_run source sink plugin engine old (writes bytes) refusal new =
+    WriteRun sink old bytes refusal new
 on_run source sink plugin engine old (crosses modules words budget) answer new =
     CrossRun source sink plugin engine old modules words budget answer new
 on_run source sink plugin engine old (measures asked modules hook) answer new =
     MeasureRun source sink plugin engine old asked modules hook answer new
+on_run source sink plugin engine old (tries modules words budget) answer new =
+    TryRun old modules words budget answer new
 on_run source sink plugin engine old (says text) answer new = ⊥
