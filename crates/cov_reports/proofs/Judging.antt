@@ -1,5 +1,6 @@
 -- The last calls of reports, under other names of the same texts and endings.
-use Rattle.std.proofs.Common.{◌≡◌, ℕ, List, [], ◌∷◌, map, refl, ap, subst, Result}
+use Rattle.std.proofs.Common.{◌≡◌, ℕ, List, [], ◌∷◌, map, refl, ap, subst, Result, Ok, IfOk, String, string_bytes}
+use Rattle.std.specs.declared.alloc.Global.{Global}
 use Rattle.cov_analysis.specs.Analyses.{AnalysisView, analysis_view}
 use Rattle.cov_analysis.specs.Counts.{numbers_of, total_of}
 use Rattle.cov_analysis.specs.declared.analysis.Analysis.{Analysis}
@@ -32,3 +33,12 @@ pub put-so : {H O : Type 0} (shelf : ShelfOf H) (sink : SinkOf O) (name : Word) 
 put-so shelf sink name {bytes = bytes} {same = same} {old = old} {new = new} {e = e} is too f =
     subst (λ b. Follows (beside (on_shelf shelf) (on_sink sink)) IsNoMemory (put_last name b same) old e new) is
     (subst (λ x. Follows (beside (on_shelf shelf) (on_sink sink)) IsNoMemory (put_last name bytes x) old e new) too f)
+
+-- ---- a text that was made, where memory sufficed
+
+pub text-is : {E : Type 0} (r : Result (String Global) E) (text : String Global) (bytes : List ℕ) → r ≡ Ok text → IfOk r (λ t. string_bytes t ≡ bytes) → string_bytes text ≡ bytes
+text-is r text bytes is made = subst (λ x. IfOk x (λ t. string_bytes t ≡ bytes)) is made
+
+-- of the same list of analyses
+pub text-of : {E : Type 0} (r : Result (String Global) E) (bytes_of : List Analysis → List ℕ) {files also : List Analysis} → files ≡ also → IfOk r (λ t. string_bytes t ≡ bytes_of files) → IfOk r (λ t. string_bytes t ≡ bytes_of also)
+text-of r bytes_of is made = subst (λ fs. IfOk r (λ t. string_bytes t ≡ bytes_of fs)) is made

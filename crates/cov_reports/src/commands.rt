@@ -1,6 +1,6 @@
 //! The commands that report all sources.
 ghost use Rattle.std.specs.Option.{option_copied};
-ghost use Rattle.std.specs.Prelude.{◌≡◌, ◌||◌, ◌∷◌, map, string_bytes, codes};
+ghost use Rattle.std.specs.Prelude.{◌≡◌, ◌||◌, ℕ, List, IfOk, string_bytes};
 ghost use Rattle.cov_programs.specs.Ends.{Follows};
 ghost use Rattle.cov_programs.specs.Objects.{beside};
 ghost use Rattle.cov_step.specs.Calls.{IsNoMemory, seen};
@@ -8,7 +8,7 @@ ghost use Rattle.cov_step.specs.Commands.{report, json, lcov};
 ghost use Rattle.cov_step.specs.Names.{or_else};
 ghost use Rattle.cov_step.specs.Objects.{on_sink, on_shelf};
 ghost use Rattle.cov_reports.specs.Objects.{on_report};
-ghost use Rattle.cov_reports.specs.Reports.{put_json, put_lcov, put_text, write_report, write_text};
+ghost use Rattle.cov_reports.specs.Reports.{put_text, write_report, write_text};
 ghost use Rattle.cov_calls.specs.Views.{answered_view};
 ghost use Rattle.cov_reports.specs.Views.{findings_view};
 
@@ -22,6 +22,7 @@ use cov_outside::{Shelf, Sink};
 use cov_text::text_report;
 use cov_vault::Vault;
 use cov_why::Why;
+use py_value::NoMemory;
 use std::alloc::Global;
 
 /// Writes the table of the files.
@@ -107,26 +108,9 @@ pub fn json<H: Shelf, V: Vault, M: Maker, O: Sink>(
         (seen answered_view result) (((shelf.new, vault.new), maker.new), out.new) }
 {
     let findings = reported(alloc, data_file, rcfile, shelf, vault, maker)?;
-    put_json(alloc, &findings, name, fail_under, shelf, out)
-}
-
-fn put_json<H: Shelf, O: Sink>(
-    alloc: Global,
-    findings: &Findings,
-    name: Option<&str>,
-    fail_under: Option<u32>,
-    shelf: &mut H,
-    out: &mut O,
-) -> Result<Answered, Why>
-    ensures { Follows (beside (on_shelf H.Shelf) (on_sink O.Sink)) IsNoMemory
-        (put_json (option_copied name.entry) fail_under (findings_view findings.now))
-        (shelf.old, out.old) (seen answered_view result) (shelf.new, out.new) }
-{
-    let Ok(text) = json_report(alloc, &findings.files, findings.arcs) else {
-        return Err(Why::NoMemory);
-    };
+    let text = json_report(alloc, &findings.files, findings.arcs);
     let name = name_of(name, "coverage.json");
-    put_text(alloc, findings, name, text.as_str(), fail_under, shelf, out)
+    put_text(alloc, &findings, name, text, fail_under, shelf, out)
 }
 
 /// Puts the report in LCOV's format under a name, or writes it.
@@ -147,26 +131,9 @@ pub fn lcov<H: Shelf, V: Vault, M: Maker, O: Sink>(
         (seen answered_view result) (((shelf.new, vault.new), maker.new), out.new) }
 {
     let findings = reported(alloc, data_file, rcfile, shelf, vault, maker)?;
-    put_lcov(alloc, &findings, name, fail_under, shelf, out)
-}
-
-fn put_lcov<H: Shelf, O: Sink>(
-    alloc: Global,
-    findings: &Findings,
-    name: Option<&str>,
-    fail_under: Option<u32>,
-    shelf: &mut H,
-    out: &mut O,
-) -> Result<Answered, Why>
-    ensures { Follows (beside (on_shelf H.Shelf) (on_sink O.Sink)) IsNoMemory
-        (put_lcov (option_copied name.entry) fail_under (findings_view findings.now))
-        (shelf.old, out.old) (seen answered_view result) (shelf.new, out.new) }
-{
-    let Ok(text) = lcov_report(alloc, &findings.files, findings.arcs) else {
-        return Err(Why::NoMemory);
-    };
+    let text = lcov_report(alloc, &findings.files, findings.arcs);
     let name = name_of(name, "coverage.lcov");
-    put_text(alloc, findings, name, text.as_str(), fail_under, shelf, out)
+    put_text(alloc, &findings, name, text, fail_under, shelf, out)
 }
 
 /// Judges the files, and puts a text under a name, or writes it.
@@ -174,15 +141,19 @@ fn put_text<H: Shelf, O: Sink>(
     alloc: Global,
     findings: &Findings,
     name: &str,
-    text: &str,
+    text: Result<String, NoMemory>,
     fail_under: Option<u32>,
     shelf: &mut H,
     out: &mut O,
 ) -> Result<Answered, Why>
-    ensures { Follows (beside (on_shelf H.Shelf) (on_sink O.Sink)) IsNoMemory
-        (put_text name.now text.now fail_under (findings_view findings.now))
+    ensures { (bytes : List ℕ) → IfOk text (λ t. string_bytes t ≡ bytes)
+        → Follows (beside (on_shelf H.Shelf) (on_sink O.Sink)) IsNoMemory
+        (put_text name.now bytes fail_under (findings_view findings.now))
         (shelf.old, out.old) (seen answered_view result) (shelf.new, out.new) }
 {
+    let Ok(text) = text else {
+        return Err(Why::NoMemory);
+    };
     let least = least_of(fail_under, findings.settings.fail_under);
     let Ok(answered) = judged(alloc, least, &findings.files) else {
         return Err(Why::NoMemory);

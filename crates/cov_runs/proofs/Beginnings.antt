@@ -1,13 +1,12 @@
 -- Memory may be wanting where the parts of a run begin.
-use Rattle.std.proofs.Common.{ℕ, Bool, true, false, if◌then◌else◌, List, Option, Some, None}
+use Rattle.std.proofs.Common.{Bool, true, false, if◌then◌else◌, List, Option, Some, None}
 use Rattle.std.specs.Bool.{beq}
 use Rattle.py_meaning.specs.Modules.{LoadedModule}
-use Rattle.cov_data.specs.DataSet.{DataSet}
 use Rattle.cov_programs.specs.Ends.{IsOpen}
 use Rattle.cov_programs.specs.Programs.{bind, give}
 use Rattle.cov_programs.proofs.Each.{then-open}
 use Rattle.cov_step.specs.Answers.{Before, nothing, there, bad_row}
-use Rattle.cov_step.specs.Calls.{Answered, Asked, HookFiles, Step, refuse}
+use Rattle.cov_step.specs.Calls.{Asked, HookFiles, refuse}
 use Rattle.cov_step.specs.Commands.{measured}
 use Rattle.cov_step.specs.Phases.{hook_of, joins}
 use Rattle.cov_why.specs.Answers.{Refusal}

@@ -1,5 +1,5 @@
 -- Programs over fewer objects, among more of them.
-use Rattle.std.proofs.Common.{◌≡◌, inl, inr, List, Result, refl, ap}
+use Rattle.std.proofs.Common.{inl, inr, List, Result, refl, ap}
 use Rattle.cov_contexts.specs.declared.plugins.Plugin.{Ghosts as PluginOf}
 use Rattle.cov_outside.specs.declared.sink.Sink.{Ghosts as SinkOf}
 use Rattle.cov_outside.specs.declared.source.Source.{Ghosts as SourceOf}
@@ -8,7 +8,7 @@ use Rattle.cov_measure.specs.Measures.{streams}
 use Rattle.cov_programs.specs.Ends.{Follows}
 use Rattle.cov_programs.specs.Objects.{Moves, beside}
 use Rattle.cov_programs.proofs.Composing.{among}
-use Rattle.cov_step.specs.Calls.{Call, spells, checks, reads, puts, opens, lists, loads, saves, removes, makes, writes, crosses, measures, says, Answer, IsNoMemory, Step}
+use Rattle.cov_step.specs.Calls.{Call, spells, checks, reads, puts, opens, lists, loads, saves, removes, makes, writes, crosses, measures, tries, says, Answer, IsNoMemory, Step}
 use Rattle.cov_step.specs.Objects.{on_sink}
 use Rattle.cov_streams.specs.Objects.{on_run}
 use Rattle.cov_why.specs.Answers.{PlainWhy}
@@ -38,6 +38,7 @@ module _ {I O P G : Type 0} (source : SourceOf I) (sink : SinkOf O) (plugin : Pl
   write-moved u (writes bytes) answer v m = record { wrote = m; same = refl }
   write-moved u (crosses modules words budget) answer v m = absurd m
   write-moved u (measures asked modules hook) answer v m = absurd m
+  write-moved u (tries modules words budget) answer v m = absurd m
   write-moved u (says text) answer v m = absurd m
 
   pub beside-run : {A : Type 0} {p : Step A} {old new : O} {e : Result A PlainWhy} → Follows (on_sink sink) IsNoMemory p old e new → Follows (on_run source sink plugin engine) IsNoMemory p (streams input old plugins g) e (streams input new plugins g)

@@ -1,5 +1,5 @@
 -- The lines of arcs, put together arc by arc and path by path.
-use Rattle.std.proofs.Common.{◌≡◌, ℕ, suc, ◌<◌, ◌≤◌, List, ◌++◌, map, drop, length, get_or, ℤ, String, string_bytes, Result, Ok, Err, IfOk, refl, sym, ap, ◌∙◌, append_assoc, arith}
+use Rattle.std.proofs.Common.{◌≡◌, ℕ, suc, ◌<◌, ◌≤◌, List, ◌++◌, map, drop, length, get_or, ℤ, String, string_bytes, Result, Ok, Err, IfOk, sym, ap, ◌∙◌, append_assoc}
 use Rattle.std.specs.Global.{Global}
 use Rattle.std.specs.List.{flat_map}
 use Rattle.std.specs.declared.alloc.AllocError.{AllocError as NoMemory}

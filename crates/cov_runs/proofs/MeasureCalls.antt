@@ -1,5 +1,5 @@
 -- A run that is measured, as a call.
-use Rattle.std.proofs.Common.{◌≡◌, ℕ, List, [], Option, Some, None, option_map, Result, Ok, Err, refl, sym, ap, ◌∙◌, subst}
+use Rattle.std.proofs.Common.{◌≡◌, ℕ, List, [], Option, Some, None, option_map, Result, Ok, Err, refl, ap, subst}
 use Rattle.cov_contexts.specs.declared.plugins.Plugin.{Ghosts as PluginOf}
 use Rattle.cov_outside.specs.declared.sink.Sink.{Ghosts as SinkOf}
 use Rattle.cov_outside.specs.declared.source.Source.{Ghosts as SourceOf}
@@ -22,7 +22,7 @@ use Rattle.cov_measure_laws.specs.Meant.{IsFaithfulHook, meant_of}
 use Rattle.cov_run.specs.Loads.{loaded_modules}
 use Rattle.cov_run.specs.declared.programs.Loaded.{Loaded}
 use Rattle.cov_step.specs.Calls.{Asked, HookFiles}
-use Rattle.cov_streams.specs.Runs.{request_of, hook_meant, answer_of, MeasureRun, arcs_asked, alone, CrossRun}
+use Rattle.cov_streams.specs.Runs.{hook_meant, answer_of, MeasureRun, arcs_asked, CrossRun}
 use Rattle.cov_words.specs.Values.{Word}
 use Rattle.cov_runs.specs.Hooks.{HookAs}
 use Rattle.cov_runs.specs.Measured.{HoldPossible, ran_answer}

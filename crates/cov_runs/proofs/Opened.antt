@@ -13,13 +13,13 @@ use Rattle.cov_hook.specs.View.{first_path, path_of}
 use Rattle.cov_programs.specs.Ends.{Follows}
 use Rattle.cov_programs.proofs.Composing.{asks, followed-so, gives, refuses}
 use Rattle.cov_programs.proofs.Results.{err_is, ok_no_err}
-use Rattle.cov_run.specs.Asking.{EndsFailed, names_read}
+use Rattle.cov_run.specs.Asking.{names_read}
 use Rattle.cov_run.specs.Loading.{told_by}
-use Rattle.cov_run.specs.Loads.{ComesTo, IsCompiled, IsUnread, faulted, starved, Loads, LoadsTo, loaded_module, loaded_modules, loaded_pairs}
+use Rattle.cov_run.specs.Loads.{ComesTo, EndsFailed, IsCompiled, IsUnread, faulted, starved, Loads, LoadsTo, loaded_module, loaded_modules, loaded_pairs}
 use Rattle.cov_run.specs.Refusals.{Refuses, absent, crowded, large, heavy, unreadable, refused_by, limit_of, fault_of}
 use Rattle.cov_run.specs.declared.programs.Loaded.{Loaded}
 use Rattle.cov_loaded_laws.specs.Loaded.{IsMeasurable, LoadedHaveTextLines, LoadedLaw}
-use Rattle.cov_why.specs.Answers.{Ended, Refusal, shelf_fault, AnsweredAs, plain_why}
+use Rattle.cov_why.specs.Answers.{Refusal, shelf_fault, AnsweredAs, plain_why}
 use Rattle.cov_why.specs.declared.why.LimitKind.{LimitKind}
 use Rattle.cov_why.specs.declared.why.SyntaxKind.{SyntaxKind}
 use Rattle.cov_why.specs.declared.why.Why.{Why}
@@ -90,7 +90,7 @@ loads-blames moves old new script name r loads o e = of (loads.comes loads.some.
 pub opens-so : {H : Type 0} (shelf : ShelfOf H) (old new : H) (script : List ℕ) (result : Result Loaded Why)
     → (shelf.tells → AnsweredAs loaded_modules result (LoadsTo (told_by (shelf.files old) (chars script)) (chars script) main_name))
     → AnsweredAs loaded_modules result (λ loading. Loads shelf.reads old (chars script) main_name loading new)
-    → (IsErrOf result why.ShelfFault → EndsFailed shelf.reads old new)
+    → (IsErrOf result why.ShelfFault → EndsFailed shelf.reads old (chars script) main_name new)
     → (IsErrOf result why.ShelfFault → Rose (shelf.faults old) (shelf.faults new))
     → shelf.faults old ≤ shelf.faults new
     → (shelf.tells → shelf.files new ≡ shelf.files old)

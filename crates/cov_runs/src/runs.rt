@@ -1,14 +1,14 @@
 //! The command `run`: runs a script and saves what its run took.
-ghost use Rattle.std.specs.Prelude.{◌≡◌, ℕ, List, Option, map, option_map, string_bytes, IfSome};
+ghost use Rattle.std.specs.Prelude.{◌≡◌, ℕ, List, Option, map, option_map, string_bytes};
 ghost use Rattle.cov_calls.specs.Views.{answered_view};
 ghost use Rattle.cov_loaded_laws.specs.Loaded.{IsMeasurable};
 ghost use Rattle.cov_measure.specs.Measures.{streams};
 ghost use Rattle.cov_programs.specs.Ends.{Follows};
 ghost use Rattle.cov_programs.specs.Objects.{beside};
 ghost use Rattle.cov_run.specs.Loads.{loaded_modules};
-ghost use Rattle.cov_config.specs.Plain.{hook_view, settings_view};
+ghost use Rattle.cov_config.specs.Plain.{hook_view};
 ghost use Rattle.cov_runs.specs.Hooks.{HookAs};
-ghost use Rattle.cov_runs.specs.Rests.{RunAs, hooked, run_set, targeted};
+ghost use Rattle.cov_runs.specs.Rests.{RunAs, hooked, targeted};
 ghost use Rattle.cov_step.specs.Calls.{Asked, HookFiles, IsNoMemory, seen};
 ghost use Rattle.cov_step.specs.Commands.{run, run_by};
 ghost use Rattle.cov_step.specs.Objects.{on_shelf, on_vault};
@@ -20,7 +20,6 @@ use crate::opening::opened;
 use crate::requests::{RunWords, request_of};
 use crate::saving::joins;
 use cov_calls::{Answered, own_name, settings, target};
-use cov_config::Config;
 use cov_contexts::Plugin;
 use cov_hook::Hook;
 use cov_measure::RunRequest;
@@ -54,32 +53,6 @@ pub fn run<H: Shelf, V: Vault, I: Source, O: Sink, G: Engine, P: Plugin>(
         ((shelf.new, vault.new), streams input.new out.new plugins.new.items engine.new) }
 {
     let found = settings(alloc, words.rcfile.as_deref(), shelf)?;
-    run_set(
-        alloc, words, found, shelf, vault, input, out, plugins, engine,
-    )
-}
-
-/// Runs the script of these words by these settings.
-fn run_set<H: Shelf, V: Vault, I: Source, O: Sink, G: Engine, P: Plugin>(
-    alloc: Global,
-    words: RunWords,
-    found: Config,
-    shelf: &mut H,
-    vault: &mut V,
-    input: &mut I,
-    out: &mut O,
-    plugins: &mut Vec<P>,
-    engine: &mut G,
-) -> Result<Answered, Why>
-    ensures { Follows (beside (beside (on_shelf H.Shelf) (on_vault V.Vault))
-        (on_run I.Source O.Sink P.Plugin G.Engine)) IsNoMemory
-        (run_set words.branch words.append (option_map string_bytes words.context) words.budget
-        (hook_view words.hook) (option_map string_bytes words.data_file)
-        (string_bytes words.script) (map string_bytes words.args.items) (settings_view found))
-        ((shelf.old, vault.old), streams input.old out.old plugins.old.items engine.old)
-        (seen answered_view result)
-        ((shelf.new, vault.new), streams input.new out.new plugins.new.items engine.new) }
-{
     match own_name(alloc, words.data_file.as_deref(), &found) {
         Ok(own) => {
             let append = words.append;

@@ -1,5 +1,4 @@
 use Rattle.std.proofs.Common.{ap, map, refl, string_bytes}
-use Rattle.py_meaning.specs.Modules.{LoadedModule}
 use Rattle.cov_programs.proofs.Composing.{followed-so, goes-on, on-left, on-right}
 use Rattle.cov_step.specs.Commands.{usual_steps, words_of}
 use Rattle.cov_step.specs.Names.{or_else}

@@ -1,4 +1,3 @@
-use Rattle.std.proofs.Common.{refl}
 use Rattle.cov_measure.specs.Measures.{streams}
 use Rattle.cov_programs.proofs.Composing.{asks, on-nobody}
 use Rattle.cov_streams.specs.Objects.{on_run}
