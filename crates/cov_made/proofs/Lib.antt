@@ -1,0 +1,9 @@
+pub mod Endings
+pub mod Objects
+pub mod Telling
+pub mod Modules
+pub mod Opening
+pub mod Running
+pub mod Unlabelled
+pub mod RegexTrees
+pub mod Patterns
