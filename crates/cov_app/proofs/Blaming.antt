@@ -13,17 +13,17 @@ use Rattle.py_machine.specs.declared.engine.Engine.{Ghosts as EngineOf}
 use Rattle.cov_measure.specs.Measures.{Streams}
 use Rattle.cov_programs.specs.Ends.{Follows}
 use Rattle.cov_programs.specs.Objects.{Moves, beside}
-use Rattle.cov_step.specs.Calls.{Call, spells, checks, reads, puts, opens, lists, loads, saves, removes, makes, writes, crosses, measures, says, Answer, IsNoMemory}
-use Rattle.cov_step.specs.Objects.{on_grammar, on_shelf, on_vault, on_maker}
+use Rattle.cov_step.specs.Calls.{Call, spells, checks, reads, puts, opens, lists, loads, saves, removes, makes, writes, crosses, measures, tries, says, Answer, IsNoMemory}
+use Rattle.cov_step.specs.Objects.{on_grammar, on_shelf, on_vault, on_maker, on_err, Saying}
 use Rattle.cov_step.specs.Promises.{Object, the_input, the_output, the_shelf, the_vault, the_maker, number_of, blame_of, blamed}
 use Rattle.cov_step.specs.Step.{step}
-use Rattle.cov_step.proofs.Faults.{shelf-later, shelf-rose, shelf-alone, vault-later, vault-rose, vault-alone, maker-later, maker-rose, maker-alone, grammar-alone}
+use Rattle.cov_step.proofs.Faults.{shelf-later, shelf-rose, shelf-alone, vault-later, vault-rose, vault-alone, maker-later, maker-rose, maker-alone, grammar-alone, err-alone}
 use Rattle.cov_step.proofs.Rising.{raised, left-later, right-later, left-rose, right-rose, neither}
 use Rattle.cov_streams.specs.Objects.{on_run}
 use Rattle.cov_vault.specs.declared.vault.Vault.{Ghosts as VaultOf}
 use Rattle.cov_why.specs.Answers.{Refusal}
 use Rattle.cov_words.specs.Values.{Word}
-use Rattle.cov_app.specs.Objects.{All, on_all}
+use Rattle.cov_app.specs.Objects.{All, on_all, on_command}
 
 some-is : {A : Type 0} {a b : A} → ◌≡◌ {A = Option A} (Some a) (Some b) → a ≡ b
 some-is e = cc
@@ -51,6 +51,7 @@ module _ {I O P G : Type 0} (source : SourceOf I) (sink : SinkOf O) (plugin : Pl
   input-later u (writes bytes) x v m = same-count (ap (λ (s : Streams I O P G). source.faults s.input) m.same)
   input-later u (crosses modules words budget) x v m = m.run.reads
   input-later u (measures asked modules hook) x v m = m.run.reads
+  input-later u (tries modules words budget) x v m = same-count (ap (λ (s : Streams I O P G). source.faults s.input) m.same)
   input-later u (says text) x v m = absurd m
 
   out-later : (u : Streams I O P G) (call : Call) (x : Answer call) (v : Streams I O P G) → on_run source sink plugin engine u call x v → sink.faults u.out ≤ sink.faults v.out
@@ -67,6 +68,7 @@ module _ {I O P G : Type 0} (source : SourceOf I) (sink : SinkOf O) (plugin : Pl
   out-later u (writes bytes) x v m = m.wrote.count
   out-later u (crosses modules words budget) x v m = m.run.writes
   out-later u (measures asked modules hook) x v m = m.run.writes
+  out-later u (tries modules words budget) x v m = same-count (ap (λ (s : Streams I O P G). sink.faults s.out) m.same)
   out-later u (says text) x v m = absurd m
 
   input-rose : (u : Streams I O P G) (call : Call) (x : Answer call) (v : Streams I O P G) → on_run source sink plugin engine u call x v → blamed call x ≡ Some the_input → Rose (source.faults u.input) (source.faults v.input)
@@ -91,6 +93,7 @@ module _ {I O P G : Type 0} (source : SourceOf I) (sink : SinkOf O) (plugin : Pl
   input-rose u (measures asked modules hook) (Err run_fault.ReadFault) v m e = m.run.read_fault refl
   input-rose u (measures asked modules hook) (Err run_fault.WriteFault) v m e = absurd (cc)
   input-rose u (measures asked modules hook) (Err run_fault.NoMemory) v m e = absurd (none-some e)
+  input-rose u (tries modules words budget) x v m e = absurd (none-some e)
   input-rose u (says text) x v m e = absurd m
 
   out-rose : (u : Streams I O P G) (call : Call) (x : Answer call) (v : Streams I O P G) → on_run source sink plugin engine u call x v → blamed call x ≡ Some the_output → Rose (sink.faults u.out) (sink.faults v.out)
@@ -115,6 +118,7 @@ module _ {I O P G : Type 0} (source : SourceOf I) (sink : SinkOf O) (plugin : Pl
   out-rose u (measures asked modules hook) (Err run_fault.ReadFault) v m e = absurd (cc)
   out-rose u (measures asked modules hook) (Err run_fault.WriteFault) v m e = m.run.write_fault refl
   out-rose u (measures asked modules hook) (Err run_fault.NoMemory) v m e = absurd (none-some e)
+  out-rose u (tries modules words budget) x v m e = absurd (none-some e)
   out-rose u (says text) x v m e = absurd m
 
   -- they are nobody else's fault
@@ -140,6 +144,7 @@ module _ {I O P G : Type 0} (source : SourceOf I) (sink : SinkOf O) (plugin : Pl
   run-alone o i j u (measures asked modules hook) (Err run_fault.ReadFault) v m e = i (sym (some-is e))
   run-alone o i j u (measures asked modules hook) (Err run_fault.WriteFault) v m e = j (sym (some-is e))
   run-alone o i j u (measures asked modules hook) (Err run_fault.NoMemory) v m e = none-some e
+  run-alone o i j u (tries modules words budget) x v m e = none-some e
   run-alone o i j u (says text) x v m e = m
 
 -- ---- all objects
@@ -197,29 +202,42 @@ module _ {H V M I O P G : Type 0} (shelf : ShelfOf H) (vault : VaultOf V) (maker
   no-four : (o : Object) → nat_eq (number_of o) 2 ≡ false → nat_eq (number_of o) 3 ≡ false → nat_eq (number_of o) 4 ≡ false → (u : ((Unit {0} × H) × V) × M) (call : Call) (x : Answer call) (v : ((Unit {0} × H) × V) × M) → four u call x v → blamed call x ≡ Some o → ⊥
   no-four o h v m = neither three (on_maker maker) o (no-three o h v) (no-maker o m)
 
-  -- ---- whose count rose
+  -- ---- `err` beside them, which nobody blames
 
-  pub shelf-raised : (r : Refusal) → blame_of r ≡ Some the_shelf → (words : List Word) (old new : All H V M I O P G) → Follows all IsNoMemory (step words) old (Err (Err r)) new → Rose (shelf.faults old.0.0.0.1) (shelf.faults new.0.0.0.1)
-  shelf-raised = raised all (λ w. shelf.faults w.0.0.0.1) the_shelf
-      (left-later four streaming (λ w. shelf.faults w.0.0.1) (left-later three (on_maker maker) (λ w. shelf.faults w.0.1) (left-later two (on_vault vault) (λ w. shelf.faults w.1) (right-later on_grammar (on_shelf shelf) shelf.faults (shelf-later shelf)))))
-      (left-rose four streaming the_shelf (λ w. shelf.faults w.0.0.1) (left-rose three (on_maker maker) the_shelf (λ w. shelf.faults w.0.1) (left-rose two (on_vault vault) the_shelf (λ w. shelf.faults w.1) (right-rose on_grammar (on_shelf shelf) the_shelf shelf.faults (shelf-rose shelf) (no-words the_shelf)) (no-vault the_shelf refl)) (no-maker the_shelf refl)) (no-streams the_shelf refl refl))
+  module _ {E : Type 0} (err : SinkOf E) where
+    abbrev whole : Moves Call Answer (All H V M I O P G × Saying E)
+    whole = on_command shelf vault maker source sink plugin engine err
 
-  pub vault-raised : (r : Refusal) → blame_of r ≡ Some the_vault → (words : List Word) (old new : All H V M I O P G) → Follows all IsNoMemory (step words) old (Err (Err r)) new → Rose (vault.faults old.0.0.1) (vault.faults new.0.0.1)
-  vault-raised = raised all (λ w. vault.faults w.0.0.1) the_vault
-      (left-later four streaming (λ w. vault.faults w.0.1) (left-later three (on_maker maker) (λ w. vault.faults w.1) (right-later two (on_vault vault) vault.faults (vault-later vault))))
-      (left-rose four streaming the_vault (λ w. vault.faults w.0.1) (left-rose three (on_maker maker) the_vault (λ w. vault.faults w.1) (right-rose two (on_vault vault) the_vault vault.faults (vault-rose vault) (no-two the_vault refl)) (no-maker the_vault refl)) (no-streams the_vault refl refl))
+    no-err : (o : Object) (u : Saying E) (call : Call) (x : Answer call) (v : Saying E) → on_err err u call x v → blamed call x ≡ Some o → ⊥
+    no-err o u call x v m e = err-alone err u call x v o m e
 
-  pub maker-raised : (r : Refusal) → blame_of r ≡ Some the_maker → (words : List Word) (old new : All H V M I O P G) → Follows all IsNoMemory (step words) old (Err (Err r)) new → Rose (maker.sizes old.0.1) (maker.sizes new.0.1)
-  maker-raised = raised all (λ w. maker.sizes w.0.1) the_maker
-      (left-later four streaming (λ w. maker.sizes w.1) (right-later three (on_maker maker) maker.sizes (maker-later maker)))
-      (left-rose four streaming the_maker (λ w. maker.sizes w.1) (right-rose three (on_maker maker) the_maker maker.sizes (maker-rose maker) (no-three the_maker refl refl)) (no-streams the_maker refl refl))
+    -- ---- whose count rose
 
-  pub input-raised : (r : Refusal) → blame_of r ≡ Some the_input → (words : List Word) (old new : All H V M I O P G) → Follows all IsNoMemory (step words) old (Err (Err r)) new → Rose (source.faults old.1.input) (source.faults new.1.input)
-  input-raised = raised all (λ w. source.faults w.1.input) the_input
-      (right-later four streaming (λ s. source.faults s.input) (input-later source sink plugin engine))
-      (right-rose four streaming the_input (λ s. source.faults s.input) (input-rose source sink plugin engine) (no-four the_input refl refl refl))
+    pub shelf-raised : (r : Refusal) → blame_of r ≡ Some the_shelf → (words : List Word) (old new : All H V M I O P G × Saying E) → Follows whole IsNoMemory (step words) old (Err (Err r)) new → Rose (shelf.faults old.0.0.0.0.1) (shelf.faults new.0.0.0.0.1)
+    shelf-raised = raised whole (λ w. shelf.faults w.0.0.0.0.1) the_shelf
+        (left-later all (on_err err) (λ w. shelf.faults w.0.0.0.1)
+        (left-later four streaming (λ w. shelf.faults w.0.0.1) (left-later three (on_maker maker) (λ w. shelf.faults w.0.1) (left-later two (on_vault vault) (λ w. shelf.faults w.1) (right-later on_grammar (on_shelf shelf) shelf.faults (shelf-later shelf))))))
+        (left-rose all (on_err err) the_shelf (λ w. shelf.faults w.0.0.0.1)
+        (left-rose four streaming the_shelf (λ w. shelf.faults w.0.0.1) (left-rose three (on_maker maker) the_shelf (λ w. shelf.faults w.0.1) (left-rose two (on_vault vault) the_shelf (λ w. shelf.faults w.1) (right-rose on_grammar (on_shelf shelf) the_shelf shelf.faults (shelf-rose shelf) (no-words the_shelf)) (no-vault the_shelf refl)) (no-maker the_shelf refl)) (no-streams the_shelf refl refl)) (no-err the_shelf))
 
-  pub out-raised : (r : Refusal) → blame_of r ≡ Some the_output → (words : List Word) (old new : All H V M I O P G) → Follows all IsNoMemory (step words) old (Err (Err r)) new → Rose (sink.faults old.1.out) (sink.faults new.1.out)
-  out-raised = raised all (λ w. sink.faults w.1.out) the_output
-      (right-later four streaming (λ s. sink.faults s.out) (out-later source sink plugin engine))
-      (right-rose four streaming the_output (λ s. sink.faults s.out) (out-rose source sink plugin engine) (no-four the_output refl refl refl))
+    pub vault-raised : (r : Refusal) → blame_of r ≡ Some the_vault → (words : List Word) (old new : All H V M I O P G × Saying E) → Follows whole IsNoMemory (step words) old (Err (Err r)) new → Rose (vault.faults old.0.0.0.1) (vault.faults new.0.0.0.1)
+    vault-raised = raised whole (λ w. vault.faults w.0.0.0.1) the_vault
+        (left-later all (on_err err) (λ w. vault.faults w.0.0.1)
+        (left-later four streaming (λ w. vault.faults w.0.1) (left-later three (on_maker maker) (λ w. vault.faults w.1) (right-later two (on_vault vault) vault.faults (vault-later vault)))))
+        (left-rose all (on_err err) the_vault (λ w. vault.faults w.0.0.1)
+        (left-rose four streaming the_vault (λ w. vault.faults w.0.1) (left-rose three (on_maker maker) the_vault (λ w. vault.faults w.1) (right-rose two (on_vault vault) the_vault vault.faults (vault-rose vault) (no-two the_vault refl)) (no-maker the_vault refl)) (no-streams the_vault refl refl)) (no-err the_vault))
+
+    pub maker-raised : (r : Refusal) → blame_of r ≡ Some the_maker → (words : List Word) (old new : All H V M I O P G × Saying E) → Follows whole IsNoMemory (step words) old (Err (Err r)) new → Rose (maker.sizes old.0.0.1) (maker.sizes new.0.0.1)
+    maker-raised = raised whole (λ w. maker.sizes w.0.0.1) the_maker
+        (left-later all (on_err err) (λ w. maker.sizes w.0.1) (left-later four streaming (λ w. maker.sizes w.1) (right-later three (on_maker maker) maker.sizes (maker-later maker))))
+        (left-rose all (on_err err) the_maker (λ w. maker.sizes w.0.1) (left-rose four streaming the_maker (λ w. maker.sizes w.1) (right-rose three (on_maker maker) the_maker maker.sizes (maker-rose maker) (no-three the_maker refl refl)) (no-streams the_maker refl refl)) (no-err the_maker))
+
+    pub input-raised : (r : Refusal) → blame_of r ≡ Some the_input → (words : List Word) (old new : All H V M I O P G × Saying E) → Follows whole IsNoMemory (step words) old (Err (Err r)) new → Rose (source.faults old.0.1.input) (source.faults new.0.1.input)
+    input-raised = raised whole (λ w. source.faults w.0.1.input) the_input
+        (left-later all (on_err err) (λ w. source.faults w.1.input) (right-later four streaming (λ s. source.faults s.input) (input-later source sink plugin engine)))
+        (left-rose all (on_err err) the_input (λ w. source.faults w.1.input) (right-rose four streaming the_input (λ s. source.faults s.input) (input-rose source sink plugin engine) (no-four the_input refl refl refl)) (no-err the_input))
+
+    pub out-raised : (r : Refusal) → blame_of r ≡ Some the_output → (words : List Word) (old new : All H V M I O P G × Saying E) → Follows whole IsNoMemory (step words) old (Err (Err r)) new → Rose (sink.faults old.0.1.out) (sink.faults new.0.1.out)
+    out-raised = raised whole (λ w. sink.faults w.0.1.out) the_output
+        (left-later all (on_err err) (λ w. sink.faults w.1.out) (right-later four streaming (λ s. sink.faults s.out) (out-later source sink plugin engine)))
+        (left-rose all (on_err err) the_output (λ w. sink.faults w.1.out) (right-rose four streaming the_output (λ s. sink.faults s.out) (out-rose source sink plugin engine) (no-four the_output refl refl refl)) (no-err the_output))

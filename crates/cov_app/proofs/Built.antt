@@ -15,14 +15,14 @@ use Rattle.cov_app.specs.Built.{names_built, begins_built}
 -- ---- names
 
 -- what holds of a name that is found
-abbrev Found : {N : Type 0} → (Bool → N → Type 0) → Bool → Option N → Type 0
+abbrev pub Found : {N : Type 0} → (Bool → N → Type 0) → Bool → Option N → Type 0
 Found P b None = Unit {0}
 Found P b (Some n) = P b n
 
-by-table : {N : Type 0} (P : Bool → N → Type 0) (n1 n2 n3 n4 n5 n6 n7 n8 n9 n10 n11 n12 n13 : N)
-    → P true n1 → P true n2 → P true n3 → P true n4 → P true n5 → P true n6 → P true n7 → P true n8 → P false n9 → P false n10 → P false n11 → P false n12 → P false n13
+pub by-table : {N : Type 0} (P : Bool → N → Type 0) (n1 n2 n3 n4 n5 n6 n7 n8 n9 n10 n11 n12 n13 : N)
+    → P true n1 → P true n2 → P true n3 → P true n4 → P true n5 → P true n6 → P true n7 → P true n8 → P true n9 → P true n10 → P false n11 → P false n12 → P false n13
     → (a b c d e f g h i j k l m : Bool)
-    → Found P (a || (b || (c || (d || (e || (f || (g || (h || false)))))))) (if a then Some n1 else if b then Some n2 else if c then Some n3 else if d then Some n4 else if e then Some n5 else if f then Some n6 else if g then Some n7 else if h then Some n8 else if i then Some n9 else if j then Some n10 else if k then Some n11 else if l then Some n12 else if m then Some n13 else None)
+    → Found P (a || (b || (c || (d || (e || (f || (g || (h || (i || (j || false)))))))))) (if a then Some n1 else if b then Some n2 else if c then Some n3 else if d then Some n4 else if e then Some n5 else if f then Some n6 else if g then Some n7 else if h then Some n8 else if i then Some n9 else if j then Some n10 else if k then Some n11 else if l then Some n12 else if m then Some n13 else None)
 by-table P n1 n2 n3 n4 n5 n6 n7 n8 n9 n10 n11 n12 n13 p1 p2 p3 p4 p5 p6 p7 p8 p9 p10 p11 p12 p13 true b c d e f g h i j k l m = p1
 by-table P n1 n2 n3 n4 n5 n6 n7 n8 n9 n10 n11 n12 n13 p1 p2 p3 p4 p5 p6 p7 p8 p9 p10 p11 p12 p13 false true c d e f g h i j k l m = p2
 by-table P n1 n2 n3 n4 n5 n6 n7 n8 n9 n10 n11 n12 n13 p1 p2 p3 p4 p5 p6 p7 p8 p9 p10 p11 p12 p13 false false true d e f g h i j k l m = p3
@@ -46,10 +46,10 @@ Agrees b None = Unit {0}
 Agrees b (Some c) = is_built c ≡ b
 
 -- the command of this name, with these options and operands
-abbrev named-so : Word → Given → List Word → Option PlainCommand
+abbrev pub named-so : Word → Given → List Word → Option PlainCommand
 named-so w g ys = option_and_then (λ n. command_of n g ys) (command_named w)
 
-numbers-agree : (seed size : Option ℕ) → Agrees false (of_numbers seed size)
+numbers-agree : (seed size : Option ℕ) → Agrees true (of_numbers seed size)
 numbers-agree None size = tt
 numbers-agree (Some m) None = tt
 numbers-agree (Some m) (Some n) = refl
@@ -81,11 +81,11 @@ annotate-agrees g (y ∷ ys) = refl
 erase-agrees : (g : Given) (ys : List Word) → Agrees true (named-so (codes "erase") g ys)
 erase-agrees g ys = refl
 
-script-agrees : (g : Given) (ys : List Word) → Agrees false (named-so (codes "script") g ys)
+script-agrees : (g : Given) (ys : List Word) → Agrees true (named-so (codes "script") g ys)
 script-agrees g [] = tt
 script-agrees g (y ∷ ys) = refl
 
-make-agrees : (g : Given) (ys : List Word) → Agrees false (named-so (codes "make") g ys)
+make-agrees : (g : Given) (ys : List Word) → Agrees true (named-so (codes "make") g ys)
 make-agrees g [] = tt
 make-agrees g (y ∷ []) = tt
 make-agrees g (y ∷ z ∷ ys) = numbers-agree (whole_number y) (number_up_to 16000 z)

@@ -13,7 +13,7 @@ use Rattle.cov_programs.specs.Objects.{Moves, beside}
 use Rattle.cov_programs.specs.Programs.{bind}
 use Rattle.cov_step.specs.Answers.{given_or}
 use Rattle.cov_step.specs.Calls.{Call, spells, Answer, Answered, Step, IsNoMemory}
-use Rattle.cov_step.specs.Objects.{on_grammar, on_shelf, on_vault, on_maker}
+use Rattle.cov_step.specs.Objects.{on_grammar, on_shelf, on_vault, on_maker, on_err, Saying}
 use Rattle.cov_step.specs.Promises.{keeps, changes_last}
 use Rattle.cov_step.specs.Step.{step, doing, IsSpelled}
 use Rattle.cov_step.proofs.Care.{law_of_care}
@@ -25,7 +25,7 @@ use Rattle.cov_why.specs.Answers.{Refusal, usage, Ended, PlainWhy, is_refusal}
 use Rattle.cov_words.specs.Commands.{PlainCommand, IsCommand}
 use Rattle.cov_words.specs.Values.{Word}
 use Rattle.cov_app.specs.Kept.{ChangesLast}
-use Rattle.cov_app.specs.Objects.{All, on_all}
+use Rattle.cov_app.specs.Objects.{All, on_all, on_command}
 use Rattle.cov_app.specs.Taken.{why_of}
 
 -- ---- the ending of an answer
@@ -84,18 +84,27 @@ module _ {H V M I O P G : Type 0} (shelf : ShelfOf H) (vault : VaultOf V) (maker
   spelled-so u words x v (inl (inr (m, c), d)) = absurd m
   spelled-so u words x v (inr (m, d)) = absurd m
 
-  pub files-left : shelf.tells → (words : List Word) (old new : All H V M I O P G) (e : Result Answered PlainWhy) → is_refusal (why_of e) ≡ true → ChangesLast words → Follows all IsNoMemory (step words) old e new
-      → shelf.files new.0.0.0.1 ≡ shelf.files old.0.0.0.1
-  files-left told words old new e refused changes f =
-      step-leaves all (λ w. shelf.files w.0.0.0.1) (λ w. shelf.tells) (λ u call x v m t. t)
-      (left-kept four streaming (λ w. shelf.files w.0.0.1) (λ w. shelf.tells) (left-kept three (on_maker maker) (λ w. shelf.files w.0.1) (λ w. shelf.tells)
-      (left-kept two (on_vault vault) (λ w. shelf.files w.1) (λ w. shelf.tells) (right-kept on_grammar (on_shelf shelf) shelf.files (λ w. shelf.tells) (λ u call x v m t k. shelf-kept shelf t u call x v m k)))))
-      spelled-so words old new e refused changes told f
+  module _ {E : Type 0} (err : SinkOf E) where
+    abbrev whole : Moves Call Answer (All H V M I O P G × Saying E)
+    whole = on_command shelf vault maker source sink plugin engine err
 
-  pub data-left : (words : List Word) (old new : All H V M I O P G) (e : Result Answered PlainWhy) → vault.tells old.0.0.1 → is_refusal (why_of e) ≡ true → ChangesLast words → Follows all IsNoMemory (step words) old e new
-      → vault.contents new.0.0.1 ≡ vault.contents old.0.0.1
-  data-left words old new e told refused changes f =
-      step-leaves all (λ w. vault.contents w.0.0.1) (λ w. vault.tells w.0.0.1)
-      (left-onward four streaming (λ w. vault.tells w.0.1) (left-onward three (on_maker maker) (λ w. vault.tells w.1) (right-onward two (on_vault vault) vault.tells (vault-tells vault))))
-      (left-kept four streaming (λ w. vault.contents w.0.1) (λ w. vault.tells w.0.1) (left-kept three (on_maker maker) (λ w. vault.contents w.1) (λ w. vault.tells w.1) (right-kept two (on_vault vault) vault.contents vault.tells (vault-kept vault))))
-      spelled-so words old new e refused changes told f
+    pub spelled-whole : (u : All H V M I O P G × Saying E) (words : List Word) (x : Answer (spells words)) (v : All H V M I O P G × Saying E) → whole u (spells words) x v → IsSpelled words x
+    spelled-whole u words x v (inl (m, e)) = spelled-so u.0 words x v.0 m
+    spelled-whole u words x v (inr (m, e)) = absurd m
+
+    pub files-left : shelf.tells → (words : List Word) (old new : All H V M I O P G × Saying E) (e : Result Answered PlainWhy) → is_refusal (why_of e) ≡ true → ChangesLast words → Follows whole IsNoMemory (step words) old e new
+        → shelf.files new.0.0.0.0.1 ≡ shelf.files old.0.0.0.0.1
+    files-left told words old new e refused changes f =
+        step-leaves whole (λ w. shelf.files w.0.0.0.0.1) (λ w. shelf.tells) (λ u call x v m t. t)
+        (left-kept all (on_err err) (λ w. shelf.files w.0.0.0.1) (λ w. shelf.tells)
+        (left-kept four streaming (λ w. shelf.files w.0.0.1) (λ w. shelf.tells) (left-kept three (on_maker maker) (λ w. shelf.files w.0.1) (λ w. shelf.tells)
+        (left-kept two (on_vault vault) (λ w. shelf.files w.1) (λ w. shelf.tells) (right-kept on_grammar (on_shelf shelf) shelf.files (λ w. shelf.tells) (λ u call x v m t k. shelf-kept shelf t u call x v m k))))))
+        spelled-whole words old new e refused changes told f
+
+    pub data-left : (words : List Word) (old new : All H V M I O P G × Saying E) (e : Result Answered PlainWhy) → vault.tells old.0.0.0.1 → is_refusal (why_of e) ≡ true → ChangesLast words → Follows whole IsNoMemory (step words) old e new
+        → vault.contents new.0.0.0.1 ≡ vault.contents old.0.0.0.1
+    data-left words old new e told refused changes f =
+        step-leaves whole (λ w. vault.contents w.0.0.0.1) (λ w. vault.tells w.0.0.0.1)
+        (left-onward all (on_err err) (λ w. vault.tells w.0.0.1) (left-onward four streaming (λ w. vault.tells w.0.1) (left-onward three (on_maker maker) (λ w. vault.tells w.1) (right-onward two (on_vault vault) vault.tells (vault-tells vault)))))
+        (left-kept all (on_err err) (λ w. vault.contents w.0.0.1) (λ w. vault.tells w.0.0.1) (left-kept four streaming (λ w. vault.contents w.0.1) (λ w. vault.tells w.0.1) (left-kept three (on_maker maker) (λ w. vault.contents w.1) (λ w. vault.tells w.1) (right-kept two (on_vault vault) vault.contents vault.tells (vault-kept vault)))))
+        spelled-whole words old new e refused changes told f

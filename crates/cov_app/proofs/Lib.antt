@@ -3,3 +3,8 @@ mod Built
 mod Wide
 mod Blaming
 mod Keeping
+mod Groups
+mod Said
+mod LineWords
+mod ScriptFiles
+mod Sizes

@@ -11,9 +11,10 @@ use Rattle.cov_programs.specs.Ends.{Follows}
 use Rattle.cov_programs.specs.Objects.{beside}
 use Rattle.cov_programs.proofs.Composing.{among}
 use Rattle.cov_reports.specs.Objects.{on_report}
-use Rattle.cov_step.specs.Calls.{Call, spells, checks, reads, puts, opens, lists, loads, saves, removes, makes, writes, crosses, measures, says, Answer, Step, IsNoMemory}
-use Rattle.cov_step.specs.Objects.{on_grammar, on_shelf, on_vault, on_sink}
+use Rattle.cov_step.specs.Calls.{Call, spells, checks, reads, puts, opens, lists, loads, saves, removes, makes, writes, crosses, measures, tries, says, Answer, Step, IsNoMemory}
+use Rattle.cov_step.specs.Objects.{on_grammar, on_shelf, on_vault, on_maker, on_sink, on_err, Saying}
 use Rattle.cov_streams.specs.Objects.{on_run}
+use Rattle.cov_streams.specs.Trials.{on_trial}
 use Rattle.cov_vault.specs.declared.vault.Vault.{Ghosts as VaultOf}
 use Rattle.cov_why.specs.Answers.{PlainWhy}
 use Rattle.cov_app.specs.Objects.{all_of, on_all}
@@ -34,6 +35,7 @@ widen source sink plugin engine i ps g u (makes texts) x v m = absurd m
 widen source sink plugin engine i ps g u (writes bytes) x v m = record { wrote = m; same = refl }
 widen source sink plugin engine i ps g u (crosses modules words budget) x v m = absurd m
 widen source sink plugin engine i ps g u (measures asked modules hook) x v m = absurd m
+widen source sink plugin engine i ps g u (tries modules words budget) x v m = absurd m
 widen source sink plugin engine i ps g u (says text) x v m = absurd m
 
 module _ {H V M I O P G : Type 0} (shelf : ShelfOf H) (vault : VaultOf V) (maker : MakerOf M) (source : SourceOf I) (sink : SinkOf O) (plugin : PluginOf P) (engine : EngineOf G) where
@@ -92,3 +94,58 @@ module _ {H V M I O P G : Type 0} (shelf : ShelfOf H) (vault : VaultOf V) (maker
   pub wide-run : {A : Type 0} {p : Step A} {e : Result A PlainWhy} {h k : H} {v w : V} {s t : Streams I O P G} (m : M) → Follows (beside (beside (on_shelf shelf) (on_vault vault)) (on_run source sink plugin engine)) IsNoMemory p ((h, v), s) e ((k, w), t)
       → Follows (on_all shelf vault maker source sink plugin engine) IsNoMemory p (all_of h v m s) e (all_of k w m t)
   wide-run m f = among (beside (beside (on_shelf shelf) (on_vault vault)) (on_run source sink plugin engine)) (on_all shelf vault maker source sink plugin engine) IsNoMemory (λ (u : (H × V) × Streams I O P G). all_of u.0.0 u.0.1 m u.1) (run-moved m) f
+
+  -- ---- a shelf
+
+  shelf-moved : (v : V) (m : M) (s : Streams I O P G) (u : H) (call : Call) (x : Answer call) (w : H) → on_shelf shelf u call x w → on_all shelf vault maker source sink plugin engine (all_of u v m s) call x (all_of w v m s)
+  shelf-moved v m s u call x w a = inl (inl (inl (inr (a, refl), refl), refl), refl)
+
+  pub wide-shelf : {A : Type 0} {p : Step A} {e : Result A PlainWhy} {h k : H} (v : V) (m : M) (s : Streams I O P G) → Follows (on_shelf shelf) IsNoMemory p h e k
+      → Follows (on_all shelf vault maker source sink plugin engine) IsNoMemory p (all_of h v m s) e (all_of k v m s)
+  wide-shelf v m s f = among (on_shelf shelf) (on_all shelf vault maker source sink plugin engine) IsNoMemory (λ u. all_of u v m s) (shelf-moved v m s) f
+
+  -- ---- an output
+
+  out-moved : (h : H) (v : V) (m : M) (i : I) (ps : List P) (g : G) (u : O) (call : Call) (x : Answer call) (w : O) → on_sink sink u call x w
+      → on_all shelf vault maker source sink plugin engine (all_of h v m (streams i u ps g)) call x (all_of h v m (streams i w ps g))
+  out-moved h v m i ps g u call x w a = inr (widen source sink plugin engine i ps g u call x w a, refl)
+
+  -- an output, and `err` beside all
+  pub wide-ended : {E A : Type 0} (err : SinkOf E) {p : Step A} {e : Result A PlainWhy} {o q : O} {t w : Saying E} (h : H) (v : V) (m : M) (i : I) (ps : List P) (g : G) → Follows (beside (on_sink sink) (on_err err)) IsNoMemory p (o, t) e (q, w)
+      → Follows (beside (on_all shelf vault maker source sink plugin engine) (on_err err)) IsNoMemory p (all_of h v m (streams i o ps g), t) e (all_of h v m (streams i q ps g), w)
+  wide-ended {E = E} err h v m i ps g f = among (beside (on_sink sink) (on_err err)) (beside (on_all shelf vault maker source sink plugin engine) (on_err err)) IsNoMemory (λ (u : O × Saying E). (all_of h v m (streams i u.0 ps g), u.1)) moved f
+    where
+      moved : (u : O × Saying E) (call : Call) (x : Answer call) (w : O × Saying E) → beside (on_sink sink) (on_err err) u call x w
+          → beside (on_all shelf vault maker source sink plugin engine) (on_err err) (all_of h v m (streams i u.0 ps g), u.1) call x (all_of h v m (streams i w.0 ps g), w.1)
+      moved u call x w (inl (a, same)) = inl (out-moved h v m i ps g u.0 call x w.0 a, same)
+      moved u call x w (inr (a, same)) = inr (a, ap (λ y. all_of h v m (streams i y ps g)) same)
+
+  -- ---- a made source, a maker and an output
+
+  trial-in : (h : H) (v : V) (i : I) (ps : List P) (g : G) (m n : M) (o q : O) (call : Call) (x : Answer call) → n ≡ m → q ≡ o → on_trial tt call x tt
+      → on_all shelf vault maker source sink plugin engine (all_of h v m (streams i o ps g)) call x (all_of h v n (streams i q ps g))
+  trial-in h v i ps g m n o q (spells words) x sm so a = absurd a
+  trial-in h v i ps g m n o q (checks bytes) x sm so a = inl (inl (inl (inl (a, refl), refl), sm), ap (λ y. streams i y ps g) so)
+  trial-in h v i ps g m n o q (reads name most) x sm so a = absurd a
+  trial-in h v i ps g m n o q (puts name bytes) x sm so a = absurd a
+  trial-in h v i ps g m n o q (opens script) x sm so a = absurd a
+  trial-in h v i ps g m n o q lists x sm so a = absurd a
+  trial-in h v i ps g m n o q (loads name) x sm so a = absurd a
+  trial-in h v i ps g m n o q (saves name content) x sm so a = absurd a
+  trial-in h v i ps g m n o q (removes name) x sm so a = absurd a
+  trial-in h v i ps g m n o q (makes texts) x sm so a = absurd a
+  trial-in h v i ps g m n o q (writes bytes) x sm so a = absurd a
+  trial-in h v i ps g m n o q (crosses modules words budget) x sm so a = absurd a
+  trial-in h v i ps g m n o q (measures asked modules hook) x sm so a = absurd a
+  trial-in h v i ps g m n o q (tries modules words budget) x sm so a = inr (record { tried = a.tried; same = ap (λ y. streams i y ps g) so }, ap (λ y. (((tt, h), v), y)) sm)
+  trial-in h v i ps g m n o q (says text) x sm so a = absurd a
+
+  made-moved : (h : H) (v : V) (i : I) (ps : List P) (g : G) (u : (Unit {0} × M) × O) (call : Call) (x : Answer call) (w : (Unit {0} × M) × O) → beside (beside on_trial (on_maker maker)) (on_sink sink) u call x w
+      → on_all shelf vault maker source sink plugin engine (all_of h v u.0.1 (streams i u.1 ps g)) call x (all_of h v w.0.1 (streams i w.1 ps g))
+  made-moved h v i ps g u call x w (inl (inl (a, m), o)) = trial-in h v i ps g u.0.1 w.0.1 u.1 w.1 call x m o a
+  made-moved h v i ps g u call x w (inl (inr (a, t), o)) = inl (inr (a, refl), ap (λ y. streams i y ps g) o)
+  made-moved h v i ps g u call x w (inr (a, d)) = inr (widen source sink plugin engine i ps g u.1 call x w.1 a, ap (λ (y : Unit {0} × M). (((tt, h), v), y.1)) d)
+
+  pub wide-made : {A : Type 0} {p : Step A} {e : Result A PlainWhy} {m n : M} {o q : O} (h : H) (v : V) (i : I) (ps : List P) (g : G) → Follows (beside (beside on_trial (on_maker maker)) (on_sink sink)) IsNoMemory p ((tt, m), o) e ((tt, n), q)
+      → Follows (on_all shelf vault maker source sink plugin engine) IsNoMemory p (all_of h v m (streams i o ps g)) e (all_of h v n (streams i q ps g))
+  wide-made h v i ps g f = among (beside (beside on_trial (on_maker maker)) (on_sink sink)) (on_all shelf vault maker source sink plugin engine) IsNoMemory (λ (u : (Unit {0} × M) × O). all_of h v u.0.1 (streams i u.1 ps g)) (made-moved h v i ps g) f

@@ -9,6 +9,7 @@ use Rattle.cov_words.specs.Commands.{PlainCommand, IsCommand}
 use Rattle.cov_words.specs.Values.{Word}
 
 -- a command that the words are changes files or data by its last call alone: any but `combine`
+-- and `script`
 abbrev pub ChangesLast : List Word → Type 0
 ChangesLast words = (c : PlainCommand) → IsCommand c words → changes_last c ≡ true
 

@@ -1,5 +1,9 @@
 //! How a command ended.
+ghost use Rattle.std.specs.Prelude.{◌≡◌, Ok};
+ghost use Rattle.cov_calls.specs.Views.{ended_view};
+ghost use Rattle.cov_why.specs.Answers.{plain_why};
 
+use cov_calls::Ended;
 use cov_why::Why;
 
 /// How a call of `coverage` ended.
@@ -20,4 +24,16 @@ pub enum Told {
     Failed,
     /// No memory was left after a prefix of it.
     NoMemory,
+}
+
+/// The answer to how a command ended that wasn't refused.
+pub(crate) fn why_of(ended: Ended) -> Why
+    ensures { plain_why result ≡ Ok (ended_view ended) }
+{
+    match ended {
+        Ended::Finished => Why::Done,
+        Ended::Program(status) => Why::Program(status),
+        Ended::Budget(steps) => Why::Budget(steps),
+        Ended::Under(covered, all) => Why::Under(covered, all),
+    }
 }

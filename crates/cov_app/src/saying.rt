@@ -1,7 +1,8 @@
-//! What is said of an answer on `err`.
-ghost use Rattle.std.specs.Prelude.{◌≡◌, ◌≤◌, IfOk, string_bytes};
-ghost use Rattle.cov_app.specs.Taken.{IsWritten};
+//! What is said on `err`.
+ghost use Rattle.std.specs.Prelude.{◌≡◌, ◌≤◌};
+ghost use Rattle.cov_app.specs.Objects.{saying, told_view};
 ghost use Rattle.cov_outside.specs.Counts.{Rose};
+ghost use Rattle.cov_step.specs.Objects.{IsSaid, SayOf};
 ghost use Rattle.cov_why.specs.Answers.{plain_why};
 ghost use Rattle.cov_why.specs.Messages.{message_of};
 
@@ -10,22 +11,36 @@ use cov_outside::{Sink, SinkError};
 use cov_why::Why;
 use std::alloc::Global;
 
-/// Writes the text of the answer to `err`.
-pub(crate) fn tell<E: Sink>(alloc: Global, err: &mut E, why: &Why, ending: &str) -> Told
-    ensures told { E.tells
-        → IsWritten result (message_of (plain_why why.now) ending.now) (E.contents err.old)
-        (E.contents err.new) }
+/// Says the text of an answer, unless something that was said before was refused. What became of
+/// all that was said is answered.
+pub(crate) fn tell<E: Sink>(alloc: Global, why: &Why, ending: &str, told: Told, err: &mut E) -> Told
+    ensures { SayOf E.Sink (saying err.old told) (message_of (plain_why why.now) ending.now)
+        (saying err.new result) }
+{
+    match told {
+        Told::Whole => first_told(alloc, why, ending, err),
+        Told::Failed => Told::Failed,
+        Told::NoMemory => Told::NoMemory,
+    }
+}
+
+/// Says the text of an answer.
+fn first_told<E: Sink>(alloc: Global, why: &Why, ending: &str, err: &mut E) -> Told
+    ensures said { E.tells
+        → IsSaid (told_view result) (message_of (plain_why why.now) ending.now)
+        (E.contents err.old) (E.contents err.new) }
     ensures count { E.faults err.old ≤ E.faults err.new }
     ensures failed { result ≡ Told.Failed → Rose (E.faults err.old) (E.faults err.new) }
 {
     match why.message(alloc, ending) {
-        Ok(line) => say(alloc, err, line.as_str()),
+        Ok(line) => say(alloc, line.as_str(), err),
         Err(_) => Told::NoMemory,
     }
 }
 
-fn say<E: Sink>(alloc: Global, err: &mut E, text: &str) -> Told
-    ensures told { E.tells → IsWritten result text.now (E.contents err.old) (E.contents err.new) }
+fn say<E: Sink>(alloc: Global, text: &str, err: &mut E) -> Told
+    ensures said { E.tells
+        → IsSaid (told_view result) text.now (E.contents err.old) (E.contents err.new) }
     ensures count { E.faults err.old ≤ E.faults err.new }
     ensures failed { result ≡ Told.Failed → Rose (E.faults err.old) (E.faults err.new) }
 {

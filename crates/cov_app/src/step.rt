@@ -1,33 +1,38 @@
 //! The top call: one command over a shelf, a vault, a maker of patterns, an input and two sinks.
-ghost use Rattle.std.specs.Prelude.{◌≡◌, ℕ, true, Ok, map, string_bytes};
+ghost use Rattle.std.specs.Prelude.{◌≡◌, ℕ, true, map, string_bytes};
 ghost use Rattle.cov_app.specs.Kept.{AreLeft, ChangesLast};
-ghost use Rattle.cov_app.specs.Objects.{all_of, on_all};
+ghost use Rattle.cov_app.specs.Objects.{all_of, lent, on_all, on_command, saying};
+ghost use Rattle.cov_app.specs.Sizes.{HasSmallSize};
 ghost use Rattle.cov_app.specs.Taken.{StepTaken, why_of, ending_in};
-ghost use Rattle.cov_calls.specs.Views.{answered_view, ended_view};
+ghost use Rattle.cov_calls.specs.Views.{answered_view};
 ghost use Rattle.cov_measure.specs.Measures.{streams};
 ghost use Rattle.cov_outside.specs.Counts.{Rose};
 ghost use Rattle.cov_programs.specs.Ends.{Follows};
 ghost use Rattle.cov_step.specs.Calls.{IsNoMemory, seen};
-ghost use Rattle.cov_step.specs.Step.{step};
+ghost use Rattle.cov_step.specs.Step.{doing, step};
 ghost use Rattle.cov_why.specs.Answers.{is_refusal, plain_why};
 ghost use Rattle.cov_why.specs.Statuses.{status_of};
+ghost use Rattle.cov_words.specs.Plain.{command_view};
 
-use crate::answer::{End, Told};
-use crate::commands::{command_of, run_command};
+use crate::answer::{End, Told, why_of};
+use crate::commands::command_of;
+use crate::inside::inside;
 use crate::saying::tell;
-use cov_calls::{Answered, Ended};
+use crate::scripts::script;
+use cov_calls::Answered;
 use cov_contexts::Plugin;
 use cov_exclude::Maker;
 use cov_outside::{Shelf, Sink, Source};
 use cov_vault::Vault;
 use cov_why::Why;
+use cov_words::Command;
 use py_machine::Engine;
 use std::alloc::Global;
 
-/// Runs the command that the words spell. Programs and settings are read from the shelf, and run by
-/// the engine with this input and output; what they took is kept in the vault. The line of a refusal
-/// goes to `err`, and so does an uncaught exception or the text of an exit. A plugin that leaves is
-/// taken from the list.
+/// Runs the command that the words spell. Programs and settings are read from the shelf, and run
+/// by the engine with this input and output; what they took is kept in the vault. The line of a
+/// refusal goes to `err`, and so does an uncaught exception or the text of an exit. Each command of
+/// a script says its own text, until one is refused. A plugin that leaves is taken from the list.
 pub fn coverage<H: Shelf, V: Vault, M: Maker, I: Source, O: Sink, E: Sink, G: Engine, P: Plugin>(
     alloc: Global,
     words: &[String],
@@ -42,13 +47,13 @@ pub fn coverage<H: Shelf, V: Vault, M: Maker, I: Source, O: Sink, E: Sink, G: En
 ) -> End
     // The objects follow the step of the words, and it ends as answered.
     ensures step { StepTaken
-        (on_all H.Shelf V.Vault M.Maker I.Source O.Sink P.Plugin G.Engine)
+        (on_all H.Shelf V.Vault M.Maker I.Source O.Sink P.Plugin G.Engine) E.Sink
         (map string_bytes words.now)
         (all_of shelf.old vault.old maker.old
         (streams input.old out.old plugins.old.items engine.old))
         (all_of shelf.new vault.new maker.new
         (streams input.new out.new plugins.new.items engine.new))
-        result.why result.told E.tells (E.contents err.old) (E.contents err.new) }
+        result.why result.told err.old err.new }
     ensures status { result.status ≡ status_of (plain_why result.why) }
 
     // For all objects:
@@ -64,16 +69,18 @@ pub fn coverage<H: Shelf, V: Vault, M: Maker, I: Source, O: Sink, E: Sink, G: En
         → Rose (M.sizes maker.old) (M.sizes maker.new) }
     ensures told_failed { result.told ≡ Told.Failed → Rose (E.faults err.old) (E.faults err.new) }
 
-    // A refusal leaves files and data as they were, where words aren't those of `combine`.
+    // A refusal leaves files and data as they were, where words aren't those of `combine` or
+    // `script`.
     ensures kept { is_refusal (plain_why result.why) ≡ true
         → ChangesLast (map string_bytes words.now)
         → AreLeft H.Shelf V.Vault shelf.old shelf.new vault.old vault.new }
 {
+    let mut told = Told::Whole;
     let answer = answer(
-        alloc, words, shelf, vault, maker, input, out, plugins, engine,
+        alloc, words, shelf, vault, maker, input, out, err, &mut told, plugins, engine,
     );
     let (why, ending) = parts(alloc, answer);
-    let told = tell(alloc, err, &why, ending.as_str());
+    let told = tell(alloc, &why, ending.as_str(), told, err);
     drop(ending);
     let status = why.status();
     End { status, why, told }
@@ -90,19 +97,8 @@ fn parts(alloc: Global, answer: Result<Answered, Why>) -> (Why, String)
     }
 }
 
-fn why_of(ended: Ended) -> Why
-    ensures { plain_why result ≡ Ok (ended_view ended) }
-{
-    match ended {
-        Ended::Finished => Why::Done,
-        Ended::Program(status) => Why::Program(status),
-        Ended::Budget(steps) => Why::Budget(steps),
-        Ended::Under(covered, all) => Why::Under(covered, all),
-    }
-}
-
 /// How the command of the words ended.
-fn answer<H: Shelf, V: Vault, M: Maker, I: Source, O: Sink, G: Engine, P: Plugin>(
+fn answer<H: Shelf, V: Vault, M: Maker, I: Source, O: Sink, E: Sink, G: Engine, P: Plugin>(
     alloc: Global,
     words: &[String],
     shelf: &mut H,
@@ -110,19 +106,66 @@ fn answer<H: Shelf, V: Vault, M: Maker, I: Source, O: Sink, G: Engine, P: Plugin
     maker: &mut M,
     input: &mut I,
     out: &mut O,
+    err: &mut E,
+    told: &mut Told,
     plugins: &mut Vec<P>,
     engine: &mut G,
 ) -> Result<Answered, Why>
-    ensures { Follows (on_all H.Shelf V.Vault M.Maker I.Source O.Sink P.Plugin G.Engine) IsNoMemory
+    ensures { Follows
+        (on_command H.Shelf V.Vault M.Maker I.Source O.Sink P.Plugin G.Engine E.Sink) IsNoMemory
         (step (map string_bytes words.now))
-        (all_of shelf.old vault.old maker.old
-        (streams input.old out.old plugins.old.items engine.old))
+        (lent shelf.old vault.old maker.old
+        (streams input.old out.old plugins.old.items engine.old) err.old told.old)
         (seen answered_view result)
-        (all_of shelf.new vault.new maker.new
-        (streams input.new out.new plugins.new.items engine.new)) }
+        (lent shelf.new vault.new maker.new
+        (streams input.new out.new plugins.new.items engine.new) err.new told.new) }
 {
     let command = command_of(alloc, words)?;
     run_command(
-        alloc, command, shelf, vault, maker, input, out, plugins, engine,
+        alloc, command, shelf, vault, maker, input, out, err, told, plugins, engine,
     )
+}
+
+/// Does what a command does. One that isn't built is refused.
+fn run_command<H: Shelf, V: Vault, M: Maker, I: Source, O: Sink, E: Sink, G: Engine, P: Plugin>(
+    alloc: Global,
+    command: Command,
+    shelf: &mut H,
+    vault: &mut V,
+    maker: &mut M,
+    input: &mut I,
+    out: &mut O,
+    err: &mut E,
+    told: &mut Told,
+    plugins: &mut Vec<P>,
+    engine: &mut G,
+) -> Result<Answered, Why>
+    requires { HasSmallSize (command_view command) }
+    ensures { Follows
+        (on_command H.Shelf V.Vault M.Maker I.Source O.Sink P.Plugin G.Engine E.Sink) IsNoMemory
+        (doing (command_view command))
+        (lent shelf.old vault.old maker.old
+        (streams input.old out.old plugins.old.items engine.old) err.old told.old)
+        (seen answered_view result)
+        (lent shelf.new vault.new maker.new
+        (streams input.new out.new plugins.new.items engine.new) err.new told.new) }
+{
+    match command {
+        Command::Script { file } => script(
+            alloc,
+            file.as_str(),
+            shelf,
+            vault,
+            maker,
+            input,
+            out,
+            err,
+            told,
+            plugins,
+            engine,
+        ),
+        other => inside(
+            alloc, other, shelf, vault, maker, input, out, plugins, engine,
+        ),
+    }
 }

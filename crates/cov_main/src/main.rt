@@ -37,12 +37,16 @@ usage: coverage COMMAND
   erase         remove the data
   arcs [--budget N] SCRIPT [ARG..]
                 run a Python program, and print its output and then its jumps
+  script FILE   do each line of a file as a command
+  make SEED SIZE
+                make up a program, run it, and print its numbers in a line
   --help        print this text
   --version     print the version
 
-All but `arcs` take --data-file D (or .coverage) and --rcfile F (or pyproject.toml). A program is cut
-after N steps, or 1000000. A jump is a line PATH FROM TO. A body's outside is its first line,
-negative: -1 for a module, and -5 for a function whose `def` stands in line 5.
+All but `arcs`, `script` and `make` take --data-file D (or .coverage) and --rcfile F (or
+pyproject.toml). A program is cut after N steps, or 1000000. A jump is a line PATH FROM TO. A body's
+outside is its first line, negative: -1 for a module, and -5 for a function whose `def` stands in
+line 5.
 
 example: coverage run --branch examples/countdown.py
          coverage report -m

@@ -19,6 +19,8 @@ mod labels;
 #[cfg(test)]
 mod limits;
 #[cfg(test)]
+mod made;
+#[cfg(test)]
 mod programs;
 #[cfg(test)]
 mod refused;
@@ -28,6 +30,8 @@ mod reports;
 mod rows;
 #[cfg(test)]
 mod runs;
+#[cfg(test)]
+mod scripts;
 #[cfg(test)]
 mod sessions;
 #[cfg(test)]

@@ -4,7 +4,7 @@ use crate::harness::{NONE, answer_to};
 use std::test::Fail;
 
 /// Words that are refused, and how many of them begin a command.
-static REFUSED: [(&str, &str, &str); 12] = [
+static REFUSED: [(&str, &str, &str); 13] = [
     ("No words", "", "0"),
     ("No such command", "trace s.py", "0"),
     ("No script", "arcs", "1"),
@@ -16,11 +16,12 @@ static REFUSED: [(&str, &str, &str); 12] = [
         "arcs --budget 1000000001 s.py",
         "2",
     ),
-    ("A command that isn't built", "script s.py", "0"),
+    ("A command that isn't built", "suite s.py", "0"),
     ("A run without a script", "run --branch", "2"),
     ("No option of a report", "report --frob", "1"),
     ("A report with an operand", "report s.py", "1"),
-    ("An operand of one that isn't built", "make 1", "0"),
+    ("A seed without a size", "make 1", "2"),
+    ("A script without a file", "script", "1"),
 ];
 
 #[test]

@@ -1,45 +1,69 @@
-use Rattle.std.proofs.Common.{◌≡◌, ◌∙◌, ap, refl, sym, true, map, string_bytes, Err}
+use Rattle.std.proofs.Common.{◌≡◌, ◌∙◌, ap, refl, subst, sym, true, map, string_bytes, Err}
 use Rattle.cov_calls.specs.Views.{answered_view}
+use Rattle.cov_measure.specs.Measures.{streams}
 use Rattle.cov_programs.proofs.Composing.{followed-so}
 use Rattle.cov_step.specs.Calls.{seen}
+use Rattle.cov_step.specs.Objects.{SayOf}
 use Rattle.cov_why.specs.Answers.{is_refusal, pattern_size, plain_why, read_fault, shelf_fault, vault_fault, write_fault}
-use Rattle.cov_measure.specs.Measures.{streams}
-use Rattle.cov_app.specs.Objects.{all_of, on_all}
-use Rattle.cov_app.specs.Taken.{why_of}
+use Rattle.cov_why.specs.Messages.{message_of}
+use Rattle.cov_app.specs.Objects.{all_of, on_all, on_command, saying}
+use Rattle.cov_app.specs.Taken.{why_of, ending_in}
+use Rattle.cov_app.specs.declared.answer.Told.TheVariants.{Whole}
 use Rattle.cov_app.proofs.Blaming.{input-raised, maker-raised, out-raised, shelf-raised, vault-raised}
-use Rattle.cov_app.proofs.Keeping.{data-left, files-left, refused-so}
+use Rattle.cov_app.proofs.Keeping.{data-left, files-left, refused-so, spelled-whole}
+use Rattle.cov_app.proofs.Said.{failed-raised, only-said, says-nothing, says-on}
 use Rattle.cov_app.proofs.step.coverage.Goals as goal
+
+pub returns-clause-step : goal.returns-clause-step
+returns-clause-step g c =
+    let ending = seen answered_view c.answer-answer.result in
+    let last : SayOf g.E.Sink (saying c.answer-answer.new.err c.answer-answer.new.told) (message_of (plain_why c.parts-why.result.0) (ending_in ending)) (saying c.tell-told.new.err c.tell-told.result) =
+    subst (λ bytes. SayOf g.E.Sink (saying c.answer-answer.new.err c.answer-answer.new.told) (message_of (plain_why c.parts-why.result.0) bytes) (saying c.tell-told.new.err c.tell-told.result)) (c.as_str.ensures.value ∙ c.parts-why.ensures.ending) c.tell-told.ensures in
+    record {
+      ending = ending;
+      said = saying c.answer-answer.new.err c.answer-answer.new.told;
+      step = c.answer-answer.ensures;
+      answered = c.parts-why.ensures.answer;
+      last = last;
+      told = λ one. only-said g.E.Sink c.args.err.now c.tell-told.new.err (saying c.answer-answer.new.err c.answer-answer.new.told) (message_of (plain_why c.parts-why.result.0) (ending_in ending)) c.tell-told.result
+          (says-nothing (on_all g.H.Shelf g.V.Vault g.M.Maker g.I.Source g.O.Sink g.P.Plugin g.G.Engine) g.E.Sink (spelled-whole g.H.Shelf g.V.Vault g.M.Maker g.I.Source g.O.Sink g.P.Plugin g.G.Engine g.E.Sink) (map string_bytes c.args.words.now) (all_of c.args.shelf.now c.args.vault.now c.args.maker.now (streams c.args.input.now c.args.out.now c.args.plugins.now.items c.args.engine.now), saying c.args.err.now Whole) (all_of c.answer-answer.new.shelf c.answer-answer.new.vault c.answer-answer.new.maker (streams c.answer-answer.new.input c.answer-answer.new.out c.answer-answer.new.plugins.items c.answer-answer.new.engine), saying c.answer-answer.new.err c.answer-answer.new.told) ending one c.answer-answer.ensures) last;
+    }
+
+pub returns-clause-told_failed : goal.returns-clause-told_failed
+returns-clause-told_failed g c = λ is.
+    failed-raised g.E.Sink c.args.err.now c.tell-told.new.err (saying c.answer-answer.new.err c.answer-answer.new.told) _ c.tell-told.result
+    (says-on (on_all g.H.Shelf g.V.Vault g.M.Maker g.I.Source g.O.Sink g.P.Plugin g.G.Engine) g.E.Sink _ (all_of c.args.shelf.now c.args.vault.now c.args.maker.now (streams c.args.input.now c.args.out.now c.args.plugins.now.items c.args.engine.now), saying c.args.err.now Whole) (all_of c.answer-answer.new.shelf c.answer-answer.new.vault c.answer-answer.new.maker (streams c.answer-answer.new.input c.answer-answer.new.out c.answer-answer.new.plugins.items c.answer-answer.new.engine), saying c.answer-answer.new.err c.answer-answer.new.told) _ c.answer-answer.ensures) c.tell-told.ensures is
 
 pub returns-clause-read_fault : goal.returns-clause-read_fault
 returns-clause-read_fault g c = λ is.
     let ended = refused-so (seen answered_view c.answer-answer.result) read_fault (sym c.parts-why.ensures.answer ∙ ap plain_why is) in
-    input-raised g.H.Shelf g.V.Vault g.M.Maker g.I.Source g.O.Sink g.P.Plugin g.G.Engine read_fault refl (map string_bytes c.args.words.now) (all_of c.args.shelf.now c.args.vault.now c.args.maker.now (streams c.args.input.now c.args.out.now c.args.plugins.now.items c.args.engine.now)) (all_of c.answer-answer.new.shelf c.answer-answer.new.vault c.answer-answer.new.maker (streams c.answer-answer.new.input c.answer-answer.new.out c.answer-answer.new.plugins.items c.answer-answer.new.engine)) (followed-so (on_all g.H.Shelf g.V.Vault g.M.Maker g.I.Source g.O.Sink g.P.Plugin g.G.Engine) refl ended c.answer-answer.ensures)
+    input-raised g.H.Shelf g.V.Vault g.M.Maker g.I.Source g.O.Sink g.P.Plugin g.G.Engine g.E.Sink read_fault refl (map string_bytes c.args.words.now) (all_of c.args.shelf.now c.args.vault.now c.args.maker.now (streams c.args.input.now c.args.out.now c.args.plugins.now.items c.args.engine.now), saying c.args.err.now Whole) (all_of c.answer-answer.new.shelf c.answer-answer.new.vault c.answer-answer.new.maker (streams c.answer-answer.new.input c.answer-answer.new.out c.answer-answer.new.plugins.items c.answer-answer.new.engine), saying c.answer-answer.new.err c.answer-answer.new.told) (followed-so (on_command g.H.Shelf g.V.Vault g.M.Maker g.I.Source g.O.Sink g.P.Plugin g.G.Engine g.E.Sink) refl ended c.answer-answer.ensures)
 
 pub returns-clause-write_fault : goal.returns-clause-write_fault
 returns-clause-write_fault g c = λ is.
     let ended = refused-so (seen answered_view c.answer-answer.result) write_fault (sym c.parts-why.ensures.answer ∙ ap plain_why is) in
-    out-raised g.H.Shelf g.V.Vault g.M.Maker g.I.Source g.O.Sink g.P.Plugin g.G.Engine write_fault refl (map string_bytes c.args.words.now) (all_of c.args.shelf.now c.args.vault.now c.args.maker.now (streams c.args.input.now c.args.out.now c.args.plugins.now.items c.args.engine.now)) (all_of c.answer-answer.new.shelf c.answer-answer.new.vault c.answer-answer.new.maker (streams c.answer-answer.new.input c.answer-answer.new.out c.answer-answer.new.plugins.items c.answer-answer.new.engine)) (followed-so (on_all g.H.Shelf g.V.Vault g.M.Maker g.I.Source g.O.Sink g.P.Plugin g.G.Engine) refl ended c.answer-answer.ensures)
+    out-raised g.H.Shelf g.V.Vault g.M.Maker g.I.Source g.O.Sink g.P.Plugin g.G.Engine g.E.Sink write_fault refl (map string_bytes c.args.words.now) (all_of c.args.shelf.now c.args.vault.now c.args.maker.now (streams c.args.input.now c.args.out.now c.args.plugins.now.items c.args.engine.now), saying c.args.err.now Whole) (all_of c.answer-answer.new.shelf c.answer-answer.new.vault c.answer-answer.new.maker (streams c.answer-answer.new.input c.answer-answer.new.out c.answer-answer.new.plugins.items c.answer-answer.new.engine), saying c.answer-answer.new.err c.answer-answer.new.told) (followed-so (on_command g.H.Shelf g.V.Vault g.M.Maker g.I.Source g.O.Sink g.P.Plugin g.G.Engine g.E.Sink) refl ended c.answer-answer.ensures)
 
 pub returns-clause-shelf_fault : goal.returns-clause-shelf_fault
 returns-clause-shelf_fault g c = λ is.
     let ended = refused-so (seen answered_view c.answer-answer.result) shelf_fault (sym c.parts-why.ensures.answer ∙ ap plain_why is) in
-    shelf-raised g.H.Shelf g.V.Vault g.M.Maker g.I.Source g.O.Sink g.P.Plugin g.G.Engine shelf_fault refl (map string_bytes c.args.words.now) (all_of c.args.shelf.now c.args.vault.now c.args.maker.now (streams c.args.input.now c.args.out.now c.args.plugins.now.items c.args.engine.now)) (all_of c.answer-answer.new.shelf c.answer-answer.new.vault c.answer-answer.new.maker (streams c.answer-answer.new.input c.answer-answer.new.out c.answer-answer.new.plugins.items c.answer-answer.new.engine)) (followed-so (on_all g.H.Shelf g.V.Vault g.M.Maker g.I.Source g.O.Sink g.P.Plugin g.G.Engine) refl ended c.answer-answer.ensures)
+    shelf-raised g.H.Shelf g.V.Vault g.M.Maker g.I.Source g.O.Sink g.P.Plugin g.G.Engine g.E.Sink shelf_fault refl (map string_bytes c.args.words.now) (all_of c.args.shelf.now c.args.vault.now c.args.maker.now (streams c.args.input.now c.args.out.now c.args.plugins.now.items c.args.engine.now), saying c.args.err.now Whole) (all_of c.answer-answer.new.shelf c.answer-answer.new.vault c.answer-answer.new.maker (streams c.answer-answer.new.input c.answer-answer.new.out c.answer-answer.new.plugins.items c.answer-answer.new.engine), saying c.answer-answer.new.err c.answer-answer.new.told) (followed-so (on_command g.H.Shelf g.V.Vault g.M.Maker g.I.Source g.O.Sink g.P.Plugin g.G.Engine g.E.Sink) refl ended c.answer-answer.ensures)
 
 pub returns-clause-vault_fault : goal.returns-clause-vault_fault
 returns-clause-vault_fault g c = λ is.
     let ended = refused-so (seen answered_view c.answer-answer.result) vault_fault (sym c.parts-why.ensures.answer ∙ ap plain_why is) in
-    vault-raised g.H.Shelf g.V.Vault g.M.Maker g.I.Source g.O.Sink g.P.Plugin g.G.Engine vault_fault refl (map string_bytes c.args.words.now) (all_of c.args.shelf.now c.args.vault.now c.args.maker.now (streams c.args.input.now c.args.out.now c.args.plugins.now.items c.args.engine.now)) (all_of c.answer-answer.new.shelf c.answer-answer.new.vault c.answer-answer.new.maker (streams c.answer-answer.new.input c.answer-answer.new.out c.answer-answer.new.plugins.items c.answer-answer.new.engine)) (followed-so (on_all g.H.Shelf g.V.Vault g.M.Maker g.I.Source g.O.Sink g.P.Plugin g.G.Engine) refl ended c.answer-answer.ensures)
+    vault-raised g.H.Shelf g.V.Vault g.M.Maker g.I.Source g.O.Sink g.P.Plugin g.G.Engine g.E.Sink vault_fault refl (map string_bytes c.args.words.now) (all_of c.args.shelf.now c.args.vault.now c.args.maker.now (streams c.args.input.now c.args.out.now c.args.plugins.now.items c.args.engine.now), saying c.args.err.now Whole) (all_of c.answer-answer.new.shelf c.answer-answer.new.vault c.answer-answer.new.maker (streams c.answer-answer.new.input c.answer-answer.new.out c.answer-answer.new.plugins.items c.answer-answer.new.engine), saying c.answer-answer.new.err c.answer-answer.new.told) (followed-so (on_command g.H.Shelf g.V.Vault g.M.Maker g.I.Source g.O.Sink g.P.Plugin g.G.Engine g.E.Sink) refl ended c.answer-answer.ensures)
 
 pub returns-clause-pattern_size : goal.returns-clause-pattern_size
 returns-clause-pattern_size g c = λ at is.
     let ended = refused-so (seen answered_view c.answer-answer.result) (pattern_size at) (sym c.parts-why.ensures.answer ∙ ap plain_why is) in
-    maker-raised g.H.Shelf g.V.Vault g.M.Maker g.I.Source g.O.Sink g.P.Plugin g.G.Engine (pattern_size at) refl (map string_bytes c.args.words.now) (all_of c.args.shelf.now c.args.vault.now c.args.maker.now (streams c.args.input.now c.args.out.now c.args.plugins.now.items c.args.engine.now)) (all_of c.answer-answer.new.shelf c.answer-answer.new.vault c.answer-answer.new.maker (streams c.answer-answer.new.input c.answer-answer.new.out c.answer-answer.new.plugins.items c.answer-answer.new.engine)) (followed-so (on_all g.H.Shelf g.V.Vault g.M.Maker g.I.Source g.O.Sink g.P.Plugin g.G.Engine) refl ended c.answer-answer.ensures)
+    maker-raised g.H.Shelf g.V.Vault g.M.Maker g.I.Source g.O.Sink g.P.Plugin g.G.Engine g.E.Sink (pattern_size at) refl (map string_bytes c.args.words.now) (all_of c.args.shelf.now c.args.vault.now c.args.maker.now (streams c.args.input.now c.args.out.now c.args.plugins.now.items c.args.engine.now), saying c.args.err.now Whole) (all_of c.answer-answer.new.shelf c.answer-answer.new.vault c.answer-answer.new.maker (streams c.answer-answer.new.input c.answer-answer.new.out c.answer-answer.new.plugins.items c.answer-answer.new.engine), saying c.answer-answer.new.err c.answer-answer.new.told) (followed-so (on_command g.H.Shelf g.V.Vault g.M.Maker g.I.Source g.O.Sink g.P.Plugin g.G.Engine g.E.Sink) refl ended c.answer-answer.ensures)
 
 pub returns-clause-kept : goal.returns-clause-kept
 returns-clause-kept g c = λ refused changes.
     let ending = seen answered_view c.answer-answer.result in
     let so : is_refusal (why_of ending) ≡ true = ap is_refusal (sym c.parts-why.ensures.answer) ∙ refused in
     record {
-      files = λ told. files-left g.H.Shelf g.V.Vault g.M.Maker g.I.Source g.O.Sink g.P.Plugin g.G.Engine told (map string_bytes c.args.words.now) (all_of c.args.shelf.now c.args.vault.now c.args.maker.now (streams c.args.input.now c.args.out.now c.args.plugins.now.items c.args.engine.now)) (all_of c.answer-answer.new.shelf c.answer-answer.new.vault c.answer-answer.new.maker (streams c.answer-answer.new.input c.answer-answer.new.out c.answer-answer.new.plugins.items c.answer-answer.new.engine)) ending so changes c.answer-answer.ensures;
-      contents = λ told. data-left g.H.Shelf g.V.Vault g.M.Maker g.I.Source g.O.Sink g.P.Plugin g.G.Engine (map string_bytes c.args.words.now) (all_of c.args.shelf.now c.args.vault.now c.args.maker.now (streams c.args.input.now c.args.out.now c.args.plugins.now.items c.args.engine.now)) (all_of c.answer-answer.new.shelf c.answer-answer.new.vault c.answer-answer.new.maker (streams c.answer-answer.new.input c.answer-answer.new.out c.answer-answer.new.plugins.items c.answer-answer.new.engine)) ending told so changes c.answer-answer.ensures;
+      files = λ told. files-left g.H.Shelf g.V.Vault g.M.Maker g.I.Source g.O.Sink g.P.Plugin g.G.Engine g.E.Sink told (map string_bytes c.args.words.now) (all_of c.args.shelf.now c.args.vault.now c.args.maker.now (streams c.args.input.now c.args.out.now c.args.plugins.now.items c.args.engine.now), saying c.args.err.now Whole) (all_of c.answer-answer.new.shelf c.answer-answer.new.vault c.answer-answer.new.maker (streams c.answer-answer.new.input c.answer-answer.new.out c.answer-answer.new.plugins.items c.answer-answer.new.engine), saying c.answer-answer.new.err c.answer-answer.new.told) ending so changes c.answer-answer.ensures;
+      contents = λ told. data-left g.H.Shelf g.V.Vault g.M.Maker g.I.Source g.O.Sink g.P.Plugin g.G.Engine g.E.Sink (map string_bytes c.args.words.now) (all_of c.args.shelf.now c.args.vault.now c.args.maker.now (streams c.args.input.now c.args.out.now c.args.plugins.now.items c.args.engine.now), saying c.args.err.now Whole) (all_of c.answer-answer.new.shelf c.answer-answer.new.vault c.answer-answer.new.maker (streams c.answer-answer.new.input c.answer-answer.new.out c.answer-answer.new.plugins.items c.answer-answer.new.engine), saying c.answer-answer.new.err c.answer-answer.new.told) ending told so changes c.answer-answer.ensures;
     }

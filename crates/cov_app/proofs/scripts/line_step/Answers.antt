@@ -1,0 +1,26 @@
+use Rattle.std.specs.Str.Lines.{lines}
+use Rattle.std.proofs.Common.{◌≡◌, ◌∙◌, ℕ, Bool, if◌then◌else◌, List, [], ◌∷◌, ◌++◌, map, string_bytes, codes, Bor, Ok, refl, sym, ap, subst}
+use Rattle.std.specs.Prelude.{decimal}
+use Rattle.cov_calls.specs.Views.{answered_view}
+use Rattle.cov_calls.proofs.Handing.{hands-on-why}
+use Rattle.cov_programs.specs.Programs.{give, ask}
+use Rattle.cov_programs.proofs.Composing.{followed-so, goes-on, gives, asks, starves, on-left, on-right, on-nobody}
+use Rattle.cov_step.specs.Objects.{on_err, on_sink}
+use Rattle.cov_step.specs.Scripts.{inside, ended_in, is_comment, words_in, words_done, line_step, lines_done}
+use Rattle.cov_app.specs.Objects.{all_of, on_all, on_command, saying}
+use Rattle.cov_app.specs.Spelled.{inside_done}
+use Rattle.cov_app.proofs.Opening.{inside-open, inside_done-open, words-open, if-comment, line-open, lines-open}
+use Rattle.cov_app.proofs.Wide.{wide-words, wide-shelf, wide-ended}
+use Rattle.cov_app.proofs.scripts.line_step.Goals as goal
+
+pub returns-then-is_comment : goal.returns-then-is_comment
+returns-then-is_comment g c = followed-so (on_command g.H.Shelf g.V.Vault g.M.Maker g.I.Source g.O.Sink g.P.Plugin g.G.Engine g.E.Sink) (ap (if-comment c.args.line.now) (sym c.if-is_comment.true ∙ c.is_comment.ensures)) refl gives
+
+pub returns-in-Ok : goal.returns-in-Ok
+returns-in-Ok g c =
+    followed-so (on_command g.H.Shelf g.V.Vault g.M.Maker g.I.Source g.O.Sink g.P.Plugin g.G.Engine g.E.Sink)
+    (ap words_done (ap (map string_bytes) c.as_slice.ensures.value ∙ c.in-Ok.ensures) ∙ ap (if-comment c.args.line.now) (sym c.if-is_comment.false ∙ c.is_comment.ensures))
+    refl c.words_done.ensures
+
+pub returns-in-Err : goal.returns-in-Err
+returns-in-Err g c = starves (line-open c.args.line.now) refl
