@@ -20,7 +20,7 @@ use cov_data::Data;
 use cov_exclude::Patterns;
 use cov_predict::ArcSet;
 use py_syntax::Module;
-use py_value::NoMemory;
+use py_text::NoMemory;
 use std::alloc::Global;
 
 /// The analysis of the source at a path, whose tree is the module, by what was recorded of the

@@ -10,7 +10,7 @@ ghost use Rattle.cov_analysis.specs.Lookups.{count_in, is_counted};
 use crate::counts::{count_of, raise};
 use crate::lines::{is_among, line_of};
 use cov_predict::ArcSet;
-use py_value::NoMemory;
+use py_text::NoMemory;
 use std::alloc::Global;
 use std::collections::BTreeMap;
 

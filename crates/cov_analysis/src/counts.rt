@@ -3,7 +3,7 @@ ghost use Rattle.std.specs.Prelude.{◌≡◌, ℕ, ◌||◌, nat_eq, OnOk};
 ghost use Rattle.cov_analysis.specs.Branches.{Branch, same_branch};
 ghost use Rattle.cov_analysis.specs.Lookups.{count_in, is_counted, branch_count_in, raised};
 
-use py_value::NoMemory;
+use py_text::NoMemory;
 use std::collections::BTreeMap;
 
 /// 0 for a line that isn't there.

@@ -10,7 +10,7 @@ use crate::branches::is_covered;
 use crate::counts::{branch_count_of, count_of, raise, raise_branch};
 use crate::lines::{is_among, line_of};
 use cov_data::Row;
-use py_value::NoMemory;
+use py_text::NoMemory;
 use std::alloc::Global;
 use std::collections::BTreeMap;
 

@@ -4,7 +4,7 @@ ghost use Rattle.cov_exclude.specs.Touched.{IsRising};
 ghost use Rattle.cov_analysis.specs.Lines.{is_among, without};
 ghost use Rattle.cov_analysis.specs.Lookups.{line_at};
 
-use py_value::NoMemory;
+use py_text::NoMemory;
 use std::alloc::Global;
 
 /// Whether a line is one of these. Takes time of the logarithm of their number.

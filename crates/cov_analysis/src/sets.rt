@@ -6,7 +6,7 @@ ghost use Rattle.std.specs.Ordering.{nat_cmp};
 ghost use Rattle.cov_analysis.specs.Branches.{Branch, branch_cmp, same_branch};
 ghost use Rattle.cov_analysis.specs.Lines.{is_among};
 
-use py_value::NoMemory;
+use py_text::NoMemory;
 use std::alloc::Global;
 use std::collections::BTreeSet;
 

@@ -7,7 +7,7 @@ ghost use Rattle.cov_analysis.specs.Views.{source_view};
 use cov_exclude::{Patterns, excluded, no_branch};
 use cov_predict::{ArcSet, predict, statements};
 use py_syntax::Module;
-use py_value::NoMemory;
+use py_text::NoMemory;
 use std::alloc::Global;
 
 /// The statement lines of a source, those that are excluded, those that needn't take all of their

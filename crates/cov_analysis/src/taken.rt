@@ -6,7 +6,7 @@ ghost use Rattle.cov_analysis.specs.Views.{taken_view};
 
 use crate::hits::{branch_counts, line_counts};
 use cov_data::Data;
-use py_value::NoMemory;
+use py_text::NoMemory;
 use std::alloc::Global;
 use std::collections::BTreeMap;
 

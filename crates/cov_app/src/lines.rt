@@ -5,7 +5,7 @@ ghost use Rattle.std.specs.Str.Lines.{lines};
 ghost use Rattle.cov_app.specs.Words.{filled};
 ghost use Rattle.cov_step.specs.Scripts.{is_comment, words_in};
 
-use py_value::NoMemory;
+use py_text::NoMemory;
 use std::alloc::Global;
 
 /// The lines of a text.

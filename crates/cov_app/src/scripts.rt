@@ -29,7 +29,7 @@ use cov_vault::Vault;
 use cov_why::Why;
 use cov_words::Command;
 use py_machine::Engine;
-use py_value::NoMemory;
+use py_text::NoMemory;
 use std::alloc::Global;
 
 /// Runs the commands of a file, until one is refused. After each that wasn't, its text is said and

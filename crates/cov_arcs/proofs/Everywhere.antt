@@ -9,7 +9,7 @@ use Rattle.py_value.specs.Plain.{PlainValue, PlainHeap, func_value, kind_value, 
 use Rattle.py_meaning.specs.Activations.{Item, mark, again, throw, sub}
 use Rattle.py_meaning.specs.Computations.{Setting, M, Ans, give, chain, step, tick, note, read, write, say, within, stop, on_value, value, ask, worked, work, branch}
 use Rattle.py_value.specs.declared.builtin.Builtin.{Builtin}
-use Rattle.py_value.specs.declared.operator.BinOp.{BinOp}
+use Rattle.py_operator.specs.declared.operator.BinOp.{BinOp}
 use Rattle.py_value.specs.declared.value.FuncId.{FuncId}
 use Rattle.py_syntax.specs.Tree.{Text, Alias, Expr, name, int, str, fstr, none, bool, tuple, list, dict, paren, not', and, or, unary, binary, compare, cond as cond', call, index, slice, attr, Exprs, no_exprs, exprs, Pairs, no_pairs, pair, Links, no_links, link, OptExpr, absent, present, Fragments, no_fragments, plain, format, Parts, no_parts, text, field, Stmts, no_stmts, stmt, suite, OptSuite, no_suite, has_suite, Arms, no_arms, arm, Clauses, no_clauses, clause, Cases, no_cases, case, StmtKind, expr, assign, aug_assign, pass, break, continue, return, raise, assert, global, import, from, if', while, for, try, def, match}
 use Rattle.py_meaning.specs.Assignments.{assign_to, assign_each, assign_all, augment}
@@ -23,7 +23,7 @@ use Rattle.py_builtins.specs.Callees.{Callee, a_value, a_method}
 use Rattle.py_builtins.specs.World.{Names}
 use Rattle.py_meaning.specs.Patterns.{Match}
 use Rattle.py_meaning.specs.Statements.{Out, normal, continues, raises, throwing, on_answer, using, next, looped, Loop, if_turn, turns, loop, while_header, while_loop, Walked, at_item, for_header, for_loop, raise_value, reraise, failed_assertion, has_clauses, handle, settle, caught_by, handled, in_clause, on_match, guarded, default_list, returned, raised, exec, exec_kind, exec_opt, exec_arms, exec_clauses, exec_finally, exec_cases}
-use Rattle.py_value.specs.Keys.{is_same_text}
+use Rattle.py_text.specs.Comparison.{is_same_text}
 use Rattle.std.specs.Prelude.{is_some, IsSome}
 use Rattle.std.specs.List.{AllByRecursion}
 use Rattle.py_syntax.specs.Marks.{stmts_marks, kind_marks, opt_marks, arms_marks, clauses_marks, cases_marks}

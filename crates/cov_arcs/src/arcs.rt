@@ -5,7 +5,7 @@ ghost use Rattle.py_meaning.specs.Crossings.{shown_line};
 use crate::frames::{Frame, Frames};
 use crate::sets::Sets;
 use cov_event::{CodeId, Event, Tracer};
-use py_value::NoMemory;
+use py_text::NoMemory;
 use std::alloc::Global;
 use std::collections::BTreeSet;
 use std::marker::Model;

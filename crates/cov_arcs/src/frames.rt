@@ -1,7 +1,7 @@
 // The frames that are open in a run.
 ghost use Rattle.std.specs.Prelude.{◌≡◌, ◌∷◌, [], OnOk, OnErr, MatchOption};
 
-use py_value::NoMemory;
+use py_text::NoMemory;
 use std::alloc::Global;
 use std::marker::Model;
 

@@ -1,7 +1,7 @@
 // A set of arcs for each module.
 ghost use Rattle.std.specs.Prelude.{◌≡◌, [], None, Some, replicate, slice_get, OnOk, IfOk, OnErr, MatchOption};
 
-use py_value::NoMemory;
+use py_text::NoMemory;
 use std::alloc::Global;
 use std::collections::BTreeSet;
 use std::marker::Model;

@@ -5,7 +5,7 @@ ghost use Rattle.cov_contexts.specs.Asking.{HookGives, HookRefused, Labels, Labe
 use crate::plugins::Plugin;
 use crate::{names, turns};
 use cov_event::{Ask, ContextPlugin};
-use py_value::{NoMemory, Text};
+use py_text::{NoMemory, Text};
 use std::alloc::Global;
 use std::marker::Model;
 

@@ -3,7 +3,7 @@ ghost use Rattle.std.specs.Prelude.{◌≡◌, ℕ, List, IfOk, OnErr};
 ghost use Rattle.cov_event.specs.declared.plugin.Verdict.{Verdict};
 
 use cov_event::{ContextPlugin, Verdict};
-use py_value::NoMemory;
+use py_text::NoMemory;
 use std::alloc::Global;
 
 /// A plugin as a list of plugins keeps it: in a box, which may hold one of any type.

@@ -5,7 +5,7 @@ ghost use Rattle.cov_contexts.specs.Prefixes.{prefixed, begins};
 
 use crate::names;
 use cov_event::{ContextPlugin, Verdict};
-use py_value::{NoMemory, Text};
+use py_text::{NoMemory, Text};
 use std::alloc::Global;
 use std::marker::Model;
 

@@ -4,7 +4,7 @@ ghost use Rattle.cov_contexts.specs.Plugins.{PluginsGive, PluginsStop};
 
 use crate::plugins::Plugin;
 use cov_event::Verdict;
-use py_value::{NoMemory, Text};
+use py_text::{NoMemory, Text};
 use std::alloc::Global;
 
 /// The first label that a plugin gives. Those that leave are dropped.

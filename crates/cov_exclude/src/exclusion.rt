@@ -11,7 +11,7 @@ use crate::patterns::Patterns;
 use crate::walk;
 use crate::walk::Rule;
 use py_syntax::Module;
-use py_value::NoMemory;
+use py_text::NoMemory;
 use std::alloc::Global;
 
 /// The statement lines that are excluded, counted from 1: each once, in order. The module is the

@@ -12,4 +12,4 @@ mod walk;
 pub use exclusion::{excluded, no_branch};
 pub use maker::{MakeError, Maker, MemMaker, RegexMaker};
 pub use patterns::{PatternError, Patterns};
-pub use py_value::NoMemory;
+pub use py_text::NoMemory;

@@ -7,7 +7,7 @@ ghost use Rattle.cov_exclude.specs.Touched.{mark_if, numbers_from};
 ghost use Rattle.cov_exclude.specs.Views.{texts_view, FindAlike};
 
 use crate::matched::Matched;
-use py_value::NoMemory;
+use py_text::NoMemory;
 use regex::{Matcher, Regex};
 use std::alloc::Global;
 

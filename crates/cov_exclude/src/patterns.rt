@@ -6,7 +6,7 @@ ghost use Rattle.cov_exclude.specs.Refusals.{FoundLarge, IsCauseOf, IsCauseAt};
 use crate::lines;
 use crate::maker::{MakeError, Maker};
 use crate::matched::Matched;
-use py_value::NoMemory;
+use py_text::NoMemory;
 use regex::Regex;
 use std::alloc::{AllocError, Global};
 use std::marker::Model;

@@ -8,7 +8,7 @@ ghost use Rattle.cov_exclude.specs.Views.{rule_view};
 use crate::matched::Matched;
 use py_docstrings::is_docstring;
 use py_syntax::{Arm, Case, Clause, Stmt, StmtKind, Suite};
-use py_value::NoMemory;
+use py_text::NoMemory;
 
 /// Which marks are gathered: those of a statement or a header with a matched line.
 #[derive(Clone, Copy)]

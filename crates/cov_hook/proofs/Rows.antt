@@ -4,7 +4,7 @@ use Rattle.std.specs.Prelude.{codes}
 use Rattle.std.specs.Fmt as F
 use Rattle.std.specs.Str as str_
 use Rattle.py_value.specs.Comparison as compare_
-use Rattle.py_value.specs.declared.operator.BinOp.TheVariants.{Add}
+use Rattle.py_operator.specs.declared.operator.BinOp.TheVariants.{Add}
 use Rattle.py_builtins.specs.Builtins as builtins_
 use Rattle.py_builtins.specs.Texts as texts_
 use Rattle.py_builtins.specs.World as world_

@@ -9,7 +9,7 @@ ghost use Rattle.cov_json.specs.Json.{branches, executed_branches, file_value};
 use crate::lists::{branches, executed_branches, executed_lines, lines};
 use crate::summary::summary;
 use cov_analysis::Analysis;
-use py_value::NoMemory;
+use py_text::NoMemory;
 use serde_json::{Map, Value, put};
 use std::alloc::Global;
 

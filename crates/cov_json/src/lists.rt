@@ -8,7 +8,7 @@ ghost use Rattle.cov_analysis.specs.Branches.{branch_cmp};
 ghost use Rattle.cov_json.specs.Json.{lines, branch, branches, executed_lines, executed_branches};
 
 use cov_analysis::{Analysis, branch_set, line_set};
-use py_value::NoMemory;
+use py_text::NoMemory;
 use serde_json::{Value, json};
 use std::alloc::Global;
 use std::collections::BTreeSet;

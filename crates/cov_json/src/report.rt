@@ -8,7 +8,7 @@ ghost use Rattle.cov_json.specs.Json.{meta, with_file, files_value, report, json
 use crate::file::file_value;
 use crate::summary::summary;
 use cov_analysis::{Analysis, total};
-use py_value::NoMemory;
+use py_text::NoMemory;
 use serde_json::{Map, Value, json, put};
 use std::alloc::Global;
 

@@ -6,7 +6,7 @@ ghost use Rattle.cov_analysis.specs.Counts.{IsCounted};
 ghost use Rattle.cov_json.specs.Json.{whole, summary};
 
 use cov_analysis::Numbers;
-use py_value::NoMemory;
+use py_text::NoMemory;
 use serde_json::{Map, Value, put};
 use std::alloc::Global;
 

@@ -9,7 +9,7 @@ ghost use Rattle.cov_lcov.specs.Annotated.{annotated_bytes, annotated_from, anno
 ghost use Rattle.cov_lcov.specs.Views.{mark_in, texts_view};
 
 use cov_analysis::Analysis;
-use py_value::NoMemory;
+use py_text::NoMemory;
 use std::alloc::Global;
 use std::collections::BTreeSet;
 

@@ -8,7 +8,7 @@ ghost use Rattle.cov_analysis.specs.Branches.{branch_cmp};
 ghost use Rattle.cov_lcov.specs.Lcov.{branch_part, branch_row, branch_rows, destination_text, entry_cmp, entry_of, is_exit, leaves_covered, taken_text};
 
 use cov_analysis::{Analysis, branch_set};
-use py_value::NoMemory;
+use py_text::NoMemory;
 use std::alloc::Global;
 use std::collections::BTreeSet;
 

@@ -6,7 +6,7 @@ ghost use Rattle.cov_lcov.specs.Lcov.{branch_part, file_bytes, lcov_bytes, state
 
 use crate::branches::branch_part;
 use cov_analysis::Analysis;
-use py_value::NoMemory;
+use py_text::NoMemory;
 use std::alloc::Global;
 
 /// A record for each file, in the order in which they are given, with rows on branches where `arcs`

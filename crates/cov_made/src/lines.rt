@@ -20,8 +20,8 @@ use cov_calls::{Answered, PatternLists, write_last};
 use cov_measure::Measured;
 use cov_outside::Sink;
 use cov_why::Why;
+use py_text::NoMemory;
 use py_token::count_lines;
-use py_value::NoMemory;
 use std::alloc::Global;
 
 /// Writes the line of a source by its run.

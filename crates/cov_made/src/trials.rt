@@ -21,7 +21,7 @@ use cov_predict::{ArcSet, possible};
 use cov_why::Why;
 use py_builtins::RunFault;
 use py_machine::Machine;
-use py_value::NoMemory;
+use py_text::NoMemory;
 use std::alloc::Global;
 
 /// The steps that a run may take.

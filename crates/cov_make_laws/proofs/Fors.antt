@@ -1,7 +1,7 @@
 -- What a block `for` does.
 use Rattle.std.proofs.Common.{◌≡◌, ℕ, zero, suc, ◌+◌, ◌*◌, ◌<◌, ◌≤◌, ◌^◌, false, List, [], ◌∷◌, ◌++◌, refl, arith, ap, ◌∙◌, ℤ, pos, Option, Some, None, Ok}
 use Rattle.std.specs.Prelude.{length, slice_get}
-use Rattle.py_value.specs.declared.operator.BinOp.TheVariants.{Add}
+use Rattle.py_operator.specs.declared.operator.BinOp.TheVariants.{Add}
 use Rattle.py_value.specs.Heaps.{list_items}
 use Rattle.py_value.specs.Plain.{PlainValue, int_value, list_at, list_object, PlainHeap, PlainRaised}
 use Rattle.py_value.specs.Sequences.{most_items}

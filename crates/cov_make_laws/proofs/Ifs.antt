@@ -1,6 +1,6 @@
 -- What a block `if` does.
 use Rattle.std.proofs.Common.{◌≡◌, ℕ, zero, suc, ◌+◌, ◌<◌, ◌≤◌, ◌^◌, true, false, List, refl, arith, ℤ, Bool, if◌then◌else◌, Option, Some, None}
-use Rattle.py_value.specs.declared.operator.BinOp.TheVariants.{Add}
+use Rattle.py_operator.specs.declared.operator.BinOp.TheVariants.{Add}
 use Rattle.py_value.specs.Plain.{bool_value, PlainHeap, PlainRaised}
 use Rattle.py_meaning.specs.Activations.{Items, more, mark}
 use Rattle.py_meaning.specs.Calls.{Calls}

@@ -2,7 +2,7 @@
 use Rattle.std.proofs.Common.{◌≡◌, ℕ, zero, suc, true, List, [], ◌∷◌, Option, Some, refl, arith, ap, ◌∙◌}
 use Rattle.std.specs.Prelude.{nat_eq}
 use Rattle.cov_make.specs.Source.{number_after, drawn}
-use Rattle.py_value.specs.Keys.{is_same_text}
+use Rattle.py_text.specs.Comparison.{is_same_text}
 use Rattle.py_syntax.specs.Functions.{functions}
 use Rattle.py_syntax.specs.Tree.{Text, Stmts, stmt}
 use Rattle.py_meaning.specs.Loading.{Files, file_at, imported, folder_of, loaded, load_from, with_imports, put_module}

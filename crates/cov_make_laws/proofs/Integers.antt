@@ -1,7 +1,7 @@
 -- Integers from -6 on, as natural numbers: `val u` is u less 6.
 use Rattle.std.proofs.Common.{◌≡◌, ℕ, zero, suc, ◌+◌, ◌-◌, ◌/◌, ◌<◌, ◌≤◌, ◌^◌, true, refl, arith, ap, sym, ◌∙◌, ℤ, pos, negsuc, ◌+ℤ◌, ◌-ℤ◌, Ok}
 use Rattle.std.specs.Ordering.{int_cmp, is_gt}
-use Rattle.py_value.specs.declared.operator.BinOp.TheVariants.{Add, Sub, Floor}
+use Rattle.py_operator.specs.declared.operator.BinOp.TheVariants.{Add, Sub, Floor}
 use Rattle.py_value.specs.Numbers.{arithmetic, exact, fits_64_bits}
 
 -- the integer that is 6 less

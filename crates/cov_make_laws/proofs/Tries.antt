@@ -2,7 +2,7 @@
 use Rattle.std.proofs.Common.{◌≡◌, ℕ, zero, suc, ◌+◌, ◌<◌, ◌≤◌, ◌^◌, true, List, arith, ap, ℤ, pos, Option, Some, None, Ok}
 use Rattle.py_value.specs.declared.cause.Cause.TheVariants.{DivisionByZero}
 use Rattle.py_value.specs.declared.exception.ExcKind.TheVariants.{ZeroDivisionError}
-use Rattle.py_value.specs.declared.operator.BinOp.TheVariants.{Add, Floor}
+use Rattle.py_operator.specs.declared.operator.BinOp.TheVariants.{Add, Floor}
 use Rattle.py_value.specs.Causes.{raised_by}
 use Rattle.py_value.specs.Numbers.{arithmetic}
 use Rattle.py_value.specs.Plain.{PlainHeap, PlainRaised}

@@ -1,8 +1,8 @@
 -- What `t = t op k` does alone in its suite.
 use Rattle.std.proofs.Common.{◌≡◌, ℕ, suc, List, [], ap, ℤ, pos, Option, Some, None, Result, Ok}
 use Rattle.py_value.specs.declared.cause.Cause.{Cause}
-use Rattle.py_value.specs.declared.operator.BinOp.{BinOp}
-use Rattle.py_value.specs.declared.operator.BinOp.TheVariants.{Add, Sub, Floor}
+use Rattle.py_operator.specs.declared.operator.BinOp.{BinOp}
+use Rattle.py_operator.specs.declared.operator.BinOp.TheVariants.{Add, Sub, Floor}
 use Rattle.py_value.specs.Answers.{◌>>=◌, in_words}
 use Rattle.py_value.specs.Causes.{raised_by}
 use Rattle.py_value.specs.Operators.{gives}

@@ -2,8 +2,8 @@
 use Rattle.std.proofs.Common.{◌≡◌, ℕ, zero, suc, ◌+◌, ◌-◌, ◌*◌, ◌<◌, ◌≤◌, ◌^◌, true, false, List, refl, arith, ap, ◌∙◌, ℤ, pos, Bool, if◌then◌else◌, Option, Some, None, Result, Ok}
 use Rattle.std.specs.Ordering.{int_cmp, is_gt}
 use Rattle.py_value.specs.declared.cause.Cause.{Cause}
-use Rattle.py_value.specs.declared.operator.BinOp.TheVariants.{Sub, Mul}
-use Rattle.py_value.specs.declared.operator.CmpOp.TheVariants.{Gt}
+use Rattle.py_operator.specs.declared.operator.BinOp.TheVariants.{Sub, Mul}
+use Rattle.py_operator.specs.declared.operator.CmpOp.TheVariants.{Gt}
 use Rattle.py_value.specs.Answers.{◌>>=◌, in_words}
 use Rattle.py_value.specs.Causes.{raised_by}
 use Rattle.py_value.specs.Compared.{compared, relates}

@@ -8,9 +8,9 @@
 --     statements, made_tree                  all statements
 use Rattle.std.specs.Prelude.{ℕ, zero, suc, ◌+◌, ◌/◌, ◌%◌, ◌==◌, if◌then◌else◌, true, false, codes, Some, None, pos}
 use Rattle.cov_make.specs.Source.{number_after, drawn}
-use Rattle.py_value.specs.declared.operator.BinOp.{BinOp}
-use Rattle.py_value.specs.declared.operator.BinOp.TheVariants.{Add, Sub, Mul, Floor, Mod}
-use Rattle.py_value.specs.declared.operator.CmpOp.TheVariants.{Eq, Gt}
+use Rattle.py_operator.specs.declared.operator.BinOp.{BinOp}
+use Rattle.py_operator.specs.declared.operator.BinOp.TheVariants.{Add, Sub, Mul, Floor, Mod}
+use Rattle.py_operator.specs.declared.operator.CmpOp.TheVariants.{Eq, Gt}
 use Rattle.py_syntax.specs.declared.expr.Comparison.TheVariants.{Op}
 use Rattle.py_syntax.specs.declared.stmt.LineEnd.{LineEnd}
 use Rattle.py_syntax.specs.Tree as T

@@ -4,7 +4,7 @@ ghost use Rattle.cov_measure.specs.Requests.{asked_in, words_in};
 
 use cov_data::Data;
 use py_machine::Outcome;
-use py_value::NoMemory;
+use py_text::NoMemory;
 use std::alloc::Global;
 
 /// A run that is measured: its script and the arguments after it, whether arcs or lines are

@@ -7,7 +7,7 @@ ghost use Rattle.cov_measure_laws.specs.Units.{program_units, unit_name};
 
 use cov_recorder::UnitName;
 use py_code::{Program, Programs, Unit};
-use py_value::NoMemory;
+use py_text::NoMemory;
 use std::alloc::Global;
 
 /// The names of the units of each program.

@@ -12,7 +12,7 @@ use cov_predict::{ArcSet, possible};
 use cov_run::{Loaded, load};
 use py_machine::{Engine, Outcome};
 use py_syntax::Module;
-use py_value::NoMemory;
+use py_text::NoMemory;
 use std::alloc::{AllocError, Global};
 use std::test::Fail;
 

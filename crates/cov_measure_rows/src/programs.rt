@@ -7,7 +7,7 @@ use crate::harness::{Case, Found, PLAIN, measure_script};
 use cov_contexts::PrefixPlugin;
 use cov_event::{ContextPlugin, Verdict};
 use py_machine::Machine;
-use py_value::NoMemory;
+use py_text::NoMemory;
 use std::alloc::Global;
 use std::test::Fail;
 

@@ -4,7 +4,7 @@ ghost use Rattle.std.specs.List.{Contains};
 ghost use Rattle.py_syntax.specs.Prediction.{arcs_in_order};
 ghost use Rattle.cov_predict.specs.ArcSets.{IsInOrder};
 
-use py_value::NoMemory;
+use py_text::NoMemory;
 use std::marker::Model;
 
 /// A set of arcs: two neighbouring lines of a run, where the outside of a body is its first line,

@@ -13,7 +13,7 @@ use crate::lines::{add_arc, end_of};
 use crate::walk::{Rules, statements};
 use py_docstrings::without_docstring;
 use py_syntax::{Arm, Case, Clause, Stmt, StmtKind, Suite};
-use py_value::NoMemory;
+use py_text::NoMemory;
 
 /// Adds the arcs of the body of a module or a function.
 pub(crate) fn body(

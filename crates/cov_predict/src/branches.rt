@@ -14,7 +14,7 @@ use crate::simple::{own, unless};
 use crate::walk::{Rules, entered};
 use crate::ways::{Ways, both, either};
 use py_syntax::{Arm, Case, Suite};
-use py_value::NoMemory;
+use py_text::NoMemory;
 
 /// Adds the arcs of tests with their suites, with the mark that comes first after them.
 #[cycle(walk)]

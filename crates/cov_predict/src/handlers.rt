@@ -13,7 +13,7 @@ use crate::jumps::{Jump, Jumps, entering, in_try, united};
 use crate::walk::{Rules, entered, optional};
 use crate::ways::Ways;
 use py_syntax::{Clause, Suite};
-use py_value::NoMemory;
+use py_text::NoMemory;
 
 /// Adds the arcs of a `try` into its suite, and those of the suite.
 #[cycle(walk)]

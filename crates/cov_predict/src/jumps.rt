@@ -7,7 +7,7 @@ ghost use Rattle.cov_predict.specs.Walk.{arc_to, arcs_to, in_loop, leaving, with
 
 use crate::lines::{add_arc, end_of};
 use crate::ways::{Way, Ways};
-use py_value::NoMemory;
+use py_text::NoMemory;
 use std::alloc::Global;
 
 /// Where a mark leads.

@@ -21,5 +21,5 @@ mod ways;
 
 pub use arcs::ArcSet;
 pub use prediction::{possible, predict};
-pub use py_value::NoMemory;
+pub use py_text::NoMemory;
 pub use statement_lines::statements;

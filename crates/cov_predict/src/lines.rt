@@ -1,7 +1,7 @@
 //! Lines as ends of arcs.
 ghost use Rattle.std.specs.Prelude.{◌≡◌, ◌++◌, ◌∷◌, [], pos, OnOk, IfOk};
 
-use py_value::NoMemory;
+use py_text::NoMemory;
 use std::alloc::AllocError;
 
 /// A line as an end of an arc.

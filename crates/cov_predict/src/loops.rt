@@ -13,7 +13,7 @@ use crate::simple::unless;
 use crate::walk::{Rules, entered};
 use crate::ways::Ways;
 use py_syntax::Suite;
-use py_value::NoMemory;
+use py_text::NoMemory;
 
 /// Adds the arcs of a loop up to its `else`. Its test may be one that always holds.
 #[cycle(walk)]

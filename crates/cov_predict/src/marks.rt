@@ -6,7 +6,7 @@ ghost use Rattle.cov_predict.specs.Leading.{first_marks, lines_of};
 
 use py_docstrings::is_docstring;
 use py_syntax::{Arm, Case, Clause, Stmt, StmtKind, Suite};
-use py_value::NoMemory;
+use py_text::NoMemory;
 
 /// Adds the lines of the body of a module or a function, where these statements lead one, and else
 /// their own.

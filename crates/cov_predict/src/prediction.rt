@@ -7,7 +7,7 @@ use crate::arcs::ArcSet;
 use crate::bodies::{body, functions};
 use crate::walk::Rules;
 use py_syntax::Module;
-use py_value::NoMemory;
+use py_text::NoMemory;
 use std::alloc::Global;
 
 /// The arcs that a reader of the text can predict: those of neighbours in the ways from an entry, a

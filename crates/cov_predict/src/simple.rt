@@ -8,7 +8,7 @@ use crate::jumps::{Jump, Jumps, arcs_to};
 use crate::lines::end_of;
 use crate::walk::Rules;
 use crate::ways::{Way, Ways};
-use py_value::NoMemory;
+use py_text::NoMemory;
 
 /// Adds the arcs of a mark that leads there, or is left by an exception.
 pub(crate) fn own(

@@ -5,7 +5,7 @@ ghost use Rattle.py_syntax.specs.Marks.{statement_lines};
 
 use crate::marks;
 use py_syntax::Module;
-use py_value::NoMemory;
+use py_text::NoMemory;
 use std::alloc::Global;
 
 /// The lines that can be executed, counted from 1: each once, in order.

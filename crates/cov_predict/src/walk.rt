@@ -17,7 +17,7 @@ use crate::loops::looped;
 use crate::simple::{leaves, own, raises};
 use crate::ways::{Way, Ways};
 use py_syntax::{Stmt, StmtKind, Suite};
-use py_value::NoMemory;
+use py_text::NoMemory;
 use std::alloc::Global;
 
 /// What raises: everything that marks, or `raise` alone; and where memory comes from.

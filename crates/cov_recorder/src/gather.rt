@@ -12,7 +12,7 @@ use crate::rows::Counters;
 use crate::units::path_at;
 use cov_data::{Data, Row};
 use cov_predict::ArcSet;
-use py_value::NoMemory;
+use py_text::NoMemory;
 use std::alloc::Global;
 
 /// Adds the rows of rows of counters.

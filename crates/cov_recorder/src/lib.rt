@@ -22,5 +22,5 @@ mod units;
 
 pub use laws::recorded_rows;
 pub use names::UnitName;
-pub use py_value::NoMemory;
+pub use py_text::NoMemory;
 pub use recorder::{NoRecorder, Recorder};

@@ -1,7 +1,7 @@
 // The names of units.
 ghost use Rattle.std.specs.Prelude.{◌≡◌, IfOk};
 
-use py_value::NoMemory;
+use py_text::NoMemory;
 use std::alloc::Global;
 
 /// The path of a unit's file, the name of its module, its own name, and its first line, counted from

@@ -11,7 +11,7 @@ use cov_contexts::{Contexts, Plugin};
 use cov_data::Data;
 use cov_event::{Ask, CodeId, ContextPlugin, Event, Tracer};
 use cov_predict::ArcSet;
-use py_value::{NoMemory, Text};
+use py_text::{NoMemory, Text};
 use std::alloc::Global;
 
 /// Counts the steps of a run, by the arcs of each module or by its lines, under the labels that

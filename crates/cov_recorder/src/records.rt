@@ -13,7 +13,7 @@ use crate::units::unit_at;
 use cov_data::Data;
 use cov_event::CodeId;
 use cov_predict::ArcSet;
-use py_value::{NoMemory, Text};
+use py_text::{NoMemory, Text};
 use std::alloc::Global;
 use std::marker::Model;
 

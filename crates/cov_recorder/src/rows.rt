@@ -4,7 +4,7 @@ ghost use Rattle.cov_recorder.specs.Counters.{no_counts, raised};
 ghost use Rattle.cov_recorder.specs.Rows.{row_from};
 
 use crate::index::Index;
-use py_value::NoMemory;
+use py_text::NoMemory;
 use std::alloc::Global;
 use std::marker::Model;
 

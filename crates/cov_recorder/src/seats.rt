@@ -16,7 +16,7 @@ use crate::units::unit_at;
 use cov_data::Data;
 use cov_event::CodeId;
 use cov_predict::ArcSet;
-use py_value::{NoMemory, Text};
+use py_text::{NoMemory, Text};
 use std::alloc::Global;
 
 /// The seat of this code under this label. Its row of counters is made where there is none yet.

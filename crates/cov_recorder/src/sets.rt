@@ -3,7 +3,7 @@ ghost use Rattle.std.specs.Prelude.{◌≡◌, ◌<◌, ◌^◌, max, IfOk};
 ghost use Rattle.cov_recorder.specs.Plan.{line_of, greatest, lines_to, counted};
 
 use cov_predict::ArcSet;
-use py_value::NoMemory;
+use py_text::NoMemory;
 use std::alloc::Global;
 
 /// Each arc of the set. In line data each line up to the greatest number in the set, which stands

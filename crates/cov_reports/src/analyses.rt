@@ -10,7 +10,7 @@ use crate::sources::ReportedSource;
 use cov_analysis::{Analysis, analyse};
 use cov_calls::PatternLists;
 use cov_data::Data;
-use py_value::NoMemory;
+use py_text::NoMemory;
 use std::alloc::Global;
 
 /// The analyses of sources, in their order, by recorded data.

@@ -22,7 +22,7 @@ use cov_outside::{Shelf, Sink};
 use cov_text::text_report;
 use cov_vault::Vault;
 use cov_why::Why;
-use py_value::NoMemory;
+use py_text::NoMemory;
 use std::alloc::Global;
 
 /// Writes the table of the files.

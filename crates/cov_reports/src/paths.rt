@@ -9,7 +9,7 @@ ghost use Rattle.cov_step.specs.Phases.{is_reported, reported_paths, some_path};
 use cov_config::is_omitted;
 use cov_data::Data;
 use cov_why::Why;
-use py_value::NoMemory;
+use py_text::NoMemory;
 use std::alloc::Global;
 
 /// The paths of the data of a name that no pattern of `omit` omits, in byte order.

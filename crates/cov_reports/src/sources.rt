@@ -12,7 +12,7 @@ use cov_outside::Shelf;
 use cov_run::{SourceFile, load_source};
 use cov_why::Why;
 use py_syntax::Module;
-use py_value::NoMemory;
+use py_text::NoMemory;
 use std::alloc::Global;
 
 /// A source with its path.

@@ -5,7 +5,7 @@ ghost use Rattle.cov_event.specs.declared.plugin.Verdict.TheVariants.{Leave};
 use crate::harness::{NONE, World, shelf_of};
 use cov_event::{ContextPlugin, Verdict};
 use py_machine::Machine;
-use py_value::NoMemory;
+use py_text::NoMemory;
 use std::alloc::Global;
 use std::test::Fail;
 

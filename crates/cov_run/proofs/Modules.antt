@@ -5,8 +5,8 @@ use Rattle.std.proofs.lemmas.Bool.{or_left, or_right, or_cases, and_left, and_ri
 use Rattle.std.proofs.lemmas.List.Concat.{flat_map-append}
 use Rattle.std.proofs.lemmas.List.Sums.{sum_by-append}
 use Rattle.cov_outside.specs.Files.{Files}
-use Rattle.py_value.specs.Keys.{is_same_text}
-use Rattle.py_value.proofs.KeyLaws.{same_text, text_is_same}
+use Rattle.py_text.specs.Comparison.{is_same_text}
+use Rattle.py_text.proofs.SameTexts.{same_text, text_is_same}
 use Rattle.py_syntax.specs.Tree.{Text}
 use Rattle.py_meaning.specs.Loading.{imported, file_of, is_loaded}
 use Rattle.py_meaning.specs.Modules.{LoadedModule, number_from}

@@ -6,7 +6,7 @@ use Rattle.std.specs.Prelude.{◌≡◌, ℕ, Bool, not, List, [], ◌∷◌, �
 use Rattle.cov_outside.specs.Files.{Files}
 use Rattle.cov_outside.specs.Prefixes.{IsPrefix}
 use Rattle.cov_outside.specs.Reads.{IsTold, Read}
-use Rattle.py_value.specs.Keys.{is_same_text}
+use Rattle.py_text.specs.Comparison.{is_same_text}
 use Rattle.py_syntax.specs.Names.{distinct}
 use Rattle.py_syntax.specs.Tree.{Text}
 use Rattle.py_meaning.specs.Loading.{folder_of, file_of}

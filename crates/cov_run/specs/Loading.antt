@@ -9,7 +9,7 @@
 use Rattle.std.specs.Prelude.{◌≡◌, ℕ, zero, suc, ◌+◌, ◌≤◌, ◌<◌, Bool, true, false, not, ◌&&◌, List, [], ◌∷◌, length, take, map, slice_get, Option, Some, None, codes, encode_utf8_all}
 use Rattle.std.specs.List.{find, flat_map, sum_by}
 use Rattle.cov_outside.specs.Files.{Files}
-use Rattle.py_value.specs.Keys.{is_same_text}
+use Rattle.py_text.specs.Comparison.{is_same_text}
 use Rattle.py_syntax.specs.Tree.{Text}
 use Rattle.py_meaning.specs.Loading.{Files as Trees, Program, imported, folder_of, file_of, is_loaded}
 use Rattle.py_meaning.specs.Modules.{LoadedModule}

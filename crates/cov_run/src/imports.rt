@@ -8,7 +8,7 @@ ghost use Rattle.cov_run.specs.Imports.{suite_imported};
 
 use py_scope::NameSet;
 use py_syntax::{Alias, Arm, Case, Clause, Stmt, StmtKind, Suite};
-use py_value::NoMemory;
+use py_text::NoMemory;
 use std::alloc::Global;
 
 /// Adds the module names that the imports of these statements name.

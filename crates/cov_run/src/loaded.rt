@@ -6,7 +6,7 @@ ghost use Rattle.py_syntax.specs.View.{plain_module};
 
 use py_scope::Scopes;
 use py_syntax::Module;
-use py_value::Text;
+use py_text::Text;
 
 /// A module: its name, the name of its file, its tree, and the names of its functions.
 #[derive(Drop)]

@@ -25,7 +25,7 @@ use crate::source::{Source, read_source};
 use cov_outside::{Shelf, ShelfError};
 use cov_why::{LimitKind, Why};
 use py_scope::NameSet;
-use py_value::{NoMemory, Text};
+use py_text::{NoMemory, Text};
 use std::alloc::Global;
 
 /// The most bytes of a file.

@@ -20,7 +20,7 @@ use cov_why::Why;
 use py_code::{Program, Programs};
 use py_compiler::compile;
 use py_syntax::Module;
-use py_value::NoMemory;
+use py_text::NoMemory;
 use std::alloc::Global;
 
 /// A program: the code of its modules, and beside it their trees, in the same order.

@@ -11,8 +11,8 @@ use Rattle.py_meaning.specs.Modules.{LoadedModule}
 use Rattle.py_syntax.specs.Functions.{Function, functions}
 use Rattle.py_syntax.specs.Tree.{Text}
 use Rattle.py_syntax.specs.declared.stmt.Module.{Module}
-use Rattle.py_value.specs.Keys.{is_same_text}
-use Rattle.py_value.proofs.KeyLaws.{same_text, same_text_from}
+use Rattle.py_text.specs.Comparison.{is_same_text}
+use Rattle.py_text.proofs.SameTexts.{same_text, same_text_from}
 use Rattle.cov_hook.specs.States.{opened as opened_state}
 use Rattle.cov_hook.specs.View.{path_of, state_of}
 use Rattle.cov_hook.specs.declared.hook.Hook.{Hook}

@@ -19,7 +19,7 @@ use Rattle.py_builtins.specs.Outcomes as outcome
 use Rattle.py_meaning.specs.Modules.{LoadedModule}
 use Rattle.py_syntax.specs.Functions.{functions}
 use Rattle.py_syntax.specs.Tree.{Text}
-use Rattle.py_value.specs.Keys.{is_same_text}
+use Rattle.py_text.specs.Comparison.{is_same_text}
 use Rattle.cov_analysis.specs.Analyses.{AnalysisView, source_of, taken_of, analysis_of}
 use Rattle.cov_analysis.specs.Counts.{covered_of, all_of, total_of}
 use Rattle.cov_analysis.specs.declared.numbers.Numbers.{Numbers}

@@ -1,8 +1,8 @@
 -- Names that are set, set again and unset.
 use Rattle.std.proofs.Common.{◌≡◌, ℕ, Bool, true, false, List, [], ◌∷◌, Option, Some, None, refl, sym, ap, ◌∙◌, if◌then◌else◌}
-use Rattle.py_value.specs.Keys.{is_same_text}
+use Rattle.py_text.specs.Comparison.{is_same_text}
 use Rattle.py_value.specs.Plain.{PlainValue}
-use Rattle.py_value.proofs.KeyLaws.{same_text, text_is_same}
+use Rattle.py_text.proofs.SameTexts.{same_text, text_is_same}
 use Rattle.py_builtins.specs.NameLaws.{NameLaw}
 use Rattle.py_builtins.specs.World.{Names, value_of, with_name, without_name}
 

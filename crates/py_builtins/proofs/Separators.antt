@@ -6,7 +6,7 @@ use Rattle.std.proofs.lemmas.Str.{encodes-append, encodes-chars, length-le-encod
 use Rattle.std.proofs.lemmas.List.{take-append-drop}
 use Rattle.std.proofs.Math.Seq.{take-append_seam, drop-append_seam}
 use Rattle.py_value.specs.Plain.{PlainValue, str_value}
-use Rattle.py_value.proofs.Parts.{seam_byte, front_byte, chars-part}
+use Rattle.py_text.proofs.Parts.{seam_byte, front_byte, chars-part}
 use Rattle.py_value.specs.Sequences.{begins}
 use Rattle.py_builtins.specs.Methods.{before_first, parts_between, texts}
 use Rattle.py_builtins.proofs.Starts.{begins_itself, begun, not_begun}

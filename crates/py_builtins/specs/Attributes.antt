@@ -4,7 +4,7 @@ use Rattle.py_value.specs.declared.builtin.Method.{Method}
 use Rattle.py_value.specs.declared.builtin.Method.TheVariants.{Append, Pop, Get, Keys, StartsWith, Join, Split}
 use Rattle.py_value.specs.declared.value.ModId.{ModId}
 use Rattle.py_value.specs.declared.value.ModId.TheVariants.{Loaded, Sys}
-use Rattle.py_value.specs.Keys.{is_same_text}
+use Rattle.py_text.specs.Comparison.{is_same_text}
 use Rattle.py_value.specs.Plain.{PlainValue, module_value, PlainRaised}
 use Rattle.py_builtins.specs.Methods.{method_name, has_method, no_attribute}
 use Rattle.py_builtins.specs.World.{World, global_of, sys_name}

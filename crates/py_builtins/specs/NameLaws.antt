@@ -1,6 +1,6 @@
 -- Names that were set, set again and unset.
 use Rattle.std.specs.Prelude.{◌≡◌, ℕ, if◌then◌else◌, List, Some, None}
-use Rattle.py_value.specs.Keys.{is_same_text}
+use Rattle.py_text.specs.Comparison.{is_same_text}
 use Rattle.py_value.specs.Plain.{PlainValue}
 use Rattle.py_builtins.specs.World.{Names, value_of, with_name, without_name}
 

@@ -9,7 +9,7 @@
 --     sys_name, first_names               the names of `sys`, and of a module that begins
 use Rattle.std.specs.Prelude.{ℕ, zero, suc, nat_eq, Bool, false, ◌||◌, if◌then◌else◌, List, [], ◌∷◌, ◌++◌, Option, Some, None, codes}
 use Rattle.py_value.specs.declared.builtin.Builtin.TheVariants.{Exit}
-use Rattle.py_value.specs.Keys.{is_same_text}
+use Rattle.py_text.specs.Comparison.{is_same_text}
 use Rattle.py_value.specs.Plain.{PlainValue, list_at, builtin_value, PlainHeap, str_value}
 
 -- the names that are set, each once, with their values. A name is the list of its characters

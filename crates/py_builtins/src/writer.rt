@@ -8,7 +8,7 @@ ghost use Rattle.py_builtins.specs.declared.writer.Stop.TheVariants.{NoMemory};
 ghost use Rattle.py_builtins.specs.Writing.{whole};
 ghost use Rattle.py_builtins.specs.Written.{IsWritten, separator, are_ascii};
 
-use py_value::text::count_of;
+use py_text::count_of;
 use py_value::{Cause, MOST_ITEMS, Text};
 use std::alloc::{AllocError, AllocFailed, Global};
 

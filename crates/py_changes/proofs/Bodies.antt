@@ -2,7 +2,7 @@
 use Rattle.std.proofs.Common.{◌≡◌, ℕ, nat_eq, Bool, true, false, not, ◌&&◌, ◌||◌, IsTrue, List, [], ◌∷◌, ◌++◌, refl, sym, subst, ◌⊎◌, inl, inr}
 use Rattle.std.specs.Prelude.{if◌then◌else◌, bytes_eq}
 use Rattle.std.proofs.lemmas.Slice.Eq.{bytes_eq-Decides}
-use Rattle.py_value.proofs.KeyLaws.{same_answer}
+use Rattle.py_text.proofs.SameTexts.{same_answer}
 use Rattle.py_syntax.specs.Functions.{is_docstring, without_docstring}
 use Rattle.py_syntax.specs.Marks.{stmts_marks, kind_marks, body_marks}
 use Rattle.py_syntax.specs.Names.{is_among}

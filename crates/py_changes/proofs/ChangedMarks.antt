@@ -6,7 +6,7 @@ use Rattle.py_syntax.specs.Gathering.{gather, gather_kind, gather_opt, gather_ar
 use Rattle.py_syntax.specs.Marks.{own_mark, stmts_marks, kind_marks, suite_marks, opt_marks, arms_marks, clauses_marks, cases_marks, body_marks}
 use Rattle.py_syntax.specs.Names.{local_names}
 use Rattle.py_syntax.specs.Tree.{Stmts, no_stmts, stmt, Suite, suite, OptSuite, no_suite, has_suite, Arms, no_arms, arm, Clauses, no_clauses, clause, Cases, no_cases, case, StmtKind, expr, if', while, for, try, def, match}
-use Rattle.py_value.specs.Keys.{is_same_text}
+use Rattle.py_text.specs.Comparison.{is_same_text}
 use Rattle.py_changes.specs.Same.{same_bool, same_option, same_expr, same_maybe, same_pattern}
 use Rattle.py_changes.specs.Changed.{also, all_marks, same_simple, same_heads, has_docstring, fits_suite, fits_opt, fits_arms, fits_clauses, fits_cases, fits_body, same_names, same_defs, changed_header, Lines, where_not, by_parts, changed_each, changed_kind, changed_suite, changed_opt, changed_arms, changed_clauses, changed_cases, changed_body, changed_function, changed_functions, changed_module}
 use Rattle.py_changes.proofs.Bodies.{marks-of-body}

@@ -5,10 +5,10 @@
 --     Compared                   two rows that are compared, or all marks of the old one are unsafe
 use Rattle.std.proofs.Common.{◌≡◌, ℕ, nat_eq, Bool, true, false, not, ◌&&◌, ◌||◌, IsTrue, List, ◌++◌, refl, ap, ◌⊎◌, inl, inr}
 use Rattle.std.specs.List.{AllByRecursion}
-use Rattle.py_value.specs.Keys.{is_same_text}
+use Rattle.py_text.specs.Comparison.{is_same_text}
 use Rattle.py_syntax.specs.Marks.{stmts_marks}
 use Rattle.py_syntax.specs.Tree.{Stmts, no_stmts, stmt, Clauses, no_clauses, clause, StmtKind, expr, assign, aug_assign, pass, break, continue, return, raise, assert, global, import, from, def}
-use Rattle.py_value.proofs.TestLaws.{both_true}
+use Rattle.py_text.proofs.TestLaws.{both_true}
 use Rattle.py_meaning.specs.Statements.{has_clauses}
 use Rattle.py_changes.specs.Same.{same_texts, same_list, same_alias, same_expr, same_exprs, same_maybe, same_operator}
 use Rattle.py_changes.specs.Changed.{Lines, where_not, same_heads, is_empty, same_silent, fits_stmts, fits_clauses, same_simple, by_parts, changed_stmts, changed_each}

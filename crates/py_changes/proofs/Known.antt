@@ -7,7 +7,7 @@ use Rattle.std.proofs.Common.{◌≡◌, ℕ, zero, suc, nat_eq, Bool, true, fal
 use Rattle.std.specs.Prelude.{if◌then◌else◌, slice_get}
 use Rattle.std.specs.List.{AllByRecursion}
 use Rattle.py_value.specs.declared.value.FuncId.{FuncId}
-use Rattle.py_value.specs.Keys.{is_same_text}
+use Rattle.py_text.specs.Comparison.{is_same_text}
 use Rattle.py_syntax.specs.Functions.{Function, functions, without_docstring}
 use Rattle.py_syntax.specs.Marks.{body_marks}
 use Rattle.py_syntax.specs.Names.{local_names}

@@ -4,7 +4,7 @@ use Rattle.std.specs.Prelude.{if◌then◌else◌}
 use Rattle.std.specs.List.{AllByRecursion}
 use Rattle.std.proofs.lemmas.Bool.{eq-eqb}
 use Rattle.py_value.specs.declared.value.FuncId.{FuncId}
-use Rattle.py_value.specs.Keys.{is_same_text}
+use Rattle.py_text.specs.Comparison.{is_same_text}
 use Rattle.py_value.specs.Plain.{str_value}
 use Rattle.py_syntax.specs.Tree.{Text}
 use Rattle.py_meaning.specs.Modules.{LoadedModule, body_of, name_of, number_from, imported_number}

@@ -8,7 +8,7 @@ use Rattle.py_value.specs.declared.builtin.Method.{Method}
 use Rattle.py_value.specs.declared.exception.ExcKind.{ExcKind}
 use Rattle.py_value.specs.declared.value.ModId.{ModId}
 use Rattle.py_value.specs.declared.value.ModId.TheVariants.{Loaded, Sys}
-use Rattle.py_value.specs.Keys.{is_same_text}
+use Rattle.py_text.specs.Comparison.{is_same_text}
 use Rattle.py_value.specs.Plain.{PlainValue, list_at, module_value, builtin_value, PlainRaised}
 use Rattle.py_builtins.specs.Attributes.{or_raise, module_global, attribute, method_named}
 use Rattle.py_builtins.specs.Callees.{Callee, a_value, a_method, as_method, as_value, callee_of, taken, or_builtin}

@@ -1,7 +1,7 @@
 -- Names that are bound and unbound, and patterns that bind them.
 use Rattle.std.proofs.Common.{◌≡◌, ℕ, Bool, true, false, List, [], ◌∷◌, ◌++◌, Option, Some, None, Ok, Err, refl, sym, ap, ◌∙◌, subst}
 use Rattle.std.specs.Prelude.{if◌then◌else◌}
-use Rattle.py_value.specs.declared.operator.CmpOp.TheVariants.{Eq}
+use Rattle.py_operator.specs.declared.operator.CmpOp.TheVariants.{Eq}
 use Rattle.py_value.specs.declared.value.FuncId.{FuncId}
 use Rattle.py_value.specs.Answers.{◌>>=◌}
 use Rattle.py_value.specs.Operators.{compare_of}

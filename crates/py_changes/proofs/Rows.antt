@@ -1,8 +1,8 @@
 -- Changed lines and selected tests, computed.
 use Rattle.std.proofs.Common.{◌≡◌, ℕ, true, false, List, [], ◌∷◌, Some, None, refl}
 use Rattle.std.specs.Prelude.{codes, map, pos}
-use Rattle.py_value.specs.declared.operator.BinOp.TheVariants.{Add, Floor}
-use Rattle.py_value.specs.declared.operator.CmpOp.TheVariants.{Eq}
+use Rattle.py_operator.specs.declared.operator.BinOp.TheVariants.{Add, Floor}
+use Rattle.py_operator.specs.declared.operator.CmpOp.TheVariants.{Eq}
 use Rattle.py_syntax.specs.declared.expr.Comparison.TheVariants.{Op}
 use Rattle.py_syntax.specs.Tree as T
 use Rattle.py_syntax.specs.Tree.{Expr, Stmts}

@@ -1,7 +1,7 @@
 -- Statements of two versions, among the old modules and the new: what is compared is followed.
 use Rattle.std.proofs.Common.{◌≡◌, ℕ, nat_eq, Bool, false, ◌&&◌, IsTrue, cond, List, [], ◌∷◌, ◌++◌, Option, Some, None, refl, ap, inl, inr}
 use Rattle.py_value.specs.declared.value.FuncId.{FuncId}
-use Rattle.py_value.specs.Keys.{is_same_text}
+use Rattle.py_text.specs.Comparison.{is_same_text}
 use Rattle.py_value.specs.Plain.{PlainValue, func_value, PlainRaised}
 use Rattle.py_syntax.specs.Functions.{functions}
 use Rattle.py_syntax.specs.Gathering.{gather, gather_kind, gather_opt, gather_arms, gather_clauses, gather_cases}

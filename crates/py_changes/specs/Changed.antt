@@ -14,7 +14,7 @@
 --     changed_body, changed_function    two bodies, and two functions
 --     changed_module                    two modules
 use Rattle.std.specs.Prelude.{ℕ, nat_eq, Bool, true, false, not, ◌&&◌, ◌||◌, List, [], ◌∷◌, ◌++◌}
-use Rattle.py_value.specs.Keys.{is_same_text}
+use Rattle.py_text.specs.Comparison.{is_same_text}
 use Rattle.py_syntax.specs.Functions.{Function, functions, is_docstring, without_docstring}
 use Rattle.py_syntax.specs.Marks.{own_mark, stmts_marks, kind_marks, body_marks}
 use Rattle.py_syntax.specs.Names.{is_among, local_names}

@@ -3,7 +3,7 @@
 --     are_compared                lists that are compared place by place
 --     changed_lines               the changed lines of a module of the old list
 use Rattle.std.specs.Prelude.{◌≡◌, ℕ, nat_eq, Bool, true, false, ◌&&◌, ◌||◌, if◌then◌else◌, List, [], ◌∷◌}
-use Rattle.py_value.specs.Keys.{is_same_text}
+use Rattle.py_text.specs.Comparison.{is_same_text}
 use Rattle.py_syntax.specs.Marks.{body_marks}
 use Rattle.py_meaning.specs.Modules.{LoadedModule, body_of}
 use Rattle.py_changes.specs.Same.{same_list}

@@ -5,11 +5,11 @@
 --     same_maybe                       an expression that may be missing
 --     same_constant, same_pattern      patterns, and the constants in them
 use Rattle.std.specs.Prelude.{nat_eq, ℤ, pos, negsuc, Bool, true, false, ◌&&◌, List, [], ◌∷◌, Option, Some, None}
-use Rattle.py_value.specs.declared.operator.BinOp.{BinOp}
-use Rattle.py_value.specs.declared.operator.BinOp.TheVariants.{Add, Sub, Mul, Floor, Mod}
-use Rattle.py_value.specs.declared.operator.CmpOp.{CmpOp}
-use Rattle.py_value.specs.declared.operator.CmpOp.TheVariants.{Eq, Ne, Lt, Le, Gt, Ge, In, NotIn}
-use Rattle.py_value.specs.Keys.{is_same_text}
+use Rattle.py_operator.specs.declared.operator.BinOp.{BinOp}
+use Rattle.py_operator.specs.declared.operator.BinOp.TheVariants.{Add, Sub, Mul, Floor, Mod}
+use Rattle.py_operator.specs.declared.operator.CmpOp.{CmpOp}
+use Rattle.py_operator.specs.declared.operator.CmpOp.TheVariants.{Eq, Ne, Lt, Le, Gt, Ge, In, NotIn}
+use Rattle.py_text.specs.Comparison.{is_same_text}
 use Rattle.py_syntax.specs.declared.expr.Comparison.{Comparison}
 use Rattle.py_syntax.specs.declared.expr.Comparison.TheVariants.{Op, Is, IsNot}
 use Rattle.py_syntax.specs.declared.expr.Sign.{Sign}

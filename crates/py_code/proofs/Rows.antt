@@ -8,7 +8,7 @@ use Rattle.cov_event.specs.declared.event.Event.{Event}
 use Rattle.cov_event.specs.declared.event.Event.TheVariants.{Call as Called, Line, Throw, Return as Returned}
 use Rattle.py_value.specs.Comparison as compare_
 use Rattle.py_value.specs.declared.exception.ExcKind.TheVariants.{ZeroDivisionError}
-use Rattle.py_value.specs.declared.operator.BinOp.TheVariants.{Floor}
+use Rattle.py_operator.specs.declared.operator.BinOp.TheVariants.{Floor}
 use Rattle.py_builtins.specs.Builtins as builtins_
 use Rattle.py_builtins.specs.Outcomes.{Outcome, finished}
 use Rattle.py_builtins.specs.Outcomes as outcomes

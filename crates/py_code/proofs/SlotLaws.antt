@@ -1,9 +1,9 @@
 -- Slots and names hold the same values.
 use Rattle.std.proofs.Common.{◌≡◌, ℕ, zero, suc, ◌-◌, ◌≤◌, List, [], ◌∷◌, ◌++◌, length, map, Option, Some, None, Bool, true, false, refl, sym, ap, ◌∙◌, subst, arith}
 use Rattle.std.specs.Prelude.{slice_get, slice_set, replicate, if◌then◌else◌}
-use Rattle.py_value.specs.Keys.{is_same_text}
+use Rattle.py_text.specs.Comparison.{is_same_text}
 use Rattle.py_value.specs.Plain.{PlainValue}
-use Rattle.py_value.proofs.KeyLaws.{same_text, text_is_same}
+use Rattle.py_text.proofs.SameTexts.{same_text, text_is_same}
 use Rattle.py_builtins.specs.World.{Names, value_of}
 use Rattle.py_code.specs.Slots.{held, IsApart, IsDistinct}
 use Rattle.py_builtins.specs.Parameters.{parameters}

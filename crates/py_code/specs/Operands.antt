@@ -4,7 +4,7 @@
 --     asked                                    what a comparison asks
 use Rattle.std.specs.Prelude.{ℕ, List, []}
 use Rattle.py_value.specs.declared.exception.ExcKind.TheVariants.{BaseException}
-use Rattle.py_value.specs.declared.operator.CmpOp.TheVariants.{Eq as OpEq, Ne as OpNe, Lt as OpLt, Le as OpLe, Gt as OpGt, Ge as OpGe, In as OpIn, NotIn as OpNotIn}
+use Rattle.py_operator.specs.declared.operator.CmpOp.TheVariants.{Eq as OpEq, Ne as OpNe, Lt as OpLt, Le as OpLe, Gt as OpGt, Ge as OpGe, In as OpIn, NotIn as OpNotIn}
 use Rattle.py_value.specs.Compared.{Comparison, relates, is_it, is_not_it}
 use Rattle.py_value.specs.Plain.{PlainValue, none_value, bool_value, int_value, str_value, tuple_value, list_at, dict_at, func_value, module_value, kind_value, exc_value, builtin_value, no_argument, PlainRaised}
 use Rattle.py_builtins.specs.Callees.{Callee, a_value, a_method}

@@ -7,7 +7,7 @@
 --     imported_number                 modules by names
 use Rattle.std.specs.Prelude.{ℕ, suc, ◌-◌, nat_le, nat_lt, Bool, ◌&&◌, if◌then◌else◌, List, [], ◌∷◌, Option, Some, None, slice_get}
 use Rattle.cov_event.specs.declared.event.CodeId.{CodeId}
-use Rattle.py_value.specs.Keys.{is_same_text}
+use Rattle.py_text.specs.Comparison.{is_same_text}
 use Rattle.py_value.specs.Plain.{PlainValue, none_value, bool_value, int_value, str_value}
 use Rattle.py_code.specs.declared.instr.Instr.{Instr}
 use Rattle.py_code.specs.declared.unit.Unit.{Unit as RawUnit}

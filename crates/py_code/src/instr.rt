@@ -1,5 +1,5 @@
 // The instructions.
-use py_value::{BinOp, CmpOp};
+use py_operator::{BinOp, CmpOp};
 
 /// What a comparison of two operands asks.
 #[derive(Clone, Copy)]

@@ -1,6 +1,6 @@
 // Units of code.
 use crate::instr::Instr;
-use py_value::Text;
+use py_text::Text;
 
 /// A constant.
 #[derive(Drop)]

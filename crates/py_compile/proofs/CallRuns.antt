@@ -25,7 +25,7 @@ use Rattle.py_code.specs.Machine.{told as tells, entered, name_at, land, leave, 
 use Rattle.py_code.specs.Run.{go}
 use Rattle.py_code.specs.Slots.{by_names, params_in}
 use Rattle.py_code.specs.Units.{Code, Module, unit_at, units_of, handlers_in, handler_of, handler_at, number_from as numbered_from}
-use Rattle.py_value.specs.Keys.{is_same_text}
+use Rattle.py_text.specs.Comparison.{is_same_text}
 use Rattle.py_compile_expr.specs.Cells.{constant, plain, Guard, put as put_cell}
 use Rattle.py_compile_expr.specs.Runs.{Spot, effects_of, conf, from as going, thrown, after, on_top, IsLike, Matches, part_of, CallsRun}
 use Rattle.py_compile_expr.specs.Stands.{HasAt, Guards}

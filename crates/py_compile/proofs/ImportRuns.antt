@@ -3,7 +3,7 @@ use Rattle.std.proofs.Common.{◌≡◌, ℕ, suc, ◌+◌, ◌<◌, List, [], �
 use Rattle.std.specs.Prelude.{slice_get, if◌then◌else◌, Ok, codes}
 use Rattle.cov_event.specs.declared.event.CodeId.{CodeId}
 use Rattle.py_value.specs.declared.value.ModId.TheVariants.{Loaded, Sys}
-use Rattle.py_value.specs.Keys.{is_same_text}
+use Rattle.py_text.specs.Comparison.{is_same_text}
 use Rattle.py_value.specs.Plain.{PlainValue, none_value, module_value, PlainRaised}
 use Rattle.py_syntax.specs.Functions.{Function}
 use Rattle.py_syntax.specs.Names.{alias_name}

@@ -1,7 +1,7 @@
 -- A match gives values for the names that its pattern captures.
 use Rattle.std.proofs.Common.{◌≡◌, suc, List, [], ◌∷◌, ◌++◌, length, Option, Some, None, Bool, true, false, refl, ap, ◌∙◌}
 use Rattle.std.specs.Prelude.{Ok, Err}
-use Rattle.py_value.specs.declared.operator.CmpOp.TheVariants.{Eq}
+use Rattle.py_operator.specs.declared.operator.CmpOp.TheVariants.{Eq}
 use Rattle.py_value.specs.Answers.{◌>>=◌}
 use Rattle.py_value.specs.Operators.{compare_of}
 use Rattle.py_value.specs.Plain.{PlainValue}

@@ -1,7 +1,7 @@
 -- What the code of patterns does is what a match means.
 use Rattle.std.proofs.Common.{◌≡◌, ℕ, suc, ◌+◌, ◌<◌, ◌≤◌, List, [], ◌∷◌, ◌++◌, length, map, take, drop, Option, Some, None, Bool, true, false, refl, sym, ap, ◌∙◌, subst, arith}
 use Rattle.std.specs.Prelude.{Ok, Err}
-use Rattle.py_value.specs.declared.operator.CmpOp.TheVariants.{Eq as OpEq}
+use Rattle.py_operator.specs.declared.operator.CmpOp.TheVariants.{Eq as OpEq}
 use Rattle.py_value.specs.Answers.{◌>>=◌}
 use Rattle.py_value.specs.Compared.{compared}
 use Rattle.py_value.specs.Operators.{compare_of}

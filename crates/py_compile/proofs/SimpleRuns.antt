@@ -3,7 +3,7 @@ use Rattle.std.proofs.Common.{◌≡◌, ℕ, ◌+◌, ◌-◌, ◌<◌, List, �
 use Rattle.std.specs.Prelude.{slice_get, Ok, Err}
 use Rattle.py_value.specs.declared.cause.Cause.TheVariants.{NotException}
 use Rattle.py_value.specs.declared.exception.ExcKind.TheVariants.{AssertionError}
-use Rattle.py_value.specs.declared.operator.BinOp.{BinOp}
+use Rattle.py_operator.specs.declared.operator.BinOp.{BinOp}
 use Rattle.py_value.specs.Causes.{raised_by}
 use Rattle.py_value.specs.Plain.{PlainValue, none_value, bool_value, int_value, str_value, tuple_value, list_at, dict_at, func_value, module_value, kind_value, exc_value, builtin_value, no_argument, PlainRaised}
 use Rattle.py_syntax.specs.Tree.{Text, Expr, Exprs, no_exprs, exprs, Suite, StmtKind, expr, assign, aug_assign, pass, break, continue, return, raise, assert, global, def}

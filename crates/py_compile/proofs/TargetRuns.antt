@@ -3,10 +3,10 @@ use Rattle.std.proofs.Common.{◌≡◌, ℕ, suc, ◌+◌, ◌<◌, ◌≤◌, 
 use Rattle.std.specs.Prelude.{slice_get, if◌then◌else◌, nat_eq, Result, Ok, Err}
 use Rattle.std.proofs.lemmas.Bool.Decides.{nat_tests}
 use Rattle.py_value.specs.declared.cause.Cause.TheVariants.{NotSubscriptable, WrongValueCount}
-use Rattle.py_value.specs.declared.operator.BinOp.{BinOp}
+use Rattle.py_operator.specs.declared.operator.BinOp.{BinOp}
 use Rattle.py_value.specs.Answers.{◌>>=◌}
 use Rattle.py_value.specs.Causes.{raised_by}
-use Rattle.py_value.specs.Keys.{is_same_text}
+use Rattle.py_text.specs.Comparison.{is_same_text}
 use Rattle.py_value.specs.Operators.{in_place_of, index_of}
 use Rattle.py_value.specs.Plain.{PlainValue, none_value, PlainRaised}
 use Rattle.py_syntax.specs.Names.{is_among}

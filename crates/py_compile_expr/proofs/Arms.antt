@@ -4,7 +4,7 @@
 --     each_added, pairs_added          turns of loops
 use Rattle.std.proofs.Common.{◌≡◌, ℕ, ◌+◌, ◌<◌, List, [], ◌++◌, Option, Bool, length, drop, get_or, refl, sym, ap, ◌∙◌, arith, append_assoc}
 use Rattle.std.specs.Global.{Vec}
-use Rattle.py_value.specs.declared.operator.BinOp.{BinOp}
+use Rattle.py_operator.specs.declared.operator.BinOp.{BinOp}
 use Rattle.py_code.specs.declared.instr.Instr.TheVariants.{Tuple, List as MakeList, Dict, AddPair, Binary, Goto, IfFalse, And, Or}
 use Rattle.py_code.specs.declared.unit.Constant.TheVariants.{Str as StrConstant}
 use Rattle.py_syntax.specs.declared.expr.Expr.{Expr as Node}

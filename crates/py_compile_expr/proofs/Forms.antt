@@ -4,7 +4,7 @@
 use Rattle.std.specs.Prelude.{Box}
 use Rattle.std.proofs.Common.{◌≡◌, List, ◌∷◌, Bool, ℤ, sym, ap, ◌∙◌}
 use Rattle.std.specs.Global.{Global, Vec}
-use Rattle.py_value.specs.declared.operator.BinOp.{BinOp}
+use Rattle.py_operator.specs.declared.operator.BinOp.{BinOp}
 use Rattle.py_syntax.specs.declared.expr.Sign.{Sign}
 use Rattle.py_syntax.specs.declared.expr.Expr.{Expr as Node}
 use Rattle.py_syntax.specs.declared.expr.Expr as node

@@ -7,8 +7,8 @@ use Rattle.std.specs.String.{string_eq}
 use Rattle.std.proofs.lemmas.List.Recursion.{is_position_or_len}
 use Rattle.std.proofs.lemmas.Slice.Eq.{bytes_eq-Decides}
 use Rattle.std.proofs.lemmas.Str.{IsUtf8-string_bytes, encodes-chars}
-use Rattle.py_value.specs.Keys.{is_same_text}
-use Rattle.py_value.proofs.KeyLaws.{same_answer, same_text, same_text_from}
+use Rattle.py_text.specs.Comparison.{is_same_text}
+use Rattle.py_text.proofs.SameTexts.{same_answer, same_text, same_text_from}
 use Rattle.py_compile_expr.specs.Cells.{place_in, add_new}
 
 one_more : (n : ℕ) → suc n ≡ 1 + n

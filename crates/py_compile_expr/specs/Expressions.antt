@@ -2,7 +2,7 @@
 --     expr_size                  how many instructions an expression takes
 --     expr_code                  these instructions, from a place on
 use Rattle.std.specs.Prelude.{ℕ, suc, ◌+◌, true, List, [], ◌++◌, pos, Option}
-use Rattle.py_value.specs.declared.operator.CmpOp.TheVariants.{Eq as OpEq, Ne as OpNe, Lt as OpLt, Le as OpLe, Gt as OpGt, Ge as OpGe, In as OpIn, NotIn as OpNotIn}
+use Rattle.py_operator.specs.declared.operator.CmpOp.TheVariants.{Eq as OpEq, Ne as OpNe, Lt as OpLt, Le as OpLe, Gt as OpGt, Ge as OpGe, In as OpIn, NotIn as OpNotIn}
 use Rattle.py_syntax.specs.declared.expr.Comparison.{Comparison}
 use Rattle.py_syntax.specs.declared.expr.Comparison.TheVariants.{Op as ByOp, Is as ByIs, IsNot as ByIsNot}
 use Rattle.py_syntax.specs.Tree.{Expr, name, int, str, fstr, none, bool, tuple, list, dict, paren, not', and, or, unary, binary, compare, cond, call, index, slice, attr, Exprs, no_exprs, exprs, Pairs, no_pairs, pair, Links, no_links, link, OptExpr, absent, present, Fragments, no_fragments, plain as plain_piece, format, Parts, no_parts, text, field}

@@ -3,7 +3,7 @@
 --     IsKnown, Guards            what an instruction needs there, and the handler of its place
 --     StandsAt, HasAt            a cell at a place, and cells from a place on
 use Rattle.std.specs.Prelude.{◌≡◌, ℕ, ◌+◌, ◌==◌, Bool, true, false, List, [], ◌∷◌, Option, Some, None, slice_get}
-use Rattle.py_value.specs.Keys.{is_same_text}
+use Rattle.py_text.specs.Comparison.{is_same_text}
 use Rattle.py_syntax.specs.Names.{is_among}
 use Rattle.py_syntax.specs.Tree.{Text}
 use Rattle.py_code.specs.declared.unit.Handler.{Handler}

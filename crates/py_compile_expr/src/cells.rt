@@ -5,7 +5,7 @@ ghost use Rattle.py_compile_expr.specs.Cells.{put};
 ghost use Rattle.py_compile_expr.specs.CellView.{plain_op, plain_guard, plain_cell};
 
 use py_code::{Constant, Instr};
-use py_value::{NoMemory, Text};
+use py_text::{NoMemory, Text};
 use std::alloc::{AllocError, Global};
 use std::marker::Model;
 

@@ -7,7 +7,7 @@ ghost use Rattle.py_compile_expr.specs.Expressions.{expr_size, each_size, pairs_
 
 use crate::cells::sum;
 use py_syntax::{Expr, FormatPart, Fragment, Link, Pair};
-use py_value::NoMemory;
+use py_text::NoMemory;
 
 /// The size of two parts and one instruction.
 pub(crate) fn both(left: u32, right: u32) -> Result<u32, NoMemory>

@@ -17,7 +17,7 @@ use crate::operators::{Skip, bounds, count, link_instr, question, sign_operator,
 use crate::texts::{put_chars, put_string, put_text};
 use py_code::{Constant, Instr};
 use py_syntax::{Expr, FormatPart, Fragment, Link, Pair, Sign};
-use py_value::{NoMemory, Text};
+use py_text::{NoMemory, Text};
 
 /// Adds the code of an expression at a place, with the handler that holds there. Answers the place
 /// after it.

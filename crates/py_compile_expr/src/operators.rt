@@ -8,8 +8,9 @@ ghost use Rattle.py_compile_expr.specs.Expressions.{count, question, bounds};
 ghost use Rattle.py_compile_expr.specs.Pieces.{link_instr, skip_instr};
 
 use py_code::{Bounds, Instr, Question};
+use py_operator::{BinOp, CmpOp};
 use py_syntax::{Comparison, Expr, Sign};
-use py_value::{BinOp, CmpOp, NoMemory};
+use py_text::NoMemory;
 use std::alloc::AllocError;
 
 /// A length as a number of operands.

@@ -16,7 +16,7 @@ use crate::site::{Site, with_captured, with_waiting};
 use crate::texts::run_together;
 use py_code::{Constant, Instr, Question};
 use py_syntax::{Constant as Literal, Pattern};
-use py_value::{NoMemory, Text};
+use py_text::{NoMemory, Text};
 use std::alloc::{AllocError, Global};
 
 /// The constant of a literal pattern. No text has a number below zero without its minus.

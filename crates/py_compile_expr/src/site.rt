@@ -5,7 +5,7 @@ ghost use Rattle.py_compile_expr.specs.CellView.{plain_site};
 ghost use Rattle.py_compile_expr.specs.Patterns.{with_waiting, with_captured};
 
 use crate::cells::{Guard, sum};
-use py_value::NoMemory;
+use py_text::NoMemory;
 
 /// Where a pattern stands: the handler, how many values wait below its value, and where a failed
 /// match goes on, with how many operands less, after the value itself.

@@ -13,7 +13,7 @@ use crate::expressions::put_expr;
 use crate::operators::count;
 use py_code::{Constant, Instr};
 use py_syntax::Expr;
-use py_value::{NoMemory, Text};
+use py_text::{NoMemory, Text};
 
 /// How many instructions a target takes.
 #[cycle(target_sizes)]

@@ -9,7 +9,7 @@ ghost use Rattle.py_compile_expr.specs.Pieces.{chars_code};
 
 use crate::cells::{Builder, Guard, Op};
 use py_code::{Constant, Instr};
-use py_value::{NoMemory, Text};
+use py_text::{NoMemory, Text};
 use std::alloc::Global;
 
 /// Neighbouring strings as one.

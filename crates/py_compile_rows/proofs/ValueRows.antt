@@ -1,8 +1,8 @@
 -- Rows of compiled code: the machine does what the source means.
 use Rattle.std.proofs.Common.{true, false, [], ◌∷◌, Some, None, refl}
 use Rattle.std.specs.Prelude.{codes}
-use Rattle.py_value.specs.declared.operator.BinOp.TheVariants.{Add, Mul, Floor, Mod}
-use Rattle.py_value.specs.declared.operator.CmpOp.TheVariants.{Eq, Lt}
+use Rattle.py_operator.specs.declared.operator.BinOp.TheVariants.{Add, Mul, Floor, Mod}
+use Rattle.py_operator.specs.declared.operator.CmpOp.TheVariants.{Eq, Lt}
 use Rattle.py_syntax.specs.declared.expr.Comparison.TheVariants.{Op}
 use Rattle.py_syntax.specs.declared.expr.Sign.TheVariants.{Minus}
 use Rattle.py_syntax.specs.Tree as T

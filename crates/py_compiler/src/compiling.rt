@@ -12,7 +12,7 @@ use py_compile::{programs_run, units_are_faithful};
 use py_fit::code_fits;
 use py_scope::Scopes;
 use py_syntax::Module;
-use py_value::NoMemory;
+use py_text::NoMemory;
 use std::alloc::Global;
 
 /// The code of a module without a fault of scope, where `scopes` are what `check` answered for it.

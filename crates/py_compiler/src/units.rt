@@ -16,8 +16,8 @@ use py_compile::units_are_faithful;
 use py_emit::{Defs, body_cells};
 use py_scope::Scopes;
 use py_syntax::Module;
+use py_text::NoMemory;
 use py_unit::{Def, body_unit, function_unit, functions_of, lines_of};
-use py_value::NoMemory;
 use std::alloc::{AllocError, Global};
 
 /// The units of a module, its body first, where there is room for them all.

@@ -2,7 +2,7 @@
 use Rattle.std.proofs.Common.{◌≡◌, ℕ, ◌+◌, ◌==◌, Bool, true, false, List, [], ◌∷◌, ◌++◌, length, Option, Some, None, Vec, true≢false, refl, sym, ap, ◌∙◌}
 use Rattle.std.specs.Global.{Global}
 use Rattle.std.specs.Option.{option_map}
-use Rattle.py_value.specs.declared.operator.BinOp.{BinOp}
+use Rattle.py_operator.specs.declared.operator.BinOp.{BinOp}
 use Rattle.py_syntax.specs.declared.expr.Expr.{Expr as Node}
 use Rattle.py_syntax.specs.declared.stmt.Alias.{Alias as AliasNode}
 use Rattle.py_syntax.specs.declared.stmt.StmtKind as kind

@@ -3,7 +3,7 @@
 use Rattle.std.proofs.Common.{◌≡◌, ℕ, ◌+◌, ◌*◌, ◌<◌, ◌==◌, List, [], ◌∷◌, ◌++◌, drop, get_or, length, true, false, true≢false, Option, Result, Ok, IfOk, refl, sym, ap, subst, ◌∙◌, arith, append_assoc}
 use Rattle.py_syntax.specs.declared.expr.Expr.{Expr as Node}
 use Rattle.py_syntax.specs.declared.stmt.Alias.{Alias as AliasNode}
-use Rattle.py_value.specs.declared.operator.BinOp.{BinOp}
+use Rattle.py_operator.specs.declared.operator.BinOp.{BinOp}
 use Rattle.py_syntax.specs.Names.{alias_name}
 use Rattle.py_syntax.specs.Tree.{Text, Expr, index}
 use Rattle.py_syntax.specs.View.{plain_exprs, plain_alias, plain_aliases}

@@ -10,7 +10,7 @@
 --     handlers_code .. def_code           what follows the `else` of a `try`, and a `def`
 --     at_lines                            functions by the lines of their `def`s alone
 use Rattle.std.specs.Prelude.{ℕ, ◌+◌, Bool, true, List, [], ◌++◌, map, Option, Some, None}
-use Rattle.py_value.specs.declared.operator.BinOp.{BinOp}
+use Rattle.py_operator.specs.declared.operator.BinOp.{BinOp}
 use Rattle.py_syntax.specs.Functions.{Function}
 use Rattle.py_syntax.specs.Tree.{Text, Expr, Exprs, Pattern, Stmts, no_stmts, Suite, suite, OptSuite, no_suite, has_suite, Arms, Clauses, no_clauses, clause, Cases}
 use Rattle.py_code.specs.declared.instr.Instr.TheVariants.{Pop, Copy, Sink, InPlace, Index, StoreIndex, Goto, IfFalse, Walk, Next, Caught, Ending, Settle, Release}

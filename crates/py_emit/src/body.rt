@@ -14,7 +14,7 @@ use py_code::{Constant, Instr};
 use py_compile_expr::{Builder, Op};
 use py_docstrings::without_docstring;
 use py_syntax::Stmt;
-use py_value::NoMemory;
+use py_text::NoMemory;
 use std::alloc::Global;
 
 /// The cells of the body of a module or a function, without the docstring that may lead it, where

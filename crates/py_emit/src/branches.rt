@@ -17,7 +17,7 @@ use crate::ways::{Ways, in_clause, in_hand};
 use py_code::Instr;
 use py_compile_expr::{Builder, Op};
 use py_syntax::{Arm, Case, Clause, Expr, Suite};
-use py_value::NoMemory;
+use py_text::NoMemory;
 
 /// Tests with their suites.
 #[cycle(statements)]

@@ -18,7 +18,7 @@ use crate::ways::{Ways, under};
 use py_code::Instr;
 use py_compile_expr::{Builder, Guard, Op};
 use py_syntax::{Clause, Expr, Suite};
-use py_value::{NoMemory, Text};
+use py_text::{NoMemory, Text};
 
 /// `try`, up to its `else`. The suite comes first among the trees, since it is what the recursion
 /// goes down.

@@ -7,7 +7,7 @@ ghost use Rattle.py_emit.specs.Parts.{at_lines};
 
 use indexmap::IndexMap;
 use py_compile_expr::number;
-use py_value::NoMemory;
+use py_text::NoMemory;
 use std::alloc::Global;
 use std::marker::Model;
 

@@ -16,7 +16,7 @@ use py_compile_expr::{
     Builder, Guard, Op, Site, push_captured, put_expr, put_names, put_pattern, sum,
 };
 use py_syntax::{Expr, Pattern};
-use py_value::{NoMemory, Text};
+use py_text::{NoMemory, Text};
 
 /// The marks and the test of a `while`.
 pub(crate) fn put_while_head(

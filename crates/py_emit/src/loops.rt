@@ -15,7 +15,7 @@ use crate::ways::Ways;
 use py_code::Instr;
 use py_compile_expr::{Builder, Op, put_target};
 use py_syntax::{Expr, Suite};
-use py_value::NoMemory;
+use py_text::NoMemory;
 
 /// `while`, up to its `else`.
 #[cycle(statements)]

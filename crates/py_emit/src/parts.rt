@@ -16,8 +16,9 @@ ghost use Rattle.py_emit.specs.WaysView.{plain_ways};
 use crate::ways::{Ways, break_exit, continue_exit, return_exit};
 use py_code::{Constant, Instr};
 use py_compile_expr::{Builder, Guard, Op, count, put_each, put_expr, sum};
+use py_operator::BinOp;
 use py_syntax::{Alias, Expr};
-use py_value::{BinOp, NoMemory, Text};
+use py_text::{NoMemory, Text};
 
 /// An expression, or else None.
 pub(crate) fn put_option(

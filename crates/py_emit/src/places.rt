@@ -15,7 +15,7 @@ use crate::suite_sizes::{
 use crate::ways::{Ways, in_finally, in_hand, in_loop, in_try, under};
 use py_compile_expr::{expr_size, sum, target_size};
 use py_syntax::{Arm, Case, Clause, Expr, Pattern, Suite};
-use py_value::{NoMemory, Text};
+use py_text::{NoMemory, Text};
 
 /// Of a loop: where a further turn begins, what follows the last turn, and the ways out of its
 /// suite.

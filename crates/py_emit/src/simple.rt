@@ -18,8 +18,9 @@ use crate::suite_sizes::assert_size;
 use crate::ways::{Ways, break_exit, continue_exit, return_exit};
 use py_code::Instr;
 use py_compile_expr::{Builder, Guard, Op, over, put_all, sum};
+use py_operator::BinOp;
 use py_syntax::{Alias, Expr};
-use py_value::{BinOp, NoMemory, Text};
+use py_text::{NoMemory, Text};
 
 /// An expression as a statement.
 pub(crate) fn put_value(

@@ -18,7 +18,7 @@ use crate::simple::{
 use crate::ways::Ways;
 use py_compile_expr::{Builder, Op};
 use py_syntax::{Stmt, StmtKind, Suite};
-use py_value::NoMemory;
+use py_text::NoMemory;
 
 /// Adds the code of statements, from a place on.
 #[cycle(statements)]

@@ -11,7 +11,7 @@ use py_compile_expr::{
     all_size, captures, each_size, expr_size, number, pattern_size, sum, target_size,
 };
 use py_syntax::{Alias, Arm, Case, Clause, Expr, Pattern, Stmt, StmtKind, Suite};
-use py_value::{NoMemory, Text};
+use py_text::{NoMemory, Text};
 use std::alloc::AllocError;
 
 /// The size of two parts and so many instructions, where both parts have a size.

@@ -6,7 +6,7 @@ ghost use Rattle.py_compile.specs.Ways.{outermost, lower, under, in_finally, in_
 
 use py_code::Instr;
 use py_compile_expr::{Guard, sum};
-use py_value::NoMemory;
+use py_text::NoMemory;
 
 /// Where one way out leads.
 #[derive(Clone, Copy)]

@@ -1,6 +1,6 @@
 -- The places of the code of simple statements have one number of operands each.
 use Rattle.std.proofs.Common.{◌≡◌, ℕ, suc, ◌+◌, ◌<◌, Bool, false, List, Option, refl, ap, ◌∙◌, arith}
-use Rattle.py_value.specs.declared.operator.BinOp.{BinOp}
+use Rattle.py_operator.specs.declared.operator.BinOp.{BinOp}
 use Rattle.py_syntax.specs.Functions.{Function}
 use Rattle.py_syntax.specs.Tree.{Text, Alias, Expr, Exprs, Suite as TreeSuite, expr, assign, aug_assign, pass, break, continue, return, raise, assert, global, import, from, def}
 use Rattle.py_meaning.specs.Modules.{unit_at}

@@ -1,6 +1,6 @@
 -- The places of the code of parts of statements have one number of operands each.
 use Rattle.std.proofs.Common.{◌≡◌, ℕ, suc, ◌+◌, ◌-◌, ◌<◌, ◌≤◌, true, false, List, [], ◌∷◌, Option, Some, None, refl, arith}
-use Rattle.py_value.specs.declared.operator.BinOp.{BinOp}
+use Rattle.py_operator.specs.declared.operator.BinOp.{BinOp}
 use Rattle.py_syntax.specs.Names.{alias_name}
 use Rattle.py_syntax.specs.Tree.{Text, Alias, Expr, name, int, str, fstr, none, bool, tuple, list, dict, paren, not', and, or, unary, binary, compare, cond, call, index, slice, attr, Exprs, no_exprs, exprs}
 use Rattle.py_code.specs.declared.instr.Instr.TheVariants.{Pop, Copy, Sink, List as MakeList, InPlace, Index, StoreIndex, IfFalse, Function as MakeFunction, FunctionWith, Raise, Reraise, Assertion, AssertionWith, Catches}

@@ -1,8 +1,8 @@
 -- Operators: their values come from their operands, from numbers and texts, or are new objects.
 use Rattle.std.proofs.Common.{ℕ, ◌+◌, List, [], ◌∷◌, ◌++◌, length, Option, Some, None}
 use Rattle.std.specs.Prelude.{slice_set, nat_le, nat_lt, is_some, ◌||◌, Result, Ok, Err, ℤ}
-use Rattle.py_value.specs.declared.operator.BinOp.{BinOp}
-use Rattle.py_value.specs.declared.operator.BinOp.TheVariants.{Add, Mul}
+use Rattle.py_operator.specs.declared.operator.BinOp.{BinOp}
+use Rattle.py_operator.specs.declared.operator.BinOp.TheVariants.{Add, Mul}
 use Rattle.py_value.specs.declared.cause.Cause.{Cause}
 use Rattle.py_value.specs.declared.cause.Cause.TheVariants.{TooManyItems, UnhashableKey, ListIndex, TupleIndex, StringIndex}
 use Rattle.py_value.specs.Answers.{◌>>=◌}

@@ -1,7 +1,7 @@
 -- What the machine has read is what its state stands for.
 use Rattle.std.proofs.Common.{◌≡◌, Bool, true, false, cond, List, ◌∷◌, refl, ap, ◌∙◌}
-use Rattle.py_value.specs.declared.operator.BinOp.TheVariants as op_
-use Rattle.py_value.specs.declared.operator.CmpOp.TheVariants as cmp_
+use Rattle.py_operator.specs.declared.operator.BinOp.TheVariants as op_
+use Rattle.py_operator.specs.declared.operator.CmpOp.TheVariants as cmp_
 use Rattle.py_token.specs.declared.token.Keyword.TheVariants as word
 use Rattle.py_token.specs.declared.token.Mark.TheVariants as mark
 use Rattle.py_syntax.specs.declared.expr.Comparison.{Comparison}

@@ -4,7 +4,7 @@
 --     fit, whole                           what comes of a stack with an expression in its hole
 --     finished, least                      the least tree of a state, and its height
 use Rattle.std.specs.Prelude.{ℕ, Bool, true, false, cond, ◌&&◌, []}
-use Rattle.py_value.specs.declared.operator.CmpOp.TheVariants as cmp_
+use Rattle.py_operator.specs.declared.operator.CmpOp.TheVariants as cmp_
 use Rattle.py_syntax.specs.declared.expr.Comparison.TheVariants.{Op, Is, IsNot}
 use Rattle.py_syntax.specs.Tree.{Expr, name, none, tuple, dict, paren, not', unary, compare, index, slice, attr, no_exprs, exprs, no_pairs, absent, present}
 use Rattle.py_syntax.specs.Tree as tree_

@@ -10,9 +10,9 @@
 --     ended, format_class, class .. parts     the class of a token, and the fields of f-strings
 --     Verdict, run                            the reading of a list
 use Rattle.std.specs.Prelude.{nat_eq, Bool, true, false, cond, List, [], ◌∷◌, Option, Some, None, option_map}
-use Rattle.py_value.specs.declared.operator.BinOp.TheVariants as op_
-use Rattle.py_value.specs.declared.operator.CmpOp.{CmpOp}
-use Rattle.py_value.specs.declared.operator.CmpOp.TheVariants as cmp_
+use Rattle.py_operator.specs.declared.operator.BinOp.TheVariants as op_
+use Rattle.py_operator.specs.declared.operator.CmpOp.{CmpOp}
+use Rattle.py_operator.specs.declared.operator.CmpOp.TheVariants as cmp_
 use Rattle.py_token.specs.declared.token.Keyword.TheVariants as word
 use Rattle.py_token.specs.declared.token.Mark.TheVariants as mark
 use Rattle.py_syntax.specs.declared.expr.Comparison.{Comparison}

@@ -6,8 +6,8 @@
 --                                             it begins one
 --     spelled                                 the tokens of a class
 use Rattle.std.specs.Prelude.{ℤ, nat_eq, Bool, true, false, List, ◌∷◌}
-use Rattle.py_value.specs.declared.operator.BinOp.{BinOp}
-use Rattle.py_value.specs.declared.operator.CmpOp.{CmpOp}
+use Rattle.py_operator.specs.declared.operator.BinOp.{BinOp}
+use Rattle.py_operator.specs.declared.operator.CmpOp.{CmpOp}
 use Rattle.py_token.specs.declared.token.Keyword.TheVariants as word
 use Rattle.py_token.specs.declared.token.Mark.TheVariants as mark
 use Rattle.py_syntax.specs.declared.expr.Comparison.TheVariants.{Op}

@@ -7,7 +7,7 @@ use Rattle.cov_event.specs.declared.event.Event.TheVariants.{Line, Throw, Call a
 use Rattle.cov_outside.specs.Prefixes.{IsPrefix}
 use Rattle.py_value.specs.declared.cause.Cause.TheVariants.{TooDeep}
 use Rattle.py_value.specs.Causes.{raised_by}
-use Rattle.py_value.specs.Keys.{is_same_text}
+use Rattle.py_text.specs.Comparison.{is_same_text}
 use Rattle.py_value.specs.Compared.{compared}
 use Rattle.py_value.specs.Operators.{binary_of, in_place_of, index_of, truth_of}
 use Rattle.py_value.specs.Plain.{PlainValue, none_value, bool_value, int_value, str_value, tuple_value, list_at, dict_at, func_value, module_value, kind_value, exc_value, builtin_value, PlainRaised}

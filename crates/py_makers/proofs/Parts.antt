@@ -2,7 +2,7 @@
 -- `def` makes one right after the list of its defaults.
 use Rattle.std.proofs.Common.{◌≡◌, ℕ, suc, ◌+◌, ◌-◌, ◌<◌, ◌≤◌, Bool, true, false, List, [], ◌∷◌, ◌++◌, length, Option, Some, None, refl, sym, ap, ◌∙◌, subst, arith}
 use Rattle.std.specs.Prelude.{nat_eq, slice_get, if◌then◌else◌}
-use Rattle.py_value.specs.declared.operator.BinOp.{BinOp}
+use Rattle.py_operator.specs.declared.operator.BinOp.{BinOp}
 use Rattle.py_syntax.specs.Tree.{Text, Alias, Expr, Exprs, no_exprs, exprs, Pattern}
 use Rattle.py_code.specs.declared.instr.Instr.TheVariants.{List as MakeList, FunctionWith, Raise, Reraise}
 use Rattle.py_code.specs.declared.unit.Constant.TheVariants.{None as NoneConstant}

@@ -1,7 +1,7 @@
 -- The code of simple statements, and of a `def`, makes functions as the units ask.
 use Rattle.std.proofs.Common.{◌≡◌, ℕ, ◌+◌, Bool, List, length, Option, refl, arith}
 use Rattle.std.specs.Prelude.{slice_get}
-use Rattle.py_value.specs.declared.operator.BinOp.{BinOp}
+use Rattle.py_operator.specs.declared.operator.BinOp.{BinOp}
 use Rattle.py_syntax.specs.Functions.{Function}
 use Rattle.py_syntax.specs.Tree.{Text, Alias, Expr, Exprs, Suite as TreeSuite, expr, assign, aug_assign, pass, break, continue, return, raise, assert, global, import, from, def}
 use Rattle.py_meaning.specs.Modules.{unit_at}

@@ -5,8 +5,8 @@ use Rattle.std.specs.Prelude.{codes}
 use Rattle.cov_event.specs.declared.event.Event.{Event}
 use Rattle.cov_event.specs.declared.event.Event.TheVariants.{Call, Line, Throw, Return}
 use Rattle.py_value.specs.declared.exception.ExcKind.TheVariants.{AssertionError, TypeError}
-use Rattle.py_value.specs.declared.operator.BinOp.TheVariants.{Add}
-use Rattle.py_value.specs.declared.operator.CmpOp.TheVariants.{Eq}
+use Rattle.py_operator.specs.declared.operator.BinOp.TheVariants.{Add}
+use Rattle.py_operator.specs.declared.operator.CmpOp.TheVariants.{Eq}
 use Rattle.py_value.specs.Plain.{PlainValue, none_value, int_value}
 use Rattle.py_syntax.specs.declared.expr.Comparison.TheVariants.{Op}
 use Rattle.py_syntax.specs.Tree as T

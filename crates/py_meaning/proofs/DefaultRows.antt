@@ -1,7 +1,7 @@
 -- Runs, computed: defaults of parameters.
 use Rattle.std.proofs.Common.{◌≡◌, true, false, [], ◌∷◌, Some, pos, negsuc, refl}
 use Rattle.std.specs.Prelude.{codes}
-use Rattle.py_value.specs.declared.operator.BinOp.TheVariants.{Floor}
+use Rattle.py_operator.specs.declared.operator.BinOp.TheVariants.{Floor}
 use Rattle.py_syntax.specs.Tree as T
 use Rattle.py_syntax.specs.Tree.{Stmts}
 use Rattle.py_meaning.proofs.Sources.{runs, var, num, items, call, attr, list, line, end, printed, row}

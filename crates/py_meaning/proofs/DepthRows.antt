@@ -1,7 +1,7 @@
 -- Runs, computed: frames on each other.
 use Rattle.std.proofs.Common.{◌≡◌, false, [], ◌∷◌, refl}
 use Rattle.std.specs.Prelude.{codes}
-use Rattle.py_value.specs.declared.operator.BinOp.TheVariants.{Add}
+use Rattle.py_operator.specs.declared.operator.BinOp.TheVariants.{Add}
 use Rattle.py_syntax.specs.Tree as T
 use Rattle.py_syntax.specs.Tree.{Stmts}
 use Rattle.py_meaning.proofs.Sources.{runs, var, num, items, call, line, end, printed, fed, written}

@@ -1,8 +1,8 @@
 -- Runs, computed: exceptions, handlers and `finally`.
 use Rattle.std.proofs.Common.{◌≡◌, false, [], ◌∷◌, Some, None, pos, negsuc, refl}
 use Rattle.std.specs.Prelude.{codes}
-use Rattle.py_value.specs.declared.operator.BinOp.TheVariants.{Floor}
-use Rattle.py_value.specs.declared.operator.CmpOp.TheVariants.{Lt}
+use Rattle.py_operator.specs.declared.operator.BinOp.TheVariants.{Floor}
+use Rattle.py_operator.specs.declared.operator.CmpOp.TheVariants.{Lt}
 use Rattle.py_syntax.specs.declared.expr.Comparison.TheVariants.{Op}
 use Rattle.py_syntax.specs.Tree as T
 use Rattle.py_syntax.specs.Tree.{Stmts}

@@ -1,7 +1,7 @@
 -- Runs, computed: `match`.
 use Rattle.std.proofs.Common.{◌≡◌, true, false, [], ◌∷◌, Some, None, pos, negsuc, refl}
 use Rattle.std.specs.Prelude.{codes}
-use Rattle.py_value.specs.declared.operator.BinOp.TheVariants.{Floor}
+use Rattle.py_operator.specs.declared.operator.BinOp.TheVariants.{Floor}
 use Rattle.py_syntax.specs.declared.expr.Sign.TheVariants.{Minus}
 use Rattle.py_syntax.specs.declared.pattern.Brackets.TheVariants.{Round, Square}
 use Rattle.py_syntax.specs.Tree as T

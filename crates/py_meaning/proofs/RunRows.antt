@@ -1,8 +1,8 @@
 -- Runs, computed: tests, loops and functions.
 use Rattle.std.proofs.Common.{◌≡◌, true, false, [], ◌∷◌, pos, negsuc, refl}
 use Rattle.std.specs.Prelude.{codes}
-use Rattle.py_value.specs.declared.operator.BinOp.TheVariants.{Add, Sub, Mul}
-use Rattle.py_value.specs.declared.operator.CmpOp.TheVariants.{Gt}
+use Rattle.py_operator.specs.declared.operator.BinOp.TheVariants.{Add, Sub, Mul}
+use Rattle.py_operator.specs.declared.operator.CmpOp.TheVariants.{Gt}
 use Rattle.py_syntax.specs.declared.expr.Comparison.TheVariants.{Op}
 use Rattle.py_syntax.specs.Tree as T
 use Rattle.py_syntax.specs.Tree.{Stmts}

@@ -5,7 +5,7 @@
 --     augment                         `place op= e`
 use Rattle.std.specs.Prelude.{ℕ, suc, List, [], ◌∷◌, Err}
 use Rattle.py_value.specs.declared.cause.Cause.TheVariants.{NotSubscriptable}
-use Rattle.py_value.specs.declared.operator.BinOp.{BinOp}
+use Rattle.py_operator.specs.declared.operator.BinOp.{BinOp}
 use Rattle.py_value.specs.Causes.{raised_by}
 use Rattle.py_value.specs.Operators.{in_place_of, index_of}
 use Rattle.py_value.specs.Plain.{PlainValue}

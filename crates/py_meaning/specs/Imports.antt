@@ -1,7 +1,7 @@
 -- What imports do (Python Language Reference, 5, "The import system", and 7.11).
 use Rattle.std.specs.Prelude.{ℕ, if◌then◌else◌, List, [], ◌∷◌, Option, Some, None, Err, codes}
 use Rattle.py_value.specs.declared.value.ModId.TheVariants.{Loaded, Sys}
-use Rattle.py_value.specs.Keys.{is_same_text}
+use Rattle.py_text.specs.Comparison.{is_same_text}
 use Rattle.py_value.specs.Plain.{PlainValue, module_value}
 use Rattle.py_syntax.specs.Names.{alias_name}
 use Rattle.py_syntax.specs.Tree.{Text, Alias}

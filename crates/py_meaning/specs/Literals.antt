@@ -1,8 +1,8 @@
 -- Values by the words of a text: neighbouring strings and signs (Python Language Reference, 2.4.2
 -- and 6.6).
 use Rattle.std.specs.Prelude.{List, [], ◌∷◌, ◌++◌, pos, Result}
-use Rattle.py_value.specs.declared.operator.BinOp.{BinOp}
-use Rattle.py_value.specs.declared.operator.BinOp.TheVariants.{Add, Sub}
+use Rattle.py_operator.specs.declared.operator.BinOp.{BinOp}
+use Rattle.py_operator.specs.declared.operator.BinOp.TheVariants.{Add, Sub}
 use Rattle.py_value.specs.Operators.{binary_of}
 use Rattle.py_value.specs.Plain.{PlainValue, int_value, PlainHeap, PlainRaised}
 use Rattle.py_syntax.specs.declared.expr.Sign.{Sign}

@@ -4,7 +4,7 @@
 --     with_imports, load_from    the modules that they load
 --     Program, loaded            a program, and its modules
 use Rattle.std.specs.Prelude.{ℕ, zero, suc, nat_eq, Bool, true, false, ◌||◌, if◌then◌else◌, List, [], ◌∷◌, ◌++◌, length, slice_get, Option, Some, None, codes}
-use Rattle.py_value.specs.Keys.{is_same_text}
+use Rattle.py_text.specs.Comparison.{is_same_text}
 use Rattle.py_syntax.specs.Gathering.{Gathering, everything, gather, gather_kind, gather_opt, gather_arms, gather_clauses, gather_cases}
 use Rattle.py_syntax.specs.Tree.{Text, Alias, Stmts, OptSuite, Arms, Clauses, Cases, StmtKind, expr, assign, aug_assign, pass, break, continue, return, raise, assert, global, import, from, if', while, for, try, def, match}
 use Rattle.py_meaning.specs.Modules.{LoadedModule, imported_number}

@@ -6,7 +6,7 @@
 --     imported_number                   modules by names
 use Rattle.std.specs.Prelude.{ℕ, zero, suc, nat_eq, if◌then◌else◌, List, [], ◌∷◌, Option, Some, None, slice_get}
 use Rattle.cov_event.specs.declared.event.CodeId.{CodeId}
-use Rattle.py_value.specs.Keys.{is_same_text}
+use Rattle.py_text.specs.Comparison.{is_same_text}
 use Rattle.py_syntax.specs.Functions.{Function, functions}
 use Rattle.py_syntax.specs.Tree.{Text, Stmts, no_stmts}
 

@@ -4,7 +4,7 @@
 --     matched                      patterns
 --     bind_all                     the names of a match
 use Rattle.std.specs.Prelude.{ℕ, suc, Bool, true, false, List, [], ◌∷◌, ◌++◌, ℤ, neg_ℤ, Option, Some, None, Ok}
-use Rattle.py_value.specs.declared.operator.CmpOp.TheVariants.{Eq}
+use Rattle.py_operator.specs.declared.operator.CmpOp.TheVariants.{Eq}
 use Rattle.py_value.specs.Answers.{◌>>=◌}
 use Rattle.py_value.specs.Operators.{compare_of, is_none_value, is_bool_value}
 use Rattle.py_value.specs.Plain.{PlainValue, int_value, str_value, PlainHeap}

@@ -15,7 +15,7 @@ use crate::expr_steps::begin_in;
 use crate::expr_turns::{Progress, Turn};
 use py_parse_fields::operators::Precedence;
 use py_parse_fields::token_classes::Symbol;
-use py_value::NoMemory;
+use py_text::NoMemory;
 use std::alloc::Global;
 
 /// A tree is made that may be called, indexed or asked for a name.

@@ -14,10 +14,11 @@ use crate::expr_nodes::{Chain, Measured};
 use crate::expr_stack::{Frame, Stack};
 use crate::expr_steps::give;
 use crate::expr_turns::{FrameStep, Progress, Turn};
+use py_operator::CmpOp;
 use py_parse_fields::operators::Precedence;
 use py_parse_fields::token_classes::Symbol;
 use py_syntax::{Comparison, Expr};
-use py_value::{CmpOp, NoMemory};
+use py_text::NoMemory;
 use std::alloc::Global;
 
 pub fn after_not(stack: &mut Stack, chain: Chain, class: TokenClass) -> Result<Turn, NoMemory>

@@ -8,10 +8,11 @@ ghost use Rattle.py_grammar.specs.Machine.{class};
 ghost use Rattle.py_parse_expr.specs.ExprViews.{view_class, word_class, mark_class, plain_class};
 
 use crate::expr_nodes::Fields;
+use py_operator::CmpOp;
 use py_parse_fields::operators::BinaryOperator;
 use py_parse_fields::token_classes::{Symbol, mark_symbol};
+use py_text::{NoMemory, Text};
 use py_token::{Keyword, Mark, TokenKind};
-use py_value::{CmpOp, NoMemory, Text};
 
 /// What a token is to an expression. Each string and each name is a copy.
 #[derive(Drop)]

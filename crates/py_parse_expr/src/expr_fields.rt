@@ -19,8 +19,8 @@ use py_parse_fields::is_spelled;
 use py_parse_fields::operators::Precedence;
 use py_parse_fields::token_classes::Symbol;
 use py_syntax::FormatPart;
+use py_text::NoMemory;
 use py_token::{Piece, Token, TokenKind};
-use py_value::NoMemory;
 use std::alloc::Global;
 
 /// Why the fields of an f-string have no trees within the limit.

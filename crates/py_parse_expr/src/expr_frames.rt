@@ -15,10 +15,11 @@ use crate::expr_nodes::{
 };
 use crate::expr_stack::Frame;
 use crate::expr_turns::{FrameStep, Progress};
+use py_operator::CmpOp;
 use py_parse_fields::operators::{BinaryOperator, Precedence};
 use py_parse_fields::token_classes::Symbol;
 use py_syntax::Comparison;
-use py_value::{CmpOp, NoMemory};
+use py_text::NoMemory;
 use std::alloc::Global;
 
 /// A tree is made for the next frame.

@@ -9,7 +9,7 @@ use crate::expr_classes::TokenClass;
 use crate::expr_nodes::{Opener, Row, bound_height, higher, over};
 use crate::expr_stack::{HeightBudget, Stack};
 use crate::expr_turns::{Progress, Turn};
-use py_value::NoMemory;
+use py_text::NoMemory;
 use std::alloc::Global;
 
 /// Whether the bracket of a call or a list is within the budget where it is closed at once.

@@ -12,7 +12,7 @@ ghost use Rattle.py_parse_expr.specs.ExprViews.{view_measured, view_row, view_en
 
 use py_parse_fields::operators::BinaryOperator;
 use py_syntax::{Comparison, Expr, FormatPart, Fragment, HEIGHT_LIMIT, Link, Pair, Sign};
-use py_value::{NoMemory, Text};
+use py_text::{NoMemory, Text};
 use std::alloc::Global;
 
 /// The greatest height that is told from greater ones.

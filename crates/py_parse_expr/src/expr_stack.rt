@@ -18,9 +18,10 @@ use crate::expr_nodes::{
     Chain, Entries, Measured, Opener, Row, both, bound_height, conditional, higher, negation, unary,
 };
 use crate::expr_turns::FrameStep;
+use py_operator::CmpOp;
 use py_parse_fields::operators::{BinaryOperator, Precedence};
 use py_syntax::Sign;
-use py_value::{CmpOp, NoMemory};
+use py_text::NoMemory;
 use std::alloc::Global;
 
 /// What the whole is to be: any list of expressions, one expression, or the target of a `for`, of

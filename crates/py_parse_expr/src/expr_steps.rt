@@ -15,10 +15,11 @@ use crate::expr_frames::is_comma;
 use crate::expr_nodes::{Measured, Opener, Row, Strings, attribute, tuple};
 use crate::expr_stack::{Frame, Goal, Stack};
 use crate::expr_turns::{FrameStep, Progress, Turn};
+use py_operator::BinOp;
 use py_parse_fields::operators::{BinaryOperator, Precedence};
 use py_parse_fields::token_classes::Symbol;
 use py_syntax::{Expr, Sign};
-use py_value::{BinOp, NoMemory};
+use py_text::NoMemory;
 use std::alloc::Global;
 
 /// The outermost expression is whole, and is to be the target of a `for`, or its first item.

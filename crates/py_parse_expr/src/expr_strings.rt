@@ -9,7 +9,7 @@ ghost use Rattle.py_parse_expr.specs.ExprViews.{capped, plains, view_fields, Are
 
 use crate::expr_nodes::{Fields, Measured, Strings, higher, over};
 use py_syntax::{Expr, Fragment};
-use py_value::{NoMemory, Text};
+use py_text::{NoMemory, Text};
 use std::alloc::Global;
 
 /// Plain strings as fragments.

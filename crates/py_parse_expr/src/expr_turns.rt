@@ -11,7 +11,7 @@ use crate::expr_nodes::{Chain, Entries, Measured, Opener, Row, Strings};
 use crate::expr_stack::{Frame, Stack};
 use crate::expr_steps::{after_comma, after_dot, after_target, begin, have, in_strings};
 use py_parse_fields::operators::Precedence;
-use py_value::NoMemory;
+use py_text::NoMemory;
 use std::alloc::Global;
 
 /// What of an expression stands after what the stack holds.

@@ -9,8 +9,8 @@ ghost use Rattle.py_parse_fields.specs.Order.{plain_pieces, WaitsFor, AsksField,
 use crate::operators::Precedence;
 use crate::reader::{Progress, Reader, Turn, act};
 use crate::token_classes::{Symbol, TokenClass, mark_symbol, word_class};
+use py_text::NoMemory;
 use py_token::{Piece, Token, TokenKind};
-use py_value::NoMemory;
 use std::alloc::Global;
 
 fn is_left(turn: Turn) -> bool

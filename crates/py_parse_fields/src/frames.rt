@@ -5,8 +5,9 @@ ghost use Rattle.py_grammar.specs.Machine.{on, upto_term, upto_and};
 ghost use Rattle.py_parse_fields.specs.Frames.{view_precedence, view_frame, Opens, Pops};
 
 use crate::operators::{BinaryOperator, Precedence};
+use py_operator::CmpOp;
 use py_syntax::Sign;
-use py_value::{CmpOp, NoMemory};
+use py_text::NoMemory;
 
 /// What opened a bracket that holds items.
 #[derive(Clone, Copy)]

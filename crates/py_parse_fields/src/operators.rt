@@ -6,7 +6,7 @@ ghost use Rattle.py_grammar.specs.TokenClasses.{operator_precedence, operator_ri
 ghost use Rattle.py_grammar.specs.Machine.{at_most, same_precedence};
 ghost use Rattle.py_parse_fields.specs.Frames.{view_operator, view_precedence};
 
-use py_value::BinOp;
+use py_operator::BinOp;
 
 /// The precedences of the grammar, from the loosest.
 #[derive(Clone, Copy)]

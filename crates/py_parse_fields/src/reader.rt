@@ -12,8 +12,9 @@ use crate::frames::{Frame, Opener, pop, push, raise_to_not, raise_to_unary};
 use crate::operators::{BinaryOperator, Precedence};
 use crate::replies::{Reply, closes, offer};
 use crate::token_classes::{Symbol, TokenClass};
+use py_operator::{BinOp, CmpOp};
 use py_syntax::Sign;
-use py_value::{BinOp, CmpOp, NoMemory};
+use py_text::NoMemory;
 
 /// What stands in front of the next token.
 #[derive(Clone, Copy)]

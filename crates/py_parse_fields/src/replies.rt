@@ -14,7 +14,7 @@ use crate::frames::{Frame, Opener};
 use crate::operators::Precedence;
 use crate::reader::Progress;
 use crate::token_classes::{Symbol, TokenClass};
-use py_value::CmpOp;
+use py_operator::CmpOp;
 
 /// What a frame does with a token after the part that it waits for.
 #[derive(Clone, Copy)]

@@ -7,8 +7,8 @@ ghost use Rattle.py_grammar.specs.Machine.{class};
 ghost use Rattle.py_parse_fields.specs.Frames.{bare_class, view_symbol, view_class};
 
 use crate::operators::BinaryOperator;
+use py_operator::{BinOp, CmpOp};
 use py_token::{Keyword, Mark};
-use py_value::{BinOp, CmpOp};
 
 /// The class of a token that is no expression by itself and holds no text. The classes of each
 /// reader are these, and its own for the tokens that are expressions.

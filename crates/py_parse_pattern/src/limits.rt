@@ -13,8 +13,8 @@ use crate::nodes::higher;
 use crate::reader::{Progress, Reader, Row, Turn, levels};
 use crate::token_classes::class_of;
 use py_syntax::HEIGHT_LIMIT;
+use py_text::NoMemory;
 use py_token::TokenKind;
-use py_value::NoMemory;
 use std::alloc::Global;
 
 /// The height of what is open in a row without a closed pattern.

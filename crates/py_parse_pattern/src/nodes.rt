@@ -8,7 +8,7 @@ ghost use Rattle.py_parse_pattern.specs.Views.{view_measured, IsMeasured, view_m
 
 use crate::token_classes::Bracket;
 use py_syntax::{Brackets, Pattern};
-use py_value::{NoMemory, Text};
+use py_text::{NoMemory, Text};
 use std::alloc::Global;
 
 /// A pattern and its height.

@@ -15,7 +15,7 @@ use crate::nodes::{
 };
 use crate::token_classes::{Bracket, TokenClass, same_bracket};
 use py_syntax::{Constant, Pattern};
-use py_value::{NoMemory, Text};
+use py_text::{NoMemory, Text};
 use std::alloc::Global;
 
 /// A row of patterns: the items with a comma after them, the alternatives of the next one, each

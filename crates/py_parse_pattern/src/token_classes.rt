@@ -6,8 +6,8 @@ ghost use Rattle.py_syntax.specs.Kinds.{bare_kind};
 ghost use Rattle.py_parse_pattern.specs.Machine.{class, same_bracket};
 ghost use Rattle.py_parse_pattern.specs.Views.{view_class, mark_class, word_class};
 
+use py_text::{NoMemory, Text};
 use py_token::{Keyword, Mark, TokenKind};
-use py_value::{NoMemory, Text};
 
 /// A pair of brackets round patterns.
 #[derive(Clone, Copy, PartialEq, Eq)]

@@ -1,7 +1,7 @@
 -- The plain views of statements and their parts, form by form.
 use Rattle.std.proofs.Common.{◌≡◌, ℕ, List, ◌∷◌, Bool, Option, Some, None, Vec, Global}
 use Rattle.std.specs.Option.{option_map}
-use Rattle.py_value.specs.declared.operator.BinOp.{BinOp}
+use Rattle.py_operator.specs.declared.operator.BinOp.{BinOp}
 use Rattle.py_syntax.specs.declared.expr.Expr.{Expr as Node}
 use Rattle.py_syntax.specs.declared.stmt.Alias.{Alias}
 use Rattle.py_syntax.specs.declared.stmt.Arm.{Arm, out-Arm}

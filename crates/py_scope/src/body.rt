@@ -7,7 +7,7 @@ ghost use Rattle.py_scope.specs.Seen.{after, after_one, starting};
 use crate::error::ScopeError;
 use crate::names::NameSet;
 use crate::occurrence::Occurrence;
-use py_value::{NoMemory, Text};
+use py_text::{NoMemory, Text};
 use std::alloc::Global;
 use std::marker::Model;
 

@@ -12,7 +12,7 @@ use crate::place::Place;
 use crate::report::Report;
 use crate::scopes::Scopes;
 use py_syntax::Module;
-use py_value::NoMemory;
+use py_text::NoMemory;
 use std::alloc::Global;
 
 /// The names of the module's functions, where it is well formed, and else its first fault: that of

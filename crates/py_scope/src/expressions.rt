@@ -10,7 +10,7 @@ ghost use Rattle.std.specs.Option.{option_map};
 
 use crate::occurrence::{Occurrence, push_use};
 use py_syntax::{Expr, FormatPart, Fragment, Link, Pair};
-use py_value::NoMemory;
+use py_text::NoMemory;
 
 #[cycle(expr)]
 pub(crate) fn expr(out: &mut Vec<Occurrence>, e: &Expr) -> Result<(), NoMemory>

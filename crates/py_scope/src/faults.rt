@@ -14,7 +14,7 @@ use crate::patterns::{PatternFacts, pattern_facts, push_names};
 use crate::place::Place;
 use crate::report::Report;
 use py_syntax::{Arm, Case, Clause, Pattern, Stmt, StmtKind, Suite};
-use py_value::{NoMemory, Text};
+use py_text::{NoMemory, Text};
 use std::alloc::Global;
 
 /// Finds what there is in these statements.

@@ -4,7 +4,7 @@ ghost use Rattle.std.specs.Prelude.{◌≡◌, [], ◌∷◌, ◌++◌, OnOk};
 ghost use Rattle.py_scope.specs.declared.occurrence.Occurrence.TheVariants.{Uses, Assigns};
 ghost use Rattle.py_scope.specs.declared.occurrence.Occurrence.TheVariants.{Declares};
 
-use py_value::{NoMemory, Text};
+use py_text::{NoMemory, Text};
 
 /// An occurrence of a name in a body, as the definitions of the faults speak of it.
 #[derive(Drop)]

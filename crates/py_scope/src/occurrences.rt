@@ -13,7 +13,7 @@ ghost use Rattle.py_scope.specs.Parts.{in_assignment, in_augmented, in_assertion
 use crate::expressions::{expr, exprs, option};
 use crate::occurrence::{Occurrence, push_assigned, push_declared, push_use};
 use py_syntax::{Alias, Arm, Case, Clause, Expr, Pattern, Stmt, StmtKind, Suite};
-use py_value::{NoMemory, Text};
+use py_text::{NoMemory, Text};
 
 #[cycle(target)]
 fn target(out: &mut Vec<Occurrence>, e: &Expr) -> Result<(), NoMemory>

@@ -7,7 +7,7 @@ ghost use Rattle.py_syntax.specs.Tree.{p_or};
 ghost use Rattle.py_scope.specs.PatternFacts.{facts_of, simple_facts, items_facts, either};
 
 use py_syntax::Pattern;
-use py_value::{NoMemory, Text};
+use py_text::{NoMemory, Text};
 
 /// What is told of a pattern at one look.
 #[derive(Clone, Copy, Drop)]

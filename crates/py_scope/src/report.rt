@@ -11,7 +11,7 @@ use crate::error::ScopeError;
 use crate::occurrences::statements;
 use crate::scopes::FunctionNames;
 use py_syntax::Stmt;
-use py_value::{NoMemory, Text};
+use py_text::{NoMemory, Text};
 use std::alloc::Global;
 use std::marker::Model;
 

@@ -8,7 +8,7 @@ ghost use Rattle.py_scope.specs.Faults.{names_of};
 ghost use Rattle.py_scope.specs.Scopes.{is_local, is_global, own_names};
 
 use crate::names::NameSet;
-use py_value::{NoMemory, Text};
+use py_text::{NoMemory, Text};
 use std::alloc::Global;
 use std::marker::Model;
 

@@ -1,7 +1,7 @@
 -- Expressions, calls, assignments and imports mark and throw nothing of their own.
 use Rattle.std.proofs.Common.{ℕ, List, [], ◌∷◌, Option, Some, None}
 use Rattle.py_value.specs.declared.builtin.Builtin.{Builtin}
-use Rattle.py_value.specs.declared.operator.BinOp.{BinOp}
+use Rattle.py_operator.specs.declared.operator.BinOp.{BinOp}
 use Rattle.py_value.specs.declared.value.FuncId.{FuncId}
 use Rattle.py_value.specs.Plain.{PlainValue, func_value, kind_value, builtin_value}
 use Rattle.py_syntax.specs.Tree.{Text, Alias, Expr, name, int, str, fstr, none, bool, tuple, list, dict, paren, not', and, or, unary, binary, compare, cond as cond', call, index, slice, attr, Exprs, no_exprs, exprs, Pairs, no_pairs, pair, Links, no_links, link, OptExpr, absent, present, Fragments, no_fragments, plain, format, Parts, no_parts, text, field}

@@ -21,8 +21,8 @@
 -- takes no further suite.
 use Rattle.std.specs.Prelude.{ℕ, Bool, true, false, cond, List, [], ◌∷◌, ◌++◌, Option, Some, None}
 use Rattle.std.specs.Prelude.{bytes_eq}
-use Rattle.py_value.specs.declared.operator.BinOp.{BinOp}
-use Rattle.py_value.specs.declared.operator.BinOp.TheVariants as op_
+use Rattle.py_operator.specs.declared.operator.BinOp.{BinOp}
+use Rattle.py_operator.specs.declared.operator.BinOp.TheVariants as op_
 use Rattle.py_token.specs.declared.token.Keyword.TheVariants as word
 use Rattle.py_token.specs.declared.token.Mark.TheVariants as mark
 use Rattle.py_syntax.specs.Tree.{Text, Expr, Exprs, no_exprs, exprs, Pattern}

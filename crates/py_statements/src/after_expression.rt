@@ -21,9 +21,10 @@ use crate::statement_end::{end_header, end_made};
 use crate::suite_of::{PartialMatch, PartialTry, Signature, SuiteOf};
 use crate::suite_stack::{Span, SuiteStack};
 use crate::targets::{is_place, is_target};
+use py_operator::BinOp;
 use py_syntax::{Expr, Pattern, StmtKind};
+use py_text::{NoMemory, Text};
 use py_token::{Keyword, Mark, Token, TokenKind};
-use py_value::{BinOp, NoMemory, Text};
 use std::alloc::Global;
 
 fn in_place_op(token: &Token) -> Option<BinOp>

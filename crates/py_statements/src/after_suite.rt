@@ -18,8 +18,8 @@ use crate::places::Place;
 use crate::purposes::Continuation;
 use crate::suite_of::{ElseOf, PartialTry, SuiteOf};
 use py_syntax::{Arm, Expr, StmtKind, Suite};
+use py_text::NoMemory;
 use py_token::{Keyword, Token, TokenKind};
-use py_value::NoMemory;
 use std::alloc::Global;
 
 /// What a token is to a compound statement: a further part begins with it, or the statement is

@@ -22,8 +22,8 @@ use crate::statement_start::begin_simple;
 use crate::suite_of::{PartialMatch, PartialTry, Signature, SuiteOf};
 use crate::suite_stack::{Span, SuiteStack};
 use py_syntax::{Expr, LineEnd, StmtKind};
+use py_text::{NoMemory, Text};
 use py_token::{Keyword, Mark, Token, TokenKind};
-use py_value::{NoMemory, Text};
 use std::alloc::Global;
 
 /// To the state, where there is one.

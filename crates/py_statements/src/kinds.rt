@@ -8,8 +8,9 @@ ghost use Rattle.py_statements.specs.ViewSuiteOf.{boxed_expr, boxed_kind, of_mat
 
 use crate::lists::has_exprs;
 use crate::suite_of::{PartialMatch, SuiteOf};
+use py_operator::BinOp;
 use py_syntax::{Expr, StmtKind};
-use py_value::{BinOp, NoMemory};
+use py_text::NoMemory;
 use std::alloc::Global;
 
 /// A kind of statement in a box.

@@ -11,8 +11,8 @@ ghost use Rattle.py_statements.specs.ViewStates.{kind_at};
 
 use crate::match_headers::is_case_name;
 use py_syntax::{Arm, Case, Clause, Expr};
+use py_text::{NoMemory, Text};
 use py_token::{Mark, Token, TokenKind};
-use py_value::{NoMemory, Text};
 
 pub fn has_exprs(exprs: &[Expr]) -> bool
     ensures { result ≡ some_exprs (plain_exprs exprs.now) }

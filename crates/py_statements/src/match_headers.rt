@@ -10,8 +10,8 @@ ghost use Rattle.py_syntax.specs.Statements.{case_name};
 ghost use Rattle.py_statements.specs.ViewMarks.{kinds_of, begins_from, header_at};
 
 use crate::lists::{Class, is_a};
+use py_text::Text;
 use py_token::{Token, TokenKind};
-use py_value::Text;
 
 /// Whether a name is `case`.
 pub fn is_case_name(name: &Text) -> bool

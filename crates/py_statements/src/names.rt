@@ -9,8 +9,8 @@ use crate::lists::{Class, is_a};
 use crate::places::{Listed, Place, State};
 use crate::statement_end::end_made;
 use crate::suite_stack::{Span, SuiteStack};
+use py_text::NoMemory;
 use py_token::Token;
-use py_value::NoMemory;
 use std::alloc::Global;
 
 pub fn may_bind(names: &Listed) -> bool

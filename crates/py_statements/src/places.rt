@@ -23,8 +23,8 @@ use crate::steps::{after, choose, put};
 use crate::suite_of::{PartialMatch, PartialTry, Signature, SuiteOf};
 use crate::suite_stack::{Span, SuiteStack};
 use py_syntax::{Alias, Expr, Stmt, StmtKind};
+use py_text::{NoMemory, Text};
 use py_token::Token;
-use py_value::{NoMemory, Text};
 use std::alloc::Global;
 
 /// What names are listed for.

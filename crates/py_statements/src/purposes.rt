@@ -16,9 +16,10 @@ use crate::places::State;
 use crate::statement_end::end_made;
 use crate::suite_of::{PartialMatch, PartialTry, Signature, SuiteOf};
 use crate::suite_stack::{Span, SuiteStack};
+use py_operator::BinOp;
 use py_syntax::{Arm, Expr, Pattern};
+use py_text::{NoMemory, Text};
 use py_token::Token;
-use py_value::{BinOp, NoMemory, Text};
 use std::alloc::Global;
 
 /// What an expression is for, with the parts of its statement in front of it.

@@ -12,8 +12,8 @@ use crate::places::{Place, State};
 use crate::suite_of::SuiteOf;
 use crate::suite_stack::{Span, SuiteStack};
 use py_syntax::{LineEnd, StmtKind};
+use py_text::NoMemory;
 use py_token::{Mark, Token, TokenKind};
-use py_value::NoMemory;
 use std::alloc::Global;
 
 /// A line ends, and a suite that shares it.

@@ -14,8 +14,8 @@ use crate::purposes::Continuation;
 use crate::suite_of::SuiteOf;
 use crate::suite_stack::{Span, SuiteStack};
 use py_syntax::StmtKind;
+use py_text::NoMemory;
 use py_token::{Keyword, Token, TokenKind};
-use py_value::NoMemory;
 use std::alloc::Global;
 
 /// The lines of a statement that begins with the token.

@@ -17,8 +17,8 @@ use crate::statement_start::{begun_at, line};
 use crate::suite_of::PartialMatch;
 use crate::suite_stack::{Span, SuiteStack};
 use py_syntax::{LineEnd, StmtKind};
+use py_text::NoMemory;
 use py_token::Token;
-use py_value::NoMemory;
 use std::alloc::Global;
 
 /// Nothing is read.

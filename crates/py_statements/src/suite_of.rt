@@ -20,7 +20,7 @@ use crate::kinds::{boxed, unboxed};
 use crate::places::State;
 use crate::suite_stack::SuiteStack;
 use py_syntax::{Arm, Case, Clause, Expr, Pattern, StmtKind, Suite};
-use py_value::{NoMemory, Text};
+use py_text::{NoMemory, Text};
 use std::alloc::Global;
 
 /// A `match` statement with its cases so far.

@@ -12,7 +12,7 @@ ghost use Rattle.py_statements.specs.ViewStates.{SharesLine, is_closable, is_top
 use crate::places::State;
 use crate::suite_of::SuiteOf;
 use py_syntax::{LineEnd, Stmt, StmtKind, Suite};
-use py_value::NoMemory;
+use py_text::NoMemory;
 use std::alloc::Global;
 
 /// The first lines of a statement and of the part of it that is read, and the last line of that

@@ -1,9 +1,9 @@
 -- The names that are set, as numbers list them.
 use Rattle.std.proofs.Common.{◌≡◌, ℕ, ◌<◌, List, [], ◌∷◌, ◌++◌, length, Some, None, false, refl, sym, ap, ◌∙◌, arith}
 use Rattle.std.specs.Prelude.{Option, slice_get, slice_set}
-use Rattle.py_value.specs.Keys.{is_same_text}
+use Rattle.py_text.specs.Comparison.{is_same_text}
 use Rattle.py_value.specs.Plain.{PlainValue}
-use Rattle.py_value.proofs.KeyLaws.{text_is_same}
+use Rattle.py_text.proofs.SameTexts.{text_is_same}
 use Rattle.py_builtins.specs.World.{Names, value_of, with_name, without_name}
 use Rattle.py_store.specs.Numbered.{Named, Numbered, set_then, named_then, listed, times}
 use Rattle.py_store.proofs.Places.{got_set, got_other}

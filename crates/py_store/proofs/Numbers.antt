@@ -1,7 +1,7 @@
 -- Modules by their names.
 use Rattle.std.proofs.Common.{◌≡◌, ℕ, suc, List, [], ◌∷◌, map, drop, Some, None, true, false, refl, ap}
 use Rattle.std.specs.Prelude.{if◌then◌else◌}
-use Rattle.py_value.specs.Keys.{is_same_text}
+use Rattle.py_text.specs.Comparison.{is_same_text}
 use Rattle.py_code.specs.declared.code.Program.{Program}
 use Rattle.py_code.specs.Loaded.{module_of}
 use Rattle.py_code.specs.Units.{Module, number_from, imported_number}

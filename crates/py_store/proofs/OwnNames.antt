@@ -3,9 +3,9 @@ use Rattle.std.proofs.Common.{◌≡◌, ℕ, zero, suc, ◌≤◌, List, [], �
 use Rattle.std.specs.Prelude.{Option, slice_get}
 use Rattle.std.specs.Option.{option_map}
 use Rattle.std.proofs.lemmas.Option.{slice_get-map, same_Some}
-use Rattle.py_value.specs.Keys.{is_same_text}
+use Rattle.py_text.specs.Comparison.{is_same_text}
 use Rattle.py_value.specs.Plain.{PlainValue}
-use Rattle.py_value.proofs.KeyLaws.{same_text, same_text_from}
+use Rattle.py_text.proofs.SameTexts.{same_text, same_text_from}
 use Rattle.py_store.specs.Numbered.{Named, Numbered, name_of, times_set, times_named, HaveOwnNames, HasNoNumber, AreListed, unset}
 use Rattle.py_store.proofs.Listed.{IsOther}
 use Rattle.py_store.proofs.Times.{times_none}

@@ -11,8 +11,8 @@ use Rattle.py_value.specs.declared.builtin.Method.{Method}
 use Rattle.py_value.specs.declared.builtin.Method.TheVariants.{Append, Pop, Get, Keys, StartsWith, Join, Split}
 use Rattle.py_value.specs.declared.exception.ExcKind.{ExcKind}
 use Rattle.py_value.specs.declared.exception.ExcKind.TheVariants.{BaseException, SystemExit, Exception, ArithmeticError, ZeroDivisionError, OverflowError, AssertionError, AttributeError, EOFError, ImportError, ModuleNotFoundError, LookupError, IndexError, KeyError, MemoryError, NameError, UnboundLocalError, RuntimeError, RecursionError, TypeError, ValueError}
-use Rattle.py_value.specs.Keys.{is_same_text}
-use Rattle.py_value.proofs.KeyLaws.{same_answer, same_text, same_text_from}
+use Rattle.py_text.specs.Comparison.{is_same_text}
+use Rattle.py_text.proofs.SameTexts.{same_answer, same_text, same_text_from}
 use Rattle.py_builtins.specs.Displays.{builtin_name, kind_name}
 use Rattle.py_builtins.specs.Methods.{method_name}
 

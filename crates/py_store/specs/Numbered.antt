@@ -7,7 +7,7 @@
 --     HasNoNumber            a name that has no number
 --     plain_global, names_in names in memory
 use Rattle.std.specs.Prelude.{◌≡◌, ℕ, ◌+◌, nat_eq, true, false, if◌then◌else◌, List, [], ◌∷◌, map, slice_get, Option, Some, None}
-use Rattle.py_value.specs.Keys.{is_same_text}
+use Rattle.py_text.specs.Comparison.{is_same_text}
 use Rattle.py_value.specs.Plain.{PlainValue}
 use Rattle.py_builtins.specs.World.{Names}
 use Rattle.py_store.specs.declared.globals.Global.{Global}

@@ -1,6 +1,6 @@
 // Names after dots: of modules, and methods of values.
 ghost use Rattle.std.specs.Prelude.{◌≡◌, IfOk};
-ghost use Rattle.py_value.specs.Keys.{is_same_text};
+ghost use Rattle.py_text.specs.Comparison.{is_same_text};
 ghost use Rattle.py_value.specs.View.{plain, plain_value_answer};
 ghost use Rattle.py_builtins.specs.Attributes.{attribute, method_among, method_named};
 ghost use Rattle.py_builtins.specs.Callees.{callee_of, taken};

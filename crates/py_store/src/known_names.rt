@@ -1,6 +1,6 @@
 // Names that are predefined: they are found where a module sets none of that name.
 ghost use Rattle.std.specs.Prelude.{◌≡◌, ◌++◌, map, Some, None, MatchOption};
-ghost use Rattle.py_value.specs.Keys.{is_same_text};
+ghost use Rattle.py_text.specs.Comparison.{is_same_text};
 ghost use Rattle.py_value.specs.Plain.{builtin_value, kind_value};
 ghost use Rattle.py_builtins.specs.Displays.{builtin_name, kind_name};
 ghost use Rattle.py_value.specs.View.{plain};

@@ -1,6 +1,6 @@
 // Names, and what is predefined under them.
 ghost use Rattle.std.specs.Prelude.{◌≡◌, None, Some, IfOk, MatchOption};
-ghost use Rattle.py_value.specs.Keys.{is_same_text};
+ghost use Rattle.py_text.specs.Comparison.{is_same_text};
 ghost use Rattle.py_value.specs.View.{plain};
 ghost use Rattle.py_builtins.specs.Predefined.{predefined};
 ghost use Rattle.py_builtins.specs.World.{value_of};

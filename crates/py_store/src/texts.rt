@@ -1,7 +1,7 @@
 // Names written in the code.
 ghost use Rattle.std.specs.Prelude.{◌≡◌, codes};
 ghost use Rattle.std.specs.Str.{chars};
-ghost use Rattle.py_value.specs.Keys.{is_same_text};
+ghost use Rattle.py_text.specs.Comparison.{is_same_text};
 
 use py_value::Text;
 

@@ -1,7 +1,7 @@
 -- Prediction, computed: tests, functions, suites without a mark and suites on the line of their header.
 use Rattle.std.proofs.Common.{◌≡◌, true, false, Some, None, pos, [], ◌∷◌, refl}
 use Rattle.std.specs.Prelude.{codes}
-use Rattle.py_value.specs.declared.operator.BinOp.TheVariants.{Add}
+use Rattle.py_operator.specs.declared.operator.BinOp.TheVariants.{Add}
 use Rattle.py_syntax.specs.Marks.{statement_lines}
 use Rattle.py_syntax.specs.Prediction.{outside, predicted, possible}
 use Rattle.py_syntax.specs.Tree as T

@@ -1,7 +1,7 @@
 -- Prediction, computed: the worked examples.
 use Rattle.std.proofs.Common.{◌≡◌, true, false, Some, None, pos, [], ◌∷◌, refl}
 use Rattle.std.specs.Prelude.{codes}
-use Rattle.py_value.specs.declared.operator.BinOp.TheVariants.{Sub, Floor}
+use Rattle.py_operator.specs.declared.operator.BinOp.TheVariants.{Sub, Floor}
 use Rattle.py_syntax.specs.declared.pattern.Brackets.TheVariants.{Square}
 use Rattle.py_syntax.specs.Marks.{statement_lines}
 use Rattle.py_syntax.specs.Prediction.{outside, predicted, possible}

@@ -8,7 +8,7 @@
 --     Stmts, StmtKind                            statements, with Suite, OptSuite, Arms, Clauses
 --                                                and Cases for what stands in them
 use Rattle.std.specs.Prelude.{ℕ, ℤ, Bool, List, Option}
-use Rattle.py_value.specs.declared.operator.BinOp.{BinOp}
+use Rattle.py_operator.specs.declared.operator.BinOp.{BinOp}
 use Rattle.py_syntax.specs.declared.expr.Comparison.{Comparison}
 use Rattle.py_syntax.specs.declared.expr.Sign.{Sign}
 use Rattle.py_syntax.specs.declared.pattern.Brackets.{Brackets}

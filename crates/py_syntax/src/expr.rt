@@ -1,6 +1,7 @@
 // Expressions. A target of an assignment is an expression of a narrower form.
 
-use py_value::{BinOp, CmpOp, Text};
+use py_operator::{BinOp, CmpOp};
+use py_text::Text;
 
 /// An expression, as it was written: a parenthesis is a node, and `comma` says whether a comma
 /// stands after the last item.

@@ -1,6 +1,6 @@
 // Patterns of a `case`.
 
-use py_value::Text;
+use py_text::Text;
 
 /// A pattern of a `case`.
 #[cycle(pattern)]

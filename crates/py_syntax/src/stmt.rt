@@ -2,7 +2,8 @@
 
 use crate::expr::Expr;
 use crate::pattern::Pattern;
-use py_value::{BinOp, Text};
+use py_operator::BinOp;
+use py_text::Text;
 
 /// A statement with the first line of its first token and the last line of its last one, counted
 /// from 1. The last line of a statement with a block suite is that of the line after it: nothing

@@ -15,7 +15,7 @@ use crate::fields::{FieldBody, field_tokens, is_format_prefix, limit_fault, reac
 use crate::plain::{Match, begins_quote, plain_token};
 use crate::strings::{Denoted, Opening, StringItem, after_marks, push_denoted, text_item};
 use crate::token::{Piece, TokenKind};
-use py_value::Text;
+use py_text::Text;
 use std::alloc::{AllocError, Global};
 use std::mem;
 

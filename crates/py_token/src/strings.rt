@@ -11,7 +11,7 @@ ghost use Rattle.py_token.specs.Answers.{Gives};
 use crate::characters::{after, doubled, split_first};
 use crate::error::TokenError;
 use crate::numbers::{digits_value, is_digit_of};
-use py_value::{NoMemory, Text};
+use py_text::{NoMemory, Text};
 use std::alloc::Global;
 
 /// How a string was opened, and where.

@@ -1,6 +1,6 @@
 // The tokens of a source.
 
-use py_value::Text;
+use py_text::Text;
 
 /// A token, with the first and the last line of its text. Lines count from 1.
 #[cycle(token)]

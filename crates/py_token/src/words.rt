@@ -8,7 +8,7 @@ ghost use Rattle.py_token.specs.Answers.{Gives};
 
 use crate::error::TokenError;
 use crate::token::{Keyword, TokenKind};
-use py_value::Text;
+use py_text::Text;
 use std::alloc::Global;
 
 pub fn begins_name(c: char) -> bool

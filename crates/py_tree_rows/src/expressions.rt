@@ -2,10 +2,10 @@
 // the refusal with its place.
 
 use crate::writer::Writer;
+use py_operator::{BinOp, CmpOp};
 use py_parse_expr::{ExprPart, parse_expr, read_expr};
 use py_syntax::{Comparison, Expr, FormatPart, Fragment, Sign};
 use py_token::{LINE_LIMIT, Token, count_lines, tokens};
-use py_value::{BinOp, CmpOp};
 use std::alloc::Global;
 use std::test::Fail;
 

@@ -4,8 +4,8 @@ use crate::writer::Writer;
 use py_parse::parse;
 use py_scope::{ScopeError, Scopes, check};
 use py_syntax::Module;
+use py_text::Text;
 use py_token::{LINE_LIMIT, count_lines, tokens};
-use py_value::Text;
 use std::alloc::{AllocError, Global};
 use std::test::Fail;
 

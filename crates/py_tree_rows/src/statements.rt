@@ -1,10 +1,10 @@
 // What sources are read as, row by row: the kinds of the statements, or the refusal.
 
 use crate::writer::Writer;
+use py_operator::BinOp;
 use py_parse::{SyntaxError, parse};
 use py_syntax::{Alias, Case, Clause, Module, Stmt, StmtKind, Suite};
 use py_token::{LINE_LIMIT, count_lines, tokens};
-use py_value::BinOp;
 use std::alloc::Global;
 use std::test::Fail;
 

@@ -2,7 +2,7 @@
 use Rattle.std.proofs.Common.{◌≡◌, ℕ, List, [], ◌++◌, Vec, Global, inl, inr, ◌⊎◌, refl, ap, sym, ◌∙◌}
 use Rattle.std.proofs.lemmas.List.{append-nil}
 use Rattle.std.specs.Prelude.{Option, option_map}
-use Rattle.py_value.specs.declared.operator.BinOp.{BinOp}
+use Rattle.py_operator.specs.declared.operator.BinOp.{BinOp}
 use Rattle.py_syntax.specs.declared.expr.Expr.{Expr}
 use Rattle.py_syntax.specs.declared.stmt.Alias.{Alias}
 use Rattle.py_syntax.specs.declared.stmt.StmtKind.{StmtKind as KindNode}

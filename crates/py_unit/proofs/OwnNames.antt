@@ -2,8 +2,8 @@
 use Rattle.std.proofs.Common.{◌≡◌, ℕ, ◌+◌, ◌<◌, drop, length, get_or, List, [], ◌∷◌, ◌++◌, map, filter, Bool, true, false, not, ◌||◌, if◌then◌else◌, refl, sym, ap, ◌∙◌}
 use Rattle.std.specs.Str.{bytes_eq}
 use Rattle.std.proofs.lemmas.Slice.Eq.{bytes_eq-Decides}
-use Rattle.py_value.specs.Keys.{is_same_text}
-use Rattle.py_value.proofs.KeyLaws.{same_answer, same_text, same_text_from}
+use Rattle.py_text.specs.Comparison.{is_same_text}
+use Rattle.py_text.proofs.SameTexts.{same_answer, same_text, same_text_from}
 use Rattle.py_syntax.specs.Names.{is_among, add_name, add_names, distinct, assigned_names, declared_names, local_names}
 use Rattle.py_syntax.specs.Tree.{Text, Stmts}
 use Rattle.py_compile_expr.specs.Cells.{add_new}

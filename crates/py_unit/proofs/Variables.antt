@@ -1,7 +1,7 @@
 -- Names that are a unit's own, and other ones.
 use Rattle.std.proofs.Common.{◌≡◌, ℕ, Bool, true, false, List, refl, sym, ap, ◌∙◌}
 use Rattle.std.specs.Prelude.{if◌then◌else◌}
-use Rattle.py_value.specs.Keys.{is_same_text}
+use Rattle.py_text.specs.Comparison.{is_same_text}
 use Rattle.py_syntax.specs.Names.{is_among}
 use Rattle.py_syntax.specs.Tree.{Text}
 use Rattle.py_code.specs.declared.instr.Instr.{Instr}

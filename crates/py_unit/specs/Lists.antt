@@ -4,7 +4,7 @@
 --     instrs_of                      the instructions of cells
 --     plain_heading                  what stands at the head of a function
 use Rattle.std.specs.Prelude.{if◌then◌else◌, List, map}
-use Rattle.py_value.specs.Keys.{is_same_text}
+use Rattle.py_text.specs.Comparison.{is_same_text}
 use Rattle.py_syntax.specs.Functions.{Function}
 use Rattle.py_syntax.specs.Names.{is_among}
 use Rattle.py_syntax.specs.Tree.{Text, no_stmts}

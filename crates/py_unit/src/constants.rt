@@ -8,7 +8,7 @@ use crate::keys::Key;
 use indexmap::IndexSet;
 use py_code::Constant;
 use py_compile_expr::number;
-use py_value::{NoMemory, Text};
+use py_text::{NoMemory, Text};
 use std::alloc::Global;
 use std::marker::Model;
 

@@ -10,7 +10,7 @@ ghost use Rattle.py_compile.specs.Definitions.{cases_definitions};
 ghost use Rattle.py_unit.specs.Defs.{definition_of, line_of, defined, suite_definitions};
 
 use py_syntax::{Arm, Case, Clause, Expr, Module, Stmt, StmtKind, Suite};
-use py_value::{NoMemory, Text};
+use py_text::{NoMemory, Text};
 use std::alloc::Global;
 
 /// A `def` of a text.

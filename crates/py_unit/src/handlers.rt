@@ -7,7 +7,7 @@ ghost use Rattle.py_compile.specs.Units.{is_same, closed, ranges, handlers_of};
 
 use py_code::Handler;
 use py_compile_expr::{Cell, Guard, sum};
-use py_value::NoMemory;
+use py_text::NoMemory;
 use std::alloc::Global;
 
 /// A range that isn't closed: the handler of all cells from a place on, if there is one.

@@ -5,7 +5,7 @@ ghost use Rattle.py_compile_expr.specs.Cells.{place_in, add_new};
 
 use indexmap::IndexSet;
 use py_compile_expr::number;
-use py_value::NoMemory;
+use py_text::NoMemory;
 use std::alloc::Global;
 use std::marker::Model;
 

@@ -1,13 +1,13 @@
 // Names of a unit, each once, in the order in which they came.
 
 ghost use Rattle.std.specs.Prelude.{◌≡◌, [], IfOk, OnOk};
-ghost use Rattle.py_value.specs.Keys.{is_same_text};
+ghost use Rattle.py_text.specs.Comparison.{is_same_text};
 ghost use Rattle.py_syntax.specs.Names.{is_among, distinct};
 ghost use Rattle.py_compile_expr.specs.Cells.{place_in, add_new};
 
 use indexmap::IndexSet;
 use py_compile_expr::number;
-use py_value::{NoMemory, Text};
+use py_text::{NoMemory, Text};
 use std::alloc::Global;
 use std::marker::Model;
 

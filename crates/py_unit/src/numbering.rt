@@ -10,7 +10,7 @@ use crate::lines::Lines;
 use crate::names::Names;
 use py_code::Instr;
 use py_compile_expr::{Cell, Op};
-use py_value::{NoMemory, Text};
+use py_text::{NoMemory, Text};
 use std::alloc::Global;
 
 /// The lists of a unit: its own names, and what its instructions name.

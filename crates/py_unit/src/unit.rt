@@ -14,7 +14,7 @@ use crate::names::Names;
 use crate::numbering::{Lists, numbered};
 use py_code::{Constant, Unit};
 use py_compile_expr::Cell;
-use py_value::{NoMemory, Text};
+use py_text::{NoMemory, Text};
 use std::alloc::Global;
 
 /// Of a function: its name, empty for the body of a module, its first line, its parameters, and how

@@ -9,7 +9,7 @@ use crate::functions::Def;
 use crate::unit::{Heading, unit_of};
 use py_code::Unit;
 use py_compile_expr::{Cell, count};
-use py_value::{NoMemory, Text};
+use py_text::{NoMemory, Text};
 use std::alloc::Global;
 
 /// The unit of the body of a module, which has these cells.

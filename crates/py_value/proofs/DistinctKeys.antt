@@ -11,7 +11,7 @@ use Rattle.py_value.specs.Heaps.{is_list_object, pairs_of, values_of, length_of}
 use Rattle.py_value.specs.View.{plain}
 use Rattle.py_value.specs.Pairs.{plain_pair}
 use Rattle.py_value.specs.Keys.{is_same_key, place_of_key, value_at, with_value, has_none_same, has_distinct_keys}
-use Rattle.py_value.proofs.TestLaws.{both_true, first_true, second_true, not_true}
+use Rattle.py_text.proofs.TestLaws.{both_true, first_true, second_true, not_true}
 
 -- where a key was looked for: here, or after
 here : (b : Bool) (o : Option ℕ) → cond b (Some 0) (option_map (λ i. suc i) o) ≡ None → (b ≡ false) × (o ≡ None)

@@ -18,8 +18,8 @@ use Rattle.py_value.proofs.DistinctKeys.{revalued}
 use Rattle.py_value.specs.Plain.{PlainValue, none_value, int_value, str_value, tuple_value, PlainValues, no_values, value_then}
 use Rattle.py_value.specs.Keys.{is_same_key, are_same_keys, place_of_key, has_none_same, has_distinct_keys}
 use Rattle.py_value.specs.Hashes.{hash_of, is_among, named, with_place, IsIndex, has_key, first_with}
-use Rattle.py_value.proofs.KeyLaws.{same_text}
-use Rattle.py_value.proofs.TestLaws.{first_true, second_true}
+use Rattle.py_text.proofs.SameTexts.{same_text}
+use Rattle.py_text.proofs.TestLaws.{first_true, second_true}
 
 -- the same keys are equal
 mutual

@@ -1,7 +1,7 @@
 -- What isn't changed where it stands.
 use Rattle.std.proofs.Common.{◌≡◌, refl}
-use Rattle.py_value.specs.declared.operator.BinOp.{BinOp}
-use Rattle.py_value.specs.declared.operator.BinOp.TheVariants.{Add, Mul}
+use Rattle.py_operator.specs.declared.operator.BinOp.{BinOp}
+use Rattle.py_operator.specs.declared.operator.BinOp.TheVariants.{Add, Mul}
 use Rattle.py_value.specs.declared.value.Value.{Value}
 use Rattle.py_value.specs.declared.value.Value.TheVariants as variant
 use Rattle.py_value.specs.Operators.{binary_of, in_place_of}

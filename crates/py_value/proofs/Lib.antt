@@ -1,6 +1,5 @@
 pub mod CauseLaws
 pub mod Changes
-pub mod TextLaws
 pub mod Climb
 pub mod DistinctKeys
 pub mod Hashing
@@ -8,14 +7,10 @@ pub mod InPlace
 pub mod KeyLaws
 pub mod Levels
 pub mod Lists
-pub mod Mixing
 pub mod OnlyKeys
 pub mod WholeNumbers
 pub mod PartLaws
-pub mod Parts
 pub mod Rows
 pub mod Sizes
 pub mod SoundHeaps
-pub mod TestLaws
 pub mod Views
-pub mod Walks

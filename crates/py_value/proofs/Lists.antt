@@ -27,19 +27,7 @@ pub one_more : {X Y Z : Type 0} (f : X → Y) (g : Z → Y) (now all : List X) (
 one_more f g now all new zs z a s h =
     ap (map f) a ∙ map_push f now new ∙ ap (λ ys. ys ++ f new ∷ []) h ∙ ap (λ y. map g zs ++ y ∷ []) s ∙ sym (map_push g zs z)
 
--- a list of what a walk yielded as it is
-pub map_same : {X : Type 0} (xs : List X) → map (λ x. x) xs ≡ xs
-map_same [] = refl
-map_same (x ∷ xs) = ap (λ ys. x ∷ ys) (map_same xs)
-
 -- one more empty list
 pub one_more_empty : (vs : List (Vec ℕ Global)) (v : Vec ℕ Global) (n : ℕ) → v.items ≡ [] → map (λ w. w.items) vs ≡ replicate n [] → map (λ w. w.items) (vs ++ v ∷ []) ≡ replicate (n + 1) []
 one_more_empty vs v n e f =
     map_push (λ w. w.items) vs v ∙ ap (λ xs. xs ++ v.items ∷ []) f ∙ ap (λ x. replicate n [] ++ x ∷ []) e ∙ replicate_more n []
-
--- one more repetition of those that are left
-pub repeat_more : {A : Type 0} (n i : ℕ) (xs : List A) → i < n → xs ++ repeat (n - (i + 1)) xs ≡ repeat (n - i) xs
-repeat_more n i xs l = let e : n - i ≡ suc (n - (i + 1)) = omega arith in ap (λ k. repeat k xs) (sym e)
-
-pub repeat_none : {A : Type 0} (n i : ℕ) (xs : List A) → n ≤ i → repeat (n - i) xs ≡ []
-repeat_none n i xs l = let e : n - i ≡ 0 = omega arith in ap (λ k. repeat k xs) e

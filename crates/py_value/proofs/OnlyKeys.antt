@@ -10,7 +10,7 @@ use Rattle.py_value.specs.View.{plain}
 use Rattle.py_value.specs.Pairs.{plain_pair}
 use Rattle.py_value.specs.Keys.{is_key, has_only_keys}
 use Rattle.py_value.proofs.DistinctKeys.{revalued}
-use Rattle.py_value.proofs.TestLaws.{both_true, first_true, second_true}
+use Rattle.py_text.proofs.TestLaws.{both_true, first_true, second_true}
 
 -- a pair with a key at the end
 only-append : (ps : List (PlainValue × PlainValue)) (r : PlainValue × PlainValue) → IsTrue (has_only_keys ps) → IsTrue (is_key r.0) → IsTrue (has_only_keys (ps ++ r ∷ []))

@@ -1,7 +1,7 @@
 -- Rows of the table, computed.
 use Rattle.std.proofs.Common.{◌≡◌, refl, pos, negsuc, Ok, Err, [], ◌∷◌, true, false, codes}
-use Rattle.py_value.specs.declared.operator.BinOp.TheVariants.{Add, Floor, Mod}
-use Rattle.py_value.specs.declared.operator.CmpOp.TheVariants.{Eq, Lt}
+use Rattle.py_operator.specs.declared.operator.BinOp.TheVariants.{Add, Floor, Mod}
+use Rattle.py_operator.specs.declared.operator.CmpOp.TheVariants.{Eq, Lt}
 use Rattle.py_value.specs.declared.cause.Cause.TheVariants.{IntegerTooLarge, TooDeep}
 use Rattle.py_value.specs.Causes.{raised_by}
 use Rattle.py_value.specs.Plain.{int_value, bool_value, str_value, list_at, dict_at, list_object, dict_object}

@@ -4,7 +4,7 @@ use Rattle.py_value.specs.declared.heap.Object.{Object}
 use Rattle.py_value.specs.declared.heap.Object.TheVariants.{List as ListObject, Dict as DictObject}
 use Rattle.py_value.specs.Objects.{plain_pairs, plain_objects}
 use Rattle.py_value.specs.Keys.{has_only_keys, has_distinct_keys, is_sound_heap}
-use Rattle.py_value.proofs.TestLaws.{both_true}
+use Rattle.py_text.proofs.TestLaws.{both_true}
 
 pub sound_objects : (os : List Object) → IsTrue (is_sound_heap (plain_objects os))
 sound_objects [] = refl

@@ -4,13 +4,13 @@ use Rattle.std.proofs.lemmas.Bool.{eqb-true, eq-eqb}
 use Rattle.std.proofs.lemmas.Bool.Decides.{Decides-int_eq}
 use Rattle.std.specs.declared.cmp.Ordering.{Ordering}
 use Rattle.std.specs.Ordering.{int_eq, int_cmp}
-use Rattle.py_value.specs.declared.operator.CmpOp.{CmpOp}
+use Rattle.py_operator.specs.declared.operator.CmpOp.{CmpOp}
 use Rattle.py_value.specs.declared.cause.Cause.{Cause}
 use Rattle.py_value.specs.Answers.{◌>>=◌}
 use Rattle.py_value.specs.Plain.{PlainHeap, int_value}
 use Rattle.py_value.specs.Comparison.{equal_within, order_within, most_levels}
 use Rattle.py_value.specs.Operators.{compare_answer}
-use Rattle.py_value.proofs.KeyLaws.{same_answer}
+use Rattle.py_text.proofs.SameTexts.{same_answer}
 
 -- numbers of 64 bits are equal where their bits are
 same-bits : (x y : ℤ) → SFits w64 x → SFits w64 y → nat_eq (of_z w64 x) (of_z w64 y) ≡ int_eq x y

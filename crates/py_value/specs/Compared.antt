@@ -1,6 +1,6 @@
 -- What one comparison of a chain answers (Python Language Reference, 6.10).
 use Rattle.std.specs.Prelude.{Bool, not, Result, Ok, Err}
-use Rattle.py_value.specs.declared.operator.CmpOp.{CmpOp}
+use Rattle.py_operator.specs.declared.operator.CmpOp.{CmpOp}
 use Rattle.py_value.specs.declared.cause.Cause.TheVariants.{UnsupportedOperand}
 use Rattle.py_value.specs.Answers.{◌>>=◌}
 use Rattle.py_value.specs.Causes.{raised_by}

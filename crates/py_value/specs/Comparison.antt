@@ -10,6 +10,7 @@ use Rattle.std.specs.Prelude.{ℕ, zero, suc, ◌==◌, nat_eq, ℤ, Bool, true,
 use Rattle.std.specs.Ordering.{int_eq, int_cmp, nat_cmp}
 use Rattle.std.specs.declared.cmp.Ordering.{Ordering}
 use Rattle.std.specs.declared.cmp.Ordering.TheVariants.{Less, Equal, Greater}
+pub use Rattle.py_text.specs.Comparison.{order_of_texts}
 use Rattle.py_value.specs.declared.builtin.Builtin.{Builtin}
 use Rattle.py_value.specs.declared.builtin.Builtin.TheVariants.{Print, Len, Range, Str, Repr, Int, Input, Exit}
 use Rattle.py_value.specs.declared.cause.Cause.{Cause}
@@ -127,13 +128,6 @@ equal_step equal h a b = Ok (is_same_atom a b)
 unfoldable pub equal_within : ℕ → PlainHeap → PlainValue → PlainValue → Result Bool Cause
 equal_within zero h a b = Err TooDeep
 equal_within (suc n) h a b = equal_step (equal_within n h) h a b
-
--- texts by their characters
-abbrev pub order_of_texts : List ℕ → List ℕ → Ordering
-order_of_texts [] [] = Equal
-order_of_texts [] (d ∷ ds) = Less
-order_of_texts (c ∷ cs) [] = Greater
-order_of_texts (c ∷ cs) (d ∷ ds) = if nat_eq c d then order_of_texts cs ds else nat_cmp c d
 
 -- by the first unequal item, else by length
 abbrev pub order_of_items : (PlainValue → PlainValue → Result Bool Cause)

@@ -1,24 +1,8 @@
 -- Hashes of keys, and an index that names the places of a dict's pairs by the hashes of their keys.
 use Rattle.std.specs.Prelude.{ℕ, ◌+◌, ◌*◌, ◌%◌, ◌^◌, ◌<◌, ◌≡◌, Bool, false, ◌||◌, nat_eq, IsTrue, List, [], ◌∷◌, ◌++◌, length, get_or, set, Option, Some, None, if◌then◌else◌, slice_get, unsigned_abs}
+pub use Rattle.py_text.specs.Hashes.{mixed, hash_of_text}
 use Rattle.py_value.specs.Plain.{PlainValue, int_value, str_value, tuple_value, PlainValues, no_values, value_then}
 use Rattle.py_value.specs.Keys.{is_same_key}
-
--- a hash with one more number in it
-abbrev pub mixed : ℕ → ℕ → ℕ
-mixed hash n = (hash * 31 % 2 ^ 64 + n) % 2 ^ 64
-
--- a hash with numbers mixed in, one by one
-abbrev pub mixed_all : ℕ → List ℕ → ℕ
-mixed_all hash [] = hash
-mixed_all hash (n ∷ ns) = mixed_all (mixed hash n) ns
-
--- the hash of a text, from its characters
-abbrev pub hash_of_text : List ℕ → ℕ
-hash_of_text s = mixed_all 7 s
-
--- that a number and a hash kept with a text are its own
-abbrev pub CountAndHash : List ℕ → ℕ → ℕ → Type 0
-CountAndHash s count hash = (count ≡ length s) × (hash ≡ hash_of_text s)
 
 abbrev mutual
   -- the hash of a value; of all but numbers, texts and tuples it is 0

@@ -6,6 +6,7 @@
 use Rattle.std.specs.Prelude.{ℕ, suc, Bool, true, false, ◌&&◌, not, if◌then◌else◌, List, [], ◌∷◌, Option, Some, None, nat_eq}
 use Rattle.std.specs.Ordering.{int_eq}
 use Rattle.std.specs.Option.{option_map}
+pub use Rattle.py_text.specs.Comparison.{is_same_text}
 use Rattle.py_value.specs.Plain.{PlainValue, none_value, int_value, str_value, tuple_value, PlainValues, no_values, value_then, PlainObject, list_object, dict_object, PlainHeap}
 
 abbrev mutual
@@ -21,12 +22,6 @@ abbrev mutual
   pub are_keys : PlainValues → Bool
   are_keys no_values = true
   are_keys (value_then v vs) = is_key v && are_keys vs
-
--- whether two texts are the same, character by character
-abbrev pub is_same_text : List ℕ → List ℕ → Bool
-is_same_text [] [] = true
-is_same_text (c ∷ cs) (d ∷ ds) = nat_eq c d && is_same_text cs ds
-is_same_text _ _ = false
 
 abbrev mutual
   -- whether two keys are the same; a value that is no key is the same as none

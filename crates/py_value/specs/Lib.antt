@@ -17,5 +17,4 @@ pub mod PlainCode
 pub mod Sequences
 pub mod Shared
 pub mod Smaller
-pub mod Texts
 pub mod View

@@ -1,7 +1,7 @@
 -- Whole numbers of 64 bits. A bool counts as 0 or 1.
 use Rattle.std.specs.Prelude.{zero, suc, ◌/◌, ◌^◌, nat_lt, ℤ, pos, negsuc, ◌+ℤ◌, ◌-ℤ◌, ◌*ℤ◌, Bool, true, false, if◌then◌else◌, Option, Some, None, Result, Ok, Err}
-use Rattle.py_value.specs.declared.operator.BinOp.{BinOp}
-use Rattle.py_value.specs.declared.operator.BinOp.TheVariants.{Add, Sub, Mul, Floor, Mod}
+use Rattle.py_operator.specs.declared.operator.BinOp.{BinOp}
+use Rattle.py_operator.specs.declared.operator.BinOp.TheVariants.{Add, Sub, Mul, Floor, Mod}
 use Rattle.py_value.specs.declared.cause.Cause.{Cause}
 use Rattle.py_value.specs.declared.cause.Cause.TheVariants.{DivisionByZero, IntegerTooLarge}
 use Rattle.py_value.specs.Plain.{PlainValue, bool_value, int_value}

@@ -11,10 +11,10 @@
 --     truth_of                            the truth of a value
 use Rattle.std.specs.Prelude.{ℕ, ◌+◌, nat_le, nat_lt, ℤ, Bool, true, false, not, ◌||◌, if◌then◌else◌, List, [], ◌∷◌, ◌++◌, length, map, is_some, slice_get, slice_set, Option, Some, None, Result, Ok, Err}
 use Rattle.std.specs.Ordering.{is_lt, is_gt}
-use Rattle.py_value.specs.declared.operator.BinOp.{BinOp}
-use Rattle.py_value.specs.declared.operator.BinOp.TheVariants.{Add, Mul}
-use Rattle.py_value.specs.declared.operator.CmpOp.{CmpOp}
-use Rattle.py_value.specs.declared.operator.CmpOp.TheVariants.{Eq, Ne, Lt, Le, Gt, Ge, In, NotIn}
+use Rattle.py_operator.specs.declared.operator.BinOp.{BinOp}
+use Rattle.py_operator.specs.declared.operator.BinOp.TheVariants.{Add, Mul}
+use Rattle.py_operator.specs.declared.operator.CmpOp.{CmpOp}
+use Rattle.py_operator.specs.declared.operator.CmpOp.TheVariants.{Eq, Ne, Lt, Le, Gt, Ge, In, NotIn}
 use Rattle.py_value.specs.declared.cause.Cause.{Cause}
 use Rattle.py_value.specs.declared.cause.Cause.TheVariants.{UnsupportedOperand, UnhashableKey, NotSubscriptable, ListIndex, TupleIndex, StringIndex, ListAssignmentIndex, TooManyItems}
 use Rattle.py_value.specs.Answers.{◌>>=◌, in_words}

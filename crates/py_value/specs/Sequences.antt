@@ -1,5 +1,6 @@
 -- Texts, tuples and lists as sequences of at most 1,048,576 items.
 use Rattle.std.specs.Prelude.{ℕ, zero, suc, ◌-◌, ◌*◌, nat_lt, nat_le, min, ℤ, pos, negsuc, Bool, true, false, ◌||◌, ◌&&◌, nat_eq, if◌then◌else◌, List, [], ◌∷◌, ◌++◌, length, take, drop, Option, Some, None, Result, Ok, Err}
+pub use Rattle.py_text.specs.Parts.{repeat, begins, is_part}
 use Rattle.py_value.specs.declared.cause.Cause.{Cause}
 use Rattle.py_value.specs.declared.cause.Cause.TheVariants.{TooManyItems}
 
@@ -19,11 +20,6 @@ joined xs ys = within_limit (xs ++ ys)
 abbrev pub times : ℤ → ℕ
 times (pos n) = n
 times (negsuc n) = 0
-
--- a list so many times
-abbrev pub repeat : {A : Type 0} → ℕ → List A → List A
-repeat zero xs = []
-repeat (suc n) xs = xs ++ repeat n xs
 
 -- a list so many times, where it is not too long
 abbrev pub repeated : {A : Type 0} → ℤ → List A → Result (List A) Cause
@@ -57,14 +53,3 @@ abbrev pub part : {A : Type 0} → Option ℤ → Option ℤ → List A → List
 part from to xs =
     let first = first_bound (length xs) from in
     take (last_bound (length xs) to - first) (drop first xs)
-
--- whether the second text begins with the first
-abbrev pub begins : List ℕ → List ℕ → Bool
-begins [] ds = true
-begins (c ∷ cs) [] = false
-begins (c ∷ cs) (d ∷ ds) = nat_eq c d && begins cs ds
-
--- whether the first text stands somewhere in the second
-abbrev pub is_part : List ℕ → List ℕ → Bool
-is_part cs [] = begins cs []
-is_part cs (d ∷ ds) = begins cs (d ∷ ds) || is_part cs ds

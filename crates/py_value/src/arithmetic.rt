@@ -7,14 +7,14 @@ ghost use Rattle.py_value.specs.HeapView.{plain_heap};
 ghost use Rattle.py_value.specs.Numbers.{number_of, arithmetic};
 ghost use Rattle.py_value.specs.Operators.{number_result, repeated_sequence, binary_answer, binary_of};
 
-use crate::NoMemory;
 use crate::cause::Cause;
 use crate::heap::Heap;
 use crate::number::arithmetic;
-use crate::operator::BinOp;
 use crate::sequences::{join_items, join_texts, repeat_items, repeat_text};
 use crate::shared::Items;
 use crate::value::{Addr, Raised, Value};
+use py_operator::BinOp;
+use py_text::NoMemory;
 use std::alloc::Global;
 
 /// `left op right`.

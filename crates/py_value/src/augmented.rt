@@ -9,13 +9,13 @@ ghost use Rattle.py_value.specs.HeapView.{plain_heap};
 ghost use Rattle.py_value.specs.Numbers.{number_of};
 ghost use Rattle.py_value.specs.Operators.{items_to_append, appended, repeated_in_place, in_place_of};
 
-use crate::NoMemory;
 use crate::arithmetic::binary;
 use crate::cause::Cause;
 use crate::heap::Heap;
-use crate::operator::BinOp;
 use crate::sequences::{characters_of, extend_text, fit_together, keys_of, repeat_items};
 use crate::value::{Addr, Raised, Value, copy_all};
+use py_operator::BinOp;
+use py_text::NoMemory;
 use std::alloc::Global;
 
 /// `left op= right`: what the target is to be bound to.

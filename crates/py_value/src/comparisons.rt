@@ -7,15 +7,15 @@ ghost use Rattle.py_value.specs.HeapView.{plain_heap};
 ghost use Rattle.py_value.specs.Comparison.{equal_within, is_item, most_levels};
 ghost use Rattle.py_value.specs.Operators.{contains_answer, compare_answer, compare_of, truth_of, is_none_value, is_bool_value};
 
-use crate::NoMemory;
 use crate::cause::Cause;
 use crate::equality::equal;
 use crate::heap::Heap;
 use crate::key::is_key;
 use crate::limits::MOST_LEVELS;
-use crate::operator::CmpOp;
 use crate::ordering::order;
 use crate::value::{Raised, Value};
+use py_operator::CmpOp;
+use py_text::NoMemory;
 use std::alloc::Global;
 
 /// `left op right`.

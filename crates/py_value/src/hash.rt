@@ -1,15 +1,12 @@
 // The hashes of keys.
 
 ghost use Rattle.std.specs.Prelude.{◌≡◌};
-ghost use Rattle.std.specs.Str.{chars};
 ghost use Rattle.py_value.specs.View.{plain, plains};
 ghost use Rattle.py_value.specs.Plain.{packed};
-ghost use Rattle.py_value.specs.Hashes.{mixed, mixed_all, hash_of, hash_of_items};
+ghost use Rattle.py_value.specs.Hashes.{hash_of, hash_of_items};
 
 use crate::value::Value;
-
-/// The hash of a text without characters.
-pub const OF_NO_CHARACTERS: usize = 7;
+use py_text::hash::mixed;
 
 /// The hash of a key, which texts and tuples keep. Equal keys have equal hashes.
 pub fn hash_of(key: &Value) -> usize
@@ -17,7 +14,7 @@ pub fn hash_of(key: &Value) -> usize
 {
     match key {
         Value::Int(n) => n.unsigned_abs() as usize,
-        Value::Str(text) => text.hash(),
+        Value::Str(text) => text.kept_hash(),
         Value::Tuple(items) => items.hash(),
         Value::None
         | Value::Bool(_)
@@ -40,22 +37,4 @@ pub fn hash_of_items(items: &[Value]) -> usize
         hash = mixed(hash, hash_of(item));
     }
     hash
-}
-
-/// A hash with each character of a text in it.
-pub fn mixed_all(start: usize, s: &str) -> usize
-    ensures { result ≡ mixed_all start (chars s.now) }
-{
-    let mut hash = start;
-    for c in s.chars() {
-        hash = mixed(hash, c as usize);
-    }
-    hash
-}
-
-/// A hash with one more number in it.
-pub fn mixed(hash: usize, n: usize) -> usize
-    ensures { result ≡ mixed hash n }
-{
-    hash.wrapping_mul(31).wrapping_add(n)
 }

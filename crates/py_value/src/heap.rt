@@ -8,9 +8,9 @@ ghost use Rattle.py_value.specs.Plain.{list_object, dict_object};
 ghost use Rattle.py_value.specs.Heaps.{object_at, list_items, dict_pairs, dict_keys, values_of, length_of, is_list_object, without, with_object, with_items, with_pairs, change, change_list, change_dict};
 ghost use Rattle.py_value.specs.Keys.{is_key, place_of_key, value_at, with_value, is_sound_heap};
 
-use crate::NoMemory;
 use crate::pairs::{Pair, Pairs};
 use crate::value::{Addr, Value, copy_all};
+use py_text::NoMemory;
 use std::alloc::{AllocError, Global};
 
 /// A list, or a dict with its pairs in the order in which their keys came.

@@ -9,14 +9,13 @@ ghost use Rattle.py_value.specs.Numbers.{number_of};
 ghost use Rattle.py_value.specs.Operators.{index_of, item_answer, character_answer, value_answer};
 ghost use Rattle.py_value.specs.Heaps.{dict_pairs};
 
-use crate::NoMemory;
 use crate::cause::Cause;
 use crate::heap::Heap;
 use crate::key::is_key;
 use crate::places::place_among;
 use crate::raised::raise;
-use crate::text::Text;
 use crate::value::{Addr, Raised, Value};
+use py_text::{NoMemory, Text};
 use std::alloc::Global;
 
 /// `of[at]`.

@@ -3,7 +3,7 @@
 ghost use Rattle.std.specs.Prelude.{◌≡◌, ◌<◌, [], length, replicate, IfOk, OnOk, OnErr, MatchOption};
 ghost use Rattle.py_value.specs.Hashes.{named, with_place};
 
-use crate::NoMemory;
+use py_text::NoMemory;
 use std::alloc::Global;
 use std::marker::Model;
 

@@ -9,10 +9,8 @@
 
 mod arithmetic;
 mod augmented;
-mod body;
 pub mod builtin;
 pub mod cause;
-mod characters;
 mod comparisons;
 mod equality;
 pub mod exception;
@@ -23,7 +21,6 @@ pub mod key;
 mod key_index;
 mod limits;
 pub mod number;
-pub mod operator;
 mod ordering;
 mod pairs;
 mod places;
@@ -32,7 +29,6 @@ mod sequences;
 pub mod shared;
 mod slicing;
 mod storing;
-pub mod text;
 pub mod value;
 
 pub use arithmetic::binary;
@@ -44,13 +40,10 @@ pub use exception::ExcKind;
 pub use heap::Heap;
 pub use indexing::index;
 pub use limits::{MOST_ITEMS, MOST_LEVELS};
-pub use operator::{BinOp, CmpOp};
 pub use places::place_among;
+pub use py_operator::{BinOp, CmpOp};
+pub use py_text::{NoMemory, Text};
 pub use shared::{Argument, Items};
 pub use slicing::slice;
 pub use storing::store;
-pub use text::Text;
 pub use value::{Addr, FuncId, ModId, Raised, Value};
-
-/// Want of memory, the one refusal of a call that only takes memory.
-pub type NoMemory = std::alloc::AllocError;

@@ -5,8 +5,8 @@ ghost use Rattle.py_value.specs.View.{plain};
 ghost use Rattle.py_value.specs.Numbers.{number_of, arithmetic, exact, floor_div, floor_mod};
 
 use crate::cause::Cause;
-use crate::operator::BinOp;
 use crate::value::Value;
+use py_operator::BinOp;
 
 impl Value {
     /// The whole number that the value counts as: a bool is 0 or 1.

@@ -6,11 +6,11 @@ ghost use Rattle.py_value.specs.Pairs.{plain_pair};
 ghost use Rattle.py_value.specs.Keys.{is_key, has_only_keys, has_distinct_keys, place_of_key, value_at, with_value};
 ghost use Rattle.py_value.specs.Hashes.{IsIndex, has_key, first_with};
 
-use crate::NoMemory;
 use crate::hash::hash_of;
 use crate::key::is_same_key;
 use crate::key_index::Index;
 use crate::value::Value;
+use py_text::NoMemory;
 use std::alloc::Global;
 
 /// A key and its value.

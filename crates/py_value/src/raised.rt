@@ -5,13 +5,12 @@ ghost use Rattle.py_value.specs.View.{plain, plain_raised, plain_value_answer};
 ghost use Rattle.py_value.specs.Plain.{may_nest};
 ghost use Rattle.py_value.specs.Causes.{raised_by, key_error};
 
-use crate::NoMemory;
 use crate::cause::Cause;
 use crate::exception::ExcKind;
 use crate::limits::MOST_NESTED;
 use crate::shared::Argument;
-use crate::text::Text;
 use crate::value::{Raised, Value};
+use py_text::{NoMemory, Text};
 use std::alloc::Global;
 
 impl Raised {

@@ -7,12 +7,11 @@ ghost use Rattle.py_value.specs.Pairs.{plain_pair};
 ghost use Rattle.py_value.specs.Sequences.{most_items, joined, times, repeat, repeated};
 ghost use Rattle.py_value.specs.Operators.{characters};
 
-use crate::NoMemory;
 use crate::cause::Cause;
 use crate::limits::MOST_ITEMS;
 use crate::pairs::Pair;
-use crate::text::Text;
 use crate::value::{Value, copy_all};
+use py_text::{NoMemory, Text};
 use std::alloc::Global;
 
 /// Whether so many items, and so many more, are not too many.

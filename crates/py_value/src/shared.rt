@@ -6,11 +6,11 @@ ghost use Rattle.py_value.specs.Shared.{plain, plains, nesting_of_argument};
 ghost use Rattle.py_value.specs.Keys.{are_keys};
 ghost use Rattle.py_value.specs.Hashes.{hash_of_items};
 
-use crate::NoMemory;
 use crate::hash::hash_of_items;
 use crate::key::are_keys;
 use crate::limits::MOST_NESTED;
 use crate::value::Value;
+use py_text::NoMemory;
 use std::alloc::{AllocError, Global};
 use std::marker::Model;
 use std::rc::Rc;

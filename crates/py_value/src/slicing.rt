@@ -7,13 +7,12 @@ ghost use Rattle.py_value.specs.HeapView.{plain_heap};
 ghost use Rattle.py_value.specs.Sequences.{part};
 ghost use Rattle.py_value.specs.Operators.{slice_of};
 
-use crate::NoMemory;
 use crate::cause::Cause;
 use crate::heap::Heap;
 use crate::places::{first_bound, last_bound};
 use crate::shared::Items;
-use crate::text::Text;
 use crate::value::{Raised, Value, copy_all};
+use py_text::{NoMemory, Text};
 use std::alloc::Global;
 
 /// `of[from:to]`.

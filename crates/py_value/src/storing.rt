@@ -7,13 +7,13 @@ ghost use Rattle.py_value.specs.HeapView.{plain_heap};
 ghost use Rattle.py_value.specs.Operators.{store_of, store_answer, stored_item, stored_value};
 ghost use Rattle.py_value.specs.Numbers.{number_of};
 
-use crate::NoMemory;
 use crate::cause::Cause;
 use crate::heap::Heap;
 use crate::key::is_key;
 use crate::limits::MOST_ITEMS;
 use crate::places::place_among;
 use crate::value::{Addr, Raised, Value};
+use py_text::NoMemory;
 use std::alloc::Global;
 
 /// `of[at] = value`.

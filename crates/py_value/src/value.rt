@@ -3,11 +3,10 @@
 ghost use Rattle.std.specs.Prelude.{◌≡◌, IfOk};
 ghost use Rattle.py_value.specs.View.{plain, plains};
 
-use crate::NoMemory;
 use crate::builtin::Builtin;
 use crate::exception::ExcKind;
 use crate::shared::{Argument, Items};
-use crate::text::Text;
+use py_text::{NoMemory, Text};
 use std::alloc::Global;
 use std::mem::size_of;
 

@@ -1,9 +1,9 @@
 -- Operators: the tokens of a normal tree lead the machine to that tree, where those of its parts do.
 use Rattle.std.proofs.Common.{◌≡◌, ℕ, ◌≤◌, ◌<◌, Bool, true, false, cond, List, [], ◌∷◌, refl, sym, ap, ◌∙◌, arith}
-use Rattle.py_value.specs.declared.operator.BinOp.{BinOp}
-use Rattle.py_value.specs.declared.operator.BinOp.TheVariants as op_
-use Rattle.py_value.specs.declared.operator.CmpOp.{CmpOp}
-use Rattle.py_value.specs.declared.operator.CmpOp.TheVariants as cmp_
+use Rattle.py_operator.specs.declared.operator.BinOp.{BinOp}
+use Rattle.py_operator.specs.declared.operator.BinOp.TheVariants as op_
+use Rattle.py_operator.specs.declared.operator.CmpOp.{CmpOp}
+use Rattle.py_operator.specs.declared.operator.CmpOp.TheVariants as cmp_
 use Rattle.py_token.specs.declared.token.Keyword.TheVariants as word
 use Rattle.py_token.specs.declared.token.Mark.TheVariants as mark
 use Rattle.py_syntax.specs.declared.expr.Comparison.{Comparison}

@@ -1,6 +1,6 @@
 -- Frames that a token passes, since it binds less than they do.
 use Rattle.std.proofs.Common.{◌≡◌, ℕ, ◌≤◌, ◌<◌, Bool, true, false, cond, List, [], ◌∷◌, refl, ap, ◌∙◌, arith}
-use Rattle.py_value.specs.declared.operator.CmpOp.{CmpOp}
+use Rattle.py_operator.specs.declared.operator.CmpOp.{CmpOp}
 use Rattle.py_syntax.specs.declared.expr.Comparison.TheVariants.{Op}
 use Rattle.py_syntax.specs.Tree.{Expr, tuple, compare, Exprs, exprs, Links}
 use Rattle.py_syntax.specs.Kinds.{Kind}

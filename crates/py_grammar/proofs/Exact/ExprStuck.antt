@@ -1,6 +1,6 @@
 -- Where a token is refused after an expression.
 use Rattle.std.proofs.Common.{◌≡◌, Bool, true, false, cond, refl, sym, subst}
-use Rattle.py_value.specs.declared.operator.BinOp.TheVariants as op_
+use Rattle.py_operator.specs.declared.operator.BinOp.TheVariants as op_
 use Rattle.py_token.specs.declared.token.Keyword.{Keyword}
 use Rattle.py_token.specs.declared.token.Keyword.TheVariants as word
 use Rattle.py_token.specs.declared.token.Mark.{Mark}

@@ -1,6 +1,6 @@
 -- Each state can be brought to an end.
 use Rattle.std.proofs.Common.{◌≡◌, ◌≤◌, Bool, true, false, cond, List, [], ◌∷◌, refl, ap, subst, ◌∙◌, arith}
-use Rattle.py_value.specs.declared.operator.CmpOp.TheVariants as cmp_
+use Rattle.py_operator.specs.declared.operator.CmpOp.TheVariants as cmp_
 use Rattle.py_token.specs.declared.token.Mark.TheVariants as mark
 use Rattle.py_syntax.specs.declared.expr.Comparison.TheVariants.{Is, IsNot}
 use Rattle.py_syntax.specs.Tree.{Expr, none, tuple, dict, compare, index, slice, attr, Exprs, no_exprs, exprs, no_pairs, Links, absent, Fragments}

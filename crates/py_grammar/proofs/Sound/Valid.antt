@@ -1,6 +1,6 @@
 -- What the machine keeps: the parts of its state are normal and fit their places.
 use Rattle.std.proofs.Common.{◌≡◌, ◌≤◌, Bool, true, false, cond, ◌&&◌, refl, arith}
-use Rattle.py_value.specs.declared.operator.BinOp.TheVariants as op_
+use Rattle.py_operator.specs.declared.operator.BinOp.TheVariants as op_
 use Rattle.py_syntax.specs.declared.expr.Comparison.{Comparison}
 use Rattle.py_syntax.specs.Tree.{Text, Expr, str, fstr, tuple, compare, Exprs, no_exprs, exprs, Pairs, no_pairs, pair, Links, no_links, link, Fragments, no_fragments, plain, format, Parts}
 use Rattle.py_syntax.specs.Tokens.{more}

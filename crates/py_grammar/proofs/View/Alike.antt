@@ -1,6 +1,6 @@
 -- Which tokens are accepted does not depend on the trees in the frames, unless a target is asked for.
 use Rattle.std.proofs.Common.{◌≡◌, Bool, true, false, cond, [], refl, sym, ap, ◌∙◌}
-use Rattle.py_value.specs.declared.operator.BinOp.TheVariants as op_
+use Rattle.py_operator.specs.declared.operator.BinOp.TheVariants as op_
 use Rattle.py_syntax.specs.declared.expr.Comparison.TheVariants.{Op}
 use Rattle.py_syntax.specs.declared.expr.Sign.TheVariants as sign_
 use Rattle.py_syntax.specs.Tree.{Expr, tuple, not', or, unary, compare, Exprs, no_exprs, exprs, no_pairs, no_links, absent, no_fragments, plain}

@@ -1,7 +1,7 @@
 -- States with the same frames up to the trees accept the same tokens.
 use Rattle.std.proofs.Common.{◌≡◌, Bool, true, false, cond, [], ◌∷◌, Option, Some, None, refl, sym, ap, ◌∙◌}
-use Rattle.py_value.specs.declared.operator.BinOp.TheVariants as op_
-use Rattle.py_value.specs.declared.operator.CmpOp.TheVariants as cmp_
+use Rattle.py_operator.specs.declared.operator.BinOp.TheVariants as op_
+use Rattle.py_operator.specs.declared.operator.CmpOp.TheVariants as cmp_
 use Rattle.py_syntax.specs.declared.expr.Comparison.TheVariants.{Op}
 use Rattle.py_syntax.specs.declared.expr.Sign.TheVariants as sign_
 use Rattle.py_syntax.specs.Tree.{Expr, str, tuple, not', unary, compare, Exprs, no_exprs, exprs, no_pairs, no_links, absent, no_fragments, plain, field}

@@ -1,7 +1,7 @@
 -- An expression that is whole is no higher than what the state before was completed to.
 use Rattle.std.proofs.Common.{◌≡◌, ℕ, ◌≤◌, Bool, true, false, cond, ◌&&◌, refl, ap, ◌∙◌, arith}
-use Rattle.py_value.specs.declared.operator.CmpOp.TheVariants as cmp_
-use Rattle.py_value.specs.declared.operator.BinOp.TheVariants as op_
+use Rattle.py_operator.specs.declared.operator.CmpOp.TheVariants as cmp_
+use Rattle.py_operator.specs.declared.operator.BinOp.TheVariants as op_
 use Rattle.py_syntax.specs.declared.expr.Comparison.TheVariants.{Op}
 use Rattle.py_syntax.specs.Tree.{Expr, tuple, not', unary, compare, index, Exprs, no_exprs, exprs, no_pairs}
 use Rattle.py_syntax.specs.Tree as tree_

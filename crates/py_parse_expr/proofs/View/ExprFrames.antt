@@ -2,7 +2,7 @@
 use Rattle.std.proofs.Common.{◌≡◌, true, false, refl, sym, ap}
 use Rattle.py_syntax.specs.declared.expr.Comparison.TheVariants.{Op}
 use Rattle.py_syntax.specs.Tree.{Expr, Exprs, Links}
-use Rattle.py_value.specs.declared.operator.CmpOp.{CmpOp}
+use Rattle.py_operator.specs.declared.operator.CmpOp.{CmpOp}
 use Rattle.py_grammar.specs.TokenClasses.{BinaryOperator, TokenClass, t_compare, t_operator, t_not, t_is, t_comma, t_right_paren, t_right_bracket, operator_precedence, joined}
 use Rattle.py_grammar.specs.Machine.{snoc, snoc_link, Opener, a_call, a_list, Ctx, on, first, right, compare_rest, in_items, ItemsComma, Linked, Next, Stuck, give, step}
 use Rattle.py_parse_expr.specs.ExprTurns.{is_comma, closes}

@@ -1,6 +1,6 @@
 -- Where an expression is wanted, its first token begins it.
 use Rattle.std.proofs.Common.{◌≡◌, ℕ, true, false, Option, Some, None, refl}
-use Rattle.py_value.specs.declared.operator.BinOp.TheVariants as op_
+use Rattle.py_operator.specs.declared.operator.BinOp.TheVariants as op_
 use Rattle.py_syntax.specs.Tree.{Expr}
 use Rattle.py_syntax.specs.Kinds.{Kind}
 use Rattle.py_grammar.specs.TokenClasses.{TokenClass, t_operator, b_op}

@@ -1,5 +1,5 @@
 use Rattle.std.proofs.Common.{true, false, [], refl, sym, ◌∙◌, arith}
-use Rattle.py_value.specs.declared.operator.CmpOp.TheVariants.{NotIn}
+use Rattle.py_operator.specs.declared.operator.CmpOp.TheVariants.{NotIn}
 use Rattle.py_syntax.specs.declared.expr.Comparison.TheVariants.{Op, Is, IsNot}
 use Rattle.py_syntax.specs.Tree.{none, tuple, dict, compare, index, slice, attr, no_exprs, exprs, no_pairs, absent}
 use Rattle.py_syntax.specs.View.{plain_expr}

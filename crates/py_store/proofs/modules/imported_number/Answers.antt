@@ -1,7 +1,7 @@
 use Rattle.std.proofs.lemmas.Grind.{common_steps}
 use Rattle.std.proofs.Common.{◌+◌, ◌<◌, ◌≤◌, length, drop, map, sym, ap, ◌∙◌, arith}
 use Rattle.std.specs.Str.{chars}
-use Rattle.py_value.specs.Keys.{is_same_text}
+use Rattle.py_text.specs.Comparison.{is_same_text}
 use Rattle.py_code.specs.Loaded.{module_of}
 use Rattle.py_code.specs.Units.{number_from}
 use Rattle.py_store.proofs.Numbers.{first_number, number_here, number_next, number_none}

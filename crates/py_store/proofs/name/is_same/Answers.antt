@@ -1,4 +1,4 @@
-use Rattle.py_value.proofs.KeyLaws.{text_test}
+use Rattle.py_text.proofs.SameTexts.{text_test}
 use Rattle.py_store.proofs.name.is_same.Goals as goal
 
 pub returns : goal.returns

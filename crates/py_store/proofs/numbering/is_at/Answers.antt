@@ -1,5 +1,5 @@
 use Rattle.std.proofs.Common.{Some, ap, sym, ◌∙◌}
-use Rattle.py_value.proofs.KeyLaws.{same_text}
+use Rattle.py_text.proofs.SameTexts.{same_text}
 use Rattle.py_store.proofs.SetAt.{name_here}
 use Rattle.py_store.proofs.numbering.is_at.Goals as goal
 

@@ -1,5 +1,5 @@
 use Rattle.std.proofs.Common.{sym, ◌∙◌}
-use Rattle.py_value.proofs.KeyLaws.{same_text}
+use Rattle.py_text.proofs.SameTexts.{same_text}
 use Rattle.py_store.proofs.numbering.name_at.Goals as goal
 
 pub returns : goal.returns

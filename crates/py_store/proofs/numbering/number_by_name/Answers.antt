@@ -1,8 +1,8 @@
 use Rattle.std.proofs.Common.{◌<◌, Some, length, ap, sym, ◌∙◌, arith}
 use Rattle.std.specs.Prelude.{slice_get}
 use Rattle.std.proofs.lemmas.Option.{same_Some}
-use Rattle.py_value.specs.Keys.{is_same_text}
-use Rattle.py_value.proofs.KeyLaws.{same_text}
+use Rattle.py_text.specs.Comparison.{is_same_text}
+use Rattle.py_text.proofs.SameTexts.{same_text}
 use Rattle.py_store.specs.Numbered.{names_in}
 use Rattle.py_store.proofs.SetAt.{name_here, name_within}
 use Rattle.py_store.proofs.Times.{this, other, which}

@@ -1,6 +1,6 @@
 use Rattle.std.proofs.Common.{◌≡◌, ℕ, ◌<◌, ◌-◌, List, Some, false, length}
 use Rattle.std.specs.Prelude.{slice_get}
-use Rattle.py_value.specs.Keys.{is_same_text}
+use Rattle.py_text.specs.Comparison.{is_same_text}
 use Rattle.py_store.specs.Numbered.{names_in}
 use Rattle.py_store.proofs.numbering.number_by_name.Given as goal
 

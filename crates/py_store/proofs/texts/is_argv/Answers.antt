@@ -1,5 +1,5 @@
 use Rattle.std.proofs.Common.{ap, ◌∙◌}
-use Rattle.py_value.specs.Keys.{is_same_text}
+use Rattle.py_text.specs.Comparison.{is_same_text}
 use Rattle.py_store.proofs.Spelled.{spelled_argv}
 use Rattle.py_store.proofs.texts.is_argv.Goals as goal
 

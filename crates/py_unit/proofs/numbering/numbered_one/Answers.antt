@@ -1,5 +1,5 @@
 use Rattle.std.proofs.Common.{◌==◌, refl, ap, sym, ◌∙◌}
-use Rattle.py_value.specs.Keys.{is_same_text}
+use Rattle.py_text.specs.Comparison.{is_same_text}
 use Rattle.py_code.specs.declared.instr.Instr.TheVariants.{Constant as ConstantAt, Attribute, Method, Import, Module, Mark, Again}
 use Rattle.py_compile_expr.specs.Cells.{instr_of, is_same_constant, place_in, tables_with}
 use Rattle.py_compile_expr.specs.CellView.{plain_op}

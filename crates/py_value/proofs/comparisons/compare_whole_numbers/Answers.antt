@@ -1,6 +1,6 @@
 use Rattle.std.proofs.Common.{ap, not}
 use Rattle.std.specs.Ordering.{is_lt, is_gt}
-use Rattle.py_value.specs.declared.operator.CmpOp.TheVariants.{Eq, Ne, Lt, Le, Gt, Ge}
+use Rattle.py_operator.specs.declared.operator.CmpOp.TheVariants.{Eq, Ne, Lt, Le, Gt, Ge}
 use Rattle.py_value.proofs.WholeNumbers.{answered, equal-now, tested-equal, tested-order}
 use Rattle.py_value.proofs.comparisons.compare_whole_numbers.Goals as goal
 

@@ -5,7 +5,7 @@ use Rattle.py_value.specs.HeapView.{plain_heap}
 use Rattle.py_value.specs.Comparison.{equal_within, equal_step}
 use Rattle.py_value.proofs.Levels.{equal-none, equal-more}
 use Rattle.py_value.proofs.Views.{in_both}
-use Rattle.py_value.proofs.KeyLaws.{text_test}
+use Rattle.py_text.proofs.SameTexts.{text_test}
 use Rattle.py_value.proofs.equality.+equal.Goals as goal
 
 pub equal-returns-then-levels-eq0 : goal.equal-returns-then-levels-eq0

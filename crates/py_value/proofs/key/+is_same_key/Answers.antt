@@ -5,7 +5,8 @@ use Rattle.py_value.specs.View.{plain}
 use Rattle.py_value.specs.Keys.{is_same_key}
 use Rattle.py_value.proofs.Views.{in_both}
 use Rattle.py_value.proofs.Sizes.{smaller_item}
-use Rattle.py_value.proofs.KeyLaws.{text_test, other_length}
+use Rattle.py_text.proofs.SameTexts.{text_test}
+use Rattle.py_value.proofs.KeyLaws.{other_length}
 use Rattle.py_value.proofs.Hashing.{other_hash}
 use Rattle.py_value.proofs.key.+is_same_key.Goals as goal
 

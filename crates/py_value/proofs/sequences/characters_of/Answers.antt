@@ -4,7 +4,8 @@ use Rattle.std.proofs.lemmas.Iterator.Consumers.{YieldsList-end}
 use Rattle.py_value.specs.Operators.{characters}
 use Rattle.py_value.specs.Plain.{str_value}
 use Rattle.py_value.specs.View.{plain}
-use Rattle.py_value.proofs.Lists.{map_same, one_more}
+use Rattle.py_text.proofs.Lists.{map_same}
+use Rattle.py_value.proofs.Lists.{one_more}
 use Rattle.py_value.proofs.sequences.characters_of.Goals as goal
 
 pub returns : goal.returns

@@ -2,7 +2,7 @@ use Rattle.std.proofs.Common.{◌+◌, ◌-◌, ◌++◌, append_assoc, ap, sym,
 use Rattle.std.proofs.lemmas.List.{append-nil}
 use Rattle.py_value.specs.View.{plains}
 use Rattle.py_value.specs.Sequences.{repeat}
-use Rattle.py_value.proofs.Lists.{repeat_more, repeat_none}
+use Rattle.py_text.proofs.Lists.{repeat_more, repeat_none}
 use Rattle.py_value.proofs.sequences.copies_of.Goals as goal
 
 pub turns-preserved : goal.turns-preserved

@@ -1,8 +1,8 @@
 use Rattle.std.proofs.Common.{ap, sym, ◌∙◌, map}
 use Rattle.std.specs.Str.{chars}
 use Rattle.std.specs.String.{string_eq}
-use Rattle.py_value.specs.Keys.{is_same_text}
-use Rattle.py_value.proofs.KeyLaws.{text_is_same}
+use Rattle.py_text.specs.Comparison.{is_same_text}
+use Rattle.py_text.proofs.SameTexts.{text_is_same}
 use Rattle.py_compile_expr.specs.Cells.{place_in, add_new}
 use Rattle.py_compile_expr.proofs.NumberLaws.{text_of, texts_agree, place-shown, added-shown, of_answer}
 use Rattle.py_compile_expr.proofs.Turns.{the_number}

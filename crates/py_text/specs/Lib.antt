@@ -1,0 +1,4 @@
+pub mod Comparison
+pub mod Hashes
+pub mod Parts
+pub mod Texts
