@@ -1,6 +1,6 @@
 use Rattle.std.proofs.Common.{◌≡◌, ◌++◌, Ok, Err, OnOk, ap, refl, sym, ◌∙◌, subst, append-nil}
 use Rattle.cov_outside.proofs.PrefixLemmas.{gains_nothing, loses_nothing}
-use Rattle.py_value.specs.declared.text.Text.{Text}
+use Rattle.py_text.specs.declared.text.Text.{Text}
 use Rattle.py_value.specs.HeapView.{plain_heap}
 use Rattle.py_value.specs.View.{plains, plain_answer, plain_raised}
 use Rattle.py_builtins.specs.Builtins.{Done, input_of}

@@ -1,7 +1,7 @@
 use Rattle.std.proofs.lemmas.Grind.{common_steps}
 use Rattle.std.proofs.Common.{◌≡◌, Ok, refl, ap, sym, ◌∙◌, arith}
 use Rattle.cov_outside.proofs.PrefixLemmas.{gains_nothing}
-use Rattle.py_value.specs.declared.text.Text.{Text}
+use Rattle.py_text.specs.declared.text.Text.{Text}
 use Rattle.py_value.specs.HeapView.{plain_heap}
 use Rattle.py_value.specs.View.{plains, plain_answer}
 use Rattle.py_builtins.specs.Builtins.{Done, str_texts}
