@@ -5,7 +5,6 @@ pub mod Forms
 pub mod Found
 pub mod Gathering
 pub mod Linking
-pub mod NameSets
 pub mod Nodes
 pub mod Scoped
 pub mod Statements

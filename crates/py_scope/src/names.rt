@@ -10,7 +10,7 @@ use std::marker::Model;
 
 /// Names without repeats, seen as their list in the order in which they came.
 pub struct NameSet {
-    all: IndexSet<String>,
+    all: IndexSet<Text>,
 }
 
 // Written out, and not derived, so that letting a set go is one call wherever that happens.
@@ -22,13 +22,11 @@ impl Drop for NameSet {
 }
 
 impl Model for NameSet {
-    ghost use Rattle.std.specs.Prelude.{List, ℕ, map};
-    ghost use Rattle.std.specs.Str.{chars};
-    ghost use Rattle.std.specs.String.{string_bytes};
+    ghost use Rattle.std.specs.Prelude.{List, ℕ};
 
     ghost Value = { List (List ℕ) };
 
-    ghost view = { λ s. map (λ k. chars (string_bytes k)) s.all.keys };
+    ghost view = { λ s. s.all.keys };
 }
 
 impl NameSet {
@@ -41,20 +39,19 @@ impl NameSet {
     }
 
     /// Adds a name, and tells whether it is new.
-    pub fn insert(&mut self, alloc: Global, name: &Text) -> Result<bool, NoMemory>
+    pub fn insert(&mut self, _alloc: Global, name: &Text) -> Result<bool, NoMemory>
         ensures added { OnOk result (self.new ≡ add_name self.old name.now) }
         ensures is_new { IfOk result (λ b. b ≡ not (is_among self.old name.now)) }
         ensures err { OnErr result (self.new ≡ self.old) }
     {
-        let owned = String::from_str(alloc, name.as_str())?;
-        let (_, added) = self.all.insert_full(owned)?;
+        let added = self.all.insert(name.copy()?)?;
         Ok(added)
     }
 
     pub fn contains(&self, name: &Text) -> bool
         ensures { result ≡ is_among self.now name.now }
     {
-        self.all.contains(name.as_str())
+        self.all.contains(name)
     }
 
     /// How many names there are.
@@ -66,12 +63,11 @@ impl NameSet {
     }
 
     /// The name of this number, counted from 0.
-    pub fn get(&self, alloc: Global, at: usize) -> Result<Text, NoMemory>
+    pub fn get(&self, _alloc: Global, at: usize) -> Result<Text, NoMemory>
         requires { at < length self.now }
         ensures { IfOk result (λ name. slice_get self.now at ≡ Some name) }
     {
-        let name = &self.all.as_slice()[at];
-        Text::from_str(alloc, name.as_str())
+        self.all.as_slice()[at].copy()
     }
 
     /// The names that other ones lack, in order.
@@ -82,9 +78,8 @@ impl NameSet {
         let mut left = Vec::new(alloc);
         let names = self.all.as_slice();
         for name in names {
-            let text = Text::from_str(alloc, name.as_str())?;
-            if !others.contains(&text) {
-                left.push(text)?;
+            if !others.contains(name) {
+                left.push(name.copy()?)?;
             }
         }
         Ok(left)
