@@ -1,18 +1,32 @@
 -- Names that have numbers of their own.
-use Rattle.std.proofs.Common.{◌≡◌, ℕ, zero, suc, ◌≤◌, List, [], ◌∷◌, ◌++◌, length, map, Some, None, Bool, true, false, refl, sym, ap, ◌∙◌, arith}
-use Rattle.std.specs.Prelude.{Option, slice_get}
+use Rattle.std.proofs.Common.{◌≡◌, ◌⊎◌, inl, inr, ℕ, zero, suc, ◌<◌, ◌≤◌, List, [], ◌∷◌, ◌++◌, length, map, Some, None, Bool, true, false, refl, sym, ap, ◌∙◌, arith}
+use Rattle.std.specs.List.{IsDistinct}
+use Rattle.std.specs.Prelude.{Option, bytes_eq, slice_get}
 use Rattle.std.specs.Option.{option_map}
-use Rattle.std.proofs.lemmas.Option.{slice_get-map, same_Some}
+use Rattle.std.proofs.lemmas.Bool.{cases_order}
+use Rattle.std.proofs.lemmas.Map.Made.{AllPairs-from_IsDistinct}
+use Rattle.std.proofs.lemmas.Option.{get_or_from_slice_get, slice_get-map, slice_get_within, same_Some}
+use Rattle.std.proofs.lemmas.Slice.Eq.{bytes_eq-Decides}
 use Rattle.py_text.specs.Comparison.{is_same_text}
 use Rattle.py_value.specs.Plain.{PlainValue}
 use Rattle.py_text.proofs.SameTexts.{same_text, same_text_from}
-use Rattle.py_store.specs.Numbered.{Named, Numbered, name_of, times_set, times_named, HaveOwnNames, HasNoNumber, AreListed, unset}
+use Rattle.py_store.specs.Numbered.{Named, Numbered, name_of, times_set, times_named, HaveOwnNames, HasNoNumber, AreListed, without_value}
 use Rattle.py_store.proofs.Listed.{IsOther}
 use Rattle.py_store.proofs.Times.{times_none}
 
--- numbers that a function tells from the names
-pub own_numbers : (f : List ℕ → Option ℕ) (xs : List (List ℕ)) → ((k : ℕ) (x : List ℕ) → slice_get xs k ≡ Some x → f x ≡ Some k) → HaveOwnNames xs
-own_numbers f xs h = λ m n x y a b s. same_Some m n (sym (h m x a) ∙ ap f (same_text x y s) ∙ h n y b)
+-- names of which no two are equal
+pub own_distinct : (xs : List (List ℕ)) → IsDistinct bytes_eq xs → HaveOwnNames xs
+own_distinct xs apart = λ m n x y a b same. by_order m n x a (b ∙ ap (λ z. Some z) (sym (same_text x y same))) (cases_order m n)
+  where
+    never : (i j : ℕ) (x : List ℕ) → slice_get xs i ≡ Some x → slice_get xs j ≡ Some x → i < j → ⊥
+    never i j x a b lt =
+        AllPairs-from_IsDistinct bytes_eq-Decides xs apart i j x lt (slice_get_within xs j x b)
+        (get_or_from_slice_get xs i x x a ∙ sym (get_or_from_slice_get xs j x x b))
+
+    by_order : (m n : ℕ) (x : List ℕ) → slice_get xs m ≡ Some x → slice_get xs n ≡ Some x → (m ≡ n) ⊎ ((m < n) ⊎ (n < m)) → m ≡ n
+    by_order m n x a b (inl e) = e
+    by_order m n x a b (inr (inl lt)) = absurd (never m n x a b lt)
+    by_order m n x a b (inr (inr lt)) = absurd (never n m x b a lt)
 
 -- what stands in a list with one more at its end
 pub data Stands {A : Type 0} (xs : List A) (x : A) (k : ℕ) (y : A) : Type 0 where
@@ -41,11 +55,6 @@ own_more xs x own new = λ m n y z a b s.
   where
     clash : (y : List ℕ) → is_same_text x y ≡ false → x ≡ y → ⊥
     clash y h e = let t : is_same_text x y ≡ true = same_text_from x y e in absurd cc
-
--- a name that each turn of a loop adds, with its number
-pub numbers_more : (f : List ℕ → Option ℕ) (xs : List (List ℕ)) (x : List ℕ) → ((k : ℕ) (y : List ℕ) → slice_get xs k ≡ Some y → f y ≡ Some k) → f x ≡ Some (length xs)
-    → (k : ℕ) (y : List ℕ) → slice_get (xs ++ x ∷ []) k ≡ Some y → f y ≡ Some k
-numbers_more f xs x h e k y a = elim (stands xs x k y a) [ earlier b ↦ h k y b | last b g ↦ ap f g ∙ e ∙ ap (λ j. Some j) (sym b) ]
 
 -- no other number has the name
 pub own_other : (es : Numbered) (n : ℕ) (x : List ℕ) → HaveOwnNames (map name_of es) → slice_get (map name_of es) n ≡ Some x → (m : ℕ) → (m ≡ n → ⊥) → IsOther x (slice_get es m)
@@ -77,20 +86,18 @@ value_there es n x at h =
     (w.0, e.1 ∙ ap (λ v. Some (x, v)) w.1)
 
 -- names, none of which is set
-none_set : (es : Numbered) (n : ℕ) → 0 ≡ times_named (slice_get (map unset es) n)
-none_set [] n = refl
-none_set (e ∷ es) zero = refl
-none_set (e ∷ es) (suc n) = none_set es n
+module _ {A : Type 0} (name : A → List ℕ) where
+  none_set : (xs : List A) (n : ℕ) → 0 ≡ times_named (slice_get (map (λ x. without_value (name x)) xs) n)
+  none_set [] n = refl
+  none_set (x ∷ xs) zero = refl
+  none_set (x ∷ xs) (suc n) = none_set xs n
 
-pub unset_listed : (es : Numbered) → AreListed (map unset es) []
-unset_listed es = λ n. times_none n ∙ none_set es n
+  pub unset_listed : (xs : List A) → AreListed (map (λ x. without_value (name x)) xs) []
+  unset_listed xs = λ n. times_none n ∙ none_set xs n
 
-pub unset_names : (es : Numbered) → map name_of (map unset es) ≡ map name_of es
-unset_names [] = refl
-unset_names (e ∷ es) = ap (λ xs. e.0 ∷ xs) (unset_names es)
-
-pub none_listed : AreListed [] []
-none_listed = λ n. times_none n
+  pub unset_names : (xs : List A) → map name_of (map (λ x. without_value (name x)) xs) ≡ map name xs
+  unset_names [] = refl
+  unset_names (x ∷ xs) = ap (λ ys. name x ∷ ys) (unset_names xs)
 
 pub none_named : HaveOwnNames []
 none_named = λ m n x y a b s. absurd cc

@@ -60,9 +60,13 @@ abbrev pub value_in : Option Named → Option PlainValue
 value_in None = None
 value_in (Some e) = e.1
 
+-- a name without a value
+abbrev pub without_value : List ℕ → Named
+without_value x = (x, None)
+
 -- a name that isn't set
 abbrev pub unset : Named → Named
-unset e = (e.0, None)
+unset e = without_value e.0
 
 -- no two numbers have one name
 abbrev pub HaveOwnNames : List (List ℕ) → Type 0

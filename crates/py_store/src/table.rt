@@ -1,31 +1,28 @@
 // The names of a module, numbered.
-ghost use Rattle.std.specs.Prelude.{◌≡◌, [], Some, length, map, encode_utf8_all, IsTrue, IfOk};
-ghost use Rattle.std.specs.BTreeMap.{get_by_text};
+ghost use Rattle.std.specs.Prelude.{◌≡◌, [], length, map, IfOk};
 ghost use Rattle.py_store.specs.Globals.{names_of};
 ghost use Rattle.py_store.specs.Links.{numbers_count, names_count};
-ghost use Rattle.py_store.specs.Numbered.{HaveOwnNames, AreListed, plain_global, names_in};
+ghost use Rattle.py_store.specs.Numbered.{plain_global, without_value};
 
 use crate::globals::{Global, Globals};
 use crate::name::Name;
+use indexmap::IndexSet;
 use py_code::Unit;
 use py_value::{NoMemory, Text};
 use std::alloc::Global as Alloc;
-use std::collections::BTreeMap;
 
-/// Names in the order of their numbers, and the number of each.
+/// Names in the order of their numbers.
 #[derive(Drop)]
 pub struct Table {
-    names: Vec<Text>,
-    numbers: BTreeMap<String, usize>,
+    names: IndexSet<Text>,
 }
 
 impl Table {
     pub fn new(alloc: Alloc) -> Table
-        ensures { result.names.items ≡ [] }
+        ensures { result.names.keys ≡ [] }
     {
         Table {
-            names: Vec::new(alloc),
-            numbers: BTreeMap::new(alloc),
+            names: IndexSet::new(alloc),
         }
     }
 
@@ -46,20 +43,14 @@ impl Table {
     {
         let mut numbers = Vec::with_capacity(alloc, names.len())?;
         for name in names {
-            numbers.push(self.add(alloc, name)?)?;
+            numbers.push(self.add(name)?)?;
         }
         Ok(numbers)
     }
 
     /// The number of a name, the next one for a new name.
-    fn add(&mut self, alloc: Alloc, name: &Text) -> Result<usize, NoMemory> {
-        if let Some(number) = self.numbers.get(name.as_str()) {
-            return Ok(*number);
-        }
-        let number = self.names.len();
-        let key = String::from_str(alloc, name.as_str())?;
-        self.numbers.insert(key, number)?;
-        self.names.push(name.copy()?)?;
+    fn add(&mut self, name: &Text) -> Result<usize, NoMemory> {
+        let (number, _) = self.names.insert_full(name.copy()?)?;
         Ok(number)
     }
 
@@ -67,38 +58,20 @@ impl Table {
     pub fn globals(&self, alloc: Alloc) -> Result<Globals, NoMemory>
         ensures { IfOk result (λ globals. names_of globals ≡ []) }
     {
-        let items = numbered(alloc, &self.names, &self.numbers)?;
+        let items = unset_globals(alloc, self.names.as_slice())?;
         Ok(Globals::of_names(items, alloc))
     }
 }
 
-/// Names, none of which is set, as far as each has its number in the map.
-fn numbered(
-    alloc: Alloc,
-    names: &[Text],
-    numbers: &BTreeMap<String, usize>,
-) -> Result<Vec<Global>, NoMemory>
-    ensures own { IfOk result (λ globals. HaveOwnNames (names_in globals.items)) }
-    ensures unset { IfOk result (λ globals. AreListed (map plain_global globals.items) []) }
+/// Names, none of which is set.
+fn unset_globals(alloc: Alloc, names: &[Text]) -> Result<Vec<Global>, NoMemory>
+    ensures { IfOk result (λ globals.
+        map plain_global globals.items ≡ map without_value names.now) }
 {
     let mut globals = Vec::with_capacity(alloc, names.len())?;
     for name in names {
-        if !has_number(numbers, name, globals.len()) {
-            return Ok(globals);
-        }
         let name = Name::of(name)?;
         globals.push(Global { name, value: None })?;
     }
     Ok(globals)
-}
-
-/// Whether a name has this number in a map.
-fn has_number(numbers: &BTreeMap<String, usize>, name: &Text, number: usize) -> bool
-    ensures { IsTrue result
-        → get_by_text numbers.now (encode_utf8_all name.now) ≡ Some number }
-{
-    match numbers.get(name.as_str()) {
-        None => false,
-        Some(found) => *found == number,
-    }
 }

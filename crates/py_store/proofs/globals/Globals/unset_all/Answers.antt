@@ -9,8 +9,8 @@ invariant_of-result c =
     let gs = c.args.self.now.items.items in
     let same = c.in_ok-items.ensures ∙ ap (λ gs. map unset (map plain_global gs)) c.deref.ensures.value in
     record {
-      own_names = subst HaveOwnNames (sym (ap (map name_of) same ∙ unset_names (map plain_global gs))) c.args.self.now.own_names;
-      listed = subst (λ es. AreListed es c.new.result.items) (sym same) (λ n. ap (times n) c.new.ensures.items ∙ unset_listed (map plain_global gs) n);
+      own_names = subst HaveOwnNames (sym (ap (map name_of) same ∙ unset_names name_of (map plain_global gs))) c.args.self.now.own_names;
+      listed = subst (λ es. AreListed es c.new.result.items) (sym same) (λ n. ap (times n) c.new.ensures.items ∙ unset_listed name_of (map plain_global gs) n);
     }
 
 pub returns : goal.returns
