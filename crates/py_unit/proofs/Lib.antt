@@ -5,5 +5,4 @@ pub mod Headings
 pub mod NoDefs
 pub mod Numbers
 pub mod OwnNames
-pub mod Sets
 pub mod Variables

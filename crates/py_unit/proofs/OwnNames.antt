@@ -1,26 +1,32 @@
 -- The local names of a function stand once each, so that a list that keeps each name once has them as they are.
-use Rattle.std.proofs.Common.{◌≡◌, ℕ, ◌+◌, ◌<◌, drop, length, get_or, List, [], ◌∷◌, ◌++◌, map, filter, Bool, true, false, not, ◌||◌, if◌then◌else◌, refl, sym, ap, ◌∙◌}
+use Rattle.std.proofs.Common.{◌≡◌, ℕ, ◌+◌, ◌<◌, drop, length, get_or, List, [], ◌∷◌, ◌++◌, filter, Bool, true, false, not, ◌||◌, if◌then◌else◌, refl, sym, ap, ◌∙◌}
+use Rattle.std.specs.List.{position_or_len}
 use Rattle.std.specs.Str.{bytes_eq}
+use Rattle.std.proofs.lemmas.List.{map-id}
 use Rattle.std.proofs.lemmas.Slice.Eq.{bytes_eq-Decides}
 use Rattle.py_text.specs.Comparison.{is_same_text}
-use Rattle.py_text.proofs.SameTexts.{same_answer, same_text, same_text_from}
+use Rattle.py_text.proofs.SameTexts.{same_answer, same_text, same_text_from, text_is_same}
 use Rattle.py_syntax.specs.Names.{is_among, add_name, add_names, distinct, assigned_names, declared_names, local_names}
 use Rattle.py_syntax.specs.Tree.{Text, Stmts}
-use Rattle.py_compile_expr.specs.Cells.{add_new}
-use Rattle.py_compile_expr.proofs.NumberLaws.{added-shown}
+use Rattle.py_compile_expr.specs.Cells.{place_in, add_new}
+use Rattle.py_compile_expr.proofs.NumberLaws.{place-shown, added-shown}
 use Rattle.py_compile_expr.proofs.Turns.{the_drop}
+use Rattle.py_unit.proofs.Numbers.{place_new}
 
 -- ---- a name that is added where it is new
 
-text_test : (a b : Text) → is_same_text a b ≡ bytes_eq a b
+-- texts are the same where their characters are
+pub text_test : (a b : Text) → is_same_text a b ≡ bytes_eq a b
 text_test a b = same_answer _ _ (a ≡ b) (same_text a b) (same_text_from a b) (bytes_eq-Decides a b).0 (bytes_eq-Decides a b).1
 
-map_same : (xs : List Text) → map (λ x. x) xs ≡ xs
-map_same [] = refl
-map_same (x ∷ xs) = ap (λ ys. x ∷ ys) (map_same xs)
+pub new_is : (xs : List Text) (x : Text) → add_new is_same_text xs x ≡ add_name xs x
+new_is xs x = ap (λ ys. add_new is_same_text ys x) (sym (map-id xs)) ∙ added-shown is_same_text bytes_eq (λ n. n) text_test xs x ∙ map-id (add_name xs x)
 
-new_is : (xs : List Text) (x : Text) → add_new is_same_text xs x ≡ add_name xs x
-new_is xs x = ap (λ ys. add_new is_same_text ys x) (sym (map_same xs)) ∙ added-shown is_same_text bytes_eq (λ n. n) text_test xs x ∙ map_same (add_name xs x)
+-- the place of a name that was put into a set
+pub placed : (xs ys : List Text) (x : Text) (n : ℕ) → n ≡ position_or_len (bytes_eq x) xs → ys ≡ add_name xs x → n ≡ place_in is_same_text ys x
+placed xs ys x n at e =
+    at ∙ sym (place-shown is_same_text bytes_eq (λ t. t) text_test xs x) ∙ ap (λ zs. place_in is_same_text zs x) (map-id xs)
+    ∙ place_new is_same_text x (text_is_same x) xs ∙ ap (λ zs. place_in is_same_text zs x) (new_is xs x ∙ sym e)
 
 -- a turn of a loop that adds the names of a list
 pub name_turn : (xs : List Text) (i : ℕ) (x : Text) (now next w : List Text) → i < length xs → x ≡ get_or xs i x → next ≡ add_new is_same_text now x

@@ -1,6 +1,4 @@
 -- Constants by their keys.
-use Rattle.std.specs.Str.{chars}
-use Rattle.std.specs.String.{string_bytes}
 use Rattle.py_code.specs.declared.unit.Constant.{Constant}
 use Rattle.py_code.specs.declared.unit.Constant.TheVariants as constant_
 use Rattle.py_unit.specs.declared.keys.Key.{Key}
@@ -11,4 +9,4 @@ abbrev pub constant_of : Key → Constant
 constant_of key_.None = constant_.None
 constant_of (key_.Bool b) = constant_.Bool b
 constant_of (key_.Int n) = constant_.Int n
-constant_of (key_.Str x) = constant_.Str (chars (string_bytes x))
+constant_of (key_.Str x) = constant_.Str x

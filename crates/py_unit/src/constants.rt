@@ -8,7 +8,7 @@ use crate::keys::Key;
 use indexmap::IndexSet;
 use py_code::Constant;
 use py_compile_expr::number;
-use py_text::{NoMemory, Text};
+use py_text::NoMemory;
 use std::alloc::Global;
 use std::marker::Model;
 
@@ -44,13 +44,13 @@ impl Constants {
     }
 
     /// The place of a constant, which is added where it is new.
-    pub(crate) fn place(&mut self, alloc: Global, constant: &Constant) -> Result<u32, NoMemory>
+    pub(crate) fn place(&mut self, constant: &Constant) -> Result<u32, NoMemory>
         ensures place { IfOk result (λ n. n
             ≡ place_in is_same_constant self.new constant.now) }
         ensures added { OnOk result (self.new
             ≡ add_new is_same_constant self.old constant.now) }
     {
-        let key = key_of(alloc, constant)?;
+        let key = key_of(constant)?;
         let (place, _) = self.all.insert_full(key)?;
         number(place)
     }
@@ -62,37 +62,31 @@ impl Constants {
         let mut list = Vec::new(alloc);
         let keys = self.all.as_slice();
         for key in keys {
-            let constant = kept(alloc, key)?;
+            let constant = kept(key)?;
             list.push(constant)?;
         }
         Ok(list)
     }
 }
 
-fn key_of(alloc: Global, constant: &Constant) -> Result<Key, NoMemory>
+fn key_of(constant: &Constant) -> Result<Key, NoMemory>
     ensures { IfOk result (λ k. constant_of k ≡ constant.now) }
 {
     match constant {
         Constant::None => Ok(Key::None),
         Constant::Bool(b) => Ok(Key::Bool(*b)),
         Constant::Int(n) => Ok(Key::Int(*n)),
-        Constant::Str(text) => {
-            let text = String::from_str(alloc, text.as_str())?;
-            Ok(Key::Str(text))
-        }
+        Constant::Str(text) => Ok(Key::Str(text.copy()?)),
     }
 }
 
-fn kept(alloc: Global, key: &Key) -> Result<Constant, NoMemory>
+fn kept(key: &Key) -> Result<Constant, NoMemory>
     ensures { IfOk result (λ k. k ≡ constant_of key.now) }
 {
     match key {
         Key::None => Ok(Constant::None),
         Key::Bool(b) => Ok(Constant::Bool(*b)),
         Key::Int(n) => Ok(Constant::Int(*n)),
-        Key::Str(text) => {
-            let text = Text::from_str(alloc, text.as_str())?;
-            Ok(Constant::Str(text))
-        }
+        Key::Str(text) => Ok(Constant::Str(text.copy()?)),
     }
 }

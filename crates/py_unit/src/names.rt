@@ -13,7 +13,7 @@ use std::marker::Model;
 
 /// Names, each once, seen as their list in the order in which they came.
 pub(crate) struct Names {
-    all: IndexSet<String>,
+    all: IndexSet<Text>,
 }
 
 // Written out, and not derived, so that letting a list go is one call wherever that happens.
@@ -25,13 +25,11 @@ impl Drop for Names {
 }
 
 impl Model for Names {
-    ghost use Rattle.std.specs.Prelude.{List, ℕ, map};
-    ghost use Rattle.std.specs.Str.{chars};
-    ghost use Rattle.std.specs.String.{string_bytes};
+    ghost use Rattle.std.specs.Prelude.{List, ℕ};
 
     ghost Value = { List (List ℕ) };
 
-    ghost view = { λ s. map (λ k. chars (string_bytes k)) s.all.keys };
+    ghost view = { λ s. s.all.keys };
 }
 
 impl Names {
@@ -49,18 +47,17 @@ impl Names {
     {
         let mut all = Names::new(alloc);
         for name in names {
-            all.place(alloc, name)?;
+            all.place(name)?;
         }
         Ok(all)
     }
 
     /// The place of a name, which is added where it is new.
-    pub(crate) fn place(&mut self, alloc: Global, name: &Text) -> Result<u32, NoMemory>
+    pub(crate) fn place(&mut self, name: &Text) -> Result<u32, NoMemory>
         ensures place { IfOk result (λ n. n ≡ place_in is_same_text self.new name.now) }
         ensures added { OnOk result (self.new ≡ add_new is_same_text self.old name.now) }
     {
-        let owned = String::from_str(alloc, name.as_str())?;
-        let (place, _) = self.all.insert_full(owned)?;
+        let (place, _) = self.all.insert_full(name.copy()?)?;
         number(place)
     }
 
@@ -68,7 +65,7 @@ impl Names {
     pub(crate) fn contains(&self, name: &Text) -> bool
         ensures { result ≡ is_among self.now name.now }
     {
-        self.all.contains(name.as_str())
+        self.all.contains(name)
     }
 
     /// The names as texts.
@@ -78,8 +75,7 @@ impl Names {
         let mut texts = Vec::new(alloc);
         let names = self.all.as_slice();
         for name in names {
-            let text = Text::from_str(alloc, name.as_str())?;
-            texts.push(text)?;
+            texts.push(name.copy()?)?;
         }
         Ok(texts)
     }

@@ -43,14 +43,14 @@ pub(crate) fn numbered(
 {
     let mut instrs = Vec::new(alloc);
     for cell in cells {
-        let instr = numbered_one(alloc, lists, &cell.op)?;
+        let instr = numbered_one(lists, &cell.op)?;
         instrs.push(instr)?;
     }
     Ok(instrs)
 }
 
 /// The instruction of a cell, by the lists with what it names.
-fn numbered_one(alloc: Global, lists: &mut Lists, op: &Op) -> Result<Instr, NoMemory>
+fn numbered_one(lists: &mut Lists, op: &Op) -> Result<Instr, NoMemory>
     ensures lists { OnOk result (plain_lists lists.new
         ≡ tables_with (plain_lists lists.old) (plain_op op.now)) }
     ensures instr { IfOk result (λ i. i
@@ -58,28 +58,28 @@ fn numbered_one(alloc: Global, lists: &mut Lists, op: &Op) -> Result<Instr, NoMe
 {
     match op {
         Op::Constant(constant) => {
-            let place = lists.constants.place(alloc, constant)?;
+            let place = lists.constants.place(constant)?;
             Ok(Instr::Constant(place))
         }
-        Op::Load(name) => match variable_of(alloc, lists, name)? {
+        Op::Load(name) => match variable_of(lists, name)? {
             Variable::Local(place) => Ok(Instr::LoadLocal(place)),
             Variable::Global(place) => Ok(Instr::LoadGlobal(place)),
         },
-        Op::Store(name) => match variable_of(alloc, lists, name)? {
+        Op::Store(name) => match variable_of(lists, name)? {
             Variable::Local(place) => Ok(Instr::StoreLocal(place)),
             Variable::Global(place) => Ok(Instr::StoreGlobal(place)),
         },
-        Op::Unset(name) => match variable_of(alloc, lists, name)? {
+        Op::Unset(name) => match variable_of(lists, name)? {
             Variable::Local(place) => Ok(Instr::UnsetLocal(place)),
             Variable::Global(place) => Ok(Instr::UnsetGlobal(place)),
         },
-        Op::Attribute(name) => Ok(Instr::Attribute(lists.names.place(alloc, name)?)),
-        Op::Method(name) => Ok(Instr::Method(lists.names.place(alloc, name)?)),
-        Op::Import(name) => Ok(Instr::Import(lists.names.place(alloc, name)?)),
-        Op::Module(name) => Ok(Instr::Module(lists.names.place(alloc, name)?)),
+        Op::Attribute(name) => Ok(Instr::Attribute(lists.names.place(name)?)),
+        Op::Method(name) => Ok(Instr::Method(lists.names.place(name)?)),
+        Op::Import(name) => Ok(Instr::Import(lists.names.place(name)?)),
+        Op::Module(name) => Ok(Instr::Module(lists.names.place(name)?)),
         Op::Take(of, name) => {
-            let first = lists.names.place(alloc, of)?;
-            let second = lists.names.place(alloc, name)?;
+            let first = lists.names.place(of)?;
+            let second = lists.names.place(name)?;
             Ok(Instr::Take(first, second))
         }
         Op::Mark(line) => Ok(Instr::Mark(lists.lines.place(*line)?)),
@@ -90,17 +90,17 @@ fn numbered_one(alloc: Global, lists: &mut Lists, op: &Op) -> Result<Instr, NoMe
 
 /// Where the value of a name is kept: in a slot, or under the name in its module. The lists have
 /// the name from then on.
-fn variable_of(alloc: Global, lists: &mut Lists, name: &Text) -> Result<Variable, NoMemory>
+fn variable_of(lists: &mut Lists, name: &Text) -> Result<Variable, NoMemory>
     ensures lists { OnOk result (plain_lists lists.new
         ≡ with_global_name (plain_lists lists.old) name.now) }
     ensures variable { IfOk result (λ v. v
         ≡ variable_of (with_global_name (plain_lists lists.old) name.now) name.now) }
 {
     if lists.own.contains(name) {
-        let place = lists.own.place(alloc, name)?;
+        let place = lists.own.place(name)?;
         Ok(Variable::Local(place))
     } else {
-        let place = lists.names.place(alloc, name)?;
+        let place = lists.names.place(name)?;
         Ok(Variable::Global(place))
     }
 }

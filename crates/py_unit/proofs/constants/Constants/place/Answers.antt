@@ -1,13 +1,13 @@
 use Rattle.std.proofs.Common.{◌≡◌, true, false, ap, refl, sym, ◌∙◌, map}
 use Rattle.py_compile_expr.specs.Cells.{place_in, add_new, is_same_constant}
-use Rattle.py_compile_expr.proofs.NumberLaws.{texts_agree, place-shown, added-shown, of_answer}
+use Rattle.py_compile_expr.proofs.NumberLaws.{place-shown, added-shown, of_answer}
 use Rattle.py_compile_expr.proofs.Turns.{the_number}
 use Rattle.py_unit.specs.contracts.keys.KeyPartialEq.TheImpl.{ghosts}
 use Rattle.py_unit.specs.declared.keys.Key.{Key}
 use Rattle.py_unit.specs.declared.keys.Key.TheVariants as key_
 use Rattle.py_unit.specs.Keys.{constant_of}
-use Rattle.py_unit.proofs.Errs.{if_err}
 use Rattle.py_unit.proofs.Numbers.{place_new, constant_is_same}
+use Rattle.py_unit.proofs.OwnNames.{text_test}
 use Rattle.py_unit.proofs.constants.Constants.place.Goals as goal
 
 keys_agree : (a b : Key) → is_same_constant (constant_of a) (constant_of b) ≡ ghosts.eq a b
@@ -29,7 +29,7 @@ keys_agree (key_.Int m) (key_.Str y) = refl
 keys_agree (key_.Str x) key_.None = refl
 keys_agree (key_.Str x) (key_.Bool b) = refl
 keys_agree (key_.Str x) (key_.Int n) = refl
-keys_agree (key_.Str x) (key_.Str y) = texts_agree x y
+keys_agree (key_.Str x) (key_.Str y) = text_test x y
 
 pub returns-clause-place : goal.returns-clause-place
 returns-clause-place c =
@@ -50,15 +50,3 @@ returns-clause-added c =
     (ap (map constant_of) c.in_ok-place.ensures.keys
     ∙ sym (added-shown is_same_constant ghosts.eq constant_of keys_agree c.self.inside.all.keys c.in_ok-key.key)
     ∙ ap (λ s. add_new is_same_constant s (constant_of c.in_ok-key.key)) c.self.view_is ∙ ap (add_new is_same_constant c.args.self.now) c.in_ok-key.ensures)
-
-pub returns-in_err-key-clause-added : goal.returns-in_err-key-clause-added
-returns-in_err-key-clause-added c = if_err _ _ c.from_residual.ensures.0
-
-pub returns-in_err-key-clause-place : goal.returns-in_err-key-clause-place
-returns-in_err-key-clause-place c = if_err _ _ c.from_residual.ensures.0
-
-pub returns-in_err-place-clause-added : goal.returns-in_err-place-clause-added
-returns-in_err-place-clause-added c = if_err _ _ c.from_residual-in_err-place.ensures.0
-
-pub returns-in_err-place-clause-place : goal.returns-in_err-place-clause-place
-returns-in_err-place-clause-place c = if_err _ _ c.from_residual-in_err-place.ensures.0
