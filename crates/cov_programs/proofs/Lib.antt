@@ -7,3 +7,4 @@ pub mod Telling
 pub mod Keeping
 pub mod Counting
 pub mod Parts
+pub mod Late

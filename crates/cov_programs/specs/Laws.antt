@@ -7,6 +7,7 @@
 --     AnswersOnce                      objects that answer in one way
 --     IsSettled, IsCareful             what may change something comes last
 --     OnlyKeeps                        nothing is changed
+--     OnlyRefuses, IsLate              which refusals come after what may have changed something
 --     CallsAtMost, LedBy               how often an object is called
 --     BlamesOnly, Brought              a fault that only a failed call brings, and such a call
 --     Parted, Folds                    one program after another, and over a list
@@ -107,6 +108,24 @@ OnlyKeeps keeps (settle a) = Unit {0}
 OnlyKeeps keeps (refuse r) = Unit {0}
 OnlyKeeps {Answer = Answer} keeps (ask call f) =
     (answer : Answer call) → (keeps call answer ≡ true) × OnlyKeeps keeps (f answer)
+
+-- each refusal is one of these
+abbrev pub OnlyRefuses : {C : Type 0} {Answer : C → Type 0} {R A : Type 0} → (R → Bool)
+    → Program C Answer R A → Type 0
+OnlyRefuses late (give a) = Unit {0}
+OnlyRefuses late (settle a) = Unit {0}
+OnlyRefuses late (refuse r) = late r ≡ true
+OnlyRefuses {Answer = Answer} late (ask call f) = (answer : Answer call) → OnlyRefuses late (f answer)
+
+-- after each answer that may have changed something, the program is refused by one of these, if it is
+abbrev pub IsLate : {C : Type 0} {Answer : C → Type 0} {R A : Type 0}
+    → ((call : C) → Answer call → Bool) → (R → Bool) → Program C Answer R A → Type 0
+IsLate keeps late (give a) = Unit {0}
+IsLate keeps late (settle a) = Unit {0}
+IsLate keeps late (refuse r) = Unit {0}
+IsLate {Answer = Answer} keeps late (ask call f) =
+    (answer : Answer call)
+    → (keeps call answer ≡ false → OnlyRefuses late (f answer)) × IsLate keeps late (f answer)
 
 -- ---- how often an object is called
 
