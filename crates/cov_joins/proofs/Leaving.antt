@@ -35,26 +35,26 @@ use Rattle.cov_vault.specs.declared.vault.VaultError.TheVariants as vault_error
 use Rattle.cov_why.specs.Answers.{Refusal, PlainWhy}
 use Rattle.cov_step.specs.Promises.{keeps}
 use Rattle.cov_step.proofs.Kept.{vault-kept, vault-tells}
-use Rattle.cov_joins.specs.Left.{is_input, IsLeft, CombineLeavesLaw}
+use Rattle.cov_joins.specs.Left.{is_input, IsGone, IsLeft, CombineLeavesLaw}
 use Rattle.cov_joins.specs.Parts.{Rules, finishing, joining, gathering, combining}
 
 -- only the data file is saved, and only inputs besides it are removed
-abbrev pub allowed : Text → List Text → (call : Call) → Answer call → Bool
-allowed own named (spells words) answer = true
-allowed own named (checks bytes) reading = true
-allowed own named (reads name most) answer = true
-allowed own named (puts name bytes) refusal = true
-allowed own named (opens script) answer = true
-allowed own named lists answer = true
-allowed own named (loads name) answer = true
-allowed own named (saves name content) refusal = bytes_eq name own
-allowed own named (removes name) refusal = not (bytes_eq name own) && is_input own named name
-allowed own named (makes texts) refusal = true
-allowed own named (writes bytes) refusal = true
-allowed own named (crosses modules words budget) answer = true
-allowed own named (measures asked modules hook) answer = true
-allowed own named (tries modules words budget) answer = true
-allowed own named (says text) answer = true
+abbrev pub allowed : Bool → Text → List Text → (call : Call) → Answer call → Bool
+allowed keep own named (spells words) answer = true
+allowed keep own named (checks bytes) reading = true
+allowed keep own named (reads name most) answer = true
+allowed keep own named (puts name bytes) refusal = true
+allowed keep own named (opens script) answer = true
+allowed keep own named lists answer = true
+allowed keep own named (loads name) answer = true
+allowed keep own named (saves name content) refusal = bytes_eq name own
+allowed keep own named (removes name) refusal = not keep && (not (bytes_eq name own) && is_input own named name)
+allowed keep own named (makes texts) refusal = true
+allowed keep own named (writes bytes) refusal = true
+allowed keep own named (crosses modules words budget) answer = true
+allowed keep own named (measures asked modules hook) answer = true
+allowed keep own named (tries modules words budget) answer = true
+allowed keep own named (says text) answer = true
 
 -- ---- names
 
@@ -104,16 +104,16 @@ removable-so own named done (n ∷ ns) h = removed-at own n named done ns (bytes
 
 -- ---- what is called
 
-module _ (own : Text) (named : List Text) where
-  given-keeps : {A E : Type 0} (why : E → Refusal) (x : Result A E) → OnlyKeeps (allowed own named) (given_or why x)
+module _ (keep : Bool) (own : Text) (named : List Text) where
+  given-keeps : {A E : Type 0} (why : E → Refusal) (x : Result A E) → OnlyKeeps (allowed keep own named) (given_or why x)
   given-keeps why (Ok a) = tt
   given-keeps why (Err e) = tt
 
-  on-keeps : {E : Type 0} (why : E → Refusal) (x : Option E) → OnlyKeeps (allowed own named) (on why x)
+  on-keeps : {E : Type 0} (why : E → Refusal) (x : Option E) → OnlyKeeps (allowed keep own named) (on why x)
   on-keeps why None = tt
   on-keeps why (Some e) = tt
 
-  removed-keeps : (x : Option VaultError) → OnlyKeeps (allowed own named) (removed (give (tt {0})) x)
+  removed-keeps : (x : Option VaultError) → OnlyKeeps (allowed keep own named) (removed (give (tt {0})) x)
   removed-keeps None = tt
   removed-keeps (Some vault_error.Absent) = tt
   removed-keeps (Some vault_error.NotSchema7) = tt
@@ -121,7 +121,7 @@ module _ (own : Text) (named : List Text) where
   removed-keeps (Some vault_error.Failed) = tt
   removed-keeps (Some vault_error.NoMemory) = tt
 
-  before-keeps : (name : Text) (x : Result DataSet VaultError) → OnlyKeeps (allowed own named) (before_of name x)
+  before-keeps : (name : Text) (x : Result DataSet VaultError) → OnlyKeeps (allowed keep own named) (before_of name x)
   before-keeps name (Ok d) = tt
   before-keeps name (Err vault_error.Absent) = tt
   before-keeps name (Err vault_error.NotSchema7) = tt
@@ -129,77 +129,83 @@ module _ (own : Text) (named : List Text) where
   before-keeps name (Err vault_error.Failed) = tt
   before-keeps name (Err vault_error.NoMemory) = tt
 
-  some-keeps : (name : Text) (b : Bool) (names : List Text) → OnlyKeeps (allowed own named) (some_input name b names)
+  some-keeps : (name : Text) (b : Bool) (names : List Text) → OnlyKeeps (allowed keep own named) (some_input name b names)
   some-keeps name b (n ∷ ns) = tt
   some-keeps name true [] = tt
   some-keeps name false [] = tt
 
-  own-keeps : (append : Bool) (name : Text) (was : Before) → OnlyKeeps (allowed own named) (own_input append name was)
+  own-keeps : (append : Bool) (name : Text) (was : Before) → OnlyKeeps (allowed keep own named) (own_input append name was)
   own-keeps false name was = tt
   own-keeps true name nothing = tt
   own-keeps true name (there d) = tt
   own-keeps true name (bad_row i) = tt
 
-  kind-keeps : (b : Bool) (r : Refusal) (ds : List DataSet) → OnlyKeeps (allowed own named) (if b then calls.refuse r else give ds)
+  kind-keeps : (b : Bool) (r : Refusal) (ds : List DataSet) → OnlyKeeps (allowed keep own named) (if b then calls.refuse r else give ds)
   kind-keeps true r ds = tt
   kind-keeps false r ds = tt
 
-  removing-keeps : (ns : List Text) → AreRemoved own named ns → OnlyKeeps (allowed own named) (each removing ns)
-  removing-keeps [] h = tt
-  removing-keeps (n ∷ ns) h =
-      then-keeps (allowed own named) (removing n) (λ b. bind (each removing ns) (λ more. give (b ∷ more))) (λ x. (h.0, removed-keeps x))
-      (λ b. then-keeps (allowed own named) (each removing ns) (λ more. give (b ∷ more)) (removing-keeps ns h.1) (λ more. tt))
+  may-go : keep ≡ false → (t : Bool) → t ≡ true → (not keep && t) ≡ true
+  may-go e t h = ap (λ k. not k && t) e ∙ h
 
-  finishing-keeps : (keep : Bool) (others : List Text) → AreInputs own named others → OnlyKeeps (allowed own named) (finishing keep own others)
-  finishing-keeps true others h = tt
-  finishing-keeps false others h = then-keeps (allowed own named) (each removing (removable own [] others)) (λ ys. give _) (removing-keeps (removable own [] others) (removable-so own named [] others h)) (λ ys. tt)
+  removing-keeps : keep ≡ false → (ns : List Text) → AreRemoved own named ns → OnlyKeeps (allowed keep own named) (each removing ns)
+  removing-keeps k [] h = tt
+  removing-keeps k (n ∷ ns) h =
+      then-keeps (allowed keep own named) (removing n) (λ b. bind (each removing ns) (λ more. give (b ∷ more))) (λ x. (may-go k _ h.0, removed-keeps x))
+      (λ b. then-keeps (allowed keep own named) (each removing ns) (λ more. give (b ∷ more)) (removing-keeps k ns h.1) (λ more. tt))
 
-  joining-keeps : (keep : Bool) (paths : Rules) (others : List Text) (ds : List DataSet) → AreInputs own named others → OnlyKeeps (allowed own named) (joining keep own paths others ds)
-  joining-keeps keep paths others ds h =
-      then-keeps (allowed own named) (if has_both_kinds ds then calls.refuse _ else give ds) _ (kind-keeps (has_both_kinds ds) _ ds)
-      (λ all. then-keeps (allowed own named) (saving own (combined (alias_of (rules_from paths)) all)) (λ b. finishing keep own others) (λ x. (same-name own, on-keeps (vault_refusal own) x)) (λ b. finishing-keeps keep others h))
+  finishing-at : (k : Bool) → keep ≡ k → (others : List Text) → AreInputs own named others → OnlyKeeps (allowed keep own named) (finishing k own others)
+  finishing-at true e others h = tt
+  finishing-at false e others h = then-keeps (allowed keep own named) (each removing (removable own [] others)) (λ ys. give _) (removing-keeps e (removable own [] others) (removable-so own named [] others h)) (λ ys. tt)
 
-  gathering-keeps : (append keep : Bool) (paths : Rules) (was : Before) (others : List Text) → AreInputs own named others → OnlyKeeps (allowed own named) (gathering append keep own paths was others)
-  gathering-keeps append keep paths was others h =
-      then-keeps (allowed own named) (some_input own (has_own append was) others) _ (some-keeps own (has_own append was) others)
-      (λ a. then-keeps (allowed own named) (own_input append own was) _ (own-keeps append own was)
-      (λ first. then-keeps (allowed own named) (each needed others) _ (each-keeps (allowed own named) needed (λ n x. (refl, given-keeps (load_refusal n) x)) others)
-      (λ rest. joining-keeps keep paths others (first ++ rest) h)))
+  finishing-keeps : (others : List Text) → AreInputs own named others → OnlyKeeps (allowed keep own named) (finishing keep own others)
+  finishing-keeps others h = finishing-at keep refl others h
+
+  joining-keeps : (paths : Rules) (others : List Text) (ds : List DataSet) → AreInputs own named others → OnlyKeeps (allowed keep own named) (joining keep own paths others ds)
+  joining-keeps paths others ds h =
+      then-keeps (allowed keep own named) (if has_both_kinds ds then calls.refuse _ else give ds) _ (kind-keeps (has_both_kinds ds) _ ds)
+      (λ all. then-keeps (allowed keep own named) (saving own (combined (alias_of (rules_from paths)) all)) (λ b. finishing keep own others) (λ x. (same-name own, on-keeps (vault_refusal own) x)) (λ b. finishing-keeps others h))
+
+  gathering-keeps : (append : Bool) (paths : Rules) (was : Before) (others : List Text) → AreInputs own named others → OnlyKeeps (allowed keep own named) (gathering append keep own paths was others)
+  gathering-keeps append paths was others h =
+      then-keeps (allowed keep own named) (some_input own (has_own append was) others) _ (some-keeps own (has_own append was) others)
+      (λ a. then-keeps (allowed keep own named) (own_input append own was) _ (own-keeps append own was)
+      (λ first. then-keeps (allowed keep own named) (each needed others) _ (each-keeps (allowed keep own named) needed (λ n x. (refl, given-keeps (load_refusal n) x)) others)
+      (λ rest. joining-keeps paths others (first ++ rest) h)))
 
 listed-keeps : (own : Text) (append keep : Bool) (paths : Rules) (was : Before) (answer : Result (List Text) VaultError)
-    → OnlyKeeps (allowed own []) (bind (bind (given_or (vault_refusal own) answer) (λ found. give (filter (is_part_of own) found))) (λ others. gathering append keep own paths was others))
-listed-keeps own append keep paths was (Ok found) = gathering-keeps own [] append keep paths was (filter (is_part_of own) found) (found-inputs own found)
+    → OnlyKeeps (allowed keep own []) (bind (bind (given_or (vault_refusal own) answer) (λ found. give (filter (is_part_of own) found))) (λ others. gathering append keep own paths was others))
+listed-keeps own append keep paths was (Ok found) = gathering-keeps keep own [] append paths was (filter (is_part_of own) found) (found-inputs own found)
 listed-keeps own append keep paths was (Err e) = tt
 
-inputs-keeps : (own : Text) (append keep : Bool) (paths : Rules) (was : Before) (named : List Text) → OnlyKeeps (allowed own named) (bind (inputs own named) (λ others. gathering append keep own paths was others))
+inputs-keeps : (own : Text) (append keep : Bool) (paths : Rules) (was : Before) (named : List Text) → OnlyKeeps (allowed keep own named) (bind (inputs own named) (λ others. gathering append keep own paths was others))
 inputs-keeps own append keep paths was [] = λ answer. (refl, listed-keeps own append keep paths was answer)
-inputs-keeps own append keep paths was (n ∷ ns) = gathering-keeps own (n ∷ ns) append keep paths was (map data_name (n ∷ ns)) (named-inputs own n ns)
+inputs-keeps own append keep paths was (n ∷ ns) = gathering-keeps keep own (n ∷ ns) append paths was (map data_name (n ∷ ns)) (named-inputs own n ns)
 
-pub combining-keeps : (own : Text) (append keep : Bool) (paths : Rules) (named : List Text) → OnlyKeeps (allowed own named) (combining append keep own paths named)
+pub combining-keeps : (own : Text) (append keep : Bool) (paths : Rules) (named : List Text) → OnlyKeeps (allowed keep own named) (combining append keep own paths named)
 combining-keeps own append keep paths named =
-    then-keeps (allowed own named) (before own) (λ was. bind (inputs own named) (λ others. gathering append keep own paths was others)) (λ x. (refl, before-keeps own named own x)) (λ was. inputs-keeps own append keep paths was named)
+    then-keeps (allowed keep own named) (before own) (λ was. bind (inputs own named) (λ others. gathering append keep own paths was others)) (λ x. (refl, before-keeps keep own named own x)) (λ was. inputs-keeps own append keep paths was named)
 
 -- the settings
-bytes-keeps : (own : Text) (named : List Text) (absent : Refusal) (x : Result (List ℕ) ShelfError) → OnlyKeeps (allowed own named) (bytes_of absent x)
-bytes-keeps own named absent (Ok bytes) = tt
-bytes-keeps own named absent (Err shelf_error.Absent) = tt
-bytes-keeps own named absent (Err shelf_error.TooLarge) = tt
-bytes-keeps own named absent (Err shelf_error.Failed) = tt
-bytes-keeps own named absent (Err shelf_error.NoMemory) = tt
+bytes-keeps : (keep : Bool) (own : Text) (named : List Text) (absent : Refusal) (x : Result (List ℕ) ShelfError) → OnlyKeeps (allowed keep own named) (bytes_of absent x)
+bytes-keeps keep own named absent (Ok bytes) = tt
+bytes-keeps keep own named absent (Err shelf_error.Absent) = tt
+bytes-keeps keep own named absent (Err shelf_error.TooLarge) = tt
+bytes-keeps keep own named absent (Err shelf_error.Failed) = tt
+bytes-keeps keep own named absent (Err shelf_error.NoMemory) = tt
 
-any-keeps : (own : Text) (named : List Text) (x : Result (List ℕ) ShelfError) → OnlyKeeps (allowed own named) (bytes_if_any x)
-any-keeps own named (Ok bytes) = tt
-any-keeps own named (Err shelf_error.Absent) = tt
-any-keeps own named (Err shelf_error.TooLarge) = tt
-any-keeps own named (Err shelf_error.Failed) = tt
-any-keeps own named (Err shelf_error.NoMemory) = tt
+any-keeps : (keep : Bool) (own : Text) (named : List Text) (x : Result (List ℕ) ShelfError) → OnlyKeeps (allowed keep own named) (bytes_if_any x)
+any-keeps keep own named (Ok bytes) = tt
+any-keeps keep own named (Err shelf_error.Absent) = tt
+any-keeps keep own named (Err shelf_error.TooLarge) = tt
+any-keeps keep own named (Err shelf_error.Failed) = tt
+any-keeps keep own named (Err shelf_error.NoMemory) = tt
 
-file-keeps : (own : Text) (named : List Text) (rcfile : Option Text) → OnlyKeeps (allowed own named) (settings_file rcfile)
-file-keeps own named (Some name) = λ x. (refl, bytes-keeps own named _ x)
-file-keeps own named None = λ x. (refl, any-keeps own named x)
+file-keeps : (keep : Bool) (own : Text) (named : List Text) (rcfile : Option Text) → OnlyKeeps (allowed keep own named) (settings_file rcfile)
+file-keeps keep own named (Some name) = λ x. (refl, bytes-keeps keep own named _ x)
+file-keeps keep own named None = λ x. (refl, any-keeps keep own named x)
 
-pub settings-keeps : (own : Text) (named : List Text) (rcfile : Option Text) → OnlyKeeps (allowed own named) (settings rcfile)
-settings-keeps own named rcfile = then-keeps (allowed own named) (settings_file rcfile) _ (file-keeps own named rcfile) (λ bytes. given-keeps own named _ _)
+pub settings-keeps : (keep : Bool) (own : Text) (named : List Text) (rcfile : Option Text) → OnlyKeeps (allowed keep own named) (settings rcfile)
+settings-keeps keep own named rcfile = then-keeps (allowed keep own named) (settings_file rcfile) _ (file-keeps keep own named rcfile) (λ bytes. given-keeps keep own named _ _)
 
 -- ---- what calls leave
 
@@ -233,56 +239,61 @@ gone-same m n = get-remove text_cmp_total m n n ∙ ap (λ (b : Bool). cond b No
 gone-else : (m : Contents) (n q : Text) → q ≢ n → get (remove m n) q ≡ get m q
 gone-else m n q h = get-remove text_cmp_total m n q ∙ ap (λ (b : Bool). cond b None (get m q)) (is_eq-slice_cmp q n ∙ differs q n h)
 
-pub left-none : (own : Text) (named : List Text) (old : Contents) → IsLeft own named old old
-left-none own named old = record { data_file = inl refl; inputs = λ q h. inl refl; others = λ q h i. refl }
+pub left-none : (keep : Bool) (own : Text) (named : List Text) (old : Contents) → IsLeft keep own named old old
+left-none keep own named old = record { data_file = inl refl; others = λ q h. inl refl }
+
+-- a name that is as it was just before
+as-now : (keep : Bool) (own : Text) (named : List Text) (old now new : Contents) (q : Text) → get new q ≡ get now q → (get now q ≡ get old q) ⊎ IsGone keep own named q now → (get new q ≡ get old q) ⊎ IsGone keep own named q new
+as-now keep own named old now new q e (inl same) = inl (e ∙ same)
+as-now keep own named old now new q e (inr g) = inr (record { not_kept = g.not_kept; input = g.input; gone = e ∙ g.gone })
 
 -- data are saved under the data file's name
-left-saved : (own n : Text) (named : List Text) (old now new : Contents) (d : DataSet) → bytes_eq n own ≡ true → new ≡ insert now n (Good d) → IsLeft own named old now → IsLeft own named old new
-left-saved own n named old now new d e is h =
+left-saved : (keep : Bool) (own n : Text) (named : List Text) (old now new : Contents) (d : DataSet) → bytes_eq n own ≡ true → new ≡ insert now n (Good d) → IsLeft keep own named old now → IsLeft keep own named old new
+left-saved keep own n named old now new d e is h =
     let same : n ≡ own = (bytes_eq-Decides n own).0 e in
     record {
       data_file = inr (d, ap (λ (m : Contents). get m own) is ∙ ap (λ (q : Text). get (insert now n (Good d)) q) (sym same) ∙ inserted-same now n (Good d));
-      inputs = λ q k. or-else (ap (λ (m : Contents). get m q) is ∙ inserted-else now n q (Good d) (λ t. k (t ∙ same))) (h.inputs q k);
-      others = λ q k i. ap (λ (m : Contents). get m q) is ∙ inserted-else now n q (Good d) (λ t. k (t ∙ same)) ∙ h.others q k i;
+      others = λ q k. as-now keep own named old now new q (ap (λ (m : Contents). get m q) is ∙ inserted-else now n q (Good d) (λ t. k (t ∙ same))) (h.others q k);
     }
-  where
-    or-else : {A : Type 0} {a b c z : A} → a ≡ b → (b ≡ c) ⊎ (b ≡ z) → (a ≡ c) ⊎ (a ≡ z)
-    or-else p (inl q) = inl (p ∙ q)
-    or-else p (inr q) = inr (p ∙ q)
 
 -- an input is removed
-left-removed : (own n : Text) (named : List Text) (old now new : Contents) → (not (bytes_eq n own) && is_input own named n) ≡ true → new ≡ remove now n → IsLeft own named old now → IsLeft own named old new
-left-removed own n named old now new e is h =
-    let both = and_parts (not (bytes_eq n own)) (is_input own named n) e in
+left-removed : (keep : Bool) (own n : Text) (named : List Text) (old now new : Contents) → (not keep && (not (bytes_eq n own) && is_input own named n)) ≡ true → new ≡ remove now n → IsLeft keep own named old now → IsLeft keep own named old new
+left-removed keep own n named old now new e is h =
+    let two = and_parts (not keep) (not (bytes_eq n own) && is_input own named n) e in
+    let both = and_parts (not (bytes_eq n own)) (is_input own named n) two.1 in
     let apart : own ≢ n = λ t. not-both (bytes_eq n own) both.0 (ap (λ (q : Text). bytes_eq n q) t ∙ same-name n) in
     record {
       data_file = either-data (ap (λ (m : Contents). get m own) is ∙ gone-else now n own apart) h.data_file;
-      inputs = λ q k. by-name q (bytes_eq q n) refl (h.inputs q k);
-      others = λ q k i. ap (λ (m : Contents). get m q) is ∙ gone-else now n q (λ t. false≢true (sym i ∙ ap (λ (x : Text). is_input own named x) t ∙ both.1)) ∙ h.others q k i;
+      others = λ q k. by-name q (bytes_eq q n) refl (not-so keep two.0) both.1 (h.others q k);
     }
   where
     not-both : (t : Bool) → not t ≡ true → t ≡ true → ⊥
     not-both true a b = false≢true a
     not-both false a b = false≢true b
 
+    not-so : (t : Bool) → not t ≡ true → t ≡ false
+    not-so true a = absurd (false≢true a)
+    not-so false a = refl
+
     either-data : {A : Type 0} {D : Type 0} {a b c : A} {z : D → A} → a ≡ b → (b ≡ c) ⊎ ((x : D) × (b ≡ z x)) → (a ≡ c) ⊎ ((x : D) × (a ≡ z x))
     either-data p (inl q) = inl (p ∙ q)
     either-data p (inr (x, q)) = inr (x, p ∙ q)
 
-    by-name : (q : Text) (t : Bool) → bytes_eq q n ≡ t → (get now q ≡ get old q) ⊎ (get now q ≡ None) → (get new q ≡ get old q) ⊎ (get new q ≡ None)
-    by-name q true s k = inr (ap (λ (m : Contents). get m q) is ∙ ap (λ (x : Text). get (remove now n) x) ((bytes_eq-Decides q n).0 s) ∙ gone-same now n)
-    by-name q false s (inl k) = inl (ap (λ (m : Contents). get m q) is ∙ gone-else now n q (λ t. false≢true (sym s ∙ (bytes_eq-Decides q n).1 t)) ∙ k)
-    by-name q false s (inr k) = inr (ap (λ (m : Contents). get m q) is ∙ gone-else now n q (λ t. false≢true (sym s ∙ (bytes_eq-Decides q n).1 t)) ∙ k)
+    by-name : (q : Text) (t : Bool) → bytes_eq q n ≡ t → keep ≡ false → is_input own named n ≡ true → (get now q ≡ get old q) ⊎ IsGone keep own named q now → (get new q ≡ get old q) ⊎ IsGone keep own named q new
+    by-name q true s k i at =
+        let same : q ≡ n = (bytes_eq-Decides q n).0 s in
+        inr (record { not_kept = k; input = ap (λ (x : Text). is_input own named x) same ∙ i; gone = ap (λ (m : Contents). get m q) is ∙ ap (λ (x : Text). get (remove now n) x) same ∙ gone-same now n })
+    by-name q false s k i at = as-now keep own named old now new q (ap (λ (m : Contents). get m q) is ∙ gone-else now n q (λ t. false≢true (sym s ∙ (bytes_eq-Decides q n).1 t))) at
 
-module _ {V : Type 0} (vault : VaultOf V) (own : Text) (named : List Text) (old : Contents) where
+module _ {V : Type 0} (vault : VaultOf V) (keep : Bool) (own : Text) (named : List Text) (old : Contents) where
   -- the vault tells its contents, and nothing but the data file and the inputs has changed
   abbrev pub Leaves : V → Type 0
-  Leaves w = vault.tells w × IsLeft own named old (vault.contents w)
+  Leaves w = vault.tells w × IsLeft keep own named old (vault.contents w)
 
   kept-so : (u v : V) (call : Call) (x : Answer call) → on_vault vault u call x v → keeps call x ≡ true → Leaves u → Leaves v
-  kept-so u v call x m e h = (vault-tells vault u call x v m h.0, subst (λ c. IsLeft own named old c) (sym (vault-kept vault u call x v m h.0 e)) h.1)
+  kept-so u v call x m e h = (vault-tells vault u call x v m h.0, subst (λ c. IsLeft keep own named old c) (sym (vault-kept vault u call x v m h.0 e)) h.1)
 
-  vault-step : (u : V) (call : Call) (x : Answer call) (v : V) → on_vault vault u call x v → allowed own named call x ≡ true → Leaves u → Leaves v
+  vault-step : (u : V) (call : Call) (x : Answer call) (v : V) → on_vault vault u call x v → allowed keep own named call x ≡ true → Leaves u → Leaves v
   vault-step u (spells words) x v m e h = absurd m
   vault-step u (checks bytes) x v m e h = absurd m
   vault-step u (reads name most) x v m e h = absurd m
@@ -290,9 +301,9 @@ module _ {V : Type 0} (vault : VaultOf V) (own : Text) (named : List Text) (old 
   vault-step u (opens script) x v m e h = absurd m
   vault-step u lists x v m e h = kept-so u v lists x m refl h
   vault-step u (loads name) x v m e h = kept-so u v (loads name) x m refl h
-  vault-step u (saves name content) None v m e h = (vault-tells vault u (saves name content) None v m h.0, left-saved own name named old (vault.contents u) (vault.contents v) content e (vault.saves_whole u name content None v h.0 m.moved).1.1 h.1)
+  vault-step u (saves name content) None v m e h = (vault-tells vault u (saves name content) None v m h.0, left-saved keep own name named old (vault.contents u) (vault.contents v) content e (vault.saves_whole u name content None v h.0 m.moved).1.1 h.1)
   vault-step u (saves name content) (Some r) v m e h = kept-so u v (saves name content) (Some r) m refl h
-  vault-step u (removes name) None v m e h = (vault-tells vault u (removes name) None v m h.0, left-removed own name named old (vault.contents u) (vault.contents v) e (vault.removes_whole u name None v h.0 m.moved).1.1 h.1)
+  vault-step u (removes name) None v m e h = (vault-tells vault u (removes name) None v m h.0, left-removed keep own name named old (vault.contents u) (vault.contents v) e (vault.removes_whole u name None v h.0 m.moved).1.1 h.1)
   vault-step u (removes name) (Some r) v m e h = kept-so u v (removes name) (Some r) m refl h
   vault-step u (makes texts) x v m e h = absurd m
   vault-step u (writes bytes) x v m e h = absurd m
@@ -301,7 +312,7 @@ module _ {V : Type 0} (vault : VaultOf V) (own : Text) (named : List Text) (old 
   vault-step u (tries modules words budget) x v m e h = absurd m
   vault-step u (says text) x v m e h = absurd m
 
-  pub both-step : {H : Type 0} (shelf : ShelfOf H) (u : H × V) (call : Call) (x : Answer call) (v : H × V) → beside (on_shelf shelf) (on_vault vault) u call x v → allowed own named call x ≡ true → Leaves u.1 → Leaves v.1
+  pub both-step : {H : Type 0} (shelf : ShelfOf H) (u : H × V) (call : Call) (x : Answer call) (v : H × V) → beside (on_shelf shelf) (on_vault vault) u call x v → allowed keep own named call x ≡ true → Leaves u.1 → Leaves v.1
   both-step shelf u call x v (inl (m, same)) e h = subst Leaves (sym same) h
   both-step shelf u call x v (inr (m, same)) e h = vault-step u.1 call x v.1 m e h
 
@@ -311,16 +322,16 @@ pub leaves-law : {H V : Type 0} (shelf : ShelfOf H) (vault : VaultOf V) → Comb
 leaves-law {H = H} {V = V} shelf vault append keep data_file rcfile named old new ending f t =
     either (parted (beside (on_shelf shelf) (on_vault vault)) IsNoMemory (settings rcfile) (λ s. combining append keep (own_name data_file s) s.paths named) old new ending f.ends)
   where
-    moved : (own : Text) {A : Type 0} (p : Step A) (u v : H × V) (e : Result A PlainWhy) → OnlyKeeps (allowed own named) p → Ends (beside (on_shelf shelf) (on_vault vault)) IsNoMemory p u e v → Leaves vault own named (vault.contents old.1) u.1 → Leaves vault own named (vault.contents old.1) v.1
-    moved own p u v e k h l = stays-so (beside (on_shelf shelf) (on_vault vault)) IsNoMemory (λ (w : H × V). Leaves vault own named (vault.contents old.1) w.1) (allowed own named) (both-step vault own named (vault.contents old.1) shelf) p u v e k h l
+    moved : (own : Text) {A : Type 0} (p : Step A) (u v : H × V) (e : Result A PlainWhy) → OnlyKeeps (allowed keep own named) p → Ends (beside (on_shelf shelf) (on_vault vault)) IsNoMemory p u e v → Leaves vault keep own named (vault.contents old.1) u.1 → Leaves vault keep own named (vault.contents old.1) v.1
+    moved own p u v e k h l = stays-so (beside (on_shelf shelf) (on_vault vault)) IsNoMemory (λ (w : H × V). Leaves vault keep own named (vault.contents old.1) w.1) (allowed keep own named) (both-step vault keep own named (vault.contents old.1) shelf) p u v e k h l
 
-    begun : (own : Text) → Leaves vault own named (vault.contents old.1) old.1
-    begun own = (t, left-none own named (vault.contents old.1))
+    begun : (own : Text) → Leaves vault keep own named (vault.contents old.1) old.1
+    begun own = (t, left-none keep own named (vault.contents old.1))
 
-    either : Parted (beside (on_shelf shelf) (on_vault vault)) IsNoMemory (settings rcfile) (λ s. combining append keep (own_name data_file s) s.paths named) old ending new → (s : Settings) × IsLeft (own_name data_file s) named (vault.contents old.1) (vault.contents new.1)
+    either : Parted (beside (on_shelf shelf) (on_vault vault)) IsNoMemory (settings rcfile) (λ s. combining append keep (own_name data_file s) s.paths named) old ending new → (s : Settings) × IsLeft keep (own_name data_file s) named (vault.contents old.1) (vault.contents new.1)
     either (inl (s, mid, first, rest)) =
         let own = own_name data_file s in
-        (s, (moved own (combining append keep own s.paths named) mid new ending (combining-keeps own append keep s.paths named) rest (moved own (settings rcfile) old mid (Ok s) (settings-keeps own named rcfile) first (begun own))).1)
+        (s, (moved own (combining append keep own s.paths named) mid new ending (combining-keeps own append keep s.paths named) rest (moved own (settings rcfile) old mid (Ok s) (settings-keeps keep own named rcfile) first (begun own))).1)
     either (inr (r, first, is)) =
         let own = own_name data_file defaults in
-        (defaults, (moved own (settings rcfile) old new (Err r) (settings-keeps own named rcfile) first (begun own)).1)
+        (defaults, (moved own (settings rcfile) old new (Err r) (settings-keeps keep own named rcfile) first (begun own)).1)

@@ -1,7 +1,7 @@
 -- The command `combine` from its end on: what is left to do after each of its steps.
---     finishing, storing, joining        the inputs are removed, the data saved before, joined before
---     gathering, combining               the inputs loaded before, the data file's own data looked at
---     list_of                            what an option holds, as a list
+--     finishing, storing, joining     the inputs are removed, the data saved before, joined before
+--     gathering, combining            the inputs loaded before, the data file's own data looked at
+--     list_of                         what an option holds, as a list
 use Rattle.std.specs.Prelude.{Bool, List, [], ◌∷◌, ◌++◌, filter, Option, Some, None, Result}
 use Rattle.cov_combine.specs.Aliases.{alias_of, rules_from}
 use Rattle.cov_combine.specs.Combined.{combined}

@@ -152,7 +152,8 @@ fn united(
     ensures kind { Follows (nobody Call Answer) IsNoMemory (same_kind (list_of first ++ rest.items))
         tt (seen (λ _. list_of first ++ rest.items) result) tt }
     ensures data { IfOk result (λ all.
-        all ≡ combined (alias_of (rules_from (rules_view paths.now))) (list_of first ++ rest.items)) }
+        all ≡ combined (alias_of (rules_from (rules_view paths.now)))
+        (list_of first ++ rest.items)) }
 {
     let Ok(inputs) = in_one_list(alloc, first, rest) else {
         return Err(Why::NoMemory);

@@ -1,6 +1,6 @@
 -- Refusals that come before anything is changed.
-use Rattle.std.proofs.Common.{◌≡◌, inl, inr, Bool, true, false, true≢false, refl, sym, ◌∙◌, ap, subst, Result, Ok, Err}
-use Rattle.cov_programs.specs.Programs.{Program, give, settle, refuse, ask, bind}
+use Rattle.std.proofs.Common.{◌≡◌, inl, inr, Bool, true, false, true≢false, List, [], ◌∷◌, refl, sym, ◌∙◌, ap, subst, Result, Ok, Err}
+use Rattle.cov_programs.specs.Programs.{Program, give, settle, refuse, ask, bind, each}
 use Rattle.cov_programs.specs.Objects.{Moves}
 use Rattle.cov_programs.specs.Ends.{Starves, Ends}
 use Rattle.cov_programs.specs.Laws.{OnlyKeeps, OnlyRefuses, IsLate}
@@ -15,7 +15,17 @@ module _ {C : Type 0} {Answer : C → Type 0} {R : Type 0} (late : R → Bool) w
   then-refuses (refuse r) next k h = k
   then-refuses (ask call f) next k h = λ x. then-refuses (f x) next (k x) h
 
+  pub each-refuses : {A B : Type 0} (p : A → Program C Answer R B) → ((a : A) → OnlyRefuses late (p a)) → (xs : List A) → OnlyRefuses late (each p xs)
+  each-refuses p h [] = tt
+  each-refuses p h (x ∷ rest) = then-refuses (p x) (λ b. bind (each p rest) (λ more. give (b ∷ more))) (h x) (λ b. then-refuses (each p rest) (λ more. give (b ∷ more)) (each-refuses p h rest) (λ more. tt))
+
   module _ (keeps : (call : C) → Answer call → Bool) where
+    pub refuses-late : {A : Type 0} (p : Program C Answer R A) → OnlyRefuses late p → IsLate keeps late p
+    refuses-late (give a) k = tt
+    refuses-late (settle a) k = tt
+    refuses-late (refuse r) k = tt
+    refuses-late (ask call f) k = λ x. ((λ e. k x), refuses-late (f x) (k x))
+
     pub then-late : {A B : Type 0} (p : Program C Answer R A) (next : A → Program C Answer R B) → OnlyKeeps keeps p → ((a : A) → IsLate keeps late (next a)) → IsLate keeps late (bind p next)
     then-late (give a) next k h = h a
     then-late (settle a) next k h = h a

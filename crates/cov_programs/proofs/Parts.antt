@@ -20,6 +20,12 @@ module _ {C : Type 0} {Answer : C → Type 0} {R : Type 0} (keeps : (call : C) �
   then-careful (refuse r) next k h = tt
   then-careful (ask call f) next k h = λ x. (λ e. absurd (true≢false (sym (k x).0 ∙ e)), then-careful (f x) next (k x).1 h)
 
+  pub keeps-careful : {A : Type 0} (p : Program C Answer R A) → OnlyKeeps keeps p → IsCareful keeps p
+  keeps-careful (give a) k = tt
+  keeps-careful (settle a) k = tt
+  keeps-careful (refuse r) k = tt
+  keeps-careful (ask call f) k = λ x. (λ e. absurd (true≢false (sym (k x).0 ∙ e)), keeps-careful (f x) (k x).1)
+
 module _ {C : Type 0} {Answer : C → Type 0} {R : Type 0} (counts : C → Bool) where
   either-way : {A : Type 0} (b : Bool) (n : ℕ) (q : Program C Answer R A) → CallsAtMost counts n q → CallsAtMost counts (suc n) q → CallsAtMost counts (if b then n else suc n) q
   either-way true n q g h = g

@@ -15,8 +15,9 @@ pub record Starves {R A W : Type 0} (wants : R → Type 0) (old : W) (ending : R
   pub is : ending ≡ Err why
   pub same : new ≡ old
 
--- The objects answer one call after another, and the program ends as their answers say. Where memory
--- may be wanting, it may be so before each call, and before anything is given that isn't settled.
+-- The objects answer one call after another, and the program ends as their answers say. Where
+-- memory may be wanting, it may be so before each call, and before anything is given that isn't
+-- settled.
 abbrev pub Ends : {C : Type 0} {Answer : C → Type 0} {R A W : Type 0} → Moves C Answer W
     → (R → Type 0) → Program C Answer R A → W → Result A R → W → Type 0
 Ends moves wants (give a) old ending new =

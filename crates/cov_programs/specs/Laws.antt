@@ -115,9 +115,10 @@ abbrev pub OnlyRefuses : {C : Type 0} {Answer : C → Type 0} {R A : Type 0} →
 OnlyRefuses late (give a) = Unit {0}
 OnlyRefuses late (settle a) = Unit {0}
 OnlyRefuses late (refuse r) = late r ≡ true
-OnlyRefuses {Answer = Answer} late (ask call f) = (answer : Answer call) → OnlyRefuses late (f answer)
+OnlyRefuses {Answer = Answer} late (ask call f) =
+    (answer : Answer call) → OnlyRefuses late (f answer)
 
--- after each answer that may have changed something, the program is refused by one of these, if it is
+-- after each answer that may have changed something, the program is refused by these alone
 abbrev pub IsLate : {C : Type 0} {Answer : C → Type 0} {R A : Type 0}
     → ((call : C) → Answer call → Bool) → (R → Bool) → Program C Answer R A → Type 0
 IsLate keeps late (give a) = Unit {0}
@@ -141,8 +142,8 @@ CallsAtMost {Answer = Answer} counts (suc n) (ask call f) =
     (answer : Answer call)
     → CallsAtMost counts (if counts call then n else suc n) (f answer)
 
--- at most so many calls lead a part of the objects from one state to another: what comes between two
--- of them leaves the part as it is
+-- at most so many calls lead a part of the objects from one state to another: what comes between
+-- two of them leaves the part as it is
 abbrev pub LedBy : {C : Type 0} {Answer : C → Type 0} {W V : Type 0} → Moves C Answer W → (W → V)
     → ℕ → V → V → Type 0
 LedBy moves part zero old new = new ≡ old

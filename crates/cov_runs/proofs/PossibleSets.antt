@@ -1,6 +1,5 @@
 -- Sets that hold what is possible in modules, made module by module.
-use Rattle.std.proofs.Common.{◌≡◌, ℕ, zero, suc, ◌<◌, ◌≤◌, List, [], ◌∷◌, ◌++◌, map, drop, length, get_or, sym, ap, ◌∙◌, append_assoc, arith}
-use Rattle.std.specs.List.{Contains}
+use Rattle.std.proofs.Common.{◌≡◌, ℕ, zero, suc, ◌<◌, ◌≤◌, List, [], ◌∷◌, ◌++◌, map, drop, length, get_or, refl, sym, ap, ◌∙◌, append_assoc, arith}
 use Rattle.std.proofs.lemmas.List.{append-nil}
 use Rattle.std.proofs.Math.ListN.{drop_of_length-le}
 use Rattle.std.proofs.Math.Seq.{drop-cons}
@@ -26,9 +25,9 @@ sets-step modules i d old new set h at is more e =
 pub sets-end : (modules : List Module) (i : ℕ) (sets : List (List Arc)) → length modules ≤ i → sets ++ map possible_in (drop i modules) ≡ map possible_in modules → sets ≡ map possible_in modules
 sets-end modules i sets h e = sym (append-nil sets) ∙ ap (λ ms. sets ++ map possible_in ms) (sym (drop_of_length-le modules h)) ∙ e
 
--- they hold what is possible in programs beside these modules
-pub hold : (ps : List Program) (ms : List Module) (m : ℕ) → m < length (loaded_pairs ps ms) → (a : Arc) → Contains (possible (body_of (loaded_pairs ps ms) m)) a → Contains (set_at (map possible_in ms) m) a
-hold [] ms m low a h = absurd (omega (arith, low))
-hold (p ∷ ps) [] m low a h = absurd (omega (arith, low))
-hold (p ∷ ps) (x ∷ ms) zero low a h = h
-hold (p ∷ ps) (x ∷ ms) (suc m) low a h = hold ps ms m (omega (arith, low)) a h
+-- they are what is possible in programs beside these modules
+pub hold : (ps : List Program) (ms : List Module) (m : ℕ) → m < length (loaded_pairs ps ms) → set_at (map possible_in ms) m ≡ possible (body_of (loaded_pairs ps ms) m)
+hold [] ms m low = absurd (omega (arith, low))
+hold (p ∷ ps) [] m low = absurd (omega (arith, low))
+hold (p ∷ ps) (x ∷ ms) zero low = refl
+hold (p ∷ ps) (x ∷ ms) (suc m) low = hold ps ms m (omega (arith, low))

@@ -1,8 +1,8 @@
 -- What was measured, in the words of commands.
 --     ran_view, ran_answer  what a run came to
 --     measuring             a run that is measured
---     HoldPossible          sets that hold what is possible in modules
-use Rattle.std.specs.Prelude.{ℕ, ◌<◌, List, Option, Result, Ok, Err, length, Contains}
+--     HoldPossible          sets of what is possible in modules
+use Rattle.std.specs.Prelude.{◌≡◌, ℕ, ◌<◌, List, Option, Result, Ok, Err, length}
 use Rattle.py_builtins.specs.declared.fault.RunFault.{RunFault}
 use Rattle.py_machine.specs.Outcomes.{plain_outcome}
 use Rattle.py_meaning.specs.Modules.{LoadedModule, body_of}
@@ -30,8 +30,6 @@ ran_of = given_or run_refusal
 abbrev pub measuring : Asked → List LoadedModule → Option HookFiles → Step Ran
 measuring asked ms hook = bind (ask (measures asked ms hook) give) ran_of
 
--- each set holds what is possible in its module
+-- each set is what is possible in its module
 abbrev pub HoldPossible : List LoadedModule → List (List Arc) → Type 0
-HoldPossible ms sets =
-    (m : ℕ) → m < length ms → (a : Arc) → Contains (possible (body_of ms m)) a
-    → Contains (set_at sets m) a
+HoldPossible ms sets = (m : ℕ) → m < length ms → set_at sets m ≡ possible (body_of ms m)

@@ -29,7 +29,18 @@ use Rattle.cov_step.specs.Commands as the
 use Rattle.cov_step.specs.Making.{made_path, ran_if_any, made_line, made_by, make}
 use Rattle.cov_step.specs.Step.{doing}
 use Rattle.cov_step.specs.Promises.{keeps, changes_last}
-use Rattle.cov_step.proofs.Keeping.{given-keeps, tree-keeps, ran-keeps, before-keeps, opened-keeps, needed-keeps, settings-keeps, hook-keeps, joins-keeps, patterns_by-keeps, patterns-keeps, source-keeps, reported-keeps}
+use Rattle.cov_step.proofs.Answering.{given-so, before-so, tree-so, ran-so}
+use Rattle.cov_step.proofs.Keeping.{KeepReading, opened-keeps, needed-keeps, settings-keeps, hook-keeps, joins-keeps, patterns_by-keeps, patterns-keeps, source-keeps, reported-keeps}
+
+-- reading leaves shelf and vault as they were
+pub keeps-reading : KeepReading keeps
+keeps-reading = record {
+  at_reads = λ name most x. refl;
+  at_opens = λ script x. refl;
+  at_checks = λ bytes x. refl;
+  at_makes = λ texts x. refl;
+  at_loads = λ name x. refl;
+}
 
 -- ---- the last calls
 
@@ -73,64 +84,64 @@ remove-careful name a = λ x. remove-so name a x
 
 arcs-careful : (steps : Option ℕ) (script : Word) (args : List Word) → IsCareful keeps (the.arcs steps script args)
 arcs-careful steps script args =
-    then-careful keeps (opened script) _ (opened-keeps script) (λ ms x. (
+    then-careful keeps (opened script) _ (opened-keeps keeps keeps-reading script) (λ ms x. (
       λ e. absurd (true≢false e),
-      then-careful keeps (given_or run_refusal x) _ (given-keeps run_refusal x) (λ r. write-careful (listing r.rows) (answered_by (or_else steps the.usual_steps) r.outcome)),
+      then-careful keeps (given_or run_refusal x) _ (given-so keeps run_refusal x) (λ r. write-careful (listing r.rows) (answered_by (or_else steps the.usual_steps) r.outcome)),
     ))
 
 measured-careful : (own : Word) (asked : Asked) (ms : List LoadedModule) (hook : Option HookFiles) (old : Option DataSet) → IsCareful keeps (the.measured own asked ms hook old)
 measured-careful own asked ms hook old = λ x. (
   λ e. absurd (true≢false e),
-  then-careful keeps (given_or run_refusal x) _ (given-keeps run_refusal x) (λ r. save-careful own (joined old r.rows) (answered_by asked.budget r.outcome)),
+  then-careful keeps (given_or run_refusal x) _ (given-so keeps run_refusal x) (λ r. save-careful own (joined old r.rows) (answered_by asked.budget r.outcome)),
 )
 
 run_by-careful : (own : Word) (append : Bool) (asked : Asked) (hook : Option (Word × Word)) (script : Word) → IsCareful keeps (the.run_by own append asked hook script)
 run_by-careful own append asked hook script =
-    then-careful keeps (opened script) _ (opened-keeps script) (λ ms.
-    then-careful keeps (hook_of hook) _ (hook-keeps hook) (λ h y. (
+    then-careful keeps (opened script) _ (opened-keeps keeps keeps-reading script) (λ ms.
+    then-careful keeps (hook_of hook) _ (hook-keeps keeps keeps-reading hook) (λ h y. (
       λ e. absurd (true≢false e),
-      then-careful keeps (before_of own y) _ (before-keeps own y) (λ was.
-          then-careful keeps (joins append own asked.arcs was) _ (joins-keeps append own asked.arcs was) (λ old. measured-careful own asked ms h old)),
+      then-careful keeps (before_of own y) _ (before-so keeps own y) (λ was.
+          then-careful keeps (joins append own asked.arcs was) _ (joins-keeps keeps keeps-reading append own asked.arcs was) (λ old. measured-careful own asked ms h old)),
     )))
 
 run-careful : (branch append : Bool) (context : Option Word) (steps : Option ℕ) (hook : Option (Word × Word)) (data_file rcfile : Option Word) (script : Word) (args : List Word)
     → IsCareful keeps (the.run branch append context steps hook data_file rcfile script args)
 run-careful branch append context steps hook data_file rcfile script args =
-    then-careful keeps (settings rcfile) _ (settings-keeps rcfile) (λ s. run_by-careful (own_name data_file s) append (the.asked_by s branch context steps script args) (the.hook_named hook s.run.hook) script)
+    then-careful keeps (settings rcfile) _ (settings-keeps keeps keeps-reading rcfile) (λ s. run_by-careful (own_name data_file s) append (the.asked_by s branch context steps script args) (the.hook_named hook s.run.hook) script)
 
 report-careful : (show : Bool) (fail_under : Option ℕ) (data_file rcfile : Option Word) → IsCareful keeps (the.report show fail_under data_file rcfile)
-report-careful show fail_under data_file rcfile = then-careful keeps (reported data_file rcfile) _ (reported-keeps data_file rcfile)
+report-careful show fail_under data_file rcfile = then-careful keeps (reported data_file rcfile) _ (reported-keeps keeps keeps-reading data_file rcfile)
     (λ r. write-careful (text_bytes r.files r.arcs (show || r.settings.report.show_missing)) (judged (or_else fail_under r.settings.report.fail_under) r.files))
 
 json-careful : (name : Option Word) (fail_under : Option ℕ) (data_file rcfile : Option Word) → IsCareful keeps (the.json name fail_under data_file rcfile)
-json-careful name fail_under data_file rcfile = then-careful keeps (reported data_file rcfile) _ (reported-keeps data_file rcfile)
+json-careful name fail_under data_file rcfile = then-careful keeps (reported data_file rcfile) _ (reported-keeps keeps keeps-reading data_file rcfile)
     (λ r. put-careful (or_else name (codes "coverage.json")) (json_bytes r.files r.arcs) (judged (or_else fail_under r.settings.report.fail_under) r.files))
 
 lcov-careful : (name : Option Word) (fail_under : Option ℕ) (data_file rcfile : Option Word) → IsCareful keeps (the.lcov name fail_under data_file rcfile)
-lcov-careful name fail_under data_file rcfile = then-careful keeps (reported data_file rcfile) _ (reported-keeps data_file rcfile)
+lcov-careful name fail_under data_file rcfile = then-careful keeps (reported data_file rcfile) _ (reported-keeps keeps keeps-reading data_file rcfile)
     (λ r. put-careful (or_else name (codes "coverage.lcov")) (lcov_bytes r.files r.arcs) (judged (or_else fail_under r.settings.report.fail_under) r.files))
 
 annotate-careful : (data_file rcfile : Option Word) (path : Word) → IsCareful keeps (the.annotate data_file rcfile path)
 annotate-careful data_file rcfile path =
-    then-careful keeps (settings rcfile) _ (settings-keeps rcfile) (λ s.
-    then-careful keeps (patterns s.report) _ (patterns-keeps s.report) (λ p.
-    then-careful keeps (needed (own_name data_file s)) _ (needed-keeps (own_name data_file s)) (λ d.
-    then-careful keeps (source path) _ (source-keeps path) (λ f. write-careful (annotated_bytes (analysed p d f) f.text) done))))
+    then-careful keeps (settings rcfile) _ (settings-keeps keeps keeps-reading rcfile) (λ s.
+    then-careful keeps (patterns s.report) _ (patterns-keeps keeps keeps-reading s.report) (λ p.
+    then-careful keeps (needed (own_name data_file s)) _ (needed-keeps keeps keeps-reading (own_name data_file s)) (λ d.
+    then-careful keeps (source path) _ (source-keeps keeps keeps-reading path) (λ f. write-careful (annotated_bytes (analysed p d f) f.text) done))))
 
 erase-careful : (data_file rcfile : Option Word) → IsCareful keeps (the.erase data_file rcfile)
-erase-careful data_file rcfile = then-careful keeps (settings rcfile) _ (settings-keeps rcfile) (λ s. remove-careful (own_name data_file s) done)
+erase-careful data_file rcfile = then-careful keeps (settings rcfile) _ (settings-keeps keeps keeps-reading rcfile) (λ s. remove-careful (own_name data_file s) done)
 
 made-careful : (seed size : ℕ) (p : Patterns) (f : PlainSource) → IsCareful keeps (made_by seed size p f)
 made-careful seed size p f = λ x. (
   λ e. absurd (true≢false e),
-  then-careful keeps (ran_if_any x) _ (ran-keeps x) (λ r. write-careful (made_line seed size p f r) done),
+  then-careful keeps (ran_if_any x) _ (ran-so keeps x) (λ r. write-careful (made_line seed size p f r) done),
 )
 
 make-careful : (seed size : ℕ) → IsCareful keeps (make seed size)
 make-careful seed size =
-    then-careful keeps (patterns_by (no_cover ∷ []) (no_branch ∷ [])) _ (patterns_by-keeps (no_cover ∷ []) (no_branch ∷ [])) (λ p x. (
+    then-careful keeps (patterns_by (no_cover ∷ []) (no_branch ∷ [])) _ (patterns_by-keeps keeps keeps-reading (no_cover ∷ []) (no_branch ∷ [])) (λ p x. (
       λ e. absurd (true≢false e),
-      then-careful keeps (tree_of made_path (made.source seed size) x) _ (tree-keeps made_path (made.source seed size) x) (made-careful seed size p),
+      then-careful keeps (tree_of made_path (made.source seed size) x) _ (tree-so keeps made_path (made.source seed size) x) (made-careful seed size p),
     ))
 
 pub law_of_care : (c : PlainCommand) → changes_last c ≡ true → IsCareful keeps (doing c)

@@ -3,9 +3,10 @@ use Rattle.std.proofs.Common.{◌≡◌, ◌⊎◌, inl, inr, ◌∙◌, Bool, t
 use Rattle.cov_programs.specs.Programs.{Program, give, settle, refuse, ask}
 use Rattle.cov_programs.specs.Objects.{Moves, beside}
 use Rattle.cov_programs.specs.Ends.{Ends, Follows}
-use Rattle.cov_programs.specs.Laws.{IsCareful}
+use Rattle.cov_programs.specs.Laws.{IsCareful, IsLate}
 use Rattle.cov_programs.proofs.Keeping.{refusal-keeps}
-use Rattle.cov_why.specs.Answers.{PlainWhy}
+use Rattle.cov_programs.proofs.Late.{early-keeps}
+use Rattle.cov_why.specs.Answers.{no_memory, PlainWhy}
 use Rattle.cov_step.specs.Calls.{Call, Answer, Step, IsNoMemory}
 use Rattle.cov_step.specs.Promises.{keeps}
 
@@ -25,6 +26,10 @@ module _ {W K : Type 0} (moves : Moves Call Answer W) (part : W → K) (Tells : 
 
   pub leaves : {A : Type 0} (p : Step A) (old new : W) (r : PlainWhy) → IsCareful keeps p → Tells old → Follows moves IsNoMemory p old (Err r) new → part new ≡ part old
   leaves p old new r c t f = refusal-keeps telling IsNoMemory part keeps (λ u call x v m e. kept u call x v m.0 m.1 e) p old new r c (told-ends p old new (Err r) t f.ends)
+
+  -- so does one that is refused before it changed anything
+  pub leaves-early : (late : PlainWhy → Bool) → late (Err no_memory) ≡ true → {A : Type 0} (p : Step A) (old new : W) (r : PlainWhy) → late r ≡ false → IsLate keeps late p → Tells old → Follows moves IsNoMemory p old (Err r) new → part new ≡ part old
+  leaves-early late h p old new r e c t f = early-keeps telling IsNoMemory late (λ q w. ap late w ∙ h) part keeps (λ u call x v m k. kept u call x v m.0 m.1 k) p old new r e c (told-ends p old new (Err r) t f.ends)
 
 -- ---- objects side by side
 

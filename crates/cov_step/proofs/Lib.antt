@@ -1,5 +1,6 @@
 pub mod Parts
 pub mod Whole
+pub mod Answering
 pub mod Keeping
 pub mod Care
 pub mod Twice
@@ -11,3 +12,5 @@ pub mod Rising
 pub mod Leaving
 pub mod Folds
 pub mod Silence
+pub mod Early
+pub mod Combining

@@ -6,6 +6,7 @@ use Rattle.cov_programs.specs.Objects.{Moves, beside}
 use Rattle.cov_programs.specs.Ends.{Ends, Follows}
 use Rattle.cov_programs.specs.Laws.{BlamesOnly, Brought, Counting}
 use Rattle.cov_programs.proofs.Counting.{blames}
+use Rattle.cov_programs.proofs.Later.{ends-onward}
 use Rattle.cov_why.specs.Answers.{Refusal, PlainWhy, no_memory}
 use Rattle.cov_words.specs.Values.{Word}
 use Rattle.cov_step.specs.Calls.{Call, Answer, Answered, Step, IsNoMemory}
@@ -15,11 +16,11 @@ use Rattle.cov_step.proofs.Blames.{law_of_blame}
 
 -- ---- counts
 
-raised-on : (a b c : ℕ) → a ≤ b → Rose b c → Rose a c
+pub raised-on : (a b c : ℕ) → a ≤ b → Rose b c → Rose a c
 raised-on a b c h (inl less) = inl (omega (arith, h, less))
 raised-on a b c h (inr full) = inr full
 
-stays-raised : (a b c : ℕ) → Rose a b → b ≤ c → Rose a c
+pub stays-raised : (a b c : ℕ) → Rose a b → b ≤ c → Rose a c
 stays-raised a b c (inl less) h = inl (omega (arith, h, less))
 stays-raised a b c (inr full) h = inr (omega (arith, h, full))
 
@@ -63,6 +64,13 @@ blame-fed r o e h = no-one (sym (ap blame_of (is h)) ∙ e)
 
     no-one : ◌≡◌ {A = Option Object} None (Some o) → ⊥
     no-one x = cc
+
+-- ---- a count that never falls
+
+pub never-falls : {W : Type 0} (moves : Moves Call Answer W) (count : W → ℕ) → ((u : W) (call : Call) (x : Answer call) (v : W) → moves u call x v → count u ≤ count v)
+    → {A : Type 0} (p : Step A) (old new : W) (e : Result A PlainWhy) → Follows moves IsNoMemory p old e new → count old ≤ count new
+never-falls moves count later p old new e f =
+    ends-onward moves IsNoMemory (λ u v. count u ≤ count v) (λ u. omega arith) (λ u v w g h. omega (arith, g, h)) later p old new e f.ends
 
 -- ---- a command
 

@@ -9,3 +9,5 @@ pub mod Scripts
 pub mod Step
 pub mod Objects
 pub mod Promises
+pub mod Early
+pub mod Combining

@@ -1,4 +1,6 @@
 //! Laws of the commands, whatever the objects do that they call.
+ghost use Rattle.cov_step.specs.Combining.{CombineLaw};
+ghost use Rattle.cov_step.specs.Early.{EarlyLaw};
 ghost use Rattle.cov_step.specs.Promises.{BlameLaw, CarefulLaw, QuietLaw, RunTwiceLaw, YieldLaw};
 
 /// A command that changes shelf or vault by its last call alone isn't refused after it. So a
@@ -11,6 +13,19 @@ pub fn careful()
 /// nothing when it runs.
 pub fn quiet()
     ensures { QuietLaw }
+{}
+
+/// A command but a script is refused before it runs or writes anything; what may come later are
+/// faults, want of memory, and a save of a run whose target isn't of schema 7. It does nothing
+/// when it runs.
+pub fn refuses_early()
+    ensures { EarlyLaw }
+{}
+
+/// `combine` is refused before it changed data, but by faults of the vault and want of memory, and
+/// it puts no file. It does nothing when it runs.
+pub fn combine_is_careful()
+    ensures { CombineLaw }
 {}
 
 /// A run calls the vault at most twice. It does nothing when it runs.

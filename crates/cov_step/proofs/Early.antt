@@ -1,0 +1,174 @@
+-- Commands are refused before they run or write anything, but for faults and the like.
+use Rattle.std.proofs.Common.{◌≡◌, ℕ, Bool, true, false, if◌then◌else◌, true≢false, refl, sym, List, [], ◌∷◌, Option, Some, None, Result, Ok, Err}
+use Rattle.std.specs.Prelude.{◌||◌, codes}
+use Rattle.std.specs.Str.{bytes_eq}
+use Rattle.cov_outside.specs.declared.sink.SinkError.{SinkError}
+use Rattle.cov_outside.specs.declared.sink.SinkError.TheVariants as sink_error
+use Rattle.py_builtins.specs.declared.fault.RunFault.{RunFault}
+use Rattle.py_builtins.specs.declared.fault.RunFault.TheVariants as run_fault
+use Rattle.py_meaning.specs.Modules.{LoadedModule}
+use Rattle.cov_config.specs.Settings.{no_cover, no_branch}
+use Rattle.cov_data.specs.DataSet.{DataSet}
+use Rattle.cov_json.specs.Json.{json_bytes}
+use Rattle.cov_lcov.specs.Annotated.{annotated_bytes}
+use Rattle.cov_lcov.specs.Lcov.{lcov_bytes}
+use Rattle.cov_make.specs.Source as made
+use Rattle.cov_programs.specs.Programs.{settle, ask}
+use Rattle.cov_programs.specs.Laws.{OnlyKeeps, OnlyRefuses, IsLate}
+use Rattle.cov_programs.proofs.Late.{then-refuses, then-late, keeps-late}
+use Rattle.cov_text.specs.Report.{text_bytes}
+use Rattle.cov_vault.specs.declared.vault.VaultError.{VaultError}
+use Rattle.cov_vault.specs.declared.vault.VaultError.TheVariants as vault_error
+use Rattle.cov_why.specs.Answers.{Refusal, read_fault, write_fault, no_memory}
+use Rattle.cov_words.specs.Commands.{PlainCommand}
+use Rattle.cov_words.specs.Commands as plain
+use Rattle.cov_words.specs.Values.{Word}
+use Rattle.cov_step.specs.Calls.{Answered, PlainSource, Patterns, HookFiles, Asked, Ran, Step, puts}
+use Rattle.cov_step.specs.Answers.{given_or, before_of, run_refusal, shelf_refusal, sink_refusal, vault_refusal, removed, last, tree_of}
+use Rattle.cov_step.specs.Phases.{needed, before, opened, settings, own_name, patterns_by, patterns, source, hook_of, joins, joined, analysed, reported, judged, done, write_last, put_last, save_last, remove_last, answered_by}
+use Rattle.cov_step.specs.Listing.{listing}
+use Rattle.cov_step.specs.Names.{or_else}
+use Rattle.cov_step.specs.Commands as the
+use Rattle.cov_step.specs.Making.{made_path, ran_if_any, made_line, made_by, make}
+use Rattle.cov_step.specs.Step.{doing}
+use Rattle.cov_step.specs.Early.{leaves_streams, comes_late, late_in_run, late_of, is_late}
+use Rattle.cov_step.specs.Promises.{has_one_text}
+use Rattle.cov_step.proofs.Answering.{given-so, last-so, before-so, removed-so, tree-so, ran-so}
+use Rattle.cov_step.proofs.Combining.{combine-keeps}
+use Rattle.cov_step.proofs.Keeping.{KeepReading, opened-keeps, needed-keeps, settings-keeps, hook-keeps, joins-keeps, patterns_by-keeps, patterns-keeps, source-keeps, reported-keeps}
+
+-- reading leaves the streams as they were
+pub streams-reading : KeepReading leaves_streams
+streams-reading = record {
+  at_reads = λ name most x. refl;
+  at_opens = λ script x. refl;
+  at_checks = λ bytes x. refl;
+  at_makes = λ texts x. refl;
+  at_loads = λ name x. refl;
+}
+
+abbrev Early : {A : Type 0} → Step A → Type 0
+Early p = IsLate leaves_streams (is_late comes_late) p
+
+abbrev EarlyInRun : {A : Type 0} → Step A → Type 0
+EarlyInRun p = IsLate leaves_streams (is_late late_in_run) p
+
+-- ---- the last calls
+
+sink-refuses : (a : Answered) (x : Option SinkError) → OnlyRefuses (is_late comes_late) (last sink_refusal a x)
+sink-refuses a None = tt
+sink-refuses a (Some sink_error.Failed) = refl
+sink-refuses a (Some sink_error.NoMemory) = refl
+
+write-early : (bytes : List ℕ) (a : Answered) → Early (write_last bytes a)
+write-early bytes a = λ x. (λ e. sink-refuses a x, keeps-late (is_late comes_late) leaves_streams (last sink_refusal a x) (last-so leaves_streams sink_refusal a x))
+
+if-early : (b : Bool) (p q : Step Answered) → Early p → Early q → Early (if b then p else q)
+if-early true p q h g = h
+if-early false p q h g = g
+
+put-early : (name : Word) (bytes : List ℕ) (a : Answered) → Early (put_last name bytes a)
+put-early name bytes a = if-early (bytes_eq name (codes "-")) (write_last bytes a) (ask (puts name bytes) (last shelf_refusal a)) (write-early bytes a)
+    (keeps-late (is_late comes_late) leaves_streams (ask (puts name bytes) (last shelf_refusal a)) (λ x. (refl, last-so leaves_streams shelf_refusal a x)))
+
+vault-refuses : (name : Word) (a : Answered) (x : Option VaultError) → OnlyRefuses (is_late late_in_run) (last (vault_refusal name) a x)
+vault-refuses name a None = tt
+vault-refuses name a (Some vault_error.Absent) = refl
+vault-refuses name a (Some vault_error.NotSchema7) = refl
+vault-refuses name a (Some (vault_error.BadRow i)) = refl
+vault-refuses name a (Some vault_error.Failed) = refl
+vault-refuses name a (Some vault_error.NoMemory) = refl
+
+save-late : (name : Word) (content : DataSet) (a : Answered) → EarlyInRun (save_last name content a)
+save-late name content a = keeps-late (is_late late_in_run) leaves_streams (save_last name content a) (λ x. (refl, last-so leaves_streams (vault_refusal name) a x))
+
+run-refuses : (late : Refusal → Bool) → late read_fault ≡ true → late write_fault ≡ true → late no_memory ≡ true → (x : Result Ran RunFault) → OnlyRefuses (is_late late) (given_or run_refusal x)
+run-refuses late r w n (Ok ran) = tt
+run-refuses late r w n (Err run_fault.ReadFault) = r
+run-refuses late r w n (Err run_fault.WriteFault) = w
+run-refuses late r w n (Err run_fault.NoMemory) = n
+
+-- ---- the commands
+
+arcs-early : (steps : Option ℕ) (script : Word) (args : List Word) → Early (the.arcs steps script args)
+arcs-early steps script args =
+    then-late (is_late comes_late) leaves_streams (opened script) _ (opened-keeps leaves_streams streams-reading script) (λ ms x. (
+      λ e. then-refuses (is_late comes_late) (given_or run_refusal x) (λ r. write_last (listing r.rows) (answered_by (or_else steps the.usual_steps) r.outcome)) (run-refuses comes_late refl refl refl x) (λ r y. sink-refuses (answered_by (or_else steps the.usual_steps) r.outcome) y),
+      then-late (is_late comes_late) leaves_streams (given_or run_refusal x) _ (given-so leaves_streams run_refusal x) (λ r. write-early (listing r.rows) (answered_by (or_else steps the.usual_steps) r.outcome)),
+    ))
+
+measured-early : (own : Word) (asked : Asked) (ms : List LoadedModule) (hook : Option HookFiles) (old : Option DataSet) → EarlyInRun (the.measured own asked ms hook old)
+measured-early own asked ms hook old = λ x. (
+  λ e. then-refuses (is_late late_in_run) (given_or run_refusal x) (λ r. save_last own (joined old r.rows) (answered_by asked.budget r.outcome)) (run-refuses late_in_run refl refl refl x) (λ r y. vault-refuses own (answered_by asked.budget r.outcome) y),
+  then-late (is_late late_in_run) leaves_streams (given_or run_refusal x) _ (given-so leaves_streams run_refusal x) (λ r. save-late own (joined old r.rows) (answered_by asked.budget r.outcome)),
+)
+
+before-keeps : (name : Word) → OnlyKeeps leaves_streams (before name)
+before-keeps name = λ x. (refl, before-so leaves_streams name x)
+
+run_by-early : (own : Word) (append : Bool) (asked : Asked) (hook : Option (Word × Word)) (script : Word) → EarlyInRun (the.run_by own append asked hook script)
+run_by-early own append asked hook script =
+    then-late (is_late late_in_run) leaves_streams (opened script) _ (opened-keeps leaves_streams streams-reading script) (λ ms.
+    then-late (is_late late_in_run) leaves_streams (hook_of hook) _ (hook-keeps leaves_streams streams-reading hook) (λ h.
+    then-late (is_late late_in_run) leaves_streams (before own) _ (before-keeps own) (λ was.
+    then-late (is_late late_in_run) leaves_streams (joins append own asked.arcs was) _ (joins-keeps leaves_streams streams-reading append own asked.arcs was) (λ old. measured-early own asked ms h old))))
+
+run-early : (branch append : Bool) (context : Option Word) (steps : Option ℕ) (hook : Option (Word × Word)) (data_file rcfile : Option Word) (script : Word) (args : List Word)
+    → EarlyInRun (the.run branch append context steps hook data_file rcfile script args)
+run-early branch append context steps hook data_file rcfile script args =
+    then-late (is_late late_in_run) leaves_streams (settings rcfile) _ (settings-keeps leaves_streams streams-reading rcfile) (λ s. run_by-early (own_name data_file s) append (the.asked_by s branch context steps script args) (the.hook_named hook s.run.hook) script)
+
+combine-early : (append keep : Bool) (data_file rcfile : Option Word) (named : List Word) → Early (the.combine append keep data_file rcfile named)
+combine-early append keep data_file rcfile named = keeps-late (is_late comes_late) leaves_streams (the.combine append keep data_file rcfile named)
+    (combine-keeps leaves_streams streams-reading (λ x. refl) (λ name content x. refl) (λ name x. refl) append keep data_file rcfile named)
+
+report-early : (show : Bool) (fail_under : Option ℕ) (data_file rcfile : Option Word) → Early (the.report show fail_under data_file rcfile)
+report-early show fail_under data_file rcfile = then-late (is_late comes_late) leaves_streams (reported data_file rcfile) _ (reported-keeps leaves_streams streams-reading data_file rcfile)
+    (λ r. write-early (text_bytes r.files r.arcs (show || r.settings.report.show_missing)) (judged (or_else fail_under r.settings.report.fail_under) r.files))
+
+json-early : (name : Option Word) (fail_under : Option ℕ) (data_file rcfile : Option Word) → Early (the.json name fail_under data_file rcfile)
+json-early name fail_under data_file rcfile = then-late (is_late comes_late) leaves_streams (reported data_file rcfile) _ (reported-keeps leaves_streams streams-reading data_file rcfile)
+    (λ r. put-early (or_else name (codes "coverage.json")) (json_bytes r.files r.arcs) (judged (or_else fail_under r.settings.report.fail_under) r.files))
+
+lcov-early : (name : Option Word) (fail_under : Option ℕ) (data_file rcfile : Option Word) → Early (the.lcov name fail_under data_file rcfile)
+lcov-early name fail_under data_file rcfile = then-late (is_late comes_late) leaves_streams (reported data_file rcfile) _ (reported-keeps leaves_streams streams-reading data_file rcfile)
+    (λ r. put-early (or_else name (codes "coverage.lcov")) (lcov_bytes r.files r.arcs) (judged (or_else fail_under r.settings.report.fail_under) r.files))
+
+annotate-early : (data_file rcfile : Option Word) (path : Word) → Early (the.annotate data_file rcfile path)
+annotate-early data_file rcfile path =
+    then-late (is_late comes_late) leaves_streams (settings rcfile) _ (settings-keeps leaves_streams streams-reading rcfile) (λ s.
+    then-late (is_late comes_late) leaves_streams (patterns s.report) _ (patterns-keeps leaves_streams streams-reading s.report) (λ p.
+    then-late (is_late comes_late) leaves_streams (needed (own_name data_file s)) _ (needed-keeps leaves_streams streams-reading (own_name data_file s)) (λ d.
+    then-late (is_late comes_late) leaves_streams (source path) _ (source-keeps leaves_streams streams-reading path) (λ f. write-early (annotated_bytes (analysed p d f) f.text) done))))
+
+erase-early : (data_file rcfile : Option Word) → Early (the.erase data_file rcfile)
+erase-early data_file rcfile = then-late (is_late comes_late) leaves_streams (settings rcfile) _ (settings-keeps leaves_streams streams-reading rcfile)
+    (λ s. keeps-late (is_late comes_late) leaves_streams (remove_last (own_name data_file s) done) (λ x. (refl, removed-so leaves_streams (settle done) tt x)))
+
+made-early : (seed size : ℕ) (p : Patterns) (f : PlainSource) → Early (made_by seed size p f)
+made-early seed size p f = λ x. (
+  λ e. absurd (true≢false e),
+  then-late (is_late comes_late) leaves_streams (ran_if_any x) _ (ran-so leaves_streams x) (λ r. write-early (made_line seed size p f r) done),
+)
+
+make-early : (seed size : ℕ) → Early (make seed size)
+make-early seed size =
+    then-late (is_late comes_late) leaves_streams (patterns_by (no_cover ∷ []) (no_branch ∷ [])) _ (patterns_by-keeps leaves_streams streams-reading (no_cover ∷ []) (no_branch ∷ [])) (λ p x. (
+      λ e. absurd (true≢false e),
+      then-late (is_late comes_late) leaves_streams (tree_of made_path (made.source seed size) x) _ (tree-so leaves_streams made_path (made.source seed size) x) (made-early seed size p),
+    ))
+
+pub law_of_early : (c : PlainCommand) → has_one_text c ≡ true → IsLate leaves_streams (is_late (late_of c)) (doing c)
+law_of_early (plain.arcs steps script args) e = arcs-early steps script args
+law_of_early (plain.run branch append context steps hook data_file rcfile script args) e = run-early branch append context steps hook data_file rcfile script args
+law_of_early (plain.combine append keep data_file rcfile named) e = combine-early append keep data_file rcfile named
+law_of_early (plain.report show fail_under data_file rcfile) e = report-early show fail_under data_file rcfile
+law_of_early (plain.json name fail_under data_file rcfile) e = json-early name fail_under data_file rcfile
+law_of_early (plain.lcov name fail_under data_file rcfile) e = lcov-early name fail_under data_file rcfile
+law_of_early (plain.annotate data_file rcfile path) e = annotate-early data_file rcfile path
+law_of_early (plain.erase data_file rcfile) e = erase-early data_file rcfile
+law_of_early (plain.script file) e = absurd (true≢false (sym e))
+law_of_early (plain.make seed size) e = make-early seed size
+law_of_early (plain.suite branch steps data_file rcfile file) e = tt
+law_of_early (plain.select steps old new) e = tt
+law_of_early (plain.mutate steps file) e = tt
