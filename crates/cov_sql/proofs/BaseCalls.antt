@@ -16,14 +16,15 @@ use Rattle.cov_vault.specs.declared.vault.VaultError.{VaultError}
 use Rattle.cov_vault.specs.declared.vault.VaultError.TheVariants as vault
 use Rattle.cov_sql.specs.declared.errors.SqlError.{SqlError}
 use Rattle.cov_sql.specs.declared.errors.SqlError.TheVariants as sql
-use Rattle.cov_sql.specs.Content.{content_in, AreUnhidden}
-use Rattle.cov_sql.specs.Making.{IsBare}
+use Rattle.cov_sql.specs.Content.{content_in}
+use Rattle.cov_sql.specs.Making.{Spares, SparesAll}
+use Rattle.cov_sql.specs.ByName.{shape_of}
+use Rattle.sqlite_schema.specs.declared.schema.Schema.{Schema}
 use Rattle.cov_sql.specs.Committed.{IsReadyFor, EndsSaved}
-use Rattle.cov_sql.specs.Finds.{EndsAs}
+use Rattle.cov_sql.specs.Told.{EndsAs}
 use Rattle.cov_sql.specs.Laws.{IsReadAgain}
 use Rattle.cov_sql.specs.Bases.{kept_in, IsAsDeclared, Loads, IsSavable, SavesIn}
 use Rattle.cov_sql.proofs.Committing.{keeps_ended}
-use Rattle.cov_sql.proofs.Making.{bare_hidden}
 use Rattle.cov_sql.proofs.ReadAgain.{saves_are_read}
 
 -- a failure says of the content what the error said
@@ -34,15 +35,6 @@ module _ (e : SqlError) (f : VaultError) (schema : f ≡ vault.NotSchema7 → e 
 is_row : {A B : Type 0} (e : SqlError) (f : VaultError) (row : ℕ) → (f ≡ vault.BadRow row → e ≡ sql.BadRow row) → ◌≡◌ {A = Result A VaultError} (Err f) (Err (vault.BadRow row)) → ◌≡◌ {A = Result B SqlError} (Err e) (Err (sql.BadRow row))
 is_row e f row bad is = let same : f ≡ vault.BadRow row = cc in ap Err (bad same)
 
-schema_or_not : (c : Content) → (c ≡ NotSchema7) ⊎ (c ≢ NotSchema7)
-schema_or_not (Good d) = inr (λ e. cc)
-schema_or_not NotSchema7 = inl refl
-schema_or_not (BadRow row) = inr (λ e. cc)
-
-savable_hidden : (fresh : Bool) (db : Database) → IsSavable fresh db → AreUnhidden db
-savable_hidden true db bare = bare_hidden db bare
-savable_hidden false db declared = declared.unhidden
-
 savable_ready : (fresh : Bool) (db : Database) → IsSavable fresh db → (fresh ≡ false → content_in db ≢ NotSchema7) → IsReadyFor fresh db
 savable_ready true db bare good = bare
 savable_ready false db declared good = declared.ready (good refl)
@@ -50,9 +42,6 @@ savable_ready false db declared good = declared.ready (good refl)
 module _ (old new : Held MemStore) (settled : (state over_memory old).now ≡ kept_in old) where
   same_content : content_in (kept_in old) ≡ content_in (state over_memory old).now
   same_content = ap content_in (sym settled)
-
-  pub declared_hidden : IsAsDeclared (kept_in old) → AreUnhidden (state over_memory old).now
-  declared_hidden declared = subst AreUnhidden (sym settled) declared.unhidden
 
   ended : EndsAs (state over_memory old) (state over_memory new) → kept_in new ≡ kept_in old
   ended ends = (keeps_ended (state over_memory old) (state over_memory new) ends).committed refl
@@ -72,9 +61,6 @@ module _ (old new : Held MemStore) (settled : (state over_memory old).now ≡ ke
   }
 
   module _ (fresh : Bool) (d : DataSet) (savable : IsSavable fresh (kept_in old)) where
-    pub hidden : AreUnhidden (state over_memory old).now
-    hidden = subst AreUnhidden (sym settled) (savable_hidden fresh (kept_in old) savable)
-
     ready : (fresh ≡ false → content_in (kept_in old) ≢ NotSchema7) → IsReadyFor fresh (state over_memory old).now
     ready good = subst (IsReadyFor fresh) (sym settled) (savable_ready fresh (kept_in old) savable good)
 
@@ -84,35 +70,25 @@ module _ (old new : Held MemStore) (settled : (state over_memory old).now ≡ ke
         let again : IsReadAgain d (state over_memory new).now = saves_are_read over_memory d fresh old new sound (ready good) ends in
         record {
           saved = ap content_in (sym ends.1) ∙ again.reads;
-          declared = subst IsAsDeclared ends.1 (record { ready = λ _. again.ready; unhidden = again.unhidden });
+          declared = subst IsAsDeclared ends.1 (record { ready = λ _. again.ready });
           replaces = good;
           not_schema = λ k. absurd cc;
           kept = tt;
         }
 
     pub saves_err : (e : SqlError) (f : VaultError) → (f ≡ vault.NotSchema7 → e ≡ sql.NotSchema7)
-        → (IsReadyFor fresh (state over_memory old).now → ◌≡◌ {A = Result (Unit {0}) SqlError} (Err e) (Err sql.NotSchema7) → (fresh ≡ false) × (content_in (state over_memory old).now ≡ NotSchema7))
+        → (◌≡◌ {A = Result (Unit {0}) SqlError} (Err e) (Err sql.NotSchema7) → (fresh ≡ false) × (content_in (state over_memory old).now ≡ NotSchema7))
         → KeepsCommit (state over_memory old) (state over_memory new) → SavesIn fresh d (kept_in old) (kept_in new) (Err f)
     saves_err e f schema only keeps = record {
       saved = tt;
       declared = tt;
       replaces = λ _. tt;
-      not_schema = λ is. elim (cases fresh) [
-        | inl fresh_is ↦ absurd (let no = (only (ready (λ old_is. absurd (cc))) (is_schema e f schema is)).0 in cc)
-        | inr old_is ↦ elim (schema_or_not (content_in (kept_in old))) [
-          | inl same ↦ (old_is, same)
-          | inr differs ↦ (old_is, same_content ∙ (only (ready (λ _. differs)) (is_schema e f schema is)).1)
-        ]
-      ];
+      not_schema = λ is. let why = only (is_schema e f schema is) in (why.0, same_content ∙ why.1);
       kept = keeps.committed refl;
     }
-      where
-        cases : (b : Bool) → (b ≡ true) ⊎ (b ≡ false)
-        cases true = inl refl
-        cases false = inr refl
 
-pub empty_savable : (h : Held MemStore) → IsEmpty (state over_memory h) → IsBare (kept_in h)
-empty_savable h empty = ap (λ db. db.schema) (sym empty.0.clean) ∙ empty.2
+pub empty_savable : (h : Held MemStore) → IsEmpty (state over_memory h) → SparesAll (kept_in h).schema
+empty_savable h empty n = subst (λ (s : Schema). Spares s (shape_of n).name) (sym (ap (λ (db : Database). db.schema) (sym empty.0.clean) ∙ empty.2)) tt
 
 -- ---- an answer
 

@@ -6,66 +6,61 @@ use Rattle.sqlite.specs.State.{State, HasCleanDisk}
 use Rattle.cov_sql.specs.declared.statements.StatementError.{StatementError}
 use Rattle.cov_sql.specs.declared.statements.StatementError.TheVariants.{Missing, Refused, NoMemory}
 use Rattle.sqlite_schema.specs.Names.{table_named}
-use Rattle.cov_sql.specs.Tables.{Shape, IsUnhidden}
+use Rattle.cov_sql.specs.Tables.{Shape}
 use Rattle.cov_sql.specs.Declarations.{declared_coverage_schema, declared_meta, declared_file, declared_context, declared_line_bits, declared_arc, declared_tracer, declared_hits}
-use Rattle.cov_sql.specs.Written.{IsUnused, IsMade, IsGrown, Makes, Ran, WasAbsent}
-use Rattle.cov_sql.proofs.Creates.{IsCreate, makes, never_twice}
-use Rattle.cov_sql.proofs.Growing.{grown, nothing_absent}
+use Rattle.cov_sql.specs.Written.{IsMade, Makes, Ran, WasAbsent}
+use Rattle.cov_sql.proofs.Creates.{IsCreate, is_taken, never_twice}
+use Rattle.cov_sql.proofs.Growing.{makes, nothing_absent}
 
 -- a statement that runs such a text makes its table, and never twice
 module _ (text : List ℕ) (t : Shape) (table : ℕ → Table) (i : IsCreate text t.name table) (old new : State) where
-  no_more : (r : Result (Unit {0}) StatementError) → OnOk r (Ran text [] old new) → (IsErrOf r Missing → WasAbsent text [] old new) → (at : ℕ) → table_named old.now.schema t.name ≡ Some at → IsUnhidden t old.now
+  no_more : (r : Result (Unit {0}) StatementError) → OnOk r (Ran text [] old new) → (IsErrOf r Missing → WasAbsent text [] old new) → (at : ℕ) → table_named old.now.schema t.name ≡ Some at
       → (r ≡ Err Refused) ⊎ (r ≡ Err NoMemory)
-  no_more (Ok v) ran absent at there no_view = absurd (never_twice text t.name table i [] old new at there no_view ran.0 ran.1)
-  no_more (Err Missing) ran absent at there no_view = absurd (nothing_absent text t.name table i old new no_view (absent refl))
-  no_more (Err Refused) ran absent at there no_view = inl refl
-  no_more (Err NoMemory) ran absent at there no_view = inr refl
+  no_more (Ok v) ran absent at there = absurd (never_twice text t.name table i [] old new (is_taken old.now.schema text t.name table i at there) ran.0 ran.1)
+  no_more (Err Missing) ran absent at there = absurd (nothing_absent text t table i old new (absent refl))
+  no_more (Err Refused) ran absent at there = inl refl
+  no_more (Err NoMemory) ran absent at there = inr refl
 
-  made_then : (r : Result (Unit {0}) StatementError) → OnOk r (Ran text [] old new) → IsUnused t table old.now → OnOk r (IsMade table old.now new.now)
-  made_then (Ok v) ran free = makes text t.name table i old new free.no_table free.no_view free.no_index free.sequenced ran.0 ran.1
-  made_then (Err e) ran free = tt
-
-  grown_then : (r : Result (Unit {0}) StatementError) → OnOk r (Ran text [] old new) → IsUnhidden t old.now → OnOk r (IsGrown old.now.schema new.now.schema)
-  grown_then (Ok v) ran no_view = grown text t.name table i old new no_view ran.0 ran.1
-  grown_then (Err e) ran no_view = tt
+  made_then : (r : Result (Unit {0}) StatementError) → OnOk r (Ran text [] old new) → OnOk r (IsMade t table old.now new.now)
+  made_then (Ok v) ran = makes text t table i old new ran.0 ran.1
+  made_then (Err e) ran = tt
 
   pub makes_table : (r : Result (Unit {0}) StatementError) → (HasCleanDisk new → IsTrue old.in_transaction → OnOk r (Ran text [] old new))
       → (HasCleanDisk new → IsTrue old.in_transaction → IsErrOf r Missing → WasAbsent text [] old new) → Makes t table old new r
   makes_table r ran absent clean inside = record {
     made = made_then r (ran clean inside);
     once = no_more r (ran clean inside) (absent clean inside);
-    grown = grown_then r (ran clean inside);
-    never = λ no_view no. nothing_absent text t.name table i old new no_view (absent clean inside no);
+    never = λ no. nothing_absent text t table i old new (absent clean inside no);
   }
 
 pub makes_coverage_schema : IsCreate (codes "CREATE TABLE coverage_schema (version integer)") (codes "coverage_schema") declared_coverage_schema
 unfolding everything
-makes_coverage_schema = record { parsed = _; def = _; reads = refl; is = refl; no_names = refl; no_formats = refl; named = refl; plain = (refl, refl, refl); defined = refl; spans = refl; defines = refl; uncomputed = refl }
+makes_coverage_schema = record { parsed = _; def = _; reads = refl; is = refl; no_names = refl; no_formats = refl; named = refl; plain = (refl, refl, refl); defined = refl; spans = refl; defines = refl; uncomputed = refl; moves = λ tree. refl }
 
 pub makes_meta : IsCreate (codes "CREATE TABLE meta (key text, value text, unique (key))") (codes "meta") declared_meta
 unfolding everything
-makes_meta = record { parsed = _; def = _; reads = refl; is = refl; no_names = refl; no_formats = refl; named = refl; plain = (refl, refl, refl); defined = refl; spans = refl; defines = refl; uncomputed = refl }
+makes_meta = record { parsed = _; def = _; reads = refl; is = refl; no_names = refl; no_formats = refl; named = refl; plain = (refl, refl, refl); defined = refl; spans = refl; defines = refl; uncomputed = refl; moves = λ tree. refl }
 
 pub makes_file : IsCreate (codes "CREATE TABLE file (id integer primary key, path text, unique (path))") (codes "file") declared_file
 unfolding everything
-makes_file = record { parsed = _; def = _; reads = refl; is = refl; no_names = refl; no_formats = refl; named = refl; plain = (refl, refl, refl); defined = refl; spans = refl; defines = refl; uncomputed = refl }
+makes_file = record { parsed = _; def = _; reads = refl; is = refl; no_names = refl; no_formats = refl; named = refl; plain = (refl, refl, refl); defined = refl; spans = refl; defines = refl; uncomputed = refl; moves = λ tree. refl }
 
 pub makes_context : IsCreate (codes "CREATE TABLE context (id integer primary key, context text, unique (context))") (codes "context") declared_context
 unfolding everything
-makes_context = record { parsed = _; def = _; reads = refl; is = refl; no_names = refl; no_formats = refl; named = refl; plain = (refl, refl, refl); defined = refl; spans = refl; defines = refl; uncomputed = refl }
+makes_context = record { parsed = _; def = _; reads = refl; is = refl; no_names = refl; no_formats = refl; named = refl; plain = (refl, refl, refl); defined = refl; spans = refl; defines = refl; uncomputed = refl; moves = λ tree. refl }
 
 pub makes_line_bits : IsCreate (codes "CREATE TABLE line_bits (file_id integer, context_id integer, numbits blob, foreign key (file_id) references file (id), foreign key (context_id) references context (id), unique (file_id, context_id))") (codes "line_bits") declared_line_bits
 unfolding everything
-makes_line_bits = record { parsed = _; def = _; reads = refl; is = refl; no_names = refl; no_formats = refl; named = refl; plain = (refl, refl, refl); defined = refl; spans = refl; defines = refl; uncomputed = refl }
+makes_line_bits = record { parsed = _; def = _; reads = refl; is = refl; no_names = refl; no_formats = refl; named = refl; plain = (refl, refl, refl); defined = refl; spans = refl; defines = refl; uncomputed = refl; moves = λ tree. refl }
 
 pub makes_arc : IsCreate (codes "CREATE TABLE arc (file_id integer, context_id integer, fromno integer, tono integer, foreign key (file_id) references file (id), foreign key (context_id) references context (id), unique (file_id, context_id, fromno, tono))") (codes "arc") declared_arc
 unfolding everything
-makes_arc = record { parsed = _; def = _; reads = refl; is = refl; no_names = refl; no_formats = refl; named = refl; plain = (refl, refl, refl); defined = refl; spans = refl; defines = refl; uncomputed = refl }
+makes_arc = record { parsed = _; def = _; reads = refl; is = refl; no_names = refl; no_formats = refl; named = refl; plain = (refl, refl, refl); defined = refl; spans = refl; defines = refl; uncomputed = refl; moves = λ tree. refl }
 
 pub makes_tracer : IsCreate (codes "CREATE TABLE tracer (file_id integer primary key, tracer text, foreign key (file_id) references file (id))") (codes "tracer") declared_tracer
 unfolding everything
-makes_tracer = record { parsed = _; def = _; reads = refl; is = refl; no_names = refl; no_formats = refl; named = refl; plain = (refl, refl, refl); defined = refl; spans = refl; defines = refl; uncomputed = refl }
+makes_tracer = record { parsed = _; def = _; reads = refl; is = refl; no_names = refl; no_formats = refl; named = refl; plain = (refl, refl, refl); defined = refl; spans = refl; defines = refl; uncomputed = refl; moves = λ tree. refl }
 
 pub makes_hits : IsCreate (codes "CREATE TABLE hits (file_id integer, context_id integer, fromno integer, tono integer, count integer, unique (file_id, context_id, fromno, tono))") (codes "hits") declared_hits
 unfolding everything
-makes_hits = record { parsed = _; def = _; reads = refl; is = refl; no_names = refl; no_formats = refl; named = refl; plain = (refl, refl, refl); defined = refl; spans = refl; defines = refl; uncomputed = refl }
+makes_hits = record { parsed = _; def = _; reads = refl; is = refl; no_names = refl; no_formats = refl; named = refl; plain = (refl, refl, refl); defined = refl; spans = refl; defines = refl; uncomputed = refl; moves = λ tree. refl }

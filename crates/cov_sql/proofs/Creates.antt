@@ -1,5 +1,5 @@
 -- What CREATE TABLE is, under any schema.
-use Rattle.std.proofs.Common.{◌≡◌, ◌⊎◌, inl, inr, ℕ, ◌==◌, List, [], length, true, false, is_some, Some, None, Ok, Err, Result, refl, sym, ap, subst, ◌∙◌}
+use Rattle.std.proofs.Common.{◌≡◌, ◌⊎◌, inl, inr, ℕ, ◌==◌, List, [], length, true, false, Option, Some, None, Ok, Err, Result, refl, sym, ap, subst, ◌∙◌}
 use Rattle.std.proofs.lemmas.Bool.{cases_Bool}
 use Rattle.sqlite_value.specs.Order.{Row}
 use Rattle.sqlite_ast.specs.declared.CreateTable.{CreateTable}
@@ -11,7 +11,7 @@ use Rattle.sqlite_schema.specs.declared.schema.Table.{Table}
 use Rattle.sqlite_schema.specs.declared.command.Command.TheVariants as command
 use Rattle.sqlite_resolve.specs.declared.compiled.Compiled.{Compiled}
 use Rattle.sqlite_resolve.specs.declared.error.CompileError.{CompileError}
-use Rattle.sqlite_resolve.specs.declared.error.CompileError.TheVariants.{Exists}
+use Rattle.sqlite_resolve.specs.declared.error.CompileError.TheVariants.{Exists, Unsupported}
 use Rattle.sqlite_resolve.specs.Scope.{Name}
 use Rattle.sqlite_resolve.specs.Compile.{first, returning, timed, meaning, planned, compiled, create_table, creates, is_attached, is_reserved}
 use Rattle.sqlite_resolve.specs.Compile as compile
@@ -44,6 +44,33 @@ pub record IsCreate (text : List ℕ) (name : Name) (table : ℕ → Table) : Ty
   pub spans : slice_range text parsed.start parsed.end ≡ text
   pub defines : table_defined_by text ≡ Ok (table 0)
   pub uncomputed : (length (table 0).computed == length (table 0).stamps.places) ≡ true
+  -- but for its tree the table is the same
+  pub moves : (tree : ℕ) → record (table 0) { tree = tree } ≡ table tree
+
+no_exists : (e : CompileError) → IsAbsence e → ◌≡◌ {A = CompileError} e Exists → ⊥
+no_exists e (inl which) is = cc
+no_exists e (inr which) is = cc
+
+no_unsupported : (e : CompileError) → IsAbsence e → ◌≡◌ {A = CompileError} e Unsupported → ⊥
+no_unsupported e (inl which) is = cc
+no_unsupported e (inr which) is = cc
+
+same_fault : (e f : CompileError) → SqlInputError e ≡ SqlInputError f → e ≡ f
+same_fault e f is = cc
+
+same_refusal : (e f : CompileError) → ◌≡◌ {A = Result Compiled CompileError} (Err e) (Err f) → e ≡ f
+same_refusal e f is = cc
+
+-- a text that is refused for another cause names nothing as absent
+pub none_absent : (text : List ℕ) (params : Row) (old new : State) (f : CompileError) → ((e : CompileError) → IsAbsence e → e ≡ f → ⊥) → understood old.now.schema text ≡ Err f → ¬ WasAbsent text params old new
+unfolding Rattle.sqlite.specs.State.ExecutesIn Rattle.sqlite.specs.State.IsNotRun
+none_absent text params old new f none refused (e, which, h) = by h
+  where
+    by : Executes text params old new (Err (SqlInputError e)) → ⊥
+    by (inl (inl (inl (fault, other, one), unchanged))) = none e which (same_fault e fault one ∙ same_refusal fault f (sym other ∙ refused))
+    by (inl (inl (inr (c, other, more), unchanged))) = never old.now.schema text f c refused other
+    by (inl (inr fault)) = no_fault old new e fault
+    by (inr (c, it, more)) = never old.now.schema text f c refused it.is
 
 module _ (schema : Schema) (text : List ℕ) (name : Name) (table : ℕ → Table) (i : IsCreate text name table) where
   abbrev pub made : Compiled
@@ -57,62 +84,72 @@ module _ (schema : Schema) (text : List ℕ) (name : Name) (table : ℕ → Tabl
   unfolding compiled planned meaning timed returning compile.command
   create_is no_table no_view no_index = rw (i.reads, i.is, i.no_names, i.no_formats, create_free no_table no_view no_index) refl
 
-  -- where the table is there, the text is refused
-  create_taken : (at : ℕ) → table_named schema name ≡ Some at → view_named schema name ≡ None → create_table schema [] i.def ≡ Err Exists
-  unfolding create_table creates is_attached
-  create_taken at there no_view = by (cases_Bool (is_some (index_named schema name)))
-    where
-      by : (is_some (index_named schema name) ≡ true) ⊎ (is_some (index_named schema name) ≡ false) → create_table schema [] i.def ≡ Err Exists
-      by (inl taken) = rw (i.named, there, no_view, i.plain.0, i.plain.1, taken) refl
-      by (inr free) = rw (i.named, there, no_view, i.plain.0, i.plain.1, free) refl
+  -- it is refused where an object has the name
+  abbrev Refuses : CompileError → Type 0
+  Refuses e = create_table schema [] i.def ≡ Err e
 
-  pub is_taken : (at : ℕ) → table_named schema name ≡ Some at → view_named schema name ≡ None → compiled schema text ≡ Err Exists
+  attached : is_attached schema name ≡ true → Refuses Unsupported
+  unfolding create_table
+  attached is = rw (i.named, is) refl
+
+  module _ (bare : is_attached schema name ≡ false) where
+    indexed : (at : ℕ) → index_named schema name ≡ Some at → Refuses Exists
+    unfolding create_table creates
+    indexed at there = rw (i.named, bare, i.plain.1, there) refl
+
+    taken : (at : ℕ) → index_named schema name ≡ None → table_named schema name ≡ Some at → Refuses Exists
+    unfolding create_table creates
+    taken at none there = rw (i.named, bare, i.plain.0, i.plain.1, none, there) refl
+
+    viewed : (at : ℕ) → index_named schema name ≡ None → table_named schema name ≡ None → view_named schema name ≡ Some at → Refuses Exists
+    unfolding create_table creates
+    viewed at none free there = rw (i.named, bare, i.plain.0, i.plain.1, none, free, there) refl
+
+  refused_as : (e : CompileError) → Refuses e → compiled schema text ≡ Err e
   unfolding compiled planned meaning timed returning compile.command
-  is_taken at there no_view = rw (i.reads, i.is, i.no_names, i.no_formats, create_taken at there no_view) refl
+  refused_as e is = rw (i.reads, i.is, i.no_names, i.no_formats, is) refl
 
-  -- nor where an index has the name
-  create_indexed : (at : ℕ) → index_named schema name ≡ Some at → view_named schema name ≡ None → create_table schema [] i.def ≡ Err Exists
-  unfolding create_table creates is_attached
-  create_indexed at there no_view = rw (i.named, no_view, i.plain.1, there) refl
+  -- for a cause that names nothing as absent
+  abbrev pub IsTaken : Type 0
+  IsTaken = (understood schema text ≡ Err Exists) ⊎ (understood schema text ≡ Err Unsupported)
 
-  is_indexed : (at : ℕ) → index_named schema name ≡ Some at → view_named schema name ≡ None → compiled schema text ≡ Err Exists
-  unfolding compiled planned meaning timed returning compile.command
-  is_indexed at there no_view = rw (i.reads, i.is, i.no_names, i.no_formats, create_indexed at there no_view) refl
+  exists : Refuses Exists → IsTaken
+  exists is = inl (understood_as schema text _ (refused_as Exists is) refl)
 
-  pub verdict : view_named schema name ≡ None → ((table_named schema name ≡ None) × (index_named schema name ≡ None)) ⊎ (compiled schema text ≡ Err Exists)
-  verdict no_view = by (either (index_named schema name)) (either (table_named schema name))
+  abbrev pub IsFree : Type 0
+  IsFree = (table_named schema name ≡ None) × (view_named schema name ≡ None) × (index_named schema name ≡ None)
+
+  pub verdict : IsFree ⊎ IsTaken
+  verdict = by (cases_Bool (is_attached schema name)) (either (index_named schema name)) (either (table_named schema name)) (either (view_named schema name))
     where
-      by : ((at : ℕ) × (index_named schema name ≡ Some at)) ⊎ (index_named schema name ≡ None) → ((at : ℕ) × (table_named schema name ≡ Some at)) ⊎ (table_named schema name ≡ None)
-          → ((table_named schema name ≡ None) × (index_named schema name ≡ None)) ⊎ (compiled schema text ≡ Err Exists)
-      by (inl taken) other = inr (is_indexed taken.0 taken.1 no_view)
-      by (inr free) (inl taken) = inr (is_taken taken.0 taken.1 no_view)
-      by (inr free) (inr none) = inl (none, free)
+      by : (is_attached schema name ≡ true) ⊎ (is_attached schema name ≡ false) → ((at : ℕ) × (index_named schema name ≡ Some at)) ⊎ (index_named schema name ≡ None)
+          → ((at : ℕ) × (table_named schema name ≡ Some at)) ⊎ (table_named schema name ≡ None) → ((at : ℕ) × (view_named schema name ≡ Some at)) ⊎ (view_named schema name ≡ None) → IsFree ⊎ IsTaken
+      by (inl is) index table view = inr (inr (understood_as schema text _ (refused_as Unsupported (attached is)) refl))
+      by (inr bare) (inl has) table view = inr (exists (indexed bare has.0 has.1))
+      by (inr bare) (inr none) (inl has) view = inr (exists (taken bare has.0 none has.1))
+      by (inr bare) (inr none) (inr free) (inl has) = inr (exists (viewed bare has.0 none free has.1))
+      by (inr bare) (inr none) (inr free) (inr bald) = inl (free, bald, none)
 
--- so it makes no table twice
-pub never_twice : (text : List ℕ) (name : Name) (table : ℕ → Table) → IsCreate text name table → (params : Row) (old new : State) (at : ℕ) → table_named old.now.schema name ≡ Some at → view_named old.now.schema name ≡ None
-    → (count : ℕ) → ¬ Executes text params old new (Ok count)
-unfolding Rattle.sqlite.specs.State.ExecutesIn
-never_twice text name table i params old new at there no_view count h =
-    let refused = understood_as old.now.schema text _ (is_taken old.now.schema text name table i at there no_view) refl in
-    let both : ◌≡◌ {A = Result Compiled CompileError} (Ok h.0) (Err Exists) = sym h.1.is ∙ refused in
-    cc
+  pub is_taken : (at : ℕ) → table_named schema name ≡ Some at → IsTaken
+  is_taken at there = elim verdict [ inl free ↦ absurd (let both : ◌≡◌ {A = Option ℕ} (Some at) None = sym there ∙ free.0 in cc) | inr taken ↦ taken ]
 
-not_so : (e : CompileError) → IsAbsence e → (fault : CompileError) → SqlInputError e ≡ SqlInputError fault → ◌≡◌ {A = Result Compiled CompileError} (Err fault) (Err Exists) → ⊥
-not_so e (inl which) fault one two = cc
-not_so e (inr which) fault one two = cc
+module _ (text : List ℕ) (name : Name) (table : ℕ → Table) (i : IsCreate text name table) (params : Row) (old new : State) (taken : IsTaken old.now.schema text name table i) where
+  -- so it makes no table twice
+  pub never_twice : (count : ℕ) → ¬ Executes text params old new (Ok count)
+  unfolding Rattle.sqlite.specs.State.ExecutesIn
+  never_twice count h = by taken
+    where
+      by : IsTaken old.now.schema text name table i → ⊥
+      by (inl refused) = (let both : ◌≡◌ {A = Result Compiled CompileError} (Ok h.0) (Err Exists) = sym h.1.is ∙ refused in cc)
+      by (inr refused) = (let both : ◌≡◌ {A = Result Compiled CompileError} (Ok h.0) (Err Unsupported) = sym h.1.is ∙ refused in cc)
 
--- nor is a table missing then
-pub never_taken : (text : List ℕ) (params : Row) (old new : State) → understood old.now.schema text ≡ Err Exists → ¬ WasAbsent text params old new
-unfolding Rattle.sqlite.specs.State.ExecutesIn Rattle.sqlite.specs.State.IsNotRun
-never_taken text params old new refused h = by h.2
-  where
-    by : Executes text params old new (Err (SqlInputError h.0)) → ⊥
-    by (inl (inl (inl (fault, other, one), unchanged))) = not_so h.0 h.1 fault one (sym other ∙ refused)
-    by (inl (inl (inr (c, other, more), unchanged))) = never old.now.schema text _ c refused other
-    by (inl (inr fault)) = no_fault old new h.0 fault
-    by (inr (c, it, more)) = never old.now.schema text _ c refused it.is
-
--- ---- what it makes
+  -- nor is a table missing then
+  pub never_taken : ¬ WasAbsent text params old new
+  never_taken h = by taken
+    where
+      by : IsTaken old.now.schema text name table i → ⊥
+      by (inl refused) = none_absent text params old new Exists no_exists refused h
+      by (inr refused) = none_absent text params old new Unsupported no_unsupported refused h
 
 pub went : {B E R : Type 0} {b : B} {Stops : E → Type 0} → ((stop : E) × Stops stop × (Ok b ≡ Err stop)) ⊎ R → R
 went (inl stopped) = absurd (let e = stopped.2 in cc)
@@ -120,27 +157,3 @@ went (inr on) = on
 
 pub same_value : {B E : Type 0} {a b : B} → ◌≡◌ {A = Result B E} (Ok a) (Ok b) → a ≡ b
 same_value e = cc
-
-module _ (text : List ℕ) (name : Name) (table : ℕ → Table) (i : IsCreate text name table) (old new : State) where
-  -- where the name is free
-  pub makes : table_named old.now.schema name ≡ None → view_named old.now.schema name ≡ None → index_named old.now.schema name ≡ None → lacks_sequence (created old.now.schema (table 0)) ≡ false
-      → (count : ℕ) → Executes text [] old new (Ok count) → IsMade table old.now new.now
-  makes no_table no_view no_index sequenced count h =
-      let schema = old.now.schema in
-      let read = understood_as schema text _ (create_is schema text name table i no_table no_view no_index) refl in
-      let bare : IsPlain (understood schema text) = rw read (refl, refl) in
-      let w = subst (λ t. Writes old new None command.CreateTable t [] count) (ap (statement_of text) read ∙ i.spans)
-      (runs_as text [] old new schema refl command.CreateTable (ap command_of read) bare count h) in
-      let all = went w.changed in
-      let first = went all.1 in
-      let made = first.1 in
-      let both : Ok made.table ≡ Ok (table 0) = sym made.defined ∙ i.defines in
-      let same : made.table ≡ table 0 = same_value both in
-      let is : first.0.schema ≡ created schema (table 0) = made.is ∙ ap (created schema) same in
-      let plain : lacks_sequence first.0.schema ≡ false = ap lacks_sequence is ∙ sequenced in
-      let now : new.now ≡ first.0 = ap (λ (p : Tally × Database). p.1) (same_value all.2) ∙ same_value (rw plain at first.2) in
-      record {
-        schema = ap (λ (d : Database). d.schema) now ∙ is;
-        empty = ap (λ (d : Database). d.trees (next_tree schema)) now ∙ made.empty;
-        others = subst (λ (d : Database). KeepsRows schema.tables old.now.trees d.trees) (sym now) made.others;
-      }

@@ -17,7 +17,6 @@ use Rattle.cov_sql.specs.declared.tables.Table.TheVariants as name
 use Rattle.cov_sql.specs.Tables.{Shape, table_in, places_in, rows_in}
 use Rattle.cov_sql.specs.Written.{HasInteger, IsFree, IsEmptied, IsAdded, IsDeclared}
 use Rattle.cov_sql.specs.ByName.{shape_of, declared_as}
-use Rattle.cov_sql.specs.Content.{AreUnhidden}
 use Rattle.cov_sql.specs.Holding.{number_of, same_table, Rows, with_rows, without, IsThere, Stands, HoldsOf, Holds, IsReplaceable}
 
 -- ---- the tables by number
@@ -28,7 +27,7 @@ all_names = name.CoverageSchema ∷ name.Meta ∷ name.File ∷ name.Context ∷
 pub named_by : ℕ → Name
 named_by k = unwrap_or (slice_get all_names k) name.Hits
 
-back : (n : Name) → named_by (number_of n) ≡ n
+pub back : (n : Name) → named_by (number_of n) ≡ n
 unfolding named_by
 back name.CoverageSchema = refl
 back name.Meta = refl
@@ -39,14 +38,14 @@ back name.Arc = refl
 back name.Tracer = refl
 back name.Hits = refl
 
-abbrev Told : Name → Name → Type 0
+abbrev pub Told : Name → Name → Type 0
 Told m n = ((same_table m n ≡ true) × (m ≡ n)) ⊎ ((same_table m n ≡ false) × (m ≢ n))
 
 told_by : (m n : Name) → ((same_table m n ≡ true) × (number_of m ≡ number_of n)) ⊎ ((same_table m n ≡ false) × (number_of m ≢ number_of n)) → Told m n
 told_by m n (inl (is, same)) = inl (is, sym (back m) ∙ ap named_by same ∙ back n)
 told_by m n (inr (is, other)) = inr (is, λ same. other (ap number_of same))
 
-tells : (m n : Name) → Told m n
+pub tells : (m n : Name) → Told m n
 tells m n = told_by m n (eqb_tells (number_of m) (number_of n))
 
 -- ---- where the rows of a table are
@@ -61,7 +60,7 @@ places_of name.Arc = 1 ∷ 2 ∷ 3 ∷ 4 ∷ []
 places_of name.Tracer = 0 ∷ 2 ∷ []
 places_of name.Hits = 1 ∷ 2 ∷ 3 ∷ 4 ∷ 5 ∷ []
 
-placed : (n : Name) (k : ℕ) → places_in (declared_as n k) (shape_of n).columns ≡ Some (places_of n)
+pub placed : (n : Name) (k : ℕ) → places_in (declared_as n k) (shape_of n).columns ≡ Some (places_of n)
 unfolding everything
 placed name.CoverageSchema k = refl
 placed name.Meta k = refl
@@ -92,7 +91,7 @@ rows_given t db at u ps named is places = rw (named, is, places) refl
 pub rows_at : (n : Name) (k : ℕ) (db : Database) → IsThere n k db.schema → rows_in (shape_of n) db ≡ Some (shown_by n (db.trees k))
 rows_at n k db t = rows_given (shape_of n) db t.at (declared_as n k) (places_of n) t.named t.is (placed n k) ∙ ap (λ j. Some (shown_by n (db.trees j))) (tree_is n k)
 
-found : (n : Name) (k : ℕ) (schema : Schema) → IsThere n k schema → table_in schema (shape_of n).name ≡ Some (declared_as n k)
+pub found : (n : Name) (k : ℕ) (schema : Schema) → IsThere n k schema → table_in schema (shape_of n).name ≡ Some (declared_as n k)
 found n k schema t = rw (t.named, t.is) refl
 
 -- the rows that the tables have
@@ -138,20 +137,8 @@ module _ (n : Name) (old new : Database) (s : Stands old.schema) (others : Other
 abbrev stands_as : (old new : Database) → new.schema ≡ old.schema → (s : Stands old.schema) → Stands new.schema
 stands_as old new is s = record { tree = s.tree; there = λ m. subst (IsThere m (s.tree m)) (sym is) (s.there m); apart = s.apart }
 
-unhidden_as : (old new : Database) → new.schema ≡ old.schema → AreUnhidden old → AreUnhidden new
-unhidden_as old new is h = record {
-  coverage_schema = rw is h.coverage_schema;
-  meta = rw is h.meta;
-  file = rw is h.file;
-  context = rw is h.context;
-  line_bits = rw is h.line_bits;
-  arc = rw is h.arc;
-  tracer = rw is h.tracer;
-  hits = rw is h.hits;
-}
-
 replaceable_as : (old new : Database) → new.schema ≡ old.schema → (r : IsReplaceable old) → ((m : Name) → AllByRecursion HasInteger (new.trees (r.stands.tree m))) → IsReplaceable new
-replaceable_as old new is r rowids = record { stands = stands_as old new is r.stands; acts = λ m. rw is (r.acts m); rowids = rowids; unhidden = unhidden_as old new is r.unhidden }
+replaceable_as old new is r rowids = record { stands = stands_as old new is r.stands; acts = λ m. rw is (r.acts m); rowids = rowids }
 
 -- ---- a row more
 

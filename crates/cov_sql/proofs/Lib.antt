@@ -9,6 +9,7 @@ pub mod Deletes
 pub mod Empties
 pub mod DeleteTexts
 pub mod Creates
+pub mod Made
 pub mod Growing
 pub mod CreateTexts
 pub mod Inside
@@ -37,6 +38,7 @@ pub mod RowOrder
 pub mod KeptOrder
 pub mod Grouping
 pub mod Denying
+pub mod RowTexts
 pub mod Never
 pub mod Lacking
 pub mod Judging

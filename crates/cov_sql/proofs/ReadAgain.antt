@@ -44,11 +44,10 @@ saved_is_schema_7 d db (s, same, h) none =
 -- ---- and again
 
 pub saved_is_ready : SavedIsReady
-saved_is_ready d db (s, same, h) = (inl h.base, h.base.unhidden)
+saved_is_ready d db (s, same, h) = inl h.base
 
 pub saves_are_read : {S : Type 0} (g : Ghosts S) → SavesAreRead g
 saves_are_read g d fresh old new sound ready (s, now) =
     let db = (state g new).committed in
     let h = s.holds ready in
-    let next = saved_is_ready d db h in
-    subst (IsReadAgain d) (sym now) (record { reads = saved_are_read d db sound h; ready = next.0; unhidden = next.1 })
+    subst (IsReadAgain d) (sym now) (record { reads = saved_are_read d db sound h; ready = saved_is_ready d db h })

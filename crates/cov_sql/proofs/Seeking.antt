@@ -12,12 +12,12 @@ use Rattle.cov_sql.specs.declared.errors.SqlError.TheVariants.{NotSchema7}
 use Rattle.sqlite_value.specs.Order.{Row}
 use Rattle.cov_sql.specs.Tables.{Shape, rows_in, hits}
 use Rattle.cov_sql.specs.Cells.{AreRowsIn}
-use Rattle.cov_sql.specs.Content.{AreUnhidden, AreCounts}
+use Rattle.cov_sql.specs.Content.{AreCounts}
 use Rattle.cov_sql.specs.declared.statements.StatementError.{StatementError}
 use Rattle.cov_sql.specs.declared.statements.StatementError.TheVariants.{Missing}
 use Rattle.cov_sql.specs.Refusals.{refusal}
-use Rattle.cov_sql.specs.Told.{Lists, Answers}
-use Rattle.cov_sql.specs.Finds.{EndsAs, Finds, HoldsRows, HoldsCounts, LacksTable}
+use Rattle.cov_sql.specs.Told.{Lists, Answers, EndsAs}
+use Rattle.cov_sql.specs.Finds.{Finds, HoldsRows, HoldsCounts, LacksTable}
 use Rattle.cov_sql.proofs.Stepping.{refused_as}
 
 pub now_is : (a b : State) → IsUnchanged a b → b.now ≡ a.now
@@ -61,9 +61,6 @@ module _ {X : Type 0} (Holds : Database → X → Type 0) (Lacks : Database → 
 
   pub went : (a c : State) (x : X) → Holds a.now x → IsUnchanged a c → Finds Holds Lacks a c (Ok x)
   went a c x holds u = record { rows = holds; missing = λ no. absurd cc; kept = u; ends = inl u }
-
-pub still_hidden : (a b : State) → IsUnchanged a b → AreUnhidden a.now → AreUnhidden b.now
-still_hidden a b u h = subst AreUnhidden (sym (now_is a b u)) h
 
 -- what a statement that reads tells, as a step of reading
 pub sought : (t : Shape) (a b : State) (v : Lists) → Answers t a b (Ok v) → Finds (HoldsRows t) (LacksTable t) a b (Ok v)

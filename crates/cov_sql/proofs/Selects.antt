@@ -8,7 +8,7 @@ use Rattle.sqlite_ast.specs.declared.Source.{Source, out-Source}
 use Rattle.sqlite_ast.specs.declared.Core.{Core, out-Core}
 use Rattle.sqlite_sql.specs.Term.{col, lit}
 use Rattle.sqlite_value.specs.declared.value.Value.TheVariants.{Int}
-use Rattle.sqlite_schema.specs.Names.{column_named, table_named, view_named, place_of}
+use Rattle.sqlite_schema.specs.Names.{column_named, table_named, place_of}
 use Rattle.sqlite_schema.specs.declared.schema.Schema.{Schema}
 use Rattle.sqlite_schema.specs.declared.schema.Table.{Table}
 use Rattle.sqlite_schema.specs.declared.schema.Column.{Column}
@@ -19,7 +19,7 @@ use Rattle.sqlite_resolve.specs.declared.state.State.{State}
 use Rattle.sqlite_resolve.specs.declared.state.Carried.{Carried}
 use Rattle.sqlite_resolve.specs.declared.scope.Level.{Level}
 use Rattle.sqlite_resolve.specs.declared.scope.Output.{Output}
-use Rattle.sqlite_resolve.specs.declared.error.CompileError.TheVariants.{NoSuchTable, NoSuchColumn}
+use Rattle.sqlite_resolve.specs.declared.error.CompileError.TheVariants.{NoSuchColumn}
 use Rattle.sqlite_resolve.specs.Lowering.{take_slot, fresh, max_budget, nothing}
 use Rattle.sqlite_resolve.specs.Scope.{Name, declared, is_rowid}
 use Rattle.sqlite_resolve.specs.Expr.{lower}
@@ -128,14 +128,6 @@ module _ (schema : Schema) (core : Core) (name : Name) (names : List Name) (plai
   bounds_are : (at : ℕ) → table_named schema name ≡ Some at → bounds schema (plain.source ∷ []) (fresh 1 max_budget) ≡ Ok (the_bound name at ∷ [], state_at max_budget nothing)
   unfolding bounds
   bounds_are at named = rw (bound_is at named) refl
-
-  no_table : table_named schema name ≡ None → view_named schema name ≡ None → bounds schema (plain.source ∷ []) (fresh 1 max_budget) ≡ Err NoSuchTable
-  unfolding bounds bound take_slot table_in
-  no_table none other = rw (plain.table, none, other) refl
-
-  pub named_no_table : table_named schema name ≡ None → view_named schema name ≡ None → named schema core [] (lit (Int (negsuc 0)), number 0) ≡ Err NoSuchTable
-  unfolding named parts body
-  named_no_table none other = rw (plain.from, no_table none other) refl
 
   module _ (at : ℕ) (is_named : table_named schema name ≡ Some at) (t : Table) (is : slice_get schema.tables at ≡ Some t) (lacks : IsLacking t names) (enough : Spends names max_budget) where
     no_result : result lower (outermost schema) (record { tables = the_bound name at ∷ []; shown = [] }) core (state_at max_budget nothing) ≡ Err NoSuchColumn

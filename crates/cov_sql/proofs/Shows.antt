@@ -1,31 +1,32 @@
--- What a statement that reads a table answers, whatever else the base has.
+-- What a statement that reads a table answers where it is there, whatever else the base has.
 use Rattle.std.proofs.Common.{◌≡◌, ◌⊎◌, inl, inr, ℕ, List, [], ◌∷◌, map, slice_get, Bool, true, false, Option, Some, None, Ok, Err, Result, if◌then◌else◌, refl, sym, ap, ◌∙◌}
 use Rattle.std.specs.List.Sorted.{IsPermutation}
 use Rattle.sqlite_value.specs.Order.{Row, column}
 use Rattle.sqlite_typing.specs.Types.{accepts_program}
-use Rattle.sqlite_schema.specs.Names.{table_named, view_named, place_of}
+use Rattle.sqlite_schema.specs.Names.{table_named, place_of}
 use Rattle.sqlite_schema.specs.declared.schema.Schema.{Schema}
 use Rattle.sqlite_schema.specs.declared.schema.Table.{Table}
 use Rattle.sqlite_schema.specs.declared.schema.Column.{Column}
 use Rattle.sqlite_schema.specs.declared.command.Command.TheVariants as command
 use Rattle.sqlite_resolve.specs.declared.compiled.Compiled.{Compiled}
 use Rattle.sqlite_resolve.specs.declared.error.CompileError.{CompileError}
-use Rattle.sqlite_resolve.specs.declared.error.CompileError.TheVariants.{NoSuchTable, NoSuchColumn, Mismatch}
+use Rattle.sqlite_resolve.specs.declared.error.CompileError.TheVariants.{NoSuchColumn, Mismatch}
 use Rattle.sqlite_resolve.specs.Lowering.{max_budget}
 use Rattle.sqlite_resolve.specs.Scope.{Name}
 use Rattle.sqlite_resolve.specs.Compile.{compiled}
 use Rattle.sqlite_schema.specs.declared.program.Program.{Program}
 use Rattle.sqlite.specs.Effect.{Database, RefusesQuery}
-use Rattle.sqlite.specs.Listing.{understood, reads_listing, misses_table, listing_schema}
+use Rattle.sqlite.specs.Listing.{understood, reads_listing, misses_table}
 use Rattle.sqlite_trees.specs.declared.error.StoreError.TheVariants.{OutOfMemory, Io, Corrupt, Full, Broken, Unstorable}
 use Rattle.sqlite.specs.declared.error.Error.TheVariants.{SqlInputError}
 use Rattle.sqlite.specs.State.{State, IsUnchanged, Shown, Fails, FailsToQuery, IsNotRun}
 use Rattle.sqlite.proofs.Callers.{IsPlain, command_of, reads_as}
 use Rattle.cov_sql.specs.Tables.{rows_of, places_in}
-use Rattle.cov_sql.specs.Told.{IsUnread}
+use Rattle.cov_sql.specs.Told.{IsAbsence}
+use Rattle.cov_sql.specs.Shown.{HasNamed}
 use Rattle.cov_sql.proofs.Selects.{AreFound, IsLacking, Affords, Spends}
-use Rattle.cov_sql.proofs.Texts.{IsPlainText, made, select_is, no_table_is, no_column_is}
-use Rattle.cov_sql.proofs.Found.{AreOrdinary, either, found_at, splits}
+use Rattle.cov_sql.proofs.Texts.{IsPlainText, made, select_is, no_column_is}
+use Rattle.cov_sql.proofs.Found.{AreOrdinary, found_at, splits}
 use Rattle.cov_sql.proofs.Queried.{query, answer_rows}
 
 abbrev pub Reading : Type 0
@@ -35,21 +36,15 @@ pub understood_as : (schema : Schema) (text : List ℕ) (r : Reading) → compil
 unfolding understood
 understood_as schema text r is h = rw (is, h) refl
 
-understood_none : (schema : Schema) (text : List ℕ) → compiled schema text ≡ Err NoSuchTable → compiled listing_schema text ≡ Err NoSuchTable → understood schema text ≡ Err NoSuchTable
-unfolding understood
-understood_none schema text is other = rw (is, other) refl
-
 affords : (t : Table) (ns : List Name) (ps : List (ℕ × Column)) (budget : ℕ) → AreFound t ns ps → Spends ns budget → Affords ps budget
 affords t [] [] budget found h = tt
 affords t [] (p ∷ ps) budget found h = absurd found
 affords t (n ∷ ns) [] budget found h = absurd found
 affords t (n ∷ ns) (p ∷ ps) budget found h = (h.0, affords t ns ps _ found.1 h.1)
 
-module _ (text : List ℕ) (name : Name) (names : List Name) (plain : IsPlainText text name names) (ordinary : AreOrdinary names) (cheap : Spends names max_budget) (unlisted : compiled listing_schema text ≡ Err NoSuchTable)
-    (schema : Schema) (no_view : view_named schema name ≡ None) where
+module _ (text : List ℕ) (name : Name) (names : List Name) (plain : IsPlainText text name names) (ordinary : AreOrdinary names) (cheap : Spends names max_budget) (schema : Schema) (has : HasNamed schema name) where
   -- the text is a query over the table, or it is refused
   pub data Verdict : Type 0 where
-    no_table : table_named schema name ≡ None → understood schema text ≡ Err NoSuchTable → Verdict
     no_column : (at : ℕ) → table_named schema name ≡ Some at → (t : Table) → slice_get schema.tables at ≡ Some t → places_in t names ≡ None → understood schema text ≡ Err NoSuchColumn → Verdict
     mistyped : (at : ℕ) → table_named schema name ≡ Some at → (t : Table) → slice_get schema.tables at ≡ Some t → understood schema text ≡ Err Mismatch → Verdict
     reads : (at : ℕ) → (table_named schema name ≡ Some at) → (t : Table) → (slice_get schema.tables at ≡ Some t) → (ps : List (ℕ × Column)) → (places_in t names ≡ Some (map (λ p. place_of t p.0) ps))
@@ -71,28 +66,22 @@ module _ (text : List ℕ) (name : Name) (names : List Name) (plain : IsPlainTex
           typed ps places false h = mistyped at named t is (understood_as schema text _ h refl)
 
   pub verdict : Verdict
-  verdict = by (either (table_named schema name))
-    where
-      by : ((at : ℕ) × (table_named schema name ≡ Some at)) ⊎ (table_named schema name ≡ None) → Verdict
-      by (inr none) = no_table none (understood_none schema text (no_table_is schema text name names plain none no_view) unlisted)
-      by (inl has) = let t = found_at _ schema.tables has.0 has.1 in on_columns has.0 has.1 t.0 t.1
+  verdict = let t = found_at _ schema.tables has.0 has.1 in on_columns has.0 has.1 t.0 t.1
 
 -- a text that is no statement shows nothing
 pub never : {A : Type 0} (schema : Schema) (text : List ℕ) (e : CompileError) (c : Compiled) → understood schema text ≡ Err e → understood schema text ≡ Ok c → A
 never schema text e c refused found = absurd (let both : ◌≡◌ {A = Reading} (Err e) (Ok c) = sym refused ∙ found in cc)
 
-module _ (text : List ℕ) (name : Name) (names : List Name) (plain : IsPlainText text name names) (ordinary : AreOrdinary names) (cheap : Spends names max_budget) (unlisted : compiled listing_schema text ≡ Err NoSuchTable)
-    (old new : State) (no_view : view_named old.now.schema name ≡ None) where
+module _ (text : List ℕ) (name : Name) (names : List Name) (plain : IsPlainText text name names) (ordinary : AreOrdinary names) (cheap : Spends names max_budget) (old new : State) (has : HasNamed old.now.schema name) where
   abbrev Gives : List Row → Type 0
   Gives rows = ((all : List Row) × (rows_of name names old.now ≡ Some all) × IsPermutation all rows) × IsUnchanged old new
 
   -- the rows of the table are shown, in some order, and nothing changes
   pub gives_rows : (rows : List Row) → Shown text [] old new rows → Gives rows
   unfolding Shown
-  gives_rows rows h = by (verdict text name names plain ordinary cheap unlisted old.now.schema no_view)
+  gives_rows rows h = by (verdict text name names plain ordinary cheap old.now.schema has)
     where
-      by : Verdict text name names plain ordinary cheap unlisted old.now.schema no_view → Gives rows
-      by (no_table none refused) = never old.now.schema text _ h.0 refused h.1.is
+      by : Verdict text name names plain ordinary cheap old.now.schema has → Gives rows
       by (no_column at named t is none refused) = never old.now.schema text _ h.0 refused h.1.is
       by (mistyped at named t is refused) = never old.now.schema text _ h.0 refused h.1.is
       by (reads at named t is ps places c found returning formats command listed) =
@@ -102,9 +91,8 @@ module _ (text : List ℕ) (name : Name) (names : List Name) (plain : IsPlainTex
           let unchanged : IsUnchanged old new = (rw (same, returning) at h.2).3 in
           ((map (λ r. map (column r) (map (λ p. place_of t p.0) ps)) (old.now.trees t.tree), rw (named, is, places) refl, answer_rows t ps old.now.trees rows it.answer), unchanged)
 
-wrong : (e fault : CompileError) → IsUnread e → SqlInputError e ≡ SqlInputError fault → ◌≡◌ {A = Reading} (Err fault) (Err Mismatch) → ⊥
-wrong e fault (inl (inl which)) one two = cc
-wrong e fault (inl (inr which)) one two = cc
+wrong : (e fault : CompileError) → IsAbsence e → SqlInputError e ≡ SqlInputError fault → ◌≡◌ {A = Reading} (Err fault) (Err Mismatch) → ⊥
+wrong e fault (inl which) one two = cc
 wrong e fault (inr which) one two = cc
 
 refusal : (limit : Option ℕ) (db : Database) (p : Program) (params : Row) (e : CompileError) → ¬ RefusesQuery limit db p params (SqlInputError e)
@@ -121,15 +109,13 @@ no_fault old new e (Full, h, cause, undone, told) = absurd (let same = h in cc)
 no_fault old new e (Broken, h, cause, undone, told) = absurd (let same = h in cc)
 no_fault old new e (Unstorable, h, cause, undone, told) = absurd (let same = h in cc)
 
-module _ (text : List ℕ) (name : Name) (names : List Name) (plain : IsPlainText text name names) (ordinary : AreOrdinary names) (cheap : Spends names max_budget) (unlisted : compiled listing_schema text ≡ Err NoSuchTable)
-    (old new : State) (no_view : view_named old.now.schema name ≡ None) where
+module _ (text : List ℕ) (name : Name) (names : List Name) (plain : IsPlainText text name names) (ordinary : AreOrdinary names) (cheap : Spends names max_budget) (old new : State) (has : HasNamed old.now.schema name) where
   -- the text is refused so only where the table is missing
-  pub misses : (e : CompileError) → IsUnread e → FailsToQuery text [] old new (SqlInputError e) → rows_of name names old.now ≡ None
+  pub misses : (e : CompileError) → IsAbsence e → FailsToQuery text [] old new (SqlInputError e) → rows_of name names old.now ≡ None
   unfolding FailsToQuery IsNotRun
-  misses e which h = by (verdict text name names plain ordinary cheap unlisted old.now.schema no_view) h
+  misses e which h = by (verdict text name names plain ordinary cheap old.now.schema has) h
     where
-      by : Verdict text name names plain ordinary cheap unlisted old.now.schema no_view → FailsToQuery text [] old new (SqlInputError e) → rows_of name names old.now ≡ None
-      by (no_table none refused) f = rw none refl
+      by : Verdict text name names plain ordinary cheap old.now.schema has → FailsToQuery text [] old new (SqlInputError e) → rows_of name names old.now ≡ None
       by (no_column at named t is none refused) f = rw (named, is, none) refl
       by (mistyped at named t is refused) (inl (inl (inl (fault, other, one), unchanged))) = absurd (wrong e fault which one (sym other ∙ refused))
       by (mistyped at named t is refused) (inl (inl (inr (c, other, more), unchanged))) = never old.now.schema text _ c refused other

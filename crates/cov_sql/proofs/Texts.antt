@@ -6,7 +6,7 @@ use Rattle.sqlite_ast.specs.declared.Statement.TheVariants as written
 use Rattle.sqlite_syntax.specs.declared.statement.Parsed.{Parsed}
 use Rattle.sqlite_sql.specs.Term.{Term, lit}
 use Rattle.sqlite_value.specs.declared.value.Value.TheVariants.{Int}
-use Rattle.sqlite_schema.specs.Names.{table_named, view_named}
+use Rattle.sqlite_schema.specs.Names.{table_named}
 use Rattle.sqlite_schema.specs.declared.schema.Schema.{Schema}
 use Rattle.sqlite_schema.specs.declared.schema.Table.{Table}
 use Rattle.sqlite_schema.specs.declared.schema.Column.{Column}
@@ -18,7 +18,7 @@ use Rattle.sqlite_draft.specs.Query.{query_of}
 use Rattle.sqlite_sql.specs.Query.{Query}
 use Rattle.sqlite_typing.specs.Types.{accepts_program}
 use Rattle.sqlite_resolve.specs.declared.compiled.Compiled.{Compiled}
-use Rattle.sqlite_resolve.specs.declared.error.CompileError.TheVariants.{NoSuchTable, NoSuchColumn, Mismatch}
+use Rattle.sqlite_resolve.specs.declared.error.CompileError.TheVariants.{NoSuchColumn, Mismatch}
 use Rattle.sqlite_resolve.specs.Lowering.{Checked, and_then, max_budget}
 use Rattle.sqlite_resolve.specs.Scope.{Name}
 use Rattle.sqlite_resolve.specs.Select.{named, paging, constant_or}
@@ -26,7 +26,7 @@ use Rattle.sqlite_resolve.specs.Terms.{number}
 use Rattle.sqlite_resolve.specs.Program.{Shown, sources, source, viewing, single, alone, whole, with, level, query_to, query, program}
 use Rattle.sqlite_resolve.specs.Compile.{first, returning, timed, read, meaning, planned, compiled}
 use Rattle.sqlite_resolve.specs.Compile as compile
-use Rattle.cov_sql.proofs.Selects.{IsPlainCore, AreFound, Affords, draft, named_is, named_no_table, named_no_column, IsLacking, Spends}
+use Rattle.cov_sql.proofs.Selects.{IsPlainCore, AreFound, Affords, draft, named_is, named_no_column, IsLacking, Spends}
 
 pub record IsPlainSelect (s : Select) (name : Name) (names : List Name) : Type 0 where
   pub core : IsPlainCore (out-Select s).first name names
@@ -58,10 +58,6 @@ module _ (schema : Schema) (s : Select) (name : Name) (names : List Name) (plain
   query_ok : (x : Shown) → named schema (out-Select s).first [] page ≡ Ok x → query schema s ≡ Ok (x, [])
   unfolding query query_to level with whole alone single sources source viewing
   query_ok x h = rw (plain.with_none, paging_is, plain.others, plain.order, plain.core.from, plain.core.table, h) refl
-
-  query_no_table : named schema (out-Select s).first [] page ≡ Err NoSuchTable → query schema s ≡ Err NoSuchTable
-  unfolding query query_to level with whole alone single sources source viewing
-  query_no_table h = rw (plain.with_none, paging_is, plain.others, plain.order, plain.core.from, plain.core.table, h) refl
 
   query_no_column : named schema (out-Select s).first [] page ≡ Err NoSuchColumn → query schema s ≡ Err NoSuchColumn
   unfolding query query_to level with whole alone single sources source viewing
@@ -105,11 +101,6 @@ module _ (schema : Schema) (text : List ℕ) (name : Name) (names : List Name) (
     select_is =
         let q = query_ok schema plain.select name names plain.plain _ (named_is schema core name names plain.plain.core at is_named t is ps found enough) in
         compiled_as ∙ rw q (tested (accepts_program schema [] body []) (record { lets = []; body = body }) (λ p. command.Select p (map (λ p. p.1.name) ps)))
-
-  pub no_table_is : table_named schema name ≡ None → view_named schema name ≡ None → compiled schema text ≡ Err NoSuchTable
-  unfolding read
-  no_table_is none other =
-      compiled_as ∙ rw (query_no_table schema plain.select name names plain.plain (named_no_table schema (out-Select plain.select).first name names plain.plain.core none other)) refl
 
   pub no_column_is : (at : ℕ) → table_named schema name ≡ Some at → (t : Table) → slice_get schema.tables at ≡ Some t → IsLacking t names → Spends names max_budget → compiled schema text ≡ Err NoSuchColumn
   unfolding read

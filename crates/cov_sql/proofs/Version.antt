@@ -97,6 +97,6 @@ no_counts db none lists h = (let both : ◌≡◌ {A = Option (List Row)} None (
 -- a base of schema 7 that was read is ready
 pub is_ready : (db : Database) (b : Bool) (counts lists : List (Vec Cell Global)) → AreCounts db b counts → AreRowsIn coverage_schema db lists → is_schema_7 (rows lists) ≡ true → IsReplaceable db ⊎ LacksCounts db → IsReady (start.Tables b) db
 is_ready db true counts lists h v is (inl rep) = (rep, version_row db lists v is)
-is_ready db true counts lists h v is (inr lacks) = absurd (no_counts db lacks.free.no_table counts h)
+is_ready db true counts lists h v is (inr lacks) = absurd (no_counts db lacks.none counts h)
 is_ready db false counts lists h v is (inl rep) = absurd (has_counts db rep.stands counts h)
 is_ready db false counts lists h v is (inr lacks) = (lacks, version_row db lists v is)

@@ -1,8 +1,7 @@
 -- Bases in memory by name.
 --     Base, IsIdle                  a base with its name; one of no open transaction
 --     kept_in                       what a base has as it was committed
---     IsAsDeclared, AreAsDeclared   a base may be saved over if it is of schema 7, and no view
---                                   hides a table; all bases are so
+--     IsAsDeclared, AreAsDeclared   a base may be saved over if it is of schema 7; all bases are so
 --     with_content                  a name with what its base holds
 --     bases_contents                the contents by name; of two bases with one name the first
 --                                   counts
@@ -21,8 +20,8 @@ use Rattle.cov_vault.specs.declared.vault.Content.{Content}
 use Rattle.cov_vault.specs.declared.vault.Content.TheVariants.{Good, NotSchema7, BadRow}
 use Rattle.cov_vault.specs.declared.vault.VaultError.{VaultError}
 use Rattle.cov_vault.specs.declared.vault.VaultError.TheVariants as vault
-use Rattle.cov_sql.specs.Content.{content_in, AreUnhidden}
-use Rattle.cov_sql.specs.Making.{IsBare}
+use Rattle.cov_sql.specs.Content.{content_in}
+use Rattle.cov_sql.specs.Making.{SparesAll}
 use Rattle.cov_sql.specs.Committed.{IsReadyFor}
 
 -- a base in memory with its name
@@ -40,7 +39,6 @@ kept_in h = (state over_memory h).committed
 -- a base that is none of schema 7 may have any tables, and nothing is saved in it
 pub record IsAsDeclared (db : Database) : Type 0 where
   pub ready : content_in db ≢ NotSchema7 → IsReadyFor false db
-  pub unhidden : AreUnhidden db
 
 -- each of these bases may be saved over, if it is of schema 7
 abbrev pub AreAsDeclared : List Base → Type 0
@@ -61,9 +59,9 @@ pub record Loads (old new : Database) (r : Result DataSet VaultError) : Type 0 w
   pub bad_row : (row : ℕ) → IsErrOf r (vault.BadRow row) → content_in old ≡ BadRow row
   pub kept : new ≡ old
 
--- a fresh base has no table
+-- no foreign key acts on the tables that a fresh base gets
 abbrev pub IsSavable : Bool → Database → Type 0
-IsSavable true db = IsBare db
+IsSavable true db = SparesAll db.schema
 IsSavable false db = IsAsDeclared db
 
 -- what a save of data makes of a base, and why it may be refused

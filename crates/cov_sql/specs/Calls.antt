@@ -2,7 +2,7 @@
 --     IsRefused, IsFault     a statement was refused; so was a call that reads or writes a file
 --     Counts, GoesOn         a count rises with a refusal; and statements still tell the tables
 --     Asks                   a call that reads makes no store clean, and begins no transaction
---     LeavesNoMore           a crash in a transaction leaves what it could leave before
+--     LeavesNoMore           a crash leaves what it could leave before
 --     ReadsFrom, WorksAs     so a statement reads a table; so one runs a text in a transaction
 use Rattle.std.specs.Prelude.{◌≡◌, false, ℕ, ◌≤◌, List, Result, IsErrOf}
 use Rattle.cov_outside.specs.Counts.{Rose}
@@ -14,7 +14,7 @@ use Rattle.cov_sql.specs.declared.statements.StatementError.TheVariants as state
 use Rattle.cov_sql.specs.declared.errors.SqlError.{SqlError}
 use Rattle.cov_sql.specs.declared.errors.SqlError.TheVariants as sql
 use Rattle.cov_sql.specs.Tables.{Shape}
-use Rattle.cov_sql.specs.Told.{Lists, Reads, LeavesAll}
+use Rattle.cov_sql.specs.Told.{Lists, Reads}
 use Rattle.cov_sql.specs.Written.{RunsIn}
 
 -- the database refused a statement
@@ -50,7 +50,7 @@ LeavesNoMore g old new = Survives (state g old) (state g new) (λ _. ⊥)
 pub record ReadsFrom {S : Type 0} (g : Ghosts S) (t : Shape) (old new : Held S)
     (r : Result Lists StatementError) : Type 0 where
   pub told : Reads t (state g old) (state g new) r
-  pub survives : LeavesAll t (state g old) (state g new)
+  pub survives : LeavesNoMore g old new
 
 -- what one does is a relation of the states before and after it, and its answer
 abbrev pub Does : Type 1

@@ -1,14 +1,12 @@
 -- What a save finds and what it leaves.
---     IsReadyFor               a base that data may be written to: without tables, or with those of
---                              a data file, whose rows may go
+--     IsReadyFor               a base that data may be written to: where no foreign key acts on
+--                              tables to come, or with those of a data file, whose rows may go
 --     HasTable                 a base has one of the tables
 --     ShowsSame                two states show the same tables
 --     IsJudged, Judges         what a base has, where data may be saved over what it holds
 --     begun                    a base as a transaction begins in it
 --     IsSaved, EndsSaved       a base that one transaction made of another, with the rows of data;
 --                              so a save leaves its base
---     LacksInWork              in such a transaction the database named a table or a column as not
---                              there
 --     LeavesSaved              a crash may leave what it could leave before, or the saved base
 use Rattle.std.specs.Prelude.{◌≡◌, ◌≢◌, ◌⊎◌, ℕ, Bool, true, false, Some, Result, Ok, IfOk, OnOk, IsErrOf, IsTrue}
 use Rattle.sqlite_trees.specs.declared.store.Store.{Ghosts}
@@ -24,16 +22,16 @@ use Rattle.cov_sql.specs.declared.tables.Table.{Table as Name}
 use Rattle.cov_sql.specs.declared.preparing.Start.{Start}
 use Rattle.cov_sql.specs.declared.preparing.Start.TheVariants as start
 use Rattle.cov_sql.specs.ByName.{shape_of}
-use Rattle.cov_sql.specs.Content.{content_in, AreUnhidden}
-use Rattle.cov_sql.specs.Works.{Reaches, NamesAbsent}
+use Rattle.cov_sql.specs.Content.{content_in}
+use Rattle.cov_sql.specs.Works.{Reaches}
 use Rattle.cov_sql.specs.Holding.{IsReplaceable}
-use Rattle.cov_sql.specs.Making.{IsBare, LacksCounts, IsReady}
+use Rattle.cov_sql.specs.Making.{SparesAll, LacksCounts, IsReady, Fits}
 use Rattle.cov_sql.specs.SavedData.{HoldsSaved}
 
--- data may be saved in a base: a fresh one is bare, and the rows of any other may be replaced, or
--- it lacks the counts alone and has room for them
+-- data may be saved in a base: no foreign key acts on the tables that a fresh one gets, and the rows
+-- of any other may be replaced, or it lacks the counts alone
 abbrev pub IsReadyFor : Bool → Database → Type 0
-IsReadyFor true db = IsBare db
+IsReadyFor true db = SparesAll db.schema
 IsReadyFor false db = IsReplaceable db ⊎ LacksCounts db
 
 -- a base has a table of a data file
@@ -48,14 +46,15 @@ ShowsSame old new = (new.now ≡ old.now) × (new.committed ≡ old.committed)
 pub record IsJudged (fresh : Bool) (old new : State) (r : Result Start SqlError) : Type 0 where
   pub missing : IsErrOf r sql.NotSchema7 → (fresh ≡ false) × (content_in old.now ≡ NotSchema7)
   pub there : OnOk r (fresh ≡ false → content_in old.now ≢ NotSchema7)
+  pub fits : IfOk r (λ s. Fits s old.now.schema)
   pub ready : IfOk r (λ s. IsReadyFor fresh old.now → IsReady s old.now)
   pub begins : fresh ≡ true → r ≡ Ok start.Nothing
   pub same : OnOk r (ShowsSame old new)
   pub kept : KeepsCommit old new
 
--- where the store is clean after the call and no view has a table's name
+-- where the store is clean after the call
 abbrev pub Judges : Bool → State → State → Result Start SqlError → Type 0
-Judges fresh old new r = HasCleanDisk new → AreUnhidden old.now → IsJudged fresh old new r
+Judges fresh old new r = HasCleanDisk new → IsJudged fresh old new r
 
 -- a base in which a transaction is open
 abbrev pub begun : {S : Type 0} → Held S → Held S
@@ -81,11 +80,6 @@ pub record IsSaved {S : Type 0} (g : Ghosts S) (d : DataSet) (fresh : Bool) (old
 abbrev pub EndsSaved : {S : Type 0} → Ghosts S → DataSet → Bool → Held S → Held S → Type 0
 EndsSaved g d fresh old new = IsSaved g d fresh old (state g new).committed
     × ((state g new).now ≡ (state g new).committed)
-
--- a text of the save named a table or a column that is not there
-abbrev pub LacksInWork : {S : Type 0} → Ghosts S → Held S → Type 0
-LacksInWork {S} g old = (read : Held S) × ShowsSame (state g old) (state g read)
-    × NamesAbsent g (begun read)
 
 -- a crash leaves the base as it could before, or with the data saved
 abbrev pub LeavesSaved : {S : Type 0} → Ghosts S → DataSet → Bool → Held S → Held S → Type 0

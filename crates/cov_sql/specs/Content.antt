@@ -3,7 +3,6 @@
 --                                there
 --     tables_in, content_in      the tables by their rows, if those of schema 7 are there; what the
 --                                base holds
---     AreUnhidden                no view has the name of one of the tables
 --     AreCounts, IsFound         the rows that were read of each table, in some order; without the
 --                                table of counts, none
 use Rattle.std.specs.Prelude.{◌≡◌, ◌≢◌, Bool, true, false, cond, Vec, List, [], map, Option, Some, None, option_map, option_and_then}
@@ -18,7 +17,7 @@ use Rattle.cov_vault.specs.declared.vault.Content.TheVariants.{NotSchema7}
 use Rattle.cov_tables.specs.Fields.{Field, whole, text, blob, other, Row}
 use Rattle.cov_tables.specs.Content.{Tables, content}
 use Rattle.cov_tables.specs.declared.cells.Cell.{Cell}
-use Rattle.cov_sql.specs.Tables.{Shape, rows_in, IsUnhidden, coverage_schema, meta, file, context, line_bits, arc, tracer, hits}
+use Rattle.cov_sql.specs.Tables.{Shape, rows_in, coverage_schema, meta, file, context, line_bits, arc, tracer, hits}
 use Rattle.cov_sql.specs.Cells.{AreRowsIn}
 use Rattle.cov_sql.specs.declared.reading.Found.{Found}
 
@@ -66,17 +65,6 @@ content_if (Some t) = content t
 -- what a base holds as a data file
 abbrev pub content_in : Database → Content
 content_in db = content_if (tables_in db)
-
--- no view has the name of a table of a data file
-pub record AreUnhidden (db : Database) : Type 0 where
-  pub coverage_schema : IsUnhidden coverage_schema db
-  pub meta : IsUnhidden meta db
-  pub file : IsUnhidden file db
-  pub context : IsUnhidden context db
-  pub line_bits : IsUnhidden line_bits db
-  pub arc : IsUnhidden arc db
-  pub tracer : IsUnhidden tracer db
-  pub hits : IsUnhidden hits db
 
 -- the rows of `hits`, or none where it isn't there
 abbrev pub AreCounts : Database → Bool → List (Vec Cell Global) → Type 0

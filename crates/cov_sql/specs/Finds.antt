@@ -1,26 +1,19 @@
 -- What the steps of reading a data file give.
---     Finds, EndsAs             what was sought, or it is missing; the base is as it was, or a
---                               transaction was undone
+--     Finds                     what was sought, or it is missing
 --     SeeksCounts               so a step finds the table of counts, which may be missing
 --     FindsNamed, FindsMeasured, FindsAll      the first four tables; the others; all of them
---     LeavesFile                a crash may leave what it could leave before, unless a view has the
---                               name of a table
-use Rattle.std.specs.Prelude.{◌≡◌, ◌≢◌, ◌⊎◌, None, Some, Option, Result, IfOk, OnOk, IsErrOf}
+use Rattle.std.specs.Prelude.{◌≡◌, ◌≢◌, None, Some, Option, Result, IfOk, OnOk, IsErrOf}
 use Rattle.sqlite.specs.Effect.{Database}
-use Rattle.sqlite.specs.State.{State, HasCleanDisk, IsUnchanged, IsRolledBack, Survives}
+use Rattle.sqlite.specs.State.{State, HasCleanDisk, IsUnchanged}
 use Rattle.cov_sql.specs.declared.errors.SqlError.{SqlError}
 use Rattle.cov_sql.specs.declared.errors.SqlError.TheVariants.{NotSchema7}
 use Rattle.cov_sql.specs.declared.reading.Found.{Found}
 use Rattle.cov_sql.specs.declared.reading.Named.{Named}
 use Rattle.cov_sql.specs.declared.reading.Measured.{Measured}
-use Rattle.cov_sql.specs.Tables.{Shape, rows_in, IsUnhidden, coverage_schema, meta, file, context, line_bits, arc, tracer, hits}
+use Rattle.cov_sql.specs.Tables.{Shape, rows_in, coverage_schema, meta, file, context, line_bits, arc, tracer, hits}
 use Rattle.cov_sql.specs.Cells.{AreRowsIn}
-use Rattle.cov_sql.specs.Told.{Lists}
-use Rattle.cov_sql.specs.Content.{tables_in, AreUnhidden, IsFound}
-
--- the base is as it was, or its transaction was undone
-abbrev pub EndsAs : State → State → Type 0
-EndsAs old new = IsUnchanged old new ⊎ IsRolledBack old new
+use Rattle.cov_sql.specs.Told.{Lists, EndsAs}
+use Rattle.cov_sql.specs.Content.{tables_in, IsFound}
 
 -- a step of reading gives what it sought, or tells that it is missing
 pub record Finds {X : Type 0} (Holds : Database → X → Type 0) (Lacks : Database → Type 0)
@@ -43,10 +36,9 @@ abbrev pub HoldsCounts : Database → Option Lists → Type 0
 HoldsCounts db None = LacksTable hits db
 HoldsCounts db (Some lists) = HoldsRows hits db lists
 
--- where the store is clean after the step and no view has the table's name
+-- where the store is clean after the step
 abbrev pub SeeksCounts : State → State → Result (Option Lists) SqlError → Type 0
-SeeksCounts old new r = HasCleanDisk new → IsUnhidden hits old.now
-    → Finds HoldsCounts (λ db. ⊥) old new r
+SeeksCounts old new r = HasCleanDisk new → Finds HoldsCounts (λ db. ⊥) old new r
 
 -- the four tables that rows refer to or that have no data
 pub record IsNamed (db : Database) (n : Named) : Type 0 where
@@ -68,17 +60,12 @@ LacksOne db = tables_in db ≡ None
 
 -- so a step finds the first four tables
 abbrev pub FindsNamed : State → State → Result Named SqlError → Type 0
-FindsNamed old new r = HasCleanDisk new → AreUnhidden old.now → Finds IsNamed LacksOne old new r
+FindsNamed old new r = HasCleanDisk new → Finds IsNamed LacksOne old new r
 
 -- so a step finds the tables with rows of data
 abbrev pub FindsMeasured : State → State → Result Measured SqlError → Type 0
-FindsMeasured old new r = HasCleanDisk new → AreUnhidden old.now
-    → Finds IsMeasured LacksOne old new r
+FindsMeasured old new r = HasCleanDisk new → Finds IsMeasured LacksOne old new r
 
 -- so a step finds all tables
 abbrev pub FindsAll : State → State → Result Found SqlError → Type 0
-FindsAll old new r = HasCleanDisk new → AreUnhidden old.now → Finds IsFound LacksOne old new r
-
--- a crash leaves no more than before, unless a view has the name of a table
-abbrev pub LeavesFile : State → State → Type 0
-LeavesFile old new = Survives old new (λ _. ¬ AreUnhidden old.now)
+FindsAll old new r = HasCleanDisk new → Finds IsFound LacksOne old new r

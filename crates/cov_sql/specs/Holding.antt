@@ -5,8 +5,8 @@
 --     cleared, cleared_all         the rows once a table is emptied; once several are
 --     IsThere, Stands              a table is there as it is declared, in this tree; all are, each
 --                                  in a tree of its own
---     IsReplaceable                the tables stand and no view hides one, no foreign key acts
---                                  where their rows go, and their rowids are integers
+--     IsReplaceable                the tables stand, no foreign key acts where their rows go, and
+--                                  their rowids are integers
 --     HoldsOf, Holds               a table holds these rows, in some order; all do, in a base whose
 --                                  rows may go
 --     Fills, Empties               a step adds rows to a table; a step takes the rows of a table
@@ -25,7 +25,6 @@ use Rattle.cov_sql.specs.declared.tables.Table.TheVariants as name
 use Rattle.cov_sql.specs.Tables.{rows_in}
 use Rattle.cov_sql.specs.Written.{NothingActs, HasInteger}
 use Rattle.cov_sql.specs.ByName.{shape_of, declared_as}
-use Rattle.cov_sql.specs.Content.{AreUnhidden}
 
 -- the place of a table among all, from 0
 abbrev pub number_of : Name → ℕ
@@ -86,7 +85,6 @@ pub record IsReplaceable (db : Database) : Type 0 where
   pub stands : Stands db.schema
   pub acts : (n : Name) → NothingActs db.schema (stands.tree n)
   pub rowids : (n : Name) → AllByRecursion HasInteger (db.trees (stands.tree n))
-  pub unhidden : AreUnhidden db
 
 -- a base has these rows in a table, in some order
 pub record HoldsOf (n : Name) (db : Database) (rows : List Row) : Type 0 where

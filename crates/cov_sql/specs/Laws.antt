@@ -7,7 +7,7 @@ use Rattle.sqlite.specs.Effect.{Database}
 use Rattle.sqlite.specs.Held.{Held, state}
 use Rattle.cov_data.specs.DataSet.{DataSet, IsSound}
 use Rattle.cov_vault.specs.declared.vault.Content.TheVariants.{Good, NotSchema7}
-use Rattle.cov_sql.specs.Content.{content_in, AreUnhidden}
+use Rattle.cov_sql.specs.Content.{content_in}
 use Rattle.cov_sql.specs.Committed.{IsReadyFor, EndsSaved}
 use Rattle.cov_sql.specs.SavedData.{HoldsSaved}
 
@@ -20,16 +20,14 @@ SavedAreRead =
 abbrev pub SavedIsSchema7 : Type 0
 SavedIsSchema7 = (d : DataSet) (db : Database) → HoldsSaved d db → content_in db ≢ NotSchema7
 
--- It may be saved over again, and no view hides its tables.
+-- It may be saved over again.
 abbrev pub SavedIsReady : Type 0
-SavedIsReady =
-    (d : DataSet) (db : Database) → HoldsSaved d db → IsReadyFor false db × AreUnhidden db
+SavedIsReady = (d : DataSet) (db : Database) → HoldsSaved d db → IsReadyFor false db
 
 -- a base that is read as these data, and may be saved over
 pub record IsReadAgain (d : DataSet) (db : Database) : Type 0 where
   pub reads : content_in db ≡ Good d
   pub ready : IsReadyFor false db
-  pub unhidden : AreUnhidden db
 
 -- So is a base once `write_data` has saved data in it, where it was ready for them.
 abbrev pub SavesAreRead : {S : Type 0} → Ghosts S → Type 0

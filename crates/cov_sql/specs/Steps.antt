@@ -11,13 +11,12 @@ use Rattle.cov_sql.specs.declared.statements.StatementError.{StatementError}
 use Rattle.cov_sql.specs.declared.errors.SqlError.{SqlError}
 use Rattle.cov_sql.specs.declared.errors.SqlError.TheVariants.{BadRow}
 use Rattle.cov_sql.specs.Calls.{IsRefused, IsFault, GoesOn, Asks, LeavesNoMore}
-use Rattle.cov_sql.specs.Finds.{LeavesFile}
 use Rattle.cov_sql.specs.Works.{Works}
 
 -- a step that reads a data file, by statements that tell its tables or don't
 pub record ReadsBy {S Q X : Type 0} (g : Ghosts S) (telling : Q → Type 0) (counted : Q → ℕ)
     (old new : Held S) (before after : Q) (r : Result X SqlError) : Type 0 where
-  pub survives : telling before → LeavesFile (state g old) (state g new)
+  pub survives : telling before → LeavesNoMore g old new
   pub not_bad_row : (row : ℕ) → IsErrOf r (BadRow row) → ⊥
   pub asks : Asks g old new
   pub goes_on : GoesOn telling counted before after (IsFault r)

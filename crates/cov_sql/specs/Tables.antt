@@ -7,10 +7,9 @@
 --     coverage_schema, meta, file, context,
 --     line_bits, arc, tracer   the tables of schema 7
 --     hits                     the table of counts
---     IsUnhidden               no view has the table's name
-use Rattle.std.specs.Prelude.{◌≡◌, ℕ, List, [], ◌∷◌, map, Option, Some, None, option_map, option_and_then, slice_get, codes}
+use Rattle.std.specs.Prelude.{ℕ, List, [], ◌∷◌, map, Option, Some, None, option_map, option_and_then, slice_get, codes}
 use Rattle.sqlite_value.specs.Order.{Row, column}
-use Rattle.sqlite_schema.specs.Names.{table_named, view_named, column_named, place_of}
+use Rattle.sqlite_schema.specs.Names.{table_named, column_named, place_of}
 use Rattle.sqlite_schema.specs.declared.schema.Table.{Table}
 use Rattle.sqlite_schema.specs.declared.schema.Schema.{Schema}
 use Rattle.sqlite.specs.Effect.{Database}
@@ -39,10 +38,6 @@ pub record Shape : Type 0 where
 -- the rows of a table of a data file
 abbrev pub rows_in : Shape → Database → Option (List Row)
 rows_in t db = rows_of t.name t.columns db
-
--- SELECT shows a view in place of a table of its name
-abbrev pub IsUnhidden : Shape → Database → Type 0
-IsUnhidden t db = view_named db.schema t.name ≡ None
 
 -- ---- coverage.py's schema 7, and the table of counts
 

@@ -1,25 +1,27 @@
 -- What reading statements tell.
 --     Answers      a statement gave the rows of its table, or it is missing, and nothing changed;
 --                  else a transaction may have been undone
---     Reads        so it is where the store is clean after the call and no view has the table's
---                  name
---     LeavesAll    a crash may leave what it could leave before, unless a view has the table's name
+--     EndsAs       the base is as it was, or a transaction was undone
+--     Reads        so it is where the store is clean after the call
 --     IsAbsence    the causes that say that a table or one of its columns isn't there
---     IsUnread     those that say so where a table is read: one that can't be used isn't there
 use Rattle.std.specs.Prelude.{◌≡◌, ◌⊎◌, None, Vec, Result, IfOk, OnOk, IsErrOf}
 use Rattle.std.specs.declared.alloc.Global.{Global}
-use Rattle.sqlite.specs.State.{State, HasCleanDisk, IsUnchanged, IsRolledBack, Survives}
+use Rattle.sqlite.specs.State.{State, HasCleanDisk, IsUnchanged, IsRolledBack}
 use Rattle.sqlite_resolve.specs.declared.error.CompileError.{CompileError}
-use Rattle.sqlite_resolve.specs.declared.error.CompileError.TheVariants.{NoSuchTable, NoSuchColumn, Unsupported}
+use Rattle.sqlite_resolve.specs.declared.error.CompileError.TheVariants.{NoSuchTable, NoSuchColumn}
 use Rattle.cov_tables.specs.declared.cells.Cell.{Cell}
 use Rattle.cov_sql.specs.declared.statements.StatementError.{StatementError}
 use Rattle.cov_sql.specs.declared.statements.StatementError.TheVariants.{Missing}
-use Rattle.cov_sql.specs.Tables.{Shape, rows_in, IsUnhidden}
+use Rattle.cov_sql.specs.Tables.{Shape, rows_in}
 use Rattle.cov_sql.specs.Cells.{AreRowsIn}
 
 -- rows as lists of cells
 abbrev pub Lists : Type 0
 Lists = Vec (Vec Cell Global) Global
+
+-- the base is as it was, or its transaction was undone
+abbrev pub EndsAs : State → State → Type 0
+EndsAs old new = IsUnchanged old new ⊎ IsRolledBack old new
 
 -- a statement gives the rows of its table, or tells that it is missing
 pub record Answers (t : Shape) (old new : State) (r : Result Lists StatementError) : Type 0 where
@@ -27,20 +29,12 @@ pub record Answers (t : Shape) (old new : State) (r : Result Lists StatementErro
   pub missing : IsErrOf r Missing → rows_in t old.now ≡ None
   pub kept : OnOk r (IsUnchanged old new)
   pub unfound : IsErrOf r Missing → IsUnchanged old new
-  pub ends : IsUnchanged old new ⊎ IsRolledBack old new
+  pub ends : EndsAs old new
 
 -- so a statement reads its table
 abbrev pub Reads : Shape → State → State → Result Lists StatementError → Type 0
-Reads t old new r = HasCleanDisk new → IsUnhidden t old.now → Answers t old new r
-
--- a crash leaves no more than before, unless a view has the name of the table
-abbrev pub LeavesAll : Shape → State → State → Type 0
-LeavesAll t old new = Survives old new (λ _. ¬ IsUnhidden t old.now)
+Reads t old new r = HasCleanDisk new → Answers t old new r
 
 -- the database names a table or a column as not there
 abbrev pub IsAbsence : CompileError → Type 0
 IsAbsence e = (e ≡ NoSuchTable) ⊎ (e ≡ NoSuchColumn)
-
--- the same, or a table that can not be used
-abbrev pub IsUnread : CompileError → Type 0
-IsUnread e = IsAbsence e ⊎ (e ≡ Unsupported)

@@ -5,15 +5,14 @@
 --                                  integers
 --     IsEmptied, Deletes           a table has no row left and every other is as before; so a call
 --                                  leaves it
---     IsUnused, IsMade             a name is free; its table was made
---     IsGrown, IsMaking, Makes     no table or view of a schema went; what a call that makes a
---                                  table does
+--     IsMade                       a table was made, whose name was free
+--     IsMaking, Makes              what a call that makes a table does
 --     IsDeclared, IsAdded, Inserts      a table is there as data files declare it; it has one row
 --                                       more; so a call leaves it
 --     WasAbsent, Ran               a text was refused since a table or a column isn't there; one
 --                                  ran, and the transaction goes on
 --     IsRun, RunsIn                a call ran one text, and committed nothing
-use Rattle.std.specs.Prelude.{slice_get, ◌∷◌, IsPermutation, ◌≡◌, ◌≢◌, ◌⊎◌, ℕ, true, false, None, Err, ℤ, List, [], Some, Ok, Result, OnOk, IsErrOf, IsTrue}
+use Rattle.std.specs.Prelude.{slice_get, ◌∷◌, ◌++◌, IsPermutation, ◌≡◌, ◌≢◌, ◌⊎◌, ℕ, true, None, Err, ℤ, List, [], Some, Ok, Result, OnOk, IsErrOf, IsTrue}
 use Rattle.std.specs.List.{AllByRecursion}
 use Rattle.sqlite_value.specs.Order.{Row}
 use Rattle.sqlite_value.specs.declared.value.Value.TheVariants.{Int}
@@ -22,17 +21,15 @@ use Rattle.sqlite_schema.specs.declared.schema.Keys.TheVariants.{Enforced}
 use Rattle.sqlite_schema.specs.declared.schema.Schema.{Schema}
 use Rattle.sqlite_schema.specs.declared.schema.Table.{Table}
 use Rattle.sqlite_rules.specs.Action.{works}
-use Rattle.sqlite_schema.specs.Names.{table_named, view_named, index_named}
+use Rattle.sqlite_schema.specs.Names.{table_named}
 use Rattle.sqlite_catalog.specs.Change.{KeepsRows}
 use Rattle.sqlite_resolve.specs.declared.error.CompileError.{CompileError}
 use Rattle.sqlite.specs.declared.error.Error.TheVariants.{SqlInputError}
-use Rattle.sqlite.specs.Change.{created, next_tree}
-use Rattle.sqlite.specs.Does.{lacks_sequence}
 use Rattle.sqlite.specs.Effect.{Database}
 use Rattle.sqlite.specs.State.{State, HasCleanDisk, Executes, Shows, KeepsCommit}
 use Rattle.cov_sql.specs.declared.statements.StatementError.{StatementError}
 use Rattle.cov_sql.specs.declared.statements.StatementError.TheVariants.{Missing, Refused, NoMemory}
-use Rattle.cov_sql.specs.Tables.{Shape, table_in, rows_in, IsUnhidden}
+use Rattle.cov_sql.specs.Tables.{Shape, table_in, rows_in}
 use Rattle.cov_sql.specs.Told.{IsAbsence}
 
 -- no foreign key acts where rows of a tree go
@@ -63,36 +60,30 @@ abbrev pub Deletes : Shape → State → State → Result (Unit {0}) StatementEr
 Deletes t old new r = HasCleanDisk new → IsTrue old.in_transaction → IsFree t old.now
     → OnOk r (IsEmptied t old.now new.now)
 
--- no table, view or index has the name of a table, which may be made
-pub record IsUnused (t : Shape) (table : ℕ → Table) (db : Database) : Type 0 where
-  pub no_table : table_named db.schema t.name ≡ None
-  pub no_view : view_named db.schema t.name ≡ None
-  pub no_index : index_named db.schema t.name ≡ None
-  -- no table counts its rowids without the table of such counts
-  pub sequenced : lacks_sequence (created db.schema (table 0)) ≡ false
-
 -- the base has the table, with no row, beside those that it had
-pub record IsMade (table : ℕ → Table) (old new : Database) : Type 0 where
-  pub schema : new.schema ≡ created old.schema (table 0)
-  pub empty : new.trees (next_tree old.schema) ≡ []
+pub record IsMade (t : Shape) (table : ℕ → Table) (old new : Database) : Type 0 where
+  pub free : table_named old.schema t.name ≡ None
+  pub tree : ℕ
+  -- those that the database adds by itself, as that of rowid counts, refer to no table
+  pub more : List Table
+  pub tables : new.schema.tables ≡ old.schema.tables ++ table tree ∷ more
+  pub bare : AllByRecursion (λ u. u.references ≡ []) more
+  -- all that are new have trees of their own
+  pub apart : AllByRecursion (λ u. AllByRecursion (λ v. v.tree ≢ u.tree) (table tree ∷ more))
+      old.schema.tables
+  pub alone : AllByRecursion (λ v. v.tree ≢ tree) more
+  pub empty : new.trees tree ≡ []
   pub others : KeepsRows old.schema.tables old.trees new.trees
-
--- a schema has the tables and views that it had
-pub record IsGrown (old new : Schema) : Type 0 where
-  pub tables : (name : List ℕ) (at : ℕ) → table_named old name ≡ Some at
-      → table_named new name ≡ Some at
-  pub views : new.views ≡ old.views
 
 -- what a call that makes a table does, and why it is refused
 pub record IsMaking (t : Shape) (table : ℕ → Table) (old new : State)
     (r : Result (Unit {0}) StatementError) : Type 0 where
-  pub made : IsUnused t table old.now → OnOk r (IsMade table old.now new.now)
+  pub made : OnOk r (IsMade t table old.now new.now)
   -- a table that is there is not made again
-  pub once : (at : ℕ) → table_named old.now.schema t.name ≡ Some at → IsUnhidden t old.now
+  pub once : (at : ℕ) → table_named old.now.schema t.name ≡ Some at
       → (r ≡ Err Refused) ⊎ (r ≡ Err NoMemory)
-  pub grown : IsUnhidden t old.now → OnOk r (IsGrown old.now.schema new.now.schema)
   -- the text needs no other table
-  pub never : IsUnhidden t old.now → IsErrOf r Missing → ⊥
+  pub never : IsErrOf r Missing → ⊥
 
 -- so a call makes a table
 abbrev pub Makes : Shape → (ℕ → Table) → State → State → Result (Unit {0}) StatementError → Type 0

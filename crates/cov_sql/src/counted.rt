@@ -1,18 +1,16 @@
 //! The statements over the database itself.
-ghost use Rattle.std.specs.Prelude.{◌≡◌, ◌≤◌, false, [], IsTrue, IfOk, OnOk, OnErr, IsErrOf};
+ghost use Rattle.std.specs.Prelude.{◌≡◌, ◌≤◌, false, IsTrue, OnOk, OnErr, IsErrOf};
 ghost use Rattle.cov_outside.specs.Counts.{greatest, Rose};
 ghost use Rattle.sqlite.specs.Held.{state};
-ghost use Rattle.sqlite.specs.State.{HasCleanDisk, Survives, CommitsShowing, KeepsCommit, Commits, IsRolledBack};
+ghost use Rattle.sqlite.specs.State.{HasCleanDisk, Survives, KeepsCommit, Commits, IsRolledBack};
 ghost use Rattle.sqlite_resolve.specs.declared.error.CompileError.{CompileError};
 ghost use Rattle.sqlite.specs.declared.error.Error.TheVariants.{SqlInputError};
 ghost use Rattle.sqlite.specs.Values.{bound};
 ghost use Rattle.cov_sql.specs.Calls.{Counts, IsRefused, LeavesNoMore};
-ghost use Rattle.cov_sql.specs.Told.{IsAbsence, IsUnread};
+ghost use Rattle.cov_sql.specs.Told.{IsAbsence};
 ghost use Rattle.cov_sql.specs.Written.{Ran, WasAbsent};
-ghost use Rattle.cov_sql.specs.Shown.{ShowsCells, IsRefusedAsAbsent, IsAsked};
 
 use crate::statements::{StatementError, Statements};
-use crate::values::lists_of;
 use cov_tables::Cell;
 use sqlite::{Alter, Connection, Error, ErrorCode, Transaction};
 use sqlite_resolve::CompileError;
@@ -34,7 +32,7 @@ impl Counted {
     }
 
     /// What an error means, which counts unless a table, a column or memory is missing.
-    fn count(&mut self, error: Error) -> StatementError
+    pub(crate) fn count(&mut self, error: Error) -> StatementError
         ensures counts { Counts self.old.refusals self.new.refusals
             (result ≡ StatementError.Refused) }
         ensures missing { result ≡ StatementError.Missing
@@ -52,19 +50,6 @@ impl Counted {
         }
     }
 
-    /// The same where a table was read: one that the database can't use counts as missing.
-    fn count_reading(&mut self, error: Error) -> StatementError
-        ensures counts { Counts self.old.refusals self.new.refusals
-            (result ≡ StatementError.Refused) }
-        ensures missing { result ≡ StatementError.Missing
-            → (e : CompileError) × IsUnread e × (error ≡ SqlInputError e) }
-    {
-        match error {
-            Error::SqlInputError(CompileError::Unsupported) => StatementError::Missing,
-            other => self.count(other),
-        }
-    }
-
     /// Counts a refusal.
     pub(crate) fn refuse(&mut self)
         ensures { Rose self.old.refusals self.new.refusals }
@@ -72,8 +57,8 @@ impl Counted {
         self.refusals = self.refusals.saturating_add(1);
     }
 
-    /// What an error at the end of a transaction means, which counts unless memory is missing.
-    fn count_end(&mut self, error: Error) -> StatementError
+    /// What an error means that names no table, which counts unless memory is missing.
+    pub(crate) fn count_other(&mut self, error: Error) -> StatementError
         ensures counts { Counts self.old.refusals self.new.refusals
             (result ≡ StatementError.Refused) }
         ensures not_missing { result ≡ StatementError.Missing → ⊥ }
@@ -87,36 +72,6 @@ impl Counted {
         }
     }
 
-    /// The rows that a query shows.
-    fn read_rows<S: Alter>(
-        &mut self,
-        alloc: Global,
-        base: &mut Connection<S>,
-        sql: &str,
-    ) -> Result<Vec<Vec<Cell>>, StatementError>
-        ensures shown { HasCleanDisk (state S.Store base.new)
-            → IfOk result (ShowsCells sql.now (state S.Store base.old) (state S.Store base.new)) }
-        ensures missing { HasCleanDisk (state S.Store base.new)
-            → IsErrOf result StatementError.Missing
-            → IsRefusedAsAbsent sql.now (state S.Store base.old) (state S.Store base.new) }
-        ensures asked { HasCleanDisk (state S.Store base.new)
-            → IsAsked sql.now (state S.Store base.old) (state S.Store base.new) }
-        ensures survives { Survives (state S.Store base.old) (state S.Store base.new)
-            (CommitsShowing sql.now [] (state S.Store base.old)) }
-        ensures mode { base.old.in_transaction ≡ false → base.new.in_transaction ≡ false }
-        ensures counts { Counts self.old.refusals self.new.refusals (IsRefused result) }
-    {
-        match base.query_all(sql, &[]) {
-            Ok(rows) => match lists_of(alloc, &rows) {
-                Ok(all) => Ok(all),
-                Err(_) => Err(StatementError::NoMemory),
-            },
-            Err(error) => Err(self.count_reading(error)),
-        }
-    }
-}
-
-impl Counted {
     /// Runs a text in a transaction.
     fn run<S: Alter>(
         &mut self,
@@ -157,7 +112,12 @@ impl Statements for Counted {
         alloc: Global,
         base: &mut Connection<S>,
     ) -> Result<Vec<Vec<Cell>>, StatementError> {
-        self.read_rows(alloc, base, "SELECT version FROM coverage_schema")
+        self.read_rows(
+            alloc,
+            base,
+            "coverage_schema",
+            "SELECT version FROM coverage_schema",
+        )
     }
 
     fn read_meta<S: Alter>(
@@ -165,7 +125,7 @@ impl Statements for Counted {
         alloc: Global,
         base: &mut Connection<S>,
     ) -> Result<Vec<Vec<Cell>>, StatementError> {
-        self.read_rows(alloc, base, "SELECT key, value FROM meta")
+        self.read_rows(alloc, base, "meta", "SELECT key, value FROM meta")
     }
 
     fn read_file<S: Alter>(
@@ -173,7 +133,7 @@ impl Statements for Counted {
         alloc: Global,
         base: &mut Connection<S>,
     ) -> Result<Vec<Vec<Cell>>, StatementError> {
-        self.read_rows(alloc, base, "SELECT id, path FROM file")
+        self.read_rows(alloc, base, "file", "SELECT id, path FROM file")
     }
 
     fn read_context<S: Alter>(
@@ -181,7 +141,7 @@ impl Statements for Counted {
         alloc: Global,
         base: &mut Connection<S>,
     ) -> Result<Vec<Vec<Cell>>, StatementError> {
-        self.read_rows(alloc, base, "SELECT id, context FROM context")
+        self.read_rows(alloc, base, "context", "SELECT id, context FROM context")
     }
 
     fn read_line_bits<S: Alter>(
@@ -192,6 +152,7 @@ impl Statements for Counted {
         self.read_rows(
             alloc,
             base,
+            "line_bits",
             "SELECT file_id, context_id, numbits FROM line_bits",
         )
     }
@@ -204,6 +165,7 @@ impl Statements for Counted {
         self.read_rows(
             alloc,
             base,
+            "arc",
             "SELECT file_id, context_id, fromno, tono FROM arc",
         )
     }
@@ -213,7 +175,7 @@ impl Statements for Counted {
         alloc: Global,
         base: &mut Connection<S>,
     ) -> Result<Vec<Vec<Cell>>, StatementError> {
-        self.read_rows(alloc, base, "SELECT file_id, tracer FROM tracer")
+        self.read_rows(alloc, base, "tracer", "SELECT file_id, tracer FROM tracer")
     }
 
     fn read_hits<S: Alter>(
@@ -224,6 +186,7 @@ impl Statements for Counted {
         self.read_rows(
             alloc,
             base,
+            "hits",
             "SELECT file_id, context_id, fromno, tono, count FROM hits",
         )
     }
@@ -486,7 +449,7 @@ impl Statements for Counted {
     {
         match work.commit() {
             Ok(()) => Ok(()),
-            Err(error) => Err(self.count_end(error)),
+            Err(error) => Err(self.count_other(error)),
         }
     }
 }

@@ -3,6 +3,7 @@
 //! each statement on their tables, and `Counted` runs them and counts what the database refuses.
 #![tactic(auto)]
 
+mod asking;
 mod bits;
 mod counted;
 mod errors;

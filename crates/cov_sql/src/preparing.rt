@@ -6,7 +6,7 @@ ghost use Rattle.cov_sql.specs.ByName.{shape_of, declared_as};
 ghost use Rattle.cov_sql.specs.Written.{Makes};
 ghost use Rattle.cov_sql.specs.Steps.{WorksBy};
 ghost use Rattle.cov_sql.specs.Holding.{cleared, cleared_all, Empties};
-ghost use Rattle.cov_sql.specs.Making.{Builds, Prepares, Denies, RefusesIfThere, NeverLacks};
+ghost use Rattle.cov_sql.specs.Making.{Builds, Prepares, RefusesIfThere, NeverLacks};
 
 use crate::statements::{StatementError, Statements};
 use crate::tables::Table;
@@ -94,8 +94,6 @@ fn make_tables<S: Alter, Q: Statements>(
 ) -> Result<(), StatementError>
     ensures steps { WorksBy S.Store Q.tells Q.refusals work.old work.new by.old by.new result }
     ensures builds { Q.tells by.old → Builds S.Store tables.now
-        work.old.conn.now work.new.conn.now result }
-    ensures denies { Q.tells by.old → Denies S.Store tables.now
         work.old.conn.now work.new.conn.now result }
 {
     for table in tables {

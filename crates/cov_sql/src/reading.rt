@@ -6,11 +6,10 @@ ghost use Rattle.sqlite.specs.Effect.{Database};
 ghost use Rattle.sqlite.specs.Held.{state};
 ghost use Rattle.sqlite.specs.State.{HasCleanDisk, IsUnchanged};
 ghost use Rattle.cov_vault.specs.declared.vault.Content.TheVariants.{Good, NotSchema7, BadRow};
-ghost use Rattle.cov_sql.specs.Tables.{coverage_schema, meta, file, context, line_bits, arc, tracer, hits};
-ghost use Rattle.cov_sql.specs.Told.{LeavesAll};
-ghost use Rattle.cov_sql.specs.Calls.{IsFault, GoesOn, Asks};
-ghost use Rattle.cov_sql.specs.Content.{content_in, AreUnhidden, IsFound};
-ghost use Rattle.cov_sql.specs.Finds.{EndsAs, SeeksCounts, IsNamed, IsMeasured, FindsNamed, FindsMeasured, FindsAll, LeavesFile};
+ghost use Rattle.cov_sql.specs.Told.{EndsAs};
+ghost use Rattle.cov_sql.specs.Calls.{IsFault, GoesOn, Asks, LeavesNoMore};
+ghost use Rattle.cov_sql.specs.Content.{content_in, IsFound};
+ghost use Rattle.cov_sql.specs.Finds.{SeeksCounts, IsNamed, IsMeasured, FindsNamed, FindsMeasured, FindsAll};
 ghost use Rattle.cov_sql.specs.Steps.{ReadsBy};
 
 use crate::errors::SqlError;
@@ -54,8 +53,7 @@ fn hits_rows<S: Alter, Q: Statements>(
     ensures told { Q.tells by.old
         → SeeksCounts (state S.Store base.old) (state S.Store base.new) result }
     ensures not_schema { IsErrOf result SqlError.NotSchema7 → ⊥ }
-    ensures survives { Q.tells by.old
-        → LeavesAll hits (state S.Store base.old) (state S.Store base.new) }
+    ensures survives { Q.tells by.old → LeavesNoMore S.Store base.old base.new }
     ensures not_bad_row { (row : ℕ) → IsErrOf result (SqlError.BadRow row) → ⊥ }
     ensures asks { Asks S.Store base.old base.new }
     ensures goes_on { GoesOn Q.tells Q.refusals by.old by.new (IsFault result) }
@@ -170,24 +168,18 @@ pub fn read_data<S: Alter, Q: Statements>(
     by: &mut Q,
 ) -> Result<Data, SqlError>
     ensures good { Q.tells by.old → HasCleanDisk (state S.Store base.new)
-        → AreUnhidden (state S.Store base.old).now
         → IfOk result (λ loaded. content_in (state S.Store base.old).now ≡ Good loaded) }
     ensures not_schema { Q.tells by.old → HasCleanDisk (state S.Store base.new)
-        → AreUnhidden (state S.Store base.old).now
         → IsErrOf result SqlError.NotSchema7
         → content_in (state S.Store base.old).now ≡ NotSchema7 }
     ensures bad_row { Q.tells by.old → HasCleanDisk (state S.Store base.new)
-        → AreUnhidden (state S.Store base.old).now
         → (row : ℕ) → IsErrOf result (SqlError.BadRow row)
         → content_in (state S.Store base.old).now ≡ BadRow row }
     ensures kept { Q.tells by.old → HasCleanDisk (state S.Store base.new)
-        → AreUnhidden (state S.Store base.old).now
         → OnOk result (IsUnchanged (state S.Store base.old) (state S.Store base.new)) }
     ensures ends { Q.tells by.old → HasCleanDisk (state S.Store base.new)
-        → AreUnhidden (state S.Store base.old).now
         → EndsAs (state S.Store base.old) (state S.Store base.new) }
-    ensures survives { Q.tells by.old
-        → LeavesFile (state S.Store base.old) (state S.Store base.new) }
+    ensures survives { Q.tells by.old → LeavesNoMore S.Store base.old base.new }
     ensures tells { Q.tells by.old → Q.tells by.new }
     ensures clean { HasCleanDisk (state S.Store base.new) → HasCleanDisk (state S.Store base.old) }
     ensures mode { base.old.in_transaction ≡ false → base.new.in_transaction ≡ false }

@@ -4,10 +4,10 @@ ghost use Rattle.cov_outside.specs.Counts.{Rose};
 ghost use Rattle.sqlite.specs.Held.{state};
 ghost use Rattle.sqlite.specs.State.{HasCleanDisk, KeepsCommit};
 ghost use Rattle.cov_vault.specs.declared.vault.Content.TheVariants.{NotSchema7};
-ghost use Rattle.cov_sql.specs.Content.{content_in, AreUnhidden};
+ghost use Rattle.cov_sql.specs.Content.{content_in};
 ghost use Rattle.cov_sql.specs.Steps.{ReadsBy, WorksBy};
 ghost use Rattle.cov_sql.specs.Making.{Saves, RefusesIfThere, NeverLacks};
-ghost use Rattle.cov_sql.specs.Committed.{IsReadyFor, HasTable, Judges, EndsSaved, LacksInWork, LeavesSaved};
+ghost use Rattle.cov_sql.specs.Committed.{HasTable, Judges, EndsSaved, LeavesSaved};
 
 use crate::errors::SqlError;
 use crate::inserting::insert_all;
@@ -73,30 +73,23 @@ pub fn write_data<S: Alter, Q: Statements>(
 ) -> Result<(), SqlError>
     requires { base.old.in_transaction ≡ false }
     ensures saved { Q.tells by.old → HasCleanDisk (state S.Store base.new)
-        → AreUnhidden (state S.Store base.old).now
         → OnOk result (EndsSaved S.Store content.now fresh base.old base.new) }
     ensures replaces { Q.tells by.old → HasCleanDisk (state S.Store base.new)
-        → AreUnhidden (state S.Store base.old).now → fresh ≡ false
+        → fresh ≡ false
         → OnOk result (content_in (state S.Store base.old).now ≢ NotSchema7) }
 
     ensures not_schema { Q.tells by.old → HasCleanDisk (state S.Store base.new)
-        → AreUnhidden (state S.Store base.old).now → IsErrOf result SqlError.NotSchema7
-        → ((fresh ≡ false) × (content_in (state S.Store base.old).now ≡ NotSchema7))
-        ⊎ LacksInWork S.Store base.old }
-    ensures only_schema { Q.tells by.old → HasCleanDisk (state S.Store base.new)
-        → AreUnhidden (state S.Store base.old).now
-        → IsReadyFor fresh (state S.Store base.old).now → IsErrOf result SqlError.NotSchema7
+        → IsErrOf result SqlError.NotSchema7
         → (fresh ≡ false) × (content_in (state S.Store base.old).now ≡ NotSchema7) }
     ensures not_bad_row { (row : ℕ) → IsErrOf result (SqlError.BadRow row) → ⊥ }
     ensures once { Q.tells by.old → HasCleanDisk (state S.Store base.new)
-        → AreUnhidden (state S.Store base.old).now → fresh ≡ true
+        → fresh ≡ true
         → HasTable (state S.Store base.old).now
         → (result ≡ Err SqlError.Refused) ⊎ (result ≡ Err SqlError.NoMemory) }
     ensures kept { Q.tells by.old → HasCleanDisk (state S.Store base.new)
-        → AreUnhidden (state S.Store base.old).now
         → OnErr result (KeepsCommit (state S.Store base.old) (state S.Store base.new)) }
 
-    ensures crash { Q.tells by.old → AreUnhidden (state S.Store base.old).now
+    ensures crash { Q.tells by.old
         → LeavesSaved S.Store content.now fresh base.old base.new }
     ensures mode { base.new.in_transaction ≡ false }
     ensures tells { Q.tells by.old → Q.tells by.new }

@@ -5,7 +5,7 @@ use std::alloc::{AllocError, Global};
 use std::test::Fail;
 
 /// A title, what is done to a base of schema 7 with its keys, and what it holds then.
-static READ: [(&str, &str, &str); 34] = [
+static READ: [(&str, &str, &str); 36] = [
     ("No row", "", "lines;a.py;"),
     (
         "Further keys, rows and tables",
@@ -32,6 +32,18 @@ static READ: [(&str, &str, &str); 34] = [
         "Two versions",
         "INSERT INTO coverage_schema VALUES (7)",
         "NotSchema7",
+    ),
+    (
+        "A view in place of a table",
+        "DROP TABLE tracer; CREATE VIEW tracer AS SELECT 1 AS file_id, 'x' AS tracer",
+        "NotSchema7",
+    ),
+    (
+        "A view in place of the counts",
+        "CREATE VIEW hits AS
+           SELECT 1 AS file_id, 1 AS context_id, 1 AS fromno, 2 AS tono, 9 AS count;
+         INSERT INTO arc VALUES (1, 1, 1, 2)",
+        "arcs;a.py . 1 2 1;",
     ),
     (
         "Files and contexts",

@@ -155,7 +155,7 @@ static TOLD: [(&str, &str, &str, Result<&str, StatementError>); 4] = [
         "A view in place of a table",
         "CREATE VIEW context AS SELECT 1 AS id, 'v' AS context",
         "context",
-        Ok("1 'v' |"),
+        Err(StatementError::Missing),
     ),
 ];
 

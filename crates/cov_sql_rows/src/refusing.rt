@@ -21,7 +21,7 @@ struct Row {
 
 const OLD: &str = "INSERT INTO meta VALUES ('has_arcs', '1'); INSERT INTO arc VALUES (1, 1, 1, 2)";
 
-static REFUSED: [Row; 13] = [
+static REFUSED: [Row; 15] = [
     Row {
         title: "Another schema",
         base: &[START, OLD, "UPDATE coverage_schema SET version = 6"],
@@ -53,6 +53,29 @@ static REFUSED: [Row; 13] = [
         fresh: false,
         error: SqlError::NotSchema7,
         holds: "NotSchema7",
+    },
+    Row {
+        title: "A view in place of a table",
+        base: &[
+            START,
+            OLD,
+            "DROP TABLE tracer; CREATE VIEW tracer AS SELECT 1 AS file_id, 'x' AS tracer",
+        ],
+        fresh: false,
+        error: SqlError::NotSchema7,
+        holds: "NotSchema7",
+    },
+    Row {
+        title: "A view in place of the counts",
+        base: &[
+            START,
+            OLD,
+            "CREATE VIEW hits AS
+               SELECT 1 AS file_id, 1 AS context_id, 1 AS fromno, 2 AS tono, 9 AS count",
+        ],
+        fresh: false,
+        error: SqlError::Refused,
+        holds: "arcs;a.py . 1 2 1;",
     },
     Row {
         title: "A data file as a fresh one",

@@ -223,6 +223,23 @@ fn tables_hold_what_was_saved(rt: HostRuntime) -> Result<(), Fail> {
     Ok(done?)
 }
 
+/// Tables, an index and a view that no data file has.
+const OTHERS: &str = "CREATE TABLE notes (x); INSERT INTO notes VALUES ('kept');
+CREATE INDEX notes_by_x ON notes (x);
+CREATE VIEW seen AS SELECT x FROM notes;
+CREATE TABLE counted (id integer primary key autoincrement, x);
+INSERT INTO counted (x) VALUES (1)";
+
+#[test]
+fn data_are_saved_beside_others(rt: HostRuntime) -> Result<(), Fail> {
+    let alloc = rt.alloc();
+    let mut base = Connection::open_in_memory(alloc)?;
+    assert_eq!(rt; run(&mut base, &[OTHERS]), Ok(()));
+    let done = assert_saved_in_turn(&rt, alloc, &mut base);
+    drop(base);
+    Ok(done?)
+}
+
 /// A title, and texts that make a base over which data are saved.
 static FOREIGN: [(&str, &[&str]); 5] = [
     ("No counts", &[START]),

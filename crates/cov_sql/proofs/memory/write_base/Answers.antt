@@ -3,7 +3,7 @@ use Rattle.sqlite.specs.Held.{state}
 use Rattle.sqlite.specs.Steps.{over_memory}
 use Rattle.sqlite.proofs.Callers.{memory_is_clean}
 use Rattle.cov_sql.specs.Bases.{kept_in}
-use Rattle.cov_sql.proofs.BaseCalls.{hidden, saves_ok, saves_err}
+use Rattle.cov_sql.proofs.BaseCalls.{saves_ok, saves_err}
 use Rattle.cov_sql.proofs.memory.write_base.Goals as goal
 
 pub returns-in-Ok-clause-saves : goal.returns-in-Ok-clause-saves
@@ -12,8 +12,7 @@ returns-in-Ok-clause-saves c = λ savable.
     let new = c.write_data.new.base in
     let settled : (state over_memory old).now ≡ kept_in old = c.is_autocommit.ensures.settled (c.is_autocommit.ensures.value ∙ ap not c.requires) refl in
     let clean = memory_is_clean new in
-    let unhidden = hidden old new settled c.args.fresh c.args.content.now savable in
-    saves_ok old new settled c.args.fresh c.args.content.now savable tt c.is_arcs-sound.ensures.sound (c.in-Ok.ensures.replaces tt clean unhidden) (c.in-Ok.ensures.saved tt clean unhidden)
+    saves_ok old new settled c.args.fresh c.args.content.now savable tt c.is_arcs-sound.ensures.sound (c.in-Ok.ensures.replaces tt clean) (c.in-Ok.ensures.saved tt clean)
 
 pub returns-in-Err-clause-saves : goal.returns-in-Err-clause-saves
 returns-in-Err-clause-saves c = λ savable.
@@ -21,6 +20,5 @@ returns-in-Err-clause-saves c = λ savable.
     let new = c.write_data.new.base in
     let settled : (state over_memory old).now ≡ kept_in old = c.is_autocommit.ensures.settled (c.is_autocommit.ensures.value ∙ ap not c.requires) refl in
     let clean = memory_is_clean new in
-    let unhidden = hidden old new settled c.args.fresh c.args.content.now savable in
     saves_err old new settled c.args.fresh c.args.content.now savable c.in-Err.error c.failure_of.result c.failure_of.ensures.not_schema
-    (c.in-Err.ensures.only_schema tt clean unhidden) (c.in-Err.ensures.kept tt clean unhidden)
+    (c.in-Err.ensures.not_schema tt clean) (c.in-Err.ensures.kept tt clean)

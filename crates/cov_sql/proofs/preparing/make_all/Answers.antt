@@ -5,7 +5,7 @@ use Rattle.cov_sql.proofs.Making.{prepares_new, no_preparing}
 use Rattle.cov_sql.specs.SqlTexts.{insert_coverage_schema_text}
 use Rattle.cov_sql.proofs.WrittenTexts.{of_insert_coverage_schema}
 use Rattle.cov_sql.proofs.Denying.{refuses_stop, refuses_made}
-use Rattle.cov_sql.proofs.Lacking.{never_denied, never_new}
+use Rattle.cov_sql.proofs.Lacking.{never_unbuilt, never_new}
 use Rattle.cov_sql.proofs.preparing.make_all.Goals as goal
 
 pub returns-in_err-make_tables-clause-steps : goal.returns-in_err-make_tables-clause-steps
@@ -30,17 +30,17 @@ returns-clause-prepares g c tells =
 pub returns-in_err-make_tables-clause-refuses : goal.returns-in_err-make_tables-clause-refuses
 returns-in_err-make_tables-clause-refuses g c tells =
     let is : c.from_residual.result ≡ Err c.in_err-make_tables.field-0.0 = search rules in
-    refuses_stop g.S.Store _ start.Nothing c.args.work.now.conn.now c.make_tables.new.work.conn.now _ _ is (c.in_err-make_tables.ensures.denies tells)
+    refuses_stop g.S.Store _ start.Nothing c.args.work.now.conn.now c.make_tables.new.work.conn.now _ _ is (c.in_err-make_tables.ensures.builds tells)
 
 pub returns-clause-refuses : goal.returns-clause-refuses
 returns-clause-refuses g c tells =
     let told = c.make_tables.ensures.steps.goes_on.tells tells in
-    refuses_made g.S.Store start.Nothing c.args.work.now.conn.now c.make_tables.new.work.conn.now c.insert_coverage_schema.new.work.conn.now c.in_ok-make_tables.field-0 _ (c.insert_coverage_schema.ensures.works told).survives (c.in_ok-make_tables.ensures.denies tells)
+    refuses_made g.S.Store start.Nothing c.args.work.now.conn.now c.make_tables.new.work.conn.now c.insert_coverage_schema.new.work.conn.now c.in_ok-make_tables.field-0 _ (c.insert_coverage_schema.ensures.works told).survives (c.in_ok-make_tables.ensures.builds tells)
 
 pub returns-in_err-make_tables-clause-never : goal.returns-in_err-make_tables-clause-never
 returns-in_err-make_tables-clause-never g c tells =
     let is : c.from_residual.result ≡ Err c.in_err-make_tables.field-0.0 = search rules in
-    never_denied g.S.Store _ c.args.work.now.conn.now c.make_tables.new.work.conn.now _ _ is (c.in_err-make_tables.ensures.denies tells)
+    never_unbuilt g.S.Store _ c.args.work.now.conn.now c.make_tables.new.work.conn.now _ _ is (c.in_err-make_tables.ensures.builds tells)
 
 pub returns-clause-never : goal.returns-clause-never
 returns-clause-never g c tells =

@@ -1,31 +1,21 @@
 use Rattle.std.proofs.Common.{rules, ◌≡◌, Ok, Err, sym, subst, take}
 use Rattle.std.proofs.lemmas.List.{take_all}
-use Rattle.cov_sql.specs.Making.{Builds, Denies}
+use Rattle.cov_sql.specs.Making.{Builds}
 use Rattle.cov_sql.proofs.Stepping.{works_none, works_on, works_end}
 use Rattle.cov_sql.proofs.Filling.{take_got}
-use Rattle.cov_sql.proofs.Making.{no_build, builds_none, builds_next}
-use Rattle.cov_sql.proofs.Denying.{denies_none, denies_next, denies_stop}
+use Rattle.cov_sql.proofs.Making.{builds_end, builds_none, builds_next}
 use Rattle.cov_sql.proofs.preparing.make_tables.Goals as goal
 
 pub returns-in_err-make_table-clause-builds : goal.returns-in_err-make_table-clause-builds
 returns-in_err-make_table-clause-builds g c tells =
     let is : c.from_residual.result ≡ Err c.in_err-make_table.field-0.0 = search rules in
-    no_build g.S.Store c.args.tables.now c.args.work.now.conn.now c.make_table.new.work.conn.now _ _ is
+    let told = c.loop-table.invariant.steps.goes_on.tells tells in
+    builds_end g.S.Store (take c.loop-table.table-index c.args.tables.now) c.args.tables.now _ c.args.work.now.conn.now c.loop-table.work.conn.now c.make_table.new.work.conn.now tt _ _ is (c.make_table.ensures.steps.survives told)
+    (c.loop-table.invariant.steps.works tells) (c.in_err-make_table.ensures.told told)
 
 pub returns-clause-builds : goal.returns-clause-builds
 returns-clause-builds g c tells =
     subst (λ names. Builds g.S.Store names c.args.work.now.conn.now c.loop-table.work.conn.now (Ok tt)) (take_all c.loop-table.table-index c.args.tables.now c.loop-table-test.false) (c.loop-table.invariant.builds tells)
-
-pub returns-in_err-make_table-clause-denies : goal.returns-in_err-make_table-clause-denies
-returns-in_err-make_table-clause-denies g c tells =
-    let is : c.from_residual.result ≡ Err c.in_err-make_table.field-0.0 = search rules in
-    let told = c.loop-table.invariant.steps.goes_on.tells tells in
-    denies_stop g.S.Store (take c.loop-table.table-index c.args.tables.now) c.args.tables.now _ c.args.work.now.conn.now c.loop-table.work.conn.now c.make_table.new.work.conn.now tt _ _ is (c.make_table.ensures.steps.survives told)
-    (c.loop-table.invariant.steps.works tells) (c.loop-table.invariant.denies tells) (c.in_err-make_table.ensures.told told)
-
-pub returns-clause-denies : goal.returns-clause-denies
-returns-clause-denies g c tells =
-    subst (λ names. Denies g.S.Store names c.args.work.now.conn.now c.loop-table.work.conn.now (Ok tt)) (take_all c.loop-table.table-index c.args.tables.now c.loop-table-test.false) (c.loop-table.invariant.denies tells)
 
 pub returns-in_err-make_table-clause-steps : goal.returns-in_err-make_table-clause-steps
 returns-in_err-make_table-clause-steps g c =
@@ -38,7 +28,6 @@ loop-table-init g c =
     record {
       steps = works_none _ _;
       builds = λ tells. builds_none g.S.Store first;
-      denies = λ tells. denies_none g.S.Store first;
     }
 
 pub loop-table-preserved : goal.loop-table-preserved
@@ -53,7 +42,4 @@ loop-table-preserved g c =
       builds = λ tells. let told = c.loop-table.invariant.steps.goes_on.tells tells in
           subst (λ names. Builds g.S.Store names first next (Ok tt)) (sym (take_got all i _ c.loop-table-test.true))
           (builds_next g.S.Store (take i all) _ first now next tt (c.make_table.ensures.steps.survives told) (c.loop-table.invariant.steps.works tells) (c.loop-table.invariant.builds tells) (c.in_ok-make_table.ensures.told told));
-      denies = λ tells. let told = c.loop-table.invariant.steps.goes_on.tells tells in
-          subst (λ names. Denies g.S.Store names first next (Ok tt)) (sym (take_got all i _ c.loop-table-test.true))
-          (denies_next g.S.Store (take i all) _ first now next tt (c.make_table.ensures.steps.survives told) (c.loop-table.invariant.steps.works tells) (c.loop-table.invariant.denies tells) (c.in_ok-make_table.ensures.told told));
     }

@@ -43,4 +43,4 @@ pub returns-clause-never : goal.returns-clause-never
 returns-clause-never g c tells =
     let told = c.prepare.ensures.steps.goes_on.tells tells in
     never_saving g.S.Store c.args.start c.args.work.now.conn.now c.prepare.new.work.conn.now c.insert_all.new.work.conn.now c.in_ok-prepare.field-0 _
-    (c.insert_all.ensures.steps.survives told) (c.in_ok-prepare.ensures.steps.works tells) (c.in_ok-prepare.ensures.prepares tells) (c.insert_all.ensures.steps.works told)
+    (c.insert_all.ensures.steps.survives told) (c.in_ok-prepare.ensures.steps.works tells) (c.in_ok-prepare.ensures.never tells) (c.insert_all.ensures.steps.works told)

@@ -6,7 +6,7 @@ use Rattle.cov_sql.proofs.counted.CountedStatements.read_file.Goals as goal
 
 pub returns-clause-reads : goal.returns-clause-reads
 returns-clause-reads g c _ = record {
-  told = tells _ file reads_file (state g.S.Store c.args.base.now) (state g.S.Store c.read_rows.new.base) c.read_rows.result c.read_rows.ensures.shown c.read_rows.ensures.missing c.read_rows.ensures.asked;
+  told = tells _ file reads_file (state g.S.Store c.args.base.now) (state g.S.Store c.read_rows.new.base) c.read_rows.result c.read_rows.ensures.told;
   survives = leaves _ file reads_file (state g.S.Store c.args.base.now) (state g.S.Store c.read_rows.new.base) c.read_rows.ensures.survives;
 }
 
