@@ -1,0 +1,15 @@
+pub mod Lists
+pub mod Joining
+pub mod Taking
+pub mod Missing
+pub mod Telling
+pub mod Going
+pub mod Recorded
+pub mod Running
+pub mod Reporting
+pub mod Combining
+pub mod Losing
+pub mod Kept
+pub mod Lines
+pub mod Heading
+pub mod Came

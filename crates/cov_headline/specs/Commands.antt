@@ -1,0 +1,77 @@
+-- What each command promises that did its work.
+--     Loses            no data were saved
+--     Promise          what a command promises
+--     runs_of          the run that it did
+use Rattle.std.specs.Prelude.{◌≡◌, ◌⊎◌, ◌||◌, [], ◌∷◌, None}
+use Rattle.std.specs.FinMap as finite
+use Rattle.cov_contexts.specs.declared.plugins.Plugin.{Ghosts as PluginOf}
+use Rattle.cov_combine.specs.Aliases.{rules_from}
+use Rattle.cov_config.specs.Settings.{Settings}
+use Rattle.cov_step.specs.Calls.{Answered}
+use Rattle.cov_step.specs.Commands.{asked_by, hook_named}
+use Rattle.cov_step.specs.Names.{or_else}
+use Rattle.cov_step.specs.Phases.{own_name}
+use Rattle.cov_vault.specs.Contents.{Contents}
+use Rattle.cov_words.specs.Commands.{PlainCommand}
+use Rattle.cov_words.specs.Commands as plain
+use Rattle.cov_words.specs.Values.{Word}
+use Rattle.cov_headline.specs.Promises.{IsSet, run_of, RunPromise, CombinePromise, ReportPromise}
+use Rattle.cov_headline.specs.Told.{Held}
+use Rattle.cov_headline.specs.Kept.{Recorded}
+
+-- each name holds what it held, or nothing
+abbrev pub Loses : Contents → Contents → Type 0
+Loses old new =
+    (name : Word) → (finite.get new name ≡ finite.get old name) ⊎ (finite.get new name ≡ None)
+
+-- What a command promises that ended so: a run, a combine and a report by their settings, and each
+-- other that it saves no data. A report knows of these runs, and of what was there at first. A
+-- script is none of these, and what isn't built is refused.
+abbrev pub Promise : {P : Type 0} → PluginOf P → Contents → Recorded → PlainCommand → Held P
+    → Answered → Held P → Type 0
+Promise plugin first runs (plain.arcs budget script args) old a new =
+    Loses old.contents new.contents
+Promise plugin first runs
+    (plain.run branch append context budget hook data_file rcfile script args) old a new =
+    (s : Settings) × IsSet plugin rcfile old s
+    × RunPromise plugin (asked_by s branch context budget script args) (own_name data_file s) script
+    append (hook_named hook s.run.hook) old a new
+Promise plugin first runs (plain.combine append keep data_file rcfile names) old a new =
+    (s : Settings) × IsSet plugin rcfile old s
+    × CombinePromise (own_name data_file s) (rules_from s.paths) append names old a new
+Promise plugin first runs (plain.report show_missing fail_under data_file rcfile) old a new =
+    (s : Settings) × IsSet plugin rcfile old s
+    × ReportPromise first runs s.report (own_name data_file s)
+    (show_missing || s.report.show_missing) (or_else fail_under s.report.fail_under) old a new
+Promise plugin first runs (plain.json name fail_under data_file rcfile) old a new =
+    Loses old.contents new.contents
+Promise plugin first runs (plain.lcov name fail_under data_file rcfile) old a new =
+    Loses old.contents new.contents
+Promise plugin first runs (plain.annotate data_file rcfile file) old a new =
+    Loses old.contents new.contents
+Promise plugin first runs (plain.erase data_file rcfile) old a new = Loses old.contents new.contents
+Promise plugin first runs (plain.script file) old a new = ⊥
+Promise plugin first runs (plain.make seed size) old a new = Loses old.contents new.contents
+Promise plugin first runs (plain.suite branch budget data_file rcfile file) old a new = ⊥
+Promise plugin first runs (plain.select budget old_file new_file) old a new = ⊥
+Promise plugin first runs (plain.mutate budget file) old a new = ⊥
+
+-- the run that a command did, if it is one
+abbrev pub runs_of : {P : Type 0} (plugin : PluginOf P) (first : Contents) (runs : Recorded)
+    (c : PlainCommand) (old : Held P) (a : Answered) (new : Held P)
+    → Promise plugin first runs c old a new → Recorded
+runs_of plugin first runs (plain.arcs budget script args) old a new p = []
+runs_of plugin first runs
+    (plain.run branch append context budget hook data_file rcfile script args) old a new p =
+    (run_of (asked_by p.0 branch context budget script args) p.2.modules old.left, p.2.rows) ∷ []
+runs_of plugin first runs (plain.combine append keep data_file rcfile names) old a new p = []
+runs_of plugin first runs (plain.report show_missing fail_under data_file rcfile) old a new p = []
+runs_of plugin first runs (plain.json name fail_under data_file rcfile) old a new p = []
+runs_of plugin first runs (plain.lcov name fail_under data_file rcfile) old a new p = []
+runs_of plugin first runs (plain.annotate data_file rcfile file) old a new p = []
+runs_of plugin first runs (plain.erase data_file rcfile) old a new p = []
+runs_of plugin first runs (plain.script file) old a new p = []
+runs_of plugin first runs (plain.make seed size) old a new p = []
+runs_of plugin first runs (plain.suite branch budget data_file rcfile file) old a new p = []
+runs_of plugin first runs (plain.select budget old_file new_file) old a new p = []
+runs_of plugin first runs (plain.mutate budget file) old a new p = []

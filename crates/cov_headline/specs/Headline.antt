@@ -1,0 +1,118 @@
+-- The headline. For any list of runs, combines and reports, every run prints and ends as its
+-- source's meaning says, its recorded arcs are those of that meaning, each of them is predicted or
+-- crossed by a raised exception, and the report's missing lines and branches are exactly the
+-- predicted, unexcluded ones that no combined run took, whatever the order of combining. So it is
+-- of a single command too. What a command promises is in `Commands` and `Promises`, where data come
+-- from in `Origins` and `Kept`.
+--     CommandDone, LineDone         a line of a script
+--     LinesKept, ScriptKept         its lines, one after another
+--     DoneOrRefused, CommandKept    a command
+--     Headline, HeadlineLaw         words, over objects that tell what they hold
+use Rattle.std.specs.Prelude.{◌≡◌, ◌⊎◌, ℕ, true, List, [], ◌∷◌, ◌++◌, Some, Result, Ok, Err}
+use Rattle.std.specs.Str.Lines.{lines}
+use Rattle.cov_contexts.specs.declared.plugins.Plugin.{Ghosts as PluginOf}
+use Rattle.cov_programs.specs.Ends.{Follows}
+use Rattle.cov_programs.specs.Laws.{nothing_wants, IsFed, with_front}
+use Rattle.cov_step.specs.Calls.{Answered, IsNoMemory}
+use Rattle.cov_step.specs.Phases.{done}
+use Rattle.cov_step.specs.Scripts.{words_in, status_line, line_step}
+use Rattle.cov_vault.specs.Contents.{Contents}
+use Rattle.cov_why.specs.Answers.{PlainWhy}
+use Rattle.cov_why.specs.Messages.{message_of}
+use Rattle.cov_words.specs.Commands.{PlainCommand, IsCommand}
+use Rattle.cov_words.specs.Commands as plain
+use Rattle.cov_words.specs.Values.{Word}
+use Rattle.cov_headline.specs.Origins.{ran}
+use Rattle.cov_headline.specs.Told.{Lent, on_lent, Held, held, IsSaidNow, tells, AllTell, NoneRose}
+use Rattle.cov_exclude.specs.declared.maker.Maker.{Ghosts as MakerOf}
+use Rattle.cov_outside.specs.declared.shelf.Shelf.{Ghosts as ShelfOf}
+use Rattle.cov_outside.specs.declared.sink.Sink.{Ghosts as SinkOf}
+use Rattle.cov_outside.specs.declared.source.Source.{Ghosts as SourceOf}
+use Rattle.cov_vault.specs.declared.vault.Vault.{Ghosts as VaultOf}
+use Rattle.py_machine.specs.declared.engine.Engine.{Ghosts as EngineOf}
+use Rattle.cov_step.specs.Step.{is_built, step}
+use Rattle.cov_headline.specs.Commands.{Promise, runs_of}
+use Rattle.cov_headline.specs.Kept.{Recorded, AreKept}
+
+-- ---- a script
+
+-- The words of a line are a command, and it did its work. Then its text was said, and its status is
+-- a line of the output.
+pub record CommandDone {P : Type 0} (plugin : PluginOf P) (first : Contents) (runs : Recorded)
+    (words : List Word) (old : Held P) (more : Recorded) (new : Held P) : Type 0 where
+  pub command : PlainCommand
+  pub is : IsCommand command words
+  pub answer : Answered
+  pub mid : Held P
+  pub promise : Promise plugin first runs command old answer mid
+  pub ran : more ≡ runs_of plugin first runs command old answer mid promise
+  pub said : IsSaidNow mid.err (message_of (Ok answer.ended) answer.ending) new.err
+  pub noted : new ≡ record mid { out = mid.out ++ status_line answer; err = new.err }
+
+-- a line after these runs: it is passed over, or its command is done, with the runs that it did
+abbrev pub LineDone : {P : Type 0} → PluginOf P → Contents → Recorded → Word → Held P → Recorded
+    → Held P → Type 0
+LineDone plugin first runs line old more new =
+    ((more ≡ []) × (new ≡ old)) ⊎ CommandDone plugin first runs (words_in line) old more new
+
+-- Lines one after another, after these runs. Before each of them and after the last, all data that
+-- are kept come from the runs so far and from what was there at first. The first line that is
+-- refused ends the script, and what those before it did stands.
+abbrev pub LinesKept : {P : Type 0} → PluginOf P → Contents → Recorded → List Word → Held P
+    → Result (List (Unit {0})) PlainWhy → Held P → Type 0
+LinesKept plugin first runs [] old told new =
+    AreKept first runs old.contents × (told ≡ Ok []) × (new ≡ old)
+LinesKept {P} plugin first runs (line ∷ rest) old told new =
+    AreKept first runs old.contents
+    × (((mid : Held P) × (more : Recorded) × (later : Result (List (Unit {0})) PlainWhy)
+    × LineDone plugin first runs line old more mid
+    × LinesKept plugin first (more ++ runs) rest mid later new × (told ≡ with_front tt later))
+    ⊎ ((why : PlainWhy) × Follows (tells plugin) nothing_wants (line_step line) old (Err why) new
+    × (told ≡ Err why)))
+
+-- what a script answers whose lines came to this
+abbrev pub ended_in : Result (List (Unit {0})) PlainWhy → Result Answered PlainWhy
+ended_in (Ok told) = Ok done
+ended_in (Err why) = Err why
+
+-- The file of commands is refused, and nothing was done; or its lines are kept, one after another.
+abbrev pub ScriptKept : {P : Type 0} → PluginOf P → Word → Held P → Result Answered PlainWhy
+    → Held P → Type 0
+ScriptKept plugin file old ending new =
+    ((why : PlainWhy) × (ending ≡ Err why) × (new ≡ old))
+    ⊎ ((text : List ℕ) × (told : Result (List (Unit {0})) PlainWhy) × (old.files file ≡ Some text)
+    × LinesKept plugin old.contents [] (lines text) old told new × (ending ≡ ended_in told))
+
+-- ---- words
+
+-- a command that did its work keeps its promise
+abbrev pub DoneOrRefused : {P : Type 0} → PluginOf P → PlainCommand → Held P
+    → Result Answered PlainWhy → Held P → Type 0
+DoneOrRefused plugin c old (Ok a) new = Promise plugin old.contents [] c old a new
+DoneOrRefused plugin c old (Err why) new = Unit {0}
+
+-- a command, or a script of them
+abbrev pub CommandKept : {P : Type 0} → PluginOf P → PlainCommand → Held P
+    → Result Answered PlainWhy → Held P → Type 0
+CommandKept plugin (plain.script file) old ending new = ScriptKept plugin file old ending new
+CommandKept plugin c old ending new = DoneOrRefused plugin c old ending new
+
+-- The words are a command that keeps this, or none that is built.
+abbrev pub Headline : {P : Type 0} → PluginOf P → List Word → Held P → Result Answered PlainWhy
+    → Held P → Type 0
+Headline plugin words old ending new =
+    ((c : PlainCommand) × IsCommand c words × CommandKept plugin c old ending new)
+    ⊎ (((c : PlainCommand) → is_built c ≡ true → IsCommand c words → ⊥) × (new ≡ old))
+
+-- So it is where the objects of a command follow the step of its words, each tells what it holds
+-- and counted no fault, memory sufficed, and the engine is true.
+abbrev pub HeadlineLaw : {H V M I O P G E : Type 0} → ShelfOf H → VaultOf V → MakerOf M
+    → SourceOf I → SinkOf O → PluginOf P → EngineOf G → SinkOf E → Type 0
+HeadlineLaw {H} {V} {M} {I} {O} {P} {G} {E} shelf vault maker source sink plugin engine err =
+    (words : List Word) (old new : Lent H V M I O P G E) (ending : Result Answered PlainWhy)
+    → AllTell shelf vault source sink engine err old.0.0.0.1
+    → NoneRose shelf vault maker source sink err old new → IsFed IsNoMemory ending
+    → Follows (on_lent shelf vault maker source sink plugin engine err) IsNoMemory (step words) old
+    ending new
+    → Headline plugin words (held shelf vault source sink err old) ending
+    (held shelf vault source sink err new)

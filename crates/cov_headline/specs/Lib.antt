@@ -1,0 +1,7 @@
+pub mod Origins
+pub mod Reports
+pub mod Told
+pub mod Kept
+pub mod Promises
+pub mod Commands
+pub mod Headline
