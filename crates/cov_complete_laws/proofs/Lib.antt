@@ -1,0 +1,10 @@
+pub mod Sure
+pub mod Holding
+pub mod Phases
+pub mod Commands
+pub mod Objects
+pub mod Sizes
+pub mod Defaults
+pub mod Completing
+pub mod Lines
+pub mod Scripts

@@ -1,0 +1,4 @@
+pub mod Premises
+pub mod Ready
+pub mod Complete
+pub mod Scripts
