@@ -1,4 +1,4 @@
--- A refusal that blames an object raised that object's count.
+-- A refusal that blames an object raised that object's count; and no count falls.
 use Rattle.std.proofs.Common.{◌≡◌, ◌∙◌, ℕ, ◌≤◌, Bool, true, false, true≢false, refl, sym, ap, subst, List, Option, Some, None, Result, Ok, Err, arith}
 use Rattle.std.specs.Prelude.{nat_eq}
 use Rattle.cov_contexts.specs.declared.plugins.Plugin.{Ghosts as PluginOf}
@@ -13,15 +13,15 @@ use Rattle.py_machine.specs.declared.engine.Engine.{Ghosts as EngineOf}
 use Rattle.cov_measure.specs.Measures.{Streams}
 use Rattle.cov_programs.specs.Ends.{Follows}
 use Rattle.cov_programs.specs.Objects.{Moves, beside}
-use Rattle.cov_step.specs.Calls.{Call, spells, checks, reads, puts, opens, lists, loads, saves, removes, makes, writes, crosses, measures, tries, says, Answer, IsNoMemory}
+use Rattle.cov_step.specs.Calls.{Call, spells, checks, reads, puts, opens, lists, loads, saves, removes, makes, writes, crosses, measures, tries, says, Answer, Step, IsNoMemory}
 use Rattle.cov_step.specs.Objects.{on_grammar, on_shelf, on_vault, on_maker, on_err, Saying}
 use Rattle.cov_step.specs.Promises.{Object, the_input, the_output, the_shelf, the_vault, the_maker, number_of, blame_of, blamed}
 use Rattle.cov_step.specs.Step.{step}
 use Rattle.cov_step.proofs.Faults.{shelf-later, shelf-rose, shelf-alone, vault-later, vault-rose, vault-alone, maker-later, maker-rose, maker-alone, grammar-alone, err-alone}
-use Rattle.cov_step.proofs.Rising.{raised, left-later, right-later, left-rose, right-rose, neither}
+use Rattle.cov_step.proofs.Rising.{never-falls, raised, left-later, right-later, left-rose, right-rose, neither}
 use Rattle.cov_streams.specs.Objects.{on_run}
 use Rattle.cov_vault.specs.declared.vault.Vault.{Ghosts as VaultOf}
-use Rattle.cov_why.specs.Answers.{Refusal}
+use Rattle.cov_why.specs.Answers.{Refusal, PlainWhy}
 use Rattle.cov_words.specs.Values.{Word}
 use Rattle.cov_app.specs.Objects.{All, on_all, on_command}
 
@@ -211,33 +211,65 @@ module _ {H V M I O P G : Type 0} (shelf : ShelfOf H) (vault : VaultOf V) (maker
     no-err : (o : Object) (u : Saying E) (call : Call) (x : Answer call) (v : Saying E) → on_err err u call x v → blamed call x ≡ Some o → ⊥
     no-err o u call x v m e = err-alone err u call x v o m e
 
+    -- ---- no count falls
+
+    shelf-on : (u : All H V M I O P G × Saying E) (call : Call) (x : Answer call) (v : All H V M I O P G × Saying E) → whole u call x v → shelf.faults u.0.0.0.0.1 ≤ shelf.faults v.0.0.0.0.1
+    shelf-on = left-later all (on_err err) (λ w. shelf.faults w.0.0.0.1)
+        (left-later four streaming (λ w. shelf.faults w.0.0.1) (left-later three (on_maker maker) (λ w. shelf.faults w.0.1) (left-later two (on_vault vault) (λ w. shelf.faults w.1) (right-later on_grammar (on_shelf shelf) shelf.faults (shelf-later shelf)))))
+
+    pub shelf-counts : {A : Type 0} (p : Step A) (old new : All H V M I O P G × Saying E) (e : Result A PlainWhy) → Follows whole IsNoMemory p old e new → shelf.faults old.0.0.0.0.1 ≤ shelf.faults new.0.0.0.0.1
+    shelf-counts = never-falls whole (λ w. shelf.faults w.0.0.0.0.1) shelf-on
+
+    vault-on : (u : All H V M I O P G × Saying E) (call : Call) (x : Answer call) (v : All H V M I O P G × Saying E) → whole u call x v → vault.faults u.0.0.0.1 ≤ vault.faults v.0.0.0.1
+    vault-on = left-later all (on_err err) (λ w. vault.faults w.0.0.1)
+        (left-later four streaming (λ w. vault.faults w.0.1) (left-later three (on_maker maker) (λ w. vault.faults w.1) (right-later two (on_vault vault) vault.faults (vault-later vault))))
+
+    pub vault-counts : {A : Type 0} (p : Step A) (old new : All H V M I O P G × Saying E) (e : Result A PlainWhy) → Follows whole IsNoMemory p old e new → vault.faults old.0.0.0.1 ≤ vault.faults new.0.0.0.1
+    vault-counts = never-falls whole (λ w. vault.faults w.0.0.0.1) vault-on
+
+    maker-on : (u : All H V M I O P G × Saying E) (call : Call) (x : Answer call) (v : All H V M I O P G × Saying E) → whole u call x v → maker.sizes u.0.0.1 ≤ maker.sizes v.0.0.1
+    maker-on = left-later all (on_err err) (λ w. maker.sizes w.0.1) (left-later four streaming (λ w. maker.sizes w.1) (right-later three (on_maker maker) maker.sizes (maker-later maker)))
+
+    pub maker-counts : {A : Type 0} (p : Step A) (old new : All H V M I O P G × Saying E) (e : Result A PlainWhy) → Follows whole IsNoMemory p old e new → maker.sizes old.0.0.1 ≤ maker.sizes new.0.0.1
+    maker-counts = never-falls whole (λ w. maker.sizes w.0.0.1) maker-on
+
+    input-on : (u : All H V M I O P G × Saying E) (call : Call) (x : Answer call) (v : All H V M I O P G × Saying E) → whole u call x v → source.faults u.0.1.input ≤ source.faults v.0.1.input
+    input-on = left-later all (on_err err) (λ w. source.faults w.1.input) (right-later four streaming (λ s. source.faults s.input) (input-later source sink plugin engine))
+
+    pub input-counts : {A : Type 0} (p : Step A) (old new : All H V M I O P G × Saying E) (e : Result A PlainWhy) → Follows whole IsNoMemory p old e new → source.faults old.0.1.input ≤ source.faults new.0.1.input
+    input-counts = never-falls whole (λ w. source.faults w.0.1.input) input-on
+
+    out-on : (u : All H V M I O P G × Saying E) (call : Call) (x : Answer call) (v : All H V M I O P G × Saying E) → whole u call x v → sink.faults u.0.1.out ≤ sink.faults v.0.1.out
+    out-on = left-later all (on_err err) (λ w. sink.faults w.1.out) (right-later four streaming (λ s. sink.faults s.out) (out-later source sink plugin engine))
+
+    pub out-counts : {A : Type 0} (p : Step A) (old new : All H V M I O P G × Saying E) (e : Result A PlainWhy) → Follows whole IsNoMemory p old e new → sink.faults old.0.1.out ≤ sink.faults new.0.1.out
+    out-counts = never-falls whole (λ w. sink.faults w.0.1.out) out-on
+
     -- ---- whose count rose
 
     pub shelf-raised : (r : Refusal) → blame_of r ≡ Some the_shelf → (words : List Word) (old new : All H V M I O P G × Saying E) → Follows whole IsNoMemory (step words) old (Err (Err r)) new → Rose (shelf.faults old.0.0.0.0.1) (shelf.faults new.0.0.0.0.1)
     shelf-raised = raised whole (λ w. shelf.faults w.0.0.0.0.1) the_shelf
-        (left-later all (on_err err) (λ w. shelf.faults w.0.0.0.1)
-        (left-later four streaming (λ w. shelf.faults w.0.0.1) (left-later three (on_maker maker) (λ w. shelf.faults w.0.1) (left-later two (on_vault vault) (λ w. shelf.faults w.1) (right-later on_grammar (on_shelf shelf) shelf.faults (shelf-later shelf))))))
+        shelf-on
         (left-rose all (on_err err) the_shelf (λ w. shelf.faults w.0.0.0.1)
         (left-rose four streaming the_shelf (λ w. shelf.faults w.0.0.1) (left-rose three (on_maker maker) the_shelf (λ w. shelf.faults w.0.1) (left-rose two (on_vault vault) the_shelf (λ w. shelf.faults w.1) (right-rose on_grammar (on_shelf shelf) the_shelf shelf.faults (shelf-rose shelf) (no-words the_shelf)) (no-vault the_shelf refl)) (no-maker the_shelf refl)) (no-streams the_shelf refl refl)) (no-err the_shelf))
 
     pub vault-raised : (r : Refusal) → blame_of r ≡ Some the_vault → (words : List Word) (old new : All H V M I O P G × Saying E) → Follows whole IsNoMemory (step words) old (Err (Err r)) new → Rose (vault.faults old.0.0.0.1) (vault.faults new.0.0.0.1)
     vault-raised = raised whole (λ w. vault.faults w.0.0.0.1) the_vault
-        (left-later all (on_err err) (λ w. vault.faults w.0.0.1)
-        (left-later four streaming (λ w. vault.faults w.0.1) (left-later three (on_maker maker) (λ w. vault.faults w.1) (right-later two (on_vault vault) vault.faults (vault-later vault)))))
+        vault-on
         (left-rose all (on_err err) the_vault (λ w. vault.faults w.0.0.1)
         (left-rose four streaming the_vault (λ w. vault.faults w.0.1) (left-rose three (on_maker maker) the_vault (λ w. vault.faults w.1) (right-rose two (on_vault vault) the_vault vault.faults (vault-rose vault) (no-two the_vault refl)) (no-maker the_vault refl)) (no-streams the_vault refl refl)) (no-err the_vault))
 
     pub maker-raised : (r : Refusal) → blame_of r ≡ Some the_maker → (words : List Word) (old new : All H V M I O P G × Saying E) → Follows whole IsNoMemory (step words) old (Err (Err r)) new → Rose (maker.sizes old.0.0.1) (maker.sizes new.0.0.1)
     maker-raised = raised whole (λ w. maker.sizes w.0.0.1) the_maker
-        (left-later all (on_err err) (λ w. maker.sizes w.0.1) (left-later four streaming (λ w. maker.sizes w.1) (right-later three (on_maker maker) maker.sizes (maker-later maker))))
+        maker-on
         (left-rose all (on_err err) the_maker (λ w. maker.sizes w.0.1) (left-rose four streaming the_maker (λ w. maker.sizes w.1) (right-rose three (on_maker maker) the_maker maker.sizes (maker-rose maker) (no-three the_maker refl refl)) (no-streams the_maker refl refl)) (no-err the_maker))
 
     pub input-raised : (r : Refusal) → blame_of r ≡ Some the_input → (words : List Word) (old new : All H V M I O P G × Saying E) → Follows whole IsNoMemory (step words) old (Err (Err r)) new → Rose (source.faults old.0.1.input) (source.faults new.0.1.input)
     input-raised = raised whole (λ w. source.faults w.0.1.input) the_input
-        (left-later all (on_err err) (λ w. source.faults w.1.input) (right-later four streaming (λ s. source.faults s.input) (input-later source sink plugin engine)))
+        input-on
         (left-rose all (on_err err) the_input (λ w. source.faults w.1.input) (right-rose four streaming the_input (λ s. source.faults s.input) (input-rose source sink plugin engine) (no-four the_input refl refl refl)) (no-err the_input))
 
     pub out-raised : (r : Refusal) → blame_of r ≡ Some the_output → (words : List Word) (old new : All H V M I O P G × Saying E) → Follows whole IsNoMemory (step words) old (Err (Err r)) new → Rose (sink.faults old.0.1.out) (sink.faults new.0.1.out)
     out-raised = raised whole (λ w. sink.faults w.0.1.out) the_output
-        (left-later all (on_err err) (λ w. sink.faults w.1.out) (right-later four streaming (λ s. sink.faults s.out) (out-later source sink plugin engine)))
+        out-on
         (left-rose all (on_err err) the_output (λ w. sink.faults w.1.out) (right-rose four streaming the_output (λ s. sink.faults s.out) (out-rose source sink plugin engine) (no-four the_output refl refl refl)) (no-err the_output))

@@ -101,10 +101,14 @@ module _ {H V M I O P G : Type 0} (shelf : ShelfOf H) (vault : VaultOf V) (maker
         (left-kept two (on_vault vault) (λ w. shelf.files w.1) (λ w. shelf.tells) (right-kept on_grammar (on_shelf shelf) shelf.files (λ w. shelf.tells) (λ u call x v m t k. shelf-kept shelf t u call x v m k))))))
         spelled-whole words old new e refused changes told f
 
+    pub data-tells : (u : All H V M I O P G × Saying E) (call : Call) (x : Answer call) (v : All H V M I O P G × Saying E) → whole u call x v → vault.tells u.0.0.0.1 → vault.tells v.0.0.0.1
+    data-tells = left-onward all (on_err err) (λ w. vault.tells w.0.0.1) (left-onward four streaming (λ w. vault.tells w.0.1) (left-onward three (on_maker maker) (λ w. vault.tells w.1) (right-onward two (on_vault vault) vault.tells (vault-tells vault))))
+
+    pub data-kept : (u : All H V M I O P G × Saying E) (call : Call) (x : Answer call) (v : All H V M I O P G × Saying E) → whole u call x v → vault.tells u.0.0.0.1 → keeps call x ≡ true → vault.contents v.0.0.0.1 ≡ vault.contents u.0.0.0.1
+    data-kept = left-kept all (on_err err) (λ w. vault.contents w.0.0.1) (λ w. vault.tells w.0.0.1) (left-kept four streaming (λ w. vault.contents w.0.1) (λ w. vault.tells w.0.1) (left-kept three (on_maker maker) (λ w. vault.contents w.1) (λ w. vault.tells w.1) (right-kept two (on_vault vault) vault.contents vault.tells (vault-kept vault))))
+
     pub data-left : (words : List Word) (old new : All H V M I O P G × Saying E) (e : Result Answered PlainWhy) → vault.tells old.0.0.0.1 → is_refusal (why_of e) ≡ true → ChangesLast words → Follows whole IsNoMemory (step words) old e new
         → vault.contents new.0.0.0.1 ≡ vault.contents old.0.0.0.1
     data-left words old new e told refused changes f =
-        step-leaves whole (λ w. vault.contents w.0.0.0.1) (λ w. vault.tells w.0.0.0.1)
-        (left-onward all (on_err err) (λ w. vault.tells w.0.0.1) (left-onward four streaming (λ w. vault.tells w.0.1) (left-onward three (on_maker maker) (λ w. vault.tells w.1) (right-onward two (on_vault vault) vault.tells (vault-tells vault)))))
-        (left-kept all (on_err err) (λ w. vault.contents w.0.0.1) (λ w. vault.tells w.0.0.1) (left-kept four streaming (λ w. vault.contents w.0.1) (λ w. vault.tells w.0.1) (left-kept three (on_maker maker) (λ w. vault.contents w.1) (λ w. vault.tells w.1) (right-kept two (on_vault vault) vault.contents vault.tells (vault-kept vault)))))
+        step-leaves whole (λ w. vault.contents w.0.0.0.1) (λ w. vault.tells w.0.0.0.1) data-tells data-kept
         spelled-whole words old new e refused changes told f

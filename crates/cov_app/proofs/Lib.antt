@@ -8,3 +8,9 @@ mod Said
 mod LineWords
 mod ScriptFiles
 mod Sizes
+mod Streams
+mod BadRuns
+mod Untouched
+mod Joining
+mod Ending
+mod Heads

@@ -13,6 +13,7 @@ use Rattle.cov_step.specs.Calls.{Call, spells, checks, reads, puts, opens, lists
 use Rattle.cov_step.specs.Objects.{Told, whole, failed, no_room, Saying, IsSaid, SayOf, on_err}
 use Rattle.cov_step.specs.Promises.{is_silent}
 use Rattle.cov_step.specs.Step.{step, doing, IsSpelled}
+use Rattle.cov_step.proofs.Rising.{raised-on, stays-raised}
 use Rattle.cov_step.proofs.Silence.{law_of_quiet}
 use Rattle.cov_why.specs.Answers.{PlainWhy, usage}
 use Rattle.cov_words.specs.Values.{Word}
@@ -20,14 +21,6 @@ use Rattle.cov_app.specs.Objects.{told_view, saying}
 use Rattle.cov_app.specs.Taken.{HasOneText}
 use Rattle.cov_app.specs.declared.answer.Told.{Told as Became}
 use Rattle.cov_app.specs.declared.answer.Told.TheVariants as became
-
-raised-on : (a b c : ℕ) → a ≤ b → Rose b c → Rose a c
-raised-on a b c h (inl less) = inl (omega (arith, h, less))
-raised-on a b c h (inr full) = inr full
-
-stays-raised : (a b c : ℕ) → Rose a b → b ≤ c → Rose a c
-stays-raised a b c (inl less) h = inl (omega (arith, h, less))
-stays-raised a b c (inr full) h = inr (omega (arith, h, full))
 
 whole-failed : whole ≡ failed → ⊥
 whole-failed e = cc
@@ -178,3 +171,7 @@ module _ {E : Type 0} (err : SinkOf E) where
   -- a failed write raised the count, whenever it was
   pub failed-raised : (old new : E) (said : Saying E) (text : List ℕ) (r : Became) → GoesOn err (saying old became.Whole) said → SayOf err said text (saying new r) → r ≡ became.Failed → Rose (err.faults old) (err.faults new)
   failed-raised old new said text r g m is = (goes-onward err (saying old became.Whole) said (saying new r) g (said-on err said (saying new r) text m)).rose refl (ap told_view is)
+
+  -- the count of `err` doesn't fall
+  pub said-counts : (old new : E) (said : Saying E) (text : List ℕ) (r : Became) → GoesOn err (saying old became.Whole) said → SayOf err said text (saying new r) → err.faults old ≤ err.faults new
+  said-counts old new said text r g m = (goes-onward err (saying old became.Whole) said (saying new r) g (said-on err said (saying new r) text m)).count

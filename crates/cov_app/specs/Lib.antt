@@ -1,5 +1,9 @@
 pub mod Built
+pub mod Early
+pub mod Ending
 pub mod Groups
+pub mod Heads
+pub mod Joined
 pub mod Kept
 pub mod Objects
 pub mod Sizes

@@ -1,17 +1,27 @@
 //! The top call: one command over a shelf, a vault, a maker of patterns, an input and two sinks.
-ghost use Rattle.std.specs.Prelude.{◌≡◌, ℕ, true, map, string_bytes};
+ghost use Rattle.std.specs.Prelude.{◌≡◌, ◌≤◌, ℕ, Bool, true, List, Option, map, string_bytes};
+ghost use Rattle.cov_app.specs.Early.{IsEarly};
+ghost use Rattle.cov_app.specs.Ending.{IsDone};
+ghost use Rattle.cov_app.specs.Heads.{HeadsWhere};
+ghost use Rattle.cov_app.specs.Joined.{AreWordsOf, CombineLeft};
 ghost use Rattle.cov_app.specs.Kept.{AreLeft, ChangesLast};
-ghost use Rattle.cov_app.specs.Objects.{all_of, lent, on_all, on_command, saying};
+ghost use Rattle.cov_app.specs.Objects.{all_of, lent, on_all, on_command};
 ghost use Rattle.cov_app.specs.Sizes.{HasSmallSize};
-ghost use Rattle.cov_app.specs.Taken.{StepTaken, why_of, ending_in};
+ghost use Rattle.cov_app.specs.Taken.{HasOneText, StepTaken, why_of, ending_in};
 ghost use Rattle.cov_calls.specs.Views.{answered_view};
+ghost use Rattle.cov_complete_laws.specs.Complete.{NoneRose};
+ghost use Rattle.cov_complete_laws.specs.Ready.{Ready};
+ghost use Rattle.cov_complete_laws.specs.Scripts.{IsReadyScript};
 ghost use Rattle.cov_measure.specs.Measures.{streams};
+ghost use Rattle.cov_measure_laws.specs.Leaving.{AreLeft as ArePluginsLeft};
 ghost use Rattle.cov_outside.specs.Counts.{Rose};
 ghost use Rattle.cov_programs.specs.Ends.{Follows};
 ghost use Rattle.cov_step.specs.Calls.{IsNoMemory, seen};
 ghost use Rattle.cov_step.specs.Step.{doing, step};
 ghost use Rattle.cov_why.specs.Answers.{is_refusal, plain_why};
 ghost use Rattle.cov_why.specs.Statuses.{status_of};
+ghost use Rattle.cov_words.specs.Commands.{PlainCommand, IsCommand};
+ghost use Rattle.cov_words.specs.Commands as plain;
 ghost use Rattle.cov_words.specs.Plain.{command_view};
 
 use crate::answer::{End, Told, why_of};
@@ -20,8 +30,10 @@ use crate::inside::inside;
 use crate::saying::tell;
 use crate::scripts::script;
 use cov_calls::Answered;
+use cov_complete_laws::{complete, complete_script};
 use cov_contexts::Plugin;
 use cov_exclude::Maker;
+use cov_headline::headline;
 use cov_outside::{Shelf, Sink, Source};
 use cov_vault::Vault;
 use cov_why::Why;
@@ -56,6 +68,19 @@ pub fn coverage<H: Shelf, V: Vault, M: Maker, I: Source, O: Sink, E: Sink, G: En
         result.why result.told err.old err.new }
     ensures status { result.status ≡ status_of (plain_why result.why) }
 
+    // The headline. Where the objects tell what they hold and count no fault, memory suffices and
+    // the engine is true, every run prints and ends as its source means. Its arcs are those of that
+    // meaning, each predicted or crossed by an exception. A report's missing lines and branches are
+    // exactly the predicted, unexcluded ones that no combined run took. So it is of each line of a
+    // script, over the data of all lines before it.
+    ensures headline { HeadsWhere
+        H.Shelf V.Vault M.Maker I.Source O.Sink P.Plugin G.Engine E.Sink
+        (map string_bytes words.now) (plain_why result.why)
+        (lent shelf.old vault.old maker.old
+        (streams input.old out.old plugins.old.items engine.old) err.old Told.Whole)
+        (lent shelf.new vault.new maker.new
+        (streams input.new out.new plugins.new.items engine.new) err.new result.told) }
+
     // For all objects:
     ensures read_fault { result.why ≡ Why.ReadFault
         → Rose (I.faults input.old) (I.faults input.new) }
@@ -69,12 +94,63 @@ pub fn coverage<H: Shelf, V: Vault, M: Maker, I: Source, O: Sink, E: Sink, G: En
         → Rose (M.sizes maker.old) (M.sizes maker.new) }
     ensures told_failed { result.told ≡ Told.Failed → Rose (E.faults err.old) (E.faults err.new) }
 
-    // A refusal leaves files and data as they were, where words aren't those of `combine` or
-    // `script`.
+    ensures counts { (H.faults shelf.old ≤ H.faults shelf.new)
+        × (V.faults vault.old ≤ V.faults vault.new) × (M.sizes maker.old ≤ M.sizes maker.new)
+        × (I.faults input.old ≤ I.faults input.new) × (O.faults out.old ≤ O.faults out.new)
+        × (E.faults err.old ≤ E.faults err.new) }
+
+    // A refusal leaves files and data that are told as they were, where words aren't those of
+    // `combine` or `script`.
     ensures kept { is_refusal (plain_why result.why) ≡ true
         → ChangesLast (map string_bytes words.now)
         → AreLeft H.Shelf V.Vault shelf.old shelf.new vault.old vault.new }
+    // A refusal but a fault and want of memory comes before anything is run or written, where words
+    // aren't those of `script`; that data are bad, where the vault tells what it holds.
+    ensures untouched { IsEarly (V.tells vault.old) (plain_why result.why)
+        → HasOneText (map string_bytes words.now)
+        → streams input.new out.new plugins.new.items engine.new
+        ≡ streams input.old out.old plugins.old.items engine.old }
+
+    // `combine` changes its data file and its inputs alone, and nothing where it is refused but by
+    // a fault of the vault or want of memory; of files and data that are told.
+    ensures combined { (append keep : Bool) (data_file rcfile : Option (List ℕ))
+        (names : List (List ℕ))
+        → AreWordsOf (plain.combine append keep data_file rcfile names) (map string_bytes words.now)
+        → CombineLeft H.tells (V.tells vault.old) (H.files shelf.old) (H.files shelf.new) keep
+        data_file rcfile names (plain_why result.why) (V.contents vault.old)
+        (V.contents vault.new) }
+
+    // Each plugin stays, in the state that its answers gave, or it left; whatever the answer.
+    ensures plugins { ArePluginsLeft P.Plugin plugins.old.items plugins.new.items }
+
+    // A command isn't refused that is ready by what files and data tell, where no fault is counted
+    // and memory suffices; nor is a script of such lines.
+    ensures complete { (c : PlainCommand) → IsCommand c (map string_bytes words.now)
+        → Ready (H.files shelf.old) (V.contents vault.old) c → H.tells → V.tells vault.old
+        → NoneRose H.Shelf V.Vault M.Maker I.Source O.Sink
+        (all_of shelf.old vault.old maker.old
+        (streams input.old out.old plugins.old.items engine.old))
+        (all_of shelf.new vault.new maker.new
+        (streams input.new out.new plugins.new.items engine.new))
+        → IsDone (plain_why result.why) }
+    ensures complete_script { (name : List ℕ)
+        → IsCommand (plain.script name) (map string_bytes words.now)
+        → IsReadyScript
+        (on_command H.Shelf V.Vault M.Maker I.Source O.Sink P.Plugin G.Engine E.Sink)
+        (λ w. H.files w.0.0.0.0.1) (λ w. V.contents w.0.0.0.1) name
+        (lent shelf.old vault.old maker.old
+        (streams input.old out.old plugins.old.items engine.old) err.old Told.Whole)
+        → H.tells → V.tells vault.old
+        → NoneRose H.Shelf V.Vault M.Maker I.Source O.Sink
+        (all_of shelf.old vault.old maker.old
+        (streams input.old out.old plugins.old.items engine.old))
+        (all_of shelf.new vault.new maker.new
+        (streams input.new out.new plugins.new.items engine.new))
+        → IsDone (plain_why result.why) }
 {
+    headline::<H, V, M, I, O, E, G, P>();
+    complete::<H, V, M, I, O, E, G, P>();
+    complete_script::<H, V, M, I, O, E, G, P>();
     let mut told = Told::Whole;
     let answer = answer(
         alloc, words, shelf, vault, maker, input, out, err, &mut told, plugins, engine,
