@@ -4,8 +4,9 @@
     scripts/killed.py PROGRAM [TIMES]
 
 PROGRAM is the built program. A data file of 1,000 arcs stands there, and `combine --keep --append`
-saves 101,000 arcs over it. It is killed at a random moment of the whole call, loading included, TIMES
-times (100), each time on a fresh copy. Then sqlite3 checks the file, and the program reports it: as
+saves 101,000 arcs over it. It is killed at a random moment of the save, TIMES times (100), each time
+on a fresh copy: not before the time that a report of all these data takes, which loads as many, and
+not after the time of a whole call. Then sqlite3 checks the file, and the program reports it: as
 before, or as after. The exit status is the number of files that were neither.
 """
 import os
@@ -76,13 +77,16 @@ def main():
     whole = time.perf_counter() - begun
     before, after = count(f"{start}/.coverage"), count(f"{top}/whole/.coverage")
     texts = {before: report(start), after: report(f"{top}/whole")}
-    print(f"a whole save takes {whole:.2f} s; {before} arcs before, {after} after")
+    begun = time.perf_counter()
+    report(f"{top}/whole")
+    loading = time.perf_counter() - begun
+    print(f"a whole call takes {whole:.2f} s, loading and reporting {loading:.2f} s; {before} arcs before, {after} after")
     random.seed(7)
     found = {before: 0, after: 0, "neither": 0}
     for at in range(times):
         folder = f"{top}/{at}"
         child = begin(folder)
-        time.sleep(random.uniform(0, whole))
+        time.sleep(random.uniform(min(loading, whole), whole))
         child.kill()
         child.wait()
         text = report(folder)

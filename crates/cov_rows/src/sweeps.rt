@@ -1,5 +1,5 @@
 //! One session, in which one call of one object fails: each call in turn, until the session meets
-//! no fault.
+//! no fault. It is done command by command, and once more as a script.
 
 use crate::harness::{Failing, NONE, World, shelf_of};
 use crate::sources::FIRST_RUN;
@@ -32,7 +32,7 @@ static COMMANDS: [&str; 7] = [
 const JOIN: &str = "combine --data-file=c";
 
 /// The numbers of the calls that fail.
-static CALLS: [&[u64]; 24] = [
+static CALLS: [&[u64]; 28] = [
     &[0],
     &[1],
     &[2],
@@ -57,6 +57,10 @@ static CALLS: [&[u64]; 24] = [
     &[21],
     &[22],
     &[23],
+    &[24],
+    &[25],
+    &[26],
+    &[27],
 ];
 
 /// This call of this object fails.
@@ -88,11 +92,20 @@ fn fault_of(object: Object) -> &'static str {
     }
 }
 
-/// Two scripts, and two data that are joined.
+/// Two programs, the commands as lines of a file, and two data that are joined.
 fn world_of(alloc: Global, failing: Failing) -> Result<World, AllocError> {
+    let mut lines = String::new(alloc);
+    for words in &COMMANDS {
+        lines.push_str(*words)?;
+        lines.push('\n')?;
+    }
     let files = shelf_of(
         alloc,
-        &[("a.py", FIRST_RUN), ("asks.py", "print(input())\n")],
+        &[
+            ("a.py", FIRST_RUN),
+            ("asks.py", "print(input())\n"),
+            ("s.txt", lines.as_str()),
+        ],
     )?;
     let mut contents = Vec::new(alloc);
     for name in ["c.1", "c.2"] {
@@ -149,6 +162,61 @@ fn stopped_by(rt: &impl Abort, alloc: Global, object: Object) -> Result<usize, F
     Ok(CALLS.len())
 }
 
+/// The state after so many commands.
+fn state_after(alloc: Global, count: usize) -> Result<String, Fail> {
+    let mut world = world_of(alloc, NONE)?;
+    for words in COMMANDS.iter().take(count) {
+        let _ = world.answer(alloc, *words, "ab\n")?;
+    }
+    state(alloc, &mut world)
+}
+
+/// Whether the call stops the session as a script. The answer is the object's fault then, and shelf
+/// and vault are as the lines left them whose status was written. A join that the vault stops may
+/// have saved and removed some data, and output may refuse the status of a line that was done.
+fn stops_script(
+    rt: &impl Abort,
+    alloc: Global,
+    object: Object,
+    call: &'static [u64],
+) -> Result<bool, Fail> {
+    let mut world = world_of(alloc, failing(object, call))?;
+    let found = world.answer(alloc, "script s.txt", "ab\n")?;
+    if found.status == 0 {
+        return Ok(false);
+    }
+    assert_eq!(rt; found.status, 74);
+    assert_eq!(rt; found.err.as_str(), fault_of(object));
+    let done = found
+        .out
+        .as_str()
+        .lines()
+        .filter(|line| line.starts_with("= "))
+        .count();
+    let is_join = match COMMANDS.get(done) {
+        Some(words) => object == Object::Vault && *words == JOIN,
+        None => false,
+    };
+    let after = state(alloc, &mut world)?;
+    if is_join || after.as_str() == state_after(alloc, done)?.as_str() {
+        return Ok(true);
+    }
+    let later = state_after(alloc, done.saturating_add(1))?;
+    assert!(rt; object == Object::Out, "after {done} lines");
+    assert_eq!(rt; after.as_str(), later.as_str(), "after {done} lines");
+    Ok(true)
+}
+
+/// How many calls stop the script, one after the other.
+fn script_stopped_by(rt: &impl Abort, alloc: Global, object: Object) -> Result<usize, Fail> {
+    for (at, call) in CALLS.iter().enumerate() {
+        if !stops_script(rt, alloc, object, *call)? {
+            return Ok(at);
+        }
+    }
+    Ok(CALLS.len())
+}
+
 #[test]
 fn calls_of_the_shelf(rt: HostRuntime) -> Result<(), Fail> {
     let count = stopped_by(&rt, rt.alloc(), Object::Shelf)?;
@@ -173,6 +241,34 @@ fn calls_of_the_input(rt: HostRuntime) -> Result<(), Fail> {
 #[test]
 fn calls_of_the_output(rt: HostRuntime) -> Result<(), Fail> {
     let count = stopped_by(&rt, rt.alloc(), Object::Out)?;
+    assert!(&rt; 0 < count && count < CALLS.len(), "{count}");
+    Ok(())
+}
+
+#[test]
+fn calls_of_the_shelf_in_a_script(rt: HostRuntime) -> Result<(), Fail> {
+    let count = script_stopped_by(&rt, rt.alloc(), Object::Shelf)?;
+    assert!(&rt; 0 < count && count < CALLS.len(), "{count}");
+    Ok(())
+}
+
+#[test]
+fn calls_of_the_vault_in_a_script(rt: HostRuntime) -> Result<(), Fail> {
+    let count = script_stopped_by(&rt, rt.alloc(), Object::Vault)?;
+    assert!(&rt; 0 < count && count < CALLS.len(), "{count}");
+    Ok(())
+}
+
+#[test]
+fn calls_of_the_input_in_a_script(rt: HostRuntime) -> Result<(), Fail> {
+    let count = script_stopped_by(&rt, rt.alloc(), Object::Input)?;
+    assert_eq!(&rt; count, 3, "one for each byte");
+    Ok(())
+}
+
+#[test]
+fn calls_of_the_output_in_a_script(rt: HostRuntime) -> Result<(), Fail> {
+    let count = script_stopped_by(&rt, rt.alloc(), Object::Out)?;
     assert!(&rt; 0 < count && count < CALLS.len(), "{count}");
     Ok(())
 }
