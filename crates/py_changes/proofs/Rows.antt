@@ -1,11 +1,12 @@
 -- Changed lines and selected tests, computed.
 use Rattle.std.proofs.Common.{◌≡◌, ℕ, true, false, List, [], ◌∷◌, Some, None, refl}
 use Rattle.std.specs.Prelude.{codes, map, pos}
+use Rattle.std.specs.Fmt.{digits}
 use Rattle.py_operator.specs.declared.operator.BinOp.TheVariants.{Add, Floor}
 use Rattle.py_operator.specs.declared.operator.CmpOp.TheVariants.{Eq}
 use Rattle.py_syntax.specs.declared.expr.Comparison.TheVariants.{Op}
 use Rattle.py_syntax.specs.Tree as T
-use Rattle.py_syntax.specs.Tree.{Expr, Stmts}
+use Rattle.py_syntax.specs.Tree.{Text, Expr, Stmts}
 use Rattle.py_meaning.specs.Modules.{LoadedModule}
 use Rattle.py_meaning.proofs.Sources.{runs, var, num, quote, items, call, attr, line, end}
 use Rattle.py_changes.specs.Changed.{changed_module}
@@ -13,7 +14,7 @@ use Rattle.py_value.specs.Plain.{none_value, int_value}
 use Rattle.py_builtins.specs.Returns.{gave, cut}
 use Rattle.py_changes.specs.Changes.{are_compared, changed_lines}
 use Rattle.py_changes.specs.Tests.{Test, tested, reaches, is_changed, is_selected}
-use Rattle.py_changes.specs.Mutants.{module_mutants}
+use Rattle.py_changes.specs.Mutants.{Marked, module_mutants}
 
 -- `a == b`
 abbrev compared : Expr → Expr → Expr
@@ -178,14 +179,23 @@ selects_test_a = refl
 
 -- ---- mutants of calc.py, and the line that each changes
 
-mutants_of_calc : map (λ x. x.0) (module_mutants calc_old) ≡ 2 ∷ 2 ∷ 4 ∷ []
+-- what mutants change: the line of the mark, the token, and the one in its place
+abbrev told : List (Marked × Stmts) → List (ℕ × (Text × Text))
+told ms = map (λ x. (x.0.0, (x.0.1.old, x.0.1.new))) ms
+
+mutants_of_calc : told (module_mutants calc_old) ≡ (2, (codes "==", codes "!="))
+    ∷ (2, (codes "0", codes "1")) ∷ (4, (codes "//", codes "*")) ∷ []
+unfolding digits
 mutants_of_calc = refl
 
-mutants_of_line_7 : map (λ x. x.0) (module_mutants line_7) ≡ 2 ∷ 2 ∷ 4 ∷ 7 ∷ 7 ∷ []
+mutants_of_line_7 : told (module_mutants line_7) ≡ (2, (codes "==", codes "!="))
+    ∷ (2, (codes "0", codes "1")) ∷ (4, (codes "//", codes "*")) ∷ (7, (codes "+", codes "-"))
+    ∷ (7, (codes "1", codes "2")) ∷ []
+unfolding digits
 mutants_of_line_7 = refl
 
 mutants_change_their_lines : map (λ x. changed_module line_7 x.1) (module_mutants line_7) ≡ map
-    (λ x. (x.0 ∷ [], x.0 ∷ [])) (module_mutants line_7)
+    (λ x. (x.0.0 ∷ [], x.0.0 ∷ [])) (module_mutants line_7)
 unfolding runs
 mutants_change_their_lines = refl
 

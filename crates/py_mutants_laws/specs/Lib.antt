@@ -1,0 +1,3 @@
+pub mod Mutants
+pub mod Unreached
+pub mod Sound
