@@ -1,0 +1,9 @@
+pub mod Walks
+pub mod Adding
+pub mod Turns
+pub mod TestNames
+pub mod Recording
+pub mod Calling
+pub mod Ending
+pub mod Meaning
+mod Worked

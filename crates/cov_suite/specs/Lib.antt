@@ -1,0 +1,7 @@
+pub mod Tests
+pub mod Results
+pub mod Rows
+pub mod Views
+pub mod Recorded
+pub mod Suites
+pub mod Meant

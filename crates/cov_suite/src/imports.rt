@@ -1,0 +1,69 @@
+// The import: the script, run by itself.
+ghost use Rattle.std.specs.Prelude.{◌≡◌, ◌<◌, ◌≤◌, length, IfOk};
+ghost use Rattle.cov_measure_laws.specs.Leaving.{AreLeft};
+ghost use Rattle.cov_recorder.specs.Names.{names_of};
+ghost use Rattle.cov_recorder.specs.Plan.{HaveFirsts, plan_of};
+ghost use Rattle.cov_suite.specs.Recorded.{Imports};
+ghost use Rattle.cov_suite.specs.Results.{words};
+ghost use Rattle.py_code.specs.Loaded.{modules_of, most_numbered};
+ghost use Rattle.py_store.specs.Stores.{words_of, world_of};
+
+use crate::recorders::{finish_recorder, new_recorder};
+use crate::runs::run_script;
+use cov_contexts::Plugin;
+use cov_data::Data;
+use cov_event::Nobody;
+use cov_predict::ArcSet;
+use cov_recorder::{UnitName, recorded_rows};
+use py_code::Programs;
+use py_machine::Store;
+use py_text::NoMemory;
+use std::alloc::Global;
+
+/// An import that ended: whether it finished, the state after it, and its data.
+#[derive(Drop)]
+pub(crate) struct Import {
+    pub finished: bool,
+    pub store: Store,
+    pub rows: Data,
+}
+
+fn suite_words(alloc: Global) -> Result<Vec<String>, NoMemory>
+    ensures { IfOk result (λ list. words_of list.items ≡ words) }
+{
+    let mut words = Vec::new(alloc);
+    words.push(String::from_str(alloc, "__tests__")?)?;
+    Ok(words)
+}
+
+/// Runs the script on a new store.
+pub(crate) fn import_script<P: Plugin>(
+    alloc: Global,
+    programs: &Programs,
+    units: &[Vec<UnitName>],
+    places: &[ArcSet],
+    fixed: &str,
+    arcs: bool,
+    budget: u64,
+    plugins: &mut Vec<P>,
+) -> Result<Import, NoMemory>
+    requires some { 0 < length (modules_of programs.now) }
+    requires few { length (modules_of programs.now) ≤ most_numbered }
+    requires begin { HaveFirsts (names_of units.now) }
+    ensures imports { IfOk result (λ i. Imports P.Plugin
+        (plan_of (names_of units.now) places.now arcs fixed.now) (modules_of programs.now) budget
+        plugins.old.items i.finished (world_of i.store) i.rows plugins.new.items) }
+    ensures plugins { AreLeft P.Plugin plugins.old.items plugins.new.items }
+{
+    recorded_rows::<Nobody, P>();
+    let words = suite_words(alloc)?;
+    let mut store = Store::new(alloc, programs, &words)?;
+    let mut recorder = new_recorder(alloc, units, places, fixed, arcs, plugins)?;
+    let ran = run_script(alloc, programs, &mut store, budget, &mut recorder);
+    let rows = finish_recorder(alloc, recorder, plugins);
+    Ok(Import {
+        finished: ran?,
+        store,
+        rows: rows?,
+    })
+}
