@@ -1,0 +1,146 @@
+-- A test that isn't selected keeps its result.
+use Rattle.std.proofs.Common.{◌≡◌, ℕ, zero, suc, ◌<◌, ℤ, pos, Bool, true, false, not, ◌&&◌, ◌||◌, List, [], ◌∷◌, map, All, Contains, encode_utf8_all, string_bytes, refl, ap, sym, subst, ◌∙◌, arith}
+use Rattle.std.specs.List.{list_any}
+use Rattle.std.specs.Prelude.{bytes_eq}
+use Rattle.std.specs.Str.{chars}
+use Rattle.std.proofs.lemmas.Bool.{false≢true}
+use Rattle.std.proofs.lemmas.Slice.Eq.{bytes_eq-Decides}
+use Rattle.cov_contexts.specs.declared.plugins.Plugin.{Ghosts as PluginOf}
+use Rattle.cov_data.specs.DataSet.{Text as Bytes, DataSet, union}
+use Rattle.cov_data.specs.Rows.{lines_of}
+use Rattle.cov_measure_laws.specs.Units.{tree_units}
+use Rattle.cov_recorder.specs.Plan.{path_at}
+use Rattle.cov_recorder_laws.proofs.Law.{in_order}
+use Rattle.cov_suite.specs.declared.results.TestResult.{TestResult}
+use Rattle.cov_suite.specs.Meant.{IsMeantData}
+use Rattle.cov_suite.specs.Results.{end_of, import_of, result_of_tree}
+use Rattle.cov_suite.specs.Rows.{lines_in, InTurn}
+use Rattle.cov_suite.specs.Tests.{tests_of}
+use Rattle.cov_suite.specs.Views.{test_view, reached_lines}
+use Rattle.py_builtins.specs.Outcomes as outcomes
+use Rattle.py_builtins.specs.World.{World}
+use Rattle.py_changes.specs.Paths.{path_of, HasReached, ReachedNoChange, UnchangedByPaths}
+use Rattle.py_changes.specs.Tests.{tested}
+use Rattle.py_changes.proofs.Positive.{zero-unchanged}
+use Rattle.py_meaning.specs.Activations.{Items}
+use Rattle.py_meaning.specs.Crossings.{ends, crossings, lines_crossed}
+use Rattle.py_meaning.specs.Modules.{LoadedModule, body_of}
+use Rattle.py_syntax.specs.Marks.{statement_lines}
+use Rattle.py_syntax.specs.Tree.{Text}
+use Rattle.cov_select.specs.Selected.{ByPath, was_cut, is_changed, is_selected}
+use Rattle.cov_select.specs.Unselected.{HoldChanges, suite_test, UnselectedInSuite}
+use Rattle.cov_select.proofs.DataLines.{mapped, any-line, line-left, line-right, line-of_arc}
+
+-- ---- parts
+
+tail_of : {X : Type 0} → List X → List X
+tail_of [] = []
+tail_of (x ∷ xs) = xs
+
+head_or : {X : Type 0} → X → List X → X
+head_or d [] = d
+head_or d (x ∷ xs) = x
+
+heads : {X : Type 0} (x y : X) (xs ys : List X) → (x ∷ xs) ≡ (y ∷ ys) → x ≡ y
+unfolding head_or
+heads x y xs ys e = ap (head_or x) e
+
+tails : {X : Type 0} (x y : X) (xs ys : List X) → (x ∷ xs) ≡ (y ∷ ys) → xs ≡ ys
+unfolding tail_of
+tails x y xs ys e = ap tail_of e
+
+-- what a test that isn't selected did not
+facts : (b c a : Bool) → (not b || (c || a)) ≡ false → (b ≡ true) × (c ≡ false) × (a ≡ false)
+facts true false false h = (refl, refl, refl)
+facts true false true h = absurd (false≢true (sym h))
+facts true true a h = absurd (false≢true (sym h))
+facts false c a h = absurd (false≢true (sym h))
+
+-- the path of a module in the plan of trees
+plan-path : (ms : List LoadedModule) (m : ℕ) → path_at (tree_units ms) m ≡ encode_utf8_all (path_of ms m)
+plan-path [] m = refl
+plan-path (x ∷ ms) zero = refl
+plan-path (x ∷ ms) (suc m) = plan-path ms m
+
+module _ {P : Type 0} (plugin : PluginOf P) (old new : List LoadedModule) (arcs : Bool) (fixed : Bytes) (budget : ℕ) (changed : ByPath) (holds : HoldChanges old new changed)
+    (lines : (m : ℕ) → All (λ l. 0 < l) (statement_lines (body_of old m))) where
+  -- the data of items
+  abbrev IsData : List P → Items → DataSet → List P → Type 0
+  IsData = IsMeantData plugin old arcs fixed
+
+  -- a line that items reached is among those of their data
+  in-data : (items : Items) (d : DataSet) (p q : List P) → IsData p items d q → (m l : ℕ) → 0 < l → HasReached old items (path_of old m) l → Contains (lines_of d (encode_utf8_all (path_of old m))) l
+  in-data items d p q is m l some reached = by_case arcs refl where
+    path : Bytes
+    path = encode_utf8_all (path_of old m)
+
+    n : ℕ
+    n = reached.0
+
+    there : path_at (tree_units old) n ≡ path
+    there = plan-path old n ∙ ap encode_utf8_all reached.2
+
+    arc : Contains (lines_crossed (crossings old n items)) (reached.1.from, pos l)
+    arc =
+        subst (λ (z : ℤ). Contains (lines_crossed (crossings old n items)) (reached.1.from, z)) reached.4
+        ((in_order (map ends (crossings old n items)) (lines_crossed (crossings old n items)) refl (ends reached.1)).0 (mapped ends (crossings old n items) reached.1 reached.3))
+
+    by_case : (b : Bool) → arcs ≡ b → Contains (lines_of d path) l
+    by_case true k = line-of_arc d path reached.1.from l some ((is.steps.arcs k path (reached.1.from, pos l)).1 (n, there, arc))
+    by_case false k = (is.steps.lines k path l some).1 (n, reached.1.from, there, arc)
+
+  -- where no line of larger data is a changed one, the items reached none
+  no-change : (items : Items) (d all : DataSet) (p q : List P) → IsData p items d q → ((path : Bytes) (l : ℕ) → Contains (lines_of d path) l → Contains (lines_of all path) l)
+      → list_any (is_changed changed) (lines_in all) ≡ false → ReachedNoChange old new items
+  no-change items d all p q is larger none m zero at reached = absurd (false≢true (sym (zero-unchanged old new m (lines m)) ∙ at))
+  no-change items d all p q is larger none m (suc l) at reached =
+      false≢true (sym none ∙ any-line (is_changed changed) all (encode_utf8_all (path_of old m)) (suc l) (larger (encode_utf8_all (path_of old m)) (suc l) (in-data items d p q is m (suc l) (omega arith) reached)) (holds m (suc l) at))
+
+  -- ---- a test that isn't selected
+
+  abbrev Found : World → DataSet → Bytes → Type 0
+  Found w imp name =
+      (n : Text) × (d : DataSet) × (p : List P) × (q : List P) × (n ≡ chars name)
+      × (was_cut (result_of_tree old w budget n).0.end ≡ false) × IsData p (result_of_tree old w budget n).1 d q
+      × (list_any (is_changed changed) (lines_in (union d imp)) ≡ false)
+
+  walk : (w : World) (imp : DataSet) (name : Bytes) (ts : List TestResult) (ns : List Text) (ds : List DataSet) (p q : List P)
+      → map test_view ts ≡ map (λ t. t.0) (map (result_of_tree old w budget) ns) → map reached_lines ts ≡ map (λ d. lines_in (union d imp)) ds
+      → InTurn IsData p (map (λ t. t.1) (map (result_of_tree old w budget) ns)) ds q → is_selected ts (is_changed changed) name ≡ false → Found w imp name
+  walk w imp name [] ns ds p q e f g h = absurd (false≢true (sym h))
+  walk w imp name (t ∷ ts) [] ds p q e f g h = absurd cc
+  walk w imp name (t ∷ ts) (n ∷ ns) [] p q e f g h = absurd cc
+  walk w imp name (t ∷ ts) (n ∷ ns) (d ∷ ds) p q e f g h = by_case (not (bytes_eq name (string_bytes t.name)) || (was_cut t.end || list_any (is_changed changed) (reached_lines t))) refl
+      (λ k. walk w imp name ts ns ds g.0 q (tails _ _ (map test_view ts) (map (λ t. t.0) (map (result_of_tree old w budget) ns)) e) (tails _ _ (map reached_lines ts) (map (λ d. lines_in (union d imp)) ds) f) g.2 k) where
+        view : test_view t ≡ (result_of_tree old w budget n).0
+        view = heads _ _ (map test_view ts) (map (λ t. t.0) (map (result_of_tree old w budget) ns)) e
+
+        seen : reached_lines t ≡ lines_in (union d imp)
+        seen = heads _ _ (map reached_lines ts) (map (λ d. lines_in (union d imp)) ds) f
+
+        by_case : (b : Bool) → (not (bytes_eq name (string_bytes t.name)) || (was_cut t.end || list_any (is_changed changed) (reached_lines t))) ≡ b → (is_selected ts (is_changed changed) name ≡ false → Found w imp name) → Found w imp name
+        by_case true k rest = rest (sym (ap (λ b. b && is_selected ts (is_changed changed) name) k) ∙ h)
+        by_case false k rest =
+            let did = facts (bytes_eq name (string_bytes t.name)) (was_cut t.end) (list_any (is_changed changed) (reached_lines t)) k in (
+              n,
+              d,
+              p,
+              g.0,
+              sym (ap chars ((bytes_eq-Decides name (string_bytes t.name)).0 did.0) ∙ ap (λ v. v.name) view),
+              sym (ap (λ v. was_cut v.end) view) ∙ did.1,
+              g.1,
+              sym (ap (λ ls. list_any (is_changed changed) ls) seen) ∙ did.2,
+            )
+
+pub unselected : {P : Type 0} (plugin : PluginOf P) → UnchangedByPaths → UnselectedInSuite plugin
+unselected plugin law old new arcs fixed budget before after run changed name regular lines suite holds none =
+    let r = suite.ran in
+    let imp = r.of_import in
+    let w = (import_of old budget).world in
+    let at = walk plugin old new arcs fixed budget changed holds lines w imp name run.tests.items (tests_of old) r.of_tests r.data_of.0 after r.tests r.reached r.data_of.2 none in
+    subst (λ (n : Text). tested new (suite_test n budget) ≡ tested old (suite_test n budget)) at.4
+    (law old new (suite_test at.0 budget) regular lines
+    (λ e. let k : outcomes.finished ≡ outcomes.cut = sym r.imports ∙ e in absurd cc)
+    (no-change plugin old new arcs fixed budget changed holds lines (import_of old budget).items imp (union at.1 imp) before r.data_of.0 r.data_of.1 (line-right at.1 imp) at.7)
+    (λ e. false≢true (sym at.5 ∙ ap (λ x. was_cut (end_of x)) e))
+    (no-change plugin old new arcs fixed budget changed holds lines (result_of_tree old w budget at.0).1 at.1 (union at.1 imp) at.2 at.3 at.6 (line-left at.1 imp) at.7))

@@ -1,0 +1,6 @@
+pub mod Silence
+pub mod Compared
+pub mod Local
+pub mod Views
+pub mod Selected
+pub mod Unselected
