@@ -20,6 +20,7 @@ ended_view ended.Finished = why.finished
 ended_view (ended.Program status) = why.program status
 ended_view (ended.Budget steps) = why.budget steps
 ended_view (ended.Under covered all) = why.under covered all
+ended_view (ended.Tests passed failed cut) = why.tests passed failed cut
 
 -- with the bytes of its ending
 abbrev pub answered_view : Answered → call.Answered

@@ -15,6 +15,8 @@ pub enum Ended {
     Budget(u64),
     /// So many statements and branches were covered, of so many in all: less than the limit.
     Under(u64, u64),
+    /// So many tests passed, failed and were cut.
+    Tests(u64, u64, u64),
 }
 
 /// How a command ended that wasn't refused, with what is said of it.

@@ -1,11 +1,11 @@
-//! Texts that are written or put, as the last thing that a command does.
+//! Texts that are written or put, as the last thing that a command does or on the way.
 ghost use Rattle.std.specs.Prelude.{◌≡◌};
 ghost use Rattle.cov_outside.specs.Reads.{refusal_of};
 ghost use Rattle.cov_programs.specs.Ends.{Follows};
 ghost use Rattle.cov_programs.specs.Objects.{beside, nobody};
 ghost use Rattle.cov_programs.specs.Programs.{ask};
-ghost use Rattle.cov_step.specs.Answers.{last, shelf_refusal, sink_refusal};
-ghost use Rattle.cov_step.specs.Calls.{Call, Answer, IsNoMemory, puts, seen};
+ghost use Rattle.cov_step.specs.Answers.{last, on, shelf_refusal, sink_refusal};
+ghost use Rattle.cov_step.specs.Calls.{Call, Answer, IsNoMemory, puts, seen, writes};
 ghost use Rattle.cov_step.specs.Objects.{on_shelf, on_sink};
 ghost use Rattle.cov_step.specs.Phases.{put_last, write_last};
 ghost use Rattle.cov_calls.specs.Views.{answered_view, sink_refusal_of};
@@ -35,6 +35,25 @@ fn written(answered: Answered, answer: Result<(), SinkError>) -> Result<Answered
 {
     match answer {
         Ok(()) => Ok(answered),
+        Err(SinkError::Failed) => Err(Why::WriteFault),
+        Err(SinkError::NoMemory) => Err(Why::NoMemory),
+    }
+}
+
+/// Writes a text on the way.
+pub fn write<O: Sink>(alloc: Global, text: &[u8], out: &mut O) -> Result<(), Why>
+    ensures { Follows (on_sink O.Sink) IsNoMemory (ask (writes text.now) (on sink_refusal))
+        out.old (seen (λ _. tt) result) out.new }
+{
+    noted(out.write(alloc, text))
+}
+
+fn noted(answer: Result<(), SinkError>) -> Result<(), Why>
+    ensures { Follows (nobody Call Answer) IsNoMemory (on sink_refusal (sink_refusal_of answer)) tt
+        (seen (λ _. tt) result) tt }
+{
+    match answer {
+        Ok(()) => Ok(()),
         Err(SinkError::Failed) => Err(Why::WriteFault),
         Err(SinkError::NoMemory) => Err(Why::NoMemory),
     }

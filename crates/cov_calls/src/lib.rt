@@ -14,7 +14,7 @@ mod vaults;
 pub use answered::{Answered, Ended};
 pub use files::file;
 pub use judging::judged;
-pub use lasts::{put_last, write_last};
+pub use lasts::{put_last, write, write_last};
 pub use names::{data_name, own_name};
 pub use pattern_lists::{PatternLists, patterns, patterns_by};
 pub use setting_files::settings;

@@ -17,13 +17,16 @@ use Rattle.cov_make_laws.specs.Readings.{MadeAreRead}
 use Rattle.cov_make_laws.specs.Trees.{made_tree}
 use Rattle.cov_programs.specs.Programs.{give, ask, bind, each}
 use Rattle.cov_run.specs.Reading.{Reading, tree, unread}
-use Rattle.cov_step.specs.Answers.{Before, given_or, run_refusal, tree_of}
-use Rattle.cov_step.specs.Calls.{Answered, Asked, HookFiles, Patterns, PlainSource, Ran, Step, checks, crosses, measures, tries}
+use Rattle.cov_step.specs.Answers.{Before, given_or, run_refusal, sink_refusal, on, tree_of}
+use Rattle.cov_step.specs.Calls.{Answered, Asked, HookFiles, Patterns, PlainSource, Ran, TestsAsked, Step, checks, crosses, measures, tries, tests, writes}
 use Rattle.cov_step.specs.Commands as the
 use Rattle.cov_step.specs.Listing.{listing}
+use Rattle.cov_step.specs.Testing.{tests_name, tests_asked, suite_lines, suite_answered, tested_or, tests_run, suite_by, suite}
+use Rattle.cov_suite.specs.Results.{import_of}
+use Rattle.py_builtins.specs.Outcomes.{finished}
 use Rattle.cov_step.specs.Making.{made_path, made_module, ran_if_any, made_line, made_by, make}
 use Rattle.cov_step.specs.Names.{or_else, removable}
-use Rattle.cov_step.specs.Phases.{needed, before, opened, settings, own_name, patterns_by, patterns, source, hook_of, joins, joined, inputs, has_own, own_input, some_input, same_kind, saving, removing_all, Report, reported_paths, reported_in, analysed, reported, judged, done, write_last, put_last, save_last, remove_last, answered_by}
+use Rattle.cov_step.specs.Phases.{needed, before, main_name, opened, settings, own_name, patterns_by, patterns, source, hook_of, joins, joined, inputs, has_own, own_input, some_input, same_kind, saving, removing_all, Report, reported_paths, reported_in, analysed, reported, judged, done, write_last, put_last, save_last, remove_last, answered_by}
 use Rattle.cov_step.specs.Promises.{reading_hungry}
 use Rattle.cov_step.specs.Step.{doing}
 use Rattle.cov_text.specs.Report.{text_bytes}
@@ -31,10 +34,10 @@ use Rattle.cov_words.specs.Commands.{PlainCommand}
 use Rattle.cov_words.specs.Commands as plain
 use Rattle.cov_words.specs.Values.{Word}
 use Rattle.cov_complete_laws.specs.Premises.{IsLoadable, HasHook, Holds, IsReplaceable, CanJoin, inputs_of, HoldAll, HasPatterns, HasSources, paths_reported}
-use Rattle.cov_complete_laws.specs.Ready.{CanErase, CanRun, CanReport, CanAnnotate, CanCombine, Ready}
+use Rattle.cov_complete_laws.specs.Ready.{CanErase, CanRun, CanTest, CanReport, CanAnnotate, CanCombine, Ready}
 use Rattle.cov_complete_laws.proofs.Sure.{Sure, then-sure}
 use Rattle.cov_complete_laws.proofs.Holding.{Holding, told, true-false}
-use Rattle.cov_complete_laws.proofs.Phases.{Goes, settings-sure, needed-sure, Stands, before-sure, joins-sure, inputs-sure, some-sure, own-sure, all-needed, kind-sure, patterns-sure, paths-sure, crosses-sure, measures-sure, tries-sure, opened-sure, hook-sure, comes-sure, source-sure, sources-sure, writing-sure, putting-sure, last-save-sure, saving-sure, last-removal-sure, removals-sure}
+use Rattle.cov_complete_laws.proofs.Phases.{Goes, tests-sure, noting-sure, settings-sure, needed-sure, Stands, before-sure, joins-sure, inputs-sure, some-sure, own-sure, all-needed, kind-sure, patterns-sure, paths-sure, crosses-sure, measures-sure, tries-sure, opened-sure, hook-sure, comes-sure, source-sure, sources-sure, writing-sure, putting-sure, last-save-sure, saving-sure, last-removal-sure, removals-sure}
 
 -- it isn't refused
 abbrev pub Ends : Step Answered → Holding → Type 0
@@ -55,11 +58,11 @@ module _ (t : Holding) where
       (last-removal-sure (own_name data_file h.settings) done t))
 
   module _ (completes : Completes) where
-    arcs-sure : (steps : Option ℕ) (script : Word) (args : List Word) → IsLoadable t.0 script → Ends (the.arcs steps script args) t
+    arcs-sure : (steps : Option ℕ) (script : Word) (args : List Word) → IsLoadable t.0 main_name script → Ends (the.arcs steps script args) t
     arcs-sure steps script args h =
         let most = or_else steps the.usual_steps in
-        then-sure told any (opened script) (λ ms. bind (ask (crosses ms (the.words_of script args) most) (given_or run_refusal)) (λ r. write_last (listing r.rows) (answered_by most r.outcome))) t
-        (opened-sure t completes script h (λ ms u. Ends (bind (ask (crosses ms (the.words_of script args) most) (given_or run_refusal)) (λ r. write_last (listing r.rows) (answered_by most r.outcome))) u) (λ ms a.
+        then-sure told any (opened main_name script) (λ ms. bind (ask (crosses ms (the.words_of script args) most) (given_or run_refusal)) (λ r. write_last (listing r.rows) (answered_by most r.outcome))) t
+        (opened-sure t completes main_name script h (λ ms u. Ends (bind (ask (crosses ms (the.words_of script args) most) (given_or run_refusal)) (λ r. write_last (listing r.rows) (answered_by most r.outcome))) u) (λ ms a.
         then-sure told any (ask (crosses ms (the.words_of script args) most) (given_or run_refusal)) (λ r. write_last (listing r.rows) (answered_by most r.outcome)) t
         (crosses-sure t ms (the.words_of script args) most (λ r u. Ends (write_last (listing r.rows) (answered_by most r.outcome)) u) (λ r.
         writing-sure (listing r.rows) (answered_by most r.outcome) t))))
@@ -70,10 +73,10 @@ module _ (t : Holding) where
         (measures-sure t asked ms hook (λ r u. Ends (save_last own (joined old r.rows) (answered_by asked.budget r.outcome)) u) (λ r.
         last-save-sure own (joined old r.rows) (answered_by asked.budget r.outcome) t h))
 
-    run_by-sure : (own : Word) (append : Bool) (asked : Asked) (hook : Option (Word × Word)) (script : Word) → IsLoadable t.0 script → HasHook t.0 hook → IsReplaceable t.1 own → CanJoin append t.1 own asked.arcs → Ends (the.run_by own append asked hook script) t
+    run_by-sure : (own : Word) (append : Bool) (asked : Asked) (hook : Option (Word × Word)) (script : Word) → IsLoadable t.0 main_name script → HasHook t.0 hook → IsReplaceable t.1 own → CanJoin append t.1 own asked.arcs → Ends (the.run_by own append asked hook script) t
     run_by-sure own append asked hook script program hooked target joinable =
-        then-sure told any (opened script) (λ ms. bind (hook_of hook) (λ h. bind (before own) (λ was. bind (joins append own asked.arcs was) (the.measured own asked ms h)))) t
-        (opened-sure t completes script program (λ ms u. Ends (bind (hook_of hook) (λ h. bind (before own) (λ was. bind (joins append own asked.arcs was) (the.measured own asked ms h)))) u) (λ ms a.
+        then-sure told any (opened main_name script) (λ ms. bind (hook_of hook) (λ h. bind (before own) (λ was. bind (joins append own asked.arcs was) (the.measured own asked ms h)))) t
+        (opened-sure t completes main_name script program (λ ms u. Ends (bind (hook_of hook) (λ h. bind (before own) (λ was. bind (joins append own asked.arcs was) (the.measured own asked ms h)))) u) (λ ms a.
         then-sure told any (hook_of hook) (λ h. bind (before own) (λ was. bind (joins append own asked.arcs was) (the.measured own asked ms h))) t
         (hook-sure t completes hook hooked (λ h u. Ends (bind (before own) (λ was. bind (joins append own asked.arcs was) (the.measured own asked ms h))) u) (λ h.
         then-sure told any (before own) (λ was. bind (joins append own asked.arcs was) (the.measured own asked ms h)) t
@@ -88,6 +91,25 @@ module _ (t : Holding) where
         then-sure told any (settings rcfile) (λ s. the.run_by (own_name data_file s) append (the.asked_by s branch context steps script args) (the.hook_named hook s.run.hook) script) t
         (settings-sure t rcfile h.settings h.set (λ s u. Ends (the.run_by (own_name data_file s) append (the.asked_by s branch context steps script args) (the.hook_named hook s.run.hook) script) u)
         (run_by-sure (own_name data_file h.settings) append (the.asked_by h.settings branch context steps script args) (the.hook_named hook h.settings.run.hook) script h.program h.hooked h.target h.joins))
+
+    tests_run-sure : (own : Word) (asked : TestsAsked) (file : Word) (ms : List LoadedModule) → (import_of ms asked.budget).outcome ≡ finished → IsReplaceable t.1 own → Ends (tests_run own asked file ms) t
+    tests_run-sure own asked file ms imports target =
+        then-sure told any (ask (tests asked ms) (tested_or file)) (λ r. bind (ask (writes (suite_lines r.0)) (on sink_refusal)) (λ written. save_last own r.1 (suite_answered r.0))) t
+        (tests-sure t asked ms file imports (λ r u. Ends (bind (ask (writes (suite_lines r.0)) (on sink_refusal)) (λ written. save_last own r.1 (suite_answered r.0))) u) (λ r.
+        then-sure told any (ask (writes (suite_lines r.0)) (on sink_refusal)) (λ written. save_last own r.1 (suite_answered r.0)) t
+        (noting-sure t (suite_lines r.0) (λ written u. Ends (save_last own r.1 (suite_answered r.0)) u)
+        (last-save-sure own r.1 (suite_answered r.0) t target))))
+
+    suite-sure : (branch : Bool) (steps : Option ℕ) (data_file rcfile : Option Word) (file : Word) → CanTest t.0 t.1 steps data_file rcfile file → Ends (suite branch steps data_file rcfile file) t
+    suite-sure branch steps data_file rcfile file h =
+        let own = own_name data_file h.settings in
+        let asked = tests_asked h.settings branch steps in
+        then-sure told any (settings rcfile) (λ s. suite_by (own_name data_file s) (tests_asked s branch steps) file) t
+        (settings-sure t rcfile h.settings h.set (λ s u. Ends (suite_by (own_name data_file s) (tests_asked s branch steps) file) u)
+        (then-sure told any (opened tests_name file) (λ ms. bind (before own) (λ was. tests_run own asked file ms)) t
+        (opened-sure t completes tests_name file h.program (λ ms u. Ends (bind (before own) (λ was. tests_run own asked file ms)) u) (λ ms a.
+        then-sure told any (before own) (λ was. tests_run own asked file ms) t
+        (before-sure t own h.target (λ was u. Ends (tests_run own asked file ms) u) (λ was s. tests_run-sure own asked file ms (h.imports ms a) h.target))))))
 
   module _ (one : OneReading) where
     reported_in-sure : (s : Settings) (p : Patterns) (own : Word) (d : DataSet) → Holds t.1 own d → HasSources t.0 s.report.omit d → (Q : Report → Holding → Type 0) → ((r : Report) → Q r t) → Goes Q (reported_in s p own) t
@@ -190,6 +212,6 @@ module _ (t : Holding) where
     doing-sure (plain.erase data_file rcfile) small h = erase-sure data_file rcfile h
     doing-sure (plain.script file) small h = absurd h
     doing-sure (plain.make seed size) small h = make-sure law seed size (small seed size refl) h
-    doing-sure (plain.suite branch steps data_file rcfile file) small h = absurd h
+    doing-sure (plain.suite branch steps data_file rcfile file) small h = suite-sure completes branch steps data_file rcfile file h
     doing-sure (plain.select steps old new) small h = absurd h
     doing-sure (plain.mutate steps file) small h = absurd h

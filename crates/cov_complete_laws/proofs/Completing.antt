@@ -44,7 +44,7 @@ built files contents (plain.annotate data_file rcfile file) h = refl
 built files contents (plain.erase data_file rcfile) h = refl
 built files contents (plain.script file) h = absurd h
 built files contents (plain.make seed size) h = refl
-built files contents (plain.suite branch budget data_file rcfile file) h = absurd h
+built files contents (plain.suite branch budget data_file rcfile file) h = refl
 built files contents (plain.select budget old new) h = absurd h
 built files contents (plain.mutate budget file) h = absurd h
 

@@ -11,8 +11,9 @@ use Rattle.cov_programs.specs.Objects.{Moves}
 use Rattle.cov_run.specs.Loading.{told_by}
 use Rattle.cov_run.specs.Loads.{LoadsTo}
 use Rattle.cov_run.specs.Reading.{Reads}
-use Rattle.cov_step.specs.Calls.{Call, spells, checks, reads, puts, opens, lists, loads, saves, removes, makes, writes, crosses, measures, tries, says, Answer}
-use Rattle.cov_step.specs.Objects.{main_name}
+use Rattle.cov_step.specs.Calls.{Call, spells, checks, reads, puts, opens, lists, loads, saves, removes, makes, writes, crosses, measures, tries, tests, says, Answer, Tested, tested, not_imported, starved}
+use Rattle.cov_suite.specs.Results.{import_of}
+use Rattle.py_builtins.specs.Outcomes.{Outcome, finished}
 use Rattle.cov_step.specs.Promises.{keeps, blamed, is_hungry}
 use Rattle.cov_step.specs.Step.{IsSpelled}
 use Rattle.cov_vault.specs.Answers.{IsListed, IsLoaded}
@@ -24,13 +25,19 @@ use Rattle.cov_vault.specs.declared.vault.VaultError.TheVariants as vault_error
 abbrev pub Holding : Type 0
 Holding = Files × Contents
 
+-- what the answer of tests says of how their import ended
+abbrev pub SaysOfImport : Outcome → Tested → Type 0
+SaysOfImport outcome (tested results rows) = outcome ≡ finished
+SaysOfImport outcome not_imported = outcome ≢ finished
+SaysOfImport outcome starved = Unit {0}
+
 -- what they say of an answer
 abbrev pub Says : Holding → (call : Call) → Answer call → Type 0
 Says t (spells words) x = IsSpelled words x
 Says t (checks bytes) x = Reads bytes x
 Says t (reads name most) x = IsTold (t.0 name) most x
 Says t (puts name bytes) x = Unit {0}
-Says t (opens script) x = LoadsTo (told_by t.0 (chars script)) (chars script) main_name x
+Says t (opens name script) x = LoadsTo (told_by t.0 (chars script)) (chars script) name x
 Says t lists x = IsListed t.1 x
 Says t (loads name) x = IsLoaded (get t.1 name) x
 Says t (saves name content) x = (x ≡ Some vault_error.NotSchema7 → get t.1 name ≡ Some stored.NotSchema7) × ((i : ℕ) → x ≢ Some (vault_error.BadRow i))
@@ -40,6 +47,7 @@ Says t (writes bytes) x = Unit {0}
 Says t (crosses modules words budget) x = Unit {0}
 Says t (measures asked modules hook) x = Unit {0}
 Says t (tries modules words budget) x = Unit {0}
+Says t (tests asked modules) x = SaysOfImport (import_of modules asked.budget).outcome x
 Says t (says text) x = Unit {0}
 
 -- it is answered so, for no want of memory and nobody's fault

@@ -81,7 +81,7 @@ inside-yields (plain.annotate data_file rcfile file) = doing-yields (plain.annot
 inside-yields (plain.erase data_file rcfile) = doing-yields (plain.erase data_file rcfile)
 inside-yields (plain.script file) = tt
 inside-yields (plain.make seed size) = doing-yields (plain.make seed size)
-inside-yields (plain.suite branch budget data_file rcfile file) = tt
+inside-yields (plain.suite branch budget data_file rcfile file) = doing-yields (plain.suite branch budget data_file rcfile file)
 inside-yields (plain.select budget old new) = tt
 inside-yields (plain.mutate budget file) = tt
 
@@ -137,7 +137,7 @@ same-inside t (plain.annotate data_file rcfile file) h g = g
 same-inside t (plain.erase data_file rcfile) h g = g
 same-inside t (plain.script file) h g = absurd h
 same-inside t (plain.make seed size) h g = g
-same-inside t (plain.suite branch budget data_file rcfile file) h g = absurd h
+same-inside t (plain.suite branch budget data_file rcfile file) h g = g
 same-inside t (plain.select budget old new) h g = absurd h
 same-inside t (plain.mutate budget file) h g = absurd h
 

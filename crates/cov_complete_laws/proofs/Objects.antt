@@ -19,8 +19,15 @@ use Rattle.cov_programs.specs.Laws.{Counting, IsTelling}
 use Rattle.cov_programs.specs.Objects.{Moves, beside}
 use Rattle.cov_run.specs.Loading.{told_by}
 use Rattle.cov_run.specs.Loads.{LoadsTo}
-use Rattle.cov_step.specs.Calls.{Call, spells, checks, reads, puts, opens, lists, loads, saves, removes, makes, writes, crosses, measures, tries, says, Answer}
-use Rattle.cov_step.specs.Objects.{on_grammar, on_shelf, on_vault, on_maker, on_err, Saying, main_name}
+use Rattle.cov_step.specs.Calls.{Call, spells, checks, reads, puts, opens, lists, loads, saves, removes, makes, writes, crosses, measures, tries, tests, says, Answer}
+use Rattle.cov_step.specs.Objects.{on_grammar, on_shelf, on_vault, on_maker, on_err, Saying}
+use Rattle.cov_streams.specs.Suites.{tested_by}
+use Rattle.cov_suite.specs.declared.results.SuiteError.{SuiteError}
+use Rattle.cov_suite.specs.declared.results.SuiteError.TheVariants as suite_error
+use Rattle.cov_suite.specs.Meant.{SuiteOf}
+use Rattle.cov_suite.specs.Results.{import_of}
+use Rattle.cov_suite.specs.Views.{SuiteView}
+use Rattle.py_meaning.specs.Modules.{LoadedModule}
 use Rattle.cov_step.specs.Promises.{Object, the_shelf, the_vault, the_maker, blamed, is_hungry, keeps}
 use Rattle.cov_step.proofs.Faults.{shelf-later, shelf-rose, shelf-alone, vault-later, vault-rose, vault-alone, maker-later, maker-rose, maker-alone, grammar-alone, err-alone}
 use Rattle.cov_step.proofs.Kept.{shelf-kept, vault-tells, vault-kept}
@@ -35,7 +42,7 @@ use Rattle.cov_words.specs.Values.{Word}
 use Rattle.py_builtins.specs.declared.fault.RunFault.TheVariants as run_fault
 use Rattle.py_machine.specs.declared.engine.Engine.{Ghosts as EngineOf}
 use Rattle.cov_complete_laws.specs.Complete.{Lent, on_lent, NoneRose}
-use Rattle.cov_complete_laws.proofs.Holding.{Holding, Says, Answers, told}
+use Rattle.cov_complete_laws.proofs.Holding.{Holding, SaysOfImport, Says, Answers, told}
 
 -- ---- counts
 
@@ -81,7 +88,7 @@ grammar-says t u (spells words) x v m = m
 grammar-says t u (checks bytes) x v m = m.read
 grammar-says t u (reads name most) x v m = absurd m
 grammar-says t u (puts name bytes) x v m = absurd m
-grammar-says t u (opens script) x v m = absurd m
+grammar-says t u (opens name script) x v m = absurd m
 grammar-says t u lists x v m = absurd m
 grammar-says t u (loads name) x v m = absurd m
 grammar-says t u (saves name content) x v m = absurd m
@@ -91,6 +98,7 @@ grammar-says t u (writes bytes) x v m = absurd m
 grammar-says t u (crosses modules words budget) x v m = absurd m
 grammar-says t u (measures asked modules hook) x v m = absurd m
 grammar-says t u (tries modules words budget) x v m = absurd m
+grammar-says t u (tests asked modules) x v m = absurd m
 grammar-says t u (says text) x v m = absurd m
 
 shelf-says : {H : Type 0} (shelf : ShelfOf H) → shelf.tells → (t : Holding) (u : H) (call : Call) (x : Answer call) (v : H) → on_shelf shelf u call x v → t.0 ≡ shelf.files u → Says t call x
@@ -98,7 +106,7 @@ shelf-says shelf tells t u (spells words) x v m e = absurd m
 shelf-says shelf tells t u (checks bytes) x v m e = m.read
 shelf-says shelf tells t u (reads name most) x v m e = subst (λ (f : Files). IsTold (f name) most x) (sym e) (shelf.truthful tells u name most x v m.moved).0
 shelf-says shelf tells t u (puts name bytes) x v m e = tt
-shelf-says shelf tells t u (opens script) x v m e = subst (λ (f : Files). LoadsTo (told_by f (chars script)) (chars script) main_name x) (sym e) (m.told tells)
+shelf-says shelf tells t u (opens name script) x v m e = subst (λ (f : Files). LoadsTo (told_by f (chars script)) (chars script) name x) (sym e) (m.told tells)
 shelf-says shelf tells t u lists x v m e = absurd m
 shelf-says shelf tells t u (loads name) x v m e = absurd m
 shelf-says shelf tells t u (saves name content) x v m e = absurd m
@@ -108,6 +116,7 @@ shelf-says shelf tells t u (writes bytes) x v m e = absurd m
 shelf-says shelf tells t u (crosses modules words budget) x v m e = absurd m
 shelf-says shelf tells t u (measures asked modules hook) x v m e = absurd m
 shelf-says shelf tells t u (tries modules words budget) x v m e = absurd m
+shelf-says shelf tells t u (tests asked modules) x v m e = absurd m
 shelf-says shelf tells t u (says text) x v m e = absurd m
 
 saved-so : {V : Type 0} (vault : VaultOf V) (u : V) (name : Word) (d : DataSet) (x : Option VaultError) (v : V) → vault.tells u → vault.saves u name d x v → x ≡ Some vault_error.NotSchema7 → get (vault.contents u) name ≡ Some stored.NotSchema7
@@ -118,7 +127,7 @@ vault-says vault t u (spells words) x v m tells e = absurd m
 vault-says vault t u (checks bytes) x v m tells e = absurd m
 vault-says vault t u (reads name most) x v m tells e = absurd m
 vault-says vault t u (puts name bytes) x v m tells e = absurd m
-vault-says vault t u (opens script) x v m tells e = absurd m
+vault-says vault t u (opens name script) x v m tells e = absurd m
 vault-says vault t u lists x v m tells e = subst (λ (c : Contents). IsListed c x) (sym e) (vault.lists_truly u x v tells m.moved).1
 vault-says vault t u (loads name) x v m tells e = subst (λ (c : Contents). IsLoaded (get c name) x) (sym e) (vault.loads_truly u name x v tells m.moved).1
 vault-says vault t u (saves name content) x v m tells e = (λ is. subst (λ (c : Contents). get c name ≡ Some stored.NotSchema7) (sym e) (saved-so vault u name content x v tells m.moved is), m.not_bad_row)
@@ -128,6 +137,7 @@ vault-says vault t u (writes bytes) x v m tells e = absurd m
 vault-says vault t u (crosses modules words budget) x v m tells e = absurd m
 vault-says vault t u (measures asked modules hook) x v m tells e = absurd m
 vault-says vault t u (tries modules words budget) x v m tells e = absurd m
+vault-says vault t u (tests asked modules) x v m tells e = absurd m
 vault-says vault t u (says text) x v m tells e = absurd m
 
 maker-says : {M : Type 0} (maker : MakerOf M) (t : Holding) (u : M) (call : Call) (x : Answer call) (v : M) → on_maker maker u call x v → Says t call x
@@ -135,7 +145,7 @@ maker-says maker t u (spells words) x v m = absurd m
 maker-says maker t u (checks bytes) x v m = absurd m
 maker-says maker t u (reads name most) x v m = absurd m
 maker-says maker t u (puts name bytes) x v m = absurd m
-maker-says maker t u (opens script) x v m = absurd m
+maker-says maker t u (opens name script) x v m = absurd m
 maker-says maker t u lists x v m = absurd m
 maker-says maker t u (loads name) x v m = absurd m
 maker-says maker t u (saves name content) x v m = absurd m
@@ -145,6 +155,7 @@ maker-says maker t u (writes bytes) x v m = absurd m
 maker-says maker t u (crosses modules words budget) x v m = absurd m
 maker-says maker t u (measures asked modules hook) x v m = absurd m
 maker-says maker t u (tries modules words budget) x v m = absurd m
+maker-says maker t u (tests asked modules) x v m = absurd m
 maker-says maker t u (says text) x v m = absurd m
 
 err-says : {E : Type 0} (err : SinkOf E) (t : Holding) (u : Saying E) (call : Call) (x : Answer call) (v : Saying E) → on_err err u call x v → Says t call x
@@ -152,7 +163,7 @@ err-says err t u (spells words) x v m = absurd m
 err-says err t u (checks bytes) x v m = absurd m
 err-says err t u (reads name most) x v m = absurd m
 err-says err t u (puts name bytes) x v m = absurd m
-err-says err t u (opens script) x v m = absurd m
+err-says err t u (opens name script) x v m = absurd m
 err-says err t u lists x v m = absurd m
 err-says err t u (loads name) x v m = absurd m
 err-says err t u (saves name content) x v m = absurd m
@@ -162,7 +173,15 @@ err-says err t u (writes bytes) x v m = absurd m
 err-says err t u (crosses modules words budget) x v m = absurd m
 err-says err t u (measures asked modules hook) x v m = absurd m
 err-says err t u (tries modules words budget) x v m = absurd m
+err-says err t u (tests asked modules) x v m = absurd m
 err-says err t u (says text) x v m = tt
+
+-- tests tell whether their import finished
+import-said : {P : Type 0} (plugin : PluginOf P) (ms : List LoadedModule) (arcs : Bool) (context : Word) (budget : ℕ) (old : List P) (said : Result SuiteView SuiteError) (new : List P) → SuiteOf plugin ms arcs context budget old said new
+    → SaysOfImport (import_of ms budget).outcome (tested_by said)
+import-said plugin ms arcs context budget old (Ok s) new h = h.ran.imports
+import-said plugin ms arcs context budget old (Err suite_error.NotImported) new h = (h.not_imported refl).stops
+import-said plugin ms arcs context budget old (Err suite_error.NoMemory) new h = tt
 
 module _ {I O P G : Type 0} (source : SourceOf I) (sink : SinkOf O) (plugin : PluginOf P) (engine : EngineOf G) where
   run-says : (t : Holding) (u : Streams I O P G) (call : Call) (x : Answer call) (v : Streams I O P G) → on_run source sink plugin engine u call x v → Says t call x
@@ -170,7 +189,7 @@ module _ {I O P G : Type 0} (source : SourceOf I) (sink : SinkOf O) (plugin : Pl
   run-says t u (checks bytes) x v m = absurd m
   run-says t u (reads name most) x v m = absurd m
   run-says t u (puts name bytes) x v m = absurd m
-  run-says t u (opens script) x v m = absurd m
+  run-says t u (opens name script) x v m = absurd m
   run-says t u lists x v m = absurd m
   run-says t u (loads name) x v m = absurd m
   run-says t u (saves name content) x v m = absurd m
@@ -180,6 +199,9 @@ module _ {I O P G : Type 0} (source : SourceOf I) (sink : SinkOf O) (plugin : Pl
   run-says t u (crosses modules words budget) x v m = tt
   run-says t u (measures asked modules hook) x v m = tt
   run-says t u (tries modules words budget) x v m = tt
+  run-says t u (tests asked modules) x v m =
+      subst (SaysOfImport (import_of modules asked.budget).outcome) (sym m.ran.is)
+      (import-said plugin modules asked.arcs asked.context asked.budget u.plugins m.ran.said v.plugins m.ran.suite)
   run-says t u (says text) x v m = absurd m
 
   input-later : (u : Streams I O P G) (call : Call) (x : Answer call) (v : Streams I O P G) → on_run source sink plugin engine u call x v → source.faults u.input ≤ source.faults v.input
@@ -187,7 +209,7 @@ module _ {I O P G : Type 0} (source : SourceOf I) (sink : SinkOf O) (plugin : Pl
   input-later u (checks bytes) x v m = absurd m
   input-later u (reads name most) x v m = absurd m
   input-later u (puts name bytes) x v m = absurd m
-  input-later u (opens script) x v m = absurd m
+  input-later u (opens name script) x v m = absurd m
   input-later u lists x v m = absurd m
   input-later u (loads name) x v m = absurd m
   input-later u (saves name content) x v m = absurd m
@@ -197,6 +219,7 @@ module _ {I O P G : Type 0} (source : SourceOf I) (sink : SinkOf O) (plugin : Pl
   input-later u (crosses modules words budget) x v m = m.run.reads
   input-later u (measures asked modules hook) x v m = m.run.reads
   input-later u (tries modules words budget) x v m = same-count (ap (λ (s : Streams I O P G). source.faults s.input) m.same)
+  input-later u (tests asked modules) x v m = same-count (ap (λ (s : Streams I O P G). source.faults s.input) m.same)
   input-later u (says text) x v m = absurd m
 
   out-later : (u : Streams I O P G) (call : Call) (x : Answer call) (v : Streams I O P G) → on_run source sink plugin engine u call x v → sink.faults u.out ≤ sink.faults v.out
@@ -204,7 +227,7 @@ module _ {I O P G : Type 0} (source : SourceOf I) (sink : SinkOf O) (plugin : Pl
   out-later u (checks bytes) x v m = absurd m
   out-later u (reads name most) x v m = absurd m
   out-later u (puts name bytes) x v m = absurd m
-  out-later u (opens script) x v m = absurd m
+  out-later u (opens name script) x v m = absurd m
   out-later u lists x v m = absurd m
   out-later u (loads name) x v m = absurd m
   out-later u (saves name content) x v m = absurd m
@@ -214,6 +237,7 @@ module _ {I O P G : Type 0} (source : SourceOf I) (sink : SinkOf O) (plugin : Pl
   out-later u (crosses modules words budget) x v m = m.run.writes
   out-later u (measures asked modules hook) x v m = m.run.writes
   out-later u (tries modules words budget) x v m = same-count (ap (λ (s : Streams I O P G). sink.faults s.out) m.same)
+  out-later u (tests asked modules) x v m = same-count (ap (λ (s : Streams I O P G). sink.faults s.out) m.same)
   out-later u (says text) x v m = absurd m
 
   run-fair : (u : Streams I O P G) (call : Call) (x : Answer call) (v : Streams I O P G) → on_run source sink plugin engine u call x v → ¬ (Rose (source.faults u.input) (source.faults v.input)) → ¬ (Rose (sink.faults u.out) (sink.faults v.out)) → blamed call x ≡ None
@@ -221,7 +245,7 @@ module _ {I O P G : Type 0} (source : SourceOf I) (sink : SinkOf O) (plugin : Pl
   run-fair u (checks bytes) x v m i o = absurd m
   run-fair u (reads name most) x v m i o = absurd m
   run-fair u (puts name bytes) x v m i o = absurd m
-  run-fair u (opens script) x v m i o = absurd m
+  run-fair u (opens name script) x v m i o = absurd m
   run-fair u lists x v m i o = absurd m
   run-fair u (loads name) x v m i o = absurd m
   run-fair u (saves name content) x v m i o = absurd m
@@ -239,6 +263,7 @@ module _ {I O P G : Type 0} (source : SourceOf I) (sink : SinkOf O) (plugin : Pl
   run-fair u (measures asked modules hook) (Err run_fault.WriteFault) v m i o = absurd (o (m.run.write_fault refl))
   run-fair u (measures asked modules hook) (Err run_fault.NoMemory) v m i o = refl
   run-fair u (tries modules words budget) x v m i o = refl
+  run-fair u (tests asked modules) x v m i o = refl
   run-fair u (says text) x v m i o = absurd m
 
 -- ---- all of them

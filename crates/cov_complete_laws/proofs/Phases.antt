@@ -23,11 +23,14 @@ use Rattle.cov_run.specs.Loading.{most_bytes, told_by}
 use Rattle.cov_run.specs.Loads.{Loading, IsUnread, faulted, starved}
 use Rattle.cov_run.specs.Reading.{Reading, tree, unread, Reads}
 use Rattle.cov_step.specs.Answers.{bytes_of, bytes_if_any, given_or, Before, nothing, there, bad_row, pattern_refusal, on, sink_refusal, shelf_refusal, last, run_refusal, tree_of}
-use Rattle.cov_step.specs.Calls.{Call, spells, checks, reads, puts, opens, lists, loads, saves, removes, makes, writes, crosses, measures, tries, says, Answer, Answered, Asked, HookFiles, PlainSource, Patterns, Ran, Step, refuse}
+use Rattle.cov_step.specs.Calls.{Call, spells, checks, reads, puts, opens, lists, loads, saves, removes, makes, writes, crosses, measures, tries, tests, says, Answer, Answered, Asked, HookFiles, PlainSource, Patterns, Ran, TestsAsked, TestResult, tested, not_imported, Step, refuse}
 use Rattle.cov_step.specs.Making.{ran_if_any}
 use Rattle.cov_step.specs.Names.{data_name}
-use Rattle.cov_step.specs.Objects.{main_name}
-use Rattle.cov_step.specs.Phases.{file, needed, before, opened, settings_file, settings, most_patterns, most_pattern_bytes, always, few, short, patterns_by, source, defines, hook_in, hook_of, joins, inputs, is_part_of, has_own, own_input, some_input, same_kind, saving, removing, removing_all, some_path, is_reported, reported_paths, write_last, put_last, save_last, remove_last}
+use Rattle.cov_step.specs.Calls as calls
+use Rattle.cov_step.specs.Testing.{tested_or}
+use Rattle.cov_suite.specs.Results.{import_of}
+use Rattle.py_builtins.specs.Outcomes.{finished}
+use Rattle.cov_step.specs.Phases.{file, needed, before, main_name, opened, settings_file, settings, most_patterns, most_pattern_bytes, always, few, short, patterns_by, source, defines, hook_in, hook_of, joins, inputs, is_part_of, has_own, own_input, some_input, same_kind, saving, removing, removing_all, some_path, is_reported, reported_paths, write_last, put_last, save_last, remove_last}
 use Rattle.cov_step.specs.Promises.{blame_of, reading_hungry, refusal_hungry}
 use Rattle.cov_vault.specs.declared.vault.Content.{Content}
 use Rattle.cov_vault.specs.declared.vault.Content.TheVariants as stored
@@ -266,16 +269,27 @@ module _ (t : Holding) where
   tries-sure ms words n Q q None u m = absurd (true-false m.0.fed)
   tries-sure ms words n Q q (Some r) u m = moved Q r r u t refl (m.1 refl) (q r)
 
+  pub tests-sure : (asked : TestsAsked) (ms : List LoadedModule) (file : Word) → (import_of ms asked.budget).outcome ≡ finished → (Q : List TestResult × DataSet → Holding → Type 0) → ((r : List TestResult × DataSet) → Q r t) → Goes Q (ask (tests asked ms) (tested_or file)) t
+  tests-sure asked ms file h Q q (tested results rows) u m = moved Q (results, rows) (results, rows) u t refl (m.1 refl) (q (results, rows))
+  tests-sure asked ms file h Q q not_imported u m = absurd (m.0.says_so h)
+  tests-sure asked ms file h Q q calls.starved u m = absurd (true-false m.0.fed)
+
+  -- a text that is written on the way
+  pub noting-sure : (bytes : List ℕ) → (Q : Unit {0} → Holding → Type 0) → Q tt t → Goes Q (ask (writes bytes) (on sink_refusal)) t
+  noting-sure bytes Q q None u m = moved Q tt tt u t refl (m.1 refl) q
+  noting-sure bytes Q q (Some sink_error.Failed) u m = absurd (some-none m.0.fair)
+  noting-sure bytes Q q (Some sink_error.NoMemory) u m = absurd (true-false m.0.fed)
+
   -- ---- a program and a hook
 
   module _ (completes : Completes) where
-    pub opened-sure : (script : Word) → IsLoadable t.0 script → (Q : List LoadedModule → Holding → Type 0) → ((ms : List LoadedModule) → AreModules t.0 script ms → Q ms t) → Goes Q (opened script) t
-    opened-sure script h Q q (Ok ms) u m = moved Q ms ms u t refl (m.1 refl) (q ms m.0.says_so)
-    opened-sure script h Q q (Err r) u m =
-        let all = completes (told_by t.0 (chars script)) (chars script) main_name h in
+    pub opened-sure : (name : Text) (script : Word) → IsLoadable t.0 name script → (Q : List LoadedModule → Holding → Type 0) → ((ms : List LoadedModule) → AreModules t.0 name script ms → Q ms t) → Goes Q (opened name script) t
+    opened-sure name script h Q q (Ok ms) u m = moved Q ms ms u t refl (m.1 refl) (q ms m.0.says_so)
+    opened-sure name script h Q q (Err r) u m =
+        let all = completes (told_by t.0 (chars script)) (chars script) name h in
         absurd (cut-off r (all.2 (Err r) m.0.says_so) m.0.fed m.0.fair)
       where
-        cut-off : (r : Refusal) → (◌≡◌ {A = Loading} (Err r) (Ok (completes (told_by t.0 (chars script)) (chars script) main_name h).0)) ⊎ IsUnread r → refusal_hungry r ≡ false → blame_of r ≡ None → ⊥
+        cut-off : (r : Refusal) → (◌≡◌ {A = Loading} (Err r) (Ok (completes (told_by t.0 (chars script)) (chars script) name h).0)) ⊎ IsUnread r → refusal_hungry r ≡ false → blame_of r ≡ None → ⊥
         cut-off r (inl e) fed fair = ok-err e
         cut-off r (inr faulted) fed fair = some-none fair
         cut-off r (inr starved) fed fair = true-false fed
@@ -283,8 +297,8 @@ module _ (t : Holding) where
     pub hook-sure : (hook : Option (Word × Word)) → HasHook t.0 hook → (Q : Option HookFiles → Holding → Type 0) → ((h : Option HookFiles) → Q h t) → Goes Q (hook_of hook) t
     hook-sure None h Q q = q None
     hook-sure (Some (script, function)) h Q q =
-        then-sure told Q (opened script) (hook_in script function) t
-        (opened-sure script h.loadable (λ ms u. Goes Q (hook_in script function ms) u)
+        then-sure told Q (opened main_name script) (hook_in script function) t
+        (opened-sure main_name script h.loadable (λ ms u. Goes Q (hook_in script function ms) u)
         (λ ms a. by-test Q (defines ms (chars function)) _ _ t (h.defined ms a) (q _)))
 
   -- ---- a source

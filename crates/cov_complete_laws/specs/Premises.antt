@@ -22,8 +22,7 @@ use Rattle.cov_load_laws.specs.Completeness.{CanLoad, HasSource}
 use Rattle.cov_outside.specs.Files.{Files}
 use Rattle.cov_run.specs.Loading.{most_bytes, told_by, IsLoaded}
 use Rattle.cov_step.specs.Names.{data_name}
-use Rattle.cov_step.specs.Objects.{main_name}
-use Rattle.cov_step.specs.Phases.{most_patterns, most_pattern_bytes, always, defines, is_part_of, is_reported}
+use Rattle.cov_step.specs.Phases.{main_name, most_patterns, most_pattern_bytes, always, defines, is_part_of, is_reported}
 use Rattle.cov_vault.specs.Contents.{Contents}
 use Rattle.cov_vault.specs.declared.vault.Content.TheVariants as content
 use Rattle.cov_words.specs.Values.{Word}
@@ -59,20 +58,22 @@ DefaultsLaw = (files : Files) → files usual ≡ None → AreSettings files Non
 
 -- ---- programs
 
--- a script is there and can be read, and so is each file that is wanted; no count passes its limit
-abbrev pub IsLoadable : Files → Word → Type 0
-IsLoadable files script = CanLoad (told_by files (chars script)) (chars script) main_name
+-- a script is there and can be read, and so is each file that is wanted, where its module has this
+-- name; no count passes its limit
+abbrev pub IsLoadable : Files → Text → Word → Type 0
+IsLoadable files name script = CanLoad (told_by files (chars script)) (chars script) name
 
--- these are the modules of a script
-abbrev pub AreModules : Files → Word → List LoadedModule → Type 0
-AreModules files script ms =
-    IsLoaded (told_by files (chars script)) (chars script) main_name ms
+-- these are the modules of a script, of which the first has this name
+abbrev pub AreModules : Files → Text → Word → List LoadedModule → Type 0
+AreModules files name script ms =
+    IsLoaded (told_by files (chars script)) (chars script) name ms
 
 -- a hook's script can be loaded, and has a `def` of this name
 pub record IsHook (files : Files) (script function : Word) : Type 0 where
-  pub loadable : IsLoadable files script
+  pub loadable : IsLoadable files main_name script
   pub defined :
-      (ms : List LoadedModule) → AreModules files script ms → defines ms (chars function) ≡ true
+      (ms : List LoadedModule) → AreModules files main_name script ms
+      → defines ms (chars function) ≡ true
 
 -- the hook of a run, where there is one
 abbrev pub HasHook : Files → Option (Word × Word) → Type 0

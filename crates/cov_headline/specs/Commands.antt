@@ -1,7 +1,7 @@
 -- What each command promises that did its work.
 --     Loses            no data were saved
 --     Promise          what a command promises
---     runs_of          the run that it did
+--     runs_of          the runs that it did
 use Rattle.std.specs.Prelude.{◌≡◌, ◌⊎◌, ◌||◌, [], ◌∷◌, None}
 use Rattle.std.specs.FinMap as finite
 use Rattle.cov_contexts.specs.declared.plugins.Plugin.{Ghosts as PluginOf}
@@ -11,6 +11,7 @@ use Rattle.cov_step.specs.Calls.{Answered}
 use Rattle.cov_step.specs.Commands.{asked_by, hook_named}
 use Rattle.cov_step.specs.Names.{or_else}
 use Rattle.cov_step.specs.Phases.{own_name}
+use Rattle.cov_step.specs.Testing.{tests_asked}
 use Rattle.cov_vault.specs.Contents.{Contents}
 use Rattle.cov_words.specs.Commands.{PlainCommand}
 use Rattle.cov_words.specs.Commands as plain
@@ -18,15 +19,16 @@ use Rattle.cov_words.specs.Values.{Word}
 use Rattle.cov_headline.specs.Promises.{IsSet, run_of, RunPromise, CombinePromise, ReportPromise}
 use Rattle.cov_headline.specs.Told.{Held}
 use Rattle.cov_headline.specs.Kept.{Recorded}
+use Rattle.cov_headline.specs.Suites.{suite_runs, paired, SuitePromise}
 
 -- each name holds what it held, or nothing
 abbrev pub Loses : Contents → Contents → Type 0
 Loses old new =
     (name : Word) → (finite.get new name ≡ finite.get old name) ⊎ (finite.get new name ≡ None)
 
--- What a command promises that ended so: a run, a combine and a report by their settings, and each
--- other that it saves no data. A report knows of these runs, and of what was there at first. A
--- script is none of these, and what isn't built is refused.
+-- What a command promises that ended so: a run, a combine, a report and a suite by their settings,
+-- and each other that it saves no data. A report knows of these runs, and of what was there at first.
+-- A script is none of these, and what isn't built is refused.
 abbrev pub Promise : {P : Type 0} → PluginOf P → Contents → Recorded → PlainCommand → Held P
     → Answered → Held P → Type 0
 Promise plugin first runs (plain.arcs budget script args) old a new =
@@ -52,11 +54,13 @@ Promise plugin first runs (plain.annotate data_file rcfile file) old a new =
 Promise plugin first runs (plain.erase data_file rcfile) old a new = Loses old.contents new.contents
 Promise plugin first runs (plain.script file) old a new = ⊥
 Promise plugin first runs (plain.make seed size) old a new = Loses old.contents new.contents
-Promise plugin first runs (plain.suite branch budget data_file rcfile file) old a new = ⊥
+Promise plugin first runs (plain.suite branch budget data_file rcfile file) old a new =
+    (s : Settings) × IsSet plugin rcfile old s
+    × SuitePromise plugin (tests_asked s branch budget) (own_name data_file s) file old a new
 Promise plugin first runs (plain.select budget old_file new_file) old a new = ⊥
 Promise plugin first runs (plain.mutate budget file) old a new = ⊥
 
--- the run that a command did, if it is one
+-- the run that a command did, if it is one; of a suite the import and the tests
 abbrev pub runs_of : {P : Type 0} (plugin : PluginOf P) (first : Contents) (runs : Recorded)
     (c : PlainCommand) (old : Held P) (a : Answered) (new : Held P)
     → Promise plugin first runs c old a new → Recorded
@@ -72,6 +76,8 @@ runs_of plugin first runs (plain.annotate data_file rcfile file) old a new p = [
 runs_of plugin first runs (plain.erase data_file rcfile) old a new p = []
 runs_of plugin first runs (plain.script file) old a new p = []
 runs_of plugin first runs (plain.make seed size) old a new p = []
-runs_of plugin first runs (plain.suite branch budget data_file rcfile file) old a new p = []
+runs_of plugin first runs (plain.suite branch budget data_file rcfile file) old a new p =
+    paired (suite_runs p.2.modules (tests_asked p.0 branch budget).budget)
+    (p.2.of_import ∷ p.2.of_tests)
 runs_of plugin first runs (plain.select budget old_file new_file) old a new p = []
 runs_of plugin first runs (plain.mutate budget file) old a new p = []

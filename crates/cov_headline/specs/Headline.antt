@@ -15,14 +15,13 @@ use Rattle.cov_programs.specs.Ends.{Follows}
 use Rattle.cov_programs.specs.Laws.{nothing_wants, IsFed, with_front}
 use Rattle.cov_step.specs.Calls.{Answered, IsNoMemory}
 use Rattle.cov_step.specs.Phases.{done}
-use Rattle.cov_step.specs.Scripts.{words_in, status_line, line_step}
+use Rattle.cov_step.specs.Scripts.{words_in, status_line, line_step, script_text}
 use Rattle.cov_vault.specs.Contents.{Contents}
-use Rattle.cov_why.specs.Answers.{PlainWhy}
+use Rattle.cov_why.specs.Answers.{PlainWhy, usage}
 use Rattle.cov_why.specs.Messages.{message_of}
 use Rattle.cov_words.specs.Commands.{PlainCommand, IsCommand}
 use Rattle.cov_words.specs.Commands as plain
 use Rattle.cov_words.specs.Values.{Word}
-use Rattle.cov_headline.specs.Origins.{ran}
 use Rattle.cov_headline.specs.Told.{Lent, on_lent, Held, held, IsSaidNow, tells, AllTell, NoneRose}
 use Rattle.cov_exclude.specs.declared.maker.Maker.{Ghosts as MakerOf}
 use Rattle.cov_outside.specs.declared.shelf.Shelf.{Ghosts as ShelfOf}
@@ -79,7 +78,8 @@ ended_in (Err why) = Err why
 abbrev pub ScriptKept : {P : Type 0} → PluginOf P → Word → Held P → Result Answered PlainWhy
     → Held P → Type 0
 ScriptKept plugin file old ending new =
-    ((why : PlainWhy) × (ending ≡ Err why) × (new ≡ old))
+    ((why : PlainWhy) × Follows (tells plugin) nothing_wants (script_text file) old (Err why) new
+    × (ending ≡ Err why) × (new ≡ old))
     ⊎ ((text : List ℕ) × (told : Result (List (Unit {0})) PlainWhy) × (old.files file ≡ Some text)
     × LinesKept plugin old.contents [] (lines text) old told new × (ending ≡ ended_in told))
 
@@ -94,15 +94,41 @@ DoneOrRefused plugin c old (Err why) new = Unit {0}
 -- a command, or a script of them
 abbrev pub CommandKept : {P : Type 0} → PluginOf P → PlainCommand → Held P
     → Result Answered PlainWhy → Held P → Type 0
+CommandKept plugin (plain.arcs budget script args) old ending new =
+    DoneOrRefused plugin (plain.arcs budget script args) old ending new
+CommandKept plugin (plain.run branch append context budget hook data_file rcfile script args)
+    old ending new =
+    DoneOrRefused plugin (plain.run branch append context budget hook data_file rcfile script args)
+    old ending new
+CommandKept plugin (plain.combine append keep data_file rcfile names) old ending new =
+    DoneOrRefused plugin (plain.combine append keep data_file rcfile names) old ending new
+CommandKept plugin (plain.report show_missing fail_under data_file rcfile) old ending new =
+    DoneOrRefused plugin (plain.report show_missing fail_under data_file rcfile) old ending new
+CommandKept plugin (plain.json name fail_under data_file rcfile) old ending new =
+    DoneOrRefused plugin (plain.json name fail_under data_file rcfile) old ending new
+CommandKept plugin (plain.lcov name fail_under data_file rcfile) old ending new =
+    DoneOrRefused plugin (plain.lcov name fail_under data_file rcfile) old ending new
+CommandKept plugin (plain.annotate data_file rcfile file) old ending new =
+    DoneOrRefused plugin (plain.annotate data_file rcfile file) old ending new
+CommandKept plugin (plain.erase data_file rcfile) old ending new =
+    DoneOrRefused plugin (plain.erase data_file rcfile) old ending new
 CommandKept plugin (plain.script file) old ending new = ScriptKept plugin file old ending new
-CommandKept plugin c old ending new = DoneOrRefused plugin c old ending new
+CommandKept plugin (plain.make seed size) old ending new =
+    DoneOrRefused plugin (plain.make seed size) old ending new
+CommandKept plugin (plain.suite branch budget data_file rcfile file) old ending new =
+    DoneOrRefused plugin (plain.suite branch budget data_file rcfile file) old ending new
+CommandKept plugin (plain.select budget old_file new_file) old ending new =
+    DoneOrRefused plugin (plain.select budget old_file new_file) old ending new
+CommandKept plugin (plain.mutate budget file) old ending new =
+    DoneOrRefused plugin (plain.mutate budget file) old ending new
 
--- The words are a command that keeps this, or none that is built.
+-- The words are a command that keeps this; or none that is built, and nothing was done.
 abbrev pub Headline : {P : Type 0} → PluginOf P → List Word → Held P → Result Answered PlainWhy
     → Held P → Type 0
 Headline plugin words old ending new =
     ((c : PlainCommand) × IsCommand c words × CommandKept plugin c old ending new)
-    ⊎ (((c : PlainCommand) → is_built c ≡ true → IsCommand c words → ⊥) × (new ≡ old))
+    ⊎ (((c : PlainCommand) → is_built c ≡ true → IsCommand c words → ⊥)
+    × ((begin : ℕ) × (ending ≡ Err (Err (usage begin)))) × (new ≡ old))
 
 -- So it is where the objects of a command follow the step of its words, each tells what it holds
 -- and counted no fault, memory sufficed, and the engine is true.

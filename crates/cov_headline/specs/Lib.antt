@@ -3,5 +3,6 @@ pub mod Reports
 pub mod Told
 pub mod Kept
 pub mod Promises
+pub mod Suites
 pub mod Commands
 pub mod Headline

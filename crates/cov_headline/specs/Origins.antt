@@ -1,5 +1,5 @@
 -- Where data come from, and what was taken in the runs that they come from.
---     PlainRun, meant               a run of modules, and what it means
+--     PlainRun, meant, items_of     a run of modules or a test after it, and what happened in it
 --     module_path, path_at          the path of a module by its number
 --     Crosses, ComesTo              the arcs and the lines of a path that a run took
 --     Origin, Origins               where data come from
@@ -9,9 +9,10 @@
 --     IsOf                          an origin of such data, all of arcs or all of lines
 --     HasTaken, OriginLaw           the data of an origin have what its runs took, and no more
 use Rattle.std.specs.Prelude.{◌≡◌, ◌↔◌, ◌⊎◌, ℕ, ◌<◌, Bool, true, List, [], ◌∷◌, Contains, ℤ, pos, Option, Some, None, slice_get, encode_utf8_all}
+use Rattle.py_meaning.specs.Activations.{Items}
 use Rattle.py_meaning.specs.Crossings.{crossings, lines_crossed}
 use Rattle.py_meaning.specs.Modules.{LoadedModule}
-use Rattle.py_meaning.specs.Program.{Run, run_modules}
+use Rattle.py_meaning.specs.Program.{Run, run_modules, called}
 use Rattle.py_syntax.specs.Tree.{Text}
 use Rattle.cov_combine.specs.Aliases.{Rules, alias_of}
 use Rattle.cov_combine.specs.Combined.{combined}
@@ -20,16 +21,29 @@ use Rattle.cov_data.specs.Rows.{arcs_of, lines_of}
 
 -- ---- a run
 
--- a run of these modules with these words and this input, within a budget of steps
+-- A run of these modules with these words and this input, within a budget of steps. Where a test is
+-- named, it is the call of that test on the world that the run leaves, within the budget again.
 pub record PlainRun : Type 0 where
   pub modules : List LoadedModule
   pub words : List Text
   pub input : List ℕ
   pub budget : ℕ
+  pub test : Option Text
 
--- what it means
+-- what the run means
 abbrev pub meant : PlainRun → Run
 meant r = run_modules r.modules r.words r.input r.budget
+
+-- what happened in the run, or in a test after it
+abbrev pub items_in : PlainRun → Option Text → Items
+items_in r None = (meant r).items
+items_in r (Some name) =
+    (called r.modules (meant r).world [] (record { number = 0; name = name; values = [] })
+    r.budget).items
+
+-- what happened
+abbrev pub items_of : PlainRun → Items
+items_of r = items_in r r.test
 
 -- the path of a module, where there is one
 abbrev pub module_path : Option LoadedModule → Bytes
@@ -44,7 +58,7 @@ path_at ms m = module_path (slice_get ms m)
 abbrev pub Crosses : PlainRun → Bytes → ℤ × ℤ → Type 0
 Crosses r path arc =
     (m : ℕ) × (path_at r.modules m ≡ path)
-    × Contains (lines_crossed (crossings r.modules m (meant r).items)) arc
+    × Contains (lines_crossed (crossings r.modules m (items_of r))) arc
 
 -- a module of this path came to this line
 abbrev pub ComesTo : PlainRun → Bytes → ℕ → Type 0

@@ -1,9 +1,9 @@
 -- What a run, a combine and a report promise, over what the objects hold (`Held` of Told).
 --     IsSet, patterns_of                   settings, and the patterns that they give
---     run_of, AddsTo, RunPromise           a run prints and ends as its source means, and its data
+--     run_of, AddsTo, RunPromise           a run prints and ends as its source means; its data
 --     HasOwn, names_in, HasInputs, CombinePromise    data are combined, in whatever order
 --     AreRead, AreMissing, ReportPromise   what a report lists as missing
-use Rattle.std.specs.Prelude.{◌≡◌, ◌≢◌, ◌⊎◌, ℕ, ◌<◌, Bool, true, false, List, [], ◌∷◌, ◌++◌, map, filter, length, Contains, Option, Some, None, option_map, Ok}
+use Rattle.std.specs.Prelude.{◌≡◌, ◌≢◌, ◌⊎◌, ℕ, ◌<◌, Bool, true, false, List, [], ◌∷◌, ◌++◌, map, filter, length, Contains, Option, Some, None, option_map, Ok, ℤ}
 use Rattle.std.specs.FinMap as finite
 use Rattle.std.specs.List.Sorted.{IsPermutation}
 use Rattle.std.specs.Str.{chars}
@@ -26,8 +26,7 @@ use Rattle.cov_run.specs.Loading.{told_by, IsLoaded}
 use Rattle.cov_run.specs.Reading.{Reads, tree}
 use Rattle.cov_step.specs.Calls.{Answered, Asked, Patterns, PlainSource, HookFiles}
 use Rattle.cov_step.specs.Names.{data_name}
-use Rattle.cov_step.specs.Objects.{main_name}
-use Rattle.cov_step.specs.Phases.{settings, hook_of, joined, is_part_of, always, is_reported, analysed, done, judged, answered_by}
+use Rattle.cov_step.specs.Phases.{main_name, settings, hook_of, joined, is_part_of, always, is_reported, analysed, done, judged, answered_by}
 use Rattle.cov_streams.specs.Runs.{hook_meant}
 use Rattle.cov_text.specs.Report.{text_bytes}
 use Rattle.cov_vault.specs.Contents.{Contents}
@@ -55,7 +54,13 @@ patterns_of s = record {
 -- a run of modules with what is asked and this input
 abbrev pub run_of : Asked → List LoadedModule → List ℕ → PlainRun
 run_of asked ms input =
-    record { modules = ms; words = asked.words; input = input; budget = asked.budget }
+    record {
+      modules = ms;
+      words = asked.words;
+      input = input;
+      budget = asked.budget;
+      test = None;
+    }
 
 -- what rows are joined to under a name: data of their kind that stand there, where that is asked
 -- for; else nothing is asked for, or nothing stands there
@@ -78,7 +83,8 @@ pub record RunPromise {P : Type 0} (plugin : PluginOf P) (asked : Asked) (own sc
   pub rows : DataSet
   pub kind : rows.arcs ≡ asked.arcs
   pub recorded : IsRecorded (run_of asked modules old.left) rows
-  pub foreseen : asked.arcs ≡ true → (path : List ℕ) (arc : _) → Contains (arcs_of rows path) arc
+  pub foreseen : asked.arcs ≡ true → (path : List ℕ) (arc : ℤ × ℤ)
+      → Contains (arcs_of rows path) arc
       → (m : ℕ) × (path_at modules m ≡ path)
       × IsForeseenArc modules (meant (run_of asked modules old.left)).items m arc
   pub hook : Option HookFiles

@@ -29,11 +29,12 @@ use Rattle.cov_programs.specs.Objects.{Moves, beside}
 use Rattle.cov_run.specs.Loading.{told_by}
 use Rattle.cov_run.specs.Loads.{LoadsTo}
 use Rattle.cov_run.specs.Reading.{Reads}
-use Rattle.cov_step.specs.Calls.{Call, spells, checks, reads, puts, opens, lists, loads, saves, removes, makes, writes, crosses, measures, tries, says, Answer, Ran}
-use Rattle.cov_step.specs.Objects.{on_grammar, on_shelf, on_vault, on_maker, on_err, Saying, whole, failed, IsSaid, main_name}
+use Rattle.cov_step.specs.Calls.{Call, spells, checks, reads, puts, opens, lists, loads, saves, removes, makes, writes, crosses, measures, tries, tests, says, Answer, Ran}
+use Rattle.cov_step.specs.Objects.{on_grammar, on_shelf, on_vault, on_maker, on_err, Saying, whole, failed, IsSaid}
 use Rattle.cov_step.specs.Step.{IsSpelled}
 use Rattle.cov_streams.specs.Objects.{on_run}
 use Rattle.cov_streams.specs.Runs.{request_of, hook_meant, ended_of, arcs_asked}
+use Rattle.cov_streams.specs.Suites.{TestedAs}
 use Rattle.cov_vault.specs.Answers.{IsListed, IsLoaded, IsSaved, IsRemoved}
 use Rattle.cov_vault.specs.Contents.{Contents}
 use Rattle.cov_vault.specs.declared.vault.Vault.{Ghosts as VaultOf}
@@ -109,8 +110,8 @@ tells plugin old (reads name most) answer new =
     IsTold (old.files name) most answer × (new ≡ old)
 tells plugin old (puts name bytes) refusal new =
     IsPut old.files name bytes refusal new.files × (new ≡ record old { files = new.files })
-tells plugin old (opens script) answer new =
-    LoadsTo (told_by old.files (chars script)) (chars script) main_name answer × (new ≡ old)
+tells plugin old (opens name script) answer new =
+    LoadsTo (told_by old.files (chars script)) (chars script) name answer × (new ≡ old)
 tells plugin old lists answer new = IsListed old.contents answer × (new ≡ old)
 tells plugin old (loads name) answer new =
     IsLoaded (finite.get old.contents name) answer × (new ≡ old)
@@ -133,6 +134,9 @@ tells plugin old (measures asked modules hook) (Ok r) new =
     × (new ≡ record old { left = new.left; out = new.out; plugins = new.plugins })
 tells plugin old (measures asked modules hook) (Err fault) new = ⊥
 tells plugin old (tries modules words budget) answer new = new ≡ old
+tells plugin old (tests asked modules) answer new =
+    TestedAs plugin asked modules old.plugins answer new.plugins
+    × (new ≡ record old { plugins = new.plugins })
 tells plugin old (says text) answer new =
     IsSaidNow old.err text new.err × (new ≡ record old { err = new.err })
 

@@ -3,7 +3,7 @@ ghost use Rattle.cov_headline.specs.Headline.{HeadlineLaw};
 ghost use Rattle.cov_headline.specs.Origins.{OriginLaw};
 ghost use Rattle.cov_headline.specs.Reports.{OrderLaw, ReportLaw};
 
-use cov_arcs::told_arcs_of_modules;
+use cov_arcs::{told_arcs_of_call, told_arcs_of_modules};
 use cov_contexts::Plugin;
 use cov_exclude::Maker;
 use cov_outside::{Shelf, Sink, Source};
@@ -33,4 +33,5 @@ pub fn headline<H: Shelf, V: Vault, M: Maker, I: Source, O: Sink, E: Sink, G: En
     ensures { HeadlineLaw H.Shelf V.Vault M.Maker I.Source O.Sink P.Plugin G.Engine E.Sink }
 {
     told_arcs_of_modules();
+    told_arcs_of_call();
 }

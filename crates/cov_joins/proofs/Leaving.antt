@@ -21,7 +21,7 @@ use Rattle.cov_programs.specs.Programs.{Program, give, settle, refuse, ask, bind
 use Rattle.cov_programs.proofs.Folding.{parted}
 use Rattle.cov_programs.proofs.Parts.{then-keeps, each-keeps}
 use Rattle.cov_step.specs.Answers.{Before, nothing, there, bad_row, before_of, bytes_of, bytes_if_any, given_or, load_refusal, on, removed, vault_refusal}
-use Rattle.cov_step.specs.Calls.{Answered, Call, spells, checks, reads, puts, opens, lists, loads, saves, removes, makes, writes, crosses, measures, tries, says, Answer, IsNoMemory, Step}
+use Rattle.cov_step.specs.Calls.{Answered, Call, spells, checks, reads, puts, opens, lists, loads, saves, removes, makes, writes, crosses, measures, tries, tests, says, Answer, IsNoMemory, Step}
 use Rattle.cov_step.specs.Calls as calls
 use Rattle.cov_step.specs.Names.{data_name, is_named, removable}
 use Rattle.cov_step.specs.Objects.{on_shelf, on_vault}
@@ -44,7 +44,7 @@ allowed keep own named (spells words) answer = true
 allowed keep own named (checks bytes) reading = true
 allowed keep own named (reads name most) answer = true
 allowed keep own named (puts name bytes) refusal = true
-allowed keep own named (opens script) answer = true
+allowed keep own named (opens name script) answer = true
 allowed keep own named lists answer = true
 allowed keep own named (loads name) answer = true
 allowed keep own named (saves name content) refusal = bytes_eq name own
@@ -54,6 +54,7 @@ allowed keep own named (writes bytes) refusal = true
 allowed keep own named (crosses modules words budget) answer = true
 allowed keep own named (measures asked modules hook) answer = true
 allowed keep own named (tries modules words budget) answer = true
+allowed keep own named (tests asked modules) answer = true
 allowed keep own named (says text) answer = true
 
 -- ---- names
@@ -298,7 +299,7 @@ module _ {V : Type 0} (vault : VaultOf V) (keep : Bool) (own : Text) (named : Li
   vault-step u (checks bytes) x v m e h = absurd m
   vault-step u (reads name most) x v m e h = absurd m
   vault-step u (puts name bytes) x v m e h = absurd m
-  vault-step u (opens script) x v m e h = absurd m
+  vault-step u (opens name script) x v m e h = absurd m
   vault-step u lists x v m e h = kept-so u v lists x m refl h
   vault-step u (loads name) x v m e h = kept-so u v (loads name) x m refl h
   vault-step u (saves name content) None v m e h = (vault-tells vault u (saves name content) None v m h.0, left-saved keep own name named old (vault.contents u) (vault.contents v) content e (vault.saves_whole u name content None v h.0 m.moved).1.1 h.1)
@@ -310,6 +311,7 @@ module _ {V : Type 0} (vault : VaultOf V) (keep : Bool) (own : Text) (named : Li
   vault-step u (crosses modules words budget) x v m e h = absurd m
   vault-step u (measures asked modules hook) x v m e h = absurd m
   vault-step u (tries modules words budget) x v m e h = absurd m
+  vault-step u (tests asked modules) x v m e h = absurd m
   vault-step u (says text) x v m e h = absurd m
 
   pub both-step : {H : Type 0} (shelf : ShelfOf H) (u : H × V) (call : Call) (x : Answer call) (v : H × V) → beside (on_shelf shelf) (on_vault vault) u call x v → allowed keep own named call x ≡ true → Leaves u.1 → Leaves v.1

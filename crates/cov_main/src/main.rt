@@ -40,6 +40,8 @@ usage: coverage COMMAND
   script FILE   do each line of a file as a command
   make SEED SIZE
                 make up a program, run it, and print its numbers in a line
+  suite [--branch] [--budget N] FILE
+                run each test of a file by itself, and tell how it ended
   --help        print this text
   --version     print the version
 

@@ -31,7 +31,7 @@ use Rattle.cov_why.specs.declared.why.Why.TheVariants as why
 use Rattle.cov_calls.specs.Views.{RefusedBy}
 use Rattle.cov_step.specs.Calls.{Call, Answer, HookFiles, IsNoMemory, Step, refuse}
 use Rattle.cov_step.specs.Objects.{on_shelf}
-use Rattle.cov_step.specs.Phases.{defines, hook_in, hook_of, opened}
+use Rattle.cov_step.specs.Phases.{defines, hook_in, hook_of, main_name, opened}
 use Rattle.cov_words.specs.Values.{Word}
 use Rattle.cov_runs.specs.Hooks.{IsHookOf, HookAs, AnsweredAs, HookFollows}
 
@@ -126,13 +126,13 @@ hook-starved ms script function = record { found = Err (Err no_memory); says = r
 
 -- ---- a script of a hook that is loaded
 
-pub hook-not-loaded : {H : Type 0} (shelf : ShelfOf H) (script function : Word) (old new : H) (w : Why) (d : Result (Option Hook) Why) → Follows (on_shelf shelf) IsNoMemory (opened script) old (Err (plain_why w)) new → IsErr d × IsErrAnd d (λ e. e ≡ w)
+pub hook-not-loaded : {H : Type 0} (shelf : ShelfOf H) (script function : Word) (old new : H) (w : Why) (d : Result (Option Hook) Why) → Follows (on_shelf shelf) IsNoMemory (opened main_name script) old (Err (plain_why w)) new → IsErr d × IsErrAnd d (λ e. e ≡ w)
     → HookFollows (on_shelf shelf) (hook_of (Some (script, function))) old d new
 hook-not-loaded shelf script function old new w d f h =
     subst (λ (d : Result (Option Hook) Why). HookFollows (on_shelf shelf) (hook_of (Some (script, function))) old d new) (sym (handed d w h))
     (record { found = Err (plain_why w); says = refl; follows = stops (hook_in script function) f (in-open script function) })
 
-pub hook-loaded : {H : Type 0} (shelf : ShelfOf H) (script function : Word) (ms : List LoadedModule) (old new : H) (answer : Result (Option Hook) Why) → Follows (on_shelf shelf) IsNoMemory (opened script) old (Ok ms) new
+pub hook-loaded : {H : Type 0} (shelf : ShelfOf H) (script function : Word) (ms : List LoadedModule) (old new : H) (answer : Result (Option Hook) Why) → Follows (on_shelf shelf) IsNoMemory (opened main_name script) old (Ok ms) new
     → HookFollows (nobody Call Answer) (hook_in script function ms) tt answer tt → HookFollows (on_shelf shelf) (hook_of (Some (script, function))) old answer new
 hook-loaded shelf script function ms old new answer f h = record {
   found = h.found;

@@ -26,7 +26,7 @@ use Rattle.cov_why.specs.declared.why.Why.{Why}
 use Rattle.cov_why.specs.declared.why.Why.TheVariants as why
 use Rattle.cov_why.proofs.Refusing.{refused-is, refused-for}
 use Rattle.cov_step.specs.Calls.{IsNoMemory, seen}
-use Rattle.cov_step.specs.Objects.{main_name, on_shelf}
+use Rattle.cov_step.specs.Objects.{on_shelf}
 use Rattle.cov_step.specs.Phases.{opened}
 use Rattle.cov_step.specs.Promises.{Object, the_shelf, blame_of}
 
@@ -87,25 +87,25 @@ loads-blames moves old new script name r loads o e = of (loads.comes loads.some.
     of (inl s) = absurd (none-no-some (sym (file-blames _ _ s.stop.path _ r s.stop.refuses) ∙ e))
     of (inr s) = unread-blames s.unread o e
 
-pub opens-so : {H : Type 0} (shelf : ShelfOf H) (old new : H) (script : List ℕ) (result : Result Loaded Why)
-    → (shelf.tells → AnsweredAs loaded_modules result (LoadsTo (told_by (shelf.files old) (chars script)) (chars script) main_name))
-    → AnsweredAs loaded_modules result (λ loading. Loads shelf.reads old (chars script) main_name loading new)
-    → (IsErrOf result why.ShelfFault → EndsFailed shelf.reads old (chars script) main_name new)
+pub opens-so : {H : Type 0} (shelf : ShelfOf H) (old new : H) (name : Text) (script : List ℕ) (result : Result Loaded Why)
+    → (shelf.tells → AnsweredAs loaded_modules result (LoadsTo (told_by (shelf.files old) (chars script)) (chars script) name))
+    → AnsweredAs loaded_modules result (λ loading. Loads shelf.reads old (chars script) name loading new)
+    → (IsErrOf result why.ShelfFault → EndsFailed shelf.reads old (chars script) name new)
     → (IsErrOf result why.ShelfFault → Rose (shelf.faults old) (shelf.faults new))
     → shelf.faults old ≤ shelf.faults new
     → (shelf.tells → shelf.files new ≡ shelf.files old)
-    → Follows (on_shelf shelf) IsNoMemory (opened script) old (seen loaded_modules result) new
-opens-so shelf old new script (Ok l) told loads ended fault count kept =
+    → Follows (on_shelf shelf) IsNoMemory (opened name script) old (seen loaded_modules result) new
+opens-so shelf old new name script (Ok l) told loads ended fault count kept =
     asks (Ok (loaded_modules l)) new (record { moved = loads; told = told; kept = kept; blames = λ o e. absurd (none-no-some e); ends = λ e. absurd (ok_no_err e); count = count; failed = λ e. absurd (ok_no_err e) }) gives
-opens-so shelf old new script (Err w) told loads ended fault count kept =
-    let s = refused-is w (λ r. Loads shelf.reads old (chars script) main_name (Err r) new) loads in
+opens-so shelf old new name script (Err w) told loads ended fault count kept =
+    let s = refused-is w (λ r. Loads shelf.reads old (chars script) name (Err r) new) loads in
     let shelf_failed : ◌≡◌ {A = Result (List LoadedModule) Refusal} (Err s.0) (Err shelf_fault) → w ≡ why.ShelfFault = λ e. fault-is w (s.1 ∙ ap Err (err_is e)) in
     followed-so (on_shelf shelf) refl (sym (ap Err s.1))
     (asks (Err s.0) new (record {
       moved = s.2;
-      told = λ t. refused-for w s.0 (λ r. LoadsTo (told_by (shelf.files old) (chars script)) (chars script) main_name (Err r)) s.1 (told t);
+      told = λ t. refused-for w s.0 (λ r. LoadsTo (told_by (shelf.files old) (chars script)) (chars script) name (Err r)) s.1 (told t);
       kept = kept;
-      blames = loads-blames shelf.reads old new (chars script) main_name s.0 s.2;
+      blames = loads-blames shelf.reads old new (chars script) name s.0 s.2;
       ends = λ e. ended (ap Err (shelf_failed e));
       count = count;
       failed = λ e. fault (ap Err (shelf_failed e));

@@ -14,5 +14,7 @@ mod saving;
 mod sets;
 
 pub use crossings::arcs;
+pub use opening::opened_as;
 pub use requests::RunWords;
 pub use runs::run;
+pub use sets::possible_sets;

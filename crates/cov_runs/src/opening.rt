@@ -7,7 +7,7 @@ ghost use Rattle.cov_programs.specs.Ends.{Follows};
 ghost use Rattle.cov_run.specs.Loads.{IsCompiled, loaded_modules};
 ghost use Rattle.cov_step.specs.Calls.{IsNoMemory, seen};
 ghost use Rattle.cov_step.specs.Objects.{on_shelf};
-ghost use Rattle.cov_step.specs.Phases.{opened};
+ghost use Rattle.cov_step.specs.Phases.{main_name, opened};
 
 use cov_loaded_laws::{loaded_have_text_lines, loaded_programs_are_measured};
 use cov_outside::Shelf;
@@ -17,13 +17,30 @@ use std::alloc::Global;
 
 /// The code of a script and of the modules that it imports, beside their trees.
 pub(crate) fn opened<H: Shelf>(alloc: Global, script: &str, shelf: &mut H) -> Result<Loaded, Why>
-    ensures follows { Follows (on_shelf H.Shelf) IsNoMemory (opened script.now) shelf.old
+    ensures follows { Follows (on_shelf H.Shelf) IsNoMemory (opened main_name script.now) shelf.old
         (seen loaded_modules result) shelf.new }
+    ensures compiled { IfOk result IsCompiled }
+    ensures measurable { IfOk result IsMeasurable }
+    ensures script { IfOk result (λ l. path_of l.programs ≡ chars script.now) }
+{
+    opened_as(alloc, "__main__", script, shelf)
+}
+
+/// The code of a script, whose module has this name, and of the modules that it imports, beside
+/// their trees.
+pub fn opened_as<H: Shelf>(
+    alloc: Global,
+    name: &str,
+    script: &str,
+    shelf: &mut H,
+) -> Result<Loaded, Why>
+    ensures follows { Follows (on_shelf H.Shelf) IsNoMemory (opened (chars name.now) script.now)
+        shelf.old (seen loaded_modules result) shelf.new }
     ensures compiled { IfOk result IsCompiled }
     ensures measurable { IfOk result IsMeasurable }
     ensures script { IfOk result (λ l. path_of l.programs ≡ chars script.now) }
 {
     loaded_have_text_lines::<H>();
     loaded_programs_are_measured();
-    load(alloc, script, "__main__", shelf)
+    load(alloc, script, name, shelf)
 }

@@ -9,7 +9,7 @@ use py_value::NoMemory;
 use std::alloc::Global;
 
 /// The possible arcs of each module.
-pub(crate) fn possible_sets(alloc: Global, modules: &[Module]) -> Result<Vec<ArcSet>, NoMemory>
+pub fn possible_sets(alloc: Global, modules: &[Module]) -> Result<Vec<ArcSet>, NoMemory>
     ensures { IfOk result (λ sets.
         sets.items ≡ map (λ m. possible (plain_module m)) modules.now) }
 {

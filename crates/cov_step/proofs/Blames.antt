@@ -28,10 +28,11 @@ use Rattle.cov_vault.specs.declared.vault.VaultError.TheVariants as vault_error
 use Rattle.cov_why.specs.Answers.{Refusal, PlainWhy, usage}
 use Rattle.cov_words.specs.Commands.{PlainCommand}
 use Rattle.cov_words.specs.Values.{Word}
-use Rattle.cov_step.specs.Calls.{Answered, HookFiles, Asked, Ran, Step, refuse, spells, checks, puts, makes, crosses, measures}
+use Rattle.cov_step.specs.Calls.{Answered, HookFiles, Asked, Ran, Tested, tested, not_imported, starved, Step, refuse, spells, checks, puts, makes, crosses, measures}
 use Rattle.cov_step.specs.Answers.{bytes_of, bytes_if_any, given_or, load_refusal, vault_refusal, before_of, removed, run_refusal, shelf_refusal, sink_refusal, pattern_refusal, last, on, token_refusal, depth_refusal, syntax_refusal, scope_refusal, tree_of}
 use Rattle.cov_step.specs.Phases.{file, needed, before, opened, settings_file, inputs, is_part_of, saving, removing, write_last, save_last, remove_last}
 use Rattle.cov_step.specs.Making.{ran_if_any}
+use Rattle.cov_step.specs.Testing.{tested_or}
 use Rattle.cov_step.specs.Step.{step}
 use Rattle.cov_step.specs.Promises.{Object, the_input, the_output, the_shelf, the_vault, the_maker, blame_of, read_blame, put_blame, load_blame, vault_blame, remove_blame, make_blame, write_blame, run_blame, by_error, by_refusal, is_object, brings}
 use Rattle.cov_step.proofs.Whole.{step-is}
@@ -171,6 +172,11 @@ module _ (o : Object) (r : Refusal) (e : blame_of r ≡ Some o) where
   inputs-blame own [] = λ x f. then-blames (brings o) (Err r) (given_or (vault_refusal own) x) (λ found. give (filter (is_part_of own) found)) (given-blames (vault_refusal own) vault_blame (vault-same own) x f) (λ found. tt)
   inputs-blame own (n ∷ ns) = tt
 
+  tested-blames : (file : Word) (x : Tested) → Blaming _ (tested_or file x)
+  tested-blames file (tested results rows) = tt
+  tested-blames file not_imported = clear _ refl
+  tested-blames file starved = clear _ refl
+
   ran-blames : (x : Option Ran) → Blaming _ (ran_if_any x)
   ran-blames None = clear _ refl
   ran-blames (Some r) = tt
@@ -181,14 +187,14 @@ module _ (o : Object) (r : Refusal) (e : blame_of r ≡ Some o) where
 
   pub step-blames : (words : List Word) → BlamesOnly (brings o) (Err r) (step words)
   step-blames words = step-is Blaming (λ A a. tt) (λ A s n. clear s (ap (is_object o) n)) (λ A B p next. then-blames (brings o) (Err r) p next) (λ A B p h xs. each-blames (brings o) (Err r) p h xs)
-      (λ absent n name x f. bytes-blames absent n x f) (λ x f. any-blames x f) (λ script x f. given-blames (λ refusal. refusal) blame_of (λ s. refl) x f)
+      (λ absent n name x f. bytes-blames absent n x f) (λ x f. any-blames x f) (λ name script x f. given-blames (λ refusal. refusal) blame_of (λ s. refl) x f)
       (λ path bytes x f. tree-blames path bytes x) (λ n texts x f. on-blames (pattern_refusal n) make_blame (make-same n) x f)
       (λ name x f. given-blames (load_refusal name) load_blame (load-same name) x f) (λ name x f. before-blames name x f) inputs-blame
       (λ ms ws n x f. given-blames run_refusal run_blame run-same x f) (λ asked ms hook x f. given-blames run_refusal run_blame run-same x f)
       (λ bytes a x f. last-blames sink_refusal write_blame write-same a x f) (λ name bytes a x f. last-blames shelf_refusal put_blame put-same a x f)
       (λ name content a x f. last-blames (vault_refusal name) vault_blame (vault-same name) a x f) (λ name content x f. on-blames (vault_refusal name) vault_blame (vault-same name) x f)
       (λ name a x f. remove-blames (settle a) tt x f) (λ name x f. remove-blames (give tt) tt x f)
-      (λ ms ws n x f. ran-blames x) (λ ws x f. spelled-blames x) (λ text x f. tt) (λ bytes x f. on-blames sink_refusal write_blame write-same x f) words
+      (λ ms ws n x f. ran-blames x) (λ asked ms file x f. tested-blames file x) (λ bytes x f. on-blames sink_refusal write_blame write-same x f) (λ ws x f. spelled-blames x) (λ text x f. tt) words
 
 pub law_of_blame : (o : Object) (r : Refusal) → blame_of r ≡ Some o → (words : List Word) → BlamesOnly (brings o) (Err r) (step words)
 law_of_blame o r e words = step-blames o r e words

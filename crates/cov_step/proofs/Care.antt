@@ -20,23 +20,24 @@ use Rattle.cov_why.specs.Answers.{Refusal}
 use Rattle.cov_words.specs.Commands.{PlainCommand}
 use Rattle.cov_words.specs.Commands as plain
 use Rattle.cov_words.specs.Values.{Word}
-use Rattle.cov_step.specs.Calls.{Answered, PlainSource, Patterns, HookFiles, Asked, Step, puts, saves, removes}
-use Rattle.cov_step.specs.Answers.{given_or, before_of, run_refusal, shelf_refusal, sink_refusal, vault_refusal, removed, last, tree_of}
-use Rattle.cov_step.specs.Phases.{needed, opened, settings, own_name, patterns_by, patterns, source, hook_of, joins, joined, analysed, reported, judged, done, write_last, put_last, save_last, remove_last, answered_by}
+use Rattle.cov_step.specs.Calls.{Answered, PlainSource, Patterns, HookFiles, Asked, TestsAsked, Step, puts, saves, removes}
+use Rattle.cov_step.specs.Answers.{given_or, before_of, run_refusal, shelf_refusal, sink_refusal, vault_refusal, removed, last, on, tree_of}
+use Rattle.cov_step.specs.Phases.{needed, main_name, opened, settings, own_name, patterns_by, patterns, source, hook_of, joins, joined, analysed, reported, judged, done, write_last, put_last, save_last, remove_last, answered_by}
 use Rattle.cov_step.specs.Listing.{listing}
 use Rattle.cov_step.specs.Names.{or_else}
 use Rattle.cov_step.specs.Commands as the
 use Rattle.cov_step.specs.Making.{made_path, ran_if_any, made_line, made_by, make}
 use Rattle.cov_step.specs.Step.{doing}
+use Rattle.cov_step.specs.Testing.{tests_name, tests_asked, suite_answered, tested_or, tests_run, suite}
 use Rattle.cov_step.specs.Promises.{keeps, changes_last}
-use Rattle.cov_step.proofs.Answering.{given-so, before-so, tree-so, ran-so}
+use Rattle.cov_step.proofs.Answering.{given-so, on-so, before-so, tree-so, tested-so, ran-so}
 use Rattle.cov_step.proofs.Keeping.{KeepReading, opened-keeps, needed-keeps, settings-keeps, hook-keeps, joins-keeps, patterns_by-keeps, patterns-keeps, source-keeps, reported-keeps}
 
 -- reading leaves shelf and vault as they were
 pub keeps-reading : KeepReading keeps
 keeps-reading = record {
   at_reads = λ name most x. refl;
-  at_opens = λ script x. refl;
+  at_opens = λ name script x. refl;
   at_checks = λ bytes x. refl;
   at_makes = λ texts x. refl;
   at_loads = λ name x. refl;
@@ -84,7 +85,7 @@ remove-careful name a = λ x. remove-so name a x
 
 arcs-careful : (steps : Option ℕ) (script : Word) (args : List Word) → IsCareful keeps (the.arcs steps script args)
 arcs-careful steps script args =
-    then-careful keeps (opened script) _ (opened-keeps keeps keeps-reading script) (λ ms x. (
+    then-careful keeps (opened main_name script) _ (opened-keeps keeps keeps-reading main_name script) (λ ms x. (
       λ e. absurd (true≢false e),
       then-careful keeps (given_or run_refusal x) _ (given-so keeps run_refusal x) (λ r. write-careful (listing r.rows) (answered_by (or_else steps the.usual_steps) r.outcome)),
     ))
@@ -97,7 +98,7 @@ measured-careful own asked ms hook old = λ x. (
 
 run_by-careful : (own : Word) (append : Bool) (asked : Asked) (hook : Option (Word × Word)) (script : Word) → IsCareful keeps (the.run_by own append asked hook script)
 run_by-careful own append asked hook script =
-    then-careful keeps (opened script) _ (opened-keeps keeps keeps-reading script) (λ ms.
+    then-careful keeps (opened main_name script) _ (opened-keeps keeps keeps-reading main_name script) (λ ms.
     then-careful keeps (hook_of hook) _ (hook-keeps keeps keeps-reading hook) (λ h y. (
       λ e. absurd (true≢false e),
       then-careful keeps (before_of own y) _ (before-so keeps own y) (λ was.
@@ -144,6 +145,23 @@ make-careful seed size =
       then-careful keeps (tree_of made_path (made.source seed size) x) _ (tree-so keeps made_path (made.source seed size) x) (made-careful seed size p),
     ))
 
+tests_run-careful : (own : Word) (asked : TestsAsked) (file : Word) (ms : List LoadedModule) → IsCareful keeps (tests_run own asked file ms)
+tests_run-careful own asked file ms = λ x. (
+  λ e. absurd (true≢false e),
+  then-careful keeps (tested_or file x) _ (tested-so keeps file x) (λ r y. (
+    λ e. absurd (true≢false e),
+    then-careful keeps (on sink_refusal y) _ (on-so keeps sink_refusal y) (λ written. save-careful own r.1 (suite_answered r.0)),
+  )),
+)
+
+suite-careful : (branch : Bool) (steps : Option ℕ) (data_file rcfile : Option Word) (file : Word) → IsCareful keeps (suite branch steps data_file rcfile file)
+suite-careful branch steps data_file rcfile file =
+    then-careful keeps (settings rcfile) _ (settings-keeps keeps keeps-reading rcfile) (λ s.
+    then-careful keeps (opened tests_name file) _ (opened-keeps keeps keeps-reading tests_name file) (λ ms y. (
+      λ e. absurd (true≢false e),
+      then-careful keeps (before_of (own_name data_file s) y) _ (before-so keeps (own_name data_file s) y) (λ was. tests_run-careful (own_name data_file s) (tests_asked s branch steps) file ms),
+    )))
+
 pub law_of_care : (c : PlainCommand) → changes_last c ≡ true → IsCareful keeps (doing c)
 law_of_care (plain.arcs steps script args) e = arcs-careful steps script args
 law_of_care (plain.run branch append context steps hook data_file rcfile script args) e = run-careful branch append context steps hook data_file rcfile script args
@@ -155,6 +173,6 @@ law_of_care (plain.annotate data_file rcfile path) e = annotate-careful data_fil
 law_of_care (plain.erase data_file rcfile) e = erase-careful data_file rcfile
 law_of_care (plain.script file) e = absurd (true≢false (sym e))
 law_of_care (plain.make seed size) e = make-careful seed size
-law_of_care (plain.suite branch steps data_file rcfile file) e = tt
+law_of_care (plain.suite branch steps data_file rcfile file) e = suite-careful branch steps data_file rcfile file
 law_of_care (plain.select steps old new) e = tt
 law_of_care (plain.mutate steps file) e = tt

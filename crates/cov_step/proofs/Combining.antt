@@ -85,7 +85,7 @@ combine_by-late own rules append kept named =
 files-reading : KeepReading leaves_files
 files-reading = record {
   at_reads = λ name most x. refl;
-  at_opens = λ script x. refl;
+  at_opens = λ name script x. refl;
   at_checks = λ bytes x. refl;
   at_makes = λ texts x. refl;
   at_loads = λ name x. refl;

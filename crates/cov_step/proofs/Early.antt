@@ -13,9 +13,9 @@ use Rattle.cov_json.specs.Json.{json_bytes}
 use Rattle.cov_lcov.specs.Annotated.{annotated_bytes}
 use Rattle.cov_lcov.specs.Lcov.{lcov_bytes}
 use Rattle.cov_make.specs.Source as made
-use Rattle.cov_programs.specs.Programs.{settle, ask}
+use Rattle.cov_programs.specs.Programs.{settle, ask, bind}
 use Rattle.cov_programs.specs.Laws.{OnlyKeeps, OnlyRefuses, IsLate}
-use Rattle.cov_programs.proofs.Late.{then-refuses, then-late, keeps-late}
+use Rattle.cov_programs.proofs.Late.{then-refuses, then-late, keeps-late, refuses-late}
 use Rattle.cov_text.specs.Report.{text_bytes}
 use Rattle.cov_vault.specs.declared.vault.VaultError.{VaultError}
 use Rattle.cov_vault.specs.declared.vault.VaultError.TheVariants as vault_error
@@ -23,17 +23,18 @@ use Rattle.cov_why.specs.Answers.{Refusal, read_fault, write_fault, no_memory}
 use Rattle.cov_words.specs.Commands.{PlainCommand}
 use Rattle.cov_words.specs.Commands as plain
 use Rattle.cov_words.specs.Values.{Word}
-use Rattle.cov_step.specs.Calls.{Answered, PlainSource, Patterns, HookFiles, Asked, Ran, Step, puts}
-use Rattle.cov_step.specs.Answers.{given_or, before_of, run_refusal, shelf_refusal, sink_refusal, vault_refusal, removed, last, tree_of}
-use Rattle.cov_step.specs.Phases.{needed, before, opened, settings, own_name, patterns_by, patterns, source, hook_of, joins, joined, analysed, reported, judged, done, write_last, put_last, save_last, remove_last, answered_by}
+use Rattle.cov_step.specs.Calls.{Answered, PlainSource, Patterns, HookFiles, Asked, Ran, TestsAsked, TestResult, Tested, tested, not_imported, starved, Step, puts, writes}
+use Rattle.cov_step.specs.Answers.{given_or, before_of, run_refusal, shelf_refusal, sink_refusal, vault_refusal, removed, last, on, tree_of}
+use Rattle.cov_step.specs.Phases.{needed, before, main_name, opened, settings, own_name, patterns_by, patterns, source, hook_of, joins, joined, analysed, reported, judged, done, write_last, put_last, save_last, remove_last, answered_by}
 use Rattle.cov_step.specs.Listing.{listing}
 use Rattle.cov_step.specs.Names.{or_else}
 use Rattle.cov_step.specs.Commands as the
 use Rattle.cov_step.specs.Making.{made_path, ran_if_any, made_line, made_by, make}
 use Rattle.cov_step.specs.Step.{doing}
-use Rattle.cov_step.specs.Early.{leaves_streams, comes_late, late_in_run, late_of, is_late}
+use Rattle.cov_step.specs.Testing.{tests_name, tests_asked, suite_lines, suite_answered, tested_or, tests_run, suite}
+use Rattle.cov_step.specs.Early.{leaves_streams, comes_late, late_in_run, late_in_suite, late_of, is_late, leaves_output, ImportLaw}
 use Rattle.cov_step.specs.Promises.{has_one_text}
-use Rattle.cov_step.proofs.Answering.{given-so, last-so, before-so, removed-so, tree-so, ran-so}
+use Rattle.cov_step.proofs.Answering.{given-so, last-so, before-so, removed-so, tree-so, tested-so, ran-so}
 use Rattle.cov_step.proofs.Combining.{combine-keeps}
 use Rattle.cov_step.proofs.Keeping.{KeepReading, opened-keeps, needed-keeps, settings-keeps, hook-keeps, joins-keeps, patterns_by-keeps, patterns-keeps, source-keeps, reported-keeps}
 
@@ -41,7 +42,7 @@ use Rattle.cov_step.proofs.Keeping.{KeepReading, opened-keeps, needed-keeps, set
 pub streams-reading : KeepReading leaves_streams
 streams-reading = record {
   at_reads = λ name most x. refl;
-  at_opens = λ script x. refl;
+  at_opens = λ name script x. refl;
   at_checks = λ bytes x. refl;
   at_makes = λ texts x. refl;
   at_loads = λ name x. refl;
@@ -92,7 +93,7 @@ run-refuses late r w n (Err run_fault.NoMemory) = n
 
 arcs-early : (steps : Option ℕ) (script : Word) (args : List Word) → Early (the.arcs steps script args)
 arcs-early steps script args =
-    then-late (is_late comes_late) leaves_streams (opened script) _ (opened-keeps leaves_streams streams-reading script) (λ ms x. (
+    then-late (is_late comes_late) leaves_streams (opened main_name script) _ (opened-keeps leaves_streams streams-reading main_name script) (λ ms x. (
       λ e. then-refuses (is_late comes_late) (given_or run_refusal x) (λ r. write_last (listing r.rows) (answered_by (or_else steps the.usual_steps) r.outcome)) (run-refuses comes_late refl refl refl x) (λ r y. sink-refuses (answered_by (or_else steps the.usual_steps) r.outcome) y),
       then-late (is_late comes_late) leaves_streams (given_or run_refusal x) _ (given-so leaves_streams run_refusal x) (λ r. write-early (listing r.rows) (answered_by (or_else steps the.usual_steps) r.outcome)),
     ))
@@ -108,7 +109,7 @@ before-keeps name = λ x. (refl, before-so leaves_streams name x)
 
 run_by-early : (own : Word) (append : Bool) (asked : Asked) (hook : Option (Word × Word)) (script : Word) → EarlyInRun (the.run_by own append asked hook script)
 run_by-early own append asked hook script =
-    then-late (is_late late_in_run) leaves_streams (opened script) _ (opened-keeps leaves_streams streams-reading script) (λ ms.
+    then-late (is_late late_in_run) leaves_streams (opened main_name script) _ (opened-keeps leaves_streams streams-reading main_name script) (λ ms.
     then-late (is_late late_in_run) leaves_streams (hook_of hook) _ (hook-keeps leaves_streams streams-reading hook) (λ h.
     then-late (is_late late_in_run) leaves_streams (before own) _ (before-keeps own) (λ was.
     then-late (is_late late_in_run) leaves_streams (joins append own asked.arcs was) _ (joins-keeps leaves_streams streams-reading append own asked.arcs was) (λ old. measured-early own asked ms h old))))
@@ -158,6 +159,44 @@ make-early seed size =
       then-late (is_late comes_late) leaves_streams (tree_of made_path (made.source seed size) x) _ (tree-so leaves_streams made_path (made.source seed size) x) (made-early seed size p),
     ))
 
+-- ---- tests: a bad target of their save and an import that failed may come late as well
+
+abbrev EarlyInSuite : {A : Type 0} → Step A → Type 0
+EarlyInSuite p = IsLate leaves_streams (is_late late_in_suite) p
+
+tests-saved : (name : Word) (a : Answered) (x : Option VaultError) → OnlyRefuses (is_late late_in_suite) (last (vault_refusal name) a x)
+tests-saved name a None = tt
+tests-saved name a (Some vault_error.Absent) = refl
+tests-saved name a (Some vault_error.NotSchema7) = refl
+tests-saved name a (Some (vault_error.BadRow i)) = refl
+tests-saved name a (Some vault_error.Failed) = refl
+tests-saved name a (Some vault_error.NoMemory) = refl
+
+tests-written : (x : Option SinkError) → OnlyRefuses (is_late late_in_suite) (on sink_refusal x)
+tests-written None = tt
+tests-written (Some sink_error.Failed) = refl
+tests-written (Some sink_error.NoMemory) = refl
+
+tests-refuse : (file : Word) (x : Tested) → OnlyRefuses (is_late late_in_suite) (tested_or file x)
+tests-refuse file (tested results rows) = tt
+tests-refuse file not_imported = refl
+tests-refuse file starved = refl
+
+ending-refuses : (own : Word) (r : List TestResult × DataSet) → OnlyRefuses (is_late late_in_suite) (bind (ask (writes (suite_lines r.0)) (on sink_refusal)) (λ written. save_last own r.1 (suite_answered r.0)))
+ending-refuses own r = λ y. then-refuses (is_late late_in_suite) (on sink_refusal y) (λ written. save_last own r.1 (suite_answered r.0)) (tests-written y) (λ written z. tests-saved own (suite_answered r.0) z)
+
+tests_run-early : (own : Word) (asked : TestsAsked) (file : Word) (ms : List LoadedModule) → EarlyInSuite (tests_run own asked file ms)
+tests_run-early own asked file ms = λ x. (
+  λ e. then-refuses (is_late late_in_suite) (tested_or file x) (λ r. bind (ask (writes (suite_lines r.0)) (on sink_refusal)) (λ written. save_last own r.1 (suite_answered r.0))) (tests-refuse file x) (ending-refuses own),
+  refuses-late (is_late late_in_suite) leaves_streams _ (then-refuses (is_late late_in_suite) (tested_or file x) (λ r. bind (ask (writes (suite_lines r.0)) (on sink_refusal)) (λ written. save_last own r.1 (suite_answered r.0))) (tests-refuse file x) (ending-refuses own)),
+)
+
+suite-early : (branch : Bool) (steps : Option ℕ) (data_file rcfile : Option Word) (file : Word) → EarlyInSuite (suite branch steps data_file rcfile file)
+suite-early branch steps data_file rcfile file =
+    then-late (is_late late_in_suite) leaves_streams (settings rcfile) _ (settings-keeps leaves_streams streams-reading rcfile) (λ s.
+    then-late (is_late late_in_suite) leaves_streams (opened tests_name file) _ (opened-keeps leaves_streams streams-reading tests_name file) (λ ms.
+    then-late (is_late late_in_suite) leaves_streams (before (own_name data_file s)) _ (before-keeps (own_name data_file s)) (λ was. tests_run-early (own_name data_file s) (tests_asked s branch steps) file ms)))
+
 pub law_of_early : (c : PlainCommand) → has_one_text c ≡ true → IsLate leaves_streams (is_late (late_of c)) (doing c)
 law_of_early (plain.arcs steps script args) e = arcs-early steps script args
 law_of_early (plain.run branch append context steps hook data_file rcfile script args) e = run-early branch append context steps hook data_file rcfile script args
@@ -169,6 +208,39 @@ law_of_early (plain.annotate data_file rcfile path) e = annotate-early data_file
 law_of_early (plain.erase data_file rcfile) e = erase-early data_file rcfile
 law_of_early (plain.script file) e = absurd (true≢false (sym e))
 law_of_early (plain.make seed size) e = make-early seed size
-law_of_early (plain.suite branch steps data_file rcfile file) e = tt
+law_of_early (plain.suite branch steps data_file rcfile file) e = suite-early branch steps data_file rcfile file
 law_of_early (plain.select steps old new) e = tt
 law_of_early (plain.mutate steps file) e = tt
+
+-- ---- an import that failed
+
+output-reading : KeepReading leaves_output
+output-reading = record {
+  at_reads = λ name most x. refl;
+  at_opens = λ name script x. refl;
+  at_checks = λ bytes x. refl;
+  at_makes = λ texts x. refl;
+  at_loads = λ name x. refl;
+}
+
+abbrev BeforeOutput : {A : Type 0} → Step A → Type 0
+BeforeOutput p = IsLate leaves_output (is_late late_in_run) p
+
+line-refuses : (x : Option SinkError) → OnlyRefuses (is_late late_in_run) (on sink_refusal x)
+line-refuses None = tt
+line-refuses (Some sink_error.Failed) = refl
+line-refuses (Some sink_error.NoMemory) = refl
+
+tests_run-before : (own : Word) (asked : TestsAsked) (file : Word) (ms : List LoadedModule) → BeforeOutput (tests_run own asked file ms)
+tests_run-before own asked file ms = λ x. (
+  λ e. absurd (true≢false e),
+  then-late (is_late late_in_run) leaves_output (tested_or file x) _ (tested-so leaves_output file x) (λ r.
+      refuses-late (is_late late_in_run) leaves_output (bind (ask (writes (suite_lines r.0)) (on sink_refusal)) (λ written. save_last own r.1 (suite_answered r.0)))
+      (λ y. then-refuses (is_late late_in_run) (on sink_refusal y) (λ written. save_last own r.1 (suite_answered r.0)) (line-refuses y) (λ written z. vault-refuses own (suite_answered r.0) z))),
+)
+
+pub law_of_import : ImportLaw
+law_of_import branch steps data_file rcfile file =
+    then-late (is_late late_in_run) leaves_output (settings rcfile) _ (settings-keeps leaves_output output-reading rcfile) (λ s.
+    then-late (is_late late_in_run) leaves_output (opened tests_name file) _ (opened-keeps leaves_output output-reading tests_name file) (λ ms.
+    then-late (is_late late_in_run) leaves_output (before (own_name data_file s)) _ (λ x. (refl, before-so leaves_output (own_name data_file s) x)) (λ was. tests_run-before (own_name data_file s) (tests_asked s branch steps) file ms)))

@@ -10,7 +10,7 @@ use Rattle.cov_exclude.specs.declared.patterns.PatternError.TheVariants as patte
 use Rattle.cov_vault.specs.declared.vault.Vault.{Ghosts as VaultOf}
 use Rattle.cov_vault.specs.declared.vault.VaultError.TheVariants as vault_error
 use Rattle.cov_why.specs.Answers.{Refusal, usage, no_such_file, syntax, limit, bad_config, bad_pattern, pattern_size, no_function, no_data, mixed, bad_data, no_source, read_fault, write_fault, shelf_fault, vault_fault, no_memory, import_failed}
-use Rattle.cov_step.specs.Calls.{Call, spells, checks, reads, puts, opens, lists, loads, saves, removes, makes, writes, crosses, measures, tries, says, Answer}
+use Rattle.cov_step.specs.Calls.{Call, spells, checks, reads, puts, opens, lists, loads, saves, removes, makes, writes, crosses, measures, tries, tests, says, Answer}
 use Rattle.cov_step.specs.Objects.{on_grammar, on_shelf, on_vault, on_maker, on_sink, on_err, Saying}
 use Rattle.cov_step.specs.Promises.{Object, the_input, the_output, the_shelf, the_vault, the_maker, blame_of, blamed}
 
@@ -30,7 +30,7 @@ shelf-later shelf u (spells words) x v m = absurd m
 shelf-later shelf u (checks bytes) x v m = same-count (ap shelf.faults m.same)
 shelf-later shelf u (reads name most) x v m = m.count
 shelf-later shelf u (puts name bytes) x v m = m.count
-shelf-later shelf u (opens script) x v m = m.count
+shelf-later shelf u (opens name script) x v m = m.count
 shelf-later shelf u lists x v m = absurd m
 shelf-later shelf u (loads name) x v m = absurd m
 shelf-later shelf u (saves name content) x v m = absurd m
@@ -40,6 +40,7 @@ shelf-later shelf u (writes bytes) x v m = absurd m
 shelf-later shelf u (crosses modules words budget) x v m = absurd m
 shelf-later shelf u (measures asked modules hook) x v m = absurd m
 shelf-later shelf u (tries modules words budget) x v m = absurd m
+shelf-later shelf u (tests asked modules) x v m = absurd m
 shelf-later shelf u (says text) x v m = absurd m
 
 -- the one refusal that blames a shelf
@@ -76,8 +77,8 @@ shelf-rose shelf u (puts name bytes) (Some shelf_error.Absent) v m e = absurd (m
 shelf-rose shelf u (puts name bytes) (Some shelf_error.TooLarge) v m e = absurd (m.not_too_large refl)
 shelf-rose shelf u (puts name bytes) (Some shelf_error.Failed) v m e = m.failed refl
 shelf-rose shelf u (puts name bytes) (Some shelf_error.NoMemory) v m e = absurd (none-some e)
-shelf-rose shelf u (opens script) (Ok ms) v m e = absurd (none-some e)
-shelf-rose shelf u (opens script) (Err r) v m e = m.failed (ap Err (only-shelf r e))
+shelf-rose shelf u (opens name script) (Ok ms) v m e = absurd (none-some e)
+shelf-rose shelf u (opens name script) (Err r) v m e = m.failed (ap Err (only-shelf r e))
 shelf-rose shelf u lists x v m e = absurd m
 shelf-rose shelf u (loads name) x v m e = absurd m
 shelf-rose shelf u (saves name content) x v m e = absurd m
@@ -87,6 +88,7 @@ shelf-rose shelf u (writes bytes) x v m e = absurd m
 shelf-rose shelf u (crosses modules words budget) x v m e = absurd m
 shelf-rose shelf u (measures asked modules hook) x v m e = absurd m
 shelf-rose shelf u (tries modules words budget) x v m e = absurd m
+shelf-rose shelf u (tests asked modules) x v m e = absurd m
 shelf-rose shelf u (says text) x v m e = absurd m
 
 -- a shelf's answer is nobody else's fault
@@ -103,7 +105,7 @@ shelf-alone shelf u (puts name bytes) (Some shelf_error.Absent) v o m e = sym (s
 shelf-alone shelf u (puts name bytes) (Some shelf_error.TooLarge) v o m e = sym (some-is e)
 shelf-alone shelf u (puts name bytes) (Some shelf_error.Failed) v o m e = sym (some-is e)
 shelf-alone shelf u (puts name bytes) (Some shelf_error.NoMemory) v o m e = absurd (none-some e)
-shelf-alone shelf u (opens script) x v o m e = m.blames o e
+shelf-alone shelf u (opens name script) x v o m e = m.blames o e
 shelf-alone shelf u lists x v o m e = absurd m
 shelf-alone shelf u (loads name) x v o m e = absurd m
 shelf-alone shelf u (saves name content) x v o m e = absurd m
@@ -113,6 +115,7 @@ shelf-alone shelf u (writes bytes) x v o m e = absurd m
 shelf-alone shelf u (crosses modules words budget) x v o m e = absurd m
 shelf-alone shelf u (measures asked modules hook) x v o m e = absurd m
 shelf-alone shelf u (tries modules words budget) x v o m e = absurd m
+shelf-alone shelf u (tests asked modules) x v o m e = absurd m
 shelf-alone shelf u (says text) x v o m e = absurd m
 
 -- ---- a vault
@@ -122,7 +125,7 @@ vault-later vault u (spells words) x v m = absurd m
 vault-later vault u (checks bytes) x v m = absurd m
 vault-later vault u (reads name most) x v m = absurd m
 vault-later vault u (puts name bytes) x v m = absurd m
-vault-later vault u (opens script) x v m = absurd m
+vault-later vault u (opens name script) x v m = absurd m
 vault-later vault u lists x v m = m.count
 vault-later vault u (loads name) x v m = m.count
 vault-later vault u (saves name content) x v m = m.count
@@ -132,6 +135,7 @@ vault-later vault u (writes bytes) x v m = absurd m
 vault-later vault u (crosses modules words budget) x v m = absurd m
 vault-later vault u (measures asked modules hook) x v m = absurd m
 vault-later vault u (tries modules words budget) x v m = absurd m
+vault-later vault u (tests asked modules) x v m = absurd m
 vault-later vault u (says text) x v m = absurd m
 
 pub vault-rose : {V : Type 0} (vault : VaultOf V) (u : V) (call : Call) (x : Answer call) (v : V) → on_vault vault u call x v → blamed call x ≡ Some the_vault → Rose (vault.faults u) (vault.faults v)
@@ -139,7 +143,7 @@ vault-rose vault u (spells words) x v m e = absurd m
 vault-rose vault u (checks bytes) x v m e = absurd m
 vault-rose vault u (reads name most) x v m e = absurd m
 vault-rose vault u (puts name bytes) x v m e = absurd m
-vault-rose vault u (opens script) x v m e = absurd m
+vault-rose vault u (opens name script) x v m e = absurd m
 vault-rose vault u lists (Ok names) v m e = absurd (none-some e)
 vault-rose vault u lists (Err vault_error.Absent) v m e = absurd (m.not_absent refl)
 vault-rose vault u lists (Err vault_error.NotSchema7) v m e = absurd (none-some e)
@@ -169,6 +173,7 @@ vault-rose vault u (writes bytes) x v m e = absurd m
 vault-rose vault u (crosses modules words budget) x v m e = absurd m
 vault-rose vault u (measures asked modules hook) x v m e = absurd m
 vault-rose vault u (tries modules words budget) x v m e = absurd m
+vault-rose vault u (tests asked modules) x v m e = absurd m
 vault-rose vault u (says text) x v m e = absurd m
 
 pub vault-alone : {V : Type 0} (vault : VaultOf V) (u : V) (call : Call) (x : Answer call) (v : V) (o : Object) → on_vault vault u call x v → blamed call x ≡ Some o → o ≡ the_vault
@@ -176,7 +181,7 @@ vault-alone vault u (spells words) x v o m e = absurd m
 vault-alone vault u (checks bytes) x v o m e = absurd m
 vault-alone vault u (reads name most) x v o m e = absurd m
 vault-alone vault u (puts name bytes) x v o m e = absurd m
-vault-alone vault u (opens script) x v o m e = absurd m
+vault-alone vault u (opens name script) x v o m e = absurd m
 vault-alone vault u lists (Ok names) v o m e = absurd (none-some e)
 vault-alone vault u lists (Err vault_error.Absent) v o m e = sym (some-is e)
 vault-alone vault u lists (Err vault_error.NotSchema7) v o m e = absurd (none-some e)
@@ -206,6 +211,7 @@ vault-alone vault u (writes bytes) x v o m e = absurd m
 vault-alone vault u (crosses modules words budget) x v o m e = absurd m
 vault-alone vault u (measures asked modules hook) x v o m e = absurd m
 vault-alone vault u (tries modules words budget) x v o m e = absurd m
+vault-alone vault u (tests asked modules) x v o m e = absurd m
 vault-alone vault u (says text) x v o m e = absurd m
 
 -- ---- a maker
@@ -215,7 +221,7 @@ maker-later maker u (spells words) x v m = absurd m
 maker-later maker u (checks bytes) x v m = absurd m
 maker-later maker u (reads name most) x v m = absurd m
 maker-later maker u (puts name bytes) x v m = absurd m
-maker-later maker u (opens script) x v m = absurd m
+maker-later maker u (opens name script) x v m = absurd m
 maker-later maker u lists x v m = absurd m
 maker-later maker u (loads name) x v m = absurd m
 maker-later maker u (saves name content) x v m = absurd m
@@ -225,6 +231,7 @@ maker-later maker u (writes bytes) x v m = absurd m
 maker-later maker u (crosses modules words budget) x v m = absurd m
 maker-later maker u (measures asked modules hook) x v m = absurd m
 maker-later maker u (tries modules words budget) x v m = absurd m
+maker-later maker u (tests asked modules) x v m = absurd m
 maker-later maker u (says text) x v m = absurd m
 
 pub maker-rose : {M : Type 0} (maker : MakerOf M) (u : M) (call : Call) (x : Answer call) (v : M) → on_maker maker u call x v → blamed call x ≡ Some the_maker → Rose (maker.sizes u) (maker.sizes v)
@@ -232,7 +239,7 @@ maker-rose maker u (spells words) x v m e = absurd m
 maker-rose maker u (checks bytes) x v m e = absurd m
 maker-rose maker u (reads name most) x v m e = absurd m
 maker-rose maker u (puts name bytes) x v m e = absurd m
-maker-rose maker u (opens script) x v m e = absurd m
+maker-rose maker u (opens name script) x v m e = absurd m
 maker-rose maker u lists x v m e = absurd m
 maker-rose maker u (loads name) x v m e = absurd m
 maker-rose maker u (saves name content) x v m e = absurd m
@@ -245,6 +252,7 @@ maker-rose maker u (writes bytes) x v m e = absurd m
 maker-rose maker u (crosses modules words budget) x v m e = absurd m
 maker-rose maker u (measures asked modules hook) x v m e = absurd m
 maker-rose maker u (tries modules words budget) x v m e = absurd m
+maker-rose maker u (tests asked modules) x v m e = absurd m
 maker-rose maker u (says text) x v m e = absurd m
 
 pub maker-alone : {M : Type 0} (maker : MakerOf M) (u : M) (call : Call) (x : Answer call) (v : M) (o : Object) → on_maker maker u call x v → blamed call x ≡ Some o → o ≡ the_maker
@@ -252,7 +260,7 @@ maker-alone maker u (spells words) x v o m e = absurd m
 maker-alone maker u (checks bytes) x v o m e = absurd m
 maker-alone maker u (reads name most) x v o m e = absurd m
 maker-alone maker u (puts name bytes) x v o m e = absurd m
-maker-alone maker u (opens script) x v o m e = absurd m
+maker-alone maker u (opens name script) x v o m e = absurd m
 maker-alone maker u lists x v o m e = absurd m
 maker-alone maker u (loads name) x v o m e = absurd m
 maker-alone maker u (saves name content) x v o m e = absurd m
@@ -265,6 +273,7 @@ maker-alone maker u (writes bytes) x v o m e = absurd m
 maker-alone maker u (crosses modules words budget) x v o m e = absurd m
 maker-alone maker u (measures asked modules hook) x v o m e = absurd m
 maker-alone maker u (tries modules words budget) x v o m e = absurd m
+maker-alone maker u (tests asked modules) x v o m e = absurd m
 maker-alone maker u (says text) x v o m e = absurd m
 
 -- ---- an output
@@ -274,7 +283,7 @@ sink-later sink u (spells words) x v m = absurd m
 sink-later sink u (checks bytes) x v m = absurd m
 sink-later sink u (reads name most) x v m = absurd m
 sink-later sink u (puts name bytes) x v m = absurd m
-sink-later sink u (opens script) x v m = absurd m
+sink-later sink u (opens name script) x v m = absurd m
 sink-later sink u lists x v m = absurd m
 sink-later sink u (loads name) x v m = absurd m
 sink-later sink u (saves name content) x v m = absurd m
@@ -284,6 +293,7 @@ sink-later sink u (writes bytes) x v m = m.count
 sink-later sink u (crosses modules words budget) x v m = absurd m
 sink-later sink u (measures asked modules hook) x v m = absurd m
 sink-later sink u (tries modules words budget) x v m = absurd m
+sink-later sink u (tests asked modules) x v m = absurd m
 sink-later sink u (says text) x v m = absurd m
 
 -- ---- words, sources and `err`, which nobody blames
@@ -293,7 +303,7 @@ grammar-alone u (spells words) x v o m e = none-some e
 grammar-alone u (checks bytes) x v o m e = none-some e
 grammar-alone u (reads name most) x v o m e = m
 grammar-alone u (puts name bytes) x v o m e = m
-grammar-alone u (opens script) x v o m e = m
+grammar-alone u (opens name script) x v o m e = m
 grammar-alone u lists x v o m e = m
 grammar-alone u (loads name) x v o m e = m
 grammar-alone u (saves name content) x v o m e = m
@@ -303,6 +313,7 @@ grammar-alone u (writes bytes) x v o m e = m
 grammar-alone u (crosses modules words budget) x v o m e = m
 grammar-alone u (measures asked modules hook) x v o m e = m
 grammar-alone u (tries modules words budget) x v o m e = m
+grammar-alone u (tests asked modules) x v o m e = m
 grammar-alone u (says text) x v o m e = m
 
 pub err-alone : {E : Type 0} (sink : SinkOf E) (u : Saying E) (call : Call) (x : Answer call) (v : Saying E) (o : Object) → on_err sink u call x v → blamed call x ≡ Some o → ⊥
@@ -310,7 +321,7 @@ err-alone sink u (spells words) x v o m e = m
 err-alone sink u (checks bytes) x v o m e = m
 err-alone sink u (reads name most) x v o m e = m
 err-alone sink u (puts name bytes) x v o m e = m
-err-alone sink u (opens script) x v o m e = m
+err-alone sink u (opens name script) x v o m e = m
 err-alone sink u lists x v o m e = m
 err-alone sink u (loads name) x v o m e = m
 err-alone sink u (saves name content) x v o m e = m
@@ -320,4 +331,5 @@ err-alone sink u (writes bytes) x v o m e = m
 err-alone sink u (crosses modules words budget) x v o m e = m
 err-alone sink u (measures asked modules hook) x v o m e = m
 err-alone sink u (tries modules words budget) x v o m e = m
+err-alone sink u (tests asked modules) x v o m e = m
 err-alone sink u (says text) x v o m e = none-some e

@@ -1,6 +1,7 @@
 -- Parts of commands that only read: they keep whatever reading calls keep.
 use Rattle.std.specs.Prelude.{codes}
 use Rattle.std.proofs.Common.{◌≡◌, ℕ, Bool, true, refl, List, Option, None}
+use Rattle.py_syntax.specs.Tree.{Text}
 use Rattle.cov_config.specs.Settings.{ReportSettings}
 use Rattle.cov_data.specs.DataSet.{DataSet}
 use Rattle.cov_programs.specs.Programs.{ask}
@@ -18,7 +19,7 @@ use Rattle.cov_step.proofs.Parts.{settings-so, patterns_by-so, patterns-so, sour
 -- calls that read keep what is asked
 pub record KeepReading (keeps : (call : Call) → Answer call → Bool) : Type 0 where
   pub at_reads : (name : Word) (most : ℕ) (x : Answer (reads name most)) → keeps (reads name most) x ≡ true
-  pub at_opens : (script : Word) (x : Answer (opens script)) → keeps (opens script) x ≡ true
+  pub at_opens : (name : Text) (script : Word) (x : Answer (opens name script)) → keeps (opens name script) x ≡ true
   pub at_checks : (bytes : List ℕ) (x : Answer (checks bytes)) → keeps (checks bytes) x ≡ true
   pub at_makes : (texts : List (List ℕ)) (x : Answer (makes texts)) → keeps (makes texts) x ≡ true
   pub at_loads : (name : Word) (x : Answer (loads name)) → keeps (loads name) x ≡ true
@@ -33,8 +34,8 @@ module _ (keeps : (call : Call) → Answer call → Bool) (r : KeepReading keeps
   usual-keeps : OnlyKeeps keeps (settings_file None)
   usual-keeps = λ x. (r.at_reads (codes "pyproject.toml") most_bytes x, any-so keeps x)
 
-  pub opened-keeps : (script : Word) → OnlyKeeps keeps (opened script)
-  opened-keeps script = λ x. (r.at_opens script x, given-so keeps (λ refusal. refusal) x)
+  pub opened-keeps : (name : Text) (script : Word) → OnlyKeeps keeps (opened name script)
+  opened-keeps name script = λ x. (r.at_opens name script x, given-so keeps (λ refusal. refusal) x)
 
   checks-keeps : (path : Word) (bytes : List ℕ) → OnlyKeeps keeps (ask (checks bytes) (tree_of path bytes))
   checks-keeps path bytes = λ x. (r.at_checks bytes x, tree-so keeps path bytes x)

@@ -5,7 +5,7 @@ use Rattle.cov_outside.specs.declared.shelf.ShelfError.{ShelfError}
 use Rattle.cov_vault.specs.declared.vault.Vault.{Ghosts as VaultOf}
 use Rattle.cov_vault.specs.declared.vault.VaultError.{VaultError}
 use Rattle.cov_vault.specs.declared.vault.VaultError.TheVariants as vault_error
-use Rattle.cov_step.specs.Calls.{Call, spells, checks, reads, puts, opens, lists, loads, saves, removes, makes, writes, crosses, measures, tries, says, Answer}
+use Rattle.cov_step.specs.Calls.{Call, spells, checks, reads, puts, opens, lists, loads, saves, removes, makes, writes, crosses, measures, tries, tests, says, Answer}
 use Rattle.cov_step.specs.Objects.{on_shelf, on_vault}
 use Rattle.cov_step.specs.Promises.{keeps}
 
@@ -15,7 +15,7 @@ shelf-kept shelf t u (checks bytes) x v m e = ap shelf.files m.same
 shelf-kept shelf t u (reads name most) x v m e = (shelf.truthful t u name most x v m.moved).1
 shelf-kept shelf t u (puts name bytes) None v m e = absurd (true≢false (sym e))
 shelf-kept shelf t u (puts name bytes) (Some r) v m e = shelf.puts_whole t u name bytes (Some r) v m.moved
-shelf-kept shelf t u (opens script) x v m e = m.kept t
+shelf-kept shelf t u (opens name script) x v m e = m.kept t
 shelf-kept shelf t u lists x v m e = absurd m
 shelf-kept shelf t u (loads name) x v m e = absurd m
 shelf-kept shelf t u (saves name content) x v m e = absurd m
@@ -25,6 +25,7 @@ shelf-kept shelf t u (writes bytes) x v m e = absurd m
 shelf-kept shelf t u (crosses modules words budget) x v m e = absurd m
 shelf-kept shelf t u (measures asked modules hook) x v m e = absurd m
 shelf-kept shelf t u (tries modules words budget) x v m e = absurd m
+shelf-kept shelf t u (tests asked modules) x v m e = absurd m
 shelf-kept shelf t u (says text) x v m e = absurd m
 
 -- a vault that tells goes on telling
@@ -33,7 +34,7 @@ vault-tells vault u (spells words) x v m t = absurd m
 vault-tells vault u (checks bytes) x v m t = absurd m
 vault-tells vault u (reads name most) x v m t = absurd m
 vault-tells vault u (puts name bytes) x v m t = absurd m
-vault-tells vault u (opens script) x v m t = absurd m
+vault-tells vault u (opens name script) x v m t = absurd m
 vault-tells vault u lists x v m t = (vault.lists_truly u x v t m.moved).0
 vault-tells vault u (loads name) x v m t = (vault.loads_truly u name x v t m.moved).0
 vault-tells vault u (saves name content) x v m t = (vault.saves_whole u name content x v t m.moved).0
@@ -43,6 +44,7 @@ vault-tells vault u (writes bytes) x v m t = absurd m
 vault-tells vault u (crosses modules words budget) x v m t = absurd m
 vault-tells vault u (measures asked modules hook) x v m t = absurd m
 vault-tells vault u (tries modules words budget) x v m t = absurd m
+vault-tells vault u (tests asked modules) x v m t = absurd m
 vault-tells vault u (says text) x v m t = absurd m
 
 pub vault-kept : {V : Type 0} (vault : VaultOf V) (u : V) (call : Call) (x : Answer call) (v : V) → on_vault vault u call x v → vault.tells u → keeps call x ≡ true → vault.contents v ≡ vault.contents u
@@ -50,7 +52,7 @@ vault-kept vault u (spells words) x v m t e = absurd m
 vault-kept vault u (checks bytes) x v m t e = absurd m
 vault-kept vault u (reads name most) x v m t e = absurd m
 vault-kept vault u (puts name bytes) x v m t e = absurd m
-vault-kept vault u (opens script) x v m t e = absurd m
+vault-kept vault u (opens name script) x v m t e = absurd m
 vault-kept vault u lists x v m t e = (vault.lists_truly u x v t m.moved).2
 vault-kept vault u (loads name) x v m t e = (vault.loads_truly u name x v t m.moved).2
 vault-kept vault u (saves name content) None v m t e = absurd (true≢false (sym e))
@@ -70,4 +72,5 @@ vault-kept vault u (writes bytes) x v m t e = absurd m
 vault-kept vault u (crosses modules words budget) x v m t e = absurd m
 vault-kept vault u (measures asked modules hook) x v m t e = absurd m
 vault-kept vault u (tries modules words budget) x v m t e = absurd m
+vault-kept vault u (tests asked modules) x v m t e = absurd m
 vault-kept vault u (says text) x v m t e = absurd m

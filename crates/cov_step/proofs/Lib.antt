@@ -13,4 +13,5 @@ pub mod Leaving
 pub mod Folds
 pub mod Silence
 pub mod Early
+pub mod TestLines
 pub mod Combining

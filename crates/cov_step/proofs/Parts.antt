@@ -3,6 +3,7 @@ use Rattle.std.proofs.Common.{◌≡◌, nat_le, ℕ, Bool, true, false, if◌th
 use Rattle.std.specs.Bool.{beq}
 use Rattle.std.specs.Str.{chars}
 use Rattle.py_meaning.specs.Modules.{LoadedModule}
+use Rattle.py_syntax.specs.Tree.{Text}
 use Rattle.cov_combine.specs.Combined.{flag_of, has_both_kinds}
 use Rattle.cov_config.specs.Settings.{Settings, ReportSettings, meaning_of}
 use Rattle.cov_data.specs.DataSet.{DataSet}
@@ -14,7 +15,7 @@ use Rattle.cov_why.specs.declared.why.LimitKind.TheVariants as limits
 use Rattle.cov_words.specs.Values.{Word}
 use Rattle.cov_step.specs.Calls.{Patterns, Step, refuse, checks, makes}
 use Rattle.cov_step.specs.Answers.{given_or, Before, nothing, there, bad_row, pattern_refusal, on, tree_of}
-use Rattle.cov_step.specs.Phases.{file, needed, opened, settings_file, settings, own_name, most_patterns, most_pattern_bytes, always, few, short, patterns_by, patterns, source, defines, hook_in, hook_of, joins, own_input, some_input, same_kind, some_path, is_reported, reported_paths, analysed, reported_in, reported}
+use Rattle.cov_step.specs.Phases.{file, needed, main_name, opened, settings_file, settings, own_name, most_patterns, most_pattern_bytes, always, few, short, patterns_by, patterns, source, defines, hook_in, hook_of, joins, own_input, some_input, same_kind, some_path, is_reported, reported_paths, analysed, reported_in, reported}
 use Rattle.cov_step.specs.Promises.{blame_of}
 
 module _ (P : (A : Type 0) → Step A → Type 0) (gives : (A : Type 0) (a : A) → P A (give a))
@@ -23,7 +24,7 @@ module _ (P : (A : Type 0) → Step A → Type 0) (gives : (A : Type 0) (a : A) 
     (eachs : (A B : Type 0) (p : A → Step B) → ((a : A) → P B (p a)) → (xs : List A) → P (List B) (each p xs))
     (files : (absent : Refusal) → blame_of absent ≡ None → (name : Word) → P _ (file absent name))
     (usual : P _ (settings_file None))
-    (opens : (script : Word) → P _ (opened script))
+    (opens : (name : Text) (script : Word) → P _ (opened name script))
     (checking : (path : Word) (bytes : List ℕ) → P _ (ask (checks bytes) (tree_of path bytes)))
     (making : (n : ℕ) (texts : List (List ℕ)) → P _ (ask (makes texts) (on (pattern_refusal n)))) where
   if-so : {A : Type 0} (b : Bool) (p q : Step A) → P A p → P A q → P A (if b then p else q)
@@ -70,7 +71,7 @@ module _ (P : (A : Type 0) → Step A → Type 0) (gives : (A : Type 0) (a : A) 
 
   pub hook_of-so : (h : Option (Word × Word)) → P _ (hook_of h)
   hook_of-so None = gives _ None
-  hook_of-so (Some (script, function)) = binds _ _ (opened script) (hook_in script function) (opens script) (hook_in-so script function)
+  hook_of-so (Some (script, function)) = binds _ _ (opened main_name script) (hook_in script function) (opens main_name script) (hook_in-so script function)
 
   pub joins-so : (append : Bool) (name : Word) (arcs : Bool) (was : Before) → P _ (joins append name arcs was)
   joins-so false name arcs was = gives _ None

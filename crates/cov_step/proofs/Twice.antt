@@ -3,6 +3,7 @@ use Rattle.std.proofs.Common.{◌≡◌, ℕ, Bool, refl, List, [], ◌∷◌, O
 use Rattle.cov_outside.specs.declared.shelf.ShelfError.{ShelfError}
 use Rattle.cov_outside.specs.declared.shelf.ShelfError.TheVariants as shelf_error
 use Rattle.py_meaning.specs.Modules.{LoadedModule}
+use Rattle.py_syntax.specs.Tree.{Text}
 use Rattle.cov_data.specs.DataSet.{DataSet}
 use Rattle.cov_programs.specs.Programs.{give, ask, bind, each}
 use Rattle.cov_programs.specs.Laws.{CallsAtMost}
@@ -14,7 +15,7 @@ use Rattle.cov_why.specs.Answers.{Refusal}
 use Rattle.cov_words.specs.Values.{Word}
 use Rattle.cov_step.specs.Calls.{Answered, HookFiles, Asked, Step, checks, makes}
 use Rattle.cov_step.specs.Answers.{bytes_of, bytes_if_any, given_or, Before, before_of, run_refusal, vault_refusal, pattern_refusal, last, on, tree_of}
-use Rattle.cov_step.specs.Phases.{file, opened, settings_file, settings, own_name, before, hook_of, joins}
+use Rattle.cov_step.specs.Phases.{file, main_name, opened, settings_file, settings, own_name, before, hook_of, joins}
 use Rattle.cov_step.specs.Commands as the
 use Rattle.cov_step.specs.Promises.{calls_vault}
 use Rattle.cov_step.proofs.Parts.{settings-so, hook_of-so, joins-so}
@@ -78,8 +79,8 @@ file-none absent name = (refl, bytes-none absent)
 usual-none : None-called _ (settings_file None)
 usual-none = (refl, any-none)
 
-opened-none : (script : Word) → None-called _ (opened script)
-opened-none script = (refl, given-none (λ refusal. refusal))
+opened-none : (name : Text) (script : Word) → None-called _ (opened name script)
+opened-none name script = (refl, given-none (λ refusal. refusal))
 
 checks-none : (path : Word) (bytes : List ℕ) → None-called _ (ask (checks bytes) (tree_of path bytes))
 checks-none path bytes = (refl, tree-none path bytes)
@@ -101,7 +102,7 @@ measured-once own asked ms hook old = λ x. then-few calls_vault (given_or run_r
 
 run-twice : (own : Word) (append : Bool) (asked : Asked) (hook : Option (Word × Word)) (script : Word) → CallsAtMost calls_vault 2 (the.run_by own append asked hook script)
 run-twice own append asked hook script =
-    then-few calls_vault (opened script) _ 2 (opened-none script) (λ ms.
+    then-few calls_vault (opened main_name script) _ 2 (opened-none main_name script) (λ ms.
     then-few calls_vault (hook_of hook) _ 2 (hook-none hook) (λ h y.
     then-few calls_vault (before_of own y) _ 1 (before-none own y) (λ was.
     then-few calls_vault (joins append own asked.arcs was) _ 1 (joins-none append own asked.arcs was) (λ old. measured-once own asked ms h old))))

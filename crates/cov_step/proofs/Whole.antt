@@ -24,13 +24,14 @@ use Rattle.cov_why.specs.declared.why.SyntaxKind.TheVariants as kinds
 use Rattle.cov_words.specs.Commands.{PlainCommand}
 use Rattle.cov_words.specs.Commands as plain
 use Rattle.cov_words.specs.Values.{Word}
-use Rattle.cov_step.specs.Calls.{Answered, PlainSource, Patterns, HookFiles, Asked, Step, refuse, spells, checks, puts, makes, writes, crosses, measures, tries, says}
+use Rattle.cov_step.specs.Calls.{Answered, PlainSource, Patterns, HookFiles, Asked, TestsAsked, Step, refuse, spells, checks, puts, makes, writes, crosses, measures, tries, tests, says}
 use Rattle.cov_step.specs.Answers.{given_or, Before, run_refusal, shelf_refusal, sink_refusal, pattern_refusal, last, on, tree_of}
 use Rattle.cov_step.specs.Listing.{listing}
 use Rattle.cov_step.specs.Names.{or_else, removable}
-use Rattle.cov_step.specs.Phases.{file, needed, before, opened, settings_file, settings, own_name, patterns_by, patterns, source, hook_of, joins, joined, inputs, has_own, own_input, some_input, same_kind, saving, removing, removing_all, analysed, reported, judged, done, write_last, put_last, save_last, remove_last, answered_by}
+use Rattle.cov_step.specs.Phases.{file, needed, before, main_name, opened, settings_file, settings, own_name, patterns_by, patterns, source, hook_of, joins, joined, inputs, has_own, own_input, some_input, same_kind, saving, removing, removing_all, analysed, reported, judged, done, write_last, put_last, save_last, remove_last, answered_by}
 use Rattle.cov_step.specs.Commands as the
 use Rattle.cov_step.specs.Making.{made_path, made_module, ran_if_any, made_line, made_by, make}
+use Rattle.cov_step.specs.Testing.{tests_name, tests_asked, suite_lines, suite_answered, tested_or, tests_run, suite_by}
 use Rattle.cov_step.specs.Scripts.{inside, words_in, status_line, ended_in, line_done, is_comment, words_done, line_step, is_text, is_short, is_script, script_text, lines_done, script}
 use Rattle.cov_step.specs.Step.{doing, step}
 use Rattle.cov_step.specs.Promises.{blame_of}
@@ -42,7 +43,7 @@ module _ (P : (A : Type 0) → Step A → Type 0) (gives : (A : Type 0) (a : A) 
     (eachs : (A B : Type 0) (p : A → Step B) → ((a : A) → P B (p a)) → (xs : List A) → P (List B) (each p xs))
     (files : (absent : Refusal) → blame_of absent ≡ None → (name : Word) → P _ (file absent name))
     (usual : P _ (settings_file None))
-    (opens : (script : Word) → P _ (opened script))
+    (opens : (name : Text) (script : Word) → P _ (opened name script))
     (checking : (path : Word) (bytes : List ℕ) → P _ (ask (checks bytes) (tree_of path bytes)))
     (making : (n : ℕ) (texts : List (List ℕ)) → P _ (ask (makes texts) (on (pattern_refusal n))))
     (needs : (name : Word) → P _ (needed name))
@@ -56,7 +57,9 @@ module _ (P : (A : Type 0) → Step A → Type 0) (gives : (A : Type 0) (a : A) 
     (saves-on : (name : Word) (content : DataSet) → P _ (saving name content))
     (removes-last : (name : Word) (a : Answered) → P _ (remove_last name a))
     (removes-on : (name : Word) → P _ (removing name))
-    (trying : (ms : List LoadedModule) (words : List Text) (n : ℕ) → P _ (ask (tries ms words n) ran_if_any)) where
+    (trying : (ms : List LoadedModule) (words : List Text) (n : ℕ) → P _ (ask (tries ms words n) ran_if_any))
+    (testing : (asked : TestsAsked) (ms : List LoadedModule) (file : Word) → P _ (ask (tests asked ms) (tested_or file)))
+    (noting : (bytes : List ℕ) → P _ (ask (writes bytes) (on sink_refusal))) where
   settings-are : (rcfile : Option Word) → P _ (settings rcfile)
   settings-are rcfile = settings-so P gives refuses binds eachs files usual opens checking making rcfile
 
@@ -72,7 +75,7 @@ module _ (P : (A : Type 0) → Step A → Type 0) (gives : (A : Type 0) (a : A) 
 
   arcs-is : (steps : Option ℕ) (script : Word) (args : List Word) → P _ (the.arcs steps script args)
   arcs-is steps script args = let most = or_else steps the.usual_steps in
-      binds _ _ (opened script) (λ ms. bind (ask (crosses ms (the.words_of script args) most) (given_or run_refusal)) (λ r. write_last (listing r.rows) (answered_by most r.outcome))) (opens script) (λ ms.
+      binds _ _ (opened main_name script) (λ ms. bind (ask (crosses ms (the.words_of script args) most) (given_or run_refusal)) (λ r. write_last (listing r.rows) (answered_by most r.outcome))) (opens main_name script) (λ ms.
       binds _ _ (ask (crosses ms (the.words_of script args) most) (given_or run_refusal)) (λ r. write_last (listing r.rows) (answered_by most r.outcome)) (crossing ms (the.words_of script args) most) (λ r.
       writing (listing r.rows) (answered_by most r.outcome)))
 
@@ -83,7 +86,7 @@ module _ (P : (A : Type 0) → Step A → Type 0) (gives : (A : Type 0) (a : A) 
 
   run_by-is : (own : Word) (append : Bool) (asked : Asked) (hook : Option (Word × Word)) (script : Word) → P _ (the.run_by own append asked hook script)
   run_by-is own append asked hook script =
-      binds _ _ (opened script) (λ ms. bind (hook_of hook) (λ h. bind (before own) (λ was. bind (joins append own asked.arcs was) (the.measured own asked ms h)))) (opens script) (λ ms.
+      binds _ _ (opened main_name script) (λ ms. bind (hook_of hook) (λ h. bind (before own) (λ was. bind (joins append own asked.arcs was) (the.measured own asked ms h)))) (opens main_name script) (λ ms.
       binds _ _ (hook_of hook) (λ h. bind (before own) (λ was. bind (joins append own asked.arcs was) (the.measured own asked ms h))) (hook_of-so P gives refuses binds eachs files usual opens checking making hook) (λ h.
       binds _ _ (before own) (λ was. bind (joins append own asked.arcs was) (the.measured own asked ms h)) (standing own) (λ was.
       binds _ _ (joins append own asked.arcs was) (the.measured own asked ms h) (joins-so P gives refuses binds eachs files usual opens checking making append own asked.arcs was) (λ old.
@@ -125,6 +128,17 @@ module _ (P : (A : Type 0) → Step A → Type 0) (gives : (A : Type 0) (a : A) 
       binds _ _ (patterns_by (no_cover ∷ []) (no_branch ∷ [])) (λ p. bind (ask (checks text) (tree_of made_path text)) (made_by seed size p)) (patterns_by-so P gives refuses binds eachs files usual opens checking making (no_cover ∷ []) (no_branch ∷ [])) (λ p.
       binds _ _ (ask (checks text) (tree_of made_path text)) (made_by seed size p) (checking made_path text) (made_by-is seed size p))
 
+  tests_run-is : (own : Word) (asked : TestsAsked) (file : Word) (ms : List LoadedModule) → P _ (tests_run own asked file ms)
+  tests_run-is own asked file ms =
+      binds _ _ (ask (tests asked ms) (tested_or file)) (λ r. bind (ask (writes (suite_lines r.0)) (on sink_refusal)) (λ written. save_last own r.1 (suite_answered r.0))) (testing asked ms file) (λ r.
+      binds _ _ (ask (writes (suite_lines r.0)) (on sink_refusal)) (λ written. save_last own r.1 (suite_answered r.0)) (noting (suite_lines r.0)) (λ written.
+      saves-last own r.1 (suite_answered r.0)))
+
+  suite_by-is : (own : Word) (asked : TestsAsked) (file : Word) → P _ (suite_by own asked file)
+  suite_by-is own asked file =
+      binds _ _ (opened tests_name file) (λ ms. bind (before own) (λ was. tests_run own asked file ms)) (opens tests_name file) (λ ms.
+      binds _ _ (before own) (λ was. tests_run own asked file ms) (standing own) (λ was. tests_run-is own asked file ms))
+
   pub inside-is : (c : PlainCommand) → P _ (inside c)
   inside-is (plain.arcs steps script args) = arcs-is steps script args
   inside-is (plain.run branch append context steps hook data_file rcfile script args) =
@@ -146,14 +160,14 @@ module _ (P : (A : Type 0) → Step A → Type 0) (gives : (A : Type 0) (a : A) 
   inside-is (plain.erase data_file rcfile) = binds _ _ (settings rcfile) (λ s. remove_last (own_name data_file s) done) (settings-are rcfile) (λ s. removes-last (own_name data_file s) done)
   inside-is (plain.script file) = refuses _ (usage 0) refl
   inside-is (plain.make seed size) = make-is seed size
-  inside-is (plain.suite branch steps data_file rcfile file) = refuses _ (usage 0) refl
+  inside-is (plain.suite branch steps data_file rcfile file) =
+      binds _ _ (settings rcfile) (λ s. suite_by (own_name data_file s) (tests_asked s branch steps) file) (settings-are rcfile) (λ s. suite_by-is (own_name data_file s) (tests_asked s branch steps) file)
   inside-is (plain.select steps old new) = refuses _ (usage 0) refl
   inside-is (plain.mutate steps file) = refuses _ (usage 0) refl
 
   -- with what is told of a command, and words
   module _ (spelling : (words : List Word) → P _ (ask (spells words) (given_or usage)))
-      (saying : (text : List ℕ) → P _ (ask (says text) give))
-      (noting : (bytes : List ℕ) → P _ (ask (writes bytes) (on sink_refusal))) where
+      (saying : (text : List ℕ) → P _ (ask (says text) give)) where
     ended-is : (a : Answered) → P _ (ended_in a)
     ended-is a = binds _ _ (ask (says (message_of (Ok a.ended) a.ending)) give) (λ said. ask (writes (status_line a)) (on sink_refusal)) (saying (message_of (Ok a.ended) a.ending)) (λ said. noting (status_line a))
 

@@ -24,12 +24,13 @@ use Rattle.cov_vault.specs.declared.vault.VaultError.TheVariants as vault_error
 use Rattle.cov_why.specs.Answers.{Refusal, usage, no_such_file, syntax, limit, bad_config, bad_pattern, pattern_size, no_function, no_data, mixed, bad_data, no_source, read_fault, write_fault, shelf_fault, vault_fault, no_memory, import_failed}
 use Rattle.cov_words.specs.Commands.{PlainCommand}
 use Rattle.cov_words.specs.Values.{Word}
-use Rattle.cov_step.specs.Calls.{Answered, Ran, Step, IsNoMemory}
+use Rattle.cov_step.specs.Calls.{Answered, Ran, Tested, tested, not_imported, starved, Step, IsNoMemory}
 use Rattle.cov_step.specs.Answers.{bytes_of, bytes_if_any, given_or, load_refusal, vault_refusal, before_of, removed, run_refusal, shelf_refusal, sink_refusal, pattern_refusal, last, on, token_refusal, syntax_refusal, scope_refusal, tree_of}
 use Rattle.cov_step.specs.Phases.{inputs, is_part_of}
 use Rattle.cov_step.specs.Making.{ran_if_any}
+use Rattle.cov_step.specs.Testing.{tested_or}
 use Rattle.cov_step.specs.Step.{step}
-use Rattle.cov_step.specs.Promises.{shelf_hungry, vault_hungry, pattern_hungry, sink_hungry, run_hungry, token_hungry, syntax_hungry, scope_hungry, reading_hungry, refusal_hungry, hungry_error, hungry_refusal, is_wanting, is_hungry}
+use Rattle.cov_step.specs.Promises.{shelf_hungry, vault_hungry, pattern_hungry, sink_hungry, run_hungry, token_hungry, syntax_hungry, scope_hungry, reading_hungry, refusal_hungry, hungry_error, hungry_refusal, is_wanting, tests_starved, is_hungry}
 use Rattle.cov_step.proofs.Whole.{step-is}
 
 abbrev Yielding : (A : Type 0) → Step A → Type 0
@@ -181,6 +182,11 @@ inputs-yield : (own : Word) (named : List Word) → Yielding _ (inputs own named
 inputs-yield own [] = listed-after own
 inputs-yield own (n ∷ ns) = tt
 
+tested-after : (file : Word) (x : Tested) → After (tests_starved x) (tested_or file x)
+tested-after file (tested results rows) = (λ h. absurd (never h), tt)
+tested-after file not_imported = (λ h. absurd (never h), tt)
+tested-after file starved = (λ h. refl, tt)
+
 ran-after : (x : Option Ran) → After (is_wanting x) (ran_if_any x)
 ran-after None = (λ h. refl, tt)
 ran-after (Some r) = (λ h. absurd (never h), tt)
@@ -191,11 +197,11 @@ spelled-after (Err n) = (λ h. absurd (never h), tt)
 
 pub law_of_want : (words : List Word) → Yields IsNoMemory is_hungry (step words)
 law_of_want words = step-is Yielding (λ A a. tt) (λ A r e. tt) (λ A B p next. then-yields IsNoMemory is_hungry p next) (λ A B p h xs. each-yields IsNoMemory is_hungry p h xs)
-    (λ absent n name x. bytes-after absent x) any-after (λ script x. given-after (λ refusal. refusal) refusal_hungry refusal-wants x)
+    (λ absent n name x. bytes-after absent x) any-after (λ name script x. given-after (λ refusal. refusal) refusal_hungry refusal-wants x)
     tree-after (λ n texts x. on-after (pattern_refusal n) pattern_hungry (make-wants n) x)
     (λ name x. given-after (load_refusal name) vault_hungry (load-wants name) x) before-after inputs-yield
     (λ ms ws n x. given-after run_refusal run_hungry run-wants x) (λ asked ms hook x. given-after run_refusal run_hungry run-wants x)
     (λ bytes a x. last-after sink_refusal sink_hungry write-wants a x) (λ name bytes a x. last-after shelf_refusal shelf_hungry put-wants a x)
     (λ name content a x. last-after (vault_refusal name) vault_hungry (vault-wants name) a x) (λ name content x. on-after (vault_refusal name) vault_hungry (vault-wants name) x)
     (λ name a x. remove-after (settle a) tt x) (λ name x. remove-after (give tt) tt x)
-    (λ ms ws n x. ran-after x) (λ ws x. spelled-after x) (λ text x. (λ h. absurd (never h), tt)) (λ bytes x. on-after sink_refusal sink_hungry write-wants x) words
+    (λ ms ws n x. ran-after x) (λ asked ms file x. tested-after file x) (λ bytes x. on-after sink_refusal sink_hungry write-wants x) (λ ws x. spelled-after x) (λ text x. (λ h. absurd (never h), tt)) words

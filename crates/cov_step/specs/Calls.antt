@@ -3,6 +3,8 @@
 --     PlainSource, Patterns        a source, and the patterns of a report
 --     HookFiles, Asked             a hook that was loaded, and what a run is asked
 --     Ran                          what a run came to
+--     TestsAsked                   what tests are asked
+--     TestEnd, TestResult, Tested  how a test ended, and what tests came to
 --     Call, Answer                 a call, and what is answered to it
 --     Step, refuse                 a program over calls, and one that is refused
 --     IsNoMemory                   want of memory
@@ -14,6 +16,7 @@ use Rattle.py_builtins.specs.Outcomes.{Outcome}
 use Rattle.py_builtins.specs.declared.fault.RunFault.{RunFault}
 use Rattle.py_meaning.specs.Modules.{LoadedModule}
 use Rattle.py_syntax.specs.Tree.{Text, Stmts}
+use Rattle.py_value.specs.declared.exception.ExcKind.{ExcKind}
 use Rattle.cov_data.specs.DataSet.{DataSet}
 use Rattle.cov_exclude.specs.declared.patterns.PatternError.{PatternError}
 use Rattle.cov_programs.specs.Programs.{Program}
@@ -63,15 +66,40 @@ pub record Ran : Type 0 where
   pub steps : ℕ
   pub rows : DataSet
 
+-- what tests are asked: whether they record arcs, their static context, and the steps of the import
+-- and of each test
+pub record TestsAsked : Type 0 where
+  pub arcs : Bool
+  pub context : Word
+  pub budget : ℕ
+
+-- how a test ended: it passed, it failed with an exception that nothing caught, or it was cut
+pub data TestEnd : Type 0 where
+  passed : TestEnd
+  failed : (kind : ExcKind) (text : Text) → TestEnd
+  cut : TestEnd
+
+-- a test by its name, and how it ended
+pub record TestResult : Type 0 where
+  pub name : Text
+  pub end : TestEnd
+
+-- What tests came to: how each ended, and the rows that were recorded of them and of the import of
+-- their modules. Or that import didn't finish, or memory was wanting.
+pub data Tested : Type 0 where
+  tested : (results : List TestResult) (rows : DataSet) → Tested
+  not_imported : Tested
+  starved : Tested
+
 -- Each call is one of a public function, and its relation is that function's clauses.
 pub data Call : Type 0 where
   -- what words are, and what the bytes of a source are
   spells : (words : List Word) → Call
   checks : (bytes : List ℕ) → Call
-  -- a shelf: a read, a put, and loading of a script
+  -- a shelf: a read, a put, and loading of a script, whose module has this name
   reads : (name : Word) (most : ℕ) → Call
   puts : (name : Word) (bytes : List ℕ) → Call
-  opens : (script : Word) → Call
+  opens : (name : Text) (script : Word) → Call
   -- a vault
   lists : Call
   loads : (name : Word) → Call
@@ -85,6 +113,8 @@ pub data Call : Type 0 where
   measures : (asked : Asked) (modules : List LoadedModule) (hook : Option HookFiles) → Call
   -- a run with arcs on objects of its own: it reads nothing, and what it writes is thrown away
   tries : (modules : List LoadedModule) (words : List Text) (budget : ℕ) → Call
+  -- an import and its tests, likewise, but for the plugins, which give labels
+  tests : (asked : TestsAsked) (modules : List LoadedModule) → Call
   -- a text for `err`
   says : (text : List ℕ) → Call
 
@@ -94,7 +124,7 @@ Answer (spells words) = Result PlainCommand ℕ
 Answer (checks bytes) = Reading
 Answer (reads name most) = Result (List ℕ) ShelfError
 Answer (puts name bytes) = Option ShelfError
-Answer (opens script) = Result (List LoadedModule) Refusal
+Answer (opens name script) = Result (List LoadedModule) Refusal
 Answer lists = Result (List Word) VaultError
 Answer (loads name) = Result DataSet VaultError
 Answer (saves name content) = Option VaultError
@@ -104,6 +134,7 @@ Answer (writes bytes) = Option SinkError
 Answer (crosses modules words budget) = Result Ran RunFault
 Answer (measures asked modules hook) = Result Ran RunFault
 Answer (tries modules words budget) = Option Ran
+Answer (tests asked modules) = Tested
 Answer (says text) = Unit {0}
 
 -- A program over these calls. What the code answers in place of a value is any ending; a program is

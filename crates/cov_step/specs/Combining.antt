@@ -6,7 +6,7 @@ use Rattle.std.specs.Prelude.{◌≡◌, Bool, true, false, List, Option, Ok, Er
 use Rattle.cov_programs.specs.Laws.{IsLate, OnlyKeeps}
 use Rattle.cov_why.specs.Answers.{Refusal, usage, no_such_file, syntax, limit, bad_config, bad_pattern, pattern_size, no_function, no_data, mixed, bad_data, no_source, read_fault, write_fault, shelf_fault, vault_fault, no_memory, import_failed, PlainWhy}
 use Rattle.cov_words.specs.Values.{Word}
-use Rattle.cov_step.specs.Calls.{Call, spells, checks, reads, puts, opens, lists, loads, saves, removes, makes, writes, crosses, measures, tries, says, Answer}
+use Rattle.cov_step.specs.Calls.{Call, spells, checks, reads, puts, opens, lists, loads, saves, removes, makes, writes, crosses, measures, tries, tests, says, Answer}
 use Rattle.cov_step.specs.Commands.{combine}
 use Rattle.cov_step.specs.Promises.{keeps}
 
@@ -16,7 +16,7 @@ leaves_files (spells words) answer = true
 leaves_files (checks bytes) reading = true
 leaves_files (reads name most) answer = true
 leaves_files (puts name bytes) refusal = false
-leaves_files (opens script) answer = true
+leaves_files (opens name script) answer = true
 leaves_files lists answer = true
 leaves_files (loads name) answer = true
 leaves_files (saves name content) refusal = true
@@ -26,6 +26,7 @@ leaves_files (writes bytes) refusal = true
 leaves_files (crosses modules words budget) answer = true
 leaves_files (measures asked modules hook) answer = true
 leaves_files (tries modules words budget) answer = true
+leaves_files (tests asked modules) answer = true
 leaves_files (says text) answer = true
 
 -- a refusal after which the combined data may be saved and some inputs removed

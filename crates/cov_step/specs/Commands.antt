@@ -21,7 +21,7 @@ use Rattle.cov_words.specs.Values.{Word}
 use Rattle.cov_step.specs.Calls.{Answered, HookFiles, Asked, crosses, measures, Step}
 use Rattle.cov_step.specs.Answers.{given_or, run_refusal}
 use Rattle.cov_step.specs.Names.{or_else, removable}
-use Rattle.cov_step.specs.Phases.{needed, before, opened, settings, own_name, patterns, source, hook_of, joins, joined, inputs, has_own, own_input, some_input, same_kind, saving, removing_all, analysed, reported, done, judged, write_last, put_last, save_last, remove_last, answered_by}
+use Rattle.cov_step.specs.Phases.{needed, before, main_name, opened, settings, own_name, patterns, source, hook_of, joins, joined, inputs, has_own, own_input, some_input, same_kind, saving, removing_all, analysed, reported, done, judged, write_last, put_last, save_last, remove_last, answered_by}
 use Rattle.cov_step.specs.Listing.{listing}
 
 -- the words of a program: its script, and its arguments
@@ -36,7 +36,7 @@ usual_steps = 1000000
 abbrev pub arcs : Option ℕ → Word → List Word → Step Answered
 arcs steps script args = do
   let most = or_else steps usual_steps
-  ms ← opened script
+  ms ← opened main_name script
   answer ← ask (crosses ms (words_of script args) most) give
   r ← given_or run_refusal answer
   write_last (listing r.rows) (answered_by most r.outcome)
@@ -68,7 +68,7 @@ measured own asked ms hook old = do
 abbrev pub run_by : (own : Word) (append : Bool) (asked : Asked) (hook : Option (Word × Word))
     (script : Word) → Step Answered
 run_by own append asked hook script = do
-  ms ← opened script
+  ms ← opened main_name script
   h ← hook_of hook
   was ← before own
   old ← joins append own asked.arcs was

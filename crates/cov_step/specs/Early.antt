@@ -1,16 +1,19 @@
 -- Refusals that come before anything is run or written.
 --     leaves_streams               an answer that leaves input and output as they were
---     comes_late, late_in_run      a refusal that may come after a run or a write
+--     comes_late, late_in_run, late_in_suite    a refusal that may come after a run or a write
 --     late_of, is_late             the same of a command, and of an answer
 --     EarlyLaw                     the others come before
-use Rattle.std.specs.Prelude.{◌≡◌, Bool, true, false, Ok, Err}
+--     leaves_output, ImportLaw     an import of tests that failed comes before any output
+use Rattle.std.specs.Prelude.{◌≡◌, ℕ, Bool, true, false, Option, Ok, Err}
 use Rattle.cov_programs.specs.Laws.{IsLate}
 use Rattle.cov_why.specs.Answers.{Refusal, usage, no_such_file, syntax, limit, bad_config, bad_pattern, pattern_size, no_function, no_data, mixed, bad_data, no_source, read_fault, write_fault, shelf_fault, vault_fault, no_memory, import_failed, PlainWhy}
 use Rattle.cov_words.specs.Commands.{PlainCommand}
 use Rattle.cov_words.specs.Commands as plain
-use Rattle.cov_step.specs.Calls.{Call, spells, checks, reads, puts, opens, lists, loads, saves, removes, makes, writes, crosses, measures, tries, says, Answer}
+use Rattle.cov_words.specs.Values.{Word}
+use Rattle.cov_step.specs.Calls.{Call, spells, checks, reads, puts, opens, lists, loads, saves, removes, makes, writes, crosses, measures, tries, tests, says, Answer}
 use Rattle.cov_step.specs.Promises.{has_one_text}
 use Rattle.cov_step.specs.Step.{doing}
+use Rattle.cov_step.specs.Testing.{suite}
 
 -- an answer that leaves input, output, plugins and engine as they were
 abbrev pub leaves_streams : (call : Call) → Answer call → Bool
@@ -18,7 +21,7 @@ leaves_streams (spells words) answer = true
 leaves_streams (checks bytes) reading = true
 leaves_streams (reads name most) answer = true
 leaves_streams (puts name bytes) refusal = true
-leaves_streams (opens script) answer = true
+leaves_streams (opens name script) answer = true
 leaves_streams lists answer = true
 leaves_streams (loads name) answer = true
 leaves_streams (saves name content) refusal = true
@@ -28,6 +31,7 @@ leaves_streams (writes bytes) refusal = false
 leaves_streams (crosses modules words budget) answer = false
 leaves_streams (measures asked modules hook) answer = false
 leaves_streams (tries modules words budget) answer = true
+leaves_streams (tests asked modules) answer = false
 leaves_streams (says text) answer = true
 
 -- a refusal that may come after a run or a write
@@ -49,7 +53,7 @@ comes_late write_fault = true
 comes_late shelf_fault = true
 comes_late vault_fault = true
 comes_late no_memory = true
-comes_late (import_failed file) = false
+comes_late (import_failed file) = true
 
 -- a vault that tells nothing may besides answer to a run's save that its target isn't of schema 7
 abbrev pub late_in_run : Refusal → Bool
@@ -72,6 +76,27 @@ late_in_run vault_fault = true
 late_in_run no_memory = true
 late_in_run (import_failed file) = false
 
+-- so it may to that of tests, whose import may fail besides
+abbrev pub late_in_suite : Refusal → Bool
+late_in_suite (usage words) = false
+late_in_suite (no_such_file name) = false
+late_in_suite (syntax file line kind) = false
+late_in_suite (limit kind n) = false
+late_in_suite (bad_config key) = false
+late_in_suite (bad_pattern at) = false
+late_in_suite (pattern_size at) = false
+late_in_suite (no_function name) = false
+late_in_suite (no_data name) = false
+late_in_suite (mixed first other) = false
+late_in_suite (bad_data name kind) = true
+late_in_suite (no_source path) = false
+late_in_suite read_fault = true
+late_in_suite write_fault = true
+late_in_suite shelf_fault = true
+late_in_suite vault_fault = true
+late_in_suite no_memory = true
+late_in_suite (import_failed file) = true
+
 -- which come late, of a command
 abbrev pub late_of : PlainCommand → Refusal → Bool
 late_of (plain.arcs budget script args) = comes_late
@@ -84,7 +109,7 @@ late_of (plain.annotate data_file rcfile file) = comes_late
 late_of (plain.erase data_file rcfile) = comes_late
 late_of (plain.script file) = comes_late
 late_of (plain.make seed size) = comes_late
-late_of (plain.suite branch budget data_file rcfile file) = comes_late
+late_of (plain.suite branch budget data_file rcfile file) = late_in_suite
 late_of (plain.select budget old new) = comes_late
 late_of (plain.mutate budget file) = comes_late
 
@@ -98,3 +123,28 @@ abbrev pub EarlyLaw : Type 0
 EarlyLaw =
     (c : PlainCommand) → has_one_text c ≡ true
     → IsLate leaves_streams (is_late (late_of c)) (doing c)
+
+-- an answer that leaves the output as it was; tests write nothing to it
+abbrev pub leaves_output : (call : Call) → Answer call → Bool
+leaves_output (spells words) answer = true
+leaves_output (checks bytes) reading = true
+leaves_output (reads name most) answer = true
+leaves_output (puts name bytes) refusal = true
+leaves_output (opens name script) answer = true
+leaves_output lists answer = true
+leaves_output (loads name) answer = true
+leaves_output (saves name content) refusal = true
+leaves_output (removes name) refusal = true
+leaves_output (makes texts) refusal = true
+leaves_output (writes bytes) refusal = false
+leaves_output (crosses modules words budget) answer = false
+leaves_output (measures asked modules hook) answer = false
+leaves_output (tries modules words budget) answer = true
+leaves_output (tests asked modules) answer = true
+leaves_output (says text) answer = true
+
+-- Tests whose import failed are refused before anything is written.
+abbrev pub ImportLaw : Type 0
+ImportLaw =
+    (branch : Bool) (steps : Option ℕ) (data_file rcfile : Option Word) (file : Word)
+    → IsLate leaves_output (is_late late_in_run) (suite branch steps data_file rcfile file)

@@ -5,6 +5,7 @@ pub mod Answers
 pub mod Phases
 pub mod Commands
 pub mod Making
+pub mod Testing
 pub mod Scripts
 pub mod Step
 pub mod Objects

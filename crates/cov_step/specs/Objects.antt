@@ -5,7 +5,7 @@
 --     MakeOf, on_maker                         a maker of patterns
 --     IsWritten, WriteOf, on_sink               an output
 --     Told, Saying, SayOf, on_err              `err`
-use Rattle.std.specs.Prelude.{◌≡◌, ◌≢◌, ℕ, ◌≤◌, List, ◌++◌, Option, Some, None, Result, Ok, Err, codes}
+use Rattle.std.specs.Prelude.{◌≡◌, ◌≢◌, ℕ, ◌≤◌, List, ◌++◌, Option, Some, None, Result, Ok, Err}
 use Rattle.std.specs.Str.{chars}
 use Rattle.cov_outside.specs.Counts.{Rose}
 use Rattle.cov_outside.specs.Prefixes.{GainsPrefix}
@@ -30,7 +30,7 @@ use Rattle.cov_vault.specs.declared.vault.VaultError.{VaultError}
 use Rattle.cov_vault.specs.declared.vault.VaultError.TheVariants as vault_error
 use Rattle.cov_why.specs.Answers.{Refusal, shelf_fault}
 use Rattle.cov_words.specs.Values.{Word}
-use Rattle.cov_step.specs.Calls.{Call, spells, checks, reads, puts, opens, lists, loads, saves, removes, makes, writes, crosses, measures, tries, says, Answer}
+use Rattle.cov_step.specs.Calls.{Call, spells, checks, reads, puts, opens, lists, loads, saves, removes, makes, writes, crosses, measures, tries, tests, says, Answer}
 use Rattle.cov_step.specs.Promises.{Object, the_shelf, blame_of, by_error}
 use Rattle.cov_step.specs.Step.{IsSpelled}
 
@@ -48,7 +48,7 @@ on_grammar old (spells words) answer new = IsSpelled words answer
 on_grammar old (checks bytes) reading new = CheckOf old bytes reading new
 on_grammar old (reads name most) answer new = ⊥
 on_grammar old (puts name bytes) refusal new = ⊥
-on_grammar old (opens script) answer new = ⊥
+on_grammar old (opens name script) answer new = ⊥
 on_grammar old lists answer new = ⊥
 on_grammar old (loads name) answer new = ⊥
 on_grammar old (saves name content) refusal new = ⊥
@@ -58,6 +58,7 @@ on_grammar old (writes bytes) refusal new = ⊥
 on_grammar old (crosses modules words budget) answer new = ⊥
 on_grammar old (measures asked modules hook) answer new = ⊥
 on_grammar old (tries modules words budget) answer new = ⊥
+on_grammar old (tests asked modules) answer new = ⊥
 on_grammar old (says text) answer new = ⊥
 
 -- ---- a shelf
@@ -78,21 +79,17 @@ pub record PutOf {H : Type 0} (shelf : ShelfOf H) (old : H) (name : Word) (bytes
   pub count : shelf.faults old ≤ shelf.faults new
   pub failed : refusal ≡ Some shelf_error.Failed → Rose (shelf.faults old) (shelf.faults new)
 
--- the name of a script's module
-abbrev pub main_name : Text
-main_name = chars (codes "__main__")
-
--- loading of a script
-pub record OpenOf {H : Type 0} (shelf : ShelfOf H) (old : H) (script : Word)
+-- loading of a script, whose module has this name
+pub record OpenOf {H : Type 0} (shelf : ShelfOf H) (old : H) (name : Text) (script : Word)
     (answer : Result (List LoadedModule) Refusal) (new : H) : Type 0 where
-  pub moved : Loads shelf.reads old (chars script) main_name answer new
+  pub moved : Loads shelf.reads old (chars script) name answer new
   pub told :
       shelf.tells
-      → LoadsTo (told_by (shelf.files old) (chars script)) (chars script) main_name answer
+      → LoadsTo (told_by (shelf.files old) (chars script)) (chars script) name answer
   pub kept : shelf.tells → shelf.files new ≡ shelf.files old
   pub blames : (o : Object) → by_error blame_of answer ≡ Some o → o ≡ the_shelf
   pub ends :
-      answer ≡ Err shelf_fault → EndsFailed shelf.reads old (chars script) main_name new
+      answer ≡ Err shelf_fault → EndsFailed shelf.reads old (chars script) name new
   pub count : shelf.faults old ≤ shelf.faults new
   pub failed : answer ≡ Err shelf_fault → Rose (shelf.faults old) (shelf.faults new)
 
@@ -102,7 +99,7 @@ on_shelf shelf old (spells words) answer new = ⊥
 on_shelf shelf old (checks bytes) reading new = CheckOf old bytes reading new
 on_shelf shelf old (reads name most) answer new = ReadOf shelf old name most answer new
 on_shelf shelf old (puts name bytes) refusal new = PutOf shelf old name bytes refusal new
-on_shelf shelf old (opens script) answer new = OpenOf shelf old script answer new
+on_shelf shelf old (opens name script) answer new = OpenOf shelf old name script answer new
 on_shelf shelf old lists answer new = ⊥
 on_shelf shelf old (loads name) answer new = ⊥
 on_shelf shelf old (saves name content) refusal new = ⊥
@@ -112,6 +109,7 @@ on_shelf shelf old (writes bytes) refusal new = ⊥
 on_shelf shelf old (crosses modules words budget) answer new = ⊥
 on_shelf shelf old (measures asked modules hook) answer new = ⊥
 on_shelf shelf old (tries modules words budget) answer new = ⊥
+on_shelf shelf old (tests asked modules) answer new = ⊥
 on_shelf shelf old (says text) answer new = ⊥
 
 -- ---- a vault
@@ -158,7 +156,7 @@ on_vault vault old (spells words) answer new = ⊥
 on_vault vault old (checks bytes) reading new = ⊥
 on_vault vault old (reads name most) answer new = ⊥
 on_vault vault old (puts name bytes) refusal new = ⊥
-on_vault vault old (opens script) answer new = ⊥
+on_vault vault old (opens name script) answer new = ⊥
 on_vault vault old lists answer new = ListOf vault old answer new
 on_vault vault old (loads name) answer new = LoadOf vault old name answer new
 on_vault vault old (saves name content) refusal new = SaveOf vault old name content refusal new
@@ -168,6 +166,7 @@ on_vault vault old (writes bytes) refusal new = ⊥
 on_vault vault old (crosses modules words budget) answer new = ⊥
 on_vault vault old (measures asked modules hook) answer new = ⊥
 on_vault vault old (tries modules words budget) answer new = ⊥
+on_vault vault old (tests asked modules) answer new = ⊥
 on_vault vault old (says text) answer new = ⊥
 
 -- ---- a maker of patterns
@@ -186,7 +185,7 @@ on_maker maker old (spells words) answer new = ⊥
 on_maker maker old (checks bytes) reading new = ⊥
 on_maker maker old (reads name most) answer new = ⊥
 on_maker maker old (puts name bytes) refusal new = ⊥
-on_maker maker old (opens script) answer new = ⊥
+on_maker maker old (opens name script) answer new = ⊥
 on_maker maker old lists answer new = ⊥
 on_maker maker old (loads name) answer new = ⊥
 on_maker maker old (saves name content) refusal new = ⊥
@@ -196,6 +195,7 @@ on_maker maker old (writes bytes) refusal new = ⊥
 on_maker maker old (crosses modules words budget) answer new = ⊥
 on_maker maker old (measures asked modules hook) answer new = ⊥
 on_maker maker old (tries modules words budget) answer new = ⊥
+on_maker maker old (tests asked modules) answer new = ⊥
 on_maker maker old (says text) answer new = ⊥
 
 -- ---- an output
@@ -219,7 +219,7 @@ on_sink sink old (spells words) answer new = ⊥
 on_sink sink old (checks bytes) reading new = ⊥
 on_sink sink old (reads name most) answer new = ⊥
 on_sink sink old (puts name bytes) refusal new = ⊥
-on_sink sink old (opens script) answer new = ⊥
+on_sink sink old (opens name script) answer new = ⊥
 on_sink sink old lists answer new = ⊥
 on_sink sink old (loads name) answer new = ⊥
 on_sink sink old (saves name content) refusal new = ⊥
@@ -229,6 +229,7 @@ on_sink sink old (writes bytes) refusal new = WriteOf sink old bytes refusal new
 on_sink sink old (crosses modules words budget) answer new = ⊥
 on_sink sink old (measures asked modules hook) answer new = ⊥
 on_sink sink old (tries modules words budget) answer new = ⊥
+on_sink sink old (tests asked modules) answer new = ⊥
 on_sink sink old (says text) answer new = ⊥
 
 -- ---- `err`
@@ -268,7 +269,7 @@ on_err sink old (spells words) answer new = ⊥
 on_err sink old (checks bytes) reading new = ⊥
 on_err sink old (reads name most) answer new = ⊥
 on_err sink old (puts name bytes) refusal new = ⊥
-on_err sink old (opens script) answer new = ⊥
+on_err sink old (opens name script) answer new = ⊥
 on_err sink old lists answer new = ⊥
 on_err sink old (loads name) answer new = ⊥
 on_err sink old (saves name content) refusal new = ⊥
@@ -278,4 +279,5 @@ on_err sink old (writes bytes) refusal new = ⊥
 on_err sink old (crosses modules words budget) answer new = ⊥
 on_err sink old (measures asked modules hook) answer new = ⊥
 on_err sink old (tries modules words budget) answer new = ⊥
+on_err sink old (tests asked modules) answer new = ⊥
 on_err sink old (says text) answer new = SayOf sink old text new

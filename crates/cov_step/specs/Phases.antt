@@ -1,5 +1,5 @@
 -- The parts that commands share, in the order in which they may be refused.
---     file, needed, before, opened      a call and its answer
+--     file, needed, before, main_name, opened               a call and its answer
 --     settings_file, settings           settings
 --     few, short, patterns              patterns
 --     source, defines, hook_of          sources, and the files of a hook
@@ -58,10 +58,14 @@ before name = do
   answer ← ask (loads name) give
   before_of name answer
 
--- the modules of a script
-abbrev pub opened : Word → Step (List LoadedModule)
-opened script = do
-  answer ← ask (opens script) give
+-- the name of a script's module
+abbrev pub main_name : Text
+main_name = chars (codes "__main__")
+
+-- the modules of a script, of which the first has this name
+abbrev pub opened : Text → Word → Step (List LoadedModule)
+opened name script = do
+  answer ← ask (opens name script) give
   given_or (λ refusal. refusal) answer
 
 -- ---- settings
@@ -151,7 +155,7 @@ hook_in script function ms =
 abbrev pub hook_of : Option (Word × Word) → Step (Option HookFiles)
 hook_of None = give None
 hook_of (Some (script, function)) = do
-  ms ← opened script
+  ms ← opened main_name script
   hook_in script function ms
 
 -- ---- what a run adds to

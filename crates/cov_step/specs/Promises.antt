@@ -32,7 +32,7 @@ use Rattle.cov_why.specs.Answers.{Refusal, usage, no_such_file, syntax, limit, b
 use Rattle.cov_words.specs.Commands.{PlainCommand}
 use Rattle.cov_words.specs.Commands as plain
 use Rattle.cov_words.specs.Values.{Word}
-use Rattle.cov_step.specs.Calls.{Call, spells, checks, reads, puts, opens, lists, loads, saves, removes, makes, writes, crosses, measures, tries, says, Answer, Answered, IsNoMemory}
+use Rattle.cov_step.specs.Calls.{Call, spells, checks, reads, puts, opens, lists, loads, saves, removes, makes, writes, crosses, measures, tries, tests, says, Answer, Answered, Tested, tested, not_imported, starved, IsNoMemory}
 use Rattle.cov_step.specs.Commands.{run}
 use Rattle.cov_step.specs.Phases.{done}
 use Rattle.cov_step.specs.Scripts.{line_step, script_text, script}
@@ -51,7 +51,7 @@ keeps (spells words) answer = true
 keeps (checks bytes) reading = true
 keeps (reads name most) answer = true
 keeps (puts name bytes) refusal = is_refused refusal
-keeps (opens script) answer = true
+keeps (opens name script) answer = true
 keeps lists answer = true
 keeps (loads name) answer = true
 keeps (saves name content) refusal = is_refused refusal
@@ -61,6 +61,7 @@ keeps (writes bytes) refusal = true
 keeps (crosses modules words budget) answer = true
 keeps (measures asked modules hook) answer = true
 keeps (tries modules words budget) answer = true
+keeps (tests asked modules) answer = true
 keeps (says text) answer = true
 
 -- a command that changes shelf or vault by its last call alone, if at all
@@ -91,7 +92,7 @@ is_silent (spells words) answer = true
 is_silent (checks bytes) reading = true
 is_silent (reads name most) answer = true
 is_silent (puts name bytes) refusal = true
-is_silent (opens script) answer = true
+is_silent (opens name script) answer = true
 is_silent lists answer = true
 is_silent (loads name) answer = true
 is_silent (saves name content) refusal = true
@@ -101,6 +102,7 @@ is_silent (writes bytes) refusal = true
 is_silent (crosses modules words budget) answer = true
 is_silent (measures asked modules hook) answer = true
 is_silent (tries modules words budget) answer = true
+is_silent (tests asked modules) answer = true
 is_silent (says text) answer = false
 
 -- a command of one text, which is said when it ended; a script has those of its commands
@@ -131,7 +133,7 @@ calls_vault (spells words) = false
 calls_vault (checks bytes) = false
 calls_vault (reads name most) = false
 calls_vault (puts name bytes) = false
-calls_vault (opens script) = false
+calls_vault (opens name script) = false
 calls_vault lists = true
 calls_vault (loads name) = true
 calls_vault (saves name content) = true
@@ -141,6 +143,7 @@ calls_vault (writes bytes) = false
 calls_vault (crosses modules words budget) = false
 calls_vault (measures asked modules hook) = false
 calls_vault (tries modules words budget) = false
+calls_vault (tests asked modules) = false
 calls_vault (says text) = false
 
 -- a run calls the vault at most twice
@@ -261,7 +264,7 @@ blamed (spells words) answer = None
 blamed (checks bytes) reading = None
 blamed (reads name most) answer = by_error read_blame answer
 blamed (puts name bytes) refusal = by_refusal put_blame refusal
-blamed (opens script) answer = by_error blame_of answer
+blamed (opens name script) answer = by_error blame_of answer
 blamed lists answer = by_error vault_blame answer
 blamed (loads name) answer = by_error load_blame answer
 blamed (saves name content) refusal = by_refusal vault_blame refusal
@@ -271,6 +274,7 @@ blamed (writes bytes) refusal = by_refusal write_blame refusal
 blamed (crosses modules words budget) answer = by_error run_blame answer
 blamed (measures asked modules hook) answer = by_error run_blame answer
 blamed (tries modules words budget) answer = None
+blamed (tests asked modules) answer = None
 blamed (says text) answer = None
 
 -- that is this object
@@ -393,13 +397,19 @@ abbrev pub is_wanting : {A : Type 0} → Option A → Bool
 is_wanting None = true
 is_wanting (Some a) = false
 
+-- tests that memory was wanting for
+abbrev pub tests_starved : Tested → Bool
+tests_starved (tested results rows) = false
+tests_starved not_imported = false
+tests_starved starved = true
+
 -- an answer that an object gives for want of memory
 abbrev pub is_hungry : (call : Call) → Answer call → Bool
 is_hungry (spells words) answer = false
 is_hungry (checks bytes) reading = reading_hungry reading
 is_hungry (reads name most) answer = hungry_error shelf_hungry answer
 is_hungry (puts name bytes) refusal = hungry_refusal shelf_hungry refusal
-is_hungry (opens script) answer = hungry_error refusal_hungry answer
+is_hungry (opens name script) answer = hungry_error refusal_hungry answer
 is_hungry lists answer = hungry_error vault_hungry answer
 is_hungry (loads name) answer = hungry_error vault_hungry answer
 is_hungry (saves name content) refusal = hungry_refusal vault_hungry refusal
@@ -409,6 +419,7 @@ is_hungry (writes bytes) refusal = hungry_refusal sink_hungry refusal
 is_hungry (crosses modules words budget) answer = hungry_error run_hungry answer
 is_hungry (measures asked modules hook) answer = hungry_error run_hungry answer
 is_hungry (tries modules words budget) answer = is_wanting answer
+is_hungry (tests asked modules) answer = tests_starved answer
 is_hungry (says text) answer = false
 
 -- After such an answer a command is refused for want of memory.

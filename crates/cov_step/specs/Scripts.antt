@@ -27,6 +27,7 @@ use Rattle.cov_step.specs.Answers.{given_or, sink_refusal, on}
 use Rattle.cov_step.specs.Commands.{arcs, run, combine, report, json, lcov, annotate, erase}
 use Rattle.cov_step.specs.Making.{make}
 use Rattle.cov_step.specs.Phases.{file, done}
+use Rattle.cov_step.specs.Testing.{suite}
 
 -- a command of a script; there a script is no command, nor is one that isn't built
 abbrev pub inside : PlainCommand → Step Answered
@@ -43,7 +44,8 @@ inside (plain.annotate data_file rcfile file) = annotate data_file rcfile file
 inside (plain.erase data_file rcfile) = erase data_file rcfile
 inside (plain.script file) = refuse (usage 0)
 inside (plain.make seed size) = make seed size
-inside (plain.suite branch budget data_file rcfile file) = refuse (usage 0)
+inside (plain.suite branch budget data_file rcfile file) =
+    suite branch budget data_file rcfile file
 inside (plain.select budget old new) = refuse (usage 0)
 inside (plain.mutate budget file) = refuse (usage 0)
 

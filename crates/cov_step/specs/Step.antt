@@ -14,6 +14,7 @@ use Rattle.cov_step.specs.Answers.{given_or}
 use Rattle.cov_step.specs.Commands.{arcs, run, combine, report, json, lcov, annotate, erase}
 use Rattle.cov_step.specs.Making.{make}
 use Rattle.cov_step.specs.Scripts.{script}
+use Rattle.cov_step.specs.Testing.{suite}
 
 -- whether a command is built
 abbrev pub is_built : PlainCommand → Bool
@@ -27,7 +28,7 @@ is_built (plain.annotate data_file rcfile file) = true
 is_built (plain.erase data_file rcfile) = true
 is_built (plain.script file) = true
 is_built (plain.make seed size) = true
-is_built (plain.suite branch budget data_file rcfile file) = false
+is_built (plain.suite branch budget data_file rcfile file) = true
 is_built (plain.select budget old new) = false
 is_built (plain.mutate budget file) = false
 
@@ -63,7 +64,8 @@ doing (plain.annotate data_file rcfile file) = annotate data_file rcfile file
 doing (plain.erase data_file rcfile) = erase data_file rcfile
 doing (plain.script file) = script file
 doing (plain.make seed size) = make seed size
-doing (plain.suite branch budget data_file rcfile file) = refuse (usage 0)
+doing (plain.suite branch budget data_file rcfile file) =
+    suite branch budget data_file rcfile file
 doing (plain.select budget old new) = refuse (usage 0)
 doing (plain.mutate budget file) = refuse (usage 0)
 

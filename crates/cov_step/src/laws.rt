@@ -1,6 +1,6 @@
 //! Laws of the commands, whatever the objects do that they call.
 ghost use Rattle.cov_step.specs.Combining.{CombineLaw};
-ghost use Rattle.cov_step.specs.Early.{EarlyLaw};
+ghost use Rattle.cov_step.specs.Early.{EarlyLaw, ImportLaw};
 ghost use Rattle.cov_step.specs.Promises.{BlameLaw, CarefulLaw, QuietLaw, RunTwiceLaw, YieldLaw};
 
 /// A command that changes shelf or vault by its last call alone isn't refused after it. So a
@@ -16,10 +16,15 @@ pub fn quiet()
 {}
 
 /// A command but a script is refused before it runs or writes anything; what may come later are
-/// faults, want of memory, and a save of a run whose target isn't of schema 7. It does nothing
-/// when it runs.
+/// faults, want of memory, a save of a run or of tests whose target isn't of schema 7, and an
+/// import of tests that failed. It does nothing when it runs.
 pub fn refuses_early()
     ensures { EarlyLaw }
+{}
+
+/// Tests whose import failed are refused before anything is written. It does nothing when it runs.
+pub fn import_fails_early()
+    ensures { ImportLaw }
 {}
 
 /// `combine` is refused before it changed data, but by faults of the vault and want of memory, and

@@ -6,6 +6,6 @@
 mod laws;
 
 pub use laws::{
-    blames_who_failed, careful, combine_is_careful, quiet, refuses_early, run_calls_vault_twice,
-    yields_to_want_of_memory,
+    blames_who_failed, careful, combine_is_careful, import_fails_early, quiet, refuses_early,
+    run_calls_vault_twice, yields_to_want_of_memory,
 };

@@ -1,3 +1,4 @@
 pub mod Objects
 pub mod Runs
 pub mod Trials
+pub mod Suites

@@ -9,10 +9,11 @@ use Rattle.cov_outside.specs.declared.source.Source.{Ghosts as SourceOf}
 use Rattle.py_machine.specs.declared.engine.Engine.{Ghosts as EngineOf}
 use Rattle.cov_measure.specs.Measures.{Streams, streams}
 use Rattle.cov_programs.specs.Objects.{Moves}
-use Rattle.cov_step.specs.Calls.{Call, spells, checks, reads, puts, opens, lists, loads, saves, removes, makes, writes, crosses, measures, tries, says, Answer}
+use Rattle.cov_step.specs.Calls.{Call, spells, checks, reads, puts, opens, lists, loads, saves, removes, makes, writes, crosses, measures, tries, tests, says, Answer}
 use Rattle.cov_step.specs.Objects.{WriteOf}
 use Rattle.cov_streams.specs.Runs.{MeasureRun, CrossRun}
 use Rattle.cov_streams.specs.Trials.{TryRun}
+use Rattle.cov_streams.specs.Suites.{TestsRun}
 
 -- a write, which leaves the others alone
 pub record WriteRun {I O P G : Type 0} (sink : SinkOf O) (old : Streams I O P G) (bytes : List ℕ)
@@ -20,14 +21,14 @@ pub record WriteRun {I O P G : Type 0} (sink : SinkOf O) (old : Streams I O P G)
   pub wrote : WriteOf sink old.out bytes refusal new.out
   pub same : new ≡ streams old.input new.out old.plugins old.engine
 
--- input, output, plugins and engine; a try leaves them alone
+-- input, output, plugins and engine; a try leaves them alone, and tests leave all but the plugins
 abbrev pub on_run : {I O P G : Type 0} → SourceOf I → SinkOf O → PluginOf P → EngineOf G
     → Moves Call Answer (Streams I O P G)
 on_run source sink plugin engine old (spells words) answer new = ⊥
 on_run source sink plugin engine old (checks bytes) reading new = ⊥
 on_run source sink plugin engine old (reads name most) answer new = ⊥
 on_run source sink plugin engine old (puts name bytes) refusal new = ⊥
-on_run source sink plugin engine old (opens script) answer new = ⊥
+on_run source sink plugin engine old (opens name script) answer new = ⊥
 on_run source sink plugin engine old lists answer new = ⊥
 on_run source sink plugin engine old (loads name) answer new = ⊥
 on_run source sink plugin engine old (saves name content) refusal new = ⊥
@@ -41,4 +42,6 @@ on_run source sink plugin engine old (measures asked modules hook) answer new =
     MeasureRun source sink plugin engine old asked modules hook answer new
 on_run source sink plugin engine old (tries modules words budget) answer new =
     TryRun old modules words budget answer new
+on_run source sink plugin engine old (tests asked modules) answer new =
+    TestsRun plugin old asked modules answer new
 on_run source sink plugin engine old (says text) answer new = ⊥

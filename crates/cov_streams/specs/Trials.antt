@@ -12,7 +12,7 @@ use Rattle.cov_data.specs.DataSet.{Text as Bytes}
 use Rattle.cov_measure_laws.specs.Meant.{tree_plan}
 use Rattle.cov_measure_laws.specs.Whole.{IsDataOf}
 use Rattle.cov_programs.specs.Objects.{Moves}
-use Rattle.cov_step.specs.Calls.{Call, spells, checks, reads, puts, opens, lists, loads, saves, removes, makes, writes, crosses, measures, tries, says, Answer, Ran}
+use Rattle.cov_step.specs.Calls.{Call, spells, checks, reads, puts, opens, lists, loads, saves, removes, makes, writes, crosses, measures, tries, tests, says, Answer, Ran}
 use Rattle.cov_step.specs.Objects.{CheckOf}
 
 -- nobody gives labels
@@ -46,7 +46,7 @@ on_trial old (spells words) answer new = ⊥
 on_trial old (checks bytes) reading new = CheckOf old bytes reading new
 on_trial old (reads name most) answer new = ⊥
 on_trial old (puts name bytes) refusal new = ⊥
-on_trial old (opens script) answer new = ⊥
+on_trial old (opens name script) answer new = ⊥
 on_trial old lists answer new = ⊥
 on_trial old (loads name) answer new = ⊥
 on_trial old (saves name content) refusal new = ⊥
@@ -56,4 +56,5 @@ on_trial old (writes bytes) refusal new = ⊥
 on_trial old (crosses modules words budget) answer new = ⊥
 on_trial old (measures asked modules hook) answer new = ⊥
 on_trial old (tries modules words budget) answer new = TryRun old modules words budget answer new
+on_trial old (tests asked modules) answer new = ⊥
 on_trial old (says text) answer new = ⊥
