@@ -16,7 +16,8 @@ use Rattle.cov_vault.specs.declared.vault.VaultError.{VaultError}
 use Rattle.cov_vault.specs.declared.vault.VaultError.TheVariants as vault_error
 use Rattle.cov_why.specs.Answers.{Refusal, PlainWhy}
 use Rattle.cov_words.specs.Values.{Word}
-use Rattle.cov_step.specs.Calls.{Call, spells, checks, reads, puts, opens, lists, loads, saves, removes, makes, writes, crosses, measures, tries, says, Answer, Answered, Ran, Step}
+use Rattle.py_syntax.specs.Tree.{Text}
+use Rattle.cov_step.specs.Calls.{Call, spells, checks, reads, puts, opens, lists, loads, saves, removes, makes, writes, crosses, measures, tries, tests, says, Answer, Answered, Ran, Step}
 use Rattle.cov_step.specs.Answers.{bytes_of, bytes_if_any, given_or, load_refusal, vault_refusal, Before, before_of, removed, pattern_refusal, last, on, tree_of}
 use Rattle.cov_step.specs.Making.{ran_if_any}
 use Rattle.cov_step.specs.Phases.{needed, before, opened, settings, patterns_by, source, hook_of, joins, inputs, is_part_of, own_input, some_input, same_kind, reported}
@@ -90,11 +91,11 @@ module _ (k : (call : Call) → Answer call → Bool) where
 
   -- ---- programs that make quiet calls alone
 
-  module _ (of_reads : (name : Word) (most : ℕ) (x : Answer (reads name most)) → k (reads name most) x ≡ true) (of_opens : (script : Word) (x : Answer (opens script)) → k (opens script) x ≡ true)
+  module _ (of_reads : (name : Word) (most : ℕ) (x : Answer (reads name most)) → k (reads name most) x ≡ true) (of_opens : (name : Text) (script : Word) (x : Answer (opens name script)) → k (opens name script) x ≡ true)
       (of_checks : (bytes : List ℕ) (x : Answer (checks bytes)) → k (checks bytes) x ≡ true) (of_makes : (texts : List (List ℕ)) (x : Answer (makes texts)) → k (makes texts) x ≡ true)
       (of_loads : (name : Word) (x : Answer (loads name)) → k (loads name) x ≡ true) (of_lists : (x : Answer lists) → k lists x ≡ true) where
-    pub opened-keeps : (script : Word) → Keeps _ (opened script)
-    opened-keeps script = λ x. (of_opens script x, given-keeps (λ refusal. refusal) x)
+    pub opened-keeps : (name : Text) (script : Word) → Keeps _ (opened name script)
+    opened-keeps name script = λ x. (of_opens name script x, given-keeps (λ refusal. refusal) x)
 
     pub needed-keeps : (name : Word) → Keeps _ (needed name)
     needed-keeps name = λ x. (of_loads name x, given-keeps (load_refusal name) x)
@@ -153,7 +154,7 @@ is_quiet (spells words) answer = true
 is_quiet (checks bytes) reading = true
 is_quiet (reads name most) answer = true
 is_quiet (puts name bytes) refusal = false
-is_quiet (opens script) answer = true
+is_quiet (opens name script) answer = true
 is_quiet lists answer = true
 is_quiet (loads name) answer = true
 is_quiet (saves name content) refusal = false
@@ -163,49 +164,50 @@ is_quiet (writes bytes) refusal = false
 is_quiet (crosses modules words budget) answer = false
 is_quiet (measures asked modules hook) answer = false
 is_quiet (tries modules words budget) answer = true
+is_quiet (tests asked modules) answer = false
 is_quiet (says text) answer = false
 
 abbrev pub IsQuiet : {A : Type 0} → Step A → Type 0
 IsQuiet p = OnlyKeeps is_quiet p
 
-pub quiet-opened : (script : Word) → IsQuiet (opened script)
-quiet-opened = opened-keeps is_quiet (λ n m x. refl) (λ s x. refl) (λ b x. refl) (λ t x. refl) (λ n x. refl) (λ x. refl)
+pub quiet-opened : (name : Text) (script : Word) → IsQuiet (opened name script)
+quiet-opened = opened-keeps is_quiet (λ n m x. refl) (λ n s x. refl) (λ b x. refl) (λ t x. refl) (λ n x. refl) (λ x. refl)
 
 pub quiet-needed : (name : Word) → IsQuiet (needed name)
-quiet-needed = needed-keeps is_quiet (λ n m x. refl) (λ s x. refl) (λ b x. refl) (λ t x. refl) (λ n x. refl) (λ x. refl)
+quiet-needed = needed-keeps is_quiet (λ n m x. refl) (λ n s x. refl) (λ b x. refl) (λ t x. refl) (λ n x. refl) (λ x. refl)
 
 pub quiet-before : (name : Word) → IsQuiet (before name)
-quiet-before = stands-keeps is_quiet (λ n m x. refl) (λ s x. refl) (λ b x. refl) (λ t x. refl) (λ n x. refl) (λ x. refl)
+quiet-before = stands-keeps is_quiet (λ n m x. refl) (λ n s x. refl) (λ b x. refl) (λ t x. refl) (λ n x. refl) (λ x. refl)
 
 pub quiet-inputs : (own : Word) (named : List Word) → IsQuiet (inputs own named)
-quiet-inputs = inputs-keeps is_quiet (λ n m x. refl) (λ s x. refl) (λ b x. refl) (λ t x. refl) (λ n x. refl) (λ x. refl)
+quiet-inputs = inputs-keeps is_quiet (λ n m x. refl) (λ n s x. refl) (λ b x. refl) (λ t x. refl) (λ n x. refl) (λ x. refl)
 
 pub quiet-settings : (rcfile : Option Word) → IsQuiet (settings rcfile)
-quiet-settings = settings-keeps is_quiet (λ n m x. refl) (λ s x. refl) (λ b x. refl) (λ t x. refl) (λ n x. refl) (λ x. refl)
+quiet-settings = settings-keeps is_quiet (λ n m x. refl) (λ n s x. refl) (λ b x. refl) (λ t x. refl) (λ n x. refl) (λ x. refl)
 
 pub quiet-patterns_by : (exclude partial : List (List ℕ)) → IsQuiet (patterns_by exclude partial)
-quiet-patterns_by = patterns_by-keeps is_quiet (λ n m x. refl) (λ s x. refl) (λ b x. refl) (λ t x. refl) (λ n x. refl) (λ x. refl)
+quiet-patterns_by = patterns_by-keeps is_quiet (λ n m x. refl) (λ n s x. refl) (λ b x. refl) (λ t x. refl) (λ n x. refl) (λ x. refl)
 
 pub quiet-source : (path : Word) → IsQuiet (source path)
-quiet-source = source-keeps is_quiet (λ n m x. refl) (λ s x. refl) (λ b x. refl) (λ t x. refl) (λ n x. refl) (λ x. refl)
+quiet-source = source-keeps is_quiet (λ n m x. refl) (λ n s x. refl) (λ b x. refl) (λ t x. refl) (λ n x. refl) (λ x. refl)
 
 pub quiet-hook : (h : Option (Word × Word)) → IsQuiet (hook_of h)
-quiet-hook = hook-keeps is_quiet (λ n m x. refl) (λ s x. refl) (λ b x. refl) (λ t x. refl) (λ n x. refl) (λ x. refl)
+quiet-hook = hook-keeps is_quiet (λ n m x. refl) (λ n s x. refl) (λ b x. refl) (λ t x. refl) (λ n x. refl) (λ x. refl)
 
 pub quiet-joins : (append : Bool) (name : Word) (arcs : Bool) (was : Before) → IsQuiet (joins append name arcs was)
-quiet-joins = joins-keeps is_quiet (λ n m x. refl) (λ s x. refl) (λ b x. refl) (λ t x. refl) (λ n x. refl) (λ x. refl)
+quiet-joins = joins-keeps is_quiet (λ n m x. refl) (λ n s x. refl) (λ b x. refl) (λ t x. refl) (λ n x. refl) (λ x. refl)
 
 pub quiet-own_input : (append : Bool) (name : Word) (was : Before) → IsQuiet (own_input append name was)
-quiet-own_input = own_input-keeps is_quiet (λ n m x. refl) (λ s x. refl) (λ b x. refl) (λ t x. refl) (λ n x. refl) (λ x. refl)
+quiet-own_input = own_input-keeps is_quiet (λ n m x. refl) (λ n s x. refl) (λ b x. refl) (λ t x. refl) (λ n x. refl) (λ x. refl)
 
 pub quiet-some_input : (name : Word) (own : Bool) (ns : List Word) → IsQuiet (some_input name own ns)
-quiet-some_input = some_input-keeps is_quiet (λ n m x. refl) (λ s x. refl) (λ b x. refl) (λ t x. refl) (λ n x. refl) (λ x. refl)
+quiet-some_input = some_input-keeps is_quiet (λ n m x. refl) (λ n s x. refl) (λ b x. refl) (λ t x. refl) (λ n x. refl) (λ x. refl)
 
 pub quiet-same_kind : (ds : List DataSet) → IsQuiet (same_kind ds)
-quiet-same_kind = same_kind-keeps is_quiet (λ n m x. refl) (λ s x. refl) (λ b x. refl) (λ t x. refl) (λ n x. refl) (λ x. refl)
+quiet-same_kind = same_kind-keeps is_quiet (λ n m x. refl) (λ n s x. refl) (λ b x. refl) (λ t x. refl) (λ n x. refl) (λ x. refl)
 
 pub quiet-reported : (data_file rcfile : Option Word) → IsQuiet (reported data_file rcfile)
-quiet-reported = reported-keeps is_quiet (λ n m x. refl) (λ s x. refl) (λ b x. refl) (λ t x. refl) (λ n x. refl) (λ x. refl)
+quiet-reported = reported-keeps is_quiet (λ n m x. refl) (λ n s x. refl) (λ b x. refl) (λ t x. refl) (λ n x. refl) (λ x. refl)
 
 -- ---- programs that ended well
 
@@ -219,7 +221,7 @@ module _ {P : Type 0} (plugin : PluginOf P) where
   quiet-kept u (checks bytes) x v m e = m.1
   quiet-kept u (reads name most) x v m e = m.1
   quiet-kept u (puts name bytes) x v m e = absurd (true≢false (sym e))
-  quiet-kept u (opens script) x v m e = m.1
+  quiet-kept u (opens name script) x v m e = m.1
   quiet-kept u lists x v m e = m.1
   quiet-kept u (loads name) x v m e = m.1
   quiet-kept u (saves name content) x v m e = absurd (true≢false (sym e))
@@ -229,6 +231,7 @@ module _ {P : Type 0} (plugin : PluginOf P) where
   quiet-kept u (crosses modules words budget) x v m e = absurd (true≢false (sym e))
   quiet-kept u (measures asked modules hook) x v m e = absurd (true≢false (sym e))
   quiet-kept u (tries modules words budget) x v m e = m
+  quiet-kept u (tests asked modules) x v m e = absurd (true≢false (sym e))
   quiet-kept u (says text) x v m e = absurd (true≢false (sym e))
 
   -- a quiet program changes nothing

@@ -1,10 +1,10 @@
 -- Where the data come from that are kept, command by command.
-use Rattle.std.proofs.Common.{◌≡◌, ◌≢◌, inl, inr, ◌∙◌, ◌<◌, ◌++◌, Bool, true, false, true≢false, not, cond, refl, sym, ap, subst, List, [], ◌∷◌, length, Option, Some, None, arith}
+use Rattle.std.proofs.Common.{◌≡◌, ◌≢◌, inl, inr, ◌∙◌, ◌<◌, ◌++◌, Bool, true, false, true≢false, not, cond, refl, sym, ap, subst, List, [], ◌∷◌, map, Contains, length, Option, Some, None, arith}
 use Rattle.std.specs.Prelude.{◌⊎◌, ◌||◌}
 use Rattle.std.specs.Bool.{beq}
 use Rattle.std.specs.FinMap as finite
 use Rattle.std.specs.FinMap.{get-insert}
-use Rattle.std.specs.List.{list_any}
+use Rattle.std.specs.List.{fold, list_any}
 use Rattle.std.specs.Ordering.{eq_by_cmp}
 use Rattle.std.specs.Str.{bytes_eq}
 use Rattle.std.proofs.lemmas.List.Elements.{Contains-append_right}
@@ -19,16 +19,19 @@ use Rattle.cov_vault.specs.declared.vault.Content.TheVariants.{Good}
 use Rattle.cov_words.specs.Commands.{PlainCommand}
 use Rattle.cov_words.specs.Commands as plain
 use Rattle.cov_words.specs.Values.{Word}
-use Rattle.cov_step.specs.Calls.{Answered, Asked}
+use Rattle.cov_step.specs.Calls.{Answered, Asked, TestsAsked}
 use Rattle.cov_step.specs.Commands.{asked_by, hook_named}
 use Rattle.cov_step.specs.Phases as phases
+use Rattle.cov_step.specs.Testing.{tests_asked}
+use Rattle.cov_suite.specs.Tests.{tests_of}
 use Rattle.cov_headline.specs.Commands.{Loses, Promise, runs_of}
 use Rattle.cov_headline.specs.Kept.{Recorded, IsFrom, AreFrom, AreKept}
 use Rattle.cov_headline.specs.Origins.{PlainRun, Origin, found, ran, joined, united, Origins, no_more, and_of, data_of, datas_of, IsRecorded, IsOf, AreOf}
 use Rattle.cov_headline.specs.Promises.{run_of, AddsTo, RunPromise, HasOwn, HasInputs, names_in, CombinePromise}
+use Rattle.cov_headline.specs.Suites.{import_run, test_run, suite_runs, AreRecorded, paired, SuitePromise}
 use Rattle.cov_headline.specs.Told.{Held}
 use Rattle.cov_headline.proofs.Joining.{combined-kind}
-use Rattle.cov_headline.proofs.Lists.{as-first}
+use Rattle.cov_headline.proofs.Lists.{as-first, as-later}
 use Rattle.cov_headline.proofs.Losing.{loses-none}
 
 some-same : {A : Type 0} {a b : A} → ◌≡◌ {A = Option A} (Some a) (Some b) → a ≡ b
@@ -90,6 +93,33 @@ module _ (first : Contents) (r : PlainRun) (rows : DataSet) (arcs : Bool) (kind 
       by : (b : Bool) → finite.get new name ≡ cond b (Some (Good (phases.joined before rows))) (finite.get old name) → Kept d
       by true at = subst (λ y. Kept y) (good-same (some-same (sym at ∙ e))) (joined-rows append own before adds)
       by false at = let x = k name d (sym at ∙ e) in (x.0, x.1, x.2, from-more first ((r, rows) ∷ []) runs x.0 x.3)
+
+-- ---- tests
+
+-- each of these runs is among others
+abbrev AreAmong : Recorded → Recorded → Type 0
+AreAmong all [] = Unit {0}
+AreAmong all (x ∷ xs) = Contains all x × AreAmong all xs
+
+among-later : (x : PlainRun × DataSet) (all xs : Recorded) → AreAmong all xs → AreAmong (x ∷ all) xs
+among-later x all [] h = tt
+among-later x all (y ∷ ys) h = (as-later x all y h.0, among-later x all ys h.1)
+
+among-front : (xs ys : Recorded) → AreAmong (xs ++ ys) xs
+among-front [] ys = tt
+among-front (x ∷ xs) ys = (as-first x (xs ++ ys), among-later x (xs ++ ys) xs (among-front xs ys))
+
+union-kind : (d : DataSet) (ds : List DataSet) → (fold union d ds).arcs ≡ d.arcs
+union-kind d [] = refl
+union-kind d (e ∷ ds) = union-kind (union d e) ds
+
+-- the data of runs, one after another
+joined-all : (first : Contents) (all : Recorded) (arcs : Bool) (rs : List PlainRun) (ds : List DataSet) → AreRecorded arcs rs ds → AreAmong all (paired rs ds) → (o : Origin) → IsOf arcs o → IsFrom first all o
+    → (q : Origin) × (data_of q ≡ fold union (data_of o) ds) × IsOf arcs q × IsFrom first all q
+joined-all first all arcs [] [] h a o of from = (o, refl, of, from)
+joined-all first all arcs [] (d ∷ ds) h a o of from = absurd h
+joined-all first all arcs (r ∷ rs) [] h a o of from = absurd h
+joined-all first all arcs (r ∷ rs) (d ∷ ds) h a o of from = joined-all first all arcs rs ds h.2 a.1 (joined o (ran r d)) (of, (h.0, h.1)) (from, a.0)
 
 -- ---- a combine
 
@@ -181,6 +211,22 @@ module _ {P : Type 0} (plugin : PluginOf P) (first : Contents) (runs : Recorded)
         | inr gone ↦ absurd (none-some (sym gone ∙ e))
       ]
 
+  kept-suite : (asked : TestsAsked) (own file : Word) (old : Held P) (a : Answered) (new : Held P) → AreKept first runs old.contents → (p : SuitePromise plugin asked own file old a new)
+      → AreKept first (paired (suite_runs p.modules asked.budget) (p.of_import ∷ p.of_tests) ++ runs) new.contents
+  kept-suite asked own file old a new k p name d e = by (eq_by_cmp text_cmp name own) (ap (λ c. finite.get c name) p.saved ∙ get-insert text_cmp_total old.contents own (Good (fold union p.of_import p.of_tests)) name)
+    where
+      from-its : (o : Origin) × (data_of o ≡ fold union p.of_import p.of_tests) × IsOf (fold union p.of_import p.of_tests).arcs o × IsFrom first (paired (suite_runs p.modules asked.budget) (p.of_import ∷ p.of_tests) ++ runs) o
+      from-its =
+          let all = paired (suite_runs p.modules asked.budget) (p.of_import ∷ p.of_tests) ++ runs in
+          let among = among-front (paired (suite_runs p.modules asked.budget) (p.of_import ∷ p.of_tests)) runs in
+          let q = joined-all first all asked.arcs (map (test_run p.modules asked.budget) (tests_of p.modules)) p.of_tests p.recorded.2 among.1 (ran (import_run p.modules asked.budget) p.of_import) (p.recorded.0, p.recorded.1) among.0 in
+          (q.0, q.1, subst (λ b. IsOf b q.0) (sym (union-kind p.of_import p.of_tests ∙ p.recorded.0)) q.2, q.3)
+
+      by : (b : Bool) → finite.get new.contents name ≡ cond b (Some (Good (fold union p.of_import p.of_tests))) (finite.get old.contents name)
+          → (o : Origin) × (data_of o ≡ d) × IsOf d.arcs o × IsFrom first (paired (suite_runs p.modules asked.budget) (p.of_import ∷ p.of_tests) ++ runs) o
+      by true at = subst (λ (y : DataSet). (o : Origin) × (data_of o ≡ y) × IsOf y.arcs o × IsFrom first (paired (suite_runs p.modules asked.budget) (p.of_import ∷ p.of_tests) ++ runs) o) (good-same (some-same (sym at ∙ e))) from-its
+      by false at = let x = k name d (sym at ∙ e) in (x.0, x.1, x.2, from-more first (paired (suite_runs p.modules asked.budget) (p.of_import ∷ p.of_tests)) runs x.0 x.3)
+
   -- what a command promises keeps it
   pub promise-keeps : (c : PlainCommand) (old : Held P) (a : Answered) (new : Held P) (p : Promise plugin first runs c old a new) → AreKept first runs old.contents → AreKept first (runs_of plugin first runs c old a new p ++ runs) new.contents
   promise-keeps (plain.arcs budget script args) old a new p k = kept-less first runs old.contents new.contents k p
@@ -195,6 +241,6 @@ module _ {P : Type 0} (plugin : PluginOf P) (first : Contents) (runs : Recorded)
   promise-keeps (plain.erase data_file rcfile) old a new p k = kept-less first runs old.contents new.contents k p
   promise-keeps (plain.script file) old a new p k = absurd p
   promise-keeps (plain.make seed size) old a new p k = kept-less first runs old.contents new.contents k p
-  promise-keeps (plain.suite branch budget data_file rcfile file) old a new p k = absurd p
+  promise-keeps (plain.suite branch budget data_file rcfile file) old a new p k = kept-suite (tests_asked p.0 branch budget) (phases.own_name data_file p.0) file old a new k p.2
   promise-keeps (plain.select budget old_file new_file) old a new p k = absurd p
   promise-keeps (plain.mutate budget file) old a new p k = absurd p

@@ -6,6 +6,7 @@ pub mod Telling
 pub mod Going
 pub mod Recorded
 pub mod Running
+pub mod Testing
 pub mod Reporting
 pub mod Combining
 pub mod Losing
@@ -13,3 +14,4 @@ pub mod Kept
 pub mod Lines
 pub mod Heading
 pub mod Came
+mod Rows

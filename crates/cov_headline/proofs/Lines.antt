@@ -34,6 +34,7 @@ use Rattle.cov_headline.proofs.Losing.{loses-all, arcs-none, json-none, lcov-non
 use Rattle.cov_headline.proofs.Recorded.{CameLaw}
 use Rattle.cov_headline.proofs.Reporting.{report-promise, file-so}
 use Rattle.cov_headline.proofs.Running.{run-promise}
+use Rattle.cov_headline.proofs.Testing.{suite-promise}
 
 module _ {P : Type 0} (plugin : PluginOf P) (came : CameLaw) where
   -- ---- a command
@@ -54,7 +55,7 @@ module _ {P : Type 0} (plugin : PluginOf P) (came : CameLaw) where
   inside-promise first runs (plain.erase data_file rcfile) old a new k h = loses-all plugin (inside (plain.erase data_file rcfile)) old new (Ok a) (erase-none data_file rcfile) h
   inside-promise first runs (plain.script name) old a new k h = refused-so (usage 0) a old new h
   inside-promise first runs (plain.make seed size) old a new k h = loses-all plugin (inside (plain.make seed size)) old new (Ok a) (make-none seed size) h
-  inside-promise first runs (plain.suite branch budget data_file rcfile name) old a new k h = refused-so (usage 0) a old new h
+  inside-promise first runs (plain.suite branch budget data_file rcfile name) old a new k h = suite-promise plugin came branch budget data_file rcfile name old a new h
   inside-promise first runs (plain.select budget old_file new_file) old a new k h = refused-so (usage 0) a old new h
   inside-promise first runs (plain.mutate budget name) old a new k h = refused-so (usage 0) a old new h
 
@@ -160,7 +161,7 @@ module _ {P : Type 0} (plugin : PluginOf P) (came : CameLaw) where
   script-so name old new ending h = by (parted (tells plugin) nothing_wants (script_text name) (λ text. lines_done (lines text)) old new ending h)
     where
       by : Parted (tells plugin) nothing_wants (script_text name) (λ text. lines_done (lines text)) old ending new → ScriptKept plugin name old ending new
-      by (inr (why, g, is)) = inl (why, is, quiet-same plugin (script_text name) old new (Err why) (quiet-script name) g)
+      by (inr (why, g, is)) = inl (why, record { ends = g }, is, quiet-same plugin (script_text name) old new (Err why) (quiet-script name) g)
       by (inl (text, mid, g, rest)) =
           lines-so name text old new ending (text-so name old mid text g) (subst (λ w. Goes plugin (lines_done (lines text)) w ending new) (quiet-same plugin (script_text name) old mid (Ok text) (quiet-script name) g) rest)
 
@@ -189,4 +190,4 @@ module _ {P : Type 0} (plugin : PluginOf P) (came : CameLaw) where
   words-kept words old new ending (inl s) = absurd s.wanting
   words-kept words old new ending (inr (Ok c, u, m, rest)) = inl (c, m.0.0, command-so c old new ending (subst (λ w. Goes plugin (doing c) w ending new) m.1 rest))
   words-kept words old new ending (inr (Err i, u, m, inl s)) = absurd s.wanting
-  words-kept words old new ending (inr (Err i, u, m, inr (is, same))) = inr (m.0.0, same ∙ m.1)
+  words-kept words old new ending (inr (Err i, u, m, inr (is, same))) = inr (m.0.0, (i, is), same ∙ m.1)

@@ -16,13 +16,14 @@ use Rattle.cov_vault.specs.Contents.{Contents}
 use Rattle.cov_vault.specs.declared.vault.VaultError.TheVariants as vault_error
 use Rattle.cov_why.specs.Answers.{PlainWhy}
 use Rattle.cov_words.specs.Values.{Word}
-use Rattle.cov_step.specs.Calls.{Call, spells, checks, reads, puts, opens, lists, loads, saves, removes, makes, writes, crosses, measures, tries, says, Answer, Answered, Step}
+use Rattle.py_syntax.specs.Tree.{Text}
+use Rattle.cov_step.specs.Calls.{Call, spells, checks, reads, puts, opens, lists, loads, saves, removes, makes, writes, crosses, measures, tries, tests, says, Answer, Answered, Step}
 use Rattle.cov_step.specs.Answers.{given_or, run_refusal, shelf_refusal, sink_refusal, last, tree_of}
 use Rattle.cov_step.specs.Commands.{words_of, usual_steps, arcs, json, lcov, annotate, erase}
 use Rattle.cov_step.specs.Listing.{listing}
 use Rattle.cov_step.specs.Making.{made_path, made_module, ran_if_any, made_line, made_by, make}
 use Rattle.cov_step.specs.Names.{or_else}
-use Rattle.cov_step.specs.Phases.{needed, opened, settings, own_name, patterns, patterns_by, source, analysed, reported, judged, done, write_last, put_last, remove_last, answered_by}
+use Rattle.cov_step.specs.Phases.{needed, main_name, opened, settings, own_name, patterns, patterns_by, source, analysed, reported, judged, done, write_last, put_last, remove_last, answered_by}
 use Rattle.cov_headline.specs.Commands.{Loses}
 use Rattle.cov_headline.specs.Told.{Held, tells}
 use Rattle.cov_headline.proofs.Combining.{lost}
@@ -34,7 +35,7 @@ saves_none (spells words) answer = true
 saves_none (checks bytes) reading = true
 saves_none (reads name most) answer = true
 saves_none (puts name bytes) refusal = true
-saves_none (opens script) answer = true
+saves_none (opens name script) answer = true
 saves_none lists answer = true
 saves_none (loads name) answer = true
 saves_none (saves name content) refusal = false
@@ -44,6 +45,7 @@ saves_none (writes bytes) refusal = true
 saves_none (crosses modules words budget) answer = true
 saves_none (measures asked modules hook) answer = true
 saves_none (tries modules words budget) answer = true
+saves_none (tests asked modules) answer = true
 saves_none (says text) answer = true
 
 abbrev SavesNone : {A : Type 0} → Step A → Type 0
@@ -71,7 +73,7 @@ module _ {P : Type 0} (plugin : PluginOf P) where
   call-loses u (checks bytes) x v m e = same-contents u v m.1
   call-loses u (reads name most) x v m e = same-contents u v m.1
   call-loses u (puts name bytes) x v m e = loses-none u.contents v.contents (ap (λ (w : Held P). w.contents) m.1)
-  call-loses u (opens script) x v m e = same-contents u v m.1
+  call-loses u (opens name script) x v m e = same-contents u v m.1
   call-loses u lists x v m e = same-contents u v m.1
   call-loses u (loads name) x v m e = same-contents u v m.1
   call-loses u (saves name content) x v m e = absurd (true≢false (sym e))
@@ -88,6 +90,7 @@ module _ {P : Type 0} (plugin : PluginOf P) where
   call-loses u (measures asked modules hook) (Ok r) v m e = loses-none u.contents v.contents (ap (λ (w : Held P). w.contents) m.1)
   call-loses u (measures asked modules hook) (Err fault) v m e = absurd m
   call-loses u (tries modules words budget) x v m e = same-contents u v m
+  call-loses u (tests asked modules) x v m e = loses-none u.contents v.contents (ap (λ (w : Held P). w.contents) m.1)
   call-loses u (says text) x v m e = loses-none u.contents v.contents (ap (λ (w : Held P). w.contents) m.1)
 
   pub loses-all : {A : Type 0} (p : Step A) (old new : Held P) (e : Result A PlainWhy) → SavesNone p → Goes plugin p old e new → Loses old.contents new.contents
@@ -101,23 +104,23 @@ module _ {P : Type 0} (plugin : PluginOf P) where
 
 -- ---- the commands that save none
 
-none-opened : (script : Word) → SavesNone (opened script)
-none-opened = opened-keeps saves_none (λ n m x. refl) (λ s x. refl) (λ b x. refl) (λ t x. refl) (λ n x. refl) (λ x. refl)
+none-opened : (name : Text) (script : Word) → SavesNone (opened name script)
+none-opened = opened-keeps saves_none (λ n m x. refl) (λ n s x. refl) (λ b x. refl) (λ t x. refl) (λ n x. refl) (λ x. refl)
 
 none-needed : (name : Word) → SavesNone (needed name)
-none-needed = needed-keeps saves_none (λ n m x. refl) (λ s x. refl) (λ b x. refl) (λ t x. refl) (λ n x. refl) (λ x. refl)
+none-needed = needed-keeps saves_none (λ n m x. refl) (λ n s x. refl) (λ b x. refl) (λ t x. refl) (λ n x. refl) (λ x. refl)
 
 none-settings : (rcfile : Option Word) → SavesNone (settings rcfile)
-none-settings = settings-keeps saves_none (λ n m x. refl) (λ s x. refl) (λ b x. refl) (λ t x. refl) (λ n x. refl) (λ x. refl)
+none-settings = settings-keeps saves_none (λ n m x. refl) (λ n s x. refl) (λ b x. refl) (λ t x. refl) (λ n x. refl) (λ x. refl)
 
 none-patterns_by : (exclude partial : List (List ℕ)) → SavesNone (patterns_by exclude partial)
-none-patterns_by = patterns_by-keeps saves_none (λ n m x. refl) (λ s x. refl) (λ b x. refl) (λ t x. refl) (λ n x. refl) (λ x. refl)
+none-patterns_by = patterns_by-keeps saves_none (λ n m x. refl) (λ n s x. refl) (λ b x. refl) (λ t x. refl) (λ n x. refl) (λ x. refl)
 
 none-source : (path : Word) → SavesNone (source path)
-none-source = source-keeps saves_none (λ n m x. refl) (λ s x. refl) (λ b x. refl) (λ t x. refl) (λ n x. refl) (λ x. refl)
+none-source = source-keeps saves_none (λ n m x. refl) (λ n s x. refl) (λ b x. refl) (λ t x. refl) (λ n x. refl) (λ x. refl)
 
 none-reported : (data_file rcfile : Option Word) → SavesNone (reported data_file rcfile)
-none-reported = reported-keeps saves_none (λ n m x. refl) (λ s x. refl) (λ b x. refl) (λ t x. refl) (λ n x. refl) (λ x. refl)
+none-reported = reported-keeps saves_none (λ n m x. refl) (λ n s x. refl) (λ b x. refl) (λ t x. refl) (λ n x. refl) (λ x. refl)
 
 none-written : (bytes : List ℕ) (a : Answered) → SavesNone (write_last bytes a)
 none-written bytes a = λ x. (refl, last-keeps saves_none sink_refusal a x)
@@ -131,7 +134,7 @@ none-put name bytes a = by (bytes_eq name (codes "-"))
 
 pub arcs-none : (steps : Option ℕ) (script : Word) (args : List Word) → SavesNone (arcs steps script args)
 arcs-none steps script args = let most = or_else steps usual_steps in
-    then-keeps saves_none (opened script) (λ ms. bind (ask (crosses ms (words_of script args) most) (given_or run_refusal)) (λ r. write_last (listing r.rows) (answered_by most r.outcome))) (none-opened script) (λ ms.
+    then-keeps saves_none (opened main_name script) (λ ms. bind (ask (crosses ms (words_of script args) most) (given_or run_refusal)) (λ r. write_last (listing r.rows) (answered_by most r.outcome))) (none-opened main_name script) (λ ms.
     then-keeps saves_none (ask (crosses ms (words_of script args) most) (given_or run_refusal)) (λ r. write_last (listing r.rows) (answered_by most r.outcome)) (λ x. (refl, given-keeps saves_none run_refusal x)) (λ r.
     none-written (listing r.rows) (answered_by most r.outcome)))
 

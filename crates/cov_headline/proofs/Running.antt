@@ -5,6 +5,7 @@ use Rattle.std.specs.FinMap as finite
 use Rattle.std.specs.Str.{chars}
 use Rattle.cov_contexts.specs.declared.plugins.Plugin.{Ghosts as PluginOf}
 use Rattle.py_meaning.specs.Modules.{LoadedModule}
+use Rattle.py_syntax.specs.Tree.{Text}
 use Rattle.cov_data.specs.DataSet.{DataSet}
 use Rattle.cov_programs.specs.Programs.{give, bind}
 use Rattle.cov_programs.proofs.Results.{ok_is, ok_no_err}
@@ -17,8 +18,7 @@ use Rattle.cov_words.specs.Values.{Word}
 use Rattle.cov_step.specs.Calls.{Answered, Asked, HookFiles, refuse}
 use Rattle.cov_step.specs.Answers.{Before, nothing, there, bad_row}
 use Rattle.cov_step.specs.Commands.{asked_by, hook_named, measured, run_by, run}
-use Rattle.cov_step.specs.Objects.{main_name}
-use Rattle.cov_step.specs.Phases.{before, opened, settings, own_name, hook_of, joins, joined, answered_by}
+use Rattle.cov_step.specs.Phases.{before, main_name, opened, settings, own_name, hook_of, joins, joined, answered_by}
 use Rattle.cov_headline.specs.Promises.{IsSet, run_of, AddsTo, RunPromise}
 use Rattle.cov_headline.specs.Told.{Held}
 use Rattle.cov_headline.proofs.Going.{Goes, quietly, gave, quiet-settings, quiet-opened, quiet-hook, quiet-before, quiet-joins}
@@ -38,11 +38,11 @@ same-flag false false h = refl
 
 module _ {P : Type 0} (plugin : PluginOf P) where
   -- a script that was loaded
-  pub opened-so : (script : Word) (old : Held P) (ms : List LoadedModule) → Goes plugin (opened script) old (Ok ms) old → IsLoaded (told_by old.files (chars script)) (chars script) main_name ms
-  opened-so script old ms (inl s) = absurd s.wanting
-  opened-so script old ms (inr (Ok x, u, m, rest)) = subst (λ y. IsLoaded (told_by old.files (chars script)) (chars script) main_name y) (sym (gave plugin x ms u old rest).0) m.0
-  opened-so script old ms (inr (Err e, u, m, inl s)) = absurd s.wanting
-  opened-so script old ms (inr (Err e, u, m, inr (is, same))) = absurd (ok_no_err is)
+  pub opened-so : (name : Text) (script : Word) (old : Held P) (ms : List LoadedModule) → Goes plugin (opened name script) old (Ok ms) old → IsLoaded (told_by old.files (chars script)) (chars script) name ms
+  opened-so name script old ms (inl s) = absurd s.wanting
+  opened-so name script old ms (inr (Ok x, u, m, rest)) = subst (λ y. IsLoaded (told_by old.files (chars script)) (chars script) name y) (sym (gave plugin x ms u old rest).0) m.0
+  opened-so name script old ms (inr (Err e, u, m, inl s)) = absurd s.wanting
+  opened-so name script old ms (inr (Err e, u, m, inr (is, same))) = absurd (ok_no_err is)
 
   -- what stands under the name of a command's data
   pub before-so : (own : Word) (old : Held P) (was : Before) → Goes plugin (before own) old (Ok was) old → Stood was (finite.get old.contents own)
@@ -87,8 +87,8 @@ module _ {P : Type 0} (plugin : PluginOf P) where
       ended = ok_is is ∙ ap (answered_by asked.budget) m.0.ended.outcome;
       rows = r.rows;
       kind = m.0.ended.rows.counted.kind;
-      recorded = recorded came (run_of asked ms old.left) asked.context r.rows asked.arcs m.0.ended.rows.counted.kind m.0.steps;
-      foreseen = foreseen came (run_of asked ms old.left) asked.context r.rows asked.arcs m.0.steps;
+      recorded = recorded came (run_of asked ms old.left) asked.context r.rows asked.arcs m.0.ended.rows.counted.kind m.0.steps.all;
+      foreseen = foreseen came (run_of asked ms old.left) asked.context r.rows asked.arcs m.0.steps.foreseen;
       hook = hook;
       hooked = record { ends = hooked };
       rest = m.0.ended.left_sources;
@@ -105,11 +105,11 @@ module _ {P : Type 0} (plugin : PluginOf P) where
 
     by-run : Goes plugin (run_by own append asked named script) old (Ok a) new → RunPromise plugin asked own script append named old a new
     by-run h =
-        let x = quietly plugin (opened script) (λ ms. bind (hook_of named) (λ h. bind (before own) (λ was. bind (joins append own asked.arcs was) (measured own asked ms h)))) old new a (quiet-opened script) h in
+        let x = quietly plugin (opened main_name script) (λ ms. bind (hook_of named) (λ h. bind (before own) (λ was. bind (joins append own asked.arcs was) (measured own asked ms h)))) old new a (quiet-opened main_name script) h in
         let y = quietly plugin (hook_of named) (λ h. bind (before own) (λ was. bind (joins append own asked.arcs was) (measured own asked x.0 h))) old new a (quiet-hook named) x.2 in
         let z = quietly plugin (before own) (λ was. bind (joins append own asked.arcs was) (measured own asked x.0 y.0)) old new a (quiet-before own) y.2 in
         let w = quietly plugin (joins append own asked.arcs z.0) (measured own asked x.0 y.0) old new a (quiet-joins append own asked.arcs z.0) z.2 in
-        by-measured x.0 y.0 w.0 (opened-so script old x.0 x.1) y.1 (joins-so append own asked.arcs z.0 w.0 old (before-so own old z.0 z.1) w.1) w.2
+        by-measured x.0 y.0 w.0 (opened-so main_name script old x.0 x.1) y.1 (joins-so append own asked.arcs z.0 w.0 old (before-so own old z.0 z.1) w.1) w.2
 
   -- a run that did its work
   pub run-promise : CameLaw → (branch append : Bool) (context : Option Word) (steps : Option ℕ) (hook : Option (Word × Word)) (data_file rcfile : Option Word) (script : Word) (args : List Word) (old : Held P) (a : Answered) (new : Held P)

@@ -23,7 +23,7 @@ use Rattle.cov_programs.specs.Ends.{Follows}
 use Rattle.cov_programs.specs.Laws.{Counting, IsTelling, IsFed, nothing_wants}
 use Rattle.cov_programs.specs.Objects.{Moves}
 use Rattle.cov_programs.proofs.Telling.{told-of}
-use Rattle.cov_step.specs.Calls.{Call, spells, checks, reads, puts, opens, lists, loads, saves, removes, makes, writes, crosses, measures, tries, says, Answer, Ran, Answered, IsNoMemory}
+use Rattle.cov_step.specs.Calls.{Call, spells, checks, reads, puts, opens, lists, loads, saves, removes, makes, writes, crosses, measures, tries, tests, says, Answer, Ran, Answered, IsNoMemory}
 use Rattle.cov_step.specs.Objects.{on_grammar, on_shelf, on_vault, on_maker, on_err, Saying, failed}
 use Rattle.cov_step.specs.Promises.{is_hungry}
 use Rattle.cov_step.specs.Step.{step}
@@ -132,7 +132,7 @@ module _ {H V M I O P G E : Type 0} (shelf : ShelfOf H) (vault : VaultOf V) (mak
   streams-later u (checks bytes) x v m = absurd m
   streams-later u (reads name most) x v m = absurd m
   streams-later u (puts name bytes) x v m = absurd m
-  streams-later u (opens script) x v m = absurd m
+  streams-later u (opens name script) x v m = absurd m
   streams-later u lists x v m = absurd m
   streams-later u (loads name) x v m = absurd m
   streams-later u (saves name content) x v m = absurd m
@@ -142,6 +142,7 @@ module _ {H V M I O P G E : Type 0} (shelf : ShelfOf H) (vault : VaultOf V) (mak
   streams-later u (crosses modules words budget) x v m = record { input = m.run.reads; out = m.run.writes }
   streams-later u (measures asked modules hook) x v m = record { input = m.run.reads; out = m.run.writes }
   streams-later u (tries modules words budget) x v m = same-streams u v m.same
+  streams-later u (tests asked modules) x v m = record { input = same-count (ap (λ (s : Streams I O P G). source.faults s.input) m.same); out = same-count (ap (λ (s : Streams I O P G). sink.faults s.out) m.same) }
   streams-later u (says text) x v m = absurd m
 
   err-later : (u : Saying E) (call : Call) (x : Answer call) (v : Saying E) → on_err err u call x v → err.faults u.sink ≤ err.faults v.sink
@@ -149,7 +150,7 @@ module _ {H V M I O P G E : Type 0} (shelf : ShelfOf H) (vault : VaultOf V) (mak
   err-later u (checks bytes) x v m = absurd m
   err-later u (reads name most) x v m = absurd m
   err-later u (puts name bytes) x v m = absurd m
-  err-later u (opens script) x v m = absurd m
+  err-later u (opens name script) x v m = absurd m
   err-later u lists x v m = absurd m
   err-later u (loads name) x v m = absurd m
   err-later u (saves name content) x v m = absurd m
@@ -159,6 +160,7 @@ module _ {H V M I O P G E : Type 0} (shelf : ShelfOf H) (vault : VaultOf V) (mak
   err-later u (crosses modules words budget) x v m = absurd m
   err-later u (measures asked modules hook) x v m = absurd m
   err-later u (tries modules words budget) x v m = absurd m
+  err-later u (tests asked modules) x v m = absurd m
   err-later u (says text) x v m = m.count
 
   -- a state, and one that differs in some of its parts
@@ -210,7 +212,7 @@ module _ {H V M I O P G E : Type 0} (shelf : ShelfOf H) (vault : VaultOf V) (mak
     shelf-told (checks bytes) x m f = (m.read, ap at-files m.same)
     shelf-told (reads name most) x m f = let s = shelf.truthful t u name most x v m.moved in (s.0, files-kept s.1)
     shelf-told (puts name bytes) x m f = (shelf.puts_whole t u name bytes x v m.moved, refl)
-    shelf-told (opens script) x m f = (m.told t, files-kept (m.kept t))
+    shelf-told (opens name script) x m f = (m.told t, files-kept (m.kept t))
     shelf-told lists x m f = absurd m
     shelf-told (loads name) x m f = absurd m
     shelf-told (saves name content) x m f = absurd m
@@ -220,6 +222,7 @@ module _ {H V M I O P G E : Type 0} (shelf : ShelfOf H) (vault : VaultOf V) (mak
     shelf-told (crosses modules words budget) x m f = absurd m
     shelf-told (measures asked modules hook) x m f = absurd m
     shelf-told (tries modules words budget) x m f = absurd m
+    shelf-told (tests asked modules) x m f = absurd m
     shelf-told (says text) x m f = absurd m
 
   -- a vault
@@ -235,7 +238,7 @@ module _ {H V M I O P G E : Type 0} (shelf : ShelfOf H) (vault : VaultOf V) (mak
     vault-told (checks bytes) x m f = absurd m
     vault-told (reads name most) x m f = absurd m
     vault-told (puts name bytes) x m f = absurd m
-    vault-told (opens script) x m f = absurd m
+    vault-told (opens name script) x m f = absurd m
     vault-told lists x m f = let s = vault.lists_truly u x v t m.moved in (s.1, contents-kept s.2)
     vault-told (loads name) x m f = let s = vault.loads_truly u name x v t m.moved in (s.1, contents-kept s.2)
     vault-told (saves name content) x m f = ((vault.saves_whole u name content x v t m.moved).1, refl)
@@ -245,6 +248,7 @@ module _ {H V M I O P G E : Type 0} (shelf : ShelfOf H) (vault : VaultOf V) (mak
     vault-told (crosses modules words budget) x m f = absurd m
     vault-told (measures asked modules hook) x m f = absurd m
     vault-told (tries modules words budget) x m f = absurd m
+    vault-told (tests asked modules) x m f = absurd m
     vault-told (says text) x m f = absurd m
 
   -- no object is asked
@@ -253,7 +257,7 @@ module _ {H V M I O P G E : Type 0} (shelf : ShelfOf H) (vault : VaultOf V) (mak
   grammar-told r u v (checks bytes) x m = (m.read, refl)
   grammar-told r u v (reads name most) x m = absurd m
   grammar-told r u v (puts name bytes) x m = absurd m
-  grammar-told r u v (opens script) x m = absurd m
+  grammar-told r u v (opens name script) x m = absurd m
   grammar-told r u v lists x m = absurd m
   grammar-told r u v (loads name) x m = absurd m
   grammar-told r u v (saves name content) x m = absurd m
@@ -263,6 +267,7 @@ module _ {H V M I O P G E : Type 0} (shelf : ShelfOf H) (vault : VaultOf V) (mak
   grammar-told r u v (crosses modules words budget) x m = absurd m
   grammar-told r u v (measures asked modules hook) x m = absurd m
   grammar-told r u v (tries modules words budget) x m = absurd m
+  grammar-told r u v (tests asked modules) x m = absurd m
   grammar-told r u v (says text) x m = absurd m
 
   -- a maker, which holds nothing
@@ -271,7 +276,7 @@ module _ {H V M I O P G E : Type 0} (shelf : ShelfOf H) (vault : VaultOf V) (mak
   maker-told r u v (checks bytes) x m = absurd m
   maker-told r u v (reads name most) x m = absurd m
   maker-told r u v (puts name bytes) x m = absurd m
-  maker-told r u v (opens script) x m = absurd m
+  maker-told r u v (opens name script) x m = absurd m
   maker-told r u v lists x m = absurd m
   maker-told r u v (loads name) x m = absurd m
   maker-told r u v (saves name content) x m = absurd m
@@ -281,6 +286,7 @@ module _ {H V M I O P G E : Type 0} (shelf : ShelfOf H) (vault : VaultOf V) (mak
   maker-told r u v (crosses modules words budget) x m = absurd m
   maker-told r u v (measures asked modules hook) x m = absurd m
   maker-told r u v (tries modules words budget) x m = absurd m
+  maker-told r u v (tests asked modules) x m = absurd m
   maker-told r u v (says text) x m = absurd m
 
   -- `err`
@@ -296,7 +302,7 @@ module _ {H V M I O P G E : Type 0} (shelf : ShelfOf H) (vault : VaultOf V) (mak
     err-told (checks bytes) x m = absurd m
     err-told (reads name most) x m = absurd m
     err-told (puts name bytes) x m = absurd m
-    err-told (opens script) x m = absurd m
+    err-told (opens name script) x m = absurd m
     err-told lists x m = absurd m
     err-told (loads name) x m = absurd m
     err-told (saves name content) x m = absurd m
@@ -306,6 +312,7 @@ module _ {H V M I O P G E : Type 0} (shelf : ShelfOf H) (vault : VaultOf V) (mak
     err-told (crosses modules words budget) x m = absurd m
     err-told (measures asked modules hook) x m = absurd m
     err-told (tries modules words budget) x m = absurd m
+    err-told (tests asked modules) x m = absurd m
     err-told (says text) x m = (record { said = λ w. m.said w t; not_failed = λ w f. none (m.rose w f); over = λ w. ap shown (m.over w) }, refl)
 
   -- ---- input and output
@@ -359,7 +366,7 @@ module _ {H V M I O P G E : Type 0} (shelf : ShelfOf H) (vault : VaultOf V) (mak
     streams-told (checks bytes) x m f = absurd m
     streams-told (reads name most) x m f = absurd m
     streams-told (puts name bytes) x m f = absurd m
-    streams-told (opens script) x m f = absurd m
+    streams-told (opens name script) x m f = absurd m
     streams-told lists x m f = absurd m
     streams-told (loads name) x m f = absurd m
     streams-told (saves name content) x m f = absurd m
@@ -376,6 +383,7 @@ module _ {H V M I O P G E : Type 0} (shelf : ShelfOf H) (vault : VaultOf V) (mak
     streams-told (measures asked modules hook) (Ok q) m f = (ran-as (request_of asked) modules (option_map hook_meant hook) u v q refl refl refl refl m.run, refl)
     streams-told (measures asked modules hook) (Err fault) m f = no-fault (request_of asked) modules (option_map hook_meant hook) u v fault refl refl refl refl m.run (fed fault f)
     streams-told (tries modules words budget) x m f = ap at-streams m.same
+    streams-told (tests asked modules) x m f = (m.ran, ap at-streams m.same)
     streams-told (says text) x m f = absurd m
 
   -- ---- all of them
