@@ -1,0 +1,10 @@
+pub mod Ways
+pub mod Parts
+pub mod Commands
+pub mod Single
+pub mod Doing
+pub mod Filed
+pub mod Exactly
+pub mod Causing
+pub mod Blameless
+pub mod Rows
