@@ -5,6 +5,8 @@ use Rattle.cov_contexts.specs.declared.plugins.Plugin.{Ghosts as PluginOf}
 use Rattle.cov_exclude.specs.declared.maker.Maker.{Ghosts as MakerOf}
 use Rattle.cov_outside.specs.declared.shelf.Shelf.{Ghosts as ShelfOf}
 use Rattle.cov_outside.specs.declared.sink.Sink.{Ghosts as SinkOf}
+use Rattle.cov_outside.specs.declared.sink.SinkError.{SinkError}
+use Rattle.cov_outside.specs.declared.sink.SinkError.TheVariants as sink_error
 use Rattle.cov_outside.specs.declared.source.Source.{Ghosts as SourceOf}
 use Rattle.py_machine.specs.declared.engine.Engine.{Ghosts as EngineOf}
 use Rattle.py_builtins.specs.declared.fault.RunFault.{RunFault}
@@ -16,18 +18,19 @@ use Rattle.cov_measure.specs.Measures.{Streams}
 use Rattle.cov_programs.specs.Ends.{Starves, Ends}
 use Rattle.cov_programs.specs.Laws.{OnlyKeeps, Parted}
 use Rattle.cov_programs.specs.Objects.{Moves}
-use Rattle.cov_programs.specs.Programs.{bind}
+use Rattle.cov_programs.specs.Programs.{ask, bind}
 use Rattle.cov_programs.specs.Programs as programs
 use Rattle.cov_programs.proofs.Folding.{parted}
 use Rattle.cov_programs.proofs.Keeping.{keeps-all}
 use Rattle.cov_programs.proofs.Results.{err_is, ok_no_err}
-use Rattle.cov_step.specs.Answers.{Before, before_of, given_or, run_refusal, vault_refusal, last}
-use Rattle.cov_step.specs.Calls.{Call, loads, saves, measures, Answer, Answered, Asked, HookFiles, Ran, Step, IsNoMemory}
+use Rattle.cov_step.specs.Answers.{Before, before_of, given_or, run_refusal, sink_refusal, vault_refusal, last, on}
+use Rattle.cov_step.specs.Calls.{Call, loads, saves, measures, tests, writes, Answer, Answered, Asked, HookFiles, Ran, TestsAsked, TestResult, Tested, tested, not_imported, starved, Step, IsNoMemory}
 use Rattle.cov_step.specs.Commands.{asked_by, hook_named, measured, run_by, run}
 use Rattle.cov_step.specs.Objects.{LoadOf, SaveOf, Saying}
-use Rattle.cov_step.specs.Phases.{before, hook_of, joins, joined, opened, own_name, save_last, settings, answered_by}
-use Rattle.cov_step.specs.Early.{leaves_streams, comes_late, late_in_run, is_late}
+use Rattle.cov_step.specs.Phases.{before, hook_of, joins, joined, main_name, opened, own_name, save_last, settings, answered_by}
+use Rattle.cov_step.specs.Early.{leaves_streams, comes_late, late_in_run, late_in_suite, is_late}
 use Rattle.cov_step.specs.Promises.{keeps}
+use Rattle.cov_step.specs.Testing.{tests_name, tests_asked, suite_lines, suite_answered, tested_or, tests_run, suite_by, suite}
 use Rattle.cov_step.proofs.Answering.{before-so}
 use Rattle.cov_step.proofs.Care.{keeps-reading}
 use Rattle.cov_step.proofs.Early.{streams-reading}
@@ -37,14 +40,14 @@ use Rattle.cov_vault.specs.declared.vault.Content.TheVariants as content
 use Rattle.cov_vault.specs.declared.vault.Vault.{Ghosts as VaultOf}
 use Rattle.cov_vault.specs.declared.vault.VaultError.{VaultError}
 use Rattle.cov_vault.specs.declared.vault.VaultError.TheVariants as vault_error
-use Rattle.cov_why.specs.Answers.{Refusal, usage, no_such_file, syntax, limit, bad_config, bad_pattern, pattern_size, no_function, no_data, mixed, bad_data, no_source, read_fault, write_fault, shelf_fault, vault_fault, no_memory, import_failed, PlainWhy}
+use Rattle.cov_why.specs.Answers.{usage, no_such_file, syntax, limit, bad_config, bad_pattern, pattern_size, no_function, no_data, mixed, bad_data, no_source, read_fault, write_fault, shelf_fault, vault_fault, no_memory, import_failed, PlainWhy}
 use Rattle.cov_why.specs.declared.why.BadKind.{BadKind}
 use Rattle.cov_words.specs.Values.{Word}
 use Rattle.cov_app.specs.Objects.{All, on_command}
 use Rattle.cov_app.proofs.Keeping.{data-tells, data-kept}
 use Rattle.cov_app.proofs.Streams.{whole-kept}
 
--- what may come late in a run alone is that data are bad
+-- what may come late in a run, and in tests, alone is that data are bad
 pub bad-of : (why : PlainWhy) → is_late comes_late why ≡ false → is_late late_in_run why ≡ true → (name : Word) × (kind : BadKind) × (why ≡ Err (bad_data name kind))
 bad-of (Ok ended) e l = absurd (true≢false e)
 bad-of (Err (usage words)) e l = absurd (true≢false (sym l))
@@ -66,6 +69,27 @@ bad-of (Err vault_fault) e l = absurd (true≢false e)
 bad-of (Err no_memory) e l = absurd (true≢false e)
 bad-of (Err (import_failed file)) e l = absurd (true≢false (sym l))
 
+pub bad-of-tests : (why : PlainWhy) → is_late comes_late why ≡ false → is_late late_in_suite why ≡ true → is_late late_in_run why ≡ true
+bad-of-tests (Ok ended) e l = absurd (true≢false e)
+bad-of-tests (Err (usage words)) e l = l
+bad-of-tests (Err (no_such_file name)) e l = l
+bad-of-tests (Err (syntax file line kind)) e l = l
+bad-of-tests (Err (limit kind n)) e l = l
+bad-of-tests (Err (bad_config key)) e l = l
+bad-of-tests (Err (bad_pattern at)) e l = l
+bad-of-tests (Err (pattern_size at)) e l = l
+bad-of-tests (Err (no_function name)) e l = l
+bad-of-tests (Err (no_data name)) e l = l
+bad-of-tests (Err (mixed first other)) e l = l
+bad-of-tests (Err (bad_data name kind)) e l = l
+bad-of-tests (Err (no_source path)) e l = l
+bad-of-tests (Err read_fault) e l = l
+bad-of-tests (Err write_fault) e l = l
+bad-of-tests (Err shelf_fault) e l = l
+bad-of-tests (Err vault_fault) e l = l
+bad-of-tests (Err no_memory) e l = l
+bad-of-tests (Err (import_failed file)) e l = absurd (true≢false e)
+
 no-ok : {A : Type 0} {a : A} {why : PlainWhy} → ◌≡◌ {A = Result A PlainWhy} (Err why) (Ok a) → ⊥
 no-ok e = cc
 
@@ -77,6 +101,9 @@ no-read e = cc
 
 no-write : {name : Word} {kind : BadKind} → ◌≡◌ {A = PlainWhy} (Err (bad_data name kind)) (Err write_fault) → ⊥
 no-write e = cc
+
+no-import : {name file : Word} {kind : BadKind} → ◌≡◌ {A = PlainWhy} (Err (bad_data name kind)) (Err (import_failed file)) → ⊥
+no-import e = cc
 
 no-vault : {name : Word} {kind : BadKind} → ◌≡◌ {A = PlainWhy} (Err (bad_data name kind)) (Err vault_fault) → ⊥
 no-vault e = cc
@@ -210,8 +237,8 @@ module _ {H V M I O P G E : Type 0} (shelf : ShelfOf H) (vault : VaultOf V) (mak
 
     run_by-same : (own : Word) (append : Bool) (asked : Asked) (hook : Option (Word × Word)) (script : Word) (u v : Lent) → vault.tells u.0.0.0.1 → Ends whole IsNoMemory (run_by own append asked hook script) u Bad v → streams_in v ≡ streams_in u
     run_by-same own append asked hook script u v t ends =
-        then-same (opened script) (λ ms. bind (hook_of hook) (λ h. bind (before own) (λ was. bind (joins append own asked.arcs was) (measured own asked ms h)))) (Err (bad_data name kind)) u v (opened-keeps leaves_streams streams-reading script) (λ ms w first more.
-        let at = (data-stays (opened script) (opened-keeps keeps keeps-reading script) u w (Ok ms) first t).0 in
+        then-same (opened main_name script) (λ ms. bind (hook_of hook) (λ h. bind (before own) (λ was. bind (joins append own asked.arcs was) (measured own asked ms h)))) (Err (bad_data name kind)) u v (opened-keeps leaves_streams streams-reading main_name script) (λ ms w first more.
+        let at = (data-stays (opened main_name script) (opened-keeps keeps keeps-reading main_name script) u w (Ok ms) first t).0 in
         then-same (hook_of hook) (λ h. bind (before own) (λ was. bind (joins append own asked.arcs was) (measured own asked ms h))) (Err (bad_data name kind)) w v (hook-keeps leaves_streams streams-reading hook) (λ h x second then_.
         let on = (data-stays (hook_of hook) (hook-keeps keeps keeps-reading hook) w x (Ok h) second at).0 in
         then-same (before own) (λ was. bind (joins append own asked.arcs was) (measured own asked ms h)) (Err (bad_data name kind)) x v (λ y. (refl, before-so leaves_streams own y)) (λ was y third others.
@@ -226,3 +253,38 @@ module _ {H V M I O P G E : Type 0} (shelf : ShelfOf H) (vault : VaultOf V) (mak
     bad-run branch append context steps hook data_file rcfile script args old new t ends =
         then-same (settings rcfile) (λ s. run_by (own_name data_file s) append (asked_by s branch context steps script args) (hook_named hook s.run.hook) script) (Err (bad_data name kind)) old new (settings-keeps leaves_streams streams-reading rcfile) (λ s mid first rest.
         run_by-same (own_name data_file s) append (asked_by s branch context steps script args) (hook_named hook s.run.hook) script mid new (data-stays (settings rcfile) (settings-keeps keeps keeps-reading rcfile) old mid (Ok s) first t).0 rest) ends
+
+    -- ---- tests and their save
+
+    tests-over : (u : Lent) (asked : TestsAsked) (ms : List LoadedModule) (x : Tested) (v : Lent) (own : Word) → IsFree own u → whole u (tests asked ms) x v → IsFree own v
+    tests-over u asked ms x v own f m = free-on own u v f (data-tells shelf vault maker source sink plugin engine err u (tests asked ms) x v m f.told) (data-kept shelf vault maker source sink plugin engine err u (tests asked ms) x v m f.told refl)
+
+    lines-over : (u : Lent) (bytes : List ℕ) (x : Option SinkError) (v : Lent) (own : Word) → IsFree own u → whole u (writes bytes) x v → IsFree own v
+    lines-over u bytes x v own f m = free-on own u v f (data-tells shelf vault maker source sink plugin engine err u (writes bytes) x v m f.told) (data-kept shelf vault maker source sink plugin engine err u (writes bytes) x v m f.told refl)
+
+    written-no : (own : Word) (d : DataSet) (rs : List TestResult) (mid v : Lent) (x : Option SinkError) → IsFree own mid → Ends whole IsNoMemory (bind (on sink_refusal x) (λ written. save_last own d (suite_answered rs))) mid Bad v → ⊥
+    written-no own d rs mid v None f rest = save-no own d (suite_answered rs) mid v f rest
+    written-no own d rs mid v (Some sink_error.Failed) f rest = not-refused no-write rest
+    written-no own d rs mid v (Some sink_error.NoMemory) f rest = not-refused no-want rest
+
+    tested-no : (own file : Word) (mid v : Lent) (x : Tested) → IsFree own mid
+        → Ends whole IsNoMemory (bind (tested_or file x) (λ r. bind (ask (writes (suite_lines r.0)) (on sink_refusal)) (λ written. save_last own r.1 (suite_answered r.0)))) mid Bad v → ⊥
+    tested-no own file mid v (tested rs d) f (inl s) = fed s
+    tested-no own file mid v (tested rs d) f (inr (x, w, m, rest)) = written-no own d rs w v x (lines-over mid (suite_lines rs) x w own f m) rest
+    tested-no own file mid v not_imported f rest = not-refused no-import rest
+    tested-no own file mid v starved f rest = not-refused no-want rest
+
+    tests_run-no : (own : Word) (asked : TestsAsked) (file : Word) (ms : List LoadedModule) (u v : Lent) → IsFree own u → Ends whole IsNoMemory (tests_run own asked file ms) u Bad v → ⊥
+    tests_run-no own asked file ms u v f (inl s) = fed s
+    tests_run-no own asked file ms u v f (inr (x, mid, m, rest)) = tested-no own file mid v x (tests-over u asked ms x mid own f m) rest
+
+    -- tests that are refused so leave the streams
+    pub bad-suite : (branch : Bool) (steps : Option ℕ) (data_file rcfile : Option Word) (file : Word) (old new : Lent) → vault.tells old.0.0.0.1
+        → Ends whole IsNoMemory (suite branch steps data_file rcfile file) old Bad new → streams_in new ≡ streams_in old
+    bad-suite branch steps data_file rcfile file old new t ends =
+        then-same (settings rcfile) (λ s. suite_by (own_name data_file s) (tests_asked s branch steps) file) (Err (bad_data name kind)) old new (settings-keeps leaves_streams streams-reading rcfile) (λ s mid first rest.
+        let at = (data-stays (settings rcfile) (settings-keeps keeps keeps-reading rcfile) old mid (Ok s) first t).0 in
+        then-same (opened tests_name file) (λ ms. bind (before (own_name data_file s)) (λ was. tests_run (own_name data_file s) (tests_asked s branch steps) file ms)) (Err (bad_data name kind)) mid new (opened-keeps leaves_streams streams-reading tests_name file) (λ ms w second more.
+        let on = (data-stays (opened tests_name file) (opened-keeps keeps keeps-reading tests_name file) mid w (Ok ms) second at).0 in
+        then-same (before (own_name data_file s)) (λ was. tests_run (own_name data_file s) (tests_asked s branch steps) file ms) (Err (bad_data name kind)) w new (λ y. (refl, before-so leaves_streams (own_name data_file s) y)) (λ was y third others.
+        absurd (tests_run-no (own_name data_file s) (tests_asked s branch steps) file ms y new (before-free (own_name data_file s) w y was on third) others)) more) rest) ends

@@ -1,5 +1,5 @@
 -- A refusal that blames an object raised that object's count; and no count falls.
-use Rattle.std.proofs.Common.{◌≡◌, ◌∙◌, ℕ, ◌≤◌, Bool, true, false, true≢false, refl, sym, ap, subst, List, Option, Some, None, Result, Ok, Err, arith}
+use Rattle.std.proofs.Common.{◌≡◌, ◌∙◌, ℕ, ◌≤◌, true, false, true≢false, refl, sym, ap, subst, List, Option, Some, None, Result, Ok, Err, arith}
 use Rattle.std.specs.Prelude.{nat_eq}
 use Rattle.cov_contexts.specs.declared.plugins.Plugin.{Ghosts as PluginOf}
 use Rattle.cov_exclude.specs.declared.maker.Maker.{Ghosts as MakerOf}
@@ -13,7 +13,7 @@ use Rattle.py_machine.specs.declared.engine.Engine.{Ghosts as EngineOf}
 use Rattle.cov_measure.specs.Measures.{Streams}
 use Rattle.cov_programs.specs.Ends.{Follows}
 use Rattle.cov_programs.specs.Objects.{Moves, beside}
-use Rattle.cov_step.specs.Calls.{Call, spells, checks, reads, puts, opens, lists, loads, saves, removes, makes, writes, crosses, measures, tries, says, Answer, Step, IsNoMemory}
+use Rattle.cov_step.specs.Calls.{Call, spells, checks, reads, puts, opens, lists, loads, saves, removes, makes, writes, crosses, measures, tries, tests, says, Answer, Step, IsNoMemory}
 use Rattle.cov_step.specs.Objects.{on_grammar, on_shelf, on_vault, on_maker, on_err, Saying}
 use Rattle.cov_step.specs.Promises.{Object, the_input, the_output, the_shelf, the_vault, the_maker, number_of, blame_of, blamed}
 use Rattle.cov_step.specs.Step.{step}
@@ -42,7 +42,7 @@ module _ {I O P G : Type 0} (source : SourceOf I) (sink : SinkOf O) (plugin : Pl
   input-later u (checks bytes) x v m = absurd m
   input-later u (reads name most) x v m = absurd m
   input-later u (puts name bytes) x v m = absurd m
-  input-later u (opens script) x v m = absurd m
+  input-later u (opens name script) x v m = absurd m
   input-later u lists x v m = absurd m
   input-later u (loads name) x v m = absurd m
   input-later u (saves name content) x v m = absurd m
@@ -52,6 +52,7 @@ module _ {I O P G : Type 0} (source : SourceOf I) (sink : SinkOf O) (plugin : Pl
   input-later u (crosses modules words budget) x v m = m.run.reads
   input-later u (measures asked modules hook) x v m = m.run.reads
   input-later u (tries modules words budget) x v m = same-count (ap (λ (s : Streams I O P G). source.faults s.input) m.same)
+  input-later u (tests asked modules) x v m = same-count (ap (λ (s : Streams I O P G). source.faults s.input) m.same)
   input-later u (says text) x v m = absurd m
 
   out-later : (u : Streams I O P G) (call : Call) (x : Answer call) (v : Streams I O P G) → on_run source sink plugin engine u call x v → sink.faults u.out ≤ sink.faults v.out
@@ -59,7 +60,7 @@ module _ {I O P G : Type 0} (source : SourceOf I) (sink : SinkOf O) (plugin : Pl
   out-later u (checks bytes) x v m = absurd m
   out-later u (reads name most) x v m = absurd m
   out-later u (puts name bytes) x v m = absurd m
-  out-later u (opens script) x v m = absurd m
+  out-later u (opens name script) x v m = absurd m
   out-later u lists x v m = absurd m
   out-later u (loads name) x v m = absurd m
   out-later u (saves name content) x v m = absurd m
@@ -69,6 +70,7 @@ module _ {I O P G : Type 0} (source : SourceOf I) (sink : SinkOf O) (plugin : Pl
   out-later u (crosses modules words budget) x v m = m.run.writes
   out-later u (measures asked modules hook) x v m = m.run.writes
   out-later u (tries modules words budget) x v m = same-count (ap (λ (s : Streams I O P G). sink.faults s.out) m.same)
+  out-later u (tests asked modules) x v m = same-count (ap (λ (s : Streams I O P G). sink.faults s.out) m.same)
   out-later u (says text) x v m = absurd m
 
   input-rose : (u : Streams I O P G) (call : Call) (x : Answer call) (v : Streams I O P G) → on_run source sink plugin engine u call x v → blamed call x ≡ Some the_input → Rose (source.faults u.input) (source.faults v.input)
@@ -76,7 +78,7 @@ module _ {I O P G : Type 0} (source : SourceOf I) (sink : SinkOf O) (plugin : Pl
   input-rose u (checks bytes) x v m e = absurd m
   input-rose u (reads name most) x v m e = absurd m
   input-rose u (puts name bytes) x v m e = absurd m
-  input-rose u (opens script) x v m e = absurd m
+  input-rose u (opens name script) x v m e = absurd m
   input-rose u lists x v m e = absurd m
   input-rose u (loads name) x v m e = absurd m
   input-rose u (saves name content) x v m e = absurd m
@@ -94,6 +96,7 @@ module _ {I O P G : Type 0} (source : SourceOf I) (sink : SinkOf O) (plugin : Pl
   input-rose u (measures asked modules hook) (Err run_fault.WriteFault) v m e = absurd (cc)
   input-rose u (measures asked modules hook) (Err run_fault.NoMemory) v m e = absurd (none-some e)
   input-rose u (tries modules words budget) x v m e = absurd (none-some e)
+  input-rose u (tests asked modules) x v m e = absurd (none-some e)
   input-rose u (says text) x v m e = absurd m
 
   out-rose : (u : Streams I O P G) (call : Call) (x : Answer call) (v : Streams I O P G) → on_run source sink plugin engine u call x v → blamed call x ≡ Some the_output → Rose (sink.faults u.out) (sink.faults v.out)
@@ -101,7 +104,7 @@ module _ {I O P G : Type 0} (source : SourceOf I) (sink : SinkOf O) (plugin : Pl
   out-rose u (checks bytes) x v m e = absurd m
   out-rose u (reads name most) x v m e = absurd m
   out-rose u (puts name bytes) x v m e = absurd m
-  out-rose u (opens script) x v m e = absurd m
+  out-rose u (opens name script) x v m e = absurd m
   out-rose u lists x v m e = absurd m
   out-rose u (loads name) x v m e = absurd m
   out-rose u (saves name content) x v m e = absurd m
@@ -119,6 +122,7 @@ module _ {I O P G : Type 0} (source : SourceOf I) (sink : SinkOf O) (plugin : Pl
   out-rose u (measures asked modules hook) (Err run_fault.WriteFault) v m e = m.run.write_fault refl
   out-rose u (measures asked modules hook) (Err run_fault.NoMemory) v m e = absurd (none-some e)
   out-rose u (tries modules words budget) x v m e = absurd (none-some e)
+  out-rose u (tests asked modules) x v m e = absurd (none-some e)
   out-rose u (says text) x v m e = absurd m
 
   -- they are nobody else's fault
@@ -127,7 +131,7 @@ module _ {I O P G : Type 0} (source : SourceOf I) (sink : SinkOf O) (plugin : Pl
   run-alone o i j u (checks bytes) x v m e = m
   run-alone o i j u (reads name most) x v m e = m
   run-alone o i j u (puts name bytes) x v m e = m
-  run-alone o i j u (opens script) x v m e = m
+  run-alone o i j u (opens name script) x v m e = m
   run-alone o i j u lists x v m e = m
   run-alone o i j u (loads name) x v m e = m
   run-alone o i j u (saves name content) x v m e = m
@@ -145,6 +149,7 @@ module _ {I O P G : Type 0} (source : SourceOf I) (sink : SinkOf O) (plugin : Pl
   run-alone o i j u (measures asked modules hook) (Err run_fault.WriteFault) v m e = j (sym (some-is e))
   run-alone o i j u (measures asked modules hook) (Err run_fault.NoMemory) v m e = none-some e
   run-alone o i j u (tries modules words budget) x v m e = none-some e
+  run-alone o i j u (tests asked modules) x v m e = none-some e
   run-alone o i j u (says text) x v m e = m
 
 -- ---- all objects

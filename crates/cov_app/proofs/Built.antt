@@ -1,7 +1,6 @@
 -- The words of commands that are built: the first of them decides.
-use Rattle.std.proofs.Common.{◌≡◌, ◌≤◌, ℕ, zero, suc, length, Bool, true, false, if◌then◌else◌, List, [], ◌∷◌, ◌++◌, take, codes, Option, Some, None, Err, refl, sym, ap, ◌∙◌, subst, true≢false, arith}
+use Rattle.std.proofs.Common.{◌≡◌, ◌≤◌, ℕ, zero, suc, length, Bool, true, false, if◌then◌else◌, List, [], ◌∷◌, ◌++◌, take, codes, Option, Some, None, Err, refl, sym, ◌∙◌, subst, true≢false, arith}
 use Rattle.std.specs.Prelude.{◌||◌, option_and_then}
-use Rattle.std.specs.List.{list_any}
 use Rattle.std.specs.Str.{bytes_eq}
 use Rattle.cov_words.specs.declared.command.WordsError.{WordsError}
 use Rattle.cov_words.specs.declared.command.WordsError.TheVariants.{Usage}
@@ -20,9 +19,9 @@ Found P b None = Unit {0}
 Found P b (Some n) = P b n
 
 pub by-table : {N : Type 0} (P : Bool → N → Type 0) (n1 n2 n3 n4 n5 n6 n7 n8 n9 n10 n11 n12 n13 : N)
-    → P true n1 → P true n2 → P true n3 → P true n4 → P true n5 → P true n6 → P true n7 → P true n8 → P true n9 → P true n10 → P false n11 → P false n12 → P false n13
+    → P true n1 → P true n2 → P true n3 → P true n4 → P true n5 → P true n6 → P true n7 → P true n8 → P true n9 → P true n10 → P true n11 → P false n12 → P false n13
     → (a b c d e f g h i j k l m : Bool)
-    → Found P (a || (b || (c || (d || (e || (f || (g || (h || (i || (j || false)))))))))) (if a then Some n1 else if b then Some n2 else if c then Some n3 else if d then Some n4 else if e then Some n5 else if f then Some n6 else if g then Some n7 else if h then Some n8 else if i then Some n9 else if j then Some n10 else if k then Some n11 else if l then Some n12 else if m then Some n13 else None)
+    → Found P (a || (b || (c || (d || (e || (f || (g || (h || (i || (j || (k || false))))))))))) (if a then Some n1 else if b then Some n2 else if c then Some n3 else if d then Some n4 else if e then Some n5 else if f then Some n6 else if g then Some n7 else if h then Some n8 else if i then Some n9 else if j then Some n10 else if k then Some n11 else if l then Some n12 else if m then Some n13 else None)
 by-table P n1 n2 n3 n4 n5 n6 n7 n8 n9 n10 n11 n12 n13 p1 p2 p3 p4 p5 p6 p7 p8 p9 p10 p11 p12 p13 true b c d e f g h i j k l m = p1
 by-table P n1 n2 n3 n4 n5 n6 n7 n8 n9 n10 n11 n12 n13 p1 p2 p3 p4 p5 p6 p7 p8 p9 p10 p11 p12 p13 false true c d e f g h i j k l m = p2
 by-table P n1 n2 n3 n4 n5 n6 n7 n8 n9 n10 n11 n12 n13 p1 p2 p3 p4 p5 p6 p7 p8 p9 p10 p11 p12 p13 false false true d e f g h i j k l m = p3
@@ -90,7 +89,7 @@ make-agrees g [] = tt
 make-agrees g (y ∷ []) = tt
 make-agrees g (y ∷ z ∷ ys) = numbers-agree (whole_number y) (number_up_to 16000 z)
 
-suite-agrees : (g : Given) (ys : List Word) → Agrees false (named-so (codes "suite") g ys)
+suite-agrees : (g : Given) (ys : List Word) → Agrees true (named-so (codes "suite") g ys)
 suite-agrees g [] = tt
 suite-agrees g (y ∷ ys) = refl
 

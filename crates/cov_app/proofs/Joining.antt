@@ -1,10 +1,9 @@
 -- What `combine` leaves of the data, and the settings that it read.
-use Rattle.std.proofs.Common.{◌≡◌, ◌⊎◌, ◌∙◌, inl, inr, ℕ, Bool, true, false, true≢false, refl, sym, ap, subst, List, [], Option, Some, None, Result, Ok, Err}
+use Rattle.std.proofs.Common.{◌≡◌, ◌∙◌, inl, inr, ℕ, Bool, true, false, true≢false, refl, sym, ap, subst, List, [], Option, Some, None, Result, Ok, Err}
 use Rattle.std.specs.Prelude.{codes, unwrap_or}
 use Rattle.cov_config.specs.Settings.{Settings, meaning_of}
 use Rattle.cov_contexts.specs.declared.plugins.Plugin.{Ghosts as PluginOf}
 use Rattle.cov_exclude.specs.declared.maker.Maker.{Ghosts as MakerOf}
-use Rattle.cov_joins.specs.Left.{IsLeft}
 use Rattle.cov_joins.specs.Parts.{combining}
 use Rattle.cov_joins.proofs.Leaving.{allowed, Leaves, both-step, stays-so, left-none, combining-keeps, settings-keeps}
 use Rattle.cov_outside.specs.declared.shelf.Shelf.{Ghosts as ShelfOf}
@@ -15,7 +14,7 @@ use Rattle.cov_outside.specs.declared.source.Source.{Ghosts as SourceOf}
 use Rattle.py_machine.specs.declared.engine.Engine.{Ghosts as EngineOf}
 use Rattle.cov_programs.specs.Ends.{Ends, Follows}
 use Rattle.cov_programs.specs.Laws.{IsLate, OnlyKeeps, Parted}
-use Rattle.cov_programs.specs.Objects.{Moves, beside}
+use Rattle.cov_programs.specs.Objects.{Moves}
 use Rattle.cov_programs.specs.Programs.{bind}
 use Rattle.cov_programs.specs.Programs as programs
 use Rattle.cov_programs.proofs.Folding.{parted}
@@ -24,8 +23,8 @@ use Rattle.cov_programs.proofs.Parts.{keeps-careful}
 use Rattle.cov_programs.proofs.Results.{ok_is, ok_no_err}
 use Rattle.cov_run.specs.Loading.{most_bytes}
 use Rattle.cov_step.specs.Answers.{bytes_of, bytes_if_any, given_or}
-use Rattle.cov_step.specs.Calls.{Call, spells, checks, reads, puts, opens, lists, loads, saves, removes, makes, writes, crosses, measures, tries, says, Answer, Answered, Step, IsNoMemory}
-use Rattle.cov_step.specs.Objects.{on_shelf, on_vault, ReadOf, Saying}
+use Rattle.cov_step.specs.Calls.{Call, spells, checks, reads, puts, opens, lists, loads, saves, removes, makes, writes, crosses, measures, tries, tests, says, Answer, Answered, Step, IsNoMemory}
+use Rattle.cov_step.specs.Objects.{on_shelf, ReadOf, Saying}
 use Rattle.cov_step.specs.Combining.{leaves_files, after_changes}
 use Rattle.cov_step.specs.Phases.{own_name, settings}
 use Rattle.cov_step.specs.Promises.{keeps}
@@ -39,7 +38,7 @@ use Rattle.cov_why.specs.Answers.{Refusal, no_such_file, bad_config, usage, Plai
 use Rattle.cov_words.specs.Commands.{PlainCommand}
 use Rattle.cov_words.specs.Commands as plain
 use Rattle.cov_words.specs.Values.{Word}
-use Rattle.cov_app.specs.Joined.{AreWordsOf, settings_name, AreSettings, IsJoined, CombineLeft}
+use Rattle.cov_app.specs.Joined.{AreWordsOf, AreSettings, IsJoined, CombineLeft}
 use Rattle.cov_app.specs.Objects.{All, on_command}
 use Rattle.cov_app.specs.Taken.{why_of}
 use Rattle.cov_app.proofs.Keeping.{spelled-whole, data-tells, data-kept}
@@ -141,7 +140,7 @@ module _ {H V M I O P G E : Type 0} (shelf : ShelfOf H) (vault : VaultOf V) (mak
   shelf-files t u (checks bytes) x v m e = ap shelf.files m.same
   shelf-files t u (reads name most) x v m e = (shelf.truthful t u name most x v m.moved).1
   shelf-files t u (puts name bytes) x v m e = absurd (true≢false (sym e))
-  shelf-files t u (opens script) x v m e = m.kept t
+  shelf-files t u (opens name script) x v m e = m.kept t
   shelf-files t u lists x v m e = absurd m
   shelf-files t u (loads name) x v m e = absurd m
   shelf-files t u (saves name content) x v m e = absurd m
@@ -151,6 +150,7 @@ module _ {H V M I O P G E : Type 0} (shelf : ShelfOf H) (vault : VaultOf V) (mak
   shelf-files t u (crosses modules words budget) x v m e = absurd m
   shelf-files t u (measures asked modules hook) x v m e = absurd m
   shelf-files t u (tries modules words budget) x v m e = absurd m
+  shelf-files t u (tests asked modules) x v m e = absurd m
   shelf-files t u (says text) x v m e = absurd m
 
   files-kept : shelf.tells → (u : W) (call : Call) (x : Answer call) (v : W) → whole u call x v → leaves_files call x ≡ true → shelf.files (files v) ≡ shelf.files (files u)

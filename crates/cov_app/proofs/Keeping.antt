@@ -1,5 +1,5 @@
 -- What a refused command leaves of files and data that are told; and what an answer says of its ending.
-use Rattle.std.proofs.Common.{◌≡◌, ◌∙◌, inl, inr, ◌≤◌, Bool, true, false, true≢false, refl, sym, ap, subst, List, Result, Ok, Err}
+use Rattle.std.proofs.Common.{◌≡◌, ◌∙◌, inl, inr, true, true≢false, refl, sym, ap, List, Result, Ok, Err}
 use Rattle.cov_contexts.specs.declared.plugins.Plugin.{Ghosts as PluginOf}
 use Rattle.cov_exclude.specs.declared.maker.Maker.{Ghosts as MakerOf}
 use Rattle.cov_outside.specs.declared.shelf.Shelf.{Ghosts as ShelfOf}
@@ -12,17 +12,16 @@ use Rattle.cov_programs.specs.Laws.{IsCareful}
 use Rattle.cov_programs.specs.Objects.{Moves, beside}
 use Rattle.cov_programs.specs.Programs.{bind}
 use Rattle.cov_step.specs.Answers.{given_or}
-use Rattle.cov_step.specs.Calls.{Call, spells, Answer, Answered, Step, IsNoMemory}
+use Rattle.cov_step.specs.Calls.{Call, spells, Answer, Answered, IsNoMemory}
 use Rattle.cov_step.specs.Objects.{on_grammar, on_shelf, on_vault, on_maker, on_err, Saying}
-use Rattle.cov_step.specs.Promises.{keeps, changes_last}
+use Rattle.cov_step.specs.Promises.{keeps}
 use Rattle.cov_step.specs.Step.{step, doing, IsSpelled}
 use Rattle.cov_step.proofs.Care.{law_of_care}
 use Rattle.cov_step.proofs.Kept.{shelf-kept, vault-tells, vault-kept}
 use Rattle.cov_step.proofs.Leaving.{leaves, left-onward, right-onward, left-kept, right-kept}
 use Rattle.cov_streams.specs.Objects.{on_run}
 use Rattle.cov_vault.specs.declared.vault.Vault.{Ghosts as VaultOf}
-use Rattle.cov_why.specs.Answers.{Refusal, usage, Ended, PlainWhy, is_refusal}
-use Rattle.cov_words.specs.Commands.{PlainCommand, IsCommand}
+use Rattle.cov_why.specs.Answers.{Refusal, usage, PlainWhy, is_refusal}
 use Rattle.cov_words.specs.Values.{Word}
 use Rattle.cov_app.specs.Kept.{ChangesLast}
 use Rattle.cov_app.specs.Objects.{All, on_all, on_command}

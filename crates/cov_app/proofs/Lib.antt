@@ -11,6 +11,8 @@ mod Sizes
 mod Streams
 mod BadRuns
 mod Untouched
+mod Imports
 mod Joining
 mod Ending
 mod Heads
+mod Caused

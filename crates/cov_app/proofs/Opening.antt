@@ -1,12 +1,12 @@
 -- Memory may be wanting where each command begins, and each line of a script.
-use Rattle.std.proofs.Common.{ℕ, Bool, true, false, if◌then◌else◌, List, [], ◌∷◌, Option, Some, None}
+use Rattle.std.proofs.Common.{ℕ, Bool, true, false, if◌then◌else◌, List, [], ◌∷◌, Some, None}
 use Rattle.cov_programs.specs.Programs.{give, each}
 use Rattle.cov_programs.specs.Ends.{IsOpen}
 use Rattle.cov_programs.proofs.Each.{then-open, each-open}
-use Rattle.cov_step.specs.Calls.{Answered, Step}
+use Rattle.cov_step.specs.Calls.{Step}
 use Rattle.cov_step.specs.Phases.{done}
 use Rattle.cov_words.specs.Commands.{PlainCommand, arcs, run, combine, report, json, lcov, annotate, erase, script, make, suite, select, mutate}
-use Rattle.cov_step.specs.Scripts.{inside, ended_in, line_done, words_done, is_comment, words_in, line_step, script_text, lines_done}
+use Rattle.cov_step.specs.Scripts.{inside, ended_in, words_done, is_comment, words_in, line_step, lines_done}
 use Rattle.cov_step.specs.Step.{doing}
 use Rattle.cov_app.specs.Spelled.{inside_done}
 use Rattle.cov_words.specs.Values.{Word}
@@ -29,7 +29,8 @@ doing-open (erase data_file None) = tt
 doing-open (erase data_file (Some rcfile)) = tt
 doing-open (script file) = tt
 doing-open (make seed size) = tt
-doing-open (suite branch budget data_file rcfile file) = tt
+doing-open (suite branch budget data_file None file) = tt
+doing-open (suite branch budget data_file (Some rcfile) file) = tt
 doing-open (select budget old new) = tt
 doing-open (mutate budget file) = tt
 
@@ -53,7 +54,8 @@ inside-open (erase data_file None) = tt
 inside-open (erase data_file (Some rcfile)) = tt
 inside-open (script file) = tt
 inside-open (make seed size) = tt
-inside-open (suite branch budget data_file rcfile file) = tt
+inside-open (suite branch budget data_file None file) = tt
+inside-open (suite branch budget data_file (Some rcfile) file) = tt
 inside-open (select budget old new) = tt
 inside-open (mutate budget file) = tt
 

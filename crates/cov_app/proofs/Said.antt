@@ -1,6 +1,6 @@
 -- What becomes of all that is said.
-use Rattle.std.proofs.Common.{◌≡◌, ◌≢◌, ◌∙◌, inl, inr, ℕ, ◌≤◌, ◌<◌, Bool, true, false, true≢false, refl, sym, ap, subst, List, Result, Ok, Err, arith}
-use Rattle.cov_outside.specs.Counts.{Rose, greatest}
+use Rattle.std.proofs.Common.{◌≡◌, ◌≢◌, ◌∙◌, inl, inr, ℕ, ◌≤◌, true, true≢false, refl, sym, ap, subst, List, Result, Ok, Err, arith}
+use Rattle.cov_outside.specs.Counts.{Rose}
 use Rattle.cov_outside.specs.declared.sink.Sink.{Ghosts as SinkOf}
 use Rattle.cov_programs.specs.Ends.{Ends, Follows}
 use Rattle.cov_programs.specs.Laws.{OnlyKeeps}
@@ -9,7 +9,7 @@ use Rattle.cov_programs.specs.Programs.{bind}
 use Rattle.cov_programs.proofs.Keeping.{keeps-all}
 use Rattle.cov_programs.proofs.Later.{ends-onward}
 use Rattle.cov_step.specs.Answers.{given_or}
-use Rattle.cov_step.specs.Calls.{Call, spells, checks, reads, puts, opens, lists, loads, saves, removes, makes, writes, crosses, measures, tries, says, Answer, Answered, Step, IsNoMemory}
+use Rattle.cov_step.specs.Calls.{Call, spells, checks, reads, puts, opens, lists, loads, saves, removes, makes, writes, crosses, measures, tries, tests, says, Answer, Answered, Step, IsNoMemory}
 use Rattle.cov_step.specs.Objects.{Told, whole, failed, no_room, Saying, IsSaid, SayOf, on_err}
 use Rattle.cov_step.specs.Promises.{is_silent}
 use Rattle.cov_step.specs.Step.{step, doing, IsSpelled}
@@ -69,7 +69,7 @@ module _ {E : Type 0} (err : SinkOf E) where
   err-goes u (checks bytes) x v m = absurd m
   err-goes u (reads name most) x v m = absurd m
   err-goes u (puts name bytes) x v m = absurd m
-  err-goes u (opens script) x v m = absurd m
+  err-goes u (opens name script) x v m = absurd m
   err-goes u lists x v m = absurd m
   err-goes u (loads name) x v m = absurd m
   err-goes u (saves name content) x v m = absurd m
@@ -79,6 +79,7 @@ module _ {E : Type 0} (err : SinkOf E) where
   err-goes u (crosses modules words budget) x v m = absurd m
   err-goes u (measures asked modules hook) x v m = absurd m
   err-goes u (tries modules words budget) x v m = absurd m
+  err-goes u (tests asked modules) x v m = absurd m
   err-goes u (says text) x v m = said-on u v text m
 
   -- nothing that isn't said changes it
@@ -87,7 +88,7 @@ module _ {E : Type 0} (err : SinkOf E) where
   err-silent u (checks bytes) x v m e = absurd m
   err-silent u (reads name most) x v m e = absurd m
   err-silent u (puts name bytes) x v m e = absurd m
-  err-silent u (opens script) x v m e = absurd m
+  err-silent u (opens name script) x v m e = absurd m
   err-silent u lists x v m e = absurd m
   err-silent u (loads name) x v m e = absurd m
   err-silent u (saves name content) x v m e = absurd m
@@ -97,6 +98,7 @@ module _ {E : Type 0} (err : SinkOf E) where
   err-silent u (crosses modules words budget) x v m e = absurd m
   err-silent u (measures asked modules hook) x v m e = absurd m
   err-silent u (tries modules words budget) x v m e = absurd m
+  err-silent u (tests asked modules) x v m e = absurd m
   err-silent u (says text) x v m e = absurd (true≢false (sym e))
 
 -- ---- beside other objects

@@ -1,5 +1,5 @@
 -- The checks of a file of commands.
-use Rattle.std.proofs.Common.{◌≡◌, ◌∙◌, ◌≤◌, ◌<◌, ℕ, nat_le, Bool, true, false, if◌then◌else◌, List, Result, Ok, Err, refl, sym, ap, subst}
+use Rattle.std.proofs.Common.{◌≡◌, ◌∙◌, ℕ, nat_le, Bool, true, false, if◌then◌else◌, List, Result, Ok, Err, refl, sym, ap}
 use Rattle.std.specs.Prelude.{MatchResult}
 use Rattle.std.specs.Str.{IsUtf8, is_utf8, chars}
 use Rattle.std.proofs.lemmas.Bool.{le-leb, lt-leb}
@@ -11,8 +11,8 @@ use Rattle.cov_programs.specs.Programs.{give, bind}
 use Rattle.cov_programs.proofs.Composing.{followed-so, refuses, starves}
 use Rattle.cov_run.specs.Alone.{ChecksText, text, no_text, long, starved}
 use Rattle.cov_run.specs.Reading.{AreShortText, fault_line}
-use Rattle.cov_step.specs.Calls.{Call, Answer, Step, IsNoMemory, refuse}
-use Rattle.cov_step.specs.Scripts.{is_text, is_short, is_script}
+use Rattle.cov_step.specs.Calls.{Call, Answer, IsNoMemory, refuse}
+use Rattle.cov_step.specs.Scripts.{is_short, is_script}
 use Rattle.cov_why.specs.Answers.{Refusal, PlainWhy, plain_why, RefusedAs, syntax, limit, no_memory}
 use Rattle.cov_why.specs.declared.why.LimitKind.TheVariants as limits
 use Rattle.cov_why.specs.declared.why.SyntaxKind.TheVariants as kinds

@@ -1,5 +1,5 @@
 -- What calls do with input, output, plugins and engine; and of the plugins each stays or leaves.
-use Rattle.std.proofs.Common.{◌≡◌, inl, inr, Bool, true, true≢false, sym, ap, Result}
+use Rattle.std.proofs.Common.{◌≡◌, inl, inr, true, true≢false, sym, ap, Result}
 use Rattle.cov_contexts.specs.declared.plugins.Plugin.{Ghosts as PluginOf}
 use Rattle.cov_exclude.specs.declared.maker.Maker.{Ghosts as MakerOf}
 use Rattle.cov_outside.specs.declared.shelf.Shelf.{Ghosts as ShelfOf}
@@ -12,13 +12,13 @@ use Rattle.cov_measure_laws.proofs.Leaving.{as-before, same-list, one-after}
 use Rattle.cov_programs.specs.Ends.{Follows}
 use Rattle.cov_programs.specs.Objects.{Moves}
 use Rattle.cov_programs.proofs.Later.{ends-onward}
-use Rattle.cov_step.specs.Calls.{Call, spells, checks, reads, puts, opens, lists, loads, saves, removes, makes, writes, crosses, measures, tries, says, Answer, Step, IsNoMemory}
+use Rattle.cov_step.specs.Calls.{Call, spells, checks, reads, puts, opens, lists, loads, saves, removes, makes, writes, crosses, measures, tries, tests, says, Answer, Step, IsNoMemory}
 use Rattle.cov_step.specs.Objects.{Saying}
 use Rattle.cov_step.specs.Early.{leaves_streams}
 use Rattle.cov_streams.specs.Objects.{on_run}
 use Rattle.cov_vault.specs.declared.vault.Vault.{Ghosts as VaultOf}
 use Rattle.cov_why.specs.Answers.{PlainWhy}
-use Rattle.cov_app.specs.Objects.{All, on_all, on_command}
+use Rattle.cov_app.specs.Objects.{All, on_command}
 
 -- ---- the objects of a run
 
@@ -28,7 +28,7 @@ module _ {I O P G : Type 0} (source : SourceOf I) (sink : SinkOf O) (plugin : Pl
   run-kept u (checks bytes) x v m e = absurd m
   run-kept u (reads name most) x v m e = absurd m
   run-kept u (puts name bytes) x v m e = absurd m
-  run-kept u (opens script) x v m e = absurd m
+  run-kept u (opens name script) x v m e = absurd m
   run-kept u lists x v m e = absurd m
   run-kept u (loads name) x v m e = absurd m
   run-kept u (saves name content) x v m e = absurd m
@@ -38,6 +38,7 @@ module _ {I O P G : Type 0} (source : SourceOf I) (sink : SinkOf O) (plugin : Pl
   run-kept u (crosses modules words budget) x v m e = absurd (true≢false (sym e))
   run-kept u (measures asked modules hook) x v m e = absurd (true≢false (sym e))
   run-kept u (tries modules words budget) x v m e = m.same
+  run-kept u (tests asked modules) x v m e = absurd (true≢false (sym e))
   run-kept u (says text) x v m e = absurd m
 
   run-left : (u : Streams I O P G) (call : Call) (x : Answer call) (v : Streams I O P G) → on_run source sink plugin engine u call x v → AreLeft plugin u.plugins v.plugins
@@ -45,7 +46,7 @@ module _ {I O P G : Type 0} (source : SourceOf I) (sink : SinkOf O) (plugin : Pl
   run-left u (checks bytes) x v m = absurd m
   run-left u (reads name most) x v m = absurd m
   run-left u (puts name bytes) x v m = absurd m
-  run-left u (opens script) x v m = absurd m
+  run-left u (opens name script) x v m = absurd m
   run-left u lists x v m = absurd m
   run-left u (loads name) x v m = absurd m
   run-left u (saves name content) x v m = absurd m
@@ -55,6 +56,7 @@ module _ {I O P G : Type 0} (source : SourceOf I) (sink : SinkOf O) (plugin : Pl
   run-left u (crosses modules words budget) x v m = same-list plugin u.plugins v.plugins m.plugins
   run-left u (measures asked modules hook) x v m = m.run.plugins
   run-left u (tries modules words budget) x v m = same-list plugin u.plugins v.plugins (ap (λ (s : Streams I O P G). s.plugins) m.same)
+  run-left u (tests asked modules) x v m = m.ran.suite.plugins
   run-left u (says text) x v m = absurd m
 
 -- ---- all objects

@@ -15,7 +15,7 @@ use Rattle.cov_programs.proofs.Late.{early-keeps}
 use Rattle.cov_step.specs.Answers.{given_or}
 use Rattle.cov_step.specs.Calls.{Call, spells, Answer, Answered, Step, IsNoMemory}
 use Rattle.cov_step.specs.Objects.{Saying}
-use Rattle.cov_step.specs.Early.{leaves_streams, comes_late, late_in_run, is_late}
+use Rattle.cov_step.specs.Early.{leaves_streams, comes_late, late_in_run, late_in_suite, is_late}
 use Rattle.cov_step.specs.Promises.{has_one_text}
 use Rattle.cov_step.specs.Step.{step, doing, IsSpelled}
 use Rattle.cov_step.proofs.Early.{law_of_early}
@@ -27,7 +27,7 @@ use Rattle.cov_words.specs.Values.{Word}
 use Rattle.cov_app.specs.Early.{IsEarly}
 use Rattle.cov_app.specs.Objects.{All, on_command}
 use Rattle.cov_app.specs.Taken.{HasOneText, why_of}
-use Rattle.cov_app.proofs.BadRuns.{bad-of, bad-run}
+use Rattle.cov_app.proofs.BadRuns.{bad-of, bad-of-tests, bad-run, bad-suite}
 use Rattle.cov_app.proofs.Keeping.{data-tells, spelled-whole}
 use Rattle.cov_app.proofs.Streams.{whole-kept}
 
@@ -64,7 +64,15 @@ module _ {H V M I O P G E : Type 0} (shelf : ShelfOf H) (vault : VaultOf V) (mak
   by-command (plain.erase data_file rcfile) one old new why e ends = left-early comes_late refl (doing (plain.erase data_file rcfile)) old new why e.early (law_of_early (plain.erase data_file rcfile) one) ends
   by-command (plain.script file) one old new why e ends = absurd (true≢false (sym one))
   by-command (plain.make seed size) one old new why e ends = left-early comes_late refl (doing (plain.make seed size)) old new why e.early (law_of_early (plain.make seed size) one) ends
-  by-command (plain.suite branch steps data_file rcfile file) one old new why e ends = left-early comes_late refl (doing (plain.suite branch steps data_file rcfile file)) old new why e.early tt ends
+  by-command (plain.suite branch steps data_file rcfile file) one old new why e ends =
+      by-kind (is_late late_in_suite why) refl
+    where
+      by-kind : (b : Bool) → is_late late_in_suite why ≡ b → streams_in new ≡ streams_in old
+      by-kind false early = left-early late_in_suite refl (doing (plain.suite branch steps data_file rcfile file)) old new why early (law_of_early (plain.suite branch steps data_file rcfile file) one) ends
+      by-kind true late =
+          let bad = bad-of-tests why e.early late in
+          let b = bad-of why e.early bad in
+          bad-suite shelf vault maker source sink plugin engine err b.0 b.1 branch steps data_file rcfile file old new (e.of_data bad) (subst (λ r. Ends whole IsNoMemory (doing (plain.suite branch steps data_file rcfile file)) old (Err r) new) b.2 ends)
   by-command (plain.select steps older newer) one old new why e ends = left-early comes_late refl (doing (plain.select steps older newer)) old new why e.early tt ends
   by-command (plain.mutate steps file) one old new why e ends = left-early comes_late refl (doing (plain.mutate steps file)) old new why e.early tt ends
 

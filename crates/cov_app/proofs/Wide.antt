@@ -1,5 +1,5 @@
 -- Programs over some objects of a command, among all of them.
-use Rattle.std.proofs.Common.{◌≡◌, inl, inr, refl, ap, List, Result}
+use Rattle.std.proofs.Common.{◌≡◌, inl, inr, refl, sym, ap, subst, List, Result}
 use Rattle.cov_contexts.specs.declared.plugins.Plugin.{Ghosts as PluginOf}
 use Rattle.cov_exclude.specs.declared.maker.Maker.{Ghosts as MakerOf}
 use Rattle.cov_outside.specs.declared.shelf.Shelf.{Ghosts as ShelfOf}
@@ -11,10 +11,12 @@ use Rattle.cov_programs.specs.Ends.{Follows}
 use Rattle.cov_programs.specs.Objects.{beside}
 use Rattle.cov_programs.proofs.Composing.{among}
 use Rattle.cov_reports.specs.Objects.{on_report}
-use Rattle.cov_step.specs.Calls.{Call, spells, checks, reads, puts, opens, lists, loads, saves, removes, makes, writes, crosses, measures, tries, says, Answer, Step, IsNoMemory}
+use Rattle.cov_step.specs.Calls.{Call, spells, checks, reads, puts, opens, lists, loads, saves, removes, makes, writes, crosses, measures, tries, tests, says, Answer, Step, IsNoMemory}
 use Rattle.cov_step.specs.Objects.{on_grammar, on_shelf, on_vault, on_maker, on_sink, on_err, Saying}
 use Rattle.cov_streams.specs.Objects.{on_run}
+use Rattle.cov_streams.specs.Suites.{on_plugins}
 use Rattle.cov_streams.specs.Trials.{on_trial}
+use Rattle.cov_suites.specs.Views.{on_suite}
 use Rattle.cov_vault.specs.declared.vault.Vault.{Ghosts as VaultOf}
 use Rattle.cov_why.specs.Answers.{PlainWhy}
 use Rattle.cov_app.specs.Objects.{all_of, on_all}
@@ -26,7 +28,7 @@ widen source sink plugin engine i ps g u (spells words) x v m = absurd m
 widen source sink plugin engine i ps g u (checks bytes) x v m = absurd m
 widen source sink plugin engine i ps g u (reads name most) x v m = absurd m
 widen source sink plugin engine i ps g u (puts name bytes) x v m = absurd m
-widen source sink plugin engine i ps g u (opens script) x v m = absurd m
+widen source sink plugin engine i ps g u (opens name script) x v m = absurd m
 widen source sink plugin engine i ps g u lists x v m = absurd m
 widen source sink plugin engine i ps g u (loads name) x v m = absurd m
 widen source sink plugin engine i ps g u (saves name content) x v m = absurd m
@@ -36,7 +38,28 @@ widen source sink plugin engine i ps g u (writes bytes) x v m = record { wrote =
 widen source sink plugin engine i ps g u (crosses modules words budget) x v m = absurd m
 widen source sink plugin engine i ps g u (measures asked modules hook) x v m = absurd m
 widen source sink plugin engine i ps g u (tries modules words budget) x v m = absurd m
+widen source sink plugin engine i ps g u (tests asked modules) x v m = absurd m
 widen source sink plugin engine i ps g u (says text) x v m = absurd m
+
+-- what plugins answer, they answer beside an input, an output and an engine
+ask-widely : {I O P G : Type 0} (source : SourceOf I) (sink : SinkOf O) (plugin : PluginOf P) (engine : EngineOf G) (i : I) (o : O) (g : G) (u : List P) (call : Call) (x : Answer call) (v : List P)
+    → on_plugins plugin u call x v → on_run source sink plugin engine (streams i o u g) call x (streams i o v g)
+ask-widely source sink plugin engine i o g u (spells words) x v m = absurd m
+ask-widely source sink plugin engine i o g u (checks bytes) x v m = absurd m
+ask-widely source sink plugin engine i o g u (reads name most) x v m = absurd m
+ask-widely source sink plugin engine i o g u (puts name bytes) x v m = absurd m
+ask-widely source sink plugin engine i o g u (opens name script) x v m = absurd m
+ask-widely source sink plugin engine i o g u lists x v m = absurd m
+ask-widely source sink plugin engine i o g u (loads name) x v m = absurd m
+ask-widely source sink plugin engine i o g u (saves name content) x v m = absurd m
+ask-widely source sink plugin engine i o g u (removes name) x v m = absurd m
+ask-widely source sink plugin engine i o g u (makes texts) x v m = absurd m
+ask-widely source sink plugin engine i o g u (writes bytes) x v m = absurd m
+ask-widely source sink plugin engine i o g u (crosses modules words budget) x v m = absurd m
+ask-widely source sink plugin engine i o g u (measures asked modules hook) x v m = absurd m
+ask-widely source sink plugin engine i o g u (tries modules words budget) x v m = absurd m
+ask-widely source sink plugin engine i o g u (tests asked modules) x v m = record { ran = m; same = refl }
+ask-widely source sink plugin engine i o g u (says text) x v m = absurd m
 
 module _ {H V M I O P G : Type 0} (shelf : ShelfOf H) (vault : VaultOf V) (maker : MakerOf M) (source : SourceOf I) (sink : SinkOf O) (plugin : PluginOf P) (engine : EngineOf G) where
   -- ---- what words are
@@ -95,6 +118,21 @@ module _ {H V M I O P G : Type 0} (shelf : ShelfOf H) (vault : VaultOf V) (maker
       → Follows (on_all shelf vault maker source sink plugin engine) IsNoMemory p (all_of h v m s) e (all_of k w m t)
   wide-run m f = among (beside (beside (on_shelf shelf) (on_vault vault)) (on_run source sink plugin engine)) (on_all shelf vault maker source sink plugin engine) IsNoMemory (λ (u : (H × V) × Streams I O P G). all_of u.0.0 u.0.1 m u.1) (run-moved m) f
 
+  -- ---- a shelf, a vault, an output and plugins
+
+  suite-moved : (m : M) (i : I) (g : G) (u : (H × V) × (O × List P)) (call : Call) (x : Answer call) (w : (H × V) × (O × List P)) → on_suite shelf vault sink plugin u call x w
+      → on_all shelf vault maker source sink plugin engine (all_of u.0.0 u.0.1 m (streams i u.1.0 u.1.1 g)) call x (all_of w.0.0 w.0.1 m (streams i w.1.0 w.1.1 g))
+  suite-moved m i g u call x w (inl (inl (a, v), s)) = inl (inl (inl (inr (a, refl), v), refl), ap (λ (y : O × List P). streams i y.0 y.1 g) s)
+  suite-moved m i g u call x w (inl (inr (a, h), s)) = inl (inl (inr (a, ap (λ y. (tt, y)) h), refl), ap (λ (y : O × List P). streams i y.0 y.1 g) s)
+  suite-moved m i g u call x w (inr (inl (a, p), d)) =
+      inr (subst (λ ps. on_run source sink plugin engine (streams i u.1.0 u.1.1 g) call x (streams i w.1.0 ps g)) (sym p) (widen source sink plugin engine i u.1.1 g u.1.0 call x w.1.0 a), ap (λ (y : H × V). (((tt, y.0), y.1), m)) d)
+  suite-moved m i g u call x w (inr (inr (a, o), d)) =
+      inr (subst (λ y. on_run source sink plugin engine (streams i u.1.0 u.1.1 g) call x (streams i y w.1.1 g)) (sym o) (ask-widely source sink plugin engine i u.1.0 g u.1.1 call x w.1.1 a), ap (λ (y : H × V). (((tt, y.0), y.1), m)) d)
+
+  pub wide-suite : {A : Type 0} {p : Step A} {e : Result A PlainWhy} {h k : H} {v w : V} {o q : O} {ps qs : List P} (m : M) (i : I) (g : G) → Follows (on_suite shelf vault sink plugin) IsNoMemory p ((h, v), (o, ps)) e ((k, w), (q, qs))
+      → Follows (on_all shelf vault maker source sink plugin engine) IsNoMemory p (all_of h v m (streams i o ps g)) e (all_of k w m (streams i q qs g))
+  wide-suite m i g f = among (on_suite shelf vault sink plugin) (on_all shelf vault maker source sink plugin engine) IsNoMemory (λ (u : (H × V) × (O × List P)). all_of u.0.0 u.0.1 m (streams i u.1.0 u.1.1 g)) (suite-moved m i g) f
+
   -- ---- a shelf
 
   shelf-moved : (v : V) (m : M) (s : Streams I O P G) (u : H) (call : Call) (x : Answer call) (w : H) → on_shelf shelf u call x w → on_all shelf vault maker source sink plugin engine (all_of u v m s) call x (all_of w v m s)
@@ -128,7 +166,7 @@ module _ {H V M I O P G : Type 0} (shelf : ShelfOf H) (vault : VaultOf V) (maker
   trial-in h v i ps g m n o q (checks bytes) x sm so a = inl (inl (inl (inl (a, refl), refl), sm), ap (λ y. streams i y ps g) so)
   trial-in h v i ps g m n o q (reads name most) x sm so a = absurd a
   trial-in h v i ps g m n o q (puts name bytes) x sm so a = absurd a
-  trial-in h v i ps g m n o q (opens script) x sm so a = absurd a
+  trial-in h v i ps g m n o q (opens name script) x sm so a = absurd a
   trial-in h v i ps g m n o q lists x sm so a = absurd a
   trial-in h v i ps g m n o q (loads name) x sm so a = absurd a
   trial-in h v i ps g m n o q (saves name content) x sm so a = absurd a
@@ -138,6 +176,7 @@ module _ {H V M I O P G : Type 0} (shelf : ShelfOf H) (vault : VaultOf V) (maker
   trial-in h v i ps g m n o q (crosses modules words budget) x sm so a = absurd a
   trial-in h v i ps g m n o q (measures asked modules hook) x sm so a = absurd a
   trial-in h v i ps g m n o q (tries modules words budget) x sm so a = inr (record { tried = a.tried; same = ap (λ y. streams i y ps g) so }, ap (λ y. (((tt, h), v), y)) sm)
+  trial-in h v i ps g m n o q (tests asked modules) x sm so a = absurd a
   trial-in h v i ps g m n o q (says text) x sm so a = absurd a
 
   made-moved : (h : H) (v : V) (i : I) (ps : List P) (g : G) (u : (Unit {0} × M) × O) (call : Call) (x : Answer call) (w : (Unit {0} × M) × O) → beside (beside on_trial (on_maker maker)) (on_sink sink) u call x w

@@ -11,7 +11,7 @@ use Rattle.cov_words.specs.Values.{Word}
 abbrev pub built_names : List Word
 built_names =
     codes "arcs" ∷ codes "run" ∷ codes "combine" ∷ codes "report" ∷ codes "json" ∷ codes "lcov"
-    ∷ codes "annotate" ∷ codes "erase" ∷ codes "script" ∷ codes "make" ∷ []
+    ∷ codes "annotate" ∷ codes "erase" ∷ codes "script" ∷ codes "make" ∷ codes "suite" ∷ []
 
 -- whether a word is one of them
 abbrev pub names_built : Word → Bool

@@ -1,4 +1,5 @@
 pub mod Built
+pub mod Caused
 pub mod Early
 pub mod Ending
 pub mod Groups

@@ -35,5 +35,6 @@ pub(crate) fn why_of(ended: Ended) -> Why
         Ended::Program(status) => Why::Program(status),
         Ended::Budget(steps) => Why::Budget(steps),
         Ended::Under(covered, all) => Why::Under(covered, all),
+        Ended::Tests(passed, failed, cut) => Why::Tests(passed, failed, cut),
     }
 }

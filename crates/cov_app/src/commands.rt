@@ -51,7 +51,8 @@ fn names_built(word: &str) -> bool
         | "annotate"
         | "erase"
         | "script"
-        | "make" => true,
+        | "make"
+        | "suite" => true,
         _ => false,
     }
 }

@@ -18,6 +18,7 @@ use cov_made::make;
 use cov_outside::{Shelf, Sink, Source};
 use cov_reports::{annotate, json, lcov, report};
 use cov_runs::{RunWords, arcs, run};
+use cov_suites::{SuiteWords, suite};
 use cov_vault::Vault;
 use cov_why::Why;
 use cov_words::Command;
@@ -78,6 +79,22 @@ pub(crate) fn inside<H: Shelf, V: Vault, M: Maker, I: Source, O: Sink, G: Engine
             run(alloc, words, shelf, vault, input, out, plugins, engine)
         }
         Command::Make { seed, size } => make(alloc, seed, size, maker, out),
+        Command::Suite {
+            branch,
+            budget,
+            data_file,
+            rcfile,
+            file,
+        } => {
+            let words = SuiteWords {
+                branch,
+                budget,
+                data_file,
+                rcfile,
+                file,
+            };
+            suite(alloc, words, shelf, vault, out, plugins)
+        }
         other => of_data(alloc, other, shelf, vault, maker, out),
     }
 }

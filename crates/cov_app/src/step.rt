@@ -1,5 +1,6 @@
 //! The top call: one command over a shelf, a vault, a maker of patterns, an input and two sinks.
 ghost use Rattle.std.specs.Prelude.{◌≡◌, ◌≤◌, ℕ, Bool, true, List, Option, map, string_bytes};
+ghost use Rattle.cov_app.specs.Caused.{AnswersExactly, CausedScript};
 ghost use Rattle.cov_app.specs.Early.{IsEarly};
 ghost use Rattle.cov_app.specs.Ending.{IsDone};
 ghost use Rattle.cov_app.specs.Heads.{HeadsWhere};
@@ -9,6 +10,8 @@ ghost use Rattle.cov_app.specs.Objects.{all_of, lent, on_all, on_command};
 ghost use Rattle.cov_app.specs.Sizes.{HasSmallSize};
 ghost use Rattle.cov_app.specs.Taken.{HasOneText, StepTaken, why_of, ending_in};
 ghost use Rattle.cov_calls.specs.Views.{answered_view};
+ghost use Rattle.cov_cause_laws.specs.Causes.{IsRefusedFor};
+ghost use Rattle.cov_cause_laws.specs.Exactly.{NoScript};
 ghost use Rattle.cov_complete_laws.specs.Complete.{NoneRose};
 ghost use Rattle.cov_complete_laws.specs.Ready.{Ready};
 ghost use Rattle.cov_complete_laws.specs.Scripts.{IsReadyScript};
@@ -18,7 +21,7 @@ ghost use Rattle.cov_outside.specs.Counts.{Rose};
 ghost use Rattle.cov_programs.specs.Ends.{Follows};
 ghost use Rattle.cov_step.specs.Calls.{IsNoMemory, seen};
 ghost use Rattle.cov_step.specs.Step.{doing, step};
-ghost use Rattle.cov_why.specs.Answers.{is_refusal, plain_why};
+ghost use Rattle.cov_why.specs.Answers.{import_failed, is_refusal, plain_why};
 ghost use Rattle.cov_why.specs.Statuses.{status_of};
 ghost use Rattle.cov_words.specs.Commands.{PlainCommand, IsCommand};
 ghost use Rattle.cov_words.specs.Commands as plain;
@@ -30,6 +33,7 @@ use crate::inside::inside;
 use crate::saying::tell;
 use crate::scripts::script;
 use cov_calls::Answered;
+use cov_cause_laws::{caused, caused_scripts};
 use cov_complete_laws::{complete, complete_script};
 use cov_contexts::Plugin;
 use cov_exclude::Maker;
@@ -104,12 +108,19 @@ pub fn coverage<H: Shelf, V: Vault, M: Maker, I: Source, O: Sink, E: Sink, G: En
     ensures kept { is_refusal (plain_why result.why) ≡ true
         → ChangesLast (map string_bytes words.now)
         → AreLeft H.Shelf V.Vault shelf.old shelf.new vault.old vault.new }
-    // A refusal but a fault and want of memory comes before anything is run or written, where words
-    // aren't those of `script`; that data are bad, where the vault tells what it holds.
+    // A refusal but a fault, want of memory and a failed import comes before anything is run or
+    // written, where words aren't those of `script`; that data are bad, where the vault tells what
+    // it holds.
     ensures untouched { IsEarly (V.tells vault.old) (plain_why result.why)
         → HasOneText (map string_bytes words.now)
         → streams input.new out.new plugins.new.items engine.new
         ≡ streams input.old out.old plugins.old.items engine.old }
+    // Tests whose import failed leave input, output and engine as they were; of the plugins some
+    // may have left. Here too words aren't those of `script`.
+    ensures imports { (file : List ℕ) → plain_why result.why ≡ Err (import_failed file)
+        → HasOneText (map string_bytes words.now)
+        → streams input.new out.new plugins.new.items engine.new
+        ≡ streams input.old out.old plugins.new.items engine.old }
 
     // `combine` changes its data file and its inputs alone, and nothing where it is refused but by
     // a fault of the vault or want of memory; of files and data that are told.
@@ -147,10 +158,41 @@ pub fn coverage<H: Shelf, V: Vault, M: Maker, I: Source, O: Sink, E: Sink, G: En
         (all_of shelf.new vault.new maker.new
         (streams input.new out.new plugins.new.items engine.new))
         → IsDone (plain_why result.why) }
+
+    // Each refusal comes exactly where its cause holds, by the words, the files and the data before
+    // the call, where files and data are told and no fault is counted. One cause at most holds but
+    // of patterns, which a maker may take that the grammar doesn't read.
+    ensures caused { NoScript (map string_bytes words.now) → H.tells → V.tells vault.old
+        → NoneRose H.Shelf V.Vault M.Maker I.Source O.Sink
+        (all_of shelf.old vault.old maker.old
+        (streams input.old out.old plugins.old.items engine.old))
+        (all_of shelf.new vault.new maker.new
+        (streams input.new out.new plugins.new.items engine.new))
+        → AnswersExactly
+        (IsRefusedFor (H.files shelf.old) (V.contents vault.old) (map string_bytes words.now))
+        (plain_why result.why) }
+    // A script is refused so by its file, or by the first of its lines that is, where those before
+    // it led.
+    ensures caused_script { (name : List ℕ)
+        → IsCommand (plain.script name) (map string_bytes words.now)
+        → H.tells → V.tells vault.old
+        → NoneRose H.Shelf V.Vault M.Maker I.Source O.Sink
+        (all_of shelf.old vault.old maker.old
+        (streams input.old out.old plugins.old.items engine.old))
+        (all_of shelf.new vault.new maker.new
+        (streams input.new out.new plugins.new.items engine.new))
+        → CausedScript
+        (on_command H.Shelf V.Vault M.Maker I.Source O.Sink P.Plugin G.Engine E.Sink)
+        (λ w. H.files w.0.0.0.0.1) (λ w. V.contents w.0.0.0.1) name
+        (lent shelf.old vault.old maker.old
+        (streams input.old out.old plugins.old.items engine.old) err.old Told.Whole)
+        (plain_why result.why) }
 {
     headline::<H, V, M, I, O, E, G, P>();
     complete::<H, V, M, I, O, E, G, P>();
     complete_script::<H, V, M, I, O, E, G, P>();
+    caused::<H, V, M, I, O, E, G, P>();
+    caused_scripts::<H, V, M, I, O, E, G, P>();
     let mut told = Told::Whole;
     let answer = answer(
         alloc, words, shelf, vault, maker, input, out, err, &mut told, plugins, engine,

@@ -41,6 +41,8 @@ mod sources;
 #[cfg(test)]
 mod stopped;
 #[cfg(test)]
+mod suites;
+#[cfg(test)]
 mod sweeps;
 #[cfg(test)]
 mod values;

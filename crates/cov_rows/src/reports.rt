@@ -2,7 +2,7 @@
 
 use crate::harness::{NONE, World, shelf_of};
 use crate::sessions::{Session, assert_session};
-use crate::sources::{FIRST_RUN, NUMBERS, ONE_LINE_LOOP};
+use crate::sources::{CALC, FIRST_RUN, NUMBERS, ONE_LINE_LOOP, TEST_CALC};
 use std::test::Fail;
 
 const HANDLERS: &str = "\
@@ -23,27 +23,6 @@ else:
     print(2)
 while True:
     break
-";
-
-const CALC: &str = "\
-def div(a, b):
-    if b == 0:
-        return None
-    return a // b
-
-def unused(x):
-    return x
-";
-
-const TEST_CALC: &str = "\
-import calc
-
-def test_div():
-    assert calc.div(6, 3) == 2
-
-if __name__ == \"__main__\":
-    test_div()
-    print(\"ok\")
 ";
 
 /// The report of the row of one file of three statements, of which one is missing.

@@ -16,7 +16,7 @@ static REFUSED: [(&str, &str, &str); 13] = [
         "arcs --budget 1000000001 s.py",
         "2",
     ),
-    ("A command that isn't built", "suite s.py", "0"),
+    ("A command that isn't built", "mutate s.py", "0"),
     ("A run without a script", "run --branch", "2"),
     ("No option of a report", "report --frob", "1"),
     ("A report with an operand", "report s.py", "1"),

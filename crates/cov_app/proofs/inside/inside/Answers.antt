@@ -1,10 +1,10 @@
-use Rattle.std.proofs.Common.{◌≡◌, ◌∙◌, ap, refl, sym, map, string_bytes}
+use Rattle.std.proofs.Common.{ap, refl, sym}
 use Rattle.cov_programs.proofs.Composing.{followed-so}
 use Rattle.cov_step.specs.Scripts.{inside}
 use Rattle.cov_words.specs.Plain.{command_view}
 use Rattle.cov_app.specs.Objects.{on_all}
 use Rattle.cov_app.proofs.Groups.{no-program}
-use Rattle.cov_app.proofs.Wide.{wide-report, wide-arcs, wide-run, wide-made}
+use Rattle.cov_app.proofs.Wide.{wide-report, wide-arcs, wide-run, wide-suite, wide-made}
 use Rattle.cov_app.proofs.inside.inside.Goals as goal
 
 pub returns-in-Arcs : goal.returns-in-Arcs
@@ -28,9 +28,16 @@ returns-in-Make g c =
     refl
     (wide-made g.H.Shelf g.V.Vault g.M.Maker g.I.Source g.O.Sink g.P.Plugin g.G.Engine _ _ c.args.input.now c.args.plugins.now.items c.args.engine.now c.make.ensures.follows)
 
+pub returns-in-Suite : goal.returns-in-Suite
+returns-in-Suite g c =
+    followed-so (on_all g.H.Shelf g.V.Vault g.M.Maker g.I.Source g.O.Sink g.P.Plugin g.G.Engine)
+    (ap (λ x. inside (command_view x)) (sym c.in-Suite.is))
+    refl
+    (wide-suite g.H.Shelf g.V.Vault g.M.Maker g.I.Source g.O.Sink g.P.Plugin g.G.Engine c.args.maker.now c.args.input.now c.args.engine.now c.suite.ensures)
+
 pub returns-in_default : goal.returns-in_default
 returns-in_default g c =
     followed-so (on_all g.H.Shelf g.V.Vault g.M.Maker g.I.Source g.O.Sink g.P.Plugin g.G.Engine)
-    (no-program _ c.in_default.not-Arcs c.in_default.not-Run c.in_default.not-Make)
+    (no-program _ c.in_default.not-Arcs c.in_default.not-Run c.in_default.not-Make c.in_default.not-Suite)
     refl
     (wide-report g.H.Shelf g.V.Vault g.M.Maker g.I.Source g.O.Sink g.P.Plugin g.G.Engine c.args.input.now c.args.plugins.now.items c.args.engine.now c.of_data.ensures)

@@ -1,4 +1,4 @@
-use Rattle.std.proofs.Common.{◌≡◌, ◌∙◌, ap, refl, sym, map, string_bytes}
+use Rattle.std.proofs.Common.{◌∙◌, ap, refl, sym, map, string_bytes}
 use Rattle.std.specs.Option.{option_copied}
 use Rattle.cov_programs.proofs.Composing.{followed-so, on-left}
 use Rattle.cov_reports.specs.Objects.{on_data, on_sources, on_report}

@@ -1,7 +1,5 @@
-use Rattle.std.specs.List.{slice_split}
-use Rattle.std.proofs.Common.{ℕ, ◌+◌, List, [], ◌++◌, map, drop, get_or, ap, sym, ◌∙◌, append_assoc, append-nil, Bor, string_bytes}
+use Rattle.std.proofs.Common.{ℕ, ◌+◌, List, ◌++◌, map, drop, ap, sym, ◌∙◌, append_assoc, append-nil, Bor, string_bytes}
 use Rattle.std.proofs.lemmas.List.{drop_all}
-use Rattle.cov_app.specs.Words.{filled}
 use Rattle.cov_app.proofs.LineWords.{words_of, words-in, drop_at}
 use Rattle.cov_app.proofs.lines.words_in.Goals as goal
 

@@ -1,21 +1,23 @@
-use Rattle.std.proofs.Common.{◌≡◌, ◌∙◌, ap, refl, subst, sym, true, map, string_bytes, Err}
+use Rattle.std.proofs.Common.{◌≡◌, ◌∙◌, ap, refl, subst, sym, true, map, string_bytes}
 use Rattle.cov_calls.specs.Views.{answered_view}
 use Rattle.cov_measure.specs.Measures.{streams}
 use Rattle.cov_programs.proofs.Composing.{followed-so}
 use Rattle.cov_step.specs.Calls.{seen}
 use Rattle.cov_step.specs.Objects.{SayOf}
 use Rattle.cov_step.specs.Step.{step}
-use Rattle.cov_why.specs.Answers.{is_refusal, pattern_size, plain_why, read_fault, shelf_fault, vault_fault, write_fault}
+use Rattle.cov_why.specs.Answers.{import_failed, is_refusal, pattern_size, plain_why, read_fault, shelf_fault, vault_fault, write_fault}
 use Rattle.cov_why.specs.Messages.{message_of}
 use Rattle.cov_app.specs.Early.{IsEarly}
 use Rattle.cov_app.specs.Objects.{all_of, on_all, on_command, saying}
 use Rattle.cov_app.specs.Taken.{why_of, ending_in}
 use Rattle.cov_app.specs.declared.answer.Told.TheVariants.{Whole}
 use Rattle.cov_app.proofs.Blaming.{input-counts, input-raised, maker-counts, maker-raised, out-counts, out-raised, shelf-counts, shelf-raised, vault-counts, vault-raised}
+use Rattle.cov_app.proofs.Caused.{exactly-so, script-so}
 use Rattle.cov_app.proofs.Keeping.{data-left, files-left, refused-so, spelled-whole}
 use Rattle.cov_app.proofs.Said.{failed-raised, only-said, said-counts, says-nothing, says-on}
 use Rattle.cov_app.proofs.Ending.{done-so}
 use Rattle.cov_app.proofs.Heads.{heads-so}
+use Rattle.cov_app.proofs.Imports.{import-leaves}
 use Rattle.cov_app.proofs.Joining.{combine-leaves}
 use Rattle.cov_app.proofs.Streams.{plugins-left}
 use Rattle.cov_app.proofs.Untouched.{streams-left}
@@ -92,6 +94,14 @@ returns-clause-untouched g c = λ early one.
     (all_of c.answer-answer.new.shelf c.answer-answer.new.vault c.answer-answer.new.maker (streams c.answer-answer.new.input c.answer-answer.new.out c.answer-answer.new.plugins.items c.answer-answer.new.engine), saying c.answer-answer.new.err c.answer-answer.new.told)
     (seen answered_view c.answer-answer.result) (subst (λ why. IsEarly (g.V.Vault.tells c.args.vault.now) why) c.parts-why.ensures.answer early) one c.answer-answer.ensures
 
+pub returns-clause-imports : goal.returns-clause-imports
+returns-clause-imports g c = λ file is one.
+    let ended = refused-so (seen answered_view c.answer-answer.result) (import_failed file) (sym c.parts-why.ensures.answer ∙ is) in
+    import-leaves g.H.Shelf g.V.Vault g.M.Maker g.I.Source g.O.Sink g.P.Plugin g.G.Engine g.E.Sink (map string_bytes c.args.words.now)
+    (all_of c.args.shelf.now c.args.vault.now c.args.maker.now (streams c.args.input.now c.args.out.now c.args.plugins.now.items c.args.engine.now), saying c.args.err.now Whole)
+    (all_of c.answer-answer.new.shelf c.answer-answer.new.vault c.answer-answer.new.maker (streams c.answer-answer.new.input c.answer-answer.new.out c.answer-answer.new.plugins.items c.answer-answer.new.engine), saying c.answer-answer.new.err c.answer-answer.new.told)
+    file one (followed-so (on_command g.H.Shelf g.V.Vault g.M.Maker g.I.Source g.O.Sink g.P.Plugin g.G.Engine g.E.Sink) refl ended c.answer-answer.ensures)
+
 pub returns-clause-plugins : goal.returns-clause-plugins
 returns-clause-plugins g c =
     plugins-left g.H.Shelf g.V.Vault g.M.Maker g.I.Source g.O.Sink g.P.Plugin g.G.Engine g.E.Sink (step (map string_bytes c.args.words.now))
@@ -147,3 +157,21 @@ returns-clause-complete_script g c = λ name is ready files contents none.
     (all_of c.args.shelf.now c.args.vault.now c.args.maker.now (streams c.args.input.now c.args.out.now c.args.plugins.now.items c.args.engine.now))
     (all_of c.answer-answer.new.shelf c.answer-answer.new.vault c.answer-answer.new.maker (streams c.answer-answer.new.input c.answer-answer.new.out c.answer-answer.new.plugins.items c.answer-answer.new.engine))
     (saying c.args.err.now Whole) (saying c.answer-answer.new.err c.answer-answer.new.told) (seen answered_view c.answer-answer.result) is ready files contents none c.answer-answer.ensures)
+
+pub returns-clause-caused : goal.returns-clause-caused
+returns-clause-caused g c = λ none files told quiet.
+    exactly-so _ (seen answered_view c.answer-answer.result) _ c.parts-why.ensures.answer
+    (c.caused.ensures (map string_bytes c.args.words.now)
+    (all_of c.args.shelf.now c.args.vault.now c.args.maker.now (streams c.args.input.now c.args.out.now c.args.plugins.now.items c.args.engine.now))
+    (all_of c.answer-answer.new.shelf c.answer-answer.new.vault c.answer-answer.new.maker (streams c.answer-answer.new.input c.answer-answer.new.out c.answer-answer.new.plugins.items c.answer-answer.new.engine))
+    (saying c.args.err.now Whole) (saying c.answer-answer.new.err c.answer-answer.new.told)
+    (seen answered_view c.answer-answer.result) none files told quiet c.answer-answer.ensures)
+
+pub returns-clause-caused_script : goal.returns-clause-caused_script
+returns-clause-caused_script g c = λ name is files told quiet.
+    script-so _ _ _ name _ (seen answered_view c.answer-answer.result) _ c.parts-why.ensures.answer
+    (c.caused_scripts.ensures (map string_bytes c.args.words.now) name
+    (all_of c.args.shelf.now c.args.vault.now c.args.maker.now (streams c.args.input.now c.args.out.now c.args.plugins.now.items c.args.engine.now))
+    (all_of c.answer-answer.new.shelf c.answer-answer.new.vault c.answer-answer.new.maker (streams c.answer-answer.new.input c.answer-answer.new.out c.answer-answer.new.plugins.items c.answer-answer.new.engine))
+    (saying c.args.err.now Whole) (saying c.answer-answer.new.err c.answer-answer.new.told)
+    (seen answered_view c.answer-answer.result) is files told quiet c.answer-answer.ensures)
