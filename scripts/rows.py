@@ -75,6 +75,16 @@ def label(module, function):
         raise ValueError("third")
     return "h" + str(count)
 """
+THREE = """n = [0]
+def test_a():
+    n[0] = n[0] + 1
+    assert n[0] == 1
+def test_b():
+    n[0] = n[0] + 1
+    assert n[0] == 1
+def test_c():
+    assert n[0] == 1, "no"
+"""
 CALLS = "def test_a():\n    pass\ndef test_b():\n    pass\ntest_a()\ntest_b()\ntest_a()\ntest_b()\n"
 
 
@@ -203,6 +213,20 @@ ROWS = [
     ("Make", {}, [
         ("make 0 0", 0, "make 0 0: 2 lines, 2 statements, 0 missing, 0 branches, 0 partial, 100%, 3 arcs, 3 steps\n", ""),
         ("make 0 1", 0, "make 0 1: 4 lines, 4 statements, 1 missing, 2 branches, 1 partial, 67%, 4 arcs, 4 steps\n", ""),
+    ]),
+    ("Suite of ordinary use", {"calc.py": CALC, "test_calc.py": TEST}, [
+        ("suite --branch test_calc.py", 0, "test_div passed\n1 passed, 0 failed, 0 cut\n", ""),
+        ("report", 0, table(48, "Name           Stmts   Miss Branch BrPart  Cover",
+                            "calc.py            6      2      2      1    62%",
+                            "test_calc.py       6      2      2      1    62%",
+                            "TOTAL             12      4      4      2    62%"), ""),
+    ]),
+    ("Three tests", {"t.py": THREE}, [
+        ("suite t.py", 1, "test_a passed\ntest_b passed\ntest_c failed AssertionError: no\n"
+                          "2 passed, 1 failed, 0 cut\n", "")]),
+    ("Import that raises", {"i.py": 'raise ValueError("no")\n'}, [
+        ("suite i.py", 1, "", "coverage: import of i.py ended early\n"),
+        ("report", 1, "", "coverage: no data .coverage\n"),
     ]),
 ]
 failed = 0
