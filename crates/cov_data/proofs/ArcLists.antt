@@ -1,7 +1,7 @@
 -- Which arcs and lines data list: those of their rows, in some context.
-use Rattle.std.proofs.Common.{◌≡◌, ◌↔◌, inl, inr, ℕ, zero, suc, ◌<◌, nat_eq, ℤ, pos, negsuc, Bool, true, false, cond, List, [], ◌∷◌, ◌++◌, map, Contains, refl, ap, sym, ◌∙◌, arith}
+use Rattle.std.proofs.Common.{◌≡◌, ◌↔◌, inl, inr, ℕ, ◌<◌, nat_eq, ℤ, pos, negsuc, Bool, true, false, cond, List, [], ◌∷◌, ◌++◌, map, Contains, refl, ap, sym, ◌∙◌, arith}
 use Rattle.std.specs.declared.cmp.Ordering.TheVariants.{Less, Equal, Greater}
-use Rattle.std.specs.Prelude.{◌⊎◌, ◌||◌, IsSome}
+use Rattle.std.specs.Prelude.{◌||◌, IsSome}
 use Rattle.std.specs.Ordering.{is_eq, eq_by_cmp, ordering_then, int_cmp, nat_cmp}
 use Rattle.std.specs.Cmp.{IsTotalOrder, then_total, on_total}
 use Rattle.std.specs.List.{flat_map, list_any}
@@ -10,10 +10,10 @@ use Rattle.std.proofs.lemmas.Bool.{eqb-true}
 use Rattle.std.proofs.lemmas.Cmp.{int_cmp_total, nat_cmp_total, tied_itself}
 use Rattle.std.proofs.lemmas.List.Folds.{list_any-append}
 use Rattle.std.proofs.lemmas.Map.Lookups.{exact_pairs}
-use Rattle.cov_data.specs.DataSet.{Text, text_cmp, Place, place_cmp, File, DataSet, file_of}
+use Rattle.cov_data.specs.DataSet.{Text, Place, place_cmp, File, DataSet, file_of}
 use Rattle.cov_data.specs.Laws.{IsEnd, LinesOfArcsLaw}
 use Rattle.cov_data.specs.Rows.{lines_in, place_lines, lines_of, arc_cmp, file_arcs, arcs_of, distinct_in_order}
-use Rattle.cov_data.proofs.FileViews.{place_cmp_total, place_cmp_same, text_cmp_total}
+use Rattle.cov_data.proofs.FileViews.{place_cmp_same, text_cmp_total}
 use Rattle.cov_data.proofs.Members.{or_true, member, member-Contains, Contains-member, member-itself, member-one, member-in_order, same-in_order}
 
 arc_cmp-total : IsTotalOrder arc_cmp

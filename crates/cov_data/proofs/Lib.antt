@@ -1,7 +1,9 @@
 pub mod MapViews
 pub mod FileViews
+pub mod CountViews
 pub mod FilesViews
 pub mod Merging
+pub mod Nested
 pub mod SideBySide
 pub mod Unions
 pub mod Soundness

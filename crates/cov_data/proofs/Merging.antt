@@ -1,5 +1,5 @@
 -- What two files, and two maps of files, hold together.
-use Rattle.std.proofs.Common.{◌≡◌, ℕ, cond, List, [], ◌∷◌, Option, Some, None, Ordering, refl, ap, sym, ◌∙◌, arith}
+use Rattle.std.proofs.Common.{◌≡◌, ℕ, ℤ, cond, List, [], ◌∷◌, Option, Some, None, Ordering, refl, ap, sym, ◌∙◌, arith}
 use Rattle.std.specs.declared.cmp.Ordering.TheVariants.{Less, Equal, Greater}
 use Rattle.std.specs.Prelude.{T}
 use Rattle.std.specs.Option.{unwrap_or}
@@ -9,8 +9,10 @@ use Rattle.std.specs.List.{fold}
 use Rattle.std.specs.FinMap.{FinMap, get, insert, entries, find, is_sorted, entries_sorted, get-entries, get-empty, get-insert, get_tied, same_map}
 use Rattle.std.specs.FinMap.Entries.{below_all}
 use Rattle.cov_data.specs.DataSet.{Text, text_cmp, Place, place_cmp, File, Files, add_counts, joined_count, merged, no_rows, no_files, all_files}
+use Rattle.cov_data.specs.Rows.{arc_cmp}
+use Rattle.cov_data.specs.Stored.{Counts, no_counts, both_counts}
 use Rattle.cov_data.proofs.MapViews.{first, second, less}
-use Rattle.cov_data.proofs.FileViews.{place_cmp_total, place_cmp_same, text_cmp_total, text_cmp_same}
+use Rattle.cov_data.proofs.FileViews.{arc_cmp_total, arc_cmp_same, place_cmp_total, place_cmp_same, text_cmp_total, text_cmp_same}
 
 -- what is there, with what comes if it does
 abbrev pub joined : {X : Type 0} → (Option X → X → X) → Option X → Option X → Option X
@@ -41,6 +43,10 @@ pub get-merged : (f g : File) (k : Place) → get (merged f g) k ≡ joined join
 unfolding merged
 get-merged f g k = get-fold place_cmp_total joined_count (entries g) f k (entries_sorted g) ∙ ap (joined joined_count (get f k)) (sym (get-entries g k))
 
+pub get-both_counts : (m n : Counts) (a : ℤ × ℤ) → get (both_counts m n) a ≡ joined joined_count (get m a) (get n a)
+unfolding both_counts
+get-both_counts m n a = get-fold arc_cmp_total joined_count (entries n) m a (entries_sorted n) ∙ ap (joined joined_count (get m a)) (sym (get-entries n a))
+
 -- a file joined to the one that may be there
 abbrev pub joined_file : Option File → File → File
 joined_file o f = merged (unwrap_or o no_rows) f
@@ -54,6 +60,9 @@ get-all_files a b p = get-fold text_cmp_total joined_file (entries b) a p (entri
 joined_count-none : (o : Option ℕ) → joined joined_count None o ≡ o
 joined_count-none None = refl
 joined_count-none (Some n) = refl
+
+pub counts-none : (m : Counts) → both_counts no_counts m ≡ m
+counts-none m = same_map arc_cmp_total arc_cmp_same _ _ (λ a. get-both_counts no_counts m a ∙ ap (λ o. joined joined_count o (get m a)) (get-empty arc_cmp a) ∙ joined_count-none (get m a))
 
 pub merged-none : (f : File) → merged no_rows f ≡ f
 merged-none f = same_map place_cmp_total place_cmp_same _ _ (λ k. get-merged no_rows f k ∙ ap (λ o. joined joined_count o (get f k)) (get-empty place_cmp k) ∙ joined_count-none (get f k))

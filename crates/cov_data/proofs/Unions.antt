@@ -1,7 +1,8 @@
 -- Trees that are made in one walk over two hold what both hold.
-use Rattle.std.proofs.Common.{◌≡◌, ℕ, List, [], ◌∷◌, map, Option, Some, None, Ordering, BTreeMap, refl, ap, sym, subst, ◌∙◌}
+use Rattle.std.proofs.Common.{◌≡◌, ℕ, ℤ, List, [], ◌∷◌, map, Option, Some, None, Ordering, BTreeMap, refl, ap, sym, subst, ◌∙◌}
 use denote.Ref.{Bor}
 use Rattle.std.specs.Prelude.{T, String, string_bytes}
+use Rattle.std.specs.Option.{unwrap_or}
 use Rattle.std.specs.Cmp.{IsTotalOrder}
 use Rattle.std.specs.Map.{keys_of}
 use Rattle.std.specs.Map.Iter.{deref_pair, TakesFirst, ShowsInOrder}
@@ -12,15 +13,20 @@ use Rattle.itertools.specs.declared.either_or_both.EitherOrBoth.{EitherOrBoth}
 use Rattle.std.specs.List.Sorted.{IsStrictlySortedBy}
 use Rattle.std.specs.String.{string_cmp}
 use Rattle.std.specs.BTreeMap.{IsFromIterResult}
-use Rattle.std.specs.FinMap.{IsAntisymmetric, get, from_entries, find, is_sorted, get-from_entries, same_map}
+use Rattle.std.specs.FinMap.{IsAntisymmetric, get, from_entries, find, is_sorted, get-from_entries, get-empty, same_map}
 use Rattle.itertools.specs.List.{merge_join_by}
-use Rattle.cov_data.specs.declared.file.Place.{Place as Stored}
-use Rattle.cov_data.specs.DataSet.{text_cmp, place_cmp, File, rekeyed, add_counts, joined_count, merged, all_files}
-use Rattle.cov_data.specs.Stored.{place_view, file_from, files_from}
+use Rattle.cov_data.specs.DataSet.{text_cmp, File, rekeyed, add_counts, joined_count, merged, all_files}
+use Rattle.cov_data.specs.Stored.{Counts, counts_from, no_counts, both_counts, file_with, file_from, files_from}
 use Rattle.cov_data.proofs.MapViews.{is_sorted-rekeyed, rekeyed-collected}
-use Rattle.cov_data.proofs.FileViews.{place_cmp_total, place_cmp_same, text_cmp_total, text_cmp_same, stored_cmp}
-use Rattle.cov_data.proofs.Merging.{joined, joined_file, get-merged, get-all_files, merged-none}
+use Rattle.cov_data.specs.Rows.{arc_cmp}
+use Rattle.cov_data.proofs.FileViews.{arc_cmp_total, arc_cmp_same, place_cmp_total, place_cmp_same, text_cmp_total, text_cmp_same}
+use Rattle.cov_data.proofs.FilesViews.{texts_from}
+use Rattle.cov_data.proofs.Nested.{get-file_with}
+use Rattle.cov_data.proofs.Merging.{joined, joined_file, get-merged, get-both_counts, get-all_files, counts-none, merged-none}
 use Rattle.cov_data.proofs.SideBySide.{of_both, entry_of, key_cmp, find-side_by_side, is_sorted-side_by_side}
+
+abbrev Arc : Type 0
+Arc = ℤ × ℤ
 
 -- an entry as an iterator gives it
 abbrev pub Lent : Type 0 → Type 0 → Type 0
@@ -84,13 +90,34 @@ files_of_both None (Some g) = ap Some (sym (merged-none g))
 files_of_both (Some f) None = refl
 files_of_both (Some f) (Some g) = refl
 
-pub file_from-united : (ls rs : List (Lent Stored ℕ)) (mine other xs : List (Stored × ℕ)) (n : BTreeMap Stored ℕ)
-    → map deref_pair ls ≡ mine → map deref_pair rs ≡ other → IsStrictlySortedBy stored_cmp (keys_of mine) → IsStrictlySortedBy stored_cmp (keys_of other)
-    → rekeyed place_view xs ≡ map (entry_of (entry_by place_view) add_counts) (merge_join_by (key_cmp (entry_by place_view) place_cmp) ls rs) → IsFromIterResult stored_cmp xs n
-    → file_from n.entries ≡ merged (file_from mine) (file_from other)
-file_from-united ls rs mine other xs n a b g h is made = same_map place_cmp_total place_cmp_same _ _ (λ k.
-    get-united place_cmp_total place_cmp_same place_view add_counts ls rs mine other xs n a b g h is made k
-    ∙ counts_of_both (get (file_from mine) k) (get (file_from other) k) ∙ sym (get-merged (file_from mine) (file_from other) k))
+pub counts_from-united : (ls rs : List (Lent Arc ℕ)) (mine other xs : List (Arc × ℕ)) (n : BTreeMap Arc ℕ)
+    → map deref_pair ls ≡ mine → map deref_pair rs ≡ other → IsStrictlySortedBy arc_cmp (keys_of mine) → IsStrictlySortedBy arc_cmp (keys_of other)
+    → rekeyed (λ k. k) xs ≡ map (entry_of (entry_by (λ k. k)) add_counts) (merge_join_by (key_cmp (entry_by (λ k. k)) arc_cmp) ls rs) → IsFromIterResult arc_cmp xs n
+    → counts_from n.entries ≡ both_counts (counts_from mine) (counts_from other)
+counts_from-united ls rs mine other xs n a b g h is made = same_map arc_cmp_total arc_cmp_same _ _ (λ k.
+    get-united arc_cmp_total arc_cmp_same (λ k. k) add_counts ls rs mine other xs n a b g h is made k
+    ∙ counts_of_both (get (counts_from mine) k) (get (counts_from other) k) ∙ sym (get-both_counts (counts_from mine) (counts_from other) k))
+
+tallies_of_both : (x y : Option Counts) (a : Arc) → get (unwrap_or (of_both both_counts x y) no_counts) a ≡ joined joined_count (get (unwrap_or x no_counts) a) (get (unwrap_or y no_counts) a)
+tallies_of_both None None a = get-empty arc_cmp a ∙ (λ i. joined joined_count (sym (get-empty {X = ℕ} arc_cmp a) i) (sym (get-empty {X = ℕ} arc_cmp a) i))
+tallies_of_both None (Some g) a = ap (λ m. get m a) (sym (counts-none g)) ∙ get-both_counts no_counts g a
+tallies_of_both (Some f) None a = ap (joined joined_count (get f a)) (sym (get-empty {X = ℕ} arc_cmp a))
+tallies_of_both (Some f) (Some g) a = get-both_counts f g a
+
+module _ {Y : Type 0} where
+  pub file_from-united : (ls rs : List (Lent (String Y) Counts)) (mine other xs : List (String Y × Counts)) (n : BTreeMap (String Y) Counts)
+      → map deref_pair ls ≡ mine → map deref_pair rs ≡ other → IsStrictlySortedBy string_cmp (keys_of mine) → IsStrictlySortedBy string_cmp (keys_of other)
+      → rekeyed string_bytes xs ≡ map (entry_of (entry_by string_bytes) both_counts) (merge_join_by (key_cmp (entry_by string_bytes) text_cmp) ls rs) → IsFromIterResult string_cmp xs n
+      → file_from n.entries ≡ merged (file_from mine) (file_from other)
+  file_from-united ls rs mine other xs n a b g h is made = same_map place_cmp_total place_cmp_same _ _ (λ k.
+      let all = texts_from n.entries in
+      let one = texts_from mine in
+      let two = texts_from other in
+      get-file_with all k.0 k.1
+      ∙ ap (λ o. get (unwrap_or o no_counts) k.1) (get-united text_cmp_total text_cmp_same string_bytes both_counts ls rs mine other xs n a b g h is made k.0)
+      ∙ tallies_of_both (get one k.0) (get two k.0) k.1
+      ∙ (λ i. joined joined_count (sym (get-file_with one k.0 k.1) i) (sym (get-file_with two k.0 k.1) i))
+      ∙ sym (get-merged (file_with one) (file_with two) k))
 
 module _ {Y : Type 0} where
   pub files_from-united : (ls rs : List (Lent (String Y) File)) (mine other xs : List (String Y × File)) (n : BTreeMap (String Y) File)

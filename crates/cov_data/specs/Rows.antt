@@ -1,5 +1,5 @@
 -- Rows, and the lists that data give.
---     RowView, row_view                       a row with its two texts as bytes
+--     RowView, row_view, lent_view            a row with its two texts as bytes
 --     with_row                                data with a row more
 --     distinct_in_order                       a list's elements in order, without repeats
 --     file_rows, file_lines, file_arcs        a path's rows, their lines, their pairs of numbers
@@ -12,6 +12,7 @@ use Rattle.std.specs.List.{fold, flat_map}
 use Rattle.std.specs.BTreeSet.{insert_key}
 use Rattle.std.specs.FinMap.{entries, keys}
 use Rattle.cov_data.specs.declared.rows.Row.{Row}
+use Rattle.cov_data.specs.declared.rows.LentRow.{LentRow}
 use Rattle.cov_data.specs.declared.dataset.DataError.{DataError}
 use Rattle.cov_data.specs.declared.dataset.DataError.TheVariants.{Mixed, NoMemory}
 use Rattle.cov_data.specs.DataSet.{Text, Place, File, Files, DataSet, file_of, add_row}
@@ -37,6 +38,16 @@ row_view r = record {
 -- the row of a path with this place and count
 abbrev pub row_of : Text → Place × ℕ → RowView
 row_of p e = record { path = p; context = e.0.0; from = e.0.1.0; to = e.0.1.1; count = e.1 }
+
+-- what a row stands for whose texts are lent
+abbrev pub lent_view : LentRow → RowView
+lent_view r = record {
+  path = r.path.now;
+  context = r.context.now;
+  from = r.from;
+  to = r.to;
+  count = r.count;
+}
 
 -- data with a row more, and its path. Its count is added to that of an equal row
 abbrev pub with_row : DataSet → RowView → DataSet

@@ -6,7 +6,7 @@ use crate::NoMemory;
 use crate::file::Place;
 use crate::files::FileMap;
 use crate::limits::MOST_NUMBER;
-use crate::rows::Row;
+use crate::rows::{LentRow, Row};
 use std::alloc::{AllocError, Global};
 use std::marker::Model;
 
@@ -56,7 +56,7 @@ impl Model for Data {
 }
 
 impl Data {
-    ghost use Rattle.cov_data.specs.Rows.{row_view, with_row, paths_of, rows_of, file_rows, lines_of, arcs_of, IsMixture};
+    ghost use Rattle.cov_data.specs.Rows.{row_view, lent_view, with_row, paths_of, rows_of, file_rows, lines_of, arcs_of, IsMixture};
 
     /// Data of arcs, or else of lines, without a path.
     pub fn new(alloc: Global, arcs: bool) -> Data
@@ -107,7 +107,11 @@ impl Data {
             to,
             count,
         } = row;
-        self.files.add(path, Place { context, from, to }, count)
+        let place = Place {
+            context,
+            numbers: (from, to),
+        };
+        self.files.add(path, place, count)
     }
 
     /// The paths in byte order.
@@ -124,6 +128,13 @@ impl Data {
             IsInRange self.now.arcs row.from row.to row.count) (rows_of self.now) }
     {
         self.files.rows()
+    }
+
+    /// The same rows, whose texts stay here.
+    pub fn lent_rows(&self) -> Result<Vec<LentRow<'_>>, NoMemory>
+        ensures { IfOk result (λ rows. map lent_view rows.items ≡ rows_of self.now) }
+    {
+        self.files.lent_rows()
     }
 
     /// The executed lines of a path, each once, in order.

@@ -1,61 +1,27 @@
 //! The counts of the rows of one path.
 ghost use Rattle.std.specs.Prelude.{◌≡◌, ◌++◌, map, string_bytes, IfOk, OnOk, OnErr};
-ghost use Rattle.std.specs.List.{fold};
-ghost use Rattle.std.specs.Ordering.{nat_cmp};
-ghost use Rattle.std.specs.BTreeSet.{insert_key};
 ghost use Rattle.cov_data.specs.DataSet.{add_count, merged, no_rows};
 
-use crate::rows::Row;
-use crate::sets::{add_line, listed_arcs, listed_lines};
+use crate::rows::{LentRow, Row};
+use crate::sets::{listed_arcs, listed_lines};
+use crate::tally::Tally;
 use itertools::{EitherOrBoth, Itertools};
 use std::alloc::{AllocError, Global};
 use std::collections::{BTreeMap, BTreeSet};
 use std::marker::Model;
 
 /// Where a row stands in its file.
-#[derive(Clone, PartialEq, Eq, PartialOrd, Ord, Drop)]
+#[derive(Drop)]
 pub(crate) struct Place {
     pub(crate) context: String,
-    pub(crate) from: i32,
-    pub(crate) to: i32,
+    pub(crate) numbers: (i32, i32),
 }
 
-impl Place {
-    ghost use Rattle.cov_data.specs.Stored.{place_view};
-    ghost use Rattle.cov_data.specs.Rows.{row_view, row_of, place_lines};
-
-    pub(crate) fn numbers(&self) -> (i32, i32)
-        ensures { result ≡ (place_view self.now).1 }
-    {
-        (self.from, self.to)
-    }
-
-    /// Adds those of its two numbers that are lines.
-    fn add_lines(&self, lines: &mut BTreeSet<u32>) -> Result<(), AllocError>
-        ensures { OnOk result (lines.new.keys
-            ≡ fold (insert_key nat_cmp) lines.old.keys (place_lines (place_view self.now))) }
-    {
-        add_line(lines, self.from)?;
-        add_line(lines, self.to)
-    }
-
-    /// The row of `path` here.
-    pub(crate) fn row(&self, alloc: Global, path: &str, count: u32) -> Result<Row, AllocError>
-        ensures { IfOk result (λ row. row_view row ≡ row_of path.now (place_view self.now, count)) }
-    {
-        Ok(Row {
-            path: String::from_str(alloc, path)?,
-            context: self.context.clone()?,
-            from: self.from,
-            to: self.to,
-            count,
-        })
-    }
-}
-
+/// The counts of each context, whose text stands once.
 #[derive(Drop)]
 pub(crate) struct FileCounts {
-    counts: BTreeMap<Place, u32>,
+    alloc: Global,
+    contexts: BTreeMap<String, Tally>,
 }
 
 impl Model for FileCounts {
@@ -67,18 +33,19 @@ impl Model for FileCounts {
 
     ghost use Rattle.cov_data.specs.Stored.{file_from};
 
-    ghost view = { λ f. file_from f.counts.entries };
+    ghost view = { λ f. file_from f.contexts.entries };
 }
 
 impl FileCounts {
-    ghost use Rattle.cov_data.specs.Stored.{place_view};
-    ghost use Rattle.cov_data.specs.Rows.{row_view, file_rows, file_lines, file_arcs};
+    ghost use Rattle.cov_data.specs.Stored.{place_view, add_under};
+    ghost use Rattle.cov_data.specs.Rows.{row_view, lent_view, file_rows, file_lines, file_arcs};
 
     pub(crate) fn new(alloc: Global) -> FileCounts
         ensures { result ≡ no_rows }
     {
         FileCounts {
-            counts: BTreeMap::new(alloc),
+            alloc,
+            contexts: BTreeMap::new(alloc),
         }
     }
 
@@ -86,12 +53,31 @@ impl FileCounts {
         ensures ok { OnOk result (self.new ≡ add_count self.old (place_view place) count) }
         ensures err { OnErr result (self.new ≡ self.old) }
     {
-        let sum = match self.counts.get(&place) {
-            Some(had) => had.saturating_add(count),
-            None => count,
-        };
-        self.counts.insert(place, sum)?;
-        Ok(())
+        let Place { context, numbers } = place;
+        match self.contexts.get_mut(context.as_str()) {
+            Some(tally) => tally.add(numbers, count),
+            None => {
+                let mut tally = Tally::new(self.alloc);
+                tally.add(numbers, count)?;
+                self.contexts.insert(context, tally)?;
+                Ok(())
+            }
+        }
+    }
+
+    /// Adds counts under a context. After a refusal some of them are added.
+    fn add_tally(&mut self, context: &str, tally: &Tally) -> Result<(), AllocError>
+        ensures ok { OnOk result (self.new ≡ add_under self.old context.now tally.now) }
+    {
+        match self.contexts.get_mut(context) {
+            Some(mine) => mine.merge(tally),
+            None => {
+                let mine = tally.copied()?;
+                let key = String::from_str(self.alloc, context)?;
+                self.contexts.insert(key, mine)?;
+                Ok(())
+            }
+        }
     }
 
     /// Adds all counts of `other`, one by one, since the counts here may be many more. After a
@@ -99,42 +85,42 @@ impl FileCounts {
     pub(crate) fn merge(&mut self, other: &FileCounts) -> Result<(), AllocError>
         ensures ok { OnOk result (self.new ≡ merged self.old other.now) }
     {
-        for (place, count) in &other.counts {
-            self.add(place.clone()?, *count)?;
+        for (context, tally) in &other.contexts {
+            self.add_tally(context.as_str(), tally)?;
         }
         Ok(())
     }
 
-    pub(crate) fn copied(&self) -> Result<FileCounts, AllocError>
+    pub(crate) fn copied(&self, alloc: Global) -> Result<FileCounts, AllocError>
         ensures { IfOk result (λ copy. copy ≡ self.now) }
     {
-        Ok(FileCounts {
-            counts: self.counts.clone()?,
-        })
+        let none = FileCounts::new(alloc);
+        self.united(alloc, &none)
     }
 
     /// The counts of both, in linear time: one walk goes over both side by side, and the map is
-    /// collected from places that are in order already.
+    /// collected from contexts that are in order already.
     pub(crate) fn united(&self, alloc: Global, other: &FileCounts) -> Result<FileCounts, AllocError>
         ensures { IfOk result (λ all. all ≡ merged self.now other.now) }
     {
         let sides = self
-            .counts
+            .contexts
             .iter()
-            .merge_join_by(&other.counts, |mine, theirs| mine.0.cmp(theirs.0));
-        let mut counts = Vec::new(alloc);
+            .merge_join_by(&other.contexts, |mine, theirs| mine.0.cmp(theirs.0));
+        let mut contexts = Vec::new(alloc);
         for side in sides {
-            let (place, count) = match side {
-                EitherOrBoth::Left((place, count)) => (place, *count),
-                EitherOrBoth::Right((place, count)) => (place, *count),
-                EitherOrBoth::Both((place, mine), (_, theirs)) => {
-                    (place, mine.saturating_add(*theirs))
+            let (context, tally) = match side {
+                EitherOrBoth::Left((context, tally)) => (context, tally.copied()?),
+                EitherOrBoth::Right((context, tally)) => (context, tally.copied()?),
+                EitherOrBoth::Both((context, mine), (_, theirs)) => {
+                    (context, mine.united(alloc, theirs)?)
                 }
             };
-            counts.push((place.clone()?, count))?;
+            contexts.push((context.clone()?, tally))?;
         }
         Ok(FileCounts {
-            counts: counts.into_iter().collect(alloc)?,
+            alloc,
+            contexts: contexts.into_iter().collect(alloc)?,
         })
     }
 
@@ -148,8 +134,23 @@ impl FileCounts {
         ensures ok { OnOk result (map row_view rows.new.items
             ≡ map row_view rows.old.items ++ file_rows path.now self.now) }
     {
-        for (place, count) in &self.counts {
-            rows.push(place.row(alloc, path, *count)?)?;
+        for (context, tally) in &self.contexts {
+            tally.push_rows(alloc, path, context.as_str(), rows)?;
+        }
+        Ok(())
+    }
+
+    /// Appends the rows likewise, with the texts lent.
+    pub(crate) fn push_lent<'a>(
+        &'a self,
+        path: &'a str,
+        rows: &mut Vec<LentRow<'a>>,
+    ) -> Result<(), AllocError>
+        ensures ok { OnOk result (map lent_view rows.new.items
+            ≡ map lent_view rows.old.items ++ file_rows path.now self.now) }
+    {
+        for (context, tally) in &self.contexts {
+            tally.push_lent(path, context.as_str(), rows)?;
         }
         Ok(())
     }
@@ -158,8 +159,8 @@ impl FileCounts {
         ensures ok { IfOk result (λ v. v.items ≡ file_lines self.now) }
     {
         let mut lines = BTreeSet::new(alloc);
-        for (place, _count) in &self.counts {
-            place.add_lines(&mut lines)?;
+        for (_context, tally) in &self.contexts {
+            tally.add_lines(&mut lines)?;
         }
         listed_lines(alloc, lines)
     }
@@ -168,8 +169,8 @@ impl FileCounts {
         ensures ok { IfOk result (λ v. v.items ≡ file_arcs self.now) }
     {
         let mut arcs = BTreeSet::new(alloc);
-        for (place, _count) in &self.counts {
-            arcs.insert(place.numbers())?;
+        for (_context, tally) in &self.contexts {
+            tally.add_arcs(&mut arcs)?;
         }
         listed_arcs(alloc, arcs)
     }

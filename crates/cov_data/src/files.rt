@@ -5,7 +5,7 @@ ghost use Rattle.std.specs.FinMap as finite;
 ghost use Rattle.cov_data.specs.DataSet.{most_count, no_files, add_path, add_row, add_file, all_files};
 
 use crate::file::{FileCounts, Place};
-use crate::rows::Row;
+use crate::rows::{LentRow, Row};
 use itertools::{EitherOrBoth, Itertools};
 use std::alloc::{AllocError, Global};
 use std::collections::BTreeMap;
@@ -31,7 +31,7 @@ impl Model for FileMap {
 
 impl FileMap {
     ghost use Rattle.cov_data.specs.Stored.{place_view};
-    ghost use Rattle.cov_data.specs.Rows.{row_view, files_rows};
+    ghost use Rattle.cov_data.specs.Rows.{row_view, lent_view, files_rows};
 
     pub(crate) fn new(alloc: Global) -> FileMap
         ensures { result ≡ no_files }
@@ -105,8 +105,8 @@ impl FileMap {
         let mut files = Vec::new(self.alloc);
         for side in sides {
             let (path, file) = match side {
-                EitherOrBoth::Left((path, file)) => (path, file.copied()?),
-                EitherOrBoth::Right((path, file)) => (path, file.copied()?),
+                EitherOrBoth::Left((path, file)) => (path, file.copied(self.alloc)?),
+                EitherOrBoth::Right((path, file)) => (path, file.copied(self.alloc)?),
                 EitherOrBoth::Both((path, mine), (_, theirs)) => {
                     (path, mine.united(self.alloc, theirs)?)
                 }
@@ -135,6 +135,16 @@ impl FileMap {
         let mut rows = Vec::new(self.alloc);
         for (path, file) in &self.files {
             file.push_rows(self.alloc, path.as_str(), &mut rows)?;
+        }
+        Ok(rows)
+    }
+
+    pub(crate) fn lent_rows(&self) -> Result<Vec<LentRow<'_>>, AllocError>
+        ensures ok { IfOk result (λ v. map lent_view v.items ≡ files_rows self.now) }
+    {
+        let mut rows = Vec::new(self.alloc);
+        for (path, file) in &self.files {
+            file.push_lent(path.as_str(), &mut rows)?;
         }
         Ok(rows)
     }

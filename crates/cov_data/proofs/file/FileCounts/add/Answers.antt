@@ -1,23 +1,52 @@
-use Rattle.std.proofs.Common.{◌≡◌, ap, sym, ◌∙◌}
-use Rattle.std.specs.Ordering.{is_eq}
-use Rattle.std.specs.Map.{lookup}
-use Rattle.std.specs.BTreeMap.{insert_entry}
-use Rattle.std.specs.Option.{option_copied}
-use Rattle.cov_data.specs.DataSet.{joined_count, add_count}
-use Rattle.cov_data.specs.Stored.{file_from, place_view}
-use Rattle.cov_data.proofs.FileViews.{file_from-joined, stored_cmp}
+use Rattle.std.proofs.Common.{◌≡◌, Some, None, refl, ap, sym, ◌∙◌, string_bytes, ℤ}
+use Rattle.std.specs.Option.{option_copied_mut}
+use Rattle.std.specs.BTreeMap.{get_by_text}
+use Rattle.std.specs.FinMap.{insert}
+use Rattle.std.proofs.lemmas.Result.{on_ok_weaker, on_err_weaker}
+use Rattle.cov_data.specs.DataSet.{add_count}
+use Rattle.cov_data.specs.Stored.{no_counts, add_at, file_with, file_from}
+use Rattle.cov_data.proofs.FilesViews.{texts_from, held, absent, written, kept, files_from-insert_entry}
+use Rattle.cov_data.proofs.Nested.{counts_in, file_with-add}
 use Rattle.cov_data.proofs.file.FileCounts.add.Goals as goal
-use Rattle.cov_data.proofs.file.FileCounts.add.Goals.{in-Some, in-None}
 
-pub returns-clause-ok : goal.returns-clause-ok
-returns-clause-ok c =
-    let k = c.args.place in
-    let es = c.self.inside.counts.entries in
-    let found = c.get.ensures.value in
-    let sum : c.match-get.sum ≡ joined_count (lookup (λ x. is_eq (stored_cmp k x)) es) c.args.count =
-    elim c.match-get.branch [
-      | in-Some w ↦ w.sum-is ∙ w.saturating_add-sum.ensures ∙ ap (λ o. joined_count o c.args.count) (ap option_copied (sym w.in-Some.is) ∙ found)
-      | in-None w ↦ w.sum-is ∙ ap (λ o. joined_count o c.args.count) (ap option_copied (sym w.in-None.is) ∙ found)
-    ] in
-    let same : c.match-get.self-inside.counts.entries ≡ es = elim c.match-get.branch [ in-Some w ↦ ap (λ s. s.counts.entries) w.self-inside-is | in-None w ↦ ap (λ s. s.counts.entries) w.self-inside-is ] in
-    ap file_from (c.in_ok-insert.ensures.entries ∙ ap (λ xs. insert_entry stored_cmp xs k c.match-get.sum) same) ∙ file_from-joined es k c.args.count c.match-get.sum sum ∙ ap (λ f. add_count f (place_view k) c.args.count) c.self.view_is
+pub returns-in-Some-clause-ok : goal.returns-in-Some-clause-ok
+returns-in-Some-clause-ok c =
+    let p = c.as_str.result.now in
+    let k : ℤ × ℤ = c.args.place.numbers in
+    let n = c.args.count in
+    let M = texts_from c.self.inside.contexts.entries in
+    let old = c.in-Some.tally.now in
+    let found : get_by_text c.self.inside.contexts p ≡ Some old = sym c.get_mut.ensures.value ∙ ap option_copied_mut c.in-Some.is in
+    let here : counts_in M p ≡ old = held c.self.inside.contexts M p refl no_counts old found in
+    on_ok_weaker c.add.result (λ e.
+    ap file_with (written c.self.inside.contexts M p refl old c.add.new.self found (c.get_mut.follows.lender c.add.new.self) (c.get_mut.follows.holds c.add.new.self))
+    ∙ ap (λ t. file_with (insert M p t)) (e ∙ ap (λ t. add_at t k n) (sym here))
+    ∙ file_with-add M p k n
+    ∙ (λ i. add_count (c.self.view_is i) (c.as_str.ensures.value i, k) n)) c.add.ensures.ok
+
+pub returns-in-Some-clause-err : goal.returns-in-Some-clause-err
+returns-in-Some-clause-err c =
+    let p = c.as_str.result.now in
+    let M = texts_from c.self.inside.contexts.entries in
+    let old = c.in-Some.tally.now in
+    let lender = c.get_mut.follows.lender in
+    let found : get_by_text c.self.inside.contexts p ≡ Some old = sym c.get_mut.ensures.value ∙ ap option_copied_mut c.in-Some.is in
+    on_err_weaker c.add.result (λ e. ap (λ f. file_from (lender f).entries) e
+    ∙ ap file_with (kept c.self.inside.contexts M p refl old found (lender old) (c.get_mut.follows.holds old)) ∙ c.self.view_is) c.add.ensures.err
+
+pub returns-in_ok-insert-in-None-clause-ok : goal.returns-in_ok-insert-in-None-clause-ok
+returns-in_ok-insert-in-None-clause-ok c =
+    let p = c.as_str.result.now in
+    let k : ℤ × ℤ = c.args.place.numbers in
+    let n = c.args.count in
+    let M = texts_from c.self.inside.contexts.entries in
+    let t = c.add-in-None.new.self in
+    let found : get_by_text c.self.inside.contexts p ≡ None = sym c.get_mut.ensures.value ∙ ap option_copied_mut c.in-None.is in
+    let here : counts_in M p ≡ no_counts = absent c.self.inside.contexts M p refl no_counts found in
+    ap file_from c.in_ok-insert-in-None.ensures.entries
+    ∙ ap file_with (files_from-insert_entry c.args.place.context t c.get_mut.follows.lender-at-none.entries)
+    ∙ ap (λ m. file_with (insert (texts_from m.entries) (string_bytes c.args.place.context) t)) c.get_mut.follows.holds-at-none
+    ∙ ap (λ q. file_with (insert M q t)) (sym c.as_str.ensures.value)
+    ∙ ap (λ t. file_with (insert M p t)) (c.in_ok-add-in-None.ensures.ok ∙ ap (λ t. add_at t k n) (c.new-tally.ensures ∙ sym here))
+    ∙ file_with-add M p k n
+    ∙ (λ i. add_count (c.self.view_is i) (c.as_str.ensures.value i, k) n)

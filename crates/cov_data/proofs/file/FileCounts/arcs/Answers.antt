@@ -1,29 +1,30 @@
-use Rattle.std.proofs.Common.{◌≡◌, [], map, ap, sym, subst, ◌∙◌, ℕ, ℤ, IfOk}
+use Rattle.std.proofs.Common.{◌≡◌, [], map, ap, sym, subst, ◌∙◌, refl, IfOk, string_bytes}
 use Rattle.std.specs.List.{fold}
 use Rattle.std.specs.BTreeSet.{insert_key}
-use Rattle.cov_data.specs.DataSet.{Place, rekeyed}
-use Rattle.cov_data.specs.Rows.{arc_cmp}
-use Rattle.cov_data.specs.Stored.{place_view}
-use Rattle.cov_data.proofs.FileViews.{left_at_start}
+use Rattle.cov_data.specs.DataSet.{rekeyed}
+use Rattle.cov_data.specs.Rows.{arc_cmp, file_arcs}
+use Rattle.cov_data.specs.Stored.{listed}
+use Rattle.cov_data.proofs.FilesViews.{texts_from, left_at_start}
+use Rattle.cov_data.proofs.Nested.{entries-file_with, arcs-step}
 use Rattle.cov_data.proofs.file.FileCounts.arcs.Goals as goal
 
-abbrev pair : Place × ℕ → ℤ × ℤ
-pair e = e.0.1
+pub loop-context-init : goal.loop-context-init
+loop-context-init c =
+    let given = c.into_iter-context-iterator.ensures.into_iter_gives in
+    let M = texts_from c.self.inside.contexts.entries in
+    ap (λ ks. fold (insert_key arc_cmp) ks (map (λ e. e.0.1) (listed (rekeyed string_bytes c.into_iter-context-iterator.result)))) c.new-arcs.ensures.empty
+    ∙ ap (λ es. fold (insert_key arc_cmp) [] (map (λ e. e.0.1) (listed es))) (left_at_start _ _ M refl given.0 given.5)
+    ∙ ap (λ es. fold (insert_key arc_cmp) [] (map (λ e. e.0.1) es)) (sym (entries-file_with M))
+    ∙ ap file_arcs c.self.view_is
 
-pub loop-place-init : goal.loop-place-init
-loop-place-init c =
-    let given = c.into_iter-place-iterator.ensures.into_iter_gives in
-    ap (λ ks. fold (insert_key arc_cmp) ks (map pair (rekeyed place_view c.into_iter-place-iterator.result))) c.new-arcs.ensures.empty
-    ∙ ap (λ es. fold (insert_key arc_cmp) [] (map pair es)) (left_at_start _ _ _ c.self.view_is given.0 given.5)
-
-pub loop-place-preserved : goal.loop-place-preserved
-loop-place-preserved c =
-    let left = map pair (rekeyed place_view c.next.new.self) in
-    ap (λ ks. fold (insert_key arc_cmp) ks left) c.in_ok-insert.ensures.keys
-    ∙ ap (λ k. fold (insert_key arc_cmp) (insert_key arc_cmp c.loop-place.arcs.keys k) left) c.numbers.ensures
-    ∙ ap (λ xs. fold (insert_key arc_cmp) c.loop-place.arcs.keys (map pair (rekeyed place_view xs))) (sym c.in-Some.ensures.steps) ∙ c.loop-place.invariant
+pub loop-context-preserved : goal.loop-context-preserved
+loop-context-preserved c =
+    let left = rekeyed string_bytes c.next.new.self in
+    ap (λ ks. fold (insert_key arc_cmp) ks (map (λ e. e.0.1) (listed left))) c.in_ok-add_arcs.ensures.ok
+    ∙ arcs-step c.loop-context.arcs.keys _ c.in-Some.tally.now left
+    ∙ ap (λ xs. fold (insert_key arc_cmp) c.loop-context.arcs.keys (map (λ e. e.0.1) (listed (rekeyed string_bytes xs)))) (sym c.in-Some.ensures.steps) ∙ c.loop-context.invariant
 
 pub returns : goal.returns
 returns c =
-    let all = ap (λ xs. fold (insert_key arc_cmp) c.loop-place.arcs.keys (map pair (rekeyed place_view xs))) (sym c.in-None.ensures.steps.0) ∙ c.loop-place.invariant in
+    let all = ap (λ xs. fold (insert_key arc_cmp) c.loop-context.arcs.keys (map (λ e. e.0.1) (listed (rekeyed string_bytes xs)))) (sym c.in-None.ensures.steps.0) ∙ c.loop-context.invariant in
     record { ok = subst (λ ks. IfOk c.listed_arcs.result (λ v. v.items ≡ ks)) all c.listed_arcs.ensures }

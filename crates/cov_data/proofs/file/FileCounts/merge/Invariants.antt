@@ -1,8 +1,8 @@
-use Rattle.std.proofs.Common.{◌≡◌}
+use Rattle.std.proofs.Common.{◌≡◌, string_bytes}
 use Rattle.std.specs.List.{fold}
-use Rattle.cov_data.specs.DataSet.{add_count, merged, rekeyed}
-use Rattle.cov_data.specs.Stored.{place_view}
+use Rattle.cov_data.specs.DataSet.{merged, rekeyed}
+use Rattle.cov_data.specs.Stored.{add_under}
 use Rattle.cov_data.proofs.file.FileCounts.merge.Given as goal
 
-abbrev pub invariant-loop-place : goal.invariant-loop-place
-invariant-loop-place l = fold (λ h e. add_count h e.0 e.1) l.self (rekeyed place_view l.place-iterator) ≡ merged l.initial.self l.other
+abbrev pub invariant-loop-context : goal.invariant-loop-context
+invariant-loop-context l = fold (λ h e. add_under h e.0 e.1) l.self (rekeyed string_bytes l.context-iterator) ≡ merged l.initial.self l.other
