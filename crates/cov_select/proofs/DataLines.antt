@@ -1,33 +1,24 @@
--- The lines of data: those that were reached are among them.
+-- The lines of data, as a suite lists them, and those of arcs.
 use Rattle.std.proofs.Common.{◌≡◌, inr, ℕ, zero, suc, ◌<◌, ℤ, pos, Bool, true, false, cond, ◌||◌, List, [], ◌∷◌, map, Contains, Option, Some, None, refl, ap, sym, subst, ◌∙◌, arith}
 use Rattle.std.specs.List.{flat_map, list_any}
 use Rattle.std.specs.Prelude.{is_some}
 use Rattle.std.specs.FinMap.{get, get-empty, contains_key-keys}
 use Rattle.std.specs.Option.{unwrap_or}
-use Rattle.std.proofs.lemmas.List.Folds.{list_any-append}
+use Rattle.std.proofs.lemmas.List.Folds.{list_any-append, Any-from_list_any}
 use Rattle.std.proofs.lemmas.Bool.{false≢true}
-use Rattle.cov_data.specs.DataSet.{Text, text_cmp, Place, place_cmp, File, DataSet, joined_count, no_rows, file_of, union}
+use Rattle.cov_data.specs.DataSet.{Text, text_cmp, Place, place_cmp, File, DataSet, no_rows, file_of}
 use Rattle.cov_data.specs.Rows.{lines_of, file_arcs, arcs_of, paths_of}
 use Rattle.cov_data.proofs.ArcLists.{lines_of-has, law_of_lines}
 use Rattle.cov_data.proofs.FileViews.{text_cmp_total, text_cmp_same}
 use Rattle.cov_data.proofs.Members.{member-Contains}
-use Rattle.cov_data.proofs.Merging.{joined, get-merged}
-use Rattle.cov_data.proofs.Soundness.{file_in-all_files}
 use Rattle.cov_suite.specs.Rows.{Line, lines_in, path_lines}
+use Rattle.cov_suite.proofs.DataLines.{empty, mapped}
 
 -- ---- lists
 
-or_true : (b : Bool) → (b || true) ≡ true
+pub or_true : (b : Bool) → (b || true) ≡ true
 or_true true = refl
 or_true false = refl
-
-empty : {X : Type 0} {x : X} → Contains [] x → ⊥
-empty at = let lt : at.0 < 0 = at.1 in omega (arith, lt)
-
-pub mapped : {X Y : Type 0} (f : X → Y) (xs : List X) (x : X) → Contains xs x → Contains (map f xs) (f x)
-mapped f [] x at = absurd (empty at)
-mapped f (y ∷ xs) x (zero, lt, e) = (0, omega arith, ap f e)
-mapped f (y ∷ xs) x (suc k, lt, e) = let rest = mapped f xs x (k, omega (arith, lt), e) in (suc rest.0, omega (arith, rest.1), rest.2)
 
 pub any-found : {X : Type 0} (f : X → Bool) (xs : List X) (x : X) → Contains xs x → f x ≡ true → list_any f xs ≡ true
 any-found f [] x at h = absurd (empty at)
@@ -39,6 +30,24 @@ any-flat f g [] x at h = absurd (empty at)
 any-flat f g (y ∷ xs) x (zero, lt, e) h = list_any-append f (g y) (flat_map g xs) ∙ ap (λ b. b || list_any f (flat_map g xs)) (ap (λ z. list_any f (g z)) e ∙ h)
 any-flat f g (y ∷ xs) x (suc k, lt, e) h =
     list_any-append f (g y) (flat_map g xs) ∙ ap (λ b. list_any f (g y) || b) (any-flat f g xs x (k, omega (arith, lt), e) h) ∙ or_true (list_any f (g y))
+
+-- something of a list passes a test
+pub found : {X : Type 0} (f : X → Bool) (xs : List X) → list_any f xs ≡ true → (x : X) × Contains xs x × (f x ≡ true)
+found f xs h = let at = Any-from_list_any f xs h in (at.1, (at.0, at.2, at.3), at.4)
+
+-- of lists in a row, it stands in one
+found-flat : {X Y : Type 0} (f : Y → Bool) (g : X → List Y) (xs : List X) → list_any f (flat_map g xs) ≡ true → (x : X) × Contains xs x × (list_any f (g x) ≡ true)
+found-flat f g [] h = absurd (false≢true h)
+found-flat {X = X} f g (y ∷ xs) h = by_case (list_any f (g y)) refl (found-flat f g xs) where
+  by_case : (b : Bool) → list_any f (g y) ≡ b → (list_any f (flat_map g xs) ≡ true → (x : X) × Contains xs x × (list_any f (g x) ≡ true)) → (x : X) × Contains (y ∷ xs) x × (list_any f (g x) ≡ true)
+  by_case true e rest = (y, (0, omega arith, refl), e)
+  by_case false e rest =
+      let more = rest (sym (list_any-append f (g y) (flat_map g xs) ∙ ap (λ b. b || list_any f (flat_map g xs)) e) ∙ h) in
+      (more.0, (suc more.1.0, omega (arith, more.1.1), more.1.2), more.2)
+
+any-map : {X Y : Type 0} (f : Y → Bool) (g : X → Y) (xs : List X) → list_any f (map g xs) ≡ list_any (λ x. f (g x)) xs
+any-map f g [] = refl
+any-map f g (x ∷ xs) = ap (λ b. f (g x) || b) (any-map f g xs)
 
 -- ---- lines of data
 
@@ -58,28 +67,12 @@ any-line which d p l at h =
     any-flat which (path_lines d) (paths_of d) p (has_path d p l at)
     (any-found which (path_lines d p) (p, l) (mapped (λ line. (p, line)) (lines_of d p) l at) h)
 
--- ---- unions
-
-joins : (x y : Option ℕ) → is_some (joined joined_count x y) ≡ (is_some x || is_some y)
-joins None None = refl
-joins (Some m) None = refl
-joins None (Some n) = refl
-joins (Some m) (Some n) = refl
-
-row-union : (a b : DataSet) (p : Text) (k : Place) → is_some (get (file_of (union a b) p) k) ≡ (is_some (get (file_of a p) k) || is_some (get (file_of b p) k))
-row-union a b p k =
-    ap (λ f. is_some (get f k)) (file_in-all_files a.files b.files p) ∙ ap is_some (get-merged (file_of a p) (file_of b p) k)
-    ∙ joins (get (file_of a p) k) (get (file_of b p) k)
-
-pub line-left : (a b : DataSet) (p : Text) (l : ℕ) → Contains (lines_of a p) l → Contains (lines_of (union a b) p) l
-line-left a b p l at =
-    let row = (lines_of-has a p l).0 at in let k : Place = (row.1.0, row.0) in
-    (lines_of-has (union a b) p l).1 (row.0, (row.1.0, row-union a b p k ∙ ap (λ t. t || is_some (get (file_of b p) k)) row.1.1), row.2)
-
-pub line-right : (a b : DataSet) (p : Text) (l : ℕ) → Contains (lines_of b p) l → Contains (lines_of (union a b) p) l
-line-right a b p l at =
-    let row = (lines_of-has b p l).0 at in let k : Place = (row.1.0, row.0) in
-    (lines_of-has (union a b) p l).1 (row.0, (row.1.0, row-union a b p k ∙ ap (λ t. is_some (get (file_of a p) k) || t) row.1.1 ∙ or_true (is_some (get (file_of a p) k))), row.2)
+-- among all lines of data is one of a path
+pub line-found : (which : Line → Bool) (d : DataSet) → list_any which (lines_in d) ≡ true → (p : Text) × (l : ℕ) × Contains (lines_of d p) l × (which (p, l) ≡ true)
+line-found which d h =
+    let at = found-flat which (path_lines d) (paths_of d) h in
+    let line = found (λ l. which (at.0, l)) (lines_of d at.0) (sym (any-map which (λ l. (at.0, l)) (lines_of d at.0)) ∙ at.2) in
+    (at.0, line.0, line.1, line.2)
 
 -- ---- lines of arcs
 

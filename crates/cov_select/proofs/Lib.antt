@@ -8,4 +8,8 @@ pub mod Local
 pub mod Together
 pub mod Sets
 pub mod DataLines
+pub mod Paths
+pub mod Places
 pub mod Unselected
+pub mod Unmarked
+pub mod Chosen

@@ -5,21 +5,26 @@ use Rattle.std.specs.Prelude.{bytes_eq}
 use Rattle.std.specs.Str.{chars}
 use Rattle.std.proofs.lemmas.Bool.{false≢true}
 use Rattle.std.proofs.lemmas.Slice.Eq.{bytes_eq-Decides}
+use Rattle.std.proofs.lemmas.Str.{IsUtf8-string_bytes, encodes-chars}
 use Rattle.cov_contexts.specs.declared.plugins.Plugin.{Ghosts as PluginOf}
 use Rattle.cov_data.specs.DataSet.{Text as Bytes, DataSet, union}
 use Rattle.cov_data.specs.Rows.{lines_of}
 use Rattle.cov_measure_laws.specs.Units.{tree_units}
 use Rattle.cov_recorder.specs.Plan.{path_at}
 use Rattle.cov_recorder_laws.proofs.Law.{in_order}
+use Rattle.cov_suite.specs.declared.results.SuiteRun.{SuiteRun}
 use Rattle.cov_suite.specs.declared.results.TestResult.{TestResult}
 use Rattle.cov_suite.specs.Meant.{IsMeantData}
-use Rattle.cov_suite.specs.Results.{end_of, import_of, result_of_tree}
+use Rattle.cov_suite.specs.Results.{end_of, import_of, result_of_tree, suite_of}
 use Rattle.cov_suite.specs.Rows.{lines_in, InTurn}
+use Rattle.cov_suite.specs.Suites.{RanSuite}
 use Rattle.cov_suite.specs.Tests.{tests_of}
-use Rattle.cov_suite.specs.Views.{test_view, reached_lines}
+use Rattle.cov_suite.specs.Views.{test_view, reached_lines, plain_suite}
+use Rattle.cov_verdicts.specs.Chosen.{test_of}
 use Rattle.py_builtins.specs.Outcomes as outcomes
 use Rattle.py_builtins.specs.World.{World}
 use Rattle.py_changes.specs.Paths.{path_of, HasReached, ReachedNoChange, UnchangedByPaths}
+use Rattle.py_changes.specs.Regular.{IsRegular}
 use Rattle.py_changes.specs.Tests.{tested}
 use Rattle.py_changes.proofs.Positive.{zero-unchanged}
 use Rattle.py_meaning.specs.Activations.{Items}
@@ -28,8 +33,9 @@ use Rattle.py_meaning.specs.Modules.{LoadedModule, body_of}
 use Rattle.py_syntax.specs.Marks.{statement_lines}
 use Rattle.py_syntax.specs.Tree.{Text}
 use Rattle.cov_select.specs.Selected.{ByPath, was_cut, is_changed, is_selected}
-use Rattle.cov_select.specs.Unselected.{HoldChanges, suite_test, UnselectedInSuite}
-use Rattle.cov_select.proofs.DataLines.{mapped, any-line, line-left, line-right, line-of_arc}
+use Rattle.cov_select.specs.Unselected.{HoldChanges, UnselectedInSuite}
+use Rattle.cov_suite.proofs.DataLines.{mapped, line-left, line-right}
+use Rattle.cov_select.proofs.DataLines.{any-line, line-of_arc}
 
 -- ---- parts
 
@@ -41,11 +47,11 @@ head_or : {X : Type 0} → X → List X → X
 head_or d [] = d
 head_or d (x ∷ xs) = x
 
-heads : {X : Type 0} (x y : X) (xs ys : List X) → (x ∷ xs) ≡ (y ∷ ys) → x ≡ y
+pub heads : {X : Type 0} (x y : X) (xs ys : List X) → (x ∷ xs) ≡ (y ∷ ys) → x ≡ y
 unfolding head_or
 heads x y xs ys e = ap (head_or x) e
 
-tails : {X : Type 0} (x y : X) (xs ys : List X) → (x ∷ xs) ≡ (y ∷ ys) → xs ≡ ys
+pub tails : {X : Type 0} (x y : X) (xs ys : List X) → (x ∷ xs) ≡ (y ∷ ys) → xs ≡ ys
 unfolding tail_of
 tails x y xs ys e = ap tail_of e
 
@@ -57,7 +63,7 @@ facts true true a h = absurd (false≢true (sym h))
 facts false c a h = absurd (false≢true (sym h))
 
 -- the path of a module in the plan of trees
-plan-path : (ms : List LoadedModule) (m : ℕ) → path_at (tree_units ms) m ≡ encode_utf8_all (path_of ms m)
+pub plan-path : (ms : List LoadedModule) (m : ℕ) → path_at (tree_units ms) m ≡ encode_utf8_all (path_of ms m)
 plan-path [] m = refl
 plan-path (x ∷ ms) zero = refl
 plan-path (x ∷ ms) (suc m) = plan-path ms m
@@ -65,7 +71,7 @@ plan-path (x ∷ ms) (suc m) = plan-path ms m
 module _ {P : Type 0} (plugin : PluginOf P) (old new : List LoadedModule) (arcs : Bool) (fixed : Bytes) (budget : ℕ) (changed : ByPath) (holds : HoldChanges old new changed)
     (lines : (m : ℕ) → All (λ l. 0 < l) (statement_lines (body_of old m))) where
   -- the data of items
-  abbrev IsData : List P → Items → DataSet → List P → Type 0
+  abbrev pub IsData : List P → Items → DataSet → List P → Type 0
   IsData = IsMeantData plugin old arcs fixed
 
   -- a line that items reached is among those of their data
@@ -90,7 +96,7 @@ module _ {P : Type 0} (plugin : PluginOf P) (old new : List LoadedModule) (arcs 
     by_case false k = (is.steps.lines k path l some).1 (n, reached.1.from, there, arc)
 
   -- where no line of larger data is a changed one, the items reached none
-  no-change : (items : Items) (d all : DataSet) (p q : List P) → IsData p items d q → ((path : Bytes) (l : ℕ) → Contains (lines_of d path) l → Contains (lines_of all path) l)
+  pub no-change : (items : Items) (d all : DataSet) (p q : List P) → IsData p items d q → ((path : Bytes) (l : ℕ) → Contains (lines_of d path) l → Contains (lines_of all path) l)
       → list_any (is_changed changed) (lines_in all) ≡ false → ReachedNoChange old new items
   no-change items d all p q is larger none m zero at reached = absurd (false≢true (sym (zero-unchanged old new m (lines m)) ∙ at))
   no-change items d all p q is larger none m (suc l) at reached =
@@ -98,15 +104,15 @@ module _ {P : Type 0} (plugin : PluginOf P) (old new : List LoadedModule) (arcs 
 
   -- ---- a test that isn't selected
 
-  abbrev Found : World → DataSet → Bytes → Type 0
-  Found w imp name =
+  abbrev pub Found : World → DataSet → Bytes → List Text → Type 0
+  Found w imp name ns =
       (n : Text) × (d : DataSet) × (p : List P) × (q : List P) × (n ≡ chars name)
       × (was_cut (result_of_tree old w budget n).0.end ≡ false) × IsData p (result_of_tree old w budget n).1 d q
-      × (list_any (is_changed changed) (lines_in (union d imp)) ≡ false)
+      × (list_any (is_changed changed) (lines_in (union d imp)) ≡ false) × Contains ns n × (encode_utf8_all n ≡ name)
 
-  walk : (w : World) (imp : DataSet) (name : Bytes) (ts : List TestResult) (ns : List Text) (ds : List DataSet) (p q : List P)
+  pub walk : (w : World) (imp : DataSet) (name : Bytes) (ts : List TestResult) (ns : List Text) (ds : List DataSet) (p q : List P)
       → map test_view ts ≡ map (λ t. t.0) (map (result_of_tree old w budget) ns) → map reached_lines ts ≡ map (λ d. lines_in (union d imp)) ds
-      → InTurn IsData p (map (λ t. t.1) (map (result_of_tree old w budget) ns)) ds q → is_selected ts (is_changed changed) name ≡ false → Found w imp name
+      → InTurn IsData p (map (λ t. t.1) (map (result_of_tree old w budget) ns)) ds q → is_selected ts (is_changed changed) name ≡ false → Found w imp name ns
   walk w imp name [] ns ds p q e f g h = absurd (false≢true (sym h))
   walk w imp name (t ∷ ts) [] ds p q e f g h = absurd cc
   walk w imp name (t ∷ ts) (n ∷ ns) [] p q e f g h = absurd cc
@@ -118,8 +124,10 @@ module _ {P : Type 0} (plugin : PluginOf P) (old new : List LoadedModule) (arcs 
         seen : reached_lines t ≡ lines_in (union d imp)
         seen = heads _ _ (map reached_lines ts) (map (λ d. lines_in (union d imp)) ds) f
 
-        by_case : (b : Bool) → (not (bytes_eq name (string_bytes t.name)) || (was_cut t.end || list_any (is_changed changed) (reached_lines t))) ≡ b → (is_selected ts (is_changed changed) name ≡ false → Found w imp name) → Found w imp name
-        by_case true k rest = rest (sym (ap (λ b. b && is_selected ts (is_changed changed) name) k) ∙ h)
+        by_case : (b : Bool) → (not (bytes_eq name (string_bytes t.name)) || (was_cut t.end || list_any (is_changed changed) (reached_lines t))) ≡ b → (is_selected ts (is_changed changed) name ≡ false → Found w imp name ns) → Found w imp name (n ∷ ns)
+        by_case true k rest =
+            let more = rest (sym (ap (λ b. b && is_selected ts (is_changed changed) name) k) ∙ h) in
+            (more.0, more.1, more.2, more.3, more.4, more.5, more.6, more.7, (suc more.8.0, omega (arith, more.8.1), more.8.2), more.9)
         by_case false k rest =
             let did = facts (bytes_eq name (string_bytes t.name)) (was_cut t.end) (list_any (is_changed changed) (reached_lines t)) k in (
               n,
@@ -130,17 +138,35 @@ module _ {P : Type 0} (plugin : PluginOf P) (old new : List LoadedModule) (arcs 
               sym (ap (λ v. was_cut v.end) view) ∙ did.1,
               g.1,
               sym (ap (λ ls. list_any (is_changed changed) ls) seen) ∙ did.2,
+              (0, omega arith, refl),
+              ap encode_utf8_all (sym (ap (λ v. v.name) view)) ∙ encodes-chars (string_bytes t.name) (IsUtf8-string_bytes t.name) ∙ sym ((bytes_eq-Decides name (string_bytes t.name)).0 did.0),
             )
+
+-- a test that isn't selected, by its name in the old modules, with its result in both versions
+abbrev pub Keeps : List LoadedModule → List LoadedModule → ℕ → Bytes → Type 0
+Keeps old new budget name =
+    (n : Text) × (n ≡ chars name) × (encode_utf8_all n ≡ name)
+    × (tested new (test_of budget n) ≡ tested old (test_of budget n))
+
+pub keeps : {P : Type 0} (plugin : PluginOf P) → UnchangedByPaths → (old new : List LoadedModule) (arcs : Bool) (fixed : Bytes) (budget : ℕ) (before after : List P) (run : SuiteRun) (changed : ByPath) (name : Bytes)
+    → IsRegular old → ((m : ℕ) → All (λ l. 0 < l) (statement_lines (body_of old m)))
+    → RanSuite (IsMeantData plugin old arcs fixed) before (suite_of old budget) (plain_suite run) after → HoldChanges old new changed
+    → is_selected run.tests.items (is_changed changed) name ≡ false → Keeps old new budget name
+keeps plugin law old new arcs fixed budget before after run changed name regular lines r holds none =
+    let imp = r.of_import in
+    let w = (import_of old budget).world in
+    let at = walk plugin old new arcs fixed budget changed holds lines w imp name run.tests.items (tests_of old) r.of_tests r.data_of.0 after r.tests r.reached r.data_of.2 none in (
+      at.0,
+      at.4,
+      at.9,
+      law old new (test_of budget at.0) regular lines
+          (λ e. let k : outcomes.finished ≡ outcomes.cut = sym r.imports ∙ e in absurd cc)
+          (no-change plugin old new arcs fixed budget changed holds lines (import_of old budget).items imp (union at.1 imp) before r.data_of.0 r.data_of.1 (line-right at.1 imp) at.7)
+          (λ e. false≢true (sym at.5 ∙ ap (λ x. was_cut (end_of x)) e))
+          (no-change plugin old new arcs fixed budget changed holds lines (result_of_tree old w budget at.0).1 at.1 (union at.1 imp) at.2 at.3 at.6 (line-left at.1 imp) at.7),
+    )
 
 pub unselected : {P : Type 0} (plugin : PluginOf P) → UnchangedByPaths → UnselectedInSuite plugin
 unselected plugin law old new arcs fixed budget before after run changed name regular lines suite holds none =
-    let r = suite.ran in
-    let imp = r.of_import in
-    let w = (import_of old budget).world in
-    let at = walk plugin old new arcs fixed budget changed holds lines w imp name run.tests.items (tests_of old) r.of_tests r.data_of.0 after r.tests r.reached r.data_of.2 none in
-    subst (λ (n : Text). tested new (suite_test n budget) ≡ tested old (suite_test n budget)) at.4
-    (law old new (suite_test at.0 budget) regular lines
-    (λ e. let k : outcomes.finished ≡ outcomes.cut = sym r.imports ∙ e in absurd cc)
-    (no-change plugin old new arcs fixed budget changed holds lines (import_of old budget).items imp (union at.1 imp) before r.data_of.0 r.data_of.1 (line-right at.1 imp) at.7)
-    (λ e. false≢true (sym at.5 ∙ ap (λ x. was_cut (end_of x)) e))
-    (no-change plugin old new arcs fixed budget changed holds lines (result_of_tree old w budget at.0).1 at.1 (union at.1 imp) at.2 at.3 at.6 (line-left at.1 imp) at.7))
+    let at = keeps plugin law old new arcs fixed budget before after run changed name regular lines suite.ran holds none in
+    subst (λ (n : Text). tested new (test_of budget n) ≡ tested old (test_of budget n)) at.1 at.3

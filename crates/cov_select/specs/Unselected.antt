@@ -1,6 +1,5 @@
 -- What a test that need not run again does under the new modules.
 --     HoldChanges         changed lines of old modules, under their paths
---     suite_test          a test as a suite calls it
 --     UnselectedInSuite   it has the result that it had under the old modules
 use Rattle.std.specs.Prelude.{◌≡◌, ℕ, ◌<◌, Bool, true, false, List, All, Ok, encode_utf8_all}
 use Rattle.std.specs.Str.{chars}
@@ -8,15 +7,14 @@ use Rattle.cov_contexts.specs.declared.plugins.Plugin.{Ghosts as PluginOf}
 use Rattle.cov_data.specs.DataSet.{Text as Bytes}
 use Rattle.cov_suite.specs.declared.results.SuiteRun.{SuiteRun}
 use Rattle.cov_suite.specs.Meant.{SuiteOf}
-use Rattle.cov_suite.specs.Results.{words}
 use Rattle.cov_suite.specs.Views.{plain_answer}
+use Rattle.cov_verdicts.specs.Chosen.{test_of}
 use Rattle.py_changes.specs.Paths.{path_of}
 use Rattle.py_changes.specs.Regular.{IsRegular}
-use Rattle.py_changes.specs.Tests.{Test, tested}
+use Rattle.py_changes.specs.Tests.{tested}
 use Rattle.py_changes.specs.Tests as changes
 use Rattle.py_meaning.specs.Modules.{LoadedModule, body_of}
 use Rattle.py_syntax.specs.Marks.{statement_lines}
-use Rattle.py_syntax.specs.Tree.{Text}
 use Rattle.cov_select.specs.Selected.{ByPath, is_changed, is_selected}
 
 -- each changed line of an old module is among those of its path, which is in UTF-8
@@ -24,11 +22,6 @@ abbrev pub HoldChanges : List LoadedModule → List LoadedModule → ByPath → 
 HoldChanges old new changed =
     (m l : ℕ) → changes.is_changed old new m l ≡ true
     → is_changed changed (encode_utf8_all (path_of old m), l) ≡ true
-
--- a test of a name as a suite calls it, within a budget
-abbrev pub suite_test : Text → ℕ → Test
-suite_test name budget =
-    record { words = words; import_budget = budget; name = name; budget = budget }
 
 -- The suite of old modules was run, whatever its data are of, and a name isn't selected by their
 -- changed lines. Then the test of this name has the same result under the new modules, called after
@@ -42,4 +35,4 @@ UnselectedInSuite {P} plugin =
     → SuiteOf plugin old arcs fixed budget before (plain_answer (Ok run)) after
     → HoldChanges old new changed
     → is_selected run.tests.items (is_changed changed) name ≡ false
-    → tested new (suite_test (chars name) budget) ≡ tested old (suite_test (chars name) budget)
+    → tested new (test_of budget (chars name)) ≡ tested old (test_of budget (chars name))

@@ -37,7 +37,7 @@ impl Changes {
 }
 
 /// Adds the lines of all marks.
-fn add_marks(lines: &mut Vec<u32>, pieces: &[Piece]) -> Result<(), NoMemory>
+pub(crate) fn add_marks(lines: &mut Vec<u32>, pieces: &[Piece]) -> Result<(), NoMemory>
     ensures { OnOk result (lines.new.items ≡ lines.old.items
         ++ picked mark_of (pieces_of pieces.now)) }
 {

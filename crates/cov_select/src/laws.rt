@@ -1,4 +1,5 @@
-//! What a test that need not run again does: a law of what `select` compares.
+//! What a test that need not run again does, and which tests must: laws of what `select` compares.
+ghost use Rattle.cov_select.specs.Chosen.{ChosenInSuite};
 ghost use Rattle.cov_select.specs.Unselected.{UnselectedInSuite};
 
 use cov_contexts::Plugin;
@@ -8,6 +9,15 @@ use py_changes::unchanged_by_paths;
 /// the new modules. The function does nothing and stands for this law of what `suite` answers.
 pub fn unselected_in_suite<P: Plugin>()
     ensures { UnselectedInSuite P.Plugin }
+{
+    unchanged_by_paths();
+}
+
+/// Selected by the changed lines of the old modules, the names of the new tests are those that must
+/// run again, and no others. The function does nothing and stands for this law of what `suite`,
+/// `changed_by_path` and `select` answer.
+pub fn chosen_in_suite<P: Plugin>()
+    ensures { ChosenInSuite P.Plugin }
 {
     unchanged_by_paths();
 }

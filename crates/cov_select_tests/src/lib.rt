@@ -6,6 +6,8 @@
 #[cfg(test)]
 mod names;
 #[cfg(test)]
+mod paths;
+#[cfg(test)]
 mod rows;
 #[cfg(test)]
 mod selecting;

@@ -6,4 +6,7 @@ pub mod Recording
 pub mod Calling
 pub mod Ending
 pub mod Meaning
+pub mod DataLines
+pub mod Passes
+pub mod Lists
 mod Worked

@@ -56,7 +56,7 @@ proper [] well h = All-nil IsProper
 proper (m ∷ ms) well h =
     All-cons IsProper m ms (record { well_formed = well.0; numbered = numbered (statement_lines m.body) (All-head HasTextLines m ms h) }) (proper ms well.1 (All-tail HasTextLines m ms h))
 
-same-length : (cs : List Module) (ms : List LoadedModule) → AreFaithful cs ms → length cs ≡ length ms
+pub same-length : (cs : List Module) (ms : List LoadedModule) → AreFaithful cs ms → length cs ≡ length ms
 same-length [] [] h = refl
 same-length [] (m ∷ ms) h = absurd h
 same-length (c ∷ cs) [] h = absurd h
@@ -127,10 +127,10 @@ module _ (law : UnitsAreFaithful) (traces : TracesKept) (cs : List Module) (ms :
   some_modules : 0 < length ms
   some_modules = subst (λ n. 0 < n) (same-length cs ms faithful) some
 
-  same-import : (budget : ℕ) → import_of_code cs budget ≡ as_run (import_of ms budget)
+  pub same-import : (budget : ℕ) → import_of_code cs budget ≡ as_run (import_of ms budget)
   same-import budget = traces.runs cs ms faithful well some_modules words [] budget
 
-  same-result : (w : World) (budget : ℕ) (name : tree.Text) → result_of_code cs w budget name ≡ told_test events_in (result_of_tree ms w budget name)
+  pub same-result : (w : World) (budget : ℕ) (name : tree.Text) → result_of_code cs w budget name ≡ told_test events_in (result_of_tree ms w budget name)
   same-result w budget name =
       ap (λ (reply : machine.Reply). let p : TestView × List Event = (result_of name reply.returned reply.out reply.steps, reply.events) in p)
       (traces.calls cs ms faithful well w [] (record { number = 0; name = name; values = [] }) budget)

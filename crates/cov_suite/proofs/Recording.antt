@@ -2,6 +2,7 @@
 use Rattle.std.proofs.Common.{◌≡◌, ℕ, Bool, List, [], ◌++◌, ap, subst, ◌∙◌}
 use Rattle.cov_event.specs.declared.ask.Nobody.{Nobody}
 use Rattle.cov_event.specs.declared.event.Event.{Event}
+use Rattle.cov_event.specs.Moves.{Takes}
 use Rattle.cov_contexts.specs.declared.plugins.Plugin.{Ghosts as PluginOf}
 use Rattle.cov_data.specs.DataSet.{DataSet}
 use Rattle.cov_recorder.specs.declared.recorder.Recorder.{Recorder}
@@ -22,7 +23,7 @@ use Rattle.py_machine.specs.Runs.{IsRun, IsCall, request}
 use Rattle.py_machine.specs.Told.{Heard}
 use Rattle.py_syntax.specs.Tree.{Text}
 use Rattle.cov_suite.specs.declared.runs.Ended.{Ended}
-use Rattle.cov_suite.specs.Recorded.{TookAll, WasRecorded, is_finished, ImportRan, TestRan, Imports, Tests}
+use Rattle.cov_suite.specs.Recorded.{IsStep, TookAll, WasRecorded, is_finished, ImportRan, TestRan, Imports, Tests}
 use Rattle.cov_suite.specs.Results.{words, end_of, result_of_code}
 use Rattle.cov_suite.specs.Rows.{nobody, sources_of}
 
@@ -30,20 +31,20 @@ use Rattle.cov_suite.specs.Rows.{nobody, sources_of}
 on-empty : (tells : Type 0) (before after : List ℕ) (Q : List ℕ → List ℕ → Type 0) → tells → before ≡ [] → Heard tells before after Q → (rest : List ℕ) × Q [] rest
 on-empty tells before after Q t e h = (h.rest, subst (λ all. Q all h.rest) ((h.told t).0 ∙ e) (h.holds h.input h.rest h.fed))
 
-module _ {P : Type 0} (plugin : PluginOf P) (ms : List Module) (budget : ℕ) (w left : World) (before after : Recorder Nobody P) (tells : Type 0) (i0 i1 : List ℕ) (t : tells) (none : i0 ≡ []) (wrote : List ℕ → Type 0) where
-  pub import-ran : (ran : Ran) (done : Bool) → done ≡ is_finished (plain_outcome ran.outcome) → Heard tells i0 i1 (IsRun (λ es. TookAll plugin before es after) wrote ms w budget ran left)
-      → ImportRan plugin ms budget w left before after done
+module _ {T : Type 0} (moves : T → Event → T → Type 0) (ms : List Module) (budget : ℕ) (w left : World) (before after : T) (tells : Type 0) (i0 i1 : List ℕ) (t : tells) (none : i0 ≡ []) (wrote : List ℕ → Type 0) where
+  pub import-ran : (ran : Ran) (done : Bool) → done ≡ is_finished (plain_outcome ran.outcome) → Heard tells i0 i1 (IsRun (λ es. Takes moves before es after) wrote ms w budget ran left)
+      → ImportRan moves ms budget w left before after done
   import-ran ran done e h =
-      let is = (on-empty tells i0 i1 (IsRun (λ es. TookAll plugin before es after) wrote ms w budget ran left) t none h).1 in
+      let is = (on-empty tells i0 i1 (IsRun (λ es. Takes moves before es after) wrote ms w budget ran left) t none h).1 in
       record { outcome = e ∙ ap is_finished is.outcome; world = is.world; took = is.told }
 
-module _ {P : Type 0} (plugin : PluginOf P) (ms : List Module) (budget : ℕ) (w left : World) (before after : Recorder Nobody P) (tells : Type 0) (i0 i1 : List ℕ) (t : tells) (none : i0 ≡ []) (says : Type 0) (o0 o1 : List ℕ) (s : says) (first : o0 ≡ []) where
+module _ {T : Type 0} (moves : T → Event → T → Type 0) (ms : List Module) (budget : ℕ) (w left : World) (before after : T) (tells : Type 0) (i0 i1 : List ℕ) (t : tells) (none : i0 ≡ []) (says : Type 0) (o0 o1 : List ℕ) (s : says) (first : o0 ≡ []) where
   pub test-ran : (text name : Text) → text ≡ name → (answer : Answer) (ended : Ended) → ended.end ≡ end_of (plain_called answer.called) → ended.output.items ≡ o1 → ended.steps ≡ answer.steps
-      → Heard tells i0 i1 (IsCall (λ es. TookAll plugin before es after) (Wrote says o0 o1) ms w (request 0 text []) budget answer left)
-      → TestRan plugin ms budget w name before after ended
+      → Heard tells i0 i1 (IsCall (λ es. Takes moves before es after) (Wrote says o0 o1) ms w (request 0 text []) budget answer left)
+      → TestRan moves ms budget w name before after ended
   test-ran text name same answer ended end out steps h =
-      let is = (on-empty tells i0 i1 (IsCall (λ es. TookAll plugin before es after) (Wrote says o0 o1) ms w (request 0 name []) budget answer left) t none
-      (subst (λ x. Heard tells i0 i1 (IsCall (λ es. TookAll plugin before es after) (Wrote says o0 o1) ms w (request 0 x []) budget answer left)) same h)).1 in
+      let is = (on-empty tells i0 i1 (IsCall (λ es. Takes moves before es after) (Wrote says o0 o1) ms w (request 0 name []) budget answer left) t none
+      (subst (λ x. Heard tells i0 i1 (IsCall (λ es. Takes moves before es after) (Wrote says o0 o1) ms w (request 0 x []) budget answer left)) same h)).1 in
       let reply = called (by_slots ms) ms w [] (request 0 name []) budget in
       let e : ended.end ≡ end_of reply.returned = end ∙ ap end_of is.returned in
       let o : ended.output.items ≡ reply.out = out ∙ is.written s ∙ ap (λ bs. bs ++ reply.out) first in
@@ -66,12 +67,12 @@ module _ {P : Type 0} (plugin : PluginOf P) (law : RecordingLaw (asks nobody plu
   }
 
   module _ (ms : List Module) (budget : ℕ) (w : World) where
-    pub import-is : (done : Bool) (last : World) → w ≡ first_world ms words → ImportRan plugin ms budget w last before after done → Imports plugin plan ms budget old done last d new
+    pub import-is : (done : Bool) (last : World) → w ≡ first_world ms words → ImportRan (IsStep plugin) ms budget w last before after done → Imports plugin plan ms budget old done last d new
     import-is done last e h =
-        let k = subst (λ x. ImportRan plugin ms budget x last before after done) e h in
+        let k = subst (λ x. ImportRan (IsStep plugin) ms budget x last before after done) e h in
         record { outcome = k.outcome; world = k.world; recorded = recorded-is (run (by_slots ms) ms (first_world ms words) [] budget).events k.took }
 
-    pub test-is : (v : World) → w ≡ v → (name : Text) (ended : Ended) → TestRan plugin ms budget w name before after ended → Tests plugin plan ms budget v name old ended d new
+    pub test-is : (v : World) → w ≡ v → (name : Text) (ended : Ended) → TestRan (IsStep plugin) ms budget w name before after ended → Tests plugin plan ms budget v name old ended d new
     test-is v e name ended h =
-        let k = subst (λ x. TestRan plugin ms budget x name before after ended) e h in
+        let k = subst (λ x. TestRan (IsStep plugin) ms budget x name before after ended) e h in
         record { result = k.result; recorded = recorded-is (result_of_code ms v budget name).1 k.took }

@@ -1,5 +1,6 @@
 pub mod Tests
 pub mod Results
+pub mod Passing
 pub mod Rows
 pub mod Views
 pub mod Recorded

@@ -1,9 +1,9 @@
--- What a recorder took of an import and of a test, as the code runs them.
+-- What a tracer took of an import and of a test, as the code runs them.
 --     IsStep, TookAll        events that a recorder took
 --     WasRecorded            data of events that a new recorder took
 --     is_finished            whether an import finished
---     ImportRan, TestRan     the import and a test under a recorder
---     Imports, Tests         the same with data and plugins
+--     ImportRan, TestRan     the import and a test under a tracer
+--     Imports, Tests         the same under a recorder, with data and plugins
 --     AllTests               tests, one after another
 use Rattle.std.specs.Prelude.{◌≡◌, ℕ, Bool, true, false, List, [], map}
 use Rattle.std.specs.List.{fold}
@@ -58,23 +58,23 @@ is_finished (exited status text) = false
 is_finished (raised kind text) = false
 is_finished cut = false
 
--- The script ran on a world, with empty input, and left another one. Its events went to a recorder.
-pub record ImportRan {P : Type 0} (plugin : PluginOf P) (ms : List Module) (budget : ℕ)
-    (w left : World) (before after : Recorder Nobody P) (done : Bool) : Type 0 where
+-- The script ran on a world, with empty input, and left another one. Its events went to a tracer.
+pub record ImportRan {T : Type 0} (moves : T → Event → T → Type 0) (ms : List Module) (budget : ℕ)
+    (w left : World) (before after : T) (done : Bool) : Type 0 where
   pub outcome : done ≡ is_finished (run (by_slots ms) ms w [] budget).outcome
   pub world : (run (by_slots ms) ms w [] budget).world ≡ left
-  pub took : TookAll plugin before (run (by_slots ms) ms w [] budget).events after
+  pub took : Takes moves before (run (by_slots ms) ms w [] budget).events after
 
 -- what a test of this name ended with
 abbrev pub ended_view : Text → Ended → TestView
 ended_view name ended =
     record { name = name; end = ended.end; output = ended.output.items; steps = ended.steps }
 
--- A test was called on a world. Its events went to a recorder.
-pub record TestRan {P : Type 0} (plugin : PluginOf P) (ms : List Module) (budget : ℕ) (w : World)
-    (name : Text) (before after : Recorder Nobody P) (ended : Ended) : Type 0 where
+-- A test was called on a world. Its events went to a tracer.
+pub record TestRan {T : Type 0} (moves : T → Event → T → Type 0) (ms : List Module) (budget : ℕ)
+    (w : World) (name : Text) (before after : T) (ended : Ended) : Type 0 where
   pub result : ended_view name ended ≡ (result_of_code ms w budget name).0
-  pub took : TookAll plugin before (result_of_code ms w budget name).1 after
+  pub took : Takes moves before (result_of_code ms w budget name).1 after
 
 -- The import ran on a new world, with these data. These plugins are left.
 pub record Imports {P : Type 0} (plugin : PluginOf P) (plan : Plan) (ms : List Module) (budget : ℕ)

@@ -9,7 +9,7 @@ ghost use Rattle.py_code.specs.Loaded.{modules_of, most_numbered};
 ghost use Rattle.py_store.specs.Stores.{words_of, world_of};
 
 use crate::recorders::{finish_recorder, new_recorder};
-use crate::runs::run_script;
+use crate::runs::record_script;
 use cov_contexts::Plugin;
 use cov_data::Data;
 use cov_event::Nobody;
@@ -28,7 +28,8 @@ pub(crate) struct Import {
     pub rows: Data,
 }
 
-fn suite_words(alloc: Global) -> Result<Vec<String>, NoMemory>
+/// The words of the program.
+pub(crate) fn suite_words(alloc: Global) -> Result<Vec<String>, NoMemory>
     ensures { IfOk result (λ list. words_of list.items ≡ words) }
 {
     let mut words = Vec::new(alloc);
@@ -59,7 +60,7 @@ pub(crate) fn import_script<P: Plugin>(
     let words = suite_words(alloc)?;
     let mut store = Store::new(alloc, programs, &words)?;
     let mut recorder = new_recorder(alloc, units, places, fixed, arcs, plugins)?;
-    let ran = run_script(alloc, programs, &mut store, budget, &mut recorder);
+    let ran = record_script(alloc, programs, &mut store, budget, &mut recorder);
     let rows = finish_recorder(alloc, recorder, plugins);
     Ok(Import {
         finished: ran?,

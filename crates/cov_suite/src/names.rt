@@ -1,12 +1,15 @@
 // The names of tests.
-ghost use Rattle.std.specs.Prelude.{◌≡◌, ◌<◌, [], length, map, IfOk, OnOk};
+ghost use Rattle.std.specs.Prelude.{◌≡◌, ◌<◌, List, [], length, map, IfOk, OnOk};
 ghost use Rattle.py_code.specs.Loaded.{modules_of};
 ghost use Rattle.py_code.specs.Units.{plain_unit};
+ghost use Rattle.py_compile.specs.ProgramRuns.{AreFaithful};
+ghost use Rattle.py_meaning.specs.Modules.{LoadedModule};
 ghost use Rattle.py_syntax.specs.Names.{add_name};
-ghost use Rattle.cov_suite.specs.Tests.{is_test, test_names, def_units, tests_of_code};
+ghost use Rattle.cov_suite.specs.Tests.{is_test, test_names, def_units, tests_of, tests_of_code};
 
 use indexmap::IndexSet;
 use py_code::{Programs, Unit};
+use py_compile::units_are_faithful;
 use py_text::{NoMemory, Text};
 use std::alloc::Global;
 use std::marker::Model;
@@ -75,7 +78,18 @@ fn tests_among(alloc: Global, defs: &[Unit]) -> Result<Vec<Text>, NoMemory>
 }
 
 /// The names of the tests of the script, in the order of the text.
-pub(crate) fn tests_of_script(alloc: Global, programs: &Programs) -> Result<Vec<Text>, NoMemory>
+pub fn tests_of_script(alloc: Global, programs: &Programs) -> Result<Vec<Text>, NoMemory>
+    requires { 0 < length (modules_of programs.now) }
+    ensures code { IfOk result (λ names. names.items ≡ tests_of_code (modules_of programs.now)) }
+    // Of all trees of which the programs are faithful code:
+    ensures meant { IfOk result (λ names. (ms : List LoadedModule)
+        → AreFaithful (modules_of programs.now) ms → names.items ≡ tests_of ms) }
+{
+    units_are_faithful();
+    script_tests(alloc, programs)
+}
+
+fn script_tests(alloc: Global, programs: &Programs) -> Result<Vec<Text>, NoMemory>
     requires { 0 < length (modules_of programs.now) }
     ensures { IfOk result (λ names. names.items ≡ tests_of_code (modules_of programs.now)) }
 {

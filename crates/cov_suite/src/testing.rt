@@ -16,7 +16,7 @@ use crate::imports::Import;
 use crate::joining::add_data;
 use crate::recorders::{finish_recorder, new_recorder};
 use crate::results::TestResult;
-use crate::runs::{Ended, call_test};
+use crate::runs::{Ended, record_test};
 use cov_contexts::Plugin;
 use cov_data::Data;
 use cov_event::Nobody;
@@ -58,7 +58,7 @@ fn run_test<P: Plugin>(
     recorded_rows::<Nobody, P>();
     let mut store = imported.copy(alloc)?;
     let mut recorder = new_recorder(alloc, units, places, fixed, arcs, plugins)?;
-    let ran = call_test(alloc, programs, &mut store, name, budget, &mut recorder);
+    let ran = record_test(alloc, programs, &mut store, name, budget, &mut recorder);
     let rows = finish_recorder(alloc, recorder, plugins);
     Ok(Tested {
         ended: ran?,

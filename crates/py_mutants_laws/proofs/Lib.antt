@@ -23,3 +23,4 @@ pub mod Seen
 pub mod Findings
 pub mod Rows
 pub mod Forms
+pub mod Normality

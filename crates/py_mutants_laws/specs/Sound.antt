@@ -1,7 +1,9 @@
--- Mutants of a module that is well formed are well formed, and its forms are kept.
+-- Mutants of a module that is well formed are well formed, its forms are kept, and those of a normal
+-- one are normal.
 use Rattle.std.specs.Prelude.{◌≡◌, All}
 use Rattle.py_syntax.specs.Tree.{Stmts}
 use Rattle.py_syntax.specs.Statements.{EndLines, NormalStmts}
+use Rattle.py_syntax.specs.Spelling.{IsNormal}
 use Rattle.py_scope.specs.Faults.{faults_of, functions_of}
 use Rattle.py_changes.specs.Mutants.{module_mutants}
 
@@ -18,3 +20,7 @@ abbrev pub MutantsKeepForms : Type 0
 MutantsKeepForms =
     (a : Stmts) → EndLines a → NormalStmts a
     → All (λ x. EndLines x.1 × NormalStmts x.1) (module_mutants a)
+
+-- Each mutant of a normal module is normal.
+abbrev pub MutantsAreNormal : Type 0
+MutantsAreNormal = (a : Stmts) → IsNormal a → All (λ x. IsNormal x.1) (module_mutants a)

@@ -4,7 +4,7 @@
 #![tactic(auto)]
 
 ghost use Rattle.py_mutants_laws.specs.Mutants.{MutantsChangeALine, MutantsChangeTheirLine};
-ghost use Rattle.py_mutants_laws.specs.Sound.{MutantsAreWellFormed, MutantsKeepForms};
+ghost use Rattle.py_mutants_laws.specs.Sound.{MutantsAreWellFormed, MutantsKeepForms, MutantsAreNormal};
 ghost use Rattle.py_mutants_laws.specs.Unreached.{UnreachedMutants, UnreachedMutantsByPath};
 
 /// A mutant changes no line but the one of the mark that its token stands at.
@@ -37,4 +37,10 @@ pub fn mutants_are_well_formed()
 /// are.
 pub fn mutants_keep_forms()
     ensures { MutantsKeepForms }
+{}
+
+/// A mutant of a normal module is normal: besides, its `match` headers are told by their form, as
+/// those of a text are.
+pub fn mutants_are_normal()
+    ensures { MutantsAreNormal }
 {}

@@ -19,7 +19,7 @@ returns-in_err-recorder-clause-plugins g c = same-list g.P.Plugin c.args.plugins
 
 pub returns-clause-imports : goal.returns-clause-imports
 returns-clause-imports g c =
-    import-is g.P.Plugin c.recorded_rows.ensures (plan_of (names_of c.args.units.now) c.args.places.now c.args.arcs c.args.fixed.now) c.args.plugins.now.items c.in_ok-recorder.recorder c.run_script-ran.new.recorder c.in_ok-recorder.ensures.ok
+    import-is g.P.Plugin c.recorded_rows.ensures (plan_of (names_of c.args.units.now) c.args.places.now c.args.arcs c.args.fixed.now) c.args.plugins.now.items c.in_ok-recorder.recorder c.record_script-ran.new.recorder c.in_ok-recorder.ensures.ok
     c.in_ok-rows.field-0 c.finish_recorder-rows.new.plugins.items c.in_ok-rows.ensures.rows c.finish_recorder-rows.ensures.plugins
-    (modules_of c.args.programs.now) c.args.budget (world_of c.in_ok-store.store) c.in_ok-ran.field-0 (world_of c.run_script-ran.new.store)
+    (modules_of c.args.programs.now) c.args.budget (world_of c.in_ok-store.store) c.in_ok-ran.field-0 (world_of c.record_script-ran.new.store)
     (c.in_ok-store.ensures ∙ ap (first_world (modules_of c.args.programs.now)) (ap words_of c.deref.ensures.value ∙ c.in_ok-words.ensures)) c.in_ok-ran.ensures.ran

@@ -6,11 +6,5 @@ use Rattle.cov_suite.proofs.runs.run_script.Goals as goal
 
 pub returns-in-Ok-clause-ran : goal.returns-in-Ok-clause-ran
 returns-in-Ok-clause-ran g c =
-    import-ran g.P.Plugin (modules_of c.args.programs.now) c.args.budget (world_of c.args.store.now) (world_of c.run.new.store) c.args.recorder.now c.run.new.tracer
+    import-ran g.T.Tracer.moves (modules_of c.args.programs.now) c.args.budget (world_of c.args.store.now) (world_of c.run.new.store) c.args.tracer.now c.run.new.tracer
     _ _ _ tt (c.new-input.ensures ∙ c.new.ensures.items) _ c.in-Ok.ran c.is_finished.result c.is_finished.ensures c.in-Ok.ensures.ok
-
-pub returns-in-Ok-clause-plugins : goal.returns-in-Ok-clause-plugins
-returns-in-Ok-clause-plugins g c = c.left_plugins.ensures c.args.recorder.now c.run.new.tracer c.in-Ok.ensures.calls.0 c.in-Ok.ensures.calls.1
-
-pub returns-clause-plugins : goal.returns-clause-plugins
-returns-clause-plugins g c = c.left_plugins.ensures c.args.recorder.now c.run.new.tracer c.in-Err.ensures.calls.0 c.in-Err.ensures.calls.1

@@ -24,4 +24,4 @@ returns g c =
     let ms = modules_of c.args.programs.now in
     has-run g.P.Plugin plan ms c.args.budget c.args.plugins.now.items i.finished (world_of i.store) i.rows c.import_script.new.plugins.items c.in_ok-imported.ensures.imports
     c.if-not-imported.false c.run_tests.new.plugins.items (one-after g.P.Plugin c.args.plugins.now.items c.import_script.new.plugins.items c.run_tests.new.plugins.items c.import_script.ensures.plugins c.run_tests.ensures.plugins)
-    c.deref.result.now (c.deref.ensures.value ∙ c.in_ok-names.ensures) (record { tests = c.in-Ok.tests; imported = c.in_ok-lines.lines; rows = c.in-Ok.rows }) c.in-Ok.ensures.tests c.in_ok-lines.ensures
+    c.deref.result.now (c.deref.ensures.value ∙ c.in_ok-names.ensures.code) (record { tests = c.in-Ok.tests; imported = c.in_ok-lines.lines; rows = c.in-Ok.rows }) c.in-Ok.ensures.tests c.in_ok-lines.ensures

@@ -14,6 +14,6 @@ returns-in_err-recorder-clause-plugins g c = same-list g.P.Plugin c.args.plugins
 
 pub returns-clause-tests : goal.returns-clause-tests
 returns-clause-tests g c =
-    test-is g.P.Plugin c.recorded_rows.ensures (plan_of (names_of c.args.units.now) c.args.places.now c.args.arcs c.args.fixed.now) c.args.plugins.now.items c.in_ok-recorder.recorder c.call_test-ran.new.recorder c.in_ok-recorder.ensures.ok
+    test-is g.P.Plugin c.recorded_rows.ensures (plan_of (names_of c.args.units.now) c.args.places.now c.args.arcs c.args.fixed.now) c.args.plugins.now.items c.in_ok-recorder.recorder c.record_test-ran.new.recorder c.in_ok-recorder.ensures.ok
     c.in_ok-rows.field-0 c.finish_recorder-rows.new.plugins.items c.in_ok-rows.ensures.rows c.finish_recorder-rows.ensures.plugins
     (modules_of c.args.programs.now) c.args.budget (world_of c.in_ok-store.store) (world_of c.args.imported.now) c.in_ok-store.ensures c.args.name.now c.in_ok-ran.field-0 c.in_ok-ran.ensures.ran

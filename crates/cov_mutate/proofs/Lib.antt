@@ -1,0 +1,7 @@
+pub mod Sources
+pub mod Quiet
+pub mod Positive
+pub mod Meaning
+pub mod Verdicts
+pub mod Ran
+pub mod Steps
