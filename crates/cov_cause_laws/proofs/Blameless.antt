@@ -1,6 +1,6 @@
--- Causes are of files, data and words: none is a fault of an object, nor want of memory. Only tests
--- are refused for an import.
-use Rattle.std.proofs.Common.{◌≡◌, ◌⊎◌, inl, inr, refl, sym, ap, subst, ℕ, Bool, true, false, if◌then◌else◌, List, [], ◌∷◌, ◌++◌, map, Option, Some, None}
+-- Causes are of files, data and words: none is a fault of an object, nor want of memory. Only
+-- commands that import tests are refused for an import.
+use Rattle.std.proofs.Common.{◌≡◌, ◌⊎◌, inl, inr, ◌∙◌, refl, sym, ap, ℕ, Bool, true, false, if◌then◌else◌, List, [], ◌∷◌, ◌++◌, map, Option, Some, None}
 use Rattle.std.specs.Prelude.{◌||◌}
 use Rattle.std.specs.Bool.{beq}
 use Rattle.std.specs.FinMap.{get}
@@ -8,7 +8,7 @@ use Rattle.cov_config.specs.Settings.{Settings, ReportSettings, no_cover, no_bra
 use Rattle.cov_outside.specs.Files.{Files}
 use Rattle.cov_run.specs.Refusals.{limit_of, fault_of, refused_by}
 use Rattle.cov_run.specs.Refusals as loading
-use Rattle.cov_step.specs.Commands.{hook_named}
+use Rattle.cov_step.specs.Commands.{hook_named, usual_steps}
 use Rattle.cov_step.specs.Names.{or_else}
 use Rattle.cov_step.specs.Phases.{main_name, own_name}
 use Rattle.cov_step.specs.Testing.{tests_name}
@@ -25,10 +25,10 @@ use Rattle.py_syntax.specs.Tree.{Text}
 use Rattle.cov_complete_laws.proofs.Holding.{none-some, some-is, true-false}
 use Rattle.cov_cause_laws.specs.Checks.{Check, SourceRefuses, absent, large, unreadable, unusable, unjoinable, Refuses, IsFirst}
 use Rattle.cov_cause_laws.specs.Checks as check
-use Rattle.cov_cause_laws.specs.Orders.{of_patterns, of_hook, of_target, of_run, of_suite, all_inputs, of_combine, paths_held, of_report, of_annotate}
-use Rattle.cov_cause_laws.specs.Causes.{AreRefused, BySettings, IsRefusedIn, has_cause}
+use Rattle.cov_cause_laws.specs.Orders.{of_patterns, of_hook, of_target, of_run, of_suite, of_select, of_mutate, all_inputs, of_combine, paths_held, of_report, of_annotate}
+use Rattle.cov_cause_laws.specs.Causes.{AreRefused, BySettings, IsRefusedIn, imported_by, has_cause}
 use Rattle.cov_cause_laws.specs.Causes as causes
-use Rattle.cov_cause_laws.specs.Laws.{OnlyCauses, OnlySuites}
+use Rattle.cov_cause_laws.specs.Laws.{OnlyCauses, OnlyImports}
 
 -- whether it is a cause of another check than that of an import
 abbrev is_common : Refusal → Bool
@@ -157,12 +157,9 @@ none-annotate s own path = (refl, (refl, (refl, (refl, (refl, (refl, (refl, tt))
 
 -- ---- commands
 
--- its cause is a common one, or the command is `suite`, and this its file
+-- its cause is a common one, or the import of the file of tests that the command imports
 abbrev Stems : PlainCommand → Refusal → Type 0
-Stems c r =
-    (is_common r ≡ true)
-    ⊎ ((branch : Bool) × (budget : Option ℕ) × (data_file : Option Word) × (rcfile : Option Word) × (file : Word)
-    × (c ≡ plain.suite branch budget data_file rcfile file) × (r ≡ import_failed file))
+Stems c r = (is_common r ≡ true) ⊎ ((file : Word) × (imported_by c ≡ Some file) × (r ≡ import_failed file))
 
 module _ (files : Files) (contents : Contents) where
   by-check : (c : Check) (r : Refusal) → is_import c ≡ false → Refuses files contents c r → is_common r ≡ true
@@ -199,9 +196,20 @@ module _ (files : Files) (contents : Contents) where
   by-tests own file budget r (inr (p, inr (q, inl h))) = inr h.3
   by-tests own file budget r (inr (p, inr (q, inr h))) = absurd h.1
 
-  by-suite : (branch : Bool) (budget : Option ℕ) (data_file rcfile : Option Word) (file : Word) (r : Refusal) → (is_common r ≡ true) ⊎ (r ≡ import_failed file) → Stems (plain.suite branch budget data_file rcfile file) r
-  by-suite branch budget data_file rcfile file r (inl e) = inl e
-  by-suite branch budget data_file rcfile file r (inr is) = inr (branch, budget, data_file, rcfile, file, refl, is)
+  by-selected : (old new : Word) (budget : ℕ) (r : Refusal) → IsFirst files contents (of_select old new budget) r → (is_common r ≡ true) ⊎ (r ≡ import_failed old)
+  by-selected old new budget r (inl h) = inl (by-check (check.program tests_name old) r refl h)
+  by-selected old new budget r (inr (p, inl h)) = inl (by-check (check.program tests_name new) r refl h)
+  by-selected old new budget r (inr (p, inr (q, inl h))) = inr h.3
+  by-selected old new budget r (inr (p, inr (q, inr h))) = absurd h.1
+
+  by-mutants : (file : Word) (budget : ℕ) (r : Refusal) → IsFirst files contents (of_mutate file budget) r → (is_common r ≡ true) ⊎ (r ≡ import_failed file)
+  by-mutants file budget r (inl h) = inl (by-check (check.program tests_name file) r refl h)
+  by-mutants file budget r (inr (p, inl h)) = inr h.3
+  by-mutants file budget r (inr (p, inr h)) = absurd h.1
+
+  by-import : (c : PlainCommand) (file : Word) (r : Refusal) → imported_by c ≡ Some file → (is_common r ≡ true) ⊎ (r ≡ import_failed file) → Stems c r
+  by-import c file r e (inl k) = inl k
+  by-import c file r e (inr is) = inr (file, e, is)
 
   by-command : (c : PlainCommand) (r : Refusal) → IsRefusedIn files contents c r → Stems c r
   by-command (plain.arcs budget script args) r h = inl (by-first (check.program main_name script ∷ []) r (refl, tt) h)
@@ -223,13 +231,13 @@ module _ (files : Files) (contents : Contents) where
   by-command (plain.make seed size) r h = inl (by-first (of_patterns (no_cover ∷ []) (no_branch ∷ [])) r (refl, (refl, (refl, (refl, (refl, tt))))) h)
   by-command (plain.suite branch budget data_file rcfile file) r (inl h) = inl (by-refused rcfile r h)
   by-command (plain.suite branch budget data_file rcfile file) r (inr (s, set, h)) =
-      by-suite branch budget data_file rcfile file r (by-tests (own_name data_file s) file (or_else budget s.run.budget) r h)
-  by-command (plain.select budget old new) r h = absurd h
-  by-command (plain.mutate budget file) r h = absurd h
+      by-import (plain.suite branch budget data_file rcfile file) file r refl (by-tests (own_name data_file s) file (or_else budget s.run.budget) r h)
+  by-command (plain.select budget old new) r h = by-import (plain.select budget old new) old r refl (by-selected old new (or_else budget usual_steps) r h)
+  by-command (plain.mutate budget file) r h = by-import (plain.mutate budget file) file r refl (by-mutants file (or_else budget usual_steps) r h)
 
 stems-cause : (c : PlainCommand) (r : Refusal) → Stems c r → has_cause r ≡ true
 stems-cause c r (inl e) = common-cause r e
-stems-cause c r (inr (branch, budget, data_file, rcfile, file, e, is)) = ap has_cause is
+stems-cause c r (inr (file, e, is)) = ap has_cause is
 
 pub only-causes : OnlyCauses
 only-causes files contents words why (inl (i, h, is)) = ap has_cause is
@@ -241,17 +249,10 @@ same-file e = cc
 no-usage : {a : Word} {i : ℕ} → import_failed a ≡ usage i → ⊥
 no-usage e = cc
 
--- a command that is refused for the import of this file
-abbrev IsTested : List Word → Word → Type 0
-IsTested words file =
-    (branch : Bool) × (budget : Option ℕ) × (data_file : Option Word) × (rcfile : Option Word)
-    × IsCommand (plain.suite branch budget data_file rcfile file) words
+import-only : (c : PlainCommand) (words : List Word) (file : Word) → IsCommand c words → Stems c (import_failed file) → (d : PlainCommand) × IsCommand d words × (imported_by d ≡ Some file)
+import-only c words file h (inl e) = absurd (true-false (sym e))
+import-only c words file h (inr (other, e, is)) = (c, h, e ∙ ap Some (sym (same-file is)))
 
-suite-only : (c : PlainCommand) (words : List Word) (file : Word) → IsCommand c words → Stems c (import_failed file) → IsTested words file
-suite-only c words file h (inl e) = absurd (true-false (sym e))
-suite-only c words file h (inr (branch, budget, data_file, rcfile, other, e, is)) =
-    subst (λ name. IsTested words name) (sym (same-file is)) (branch, budget, data_file, rcfile, subst (λ b. IsCommand b words) e h)
-
-pub only-suites : OnlySuites
-only-suites files contents words file (inl (i, h, is)) = absurd (no-usage is)
-only-suites files contents words file (inr (c, h, k)) = suite-only c words file h.0 (by-command files contents c (import_failed file) k)
+pub only-imports : OnlyImports
+only-imports files contents words file (inl (i, h, is)) = absurd (no-usage is)
+only-imports files contents words file (inr (c, h, k)) = import-only c words file h (by-command files contents c (import_failed file) k)

@@ -18,6 +18,7 @@ use Rattle.cov_programs.proofs.Later.{ends-later}
 use Rattle.cov_step.specs.Answers.{given_or}
 use Rattle.cov_step.specs.Calls.{Call, spells, Answer, Answered, IsNoMemory}
 use Rattle.cov_step.specs.Objects.{Saying}
+use Rattle.cov_step.specs.Phases.{done}
 use Rattle.cov_step.specs.Promises.{is_hungry, EndsLines, IsFold}
 use Rattle.cov_step.specs.Scripts.{line_step, script_text, script}
 use Rattle.cov_step.specs.Step.{IsSpelled, doing, step}
@@ -26,27 +27,24 @@ use Rattle.cov_step.proofs.Yielding.{law_of_want}
 use Rattle.cov_vault.specs.Contents.{Contents}
 use Rattle.cov_vault.specs.declared.vault.Vault.{Ghosts as VaultOf}
 use Rattle.cov_why.specs.Answers.{Refusal, PlainWhy, no_memory, usage}
-use Rattle.cov_words.specs.Commands.{PlainCommand, IsCommand, IsOneCommand}
+use Rattle.cov_words.specs.Commands.{IsCommand, IsOneCommand}
 use Rattle.cov_words.specs.Commands as plain
 use Rattle.cov_words.specs.Values.{Word}
 use Rattle.py_machine.specs.declared.engine.Engine.{Ghosts as EngineOf}
-use Rattle.cov_complete_laws.specs.Complete.{Lent, on_lent}
+use Rattle.cov_complete_laws.specs.Complete.{Lent, on_lent, EndsWell}
 use Rattle.cov_complete_laws.proofs.Holding.{Holding, told}
 use Rattle.cov_complete_laws.proofs.Lines.{text-yields, line-yields}
 use Rattle.cov_complete_laws.proofs.Objects.{pair, held, IsLater, Unraised, counting, later, telling}
 use Rattle.cov_cause_laws.specs.Causes.{IsRefusedFor}
-use Rattle.cov_cause_laws.specs.Exactly.{EndsBy, IsExact, IsScriptExact}
+use Rattle.cov_cause_laws.specs.Exactly.{EndsBy, IsExact, IsRefusedExactly, AreLinesExact, IsScriptExact}
 use Rattle.cov_cause_laws.specs.Laws.{OneCause, CauseLaw, LineLaw, ScriptCauseLaw}
-use Rattle.cov_cause_laws.specs.Lines.{FileRefuses, IsLineRefused, AreLinesRefused}
+use Rattle.cov_cause_laws.specs.Lines.{FileRefuses, IsLineRefused}
 use Rattle.cov_cause_laws.proofs.Doing.{one-for, one-line, step-exact, line-exact}
 use Rattle.cov_cause_laws.proofs.Exactly.{exactly}
-use Rattle.cov_cause_laws.proofs.Filed.{one-file, file-good, file-exact}
+use Rattle.cov_cause_laws.proofs.Filed.{one-file, file-exact}
 
 err-is : {A R : Type 0} {a b : R} → ◌≡◌ {A = Result A R} (Err a) (Err b) → a ≡ b
 err-is e = cc
-
-ok-err : {A R : Type 0} {a : A} {r : R} → ◌≡◌ {A = Result A R} (Ok a) (Err r) → ⊥
-ok-err e = cc
 
 -- want of memory is no other refusal
 other-memory : {A : Type 0} (why : Refusal) → why ≢ no_memory → ◌≡◌ {A = Result A PlainWhy} (Err (Err no_memory)) (Err (Err why)) → ⊥
@@ -60,9 +58,30 @@ given-else : (A B : Type 0) (why : Refusal) (w : PlainWhy) → EndsBy {A = A} wh
 given-else A B why (Ok ended) h = h
 given-else A B why (Err r) h = h
 
-front-err : {A : Type 0} (a : A) (d : Result (List A) PlainWhy) (w : PlainWhy) → with_front a d ≡ Err w → d ≡ Err w
-front-err a (Ok more) w e = absurd (ok-err e)
-front-err a (Err v) w e = ap Err (err-is e)
+refused-exactly : (A B : Type 0) (Causes : Refusal → Type 0) (w : PlainWhy) (e : Result B PlainWhy) → IsExact {A = A} Causes (Err w) → e ≡ Err w → IsRefusedExactly Causes e
+refused-exactly A B Causes w e h is = (
+  (w, is),
+  record {
+    only = λ why other so. h.only why other (ap Err (err-is (sym is ∙ so)));
+    wherever = λ why good cause. subst (λ d. EndsBy why d) (sym is) (given-else A B why w (h.wherever why good cause));
+  },
+)
+
+-- want of memory refuses exactly for any causes
+starved-exact : (Causes : Refusal → Type 0) (w : PlainWhy) → w ≡ Err no_memory → IsExact {A = Answered} Causes (Err w)
+starved-exact Causes w e = record {
+  only = λ why other so. absurd (other-memory why other (ap Err (sym e) ∙ so));
+  wherever = λ why good cause. starved-by Answered w why e;
+}
+
+-- what lines came to behind the first of them
+rest-ends : (b : Unit {0}) (rest : Result (List (Unit {0})) PlainWhy) (e : Result Answered PlainWhy) → EndsLines (with_front b rest) e → EndsLines rest e
+rest-ends b (Ok more) e h = h
+rest-ends b (Err w) e h = h
+
+ends-well : (e : Result Answered PlainWhy) → (e ≡ Ok done) ⊎ (e ≡ Err (Err no_memory)) → EndsWell e
+ends-well e (inl is) = subst EndsWell (sym is) tt
+ends-well e (inr is) = subst EndsWell (sym is) refl
 
 pub one-cause-law : OneReading → OneLoading → NotStopped → IsOneCommand → OneCause
 one-cause-law one loads whole once files contents words r s good fine h k = one-for once one loads whole files contents words r s good fine h k
@@ -122,54 +141,42 @@ module _ {H V M I O P G E : Type 0} (shelf : ShelfOf H) (vault : VaultOf V) (mak
         exactly whole tells (FileRefuses name (files_in u name)) (λ r s good fine h g. one-file name (files_in u name) r s h g) (script_text name) u v d (text-yields name) n
         (file-exact (holding u) name) k
 
-    lines-refused : (ls : List (List ℕ)) (u v : World) (d : Result (List (Unit {0})) PlainWhy) (why : Refusal) → Quiet u v → Folds whole IsNoMemory line_step ls u d v → why ≢ no_memory → d ≡ Err (Err why)
-        → AreLinesRefused whole files_in data_in ls u why
-    lines-refused [] u v d why n (inl s) other e = absurd (other-memory why other (sym (s.is ∙ ap Err s.wanting) ∙ e))
-    lines-refused [] u v d why n (inr (is, same)) other e = absurd (ok-err (sym is ∙ e))
-    lines-refused (l ∷ ls) u v d why n (inl (b, mid, rest, first, more, is)) other e =
+    lines-exact : (ls : List (List ℕ)) (u v : World) (d : Result (List (Unit {0})) PlainWhy) (e : Result Answered PlainWhy) → Quiet u v → Folds whole IsNoMemory line_step ls u d v → EndsLines d e
+        → AreLinesExact whole files_in data_in ls u e
+    lines-exact [] u v d e n (inl s) ends = subst EndsWell (sym (subst (λ x. EndsLines x e) s.is ends)) s.wanting
+    lines-exact [] u v d e n (inr (is, same)) ends = ends-well e (subst (λ x. EndsLines x e) is ends)
+    lines-exact (l ∷ ls) u v d e n (inl (b, mid, rest, first, more, is)) ends =
         let early = ends-later whole IsNoMemory counts (later shelf vault maker source sink plugin engine err) (line_step l) u mid (Ok b) first in
-        inr (mid, record { ends = first }, lines-refused ls mid v rest why (counts.after early (folds-later ls mid v rest more) n) more other (front-err b rest (Err why) (sym is ∙ e)))
-    lines-refused (l ∷ ls) u v d why n (inr (w, first, is)) other e = inl ((line-causes l u v (Err w) n first).only why other (ap Err (err-is (sym is ∙ e))))
-
-    -- lines that were read, and what came of them
-    after-lines : (ls : List (List ℕ)) (u v : World) (e : Result Answered PlainWhy) (why : Refusal) → Quiet u v → IsFold whole ls u e v → why ≢ no_memory → e ≡ Err (Err why) → AreLinesRefused whole files_in data_in ls u why
-    after-lines ls u v e why n fold other is = by fold.told refl fold.ends
-      where
-        by : (d : Result (List (Unit {0})) PlainWhy) → fold.told ≡ d → EndsLines d e → AreLinesRefused whole files_in data_in ls u why
-        by (Ok more) so (inl all) = absurd (ok-err (sym all ∙ is))
-        by (Ok more) so (inr want) = absurd (other-memory why other (sym want ∙ is))
-        by (Err w) so ends = lines-refused ls u v fold.told why n fold.folds other (so ∙ ap Err (err-is (sym ends ∙ is)))
+        let late = folds-later ls mid v rest more in
+        inr (
+          (line-causes l u mid (Ok b) (counts.before early late n) first).wherever,
+          (mid, record { ends = first }, lines-exact ls mid v rest e (counts.after early late n) more (rest-ends b rest e (subst (λ x. EndsLines x e) is ends))),
+        )
+    lines-exact (l ∷ ls) u v d e n (inr (w, first, is)) ends =
+        inl (refused-exactly (Unit {0}) Answered (IsLineRefused (files_in u) (data_in u) l) w e (line-causes l u v (Err w) n first) (subst (λ x. EndsLines x e) is ends))
 
     script-causes : (name : Word) (u v : World) (e : Result Answered PlainWhy) → Quiet u v → Follows whole IsNoMemory (script name) u e v → IsScriptExact whole files_in data_in name u e
     script-causes name u v e n f = by (law_of_fold whole name u e v f)
       where
         by : ((why : PlainWhy) × Follows whole IsNoMemory (script_text name) u (Err why) v × (e ≡ Err why))
             ⊎ ((text : List ℕ) × (mid : World) × Follows whole IsNoMemory (script_text name) u (Ok text) mid × IsFold whole (lines text) mid e v) → IsScriptExact whole files_in data_in name u e
-        by (inl (w, g, is)) =
-            let h = file-causes name u v (Err w) n g.ends in
-            record {
-              file = λ why cause. subst (λ d. EndsBy why d) (sym is) (given-else (List ℕ) Answered why w (h.wherever why (file-good name (files_in u name) why cause) cause));
-              only = λ why other so. inl (h.only why other (ap Err (err-is (sym is ∙ so))));
-            }
+        by (inl (w, g, is)) = inl (refused-exactly (List ℕ) Answered (FileRefuses name (files_in u name)) w e (file-causes name u v (Err w) n g.ends) is)
         by (inr (text, mid, g, fold)) =
             let early = ends-later whole IsNoMemory counts (later shelf vault maker source sink plugin engine err) (script_text name) u mid (Ok text) g.ends in
             let late = folds-later (lines text) mid v fold.told fold.folds in
-            let h = file-causes name u mid (Ok text) (counts.before early late n) g.ends in
-            record {
-              file = λ why cause. absurd (h.wherever why (file-good name (files_in u name) why cause) cause);
-              only = λ why other so. inr (text, mid, g, after-lines (lines text) mid v e why (counts.after early late n) fold other so);
-            }
+            inr (
+              (file-causes name u mid (Ok text) (counts.before early late n) g.ends).wherever,
+              (text, mid, g, lines-exact (lines text) mid v fold.told e (counts.after early late n) fold.folds fold.ends),
+            )
 
     starved-script : (name : Word) (u v : World) (e : Result Answered PlainWhy) → Starves IsNoMemory u e v → IsScriptExact whole files_in data_in name u e
-    starved-script name u v e s = record {
-      file = λ why cause. subst (λ d. EndsBy why d) (sym s.is) (starved-by Answered s.why why s.wanting);
-      only = λ why other so. absurd (other-memory why other (sym (s.is ∙ ap Err s.wanting) ∙ so));
-    }
+    starved-script name u v e s =
+        inl (refused-exactly Answered Answered (FileRefuses name (files_in u name)) s.why e (starved-exact (FileRefuses name (files_in u name)) s.why s.wanting) s.is)
 
     spelled-script : (words : List Word) (name : Word) (x : Answer (spells words)) (u v : World) (e : Result Answered PlainWhy) → IsCommand (plain.script name) words → IsSpelled words x → Quiet u v
         → Ends whole IsNoMemory (bind (given_or usage x) doing) u e v → IsScriptExact whole files_in data_in name u e
-    spelled-script words name (Ok c) u v e is s n k = script-causes name u v e n (record { ends = subst (λ b. Ends whole IsNoMemory (doing b) u e v) (once words c (plain.script name) s.0 is) k })
-    spelled-script words name (Err i) u v e is s n k = absurd (s.0 (plain.script name) refl is)
+    spelled-script words name (Ok c) u v e is s n k = script-causes name u v e n (record { ends = subst (λ b. Ends whole IsNoMemory (doing b) u e v) (once words c (plain.script name) s is) k })
+    spelled-script words name (Err i) u v e is s n k = absurd (s.0 (plain.script name) is)
 
     step-script : (words : List Word) (name : Word) (u v : World) (e : Result Answered PlainWhy) → IsCommand (plain.script name) words → Quiet u v → Ends whole IsNoMemory (step words) u e v → IsScriptExact whole files_in data_in name u e
     step-script words name u v e is n (inl s) = starved-script name u v e s

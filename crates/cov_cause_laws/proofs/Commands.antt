@@ -15,7 +15,7 @@ use Rattle.cov_make_laws.specs.Trees.{made_tree}
 use Rattle.cov_programs.specs.Programs.{give, ask, bind, each}
 use Rattle.cov_run.specs.Reading.{Reading, tree, unread}
 use Rattle.cov_step.specs.Answers.{Before, nothing, there, bad_row, given_or, run_refusal, sink_refusal, on, tree_of}
-use Rattle.cov_step.specs.Calls.{Answered, Asked, HookFiles, Patterns, PlainSource, TestsAsked, TestResult, tested, not_imported, Step, checks, crosses, measures, tries, tests, writes}
+use Rattle.cov_step.specs.Calls.{Answered, Asked, HookFiles, Patterns, PlainSource, TestsAsked, TestResult, Selection, Judged, came, not_imported, Step, checks, crosses, measures, tries, tests, selects, judges, writes}
 use Rattle.cov_step.specs.Calls as calls
 use Rattle.cov_step.specs.Commands as the
 use Rattle.cov_step.specs.Listing.{listing}
@@ -23,16 +23,18 @@ use Rattle.cov_step.specs.Making.{made_path, made_module, ran_if_any, made_line,
 use Rattle.cov_step.specs.Names.{or_else, removable}
 use Rattle.cov_step.specs.Phases.{needed, before, main_name, opened, settings, own_name, patterns_by, patterns, source, hook_of, joins, joined, inputs, has_own, own_input, some_input, same_kind, saving, removing_all, Report, reported_paths, reported_in, analysed, reported, done, write_last, save_last, remove_last, answered_by}
 use Rattle.cov_step.specs.Promises.{reading_hungry}
-use Rattle.cov_step.specs.Testing.{tests_name, tests_asked, suite_lines, suite_answered, tested_or, tests_run, suite_by, suite}
+use Rattle.cov_step.specs.Mutating.{mutation_lines, judged_in, mutate}
+use Rattle.cov_step.specs.Selecting.{selection_lines, selected_in, select}
+use Rattle.cov_step.specs.Testing.{tests_name, tests_asked, suite_lines, suite_answered, came_or, tests_run, suite_by, suite}
 use Rattle.cov_vault.specs.declared.vault.Content.{Content}
 use Rattle.cov_words.specs.Values.{Word}
 use Rattle.cov_complete_laws.specs.Premises.{AreSettings, AreModules, Holds, IsReplaceable, inputs_of, HoldAll, paths_reported}
 use Rattle.cov_complete_laws.proofs.Sure.{Sure, then-sure}
 use Rattle.cov_complete_laws.proofs.Holding.{Holding, told, true-false, moved}
 use Rattle.cov_complete_laws.proofs.Phases.{inputs-sure, crosses-sure, measures-sure, tries-sure, comes-sure, writing-sure, noting-sure, last-save-sure, saving-sure, last-removal-sure, removals-sure}
-use Rattle.cov_cause_laws.specs.Checks.{Check, Passes, Refuses, IsFirst, AllPass}
+use Rattle.cov_cause_laws.specs.Checks.{Check, Passes, IsFirst, AllPass}
 use Rattle.cov_cause_laws.specs.Checks as check
-use Rattle.cov_cause_laws.specs.Orders.{of_patterns, of_report_settings, of_hook, of_target, of_run, of_suite, all_inputs, of_combine, paths_held, of_report, of_annotate}
+use Rattle.cov_cause_laws.specs.Orders.{of_patterns, of_report_settings, of_hook, of_target, of_run, of_suite, of_select, of_mutate, all_inputs, of_combine, paths_held, of_report, of_annotate}
 use Rattle.cov_cause_laws.specs.Orders as order
 use Rattle.cov_cause_laws.specs.Causes.{BySettings}
 use Rattle.cov_cause_laws.proofs.Ways.{then-under, under-all, sure-under}
@@ -146,9 +148,9 @@ module _ (t : Holding) where
   -- ---- tests
 
   tests-go : (asked : TestsAsked) (file : Word) (ms : List LoadedModule) (G : List TestResult × DataSet → Holding → Type 0) → AreModules t.0 tests_name file ms → ((r : List TestResult × DataSet) → G r t)
-      → Checks t (check.imports file asked.budget) G (ask (tests asked ms) (tested_or file)) t
-  tests-go asked file ms G a g (tested results rows) u m =
-      moved (λ r v. Passes t.0 t.1 (check.imports file asked.budget) × G r v) (results, rows) (results, rows) u t refl (m.1 refl) ((ms, a, m.0.says_so), g (results, rows))
+      → Checks t (check.imports file asked.budget) G (ask (tests asked ms) (came_or file)) t
+  tests-go asked file ms G a g (came r) u m =
+      moved (λ r v. Passes t.0 t.1 (check.imports file asked.budget) × G r v) r r u t refl (m.1 refl) ((ms, a, m.0.says_so), g r)
   tests-go asked file ms G a g not_imported u m = (ms, a, m.0.says_so, refl)
   tests-go asked file ms G a g calls.starved u m = absurd (true-false m.0.fed)
 
@@ -156,7 +158,7 @@ module _ (t : Holding) where
   tests_run-goes own asked file ms a free =
       let last = λ (r : List TestResult × DataSet). save_last own r.1 (suite_answered r.0) in
       let next = λ (r : List TestResult × DataSet). bind (ask (writes (suite_lines r.0)) (on sink_refusal)) (λ written. last r) in
-      then-leads t (check.imports file asked.budget) [] any (ask (tests asked ms) (tested_or file)) next t
+      then-leads t (check.imports file asked.budget) [] any (ask (tests asked ms) (came_or file)) next t
       (tests-go asked file ms (λ r u. Leads t [] any (next r) u) a (λ r. at-last (next r) t
       (then-sure told any (ask (writes (suite_lines r.0)) (on sink_refusal)) (λ written. last r) t
       (noting-sure t (suite_lines r.0) (λ written u. Quietly (last r) u) (last-save-sure own r.1 (suite_answered r.0) t free)))))
@@ -174,6 +176,48 @@ module _ (t : Holding) where
   suite-goes branch steps data_file rcfile file =
       set-leads rcfile (λ s. of_suite (own_name data_file s) file (or_else steps s.run.budget)) any (λ s. suite_by (own_name data_file s) (tests_asked s branch steps) file)
       (λ s. suite_by-goes (own_name data_file s) (tests_asked s branch steps) file)
+
+  -- ---- tests of changes
+
+  selects-go : (n : ℕ) (old new : List LoadedModule) (file : Word) (G : Selection → Holding → Type 0) → AreModules t.0 tests_name file old → ((s : Selection) → G s t)
+      → Checks t (check.imports file n) G (ask (selects n old new) (came_or file)) t
+  selects-go n old new file G a g (came s) u m = moved (λ r v. Passes t.0 t.1 (check.imports file n) × G r v) s s u t refl (m.1 refl) ((old, a, m.0.says_so), g s)
+  selects-go n old new file G a g not_imported u m = (old, a, m.0.says_so, refl)
+  selects-go n old new file G a g calls.starved u m = absurd (true-false m.0.fed)
+
+  selected-goes : (most : ℕ) (old : Word) (before after : List LoadedModule) → AreModules t.0 tests_name old before → Leads t (check.imports old most ∷ []) any (selected_in most old before after) t
+  selected-goes most old before after a =
+      let last = λ (s : Selection). write_last (selection_lines s) done in
+      then-leads t (check.imports old most) [] any (ask (selects most before after) (came_or old)) last t
+      (selects-go most before after old (λ s u. Leads t [] any (last s) u) a (λ s. at-last (last s) t (writing-sure (selection_lines s) done t)))
+
+  pub select-goes : (steps : Option ℕ) (old new : Word) → Leads t (of_select old new (or_else steps the.usual_steps)) any (select steps old new) t
+  select-goes steps old new =
+      let most = or_else steps the.usual_steps in
+      let imported = check.imports old most ∷ [] in
+      let next = λ (ms : List LoadedModule). bind (opened tests_name new) (selected_in most old ms) in
+      then-leads t (check.program tests_name old) (check.program tests_name new ∷ imported) any (opened tests_name old) next t
+      (opened-goes t tests_name old (λ ms u. Leads t (check.program tests_name new ∷ imported) any (next ms) u) (λ ms a.
+      then-leads t (check.program tests_name new) imported any (opened tests_name new) (selected_in most old ms) t
+      (opened-goes t tests_name new (λ after u. Leads t imported any (selected_in most old ms after) u) (λ after b. selected-goes most old ms after a))))
+
+  judges-go : (n : ℕ) (ms : List LoadedModule) (file : Word) (G : List Judged → Holding → Type 0) → AreModules t.0 tests_name file ms → ((js : List Judged) → G js t)
+      → Checks t (check.imports file n) G (ask (judges n ms) (came_or file)) t
+  judges-go n ms file G a g (came js) u m = moved (λ r v. Passes t.0 t.1 (check.imports file n) × G r v) js js u t refl (m.1 refl) ((ms, a, m.0.says_so), g js)
+  judges-go n ms file G a g not_imported u m = (ms, a, m.0.says_so, refl)
+  judges-go n ms file G a g calls.starved u m = absurd (true-false m.0.fed)
+
+  judged-goes : (most : ℕ) (file : Word) (ms : List LoadedModule) → AreModules t.0 tests_name file ms → Leads t (check.imports file most ∷ []) any (judged_in most file ms) t
+  judged-goes most file ms a =
+      let last = λ (js : List Judged). write_last (mutation_lines js) done in
+      then-leads t (check.imports file most) [] any (ask (judges most ms) (came_or file)) last t
+      (judges-go most ms file (λ js u. Leads t [] any (last js) u) a (λ js. at-last (last js) t (writing-sure (mutation_lines js) done t)))
+
+  pub mutate-goes : (steps : Option ℕ) (file : Word) → Leads t (of_mutate file (or_else steps the.usual_steps)) any (mutate steps file) t
+  mutate-goes steps file =
+      let most = or_else steps the.usual_steps in
+      then-leads t (check.program tests_name file) (check.imports file most ∷ []) any (opened tests_name file) (judged_in most file) t
+      (opened-goes t tests_name file (λ ms u. Leads t (check.imports file most ∷ []) any (judged_in most file ms) u) (λ ms a. judged-goes most file ms a))
 
   -- ---- what is combined
 

@@ -18,12 +18,14 @@ use Rattle.cov_step.specs.Names.{or_else}
 use Rattle.cov_step.specs.Phases.{main_name, own_name, judged, write_last, put_last}
 use Rattle.cov_step.specs.Promises.{has_one_text}
 use Rattle.cov_step.specs.Scripts.{inside, words_in, status_line, ended_in, line_done, is_comment, words_done, line_step}
-use Rattle.cov_step.specs.Step.{is_built, BuiltStopsAfter, IsSpelled, doing, step}
+use Rattle.cov_step.specs.Step.{IsSpelled, doing, step}
+use Rattle.cov_step.specs.Mutating.{mutate}
+use Rattle.cov_step.specs.Selecting.{select}
 use Rattle.cov_step.specs.Testing.{suite}
 use Rattle.cov_text.specs.Report.{text_bytes}
 use Rattle.cov_vault.specs.Contents.{Contents}
 use Rattle.cov_why.specs.Answers.{Refusal, usage}
-use Rattle.cov_words.specs.Commands.{PlainCommand, IsCommand, IsOneCommand}
+use Rattle.cov_words.specs.Commands.{PlainCommand, IsCommand, StopsAfter, IsOneCommand}
 use Rattle.cov_words.specs.Commands as plain
 use Rattle.cov_words.specs.Values.{Word}
 use Rattle.cov_complete_laws.specs.Premises.{AreSettings}
@@ -31,13 +33,13 @@ use Rattle.cov_complete_laws.proofs.Holding.{Holding, told, some-none, true-fals
 use Rattle.cov_complete_laws.proofs.Phases.{writing-sure, putting-sure}
 use Rattle.cov_cause_laws.specs.Checks.{Check, IsFirst, AllPass}
 use Rattle.cov_cause_laws.specs.Checks as check
-use Rattle.cov_cause_laws.specs.Orders.{of_patterns, of_run, of_suite, of_combine, of_report, of_annotate}
+use Rattle.cov_cause_laws.specs.Orders.{of_patterns, of_run, of_suite, of_select, of_mutate, of_combine, of_report, of_annotate}
 use Rattle.cov_cause_laws.specs.Causes.{BySettings, IsRefusedIn, IsRefusedFor, is_bad_pattern}
 use Rattle.cov_cause_laws.specs.Exactly.{NoScript}
 use Rattle.cov_cause_laws.specs.Lines.{IsRefusedInside, IsLineRefused}
 use Rattle.cov_cause_laws.proofs.Ways.{then-under, under-all, sure-under}
 use Rattle.cov_cause_laws.proofs.Parts.{As, as-map, Goes, Leads, by-either}
-use Rattle.cov_cause_laws.proofs.Commands.{any, Quietly, Sets, set-last, erase-goes, arcs-goes, run-goes, suite-goes, combine-goes, reported-goes, annotate-goes, make-goes}
+use Rattle.cov_cause_laws.proofs.Commands.{any, Quietly, Sets, set-last, erase-goes, arcs-goes, run-goes, suite-goes, select-goes, mutate-goes, combine-goes, reported-goes, annotate-goes, make-goes}
 use Rattle.cov_cause_laws.proofs.Single.{met-by, met-first, one-cause}
 
 -- no cause but a pattern's holds
@@ -59,35 +61,35 @@ module _ (one : OneReading) (loads : OneLoading) (whole : NotStopped) (law : Mad
       under-all told (λ a u. ((s : Settings) × AreSettings t.0 rcfile s × AllPass t.0 t.1 (ks s)) × Unit {0}) (λ a u. Free (BySettings t.0 t.1 rcfile ks)) (As (BySettings t.0 t.1 rcfile ks)) (As (BySettings t.0 t.1 rcfile ks))
       (λ a u m r good f. met-by one loads whole t.0 t.1 rcfile ks m.0.0 r good m.0.1 m.0.2 f) (λ r f. f) p t h
 
-  -- every command that is built, but a script
-  pub doing-exact : (c : PlainCommand) → is_built c ≡ true → has_one_text c ≡ true → ((seed size : ℕ) → c ≡ plain.make seed size → size ≤ 16000) → Exact (IsRefusedIn t.0 t.1 c) (doing c) t
-  doing-exact (plain.arcs steps script args) b o small = leads-exact (check.program main_name script ∷ []) (the.arcs steps script args) (arcs-goes t steps script args)
-  doing-exact (plain.run branch append context steps hook data_file rcfile script args) b o small =
+  -- every command but a script
+  pub doing-exact : (c : PlainCommand) → has_one_text c ≡ true → ((seed size : ℕ) → c ≡ plain.make seed size → size ≤ 16000) → Exact (IsRefusedIn t.0 t.1 c) (doing c) t
+  doing-exact (plain.arcs steps script args) o small = leads-exact (check.program main_name script ∷ []) (the.arcs steps script args) (arcs-goes t steps script args)
+  doing-exact (plain.run branch append context steps hook data_file rcfile script args) o small =
       sets-exact rcfile (λ s. of_run append (own_name data_file s) (branch || s.run.branch) (hook_named hook s.run.hook) script) (the.run branch append context steps hook data_file rcfile script args)
       (run-goes t branch append context steps hook data_file rcfile script args)
-  doing-exact (plain.combine append keep data_file rcfile names) b o small =
+  doing-exact (plain.combine append keep data_file rcfile names) o small =
       sets-exact rcfile (λ s. of_combine append t.1 (own_name data_file s) names) (the.combine append keep data_file rcfile names) (combine-goes t append keep data_file rcfile names)
-  doing-exact (plain.report show fail_under data_file rcfile) b o small =
+  doing-exact (plain.report show fail_under data_file rcfile) o small =
       sets-exact rcfile (λ s. of_report s.report t.1 (own_name data_file s)) (the.report show fail_under data_file rcfile)
       (set-last t rcfile (λ s. of_report s.report t.1 (own_name data_file s)) _ (λ r. write_last (text_bytes r.files r.arcs (show || r.settings.report.show_missing)) (judged (or_else fail_under r.settings.report.fail_under) r.files)) t
       (reported-goes t data_file rcfile _ (λ r. writing-sure (text_bytes r.files r.arcs (show || r.settings.report.show_missing)) (judged (or_else fail_under r.settings.report.fail_under) r.files) t)))
-  doing-exact (plain.json name fail_under data_file rcfile) b o small =
+  doing-exact (plain.json name fail_under data_file rcfile) o small =
       sets-exact rcfile (λ s. of_report s.report t.1 (own_name data_file s)) (the.json name fail_under data_file rcfile)
       (set-last t rcfile (λ s. of_report s.report t.1 (own_name data_file s)) _ (λ r. put_last (or_else name (codes "coverage.json")) (json_bytes r.files r.arcs) (judged (or_else fail_under r.settings.report.fail_under) r.files)) t
       (reported-goes t data_file rcfile _ (λ r. putting-sure (or_else name (codes "coverage.json")) (json_bytes r.files r.arcs) (judged (or_else fail_under r.settings.report.fail_under) r.files) t)))
-  doing-exact (plain.lcov name fail_under data_file rcfile) b o small =
+  doing-exact (plain.lcov name fail_under data_file rcfile) o small =
       sets-exact rcfile (λ s. of_report s.report t.1 (own_name data_file s)) (the.lcov name fail_under data_file rcfile)
       (set-last t rcfile (λ s. of_report s.report t.1 (own_name data_file s)) _ (λ r. put_last (or_else name (codes "coverage.lcov")) (lcov_bytes r.files r.arcs) (judged (or_else fail_under r.settings.report.fail_under) r.files)) t
       (reported-goes t data_file rcfile _ (λ r. putting-sure (or_else name (codes "coverage.lcov")) (lcov_bytes r.files r.arcs) (judged (or_else fail_under r.settings.report.fail_under) r.files) t)))
-  doing-exact (plain.annotate data_file rcfile path) b o small =
+  doing-exact (plain.annotate data_file rcfile path) o small =
       sets-exact rcfile (λ s. of_annotate s.report (own_name data_file s) path) (the.annotate data_file rcfile path) (annotate-goes t data_file rcfile path)
-  doing-exact (plain.erase data_file rcfile) b o small = sets-exact rcfile (λ s. []) (the.erase data_file rcfile) (erase-goes t data_file rcfile)
-  doing-exact (plain.script file) b o small = absurd (true-false (sym o))
-  doing-exact (plain.make seed size) b o small = leads-exact (of_patterns (no_cover ∷ []) (no_branch ∷ [])) (doing (plain.make seed size)) (make-goes t law seed size (small seed size refl))
-  doing-exact (plain.suite branch steps data_file rcfile file) b o small =
+  doing-exact (plain.erase data_file rcfile) o small = sets-exact rcfile (λ s. []) (the.erase data_file rcfile) (erase-goes t data_file rcfile)
+  doing-exact (plain.script file) o small = absurd (true-false (sym o))
+  doing-exact (plain.make seed size) o small = leads-exact (of_patterns (no_cover ∷ []) (no_branch ∷ [])) (doing (plain.make seed size)) (make-goes t law seed size (small seed size refl))
+  doing-exact (plain.suite branch steps data_file rcfile file) o small =
       sets-exact rcfile (λ s. of_suite (own_name data_file s) file (or_else steps s.run.budget)) (suite branch steps data_file rcfile file) (suite-goes t branch steps data_file rcfile file)
-  doing-exact (plain.select steps old new) b o small = absurd (true-false (sym b))
-  doing-exact (plain.mutate steps file) b o small = absurd (true-false (sym b))
+  doing-exact (plain.select steps old new) o small = leads-exact (of_select old new (or_else steps the.usual_steps)) (select steps old new) (select-goes t steps old new)
+  doing-exact (plain.mutate steps file) o small = leads-exact (of_mutate file (or_else steps the.usual_steps)) (mutate steps file) (mutate-goes t steps file)
 
 -- ---- words
 
@@ -136,15 +138,15 @@ at-most : (i j : ℕ) → i ≤ j → j ≤ i → i ≡ j
 at-most i j h k = omega (arith, h, k)
 
 -- words stop in one place
-pub one-stop : (words : List Word) (i j : ℕ) → BuiltStopsAfter words i → BuiltStopsAfter words j → i ≡ j
+pub one-stop : (words : List Word) (i j : ℕ) → StopsAfter words i → StopsAfter words j → i ≡ j
 one-stop words i j h k = at-most i j (k.most i h.within h.begins) (h.most j k.within k.begins)
 
 module _ (once : IsOneCommand) where
   -- words are one thing
   pub one-spelling : (words : List Word) (x y : Result PlainCommand ℕ) → IsSpelled words x → IsSpelled words y → x ≡ y
-  one-spelling words (Ok c) (Ok d) h k = ap Ok (once words c d h.0 k.0)
-  one-spelling words (Ok c) (Err j) h k = absurd (k.0 c h.1 h.0)
-  one-spelling words (Err i) (Ok d) h k = absurd (h.0 d k.1 k.0)
+  one-spelling words (Ok c) (Ok d) h k = ap Ok (once words c d h k)
+  one-spelling words (Ok c) (Err j) h k = absurd (k.0 c h)
+  one-spelling words (Err i) (Ok d) h k = absurd (h.0 d k)
   one-spelling words (Err i) (Err j) h k = ap Err (one-stop words i j h.1 k.1)
 
   module _ (one : OneReading) (loads : OneLoading) (whole : NotStopped) (files : Files) (contents : Contents) where
@@ -195,7 +197,7 @@ module _ (once : IsOneCommand) where
     step-exact words none (Ok c) u m =
         subst (λ v. Exact (IsRefusedFor t.0 t.1 words) (doing c) v) (sym (m.1 refl))
         (of-command words c (doing c) t m.0.says_so
-        (doing-exact one loads whole law t c m.0.says_so.1 (one-text c (λ name e. none name (subst (λ b. IsCommand b words) e m.0.says_so.0))) (small-made words c m.0.says_so.0)))
+        (doing-exact one loads whole law t c (one-text c (λ name e. none name (subst (λ b. IsCommand b words) e m.0.says_so))) (small-made words c m.0.says_so)))
     step-exact words none (Err i) u m = inl (i, m.0.says_so, refl)
 
     -- ---- a line
@@ -225,21 +227,21 @@ module _ (once : IsOneCommand) where
         only free r good (inl f) = free r good f
         only free r good (inr f) = true-false (sym o ∙ f.0)
 
-    inside-exact : (c : PlainCommand) → is_built c ≡ true → ((seed size : ℕ) → c ≡ plain.make seed size → size ≤ 16000) → Exact (IsRefusedInside t.0 t.1 c) (inside c) t
-    inside-exact (plain.arcs steps script args) b s = elsewhere (plain.arcs steps script args) refl (doing-exact one loads whole law t (plain.arcs steps script args) refl refl s)
-    inside-exact (plain.run branch append context steps hook data_file rcfile script args) b s =
-        elsewhere (plain.run branch append context steps hook data_file rcfile script args) refl (doing-exact one loads whole law t (plain.run branch append context steps hook data_file rcfile script args) refl refl s)
-    inside-exact (plain.combine append keep data_file rcfile names) b s = elsewhere (plain.combine append keep data_file rcfile names) refl (doing-exact one loads whole law t (plain.combine append keep data_file rcfile names) refl refl s)
-    inside-exact (plain.report show fail_under data_file rcfile) b s = elsewhere (plain.report show fail_under data_file rcfile) refl (doing-exact one loads whole law t (plain.report show fail_under data_file rcfile) refl refl s)
-    inside-exact (plain.json name fail_under data_file rcfile) b s = elsewhere (plain.json name fail_under data_file rcfile) refl (doing-exact one loads whole law t (plain.json name fail_under data_file rcfile) refl refl s)
-    inside-exact (plain.lcov name fail_under data_file rcfile) b s = elsewhere (plain.lcov name fail_under data_file rcfile) refl (doing-exact one loads whole law t (plain.lcov name fail_under data_file rcfile) refl refl s)
-    inside-exact (plain.annotate data_file rcfile file) b s = elsewhere (plain.annotate data_file rcfile file) refl (doing-exact one loads whole law t (plain.annotate data_file rcfile file) refl refl s)
-    inside-exact (plain.erase data_file rcfile) b s = elsewhere (plain.erase data_file rcfile) refl (doing-exact one loads whole law t (plain.erase data_file rcfile) refl refl s)
-    inside-exact (plain.script file) b s = inr (refl, refl)
-    inside-exact (plain.make seed size) b s = elsewhere (plain.make seed size) refl (doing-exact one loads whole law t (plain.make seed size) refl refl s)
-    inside-exact (plain.suite branch steps data_file rcfile file) b s = elsewhere (plain.suite branch steps data_file rcfile file) refl (doing-exact one loads whole law t (plain.suite branch steps data_file rcfile file) refl refl s)
-    inside-exact (plain.select steps old new) b s = absurd (true-false (sym b))
-    inside-exact (plain.mutate steps file) b s = absurd (true-false (sym b))
+    inside-exact : (c : PlainCommand) → ((seed size : ℕ) → c ≡ plain.make seed size → size ≤ 16000) → Exact (IsRefusedInside t.0 t.1 c) (inside c) t
+    inside-exact (plain.arcs steps script args) s = elsewhere (plain.arcs steps script args) refl (doing-exact one loads whole law t (plain.arcs steps script args) refl s)
+    inside-exact (plain.run branch append context steps hook data_file rcfile script args) s =
+        elsewhere (plain.run branch append context steps hook data_file rcfile script args) refl (doing-exact one loads whole law t (plain.run branch append context steps hook data_file rcfile script args) refl s)
+    inside-exact (plain.combine append keep data_file rcfile names) s = elsewhere (plain.combine append keep data_file rcfile names) refl (doing-exact one loads whole law t (plain.combine append keep data_file rcfile names) refl s)
+    inside-exact (plain.report show fail_under data_file rcfile) s = elsewhere (plain.report show fail_under data_file rcfile) refl (doing-exact one loads whole law t (plain.report show fail_under data_file rcfile) refl s)
+    inside-exact (plain.json name fail_under data_file rcfile) s = elsewhere (plain.json name fail_under data_file rcfile) refl (doing-exact one loads whole law t (plain.json name fail_under data_file rcfile) refl s)
+    inside-exact (plain.lcov name fail_under data_file rcfile) s = elsewhere (plain.lcov name fail_under data_file rcfile) refl (doing-exact one loads whole law t (plain.lcov name fail_under data_file rcfile) refl s)
+    inside-exact (plain.annotate data_file rcfile file) s = elsewhere (plain.annotate data_file rcfile file) refl (doing-exact one loads whole law t (plain.annotate data_file rcfile file) refl s)
+    inside-exact (plain.erase data_file rcfile) s = elsewhere (plain.erase data_file rcfile) refl (doing-exact one loads whole law t (plain.erase data_file rcfile) refl s)
+    inside-exact (plain.script file) s = inr (refl, refl)
+    inside-exact (plain.make seed size) s = elsewhere (plain.make seed size) refl (doing-exact one loads whole law t (plain.make seed size) refl s)
+    inside-exact (plain.suite branch steps data_file rcfile file) s = elsewhere (plain.suite branch steps data_file rcfile file) refl (doing-exact one loads whole law t (plain.suite branch steps data_file rcfile file) refl s)
+    inside-exact (plain.select steps old new) s = elsewhere (plain.select steps old new) refl (doing-exact one loads whole law t (plain.select steps old new) refl s)
+    inside-exact (plain.mutate steps file) s = elsewhere (plain.mutate steps file) refl (doing-exact one loads whole law t (plain.mutate steps file) refl s)
 
     -- the words of a line that isn't passed over
     of-words : (line : List ℕ) (w : Word) (ws : List Word) → is_comment line ≡ false → words_in line ≡ w ∷ ws → Exact (IsLineRefused t.0 t.1 line) (line_done (w ∷ ws)) t
@@ -249,7 +251,7 @@ module _ (once : IsOneCommand) where
         (then-said (IsLineRefused t.0 t.1 line) (inside c)
         (under-all told (λ a v. Free (IsRefusedInside t.0 t.1 c)) (λ a v. Free (IsLineRefused t.0 t.1 line)) (As (IsRefusedInside t.0 t.1 c)) (As (IsLineRefused t.0 t.1 line))
         (λ a v free r good f. only c spelled free r good f.2) (as-map (IsRefusedInside t.0 t.1 c) (IsLineRefused t.0 t.1 line) (λ r f. (n, (λ z. cons-nil (sym e ∙ z)), inr (c, spelled, f)))) (inside c) t
-        (inside-exact c m.0.says_so.1 (small-made (w ∷ ws) c m.0.says_so.0))))
+        (inside-exact c (small-made (w ∷ ws) c m.0.says_so))))
       where
         only : (c : PlainCommand) → IsSpelled (words_in line) (Ok c) → Free (IsRefusedInside t.0 t.1 c) → (r : Refusal) → is_bad_pattern r ≡ false
             → ((i : ℕ) × IsSpelled (words_in line) (Err i) × (r ≡ usage i)) ⊎ ((d : PlainCommand) × IsSpelled (words_in line) (Ok d) × IsRefusedInside t.0 t.1 d r) → ⊥

@@ -1,5 +1,5 @@
 -- A file of commands is refused only for its causes, and for one of them.
-use Rattle.std.proofs.Common.{◌≡◌, ◌∙◌, sym, ap, subst, ℕ, ◌≤◌, ◌<◌, nat_le, true, false, List, length, Option, Some, refl, arith}
+use Rattle.std.proofs.Common.{◌≡◌, ◌∙◌, sym, ap, subst, ℕ, ◌≤◌, ◌<◌, nat_le, true, List, length, Option, Some, refl, arith}
 use Rattle.std.specs.Str.{chars, is_utf8}
 use Rattle.std.proofs.lemmas.Bool.{leb-true, leb-false}
 use Rattle.cov_programs.specs.Programs.{give, bind}
@@ -16,7 +16,6 @@ use Rattle.py_token.specs.Source.{line_count, most_lines}
 use Rattle.cov_complete_laws.specs.Premises.{IsFile}
 use Rattle.cov_complete_laws.proofs.Holding.{Holding, told, none-some, some-is, true-false}
 use Rattle.cov_cause_laws.specs.Lines.{FileRefuses, absent, large, no_text, long}
-use Rattle.cov_cause_laws.specs.Causes.{is_bad_pattern}
 use Rattle.cov_cause_laws.proofs.Ways.{then-under}
 use Rattle.cov_cause_laws.proofs.Parts.{As, by-either, file-goes}
 use Rattle.cov_cause_laws.proofs.Doing.{Free, Exact}
@@ -55,13 +54,6 @@ one-file name held r s (long a e small v less is) (absent f so) = absurd (none-s
 one-file name held r s (long a e small v less is) (large b f more so) = absurd (too-large held a b e f small more)
 one-file name held r s (long a e small v less is) (no_text b f little u so) = absurd (true-false (sym v ∙ same-of is_utf8 held a b e f ∙ u))
 one-file name held r s (long a e small v less is) (long b f little u more so) = is ∙ same-of (λ x. limit limits.Lines (line_count (chars x))) held a b e f ∙ sym so
-
--- none of its causes is a pattern's
-pub file-good : (name : Word) (held : Option (List ℕ)) (r : Refusal) → FileRefuses name held r → is_bad_pattern r ≡ false
-file-good name held r (absent e is) = ap is_bad_pattern is
-file-good name held r (large b e more is) = ap is_bad_pattern is
-file-good name held r (no_text b e s u is) = ap is_bad_pattern is
-file-good name held r (long b e s u more is) = ap is_bad_pattern is
 
 module _ (t : Holding) where
   checked-exact : (name : Word) (bytes : List ℕ) → IsFile t.0 name bytes → Exact (FileRefuses name (t.0 name)) (is_script name bytes) t

@@ -10,10 +10,9 @@ use Rattle.toml_parser.specs.Strings.{key_after, simple_key, quoted, one_line, b
 use Rattle.cov_config.specs.Settings.{meaning_of, defaults}
 use Rattle.cov_run.specs.Loading.{most_bytes}
 use Rattle.cov_step.specs.Phases.{most_patterns}
-use Rattle.cov_step.specs.Step.{BeginsBuilt, BuiltStopsAfter}
 use Rattle.cov_why.specs.Answers.{limit}
 use Rattle.cov_why.specs.declared.why.LimitKind.TheVariants as limits
-use Rattle.cov_words.specs.Commands.{PlainCommand, IsCommand, spelled}
+use Rattle.cov_words.specs.Commands.{PlainCommand, IsCommand, spelled, BeginsCommand, StopsAfter}
 use Rattle.cov_words.specs.Commands as plain
 use Rattle.cov_words.specs.Options.{none}
 use Rattle.cov_words.specs.Values.{Word}
@@ -27,14 +26,14 @@ use Rattle.cov_cause_laws.specs.Rows.{NoWords, NothingReported, bad_limit, BadLi
 no-words : (ws : List Word) (c : PlainCommand) → ws ≡ [] → IsCommand c ws → ⊥
 no-words _ c e (spelled w name g xs ys named gives fits is) = cc
 
-begins : BeginsBuilt []
-begins = (codes "erase" ∷ [], plain.erase None None, refl, spelled (codes "erase") _ [] [] [] refl none refl refl)
+begins : BeginsCommand []
+begins = (codes "erase" ∷ [], plain.erase None None, spelled (codes "erase") _ [] [] [] refl none refl refl)
 
-stops : BuiltStopsAfter [] 0
+stops : StopsAfter [] 0
 stops = record { within = omega arith; begins = begins; most = λ j h b. h }
 
 pub nothing-spelled : NoWords
-nothing-spelled files contents = inl (0, ((λ c b is. no-words [] c refl is), stops), refl)
+nothing-spelled files contents = inl (0, ((λ c is. no-words [] c refl is), stops), refl)
 
 -- ---- settings
 

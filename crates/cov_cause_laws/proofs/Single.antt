@@ -14,7 +14,7 @@ use Rattle.cov_run.specs.Loads.{IsUnread, faulted, starved}
 use Rattle.cov_run.specs.Reading.{Reading, tree, unread, Reads}
 use Rattle.cov_run.specs.Refusals.{limit_of, fault_of, refused_by, refusal_of, IsStopped}
 use Rattle.cov_run.specs.Refusals as loading
-use Rattle.cov_step.specs.Commands.{hook_named}
+use Rattle.cov_step.specs.Commands.{hook_named, usual_steps}
 use Rattle.cov_step.specs.Names.{or_else}
 use Rattle.cov_step.specs.Phases.{main_name, defines, own_name}
 use Rattle.cov_step.specs.Testing.{tests_name}
@@ -35,7 +35,7 @@ use Rattle.cov_complete_laws.specs.Premises.{IsSettingsFile, AreSettings, AreMod
 use Rattle.cov_complete_laws.proofs.Holding.{none-some, some-is, true-false}
 use Rattle.cov_cause_laws.specs.Checks.{Check, SourceRefuses, absent, large, unreadable, unusable, Passes, Refuses, IsFirst, AllPass}
 use Rattle.cov_cause_laws.specs.Checks as check
-use Rattle.cov_cause_laws.specs.Orders.{of_patterns, of_run, of_suite, of_combine, of_report, of_annotate}
+use Rattle.cov_cause_laws.specs.Orders.{of_patterns, of_run, of_suite, of_select, of_mutate, of_combine, of_report, of_annotate}
 use Rattle.cov_cause_laws.specs.Causes.{settings_name, AreRefused, BySettings, IsRefusedIn, is_bad_pattern}
 use Rattle.cov_cause_laws.specs.Causes as causes
 
@@ -254,5 +254,5 @@ module _ (one : OneReading) (loads : OneLoading) (whole : NotStopped) (files : F
   one-cause (plain.script file) r s good fine h k = absurd h
   one-cause (plain.make seed size) r s good fine h k = one-first (of_patterns (no_cover ∷ []) (no_branch ∷ [])) r s good fine h k
   one-cause (plain.suite branch budget data_file rcfile file) r s good fine h k = one-by rcfile (λ s. of_suite (own_name data_file s) file (or_else budget s.run.budget)) r s good fine h k
-  one-cause (plain.select budget old new) r s good fine h k = absurd h
-  one-cause (plain.mutate budget file) r s good fine h k = absurd h
+  one-cause (plain.select budget old new) r s good fine h k = one-first (of_select old new (or_else budget usual_steps)) r s good fine h k
+  one-cause (plain.mutate budget file) r s good fine h k = one-first (of_mutate file (or_else budget usual_steps)) r s good fine h k

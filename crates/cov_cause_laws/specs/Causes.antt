@@ -2,13 +2,14 @@
 --     settings_name, AreRefused        settings
 --     BySettings                       a command with settings
 --     IsRefusedIn, IsRefusedFor        a command, and words
+--     imported_by                      the file of tests of a command
 --     is_bad_pattern                   the one refusal that a maker may leave out
 --     has_cause                        the refusals that files, data and words give
 use Rattle.std.specs.Prelude.{◌≡◌, ◌⊎◌, ◌||◌, ◌<◌, ℕ, suc, Bool, true, false, List, [], ◌∷◌, length, Option, Some, None, Ok, Err}
 use Rattle.cov_config.specs.Settings.{Settings, meaning_of, no_cover, no_branch}
 use Rattle.cov_outside.specs.Files.{Files}
 use Rattle.cov_run.specs.Loading.{most_bytes}
-use Rattle.cov_step.specs.Commands.{hook_named}
+use Rattle.cov_step.specs.Commands.{hook_named, usual_steps}
 use Rattle.cov_step.specs.Names.{or_else}
 use Rattle.cov_step.specs.Phases.{main_name, own_name}
 use Rattle.cov_step.specs.Step.{IsSpelled}
@@ -21,7 +22,7 @@ use Rattle.cov_words.specs.Values.{Word}
 use Rattle.cov_complete_laws.specs.Premises.{usual, IsSettingsFile, AreSettings}
 use Rattle.cov_cause_laws.specs.Checks.{Check, IsFirst}
 use Rattle.cov_cause_laws.specs.Checks as check
-use Rattle.cov_cause_laws.specs.Orders.{of_patterns, of_run, of_suite, of_combine, of_report, of_annotate}
+use Rattle.cov_cause_laws.specs.Orders.{of_patterns, of_run, of_suite, of_select, of_mutate, of_combine, of_report, of_annotate}
 
 -- ---- settings
 
@@ -50,7 +51,7 @@ BySettings files contents rcfile order why =
 -- ---- commands
 
 -- A command is refused for this cause. A script is refused by its file or by one of its lines, and
--- is no command here; nor are those that aren't built.
+-- is no command here.
 abbrev pub IsRefusedIn : Files → Contents → PlainCommand → Refusal → Type 0
 IsRefusedIn files contents (plain.arcs budget script args) why =
     IsFirst files contents (check.program main_name script ∷ []) why
@@ -82,10 +83,28 @@ IsRefusedIn files contents (plain.make seed size) why =
 IsRefusedIn files contents (plain.suite branch budget data_file rcfile file) why =
     BySettings files contents rcfile
     (λ s. of_suite (own_name data_file s) file (or_else budget s.run.budget)) why
-IsRefusedIn files contents (plain.select budget old new) why = ⊥
-IsRefusedIn files contents (plain.mutate budget file) why = ⊥
+IsRefusedIn files contents (plain.select budget old new) why =
+    IsFirst files contents (of_select old new (or_else budget usual_steps)) why
+IsRefusedIn files contents (plain.mutate budget file) why =
+    IsFirst files contents (of_mutate file (or_else budget usual_steps)) why
 
--- Words are refused: they are no command that is built, or the command that they are is refused.
+-- the file of tests that a command imports first
+abbrev pub imported_by : PlainCommand → Option Word
+imported_by (plain.arcs budget script args) = None
+imported_by (plain.run branch append context budget hook data_file rcfile script args) = None
+imported_by (plain.combine append keep data_file rcfile names) = None
+imported_by (plain.report show_missing fail_under data_file rcfile) = None
+imported_by (plain.json name fail_under data_file rcfile) = None
+imported_by (plain.lcov name fail_under data_file rcfile) = None
+imported_by (plain.annotate data_file rcfile file) = None
+imported_by (plain.erase data_file rcfile) = None
+imported_by (plain.script file) = None
+imported_by (plain.make seed size) = None
+imported_by (plain.suite branch budget data_file rcfile file) = Some file
+imported_by (plain.select budget old new) = Some old
+imported_by (plain.mutate budget file) = Some file
+
+-- Words are refused: they are no command, or the command that they are is refused.
 abbrev pub IsRefusedFor : Files → Contents → List Word → Refusal → Type 0
 IsRefusedFor files contents words why =
     ((i : ℕ) × IsSpelled words (Err i) × (why ≡ usage i))

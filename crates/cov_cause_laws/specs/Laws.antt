@@ -1,12 +1,12 @@
 -- Refusals come exactly where their causes hold, by shelf and vault that tell what they hold, where
 -- no fault is counted.
 --     OnlyCauses        causes are of files, data and words
---     OnlySuites        an import that didn't finish refuses tests alone
+--     OnlyImports       an import that didn't finish refuses only a command that imports its file
 --     OneCause          one cause refuses
 --     CauseLaw          words
 --     LineLaw           a line of a script
 --     ScriptCauseLaw    a script
-use Rattle.std.specs.Prelude.{◌≡◌, ℕ, Bool, true, false, List, Option, Result}
+use Rattle.std.specs.Prelude.{◌≡◌, ℕ, true, false, List, Some, Result}
 use Rattle.cov_contexts.specs.declared.plugins.Plugin.{Ghosts as PluginOf}
 use Rattle.cov_exclude.specs.declared.maker.Maker.{Ghosts as MakerOf}
 use Rattle.cov_outside.specs.Files.{Files}
@@ -21,12 +21,12 @@ use Rattle.cov_step.specs.Step.{step}
 use Rattle.cov_vault.specs.Contents.{Contents}
 use Rattle.cov_vault.specs.declared.vault.Vault.{Ghosts as VaultOf}
 use Rattle.cov_why.specs.Answers.{Refusal, PlainWhy, import_failed}
-use Rattle.cov_words.specs.Commands.{IsCommand}
+use Rattle.cov_words.specs.Commands.{PlainCommand, IsCommand}
 use Rattle.cov_words.specs.Commands as plain
 use Rattle.cov_words.specs.Values.{Word}
 use Rattle.py_machine.specs.declared.engine.Engine.{Ghosts as EngineOf}
 use Rattle.cov_complete_laws.specs.Complete.{Lent, on_lent, NoneRose}
-use Rattle.cov_cause_laws.specs.Causes.{IsRefusedFor, is_bad_pattern, has_cause}
+use Rattle.cov_cause_laws.specs.Causes.{IsRefusedFor, imported_by, is_bad_pattern, has_cause}
 use Rattle.cov_cause_laws.specs.Lines.{IsLineRefused}
 use Rattle.cov_cause_laws.specs.Exactly.{IsExact, IsScriptExact, NoScript}
 
@@ -36,13 +36,13 @@ OnlyCauses =
     (files : Files) (contents : Contents) (words : List Word) (why : Refusal)
     → IsRefusedFor files contents words why → has_cause why ≡ true
 
--- only a command `suite` is refused for an import that didn't finish: for that of its own file
-abbrev pub OnlySuites : Type 0
-OnlySuites =
+-- only commands that import tests are refused for an import that didn't finish: for that of their
+-- own file
+abbrev pub OnlyImports : Type 0
+OnlyImports =
     (files : Files) (contents : Contents) (words : List Word) (file : Word)
     → IsRefusedFor files contents words (import_failed file)
-    → (branch : Bool) × (budget : Option ℕ) × (data_file : Option Word) × (rcfile : Option Word)
-    × IsCommand (plain.suite branch budget data_file rcfile file) words
+    → (c : PlainCommand) × IsCommand c words × (imported_by c ≡ Some file)
 
 -- two causes of words, neither of them a pattern's, are the same refusal
 abbrev pub OneCause : Type 0
@@ -74,7 +74,7 @@ LineLaw {H} {V} {M} {I} {O} {P} {G} {E} shelf vault maker source sink plugin eng
     (line_step line) (old, said) ending (new, told)
     → IsExact (IsLineRefused (shelf.files old.0.0.0.1) (vault.contents old.0.0.1) line) ending
 
--- a script is refused for the causes of its file and of its lines
+-- a script is refused exactly for the causes of its file, and of its lines in order
 abbrev pub ScriptCauseLaw : {H V M I O P G E : Type 0} → ShelfOf H → VaultOf V → MakerOf M
     → SourceOf I → SinkOf O → PluginOf P → EngineOf G → SinkOf E → Type 0
 ScriptCauseLaw {H} {V} {M} {I} {O} {P} {G} {E} shelf vault maker source sink plugin engine err =

@@ -1,18 +1,14 @@
--- For which cause a script is refused: by its file, or by a line where the lines before it led.
+-- For which cause a script is refused: by its file, or by a line.
 --     FileRefuses              its file
 --     IsRefusedInside          a command of a line
 --     IsLineRefused            a line
---     AreLinesRefused          lines, one after another
-use Rattle.std.specs.Prelude.{◌≡◌, ◌≢◌, ◌⊎◌, ℕ, suc, ◌≤◌, ◌<◌, true, false, List, [], ◌∷◌, length, Option, Some, None, Ok, Err}
+use Rattle.std.specs.Prelude.{◌≡◌, ◌≢◌, ◌⊎◌, ℕ, suc, ◌≤◌, ◌<◌, true, false, List, [], length, Option, Some, None, Ok, Err}
 use Rattle.std.specs.Str.{chars, is_utf8}
 use Rattle.cov_outside.specs.Files.{Files}
-use Rattle.cov_programs.specs.Ends.{Follows}
-use Rattle.cov_programs.specs.Objects.{Moves}
 use Rattle.cov_run.specs.Loading.{most_bytes}
 use Rattle.cov_run.specs.Reading.{fault_line}
-use Rattle.cov_step.specs.Calls.{Call, Answer, IsNoMemory}
 use Rattle.cov_step.specs.Promises.{has_one_text}
-use Rattle.cov_step.specs.Scripts.{is_comment, words_in, line_step}
+use Rattle.cov_step.specs.Scripts.{is_comment, words_in}
 use Rattle.cov_step.specs.Step.{IsSpelled}
 use Rattle.cov_vault.specs.Contents.{Contents}
 use Rattle.cov_why.specs.Answers.{Refusal, usage, no_such_file, syntax, limit}
@@ -47,12 +43,3 @@ IsLineRefused files contents line why =
     × (((i : ℕ) × IsSpelled (words_in line) (Err i) × (why ≡ usage i))
     ⊎ ((c : PlainCommand) × IsSpelled (words_in line) (Ok c)
     × IsRefusedInside files contents c why))
-
--- the first line is refused, or it is done and one of the others is refused where it led
-abbrev pub AreLinesRefused : {W : Type 0} → Moves Call Answer W → (W → Files) → (W → Contents)
-    → List (List ℕ) → W → Refusal → Type 0
-AreLinesRefused moves files contents [] now why = ⊥
-AreLinesRefused {W = W} moves files contents (line ∷ rest) now why =
-    IsLineRefused (files now) (contents now) line why
-    ⊎ ((next : W) × Follows moves IsNoMemory (line_step line) now (Ok tt) next
-    × AreLinesRefused moves files contents rest next why)

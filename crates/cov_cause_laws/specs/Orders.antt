@@ -1,7 +1,7 @@
 -- The one order of refusals: the checks of each command after its settings, from the first on.
 --     of_patterns, of_report_settings       patterns
 --     of_hook, of_target, of_run            a run
---     of_suite                              tests
+--     of_suite, of_select, of_mutate        tests
 --     own_input, all_inputs, of_combine     what is combined
 --     paths_held, of_report, of_annotate    reports
 use Rattle.std.specs.Prelude.{ℕ, Bool, true, false, if◌then◌else◌, List, [], ◌∷◌, ◌++◌, map, Option, Some, None, is_some}
@@ -53,6 +53,15 @@ of_run append own arcs hook script =
 abbrev pub of_suite : (own file : Word) (budget : ℕ) → List Check
 of_suite own file budget =
     check.program tests_name file ∷ check.replaceable own ∷ check.imports file budget ∷ []
+
+-- the files of both versions, and then the import of the old one within these steps
+abbrev pub of_select : (old new : Word) (budget : ℕ) → List Check
+of_select old new budget =
+    check.program tests_name old ∷ check.program tests_name new ∷ check.imports old budget ∷ []
+
+-- the file, and then its import within these steps
+abbrev pub of_mutate : (file : Word) (budget : ℕ) → List Check
+of_mutate file budget = check.program tests_name file ∷ check.imports file budget ∷ []
 
 -- ---- what is combined
 

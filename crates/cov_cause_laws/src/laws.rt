@@ -1,5 +1,5 @@
 //! For which causes commands are refused.
-ghost use Rattle.cov_cause_laws.specs.Laws.{CauseLaw, LineLaw, OneCause, OnlyCauses, OnlySuites, ScriptCauseLaw};
+ghost use Rattle.cov_cause_laws.specs.Laws.{CauseLaw, LineLaw, OneCause, OnlyCauses, OnlyImports, ScriptCauseLaw};
 ghost use Rattle.cov_cause_laws.specs.Rows.{BadLimit, ManyPatterns, NoWords, NothingReported};
 
 use cov_complete_laws::defaults_are_set;
@@ -12,11 +12,12 @@ use cov_vault::Vault;
 use cov_words::one_command;
 use py_machine::Engine;
 
-/// Causes are of files, data and words: none is a fault of an object, nor want of memory. An import
-/// that didn't finish refuses tests alone. It does nothing when it runs.
+/// Causes are of files, data and words: none is a fault of an object, nor want of memory. Only a
+/// command that imports tests is refused for an import, and for that of its own file. It does
+/// nothing when it runs.
 pub fn only_causes()
     ensures causes { OnlyCauses }
-    ensures suites { OnlySuites }
+    ensures imports { OnlyImports }
 {}
 
 /// Two causes that hold of the same words, files and data are the same refusal, but those of
@@ -60,8 +61,8 @@ pub fn caused_lines<
     one_command();
 }
 
-/// A script is refused wherever its file refuses, and only so or for the cause of a line. It does
-/// nothing when it runs.
+/// A script is refused exactly by its file, or by the first of its lines that is refused where those
+/// before it led. It does nothing when it runs.
 pub fn caused_scripts<
     H: Shelf,
     V: Vault,

@@ -1,8 +1,8 @@
 -- A command isn't refused where what it needs is there.
-use Rattle.std.proofs.Common.{◌≡◌, ◌⊎◌, inl, inr, ◌∙◌, sym, ap, ℕ, ◌≤◌, Bool, false, List, [], ◌∷◌, ◌++◌, map, Option, Some, None, refl}
+use Rattle.std.proofs.Common.{◌≡◌, ◌⊎◌, inl, inr, ◌∙◌, sym, ap, ℕ, ◌≤◌, Bool, false, List, [], ◌∷◌, ◌++◌, map, Option, refl}
 use Rattle.std.specs.Prelude.{◌||◌, codes}
 use Rattle.py_meaning.specs.Modules.{LoadedModule}
-use Rattle.py_syntax.specs.Tree.{Text, Stmts}
+use Rattle.py_syntax.specs.Tree.{Stmts}
 use Rattle.cov_combine.specs.Aliases.{Rules, alias_of, rules_from}
 use Rattle.cov_combine.specs.Combined.{combined, has_both_kinds}
 use Rattle.cov_config.specs.Settings.{Settings, no_cover, no_branch}
@@ -17,11 +17,13 @@ use Rattle.cov_make_laws.specs.Readings.{MadeAreRead}
 use Rattle.cov_make_laws.specs.Trees.{made_tree}
 use Rattle.cov_programs.specs.Programs.{give, ask, bind, each}
 use Rattle.cov_run.specs.Reading.{Reading, tree, unread}
-use Rattle.cov_step.specs.Answers.{Before, given_or, run_refusal, sink_refusal, on, tree_of}
-use Rattle.cov_step.specs.Calls.{Answered, Asked, HookFiles, Patterns, PlainSource, Ran, TestsAsked, Step, checks, crosses, measures, tries, tests, writes}
+use Rattle.cov_step.specs.Answers.{given_or, run_refusal, sink_refusal, on, tree_of}
+use Rattle.cov_step.specs.Calls.{Answered, Asked, HookFiles, Patterns, PlainSource, TestsAsked, Step, checks, crosses, measures, tries, tests, selects, judges, writes}
 use Rattle.cov_step.specs.Commands as the
 use Rattle.cov_step.specs.Listing.{listing}
-use Rattle.cov_step.specs.Testing.{tests_name, tests_asked, suite_lines, suite_answered, tested_or, tests_run, suite_by, suite}
+use Rattle.cov_step.specs.Mutating.{mutation_lines, judged_in, mutate}
+use Rattle.cov_step.specs.Selecting.{selection_lines, selected_in, select}
+use Rattle.cov_step.specs.Testing.{tests_name, tests_asked, suite_lines, suite_answered, came_or, tests_run, suite_by, suite}
 use Rattle.cov_suite.specs.Results.{import_of}
 use Rattle.py_builtins.specs.Outcomes.{finished}
 use Rattle.cov_step.specs.Making.{made_path, made_module, ran_if_any, made_line, made_by, make}
@@ -34,10 +36,10 @@ use Rattle.cov_words.specs.Commands.{PlainCommand}
 use Rattle.cov_words.specs.Commands as plain
 use Rattle.cov_words.specs.Values.{Word}
 use Rattle.cov_complete_laws.specs.Premises.{IsLoadable, HasHook, Holds, IsReplaceable, CanJoin, inputs_of, HoldAll, HasPatterns, HasSources, paths_reported}
-use Rattle.cov_complete_laws.specs.Ready.{CanErase, CanRun, CanTest, CanReport, CanAnnotate, CanCombine, Ready}
-use Rattle.cov_complete_laws.proofs.Sure.{Sure, then-sure}
+use Rattle.cov_complete_laws.specs.Ready.{CanErase, CanRun, CanImport, CanTest, CanReport, CanAnnotate, CanCombine, Ready}
+use Rattle.cov_complete_laws.proofs.Sure.{then-sure}
 use Rattle.cov_complete_laws.proofs.Holding.{Holding, told, true-false}
-use Rattle.cov_complete_laws.proofs.Phases.{Goes, tests-sure, noting-sure, settings-sure, needed-sure, Stands, before-sure, joins-sure, inputs-sure, some-sure, own-sure, all-needed, kind-sure, patterns-sure, paths-sure, crosses-sure, measures-sure, tries-sure, opened-sure, hook-sure, comes-sure, source-sure, sources-sure, writing-sure, putting-sure, last-save-sure, saving-sure, last-removal-sure, removals-sure}
+use Rattle.cov_complete_laws.proofs.Phases.{Goes, tests-sure, selects-sure, judges-sure, noting-sure, settings-sure, needed-sure, before-sure, joins-sure, inputs-sure, some-sure, own-sure, all-needed, kind-sure, patterns-sure, paths-sure, crosses-sure, measures-sure, tries-sure, opened-sure, hook-sure, comes-sure, source-sure, sources-sure, writing-sure, putting-sure, last-save-sure, saving-sure, last-removal-sure, removals-sure}
 
 -- it isn't refused
 abbrev pub Ends : Step Answered → Holding → Type 0
@@ -94,7 +96,7 @@ module _ (t : Holding) where
 
     tests_run-sure : (own : Word) (asked : TestsAsked) (file : Word) (ms : List LoadedModule) → (import_of ms asked.budget).outcome ≡ finished → IsReplaceable t.1 own → Ends (tests_run own asked file ms) t
     tests_run-sure own asked file ms imports target =
-        then-sure told any (ask (tests asked ms) (tested_or file)) (λ r. bind (ask (writes (suite_lines r.0)) (on sink_refusal)) (λ written. save_last own r.1 (suite_answered r.0))) t
+        then-sure told any (ask (tests asked ms) (came_or file)) (λ r. bind (ask (writes (suite_lines r.0)) (on sink_refusal)) (λ written. save_last own r.1 (suite_answered r.0))) t
         (tests-sure t asked ms file imports (λ r u. Ends (bind (ask (writes (suite_lines r.0)) (on sink_refusal)) (λ written. save_last own r.1 (suite_answered r.0))) u) (λ r.
         then-sure told any (ask (writes (suite_lines r.0)) (on sink_refusal)) (λ written. save_last own r.1 (suite_answered r.0)) t
         (noting-sure t (suite_lines r.0) (λ written u. Ends (save_last own r.1 (suite_answered r.0)) u)
@@ -107,9 +109,37 @@ module _ (t : Holding) where
         then-sure told any (settings rcfile) (λ s. suite_by (own_name data_file s) (tests_asked s branch steps) file) t
         (settings-sure t rcfile h.settings h.set (λ s u. Ends (suite_by (own_name data_file s) (tests_asked s branch steps) file) u)
         (then-sure told any (opened tests_name file) (λ ms. bind (before own) (λ was. tests_run own asked file ms)) t
-        (opened-sure t completes tests_name file h.program (λ ms u. Ends (bind (before own) (λ was. tests_run own asked file ms)) u) (λ ms a.
+        (opened-sure t completes tests_name file h.tests.program (λ ms u. Ends (bind (before own) (λ was. tests_run own asked file ms)) u) (λ ms a.
         then-sure told any (before own) (λ was. tests_run own asked file ms) t
-        (before-sure t own h.target (λ was u. Ends (tests_run own asked file ms) u) (λ was s. tests_run-sure own asked file ms (h.imports ms a) h.target))))))
+        (before-sure t own h.target (λ was u. Ends (tests_run own asked file ms) u) (λ was s. tests_run-sure own asked file ms (h.tests.imports ms a) h.target))))))
+
+    selected-sure : (most : ℕ) (old : Word) (before after : List LoadedModule) → (import_of before most).outcome ≡ finished → Ends (selected_in most old before after) t
+    selected-sure most old before after imports =
+        then-sure told any (ask (selects most before after) (came_or old)) (λ s. write_last (selection_lines s) done) t
+        (selects-sure t most before after old imports (λ s u. Ends (write_last (selection_lines s) done) u) (λ s.
+        writing-sure (selection_lines s) done t))
+
+    select-sure : (steps : Option ℕ) (old new : Word) → CanImport t.0 old (or_else steps the.usual_steps) → IsLoadable t.0 tests_name new → Ends (select steps old new) t
+    select-sure steps old new h loadable =
+        let most = or_else steps the.usual_steps in
+        then-sure told any (opened tests_name old) (λ before. bind (opened tests_name new) (selected_in most old before)) t
+        (opened-sure t completes tests_name old h.program (λ before u. Ends (bind (opened tests_name new) (selected_in most old before)) u) (λ before a.
+        then-sure told any (opened tests_name new) (selected_in most old before) t
+        (opened-sure t completes tests_name new loadable (λ after u. Ends (selected_in most old before after) u) (λ after b.
+        selected-sure most old before after (h.imports before a)))))
+
+    judged-sure : (most : ℕ) (file : Word) (ms : List LoadedModule) → (import_of ms most).outcome ≡ finished → Ends (judged_in most file ms) t
+    judged-sure most file ms imports =
+        then-sure told any (ask (judges most ms) (came_or file)) (λ js. write_last (mutation_lines js) done) t
+        (judges-sure t most ms file imports (λ js u. Ends (write_last (mutation_lines js) done) u) (λ js.
+        writing-sure (mutation_lines js) done t))
+
+    mutate-sure : (steps : Option ℕ) (file : Word) → CanImport t.0 file (or_else steps the.usual_steps) → Ends (mutate steps file) t
+    mutate-sure steps file h =
+        let most = or_else steps the.usual_steps in
+        then-sure told any (opened tests_name file) (judged_in most file) t
+        (opened-sure t completes tests_name file h.program (λ ms u. Ends (judged_in most file ms) u) (λ ms a.
+        judged-sure most file ms (h.imports ms a)))
 
   module _ (one : OneReading) where
     reported_in-sure : (s : Settings) (p : Patterns) (own : Word) (d : DataSet) → Holds t.1 own d → HasSources t.0 s.report.omit d → (Q : Report → Holding → Type 0) → ((r : Report) → Q r t) → Goes Q (reported_in s p own) t
@@ -213,5 +243,5 @@ module _ (t : Holding) where
     doing-sure (plain.script file) small h = absurd h
     doing-sure (plain.make seed size) small h = make-sure law seed size (small seed size refl) h
     doing-sure (plain.suite branch steps data_file rcfile file) small h = suite-sure completes branch steps data_file rcfile file h
-    doing-sure (plain.select steps old new) small h = absurd h
-    doing-sure (plain.mutate steps file) small h = absurd h
+    doing-sure (plain.select steps old new) small h = select-sure completes steps old new h.0 h.1
+    doing-sure (plain.mutate steps file) small h = mutate-sure completes steps file h

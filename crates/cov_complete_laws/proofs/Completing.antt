@@ -1,6 +1,5 @@
 -- Words of a command that is ready aren't refused.
-use Rattle.std.proofs.Common.{◌≡◌, ◌∙◌, ℕ, ◌≤◌, Bool, true, refl, sym, ap, subst, List, Result, Ok, Err}
-use Rattle.cov_outside.specs.Files.{Files}
+use Rattle.std.proofs.Common.{◌≡◌, ℕ, ◌≤◌, refl, sym, subst, List, Result, Ok, Err}
 use Rattle.cov_outside.specs.declared.shelf.Shelf.{Ghosts as ShelfOf}
 use Rattle.cov_outside.specs.declared.sink.Sink.{Ghosts as SinkOf}
 use Rattle.cov_outside.specs.declared.source.Source.{Ghosts as SourceOf}
@@ -16,9 +15,8 @@ use Rattle.cov_programs.proofs.Telling.{told-of}
 use Rattle.cov_step.specs.Calls.{Call, Answer, Step, IsNoMemory}
 use Rattle.cov_step.specs.Objects.{Saying}
 use Rattle.cov_step.specs.Promises.{is_hungry}
-use Rattle.cov_step.specs.Step.{is_built, IsSpelled, doing, step}
+use Rattle.cov_step.specs.Step.{doing, step}
 use Rattle.cov_step.proofs.Yielding.{law_of_want}
-use Rattle.cov_vault.specs.Contents.{Contents}
 use Rattle.cov_vault.specs.declared.vault.Vault.{Ghosts as VaultOf}
 use Rattle.cov_why.specs.Answers.{PlainWhy, no_memory}
 use Rattle.cov_words.specs.Commands.{PlainCommand, IsCommand, IsOneCommand}
@@ -31,22 +29,6 @@ use Rattle.cov_complete_laws.proofs.Sure.{Sure, sure-ends}
 use Rattle.cov_complete_laws.proofs.Holding.{Holding, told}
 use Rattle.cov_complete_laws.proofs.Commands.{Ends as Completes_so, doing-sure}
 use Rattle.cov_complete_laws.proofs.Objects.{held, telling}
-
--- a command that is ready is built
-pub built : (files : Files) (contents : Contents) (c : PlainCommand) → Ready files contents c → is_built c ≡ true
-built files contents (plain.arcs budget script args) h = refl
-built files contents (plain.run branch append context budget hook data_file rcfile script args) h = refl
-built files contents (plain.combine append keep data_file rcfile names) h = refl
-built files contents (plain.report show_missing fail_under data_file rcfile) h = refl
-built files contents (plain.json name fail_under data_file rcfile) h = refl
-built files contents (plain.lcov name fail_under data_file rcfile) h = refl
-built files contents (plain.annotate data_file rcfile file) h = refl
-built files contents (plain.erase data_file rcfile) h = refl
-built files contents (plain.script file) h = absurd h
-built files contents (plain.make seed size) h = refl
-built files contents (plain.suite branch budget data_file rcfile file) h = refl
-built files contents (plain.select budget old new) h = absurd h
-built files contents (plain.mutate budget file) h = absurd h
 
 -- it is want of memory, or it isn't
 decided : (why : PlainWhy) → ((why ≡ Err no_memory → ⊥) → ⊥) → why ≡ Err no_memory
@@ -83,10 +65,10 @@ module _ (completes : Completes) (one : OneReading) (law : MadeAreRead) (once : 
     (small : (words : List Word) (seed size : ℕ) → IsCommand (plain.make seed size) words → size ≤ 16000) where
   step-sure : (words : List Word) (c : PlainCommand) (t : Holding) → IsCommand c words → Ready t.0 t.1 c → Completes_so (step words) t
   step-sure words c t is h (Ok d) u m =
-      let same = once words d c m.0.says_so.0 is in
+      let same = once words d c m.0.says_so is in
       subst (λ b. Completes_so (doing b) u) (sym same) (subst (λ v. Completes_so (doing c) v) (sym (m.1 refl))
       (doing-sure t completes one law c (λ seed size e. small words seed size (subst (λ b. IsCommand b words) e is)) h))
-  step-sure words c t is h (Err i) u m = absurd (m.0.says_so.0 c (built t.0 t.1 c h) is)
+  step-sure words c t is h (Err i) u m = absurd (m.0.says_so.0 c is)
 
   pub complete : {H V M I O P G E : Type 0} (shelf : ShelfOf H) (vault : VaultOf V) (maker : MakerOf M) (source : SourceOf I) (sink : SinkOf O) (plugin : PluginOf P) (engine : EngineOf G) (err : SinkOf E) → CompleteLaw shelf vault maker source sink plugin engine err
   complete shelf vault maker source sink plugin engine err words c old new said spoken e is h files data_told none f =

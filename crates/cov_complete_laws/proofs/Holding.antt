@@ -1,5 +1,5 @@
 -- What shelf and vault hold, and what is answered by it where no fault is counted and memory suffices.
-use Rattle.std.proofs.Common.{◌≡◌, ◌≢◌, ℕ, Bool, true, false, List, Option, Some, None, Result, Ok, Err, subst, sym}
+use Rattle.std.proofs.Common.{◌≡◌, ◌≢◌, ℕ, true, false, Option, Some, None, subst, sym}
 use Rattle.std.specs.Prelude.{slice_get, IsSomeAnd}
 use Rattle.std.specs.FinMap.{get}
 use Rattle.std.specs.Str.{chars}
@@ -11,7 +11,7 @@ use Rattle.cov_programs.specs.Objects.{Moves}
 use Rattle.cov_run.specs.Loading.{told_by}
 use Rattle.cov_run.specs.Loads.{LoadsTo}
 use Rattle.cov_run.specs.Reading.{Reads}
-use Rattle.cov_step.specs.Calls.{Call, spells, checks, reads, puts, opens, lists, loads, saves, removes, makes, writes, crosses, measures, tries, tests, says, Answer, Tested, tested, not_imported, starved}
+use Rattle.cov_step.specs.Calls.{Call, spells, checks, reads, puts, opens, lists, loads, saves, removes, makes, writes, crosses, measures, tries, tests, selects, judges, says, Answer, AfterImport, came, not_imported, starved}
 use Rattle.cov_suite.specs.Results.{import_of}
 use Rattle.py_builtins.specs.Outcomes.{Outcome, finished}
 use Rattle.cov_step.specs.Promises.{keeps, blamed, is_hungry}
@@ -26,8 +26,8 @@ abbrev pub Holding : Type 0
 Holding = Files × Contents
 
 -- what the answer of tests says of how their import ended
-abbrev pub SaysOfImport : Outcome → Tested → Type 0
-SaysOfImport outcome (tested results rows) = outcome ≡ finished
+abbrev pub SaysOfImport : {A : Type 0} → Outcome → AfterImport A → Type 0
+SaysOfImport outcome (came a) = outcome ≡ finished
 SaysOfImport outcome not_imported = outcome ≢ finished
 SaysOfImport outcome starved = Unit {0}
 
@@ -48,6 +48,8 @@ Says t (crosses modules words budget) x = Unit {0}
 Says t (measures asked modules hook) x = Unit {0}
 Says t (tries modules words budget) x = Unit {0}
 Says t (tests asked modules) x = SaysOfImport (import_of modules asked.budget).outcome x
+Says t (selects budget before after) x = SaysOfImport (import_of before budget).outcome x
+Says t (judges budget modules) x = SaysOfImport (import_of modules budget).outcome x
 Says t (says text) x = Unit {0}
 
 -- it is answered so, for no want of memory and nobody's fault

@@ -1,28 +1,25 @@
 -- The parts of a script are refused for want of memory where an object answers it, and aren't refused
 -- where they are ready.
-use Rattle.std.proofs.Common.{◌≡◌, ◌⊎◌, inl, inr, ◌∙◌, ◌≤◌, nat_le, ℕ, Bool, true, false, if◌then◌else◌, refl, sym, ap, subst, List, [], ◌∷◌, Option, Some, None, Result, Ok, Err}
+use Rattle.std.proofs.Common.{◌≡◌, inl, inr, ◌≤◌, nat_le, ℕ, Bool, true, false, if◌then◌else◌, refl, sym, subst, List, [], ◌∷◌, Some, None, Ok, Err}
 use Rattle.std.specs.Str.{chars, is_utf8}
 use Rattle.std.proofs.lemmas.Bool.{le-leb}
 use Rattle.cov_load_laws.specs.Completeness.{Completes}
 use Rattle.cov_load_laws.specs.Readings.{OneReading}
 use Rattle.cov_make_laws.specs.Readings.{MadeAreRead}
-use Rattle.cov_outside.specs.Files.{Files}
 use Rattle.cov_outside.specs.declared.shelf.ShelfError.TheVariants as shelf_error
 use Rattle.cov_outside.specs.declared.sink.SinkError.TheVariants as sink_error
 use Rattle.cov_programs.specs.Programs.{give, ask, bind}
 use Rattle.cov_programs.specs.Laws.{Yields}
 use Rattle.cov_programs.proofs.Parts.{then-yields}
 use Rattle.cov_run.specs.Reading.{fault_line}
-use Rattle.cov_step.specs.Answers.{bytes_of, given_or, sink_refusal, on}
-use Rattle.cov_step.specs.Calls.{Answered, Step, refuse, spells, reads, writes, says, IsNoMemory}
+use Rattle.cov_step.specs.Answers.{sink_refusal, on}
+use Rattle.cov_step.specs.Calls.{Answered, Step, refuse, writes, IsNoMemory}
 use Rattle.cov_step.specs.Phases.{file}
 use Rattle.cov_step.specs.Promises.{is_hungry}
 use Rattle.cov_step.specs.Scripts.{inside, words_in, status_line, ended_in, line_done, is_comment, words_done, line_step, is_text, is_short, is_script, script_text}
 use Rattle.cov_step.specs.Step.{doing}
 use Rattle.cov_step.proofs.Yielding.{law_of_want}
-use Rattle.cov_vault.specs.Contents.{Contents}
-use Rattle.cov_why.specs.Answers.{Refusal, usage, no_such_file, syntax, limit}
-use Rattle.cov_why.specs.Messages.{message_of}
+use Rattle.cov_why.specs.Answers.{Refusal, no_such_file, syntax, limit}
 use Rattle.cov_why.specs.declared.why.LimitKind.TheVariants as limits
 use Rattle.cov_why.specs.declared.why.SyntaxKind.TheVariants as kinds
 use Rattle.cov_words.specs.Commands.{PlainCommand, IsCommand, IsOneCommand}
@@ -32,11 +29,10 @@ use Rattle.py_token.specs.Source.{line_count, most_lines}
 use Rattle.cov_complete_laws.specs.Premises.{IsFile}
 use Rattle.cov_complete_laws.specs.Ready.{Ready}
 use Rattle.cov_complete_laws.specs.Scripts.{IsReadyLine}
-use Rattle.cov_complete_laws.proofs.Sure.{Sure, then-sure, sure-all}
+use Rattle.cov_complete_laws.proofs.Sure.{then-sure, sure-all}
 use Rattle.cov_complete_laws.proofs.Holding.{Holding, told, some-none, true-false}
 use Rattle.cov_complete_laws.proofs.Phases.{Goes, by-test, either-way, file-sure}
 use Rattle.cov_complete_laws.proofs.Commands.{any, doing-sure}
-use Rattle.cov_complete_laws.proofs.Completing.{built}
 
 -- ---- want of memory is answered so
 
@@ -82,8 +78,8 @@ inside-yields (plain.erase data_file rcfile) = doing-yields (plain.erase data_fi
 inside-yields (plain.script file) = tt
 inside-yields (plain.make seed size) = doing-yields (plain.make seed size)
 inside-yields (plain.suite branch budget data_file rcfile file) = doing-yields (plain.suite branch budget data_file rcfile file)
-inside-yields (plain.select budget old new) = tt
-inside-yields (plain.mutate budget file) = tt
+inside-yields (plain.select budget old new) = doing-yields (plain.select budget old new)
+inside-yields (plain.mutate budget file) = doing-yields (plain.mutate budget file)
 
 noted-yields : (bytes : List ℕ) → Yielding (ask (writes bytes) (on sink_refusal))
 noted-yields bytes None = (λ h. never h, tt)
@@ -138,8 +134,8 @@ same-inside t (plain.erase data_file rcfile) h g = g
 same-inside t (plain.script file) h g = absurd h
 same-inside t (plain.make seed size) h g = g
 same-inside t (plain.suite branch budget data_file rcfile file) h g = g
-same-inside t (plain.select budget old new) h g = absurd h
-same-inside t (plain.mutate budget file) h g = absurd h
+same-inside t (plain.select budget old new) h g = g
+same-inside t (plain.mutate budget file) h g = g
 
 module _ (completes : Completes) (one : OneReading) (law : MadeAreRead) (once : IsOneCommand)
     (small : (words : List Word) (seed size : ℕ) → IsCommand (plain.make seed size) words → size ≤ 16000) where
@@ -148,12 +144,12 @@ module _ (completes : Completes) (one : OneReading) (law : MadeAreRead) (once : 
 
   done-sure : (words : List Word) (c : PlainCommand) (t : Holding) → IsCommand c words → Ready t.0 t.1 c → Goes over (line_done words) t
   done-sure words c t is h (Ok d) u m =
-      subst (λ b. Goes over (bind (inside b) ended_in) u) (sym (once words d c m.0.says_so.0 is))
+      subst (λ b. Goes over (bind (inside b) ended_in) u) (sym (once words d c m.0.says_so is))
       (subst (λ v. Goes over (bind (inside c) ended_in) v) (sym (m.1 refl))
       (then-sure told over (inside c) ended_in t
       (sure-all told any (λ a v. Goes over (ended_in a) v) (inside c) t ended-sure
       (same-inside t c h (doing-sure t completes one law c (λ seed size e. small words seed size (subst (λ b. IsCommand b words) e is)) h)))))
-  done-sure words c t is h (Err i) u m = absurd (m.0.says_so.0 c (built t.0 t.1 c h) is)
+  done-sure words c t is h (Err i) u m = absurd (m.0.says_so.0 c is)
 
   words-sure : (words : List Word) (c : PlainCommand) (t : Holding) → IsCommand c words → Ready t.0 t.1 c → Goes over (words_done words) t
   words-sure [] c t is h = tt

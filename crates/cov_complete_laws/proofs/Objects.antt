@@ -1,9 +1,9 @@
 -- The objects that a command is lent answer by what shelf and vault hold, where these tell it, no fault
 -- is counted and memory suffices.
-use Rattle.std.proofs.Common.{◌≡◌, ◌≢◌, ◌⊎◌, inl, inr, ◌∙◌, ℕ, ◌≤◌, ◌<◌, Bool, true, false, refl, sym, ap, subst, List, Option, Some, None, Result, Ok, Err, arith}
+use Rattle.std.proofs.Common.{◌≡◌, inl, inr, ◌∙◌, ℕ, ◌≤◌, Bool, true, refl, sym, ap, subst, List, Option, Some, None, Result, Ok, Err, arith}
 use Rattle.std.specs.FinMap.{get}
 use Rattle.std.specs.Str.{chars}
-use Rattle.cov_outside.specs.Counts.{greatest, Rose}
+use Rattle.cov_outside.specs.Counts.{Rose}
 use Rattle.cov_outside.specs.Files.{Files}
 use Rattle.cov_outside.specs.Reads.{IsTold}
 use Rattle.cov_outside.specs.declared.shelf.Shelf.{Ghosts as ShelfOf}
@@ -16,11 +16,12 @@ use Rattle.cov_exclude.specs.declared.maker.Maker.{Ghosts as MakerOf}
 use Rattle.cov_exclude.specs.declared.patterns.PatternError.TheVariants as pattern_error
 use Rattle.cov_measure.specs.Measures.{Streams}
 use Rattle.cov_programs.specs.Laws.{Counting, IsTelling}
-use Rattle.cov_programs.specs.Objects.{Moves, beside}
+use Rattle.cov_programs.specs.Objects.{Moves}
 use Rattle.cov_run.specs.Loading.{told_by}
 use Rattle.cov_run.specs.Loads.{LoadsTo}
-use Rattle.cov_step.specs.Calls.{Call, spells, checks, reads, puts, opens, lists, loads, saves, removes, makes, writes, crosses, measures, tries, tests, says, Answer}
+use Rattle.cov_step.specs.Calls.{Call, spells, checks, reads, puts, opens, lists, loads, saves, removes, makes, writes, crosses, measures, tries, tests, selects, judges, says, Answer, AfterImport, came, not_imported, starved, Selection, Judged}
 use Rattle.cov_step.specs.Objects.{on_grammar, on_shelf, on_vault, on_maker, on_err, Saying}
+use Rattle.cov_streams.specs.Retests.{SelectedAs, JudgedAs}
 use Rattle.cov_streams.specs.Suites.{tested_by}
 use Rattle.cov_suite.specs.declared.results.SuiteError.{SuiteError}
 use Rattle.cov_suite.specs.declared.results.SuiteError.TheVariants as suite_error
@@ -28,7 +29,7 @@ use Rattle.cov_suite.specs.Meant.{SuiteOf}
 use Rattle.cov_suite.specs.Results.{import_of}
 use Rattle.cov_suite.specs.Views.{SuiteView}
 use Rattle.py_meaning.specs.Modules.{LoadedModule}
-use Rattle.cov_step.specs.Promises.{Object, the_shelf, the_vault, the_maker, blamed, is_hungry, keeps}
+use Rattle.cov_step.specs.Promises.{Object, blamed, is_hungry, keeps}
 use Rattle.cov_step.proofs.Faults.{shelf-later, shelf-rose, shelf-alone, vault-later, vault-rose, vault-alone, maker-later, maker-rose, maker-alone, grammar-alone, err-alone}
 use Rattle.cov_step.proofs.Kept.{shelf-kept, vault-tells, vault-kept}
 use Rattle.cov_streams.specs.Objects.{on_run}
@@ -42,7 +43,7 @@ use Rattle.cov_words.specs.Values.{Word}
 use Rattle.py_builtins.specs.declared.fault.RunFault.TheVariants as run_fault
 use Rattle.py_machine.specs.declared.engine.Engine.{Ghosts as EngineOf}
 use Rattle.cov_complete_laws.specs.Complete.{Lent, on_lent, NoneRose}
-use Rattle.cov_complete_laws.proofs.Holding.{Holding, SaysOfImport, Says, Answers, told}
+use Rattle.cov_complete_laws.proofs.Holding.{Holding, SaysOfImport, Says, told}
 
 -- ---- counts
 
@@ -99,6 +100,8 @@ grammar-says t u (crosses modules words budget) x v m = absurd m
 grammar-says t u (measures asked modules hook) x v m = absurd m
 grammar-says t u (tries modules words budget) x v m = absurd m
 grammar-says t u (tests asked modules) x v m = absurd m
+grammar-says t u (selects budget before after) x v m = absurd m
+grammar-says t u (judges budget modules) x v m = absurd m
 grammar-says t u (says text) x v m = absurd m
 
 shelf-says : {H : Type 0} (shelf : ShelfOf H) → shelf.tells → (t : Holding) (u : H) (call : Call) (x : Answer call) (v : H) → on_shelf shelf u call x v → t.0 ≡ shelf.files u → Says t call x
@@ -117,6 +120,8 @@ shelf-says shelf tells t u (crosses modules words budget) x v m e = absurd m
 shelf-says shelf tells t u (measures asked modules hook) x v m e = absurd m
 shelf-says shelf tells t u (tries modules words budget) x v m e = absurd m
 shelf-says shelf tells t u (tests asked modules) x v m e = absurd m
+shelf-says shelf tells t u (selects budget before after) x v m e = absurd m
+shelf-says shelf tells t u (judges budget modules) x v m e = absurd m
 shelf-says shelf tells t u (says text) x v m e = absurd m
 
 saved-so : {V : Type 0} (vault : VaultOf V) (u : V) (name : Word) (d : DataSet) (x : Option VaultError) (v : V) → vault.tells u → vault.saves u name d x v → x ≡ Some vault_error.NotSchema7 → get (vault.contents u) name ≡ Some stored.NotSchema7
@@ -138,6 +143,8 @@ vault-says vault t u (crosses modules words budget) x v m tells e = absurd m
 vault-says vault t u (measures asked modules hook) x v m tells e = absurd m
 vault-says vault t u (tries modules words budget) x v m tells e = absurd m
 vault-says vault t u (tests asked modules) x v m tells e = absurd m
+vault-says vault t u (selects budget before after) x v m tells e = absurd m
+vault-says vault t u (judges budget modules) x v m tells e = absurd m
 vault-says vault t u (says text) x v m tells e = absurd m
 
 maker-says : {M : Type 0} (maker : MakerOf M) (t : Holding) (u : M) (call : Call) (x : Answer call) (v : M) → on_maker maker u call x v → Says t call x
@@ -156,6 +163,8 @@ maker-says maker t u (crosses modules words budget) x v m = absurd m
 maker-says maker t u (measures asked modules hook) x v m = absurd m
 maker-says maker t u (tries modules words budget) x v m = absurd m
 maker-says maker t u (tests asked modules) x v m = absurd m
+maker-says maker t u (selects budget before after) x v m = absurd m
+maker-says maker t u (judges budget modules) x v m = absurd m
 maker-says maker t u (says text) x v m = absurd m
 
 err-says : {E : Type 0} (err : SinkOf E) (t : Holding) (u : Saying E) (call : Call) (x : Answer call) (v : Saying E) → on_err err u call x v → Says t call x
@@ -174,6 +183,8 @@ err-says err t u (crosses modules words budget) x v m = absurd m
 err-says err t u (measures asked modules hook) x v m = absurd m
 err-says err t u (tries modules words budget) x v m = absurd m
 err-says err t u (tests asked modules) x v m = absurd m
+err-says err t u (selects budget before after) x v m = absurd m
+err-says err t u (judges budget modules) x v m = absurd m
 err-says err t u (says text) x v m = tt
 
 -- tests tell whether their import finished
@@ -182,6 +193,16 @@ import-said : {P : Type 0} (plugin : PluginOf P) (ms : List LoadedModule) (arcs 
 import-said plugin ms arcs context budget old (Ok s) new h = h.ran.imports
 import-said plugin ms arcs context budget old (Err suite_error.NotImported) new h = (h.not_imported refl).stops
 import-said plugin ms arcs context budget old (Err suite_error.NoMemory) new h = tt
+
+selection-said : (budget : ℕ) (old new : List LoadedModule) (x : AfterImport Selection) → SelectedAs budget old new x → SaysOfImport (import_of old budget).outcome x
+selection-said budget old new (came s) h = h.imports
+selection-said budget old new not_imported h = h
+selection-said budget old new starved h = tt
+
+verdicts-said : (budget : ℕ) (ms : List LoadedModule) (x : AfterImport (List Judged)) → JudgedAs budget ms x → SaysOfImport (import_of ms budget).outcome x
+verdicts-said budget ms (came js) h = h.1.imports
+verdicts-said budget ms not_imported h = h
+verdicts-said budget ms starved h = tt
 
 module _ {I O P G : Type 0} (source : SourceOf I) (sink : SinkOf O) (plugin : PluginOf P) (engine : EngineOf G) where
   run-says : (t : Holding) (u : Streams I O P G) (call : Call) (x : Answer call) (v : Streams I O P G) → on_run source sink plugin engine u call x v → Says t call x
@@ -202,6 +223,8 @@ module _ {I O P G : Type 0} (source : SourceOf I) (sink : SinkOf O) (plugin : Pl
   run-says t u (tests asked modules) x v m =
       subst (SaysOfImport (import_of modules asked.budget).outcome) (sym m.ran.is)
       (import-said plugin modules asked.arcs asked.context asked.budget u.plugins m.ran.said v.plugins m.ran.suite)
+  run-says t u (selects budget before after) x v m = selection-said budget before after x m.selected
+  run-says t u (judges budget modules) x v m = verdicts-said budget modules x m.judged
   run-says t u (says text) x v m = absurd m
 
   input-later : (u : Streams I O P G) (call : Call) (x : Answer call) (v : Streams I O P G) → on_run source sink plugin engine u call x v → source.faults u.input ≤ source.faults v.input
@@ -220,6 +243,8 @@ module _ {I O P G : Type 0} (source : SourceOf I) (sink : SinkOf O) (plugin : Pl
   input-later u (measures asked modules hook) x v m = m.run.reads
   input-later u (tries modules words budget) x v m = same-count (ap (λ (s : Streams I O P G). source.faults s.input) m.same)
   input-later u (tests asked modules) x v m = same-count (ap (λ (s : Streams I O P G). source.faults s.input) m.same)
+  input-later u (selects budget before after) x v m = same-count (ap (λ (s : Streams I O P G). source.faults s.input) m.same)
+  input-later u (judges budget modules) x v m = same-count (ap (λ (s : Streams I O P G). source.faults s.input) m.same)
   input-later u (says text) x v m = absurd m
 
   out-later : (u : Streams I O P G) (call : Call) (x : Answer call) (v : Streams I O P G) → on_run source sink plugin engine u call x v → sink.faults u.out ≤ sink.faults v.out
@@ -238,6 +263,8 @@ module _ {I O P G : Type 0} (source : SourceOf I) (sink : SinkOf O) (plugin : Pl
   out-later u (measures asked modules hook) x v m = m.run.writes
   out-later u (tries modules words budget) x v m = same-count (ap (λ (s : Streams I O P G). sink.faults s.out) m.same)
   out-later u (tests asked modules) x v m = same-count (ap (λ (s : Streams I O P G). sink.faults s.out) m.same)
+  out-later u (selects budget before after) x v m = same-count (ap (λ (s : Streams I O P G). sink.faults s.out) m.same)
+  out-later u (judges budget modules) x v m = same-count (ap (λ (s : Streams I O P G). sink.faults s.out) m.same)
   out-later u (says text) x v m = absurd m
 
   run-fair : (u : Streams I O P G) (call : Call) (x : Answer call) (v : Streams I O P G) → on_run source sink plugin engine u call x v → ¬ (Rose (source.faults u.input) (source.faults v.input)) → ¬ (Rose (sink.faults u.out) (sink.faults v.out)) → blamed call x ≡ None
@@ -264,6 +291,8 @@ module _ {I O P G : Type 0} (source : SourceOf I) (sink : SinkOf O) (plugin : Pl
   run-fair u (measures asked modules hook) (Err run_fault.NoMemory) v m i o = refl
   run-fair u (tries modules words budget) x v m i o = refl
   run-fair u (tests asked modules) x v m i o = refl
+  run-fair u (selects budget before after) x v m i o = refl
+  run-fair u (judges budget modules) x v m i o = refl
   run-fair u (says text) x v m i o = absurd m
 
 -- ---- all of them

@@ -1,5 +1,5 @@
 -- The parts that commands share aren't refused, where what they need is there.
-use Rattle.std.proofs.Common.{◌≡◌, ◌⊎◌, inl, inr, ℕ, ◌+◌, ◌≤◌, ◌<◌, nat_le, Bool, true, false, if◌then◌else◌, not, List, [], ◌∷◌, ◌++◌, map, filter, length, Option, Some, None, Result, Ok, Err, refl, sym, ap, subst, ◌∙◌, arith}
+use Rattle.std.proofs.Common.{◌≡◌, ◌⊎◌, inl, inr, ℕ, ◌≤◌, ◌<◌, nat_le, Bool, true, false, if◌then◌else◌, not, List, [], ◌∷◌, ◌++◌, filter, length, Option, Some, None, Result, Ok, Err, refl, sym, ap, subst, ◌∙◌, arith}
 use Rattle.std.specs.Prelude.{slice_get, IsSomeAnd, codes}
 use Rattle.std.specs.Bool.{beq}
 use Rattle.std.specs.FinMap.{get, keys}
@@ -9,41 +9,39 @@ use Rattle.std.proofs.lemmas.Bool.{le-leb}
 use Rattle.std.proofs.lemmas.List.Elements.{All-head, All-tail, All-append, All-get_or}
 use Rattle.std.proofs.lemmas.Option.{get_or_from_slice_get, slice_get_within}
 use Rattle.cov_combine.specs.Combined.{flag_of, has_both_kinds}
-use Rattle.cov_config.specs.Settings.{Settings, ReportSettings, meaning_of}
+use Rattle.cov_config.specs.Settings.{Settings, meaning_of}
 use Rattle.cov_data.specs.DataSet.{DataSet}
-use Rattle.cov_data.specs.Rows.{paths_of}
 use Rattle.cov_exclude.specs.Texts.{IsPatternText, IsNoPattern}
 use Rattle.cov_exclude.specs.declared.patterns.PatternError.TheVariants as pattern_error
 use Rattle.cov_load_laws.specs.Completeness.{Completes, HasSource}
 use Rattle.cov_load_laws.specs.Readings.{OneReading}
 use Rattle.cov_outside.specs.declared.shelf.ShelfError.TheVariants as shelf_error
 use Rattle.cov_outside.specs.declared.sink.SinkError.TheVariants as sink_error
-use Rattle.cov_programs.specs.Programs.{give, settle, ask, bind, each}
-use Rattle.cov_run.specs.Loading.{most_bytes, told_by}
+use Rattle.cov_programs.specs.Programs.{give, ask, bind, each}
+use Rattle.cov_run.specs.Loading.{told_by}
 use Rattle.cov_run.specs.Loads.{Loading, IsUnread, faulted, starved}
 use Rattle.cov_run.specs.Reading.{Reading, tree, unread, Reads}
-use Rattle.cov_step.specs.Answers.{bytes_of, bytes_if_any, given_or, Before, nothing, there, bad_row, pattern_refusal, on, sink_refusal, shelf_refusal, last, run_refusal, tree_of}
-use Rattle.cov_step.specs.Calls.{Call, spells, checks, reads, puts, opens, lists, loads, saves, removes, makes, writes, crosses, measures, tries, tests, says, Answer, Answered, Asked, HookFiles, PlainSource, Patterns, Ran, TestsAsked, TestResult, tested, not_imported, Step, refuse}
+use Rattle.cov_step.specs.Answers.{given_or, Before, nothing, there, bad_row, pattern_refusal, on, sink_refusal, shelf_refusal, last, run_refusal, tree_of}
+use Rattle.cov_step.specs.Calls.{checks, puts, makes, writes, crosses, measures, tries, tests, selects, judges, Answered, Asked, HookFiles, PlainSource, Patterns, Ran, TestsAsked, TestResult, Selection, Judged, came, not_imported, Step, refuse}
 use Rattle.cov_step.specs.Making.{ran_if_any}
-use Rattle.cov_step.specs.Names.{data_name}
 use Rattle.cov_step.specs.Calls as calls
-use Rattle.cov_step.specs.Testing.{tested_or}
+use Rattle.cov_step.specs.Testing.{came_or}
 use Rattle.cov_suite.specs.Results.{import_of}
 use Rattle.py_builtins.specs.Outcomes.{finished}
-use Rattle.cov_step.specs.Phases.{file, needed, before, main_name, opened, settings_file, settings, most_patterns, most_pattern_bytes, always, few, short, patterns_by, source, defines, hook_in, hook_of, joins, inputs, is_part_of, has_own, own_input, some_input, same_kind, saving, removing, removing_all, some_path, is_reported, reported_paths, write_last, put_last, save_last, remove_last}
+use Rattle.cov_step.specs.Phases.{file, needed, before, main_name, opened, settings_file, settings, most_patterns, most_pattern_bytes, always, few, short, patterns_by, source, defines, hook_in, hook_of, joins, inputs, is_part_of, has_own, own_input, some_input, same_kind, saving, removing, removing_all, some_path, reported_paths, write_last, put_last, save_last, remove_last}
 use Rattle.cov_step.specs.Promises.{blame_of, reading_hungry, refusal_hungry}
 use Rattle.cov_vault.specs.declared.vault.Content.{Content}
 use Rattle.cov_vault.specs.declared.vault.Content.TheVariants as stored
 use Rattle.cov_vault.specs.declared.vault.VaultError.TheVariants as vault_error
-use Rattle.cov_why.specs.Answers.{Refusal, no_such_file, limit, bad_config, no_function, no_data, mixed, bad_data, no_source, PlainWhy}
+use Rattle.cov_why.specs.Answers.{Refusal, no_such_file, limit, bad_config, mixed, no_source}
 use Rattle.cov_why.specs.declared.why.LimitKind.TheVariants as limits
 use Rattle.cov_words.specs.Values.{Word}
 use Rattle.py_builtins.specs.declared.fault.RunFault.TheVariants as run_fault
 use Rattle.py_meaning.specs.Modules.{LoadedModule}
 use Rattle.py_syntax.specs.Tree.{Text, Stmts}
-use Rattle.cov_complete_laws.specs.Premises.{IsFile, usual, IsSettingsFile, AreSettings, IsLoadable, AreModules, IsHook, HasHook, Holds, IsReplaceable, IsJoinable, CanJoin, inputs_of, HoldAll, HoldsOwn, ArePatterns, HasPatterns, paths_reported, HasSources}
+use Rattle.cov_complete_laws.specs.Premises.{IsFile, IsSettingsFile, AreSettings, IsLoadable, AreModules, HasHook, Holds, IsReplaceable, CanJoin, inputs_of, HoldAll, HoldsOwn, HasPatterns, paths_reported}
 use Rattle.cov_complete_laws.proofs.Sure.{Sure, then-sure, each-sure, each-fit}
-use Rattle.cov_complete_laws.proofs.Holding.{Holding, Answers, told, none-some, some-none, some-is, true-false, moved}
+use Rattle.cov_complete_laws.proofs.Holding.{Holding, told, none-some, some-none, some-is, true-false, moved}
 
 abbrev pub Goes : {A : Type 0} → (A → Holding → Type 0) → Step A → Holding → Type 0
 Goes Q p t = Sure told Q p t
@@ -269,10 +267,20 @@ module _ (t : Holding) where
   tries-sure ms words n Q q None u m = absurd (true-false m.0.fed)
   tries-sure ms words n Q q (Some r) u m = moved Q r r u t refl (m.1 refl) (q r)
 
-  pub tests-sure : (asked : TestsAsked) (ms : List LoadedModule) (file : Word) → (import_of ms asked.budget).outcome ≡ finished → (Q : List TestResult × DataSet → Holding → Type 0) → ((r : List TestResult × DataSet) → Q r t) → Goes Q (ask (tests asked ms) (tested_or file)) t
-  tests-sure asked ms file h Q q (tested results rows) u m = moved Q (results, rows) (results, rows) u t refl (m.1 refl) (q (results, rows))
+  pub tests-sure : (asked : TestsAsked) (ms : List LoadedModule) (file : Word) → (import_of ms asked.budget).outcome ≡ finished → (Q : List TestResult × DataSet → Holding → Type 0) → ((r : List TestResult × DataSet) → Q r t) → Goes Q (ask (tests asked ms) (came_or file)) t
+  tests-sure asked ms file h Q q (came r) u m = moved Q r r u t refl (m.1 refl) (q r)
   tests-sure asked ms file h Q q not_imported u m = absurd (m.0.says_so h)
   tests-sure asked ms file h Q q calls.starved u m = absurd (true-false m.0.fed)
+
+  pub selects-sure : (n : ℕ) (old new : List LoadedModule) (file : Word) → (import_of old n).outcome ≡ finished → (Q : Selection → Holding → Type 0) → ((s : Selection) → Q s t) → Goes Q (ask (selects n old new) (came_or file)) t
+  selects-sure n old new file h Q q (came s) u m = moved Q s s u t refl (m.1 refl) (q s)
+  selects-sure n old new file h Q q not_imported u m = absurd (m.0.says_so h)
+  selects-sure n old new file h Q q calls.starved u m = absurd (true-false m.0.fed)
+
+  pub judges-sure : (n : ℕ) (ms : List LoadedModule) (file : Word) → (import_of ms n).outcome ≡ finished → (Q : List Judged → Holding → Type 0) → ((js : List Judged) → Q js t) → Goes Q (ask (judges n ms) (came_or file)) t
+  judges-sure n ms file h Q q (came js) u m = moved Q js js u t refl (m.1 refl) (q js)
+  judges-sure n ms file h Q q not_imported u m = absurd (m.0.says_so h)
+  judges-sure n ms file h Q q calls.starved u m = absurd (true-false m.0.fed)
 
   -- a text that is written on the way
   pub noting-sure : (bytes : List ℕ) → (Q : Unit {0} → Holding → Type 0) → Q tt t → Goes Q (ask (writes bytes) (on sink_refusal)) t

@@ -1,5 +1,5 @@
 -- A script that is ready isn't refused.
-use Rattle.std.proofs.Common.{◌≡◌, ◌⊎◌, inl, inr, ◌∙◌, ◌≤◌, ℕ, Bool, true, refl, sym, ap, subst, List, [], ◌∷◌, Result, Ok, Err}
+use Rattle.std.proofs.Common.{◌≡◌, ◌⊎◌, inl, inr, ◌≤◌, ℕ, refl, sym, subst, List, [], ◌∷◌, Result, Ok, Err}
 use Rattle.std.specs.Str.Lines.{lines}
 use Rattle.cov_contexts.specs.declared.plugins.Plugin.{Ghosts as PluginOf}
 use Rattle.cov_exclude.specs.declared.maker.Maker.{Ghosts as MakerOf}
@@ -19,7 +19,6 @@ use Rattle.cov_programs.proofs.Telling.{told-of}
 use Rattle.cov_step.specs.Answers.{given_or}
 use Rattle.cov_step.specs.Calls.{Call, spells, Answer, Answered, IsNoMemory}
 use Rattle.cov_step.specs.Objects.{Saying}
-use Rattle.cov_step.specs.Phases.{done}
 use Rattle.cov_step.specs.Promises.{EndsLines, IsFold}
 use Rattle.cov_step.specs.Scripts.{line_step, script_text, script}
 use Rattle.cov_step.specs.Step.{IsSpelled, doing, step}
@@ -27,15 +26,15 @@ use Rattle.cov_step.proofs.Folds.{law_of_fold}
 use Rattle.cov_vault.specs.Contents.{Contents}
 use Rattle.cov_vault.specs.declared.vault.Vault.{Ghosts as VaultOf}
 use Rattle.cov_why.specs.Answers.{PlainWhy, usage}
-use Rattle.cov_words.specs.Commands.{PlainCommand, IsCommand, IsOneCommand}
+use Rattle.cov_words.specs.Commands.{IsCommand, IsOneCommand}
 use Rattle.cov_words.specs.Commands as plain
 use Rattle.cov_words.specs.Values.{Word}
 use Rattle.py_machine.specs.declared.engine.Engine.{Ghosts as EngineOf}
-use Rattle.cov_complete_laws.specs.Complete.{Lent, on_lent, NoneRose, EndsWell}
+use Rattle.cov_complete_laws.specs.Complete.{Lent, on_lent, EndsWell}
 use Rattle.cov_complete_laws.specs.Scripts.{IsReadyLine, AreReady, IsReadyScript, ScriptLaw}
 use Rattle.cov_complete_laws.proofs.Sure.{sure-gives, sure-all}
 use Rattle.cov_complete_laws.proofs.Holding.{Holding, told}
-use Rattle.cov_complete_laws.proofs.Objects.{pair, held, IsLater, Unraised, counting, before, after, later, telling}
+use Rattle.cov_complete_laws.proofs.Objects.{pair, held, IsLater, Unraised, counting, later, telling}
 use Rattle.cov_complete_laws.proofs.Completing.{runs-well}
 use Rattle.cov_complete_laws.proofs.Lines.{text-yields, line-yields, text-sure, line-sure}
 
@@ -125,8 +124,8 @@ module _ {H V M I O P G E : Type 0} (shelf : ShelfOf H) (vault : VaultOf V) (mak
 
     spelled-well : (words : List Word) (name : Word) (x : Answer (spells words)) (u v : World) (e : Result Answered PlainWhy) → IsCommand (plain.script name) words → IsSpelled words x → IsReadyScript whole files_in data_in name u → Quiet u v
         → Ends whole IsNoMemory (bind (given_or usage x) doing) u e v → EndsWell e
-    spelled-well words name (Ok c) u v e is s h n k = script-well name u v e h n (record { ends = subst (λ b. Ends whole IsNoMemory (doing b) u e v) (once words c (plain.script name) s.0 is) k })
-    spelled-well words name (Err i) u v e is s h n k = absurd (s.0 (plain.script name) refl is)
+    spelled-well words name (Ok c) u v e is s h n k = script-well name u v e h n (record { ends = subst (λ b. Ends whole IsNoMemory (doing b) u e v) (once words c (plain.script name) s is) k })
+    spelled-well words name (Err i) u v e is s h n k = absurd (s.0 (plain.script name) is)
 
     step-well : (words : List Word) (name : Word) (u v : World) (e : Result Answered PlainWhy) → IsCommand (plain.script name) words → IsReadyScript whole files_in data_in name u → Quiet u v → Ends whole IsNoMemory (step words) u e v → EndsWell e
     step-well words name u v e is h n (inl s) = well-so s.is s.wanting

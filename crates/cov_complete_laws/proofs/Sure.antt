@@ -1,5 +1,5 @@
 -- Programs that are never refused, whatever the objects answer by what they hold.
-use Rattle.std.proofs.Common.{◌≡◌, inl, inr, sym, subst, List, [], ◌∷◌, Result, Ok, Err}
+use Rattle.std.proofs.Common.{◌≡◌, inl, inr, sym, subst, List, [], ◌∷◌, Result, Ok}
 use Rattle.std.specs.List.{All}
 use Rattle.std.proofs.lemmas.List.Elements.{All-head, All-tail}
 use Rattle.cov_programs.specs.Programs.{Program, give, settle, refuse, ask, bind, each}

@@ -1,7 +1,8 @@
 -- What each command needs so that it isn't refused: premises on the files and the data that its
 -- objects hold before it.
+--     CanImport                        a file of tests
 --     CanErase, CanRun, CanTest, CanReport, CanAnnotate, CanCombine    commands with settings
---     Ready                                                            each command
+--     Ready                            each command
 use Rattle.std.specs.Prelude.{◌≡◌, ℕ, ◌||◌, ◌<◌, Bool, false, List, [], ◌∷◌, ◌++◌, length, Option}
 use Rattle.py_builtins.specs.Outcomes.{finished}
 use Rattle.py_meaning.specs.Modules.{LoadedModule}
@@ -10,7 +11,7 @@ use Rattle.cov_config.specs.Settings.{Settings, ReportSettings, no_cover, no_bra
 use Rattle.cov_data.specs.DataSet.{DataSet}
 use Rattle.cov_load_laws.specs.Completeness.{HasSource}
 use Rattle.cov_outside.specs.Files.{Files}
-use Rattle.cov_step.specs.Commands.{hook_named}
+use Rattle.cov_step.specs.Commands.{hook_named, usual_steps}
 use Rattle.cov_step.specs.Names.{or_else}
 use Rattle.cov_step.specs.Phases.{main_name, own_name}
 use Rattle.cov_step.specs.Testing.{tests_name}
@@ -20,6 +21,13 @@ use Rattle.cov_words.specs.Commands.{PlainCommand}
 use Rattle.cov_words.specs.Commands as plain
 use Rattle.cov_words.specs.Values.{Word}
 use Rattle.cov_complete_laws.specs.Premises.{AreSettings, IsLoadable, AreModules, HasHook, Holds, IsReplaceable, CanJoin, inputs_of, HoldAll, HoldsOwn, HasPatterns, HasSources}
+
+-- a file of tests can be loaded, and its import finishes within these steps
+pub record CanImport (files : Files) (file : Word) (budget : ℕ) : Type 0 where
+  pub program : IsLoadable files tests_name file
+  pub imports :
+      (ms : List LoadedModule) → AreModules files tests_name file ms
+      → (import_of ms budget).outcome ≡ finished
 
 -- settings alone
 pub record CanErase (files : Files) (rcfile : Option Word) : Type 0 where
@@ -38,16 +46,13 @@ pub record CanRun (files : Files) (contents : Contents) (branch append : Bool)
   pub joins :
       CanJoin append contents (own_name data_file settings) (branch || settings.run.branch)
 
--- Settings, a program whose import finishes within the steps that it may take, and a target that may
--- be replaced.
+-- Settings, tests whose import finishes within the steps that it may take, and a target that may be
+-- replaced.
 pub record CanTest (files : Files) (contents : Contents) (budget : Option ℕ)
     (data_file rcfile : Option Word) (file : Word) : Type 0 where
   pub settings : Settings
   pub set : AreSettings files rcfile settings
-  pub program : IsLoadable files tests_name file
-  pub imports :
-      (ms : List LoadedModule) → AreModules files tests_name file ms
-      → (import_of ms (or_else budget settings.run.budget)).outcome ≡ finished
+  pub tests : CanImport files file (or_else budget settings.run.budget)
   pub target : IsReplaceable contents (own_name data_file settings)
 
 -- the patterns of settings
@@ -89,7 +94,7 @@ pub record CanCombine (files : Files) (contents : Contents) (append : Bool)
   pub one_kind : has_both_kinds (first ++ rest) ≡ false
 
 -- What each command needs. A script needs it of each line where the lines before led, and is no
--- command here; nor are those that aren't built.
+-- command here.
 abbrev pub Ready : Files → Contents → PlainCommand → Type 0
 Ready files contents (plain.arcs budget script args) = IsLoadable files main_name script
 Ready files contents
@@ -110,5 +115,7 @@ Ready files contents (plain.script file) = ⊥
 Ready files contents (plain.make seed size) = HasPatterns (no_cover ∷ []) (no_branch ∷ [])
 Ready files contents (plain.suite branch budget data_file rcfile file) =
     CanTest files contents budget data_file rcfile file
-Ready files contents (plain.select budget old new) = ⊥
-Ready files contents (plain.mutate budget file) = ⊥
+Ready files contents (plain.select budget old new) =
+    CanImport files old (or_else budget usual_steps) × IsLoadable files tests_name new
+Ready files contents (plain.mutate budget file) =
+    CanImport files file (or_else budget usual_steps)

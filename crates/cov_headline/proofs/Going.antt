@@ -17,7 +17,7 @@ use Rattle.cov_vault.specs.declared.vault.VaultError.TheVariants as vault_error
 use Rattle.cov_why.specs.Answers.{Refusal, PlainWhy}
 use Rattle.cov_words.specs.Values.{Word}
 use Rattle.py_syntax.specs.Tree.{Text}
-use Rattle.cov_step.specs.Calls.{Call, spells, checks, reads, puts, opens, lists, loads, saves, removes, makes, writes, crosses, measures, tries, tests, says, Answer, Answered, Ran, Step}
+use Rattle.cov_step.specs.Calls.{Call, spells, checks, reads, puts, opens, lists, loads, saves, removes, makes, writes, crosses, measures, tries, tests, selects, judges, says, Answer, Answered, Ran, Step}
 use Rattle.cov_step.specs.Answers.{bytes_of, bytes_if_any, given_or, load_refusal, vault_refusal, Before, before_of, removed, pattern_refusal, last, on, tree_of}
 use Rattle.cov_step.specs.Making.{ran_if_any}
 use Rattle.cov_step.specs.Phases.{needed, before, opened, settings, patterns_by, source, hook_of, joins, inputs, is_part_of, own_input, some_input, same_kind, reported}
@@ -165,6 +165,8 @@ is_quiet (crosses modules words budget) answer = false
 is_quiet (measures asked modules hook) answer = false
 is_quiet (tries modules words budget) answer = true
 is_quiet (tests asked modules) answer = false
+is_quiet (selects budget before after) answer = true
+is_quiet (judges budget modules) answer = true
 is_quiet (says text) answer = false
 
 abbrev pub IsQuiet : {A : Type 0} → Step A → Type 0
@@ -232,6 +234,8 @@ module _ {P : Type 0} (plugin : PluginOf P) where
   quiet-kept u (measures asked modules hook) x v m e = absurd (true≢false (sym e))
   quiet-kept u (tries modules words budget) x v m e = m
   quiet-kept u (tests asked modules) x v m e = absurd (true≢false (sym e))
+  quiet-kept u (selects budget before after) x v m e = m.1
+  quiet-kept u (judges budget modules) x v m e = m.1
   quiet-kept u (says text) x v m e = absurd (true≢false (sym e))
 
   -- a quiet program changes nothing

@@ -242,5 +242,5 @@ module _ {P : Type 0} (plugin : PluginOf P) (first : Contents) (runs : Recorded)
   promise-keeps (plain.script file) old a new p k = absurd p
   promise-keeps (plain.make seed size) old a new p k = kept-less first runs old.contents new.contents k p
   promise-keeps (plain.suite branch budget data_file rcfile file) old a new p k = kept-suite (tests_asked p.0 branch budget) (phases.own_name data_file p.0) file old a new k p.2
-  promise-keeps (plain.select budget old_file new_file) old a new p k = absurd p
-  promise-keeps (plain.mutate budget file) old a new p k = absurd p
+  promise-keeps (plain.select budget old_file new_file) old a new p k = kept-less first runs old.contents new.contents k (loses-none old.contents new.contents (ap (λ (w : Held P). w.contents) p.printed))
+  promise-keeps (plain.mutate budget file) old a new p k = kept-less first runs old.contents new.contents k (loses-none old.contents new.contents (ap (λ (w : Held P). w.contents) p.printed))

@@ -7,6 +7,7 @@ pub mod Going
 pub mod Recorded
 pub mod Running
 pub mod Testing
+pub mod Retesting
 pub mod Reporting
 pub mod Combining
 pub mod Losing

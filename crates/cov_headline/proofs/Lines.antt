@@ -33,6 +33,7 @@ use Rattle.cov_headline.proofs.Kept.{kept-first, promise-keeps}
 use Rattle.cov_headline.proofs.Losing.{loses-all, arcs-none, json-none, lcov-none, annotate-none, erase-none, make-none}
 use Rattle.cov_headline.proofs.Recorded.{CameLaw}
 use Rattle.cov_headline.proofs.Reporting.{report-promise, file-so}
+use Rattle.cov_headline.proofs.Retesting.{select-promise, mutate-promise}
 use Rattle.cov_headline.proofs.Running.{run-promise}
 use Rattle.cov_headline.proofs.Testing.{suite-promise}
 
@@ -56,8 +57,8 @@ module _ {P : Type 0} (plugin : PluginOf P) (came : CameLaw) where
   inside-promise first runs (plain.script name) old a new k h = refused-so (usage 0) a old new h
   inside-promise first runs (plain.make seed size) old a new k h = loses-all plugin (inside (plain.make seed size)) old new (Ok a) (make-none seed size) h
   inside-promise first runs (plain.suite branch budget data_file rcfile name) old a new k h = suite-promise plugin came branch budget data_file rcfile name old a new h
-  inside-promise first runs (plain.select budget old_file new_file) old a new k h = refused-so (usage 0) a old new h
-  inside-promise first runs (plain.mutate budget name) old a new k h = refused-so (usage 0) a old new h
+  inside-promise first runs (plain.select budget old_file new_file) old a new k h = select-promise plugin budget old_file new_file old a new h
+  inside-promise first runs (plain.mutate budget name) old a new k h = mutate-promise plugin budget name old a new h
 
   -- ---- a line
 
@@ -101,7 +102,7 @@ module _ {P : Type 0} (plugin : PluginOf P) (came : CameLaw) where
     done-so line words old new b at k (inr (Ok c, u, m, rest)) =
         let h : Goes plugin (bind (inside c) ended_in) old (Ok b) new = subst (λ w. Goes plugin (bind (inside c) ended_in) w (Ok b) new) m.1 rest in
         let x = went plugin (inside c) ended_in old new b h in
-        noted-so line c x.0 old x.1 new b (subst (λ ws. IsCommand c ws) (sym at) m.0.0) (inside-promise first runs c old x.0 x.1 k x.2) k x.3
+        noted-so line c x.0 old x.1 new b (subst (λ ws. IsCommand c ws) (sym at) m.0) (inside-promise first runs c old x.0 x.1 k x.2) k x.3
 
     words-so : (line : Word) (words : List Word) (old new : Held P) (b : Unit {0}) → words_in line ≡ words → AreKept first runs old.contents → Goes plugin (words_done words) old (Ok b) new → LineWent first runs line old new
     words-so line [] old new b at k h = passed line old new k (gave plugin tt b old new h).1
@@ -188,6 +189,6 @@ module _ {P : Type 0} (plugin : PluginOf P) (came : CameLaw) where
 
   pub words-kept : (words : List Word) (old new : Held P) (ending : Result Answered PlainWhy) → Goes plugin (step words) old ending new → Headline plugin words old ending new
   words-kept words old new ending (inl s) = absurd s.wanting
-  words-kept words old new ending (inr (Ok c, u, m, rest)) = inl (c, m.0.0, command-so c old new ending (subst (λ w. Goes plugin (doing c) w ending new) m.1 rest))
+  words-kept words old new ending (inr (Ok c, u, m, rest)) = inl (c, m.0, command-so c old new ending (subst (λ w. Goes plugin (doing c) w ending new) m.1 rest))
   words-kept words old new ending (inr (Err i, u, m, inl s)) = absurd s.wanting
   words-kept words old new ending (inr (Err i, u, m, inr (is, same))) = inr (m.0.0, (i, is), same ∙ m.1)

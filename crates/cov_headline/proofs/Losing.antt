@@ -17,7 +17,7 @@ use Rattle.cov_vault.specs.declared.vault.VaultError.TheVariants as vault_error
 use Rattle.cov_why.specs.Answers.{PlainWhy}
 use Rattle.cov_words.specs.Values.{Word}
 use Rattle.py_syntax.specs.Tree.{Text}
-use Rattle.cov_step.specs.Calls.{Call, spells, checks, reads, puts, opens, lists, loads, saves, removes, makes, writes, crosses, measures, tries, tests, says, Answer, Answered, Step}
+use Rattle.cov_step.specs.Calls.{Call, spells, checks, reads, puts, opens, lists, loads, saves, removes, makes, writes, crosses, measures, tries, tests, selects, judges, says, Answer, Answered, Step}
 use Rattle.cov_step.specs.Answers.{given_or, run_refusal, shelf_refusal, sink_refusal, last, tree_of}
 use Rattle.cov_step.specs.Commands.{words_of, usual_steps, arcs, json, lcov, annotate, erase}
 use Rattle.cov_step.specs.Listing.{listing}
@@ -46,6 +46,8 @@ saves_none (crosses modules words budget) answer = true
 saves_none (measures asked modules hook) answer = true
 saves_none (tries modules words budget) answer = true
 saves_none (tests asked modules) answer = true
+saves_none (selects budget before after) answer = true
+saves_none (judges budget modules) answer = true
 saves_none (says text) answer = true
 
 abbrev SavesNone : {A : Type 0} → Step A → Type 0
@@ -91,6 +93,8 @@ module _ {P : Type 0} (plugin : PluginOf P) where
   call-loses u (measures asked modules hook) (Err fault) v m e = absurd m
   call-loses u (tries modules words budget) x v m e = same-contents u v m
   call-loses u (tests asked modules) x v m e = loses-none u.contents v.contents (ap (λ (w : Held P). w.contents) m.1)
+  call-loses u (selects budget before after) x v m e = same-contents u v m.1
+  call-loses u (judges budget modules) x v m e = same-contents u v m.1
   call-loses u (says text) x v m e = loses-none u.contents v.contents (ap (λ (w : Held P). w.contents) m.1)
 
   pub loses-all : {A : Type 0} (p : Step A) (old new : Held P) (e : Result A PlainWhy) → SavesNone p → Goes plugin p old e new → Loses old.contents new.contents

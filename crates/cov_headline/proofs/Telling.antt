@@ -23,7 +23,7 @@ use Rattle.cov_programs.specs.Ends.{Follows}
 use Rattle.cov_programs.specs.Laws.{Counting, IsTelling, IsFed, nothing_wants}
 use Rattle.cov_programs.specs.Objects.{Moves}
 use Rattle.cov_programs.proofs.Telling.{told-of}
-use Rattle.cov_step.specs.Calls.{Call, spells, checks, reads, puts, opens, lists, loads, saves, removes, makes, writes, crosses, measures, tries, tests, says, Answer, Ran, Answered, IsNoMemory}
+use Rattle.cov_step.specs.Calls.{Call, spells, checks, reads, puts, opens, lists, loads, saves, removes, makes, writes, crosses, measures, tries, tests, selects, judges, says, Answer, Ran, Answered, IsNoMemory}
 use Rattle.cov_step.specs.Objects.{on_grammar, on_shelf, on_vault, on_maker, on_err, Saying, failed}
 use Rattle.cov_step.specs.Promises.{is_hungry}
 use Rattle.cov_step.specs.Step.{step}
@@ -143,6 +143,8 @@ module _ {H V M I O P G E : Type 0} (shelf : ShelfOf H) (vault : VaultOf V) (mak
   streams-later u (measures asked modules hook) x v m = record { input = m.run.reads; out = m.run.writes }
   streams-later u (tries modules words budget) x v m = same-streams u v m.same
   streams-later u (tests asked modules) x v m = record { input = same-count (ap (λ (s : Streams I O P G). source.faults s.input) m.same); out = same-count (ap (λ (s : Streams I O P G). sink.faults s.out) m.same) }
+  streams-later u (selects budget before after) x v m = same-streams u v m.same
+  streams-later u (judges budget modules) x v m = same-streams u v m.same
   streams-later u (says text) x v m = absurd m
 
   err-later : (u : Saying E) (call : Call) (x : Answer call) (v : Saying E) → on_err err u call x v → err.faults u.sink ≤ err.faults v.sink
@@ -161,6 +163,8 @@ module _ {H V M I O P G E : Type 0} (shelf : ShelfOf H) (vault : VaultOf V) (mak
   err-later u (measures asked modules hook) x v m = absurd m
   err-later u (tries modules words budget) x v m = absurd m
   err-later u (tests asked modules) x v m = absurd m
+  err-later u (selects budget before after) x v m = absurd m
+  err-later u (judges budget modules) x v m = absurd m
   err-later u (says text) x v m = m.count
 
   -- a state, and one that differs in some of its parts
@@ -223,6 +227,8 @@ module _ {H V M I O P G E : Type 0} (shelf : ShelfOf H) (vault : VaultOf V) (mak
     shelf-told (measures asked modules hook) x m f = absurd m
     shelf-told (tries modules words budget) x m f = absurd m
     shelf-told (tests asked modules) x m f = absurd m
+    shelf-told (selects budget before after) x m f = absurd m
+    shelf-told (judges budget modules) x m f = absurd m
     shelf-told (says text) x m f = absurd m
 
   -- a vault
@@ -249,6 +255,8 @@ module _ {H V M I O P G E : Type 0} (shelf : ShelfOf H) (vault : VaultOf V) (mak
     vault-told (measures asked modules hook) x m f = absurd m
     vault-told (tries modules words budget) x m f = absurd m
     vault-told (tests asked modules) x m f = absurd m
+    vault-told (selects budget before after) x m f = absurd m
+    vault-told (judges budget modules) x m f = absurd m
     vault-told (says text) x m f = absurd m
 
   -- no object is asked
@@ -268,6 +276,8 @@ module _ {H V M I O P G E : Type 0} (shelf : ShelfOf H) (vault : VaultOf V) (mak
   grammar-told r u v (measures asked modules hook) x m = absurd m
   grammar-told r u v (tries modules words budget) x m = absurd m
   grammar-told r u v (tests asked modules) x m = absurd m
+  grammar-told r u v (selects budget before after) x m = absurd m
+  grammar-told r u v (judges budget modules) x m = absurd m
   grammar-told r u v (says text) x m = absurd m
 
   -- a maker, which holds nothing
@@ -287,6 +297,8 @@ module _ {H V M I O P G E : Type 0} (shelf : ShelfOf H) (vault : VaultOf V) (mak
   maker-told r u v (measures asked modules hook) x m = absurd m
   maker-told r u v (tries modules words budget) x m = absurd m
   maker-told r u v (tests asked modules) x m = absurd m
+  maker-told r u v (selects budget before after) x m = absurd m
+  maker-told r u v (judges budget modules) x m = absurd m
   maker-told r u v (says text) x m = absurd m
 
   -- `err`
@@ -313,6 +325,8 @@ module _ {H V M I O P G E : Type 0} (shelf : ShelfOf H) (vault : VaultOf V) (mak
     err-told (measures asked modules hook) x m = absurd m
     err-told (tries modules words budget) x m = absurd m
     err-told (tests asked modules) x m = absurd m
+    err-told (selects budget before after) x m = absurd m
+    err-told (judges budget modules) x m = absurd m
     err-told (says text) x m = (record { said = λ w. m.said w t; not_failed = λ w f. none (m.rose w f); over = λ w. ap shown (m.over w) }, refl)
 
   -- ---- input and output
@@ -384,6 +398,8 @@ module _ {H V M I O P G E : Type 0} (shelf : ShelfOf H) (vault : VaultOf V) (mak
     streams-told (measures asked modules hook) (Err fault) m f = no-fault (request_of asked) modules (option_map hook_meant hook) u v fault refl refl refl refl m.run (fed fault f)
     streams-told (tries modules words budget) x m f = ap at-streams m.same
     streams-told (tests asked modules) x m f = (m.ran, ap at-streams m.same)
+    streams-told (selects budget before after) x m f = (m.selected, ap at-streams m.same)
+    streams-told (judges budget modules) x m f = (m.judged, ap at-streams m.same)
     streams-told (says text) x m f = absurd m
 
   -- ---- all of them

@@ -2,13 +2,31 @@
 -- source's meaning says, its recorded arcs are those of that meaning, each of them is predicted or
 -- crossed by a raised exception, and the report's missing lines and branches are exactly the
 -- predicted, unexcluded ones that no combined run took, whatever the order of combining. So it is
--- of a single command too. What a command promises is in `Commands` and `Promises`, where data come
--- from in `Origins` and `Kept`.
---     CommandDone, LineDone         a line of a script
---     LinesKept, ScriptKept         its lines, one after another
---     DoneOrRefused, CommandKept    a command
---     Headline, HeadlineLaw         words, over objects that tell what they hold
-use Rattle.std.specs.Prelude.{◌≡◌, ◌⊎◌, ℕ, true, List, [], ◌∷◌, ◌++◌, Some, Result, Ok, Err}
+-- of a single command too.
+--     CommandDone, LineDone                 a line of a script
+--     LinesKept, ScriptKept                 its lines, one after another
+--     DoneOrRefused, KeptBy, CommandKept    a command
+--     Headline, HeadlineLaw                 words, over objects that tell what they hold
+-- These words are defined elsewhere:
+--     Promise      what a command promises that did its work. A run prints and ends as its source
+--                  means, and the arcs and lines of that meaning are saved, each arc foreseen. Data
+--                  that are combined have the rows of all, in whatever order. A report lists as
+--                  missing exactly what none of the runs took that its data come from. Tests end and
+--                  are recorded as the modules mean, and so tests are selected and mutants judged.
+--                  Each other command saves no data.
+--     runs_of      the runs that a command did, with their rows
+--     AreKept      all data come from these runs and from data that were there at first
+--     script_of    the file of a command that is a script
+--     Held, held   what the objects of a command hold: files, data by name, input, output, `err` and
+--                  plugins
+--     tells        what a call answers by what is held, and what is held then
+--     Follows      a program of calls went so, from one state to another, and ended so
+--     IsSaidNow    a text is said on `err`
+--     Lent         the states of these objects, which answer by `on_lent`
+--     AllTell      each of them tells what it holds, and the engine is true
+--     NoneRose     none of them counted a fault
+--     IsFed        memory sufficed
+use Rattle.std.specs.Prelude.{◌≡◌, ◌⊎◌, ℕ, List, [], ◌∷◌, ◌++◌, Option, Some, None, Result, Ok, Err}
 use Rattle.std.specs.Str.Lines.{lines}
 use Rattle.cov_contexts.specs.declared.plugins.Plugin.{Ghosts as PluginOf}
 use Rattle.cov_programs.specs.Ends.{Follows}
@@ -20,7 +38,6 @@ use Rattle.cov_vault.specs.Contents.{Contents}
 use Rattle.cov_why.specs.Answers.{PlainWhy, usage}
 use Rattle.cov_why.specs.Messages.{message_of}
 use Rattle.cov_words.specs.Commands.{PlainCommand, IsCommand}
-use Rattle.cov_words.specs.Commands as plain
 use Rattle.cov_words.specs.Values.{Word}
 use Rattle.cov_headline.specs.Told.{Lent, on_lent, Held, held, IsSaidNow, tells, AllTell, NoneRose}
 use Rattle.cov_exclude.specs.declared.maker.Maker.{Ghosts as MakerOf}
@@ -29,8 +46,8 @@ use Rattle.cov_outside.specs.declared.sink.Sink.{Ghosts as SinkOf}
 use Rattle.cov_outside.specs.declared.source.Source.{Ghosts as SourceOf}
 use Rattle.cov_vault.specs.declared.vault.Vault.{Ghosts as VaultOf}
 use Rattle.py_machine.specs.declared.engine.Engine.{Ghosts as EngineOf}
-use Rattle.cov_step.specs.Step.{is_built, step}
-use Rattle.cov_headline.specs.Commands.{Promise, runs_of}
+use Rattle.cov_step.specs.Step.{step}
+use Rattle.cov_headline.specs.Commands.{Promise, runs_of, script_of}
 use Rattle.cov_headline.specs.Kept.{Recorded, AreKept}
 
 -- ---- a script
@@ -91,43 +108,23 @@ abbrev pub DoneOrRefused : {P : Type 0} → PluginOf P → PlainCommand → Held
 DoneOrRefused plugin c old (Ok a) new = Promise plugin old.contents [] c old a new
 DoneOrRefused plugin c old (Err why) new = Unit {0}
 
+-- where it is a script, its lines are kept
+abbrev pub KeptBy : {P : Type 0} → PluginOf P → Option Word → PlainCommand → Held P
+    → Result Answered PlainWhy → Held P → Type 0
+KeptBy plugin (Some file) c old ending new = ScriptKept plugin file old ending new
+KeptBy plugin None c old ending new = DoneOrRefused plugin c old ending new
+
 -- a command, or a script of them
 abbrev pub CommandKept : {P : Type 0} → PluginOf P → PlainCommand → Held P
     → Result Answered PlainWhy → Held P → Type 0
-CommandKept plugin (plain.arcs budget script args) old ending new =
-    DoneOrRefused plugin (plain.arcs budget script args) old ending new
-CommandKept plugin (plain.run branch append context budget hook data_file rcfile script args)
-    old ending new =
-    DoneOrRefused plugin (plain.run branch append context budget hook data_file rcfile script args)
-    old ending new
-CommandKept plugin (plain.combine append keep data_file rcfile names) old ending new =
-    DoneOrRefused plugin (plain.combine append keep data_file rcfile names) old ending new
-CommandKept plugin (plain.report show_missing fail_under data_file rcfile) old ending new =
-    DoneOrRefused plugin (plain.report show_missing fail_under data_file rcfile) old ending new
-CommandKept plugin (plain.json name fail_under data_file rcfile) old ending new =
-    DoneOrRefused plugin (plain.json name fail_under data_file rcfile) old ending new
-CommandKept plugin (plain.lcov name fail_under data_file rcfile) old ending new =
-    DoneOrRefused plugin (plain.lcov name fail_under data_file rcfile) old ending new
-CommandKept plugin (plain.annotate data_file rcfile file) old ending new =
-    DoneOrRefused plugin (plain.annotate data_file rcfile file) old ending new
-CommandKept plugin (plain.erase data_file rcfile) old ending new =
-    DoneOrRefused plugin (plain.erase data_file rcfile) old ending new
-CommandKept plugin (plain.script file) old ending new = ScriptKept plugin file old ending new
-CommandKept plugin (plain.make seed size) old ending new =
-    DoneOrRefused plugin (plain.make seed size) old ending new
-CommandKept plugin (plain.suite branch budget data_file rcfile file) old ending new =
-    DoneOrRefused plugin (plain.suite branch budget data_file rcfile file) old ending new
-CommandKept plugin (plain.select budget old_file new_file) old ending new =
-    DoneOrRefused plugin (plain.select budget old_file new_file) old ending new
-CommandKept plugin (plain.mutate budget file) old ending new =
-    DoneOrRefused plugin (plain.mutate budget file) old ending new
+CommandKept plugin c old ending new = KeptBy plugin (script_of c) c old ending new
 
--- The words are a command that keeps this; or none that is built, and nothing was done.
+-- The words are a command that keeps this; or they are none, and nothing was done.
 abbrev pub Headline : {P : Type 0} → PluginOf P → List Word → Held P → Result Answered PlainWhy
     → Held P → Type 0
 Headline plugin words old ending new =
     ((c : PlainCommand) × IsCommand c words × CommandKept plugin c old ending new)
-    ⊎ (((c : PlainCommand) → is_built c ≡ true → IsCommand c words → ⊥)
+    ⊎ (((c : PlainCommand) → IsCommand c words → ⊥)
     × ((begin : ℕ) × (ending ≡ Err (Err (usage begin)))) × (new ≡ old))
 
 -- So it is where the objects of a command follow the step of its words, each tells what it holds

@@ -4,5 +4,6 @@ pub mod Told
 pub mod Kept
 pub mod Promises
 pub mod Suites
+pub mod Retests
 pub mod Commands
 pub mod Headline

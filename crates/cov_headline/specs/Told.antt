@@ -29,10 +29,11 @@ use Rattle.cov_programs.specs.Objects.{Moves, beside}
 use Rattle.cov_run.specs.Loading.{told_by}
 use Rattle.cov_run.specs.Loads.{LoadsTo}
 use Rattle.cov_run.specs.Reading.{Reads}
-use Rattle.cov_step.specs.Calls.{Call, spells, checks, reads, puts, opens, lists, loads, saves, removes, makes, writes, crosses, measures, tries, tests, says, Answer, Ran}
+use Rattle.cov_step.specs.Calls.{Call, spells, checks, reads, puts, opens, lists, loads, saves, removes, makes, writes, crosses, measures, tries, tests, selects, judges, says, Answer, Ran}
 use Rattle.cov_step.specs.Objects.{on_grammar, on_shelf, on_vault, on_maker, on_err, Saying, whole, failed, IsSaid}
 use Rattle.cov_step.specs.Step.{IsSpelled}
 use Rattle.cov_streams.specs.Objects.{on_run}
+use Rattle.cov_streams.specs.Retests.{SelectedAs, JudgedAs}
 use Rattle.cov_streams.specs.Runs.{request_of, hook_meant, ended_of, arcs_asked}
 use Rattle.cov_streams.specs.Suites.{TestedAs}
 use Rattle.cov_vault.specs.Answers.{IsListed, IsLoaded, IsSaved, IsRemoved}
@@ -137,6 +138,10 @@ tells plugin old (tries modules words budget) answer new = new ≡ old
 tells plugin old (tests asked modules) answer new =
     TestedAs plugin asked modules old.plugins answer new.plugins
     × (new ≡ record old { plugins = new.plugins })
+tells plugin old (selects budget before after) answer new =
+    SelectedAs budget before after answer × (new ≡ old)
+tells plugin old (judges budget modules) answer new =
+    JudgedAs budget modules answer × (new ≡ old)
 tells plugin old (says text) answer new =
     IsSaidNow old.err text new.err × (new ≡ record old { err = new.err })
 

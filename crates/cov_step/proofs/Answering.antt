@@ -11,10 +11,10 @@ use Rattle.cov_vault.specs.declared.vault.VaultError.{VaultError}
 use Rattle.cov_vault.specs.declared.vault.VaultError.TheVariants as vault_error
 use Rattle.cov_why.specs.Answers.{Refusal}
 use Rattle.cov_words.specs.Values.{Word}
-use Rattle.cov_step.specs.Calls.{Call, lists, Answer, Answered, Ran, Tested, tested, not_imported, starved, Step}
+use Rattle.cov_step.specs.Calls.{Call, lists, Answer, Answered, Ran, AfterImport, came, not_imported, starved, Step}
 use Rattle.cov_step.specs.Answers.{bytes_of, bytes_if_any, given_or, vault_refusal, before_of, removed, last, on, tree_of}
 use Rattle.cov_step.specs.Making.{ran_if_any}
-use Rattle.cov_step.specs.Testing.{tested_or}
+use Rattle.cov_step.specs.Testing.{came_or}
 use Rattle.cov_step.specs.Phases.{inputs, is_part_of}
 
 module _ (keeps : (call : Call) → Answer call → Bool) where
@@ -73,10 +73,10 @@ module _ (keeps : (call : Call) → Answer call → Bool) where
   inputs-so at_lists own [] = λ x. (at_lists x, then-keeps keeps (given_or (vault_refusal own) x) (λ found. give (filter (is_part_of own) found)) (given-so (vault_refusal own) x) (λ found. tt))
   inputs-so at_lists own (n ∷ ns) = tt
 
-  pub tested-so : (file : Word) (x : Tested) → OnlyKeeps keeps (tested_or file x)
-  tested-so file (tested results rows) = tt
-  tested-so file not_imported = tt
-  tested-so file starved = tt
+  pub came-so : {A : Type 0} (file : Word) (x : AfterImport A) → OnlyKeeps keeps (came_or file x)
+  came-so file (came a) = tt
+  came-so file not_imported = tt
+  came-so file starved = tt
 
   pub ran-so : (x : Option Ran) → OnlyKeeps keeps (ran_if_any x)
   ran-so None = tt

@@ -1,25 +1,23 @@
 -- A refusal that blames an object is given only after an answer that is its fault.
-use Rattle.std.proofs.Common.{◌≡◌, ◌∙◌, ℕ, Bool, true, false, true≢false, refl, sym, ap, List, [], ◌∷◌, filter, Option, Some, None, Result, Ok, Err}
+use Rattle.std.proofs.Common.{◌≡◌, ◌∙◌, ℕ, true, false, true≢false, refl, sym, ap, List, [], ◌∷◌, filter, Option, Some, None, Result, Ok, Err}
 use Rattle.cov_outside.specs.declared.shelf.ShelfError.{ShelfError}
 use Rattle.cov_outside.specs.declared.shelf.ShelfError.TheVariants as shelf_error
 use Rattle.cov_outside.specs.declared.sink.SinkError.{SinkError}
 use Rattle.cov_outside.specs.declared.sink.SinkError.TheVariants as sink_error
 use Rattle.py_builtins.specs.declared.fault.RunFault.{RunFault}
 use Rattle.py_builtins.specs.declared.fault.RunFault.TheVariants as run_fault
-use Rattle.py_meaning.specs.Modules.{LoadedModule}
 use Rattle.py_parse.specs.declared.error.DepthKind.{DepthKind}
 use Rattle.py_parse.specs.declared.error.DepthKind.TheVariants as depth
 use Rattle.py_parse.specs.declared.error.SyntaxError.{SyntaxError}
 use Rattle.py_parse.specs.declared.error.SyntaxError.TheVariants as syntax_error
 use Rattle.py_scope.specs.declared.error.ScopeError.{ScopeError}
 use Rattle.py_scope.specs.declared.error.ScopeError.TheVariants as scope_error
-use Rattle.py_syntax.specs.Tree.{Text}
 use Rattle.py_token.specs.declared.error.TokenError.{TokenError}
 use Rattle.py_token.specs.declared.error.TokenError.TheVariants as token_error
 use Rattle.cov_data.specs.DataSet.{DataSet}
 use Rattle.cov_exclude.specs.declared.patterns.PatternError.{PatternError}
 use Rattle.cov_exclude.specs.declared.patterns.PatternError.TheVariants as pattern_error
-use Rattle.cov_programs.specs.Programs.{give, settle, ask, bind}
+use Rattle.cov_programs.specs.Programs.{give, settle, bind}
 use Rattle.cov_programs.specs.Laws.{BlamesOnly}
 use Rattle.cov_programs.proofs.Parts.{then-blames, each-blames}
 use Rattle.cov_run.specs.Reading.{Reading, no_text, long, stuck, no_tree, ill_formed, tree, unread}
@@ -28,11 +26,11 @@ use Rattle.cov_vault.specs.declared.vault.VaultError.TheVariants as vault_error
 use Rattle.cov_why.specs.Answers.{Refusal, PlainWhy, usage}
 use Rattle.cov_words.specs.Commands.{PlainCommand}
 use Rattle.cov_words.specs.Values.{Word}
-use Rattle.cov_step.specs.Calls.{Answered, HookFiles, Asked, Ran, Tested, tested, not_imported, starved, Step, refuse, spells, checks, puts, makes, crosses, measures}
+use Rattle.cov_step.specs.Calls.{Answered, Ran, AfterImport, came, not_imported, starved, Step}
 use Rattle.cov_step.specs.Answers.{bytes_of, bytes_if_any, given_or, load_refusal, vault_refusal, before_of, removed, run_refusal, shelf_refusal, sink_refusal, pattern_refusal, last, on, token_refusal, depth_refusal, syntax_refusal, scope_refusal, tree_of}
-use Rattle.cov_step.specs.Phases.{file, needed, before, opened, settings_file, inputs, is_part_of, saving, removing, write_last, save_last, remove_last}
+use Rattle.cov_step.specs.Phases.{file, inputs, is_part_of}
 use Rattle.cov_step.specs.Making.{ran_if_any}
-use Rattle.cov_step.specs.Testing.{tested_or}
+use Rattle.cov_step.specs.Testing.{came_or}
 use Rattle.cov_step.specs.Step.{step}
 use Rattle.cov_step.specs.Promises.{Object, the_input, the_output, the_shelf, the_vault, the_maker, blame_of, read_blame, put_blame, load_blame, vault_blame, remove_blame, make_blame, write_blame, run_blame, by_error, by_refusal, is_object, brings}
 use Rattle.cov_step.proofs.Whole.{step-is}
@@ -172,10 +170,10 @@ module _ (o : Object) (r : Refusal) (e : blame_of r ≡ Some o) where
   inputs-blame own [] = λ x f. then-blames (brings o) (Err r) (given_or (vault_refusal own) x) (λ found. give (filter (is_part_of own) found)) (given-blames (vault_refusal own) vault_blame (vault-same own) x f) (λ found. tt)
   inputs-blame own (n ∷ ns) = tt
 
-  tested-blames : (file : Word) (x : Tested) → Blaming _ (tested_or file x)
-  tested-blames file (tested results rows) = tt
-  tested-blames file not_imported = clear _ refl
-  tested-blames file starved = clear _ refl
+  came-blames : {A : Type 0} (file : Word) (x : AfterImport A) → Blaming _ (came_or file x)
+  came-blames file (came a) = tt
+  came-blames file not_imported = clear _ refl
+  came-blames file starved = clear _ refl
 
   ran-blames : (x : Option Ran) → Blaming _ (ran_if_any x)
   ran-blames None = clear _ refl
@@ -194,7 +192,7 @@ module _ (o : Object) (r : Refusal) (e : blame_of r ≡ Some o) where
       (λ bytes a x f. last-blames sink_refusal write_blame write-same a x f) (λ name bytes a x f. last-blames shelf_refusal put_blame put-same a x f)
       (λ name content a x f. last-blames (vault_refusal name) vault_blame (vault-same name) a x f) (λ name content x f. on-blames (vault_refusal name) vault_blame (vault-same name) x f)
       (λ name a x f. remove-blames (settle a) tt x f) (λ name x f. remove-blames (give tt) tt x f)
-      (λ ms ws n x f. ran-blames x) (λ asked ms file x f. tested-blames file x) (λ bytes x f. on-blames sink_refusal write_blame write-same x f) (λ ws x f. spelled-blames x) (λ text x f. tt) words
+      (λ ms ws n x f. ran-blames x) (λ asked ms file x f. came-blames file x) (λ n old new file x f. came-blames file x) (λ n ms file x f. came-blames file x) (λ bytes x f. on-blames sink_refusal write_blame write-same x f) (λ ws x f. spelled-blames x) (λ text x f. tt) words
 
 pub law_of_blame : (o : Object) (r : Refusal) → blame_of r ≡ Some o → (words : List Word) → BlamesOnly (brings o) (Err r) (step words)
 law_of_blame o r e words = step-blames o r e words

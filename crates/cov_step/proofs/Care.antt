@@ -1,5 +1,5 @@
 -- Commands are careful: a refusal leaves shelf and vault as they were.
-use Rattle.std.proofs.Common.{◌≡◌, ℕ, Bool, true, false, if◌then◌else◌, true≢false, refl, sym, List, [], ◌∷◌, Option, Some, None, Result, Ok, Err}
+use Rattle.std.proofs.Common.{◌≡◌, ℕ, Bool, true, false, if◌then◌else◌, true≢false, refl, sym, List, [], ◌∷◌, Option, Some, None}
 use Rattle.std.specs.Prelude.{◌||◌, codes}
 use Rattle.std.specs.Str.{bytes_eq}
 use Rattle.cov_outside.specs.declared.shelf.ShelfError.{ShelfError}
@@ -27,10 +27,12 @@ use Rattle.cov_step.specs.Listing.{listing}
 use Rattle.cov_step.specs.Names.{or_else}
 use Rattle.cov_step.specs.Commands as the
 use Rattle.cov_step.specs.Making.{made_path, ran_if_any, made_line, made_by, make}
+use Rattle.cov_step.specs.Mutating.{mutation_lines, judged_in, mutate}
+use Rattle.cov_step.specs.Selecting.{selection_lines, selected_in, select}
 use Rattle.cov_step.specs.Step.{doing}
-use Rattle.cov_step.specs.Testing.{tests_name, tests_asked, suite_answered, tested_or, tests_run, suite}
+use Rattle.cov_step.specs.Testing.{tests_name, tests_asked, suite_answered, came_or, tests_run, suite}
 use Rattle.cov_step.specs.Promises.{keeps, changes_last}
-use Rattle.cov_step.proofs.Answering.{given-so, on-so, before-so, tree-so, tested-so, ran-so}
+use Rattle.cov_step.proofs.Answering.{given-so, on-so, before-so, tree-so, came-so, ran-so}
 use Rattle.cov_step.proofs.Keeping.{KeepReading, opened-keeps, needed-keeps, settings-keeps, hook-keeps, joins-keeps, patterns_by-keeps, patterns-keeps, source-keeps, reported-keeps}
 
 -- reading leaves shelf and vault as they were
@@ -148,7 +150,7 @@ make-careful seed size =
 tests_run-careful : (own : Word) (asked : TestsAsked) (file : Word) (ms : List LoadedModule) → IsCareful keeps (tests_run own asked file ms)
 tests_run-careful own asked file ms = λ x. (
   λ e. absurd (true≢false e),
-  then-careful keeps (tested_or file x) _ (tested-so keeps file x) (λ r y. (
+  then-careful keeps (came_or file x) _ (came-so keeps file x) (λ r y. (
     λ e. absurd (true≢false e),
     then-careful keeps (on sink_refusal y) _ (on-so keeps sink_refusal y) (λ written. save-careful own r.1 (suite_answered r.0)),
   )),
@@ -162,6 +164,27 @@ suite-careful branch steps data_file rcfile file =
       then-careful keeps (before_of (own_name data_file s) y) _ (before-so keeps (own_name data_file s) y) (λ was. tests_run-careful (own_name data_file s) (tests_asked s branch steps) file ms),
     )))
 
+selected-careful : (most : ℕ) (old : Word) (before after : List LoadedModule) → IsCareful keeps (selected_in most old before after)
+selected-careful most old before after = λ x. (
+  λ e. absurd (true≢false e),
+  then-careful keeps (came_or old x) _ (came-so keeps old x) (λ s. write-careful (selection_lines s) done),
+)
+
+select-careful : (steps : Option ℕ) (old new : Word) → IsCareful keeps (select steps old new)
+select-careful steps old new =
+    then-careful keeps (opened tests_name old) _ (opened-keeps keeps keeps-reading tests_name old) (λ before.
+    then-careful keeps (opened tests_name new) _ (opened-keeps keeps keeps-reading tests_name new) (λ after. selected-careful (or_else steps the.usual_steps) old before after))
+
+judged-careful : (most : ℕ) (file : Word) (ms : List LoadedModule) → IsCareful keeps (judged_in most file ms)
+judged-careful most file ms = λ x. (
+  λ e. absurd (true≢false e),
+  then-careful keeps (came_or file x) _ (came-so keeps file x) (λ js. write-careful (mutation_lines js) done),
+)
+
+mutate-careful : (steps : Option ℕ) (file : Word) → IsCareful keeps (mutate steps file)
+mutate-careful steps file =
+    then-careful keeps (opened tests_name file) _ (opened-keeps keeps keeps-reading tests_name file) (λ ms. judged-careful (or_else steps the.usual_steps) file ms)
+
 pub law_of_care : (c : PlainCommand) → changes_last c ≡ true → IsCareful keeps (doing c)
 law_of_care (plain.arcs steps script args) e = arcs-careful steps script args
 law_of_care (plain.run branch append context steps hook data_file rcfile script args) e = run-careful branch append context steps hook data_file rcfile script args
@@ -174,5 +197,5 @@ law_of_care (plain.erase data_file rcfile) e = erase-careful data_file rcfile
 law_of_care (plain.script file) e = absurd (true≢false (sym e))
 law_of_care (plain.make seed size) e = make-careful seed size
 law_of_care (plain.suite branch steps data_file rcfile file) e = suite-careful branch steps data_file rcfile file
-law_of_care (plain.select steps old new) e = tt
-law_of_care (plain.mutate steps file) e = tt
+law_of_care (plain.select steps old new) e = select-careful steps old new
+law_of_care (plain.mutate steps file) e = mutate-careful steps file

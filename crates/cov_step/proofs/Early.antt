@@ -23,18 +23,20 @@ use Rattle.cov_why.specs.Answers.{Refusal, read_fault, write_fault, no_memory}
 use Rattle.cov_words.specs.Commands.{PlainCommand}
 use Rattle.cov_words.specs.Commands as plain
 use Rattle.cov_words.specs.Values.{Word}
-use Rattle.cov_step.specs.Calls.{Answered, PlainSource, Patterns, HookFiles, Asked, Ran, TestsAsked, TestResult, Tested, tested, not_imported, starved, Step, puts, writes}
-use Rattle.cov_step.specs.Answers.{given_or, before_of, run_refusal, shelf_refusal, sink_refusal, vault_refusal, removed, last, on, tree_of}
+use Rattle.cov_step.specs.Calls.{Answered, PlainSource, Patterns, HookFiles, Asked, Ran, TestsAsked, TestResult, AfterImport, came, not_imported, starved, Step, puts, writes}
+use Rattle.cov_step.specs.Answers.{given_or, run_refusal, shelf_refusal, sink_refusal, vault_refusal, last, on, tree_of}
 use Rattle.cov_step.specs.Phases.{needed, before, main_name, opened, settings, own_name, patterns_by, patterns, source, hook_of, joins, joined, analysed, reported, judged, done, write_last, put_last, save_last, remove_last, answered_by}
 use Rattle.cov_step.specs.Listing.{listing}
 use Rattle.cov_step.specs.Names.{or_else}
 use Rattle.cov_step.specs.Commands as the
 use Rattle.cov_step.specs.Making.{made_path, ran_if_any, made_line, made_by, make}
+use Rattle.cov_step.specs.Mutating.{mutation_lines, judged_in, mutate}
+use Rattle.cov_step.specs.Selecting.{selection_lines, selected_in, select}
 use Rattle.cov_step.specs.Step.{doing}
-use Rattle.cov_step.specs.Testing.{tests_name, tests_asked, suite_lines, suite_answered, tested_or, tests_run, suite}
+use Rattle.cov_step.specs.Testing.{tests_name, tests_asked, suite_lines, suite_answered, came_or, tests_run, suite}
 use Rattle.cov_step.specs.Early.{leaves_streams, comes_late, late_in_run, late_in_suite, late_of, is_late, leaves_output, ImportLaw}
 use Rattle.cov_step.specs.Promises.{has_one_text}
-use Rattle.cov_step.proofs.Answering.{given-so, last-so, before-so, removed-so, tree-so, tested-so, ran-so}
+use Rattle.cov_step.proofs.Answering.{given-so, last-so, before-so, removed-so, tree-so, came-so, ran-so}
 use Rattle.cov_step.proofs.Combining.{combine-keeps}
 use Rattle.cov_step.proofs.Keeping.{KeepReading, opened-keeps, needed-keeps, settings-keeps, hook-keeps, joins-keeps, patterns_by-keeps, patterns-keeps, source-keeps, reported-keeps}
 
@@ -177,8 +179,8 @@ tests-written None = tt
 tests-written (Some sink_error.Failed) = refl
 tests-written (Some sink_error.NoMemory) = refl
 
-tests-refuse : (file : Word) (x : Tested) → OnlyRefuses (is_late late_in_suite) (tested_or file x)
-tests-refuse file (tested results rows) = tt
+tests-refuse : {A : Type 0} (file : Word) (x : AfterImport A) → OnlyRefuses (is_late late_in_suite) (came_or file x)
+tests-refuse file (came a) = tt
 tests-refuse file not_imported = refl
 tests-refuse file starved = refl
 
@@ -187,8 +189,8 @@ ending-refuses own r = λ y. then-refuses (is_late late_in_suite) (on sink_refus
 
 tests_run-early : (own : Word) (asked : TestsAsked) (file : Word) (ms : List LoadedModule) → EarlyInSuite (tests_run own asked file ms)
 tests_run-early own asked file ms = λ x. (
-  λ e. then-refuses (is_late late_in_suite) (tested_or file x) (λ r. bind (ask (writes (suite_lines r.0)) (on sink_refusal)) (λ written. save_last own r.1 (suite_answered r.0))) (tests-refuse file x) (ending-refuses own),
-  refuses-late (is_late late_in_suite) leaves_streams _ (then-refuses (is_late late_in_suite) (tested_or file x) (λ r. bind (ask (writes (suite_lines r.0)) (on sink_refusal)) (λ written. save_last own r.1 (suite_answered r.0))) (tests-refuse file x) (ending-refuses own)),
+  λ e. then-refuses (is_late late_in_suite) (came_or file x) (λ r. bind (ask (writes (suite_lines r.0)) (on sink_refusal)) (λ written. save_last own r.1 (suite_answered r.0))) (tests-refuse file x) (ending-refuses own),
+  refuses-late (is_late late_in_suite) leaves_streams _ (then-refuses (is_late late_in_suite) (came_or file x) (λ r. bind (ask (writes (suite_lines r.0)) (on sink_refusal)) (λ written. save_last own r.1 (suite_answered r.0))) (tests-refuse file x) (ending-refuses own)),
 )
 
 suite-early : (branch : Bool) (steps : Option ℕ) (data_file rcfile : Option Word) (file : Word) → EarlyInSuite (suite branch steps data_file rcfile file)
@@ -196,6 +198,29 @@ suite-early branch steps data_file rcfile file =
     then-late (is_late late_in_suite) leaves_streams (settings rcfile) _ (settings-keeps leaves_streams streams-reading rcfile) (λ s.
     then-late (is_late late_in_suite) leaves_streams (opened tests_name file) _ (opened-keeps leaves_streams streams-reading tests_name file) (λ ms.
     then-late (is_late late_in_suite) leaves_streams (before (own_name data_file s)) _ (before-keeps (own_name data_file s)) (λ was. tests_run-early (own_name data_file s) (tests_asked s branch steps) file ms)))
+
+-- ---- tests of changes, which run on objects of their own
+
+selected-early : (most : ℕ) (old : Word) (before after : List LoadedModule) → Early (selected_in most old before after)
+selected-early most old before after = λ x. (
+  λ e. absurd (true≢false e),
+  then-late (is_late comes_late) leaves_streams (came_or old x) _ (came-so leaves_streams old x) (λ s. write-early (selection_lines s) done),
+)
+
+select-early : (steps : Option ℕ) (old new : Word) → Early (select steps old new)
+select-early steps old new =
+    then-late (is_late comes_late) leaves_streams (opened tests_name old) _ (opened-keeps leaves_streams streams-reading tests_name old) (λ before.
+    then-late (is_late comes_late) leaves_streams (opened tests_name new) _ (opened-keeps leaves_streams streams-reading tests_name new) (λ after. selected-early (or_else steps the.usual_steps) old before after))
+
+judged-early : (most : ℕ) (file : Word) (ms : List LoadedModule) → Early (judged_in most file ms)
+judged-early most file ms = λ x. (
+  λ e. absurd (true≢false e),
+  then-late (is_late comes_late) leaves_streams (came_or file x) _ (came-so leaves_streams file x) (λ js. write-early (mutation_lines js) done),
+)
+
+mutate-early : (steps : Option ℕ) (file : Word) → Early (mutate steps file)
+mutate-early steps file =
+    then-late (is_late comes_late) leaves_streams (opened tests_name file) _ (opened-keeps leaves_streams streams-reading tests_name file) (λ ms. judged-early (or_else steps the.usual_steps) file ms)
 
 pub law_of_early : (c : PlainCommand) → has_one_text c ≡ true → IsLate leaves_streams (is_late (late_of c)) (doing c)
 law_of_early (plain.arcs steps script args) e = arcs-early steps script args
@@ -209,8 +234,8 @@ law_of_early (plain.erase data_file rcfile) e = erase-early data_file rcfile
 law_of_early (plain.script file) e = absurd (true≢false (sym e))
 law_of_early (plain.make seed size) e = make-early seed size
 law_of_early (plain.suite branch steps data_file rcfile file) e = suite-early branch steps data_file rcfile file
-law_of_early (plain.select steps old new) e = tt
-law_of_early (plain.mutate steps file) e = tt
+law_of_early (plain.select steps old new) e = select-early steps old new
+law_of_early (plain.mutate steps file) e = mutate-early steps file
 
 -- ---- an import that failed
 
@@ -234,13 +259,57 @@ line-refuses (Some sink_error.NoMemory) = refl
 tests_run-before : (own : Word) (asked : TestsAsked) (file : Word) (ms : List LoadedModule) → BeforeOutput (tests_run own asked file ms)
 tests_run-before own asked file ms = λ x. (
   λ e. absurd (true≢false e),
-  then-late (is_late late_in_run) leaves_output (tested_or file x) _ (tested-so leaves_output file x) (λ r.
+  then-late (is_late late_in_run) leaves_output (came_or file x) _ (came-so leaves_output file x) (λ r.
       refuses-late (is_late late_in_run) leaves_output (bind (ask (writes (suite_lines r.0)) (on sink_refusal)) (λ written. save_last own r.1 (suite_answered r.0)))
       (λ y. then-refuses (is_late late_in_run) (on sink_refusal y) (λ written. save_last own r.1 (suite_answered r.0)) (line-refuses y) (λ written z. vault-refuses own (suite_answered r.0) z))),
 )
 
-pub law_of_import : ImportLaw
-law_of_import branch steps data_file rcfile file =
+suite-before : (branch : Bool) (steps : Option ℕ) (data_file rcfile : Option Word) (file : Word) → BeforeOutput (suite branch steps data_file rcfile file)
+suite-before branch steps data_file rcfile file =
     then-late (is_late late_in_run) leaves_output (settings rcfile) _ (settings-keeps leaves_output output-reading rcfile) (λ s.
     then-late (is_late late_in_run) leaves_output (opened tests_name file) _ (opened-keeps leaves_output output-reading tests_name file) (λ ms.
     then-late (is_late late_in_run) leaves_output (before (own_name data_file s)) _ (λ x. (refl, before-so leaves_output (own_name data_file s) x)) (λ was. tests_run-before (own_name data_file s) (tests_asked s branch steps) file ms)))
+
+write-before : (bytes : List ℕ) (a : Answered) → BeforeOutput (write_last bytes a)
+write-before bytes a = refuses-late (is_late late_in_run) leaves_output (write_last bytes a) (written a)
+  where
+    written : (a : Answered) (x : Option SinkError) → OnlyRefuses (is_late late_in_run) (last sink_refusal a x)
+    written a None = tt
+    written a (Some sink_error.Failed) = refl
+    written a (Some sink_error.NoMemory) = refl
+
+selected-before : (most : ℕ) (old : Word) (before after : List LoadedModule) → BeforeOutput (selected_in most old before after)
+selected-before most old before after = λ x. (
+  λ e. absurd (true≢false e),
+  then-late (is_late late_in_run) leaves_output (came_or old x) _ (came-so leaves_output old x) (λ s. write-before (selection_lines s) done),
+)
+
+select-before : (steps : Option ℕ) (old new : Word) → BeforeOutput (select steps old new)
+select-before steps old new =
+    then-late (is_late late_in_run) leaves_output (opened tests_name old) _ (opened-keeps leaves_output output-reading tests_name old) (λ before.
+    then-late (is_late late_in_run) leaves_output (opened tests_name new) _ (opened-keeps leaves_output output-reading tests_name new) (λ after. selected-before (or_else steps the.usual_steps) old before after))
+
+judged-before : (most : ℕ) (file : Word) (ms : List LoadedModule) → BeforeOutput (judged_in most file ms)
+judged-before most file ms = λ x. (
+  λ e. absurd (true≢false e),
+  then-late (is_late late_in_run) leaves_output (came_or file x) _ (came-so leaves_output file x) (λ js. write-before (mutation_lines js) done),
+)
+
+mutate-before : (steps : Option ℕ) (file : Word) → BeforeOutput (mutate steps file)
+mutate-before steps file =
+    then-late (is_late late_in_run) leaves_output (opened tests_name file) _ (opened-keeps leaves_output output-reading tests_name file) (λ ms. judged-before (or_else steps the.usual_steps) file ms)
+
+pub law_of_import : ImportLaw
+law_of_import (plain.arcs steps script args) e = absurd (true≢false (sym e))
+law_of_import (plain.run branch append context steps hook data_file rcfile script args) e = absurd (true≢false (sym e))
+law_of_import (plain.combine append keep data_file rcfile named) e = absurd (true≢false (sym e))
+law_of_import (plain.report show fail_under data_file rcfile) e = absurd (true≢false (sym e))
+law_of_import (plain.json name fail_under data_file rcfile) e = absurd (true≢false (sym e))
+law_of_import (plain.lcov name fail_under data_file rcfile) e = absurd (true≢false (sym e))
+law_of_import (plain.annotate data_file rcfile path) e = absurd (true≢false (sym e))
+law_of_import (plain.erase data_file rcfile) e = absurd (true≢false (sym e))
+law_of_import (plain.script file) e = absurd (true≢false (sym e))
+law_of_import (plain.make seed size) e = absurd (true≢false (sym e))
+law_of_import (plain.suite branch steps data_file rcfile file) e = suite-before branch steps data_file rcfile file
+law_of_import (plain.select steps old new) e = select-before steps old new
+law_of_import (plain.mutate steps file) e = mutate-before steps file

@@ -1,18 +1,17 @@
 -- Counts of faults: no call lowers them, and an answer that is an object's fault raised its count.
-use Rattle.std.proofs.Common.{◌≡◌, ◌∙◌, ℕ, ◌≤◌, refl, sym, ap, subst, List, Option, Some, None, Result, Ok, Err, arith}
+use Rattle.std.proofs.Common.{◌≡◌, ℕ, ◌≤◌, refl, sym, ap, subst, Option, Some, None, Ok, Err, arith}
 use Rattle.cov_outside.specs.Counts.{Rose}
 use Rattle.cov_outside.specs.declared.shelf.Shelf.{Ghosts as ShelfOf}
 use Rattle.cov_outside.specs.declared.shelf.ShelfError.TheVariants as shelf_error
 use Rattle.cov_outside.specs.declared.sink.Sink.{Ghosts as SinkOf}
-use Rattle.cov_outside.specs.declared.sink.SinkError.TheVariants as sink_error
 use Rattle.cov_exclude.specs.declared.maker.Maker.{Ghosts as MakerOf}
 use Rattle.cov_exclude.specs.declared.patterns.PatternError.TheVariants as pattern_error
 use Rattle.cov_vault.specs.declared.vault.Vault.{Ghosts as VaultOf}
 use Rattle.cov_vault.specs.declared.vault.VaultError.TheVariants as vault_error
 use Rattle.cov_why.specs.Answers.{Refusal, usage, no_such_file, syntax, limit, bad_config, bad_pattern, pattern_size, no_function, no_data, mixed, bad_data, no_source, read_fault, write_fault, shelf_fault, vault_fault, no_memory, import_failed}
-use Rattle.cov_step.specs.Calls.{Call, spells, checks, reads, puts, opens, lists, loads, saves, removes, makes, writes, crosses, measures, tries, tests, says, Answer}
+use Rattle.cov_step.specs.Calls.{Call, spells, checks, reads, puts, opens, lists, loads, saves, removes, makes, writes, crosses, measures, tries, tests, selects, judges, says, Answer}
 use Rattle.cov_step.specs.Objects.{on_grammar, on_shelf, on_vault, on_maker, on_sink, on_err, Saying}
-use Rattle.cov_step.specs.Promises.{Object, the_input, the_output, the_shelf, the_vault, the_maker, blame_of, blamed}
+use Rattle.cov_step.specs.Promises.{Object, the_shelf, the_vault, the_maker, blame_of, blamed}
 
 some-is : {A : Type 0} {a b : A} → ◌≡◌ {A = Option A} (Some a) (Some b) → a ≡ b
 some-is e = cc
@@ -41,6 +40,8 @@ shelf-later shelf u (crosses modules words budget) x v m = absurd m
 shelf-later shelf u (measures asked modules hook) x v m = absurd m
 shelf-later shelf u (tries modules words budget) x v m = absurd m
 shelf-later shelf u (tests asked modules) x v m = absurd m
+shelf-later shelf u (selects budget before after) x v m = absurd m
+shelf-later shelf u (judges budget modules) x v m = absurd m
 shelf-later shelf u (says text) x v m = absurd m
 
 -- the one refusal that blames a shelf
@@ -89,6 +90,8 @@ shelf-rose shelf u (crosses modules words budget) x v m e = absurd m
 shelf-rose shelf u (measures asked modules hook) x v m e = absurd m
 shelf-rose shelf u (tries modules words budget) x v m e = absurd m
 shelf-rose shelf u (tests asked modules) x v m e = absurd m
+shelf-rose shelf u (selects budget before after) x v m e = absurd m
+shelf-rose shelf u (judges budget modules) x v m e = absurd m
 shelf-rose shelf u (says text) x v m e = absurd m
 
 -- a shelf's answer is nobody else's fault
@@ -116,6 +119,8 @@ shelf-alone shelf u (crosses modules words budget) x v o m e = absurd m
 shelf-alone shelf u (measures asked modules hook) x v o m e = absurd m
 shelf-alone shelf u (tries modules words budget) x v o m e = absurd m
 shelf-alone shelf u (tests asked modules) x v o m e = absurd m
+shelf-alone shelf u (selects budget before after) x v o m e = absurd m
+shelf-alone shelf u (judges budget modules) x v o m e = absurd m
 shelf-alone shelf u (says text) x v o m e = absurd m
 
 -- ---- a vault
@@ -136,6 +141,8 @@ vault-later vault u (crosses modules words budget) x v m = absurd m
 vault-later vault u (measures asked modules hook) x v m = absurd m
 vault-later vault u (tries modules words budget) x v m = absurd m
 vault-later vault u (tests asked modules) x v m = absurd m
+vault-later vault u (selects budget before after) x v m = absurd m
+vault-later vault u (judges budget modules) x v m = absurd m
 vault-later vault u (says text) x v m = absurd m
 
 pub vault-rose : {V : Type 0} (vault : VaultOf V) (u : V) (call : Call) (x : Answer call) (v : V) → on_vault vault u call x v → blamed call x ≡ Some the_vault → Rose (vault.faults u) (vault.faults v)
@@ -174,6 +181,8 @@ vault-rose vault u (crosses modules words budget) x v m e = absurd m
 vault-rose vault u (measures asked modules hook) x v m e = absurd m
 vault-rose vault u (tries modules words budget) x v m e = absurd m
 vault-rose vault u (tests asked modules) x v m e = absurd m
+vault-rose vault u (selects budget before after) x v m e = absurd m
+vault-rose vault u (judges budget modules) x v m e = absurd m
 vault-rose vault u (says text) x v m e = absurd m
 
 pub vault-alone : {V : Type 0} (vault : VaultOf V) (u : V) (call : Call) (x : Answer call) (v : V) (o : Object) → on_vault vault u call x v → blamed call x ≡ Some o → o ≡ the_vault
@@ -212,6 +221,8 @@ vault-alone vault u (crosses modules words budget) x v o m e = absurd m
 vault-alone vault u (measures asked modules hook) x v o m e = absurd m
 vault-alone vault u (tries modules words budget) x v o m e = absurd m
 vault-alone vault u (tests asked modules) x v o m e = absurd m
+vault-alone vault u (selects budget before after) x v o m e = absurd m
+vault-alone vault u (judges budget modules) x v o m e = absurd m
 vault-alone vault u (says text) x v o m e = absurd m
 
 -- ---- a maker
@@ -232,6 +243,8 @@ maker-later maker u (crosses modules words budget) x v m = absurd m
 maker-later maker u (measures asked modules hook) x v m = absurd m
 maker-later maker u (tries modules words budget) x v m = absurd m
 maker-later maker u (tests asked modules) x v m = absurd m
+maker-later maker u (selects budget before after) x v m = absurd m
+maker-later maker u (judges budget modules) x v m = absurd m
 maker-later maker u (says text) x v m = absurd m
 
 pub maker-rose : {M : Type 0} (maker : MakerOf M) (u : M) (call : Call) (x : Answer call) (v : M) → on_maker maker u call x v → blamed call x ≡ Some the_maker → Rose (maker.sizes u) (maker.sizes v)
@@ -253,6 +266,8 @@ maker-rose maker u (crosses modules words budget) x v m e = absurd m
 maker-rose maker u (measures asked modules hook) x v m e = absurd m
 maker-rose maker u (tries modules words budget) x v m e = absurd m
 maker-rose maker u (tests asked modules) x v m e = absurd m
+maker-rose maker u (selects budget before after) x v m e = absurd m
+maker-rose maker u (judges budget modules) x v m e = absurd m
 maker-rose maker u (says text) x v m e = absurd m
 
 pub maker-alone : {M : Type 0} (maker : MakerOf M) (u : M) (call : Call) (x : Answer call) (v : M) (o : Object) → on_maker maker u call x v → blamed call x ≡ Some o → o ≡ the_maker
@@ -274,6 +289,8 @@ maker-alone maker u (crosses modules words budget) x v o m e = absurd m
 maker-alone maker u (measures asked modules hook) x v o m e = absurd m
 maker-alone maker u (tries modules words budget) x v o m e = absurd m
 maker-alone maker u (tests asked modules) x v o m e = absurd m
+maker-alone maker u (selects budget before after) x v o m e = absurd m
+maker-alone maker u (judges budget modules) x v o m e = absurd m
 maker-alone maker u (says text) x v o m e = absurd m
 
 -- ---- an output
@@ -294,6 +311,8 @@ sink-later sink u (crosses modules words budget) x v m = absurd m
 sink-later sink u (measures asked modules hook) x v m = absurd m
 sink-later sink u (tries modules words budget) x v m = absurd m
 sink-later sink u (tests asked modules) x v m = absurd m
+sink-later sink u (selects budget before after) x v m = absurd m
+sink-later sink u (judges budget modules) x v m = absurd m
 sink-later sink u (says text) x v m = absurd m
 
 -- ---- words, sources and `err`, which nobody blames
@@ -314,6 +333,8 @@ grammar-alone u (crosses modules words budget) x v o m e = m
 grammar-alone u (measures asked modules hook) x v o m e = m
 grammar-alone u (tries modules words budget) x v o m e = m
 grammar-alone u (tests asked modules) x v o m e = m
+grammar-alone u (selects budget before after) x v o m e = m
+grammar-alone u (judges budget modules) x v o m e = m
 grammar-alone u (says text) x v o m e = m
 
 pub err-alone : {E : Type 0} (sink : SinkOf E) (u : Saying E) (call : Call) (x : Answer call) (v : Saying E) (o : Object) → on_err sink u call x v → blamed call x ≡ Some o → ⊥
@@ -332,4 +353,6 @@ err-alone sink u (crosses modules words budget) x v o m e = m
 err-alone sink u (measures asked modules hook) x v o m e = m
 err-alone sink u (tries modules words budget) x v o m e = m
 err-alone sink u (tests asked modules) x v o m e = m
+err-alone sink u (selects budget before after) x v o m e = m
+err-alone sink u (judges budget modules) x v o m e = m
 err-alone sink u (says text) x v o m e = none-some e

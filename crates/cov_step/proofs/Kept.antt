@@ -1,11 +1,9 @@
 -- What calls leave of a shelf and a vault that tell what they hold.
-use Rattle.std.proofs.Common.{◌≡◌, Bool, true, false, true≢false, refl, sym, ap, List, Option, Some, None, Result, Ok, Err}
+use Rattle.std.proofs.Common.{◌≡◌, true, false, true≢false, refl, sym, ap, Some, None}
 use Rattle.cov_outside.specs.declared.shelf.Shelf.{Ghosts as ShelfOf}
-use Rattle.cov_outside.specs.declared.shelf.ShelfError.{ShelfError}
 use Rattle.cov_vault.specs.declared.vault.Vault.{Ghosts as VaultOf}
-use Rattle.cov_vault.specs.declared.vault.VaultError.{VaultError}
 use Rattle.cov_vault.specs.declared.vault.VaultError.TheVariants as vault_error
-use Rattle.cov_step.specs.Calls.{Call, spells, checks, reads, puts, opens, lists, loads, saves, removes, makes, writes, crosses, measures, tries, tests, says, Answer}
+use Rattle.cov_step.specs.Calls.{Call, spells, checks, reads, puts, opens, lists, loads, saves, removes, makes, writes, crosses, measures, tries, tests, selects, judges, says, Answer}
 use Rattle.cov_step.specs.Objects.{on_shelf, on_vault}
 use Rattle.cov_step.specs.Promises.{keeps}
 
@@ -26,6 +24,8 @@ shelf-kept shelf t u (crosses modules words budget) x v m e = absurd m
 shelf-kept shelf t u (measures asked modules hook) x v m e = absurd m
 shelf-kept shelf t u (tries modules words budget) x v m e = absurd m
 shelf-kept shelf t u (tests asked modules) x v m e = absurd m
+shelf-kept shelf t u (selects budget before after) x v m e = absurd m
+shelf-kept shelf t u (judges budget modules) x v m e = absurd m
 shelf-kept shelf t u (says text) x v m e = absurd m
 
 -- a vault that tells goes on telling
@@ -45,6 +45,8 @@ vault-tells vault u (crosses modules words budget) x v m t = absurd m
 vault-tells vault u (measures asked modules hook) x v m t = absurd m
 vault-tells vault u (tries modules words budget) x v m t = absurd m
 vault-tells vault u (tests asked modules) x v m t = absurd m
+vault-tells vault u (selects budget before after) x v m t = absurd m
+vault-tells vault u (judges budget modules) x v m t = absurd m
 vault-tells vault u (says text) x v m t = absurd m
 
 pub vault-kept : {V : Type 0} (vault : VaultOf V) (u : V) (call : Call) (x : Answer call) (v : V) → on_vault vault u call x v → vault.tells u → keeps call x ≡ true → vault.contents v ≡ vault.contents u
@@ -73,4 +75,6 @@ vault-kept vault u (crosses modules words budget) x v m t e = absurd m
 vault-kept vault u (measures asked modules hook) x v m t e = absurd m
 vault-kept vault u (tries modules words budget) x v m t e = absurd m
 vault-kept vault u (tests asked modules) x v m t e = absurd m
+vault-kept vault u (selects budget before after) x v m t e = absurd m
+vault-kept vault u (judges budget modules) x v m t e = absurd m
 vault-kept vault u (says text) x v m t e = absurd m

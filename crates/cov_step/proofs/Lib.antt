@@ -14,4 +14,5 @@ pub mod Folds
 pub mod Silence
 pub mod Early
 pub mod TestLines
+pub mod ChangeLines
 pub mod Combining

@@ -6,10 +6,10 @@ use Rattle.cov_programs.proofs.Parts.{then-keeps, each-keeps}
 use Rattle.cov_words.specs.Commands.{PlainCommand}
 use Rattle.cov_words.specs.Commands as plain
 use Rattle.cov_step.specs.Calls.{Step}
-use Rattle.cov_step.specs.Answers.{given_or, load_refusal, vault_refusal, run_refusal, shelf_refusal, sink_refusal, pattern_refusal}
-use Rattle.cov_step.specs.Promises.{is_silent, has_one_text, QuietLaw}
+use Rattle.cov_step.specs.Answers.{load_refusal, vault_refusal, run_refusal, shelf_refusal, sink_refusal, pattern_refusal}
+use Rattle.cov_step.specs.Promises.{is_silent, QuietLaw}
 use Rattle.cov_step.specs.Scripts.{inside}
-use Rattle.cov_step.proofs.Answering.{given-so, last-so, on-so, bytes-so, any-so, before-so, removed-so, tree-so, inputs-so, tested-so, ran-so}
+use Rattle.cov_step.proofs.Answering.{given-so, last-so, on-so, bytes-so, any-so, before-so, removed-so, tree-so, inputs-so, came-so, ran-so}
 use Rattle.cov_step.proofs.Whole.{inside-is}
 
 abbrev Silent : (A : Type 0) → Step A → Type 0
@@ -24,7 +24,7 @@ inside-silent c = inside-is Silent (λ A a. tt) (λ A r e. tt) (λ A B p next. t
     (λ bytes a x. (refl, last-so is_silent sink_refusal a x)) (λ name bytes a x. (refl, last-so is_silent shelf_refusal a x))
     (λ name content a x. (refl, last-so is_silent (vault_refusal name) a x)) (λ name content x. (refl, on-so is_silent (vault_refusal name) x))
     (λ name a x. (refl, removed-so is_silent (settle a) tt x)) (λ name x. (refl, removed-so is_silent (give tt) tt x))
-    (λ ms ws n x. (refl, ran-so is_silent x)) (λ asked ms file x. (refl, tested-so is_silent file x)) (λ bytes x. (refl, on-so is_silent sink_refusal x)) c
+    (λ ms ws n x. (refl, ran-so is_silent x)) (λ asked ms file x. (refl, came-so is_silent file x)) (λ n old new file x. (refl, came-so is_silent file x)) (λ n ms file x. (refl, came-so is_silent file x)) (λ bytes x. (refl, on-so is_silent sink_refusal x)) c
 
 pub law_of_quiet : QuietLaw
 law_of_quiet (plain.arcs steps script args) e = inside-silent (plain.arcs steps script args)
@@ -38,5 +38,5 @@ law_of_quiet (plain.erase data_file rcfile) e = inside-silent (plain.erase data_
 law_of_quiet (plain.script file) e = absurd (true≢false (sym e))
 law_of_quiet (plain.make seed size) e = inside-silent (plain.make seed size)
 law_of_quiet (plain.suite branch steps data_file rcfile file) e = inside-silent (plain.suite branch steps data_file rcfile file)
-law_of_quiet (plain.select steps old new) e = tt
-law_of_quiet (plain.mutate steps file) e = tt
+law_of_quiet (plain.select steps old new) e = inside-silent (plain.select steps old new)
+law_of_quiet (plain.mutate steps file) e = inside-silent (plain.mutate steps file)

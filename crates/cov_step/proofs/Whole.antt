@@ -1,5 +1,5 @@
 -- What holds of each command, where it holds of values, of refusals, of one part after another, and of each call with its answers.
-use Rattle.std.proofs.Common.{◌≡◌, ℕ, Bool, true, false, if◌then◌else◌, refl, List, [], ◌∷◌, ◌++◌, Option, Some, None, Result, Ok, Err}
+use Rattle.std.proofs.Common.{◌≡◌, ℕ, Bool, true, false, if◌then◌else◌, refl, List, [], ◌∷◌, ◌++◌, Option, None, Ok}
 use Rattle.std.specs.Prelude.{◌||◌, nat_le, codes}
 use Rattle.std.specs.Str.{bytes_eq, chars, is_utf8}
 use Rattle.std.specs.Str.Lines.{lines}
@@ -14,7 +14,7 @@ use Rattle.cov_json.specs.Json.{json_bytes}
 use Rattle.cov_lcov.specs.Annotated.{annotated_bytes}
 use Rattle.cov_lcov.specs.Lcov.{lcov_bytes}
 use Rattle.cov_make.specs.Source as made
-use Rattle.cov_programs.specs.Programs.{give, settle, ask, bind, each}
+use Rattle.cov_programs.specs.Programs.{give, ask, bind, each}
 use Rattle.cov_run.specs.Reading.{fault_line}
 use Rattle.cov_text.specs.Report.{text_bytes}
 use Rattle.cov_why.specs.Answers.{Refusal, usage, no_such_file, syntax, limit}
@@ -24,14 +24,16 @@ use Rattle.cov_why.specs.declared.why.SyntaxKind.TheVariants as kinds
 use Rattle.cov_words.specs.Commands.{PlainCommand}
 use Rattle.cov_words.specs.Commands as plain
 use Rattle.cov_words.specs.Values.{Word}
-use Rattle.cov_step.specs.Calls.{Answered, PlainSource, Patterns, HookFiles, Asked, TestsAsked, Step, refuse, spells, checks, puts, makes, writes, crosses, measures, tries, tests, says}
-use Rattle.cov_step.specs.Answers.{given_or, Before, run_refusal, shelf_refusal, sink_refusal, pattern_refusal, last, on, tree_of}
+use Rattle.cov_step.specs.Calls.{Answered, PlainSource, Patterns, HookFiles, Asked, TestsAsked, Step, refuse, spells, checks, puts, makes, writes, crosses, measures, tries, tests, selects, judges, says}
+use Rattle.cov_step.specs.Answers.{given_or, run_refusal, shelf_refusal, sink_refusal, pattern_refusal, last, on, tree_of}
 use Rattle.cov_step.specs.Listing.{listing}
 use Rattle.cov_step.specs.Names.{or_else, removable}
 use Rattle.cov_step.specs.Phases.{file, needed, before, main_name, opened, settings_file, settings, own_name, patterns_by, patterns, source, hook_of, joins, joined, inputs, has_own, own_input, some_input, same_kind, saving, removing, removing_all, analysed, reported, judged, done, write_last, put_last, save_last, remove_last, answered_by}
 use Rattle.cov_step.specs.Commands as the
 use Rattle.cov_step.specs.Making.{made_path, made_module, ran_if_any, made_line, made_by, make}
-use Rattle.cov_step.specs.Testing.{tests_name, tests_asked, suite_lines, suite_answered, tested_or, tests_run, suite_by}
+use Rattle.cov_step.specs.Mutating.{mutation_lines, judged_in, mutate}
+use Rattle.cov_step.specs.Selecting.{selection_lines, selected_in, select}
+use Rattle.cov_step.specs.Testing.{tests_name, tests_asked, suite_lines, suite_answered, came_or, tests_run, suite_by}
 use Rattle.cov_step.specs.Scripts.{inside, words_in, status_line, ended_in, line_done, is_comment, words_done, line_step, is_text, is_short, is_script, script_text, lines_done, script}
 use Rattle.cov_step.specs.Step.{doing, step}
 use Rattle.cov_step.specs.Promises.{blame_of}
@@ -58,7 +60,9 @@ module _ (P : (A : Type 0) → Step A → Type 0) (gives : (A : Type 0) (a : A) 
     (removes-last : (name : Word) (a : Answered) → P _ (remove_last name a))
     (removes-on : (name : Word) → P _ (removing name))
     (trying : (ms : List LoadedModule) (words : List Text) (n : ℕ) → P _ (ask (tries ms words n) ran_if_any))
-    (testing : (asked : TestsAsked) (ms : List LoadedModule) (file : Word) → P _ (ask (tests asked ms) (tested_or file)))
+    (testing : (asked : TestsAsked) (ms : List LoadedModule) (file : Word) → P _ (ask (tests asked ms) (came_or file)))
+    (selecting : (n : ℕ) (old new : List LoadedModule) (file : Word) → P _ (ask (selects n old new) (came_or file)))
+    (judging : (n : ℕ) (ms : List LoadedModule) (file : Word) → P _ (ask (judges n ms) (came_or file)))
     (noting : (bytes : List ℕ) → P _ (ask (writes bytes) (on sink_refusal))) where
   settings-are : (rcfile : Option Word) → P _ (settings rcfile)
   settings-are rcfile = settings-so P gives refuses binds eachs files usual opens checking making rcfile
@@ -130,7 +134,7 @@ module _ (P : (A : Type 0) → Step A → Type 0) (gives : (A : Type 0) (a : A) 
 
   tests_run-is : (own : Word) (asked : TestsAsked) (file : Word) (ms : List LoadedModule) → P _ (tests_run own asked file ms)
   tests_run-is own asked file ms =
-      binds _ _ (ask (tests asked ms) (tested_or file)) (λ r. bind (ask (writes (suite_lines r.0)) (on sink_refusal)) (λ written. save_last own r.1 (suite_answered r.0))) (testing asked ms file) (λ r.
+      binds _ _ (ask (tests asked ms) (came_or file)) (λ r. bind (ask (writes (suite_lines r.0)) (on sink_refusal)) (λ written. save_last own r.1 (suite_answered r.0))) (testing asked ms file) (λ r.
       binds _ _ (ask (writes (suite_lines r.0)) (on sink_refusal)) (λ written. save_last own r.1 (suite_answered r.0)) (noting (suite_lines r.0)) (λ written.
       saves-last own r.1 (suite_answered r.0)))
 
@@ -138,6 +142,25 @@ module _ (P : (A : Type 0) → Step A → Type 0) (gives : (A : Type 0) (a : A) 
   suite_by-is own asked file =
       binds _ _ (opened tests_name file) (λ ms. bind (before own) (λ was. tests_run own asked file ms)) (opens tests_name file) (λ ms.
       binds _ _ (before own) (λ was. tests_run own asked file ms) (standing own) (λ was. tests_run-is own asked file ms))
+
+  selected-is : (most : ℕ) (old : Word) (before after : List LoadedModule) → P _ (selected_in most old before after)
+  selected-is most old before after =
+      binds _ _ (ask (selects most before after) (came_or old)) (λ selection. write_last (selection_lines selection) done) (selecting most before after old) (λ selection.
+      writing (selection_lines selection) done)
+
+  select-is : (steps : Option ℕ) (old new : Word) → P _ (select steps old new)
+  select-is steps old new = let most = or_else steps the.usual_steps in
+      binds _ _ (opened tests_name old) (λ before. bind (opened tests_name new) (selected_in most old before)) (opens tests_name old) (λ before.
+      binds _ _ (opened tests_name new) (selected_in most old before) (opens tests_name new) (selected-is most old before))
+
+  judged-is : (most : ℕ) (file : Word) (ms : List LoadedModule) → P _ (judged_in most file ms)
+  judged-is most file ms =
+      binds _ _ (ask (judges most ms) (came_or file)) (λ js. write_last (mutation_lines js) done) (judging most ms file) (λ js.
+      writing (mutation_lines js) done)
+
+  mutate-is : (steps : Option ℕ) (file : Word) → P _ (mutate steps file)
+  mutate-is steps file = let most = or_else steps the.usual_steps in
+      binds _ _ (opened tests_name file) (judged_in most file) (opens tests_name file) (judged-is most file)
 
   pub inside-is : (c : PlainCommand) → P _ (inside c)
   inside-is (plain.arcs steps script args) = arcs-is steps script args
@@ -162,8 +185,8 @@ module _ (P : (A : Type 0) → Step A → Type 0) (gives : (A : Type 0) (a : A) 
   inside-is (plain.make seed size) = make-is seed size
   inside-is (plain.suite branch steps data_file rcfile file) =
       binds _ _ (settings rcfile) (λ s. suite_by (own_name data_file s) (tests_asked s branch steps) file) (settings-are rcfile) (λ s. suite_by-is (own_name data_file s) (tests_asked s branch steps) file)
-  inside-is (plain.select steps old new) = refuses _ (usage 0) refl
-  inside-is (plain.mutate steps file) = refuses _ (usage 0) refl
+  inside-is (plain.select steps old new) = select-is steps old new
+  inside-is (plain.mutate steps file) = mutate-is steps file
 
   -- with what is told of a command, and words
   module _ (spelling : (words : List Word) → P _ (ask (spells words) (given_or usage)))

@@ -1,5 +1,5 @@
 -- After an answer for want of memory a command is refused so.
-use Rattle.std.proofs.Common.{◌≡◌, ◌∙◌, ℕ, Bool, true, false, true≢false, refl, sym, ap, List, [], ◌∷◌, filter, Option, Some, None, Result, Ok, Err}
+use Rattle.std.proofs.Common.{◌≡◌, ℕ, Bool, true, false, true≢false, refl, sym, ap, List, [], ◌∷◌, filter, Option, Some, None, Result, Ok, Err}
 use Rattle.cov_outside.specs.declared.shelf.ShelfError.{ShelfError}
 use Rattle.cov_outside.specs.declared.shelf.ShelfError.TheVariants as shelf_error
 use Rattle.cov_outside.specs.declared.sink.SinkError.{SinkError}
@@ -15,7 +15,7 @@ use Rattle.py_token.specs.declared.error.TokenError.TheVariants as token_error
 use Rattle.cov_data.specs.DataSet.{DataSet}
 use Rattle.cov_exclude.specs.declared.patterns.PatternError.{PatternError}
 use Rattle.cov_exclude.specs.declared.patterns.PatternError.TheVariants as pattern_error
-use Rattle.cov_programs.specs.Programs.{give, settle, ask, bind}
+use Rattle.cov_programs.specs.Programs.{give, settle, bind}
 use Rattle.cov_programs.specs.Laws.{IsWant, Yields}
 use Rattle.cov_programs.proofs.Parts.{then-yields, each-yields}
 use Rattle.cov_run.specs.Reading.{Reading, no_text, long, stuck, no_tree, ill_formed, tree, unread}
@@ -24,11 +24,11 @@ use Rattle.cov_vault.specs.declared.vault.VaultError.TheVariants as vault_error
 use Rattle.cov_why.specs.Answers.{Refusal, usage, no_such_file, syntax, limit, bad_config, bad_pattern, pattern_size, no_function, no_data, mixed, bad_data, no_source, read_fault, write_fault, shelf_fault, vault_fault, no_memory, import_failed}
 use Rattle.cov_words.specs.Commands.{PlainCommand}
 use Rattle.cov_words.specs.Values.{Word}
-use Rattle.cov_step.specs.Calls.{Answered, Ran, Tested, tested, not_imported, starved, Step, IsNoMemory}
+use Rattle.cov_step.specs.Calls.{Answered, Ran, AfterImport, came, not_imported, starved, Step, IsNoMemory}
 use Rattle.cov_step.specs.Answers.{bytes_of, bytes_if_any, given_or, load_refusal, vault_refusal, before_of, removed, run_refusal, shelf_refusal, sink_refusal, pattern_refusal, last, on, token_refusal, syntax_refusal, scope_refusal, tree_of}
 use Rattle.cov_step.specs.Phases.{inputs, is_part_of}
 use Rattle.cov_step.specs.Making.{ran_if_any}
-use Rattle.cov_step.specs.Testing.{tested_or}
+use Rattle.cov_step.specs.Testing.{came_or}
 use Rattle.cov_step.specs.Step.{step}
 use Rattle.cov_step.specs.Promises.{shelf_hungry, vault_hungry, pattern_hungry, sink_hungry, run_hungry, token_hungry, syntax_hungry, scope_hungry, reading_hungry, refusal_hungry, hungry_error, hungry_refusal, is_wanting, tests_starved, is_hungry}
 use Rattle.cov_step.proofs.Whole.{step-is}
@@ -182,10 +182,10 @@ inputs-yield : (own : Word) (named : List Word) → Yielding _ (inputs own named
 inputs-yield own [] = listed-after own
 inputs-yield own (n ∷ ns) = tt
 
-tested-after : (file : Word) (x : Tested) → After (tests_starved x) (tested_or file x)
-tested-after file (tested results rows) = (λ h. absurd (never h), tt)
-tested-after file not_imported = (λ h. absurd (never h), tt)
-tested-after file starved = (λ h. refl, tt)
+came-after : {A : Type 0} (file : Word) (x : AfterImport A) → After (tests_starved x) (came_or file x)
+came-after file (came a) = (λ h. absurd (never h), tt)
+came-after file not_imported = (λ h. absurd (never h), tt)
+came-after file starved = (λ h. refl, tt)
 
 ran-after : (x : Option Ran) → After (is_wanting x) (ran_if_any x)
 ran-after None = (λ h. refl, tt)
@@ -204,4 +204,4 @@ law_of_want words = step-is Yielding (λ A a. tt) (λ A r e. tt) (λ A B p next.
     (λ bytes a x. last-after sink_refusal sink_hungry write-wants a x) (λ name bytes a x. last-after shelf_refusal shelf_hungry put-wants a x)
     (λ name content a x. last-after (vault_refusal name) vault_hungry (vault-wants name) a x) (λ name content x. on-after (vault_refusal name) vault_hungry (vault-wants name) x)
     (λ name a x. remove-after (settle a) tt x) (λ name x. remove-after (give tt) tt x)
-    (λ ms ws n x. ran-after x) (λ asked ms file x. tested-after file x) (λ bytes x. on-after sink_refusal sink_hungry write-wants x) (λ ws x. spelled-after x) (λ text x. (λ h. absurd (never h), tt)) words
+    (λ ms ws n x. ran-after x) (λ asked ms file x. came-after file x) (λ n old new file x. came-after file x) (λ n ms file x. came-after file x) (λ bytes x. on-after sink_refusal sink_hungry write-wants x) (λ ws x. spelled-after x) (λ text x. (λ h. absurd (never h), tt)) words

@@ -4,7 +4,10 @@
 --     HookFiles, Asked             a hook that was loaded, and what a run is asked
 --     Ran                          what a run came to
 --     TestsAsked                   what tests are asked
+--     AfterImport                  what comes of tests, where their import has to finish
 --     TestEnd, TestResult, Tested  how a test ended, and what tests came to
+--     Selection                    the tests that must run again
+--     Verdict, Judged              what tests notice of a mutant
 --     Call, Answer                 a call, and what is answered to it
 --     Step, refuse                 a program over calls, and one that is refused
 --     IsNoMemory                   want of memory
@@ -73,6 +76,13 @@ pub record TestsAsked : Type 0 where
   pub context : Word
   pub budget : ℕ
 
+-- What comes of tests, where the import of their modules has to finish first. Or that import
+-- didn't, or memory was wanting.
+pub data AfterImport (A : Type 0) : Type 0 where
+  came : (a : A) → AfterImport A
+  not_imported : AfterImport A
+  starved : AfterImport A
+
 -- how a test ended: it passed, it failed with an exception that nothing caught, or it was cut
 pub data TestEnd : Type 0 where
   passed : TestEnd
@@ -84,12 +94,29 @@ pub record TestResult : Type 0 where
   pub name : Text
   pub end : TestEnd
 
--- What tests came to: how each ended, and the rows that were recorded of them and of the import of
--- their modules. Or that import didn't finish, or memory was wanting.
-pub data Tested : Type 0 where
-  tested : (results : List TestResult) (rows : DataSet) → Tested
-  not_imported : Tested
-  starved : Tested
+-- what tests came to: how each ended, and the rows that were recorded of them and of the import
+abbrev pub Tested : Type 0
+Tested = AfterImport (List TestResult × DataSet)
+
+-- the tests of a new version that must run again, in order, and how many tests it has
+pub record Selection : Type 0 where
+  pub names : List Text
+  pub count : ℕ
+
+-- what tests notice of a mutant: one fails that passed before, none does, or its line isn't reached
+pub data Verdict : Type 0 where
+  killed : Verdict
+  survived : Verdict
+  unreached : Verdict
+
+-- a mutant: the path of its module, its line, the token that is changed, the one in its place, and
+-- what tests notice of it
+pub record Judged : Type 0 where
+  pub path : Text
+  pub line : ℕ
+  pub old : List ℕ
+  pub new : List ℕ
+  pub verdict : Verdict
 
 -- Each call is one of a public function, and its relation is that function's clauses.
 pub data Call : Type 0 where
@@ -115,6 +142,10 @@ pub data Call : Type 0 where
   tries : (modules : List LoadedModule) (words : List Text) (budget : ℕ) → Call
   -- an import and its tests, likewise, but for the plugins, which give labels
   tests : (asked : TestsAsked) (modules : List LoadedModule) → Call
+  -- Which tests of new modules must run again, after those of the modules before, and what tests
+  -- notice of the mutants of their modules. All run on objects of their own, without plugins.
+  selects : (budget : ℕ) (before after : List LoadedModule) → Call
+  judges : (budget : ℕ) (modules : List LoadedModule) → Call
   -- a text for `err`
   says : (text : List ℕ) → Call
 
@@ -135,6 +166,8 @@ Answer (crosses modules words budget) = Result Ran RunFault
 Answer (measures asked modules hook) = Result Ran RunFault
 Answer (tries modules words budget) = Option Ran
 Answer (tests asked modules) = Tested
+Answer (selects budget before after) = AfterImport Selection
+Answer (judges budget modules) = AfterImport (List Judged)
 Answer (says text) = Unit {0}
 
 -- A program over these calls. What the code answers in place of a value is any ending; a program is

@@ -2,11 +2,11 @@
 --     leaves_files                  an answer that leaves the files as they were
 --     may_change, after_changes     a refusal after which data may have changed
 --     CombineLaw                    the others come before; and no file is put
-use Rattle.std.specs.Prelude.{◌≡◌, Bool, true, false, List, Option, Ok, Err}
+use Rattle.std.specs.Prelude.{Bool, true, false, List, Option, Ok, Err}
 use Rattle.cov_programs.specs.Laws.{IsLate, OnlyKeeps}
 use Rattle.cov_why.specs.Answers.{Refusal, usage, no_such_file, syntax, limit, bad_config, bad_pattern, pattern_size, no_function, no_data, mixed, bad_data, no_source, read_fault, write_fault, shelf_fault, vault_fault, no_memory, import_failed, PlainWhy}
 use Rattle.cov_words.specs.Values.{Word}
-use Rattle.cov_step.specs.Calls.{Call, spells, checks, reads, puts, opens, lists, loads, saves, removes, makes, writes, crosses, measures, tries, tests, says, Answer}
+use Rattle.cov_step.specs.Calls.{Call, spells, checks, reads, puts, opens, lists, loads, saves, removes, makes, writes, crosses, measures, tries, tests, selects, judges, says, Answer}
 use Rattle.cov_step.specs.Commands.{combine}
 use Rattle.cov_step.specs.Promises.{keeps}
 
@@ -27,6 +27,8 @@ leaves_files (crosses modules words budget) answer = true
 leaves_files (measures asked modules hook) answer = true
 leaves_files (tries modules words budget) answer = true
 leaves_files (tests asked modules) answer = true
+leaves_files (selects budget before after) answer = true
+leaves_files (judges budget modules) answer = true
 leaves_files (says text) answer = true
 
 -- a refusal after which the combined data may be saved and some inputs removed

@@ -3,17 +3,16 @@
 --     comes_late, late_in_run, late_in_suite    a refusal that may come after a run or a write
 --     late_of, is_late             the same of a command, and of an answer
 --     EarlyLaw                     the others come before
---     leaves_output, ImportLaw     an import of tests that failed comes before any output
-use Rattle.std.specs.Prelude.{◌≡◌, ℕ, Bool, true, false, Option, Ok, Err}
+--     leaves_output                an answer that leaves the output as it was
+--     imports_tests, ImportLaw     an import of tests that failed comes before any output
+use Rattle.std.specs.Prelude.{◌≡◌, Bool, true, false, Ok, Err}
 use Rattle.cov_programs.specs.Laws.{IsLate}
 use Rattle.cov_why.specs.Answers.{Refusal, usage, no_such_file, syntax, limit, bad_config, bad_pattern, pattern_size, no_function, no_data, mixed, bad_data, no_source, read_fault, write_fault, shelf_fault, vault_fault, no_memory, import_failed, PlainWhy}
 use Rattle.cov_words.specs.Commands.{PlainCommand}
 use Rattle.cov_words.specs.Commands as plain
-use Rattle.cov_words.specs.Values.{Word}
-use Rattle.cov_step.specs.Calls.{Call, spells, checks, reads, puts, opens, lists, loads, saves, removes, makes, writes, crosses, measures, tries, tests, says, Answer}
+use Rattle.cov_step.specs.Calls.{Call, spells, checks, reads, puts, opens, lists, loads, saves, removes, makes, writes, crosses, measures, tries, tests, selects, judges, says, Answer}
 use Rattle.cov_step.specs.Promises.{has_one_text}
 use Rattle.cov_step.specs.Step.{doing}
-use Rattle.cov_step.specs.Testing.{suite}
 
 -- an answer that leaves input, output, plugins and engine as they were
 abbrev pub leaves_streams : (call : Call) → Answer call → Bool
@@ -32,6 +31,8 @@ leaves_streams (crosses modules words budget) answer = false
 leaves_streams (measures asked modules hook) answer = false
 leaves_streams (tries modules words budget) answer = true
 leaves_streams (tests asked modules) answer = false
+leaves_streams (selects budget before after) answer = true
+leaves_streams (judges budget modules) answer = true
 leaves_streams (says text) answer = true
 
 -- a refusal that may come after a run or a write
@@ -53,7 +54,7 @@ comes_late write_fault = true
 comes_late shelf_fault = true
 comes_late vault_fault = true
 comes_late no_memory = true
-comes_late (import_failed file) = true
+comes_late (import_failed file) = false
 
 -- a vault that tells nothing may besides answer to a run's save that its target isn't of schema 7
 abbrev pub late_in_run : Refusal → Bool
@@ -78,24 +79,8 @@ late_in_run (import_failed file) = false
 
 -- so it may to that of tests, whose import may fail besides
 abbrev pub late_in_suite : Refusal → Bool
-late_in_suite (usage words) = false
-late_in_suite (no_such_file name) = false
-late_in_suite (syntax file line kind) = false
-late_in_suite (limit kind n) = false
-late_in_suite (bad_config key) = false
-late_in_suite (bad_pattern at) = false
-late_in_suite (pattern_size at) = false
-late_in_suite (no_function name) = false
-late_in_suite (no_data name) = false
-late_in_suite (mixed first other) = false
-late_in_suite (bad_data name kind) = true
-late_in_suite (no_source path) = false
-late_in_suite read_fault = true
-late_in_suite write_fault = true
-late_in_suite shelf_fault = true
-late_in_suite vault_fault = true
-late_in_suite no_memory = true
 late_in_suite (import_failed file) = true
+late_in_suite refusal = late_in_run refusal
 
 -- which come late, of a command
 abbrev pub late_of : PlainCommand → Refusal → Bool
@@ -141,10 +126,28 @@ leaves_output (crosses modules words budget) answer = false
 leaves_output (measures asked modules hook) answer = false
 leaves_output (tries modules words budget) answer = true
 leaves_output (tests asked modules) answer = true
+leaves_output (selects budget before after) answer = true
+leaves_output (judges budget modules) answer = true
 leaves_output (says text) answer = true
 
--- Tests whose import failed are refused before anything is written.
+-- a command that imports a file of tests
+abbrev pub imports_tests : PlainCommand → Bool
+imports_tests (plain.arcs budget script args) = false
+imports_tests (plain.run branch append context budget hook data_file rcfile script args) = false
+imports_tests (plain.combine append keep data_file rcfile names) = false
+imports_tests (plain.report show_missing fail_under data_file rcfile) = false
+imports_tests (plain.json name fail_under data_file rcfile) = false
+imports_tests (plain.lcov name fail_under data_file rcfile) = false
+imports_tests (plain.annotate data_file rcfile file) = false
+imports_tests (plain.erase data_file rcfile) = false
+imports_tests (plain.script file) = false
+imports_tests (plain.make seed size) = false
+imports_tests (plain.suite branch budget data_file rcfile file) = true
+imports_tests (plain.select budget old new) = true
+imports_tests (plain.mutate budget file) = true
+
+-- Where that import failed, such a command is refused before anything is written.
 abbrev pub ImportLaw : Type 0
 ImportLaw =
-    (branch : Bool) (steps : Option ℕ) (data_file rcfile : Option Word) (file : Word)
-    → IsLate leaves_output (is_late late_in_run) (suite branch steps data_file rcfile file)
+    (c : PlainCommand) → imports_tests c ≡ true
+    → IsLate leaves_output (is_late late_in_run) (doing c)

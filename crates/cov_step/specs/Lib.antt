@@ -6,6 +6,8 @@ pub mod Phases
 pub mod Commands
 pub mod Making
 pub mod Testing
+pub mod Selecting
+pub mod Mutating
 pub mod Scripts
 pub mod Step
 pub mod Objects

@@ -5,7 +5,7 @@
 --     MakeOf, on_maker                         a maker of patterns
 --     IsWritten, WriteOf, on_sink               an output
 --     Told, Saying, SayOf, on_err              `err`
-use Rattle.std.specs.Prelude.{◌≡◌, ◌≢◌, ℕ, ◌≤◌, List, ◌++◌, Option, Some, None, Result, Ok, Err}
+use Rattle.std.specs.Prelude.{◌≡◌, ◌≢◌, ℕ, ◌≤◌, List, ◌++◌, Option, Some, None, Result, Err}
 use Rattle.std.specs.Str.{chars}
 use Rattle.cov_outside.specs.Counts.{Rose}
 use Rattle.cov_outside.specs.Prefixes.{GainsPrefix}
@@ -30,7 +30,7 @@ use Rattle.cov_vault.specs.declared.vault.VaultError.{VaultError}
 use Rattle.cov_vault.specs.declared.vault.VaultError.TheVariants as vault_error
 use Rattle.cov_why.specs.Answers.{Refusal, shelf_fault}
 use Rattle.cov_words.specs.Values.{Word}
-use Rattle.cov_step.specs.Calls.{Call, spells, checks, reads, puts, opens, lists, loads, saves, removes, makes, writes, crosses, measures, tries, tests, says, Answer}
+use Rattle.cov_step.specs.Calls.{Call, spells, checks, reads, puts, opens, lists, loads, saves, removes, makes, writes, crosses, measures, tries, tests, selects, judges, says, Answer}
 use Rattle.cov_step.specs.Promises.{Object, the_shelf, blame_of, by_error}
 use Rattle.cov_step.specs.Step.{IsSpelled}
 
@@ -59,6 +59,8 @@ on_grammar old (crosses modules words budget) answer new = ⊥
 on_grammar old (measures asked modules hook) answer new = ⊥
 on_grammar old (tries modules words budget) answer new = ⊥
 on_grammar old (tests asked modules) answer new = ⊥
+on_grammar old (selects budget before after) answer new = ⊥
+on_grammar old (judges budget modules) answer new = ⊥
 on_grammar old (says text) answer new = ⊥
 
 -- ---- a shelf
@@ -110,6 +112,8 @@ on_shelf shelf old (crosses modules words budget) answer new = ⊥
 on_shelf shelf old (measures asked modules hook) answer new = ⊥
 on_shelf shelf old (tries modules words budget) answer new = ⊥
 on_shelf shelf old (tests asked modules) answer new = ⊥
+on_shelf shelf old (selects budget before after) answer new = ⊥
+on_shelf shelf old (judges budget modules) answer new = ⊥
 on_shelf shelf old (says text) answer new = ⊥
 
 -- ---- a vault
@@ -167,6 +171,8 @@ on_vault vault old (crosses modules words budget) answer new = ⊥
 on_vault vault old (measures asked modules hook) answer new = ⊥
 on_vault vault old (tries modules words budget) answer new = ⊥
 on_vault vault old (tests asked modules) answer new = ⊥
+on_vault vault old (selects budget before after) answer new = ⊥
+on_vault vault old (judges budget modules) answer new = ⊥
 on_vault vault old (says text) answer new = ⊥
 
 -- ---- a maker of patterns
@@ -196,6 +202,8 @@ on_maker maker old (crosses modules words budget) answer new = ⊥
 on_maker maker old (measures asked modules hook) answer new = ⊥
 on_maker maker old (tries modules words budget) answer new = ⊥
 on_maker maker old (tests asked modules) answer new = ⊥
+on_maker maker old (selects budget before after) answer new = ⊥
+on_maker maker old (judges budget modules) answer new = ⊥
 on_maker maker old (says text) answer new = ⊥
 
 -- ---- an output
@@ -230,6 +238,8 @@ on_sink sink old (crosses modules words budget) answer new = ⊥
 on_sink sink old (measures asked modules hook) answer new = ⊥
 on_sink sink old (tries modules words budget) answer new = ⊥
 on_sink sink old (tests asked modules) answer new = ⊥
+on_sink sink old (selects budget before after) answer new = ⊥
+on_sink sink old (judges budget modules) answer new = ⊥
 on_sink sink old (says text) answer new = ⊥
 
 -- ---- `err`
@@ -280,4 +290,6 @@ on_err sink old (crosses modules words budget) answer new = ⊥
 on_err sink old (measures asked modules hook) answer new = ⊥
 on_err sink old (tries modules words budget) answer new = ⊥
 on_err sink old (tests asked modules) answer new = ⊥
+on_err sink old (selects budget before after) answer new = ⊥
+on_err sink old (judges budget modules) answer new = ⊥
 on_err sink old (says text) answer new = SayOf sink old text new

@@ -32,7 +32,7 @@ use Rattle.cov_why.specs.Answers.{Refusal, usage, no_such_file, syntax, limit, b
 use Rattle.cov_words.specs.Commands.{PlainCommand}
 use Rattle.cov_words.specs.Commands as plain
 use Rattle.cov_words.specs.Values.{Word}
-use Rattle.cov_step.specs.Calls.{Call, spells, checks, reads, puts, opens, lists, loads, saves, removes, makes, writes, crosses, measures, tries, tests, says, Answer, Answered, Tested, tested, not_imported, starved, IsNoMemory}
+use Rattle.cov_step.specs.Calls.{Call, spells, checks, reads, puts, opens, lists, loads, saves, removes, makes, writes, crosses, measures, tries, tests, selects, judges, says, Answer, Answered, AfterImport, came, not_imported, starved, IsNoMemory}
 use Rattle.cov_step.specs.Commands.{run}
 use Rattle.cov_step.specs.Phases.{done}
 use Rattle.cov_step.specs.Scripts.{line_step, script_text, script}
@@ -62,6 +62,8 @@ keeps (crosses modules words budget) answer = true
 keeps (measures asked modules hook) answer = true
 keeps (tries modules words budget) answer = true
 keeps (tests asked modules) answer = true
+keeps (selects budget before after) answer = true
+keeps (judges budget modules) answer = true
 keeps (says text) answer = true
 
 -- a command that changes shelf or vault by its last call alone, if at all
@@ -103,6 +105,8 @@ is_silent (crosses modules words budget) answer = true
 is_silent (measures asked modules hook) answer = true
 is_silent (tries modules words budget) answer = true
 is_silent (tests asked modules) answer = true
+is_silent (selects budget before after) answer = true
+is_silent (judges budget modules) answer = true
 is_silent (says text) answer = false
 
 -- a command of one text, which is said when it ended; a script has those of its commands
@@ -144,6 +148,8 @@ calls_vault (crosses modules words budget) = false
 calls_vault (measures asked modules hook) = false
 calls_vault (tries modules words budget) = false
 calls_vault (tests asked modules) = false
+calls_vault (selects budget before after) = false
+calls_vault (judges budget modules) = false
 calls_vault (says text) = false
 
 -- a run calls the vault at most twice
@@ -275,6 +281,8 @@ blamed (crosses modules words budget) answer = by_error run_blame answer
 blamed (measures asked modules hook) answer = by_error run_blame answer
 blamed (tries modules words budget) answer = None
 blamed (tests asked modules) answer = None
+blamed (selects budget before after) answer = None
+blamed (judges budget modules) answer = None
 blamed (says text) answer = None
 
 -- that is this object
@@ -398,8 +406,8 @@ is_wanting None = true
 is_wanting (Some a) = false
 
 -- tests that memory was wanting for
-abbrev pub tests_starved : Tested → Bool
-tests_starved (tested results rows) = false
+abbrev pub tests_starved : {A : Type 0} → AfterImport A → Bool
+tests_starved (came a) = false
 tests_starved not_imported = false
 tests_starved starved = true
 
@@ -420,6 +428,8 @@ is_hungry (crosses modules words budget) answer = hungry_error run_hungry answer
 is_hungry (measures asked modules hook) answer = hungry_error run_hungry answer
 is_hungry (tries modules words budget) answer = is_wanting answer
 is_hungry (tests asked modules) answer = tests_starved answer
+is_hungry (selects budget before after) answer = tests_starved answer
+is_hungry (judges budget modules) answer = tests_starved answer
 is_hungry (says text) answer = false
 
 -- After such an answer a command is refused for want of memory.

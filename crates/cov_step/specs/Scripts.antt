@@ -26,10 +26,12 @@ use Rattle.cov_step.specs.Calls.{Answered, spells, writes, says, Step, refuse}
 use Rattle.cov_step.specs.Answers.{given_or, sink_refusal, on}
 use Rattle.cov_step.specs.Commands.{arcs, run, combine, report, json, lcov, annotate, erase}
 use Rattle.cov_step.specs.Making.{make}
+use Rattle.cov_step.specs.Mutating.{mutate}
 use Rattle.cov_step.specs.Phases.{file, done}
+use Rattle.cov_step.specs.Selecting.{select}
 use Rattle.cov_step.specs.Testing.{suite}
 
--- a command of a script; there a script is no command, nor is one that isn't built
+-- a command of a script; there a script is no command
 abbrev pub inside : PlainCommand → Step Answered
 inside (plain.arcs budget script args) = arcs budget script args
 inside (plain.run branch append context budget hook data_file rcfile script args) =
@@ -46,8 +48,8 @@ inside (plain.script file) = refuse (usage 0)
 inside (plain.make seed size) = make seed size
 inside (plain.suite branch budget data_file rcfile file) =
     suite branch budget data_file rcfile file
-inside (plain.select budget old new) = refuse (usage 0)
-inside (plain.mutate budget file) = refuse (usage 0)
+inside (plain.select budget old new) = select budget old new
+inside (plain.mutate budget file) = mutate budget file
 
 -- ---- a line
 

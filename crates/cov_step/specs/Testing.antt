@@ -3,20 +3,19 @@
 --     end_text, test_line          how a test ended, and its line
 --     count_of, counts_line        how many ended so, and the line of these counts
 --     suite_lines, suite_answered  all lines, and how the command ended
---     tested_or                    what follows from the answer
+--     came_or                      what follows from the answer
 --     tests_run, suite_by, suite   the command
-use Rattle.std.specs.Prelude.{ℕ, ◌||◌, Bool, true, false, List, [], ◌∷◌, ◌++◌, filter, length, Option, codes, decimal, encode_utf8_all}
+use Rattle.std.specs.Prelude.{ℕ, ◌||◌, Bool, true, false, List, [], ◌++◌, filter, length, Option, codes, decimal, encode_utf8_all}
 use Rattle.std.specs.List.{flat_map}
 use Rattle.std.specs.Str.{chars}
 use Rattle.py_builtins.specs.Outcomes.{uncaught}
 use Rattle.py_meaning.specs.Modules.{LoadedModule}
 use Rattle.py_syntax.specs.Tree.{Text}
 use Rattle.cov_config.specs.Settings.{Settings}
-use Rattle.cov_data.specs.DataSet.{DataSet}
 use Rattle.cov_programs.specs.Programs.{give, ask, bind, ◌>>=◌}
 use Rattle.cov_why.specs.Answers as why
 use Rattle.cov_words.specs.Values.{Word}
-use Rattle.cov_step.specs.Calls.{Answered, TestsAsked, TestEnd, passed, failed, cut, TestResult, Tested, tested, not_imported, starved, tests, writes, Step, refuse}
+use Rattle.cov_step.specs.Calls.{Answered, TestsAsked, TestEnd, passed, failed, cut, TestResult, AfterImport, came, not_imported, starved, tests, writes, Step, refuse}
 use Rattle.cov_step.specs.Answers.{sink_refusal, on}
 use Rattle.cov_step.specs.Names.{or_else}
 use Rattle.cov_step.specs.Phases.{before, opened, settings, own_name, save_last}
@@ -35,7 +34,7 @@ tests_asked s branch steps = record {
 
 -- ---- the lines
 
--- how a test ended: `passed`, `failed KIND: TEXT`, with KIND alone where the text is empty, or `cut`
+-- how a test ended: `passed`, `failed KIND: TEXT`, with KIND alone where there is no text, or `cut`
 abbrev pub end_text : TestEnd → List ℕ
 end_text passed = codes "passed"
 end_text (failed kind text) = codes "failed " ++ encode_utf8_all (uncaught kind text)
@@ -91,18 +90,18 @@ suite_answered results = record {
 
 -- ---- the command
 
--- what tests came to, where the import of this file finished
-abbrev pub tested_or : Word → Tested → Step (List TestResult × DataSet)
-tested_or file (tested results rows) = give (results, rows)
-tested_or file not_imported = refuse (why.import_failed file)
-tested_or file starved = refuse why.no_memory
+-- what came of tests, where the import of this file finished
+abbrev pub came_or : {A : Type 0} → Word → AfterImport A → Step A
+came_or file (came a) = give a
+came_or file not_imported = refuse (why.import_failed file)
+came_or file starved = refuse why.no_memory
 
 -- the import and the tests run, then their lines are written, and then their rows are saved
 abbrev pub tests_run : (own : Word) (asked : TestsAsked) (file : Word) (ms : List LoadedModule)
     → Step Answered
 tests_run own asked file ms = do
   answer ← ask (tests asked ms) give
-  r ← tested_or file answer
+  r ← came_or file answer
   written ← ask (writes (suite_lines r.0)) (on sink_refusal)
   save_last own r.1 (suite_answered r.0)
 

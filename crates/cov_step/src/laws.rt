@@ -15,14 +15,15 @@ pub fn quiet()
     ensures { QuietLaw }
 {}
 
-/// A command but a script is refused before it runs or writes anything; what may come later are
-/// faults, want of memory, a save of a run or of tests whose target isn't of schema 7, and an
-/// import of tests that failed. It does nothing when it runs.
+/// A command but a script is refused before it runs or writes anything. What may come later are
+/// faults, want of memory, a save of a run or of a suite whose target isn't of schema 7, and a
+/// suite's failed import. It does nothing when it runs.
 pub fn refuses_early()
     ensures { EarlyLaw }
 {}
 
-/// Tests whose import failed are refused before anything is written. It does nothing when it runs.
+/// Where the import of tests failed, a command is refused before anything is written. It does
+/// nothing when it runs.
 pub fn import_fails_early()
     ensures { ImportLaw }
 {}

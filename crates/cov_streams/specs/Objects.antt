@@ -9,11 +9,12 @@ use Rattle.cov_outside.specs.declared.source.Source.{Ghosts as SourceOf}
 use Rattle.py_machine.specs.declared.engine.Engine.{Ghosts as EngineOf}
 use Rattle.cov_measure.specs.Measures.{Streams, streams}
 use Rattle.cov_programs.specs.Objects.{Moves}
-use Rattle.cov_step.specs.Calls.{Call, spells, checks, reads, puts, opens, lists, loads, saves, removes, makes, writes, crosses, measures, tries, tests, says, Answer}
+use Rattle.cov_step.specs.Calls.{Call, spells, checks, reads, puts, opens, lists, loads, saves, removes, makes, writes, crosses, measures, tries, tests, selects, judges, says, Answer}
 use Rattle.cov_step.specs.Objects.{WriteOf}
 use Rattle.cov_streams.specs.Runs.{MeasureRun, CrossRun}
 use Rattle.cov_streams.specs.Trials.{TryRun}
 use Rattle.cov_streams.specs.Suites.{TestsRun}
+use Rattle.cov_streams.specs.Retests.{SelectRun, JudgeRun}
 
 -- a write, which leaves the others alone
 pub record WriteRun {I O P G : Type 0} (sink : SinkOf O) (old : Streams I O P G) (bytes : List ℕ)
@@ -21,7 +22,8 @@ pub record WriteRun {I O P G : Type 0} (sink : SinkOf O) (old : Streams I O P G)
   pub wrote : WriteOf sink old.out bytes refusal new.out
   pub same : new ≡ streams old.input new.out old.plugins old.engine
 
--- input, output, plugins and engine; a try leaves them alone, and tests leave all but the plugins
+-- input, output, plugins and engine; tests leave all but the plugins, and a try, a selection and
+-- verdicts leave them alone
 abbrev pub on_run : {I O P G : Type 0} → SourceOf I → SinkOf O → PluginOf P → EngineOf G
     → Moves Call Answer (Streams I O P G)
 on_run source sink plugin engine old (spells words) answer new = ⊥
@@ -44,4 +46,8 @@ on_run source sink plugin engine old (tries modules words budget) answer new =
     TryRun old modules words budget answer new
 on_run source sink plugin engine old (tests asked modules) answer new =
     TestsRun plugin old asked modules answer new
+on_run source sink plugin engine old (selects budget before after) answer new =
+    SelectRun old budget before after answer new
+on_run source sink plugin engine old (judges budget modules) answer new =
+    JudgeRun old budget modules answer new
 on_run source sink plugin engine old (says text) answer new = ⊥

@@ -8,7 +8,7 @@ use Rattle.cov_contexts.specs.declared.plugins.Plugin.{Ghosts as PluginOf}
 use Rattle.py_meaning.specs.Modules.{LoadedModule}
 use Rattle.cov_measure.specs.Measures.{Streams, streams}
 use Rattle.cov_programs.specs.Objects.{Moves}
-use Rattle.cov_step.specs.Calls.{Call, spells, checks, reads, puts, opens, lists, loads, saves, removes, makes, writes, crosses, measures, tries, tests, says, Answer, TestsAsked, TestEnd, passed, failed, cut, TestResult, Tested, tested, not_imported, starved}
+use Rattle.cov_step.specs.Calls.{Call, spells, checks, reads, puts, opens, lists, loads, saves, removes, makes, writes, crosses, measures, tries, tests, selects, judges, says, Answer, TestsAsked, TestEnd, passed, failed, cut, TestResult, Tested, came, not_imported, starved}
 use Rattle.cov_suite.specs.declared.results.SuiteError.{SuiteError}
 use Rattle.cov_suite.specs.declared.results.SuiteError.TheVariants as error
 use Rattle.cov_suite.specs.declared.results.TestEnd.{TestEnd as RawEnd}
@@ -29,7 +29,7 @@ result_of t = record { name = t.name; end = end_of t.end }
 
 -- what tests came to
 abbrev pub tested_by : Result SuiteView SuiteError → Tested
-tested_by (Ok s) = tested (map result_of s.tests) s.rows
+tested_by (Ok s) = came (map result_of s.tests, s.rows)
 tested_by (Err error.NotImported) = not_imported
 tested_by (Err error.NoMemory) = starved
 
@@ -64,5 +64,8 @@ on_plugins plugin old (writes bytes) refusal new = ⊥
 on_plugins plugin old (crosses modules words budget) answer new = ⊥
 on_plugins plugin old (measures asked modules hook) answer new = ⊥
 on_plugins plugin old (tries modules words budget) answer new = ⊥
-on_plugins plugin old (tests asked modules) answer new = TestedAs plugin asked modules old answer new
+on_plugins plugin old (tests asked modules) answer new =
+    TestedAs plugin asked modules old answer new
+on_plugins plugin old (selects budget before after) answer new = ⊥
+on_plugins plugin old (judges budget modules) answer new = ⊥
 on_plugins plugin old (says text) answer new = ⊥

@@ -2,7 +2,7 @@
 --     no_labels            nobody gives labels
 --     TriedAs, IsTried     a run that ended, or for which memory was wanting
 --     TryRun               a call of such a run
---     on_trial             what a made source is, and what its run comes to
+--     on_trial             what a made source is, what its run comes to, and what tests tell
 use Rattle.std.specs.Prelude.{◌≡◌, ℕ, true, List, [], Option, Some, None}
 use Rattle.py_meaning.specs.Events.{events_in}
 use Rattle.py_meaning.specs.Modules.{LoadedModule}
@@ -12,8 +12,9 @@ use Rattle.cov_data.specs.DataSet.{Text as Bytes}
 use Rattle.cov_measure_laws.specs.Meant.{tree_plan}
 use Rattle.cov_measure_laws.specs.Whole.{IsDataOf}
 use Rattle.cov_programs.specs.Objects.{Moves}
-use Rattle.cov_step.specs.Calls.{Call, spells, checks, reads, puts, opens, lists, loads, saves, removes, makes, writes, crosses, measures, tries, tests, says, Answer, Ran}
+use Rattle.cov_step.specs.Calls.{Call, spells, checks, reads, puts, opens, lists, loads, saves, removes, makes, writes, crosses, measures, tries, tests, selects, judges, says, Answer, Ran}
 use Rattle.cov_step.specs.Objects.{CheckOf}
+use Rattle.cov_streams.specs.Retests.{SelectRun, JudgeRun}
 
 -- nobody gives labels
 abbrev pub no_labels : Unit {0} → Bytes → Bytes → Option (List ℕ) → Unit {0} → Type 0
@@ -40,7 +41,7 @@ pub record TryRun {W : Type 0} (old : W) (ms : List LoadedModule) (words : List 
   pub tried : IsTried ms words budget answer
   pub same : new ≡ old
 
--- no object is asked: what a source is, and what its run comes to
+-- no object is asked: what a source is, what its run comes to, and what tests tell of changes
 abbrev pub on_trial : Moves Call Answer (Unit {0})
 on_trial old (spells words) answer new = ⊥
 on_trial old (checks bytes) reading new = CheckOf old bytes reading new
@@ -57,4 +58,7 @@ on_trial old (crosses modules words budget) answer new = ⊥
 on_trial old (measures asked modules hook) answer new = ⊥
 on_trial old (tries modules words budget) answer new = TryRun old modules words budget answer new
 on_trial old (tests asked modules) answer new = ⊥
+on_trial old (selects budget before after) answer new =
+    SelectRun old budget before after answer new
+on_trial old (judges budget modules) answer new = JudgeRun old budget modules answer new
 on_trial old (says text) answer new = ⊥
