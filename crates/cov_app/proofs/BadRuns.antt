@@ -1,5 +1,5 @@
 -- A run that answers that data are bad found so before it ran, where the vault tells what it holds.
-use Rattle.std.proofs.Common.{◌≡◌, ◌≢◌, ◌∙◌, inl, inr, Bool, true, false, true≢false, refl, sym, ap, subst, ℕ, List, Option, Some, None, Result, Ok, Err}
+use Rattle.std.proofs.Common.{◌≡◌, ◌≢◌, ◌⊎◌, ◌∙◌, inl, inr, Bool, true, false, true≢false, refl, sym, ap, subst, ℕ, List, Option, Some, None, Result, Ok, Err}
 use Rattle.std.specs.FinMap as finite
 use Rattle.cov_contexts.specs.declared.plugins.Plugin.{Ghosts as PluginOf}
 use Rattle.cov_exclude.specs.declared.maker.Maker.{Ghosts as MakerOf}
@@ -24,13 +24,13 @@ use Rattle.cov_programs.proofs.Folding.{parted}
 use Rattle.cov_programs.proofs.Keeping.{keeps-all}
 use Rattle.cov_programs.proofs.Results.{err_is, ok_no_err}
 use Rattle.cov_step.specs.Answers.{Before, before_of, given_or, run_refusal, sink_refusal, vault_refusal, last, on}
-use Rattle.cov_step.specs.Calls.{Call, loads, saves, measures, tests, writes, Answer, Answered, Asked, HookFiles, Ran, TestsAsked, TestResult, Tested, tested, not_imported, starved, Step, IsNoMemory}
+use Rattle.cov_step.specs.Calls.{Call, loads, saves, measures, tests, writes, Answer, Answered, Asked, HookFiles, Ran, TestsAsked, TestResult, Tested, came, not_imported, starved, Step, IsNoMemory}
 use Rattle.cov_step.specs.Commands.{asked_by, hook_named, measured, run_by, run}
 use Rattle.cov_step.specs.Objects.{LoadOf, SaveOf, Saying}
 use Rattle.cov_step.specs.Phases.{before, hook_of, joins, joined, main_name, opened, own_name, save_last, settings, answered_by}
 use Rattle.cov_step.specs.Early.{leaves_streams, comes_late, late_in_run, late_in_suite, is_late}
 use Rattle.cov_step.specs.Promises.{keeps}
-use Rattle.cov_step.specs.Testing.{tests_name, tests_asked, suite_lines, suite_answered, tested_or, tests_run, suite_by, suite}
+use Rattle.cov_step.specs.Testing.{tests_name, tests_asked, suite_lines, suite_answered, came_or, tests_run, suite_by, suite}
 use Rattle.cov_step.proofs.Answering.{before-so}
 use Rattle.cov_step.proofs.Care.{keeps-reading}
 use Rattle.cov_step.proofs.Early.{streams-reading}
@@ -69,26 +69,27 @@ bad-of (Err vault_fault) e l = absurd (true≢false e)
 bad-of (Err no_memory) e l = absurd (true≢false e)
 bad-of (Err (import_failed file)) e l = absurd (true≢false (sym l))
 
-pub bad-of-tests : (why : PlainWhy) → is_late comes_late why ≡ false → is_late late_in_suite why ≡ true → is_late late_in_run why ≡ true
+-- what may come late in tests besides is that their import failed
+pub bad-of-tests : (why : PlainWhy) → is_late comes_late why ≡ false → is_late late_in_suite why ≡ true → (is_late late_in_run why ≡ true) ⊎ ((file : Word) × (why ≡ Err (import_failed file)))
 bad-of-tests (Ok ended) e l = absurd (true≢false e)
-bad-of-tests (Err (usage words)) e l = l
-bad-of-tests (Err (no_such_file name)) e l = l
-bad-of-tests (Err (syntax file line kind)) e l = l
-bad-of-tests (Err (limit kind n)) e l = l
-bad-of-tests (Err (bad_config key)) e l = l
-bad-of-tests (Err (bad_pattern at)) e l = l
-bad-of-tests (Err (pattern_size at)) e l = l
-bad-of-tests (Err (no_function name)) e l = l
-bad-of-tests (Err (no_data name)) e l = l
-bad-of-tests (Err (mixed first other)) e l = l
-bad-of-tests (Err (bad_data name kind)) e l = l
-bad-of-tests (Err (no_source path)) e l = l
-bad-of-tests (Err read_fault) e l = l
-bad-of-tests (Err write_fault) e l = l
-bad-of-tests (Err shelf_fault) e l = l
-bad-of-tests (Err vault_fault) e l = l
-bad-of-tests (Err no_memory) e l = l
-bad-of-tests (Err (import_failed file)) e l = absurd (true≢false e)
+bad-of-tests (Err (usage words)) e l = inl l
+bad-of-tests (Err (no_such_file name)) e l = inl l
+bad-of-tests (Err (syntax file line kind)) e l = inl l
+bad-of-tests (Err (limit kind n)) e l = inl l
+bad-of-tests (Err (bad_config key)) e l = inl l
+bad-of-tests (Err (bad_pattern at)) e l = inl l
+bad-of-tests (Err (pattern_size at)) e l = inl l
+bad-of-tests (Err (no_function name)) e l = inl l
+bad-of-tests (Err (no_data name)) e l = inl l
+bad-of-tests (Err (mixed first other)) e l = inl l
+bad-of-tests (Err (bad_data name kind)) e l = inl l
+bad-of-tests (Err (no_source path)) e l = inl l
+bad-of-tests (Err read_fault) e l = inl l
+bad-of-tests (Err write_fault) e l = inl l
+bad-of-tests (Err shelf_fault) e l = inl l
+bad-of-tests (Err vault_fault) e l = inl l
+bad-of-tests (Err no_memory) e l = inl l
+bad-of-tests (Err (import_failed file)) e l = inr (file, refl)
 
 no-ok : {A : Type 0} {a : A} {why : PlainWhy} → ◌≡◌ {A = Result A PlainWhy} (Err why) (Ok a) → ⊥
 no-ok e = cc
@@ -268,9 +269,9 @@ module _ {H V M I O P G E : Type 0} (shelf : ShelfOf H) (vault : VaultOf V) (mak
     written-no own d rs mid v (Some sink_error.NoMemory) f rest = not-refused no-want rest
 
     tested-no : (own file : Word) (mid v : Lent) (x : Tested) → IsFree own mid
-        → Ends whole IsNoMemory (bind (tested_or file x) (λ r. bind (ask (writes (suite_lines r.0)) (on sink_refusal)) (λ written. save_last own r.1 (suite_answered r.0)))) mid Bad v → ⊥
-    tested-no own file mid v (tested rs d) f (inl s) = fed s
-    tested-no own file mid v (tested rs d) f (inr (x, w, m, rest)) = written-no own d rs w v x (lines-over mid (suite_lines rs) x w own f m) rest
+        → Ends whole IsNoMemory (bind (came_or file x) (λ r. bind (ask (writes (suite_lines r.0)) (on sink_refusal)) (λ written. save_last own r.1 (suite_answered r.0)))) mid Bad v → ⊥
+    tested-no own file mid v (came r) f (inl s) = fed s
+    tested-no own file mid v (came r) f (inr (x, w, m, rest)) = written-no own r.1 r.0 w v x (lines-over mid (suite_lines r.0) x w own f m) rest
     tested-no own file mid v not_imported f rest = not-refused no-import rest
     tested-no own file mid v starved f rest = not-refused no-want rest
 

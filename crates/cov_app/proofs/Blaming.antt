@@ -13,7 +13,7 @@ use Rattle.py_machine.specs.declared.engine.Engine.{Ghosts as EngineOf}
 use Rattle.cov_measure.specs.Measures.{Streams}
 use Rattle.cov_programs.specs.Ends.{Follows}
 use Rattle.cov_programs.specs.Objects.{Moves, beside}
-use Rattle.cov_step.specs.Calls.{Call, spells, checks, reads, puts, opens, lists, loads, saves, removes, makes, writes, crosses, measures, tries, tests, says, Answer, Step, IsNoMemory}
+use Rattle.cov_step.specs.Calls.{Call, spells, checks, reads, puts, opens, lists, loads, saves, removes, makes, writes, crosses, measures, tries, tests, selects, judges, says, Answer, Step, IsNoMemory}
 use Rattle.cov_step.specs.Objects.{on_grammar, on_shelf, on_vault, on_maker, on_err, Saying}
 use Rattle.cov_step.specs.Promises.{Object, the_input, the_output, the_shelf, the_vault, the_maker, number_of, blame_of, blamed}
 use Rattle.cov_step.specs.Step.{step}
@@ -53,6 +53,8 @@ module _ {I O P G : Type 0} (source : SourceOf I) (sink : SinkOf O) (plugin : Pl
   input-later u (measures asked modules hook) x v m = m.run.reads
   input-later u (tries modules words budget) x v m = same-count (ap (λ (s : Streams I O P G). source.faults s.input) m.same)
   input-later u (tests asked modules) x v m = same-count (ap (λ (s : Streams I O P G). source.faults s.input) m.same)
+  input-later u (selects budget before after) x v m = same-count (ap (λ (s : Streams I O P G). source.faults s.input) m.same)
+  input-later u (judges budget modules) x v m = same-count (ap (λ (s : Streams I O P G). source.faults s.input) m.same)
   input-later u (says text) x v m = absurd m
 
   out-later : (u : Streams I O P G) (call : Call) (x : Answer call) (v : Streams I O P G) → on_run source sink plugin engine u call x v → sink.faults u.out ≤ sink.faults v.out
@@ -71,6 +73,8 @@ module _ {I O P G : Type 0} (source : SourceOf I) (sink : SinkOf O) (plugin : Pl
   out-later u (measures asked modules hook) x v m = m.run.writes
   out-later u (tries modules words budget) x v m = same-count (ap (λ (s : Streams I O P G). sink.faults s.out) m.same)
   out-later u (tests asked modules) x v m = same-count (ap (λ (s : Streams I O P G). sink.faults s.out) m.same)
+  out-later u (selects budget before after) x v m = same-count (ap (λ (s : Streams I O P G). sink.faults s.out) m.same)
+  out-later u (judges budget modules) x v m = same-count (ap (λ (s : Streams I O P G). sink.faults s.out) m.same)
   out-later u (says text) x v m = absurd m
 
   input-rose : (u : Streams I O P G) (call : Call) (x : Answer call) (v : Streams I O P G) → on_run source sink plugin engine u call x v → blamed call x ≡ Some the_input → Rose (source.faults u.input) (source.faults v.input)
@@ -97,6 +101,8 @@ module _ {I O P G : Type 0} (source : SourceOf I) (sink : SinkOf O) (plugin : Pl
   input-rose u (measures asked modules hook) (Err run_fault.NoMemory) v m e = absurd (none-some e)
   input-rose u (tries modules words budget) x v m e = absurd (none-some e)
   input-rose u (tests asked modules) x v m e = absurd (none-some e)
+  input-rose u (selects budget before after) x v m e = absurd (none-some e)
+  input-rose u (judges budget modules) x v m e = absurd (none-some e)
   input-rose u (says text) x v m e = absurd m
 
   out-rose : (u : Streams I O P G) (call : Call) (x : Answer call) (v : Streams I O P G) → on_run source sink plugin engine u call x v → blamed call x ≡ Some the_output → Rose (sink.faults u.out) (sink.faults v.out)
@@ -123,6 +129,8 @@ module _ {I O P G : Type 0} (source : SourceOf I) (sink : SinkOf O) (plugin : Pl
   out-rose u (measures asked modules hook) (Err run_fault.NoMemory) v m e = absurd (none-some e)
   out-rose u (tries modules words budget) x v m e = absurd (none-some e)
   out-rose u (tests asked modules) x v m e = absurd (none-some e)
+  out-rose u (selects budget before after) x v m e = absurd (none-some e)
+  out-rose u (judges budget modules) x v m e = absurd (none-some e)
   out-rose u (says text) x v m e = absurd m
 
   -- they are nobody else's fault
@@ -150,6 +158,8 @@ module _ {I O P G : Type 0} (source : SourceOf I) (sink : SinkOf O) (plugin : Pl
   run-alone o i j u (measures asked modules hook) (Err run_fault.NoMemory) v m e = none-some e
   run-alone o i j u (tries modules words budget) x v m e = none-some e
   run-alone o i j u (tests asked modules) x v m e = none-some e
+  run-alone o i j u (selects budget before after) x v m e = none-some e
+  run-alone o i j u (judges budget modules) x v m e = none-some e
   run-alone o i j u (says text) x v m e = m
 
 -- ---- all objects

@@ -23,7 +23,7 @@ use Rattle.cov_programs.proofs.Parts.{keeps-careful}
 use Rattle.cov_programs.proofs.Results.{ok_is, ok_no_err}
 use Rattle.cov_run.specs.Loading.{most_bytes}
 use Rattle.cov_step.specs.Answers.{bytes_of, bytes_if_any, given_or}
-use Rattle.cov_step.specs.Calls.{Call, spells, checks, reads, puts, opens, lists, loads, saves, removes, makes, writes, crosses, measures, tries, tests, says, Answer, Answered, Step, IsNoMemory}
+use Rattle.cov_step.specs.Calls.{Call, spells, checks, reads, puts, opens, lists, loads, saves, removes, makes, writes, crosses, measures, tries, tests, selects, judges, says, Answer, Answered, Step, IsNoMemory}
 use Rattle.cov_step.specs.Objects.{on_shelf, ReadOf, Saying}
 use Rattle.cov_step.specs.Combining.{leaves_files, after_changes}
 use Rattle.cov_step.specs.Phases.{own_name, settings}
@@ -151,6 +151,8 @@ module _ {H V M I O P G E : Type 0} (shelf : ShelfOf H) (vault : VaultOf V) (mak
   shelf-files t u (measures asked modules hook) x v m e = absurd m
   shelf-files t u (tries modules words budget) x v m e = absurd m
   shelf-files t u (tests asked modules) x v m e = absurd m
+  shelf-files t u (selects budget before after) x v m e = absurd m
+  shelf-files t u (judges budget modules) x v m e = absurd m
   shelf-files t u (says text) x v m e = absurd m
 
   files-kept : shelf.tells → (u : W) (call : Call) (x : Answer call) (v : W) → whole u call x v → leaves_files call x ≡ true → shelf.files (files v) ≡ shelf.files (files u)
@@ -183,7 +185,7 @@ module _ {H V M I O P G E : Type 0} (shelf : ShelfOf H) (vault : VaultOf V) (mak
         → Ends whole IsNoMemory (bind (given_or usage x) doing) mid e new → LeftFrom (files mid) (stored mid) new
     words-done words mid new e (Ok d) of is t rest =
         combined-left append keep data_file rcfile named mid new e t
-        (parted whole IsNoMemory (settings rcfile) (λ s. combining append keep (own_name data_file s) s.paths named) mid new e (subst (λ c. Ends whole IsNoMemory (doing c) mid e new) (of d is.0) rest))
+        (parted whole IsNoMemory (settings rcfile) (λ s. combining append keep (own_name data_file s) s.paths named) mid new e (subst (λ c. Ends whole IsNoMemory (doing c) mid e new) (of d is) rest))
     words-done words mid new e (Err i) of is t (inl s) = inl (ap (λ w. vault.contents (stored w)) s.same)
     words-done words mid new e (Err i) of is t (inr (out, same)) = inl (ap (λ w. vault.contents (stored w)) same)
 
@@ -197,7 +199,7 @@ module _ {H V M I O P G E : Type 0} (shelf : ShelfOf H) (vault : VaultOf V) (mak
 
     -- what a program is refused by early leaves the data
     rest-late : (words : List Word) (x : Answer (spells words)) → AreWordsOf the-command words → IsSpelled words x → IsLate keeps after_changes (bind (given_or usage x) doing)
-    rest-late words (Ok d) of is = subst (λ c. IsLate keeps after_changes (doing c)) (sym (of d is.0)) (law_of_combine.early append keep data_file rcfile named)
+    rest-late words (Ok d) of is = subst (λ c. IsLate keeps after_changes (doing c)) (sym (of d is)) (law_of_combine.early append keep data_file rcfile named)
     rest-late words (Err i) of is = tt
 
     early-ends : (words : List Word) (old new : W) (why : PlainWhy) → AreWordsOf the-command words → vault.tells (stored old) → after_changes why ≡ false → Ends whole IsNoMemory (step words) old (Err why) new → vault.contents (stored new) ≡ vault.contents (stored old)
@@ -212,7 +214,7 @@ module _ {H V M I O P G E : Type 0} (shelf : ShelfOf H) (vault : VaultOf V) (mak
     early-left words old new (Err why) of t early ends = early-ends words old new why of t early ends
 
     rest-files : (words : List Word) (x : Answer (spells words)) → AreWordsOf the-command words → IsSpelled words x → OnlyKeeps leaves_files (bind (given_or usage x) doing)
-    rest-files words (Ok d) of is = subst (λ c. OnlyKeeps leaves_files (doing c)) (sym (of d is.0)) (law_of_combine.files append keep data_file rcfile named)
+    rest-files words (Ok d) of is = subst (λ c. OnlyKeeps leaves_files (doing c)) (sym (of d is)) (law_of_combine.files append keep data_file rcfile named)
     rest-files words (Err i) of is = tt
 
     files-left : (words : List Word) (old new : W) (e : Result Answered PlainWhy) → AreWordsOf the-command words → shelf.tells → Ends whole IsNoMemory (step words) old e new → shelf.files (files new) ≡ shelf.files (files old)

@@ -44,7 +44,7 @@ module _ {W K : Type 0} (moves : Moves Call Answer W) (part : W → K) (Tells : 
     (kept : (u : W) (call : Call) (x : Answer call) (v : W) → moves u call x v → Tells u → keeps call x ≡ true → part v ≡ part u)
     (spelled : (u : W) (words : List Word) (x : Answer (spells words)) (v : W) → moves u (spells words) x v → IsSpelled words x) where
   rest-careful : (words : List Word) (x : Answer (spells words)) → ChangesLast words → IsSpelled words x → IsCareful keeps (bind (given_or usage x) doing)
-  rest-careful words (Ok c) changes is = law_of_care c (changes c is.0)
+  rest-careful words (Ok c) changes is = law_of_care c (changes c is)
   rest-careful words (Err i) changes is = tt
 
   by-ends : (words : List Word) (old new : W) (why : PlainWhy) → ChangesLast words → Tells old → Ends moves IsNoMemory (step words) old (Err why) new → part new ≡ part old

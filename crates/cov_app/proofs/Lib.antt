@@ -1,5 +1,4 @@
 mod Opening
-mod Built
 mod Wide
 mod Blaming
 mod Keeping
@@ -15,4 +14,3 @@ mod Imports
 mod Joining
 mod Ending
 mod Heads
-mod Caused

@@ -9,7 +9,7 @@ use Rattle.cov_programs.specs.Programs.{bind}
 use Rattle.cov_programs.proofs.Keeping.{keeps-all}
 use Rattle.cov_programs.proofs.Later.{ends-onward}
 use Rattle.cov_step.specs.Answers.{given_or}
-use Rattle.cov_step.specs.Calls.{Call, spells, checks, reads, puts, opens, lists, loads, saves, removes, makes, writes, crosses, measures, tries, tests, says, Answer, Answered, Step, IsNoMemory}
+use Rattle.cov_step.specs.Calls.{Call, spells, checks, reads, puts, opens, lists, loads, saves, removes, makes, writes, crosses, measures, tries, tests, selects, judges, says, Answer, Answered, Step, IsNoMemory}
 use Rattle.cov_step.specs.Objects.{Told, whole, failed, no_room, Saying, IsSaid, SayOf, on_err}
 use Rattle.cov_step.specs.Promises.{is_silent}
 use Rattle.cov_step.specs.Step.{step, doing, IsSpelled}
@@ -80,6 +80,8 @@ module _ {E : Type 0} (err : SinkOf E) where
   err-goes u (measures asked modules hook) x v m = absurd m
   err-goes u (tries modules words budget) x v m = absurd m
   err-goes u (tests asked modules) x v m = absurd m
+  err-goes u (selects budget before after) x v m = absurd m
+  err-goes u (judges budget modules) x v m = absurd m
   err-goes u (says text) x v m = said-on u v text m
 
   -- nothing that isn't said changes it
@@ -99,6 +101,8 @@ module _ {E : Type 0} (err : SinkOf E) where
   err-silent u (measures asked modules hook) x v m e = absurd m
   err-silent u (tries modules words budget) x v m e = absurd m
   err-silent u (tests asked modules) x v m e = absurd m
+  err-silent u (selects budget before after) x v m e = absurd m
+  err-silent u (judges budget modules) x v m e = absurd m
   err-silent u (says text) x v m e = absurd (true≢false (sym e))
 
 -- ---- beside other objects
@@ -120,7 +124,7 @@ module _ {W E : Type 0} (moves : Moves Call Answer W) (err : SinkOf E) where
   says-on p old new e f = ends-onward both IsNoMemory (λ u v. GoesOn err u.1 v.1) (λ u. goes-still err u.1) (λ u v w. goes-onward err u.1 v.1 w.1) both-goes p old new e f.ends
 
   rest-silent : (words : List Word) (x : Answer (spells words)) → HasOneText words → IsSpelled words x → OnlyKeeps is_silent (bind (given_or usage x) doing)
-  rest-silent words (Ok c) one is = law_of_quiet c (one c is.0)
+  rest-silent words (Ok c) one is = law_of_quiet c (one c is)
   rest-silent words (Err i) one is = tt
 
   module _ (spelled : (u : W × Saying E) (words : List Word) (x : Answer (spells words)) (v : W × Saying E) → both u (spells words) x v → IsSpelled words x) where

@@ -12,7 +12,7 @@ use Rattle.cov_measure_laws.proofs.Leaving.{as-before, same-list, one-after}
 use Rattle.cov_programs.specs.Ends.{Follows}
 use Rattle.cov_programs.specs.Objects.{Moves}
 use Rattle.cov_programs.proofs.Later.{ends-onward}
-use Rattle.cov_step.specs.Calls.{Call, spells, checks, reads, puts, opens, lists, loads, saves, removes, makes, writes, crosses, measures, tries, tests, says, Answer, Step, IsNoMemory}
+use Rattle.cov_step.specs.Calls.{Call, spells, checks, reads, puts, opens, lists, loads, saves, removes, makes, writes, crosses, measures, tries, tests, selects, judges, says, Answer, Step, IsNoMemory}
 use Rattle.cov_step.specs.Objects.{Saying}
 use Rattle.cov_step.specs.Early.{leaves_streams}
 use Rattle.cov_streams.specs.Objects.{on_run}
@@ -39,6 +39,8 @@ module _ {I O P G : Type 0} (source : SourceOf I) (sink : SinkOf O) (plugin : Pl
   run-kept u (measures asked modules hook) x v m e = absurd (true≢false (sym e))
   run-kept u (tries modules words budget) x v m e = m.same
   run-kept u (tests asked modules) x v m e = absurd (true≢false (sym e))
+  run-kept u (selects budget before after) x v m e = m.same
+  run-kept u (judges budget modules) x v m e = m.same
   run-kept u (says text) x v m e = absurd m
 
   run-left : (u : Streams I O P G) (call : Call) (x : Answer call) (v : Streams I O P G) → on_run source sink plugin engine u call x v → AreLeft plugin u.plugins v.plugins
@@ -57,6 +59,8 @@ module _ {I O P G : Type 0} (source : SourceOf I) (sink : SinkOf O) (plugin : Pl
   run-left u (measures asked modules hook) x v m = m.run.plugins
   run-left u (tries modules words budget) x v m = same-list plugin u.plugins v.plugins (ap (λ (s : Streams I O P G). s.plugins) m.same)
   run-left u (tests asked modules) x v m = m.ran.suite.plugins
+  run-left u (selects budget before after) x v m = same-list plugin u.plugins v.plugins (ap (λ (s : Streams I O P G). s.plugins) m.same)
+  run-left u (judges budget modules) x v m = same-list plugin u.plugins v.plugins (ap (λ (s : Streams I O P G). s.plugins) m.same)
   run-left u (says text) x v m = absurd m
 
 -- ---- all objects

@@ -11,7 +11,7 @@ use Rattle.cov_programs.specs.Ends.{Follows}
 use Rattle.cov_programs.specs.Objects.{beside}
 use Rattle.cov_programs.proofs.Composing.{among}
 use Rattle.cov_reports.specs.Objects.{on_report}
-use Rattle.cov_step.specs.Calls.{Call, spells, checks, reads, puts, opens, lists, loads, saves, removes, makes, writes, crosses, measures, tries, tests, says, Answer, Step, IsNoMemory}
+use Rattle.cov_step.specs.Calls.{Call, spells, checks, reads, puts, opens, lists, loads, saves, removes, makes, writes, crosses, measures, tries, tests, selects, judges, says, Answer, Step, IsNoMemory}
 use Rattle.cov_step.specs.Objects.{on_grammar, on_shelf, on_vault, on_maker, on_sink, on_err, Saying}
 use Rattle.cov_streams.specs.Objects.{on_run}
 use Rattle.cov_streams.specs.Suites.{on_plugins}
@@ -39,6 +39,8 @@ widen source sink plugin engine i ps g u (crosses modules words budget) x v m = 
 widen source sink plugin engine i ps g u (measures asked modules hook) x v m = absurd m
 widen source sink plugin engine i ps g u (tries modules words budget) x v m = absurd m
 widen source sink plugin engine i ps g u (tests asked modules) x v m = absurd m
+widen source sink plugin engine i ps g u (selects budget before after) x v m = absurd m
+widen source sink plugin engine i ps g u (judges budget modules) x v m = absurd m
 widen source sink plugin engine i ps g u (says text) x v m = absurd m
 
 -- what plugins answer, they answer beside an input, an output and an engine
@@ -59,6 +61,8 @@ ask-widely source sink plugin engine i o g u (crosses modules words budget) x v 
 ask-widely source sink plugin engine i o g u (measures asked modules hook) x v m = absurd m
 ask-widely source sink plugin engine i o g u (tries modules words budget) x v m = absurd m
 ask-widely source sink plugin engine i o g u (tests asked modules) x v m = record { ran = m; same = refl }
+ask-widely source sink plugin engine i o g u (selects budget before after) x v m = absurd m
+ask-widely source sink plugin engine i o g u (judges budget modules) x v m = absurd m
 ask-widely source sink plugin engine i o g u (says text) x v m = absurd m
 
 module _ {H V M I O P G : Type 0} (shelf : ShelfOf H) (vault : VaultOf V) (maker : MakerOf M) (source : SourceOf I) (sink : SinkOf O) (plugin : PluginOf P) (engine : EngineOf G) where
@@ -160,31 +164,45 @@ module _ {H V M I O P G : Type 0} (shelf : ShelfOf H) (vault : VaultOf V) (maker
 
   -- ---- a made source, a maker and an output
 
-  trial-in : (h : H) (v : V) (i : I) (ps : List P) (g : G) (m n : M) (o q : O) (call : Call) (x : Answer call) → n ≡ m → q ≡ o → on_trial tt call x tt
-      → on_all shelf vault maker source sink plugin engine (all_of h v m (streams i o ps g)) call x (all_of h v n (streams i q ps g))
-  trial-in h v i ps g m n o q (spells words) x sm so a = absurd a
-  trial-in h v i ps g m n o q (checks bytes) x sm so a = inl (inl (inl (inl (a, refl), refl), sm), ap (λ y. streams i y ps g) so)
-  trial-in h v i ps g m n o q (reads name most) x sm so a = absurd a
-  trial-in h v i ps g m n o q (puts name bytes) x sm so a = absurd a
-  trial-in h v i ps g m n o q (opens name script) x sm so a = absurd a
-  trial-in h v i ps g m n o q lists x sm so a = absurd a
-  trial-in h v i ps g m n o q (loads name) x sm so a = absurd a
-  trial-in h v i ps g m n o q (saves name content) x sm so a = absurd a
-  trial-in h v i ps g m n o q (removes name) x sm so a = absurd a
-  trial-in h v i ps g m n o q (makes texts) x sm so a = absurd a
-  trial-in h v i ps g m n o q (writes bytes) x sm so a = absurd a
-  trial-in h v i ps g m n o q (crosses modules words budget) x sm so a = absurd a
-  trial-in h v i ps g m n o q (measures asked modules hook) x sm so a = absurd a
-  trial-in h v i ps g m n o q (tries modules words budget) x sm so a = inr (record { tried = a.tried; same = ap (λ y. streams i y ps g) so }, ap (λ y. (((tt, h), v), y)) sm)
-  trial-in h v i ps g m n o q (tests asked modules) x sm so a = absurd a
-  trial-in h v i ps g m n o q (says text) x sm so a = absurd a
+  trial-in : (i : I) (ps : List P) (g : G) (a b : ((Unit {0} × H) × V) × M) (o q : O) (call : Call) (x : Answer call) → b ≡ a → q ≡ o → on_trial tt call x tt
+      → on_all shelf vault maker source sink plugin engine (a, streams i o ps g) call x (b, streams i q ps g)
+  trial-in i ps g a b o q (spells words) x ab so m = absurd m
+  trial-in i ps g a b o q (checks bytes) x ab so m = inl (inl (inl (inl (m, ap (λ y. y.0.0.1) ab), ap (λ y. y.0.1) ab), ap (λ y. y.1) ab), ap (λ y. streams i y ps g) so)
+  trial-in i ps g a b o q (reads name most) x ab so m = absurd m
+  trial-in i ps g a b o q (puts name bytes) x ab so m = absurd m
+  trial-in i ps g a b o q (opens name script) x ab so m = absurd m
+  trial-in i ps g a b o q lists x ab so m = absurd m
+  trial-in i ps g a b o q (loads name) x ab so m = absurd m
+  trial-in i ps g a b o q (saves name content) x ab so m = absurd m
+  trial-in i ps g a b o q (removes name) x ab so m = absurd m
+  trial-in i ps g a b o q (makes texts) x ab so m = absurd m
+  trial-in i ps g a b o q (writes bytes) x ab so m = absurd m
+  trial-in i ps g a b o q (crosses modules words budget) x ab so m = absurd m
+  trial-in i ps g a b o q (measures asked modules hook) x ab so m = absurd m
+  trial-in i ps g a b o q (tries modules words budget) x ab so m = inr (record { tried = m.tried; same = ap (λ y. streams i y ps g) so }, ab)
+  trial-in i ps g a b o q (tests asked modules) x ab so m = absurd m
+  trial-in i ps g a b o q (selects budget before after) x ab so m = inr (record { selected = m.selected; same = ap (λ y. streams i y ps g) so }, ab)
+  trial-in i ps g a b o q (judges budget modules) x ab so m = inr (record { judged = m.judged; same = ap (λ y. streams i y ps g) so }, ab)
+  trial-in i ps g a b o q (says text) x ab so m = absurd m
 
   made-moved : (h : H) (v : V) (i : I) (ps : List P) (g : G) (u : (Unit {0} × M) × O) (call : Call) (x : Answer call) (w : (Unit {0} × M) × O) → beside (beside on_trial (on_maker maker)) (on_sink sink) u call x w
       → on_all shelf vault maker source sink plugin engine (all_of h v u.0.1 (streams i u.1 ps g)) call x (all_of h v w.0.1 (streams i w.1 ps g))
-  made-moved h v i ps g u call x w (inl (inl (a, m), o)) = trial-in h v i ps g u.0.1 w.0.1 u.1 w.1 call x m o a
+  made-moved h v i ps g u call x w (inl (inl (a, m), o)) = trial-in i ps g (((tt, h), v), u.0.1) (((tt, h), v), w.0.1) u.1 w.1 call x (ap (λ y. (((tt, h), v), y)) m) o a
   made-moved h v i ps g u call x w (inl (inr (a, t), o)) = inl (inr (a, refl), ap (λ y. streams i y ps g) o)
   made-moved h v i ps g u call x w (inr (a, d)) = inr (widen source sink plugin engine i ps g u.1 call x w.1 a, ap (λ (y : Unit {0} × M). (((tt, h), v), y.1)) d)
 
   pub wide-made : {A : Type 0} {p : Step A} {e : Result A PlainWhy} {m n : M} {o q : O} (h : H) (v : V) (i : I) (ps : List P) (g : G) → Follows (beside (beside on_trial (on_maker maker)) (on_sink sink)) IsNoMemory p ((tt, m), o) e ((tt, n), q)
       → Follows (on_all shelf vault maker source sink plugin engine) IsNoMemory p (all_of h v m (streams i o ps g)) e (all_of h v n (streams i q ps g))
   wide-made h v i ps g f = among (beside (beside on_trial (on_maker maker)) (on_sink sink)) (on_all shelf vault maker source sink plugin engine) IsNoMemory (λ (u : (Unit {0} × M) × O). all_of h v u.0.1 (streams i u.1 ps g)) (made-moved h v i ps g) f
+
+  -- ---- a shelf, tests of changes and an output
+
+  changes-moved : (v : V) (m : M) (i : I) (ps : List P) (g : G) (u : (H × Unit {0}) × O) (call : Call) (x : Answer call) (w : (H × Unit {0}) × O) → beside (beside (on_shelf shelf) on_trial) (on_sink sink) u call x w
+      → on_all shelf vault maker source sink plugin engine (all_of u.0.0 v m (streams i u.1 ps g)) call x (all_of w.0.0 v m (streams i w.1 ps g))
+  changes-moved v m i ps g u call x w (inl (inl (a, t), o)) = inl (inl (inl (inr (a, refl), refl), refl), ap (λ y. streams i y ps g) o)
+  changes-moved v m i ps g u call x w (inl (inr (a, h), o)) = trial-in i ps g (((tt, u.0.0), v), m) (((tt, w.0.0), v), m) u.1 w.1 call x (ap (λ y. (((tt, y), v), m)) h) o a
+  changes-moved v m i ps g u call x w (inr (a, d)) = inr (widen source sink plugin engine i ps g u.1 call x w.1 a, ap (λ (y : H × Unit {0}). (((tt, y.0), v), m)) d)
+
+  pub wide-changes : {A : Type 0} {p : Step A} {e : Result A PlainWhy} {h k : H} {o q : O} (v : V) (m : M) (i : I) (ps : List P) (g : G) → Follows (beside (beside (on_shelf shelf) on_trial) (on_sink sink)) IsNoMemory p ((h, tt), o) e ((k, tt), q)
+      → Follows (on_all shelf vault maker source sink plugin engine) IsNoMemory p (all_of h v m (streams i o ps g)) e (all_of k v m (streams i q ps g))
+  wide-changes v m i ps g f = among (beside (beside (on_shelf shelf) on_trial) (on_sink sink)) (on_all shelf vault maker source sink plugin engine) IsNoMemory (λ (u : (H × Unit {0}) × O). all_of u.0.0 v m (streams i u.1 ps g)) (changes-moved v m i ps g) f

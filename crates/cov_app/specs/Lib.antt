@@ -1,5 +1,3 @@
-pub mod Built
-pub mod Caused
 pub mod Early
 pub mod Ending
 pub mod Groups

@@ -1,5 +1,6 @@
 -- The step of words, as a call took it.
 --     why_of, ending_in      what a command's ending answers, and writes to `err` besides
+--     AnswersTo              the answer to an ending of which something holds
 --     HasOneText             words of a command that says nothing before it ended
 --     StepTaken              the step, its answer and its text
 use Rattle.std.specs.Prelude.{◌≡◌, ℕ, true, List, [], Result, Ok, Err}
@@ -28,6 +29,10 @@ why_of (Err why) = why
 abbrev pub ending_in : Result Answered PlainWhy → List ℕ
 ending_in (Ok a) = a.ending
 ending_in (Err why) = []
+
+-- it is the answer to an ending of which this holds
+abbrev pub AnswersTo : (Result Answered PlainWhy → Type 0) → PlainWhy → Type 0
+AnswersTo Holds why = (ending : Result Answered PlainWhy) × (why ≡ why_of ending) × Holds ending
 
 -- a command that the words are says nothing before it ended: any but `script`
 abbrev pub HasOneText : List Word → Type 0

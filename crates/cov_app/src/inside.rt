@@ -15,9 +15,11 @@ use cov_contexts::Plugin;
 use cov_exclude::Maker;
 use cov_joins::{CombineOptions, combine, erase};
 use cov_made::make;
+use cov_mutates::mutate;
 use cov_outside::{Shelf, Sink, Source};
 use cov_reports::{annotate, json, lcov, report};
 use cov_runs::{RunWords, arcs, run};
+use cov_selects::select;
 use cov_suites::{SuiteWords, suite};
 use cov_vault::Vault;
 use cov_why::Why;
@@ -95,6 +97,10 @@ pub(crate) fn inside<H: Shelf, V: Vault, M: Maker, I: Source, O: Sink, G: Engine
             };
             suite(alloc, words, shelf, vault, out, plugins)
         }
+        Command::Select { budget, old, new } => {
+            select(alloc, budget, old.as_str(), new.as_str(), shelf, out)
+        }
+        Command::Mutate { budget, file } => mutate(alloc, budget, file.as_str(), shelf, out),
         other => of_data(alloc, other, shelf, vault, maker, out),
     }
 }
@@ -154,22 +160,14 @@ fn of_report<H: Shelf, V: Vault, M: Maker, O: Sink>(
 {
     match command {
         Command::Report {
-            show_missing,
+            show_missing: show,
             fail_under,
             data_file,
             rcfile,
         } => {
             let (data_file, rcfile) = (data_file.as_deref(), rcfile.as_deref());
             report(
-                alloc,
-                show_missing,
-                fail_under,
-                data_file,
-                rcfile,
-                shelf,
-                vault,
-                maker,
-                out,
+                alloc, show, fail_under, data_file, rcfile, shelf, vault, maker, out,
             )
         }
         Command::Json {
@@ -202,16 +200,8 @@ fn of_report<H: Shelf, V: Vault, M: Maker, O: Sink>(
             file,
         } => {
             let (data_file, rcfile) = (data_file.as_deref(), rcfile.as_deref());
-            annotate(
-                alloc,
-                data_file,
-                rcfile,
-                file.as_str(),
-                shelf,
-                vault,
-                maker,
-                out,
-            )
+            let file = file.as_str();
+            annotate(alloc, data_file, rcfile, file, shelf, vault, maker, out)
         }
         Command::Arcs { .. }
         | Command::Run { .. }

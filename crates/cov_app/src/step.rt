@@ -1,6 +1,5 @@
 //! The top call: one command over a shelf, a vault, a maker of patterns, an input and two sinks.
 ghost use Rattle.std.specs.Prelude.{◌≡◌, ◌≤◌, ℕ, Bool, true, List, Option, map, string_bytes};
-ghost use Rattle.cov_app.specs.Caused.{AnswersExactly, CausedScript};
 ghost use Rattle.cov_app.specs.Early.{IsEarly};
 ghost use Rattle.cov_app.specs.Ending.{IsDone};
 ghost use Rattle.cov_app.specs.Heads.{HeadsWhere};
@@ -8,10 +7,10 @@ ghost use Rattle.cov_app.specs.Joined.{AreWordsOf, CombineLeft};
 ghost use Rattle.cov_app.specs.Kept.{AreLeft, ChangesLast};
 ghost use Rattle.cov_app.specs.Objects.{all_of, lent, on_all, on_command};
 ghost use Rattle.cov_app.specs.Sizes.{HasSmallSize};
-ghost use Rattle.cov_app.specs.Taken.{HasOneText, StepTaken, why_of, ending_in};
+ghost use Rattle.cov_app.specs.Taken.{AnswersTo, HasOneText, StepTaken, why_of, ending_in};
 ghost use Rattle.cov_calls.specs.Views.{answered_view};
 ghost use Rattle.cov_cause_laws.specs.Causes.{IsRefusedFor};
-ghost use Rattle.cov_cause_laws.specs.Exactly.{NoScript};
+ghost use Rattle.cov_cause_laws.specs.Exactly.{IsExact, IsScriptExact, NoScript};
 ghost use Rattle.cov_complete_laws.specs.Complete.{NoneRose};
 ghost use Rattle.cov_complete_laws.specs.Ready.{Ready};
 ghost use Rattle.cov_complete_laws.specs.Scripts.{IsReadyScript};
@@ -108,15 +107,16 @@ pub fn coverage<H: Shelf, V: Vault, M: Maker, I: Source, O: Sink, E: Sink, G: En
     ensures kept { is_refusal (plain_why result.why) ≡ true
         → ChangesLast (map string_bytes words.now)
         → AreLeft H.Shelf V.Vault shelf.old shelf.new vault.old vault.new }
-    // A refusal but a fault, want of memory and a failed import comes before anything is run or
-    // written, where words aren't those of `script`; that data are bad, where the vault tells what
-    // it holds.
-    ensures untouched { IsEarly (V.tells vault.old) (plain_why result.why)
+    // A refusal but a fault and want of memory comes before anything is run or written, where words
+    // aren't those of `script`: that data are bad, where the vault tells what it holds; that an
+    // import of tests failed, where words aren't those of `suite`.
+    ensures untouched { IsEarly (map string_bytes words.now) (V.tells vault.old)
+        (plain_why result.why)
         → HasOneText (map string_bytes words.now)
         → streams input.new out.new plugins.new.items engine.new
         ≡ streams input.old out.old plugins.old.items engine.old }
-    // Tests whose import failed leave input, output and engine as they were; of the plugins some
-    // may have left. Here too words aren't those of `script`.
+    // Where an import of tests failed, of `suite` too, input, output and engine are as they were. Of
+    // the plugins some may have left. Here too words aren't those of `script`.
     ensures imports { (file : List ℕ) → plain_why result.why ≡ Err (import_failed file)
         → HasOneText (map string_bytes words.now)
         → streams input.new out.new plugins.new.items engine.new
@@ -159,20 +159,21 @@ pub fn coverage<H: Shelf, V: Vault, M: Maker, I: Source, O: Sink, E: Sink, G: En
         (streams input.new out.new plugins.new.items engine.new))
         → IsDone (plain_why result.why) }
 
-    // Each refusal comes exactly where its cause holds, by the words, the files and the data before
-    // the call, where files and data are told and no fault is counted. One cause at most holds but
-    // of patterns, which a maker may take that the grammar doesn't read.
+    // Words that are no script are refused only for a cause that holds by them, and by the files and
+    // the data before the call, or for want of memory. Where such a cause holds, but a pattern's,
+    // they are refused for it, for want of memory, or for a pattern that the grammar doesn't read.
+    // Files and data are told, and no fault is counted.
     ensures caused { NoScript (map string_bytes words.now) → H.tells → V.tells vault.old
         → NoneRose H.Shelf V.Vault M.Maker I.Source O.Sink
         (all_of shelf.old vault.old maker.old
         (streams input.old out.old plugins.old.items engine.old))
         (all_of shelf.new vault.new maker.new
         (streams input.new out.new plugins.new.items engine.new))
-        → AnswersExactly
-        (IsRefusedFor (H.files shelf.old) (V.contents vault.old) (map string_bytes words.now))
+        → AnswersTo (IsExact
+        (IsRefusedFor (H.files shelf.old) (V.contents vault.old) (map string_bytes words.now)))
         (plain_why result.why) }
-    // A script is refused so by its file, or by the first of its lines that is, where those before
-    // it led.
+    // A script is refused exactly so by its file; or else by the first of its lines of which a cause
+    // holds, by the files and the data where the lines before it led.
     ensures caused_script { (name : List ℕ)
         → IsCommand (plain.script name) (map string_bytes words.now)
         → H.tells → V.tells vault.old
@@ -181,11 +182,11 @@ pub fn coverage<H: Shelf, V: Vault, M: Maker, I: Source, O: Sink, E: Sink, G: En
         (streams input.old out.old plugins.old.items engine.old))
         (all_of shelf.new vault.new maker.new
         (streams input.new out.new plugins.new.items engine.new))
-        → CausedScript
+        → AnswersTo (IsScriptExact
         (on_command H.Shelf V.Vault M.Maker I.Source O.Sink P.Plugin G.Engine E.Sink)
         (λ w. H.files w.0.0.0.0.1) (λ w. V.contents w.0.0.0.1) name
         (lent shelf.old vault.old maker.old
-        (streams input.old out.old plugins.old.items engine.old) err.old Told.Whole)
+        (streams input.old out.old plugins.old.items engine.old) err.old Told.Whole))
         (plain_why result.why) }
 {
     headline::<H, V, M, I, O, E, G, P>();
@@ -244,7 +245,7 @@ fn answer<H: Shelf, V: Vault, M: Maker, I: Source, O: Sink, E: Sink, G: Engine, 
     )
 }
 
-/// Does what a command does. One that isn't built is refused.
+/// Does what a command does.
 fn run_command<H: Shelf, V: Vault, M: Maker, I: Source, O: Sink, E: Sink, G: Engine, P: Plugin>(
     alloc: Global,
     command: Command,

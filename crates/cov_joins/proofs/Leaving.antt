@@ -21,7 +21,7 @@ use Rattle.cov_programs.specs.Programs.{Program, give, settle, refuse, ask, bind
 use Rattle.cov_programs.proofs.Folding.{parted}
 use Rattle.cov_programs.proofs.Parts.{then-keeps, each-keeps}
 use Rattle.cov_step.specs.Answers.{Before, nothing, there, bad_row, before_of, bytes_of, bytes_if_any, given_or, load_refusal, on, removed, vault_refusal}
-use Rattle.cov_step.specs.Calls.{Answered, Call, spells, checks, reads, puts, opens, lists, loads, saves, removes, makes, writes, crosses, measures, tries, tests, says, Answer, IsNoMemory, Step}
+use Rattle.cov_step.specs.Calls.{Call, spells, checks, reads, puts, opens, lists, loads, saves, removes, makes, writes, crosses, measures, tries, tests, selects, judges, says, Answer, IsNoMemory, Step}
 use Rattle.cov_step.specs.Calls as calls
 use Rattle.cov_step.specs.Names.{data_name, is_named, removable}
 use Rattle.cov_step.specs.Objects.{on_shelf, on_vault}
@@ -55,6 +55,8 @@ allowed keep own named (crosses modules words budget) answer = true
 allowed keep own named (measures asked modules hook) answer = true
 allowed keep own named (tries modules words budget) answer = true
 allowed keep own named (tests asked modules) answer = true
+allowed keep own named (selects budget before after) answer = true
+allowed keep own named (judges budget modules) answer = true
 allowed keep own named (says text) answer = true
 
 -- ---- names
@@ -312,6 +314,8 @@ module _ {V : Type 0} (vault : VaultOf V) (keep : Bool) (own : Text) (named : Li
   vault-step u (measures asked modules hook) x v m e h = absurd m
   vault-step u (tries modules words budget) x v m e h = absurd m
   vault-step u (tests asked modules) x v m e h = absurd m
+  vault-step u (selects budget before after) x v m e h = absurd m
+  vault-step u (judges budget modules) x v m e h = absurd m
   vault-step u (says text) x v m e h = absurd m
 
   pub both-step : {H : Type 0} (shelf : ShelfOf H) (u : H × V) (call : Call) (x : Answer call) (v : H × V) → beside (on_shelf shelf) (on_vault vault) u call x v → allowed keep own named call x ≡ true → Leaves u.1 → Leaves v.1

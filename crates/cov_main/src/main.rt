@@ -42,13 +42,17 @@ usage: coverage COMMAND
                 make up a program, run it, and print its numbers in a line
   suite [--branch] [--budget N] FILE
                 run each test of a file by itself, and tell how it ended
+  select [--budget N] OLD NEW
+                name the tests of a changed file that must run again
+  mutate [--budget N] FILE
+                change the modules of tests place by place, and tell which changes none notices
   --help        print this text
   --version     print the version
 
-All but `arcs`, `script` and `make` take --data-file D (or .coverage) and --rcfile F (or
-pyproject.toml). A program is cut after N steps, or 1000000. A jump is a line PATH FROM TO. A body's
-outside is its first line, negative: -1 for a module, and -5 for a function whose `def` stands in
-line 5.
+All but `arcs`, `script`, `make`, `select` and `mutate` take --data-file D (or .coverage) and
+--rcfile F (or pyproject.toml). A program is cut after N steps, or 1000000. A jump is a line PATH
+FROM TO. A body's outside is its first line, negative: -1 for a module, and -5 for a function whose
+`def` stands in line 5.
 
 example: coverage run --branch examples/countdown.py
          coverage report -m

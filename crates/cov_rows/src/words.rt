@@ -4,7 +4,7 @@ use crate::harness::{NONE, answer_to};
 use std::test::Fail;
 
 /// Words that are refused, and how many of them begin a command.
-static REFUSED: [(&str, &str, &str); 13] = [
+static REFUSED: [(&str, &str, &str); 14] = [
     ("No words", "", "0"),
     ("No such command", "trace s.py", "0"),
     ("No script", "arcs", "1"),
@@ -16,7 +16,8 @@ static REFUSED: [(&str, &str, &str); 13] = [
         "arcs --budget 1000000001 s.py",
         "2",
     ),
-    ("A command that isn't built", "mutate s.py", "0"),
+    ("A selection without a new version", "select s.py", "2"),
+    ("A mutation without a file", "mutate --budget 9", "3"),
     ("A run without a script", "run --branch", "2"),
     ("No option of a report", "report --frob", "1"),
     ("A report with an operand", "report s.py", "1"),

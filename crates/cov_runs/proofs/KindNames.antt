@@ -6,7 +6,7 @@ use Rattle.py_value.specs.declared.exception.ExcKind.TheVariants as kind
 use Rattle.py_builtins.specs.Displays.{kind_name}
 use Rattle.py_builtins.specs.Outcomes.{text_line, uncaught}
 
-kind-encoded : (k : ExcKind) → encode_utf8_all (kind_name k) ≡ kind_name k
+pub kind-encoded : (k : ExcKind) → encode_utf8_all (kind_name k) ≡ kind_name k
 unfolding lib.Utf8.encode
 kind-encoded kind.BaseException = refl
 kind-encoded kind.SystemExit = refl
@@ -34,15 +34,15 @@ mark-encoded : encode_utf8_all (codes ": ") ≡ codes ": "
 unfolding lib.Utf8.encode
 mark-encoded = refl
 
-uncaught-is : (k : ExcKind) (c : ℕ) (cs : List ℕ) → uncaught k (c ∷ cs) ≡ kind_name k ++ (codes ": " ++ (c ∷ cs))
-uncaught-is k c cs = append_assoc (kind_name k) (codes ": ") (c ∷ cs)
+-- an exception with a text
+pub text-shown : (k : ExcKind) (x bs : List ℕ) → (x ≡ [] → ⊥) → bs ≡ encode_utf8_all x → kind_name k ++ (codes ": " ++ bs) ≡ encode_utf8_all (uncaught k x)
+text-shown k [] bs h is = absurd (h refl)
+text-shown k (c ∷ cs) bs h is =
+    sym (ap encode_utf8_all (append_assoc (kind_name k) (codes ": ") (c ∷ cs)) ∙ encodes-append (kind_name k) (codes ": " ++ (c ∷ cs)) ∙ ap (λ b. b ++ encode_utf8_all (codes ": " ++ (c ∷ cs))) (kind-encoded k)
+    ∙ ap (λ b. kind_name k ++ b) (encodes-append (codes ": ") (c ∷ cs) ∙ ap (λ b. b ++ encode_utf8_all (c ∷ cs)) mark-encoded ∙ ap (λ b. codes ": " ++ b) (sym is)))
 
--- one with a text
-pub line-with-text : (k : ExcKind) (x bs : List _) → (x ≡ [] → ⊥) → bs ≡ encode_utf8_all x → kind_name k ++ (codes ": " ++ (bs ++ codes "\n")) ≡ text_line (uncaught k x)
-line-with-text k [] bs h is = absurd (h refl)
-line-with-text k (c ∷ cs) bs h is =
-    let shown : text_line (uncaught k (c ∷ cs)) ≡ encode_utf8_all (kind_name k ++ (codes ": " ++ (c ∷ cs))) ++ codes "\n" = ap (λ t. encode_utf8_all t ++ codes "\n") (uncaught-is k c cs) in
-    let all : encode_utf8_all (kind_name k ++ (codes ": " ++ (c ∷ cs))) ≡ kind_name k ++ (codes ": " ++ bs) =
-    encodes-append (kind_name k) (codes ": " ++ (c ∷ cs)) ∙ ap (λ b. b ++ encode_utf8_all (codes ": " ++ (c ∷ cs))) (kind-encoded k)
-    ∙ ap (λ b. kind_name k ++ b) (encodes-append (codes ": ") (c ∷ cs) ∙ ap (λ b. b ++ encode_utf8_all (c ∷ cs)) mark-encoded ∙ ap (λ b. codes ": " ++ b) (sym is)) in
-    sym (shown ∙ ap (λ b. b ++ codes "\n") all ∙ append_assoc (kind_name k) (codes ": " ++ bs) (codes "\n") ∙ ap (λ b. kind_name k ++ b) (append_assoc (codes ": ") bs (codes "\n")))
+-- and its line
+pub line-with-text : (k : ExcKind) (x bs : List ℕ) → (x ≡ [] → ⊥) → bs ≡ encode_utf8_all x → kind_name k ++ (codes ": " ++ (bs ++ codes "\n")) ≡ text_line (uncaught k x)
+line-with-text k x bs h is =
+    sym (append_assoc (kind_name k) (codes ": " ++ bs) (codes "\n") ∙ ap (λ b. kind_name k ++ b) (append_assoc (codes ": ") bs (codes "\n")))
+    ∙ ap (λ b. b ++ codes "\n") (text-shown k x bs h is)

@@ -1,9 +1,9 @@
 mod Beginnings
 mod Hooking
-mod KindNames
-mod Lifting
+pub mod KindNames
+pub mod Lifting
 mod Lines
 mod MeasureCalls
 mod Opened
-mod PossibleSets
+pub mod PossibleSets
 mod WordsAsked

@@ -8,7 +8,7 @@ use Rattle.cov_measure.specs.Measures.{streams}
 use Rattle.cov_programs.specs.Ends.{Follows}
 use Rattle.cov_programs.specs.Objects.{Moves, beside}
 use Rattle.cov_programs.proofs.Composing.{among}
-use Rattle.cov_step.specs.Calls.{Call, spells, checks, reads, puts, opens, lists, loads, saves, removes, makes, writes, crosses, measures, tries, tests, says, Answer, IsNoMemory, Step}
+use Rattle.cov_step.specs.Calls.{Call, spells, checks, reads, puts, opens, lists, loads, saves, removes, makes, writes, crosses, measures, tries, tests, selects, judges, says, Answer, IsNoMemory, Step}
 use Rattle.cov_step.specs.Objects.{on_sink}
 use Rattle.cov_streams.specs.Objects.{on_run}
 use Rattle.cov_why.specs.Answers.{PlainWhy}
@@ -40,6 +40,8 @@ module _ {I O P G : Type 0} (source : SourceOf I) (sink : SinkOf O) (plugin : Pl
   write-moved u (measures asked modules hook) answer v m = absurd m
   write-moved u (tries modules words budget) answer v m = absurd m
   write-moved u (tests asked modules) answer v m = absurd m
+  write-moved u (selects budget before after) answer v m = absurd m
+  write-moved u (judges budget modules) answer v m = absurd m
   write-moved u (says text) answer v m = absurd m
 
   pub beside-run : {A : Type 0} {p : Step A} {old new : O} {e : Result A PlainWhy} → Follows (on_sink sink) IsNoMemory p old e new → Follows (on_run source sink plugin engine) IsNoMemory p (streams input old plugins g) e (streams input new plugins g)

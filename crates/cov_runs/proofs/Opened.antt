@@ -18,7 +18,9 @@ use Rattle.cov_run.specs.Loading.{told_by}
 use Rattle.cov_run.specs.Loads.{ComesTo, EndsFailed, IsCompiled, IsUnread, faulted, starved, Loads, LoadsTo, loaded_module, loaded_modules, loaded_pairs}
 use Rattle.cov_run.specs.Refusals.{Refuses, absent, crowded, large, heavy, unreadable, refused_by, limit_of, fault_of}
 use Rattle.cov_run.specs.declared.programs.Loaded.{Loaded}
+use Rattle.cov_changes_laws.specs.LoadedChanges.{LoadedAreRegular}
 use Rattle.cov_loaded_laws.specs.Loaded.{IsMeasurable, LoadedHaveTextLines, LoadedLaw}
+use Rattle.cov_verdicts.specs.Regular.{AreRegular}
 use Rattle.cov_why.specs.Answers.{Refusal, shelf_fault, AnsweredAs, plain_why}
 use Rattle.cov_why.specs.declared.why.LimitKind.{LimitKind}
 use Rattle.cov_why.specs.declared.why.SyntaxKind.{SyntaxKind}
@@ -135,3 +137,8 @@ pub script-so : {H : Type 0} (moves : H → List ℕ → ℕ → Result (List �
     → AnsweredAs loaded_modules result (λ loading. Loads moves old script name loading new) → IfOk result (λ l. path_of l.programs ≡ script)
 script-so moves old new script name (Ok l) loads = script-is moves old new script name l loads
 script-so moves old new script name (Err w) loads = tt
+
+pub regular-so : {H : Type 0} (moves : H → List ℕ → ℕ → Result (List ℕ) ShelfError → H → Type 0) (old new : H) (script name : Text) (result : Result Loaded Why) → LoadedAreRegular moves
+    → AnsweredAs loaded_modules result (λ loading. Loads moves old script name loading new) → IfOk result (λ l. AreRegular (loaded_modules l))
+regular-so moves old new script name (Ok l) law loads = law old new script name (loaded_modules l) loads
+regular-so moves old new script name (Err w) law loads = tt

@@ -8,7 +8,9 @@ ghost use Rattle.cov_run.specs.Loads.{IsCompiled, loaded_modules};
 ghost use Rattle.cov_step.specs.Calls.{IsNoMemory, seen};
 ghost use Rattle.cov_step.specs.Objects.{on_shelf};
 ghost use Rattle.cov_step.specs.Phases.{main_name, opened};
+ghost use Rattle.cov_verdicts.specs.Regular.{AreRegular};
 
+use cov_changes_laws::loaded_are_regular;
 use cov_loaded_laws::{loaded_have_text_lines, loaded_programs_are_measured};
 use cov_outside::Shelf;
 use cov_run::{Loaded, load};
@@ -39,8 +41,10 @@ pub fn opened_as<H: Shelf>(
     ensures compiled { IfOk result IsCompiled }
     ensures measurable { IfOk result IsMeasurable }
     ensures script { IfOk result (λ l. path_of l.programs ≡ chars script.now) }
+    ensures regular { IfOk result (λ l. AreRegular (loaded_modules l)) }
 {
     loaded_have_text_lines::<H>();
     loaded_programs_are_measured();
+    loaded_are_regular::<H>();
     load(alloc, script, name, shelf)
 }

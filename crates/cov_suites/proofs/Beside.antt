@@ -14,12 +14,3 @@ module _ {V O P : Type 0} (vault : Moves Call Answer V) (sink : Moves Call Answe
 
   pub beside-plugins : {A : Type 0} {p : Step A} {old new : V × O} {e : Result A PlainWhy} → Follows (beside vault sink) IsNoMemory p old e new → Follows (beside vault (beside sink plugins)) IsNoMemory p (old.0, (old.1, s)) e (new.0, (new.1, s))
   beside-plugins f = among (beside vault sink) (beside vault (beside sink plugins)) IsNoMemory (λ u. (u.0, (u.1, s))) beside-moved f
-
--- over a vault and more, beside a shelf
-module _ {H V W : Type 0} (shelf : Moves Call Answer H) (vault : Moves Call Answer V) (rest : Moves Call Answer W) (s : H) where
-  shelved-moved : (u : V × W) (call : Call) (answer : Answer call) (v : V × W) → beside vault rest u call answer v → beside (beside shelf vault) rest ((s, u.0), u.1) call answer ((s, v.0), v.1)
-  shelved-moved u call answer v (inl m) = inl (inr (m.0, refl), m.1)
-  shelved-moved u call answer v (inr m) = inr (m.0, ap (λ x. (s, x)) m.1)
-
-  pub beside-shelf : {A : Type 0} {p : Step A} {old new : V × W} {e : Result A PlainWhy} → Follows (beside vault rest) IsNoMemory p old e new → Follows (beside (beside shelf vault) rest) IsNoMemory p ((s, old.0), old.1) e ((s, new.0), new.1)
-  beside-shelf f = among (beside vault rest) (beside (beside shelf vault) rest) IsNoMemory (λ u. ((s, u.0), u.1)) shelved-moved f

@@ -13,14 +13,14 @@ use Rattle.cov_run.specs.Loads.{loaded_modules}
 use Rattle.cov_run.specs.declared.programs.Loaded.{Loaded}
 use Rattle.cov_runs.specs.Measured.{HoldPossible}
 use Rattle.cov_step.specs.Calls.{Call, Answer, IsNoMemory, TestResult, TestsAsked}
-use Rattle.cov_step.specs.Testing.{tested_or}
+use Rattle.cov_step.specs.Testing.{came_or}
 use Rattle.cov_streams.specs.Suites.{TestedAs, result_of, tested_by}
+use Rattle.cov_suite.proofs.Lists.{map-twice}
 use Rattle.cov_suite.specs.Meant.{AreTested, SuiteOf}
 use Rattle.cov_suite.specs.declared.results.SuiteError.{SuiteError}
 use Rattle.cov_suite.specs.declared.results.SuiteRun.{SuiteRun}
 use Rattle.cov_suite.specs.Views.{SuiteView, plain_answer, test_view}
 use Rattle.cov_suites.specs.Views.{HasUnits, run_view}
-use Rattle.cov_suites.proofs.Lists.{map-twice}
 use Rattle.cov_words.specs.Values.{Word}
 
 -- the trees of a loaded program, with its units and with sets of what is possible in them
@@ -36,17 +36,15 @@ trees-of l measurable units named sets holds =
     }
 
 -- the answer to the call
-pub tested-so : {P : Type 0} (plugin : PluginOf P) (asked : TestsAsked) (l : Loaded) → IsMeasurable l → (units : List (List Named)) → HasUnits l units → (sets : List (List Arc)) → HoldPossible (loaded_modules l) sets
-    → (old : List P) (said : Result SuiteView SuiteError) (new : List P) (context : Word) → context ≡ asked.context
-    → ((ms : List LoadedModule) → AreTested l.programs units sets ms → SuiteOf plugin ms asked.arcs context asked.budget old said new)
-    → TestedAs plugin asked (loaded_modules l) old (tested_by said) new
-tested-so plugin asked l measurable units named sets holds old said new context same suite = record {
+pub tested-so : {P : Type 0} (plugin : PluginOf P) (asked : TestsAsked) (ms : List LoadedModule) (old : List P) (said : Result SuiteView SuiteError) (new : List P) (context : Word) → context ≡ asked.context
+    → SuiteOf plugin ms asked.arcs context asked.budget old said new → TestedAs plugin asked ms old (tested_by said) new
+tested-so plugin asked ms old said new context same suite = record {
   said = said;
   is = refl;
-  suite = subst (λ c. SuiteOf plugin (loaded_modules l) asked.arcs c asked.budget old said new) same (suite (loaded_modules l) (trees-of l measurable units named sets holds));
+  suite = subst (λ c. SuiteOf plugin ms asked.arcs c asked.budget old said new) same suite;
 }
 
 -- what follows from it, where all tests were run
-pub all-tested : (file : Word) (answer : Result SuiteRun SuiteError) (run : SuiteRun) → answer ≡ Ok run → Follows (nobody Call Answer) IsNoMemory (tested_or file (tested_by (plain_answer answer))) tt (Ok (run_view run)) tt
+pub all-tested : (file : Word) (answer : Result SuiteRun SuiteError) (run : SuiteRun) → answer ≡ Ok run → Follows (nobody Call Answer) IsNoMemory (came_or file (tested_by (plain_answer answer))) tt (Ok (run_view run)) tt
 all-tested file answer run is =
-    followed-so (nobody Call Answer) (ap (λ (a : Result SuiteRun SuiteError). tested_or file (tested_by (plain_answer a))) (sym is)) (ap (λ (ts : List TestResult). Ok (ts, run.rows)) (map-twice test_view result_of run.tests.items)) gives
+    followed-so (nobody Call Answer) (ap (λ (a : Result SuiteRun SuiteError). came_or file (tested_by (plain_answer a))) (sym is)) (ap (λ (ts : List TestResult). Ok (ts, run.rows)) (map-twice test_view result_of run.tests.items)) gives

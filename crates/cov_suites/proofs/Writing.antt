@@ -5,13 +5,13 @@ use Rattle.std.specs.List.{flat_map}
 use Rattle.std.specs.Str.{IsUtf8}
 use Rattle.std.specs.declared.alloc.AllocError.{AllocError as NoMemory}
 use Rattle.std.proofs.lemmas.List.{append-nil}
-use Rattle.std.proofs.lemmas.Str.{encodes-append, encodes-chars}
+use Rattle.std.proofs.lemmas.Str.{encodes-chars}
 use Rattle.std.proofs.Math.ListN.{drop_of_length-le}
 use Rattle.std.proofs.Math.Seq.{drop-cons}
 use Rattle.py_value.specs.declared.exception.ExcKind.{ExcKind}
-use Rattle.py_value.specs.declared.exception.ExcKind.TheVariants as kind
 use Rattle.py_builtins.specs.Displays.{kind_name}
 use Rattle.py_builtins.specs.Outcomes.{uncaught}
+use Rattle.cov_runs.proofs.KindNames.{kind-encoded}
 use Rattle.cov_step.specs.Calls.{TestEnd}
 use Rattle.cov_step.specs.Testing.{count_of, end_text, test_line}
 use Rattle.cov_streams.specs.Suites.{end_of}
@@ -39,44 +39,9 @@ counted ends (t ∷ ts) = by (ends (end_of t.end)) (counted ends ts)
 pub line-is : (name : List ℕ) (end : TestEnd) → IsUtf8 name → name ++ (codes " " ++ (end_text end ++ codes "\n")) ≡ test_line (named name end)
 line-is name end u = ap (λ n. n ++ (codes " " ++ (end_text end ++ codes "\n"))) (sym (encodes-chars name u))
 
-kind-encoded : (k : ExcKind) → encode_utf8_all (kind_name k) ≡ kind_name k
-unfolding lib.Utf8.encode
-kind-encoded kind.BaseException = refl
-kind-encoded kind.SystemExit = refl
-kind-encoded kind.Exception = refl
-kind-encoded kind.ArithmeticError = refl
-kind-encoded kind.ZeroDivisionError = refl
-kind-encoded kind.OverflowError = refl
-kind-encoded kind.AssertionError = refl
-kind-encoded kind.AttributeError = refl
-kind-encoded kind.EOFError = refl
-kind-encoded kind.ImportError = refl
-kind-encoded kind.ModuleNotFoundError = refl
-kind-encoded kind.LookupError = refl
-kind-encoded kind.IndexError = refl
-kind-encoded kind.KeyError = refl
-kind-encoded kind.MemoryError = refl
-kind-encoded kind.NameError = refl
-kind-encoded kind.UnboundLocalError = refl
-kind-encoded kind.RuntimeError = refl
-kind-encoded kind.RecursionError = refl
-kind-encoded kind.TypeError = refl
-kind-encoded kind.ValueError = refl
-
-mark-encoded : encode_utf8_all (codes ": ") ≡ codes ": "
-unfolding lib.Utf8.encode
-mark-encoded = refl
-
 -- an exception without a text
 pub bare-is : (k : ExcKind) (x : List ℕ) → x ≡ [] → kind_name k ≡ encode_utf8_all (uncaught k x)
 bare-is k x e = sym (ap (λ t. encode_utf8_all (uncaught k t)) e ∙ kind-encoded k)
-
--- and one with a text
-pub text-shown : (k : ExcKind) (x bs : List ℕ) → (x ≡ [] → ⊥) → bs ≡ encode_utf8_all x → kind_name k ++ (codes ": " ++ bs) ≡ encode_utf8_all (uncaught k x)
-text-shown k [] bs h is = absurd (h refl)
-text-shown k (c ∷ cs) bs h is =
-    sym (ap encode_utf8_all (append_assoc (kind_name k) (codes ": ") (c ∷ cs)) ∙ encodes-append (kind_name k) (codes ": " ++ (c ∷ cs)) ∙ ap (λ b. b ++ encode_utf8_all (codes ": " ++ (c ∷ cs))) (kind-encoded k)
-    ∙ ap (λ b. kind_name k ++ b) (encodes-append (codes ": ") (c ∷ cs) ∙ ap (λ b. b ++ encode_utf8_all (c ∷ cs)) mark-encoded ∙ ap (λ b. codes ": " ++ b) (sym is)))
 
 -- ---- all lines
 

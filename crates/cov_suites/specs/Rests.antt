@@ -11,7 +11,7 @@ use Rattle.cov_programs.specs.Programs.{give, ask, bind}
 use Rattle.cov_step.specs.Answers.{sink_refusal, on}
 use Rattle.cov_step.specs.Calls.{Answered, TestsAsked, TestResult, tests, writes, Step}
 use Rattle.cov_step.specs.Phases.{before, own_name, save_last}
-use Rattle.cov_step.specs.Testing.{suite_answered, suite_by, suite_lines, tested_or, tests_asked, tests_run}
+use Rattle.cov_step.specs.Testing.{suite_answered, suite_by, suite_lines, came_or, tests_asked, tests_run}
 use Rattle.cov_words.specs.Values.{Word}
 
 -- after the settings
@@ -26,7 +26,7 @@ targeted own asked file ms = bind (before own) (λ was. tests_run own asked file
 
 -- the import and the tests
 abbrev pub testing : TestsAsked → Word → List LoadedModule → Step (List TestResult × DataSet)
-testing asked file ms = bind (ask (tests asked ms) give) (tested_or file)
+testing asked file ms = bind (ask (tests asked ms) give) (came_or file)
 
 -- their lines are written, and their rows are saved
 abbrev pub ended : Word → List TestResult × DataSet → Step Answered

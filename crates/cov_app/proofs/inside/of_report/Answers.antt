@@ -10,8 +10,8 @@ use Rattle.cov_app.proofs.inside.of_report.Goals as goal
 pub returns-in-Report : goal.returns-in-Report
 returns-in-Report g c =
     followed-so (on_report g.H.Shelf g.V.Vault g.M.Maker g.O.Sink)
-    (ap (λ x. of_report (plain.report c.in-Report.show_missing c.in-Report.fail_under x (option_copied c.as_deref-rcfile.result))) c.as_deref-data_file.ensures.value
-    ∙ (ap (λ x. of_report (plain.report c.in-Report.show_missing c.in-Report.fail_under (text_view c.in-Report.data_file) x)) c.as_deref-rcfile.ensures.value
+    (ap (λ x. of_report (plain.report c.in-Report.show c.in-Report.fail_under x (option_copied c.as_deref-rcfile.result))) c.as_deref-data_file.ensures.value
+    ∙ (ap (λ x. of_report (plain.report c.in-Report.show c.in-Report.fail_under (text_view c.in-Report.data_file) x)) c.as_deref-rcfile.ensures.value
     ∙ ap (λ x. of_report (command_view x)) (sym c.in-Report.is)))
     refl
     c.report.ensures
@@ -39,9 +39,9 @@ returns-in-Lcov g c =
 pub returns-in-Annotate : goal.returns-in-Annotate
 returns-in-Annotate g c =
     followed-so (on_report g.H.Shelf g.V.Vault g.M.Maker g.O.Sink)
-    (ap (λ x. of_report (plain.annotate x (option_copied c.as_deref-rcfile-in-Annotate.result) c.as_str.result.now)) c.as_deref-data_file-in-Annotate.ensures.value
-    ∙ (ap (λ x. of_report (plain.annotate (text_view c.in-Annotate.data_file) x c.as_str.result.now)) c.as_deref-rcfile-in-Annotate.ensures.value
-    ∙ (ap (λ x. of_report (plain.annotate (text_view c.in-Annotate.data_file) (text_view c.in-Annotate.rcfile) x)) c.as_str.ensures.value
+    (ap (λ x. of_report (plain.annotate x (option_copied c.as_deref-rcfile-in-Annotate.result) c.as_str-file.result.now)) c.as_deref-data_file-in-Annotate.ensures.value
+    ∙ (ap (λ x. of_report (plain.annotate (text_view c.in-Annotate.data_file) x c.as_str-file.result.now)) c.as_deref-rcfile-in-Annotate.ensures.value
+    ∙ (ap (λ x. of_report (plain.annotate (text_view c.in-Annotate.data_file) (text_view c.in-Annotate.rcfile) x)) c.as_str-file.ensures.value
     ∙ ap (λ x. of_report (command_view x)) (sym c.in-Annotate.is))))
     refl
     c.annotate.ensures

@@ -12,7 +12,6 @@ use Rattle.cov_app.specs.Objects.{all_of, on_all, on_command, saying}
 use Rattle.cov_app.specs.Taken.{why_of, ending_in}
 use Rattle.cov_app.specs.declared.answer.Told.TheVariants.{Whole}
 use Rattle.cov_app.proofs.Blaming.{input-counts, input-raised, maker-counts, maker-raised, out-counts, out-raised, shelf-counts, shelf-raised, vault-counts, vault-raised}
-use Rattle.cov_app.proofs.Caused.{exactly-so, script-so}
 use Rattle.cov_app.proofs.Keeping.{data-left, files-left, refused-so, spelled-whole}
 use Rattle.cov_app.proofs.Said.{failed-raised, only-said, said-counts, says-nothing, says-on}
 use Rattle.cov_app.proofs.Ending.{done-so}
@@ -92,7 +91,7 @@ returns-clause-untouched g c = λ early one.
     streams-left g.H.Shelf g.V.Vault g.M.Maker g.I.Source g.O.Sink g.P.Plugin g.G.Engine g.E.Sink (map string_bytes c.args.words.now)
     (all_of c.args.shelf.now c.args.vault.now c.args.maker.now (streams c.args.input.now c.args.out.now c.args.plugins.now.items c.args.engine.now), saying c.args.err.now Whole)
     (all_of c.answer-answer.new.shelf c.answer-answer.new.vault c.answer-answer.new.maker (streams c.answer-answer.new.input c.answer-answer.new.out c.answer-answer.new.plugins.items c.answer-answer.new.engine), saying c.answer-answer.new.err c.answer-answer.new.told)
-    (seen answered_view c.answer-answer.result) (subst (λ why. IsEarly (g.V.Vault.tells c.args.vault.now) why) c.parts-why.ensures.answer early) one c.answer-answer.ensures
+    (seen answered_view c.answer-answer.result) (subst (λ why. IsEarly (map string_bytes c.args.words.now) (g.V.Vault.tells c.args.vault.now) why) c.parts-why.ensures.answer early) one c.answer-answer.ensures
 
 pub returns-clause-imports : goal.returns-clause-imports
 returns-clause-imports g c = λ file is one.
@@ -159,19 +158,23 @@ returns-clause-complete_script g c = λ name is ready files contents none.
     (saying c.args.err.now Whole) (saying c.answer-answer.new.err c.answer-answer.new.told) (seen answered_view c.answer-answer.result) is ready files contents none c.answer-answer.ensures)
 
 pub returns-clause-caused : goal.returns-clause-caused
-returns-clause-caused g c = λ none files told quiet.
-    exactly-so _ (seen answered_view c.answer-answer.result) _ c.parts-why.ensures.answer
-    (c.caused.ensures (map string_bytes c.args.words.now)
-    (all_of c.args.shelf.now c.args.vault.now c.args.maker.now (streams c.args.input.now c.args.out.now c.args.plugins.now.items c.args.engine.now))
-    (all_of c.answer-answer.new.shelf c.answer-answer.new.vault c.answer-answer.new.maker (streams c.answer-answer.new.input c.answer-answer.new.out c.answer-answer.new.plugins.items c.answer-answer.new.engine))
-    (saying c.args.err.now Whole) (saying c.answer-answer.new.err c.answer-answer.new.told)
-    (seen answered_view c.answer-answer.result) none files told quiet c.answer-answer.ensures)
+returns-clause-caused g c = λ none files told quiet. (
+  seen answered_view c.answer-answer.result,
+  c.parts-why.ensures.answer,
+  c.caused.ensures (map string_bytes c.args.words.now)
+      (all_of c.args.shelf.now c.args.vault.now c.args.maker.now (streams c.args.input.now c.args.out.now c.args.plugins.now.items c.args.engine.now))
+      (all_of c.answer-answer.new.shelf c.answer-answer.new.vault c.answer-answer.new.maker (streams c.answer-answer.new.input c.answer-answer.new.out c.answer-answer.new.plugins.items c.answer-answer.new.engine))
+      (saying c.args.err.now Whole) (saying c.answer-answer.new.err c.answer-answer.new.told)
+      (seen answered_view c.answer-answer.result) none files told quiet c.answer-answer.ensures,
+)
 
 pub returns-clause-caused_script : goal.returns-clause-caused_script
-returns-clause-caused_script g c = λ name is files told quiet.
-    script-so _ _ _ name _ (seen answered_view c.answer-answer.result) _ c.parts-why.ensures.answer
-    (c.caused_scripts.ensures (map string_bytes c.args.words.now) name
-    (all_of c.args.shelf.now c.args.vault.now c.args.maker.now (streams c.args.input.now c.args.out.now c.args.plugins.now.items c.args.engine.now))
-    (all_of c.answer-answer.new.shelf c.answer-answer.new.vault c.answer-answer.new.maker (streams c.answer-answer.new.input c.answer-answer.new.out c.answer-answer.new.plugins.items c.answer-answer.new.engine))
-    (saying c.args.err.now Whole) (saying c.answer-answer.new.err c.answer-answer.new.told)
-    (seen answered_view c.answer-answer.result) is files told quiet c.answer-answer.ensures)
+returns-clause-caused_script g c = λ name is files told quiet. (
+  seen answered_view c.answer-answer.result,
+  c.parts-why.ensures.answer,
+  c.caused_scripts.ensures (map string_bytes c.args.words.now) name
+      (all_of c.args.shelf.now c.args.vault.now c.args.maker.now (streams c.args.input.now c.args.out.now c.args.plugins.now.items c.args.engine.now))
+      (all_of c.answer-answer.new.shelf c.answer-answer.new.vault c.answer-answer.new.maker (streams c.answer-answer.new.input c.answer-answer.new.out c.answer-answer.new.plugins.items c.answer-answer.new.engine))
+      (saying c.args.err.now Whole) (saying c.answer-answer.new.err c.answer-answer.new.told)
+      (seen answered_view c.answer-answer.result) is files told quiet c.answer-answer.ensures,
+)

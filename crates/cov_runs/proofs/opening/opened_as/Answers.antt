@@ -1,5 +1,5 @@
 use Rattle.std.specs.Str.{chars}
-use Rattle.cov_runs.proofs.Opened.{measurable-so, opens-so, script-so}
+use Rattle.cov_runs.proofs.Opened.{measurable-so, opens-so, regular-so, script-so}
 use Rattle.cov_runs.proofs.opening.opened_as.Goals as goal
 
 pub returns-clause-follows : goal.returns-clause-follows
@@ -10,3 +10,6 @@ returns-clause-measurable g c = measurable-so g.H.Shelf.reads _ _ (chars c.args.
 
 pub returns-clause-script : goal.returns-clause-script
 returns-clause-script g c = script-so g.H.Shelf.reads _ _ (chars c.args.script.now) (chars c.args.name.now) c.load.result c.load.ensures.loads
+
+pub returns-clause-regular : goal.returns-clause-regular
+returns-clause-regular g c = regular-so g.H.Shelf.reads _ _ (chars c.args.script.now) (chars c.args.name.now) c.load.result c.loaded_are_regular.ensures c.load.ensures.loads

@@ -1,7 +1,8 @@
 use Rattle.std.proofs.Common.{◌++◌, ◌∙◌, ap, sym, codes, rules, append_assoc}
 use Rattle.py_builtins.specs.Displays.{kind_name}
+use Rattle.cov_runs.proofs.KindNames.{text-shown}
 use Rattle.cov_step.specs.Calls.{failed}
-use Rattle.cov_suites.proofs.Writing.{bare-is, line-is, text-is, text-shown}
+use Rattle.cov_suites.proofs.Writing.{bare-is, line-is, text-is}
 use Rattle.cov_suites.proofs.lines.failed_line.Goals as goal
 
 pub returns-then-is_empty : goal.returns-then-is_empty

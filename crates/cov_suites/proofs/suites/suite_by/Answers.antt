@@ -4,9 +4,9 @@ use Rattle.cov_step.specs.Objects.{on_shelf, on_sink, on_vault}
 use Rattle.cov_streams.specs.Suites.{on_plugins}
 use Rattle.cov_calls.specs.Views.{answered_view}
 use Rattle.cov_calls.proofs.Handing.{hands-on-why}
+use Rattle.cov_runs.proofs.Lifting.{beside-shelf}
 use Rattle.cov_suites.specs.Rests.{targeted}
 use Rattle.cov_suites.specs.Views.{asked_view}
-use Rattle.cov_suites.proofs.Beside.{beside-shelf}
 use Rattle.cov_suites.proofs.suites.suite_by.Goals as goal
 
 pub returns-in_err-loaded : goal.returns-in_err-loaded

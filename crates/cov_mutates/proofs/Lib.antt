@@ -1,0 +1,2 @@
+pub mod LoadedTests
+pub mod Writing
