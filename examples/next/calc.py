@@ -1,0 +1,7 @@
+def div(a, b):
+    if b == 0:
+        return None
+    return -(-a // b)
+
+def unused(x):
+    return x
