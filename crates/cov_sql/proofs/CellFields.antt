@@ -1,7 +1,6 @@
 -- The cells that were read are the fields of the base, and so is what they mean.
-use Rattle.std.proofs.Common.{◌≡◌, ◌≢◌, inl, inr, ℕ, Bool, true, false, cond, List, [], ◌∷◌, map, Option, Some, None, Vec, refl, ap, sym, subst, ◌∙◌}
+use Rattle.std.proofs.Common.{◌≡◌, ◌≢◌, inl, inr, ℕ, Bool, true, false, cond, List, [], ◌∷◌, map, Option, Some, None, refl, ap, sym, subst, ◌∙◌}
 use Rattle.std.specs.Prelude.{IsUtf8, option_map}
-use Rattle.std.specs.declared.alloc.Global.{Global}
 use Rattle.std.specs.Option.{unwrap_or}
 use Rattle.std.specs.Str.{is_utf8}
 use Rattle.std.specs.List.{AllZip}
@@ -13,6 +12,8 @@ use Rattle.sqlite_value.specs.declared.value.Value.TheVariants as value
 use Rattle.sqlite_value.specs.Order as order
 use Rattle.sqlite.specs.Effect.{Database}
 use Rattle.cov_tables.specs.declared.cells.Cell.{Cell}
+use Rattle.cov_tables.specs.declared.cells.RowCells.{RowCells}
+use Rattle.cov_tables.specs.declared.cells.RowCells.TheVariants.{Four, Five, Any}
 use Rattle.cov_tables.specs.Fields.{text, blob, other, field, Row, row, rows}
 use Rattle.cov_tables.specs.Content.{Tables, content}
 use Rattle.cov_tables.specs.Given.{tables}
@@ -37,23 +38,28 @@ cell_field (value.Real x) c h = sym (ap field h)
 cell_field (value.Text t) c h = text_field t c h
 cell_field (value.Blob b) c (v, is, items) = ap blob (sym items) ∙ sym (ap field is)
 
-cells_row : (r : order.Row) (cs : List Cell) → AllZip IsCell r cs → map field_of r ≡ row cs
-cells_row [] [] h = refl
-cells_row [] (c ∷ cs) h = absurd h
-cells_row (v ∷ r) [] h = absurd h
-cells_row (v ∷ r) (c ∷ cs) h = λ i. cell_field v c h.0 i ∷ cells_row r cs h.1 i
+cells_fields : (r : order.Row) (cs : List Cell) → AllZip IsCell r cs → map field_of r ≡ map field cs
+cells_fields [] [] h = refl
+cells_fields [] (c ∷ cs) h = absurd h
+cells_fields (v ∷ r) [] h = absurd h
+cells_fields (v ∷ r) (c ∷ cs) h = λ i. cell_field v c h.0 i ∷ cells_fields r cs h.1 i
 
-pub lists_rows : (rs : List order.Row) (lists : List (Vec Cell Global)) → AllZip AreCells rs lists → map (map field_of) rs ≡ rows lists
+cells_row : (r : order.Row) (cs : RowCells) → AreCells r cs → map field_of r ≡ row cs
+cells_row r (Four a b c d) h = ap (map field_of) h
+cells_row r (Five a b c d e) h = ap (map field_of) h
+cells_row r (Any cs) h = cells_fields r cs.items h
+
+pub lists_rows : (rs : List order.Row) (lists : List RowCells) → AllZip AreCells rs lists → map (map field_of) rs ≡ rows lists
 lists_rows [] [] h = refl
 lists_rows [] (l ∷ lists) h = absurd h
 lists_rows (r ∷ rs) [] h = absurd h
-lists_rows (r ∷ rs) (l ∷ lists) h = λ i. cells_row r l.items h.0 i ∷ lists_rows rs lists h.1 i
+lists_rows (r ∷ rs) (l ∷ lists) h = λ i. cells_row r l h.0 i ∷ lists_rows rs lists h.1 i
 
 -- the fields of a table that was read
 abbrev pub Told : Shape → Database → List Row → Type 0
 Told t db shown = (all : List Row) × (fields_in t db ≡ Some all) × IsPermutation all shown
 
-pub told : (t : Shape) (db : Database) (lists : List (Vec Cell Global)) → AreRowsIn t db lists → Told t db (rows lists)
+pub told : (t : Shape) (db : Database) (lists : List RowCells) → AreRowsIn t db lists → Told t db (rows lists)
 told t db lists h = (
   map (map field_of) h.0,
   ap (option_map (map (map field_of))) h.2,
@@ -70,7 +76,7 @@ there t db has = by (rows_in t db) refl
     by None e = absurd (has e)
     by (Some all) e = (map (map field_of) all, ap (option_map (map (map field_of))) e)
 
-counts : (db : Database) (b : Bool) (lists : List (Vec Cell Global)) → AreCounts db b lists → IsPermutation (unwrap_or (fields_in hits db) []) (rows lists)
+counts : (db : Database) (b : Bool) (lists : List RowCells) → AreCounts db b lists → IsPermutation (unwrap_or (fields_in hits db) []) (rows lists)
 counts db true lists h = let all = told hits db lists h in subst (λ o. IsPermutation (unwrap_or o []) (rows lists)) (sym all.1) all.2
 counts db false lists h = subst (λ o. IsPermutation (unwrap_or o []) (rows lists)) (sym (untold hits db h.0)) (subst (λ l. IsPermutation [] (rows l)) (sym h.1) (IsPermutation-refl []))
 

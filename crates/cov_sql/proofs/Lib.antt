@@ -5,6 +5,9 @@ pub mod Found
 pub mod Queried
 pub mod Shows
 pub mod ReadTexts
+pub mod CellLemmas
+pub mod NumbersInPlace
+pub mod Streaming
 pub mod Deletes
 pub mod Empties
 pub mod DeleteTexts
@@ -13,7 +16,6 @@ pub mod Made
 pub mod Growing
 pub mod CreateTexts
 pub mod Inside
-pub mod CellLemmas
 pub mod Inserts
 pub mod Adds
 pub mod InsertIntoCoverageSchema

@@ -1,10 +1,11 @@
 -- The statements that read the tables of data files.
-use Rattle.std.proofs.Common.{◌≡◌, ◌⊎◌, inl, inr, ℕ, List, [], codes, refl, sym, ◌∙◌, false, not, Option, None, Some, is_some, Err, Ok, Result, IsErrOf}
+use Rattle.std.proofs.Common.{◌≡◌, ◌⊎◌, inl, inr, ℕ, List, [], codes, refl, sym, ap, ◌∙◌, false, not, Option, None, Some, is_some, Err, Ok, Result, IsErrOf}
 use Rattle.std.specs.List.Sorted.{IsPermutation}
 use Rattle.sqlite_value.specs.Order.{Row}
 use Rattle.sqlite_trees.specs.Tree.{Trees}
 use Rattle.sqlite_schema.specs.Names.{table_named}
 use Rattle.sqlite_schema.specs.declared.schema.Schema.{Schema}
+use Rattle.sqlite_resolve.specs.declared.compiled.Compiled.{Compiled}
 use Rattle.sqlite_resolve.specs.declared.error.CompileError.{CompileError}
 use Rattle.sqlite_resolve.specs.Lowering.{max_budget}
 use Rattle.sqlite_tied.specs.Compute.{everything}
@@ -22,7 +23,7 @@ use Rattle.cov_sql.proofs.Shows.{Verdict, no_column, mistyped, reads, verdict, n
 use Rattle.cov_sql.specs.declared.statements.StatementError.{StatementError}
 use Rattle.cov_sql.specs.declared.statements.StatementError.TheVariants.{Missing}
 use Rattle.cov_sql.specs.Told.{Lists, EndsAs, Reads, Answers, IsAbsence}
-use Rattle.cov_sql.specs.Shown.{IsAsked, ShowsTable, IsMissing, HasNamed, AsksFor, CommitsAsking}
+use Rattle.cov_sql.specs.Shown.{IsAsked, NeverReturns, StopsAs, ShowsTable, IsMissing, HasNamed, AsksFor, CommitsAsking}
 
 -- the text reads the table, whatever else a base has
 pub record IsReading (text : List ℕ) (t : Shape) : Type 0 where
@@ -76,7 +77,18 @@ module _ (text : List ℕ) (t : Shape) (is : IsReading text t) (old new : State)
 
   ends : IsAsked text old new → EndsAs old new
   ends (inl shown) = inl (gives shown.0 shown.1).1
-  ends (inr failed) = refused_ends failed.0 failed.1
+  ends (inr (inl failed)) = refused_ends failed.0 failed.1
+  ends (inr (inr same)) = inl same
+
+  never_returns : NeverReturns text old
+  never_returns d known = by (verdict text t.name t.columns is.plain is.ordinary is.cheap old.now.schema has)
+    where
+      by : Verdict text t.name t.columns is.plain is.ordinary is.cheap old.now.schema has → d.returning ≡ None
+      by (no_column at named u there none refused) = never old.now.schema text _ d refused known
+      by (mistyped at named u there refused) = never old.now.schema text _ d refused known
+      by (reads at named u there ps places c found returning formats command listed) =
+          let same : d ≡ c = (let both : ◌≡◌ {A = Reading} (Ok d) (Ok c) = sym known ∙ found in cc) in
+          ap (λ (x : Compiled). x.returning) same ∙ returning
 
   -- a statement that shows such a text as cells tells its table
   asked : (r : Result Lists StatementError) → ShowsTable text old new r → Answers t old new r
@@ -100,12 +112,17 @@ pub tells : (text : List ℕ) (t : Shape) → IsReading text t → (old new : St
 tells text t it old new r told clean = by (told clean)
   where
     by : AsksFor t.name text old new r → Answers t old new r
-    by (inl (has, h)) = asked text t it old new has r h
+    by (inl (has, h)) = asked text t it old new has r (h (never_returns text t it old new has))
     by (inr (none, h)) = lacked t old new r none h
 
 -- and commits nothing
 pub leaves : (text : List ℕ) (t : Shape) → IsReading text t → (old new : State) → Survives old new (CommitsAsking t.name text old) → Survives old new (λ _. ⊥)
 leaves text t it old new s = survives_weaker old new (CommitsAsking t.name text old) (λ _. ⊥) (λ _ db may. commits_nothing text t it old new may.0 db may.1) s
+
+-- a text whose rows ended early was asked
+pub asked_as : (text : List ℕ) (old new : State) (why : Option Error) → StopsAs text old new why → IsAsked text old new
+asked_as text old new (Some e) h = inr (inl (e, h))
+asked_as text old new None h = inr (inr h)
 
 -- a table was found by its name
 pub there_by : (schema : Schema) (name : List ℕ) (o : Option ℕ) → o ≡ table_named schema name → not (is_some o) ≡ false → HasNamed schema name

@@ -1,9 +1,8 @@
 -- One step of reading after the other.
-use Rattle.std.proofs.Common.{◌≡◌, ◌≢◌, inl, inr, Bool, List, [], Vec, is_some, Option, Some, None, Result, Ok, Err, IsErrOf, sym, ap, subst, ◌∙◌}
+use Rattle.std.proofs.Common.{◌≡◌, ◌≢◌, inl, inr, Bool, List, [], is_some, Option, Some, None, Result, Ok, Err, IsErrOf, sym, ap, subst, ◌∙◌}
 use Rattle.std.specs.Prelude.{option_map}
-use Rattle.std.specs.declared.alloc.Global.{Global}
 use Rattle.std.specs.Option.{unwrap_or}
-use Rattle.cov_tables.specs.declared.cells.Cell.{Cell}
+use Rattle.cov_tables.specs.declared.cells.RowCells.{RowCells}
 use Rattle.sqlite.specs.Effect.{Database}
 use Rattle.sqlite.specs.State.{State, IsUnchanged, IsRolledBack}
 use Rattle.sqlite.proofs.Callers.{unchanged_then}
@@ -75,9 +74,9 @@ unsought t a b e told = record {
 }
 
 -- the rows of the table of counts, or none
-pub counts_given : (db : Database) (b : Bool) (o : Option Lists) (items : List (Vec Cell Global)) → b ≡ is_some o → items ≡ unwrap_or (option_map (λ v. v.items) o) [] → HoldsCounts db o → AreCounts db b items
+pub counts_given : (db : Database) (b : Bool) (o : Option Lists) (items : List RowCells) → b ≡ is_some o → items ≡ unwrap_or (option_map (λ v. v.items) o) [] → HoldsCounts db o → AreCounts db b items
 counts_given db b None items is same h = subst (λ c. AreCounts db c items) (sym is) (h, same)
 counts_given db b (Some v) items is same h = subst (λ c. AreCounts db c items) (sym is) (subst (AreRowsIn hits db) (sym same) h)
 
-pub holds_table : (t : Shape) (db : Database) (items : List (Vec Cell Global)) → AreRowsIn t db items → rows_in t db ≢ None
+pub holds_table : (t : Shape) (db : Database) (items : List RowCells) → AreRowsIn t db items → rows_in t db ≢ None
 holds_table t db items h none = absurd (let both : ◌≡◌ {A = Option (List Row)} (Some h.0) None = sym h.2 ∙ none in cc)

@@ -1,5 +1,5 @@
 -- A base of schema 7 has the row of its version, and no other.
-use Rattle.std.proofs.Common.{◌≡◌, ◌⊎◌, inl, inr, codes, ℕ, pos, Vec, Bool, true, false, cond, List, [], ◌∷◌, map, Some, None, Option, refl, sym, ap, subst, ◌∙◌}
+use Rattle.std.proofs.Common.{◌≡◌, ◌⊎◌, inl, inr, codes, ℕ, pos, Bool, true, false, cond, List, [], ◌∷◌, map, Some, None, Option, refl, sym, ap, subst, ◌∙◌}
 use Rattle.std.specs.List.{AllByRecursion}
 use Rattle.std.specs.List.Sorted.{IsPermutation}
 use Rattle.std.specs.declared.cmp.Ordering.{Ordering}
@@ -15,7 +15,7 @@ use Rattle.sqlite_value.specs.declared.value.Value.{Value}
 use Rattle.sqlite_value.specs.declared.value.Value.TheVariants as value
 use Rattle.sqlite_trees.proofs.ListLemmas.{all-permutation}
 use Rattle.sqlite.specs.Effect.{Database}
-use Rattle.cov_tables.specs.declared.cells.Cell.{Cell}
+use Rattle.cov_tables.specs.declared.cells.RowCells.{RowCells}
 use Rattle.cov_tables.specs.Fields.{rows, whole_at, whole_in, text, other}
 use Rattle.cov_tables.specs.Joins.{is_whole}
 use Rattle.cov_tables.specs.Content.{is_schema_7}
@@ -80,22 +80,22 @@ one_column db all is = by (either (table_in db.schema coverage_schema.name))
     by (inl (u, there)) = on_table u there (either (column_named u (codes "version")))
     by (inr none) = absurd (let no : ◌≡◌ {A = Option (List Row)} None (Some all) = rw none at is in cc)
 
-version_row : (db : Database) → (lists : List (Vec Cell Global)) → AreRowsIn coverage_schema db lists → is_schema_7 (rows lists) ≡ true → HoldsVersion db
+version_row : (db : Database) → (lists : List RowCells) → AreRowsIn coverage_schema db lists → is_schema_7 (rows lists) ≡ true → HoldsVersion db
 version_row db lists h is =
     let shown_one = all-permutation IsOne h.0 h.1 h.3 (one_column db h.0 h.2) in
     let is_version = only h.1 (ap is_schema_7 (lists_rows h.1 lists h.4) ∙ is) shown_one in
     record { all = h.0; shown = h.2; same = IsPermutation-sym h.0 (version ∷ []) (subst (IsPermutation h.0) is_version h.3) }
 
 -- where all tables stand, that of counts is there
-has_counts : (db : Database) → Stands db.schema → (lists : List (Vec Cell Global)) → AreCounts db false lists → ⊥
+has_counts : (db : Database) → Stands db.schema → (lists : List RowCells) → AreCounts db false lists → ⊥
 has_counts db s lists h = (let both : ◌≡◌ {A = Option (List Row)} (Some _) None = sym (rows_at name.Hits (s.tree name.Hits) db (s.there name.Hits)) ∙ h.0 in cc)
 
 -- and where there is none, it has no rows
-no_counts : (db : Database) → table_named db.schema (codes "hits") ≡ None → (lists : List (Vec Cell Global)) → AreCounts db true lists → ⊥
+no_counts : (db : Database) → table_named db.schema (codes "hits") ≡ None → (lists : List RowCells) → AreCounts db true lists → ⊥
 no_counts db none lists h = (let both : ◌≡◌ {A = Option (List Row)} None (Some h.0) = rw none at h.2 in cc)
 
 -- a base of schema 7 that was read is ready
-pub is_ready : (db : Database) (b : Bool) (counts lists : List (Vec Cell Global)) → AreCounts db b counts → AreRowsIn coverage_schema db lists → is_schema_7 (rows lists) ≡ true → IsReplaceable db ⊎ LacksCounts db → IsReady (start.Tables b) db
+pub is_ready : (db : Database) (b : Bool) (counts lists : List RowCells) → AreCounts db b counts → AreRowsIn coverage_schema db lists → is_schema_7 (rows lists) ≡ true → IsReplaceable db ⊎ LacksCounts db → IsReady (start.Tables b) db
 is_ready db true counts lists h v is (inl rep) = (rep, version_row db lists v is)
 is_ready db true counts lists h v is (inr lacks) = absurd (no_counts db lacks.none counts h)
 is_ready db false counts lists h v is (inl rep) = absurd (has_counts db rep.stands counts h)

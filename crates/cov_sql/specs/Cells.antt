@@ -1,5 +1,5 @@
 -- Cells: the values of rows as data files use them.
-use Rattle.std.specs.Prelude.{◌≡◌, ◌⊎◌, ℕ, List, Some, String, Vec, string_bytes, IsUtf8, IsPermutation}
+use Rattle.std.specs.Prelude.{◌≡◌, ◌⊎◌, ℕ, List, [], ◌∷◌, Some, String, Vec, string_bytes, IsUtf8, IsPermutation}
 use Rattle.std.specs.declared.alloc.Global.{Global}
 use Rattle.std.specs.List.{AllZip}
 use Rattle.sqlite_value.specs.declared.value.Value.{Value}
@@ -7,6 +7,8 @@ use Rattle.sqlite_value.specs.declared.value.Value.TheVariants as value
 use Rattle.sqlite_value.specs.Order.{Row}
 use Rattle.sqlite.specs.Effect.{Database}
 use Rattle.cov_tables.specs.declared.cells.Cell.{Cell}
+use Rattle.cov_tables.specs.declared.cells.RowCells.{RowCells}
+use Rattle.cov_tables.specs.declared.cells.RowCells.TheVariants.{Four, Five, Any}
 use Rattle.cov_tables.specs.declared.cells.Cell.TheVariants.{Int, Text, Blob, Other}
 use Rattle.cov_sql.specs.Tables.{Shape, rows_in}
 
@@ -24,11 +26,14 @@ IsCell (value.Real x) c = c ≡ Other
 IsCell (value.Text t) c = IsTextCell t c
 IsCell (value.Blob b) c = (v : Vec ℕ Global) × (c ≡ Blob v) × (v.items ≡ b)
 
--- the cells of a row
-abbrev pub AreCells : Row → Vec Cell Global → Type 0
-AreCells row cells = AllZip IsCell row cells.items
+-- the cells of a row, where whole numbers may stand in place
+abbrev pub AreCells : Row → RowCells → Type 0
+AreCells row (Four a b c d) = row ≡ value.Int a ∷ value.Int b ∷ value.Int c ∷ value.Int d ∷ []
+AreCells row (Five a b c d e) =
+    row ≡ value.Int a ∷ value.Int b ∷ value.Int c ∷ value.Int d ∷ value.Int e ∷ []
+AreCells row (Any cells) = AllZip IsCell row cells.items
 
 -- the rows of a table, in some order
-abbrev pub AreRowsIn : Shape → Database → List (Vec Cell Global) → Type 0
+abbrev pub AreRowsIn : Shape → Database → List RowCells → Type 0
 AreRowsIn t db lists = (all : List Row) × (shown : List Row) × (rows_in t db ≡ Some all)
     × IsPermutation all shown × AllZip AreCells shown lists

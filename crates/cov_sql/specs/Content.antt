@@ -5,8 +5,7 @@
 --                                base holds
 --     AreCounts, IsFound         the rows that were read of each table, in some order; without the
 --                                table of counts, none
-use Rattle.std.specs.Prelude.{◌≡◌, ◌≢◌, Bool, true, false, cond, Vec, List, [], map, Option, Some, None, option_map, option_and_then}
-use Rattle.std.specs.declared.alloc.Global.{Global}
+use Rattle.std.specs.Prelude.{◌≡◌, ◌≢◌, Bool, true, false, cond, List, [], map, Option, Some, None, option_map, option_and_then}
 use Rattle.std.specs.Option.{unwrap_or}
 use Rattle.std.specs.Str.{is_utf8}
 use Rattle.sqlite_value.specs.declared.value.Value.{Value}
@@ -16,7 +15,7 @@ use Rattle.cov_vault.specs.declared.vault.Content.{Content}
 use Rattle.cov_vault.specs.declared.vault.Content.TheVariants.{NotSchema7}
 use Rattle.cov_tables.specs.Fields.{Field, whole, text, blob, other, Row}
 use Rattle.cov_tables.specs.Content.{Tables, content}
-use Rattle.cov_tables.specs.declared.cells.Cell.{Cell}
+use Rattle.cov_tables.specs.declared.cells.RowCells.{RowCells}
 use Rattle.cov_sql.specs.Tables.{Shape, rows_in, coverage_schema, meta, file, context, line_bits, arc, tracer, hits}
 use Rattle.cov_sql.specs.Cells.{AreRowsIn}
 use Rattle.cov_sql.specs.declared.reading.Found.{Found}
@@ -67,7 +66,7 @@ abbrev pub content_in : Database → Content
 content_in db = content_if (tables_in db)
 
 -- the rows of `hits`, or none where it isn't there
-abbrev pub AreCounts : Database → Bool → List (Vec Cell Global) → Type 0
+abbrev pub AreCounts : Database → Bool → List RowCells → Type 0
 AreCounts db true lists = AreRowsIn hits db lists
 AreCounts db false lists = (rows_in hits db ≡ None) × (lists ≡ [])
 

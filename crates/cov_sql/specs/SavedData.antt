@@ -1,4 +1,5 @@
 -- What is kept of data until it is written.
+--     lent_texts                   texts that are lent
 --     contexts_in                  the contexts of rows, in order, each once
 --     IsNumbered, IsSavedRow       a text stands at a number, from 1; a row with the numbers of its
 --                                  file and its context
@@ -6,6 +7,7 @@
 --     saved_rows, HoldsSaved       the rows that are written; the tables of a base hold those of
 --                                  data
 use Rattle.std.specs.Prelude.{◌≡◌, ℕ, ℤ, pos, ◌+◌, true, false, List, [], map, slice_get, Some, string_bytes}
+use Rattle.std.specs.Borrow.{Bor}
 use Rattle.std.specs.List.{AllZip}
 use Rattle.cov_data.specs.DataSet.{Text, text_cmp, DataSet}
 use Rattle.cov_data.specs.Rows.{RowView, distinct_in_order, rows_of, paths_of}
@@ -15,6 +17,10 @@ use Rattle.sqlite.specs.Effect.{Database}
 use Rattle.cov_sql.specs.Blobs.{AreBitsOf}
 use Rattle.cov_sql.specs.Holding.{Rows, Holds}
 use Rattle.cov_sql.specs.SavedRows.{with_names, with_data, no_data_rows}
+
+-- the texts, where they are lent
+abbrev pub lent_texts : List (Bor (List ℕ)) → List Text
+lent_texts ts = map (λ t. t.now) ts
 
 -- the contexts of rows in byte order, each once
 abbrev pub contexts_in : List RowView → List Text

@@ -2,11 +2,12 @@
 --     ShowsCells               the rows that it shows
 --     IsRefusedAsAbsent        it was refused, since a table or a column isn't there
 --     IsAsked                  it was asked, with or without an answer
+--     NeverReturns, StopsAs    it is no write that shows what it wrote; why its rows end early
 --     ShowsTable, IsMissing    what a query answers; what is answered in place of a table that isn't
 --                              there
 --     AsksFor, CommitsAsking   a table that is there is asked for, and any other is missing; what
 --                              asking may commit
-use Rattle.std.specs.Prelude.{◌≡◌, ◌⊎◌, ℕ, List, [], None, Some, Result, IfOk, IsErrOf, IsErr}
+use Rattle.std.specs.Prelude.{◌≡◌, ◌⊎◌, ℕ, List, [], None, Some, Option, Result, Ok, IfOk, IsErrOf, IsErr}
 use Rattle.std.specs.List.{AllZip}
 use Rattle.sqlite_value.specs.Order.{Row}
 use Rattle.sqlite_trees.specs.Tree.{Trees}
@@ -15,6 +16,8 @@ use Rattle.sqlite_schema.specs.declared.schema.Schema.{Schema}
 use Rattle.sqlite.specs.State.{State, IsUnchanged, Shown, FailsToQuery, CommitsShowing}
 use Rattle.sqlite.specs.declared.error.Error.{Error}
 use Rattle.sqlite.specs.declared.error.Error.TheVariants.{SqlInputError}
+use Rattle.sqlite.specs.Listing.{understood}
+use Rattle.sqlite_resolve.specs.declared.compiled.Compiled.{Compiled}
 use Rattle.sqlite_resolve.specs.declared.error.CompileError.{CompileError}
 use Rattle.cov_sql.specs.declared.statements.StatementError.{StatementError}
 use Rattle.cov_sql.specs.declared.statements.StatementError.TheVariants.{Missing}
@@ -31,10 +34,19 @@ abbrev pub IsRefusedAsAbsent : List ℕ → State → State → Type 0
 IsRefusedAsAbsent text old new = (e : CompileError) × IsAbsence e
     × FailsToQuery text [] old new (SqlInputError e)
 
--- the text was asked, with or without an answer
+-- the text was asked, with or without an answer, or no memory was left for it
 abbrev pub IsAsked : List ℕ → State → State → Type 0
 IsAsked text old new = ((rows : List Row) × Shown text [] old new rows)
-    ⊎ ((e : Error) × FailsToQuery text [] old new e)
+    ⊎ (((e : Error) × FailsToQuery text [] old new e) ⊎ IsUnchanged old new)
+
+-- the text is no write that shows what it wrote
+abbrev pub NeverReturns : List ℕ → State → Type 0
+NeverReturns text s = (c : Compiled) → understood s.now.schema text ≡ Ok c → c.returning ≡ None
+
+-- the database fails to answer, or no memory was left for the answer
+abbrev pub StopsAs : List ℕ → State → State → Option Error → Type 0
+StopsAs text old new (Some e) = FailsToQuery text [] old new e
+StopsAs text old new None = IsUnchanged old new
 
 -- what a query answers
 pub record ShowsTable (text : List ℕ) (old new : State) (r : Result Lists StatementError)
@@ -55,7 +67,8 @@ HasNamed schema name = (at : ℕ) × (table_named schema name ≡ Some at)
 
 -- a table of this name is asked for where there is one
 abbrev pub AsksFor : (name text : List ℕ) → State → State → Result Lists StatementError → Type 0
-AsksFor name text old new r = (HasNamed old.now.schema name × ShowsTable text old new r)
+AsksFor name text old new r =
+    (HasNamed old.now.schema name × (NeverReturns text old → ShowsTable text old new r))
     ⊎ ((table_named old.now.schema name ≡ None) × IsMissing old new r)
 
 -- what may be committed so

@@ -9,7 +9,7 @@ use Rattle.std.specs.declared.alloc.Global.{Global}
 use Rattle.sqlite.specs.State.{State, HasCleanDisk, IsUnchanged, IsRolledBack}
 use Rattle.sqlite_resolve.specs.declared.error.CompileError.{CompileError}
 use Rattle.sqlite_resolve.specs.declared.error.CompileError.TheVariants.{NoSuchTable, NoSuchColumn}
-use Rattle.cov_tables.specs.declared.cells.Cell.{Cell}
+use Rattle.cov_tables.specs.declared.cells.RowCells.{RowCells}
 use Rattle.cov_sql.specs.declared.statements.StatementError.{StatementError}
 use Rattle.cov_sql.specs.declared.statements.StatementError.TheVariants.{Missing}
 use Rattle.cov_sql.specs.Tables.{Shape, rows_in}
@@ -17,7 +17,7 @@ use Rattle.cov_sql.specs.Cells.{AreRowsIn}
 
 -- rows as lists of cells
 abbrev pub Lists : Type 0
-Lists = Vec (Vec Cell Global) Global
+Lists = Vec RowCells Global
 
 -- the base is as it was, or its transaction was undone
 abbrev pub EndsAs : State → State → Type 0

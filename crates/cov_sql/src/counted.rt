@@ -11,7 +11,7 @@ ghost use Rattle.cov_sql.specs.Told.{IsAbsence};
 ghost use Rattle.cov_sql.specs.Written.{Ran, WasAbsent};
 
 use crate::statements::{StatementError, Statements};
-use cov_tables::Cell;
+use cov_tables::RowCells;
 use sqlite::{Alter, Connection, Error, ErrorCode, Transaction};
 use sqlite_resolve::CompileError;
 use sqlite_value::value::ValueRef;
@@ -111,7 +111,7 @@ impl Statements for Counted {
         &mut self,
         alloc: Global,
         base: &mut Connection<S>,
-    ) -> Result<Vec<Vec<Cell>>, StatementError> {
+    ) -> Result<Vec<RowCells>, StatementError> {
         self.read_rows(
             alloc,
             base,
@@ -124,7 +124,7 @@ impl Statements for Counted {
         &mut self,
         alloc: Global,
         base: &mut Connection<S>,
-    ) -> Result<Vec<Vec<Cell>>, StatementError> {
+    ) -> Result<Vec<RowCells>, StatementError> {
         self.read_rows(alloc, base, "meta", "SELECT key, value FROM meta")
     }
 
@@ -132,7 +132,7 @@ impl Statements for Counted {
         &mut self,
         alloc: Global,
         base: &mut Connection<S>,
-    ) -> Result<Vec<Vec<Cell>>, StatementError> {
+    ) -> Result<Vec<RowCells>, StatementError> {
         self.read_rows(alloc, base, "file", "SELECT id, path FROM file")
     }
 
@@ -140,7 +140,7 @@ impl Statements for Counted {
         &mut self,
         alloc: Global,
         base: &mut Connection<S>,
-    ) -> Result<Vec<Vec<Cell>>, StatementError> {
+    ) -> Result<Vec<RowCells>, StatementError> {
         self.read_rows(alloc, base, "context", "SELECT id, context FROM context")
     }
 
@@ -148,7 +148,7 @@ impl Statements for Counted {
         &mut self,
         alloc: Global,
         base: &mut Connection<S>,
-    ) -> Result<Vec<Vec<Cell>>, StatementError> {
+    ) -> Result<Vec<RowCells>, StatementError> {
         self.read_rows(
             alloc,
             base,
@@ -161,7 +161,7 @@ impl Statements for Counted {
         &mut self,
         alloc: Global,
         base: &mut Connection<S>,
-    ) -> Result<Vec<Vec<Cell>>, StatementError> {
+    ) -> Result<Vec<RowCells>, StatementError> {
         self.read_rows(
             alloc,
             base,
@@ -174,7 +174,7 @@ impl Statements for Counted {
         &mut self,
         alloc: Global,
         base: &mut Connection<S>,
-    ) -> Result<Vec<Vec<Cell>>, StatementError> {
+    ) -> Result<Vec<RowCells>, StatementError> {
         self.read_rows(alloc, base, "tracer", "SELECT file_id, tracer FROM tracer")
     }
 
@@ -182,7 +182,7 @@ impl Statements for Counted {
         &mut self,
         alloc: Global,
         base: &mut Connection<S>,
-    ) -> Result<Vec<Vec<Cell>>, StatementError> {
+    ) -> Result<Vec<RowCells>, StatementError> {
         self.read_rows(
             alloc,
             base,

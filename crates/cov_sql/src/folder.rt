@@ -18,8 +18,8 @@ use std::io::ErrorKind;
 use std::path::{Path, PathBuf};
 use std::{fs, io};
 
-/// The data files of a folder, each under its name. Files that the database keeps beside a data
-/// file have no name of their own.
+/// The data files of a folder, each under its name. What the database keeps beside a data file, and
+/// a part of a new one, have no name of their own.
 #[derive(Drop)]
 pub struct FolderVault {
     rt: HostRuntime,
@@ -73,6 +73,38 @@ impl FolderVault {
         }
     }
 
+    /// What it means how a base was closed.
+    fn closed(&mut self, how: Result<(), Error>) -> Result<(), VaultError>
+        ensures same { folder_of self.new ≡ folder_of self.old }
+        ensures count { self.old.by.refusals ≤ self.new.by.refusals }
+        ensures failed { IsErrOf result VaultError.Failed
+            → Rose self.old.by.refusals self.new.by.refusals }
+        ensures kinds { IfErr result IsFailure }
+    {
+        match how {
+            Ok(()) => Ok(()),
+            Err(Error::SqliteFailure(ErrorCode::OutOfMemory)) => Err(self.failure(true)),
+            Err(error) => {
+                drop(error);
+                Err(self.failure(false))
+            }
+        }
+    }
+
+    /// Whether it is a file without bytes. An open would make a base of it.
+    fn is_empty(&mut self, path: &PathBuf) -> Result<bool, VaultError>
+        ensures same { folder_of self.new ≡ folder_of self.old }
+        ensures count { self.old.by.refusals ≤ self.new.by.refusals }
+        ensures failed { IsErrOf result VaultError.Failed
+            → Rose self.old.by.refusals self.new.by.refusals }
+        ensures kinds { IfErr result IsFailure }
+    {
+        match fs::metadata(&self.rt, path.as_path()) {
+            Ok(found) => Ok(found.is_file() && found.len() == 0),
+            Err(error) => Err(self.failure(is_no_memory(&error))),
+        }
+    }
+
     fn open(&mut self, path: &PathBuf) -> Result<Connection<FileStore<File>>, VaultError>
         ensures autocommit { IfOk result (λ base. base.in_transaction ≡ false) }
         ensures same { folder_of self.new ≡ folder_of self.old }
@@ -106,6 +138,34 @@ impl FolderVault {
         }
     }
 
+    /// Makes room for a new file and for its first part beside it.
+    fn make_room(&mut self, alloc: Global, path: &PathBuf, part: &PathBuf) -> Result<(), VaultError>
+        ensures same { folder_of self.new ≡ folder_of self.old }
+        ensures count { self.old.by.refusals ≤ self.new.by.refusals }
+        ensures failed { IsErrOf result VaultError.Failed
+            → Rose self.old.by.refusals self.new.by.refusals }
+        ensures kinds { IfErr result IsFailure }
+    {
+        match make_room(&self.rt, alloc, path, part) {
+            Ok(()) => Ok(()),
+            Err(error) => Err(self.failure(is_no_memory(&error))),
+        }
+    }
+
+    /// Gives a whole file its name.
+    fn name_file(&mut self, part: &PathBuf, path: &PathBuf) -> Result<(), VaultError>
+        ensures same { folder_of self.new ≡ folder_of self.old }
+        ensures count { self.old.by.refusals ≤ self.new.by.refusals }
+        ensures failed { IsErrOf result VaultError.Failed
+            → Rose self.old.by.refusals self.new.by.refusals }
+        ensures kinds { IfErr result IsFailure }
+    {
+        match fs::rename(&self.rt, part.as_path(), path.as_path()) {
+            Ok(()) => Ok(()),
+            Err(error) => Err(self.failure(is_no_memory(&error))),
+        }
+    }
+
     fn read(&mut self, alloc: Global, path: &PathBuf) -> Result<Data, VaultError>
         ensures not_absent { IsErrOf result VaultError.Absent → ⊥ }
         ensures same { folder_of self.new ≡ folder_of self.old }
@@ -113,6 +173,9 @@ impl FolderVault {
         ensures failed { IsErrOf result VaultError.Failed
             → Rose self.old.by.refusals self.new.by.refusals }
     {
+        if self.is_empty(path)? {
+            return Err(VaultError::NotSchema7);
+        }
         let mut base = self.open(path)?;
         let loaded = read_data(alloc, &mut base, &mut self.by);
         // What stays beside the file is read by the next open.
@@ -123,12 +186,34 @@ impl FolderVault {
         }
     }
 
-    fn write(
+    /// Writes to a file that is there.
+    fn write(&mut self, alloc: Global, path: &PathBuf, content: &Data) -> Result<(), VaultError>
+        ensures not_absent { IsErrOf result VaultError.Absent → ⊥ }
+        ensures not_bad_row { (row : ℕ) → IsErrOf result (VaultError.BadRow row) → ⊥ }
+        ensures same { folder_of self.new ≡ folder_of self.old }
+        ensures count { self.old.by.refusals ≤ self.new.by.refusals }
+        ensures failed { IsErrOf result VaultError.Failed
+            → Rose self.old.by.refusals self.new.by.refusals }
+    {
+        if self.is_empty(path)? {
+            return Err(VaultError::NotSchema7);
+        }
+        let mut base = self.open(path)?;
+        let saved = write_data(alloc, &mut base, &mut self.by, content, false);
+        // What stays beside the file is read by the next open.
+        drop(base.close());
+        match saved {
+            Ok(()) => Ok(()),
+            Err(error) => Err(failure_of(error)),
+        }
+    }
+
+    /// Writes a whole new file: nothing of it stays beside it.
+    fn write_part(
         &mut self,
         alloc: Global,
-        path: &PathBuf,
+        part: &PathBuf,
         content: &Data,
-        fresh: bool,
     ) -> Result<(), VaultError>
         ensures not_absent { IsErrOf result VaultError.Absent → ⊥ }
         ensures not_bad_row { (row : ℕ) → IsErrOf result (VaultError.BadRow row) → ⊥ }
@@ -137,14 +222,35 @@ impl FolderVault {
         ensures failed { IsErrOf result VaultError.Failed
             → Rose self.old.by.refusals self.new.by.refusals }
     {
-        let mut base = self.open(path)?;
-        let saved = write_data(alloc, &mut base, &mut self.by, content, fresh);
-        // What stays beside the file is read by the next open.
-        drop(base.close());
+        let mut base = self.open(part)?;
+        let saved = write_data(alloc, &mut base, &mut self.by, content, true);
+        let closed = base.close();
         match saved {
-            Ok(()) => Ok(()),
-            Err(error) => Err(failure_of(error)),
+            Ok(()) => self.closed(closed),
+            Err(error) => {
+                drop(closed);
+                Err(failure_of(error))
+            }
         }
+    }
+
+    /// Writes a part and gives it its name.
+    fn write_and_name(
+        &mut self,
+        alloc: Global,
+        part: &PathBuf,
+        path: &PathBuf,
+        content: &Data,
+    ) -> Result<(), VaultError>
+        ensures not_absent { IsErrOf result VaultError.Absent → ⊥ }
+        ensures not_bad_row { (row : ℕ) → IsErrOf result (VaultError.BadRow row) → ⊥ }
+        ensures same { folder_of self.new ≡ folder_of self.old }
+        ensures count { self.old.by.refusals ≤ self.new.by.refusals }
+        ensures failed { IsErrOf result VaultError.Failed
+            → Rose self.old.by.refusals self.new.by.refusals }
+    {
+        self.write_part(alloc, part, content)?;
+        self.name_file(part, path)
     }
 }
 
@@ -192,16 +298,16 @@ impl Vault for FolderVault {
 
     fn save(&mut self, alloc: Global, name: &str, content: &Data) -> Result<(), VaultError> {
         let path = self.path_of(alloc, name)?;
-        let fresh = !self.is_there(&path)?;
-        if !fresh {
-            return self.write(alloc, &path, content, false);
+        if self.is_there(&path)? {
+            return self.write(alloc, &path, content);
         }
-        self.take_companions(alloc, &path)?;
-        let saved = self.write(alloc, &path, content, true);
-        if saved.is_err() {
-            // There was no file of this name.
-            let _ = fs::remove_file(&self.rt, path.as_path());
-        }
+        // A new file gets its name when it is whole, so that a stop leaves none of this name.
+        let part_name = format!(in alloc; "{}{}", name, PART)?;
+        let part = self.path_of(alloc, part_name.as_str())?;
+        self.make_room(alloc, &path, &part)?;
+        let saved = self.write_and_name(alloc, &part, &path, content);
+        // The next save of this name takes what stays.
+        let _ = remove_part(&self.rt, alloc, &part);
         saved
     }
 
@@ -244,6 +350,9 @@ pub(crate) fn failure_of(error: SqlError) -> VaultError
 /// What the names end in of the files that the database keeps beside a data file.
 const ENDINGS: [&str; 3] = ["-journal", "-wal", "-shm"];
 
+/// What the name ends in of a new data file that isn't whole yet.
+const PART: &str = "-cov-part";
+
 /// The names of the files of a folder, in order. A name that is not UTF-8 is passed over.
 fn names_in(rt: &HostRuntime, alloc: Global, folder: &str) -> io::Result<Vec<String>>
     ensures { IfOk result (λ names.
@@ -266,9 +375,10 @@ fn names_in(rt: &HostRuntime, alloc: Global, folder: &str) -> io::Result<Vec<Str
 }
 
 fn is_data_file(entry: &fs::DirEntry) -> io::Result<bool> {
-    if ENDINGS
-        .iter()
-        .any(|ending| entry.file_name().ends_with(*ending))
+    if entry.file_name().ends_with(PART)
+        || ENDINGS
+            .iter()
+            .any(|ending| entry.file_name().ends_with(*ending))
     {
         return Ok(false);
     }
@@ -278,11 +388,40 @@ fn is_data_file(entry: &fs::DirEntry) -> io::Result<bool> {
 fn remove_companions(rt: &HostRuntime, alloc: Global, path: &PathBuf) -> io::Result<()> {
     for ending in ENDINGS {
         let companion = format!(in alloc; "{}{}", path.as_path().as_str(), ending)?;
-        match fs::remove_file(rt, companion.as_str()) {
-            Ok(()) => {}
-            Err(error) if error.kind() == ErrorKind::NotFound => {}
-            Err(error) => return Err(error),
-        }
+        remove_if_there(rt, companion.as_str())?;
     }
     Ok(())
+}
+
+fn remove_if_there(rt: &HostRuntime, path: &str) -> io::Result<()> {
+    match fs::remove_file(rt, path) {
+        Ok(()) => Ok(()),
+        Err(error) if error.kind() == ErrorKind::NotFound => Ok(()),
+        Err(error) => Err(error),
+    }
+}
+
+/// Takes away a part, and what the database keeps beside it.
+fn remove_part(rt: &HostRuntime, alloc: Global, part: &PathBuf) -> io::Result<()> {
+    remove_if_there(rt, part.as_path().as_str())?;
+    remove_companions(rt, alloc, part)
+}
+
+/// Takes away what stands beside a file that isn't there, a part of an earlier save too. Where a
+/// link to nothing has that name, it is refused.
+fn make_room(rt: &HostRuntime, alloc: Global, path: &PathBuf, part: &PathBuf) -> io::Result<()> {
+    if has_name(rt, path)? {
+        return Err(ErrorKind::AlreadyExists.into());
+    }
+    remove_part(rt, alloc, part)?;
+    remove_companions(rt, alloc, path)
+}
+
+/// Whether a file or a link has this name.
+fn has_name(rt: &HostRuntime, path: &PathBuf) -> io::Result<bool> {
+    match fs::symlink_metadata(rt, path.as_path()) {
+        Ok(_) => Ok(true),
+        Err(error) if error.kind() == ErrorKind::NotFound => Ok(false),
+        Err(error) => Err(error),
+    }
 }

@@ -20,7 +20,7 @@ mod values;
 mod writing;
 
 pub use counted::Counted;
-pub use cov_tables::Cell;
+pub use cov_tables::{Cell, RowCells};
 pub use errors::SqlError;
 pub use folder::FolderVault;
 pub use laws::{saved_are_read, saved_is_ready, saved_is_schema_7, saves_are_read};

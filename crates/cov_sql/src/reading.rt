@@ -15,7 +15,7 @@ ghost use Rattle.cov_sql.specs.Steps.{ReadsBy};
 use crate::errors::SqlError;
 use crate::statements::{StatementError, Statements};
 use cov_data::Data;
-use cov_tables::{Cell, Tables, content_of};
+use cov_tables::{RowCells, Tables, content_of};
 use cov_vault::Content;
 use sqlite::{Alter, Connection};
 use std::alloc::Global;
@@ -30,26 +30,26 @@ pub(crate) struct Found {
 /// The tables that rows refer to, and those without rows of data.
 #[derive(Drop)]
 pub(crate) struct Named {
-    pub(crate) coverage_schema: Vec<Vec<Cell>>,
-    pub(crate) meta: Vec<Vec<Cell>>,
-    pub(crate) file: Vec<Vec<Cell>>,
-    pub(crate) context: Vec<Vec<Cell>>,
+    pub(crate) coverage_schema: Vec<RowCells>,
+    pub(crate) meta: Vec<RowCells>,
+    pub(crate) file: Vec<RowCells>,
+    pub(crate) context: Vec<RowCells>,
 }
 
 /// The tables with rows of data.
 #[derive(Drop)]
 pub(crate) struct Measured {
-    pub(crate) line_bits: Vec<Vec<Cell>>,
-    pub(crate) arc: Vec<Vec<Cell>>,
+    pub(crate) line_bits: Vec<RowCells>,
+    pub(crate) arc: Vec<RowCells>,
     /// None where the table isn't there.
-    pub(crate) hits: Option<Vec<Vec<Cell>>>,
+    pub(crate) hits: Option<Vec<RowCells>>,
 }
 
 fn hits_rows<S: Alter, Q: Statements>(
     alloc: Global,
     base: &mut Connection<S>,
     by: &mut Q,
-) -> Result<Option<Vec<Vec<Cell>>>, SqlError>
+) -> Result<Option<Vec<RowCells>>, SqlError>
     ensures told { Q.tells by.old
         → SeeksCounts (state S.Store base.old) (state S.Store base.new) result }
     ensures not_schema { IsErrOf result SqlError.NotSchema7 → ⊥ }
@@ -152,7 +152,7 @@ fn found_in(alloc: Global, named: Named, measured: Measured) -> Found
 }
 
 /// No row where the table isn't there.
-fn rows_if(alloc: Global, rows: Option<Vec<Vec<Cell>>>) -> Vec<Vec<Cell>>
+fn rows_if(alloc: Global, rows: Option<Vec<RowCells>>) -> Vec<RowCells>
     ensures { result.items ≡ unwrap_or (option_map (λ rows. rows.items) rows) [] }
 {
     match rows {
@@ -188,7 +188,7 @@ pub fn read_data<S: Alter, Q: Statements>(
         → Rose (Q.refusals by.old) (Q.refusals by.new) }
 {
     let found = read_tables(alloc, base, by)?;
-    match content_of(alloc, &found.tables)? {
+    match content_of(alloc, found.tables)? {
         Content::Good(whole) => Ok(whole),
         Content::NotSchema7 => Err(SqlError::NotSchema7),
         Content::BadRow(row) => Err(SqlError::BadRow(row)),

@@ -1,13 +1,13 @@
 //! The rows that a data file has of data.
 ghost use Rattle.std.specs.Prelude.{◌≡◌, true, false, cond, [], map, string_bytes, IfOk, IfSome};
 ghost use Rattle.std.specs.List.{AllZip};
-ghost use Rattle.cov_data.specs.Rows.{row_view};
+ghost use Rattle.cov_data.specs.Rows.{lent_view};
 ghost use Rattle.cov_sql.specs.Blobs.{AreBitsOf};
 ghost use Rattle.cov_sql.specs.Groups.{AreLines};
-ghost use Rattle.cov_sql.specs.SavedData.{contexts_in, IsNumbered, IsSavedRow, IsSavedOf};
+ghost use Rattle.cov_sql.specs.SavedData.{lent_texts, contexts_in, IsNumbered, IsSavedRow, IsSavedOf};
 
 use crate::bits::bits_of;
-use cov_data::{Data, Row};
+use cov_data::{Data, LentRow};
 use std::alloc::{AllocError, Global};
 use std::collections::BTreeSet;
 
@@ -47,10 +47,11 @@ impl Saved {
     {
         let arcs = content.is_arcs();
         let paths = content.paths()?;
-        let given = content.rows()?;
+        let given = content.lent_rows()?;
         let listed = given.as_slice();
-        let contexts = contexts_of(alloc, listed)?;
-        let rows = numbered(alloc, listed, &paths, &contexts)?;
+        let labels = contexts_of(alloc, listed)?;
+        let rows = numbered_by(alloc, listed, &paths, &labels)?;
+        let contexts = copied(alloc, &labels)?;
         let bits = bits_if(alloc, arcs, &rows)?;
         Ok(Saved {
             arcs,
@@ -70,39 +71,58 @@ impl Saved {
 }
 
 /// The contexts of these rows, in order.
-fn contexts_of(alloc: Global, rows: &[Row]) -> Result<Vec<String>, AllocError>
-    ensures { IfOk result (λ texts.
-        map string_bytes texts.items ≡ contexts_in (map row_view rows.now)) }
+fn contexts_of<'a>(alloc: Global, rows: &[LentRow<'a>]) -> Result<Vec<&'a str>, AllocError>
+    ensures { IfOk result (λ texts. lent_texts texts.items ≡ contexts_in (map lent_view rows.now)) }
 {
     let mut contexts = BTreeSet::new(alloc);
-    for row in rows {
-        contexts.insert(row.context.clone()?)?;
+    for at in 0..rows.len() {
+        contexts.insert(rows[at].context)?;
     }
     listed(alloc, contexts)
 }
 
-fn listed(alloc: Global, texts: BTreeSet<String>) -> Result<Vec<String>, AllocError>
-    ensures { IfOk result (λ v. v.items ≡ texts.keys) }
+fn listed<'a>(alloc: Global, texts: BTreeSet<&'a str>) -> Result<Vec<&'a str>, AllocError>
+    ensures { IfOk result (λ v. v.items ≡ texts.entry.keys) }
 {
     texts.into_iter().collect(alloc)
 }
 
-/// The number of a text among these, which stand in order.
-fn number_in(texts: &[String], text: &String) -> Option<i64>
-    ensures { IfSome result (IsNumbered (map string_bytes texts.now) (string_bytes text.now)) }
+fn copied(alloc: Global, texts: &[&str]) -> Result<Vec<String>, AllocError>
+    ensures { IfOk result (λ all. map string_bytes all.items ≡ lent_texts texts.now) }
 {
-    match texts.binary_search(text) {
+    let mut all = Vec::new(alloc);
+    for at in 0..texts.len() {
+        all.push(String::from_str(alloc, texts[at])?)?;
+    }
+    Ok(all)
+}
+
+fn lent(alloc: Global, texts: &[String]) -> Result<Vec<&str>, AllocError>
+    ensures { IfOk result (λ all. lent_texts all.items ≡ map string_bytes texts.now) }
+{
+    let mut all = Vec::new(alloc);
+    for text in texts {
+        all.push(text.as_str())?;
+    }
+    Ok(all)
+}
+
+/// The number of a text among these, which stand in order.
+fn number_in(texts: &[&str], text: &str) -> Option<i64>
+    ensures { IfSome result (IsNumbered (lent_texts texts.now) text.now) }
+{
+    match texts.binary_search(&text) {
         Ok(at) => Some((at + 1) as i64),
         Err(_) => None,
     }
 }
 
-fn numbered_row(row: &Row, paths: &[String], contexts: &[String]) -> Option<SavedRow>
-    ensures { IfSome result (IsSavedRow (map string_bytes paths.now) (map string_bytes contexts.now)
-        (row_view row.now)) }
+fn numbered_row(row: &LentRow<'_>, paths: &[&str], contexts: &[&str]) -> Option<SavedRow>
+    ensures { IfSome result (IsSavedRow (lent_texts paths.now) (lent_texts contexts.now)
+        (lent_view row.now)) }
 {
-    let file_id = number_in(paths, &row.path)?;
-    let context_id = number_in(contexts, &row.context)?;
+    let file_id = number_in(paths, row.path)?;
+    let context_id = number_in(contexts, row.context)?;
     Some(SavedRow {
         file_id,
         context_id,
@@ -114,23 +134,37 @@ fn numbered_row(row: &Row, paths: &[String], contexts: &[String]) -> Option<Save
 
 fn numbered(
     alloc: Global,
-    rows: &[Row],
-    paths: &[String],
-    contexts: &[String],
+    rows: &[LentRow<'_>],
+    paths: &[&str],
+    contexts: &[&str],
 ) -> Result<Vec<SavedRow>, AllocError>
     ensures { IfOk result (λ all. AllZip (λ r s.
-        IsSavedRow (map string_bytes paths.now) (map string_bytes contexts.now) (row_view r) s)
+        IsSavedRow (lent_texts paths.now) (lent_texts contexts.now) (lent_view r) s)
         rows.now all.items) }
 {
     let mut all = Vec::new(alloc);
-    for row in rows {
+    for at in 0..rows.len() {
         // The path and the context of a row are among these.
-        let Some(saved) = numbered_row(row, paths, contexts) else {
+        let Some(saved) = numbered_row(&rows[at], paths, contexts) else {
             return Err(AllocError);
         };
         all.push(saved)?;
     }
     Ok(all)
+}
+
+fn numbered_by(
+    alloc: Global,
+    rows: &[LentRow<'_>],
+    paths: &[String],
+    contexts: &[&str],
+) -> Result<Vec<SavedRow>, AllocError>
+    ensures { IfOk result (λ all. AllZip (λ r s.
+        IsSavedRow (map string_bytes paths.now) (lent_texts contexts.now) (lent_view r) s)
+        rows.now all.items) }
+{
+    let lent_paths = lent(alloc, paths)?;
+    numbered(alloc, rows, &lent_paths, contexts)
 }
 
 fn bits_if(alloc: Global, arcs: bool, rows: &[SavedRow]) -> Result<Vec<SavedBits>, AllocError>

@@ -10,7 +10,7 @@ ghost use Rattle.cov_sql.specs.SqlTexts.{make_coverage_schema_text, make_meta_te
 ghost use Rattle.sqlite_value.specs.declared.value.Value.TheVariants.{Int, Text, Blob};
 ghost use Rattle.cov_sql.specs.Declarations.{declared_coverage_schema, declared_meta, declared_file, declared_context, declared_line_bits, declared_arc, declared_tracer, declared_hits};
 
-use cov_tables::Cell;
+use cov_tables::RowCells;
 use sqlite::{Alter, Connection, Transaction};
 use std::alloc::Global;
 use thiserror::Error;
@@ -39,7 +39,7 @@ pub trait Statements {
         &mut self,
         alloc: Global,
         base: &mut Connection<S>,
-    ) -> Result<Vec<Vec<Cell>>, StatementError>
+    ) -> Result<Vec<RowCells>, StatementError>
         ensures reads { tells self.old
             → ReadsFrom S.Store coverage_schema base.old base.new result }
         ensures asks { Asks S.Store base.old base.new }
@@ -49,7 +49,7 @@ pub trait Statements {
         &mut self,
         alloc: Global,
         base: &mut Connection<S>,
-    ) -> Result<Vec<Vec<Cell>>, StatementError>
+    ) -> Result<Vec<RowCells>, StatementError>
         ensures reads { tells self.old → ReadsFrom S.Store meta base.old base.new result }
         ensures asks { Asks S.Store base.old base.new }
         ensures goes_on { GoesOn tells refusals self.old self.new (IsRefused result) };
@@ -58,7 +58,7 @@ pub trait Statements {
         &mut self,
         alloc: Global,
         base: &mut Connection<S>,
-    ) -> Result<Vec<Vec<Cell>>, StatementError>
+    ) -> Result<Vec<RowCells>, StatementError>
         ensures reads { tells self.old → ReadsFrom S.Store file base.old base.new result }
         ensures asks { Asks S.Store base.old base.new }
         ensures goes_on { GoesOn tells refusals self.old self.new (IsRefused result) };
@@ -67,7 +67,7 @@ pub trait Statements {
         &mut self,
         alloc: Global,
         base: &mut Connection<S>,
-    ) -> Result<Vec<Vec<Cell>>, StatementError>
+    ) -> Result<Vec<RowCells>, StatementError>
         ensures reads { tells self.old → ReadsFrom S.Store context base.old base.new result }
         ensures asks { Asks S.Store base.old base.new }
         ensures goes_on { GoesOn tells refusals self.old self.new (IsRefused result) };
@@ -76,7 +76,7 @@ pub trait Statements {
         &mut self,
         alloc: Global,
         base: &mut Connection<S>,
-    ) -> Result<Vec<Vec<Cell>>, StatementError>
+    ) -> Result<Vec<RowCells>, StatementError>
         ensures reads { tells self.old → ReadsFrom S.Store line_bits base.old base.new result }
         ensures asks { Asks S.Store base.old base.new }
         ensures goes_on { GoesOn tells refusals self.old self.new (IsRefused result) };
@@ -85,7 +85,7 @@ pub trait Statements {
         &mut self,
         alloc: Global,
         base: &mut Connection<S>,
-    ) -> Result<Vec<Vec<Cell>>, StatementError>
+    ) -> Result<Vec<RowCells>, StatementError>
         ensures reads { tells self.old → ReadsFrom S.Store arc base.old base.new result }
         ensures asks { Asks S.Store base.old base.new }
         ensures goes_on { GoesOn tells refusals self.old self.new (IsRefused result) };
@@ -94,7 +94,7 @@ pub trait Statements {
         &mut self,
         alloc: Global,
         base: &mut Connection<S>,
-    ) -> Result<Vec<Vec<Cell>>, StatementError>
+    ) -> Result<Vec<RowCells>, StatementError>
         ensures reads { tells self.old → ReadsFrom S.Store tracer base.old base.new result }
         ensures asks { Asks S.Store base.old base.new }
         ensures goes_on { GoesOn tells refusals self.old self.new (IsRefused result) };
@@ -103,7 +103,7 @@ pub trait Statements {
         &mut self,
         alloc: Global,
         base: &mut Connection<S>,
-    ) -> Result<Vec<Vec<Cell>>, StatementError>
+    ) -> Result<Vec<RowCells>, StatementError>
         ensures reads { tells self.old → ReadsFrom S.Store hits base.old base.new result }
         ensures asks { Asks S.Store base.old base.new }
         ensures goes_on { GoesOn tells refusals self.old self.new (IsRefused result) };

@@ -1,7 +1,7 @@
 //! The rows of each table, as its statement reads them.
 
 use crate::bases::run;
-use cov_sql::{Cell, Counted, StatementError, Statements};
+use cov_sql::{Cell, Counted, RowCells, StatementError, Statements};
 use sqlite::{Connection, MemStore};
 use std::alloc::{AllocError, Global};
 use std::process::Abort;
@@ -40,7 +40,7 @@ fn read(
     alloc: Global,
     base: &mut Connection<MemStore>,
     table: &str,
-) -> Result<Vec<Vec<Cell>>, StatementError> {
+) -> Result<Vec<RowCells>, StatementError> {
     match table {
         "coverage_schema" => by.read_coverage_schema(alloc, base),
         "meta" => by.read_meta(alloc, base),
@@ -53,8 +53,16 @@ fn read(
     }
 }
 
-/// The cells of a row, a word each.
-fn push_row(alloc: Global, text: &mut String, row: &[Cell]) -> Result<(), AllocError> {
+/// Numbers, a word each.
+fn push_numbers(alloc: Global, text: &mut String, numbers: &[i64]) -> Result<(), AllocError> {
+    for number in numbers {
+        text.push_str(format!(in alloc; "{number} ")?.as_str())?;
+    }
+    Ok(())
+}
+
+/// Cells, a word each.
+fn push_cells(alloc: Global, text: &mut String, row: &[Cell]) -> Result<(), AllocError> {
     for cell in row {
         let word = match cell {
             Cell::Int(number) => format!(in alloc; "{number} ")?,
@@ -64,11 +72,21 @@ fn push_row(alloc: Global, text: &mut String, row: &[Cell]) -> Result<(), AllocE
         };
         text.push_str(word.as_str())?;
     }
+    Ok(())
+}
+
+/// The cells of a row, and a bar.
+fn push_row(alloc: Global, text: &mut String, row: &RowCells) -> Result<(), AllocError> {
+    match row {
+        RowCells::Four(a, b, c, d) => push_numbers(alloc, text, &[*a, *b, *c, *d])?,
+        RowCells::Five(a, b, c, d, e) => push_numbers(alloc, text, &[*a, *b, *c, *d, *e])?,
+        RowCells::Any(cells) => push_cells(alloc, text, cells)?,
+    }
     text.push('|')
 }
 
 /// All rows, with a bar after each.
-fn rows_text(alloc: Global, rows: &[Vec<Cell>]) -> Result<String, AllocError> {
+fn rows_text(alloc: Global, rows: &[RowCells]) -> Result<String, AllocError> {
     let mut text = String::new(alloc);
     for row in rows {
         push_row(alloc, &mut text, row)?;

@@ -1,3 +1,4 @@
+pub mod InPlace
 pub mod InOrder
 pub mod Columns
 pub mod Counting

@@ -2,7 +2,7 @@
 --     Column, column_cmp         a number, a blob or anything else, in that order
 --     Entry, entry_cmp           a row with its path and its context, by its ids and columns
 --     number_at, blob_at         what stands in a column, where it should be a number or a blob
-use Rattle.std.specs.Prelude.{ℕ, ℤ, List, Option, Some, None, string_bytes}
+use Rattle.std.specs.Prelude.{ℕ, ℤ, List, Option, Some, None}
 use Rattle.std.specs.declared.cmp.Ordering.{Ordering}
 use Rattle.std.specs.declared.cmp.Ordering.TheVariants.{Less, Equal, Greater}
 use Rattle.std.specs.Ordering.{nat_cmp, int_cmp, ordering_then}
@@ -53,8 +53,8 @@ entry_view e = record {
   context = e.context_id;
   first = column_view e.first;
   second = column_view e.second;
-  path = string_bytes e.path;
-  label = string_bytes e.context;
+  path = e.path.now;
+  label = e.context.now;
 }
 
 -- by file, context, columns, path and the text of the context

@@ -1,13 +1,14 @@
 -- What the columns of a row hold.
---     Field, Row, field, row        a value and a row; what a cell and a list of cells hold
+--     Field, Row, field, row        a value and a row; what a cell and the cells of a row hold
 --     whole_at, text_at, bits_at    the whole number, the text or the blob in a column
 --     holds                         whether a column holds this text
-use Rattle.std.specs.Prelude.{ℕ, ℤ, Bool, false, List, map, Option, Some, None, option_and_then, slice_get, string_bytes, Vec}
-use Rattle.std.specs.declared.alloc.Global.{Global}
+use Rattle.std.specs.Prelude.{ℕ, ℤ, Bool, false, List, [], ◌∷◌, map, Option, Some, None, option_and_then, slice_get, string_bytes}
 use Rattle.std.specs.Str.{bytes_eq}
 use Rattle.cov_data.specs.DataSet.{Text}
 use Rattle.cov_tables.specs.declared.cells.Cell.{Cell}
 use Rattle.cov_tables.specs.declared.cells.Cell.TheVariants as cell
+use Rattle.cov_tables.specs.declared.cells.RowCells.{RowCells}
+use Rattle.cov_tables.specs.declared.cells.RowCells.TheVariants as cells
 
 -- a value of a row
 pub data Field : Type 0 where
@@ -28,13 +29,15 @@ field cell.Other = other
 abbrev pub Row : Type 0
 Row = List Field
 
--- what a list of cells holds
-abbrev pub row : List Cell → Row
-row cells = map field cells
+-- what the cells of a row hold
+abbrev pub row : RowCells → Row
+row (cells.Four a b c d) = map whole (a ∷ b ∷ c ∷ d ∷ [])
+row (cells.Five a b c d e) = map whole (a ∷ b ∷ c ∷ d ∷ e ∷ [])
+row (cells.Any cs) = map field cs.items
 
--- what lists of cells hold
-abbrev pub rows : List (Vec Cell Global) → List Row
-rows lists = map (λ cells. row cells.items) lists
+-- what the cells of rows hold
+abbrev pub rows : List RowCells → List Row
+rows lists = map row lists
 
 -- the whole number, where the value is one
 abbrev pub whole_in : Field → Option ℤ

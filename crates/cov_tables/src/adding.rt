@@ -44,7 +44,7 @@ impl Column {
     }
 }
 
-impl Entry {
+impl Entry<'_> {
     fn spot(&self, from: i32, to: i32) -> Spot
         ensures { result
             ≡ record {
@@ -79,8 +79,8 @@ impl Entry {
         let spot = self.spot(from, to);
         let count = hits.count(spot);
         data.add(Row {
-            path: self.path.clone()?,
-            context: self.context.clone()?,
+            path: String::from_str(alloc, self.path)?,
+            context: String::from_str(alloc, self.context)?,
             from,
             to,
             count,
@@ -214,7 +214,7 @@ fn are_zero(bytes: &[u8]) -> bool
 /// Adds the rows of entries up to the first bad one, whose number it gives.
 pub(crate) fn add_entries(
     alloc: Global,
-    entries: &[Entry],
+    entries: &[Entry<'_>],
     hits: &Hits,
     data: &mut Data,
 ) -> Result<Option<u64>, AllocError>
@@ -224,13 +224,11 @@ pub(crate) fn add_entries(
         data.old) }
 {
     let arcs = data.is_arcs();
-    let mut at: u64 = 0;
-    for entry in entries {
-        if entry.is_bad(arcs) {
-            return Ok(Some(at));
+    for at in 0..entries.len() {
+        if entries[at].is_bad(arcs) {
+            return Ok(Some(at as u64));
         }
-        entry.add_rows(alloc, hits, data)?;
-        at += 1;
+        entries[at].add_rows(alloc, hits, data)?;
     }
     Ok(None)
 }

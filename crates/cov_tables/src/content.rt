@@ -8,30 +8,30 @@ ghost use Rattle.cov_tables.specs.Content.{is_schema_7, names_arcs, says_arcs, i
 ghost use Rattle.cov_tables.specs.Given.{tables};
 
 use crate::adding::add_entries;
-use crate::cells::{Cell, holds, text_at, whole_at};
+use crate::cells::{RowCells, holds, text_at, whole_at};
 use crate::entries::{arc_entries, bits_entries};
-use crate::hits::Hits;
+use crate::hits::hits_of;
 use crate::names::Names;
 use cov_data::Data;
 use cov_vault::Content;
 use std::alloc::{AllocError, Global};
 
-/// What was read of a data file: the rows of each table, as lists of cells in the order of its
-/// columns.
+/// What was read of a data file: the rows of each table, each with its cells in the order of
+/// the table's columns.
 #[derive(Drop)]
 pub struct Tables {
-    pub coverage_schema: Vec<Vec<Cell>>,
-    pub meta: Vec<Vec<Cell>>,
-    pub file: Vec<Vec<Cell>>,
-    pub context: Vec<Vec<Cell>>,
-    pub line_bits: Vec<Vec<Cell>>,
-    pub arc: Vec<Vec<Cell>>,
+    pub coverage_schema: Vec<RowCells>,
+    pub meta: Vec<RowCells>,
+    pub file: Vec<RowCells>,
+    pub context: Vec<RowCells>,
+    pub line_bits: Vec<RowCells>,
+    pub arc: Vec<RowCells>,
     /// No row where the table isn't there.
-    pub hits: Vec<Vec<Cell>>,
+    pub hits: Vec<RowCells>,
 }
 
 /// Whether the table holds exactly one row with the number 7.
-pub fn is_schema_7(lists: &[Vec<Cell>]) -> bool
+pub fn is_schema_7(lists: &[RowCells]) -> bool
     ensures { result ≡ is_schema_7 (rows lists.now) }
 {
     match lists {
@@ -40,31 +40,31 @@ pub fn is_schema_7(lists: &[Vec<Cell>]) -> bool
     }
 }
 
-fn names_arcs(cells: &[Cell]) -> bool
+fn names_arcs(cells: &RowCells) -> bool
     ensures { result ≡ names_arcs (row cells.now) }
 {
     holds(cells, 0, "has_arcs")
 }
 
-fn says_arcs(cells: &[Cell]) -> bool
+fn says_arcs(cells: &RowCells) -> bool
     ensures { result ≡ says_arcs (row cells.now) }
 {
     names_arcs(cells) && holds(cells, 1, "1")
 }
 
-fn any_names(lists: &[Vec<Cell>]) -> bool
-    ensures { result ≡ list_any (λ cells. names_arcs (row cells.items)) lists.now }
+fn any_names(lists: &[RowCells]) -> bool
+    ensures { result ≡ list_any (λ cells. names_arcs (row cells)) lists.now }
 {
     lists.iter().any(|cells| names_arcs(cells))
 }
 
-fn any_says(lists: &[Vec<Cell>]) -> bool
-    ensures { result ≡ list_any (λ cells. says_arcs (row cells.items)) lists.now }
+fn any_says(lists: &[RowCells]) -> bool
+    ensures { result ≡ list_any (λ cells. says_arcs (row cells)) lists.now }
 {
     lists.iter().any(|cells| says_arcs(cells))
 }
 
-fn is_arcs(meta: &[Vec<Cell>], arcs: &[Vec<Cell>]) -> bool
+fn is_arcs(meta: &[RowCells], arcs: &[RowCells]) -> bool
     ensures { result ≡ is_arcs (rows meta.now) (rows arcs.now) }
 {
     if any_names(meta) {
@@ -75,7 +75,7 @@ fn is_arcs(meta: &[Vec<Cell>], arcs: &[Vec<Cell>]) -> bool
 }
 
 /// Adds the path of a row of `file`.
-fn add_path(data: &mut Data, cells: &[Cell]) -> Result<(), AllocError>
+fn add_path(data: &mut Data, cells: &RowCells) -> Result<(), AllocError>
     ensures { OnOk result (data.new
         ≡ fold with_path data.old (option_to_list (text_at (row cells.now) 1))) }
 {
@@ -86,7 +86,7 @@ fn add_path(data: &mut Data, cells: &[Cell]) -> Result<(), AllocError>
 }
 
 /// Data of the paths of these rows.
-fn paths_only(alloc: Global, arcs: bool, lists: &[Vec<Cell>]) -> Result<Data, AllocError>
+fn paths_only(alloc: Global, arcs: bool, lists: &[RowCells]) -> Result<Data, AllocError>
     ensures { IfOk result (λ made. made ≡ paths_only arcs (rows lists.now)) }
 {
     let mut data = Data::new(alloc, arcs);
@@ -96,26 +96,44 @@ fn paths_only(alloc: Global, arcs: bool, lists: &[Vec<Cell>]) -> Result<Data, Al
     Ok(data)
 }
 
-fn arc_content(alloc: Global, given: &Tables) -> Result<Content, AllocError>
-    ensures { IfOk result (λ held. held ≡ arc_content (tables given.now)) }
+fn arc_content(alloc: Global, given: Tables) -> Result<Content, AllocError>
+    ensures { IfOk result (λ held. held ≡ arc_content (tables given)) }
 {
-    let files = Names::of(alloc, &given.file)?;
-    let contexts = Names::of(alloc, &given.context)?;
-    let hits = Hits::of(alloc, &given.hits)?;
-    let entries = arc_entries(alloc, &files, &contexts, &given.arc)?;
-    let mut whole = paths_only(alloc, true, &given.file)?;
+    let Tables {
+        coverage_schema: _,
+        meta: _,
+        file,
+        context,
+        line_bits: _,
+        arc,
+        hits,
+    } = given;
+    let hits = hits_of(alloc, hits)?;
+    let files = Names::of(alloc, &file)?;
+    let contexts = Names::of(alloc, &context)?;
+    let entries = arc_entries(alloc, &files, &contexts, &arc)?;
+    let mut whole = paths_only(alloc, true, &file)?;
     let bad = add_entries(alloc, &entries, &hits, &mut whole)?;
     Ok(unless_bad(bad, whole))
 }
 
-fn bits_content(alloc: Global, given: &Tables) -> Result<Content, AllocError>
-    ensures { IfOk result (λ held. held ≡ bits_content (tables given.now)) }
+fn bits_content(alloc: Global, given: Tables) -> Result<Content, AllocError>
+    ensures { IfOk result (λ held. held ≡ bits_content (tables given)) }
 {
-    let files = Names::of(alloc, &given.file)?;
-    let contexts = Names::of(alloc, &given.context)?;
-    let hits = Hits::of(alloc, &given.hits)?;
-    let entries = bits_entries(alloc, &files, &contexts, &given.line_bits)?;
-    let mut whole = paths_only(alloc, false, &given.file)?;
+    let Tables {
+        coverage_schema: _,
+        meta: _,
+        file,
+        context,
+        line_bits,
+        arc: _,
+        hits,
+    } = given;
+    let hits = hits_of(alloc, hits)?;
+    let files = Names::of(alloc, &file)?;
+    let contexts = Names::of(alloc, &context)?;
+    let entries = bits_entries(alloc, &files, &contexts, &line_bits)?;
+    let mut whole = paths_only(alloc, false, &file)?;
     let bad = add_entries(alloc, &entries, &hits, &mut whole)?;
     Ok(unless_bad(bad, whole))
 }
@@ -131,8 +149,8 @@ fn unless_bad(bad: Option<u64>, whole: Data) -> Content
 
 /// What a data file with these tables holds: its data, or why it holds none. Rows are joined with
 /// their file and context, counted from 0 in the order of their ids and numbers.
-pub fn content_of(alloc: Global, given: &Tables) -> Result<Content, AllocError>
-    ensures { IfOk result (λ held. held ≡ content (tables given.now)) }
+pub fn content_of(alloc: Global, given: Tables) -> Result<Content, AllocError>
+    ensures { IfOk result (λ held. held ≡ content (tables given)) }
 {
     if !is_schema_7(&given.coverage_schema) {
         return Ok(Content::NotSchema7);

@@ -4,7 +4,7 @@ ghost use Rattle.cov_tables.specs.Fields.{row, rows};
 ghost use Rattle.cov_tables.specs.Hits.{Spot as Spots, spot_at, counts_with, counted, count_of};
 ghost use Rattle.cov_tables.specs.Kept.{kept_at, kept_after, with_count, with_counts, count_at};
 
-use crate::cells::{Cell, whole_at};
+use crate::cells::{RowCells, whole_at};
 use std::alloc::{AllocError, Global};
 use std::collections::BTreeMap;
 
@@ -17,7 +17,7 @@ pub(crate) struct Spot {
     pub(crate) to: i64,
 }
 
-fn spot_at(cells: &[Cell]) -> Option<Spot>
+fn spot_at(cells: &RowCells) -> Option<Spot>
     ensures { result ≡ spot_at (row cells.now) }
 {
     Some(Spot {
@@ -43,9 +43,17 @@ pub(crate) struct Hits {
     counts: BTreeMap<Spot, u32>,
 }
 
+/// The counts of the rows of `hits`, which take no room from then on.
+pub(crate) fn hits_of(alloc: Global, lists: Vec<RowCells>) -> Result<Hits, AllocError>
+    ensures { IfOk result (λ hits.
+        (spot : Spots) → count_at hits spot ≡ count_of (rows lists.items) spot) }
+{
+    Hits::of(alloc, &lists)
+}
+
 impl Hits {
     /// The counts of these rows of `hits`.
-    pub(crate) fn of(alloc: Global, lists: &[Vec<Cell>]) -> Result<Hits, AllocError>
+    fn of(alloc: Global, lists: &[RowCells]) -> Result<Hits, AllocError>
         ensures { IfOk result (λ hits.
             (spot : Spots) → count_at hits spot ≡ count_of (rows lists.now) spot) }
     {
@@ -58,7 +66,7 @@ impl Hits {
         Ok(hits)
     }
 
-    fn add_row(&mut self, cells: &[Cell]) -> Result<(), AllocError>
+    fn add_row(&mut self, cells: &RowCells) -> Result<(), AllocError>
         ensures { OnOk result ((spot : Spots)
             → kept_at self.new spot
             ≡ with_counts (kept_at self.old spot) (counts_with spot (row cells.now))) }

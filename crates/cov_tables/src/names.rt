@@ -4,7 +4,7 @@ ghost use Rattle.cov_tables.specs.Fields.{row, rows};
 ghost use Rattle.cov_tables.specs.Joins.{same_whole, texts_with, texts_of};
 ghost use Rattle.cov_tables.specs.Kept.{texts_at};
 
-use crate::cells::{Cell, text_at, whole_at};
+use crate::cells::{RowCells, text_at, whole_at};
 use std::alloc::{AllocError, Global};
 use std::collections::BTreeMap;
 
@@ -16,7 +16,7 @@ pub(crate) struct Names {
 
 impl Names {
     /// The texts of these rows, each with an id and a text.
-    pub(crate) fn of(alloc: Global, lists: &[Vec<Cell>]) -> Result<Names, AllocError>
+    pub(crate) fn of(alloc: Global, lists: &[RowCells]) -> Result<Names, AllocError>
         ensures { IfOk result (λ names.
             (id : ℤ) → texts_at names id ≡ texts_of (rows lists.now) id) }
     {
@@ -29,7 +29,7 @@ impl Names {
         Ok(names)
     }
 
-    fn add_row(&mut self, alloc: Global, cells: &[Cell]) -> Result<(), AllocError>
+    fn add_row(&mut self, alloc: Global, cells: &RowCells) -> Result<(), AllocError>
         ensures { OnOk result ((q : ℤ)
             → texts_at self.new q ≡ texts_at self.old q ++ texts_with q (row cells.now)) }
     {

@@ -18,8 +18,8 @@ returns-in-NotSchema7-clause-not_schema g c tells clean same =
     let is : content (tables c.in_ok-found.found.tables) ≡ NotSchema7 = search rules in
     found_content (state g.S.Store c.args.base.now).now c.in_ok-found.found found.rows ∙ is
 
-pub returns-clause-bad_row : goal.returns-clause-bad_row
-returns-clause-bad_row g c tells clean row same =
+pub returns-in-BadRow-clause-bad_row : goal.returns-in-BadRow-clause-bad_row
+returns-in-BadRow-clause-bad_row g c tells clean row same =
     let found = c.in_ok-found.ensures.told tells clean in
     let is : content (tables c.in_ok-found.found.tables) ≡ BadRow c.in-BadRow.row = search rules in
     let one : c.in-BadRow.row ≡ row = cc in

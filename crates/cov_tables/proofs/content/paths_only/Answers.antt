@@ -9,5 +9,5 @@ use Rattle.cov_tables.proofs.content.paths_only.Goals as goal
 pub loop-cells-init : goal.loop-cells-init
 loop-cells-init c =
     let lists = c.args.lists.now in
-    ap (λ d. fold with_path d (flat_map (λ v. option_to_list (text_at (row v.items) 1)) lists)) c.new-data.ensures
-    ∙ ap (fold with_path (no_data c.args.arcs)) (sym (flat_map-map (λ r. option_to_list (text_at r 1)) (λ v. row v.items) lists))
+    ap (λ d. fold with_path d (flat_map (λ v. option_to_list (text_at (row v) 1)) lists)) c.new-data.ensures
+    ∙ ap (fold with_path (no_data c.args.arcs)) (sym (flat_map-map (λ r. option_to_list (text_at r 1)) row lists))

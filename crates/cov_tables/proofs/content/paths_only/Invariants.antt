@@ -7,4 +7,4 @@ use Rattle.cov_tables.specs.Content.{paths_only}
 use Rattle.cov_tables.proofs.content.paths_only.Given as goal
 
 abbrev pub invariant-loop-cells : goal.invariant-loop-cells
-invariant-loop-cells l = fold with_path l.data (flat_map (λ v. option_to_list (text_at (row v.items) 1)) (drop l.cells-index l.lists)) ≡ paths_only l.arcs (rows l.lists)
+invariant-loop-cells l = fold with_path l.data (flat_map (λ v. option_to_list (text_at (row v) 1)) (drop l.cells-index l.lists)) ≡ paths_only l.arcs (rows l.lists)

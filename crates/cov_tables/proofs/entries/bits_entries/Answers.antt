@@ -10,5 +10,5 @@ use Rattle.cov_tables.proofs.entries.bits_entries.Goals as goal
 pub loop-cells-init : goal.loop-cells-init
 loop-cells-init c =
     let lists = c.args.lists.now in
-    ap (λ es. map entry_view es ++ flat_map (λ v. joined_if (bits_key (row v.items)) (texts_at c.args.files.now) (texts_at c.args.contexts.now)) lists) c.new-entries.ensures.items
-    ∙ sym (flat_map-map (λ r. joined_if (bits_key r) (texts_at c.args.files.now) (texts_at c.args.contexts.now)) (λ v. row v.items) lists)
+    ap (λ es. map entry_view es ++ flat_map (λ v. joined_if (bits_key (row v)) (texts_at c.args.files.now) (texts_at c.args.contexts.now)) lists) c.new-sets.ensures.items
+    ∙ sym (flat_map-map (λ r. joined_if (bits_key r) (texts_at c.args.files.now) (texts_at c.args.contexts.now)) row lists)

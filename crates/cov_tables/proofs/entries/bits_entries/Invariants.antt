@@ -7,4 +7,4 @@ use Rattle.cov_tables.specs.Kept.{texts_at}
 use Rattle.cov_tables.proofs.entries.bits_entries.Given as goal
 
 abbrev pub invariant-loop-cells : goal.invariant-loop-cells
-invariant-loop-cells l = map entry_view l.entries.items ++ flat_map (λ v. joined_if (bits_key (row v.items)) (texts_at l.files) (texts_at l.contexts)) (drop l.cells-index l.lists) ≡ flat_map (λ r. joined_if (bits_key r) (texts_at l.files) (texts_at l.contexts)) (rows l.lists)
+invariant-loop-cells l = map entry_view l.sets.items ++ flat_map (λ v. joined_if (bits_key (row v)) (texts_at l.files) (texts_at l.contexts)) (drop l.cells-index l.lists) ≡ flat_map (λ r. joined_if (bits_key r) (texts_at l.files) (texts_at l.contexts)) (rows l.lists)

@@ -1,4 +1,4 @@
-use Rattle.std.proofs.Common.{◌≡◌, ◌+◌, get_or, refl, ap, sym, ◌∙◌, string_bytes}
+use Rattle.std.proofs.Common.{◌≡◌, ◌+◌, get_or, refl, ap, sym, ◌∙◌}
 use Rattle.std.specs.Ordering.{int_cmp, ordering_then, is_lt}
 use Rattle.std.proofs.lemmas.Result.{on_ok_weaker}
 use Rattle.cov_data.specs.DataSet.{text_cmp}
@@ -26,7 +26,7 @@ column_alike Other Other = refl
 
 entry_alike : (a b : Entry) → ghosts.cmp a b ≡ entry_cmp (entry_view a) (entry_view b)
 entry_alike a b = λ i. ordering_then (int_cmp a.file_id b.file_id) (ordering_then (int_cmp a.context_id b.context_id) (ordering_then (column_alike a.first b.first i)
-    (ordering_then (column_alike a.second b.second i) (ordering_then (text_cmp (string_bytes a.path) (string_bytes b.path)) (text_cmp (string_bytes a.context) (string_bytes b.context))))))
+    (ordering_then (column_alike a.second b.second i) (ordering_then (text_cmp a.path.now b.path.now) (text_cmp a.context.now b.context.now)))))
 
 pub returns : goal.returns
 returns c = on_ok_weaker c.sort.result (λ up. sorted-read entry_cmp entry_cmp-total entry_cmp-same entry_view c.args.entries.now.items c.sort.new.self.items c.sort.ensures.permutation

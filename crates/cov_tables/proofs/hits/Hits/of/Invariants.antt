@@ -7,4 +7,4 @@ use Rattle.cov_tables.proofs.Counting.{in_all}
 use Rattle.cov_tables.proofs.hits.Hits.of.Given as goal
 
 abbrev pub invariant-loop-cells : goal.invariant-loop-cells
-invariant-loop-cells l = (spot : Spot) → in_all (kept_at l.hits spot) (flat_map (λ v. counts_with spot (row v.items)) (drop l.cells-index l.lists)) ≡ count_of (rows l.lists) spot
+invariant-loop-cells l = (spot : Spot) → in_all (kept_at l.hits spot) (flat_map (λ v. counts_with spot (row v)) (drop l.cells-index l.lists)) ≡ count_of (rows l.lists) spot

@@ -9,5 +9,5 @@ use Rattle.cov_tables.specs.Kept.{texts_in}
 use Rattle.cov_tables.proofs.names.Names.of.Goals as goal
 
 pub loop-cells-init : goal.loop-cells-init
-loop-cells-init c = λ id. ap (λ es. texts_in (lookup (λ k. is_eq (int_cmp id k)) es) ++ flat_map (λ v. texts_with id (row v.items)) c.args.lists.now) c.new.ensures.empty
-    ∙ sym (flat_map-map (texts_with id) (λ v. row v.items) c.args.lists.now)
+loop-cells-init c = λ id. ap (λ es. texts_in (lookup (λ k. is_eq (int_cmp id k)) es) ++ flat_map (λ v. texts_with id (row v)) c.args.lists.now) c.new.ensures.empty
+    ∙ sym (flat_map-map (texts_with id) row c.args.lists.now)

@@ -6,4 +6,4 @@ use Rattle.cov_tables.specs.Kept.{texts_at}
 use Rattle.cov_tables.proofs.names.Names.of.Given as goal
 
 abbrev pub invariant-loop-cells : goal.invariant-loop-cells
-invariant-loop-cells l = (id : ℤ) → texts_at l.names id ++ flat_map (λ v. texts_with id (row v.items)) (drop l.cells-index l.lists) ≡ texts_of (rows l.lists) id
+invariant-loop-cells l = (id : ℤ) → texts_at l.names id ++ flat_map (λ v. texts_with id (row v)) (drop l.cells-index l.lists) ≡ texts_of (rows l.lists) id

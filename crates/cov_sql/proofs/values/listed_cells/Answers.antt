@@ -2,7 +2,7 @@ use Rattle.std.proofs.Common.{subst}
 use Rattle.sqlite_value.specs.declared.value.Value.TheVariants.{Null}
 use Rattle.cov_sql.specs.Cells.{IsCell}
 use Rattle.cov_sql.proofs.CellLemmas.{zip-next}
-use Rattle.cov_sql.proofs.values.cells_of.Goals as goal
+use Rattle.cov_sql.proofs.values.listed_cells.Goals as goal
 
 pub loop-at-preserved : goal.loop-at-preserved
 loop-at-preserved c =
