@@ -1,30 +1,9 @@
--- Lists that are made one by one.
-use Rattle.std.proofs.Common.{◌≡◌, ℕ, suc, ◌<◌, ◌≤◌, List, [], ◌∷◌, ◌++◌, map, drop, get_or, length, String, string_bytes, refl, ap, sym, ◌∙◌, append_assoc}
+-- Words that are copied.
+use Rattle.std.proofs.Common.{◌≡◌, List, [], ◌∷◌, ◌++◌, String, string_bytes, refl, ap, ◌∙◌}
 use Rattle.std.specs.declared.alloc.Global.{Global}
 use Rattle.std.specs.List.{AllZip, AppendsClones}
 use Rattle.std.specs.Str.{chars}
-use Rattle.std.proofs.lemmas.List.{append-nil, map-append}
-use Rattle.std.proofs.Math.ListN.{drop_of_length-le}
-use Rattle.std.proofs.Math.Seq.{drop-cons}
 use Rattle.cov_measure.specs.Requests.{words_in}
-
-module _ {A C : Type 0} (f : A → C) where
-  pub one-step : (xs : List A) (i : ℕ) (d : A) (old new all : List C) → i < length xs → d ≡ get_or xs i d → new ≡ old ++ f d ∷ [] → old ++ map f (drop i xs) ≡ all → new ++ map f (drop (suc i) xs) ≡ all
-  one-step xs i d old new all h at is e =
-      ap (λ w. w ++ map f (drop (suc i) xs)) (is ∙ ap (λ x. old ++ f x ∷ []) at) ∙ append_assoc old (f (get_or xs i d) ∷ []) (map f (drop (suc i) xs)) ∙ ap (λ ys. old ++ map f ys) (sym (drop-cons xs i d h)) ∙ e
-
-  pub one-end : (xs : List A) (i : ℕ) (made all : List C) → length xs ≤ i → made ++ map f (drop i xs) ≡ all → made ≡ all
-  one-end xs i made all h e = sym (append-nil made) ∙ ap (λ ys. made ++ map f ys) (sym (drop_of_length-le xs h)) ∙ e
-
--- one more, as what it stands for
-pub pushed : {X Y : Type 0} (g : X → Y) (ls new : List X) (l : X) (y : Y) → new ≡ ls ++ l ∷ [] → g l ≡ y → map g new ≡ map g ls ++ y ∷ []
-pushed g ls new l y is same = ap (map g) is ∙ map-append g ls (l ∷ []) ∙ ap (λ z. map g ls ++ z ∷ []) same
-
-pub map-twice : {A B C : Type 0} (f : A → B) (g : B → C) (xs : List A) → map g (map f xs) ≡ map (λ x. g (f x)) xs
-map-twice f g [] = refl
-map-twice f g (x ∷ xs) = ap (λ rest. g (f x) ∷ rest) (map-twice f g xs)
-
--- ---- words that are copied
 
 abbrev IsCopy : String Global → String Global → Type 0
 IsCopy s t = string_bytes t ≡ string_bytes s

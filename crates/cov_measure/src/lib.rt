@@ -6,7 +6,6 @@ mod hooked;
 mod measuring;
 mod request;
 mod running;
-mod units;
 
 pub use hooked::measure;
 pub use request::{Measured, RunRequest};

@@ -18,10 +18,9 @@ ghost use Rattle.py_meaning.specs.Program.{run_modules};
 
 use crate::request::{Measured, RunRequest, words_of};
 use crate::running::run_recorded;
-use crate::units::units_of;
 use cov_contexts::{Contexts, Plugin};
 use cov_event::Ask;
-use cov_measure_laws::{units_of_programs, whole_plans};
+use cov_measure_laws::{units_of, units_of_programs, whole_plans};
 use cov_outside::{Sink, Source};
 use cov_predict::ArcSet;
 use cov_recorder::Recorder;

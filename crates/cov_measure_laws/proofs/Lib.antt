@@ -7,3 +7,4 @@ pub mod Meant
 pub mod RunLines
 pub mod Totals
 pub mod Leaving
+pub mod Lists

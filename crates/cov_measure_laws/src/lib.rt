@@ -1,5 +1,6 @@
 //! What the data of a run are: laws between a recorder and what its run means. The functions below
-//! do nothing when they run, and stand for the laws that their contracts state.
+//! do nothing when they run, and stand for the laws that their contracts state. `units_of` alone
+//! does something: it gives the units of programs, as a recorder wants them.
 #![tactic(auto)]
 
 ghost use Rattle.cov_measure_laws.specs.Foreseen.{ForeseenDataLaw, ProgramForeseenDataLaw, ModulesForeseenDataLaw, CallForeseenDataLaw};
@@ -13,12 +14,15 @@ ghost use Rattle.cov_measure_laws.specs.Whole.{WholePlanLaw, WithoutSetsLaw, Pro
 ghost use Rattle.cov_recorder.specs.Asking.{asks};
 ghost use Rattle.cov_recorder.specs.States.{state_of};
 
+mod naming;
+
 use cov_arcs::{told_arcs_of_call, told_arcs_of_modules};
 use cov_contexts::Plugin;
 use cov_event::Ask;
 use cov_hook_laws::hooks_mean;
 use cov_recorder::recorded_rows;
 use cov_recorder_laws::{recorded_steps_of_call, recorded_steps_of_modules};
+pub use naming::units_of;
 use py_compile::units_are_faithful;
 use py_sound::{foreseen_arcs_of_call, foreseen_arcs_of_modules};
 

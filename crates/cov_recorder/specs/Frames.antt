@@ -2,6 +2,7 @@
 --     kept_at_line, opened     the innermost frame at a line; a frame as it is seen
 --     IsSeat, HasSeat          the seat of a unit
 --     IsSeated, AreSeated      a frame has the seat of its unit, and each does
+--     GoesOn, SharesRow        a label goes on; a frame's row is one of a module and a label
 use Rattle.std.specs.Prelude.{◌≡◌, ℕ, ◌≤◌, List, [], ◌∷◌, Option, Some, None}
 use Rattle.std.specs.List.{AllByRecursion}
 use Rattle.cov_event.specs.declared.event.CodeId.{CodeId}
@@ -43,3 +44,16 @@ pub record IsSeated (units : List (List Named)) (rows : List Row) (frame : Frame
 pub record AreSeated (units : List (List Named)) (rows : List Row) (frames : List Frame)
     : Type 0 where
   pub each : AllByRecursion (IsSeated units rows) frames
+
+-- a label in progress is that of the next frame too
+abbrev pub GoesOn : Option (List ℕ) → Option (List ℕ) → Type 0
+GoesOn None label = Unit {0}
+GoesOn (Some outer) label = label ≡ Some outer
+
+-- the frame has a row of counters of this number, module and label
+pub record SharesRow (frame : Frame) (m : ℕ) (label : Option (List ℕ)) (row : ℕ) : Type 0 where
+  pub seat : Seat
+  pub is : frame.seat ≡ Some seat
+  pub number : row ≡ seat.row
+  pub of_module : frame.code.module ≡ m
+  pub of_label : label ≡ frame.label

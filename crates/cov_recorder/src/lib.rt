@@ -2,8 +2,9 @@
 //!
 //! `Recorder::new` takes the names of a program's units, what has a counter in each module, and who
 //! gives labels. The recorder is a tracer: it is told the events of a run one by one. `finish` gives
-//! the data, and the plugins back. `recorded_rows` does nothing when it runs, and stands for the law
-//! that its contract states.
+//! the data, and the plugins back. `Recorder::of_plan` takes the same as a `RunPlan`, which
+//! `finish_for_next` hands on, so that many short runs need no copy of names and sets.
+//! `recorded_rows` does nothing when it runs, and stands for the law that its contract states.
 #![tactic(auto)]
 
 mod context;
@@ -12,6 +13,7 @@ mod gather;
 mod index;
 mod laws;
 mod names;
+mod plan;
 mod recorder;
 mod records;
 mod rows;
@@ -22,5 +24,6 @@ mod units;
 
 pub use laws::recorded_rows;
 pub use names::UnitName;
+pub use plan::RunPlan;
 pub use py_text::NoMemory;
 pub use recorder::{NoRecorder, Recorder};

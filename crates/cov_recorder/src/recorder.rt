@@ -6,6 +6,7 @@ ghost use Rattle.cov_recorder.specs.Labels.{question, IsLabel};
 ghost use Rattle.cov_recorder.specs.Recording.{label_now};
 
 use crate::names::UnitName;
+use crate::plan::RunPlan;
 use crate::records::Records;
 use cov_contexts::{Contexts, Plugin};
 use cov_data::Data;
@@ -51,7 +52,24 @@ impl<A: Ask, P: Plugin> Recorder<A, P> {
         ensures sources { IfOk result (λ recorder. sources_of recorder ≡ contexts) }
         ensures err { IfErr result (λ refused. refused.contexts ≡ contexts) }
     {
-        match Records::new(alloc, units, places, arcs, fixed) {
+        match RunPlan::new(alloc, units, places, arcs, fixed) {
+            Ok(plan) => Recorder::of_plan(alloc, plan, contexts),
+            Err(_) => Err(NoRecorder { contexts }),
+        }
+    }
+
+    /// A recorder of a plan that was made before. It takes memory and time by the number of modules
+    /// alone.
+    pub fn of_plan(
+        alloc: Global,
+        plan: RunPlan,
+        contexts: Contexts<A, P>,
+    ) -> Result<Recorder<A, P>, NoRecorder<A, P>>
+        ensures ok { IfOk result (λ recorder. recording_of recorder ≡ at_first plan) }
+        ensures sources { IfOk result (λ recorder. sources_of recorder ≡ contexts) }
+        ensures err { IfErr result (λ refused. refused.contexts ≡ contexts) }
+    {
+        match Records::new(alloc, plan) {
             Ok(records) => Ok(Recorder { contexts, records }),
             Err(_) => Err(NoRecorder { contexts }),
         }
@@ -62,8 +80,20 @@ impl<A: Ask, P: Plugin> Recorder<A, P> {
         ensures data { IfOk result.0 (λ found. found ≡ (recording_of self).data) }
         ensures plugins { result.1.items ≡ (sources_of self).plugins }
     {
+        let (found, plugins, plan) = self.finish_for_next(alloc);
+        drop(plan);
+        (found, plugins)
+    }
+
+    /// The same, and the plan for the recorder of a next run.
+    pub fn finish_for_next(self, alloc: Global) -> (Result<Data, NoMemory>, Vec<P>, RunPlan)
+        ensures data { IfOk result.0 (λ found. found ≡ (recording_of self).data) }
+        ensures plugins { result.1.items ≡ (sources_of self).plugins }
+        ensures plan { result.2 ≡ (recording_of self).plan }
+    {
         let Recorder { contexts, records } = self;
-        (records.finish(alloc), contexts.into_plugins())
+        let (found, plan) = records.finish(alloc);
+        (found, contexts.into_plugins(), plan)
     }
 }
 

@@ -1,13 +1,15 @@
 // What a recorder keeps of the events, apart from who gives labels.
 ghost use Rattle.std.specs.Prelude.{◌≡◌, map, Some, None, OnOk, OnErr, IfOk, MatchOption};
-ghost use Rattle.cov_recorder.specs.Plan.{counted};
+ghost use Rattle.cov_recorder.specs.Plan.{plan_with};
+ghost use Rattle.cov_recorder.specs.Names.{names_of};
+ghost use Rattle.cov_recorder.specs.Rows.{row_from, with_rows, AreSound};
 
 use crate::frames::{Frame, Frames};
 use crate::gather::add_rows;
 use crate::names::UnitName;
-use crate::rows::Rows;
+use crate::plan::RunPlan;
+use crate::rows::{Counters, Rows};
 use crate::seats::{copy_of, has_label, seat_of, tell_path};
-use crate::sets::counted;
 use crate::steps::count;
 use crate::units::unit_at;
 use cov_data::Data;
@@ -49,25 +51,21 @@ impl Model for Records {
 
 impl Records {
     ghost use Rattle.cov_event.specs.declared.event.Event.TheVariants.{Call, Line, Return};
-    ghost use Rattle.cov_recorder.specs.Plan.{named, HaveFirsts, plan_of};
-    ghost use Rattle.cov_recorder.specs.Names.{names_of};
+    ghost use Rattle.cov_recorder.specs.Plan.{named};
     ghost use Rattle.cov_recorder.specs.Recording.{at_first, label_now, next};
     ghost use Rattle.cov_recorder.specs.Labels.{question, IsUnasked};
+    ghost use Rattle.cov_recorder.specs.Frames.{GoesOn};
 
-    pub(crate) fn new(
-        alloc: Global,
-        units: Vec<Vec<UnitName>>,
-        places: Vec<ArcSet>,
-        arcs: bool,
-        fixed: &str,
-    ) -> Result<Records, NoMemory>
-        requires { HaveFirsts (names_of units.items) }
-        ensures { IfOk result (λ records. records
-            ≡ at_first (plan_of (names_of units.items) places.items arcs fixed.now)) }
+    pub(crate) fn new(alloc: Global, plan: RunPlan) -> Result<Records, NoMemory>
+        ensures { IfOk result (λ records. records ≡ at_first plan) }
     {
-        let fixed = String::from_str(alloc, fixed)?;
+        let RunPlan {
+            units,
+            sets,
+            arcs,
+            fixed,
+        } = plan;
         let rows = Rows::new(alloc, units.len())?;
-        let sets = counted_sets(alloc, arcs, places)?;
         Ok(Records {
             units,
             sets,
@@ -108,10 +106,19 @@ impl Records {
         code: CodeId,
         label: Option<Text>,
     ) -> Result<(), NoMemory>
+        requires { GoesOn (label_now self.old.frames) label }
         ensures ok { OnOk result (self.new ≡ next label self.old (Call code)) }
         ensures err { OnErr result (self.new ≡ self.old) }
     {
-        let seat = seat_of(alloc, &self.units, &self.sets, &mut self.rows, code, &label)?;
+        let seat = seat_of(
+            alloc,
+            &self.units,
+            &self.sets,
+            &mut self.rows,
+            self.frames.innermost(),
+            code,
+            &label,
+        )?;
         self.frames.push(Frame {
             code,
             line: 0,
@@ -152,39 +159,48 @@ impl Records {
         }
     }
 
-    /// The data of all events.
-    pub(crate) fn finish(self, alloc: Global) -> Result<Data, NoMemory>
-        ensures { IfOk result (λ found. found ≡ self.data) }
+    /// The data of all events, and the plan.
+    pub(crate) fn finish(self, alloc: Global) -> (Result<Data, NoMemory>, RunPlan)
+        ensures data { IfOk result.0 (λ found. found ≡ self.data) }
+        ensures plan { result.1 ≡ self.plan }
     {
         let Records {
             units,
             sets,
-            arcs: _,
+            arcs,
             fixed,
             frames,
             rows,
             data,
         } = self;
         drop(frames);
-        let mut data = data;
-        add_rows(
-            alloc,
-            &units,
-            &sets,
-            fixed.as_str(),
-            rows.as_slice(),
-            &mut data,
-        )?;
-        Ok(data)
+        let found = gathered(alloc, &units, &sets, fixed.as_str(), rows.as_slice(), data);
+        let plan = RunPlan {
+            units,
+            sets,
+            arcs,
+            fixed,
+        };
+        (found, plan)
     }
 }
 
-fn counted_sets(alloc: Global, arcs: bool, places: Vec<ArcSet>) -> Result<Vec<ArcSet>, NoMemory>
-    ensures { IfOk result (λ sets. sets.items ≡ map (counted arcs) places.items) }
+/// Data with the rows of rows of counters besides.
+fn gathered(
+    alloc: Global,
+    units: &[Vec<UnitName>],
+    sets: &[ArcSet],
+    fixed: &str,
+    rows: &[Counters],
+    bare: Data,
+) -> Result<Data, NoMemory>
+    requires { AreSound (plan_with (names_of units.now) sets.now bare.arcs fixed.now)
+        (map row_from rows.now) }
+    ensures { IfOk result (λ found. found
+        ≡ with_rows (plan_with (names_of units.now) sets.now bare.arcs fixed.now)
+        (map row_from rows.now) bare) }
 {
-    let mut sets = Vec::new(alloc);
-    for set in places {
-        sets.push(counted(alloc, arcs, set)?)?;
-    }
-    Ok(sets)
+    let mut found = bare;
+    add_rows(alloc, units, sets, fixed, rows, &mut found)?;
+    Ok(found)
 }

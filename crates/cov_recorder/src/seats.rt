@@ -1,5 +1,5 @@
 // What a frame begins with.
-ghost use Rattle.std.specs.Prelude.{◌≡◌, ◌↔◌, IsTrue, false, length, OnOk, OnErr, IfOk, MatchOption};
+ghost use Rattle.std.specs.Prelude.{◌≡◌, ◌↔◌, IsTrue, false, length, OnOk, OnErr, IfOk, IfSome, MatchOption};
 ghost use Rattle.std.specs.Option.{IsSome};
 ghost use Rattle.std.specs.List.{fold};
 ghost use Rattle.cov_data.specs.DataSet.{with_path};
@@ -7,7 +7,7 @@ ghost use Rattle.cov_recorder.specs.Plan.{unit_at, set_at, HaveFirsts};
 ghost use Rattle.cov_recorder.specs.Names.{names_of};
 ghost use Rattle.cov_recorder.specs.Recording.{utf8_of, begun};
 ghost use Rattle.cov_recorder.specs.Counters.{MakesRow};
-ghost use Rattle.cov_recorder.specs.Frames.{HasSeat};
+ghost use Rattle.cov_recorder.specs.Frames.{GoesOn, HasSeat, IsSeated, SharesRow};
 
 use crate::frames::{Frame, Seat};
 use crate::names::UnitName;
@@ -19,16 +19,21 @@ use cov_predict::ArcSet;
 use py_text::{NoMemory, Text};
 use std::alloc::Global;
 
-/// The seat of this code under this label. Its row of counters is made where there is none yet.
+/// The seat of this code under this label. The row of the frame around it serves where module and
+/// label are the same. Else one is looked for, and made where there is none yet.
 pub(crate) fn seat_of(
     alloc: Global,
     units: &[Vec<UnitName>],
     sets: &[ArcSet],
     rows: &mut Rows,
+    outer: Option<&Frame>,
     code: CodeId,
     label: &Option<Text>,
 ) -> Result<Option<Seat>, NoMemory>
-    requires { HaveFirsts (names_of units.now) }
+    requires firsts { HaveFirsts (names_of units.now) }
+    requires outer { IfSome outer (λ frame.
+        IsSeated (names_of units.now) rows.old frame.now) }
+    requires label { IfSome outer (λ frame. GoesOn frame.now.label label.now) }
     ensures seat { IfOk result (λ seat.
         HasSeat (names_of units.now) rows.new code label.now seat) }
     ensures row { MakesRow rows.old code.module (utf8_of label.now)
@@ -36,14 +41,39 @@ pub(crate) fn seat_of(
 {
     match unit_at(units, code) {
         Some(unit) => {
-            let size = size_of(sets, code.module);
-            let row = rows.number_of(alloc, code.module, utf8_of(label), size)?;
+            let row = match shared_row(outer, code.module, label) {
+                Some(row) => row,
+                None => {
+                    let size = size_of(sets, code.module);
+                    rows.number_of(alloc, code.module, utf8_of(label), size)?
+                }
+            };
             Ok(Some(Seat {
                 first: unit.first,
                 row,
             }))
         }
         None => Ok(None),
+    }
+}
+
+/// The row of a frame, where it is one of this module and label.
+fn shared_row(outer: Option<&Frame>, module: u32, label: &Option<Text>) -> Option<usize>
+    requires { IfSome outer (λ frame. GoesOn frame.now.label label.now) }
+    ensures { IfSome result (λ row. MatchOption outer.entry ⊥ (λ frame.
+        SharesRow frame.now «module» label.now row)) }
+{
+    let Some(frame) = outer else {
+        return None;
+    };
+    let Some(seat) = frame.seat else {
+        return None;
+    };
+    let goes_on = frame.label.is_some() || label.is_none();
+    if goes_on && frame.code.module == module {
+        Some(seat.row)
+    } else {
+        None
     }
 }
 

@@ -2,8 +2,8 @@ use Rattle.std.proofs.Common.{◌∙◌, map, sym}
 use Rattle.py_code.specs.Units.{plain_unit}
 use Rattle.cov_recorder.specs.Plan.{named}
 use Rattle.cov_measure_laws.specs.Units.{unit_name}
-use Rattle.cov_measure.proofs.Lists.{one-end, map-twice}
-use Rattle.cov_measure.proofs.units.unit_names.Goals as goal
+use Rattle.cov_measure_laws.proofs.Lists.{one-end, map-twice}
+use Rattle.cov_measure_laws.proofs.naming.unit_names.Goals as goal
 
 pub returns : goal.returns
 returns c =

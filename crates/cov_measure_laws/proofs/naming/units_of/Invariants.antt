@@ -1,7 +1,7 @@
 use Rattle.std.proofs.Common.{◌≡◌, ◌++◌, drop}
 use Rattle.cov_recorder.specs.Names.{names_of}
 use Rattle.cov_measure_laws.specs.Units.{program_units}
-use Rattle.cov_measure.proofs.units.units_of.Given as goal
+use Rattle.cov_measure_laws.proofs.naming.units_of.Given as goal
 
 abbrev pub invariant-loop-program : goal.invariant-loop-program
 invariant-loop-program l =

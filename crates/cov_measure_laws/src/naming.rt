@@ -11,7 +11,7 @@ use py_text::NoMemory;
 use std::alloc::Global;
 
 /// The names of the units of each program.
-pub(crate) fn units_of(alloc: Global, programs: &Programs) -> Result<Vec<Vec<UnitName>>, NoMemory>
+pub fn units_of(alloc: Global, programs: &Programs) -> Result<Vec<Vec<UnitName>>, NoMemory>
     ensures { IfOk result (λ units.
         names_of units.items ≡ program_units programs.now.modules.items) }
 {
