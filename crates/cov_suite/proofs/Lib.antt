@@ -7,6 +7,7 @@ pub mod Calling
 pub mod Ending
 pub mod Meaning
 pub mod DataLines
+pub mod MergedLines
+pub mod UnionLines
 pub mod Passes
-pub mod Lists
 mod Worked

@@ -1,15 +1,16 @@
 -- What a run under a new recorder, with empty input, comes to.
-use Rattle.std.proofs.Common.{◌≡◌, ℕ, Bool, List, [], ◌++◌, ap, subst, ◌∙◌}
+use Rattle.std.proofs.Common.{◌≡◌, ℕ, Bool, List, [], ◌∷◌, ◌++◌, ap, subst, ◌∙◌}
 use Rattle.cov_event.specs.declared.ask.Nobody.{Nobody}
 use Rattle.cov_event.specs.declared.event.Event.{Event}
 use Rattle.cov_event.specs.Moves.{Takes}
 use Rattle.cov_contexts.specs.declared.plugins.Plugin.{Ghosts as PluginOf}
+use Rattle.cov_contexts.specs.Sources.{Sources}
 use Rattle.cov_data.specs.DataSet.{DataSet}
 use Rattle.cov_recorder.specs.declared.recorder.Recorder.{Recorder}
 use Rattle.cov_recorder.specs.Asking.{asks, SourcesLeft}
 use Rattle.cov_recorder.specs.Laws.{RecordingLaw}
 use Rattle.cov_recorder.specs.Plan.{Plan}
-use Rattle.cov_recorder.specs.Recording.{at_first}
+use Rattle.cov_recorder.specs.Recording.{Recording, at_first}
 use Rattle.cov_recorder.specs.States.{state_of}
 use Rattle.py_builtins.specs.Inputs.{Wrote}
 use Rattle.py_builtins.specs.World.{World}
@@ -76,3 +77,21 @@ module _ {P : Type 0} (plugin : PluginOf P) (law : RecordingLaw (asks nobody plu
     test-is v e name ended h =
         let k = subst (λ x. TestRan (IsStep plugin) ms budget x name before after ended) e h in
         record { result = k.result; recorded = recorded-is (result_of_code ms v budget name).1 k.took }
+
+-- ---- a recorder keeps its plan
+
+module _ {P : Type 0} (plugin : PluginOf P) where
+  keeps-plan : (events : List Event) (before after : Recorder Nobody P) → TookAll plugin before events after → (state_of after).0.plan ≡ (state_of before).0.plan
+  keeps-plan [] before after e = ap (λ (r : Recorder Nobody P). (state_of r).0.plan) e
+  keeps-plan (event ∷ events) before after h = keeps-plan events h.0 after h.2 ∙ ap (λ (r : Recording). r.plan) h.1.2
+
+  module _ (plan : Plan) (old : List P) (before after : Recorder Nobody P) (first : state_of before ≡ (at_first plan, sources_of old)) (next : Plan) (is : next ≡ (state_of after).0.plan) where
+    plan-stays : (events : List Event) → TookAll plugin before events after → next ≡ plan
+    plan-stays events took = is ∙ keeps-plan events before after took ∙ ap (λ (s : Recording × Sources Nobody P). s.0.plan) first
+
+    -- the plan after an import, and after a test
+    pub import-plan : (ms : List Module) (budget : ℕ) (w last : World) (done : Bool) → ImportRan (IsStep plugin) ms budget w last before after done → next ≡ plan
+    import-plan ms budget w last done h = plan-stays (run (by_slots ms) ms w [] budget).events h.took
+
+    pub test-plan : (ms : List Module) (budget : ℕ) (w : World) (name : Text) (ended : Ended) → TestRan (IsStep plugin) ms budget w name before after ended → next ≡ plan
+    test-plan ms budget w name ended h = plan-stays (result_of_code ms w budget name).1 h.took

@@ -3,6 +3,7 @@ pub mod Results
 pub mod Passing
 pub mod Rows
 pub mod Views
+pub mod Merging
 pub mod Recorded
 pub mod Suites
 pub mod Meant

@@ -1,8 +1,6 @@
 // The import: the script, run by itself.
 ghost use Rattle.std.specs.Prelude.{◌≡◌, ◌<◌, ◌≤◌, length, IfOk};
 ghost use Rattle.cov_measure_laws.specs.Leaving.{AreLeft};
-ghost use Rattle.cov_recorder.specs.Names.{names_of};
-ghost use Rattle.cov_recorder.specs.Plan.{HaveFirsts, plan_of};
 ghost use Rattle.cov_suite.specs.Recorded.{Imports};
 ghost use Rattle.cov_suite.specs.Results.{words};
 ghost use Rattle.py_code.specs.Loaded.{modules_of, most_numbered};
@@ -13,8 +11,7 @@ use crate::runs::record_script;
 use cov_contexts::Plugin;
 use cov_data::Data;
 use cov_event::Nobody;
-use cov_predict::ArcSet;
-use cov_recorder::{UnitName, recorded_rows};
+use cov_recorder::{RunPlan, recorded_rows};
 use py_code::Programs;
 use py_machine::Store;
 use py_text::NoMemory;
@@ -37,34 +34,31 @@ pub(crate) fn suite_words(alloc: Global) -> Result<Vec<String>, NoMemory>
     Ok(words)
 }
 
-/// Runs the script on a new store.
+/// Runs the script on a new store. The plan is for the next recorder.
 pub(crate) fn import_script<P: Plugin>(
     alloc: Global,
     programs: &Programs,
-    units: &[Vec<UnitName>],
-    places: &[ArcSet],
-    fixed: &str,
-    arcs: bool,
+    plan: RunPlan,
     budget: u64,
     plugins: &mut Vec<P>,
-) -> Result<Import, NoMemory>
+) -> Result<(Import, RunPlan), NoMemory>
     requires some { 0 < length (modules_of programs.now) }
     requires few { length (modules_of programs.now) ≤ most_numbered }
-    requires begin { HaveFirsts (names_of units.now) }
-    ensures imports { IfOk result (λ i. Imports P.Plugin
-        (plan_of (names_of units.now) places.now arcs fixed.now) (modules_of programs.now) budget
-        plugins.old.items i.finished (world_of i.store) i.rows plugins.new.items) }
+    ensures imports { IfOk result (λ r. Imports P.Plugin plan (modules_of programs.now) budget
+        plugins.old.items r.0.finished (world_of r.0.store) r.0.rows plugins.new.items) }
+    ensures next { IfOk result (λ r. r.1 ≡ plan) }
     ensures plugins { AreLeft P.Plugin plugins.old.items plugins.new.items }
 {
     recorded_rows::<Nobody, P>();
     let words = suite_words(alloc)?;
     let mut store = Store::new(alloc, programs, &words)?;
-    let mut recorder = new_recorder(alloc, units, places, fixed, arcs, plugins)?;
+    let mut recorder = new_recorder(alloc, plan, plugins)?;
     let ran = record_script(alloc, programs, &mut store, budget, &mut recorder);
-    let rows = finish_recorder(alloc, recorder, plugins);
-    Ok(Import {
+    let (rows, next) = finish_recorder(alloc, recorder, plugins);
+    let import = Import {
         finished: ran?,
         store,
         rows: rows?,
-    })
+    };
+    Ok((import, next))
 }

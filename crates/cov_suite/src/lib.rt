@@ -7,6 +7,7 @@
 mod data_lines;
 mod imports;
 mod joining;
+mod merging;
 mod names;
 mod passing;
 mod recorders;
@@ -14,10 +15,9 @@ mod results;
 mod runs;
 mod suites;
 mod testing;
-mod units;
 
+pub use cov_measure_laws::units_of;
 pub use names::tests_of_script;
 pub use passing::all_pass;
 pub use results::{SuiteError, SuiteRun, TestEnd, TestResult};
 pub use suites::suite;
-pub use units::units_of;

@@ -1,4 +1,4 @@
-// New recorders, one for each run.
+// Recorders, one after another, of one plan.
 ghost use Rattle.std.specs.Prelude.{◌≡◌, map, IfOk, OnErr};
 ghost use Rattle.cov_recorder.specs.Names.{names_of};
 ghost use Rattle.cov_recorder.specs.Plan.{HaveFirsts, named, plan_of};
@@ -10,33 +10,41 @@ use cov_contexts::{Contexts, Plugin};
 use cov_data::Data;
 use cov_event::Nobody;
 use cov_predict::ArcSet;
-use cov_recorder::{Recorder, UnitName};
+use cov_recorder::{Recorder, RunPlan, UnitName};
 use py_text::NoMemory;
 use std::alloc::{AllocError, Global};
 use std::mem;
 
-/// A new recorder over these plugins, which are taken from their list.
-pub(crate) fn new_recorder<P: Plugin>(
+/// The plan of copies of these units and sets.
+pub(crate) fn plan_of(
     alloc: Global,
     units: &[Vec<UnitName>],
     places: &[ArcSet],
     fixed: &str,
     arcs: bool,
-    plugins: &mut Vec<P>,
-) -> Result<Recorder<Nobody, P>, NoMemory>
+) -> Result<RunPlan, NoMemory>
     requires { HaveFirsts (names_of units.now) }
-    ensures ok { IfOk result (λ recorder. state_of recorder
-        ≡ (
-          at_first (plan_of (names_of units.now) places.now arcs fixed.now),
-          sources_of plugins.old.items,
-        )) }
-    ensures err { OnErr result (plugins.new.items ≡ plugins.old.items) }
+    ensures { IfOk result (λ plan.
+        plan ≡ plan_of (names_of units.now) places.now arcs fixed.now) }
 {
     let units = copy_units(alloc, units)?;
     let places = copy_places(alloc, places)?;
+    RunPlan::new(alloc, units, places, arcs, fixed)
+}
+
+/// A new recorder of this plan over these plugins, which are taken from their list.
+pub(crate) fn new_recorder<P: Plugin>(
+    alloc: Global,
+    plan: RunPlan,
+    plugins: &mut Vec<P>,
+) -> Result<Recorder<Nobody, P>, NoMemory>
+    ensures ok { IfOk result (λ recorder.
+        state_of recorder ≡ (at_first plan, sources_of plugins.old.items)) }
+    ensures err { OnErr result (plugins.new.items ≡ plugins.old.items) }
+{
     let lent = mem::replace(plugins, Vec::new(alloc));
     let contexts = Contexts::new(None, lent, true);
-    match Recorder::new(alloc, units, places, arcs, fixed, contexts) {
+    match Recorder::of_plan(alloc, plan, contexts) {
         Ok(recorder) => Ok(recorder),
         Err(refused) => {
             *plugins = refused.contexts.into_plugins();
@@ -77,16 +85,18 @@ fn copy_places(alloc: Global, places: &[ArcSet]) -> Result<Vec<ArcSet>, NoMemory
     Ok(copies)
 }
 
-/// The data that a recorder keeps. The plugins that didn't leave go back into the list.
+/// The data that a recorder keeps, and its plan. The plugins that didn't leave go back into the
+/// list.
 pub(crate) fn finish_recorder<P: Plugin>(
     alloc: Global,
     recorder: Recorder<Nobody, P>,
     plugins: &mut Vec<P>,
-) -> Result<Data, NoMemory>
-    ensures rows { IfOk result (λ d. d ≡ (state_of recorder).0.data) }
+) -> (Result<Data, NoMemory>, RunPlan)
+    ensures rows { IfOk result.0 (λ d. d ≡ (state_of recorder).0.data) }
+    ensures plan { result.1 ≡ (state_of recorder).0.plan }
     ensures plugins { plugins.new.items ≡ (state_of recorder).1.plugins }
 {
-    let (rows, left) = recorder.finish(alloc);
+    let (rows, left, plan) = recorder.finish_for_next(alloc);
     *plugins = left;
-    rows
+    (rows, plan)
 }

@@ -13,6 +13,7 @@ ghost use Rattle.py_meaning.specs.Modules.{LoadedModule};
 use crate::data_lines::lines_in;
 use crate::imports::import_script;
 use crate::names::tests_of_script;
+use crate::recorders::plan_of;
 use crate::results::{SuiteError, SuiteRun};
 use crate::testing::run_tests;
 use cov_contexts::Plugin;
@@ -22,7 +23,7 @@ use cov_measure_laws::{
     units_of_programs, whole_data_of_call, whole_data_of_modules, whole_plans,
 };
 use cov_predict::ArcSet;
-use cov_recorder::{UnitName, recorded_rows};
+use cov_recorder::{RunPlan, UnitName, recorded_rows};
 use py_code::Programs;
 use py_compile::units_are_faithful;
 use py_trace::traces_kept;
@@ -86,14 +87,35 @@ fn run_suite<P: Plugin>(
         (suite_of_code (modules_of programs.now) budget) plugins.old.items (plain_answer result)
         plugins.new.items }
 {
-    let imported = import_script(alloc, programs, units, places, fixed, arcs, budget, plugins)?;
+    let Ok(plan) = plan_of(alloc, units, places, fixed, arcs) else {
+        return Err(SuiteError::NoMemory);
+    };
+    run_planned(alloc, programs, plan, budget, plugins)
+}
+
+/// The same under recorders of one plan, which goes from each to the next.
+fn run_planned<P: Plugin>(
+    alloc: Global,
+    programs: &Programs,
+    plan: RunPlan,
+    budget: u64,
+    plugins: &mut Vec<P>,
+) -> Result<SuiteRun, SuiteError>
+    requires some { 0 < length (modules_of programs.now) }
+    requires few { length (modules_of programs.now) ≤ most_numbered }
+    ensures { IsSuiteOf P.Plugin (WasRecorded P.Plugin plan)
+        (suite_of_code (modules_of programs.now) budget) plugins.old.items (plain_answer result)
+        plugins.new.items }
+{
+    let ran = import_script(alloc, programs, plan, budget, plugins)?;
+    let (imported, next) = ran;
     if !imported.finished {
         return Err(SuiteError::NotImported);
     }
     let lines = lines_in(alloc, &imported.rows)?;
     let names = tests_of_script(alloc, programs)?;
     let Ok((tests, rows)) = run_tests(
-        alloc, programs, units, places, fixed, arcs, budget, &imported, &names, plugins,
+        alloc, programs, next, budget, &imported, &lines, &names, plugins,
     ) else {
         return Err(SuiteError::NoMemory);
     };

@@ -15,7 +15,7 @@ use Rattle.cov_runs.specs.Measured.{HoldPossible}
 use Rattle.cov_step.specs.Calls.{Call, Answer, IsNoMemory, TestResult, TestsAsked}
 use Rattle.cov_step.specs.Testing.{came_or}
 use Rattle.cov_streams.specs.Suites.{TestedAs, result_of, tested_by}
-use Rattle.cov_suite.proofs.Lists.{map-twice}
+use Rattle.cov_measure_laws.proofs.Lists.{map-twice}
 use Rattle.cov_suite.specs.Meant.{AreTested, SuiteOf}
 use Rattle.cov_suite.specs.declared.results.SuiteError.{SuiteError}
 use Rattle.cov_suite.specs.declared.results.SuiteRun.{SuiteRun}

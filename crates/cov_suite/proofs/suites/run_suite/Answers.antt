@@ -1,27 +1,18 @@
-use Rattle.std.proofs.Common.{refl, ◌∙◌}
-use Rattle.cov_measure_laws.proofs.Leaving.{one-after}
-use Rattle.cov_recorder.specs.Names.{names_of}
-use Rattle.cov_recorder.specs.Plan.{plan_of}
+use Rattle.std.proofs.Common.{refl, subst}
+use Rattle.cov_measure_laws.proofs.Leaving.{as-before}
+use Rattle.cov_recorder.specs.Plan.{Plan}
 use Rattle.py_code.specs.Loaded.{modules_of}
-use Rattle.py_store.specs.Stores.{world_of}
-use Rattle.cov_suite.proofs.Ending.{no-memory, not-imported, has-run}
+use Rattle.cov_suite.specs.Recorded.{WasRecorded}
+use Rattle.cov_suite.specs.Results.{suite_of_code}
+use Rattle.cov_suite.specs.Suites.{IsSuiteOf}
+use Rattle.cov_suite.specs.Views.{plain_answer}
+use Rattle.cov_suite.proofs.Ending.{no-memory}
 use Rattle.cov_suite.proofs.suites.run_suite.Goals as goal
 
-pub returns-then-not-imported : goal.returns-then-not-imported
-returns-then-not-imported g c =
-    let i = c.in_ok-imported.imported in
-    not-imported g.P.Plugin (plan_of (names_of c.args.units.now) c.args.places.now c.args.arcs c.args.fixed.now) (modules_of c.args.programs.now) c.args.budget c.args.plugins.now.items i.finished (world_of i.store) i.rows c.import_script.new.plugins.items c.in_ok-imported.ensures.imports
-    c.if-not-imported.true c.import_script.ensures.plugins
-
 pub returns-in_default : goal.returns-in_default
-returns-in_default g c =
-    no-memory g.P.Plugin _ _ c.args.plugins.now.items c.run_tests.new.plugins.items _ refl (one-after g.P.Plugin c.args.plugins.now.items c.import_script.new.plugins.items c.run_tests.new.plugins.items c.import_script.ensures.plugins c.run_tests.ensures.plugins)
+returns-in_default g c = no-memory g.P.Plugin _ _ c.args.plugins.now.items c.args.plugins.now.items _ refl (as-before g.P.Plugin c.args.plugins.now.items)
 
 pub returns : goal.returns
 returns g c =
-    let i = c.in_ok-imported.imported in
-    let plan = plan_of (names_of c.args.units.now) c.args.places.now c.args.arcs c.args.fixed.now in
-    let ms = modules_of c.args.programs.now in
-    has-run g.P.Plugin plan ms c.args.budget c.args.plugins.now.items i.finished (world_of i.store) i.rows c.import_script.new.plugins.items c.in_ok-imported.ensures.imports
-    c.if-not-imported.false c.run_tests.new.plugins.items (one-after g.P.Plugin c.args.plugins.now.items c.import_script.new.plugins.items c.run_tests.new.plugins.items c.import_script.ensures.plugins c.run_tests.ensures.plugins)
-    c.deref.result.now (c.deref.ensures.value ∙ c.in_ok-names.ensures.code) (record { tests = c.in-Ok.tests; imported = c.in_ok-lines.lines; rows = c.in-Ok.rows }) c.in-Ok.ensures.tests c.in_ok-lines.ensures
+    subst (λ (p : Plan). IsSuiteOf g.P.Plugin (WasRecorded g.P.Plugin p) (suite_of_code (modules_of c.args.programs.now) c.args.budget) c.args.plugins.now.items (plain_answer c.run_planned.result) c.run_planned.new.plugins.items)
+    c.in-Ok.ensures c.run_planned.ensures

@@ -1,9 +1,11 @@
+use Rattle.std.proofs.Common.{◌≡◌}
+use Rattle.std.proofs.lemmas.Result.{IfOk-at_ok}
+use Rattle.cov_data.specs.DataSet.{DataSet}
+use Rattle.cov_recorder.specs.States.{state_of}
 use Rattle.cov_measure_laws.proofs.Leaving.{as-before, same-list}
-use Rattle.cov_recorder.specs.Names.{names_of}
-use Rattle.cov_recorder.specs.Plan.{plan_of}
 use Rattle.py_code.specs.Loaded.{modules_of}
 use Rattle.py_store.specs.Stores.{world_of}
-use Rattle.cov_suite.proofs.Recording.{test-is}
+use Rattle.cov_suite.proofs.Recording.{test-is, test-plan}
 use Rattle.cov_suite.proofs.testing.run_test.Goals as goal
 
 pub returns-in_err-store-clause-plugins : goal.returns-in_err-store-clause-plugins
@@ -14,6 +16,11 @@ returns-in_err-recorder-clause-plugins g c = same-list g.P.Plugin c.args.plugins
 
 pub returns-clause-tests : goal.returns-clause-tests
 returns-clause-tests g c =
-    test-is g.P.Plugin c.recorded_rows.ensures (plan_of (names_of c.args.units.now) c.args.places.now c.args.arcs c.args.fixed.now) c.args.plugins.now.items c.in_ok-recorder.recorder c.record_test-ran.new.recorder c.in_ok-recorder.ensures.ok
-    c.in_ok-rows.field-0 c.finish_recorder-rows.new.plugins.items c.in_ok-rows.ensures.rows c.finish_recorder-rows.ensures.plugins
+    test-is g.P.Plugin c.recorded_rows.ensures c.args.plan c.args.plugins.now.items c.in_ok-recorder.recorder c.record_test-ran.new.recorder c.in_ok-recorder.ensures.ok
+    c.in_ok-rows.field-0 c.finish_recorder-rows.new.plugins.items (IfOk-at_ok (λ (d : DataSet). d ≡ (state_of c.record_test-ran.new.recorder).0.data) c.in_ok-rows.was c.finish_recorder-rows.ensures.rows) c.finish_recorder-rows.ensures.plugins
     (modules_of c.args.programs.now) c.args.budget (world_of c.in_ok-store.store) (world_of c.args.imported.now) c.in_ok-store.ensures c.args.name.now c.in_ok-ran.field-0 c.in_ok-ran.ensures.ran
+
+pub returns-clause-next : goal.returns-clause-next
+returns-clause-next g c =
+    test-plan g.P.Plugin c.args.plan c.args.plugins.now.items c.in_ok-recorder.recorder c.record_test-ran.new.recorder c.in_ok-recorder.ensures.ok c.finish_recorder-rows.result.1 c.finish_recorder-rows.ensures.plan
+    (modules_of c.args.programs.now) c.args.budget (world_of c.in_ok-store.store) c.args.name.now c.in_ok-ran.field-0 c.in_ok-ran.ensures.ran

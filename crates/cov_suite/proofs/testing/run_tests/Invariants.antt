@@ -1,7 +1,5 @@
 use Rattle.std.proofs.Common.{◌≡◌, map, take}
 use Rattle.cov_measure_laws.specs.Leaving.{AreLeft}
-use Rattle.cov_recorder.specs.Names.{names_of}
-use Rattle.cov_recorder.specs.Plan.{plan_of}
 use Rattle.py_code.specs.Loaded.{modules_of}
 use Rattle.py_store.specs.Stores.{world_of}
 use Rattle.cov_suite.specs.Recorded.{AllTests}
@@ -11,8 +9,9 @@ use Rattle.cov_suite.proofs.testing.run_tests.Given as goal
 
 abbrev pub invariant-loop-name : goal.invariant-loop-name
 invariant-loop-name g l = record {
-  so_far : AllTests g.P.Plugin (plan_of (names_of l.units) l.places l.arcs l.fixed) l.imported.rows l.initial.plugins.items (map (result_of_code (modules_of l.programs) (world_of l.imported.store) l.budget) (take l.name-index l.names))
+  so_far : AllTests g.P.Plugin l.initial.next l.imported.rows l.initial.plugins.items (map (result_of_code (modules_of l.programs) (world_of l.imported.store) l.budget) (take l.name-index l.names))
       (map test_view l.results.items) (map reached_lines l.results.items) l.imported.rows l.all l.plugins.items;
   left : AreLeft g.P.Plugin l.initial.plugins.items l.plugins.items;
-  kind : l.all.arcs ≡ l.arcs;
+  kind : l.all.arcs ≡ l.initial.next.arcs;
+  next : l.next ≡ l.initial.next;
 }
