@@ -1,11 +1,4 @@
-pub mod Copies
-pub mod FormLaws
-pub mod RowLaws
-pub mod Items
-pub mod Turns
 pub mod MarkLaws
 pub mod Made
 pub mod KindLaws
 pub mod Reaching
-pub mod Counts
-pub mod KindCounts

@@ -2,8 +2,8 @@
 use Rattle.std.proofs.Common.{◌≡◌, List, [], ◌++◌, Result, Ok, Err, IfOk, refl}
 use Rattle.std.specs.Result.{IsOkAnd}
 use Rattle.py_changes.specs.Mutants.{around}
-use Rattle.cov_mutants.specs.Search.{Reached, Copied}
-use Rattle.cov_mutants.proofs.Copies.{copied-none, copied-one, copied-two, copied-three, copied-four, copied-as, over}
+use Rattle.cov_mutants_expr.specs.Search.{Reached, Copied}
+use Rattle.cov_mutants_expr.proofs.Copies.{copied-none, copied-one, copied-two, copied-three, copied-four, copied-as, over}
 
 -- of nothing
 pub made-none : {X C N D : Type 0} (mutants : C → List (X × C)) (whole : N → C) (s : Reached X) (c : C)

@@ -7,12 +7,12 @@ use Rattle.py_syntax.specs.Tree.{Expr, Exprs}
 use Rattle.py_syntax.specs.declared.expr.Expr.{Expr as Node}
 use Rattle.py_syntax.specs.View.{plain_expr, plain_exprs}
 use Rattle.py_changes.specs.Mutants.{Token, Marked, around, at_mark, expr_mutants, exprs_mutants, maybe_mutants}
-use Rattle.cov_mutants.specs.Search.{Reached, left, found, past, changed, Copied}
-use Rattle.cov_mutants.specs.SearchView.{seen}
+use Rattle.cov_mutants_expr.specs.Search.{Reached, left, found, past, changed, Copied}
+use Rattle.cov_mutants_expr.specs.SearchView.{seen}
 use Rattle.cov_mutants.specs.MarksView.{line_at, at_line, marked}
 use Rattle.cov_mutants.specs.declared.marks.Marks.{Marks}
-use Rattle.cov_mutants.specs.declared.search.Search.{Search}
-use Rattle.cov_mutants.proofs.Copies.{copied-one, copied-as}
+use Rattle.cov_mutants_expr.specs.declared.search.Search.{Search}
+use Rattle.cov_mutants_expr.proofs.Copies.{copied-one, copied-as}
 
 past-mark : {A : Type 0} (was l : ℕ) (s : Reached Token) (xs : List (Token × A))
     → at_line (line_at was l s) (past s xs) ≡ past (at_line was s) (at_mark l xs)

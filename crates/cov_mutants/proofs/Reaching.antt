@@ -1,7 +1,7 @@
 -- The mutant that a search reaches is the one of its number.
 use Rattle.std.proofs.Common.{◌≡◌, ℕ, zero, suc, List, [], ◌∷◌, Option, Some, None, refl, sym, ap, ◌∙◌}
 use Rattle.std.specs.Prelude.{slice_get}
-use Rattle.cov_mutants.specs.Search.{Reached, left, found, past, changed, Copied}
+use Rattle.cov_mutants_expr.specs.Search.{Reached, left, found, past, changed, Copied}
 
 -- what a search comes to is in the list, or the list is too short
 abbrev reach : {X A : Type 0} → Reached X → A → Option (X × A)

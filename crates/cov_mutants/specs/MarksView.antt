@@ -3,8 +3,8 @@
 --     at_line, marked          the state with that line
 use Rattle.std.specs.Prelude.{ℕ}
 use Rattle.py_changes.specs.Mutants.{Token, Marked}
-use Rattle.cov_mutants.specs.Search.{Reached, left, found}
-use Rattle.cov_mutants.specs.SearchView.{seen}
+use Rattle.cov_mutants_expr.specs.Search.{Reached, left, found}
+use Rattle.cov_mutants_expr.specs.SearchView.{seen}
 use Rattle.cov_mutants.specs.declared.marks.Marks.{Marks}
 
 -- the line of the next mark, or that of the mutant that was reached

@@ -10,7 +10,7 @@ ghost use Rattle.py_syntax.specs.View.{plain_stmts, plain_opt_suite, plain_arms,
 ghost use Rattle.py_syntax.specs.View.{plain_cases, plain_alias, plain_aliases};
 ghost use Rattle.py_syntax.specs.declared.stmt.Suite.{out-Suite};
 
-use crate::nodes::texts;
+use cov_mutants_expr::texts;
 use py_operator::BinOp;
 use py_syntax::{Alias, Arm, Case, Clause, Expr, Stmt, StmtKind, Suite};
 use py_text::{NoMemory, Text};

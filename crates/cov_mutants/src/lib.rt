@@ -1,29 +1,21 @@
 //! Counts the mutants of a module, and makes each from its number: one changed copy of the tree.
 #![tactic(auto)]
 
-mod expr_counts;
-mod expressions;
-mod forms;
 mod kinds;
 mod marks;
-mod nodes;
-mod patterns;
-mod place;
-mod search;
 mod simple;
 mod statements;
-mod stmt_counts;
 mod suites;
 
 ghost use Rattle.std.specs.Prelude.{◌≡◌, IfOk, length, min, option_map, slice_get};
 ghost use Rattle.py_syntax.specs.View.{plain_module, plain_stmts};
 ghost use Rattle.py_changes.specs.Mutants.{module_mutants};
 ghost use Rattle.cov_mutants.specs.MutantView.{mutant_of};
-ghost use Rattle.cov_mutants.specs.SearchView.{token_of};
+ghost use Rattle.cov_places.specs.PlaceView.{token_of};
 
 use crate::marks::Marks;
-use crate::place::Place;
-use crate::search::Search;
+use cov_mutants_expr::Search;
+use cov_places::{Place, place_count};
 use py_syntax::{Module, Stmt};
 use py_text::NoMemory;
 use std::alloc::Global;
@@ -42,7 +34,7 @@ pub struct Mutant {
 pub fn mutant_count(module: &Module) -> u64
     ensures { result ≡ min (length (module_mutants (plain_module «module».now))) u64.MAX }
 {
-    stmt_counts::statements(0, &module.body)
+    place_count(module)
 }
 
 /// The mutant of a module with this number, counted from 0 in the order of the changed tokens.

@@ -5,12 +5,11 @@ ghost use Rattle.std.specs.Option.{option_map};
 ghost use Rattle.py_syntax.specs.View.{plain_expr, plain_exprs};
 ghost use Rattle.py_changes.specs.Mutants.{at_mark, augmented_change, expr_mutants};
 ghost use Rattle.py_changes.specs.Mutants.{exprs_mutants, maybe_mutants};
-ghost use Rattle.cov_mutants.specs.Search.{Copied};
-ghost use Rattle.cov_mutants.specs.SearchView.{seen};
+ghost use Rattle.cov_mutants_expr.specs.Search.{Copied};
+ghost use Rattle.cov_mutants_expr.specs.SearchView.{seen};
 ghost use Rattle.cov_mutants.specs.MarksView.{line_at, marked};
 
-use crate::expressions;
-use crate::search::Search;
+use cov_mutants_expr::{Search, expressions};
 use py_operator::BinOp;
 use py_syntax::Expr;
 use py_text::NoMemory;

@@ -5,7 +5,7 @@ ghost use Rattle.std.specs.Option.{option_map};
 ghost use Rattle.py_syntax.specs.Tree.{expr, assign, aug_assign, return, raise, assert};
 ghost use Rattle.py_syntax.specs.View.{plain_expr, plain_exprs, plain_kind};
 ghost use Rattle.py_changes.specs.Mutants.{kind_mutants};
-ghost use Rattle.cov_mutants.specs.Search.{Copied};
+ghost use Rattle.cov_mutants_expr.specs.Search.{Copied};
 ghost use Rattle.cov_mutants.specs.MarksView.{marked};
 
 use crate::kinds;

@@ -6,13 +6,13 @@ ghost use Rattle.py_syntax.specs.View.{plain_arms, plain_clauses, plain_cases};
 ghost use Rattle.py_changes.specs.Mutants.{stmts_mutants, kind_mutants, suite_mutants};
 ghost use Rattle.py_changes.specs.Mutants.{opt_suite_mutants, arms_mutants, clauses_mutants};
 ghost use Rattle.py_changes.specs.Mutants.{cases_mutants};
-ghost use Rattle.cov_mutants.specs.Search.{Copied};
+ghost use Rattle.cov_mutants_expr.specs.Search.{Copied};
 ghost use Rattle.cov_mutants.specs.MarksView.{marked};
 
 use crate::marks::Marks;
-use crate::patterns::pattern;
 use crate::suites::{add_arm, add_case, add_clause, add_stmt};
 use crate::{kinds, simple};
+use cov_mutants_expr::pattern;
 use py_syntax::{Arm, Case, Clause, Stmt, StmtKind, Suite};
 use py_text::NoMemory;
 use std::alloc::Global;

@@ -5,8 +5,8 @@ ghost use Rattle.std.specs.Result.{IsOkAnd};
 ghost use Rattle.std.specs.Option.{option_map};
 ghost use Rattle.py_syntax.specs.Tree.{stmt, arm, clause, case};
 ghost use Rattle.py_syntax.specs.View.{plain_expr, plain_pattern, plain_kind, plain_suite};
-ghost use Rattle.cov_mutants.specs.Rows.{Added};
-ghost use Rattle.cov_mutants.specs.StatementRows.{put_stmt, put_arm, put_clause, put_case};
+ghost use Rattle.cov_mutants_expr.specs.Rows.{Added};
+ghost use Rattle.cov_places.specs.ItemRows.{put_stmt, put_arm, put_clause, put_case};
 
 use crate::kinds::optional;
 use py_syntax::{Arm, Case, Clause, Expr, LineEnd, Pattern, Stmt, StmtKind, Suite};

@@ -37,7 +37,7 @@ pub struct Function<'a> {
 pub(crate) fn is_mark(piece: &Piece) -> bool
     ensures { result ≡ is_mark (plain_piece piece.now) }
 {
-    match piece {
+    match *piece {
         Piece::Number(_) | Piece::Int(_) | Piece::Name(_) | Piece::Assigned(_) => false,
         Piece::Row(_) | Piece::Open | Piece::Inside | Piece::Close => false,
         Piece::Mark(_) => true,

@@ -1,15 +1,14 @@
 -- The names that are selected are those of the tests that must run again.
-use Rattle.std.proofs.Common.{◌≡◌, ◌⊎◌, inl, inr, ℕ, zero, suc, ◌<◌, ℤ, pos, Bool, true, false, not, ◌&&◌, ◌||◌, List, [], ◌∷◌, map, filter, length, All, Contains, encode_utf8_all, string_bytes, refl, ap, sym, subst, ◌∙◌, arith}
+use Rattle.std.proofs.Common.{◌≡◌, ◌⊎◌, inl, inr, ℕ, zero, suc, ◌<◌, Bool, true, false, not, ◌||◌, List, [], ◌∷◌, map, filter, length, All, Contains, encode_utf8_all, string_bytes, refl, ap, sym, subst, ◌∙◌, arith}
 use Rattle.std.specs.List.{list_any}
 use Rattle.std.specs.Prelude.{bytes_eq}
-use Rattle.std.specs.Str.{chars}
 use Rattle.std.proofs.lemmas.Bool.{false≢true}
 use Rattle.std.proofs.lemmas.Slice.Eq.{bytes_eq-Decides}
 use Rattle.std.proofs.lemmas.Str.{IsUtf8-string_bytes, encodes-chars, encodes_same}
+use Rattle.cov_arcs.specs.Laws.{ArcsAgree, ModulesArcsLaw, CallArcsLaw}
 use Rattle.cov_contexts.specs.declared.plugins.Plugin.{Ghosts as PluginOf}
 use Rattle.cov_data.specs.DataSet.{Text as Bytes, DataSet, union}
 use Rattle.cov_data.specs.Rows.{lines_of}
-use Rattle.cov_recorder_laws.proofs.Law.{in_order}
 use Rattle.cov_suite.specs.declared.results.SuiteRun.{SuiteRun}
 use Rattle.cov_suite.specs.declared.results.TestResult.{TestResult}
 use Rattle.cov_suite.specs.Meant.{IsMeantData}
@@ -18,29 +17,29 @@ use Rattle.cov_suite.specs.Rows.{Line, lines_in, InTurn}
 use Rattle.cov_suite.specs.Suites.{RanSuite}
 use Rattle.cov_suite.specs.Tests.{tests_of}
 use Rattle.cov_suite.specs.Views.{test_view, reached_lines, plain_suite}
-use Rattle.cov_verdicts.specs.Chosen.{test_of, AnyReached, MustRun, AreThose, none, this, other, IsChosen}
+use Rattle.cov_verdicts.specs.Chosen.{test_of, MustRun, AreThose, none, this, other, IsChosen}
 use Rattle.py_builtins.specs.Outcomes.{finished}
 use Rattle.py_builtins.specs.Returns.{Returned, gave, raised, cut}
 use Rattle.py_builtins.specs.World.{World}
 use Rattle.py_changes.specs.Paths.{path_of, HasReached, UnchangedByPaths}
 use Rattle.py_changes.specs.Regular.{MarksSomething, IsRegular}
-use Rattle.py_changes.specs.Tests.{imported, tested}
+use Rattle.py_changes.specs.Tests.{imported, tested, request_of}
 use Rattle.py_changes.specs.Tests as changes
 use Rattle.py_changes.proofs.Positive.{zero-unchanged}
 use Rattle.py_meaning.specs.Activations.{Items}
-use Rattle.py_meaning.specs.Crossings.{ends, crossings, lines_crossed}
 use Rattle.py_meaning.specs.Modules.{LoadedModule, body_of}
 use Rattle.py_syntax.specs.Marks.{statement_lines}
 use Rattle.py_syntax.specs.Tree.{Text}
 use Rattle.cov_select.specs.Chosen.{selected_names, ChosenInSuite}
 use Rattle.cov_select.specs.Paths.{plain_change, changes_by_path}
 use Rattle.cov_select.specs.Selected.{ByPath, was_cut, is_changed, is_selected}
-use Rattle.cov_suite.proofs.DataLines.{empty, unmapped, line-left, line-right, line-either}
+use Rattle.cov_suite.proofs.DataLines.{empty, line-left, line-right, line-either}
+use Rattle.cov_verdicts.proofs.Reached.{in-reached}
 use Rattle.cov_select.proofs.DataLines.{line-found}
 use Rattle.cov_select.proofs.Paths.{hold-changes, changed-of}
 use Rattle.cov_select.proofs.Unmarked.{marks-or-none}
-use Rattle.cov_select.proofs.Unselected.{Found, heads, tails, plan-path, no-change, walk, keeps}
-use Rattle.cov_select.proofs.Words.{first, second}
+use Rattle.cov_select.proofs.Unselected.{Found, heads, tails, no-change, walk, keeps}
+use Rattle.cov_changed.proofs.Words.{first, second}
 
 -- ---- names
 
@@ -77,18 +76,10 @@ chosen_by true true a h e = inl refl
 chosen_by true false a h e = inr h
 chosen_by false c a h e = absurd (false≢true e)
 
-module _ {P : Type 0} (plugin : PluginOf P) (old new : List LoadedModule) (fixed : Bytes) (budget : ℕ) (changed : ByPath) (is : map plain_change changed ≡ changes_by_path old new)
+module _ {P : Type 0} (plugin : PluginOf P) (modules_agree : ModulesArcsLaw) (calls_agree : CallArcsLaw) (old new : List LoadedModule) (arcs : Bool) (fixed : Bytes) (budget : ℕ) (changed : ByPath) (is : map plain_change changed ≡ changes_by_path old new)
     (lines : (m : ℕ) → All (λ l. 0 < l) (statement_lines (body_of old m))) where
   abbrev IsData : List P → Items → DataSet → List P → Type 0
-  IsData = IsMeantData plugin old false fixed
-
-  -- a line of the data of items was reached by them
-  was-reached : (items : Items) (d : DataSet) (p q : List P) → IsData p items d q → (m l : ℕ) → 0 < l → Contains (lines_of d (encode_utf8_all (path_of old m))) l → HasReached old items (path_of old m) l
-  was-reached items d p q rows m l some at =
-      let step = (rows.steps.lines refl (encode_utf8_all (path_of old m)) l some).0 at in
-      let n : ℕ = step.0 in
-      let arc = unmapped ends (crossings old n items) (step.1, pos l) ((in_order (map ends (crossings old n items)) (lines_crossed (crossings old n items)) refl (step.1, pos l)).1 step.3) in
-      (n, arc.0, encodes_same (path_of old n) (path_of old m) (sym (plan-path old n) ∙ step.2), arc.1, ap (λ (e : ℤ × ℤ). e.1) arc.2)
+  IsData = IsMeantData plugin old arcs fixed
 
   -- a changed line is from 1 on
   changed-some : (m l : ℕ) → changes.is_changed old new m l ≡ true → 0 < l
@@ -101,8 +92,8 @@ module _ {P : Type 0} (plugin : PluginOf P) (old new : List LoadedModule) (fixed
       (m : ℕ) × (l : ℕ) × (changes.is_changed old new m l ≡ true)
       × (HasReached old imp (path_of old m) l ⊎ HasReached old items (path_of old m) l)
 
-  reached-change : (items imported_items : Items) (d imp : DataSet) (p q s t : List P) → IsData p items d q → IsData s imported_items imp t → list_any (is_changed changed) (lines_in (union d imp)) ≡ true → ReachedChange imported_items items
-  reached-change items imported_items d imp p q s t rows at_import h = (m, l, change.2, by_case (line-either d imp (encode_utf8_all (path_of old m)) l (subst (λ (b : Bytes). Contains (lines_of (union d imp) b) l) change.1 line.2))) where
+  reached-change : (items imported_items : Items) → ArcsAgree old items → ArcsAgree old imported_items → (d imp : DataSet) (p q s t : List P) → IsData p items d q → IsData s imported_items imp t → list_any (is_changed changed) (lines_in (union d imp)) ≡ true → ReachedChange imported_items items
+  reached-change items imported_items agree agree_import d imp p q s t rows at_import h = (m, l, change.2, by_case (line-either d imp (encode_utf8_all (path_of old m)) l (subst (λ (b : Bytes). Contains (lines_of (union d imp) b) l) change.1 line.2))) where
     line : (b : Bytes) × (k : ℕ) × Contains (lines_of (union d imp) b) k × (is_changed changed (b, k) ≡ true)
     line = line-found (is_changed changed) (union d imp) h
 
@@ -116,8 +107,8 @@ module _ {P : Type 0} (plugin : PluginOf P) (old new : List LoadedModule) (fixed
     l = line.1
 
     by_case : Contains (lines_of d (encode_utf8_all (path_of old m))) l ⊎ Contains (lines_of imp (encode_utf8_all (path_of old m))) l → HasReached old imported_items (path_of old m) l ⊎ HasReached old items (path_of old m) l
-    by_case (inl at) = inr (was-reached items d p q rows m l (changed-some m l change.2) at)
-    by_case (inr at) = inl (was-reached imported_items imp s t at_import m l (changed-some m l change.2) at)
+    by_case (inl at) = inr (in-reached plugin old arcs fixed items d p q rows m l (changed-some m l change.2) agree at)
+    by_case (inr at) = inl (in-reached plugin old arcs fixed imported_items imp s t at_import m l (changed-some m l change.2) agree_import at)
 
   -- a test of the suite that is selected
   abbrev Affected : World → DataSet → Text → Type 0
@@ -161,7 +152,10 @@ module _ {P : Type 0} (plugin : PluginOf P) (old new : List LoadedModule) (fixed
       of_test : Affected (import_of old budget).world ran.of_import name → MustRun budget old new name
       of_test (inl c) = inr (inl (sym (cut-is (tested old (test_of budget name)).returned) ∙ c))
       of_test (inr r) =
-          inr (inr (reached-change (tested old (test_of budget name)).items (imported old (test_of budget name)).items r.0 ran.of_import r.1 r.2 before ran.data_of.0 r.3 ran.data_of.1 r.4))
+          let t = test_of budget name in
+          inr (inr (reached-change (tested old t).items (imported old t).items
+          (calls_agree old (imported old t).world [] (request_of t) budget) (modules_agree old t.words [] budget)
+          r.0 ran.of_import r.1 r.2 before ran.data_of.0 r.3 ran.data_of.1 r.4))
 
       by_case : Contains (tests_of old) name ⊎ (Contains (tests_of old) name → ⊥) → MustRun budget old new name
       by_case (inl at) = of_test (affected (import_of old budget).world ran.of_import name run.tests.items (tests_of old) ran.of_tests ran.data_of.0 after ran.tests ran.reached ran.data_of.2 h at)
@@ -173,8 +167,8 @@ module _ {P : Type 0} (plugin : PluginOf P) (old new : List LoadedModule) (fixed
       imp : DataSet
       imp = ran.of_import
 
-      at : Found plugin old new false fixed budget changed (hold-changes old new changed is) lines (import_of old budget).world imp (encode_utf8_all name) (tests_of old)
-      at = walk plugin old new false fixed budget changed (hold-changes old new changed is) lines (import_of old budget).world imp (encode_utf8_all name) run.tests.items (tests_of old) ran.of_tests ran.data_of.0 after ran.tests ran.reached ran.data_of.2 h
+      at : Found plugin old new arcs fixed budget changed (hold-changes old new changed is) lines (import_of old budget).world imp (encode_utf8_all name) (tests_of old)
+      at = walk plugin old new arcs fixed budget changed (hold-changes old new changed is) lines (import_of old budget).world imp (encode_utf8_all name) run.tests.items (tests_of old) ran.of_tests ran.data_of.0 after ran.tests ran.reached ran.data_of.2 h
 
       same : at.0 ≡ name
       same = encodes_same at.0 name at.9
@@ -183,9 +177,9 @@ module _ {P : Type 0} (plugin : PluginOf P) (old new : List LoadedModule) (fixed
       by_case (inl not_there) = not_there (subst (Contains (tests_of old)) same at.8)
       by_case (inr (inl c)) = false≢true (sym at.5 ∙ cut-is (tested old (test_of budget at.0)).returned ∙ ap (λ n. changes.was_cut (tested old (test_of budget n)).returned) same ∙ c)
       by_case (inr (inr (m, l, change, inl r))) =
-          no-change plugin old new false fixed budget changed (hold-changes old new changed is) lines (import_of old budget).items imp (union at.1 imp) before ran.data_of.0 ran.data_of.1 (line-right at.1 imp) at.7 m l change r
+          no-change plugin old new arcs fixed budget changed (hold-changes old new changed is) lines (import_of old budget).items imp (union at.1 imp) before ran.data_of.0 ran.data_of.1 (line-right at.1 imp) at.7 m l change r
       by_case (inr (inr (m, l, change, inr r))) =
-          no-change plugin old new false fixed budget changed (hold-changes old new changed is) lines (result_of_tree old (import_of old budget).world budget at.0).1 at.1 (union at.1 imp) at.2 at.3 at.6 (line-left at.1 imp) at.7 m l change
+          no-change plugin old new arcs fixed budget changed (hold-changes old new changed is) lines (result_of_tree old (import_of old budget).world budget at.0).1 at.1 (union at.1 imp) at.2 at.3 at.6 (line-left at.1 imp) at.7 m l change
           (subst (λ (n : Text). HasReached old (tested old (test_of budget n)).items (path_of old m) l) (sym same) r)
 
     chosen : UnchangedByPaths → IsRegular old → IsChosen budget old new (selected_names run changed (tests_of new)) (length (tests_of new))
@@ -201,7 +195,7 @@ module _ {P : Type 0} (plugin : PluginOf P) (old new : List LoadedModule) (fixed
       by_case : (name : Text) (b : Bool) → is_selected run.tests.items (is_changed changed) (encode_utf8_all name) ≡ b → (MustRun budget old new name → ⊥) → tested new (test_of budget name) ≡ tested old (test_of budget name)
       by_case name true e need = absurd (need (must name e))
       by_case name false e need =
-          let at = keeps plugin law old new false fixed budget before after run changed (encode_utf8_all name) regular lines ran (hold-changes old new changed is) e in
+          let at = keeps plugin law old new arcs fixed budget before after run changed (encode_utf8_all name) regular lines ran (hold-changes old new changed is) e in
           subst (λ (n : Text). tested new (test_of budget n) ≡ tested old (test_of budget n)) (encodes_same at.0 name at.2) at.3
 
 -- ---- modules without tests
@@ -224,10 +218,10 @@ module _ (old new : List LoadedModule) (budget : ℕ) (empty_suite : tests_of ol
     others = λ name there need. absurd (need (new-test name));
   }
 
-pub chosen-in-suite : {P : Type 0} (plugin : PluginOf P) → UnchangedByPaths → ChosenInSuite plugin
-chosen-in-suite {P = P} plugin law old new fixed budget before after run changed regular suite is = by_case (marks-or-none old) suite.ran where
-  by_case : MarksSomething (body_of old 0) ⊎ (tests_of old ≡ []) → RanSuite (IsMeantData plugin old false fixed) before (suite_of old budget) (plain_suite run) after → IsChosen budget old new (selected_names run changed (tests_of new)) (length (tests_of new))
-  by_case (inl marks) ran = let r = regular marks in chosen plugin old new fixed budget changed is r.1 run before after ran law r.0
+pub chosen-in-suite : {P : Type 0} (plugin : PluginOf P) → UnchangedByPaths → ModulesArcsLaw → CallArcsLaw → ChosenInSuite plugin
+chosen-in-suite {P = P} plugin law modules_agree calls_agree old new arcs fixed budget before after run changed regular suite is = by_case (marks-or-none old) suite.ran where
+  by_case : MarksSomething (body_of old 0) ⊎ (tests_of old ≡ []) → RanSuite (IsMeantData plugin old arcs fixed) before (suite_of old budget) (plain_suite run) after → IsChosen budget old new (selected_names run changed (tests_of new)) (length (tests_of new))
+  by_case (inl marks) ran = let r = regular marks in chosen plugin modules_agree calls_agree old new arcs fixed budget changed is r.1 run before after ran law r.0
   by_case (inr empty_suite) ran =
       chosen-all old new budget empty_suite run changed ran.imports
       (ran.tests ∙ ap (λ (ns : List Text). map (λ t. t.0) (map (result_of_tree old (import_of old budget).world budget) ns)) empty_suite)

@@ -1,14 +1,14 @@
--- The lines of data, as a suite lists them, and those of arcs.
-use Rattle.std.proofs.Common.{◌≡◌, inr, ℕ, zero, suc, ◌<◌, ℤ, pos, Bool, true, false, cond, ◌||◌, List, [], ◌∷◌, map, Contains, Option, Some, None, refl, ap, sym, subst, ◌∙◌, arith}
+-- The lines of data, as a suite lists them.
+use Rattle.std.proofs.Common.{◌≡◌, ℕ, zero, suc, Bool, true, false, ◌||◌, List, [], ◌∷◌, map, Contains, Option, Some, None, refl, ap, sym, ◌∙◌, arith}
 use Rattle.std.specs.List.{flat_map, list_any}
 use Rattle.std.specs.Prelude.{is_some}
 use Rattle.std.specs.FinMap.{get, get-empty, contains_key-keys}
 use Rattle.std.specs.Option.{unwrap_or}
 use Rattle.std.proofs.lemmas.List.Folds.{list_any-append, Any-from_list_any}
 use Rattle.std.proofs.lemmas.Bool.{false≢true}
-use Rattle.cov_data.specs.DataSet.{Text, text_cmp, Place, place_cmp, File, DataSet, no_rows, file_of}
-use Rattle.cov_data.specs.Rows.{lines_of, file_arcs, arcs_of, paths_of}
-use Rattle.cov_data.proofs.ArcLists.{lines_of-has, law_of_lines}
+use Rattle.cov_data.specs.DataSet.{Text, text_cmp, Place, place_cmp, File, DataSet, no_rows}
+use Rattle.cov_data.specs.Rows.{lines_of, paths_of}
+use Rattle.cov_data.proofs.ArcLists.{lines_of-has}
 use Rattle.cov_data.proofs.FileViews.{text_cmp_total, text_cmp_same}
 use Rattle.cov_data.proofs.Members.{member-Contains}
 use Rattle.cov_suite.specs.Rows.{Line, lines_in, path_lines}
@@ -73,14 +73,3 @@ line-found which d h =
     let at = found-flat which (path_lines d) (paths_of d) h in
     let line = found (λ l. which (at.0, l)) (lines_of d at.0) (sym (any-map which (λ l. (at.0, l)) (lines_of d at.0)) ∙ at.2) in
     (at.0, line.0, line.1, line.2)
-
--- ---- lines of arcs
-
-kind-of : (d : DataSet) (p : Text) (a : ℤ × ℤ) → Contains (arcs_of d p) a → d.arcs ≡ true
-kind-of d p a at = by_case d.arcs refl where
-  by_case : (b : Bool) → d.arcs ≡ b → d.arcs ≡ true
-  by_case true e = e
-  by_case false e = absurd (empty (subst (λ b. Contains (cond b (file_arcs (file_of d p)) []) a) e at))
-
-pub line-of_arc : (d : DataSet) (p : Text) (from : ℤ) (l : ℕ) → 0 < l → Contains (arcs_of d p) (from, pos l) → Contains (lines_of d p) l
-line-of_arc d p from l some at = (law_of_lines d (kind-of d p (from, pos l) at) p l some).1 ((from, pos l), at, inr refl)

@@ -1,11 +1,3 @@
-pub mod Words
-pub mod Compared
-pub mod PartsOfRows
-pub mod Pairs
-pub mod SilenceLaws
-pub mod Loops
-pub mod Local
-pub mod Together
 pub mod Sets
 pub mod DataLines
 pub mod Paths

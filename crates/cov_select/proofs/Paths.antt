@@ -1,12 +1,12 @@
 -- The changed lines of whole lists of modules, under their paths.
-use Rattle.std.proofs.Common.{◌≡◌, ℕ, zero, suc, nat_eq, ◌≤◌, Bool, true, false, ◌&&◌, ◌||◌, List, [], ◌∷◌, map, length, String, Vec, Global, Result, Ok, Err, IfOk, encode_utf8_all, string_bytes, refl, ap, sym, subst, ◌∙◌, arith}
+use Rattle.std.proofs.Common.{◌≡◌, ℕ, zero, suc, nat_eq, ◌≤◌, Bool, true, false, ◌&&◌, ◌||◌, List, [], ◌∷◌, map, length, String, Vec, Global, Result, Ok, Err, IfOk, encode_utf8_all, refl, ap, sym, ◌∙◌, arith}
 use Rattle.std.specs.List.{list_any}
 use Rattle.std.specs.Prelude.{bytes_eq, nat_lt, if◌then◌else◌}
 use Rattle.std.proofs.lemmas.Bool.{false≢true, eqb-true}
 use Rattle.std.proofs.lemmas.Slice.Eq.{bytes_eq-Decides}
 use Rattle.cov_data.specs.DataSet.{Text as Bytes}
 use Rattle.cov_suite.specs.Rows.{Line}
-use Rattle.py_changes.specs.Changed.{Lines, also, by_parts, changed_module}
+use Rattle.py_changes.specs.Changed.{also, by_parts, changed_module}
 use Rattle.py_changes.specs.Changes.{same_modules, are_compared, changed_lines, is_one_of}
 use Rattle.py_changes.specs.Paths.{path_of}
 use Rattle.py_changes.specs.Tests as changes
@@ -15,11 +15,11 @@ use Rattle.py_syntax.specs.Functions.{functions}
 use Rattle.py_syntax.specs.Marks.{with_line, in_order, body_marks}
 use Rattle.py_syntax.specs.Tree.{Stmts, no_stmts}
 use Rattle.py_text.specs.Comparison.{is_same_text}
-use Rattle.cov_select.specs.Paths.{plain_change, lines_by_path, changes_by_path, compared_by_path, marks_under_path, marks_by_path}
+use Rattle.cov_select.specs.Paths.{plain_change, lines_by_path, changes_by_path, compared_by_path, marks_by_path}
 use Rattle.cov_select.specs.Selected.{ByPath, is_changed}
 use Rattle.cov_select.specs.Unselected.{HoldChanges}
 use Rattle.cov_select.proofs.DataLines.{or_true}
-use Rattle.cov_select.proofs.Words.{first, second}
+use Rattle.cov_changed.proofs.Words.{first, second}
 
 -- ---- two ways to the changed lines
 

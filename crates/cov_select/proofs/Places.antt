@@ -1,9 +1,8 @@
 -- Modules of two versions in loops, place by place.
-use Rattle.std.proofs.Common.{◌≡◌, ◌≢◌, ◌⊎◌, inl, inr, ℕ, suc, ◌+◌, ◌<◌, ◌≤◌, min, Bool, true, false, ◌&&◌, List, [], ◌∷◌, ◌++◌, length, get_or, drop, map, refl, ap, sym, ◌∙◌, append_assoc, arith}
+use Rattle.std.proofs.Common.{◌≡◌, ◌≢◌, ◌⊎◌, inl, inr, ℕ, ◌+◌, ◌<◌, ◌≤◌, min, Bool, true, false, List, [], ◌∷◌, ◌++◌, length, get_or, drop, map, refl, ap, sym, ◌∙◌, append_assoc, arith}
 use Rattle.std.specs.Prelude.{bytes_eq, encode_utf8_all, nat_lt}
 use Rattle.std.specs.Str.{chars, IsUtf8}
 use Rattle.std.proofs.Math.ListN.{drop_of_length-le}
-use Rattle.std.proofs.lemmas.Bool.{false≢true}
 use borrow.Author.Tests.{ltb-true, ltb-false}
 use Rattle.std.proofs.lemmas.List.{append-nil, length-map}
 use Rattle.std.proofs.lemmas.Slice.Eq.{bytes_eq-Decides}
@@ -11,12 +10,11 @@ use Rattle.std.proofs.lemmas.Str.{encodes-chars}
 use Rattle.py_changes.specs.Changes.{same_modules, all_fit}
 use Rattle.py_code.specs.declared.code.Program.{Program}
 use Rattle.py_meaning.specs.Modules.{LoadedModule}
-use Rattle.py_syntax.specs.declared.stmt.Module.{Module}
 use Rattle.py_text.proofs.SameTexts.{same_answer, same_text, same_text_from}
 use Rattle.py_text.specs.Comparison.{is_same_text}
 use Rattle.cov_select.specs.declared.modules.Version.{Version}
-use Rattle.cov_select.specs.Paths.{module_beside, modules_beside, version_view, compared_by_path}
-use Rattle.cov_select.proofs.Pairs.{the_drop}
+use Rattle.cov_select.specs.Paths.{modules_beside, version_view, compared_by_path}
+use Rattle.cov_changed.proofs.Pairs.{the_drop}
 use Rattle.cov_select.proofs.Paths.{same-count}
 
 -- one of two lists is at its end

@@ -3,7 +3,7 @@ use Rattle.std.proofs.Common.{◌≡◌, ℕ, ◌+◌, ◌<◌, ◌≤◌, Bool,
 use Rattle.std.proofs.Math.ListN.{drop_of_length-le}
 use Rattle.std.proofs.lemmas.List.{append-nil}
 use Rattle.std.specs.List.{list_any, list_all}
-use Rattle.cov_select.proofs.Pairs.{the_drop}
+use Rattle.cov_changed.proofs.Pairs.{the_drop}
 
 -- a new item, by its test
 pub adds : (b old : Bool) → cond b true old ≡ (old || b)

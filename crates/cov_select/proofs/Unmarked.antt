@@ -1,9 +1,9 @@
 -- A body that marks nothing has no function.
-use Rattle.std.proofs.Common.{◌≡◌, ◌⊎◌, inl, inr, ℕ, Bool, true, false, List, [], ◌∷◌, ◌++◌, map, refl, ap, sym, ◌∙◌}
+use Rattle.std.proofs.Common.{◌≡◌, ◌⊎◌, inl, inr, ℕ, Bool, true, false, List, [], ◌∷◌, ◌++◌, map, refl, ap, ◌∙◌}
 use Rattle.py_changes.specs.Changed.{is_empty}
 use Rattle.py_changes.specs.Regular.{MarksSomething}
 use Rattle.py_meaning.specs.Modules.{LoadedModule, body_of}
-use Rattle.py_syntax.specs.Functions.{Function, defining, own_function, functions, is_string, is_docstring, without_docstring}
+use Rattle.py_syntax.specs.Functions.{Function, defining, own_function, functions, is_docstring, without_docstring}
 use Rattle.py_syntax.specs.Gathering.{gather, gather_kind, gather_opt}
 use Rattle.py_syntax.specs.Marks.{stmts_marks, kind_marks, opt_marks, body_marks}
 use Rattle.py_syntax.specs.Tree.{Stmts, no_stmts, stmt, suite, OptSuite, no_suite, has_suite, no_arms, arm, StmtKind, expr, global, if'}

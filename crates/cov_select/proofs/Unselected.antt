@@ -1,5 +1,5 @@
 -- A test that isn't selected keeps its result.
-use Rattle.std.proofs.Common.{◌≡◌, ℕ, zero, suc, ◌<◌, ℤ, pos, Bool, true, false, not, ◌&&◌, ◌||◌, List, [], ◌∷◌, map, All, Contains, encode_utf8_all, string_bytes, refl, ap, sym, subst, ◌∙◌, arith}
+use Rattle.std.proofs.Common.{◌≡◌, ℕ, zero, suc, ◌<◌, Bool, true, false, not, ◌&&◌, ◌||◌, List, [], ◌∷◌, map, All, Contains, encode_utf8_all, string_bytes, refl, ap, sym, subst, ◌∙◌, arith}
 use Rattle.std.specs.List.{list_any}
 use Rattle.std.specs.Prelude.{bytes_eq}
 use Rattle.std.specs.Str.{chars}
@@ -9,9 +9,6 @@ use Rattle.std.proofs.lemmas.Str.{IsUtf8-string_bytes, encodes-chars}
 use Rattle.cov_contexts.specs.declared.plugins.Plugin.{Ghosts as PluginOf}
 use Rattle.cov_data.specs.DataSet.{Text as Bytes, DataSet, union}
 use Rattle.cov_data.specs.Rows.{lines_of}
-use Rattle.cov_measure_laws.specs.Units.{tree_units}
-use Rattle.cov_recorder.specs.Plan.{path_at}
-use Rattle.cov_recorder_laws.proofs.Law.{in_order}
 use Rattle.cov_suite.specs.declared.results.SuiteRun.{SuiteRun}
 use Rattle.cov_suite.specs.declared.results.TestResult.{TestResult}
 use Rattle.cov_suite.specs.Meant.{IsMeantData}
@@ -23,19 +20,19 @@ use Rattle.cov_suite.specs.Views.{test_view, reached_lines, plain_suite}
 use Rattle.cov_verdicts.specs.Chosen.{test_of}
 use Rattle.py_builtins.specs.Outcomes as outcomes
 use Rattle.py_builtins.specs.World.{World}
-use Rattle.py_changes.specs.Paths.{path_of, HasReached, ReachedNoChange, UnchangedByPaths}
+use Rattle.py_changes.specs.Paths.{path_of, ReachedNoChange, UnchangedByPaths}
 use Rattle.py_changes.specs.Regular.{IsRegular}
 use Rattle.py_changes.specs.Tests.{tested}
 use Rattle.py_changes.proofs.Positive.{zero-unchanged}
 use Rattle.py_meaning.specs.Activations.{Items}
-use Rattle.py_meaning.specs.Crossings.{ends, crossings, lines_crossed}
 use Rattle.py_meaning.specs.Modules.{LoadedModule, body_of}
 use Rattle.py_syntax.specs.Marks.{statement_lines}
 use Rattle.py_syntax.specs.Tree.{Text}
 use Rattle.cov_select.specs.Selected.{ByPath, was_cut, is_changed, is_selected}
 use Rattle.cov_select.specs.Unselected.{HoldChanges, UnselectedInSuite}
-use Rattle.cov_suite.proofs.DataLines.{mapped, line-left, line-right}
-use Rattle.cov_select.proofs.DataLines.{any-line, line-of_arc}
+use Rattle.cov_suite.proofs.DataLines.{line-left, line-right}
+use Rattle.cov_verdicts.proofs.Reached.{reached-in}
+use Rattle.cov_select.proofs.DataLines.{any-line}
 
 -- ---- parts
 
@@ -62,45 +59,18 @@ facts true false true h = absurd (false≢true (sym h))
 facts true true a h = absurd (false≢true (sym h))
 facts false c a h = absurd (false≢true (sym h))
 
--- the path of a module in the plan of trees
-pub plan-path : (ms : List LoadedModule) (m : ℕ) → path_at (tree_units ms) m ≡ encode_utf8_all (path_of ms m)
-plan-path [] m = refl
-plan-path (x ∷ ms) zero = refl
-plan-path (x ∷ ms) (suc m) = plan-path ms m
-
 module _ {P : Type 0} (plugin : PluginOf P) (old new : List LoadedModule) (arcs : Bool) (fixed : Bytes) (budget : ℕ) (changed : ByPath) (holds : HoldChanges old new changed)
     (lines : (m : ℕ) → All (λ l. 0 < l) (statement_lines (body_of old m))) where
   -- the data of items
   abbrev pub IsData : List P → Items → DataSet → List P → Type 0
   IsData = IsMeantData plugin old arcs fixed
 
-  -- a line that items reached is among those of their data
-  in-data : (items : Items) (d : DataSet) (p q : List P) → IsData p items d q → (m l : ℕ) → 0 < l → HasReached old items (path_of old m) l → Contains (lines_of d (encode_utf8_all (path_of old m))) l
-  in-data items d p q is m l some reached = by_case arcs refl where
-    path : Bytes
-    path = encode_utf8_all (path_of old m)
-
-    n : ℕ
-    n = reached.0
-
-    there : path_at (tree_units old) n ≡ path
-    there = plan-path old n ∙ ap encode_utf8_all reached.2
-
-    arc : Contains (lines_crossed (crossings old n items)) (reached.1.from, pos l)
-    arc =
-        subst (λ (z : ℤ). Contains (lines_crossed (crossings old n items)) (reached.1.from, z)) reached.4
-        ((in_order (map ends (crossings old n items)) (lines_crossed (crossings old n items)) refl (ends reached.1)).0 (mapped ends (crossings old n items) reached.1 reached.3))
-
-    by_case : (b : Bool) → arcs ≡ b → Contains (lines_of d path) l
-    by_case true k = line-of_arc d path reached.1.from l some ((is.steps.arcs k path (reached.1.from, pos l)).1 (n, there, arc))
-    by_case false k = (is.steps.lines k path l some).1 (n, reached.1.from, there, arc)
-
   -- where no line of larger data is a changed one, the items reached none
   pub no-change : (items : Items) (d all : DataSet) (p q : List P) → IsData p items d q → ((path : Bytes) (l : ℕ) → Contains (lines_of d path) l → Contains (lines_of all path) l)
       → list_any (is_changed changed) (lines_in all) ≡ false → ReachedNoChange old new items
   no-change items d all p q is larger none m zero at reached = absurd (false≢true (sym (zero-unchanged old new m (lines m)) ∙ at))
   no-change items d all p q is larger none m (suc l) at reached =
-      false≢true (sym none ∙ any-line (is_changed changed) all (encode_utf8_all (path_of old m)) (suc l) (larger (encode_utf8_all (path_of old m)) (suc l) (in-data items d p q is m (suc l) (omega arith) reached)) (holds m (suc l) at))
+      false≢true (sym none ∙ any-line (is_changed changed) all (encode_utf8_all (path_of old m)) (suc l) (larger (encode_utf8_all (path_of old m)) (suc l) (reached-in plugin old arcs fixed items d p q is m (suc l) (omega arith) reached)) (holds m (suc l) at))
 
   -- ---- a test that isn't selected
 

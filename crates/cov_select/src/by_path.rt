@@ -1,14 +1,12 @@
 //! The changed lines of two lists of modules, by the paths of the old ones: `changed_by_path`.
 ghost use Rattle.std.specs.Prelude.{◌≡◌, ◌++◌, ◌∷◌, [], map, IfOk, OnOk};
 ghost use Rattle.py_changes.specs.Changed.{changed_module};
-ghost use Rattle.py_syntax.specs.Marks.{in_order, body_marks};
+ghost use Rattle.py_syntax.specs.Marks.{in_order};
 ghost use Rattle.py_syntax.specs.View.{plain_module};
 ghost use Rattle.cov_select.specs.Paths.{changes_by_path, compared_by_path, marks_by_path, modules_beside, path_bytes, plain_change, version_view};
 
-use crate::changes::{add_marks, in_order};
 use crate::modules::{Version, are_compared, versions};
-use crate::versions::changed;
-use cov_pieces::pieces;
+use cov_changed::{all_marks, changed};
 use py_code::{Program, Programs};
 use py_syntax::Module;
 use py_text::NoMemory;
@@ -74,7 +72,7 @@ fn marks_by_path(alloc: Global, before: &[Version]) -> Result<ByPath, NoMemory>
 {
     let mut found = Vec::new(alloc);
     for version in before {
-        let lines = marks_of(alloc, version.tree)?;
+        let lines = all_marks(alloc, version.tree)?;
         add(alloc, &mut found, version.program, lines)?;
     }
     Ok(found)
@@ -87,16 +85,6 @@ fn changed_before(alloc: Global, before: &Module, after: &Module) -> Result<Vec<
 {
     let (lines, _) = changed(alloc, before, after)?;
     Ok(lines)
-}
-
-/// The marks of a module, each once, in order.
-fn marks_of(alloc: Global, tree: &Module) -> Result<Vec<u32>, NoMemory>
-    ensures { IfOk result (λ lines. lines.items ≡ in_order (body_marks (plain_module tree.now))) }
-{
-    let pieces = pieces(alloc, &tree.body)?;
-    let mut lines = Vec::new(alloc);
-    add_marks(&mut lines, &pieces)?;
-    Ok(in_order(lines))
 }
 
 /// Adds lines under the path of a program.

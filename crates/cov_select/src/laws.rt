@@ -2,6 +2,7 @@
 ghost use Rattle.cov_select.specs.Chosen.{ChosenInSuite};
 ghost use Rattle.cov_select.specs.Unselected.{UnselectedInSuite};
 
+use cov_arcs::{told_arcs_of_call, told_arcs_of_modules};
 use cov_contexts::Plugin;
 use py_changes::unchanged_by_paths;
 
@@ -20,4 +21,6 @@ pub fn chosen_in_suite<P: Plugin>()
     ensures { ChosenInSuite P.Plugin }
 {
     unchanged_by_paths();
+    told_arcs_of_modules();
+    told_arcs_of_call();
 }

@@ -1,12 +1,11 @@
 //! Two lists of modules, side by side: `are_compared`.
-ghost use Rattle.std.specs.Prelude.{◌≡◌, map, string_bytes, IfOk};
+ghost use Rattle.std.specs.Prelude.{◌≡◌, ◌&&◌, map, string_bytes, IfOk};
 ghost use Rattle.std.specs.Str.{chars};
 ghost use Rattle.py_changes.specs.Changes.{same_modules, all_fit, are_compared};
 ghost use Rattle.py_text.specs.Comparison.{is_same_text};
 ghost use Rattle.cov_select.specs.Paths.{modules_beside, version_view};
 
-use crate::bodies::fits;
-use crate::texts::hold;
+use cov_changed::fits;
 use py_code::Program;
 use py_syntax::Module;
 use py_text::NoMemory;
@@ -76,4 +75,11 @@ fn all_fit(before: &[Version], after: &[Version]) -> bool
         all = hold(all, fits(before[i].tree, after[i].tree));
     }
     all
+}
+
+/// Whether both hold.
+fn hold(one: bool, other: bool) -> bool
+    ensures { result ≡ (one && other) }
+{
+    one && other
 }

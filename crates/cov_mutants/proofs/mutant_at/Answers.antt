@@ -2,8 +2,9 @@ use Rattle.std.proofs.Common.{refl, sym, ap, ◌∙◌, Some, List}
 use Rattle.py_syntax.specs.declared.stmt.Stmt.{Stmt}
 use Rattle.py_syntax.specs.View.{plain_stmts}
 use Rattle.cov_mutants.specs.MarksView.{at_line, marked}
-use Rattle.cov_mutants.specs.SearchView.{seen, token_of}
-use Rattle.cov_mutants.proofs.Copies.{copied-as}
+use Rattle.cov_places.specs.PlaceView.{token_of}
+use Rattle.cov_mutants_expr.specs.SearchView.{seen}
+use Rattle.cov_mutants_expr.proofs.Copies.{copied-as}
 use Rattle.cov_mutants.proofs.Reaching.{got, got-none}
 use Rattle.cov_mutants.proofs.mutant_at.Goals as goal
 

@@ -3,9 +3,10 @@ use Rattle.py_syntax.specs.Tree.{suite, pass, break, continue, if', while, for, 
 use Rattle.py_syntax.specs.View.{plain_stmts, plain_kind, plain_suite, plain_opt_suite, plain_arms, plain_clauses, plain_cases}
 use Rattle.py_syntax.specs.declared.stmt.Suite.{out-Suite}
 use Rattle.py_changes.specs.Mutants.{at_mark, expr_mutants, exprs_mutants, stmts_mutants, kind_mutants, suite_mutants, opt_suite_mutants, arms_mutants, clauses_mutants, cases_mutants}
-use Rattle.cov_mutants.proofs.RowLaws.{goes_on, at_end}
+use Rattle.cov_mutants_expr.proofs.RowLaws.{goes_on, at_end}
 use Rattle.cov_mutants.proofs.Made.{made-none, made-one, made-two, made-three, made-four, made-as}
-use Rattle.cov_mutants.proofs.KindLaws.{stmts-step, arms-step, clauses-step, cases-step, expr-is, assign-is, aug_assign-is, pass-is, break-is, continue-is, pass-boxed, break-boxed, continue-boxed, return-is, raise-is, assert-is, global-is, import-is, from-is, if-is, while-is, for-is, try-is, def-is, match-is, suite-is, a_suite, stmt-stepped, arm-stepped, clause-stepped, case-stepped}
+use Rattle.cov_places.proofs.KindForms.{stmts-step, arms-step, clauses-step, cases-step, expr-is, assign-is, aug_assign-is, pass-is, break-is, continue-is, return-is, raise-is, assert-is, global-is, import-is, from-is, if-is, while-is, for-is, try-is, def-is, match-is, suite-is}
+use Rattle.cov_mutants.proofs.KindLaws.{pass-boxed, break-boxed, continue-boxed, a_suite, stmt-stepped, arm-stepped, clause-stepped, case-stepped}
 use Rattle.cov_mutants.proofs.statements.+walk.Goals as goal
 
 pub statement-returns-in-Expr : goal.statement-returns-in-Expr

@@ -1,8 +1,8 @@
 use Rattle.std.proofs.Common.{drop}
 use Rattle.py_syntax.specs.View.{plain_stmts, plain_arms, plain_clauses, plain_cases}
 use Rattle.py_changes.specs.Mutants.{stmts_mutants, arms_mutants, clauses_mutants, cases_mutants}
-use Rattle.cov_mutants.specs.Rows.{Going}
-use Rattle.cov_mutants.specs.StatementRows.{put_stmt, put_arm, put_clause, put_case}
+use Rattle.cov_mutants_expr.specs.Rows.{Going}
+use Rattle.cov_places.specs.ItemRows.{put_stmt, put_arm, put_clause, put_case}
 use Rattle.cov_mutants.specs.MarksView.{marked}
 use Rattle.cov_mutants.proofs.statements.+walk.Given as goal
 

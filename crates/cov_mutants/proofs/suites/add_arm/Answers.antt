@@ -1,10 +1,10 @@
 use Rattle.std.proofs.Common.{ap, ◌∙◌}
 use Rattle.py_syntax.specs.Tree.{arm}
 use Rattle.py_syntax.specs.View.{plain_expr, plain_suite}
-use Rattle.cov_mutants.specs.StatementRows.{put_arm}
-use Rattle.cov_mutants.proofs.Copies.{was_ok}
-use Rattle.cov_mutants.proofs.RowLaws.{one_more}
-use Rattle.cov_mutants.proofs.KindLaws.{arm-put}
+use Rattle.cov_places.specs.ItemRows.{put_arm}
+use Rattle.cov_mutants_expr.proofs.Copies.{was_ok}
+use Rattle.cov_mutants_expr.proofs.RowLaws.{one_more}
+use Rattle.cov_places.proofs.KindForms.{arm-put}
 use Rattle.cov_mutants.proofs.suites.add_arm.Goals as goal
 
 pub returns : goal.returns

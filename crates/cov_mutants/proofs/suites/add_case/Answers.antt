@@ -2,10 +2,10 @@ use Rattle.std.proofs.Common.{ap, ◌∙◌}
 use Rattle.std.specs.Option.{option_map}
 use Rattle.py_syntax.specs.Tree.{case}
 use Rattle.py_syntax.specs.View.{plain_expr, plain_pattern, plain_suite}
-use Rattle.cov_mutants.specs.StatementRows.{put_case}
-use Rattle.cov_mutants.proofs.Copies.{was_ok}
-use Rattle.cov_mutants.proofs.RowLaws.{one_more}
-use Rattle.cov_mutants.proofs.KindLaws.{case-put}
+use Rattle.cov_places.specs.ItemRows.{put_case}
+use Rattle.cov_mutants_expr.proofs.Copies.{was_ok}
+use Rattle.cov_mutants_expr.proofs.RowLaws.{one_more}
+use Rattle.cov_places.proofs.KindForms.{case-put}
 use Rattle.cov_mutants.proofs.suites.add_case.Goals as goal
 
 pub returns : goal.returns

@@ -1,10 +1,10 @@
 use Rattle.std.proofs.Common.{ap, ◌∙◌}
 use Rattle.py_syntax.specs.Tree.{stmt}
 use Rattle.py_syntax.specs.View.{plain_kind}
-use Rattle.cov_mutants.specs.StatementRows.{put_stmt}
-use Rattle.cov_mutants.proofs.Copies.{was_ok}
-use Rattle.cov_mutants.proofs.RowLaws.{one_more}
-use Rattle.cov_mutants.proofs.KindLaws.{stmt-put}
+use Rattle.cov_places.specs.ItemRows.{put_stmt}
+use Rattle.cov_mutants_expr.proofs.Copies.{was_ok}
+use Rattle.cov_mutants_expr.proofs.RowLaws.{one_more}
+use Rattle.cov_places.proofs.KindForms.{stmt-put}
 use Rattle.cov_mutants.proofs.suites.add_stmt.Goals as goal
 
 pub returns : goal.returns

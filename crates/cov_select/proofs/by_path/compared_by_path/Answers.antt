@@ -1,4 +1,4 @@
-use Rattle.std.proofs.Common.{◌≤◌, List, [], drop, length, map, min, refl, arith}
+use Rattle.std.proofs.Common.{◌≤◌, [], drop, length, map, min, refl, arith}
 use Rattle.cov_select.specs.Paths.{compared_by_path, plain_change, version_view}
 use Rattle.cov_select.proofs.Places.{ended-both, made-all, none-compared}
 use Rattle.cov_select.proofs.by_path.compared_by_path.Goals as goal

@@ -1,7 +1,7 @@
 use Rattle.std.proofs.Common.{◌≤◌, drop, length, map, min, true, refl, arith}
 use Rattle.py_changes.specs.Changes.{all_fit}
 use Rattle.cov_select.specs.Paths.{version_view}
-use Rattle.cov_select.proofs.SilenceLaws.{all_done}
+use Rattle.cov_changed.proofs.SilenceLaws.{all_done}
 use Rattle.cov_select.proofs.Places.{ended-both, all-fit-none}
 use Rattle.cov_select.proofs.modules.all_fit.Goals as goal
 

@@ -1,4 +1,4 @@
-use Rattle.std.proofs.Common.{◌≤◌, List, [], drop, length, map, min, refl, arith}
+use Rattle.std.proofs.Common.{◌≤◌, [], drop, length, map, min, refl, arith}
 use Rattle.cov_select.specs.Paths.{modules_beside, version_view}
 use Rattle.cov_select.proofs.Places.{ended-both, made-all, none-beside}
 use Rattle.cov_select.proofs.modules.versions.Goals as goal

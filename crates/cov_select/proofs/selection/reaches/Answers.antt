@@ -2,7 +2,7 @@ use Rattle.std.proofs.Common.{◌+◌, drop, map, refl, ap, sym, ◌∙◌}
 use Rattle.std.specs.List.{list_any}
 use Rattle.cov_select.specs.Selected.{has_line}
 use Rattle.cov_suite.specs.Views.{line_of}
-use Rattle.cov_select.proofs.Pairs.{at_item, finds, seeks_on, found_none}
+use Rattle.cov_changed.proofs.Pairs.{at_item, finds, seeks_on, found_none}
 use Rattle.cov_select.proofs.selection.reaches.Goals as goal
 
 pub returns-then-has : goal.returns-then-has

@@ -1,0 +1,4 @@
+pub mod Silence
+pub mod Compared
+pub mod Local
+pub mod Views

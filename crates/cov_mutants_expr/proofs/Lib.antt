@@ -1,0 +1,4 @@
+pub mod Copies
+pub mod FormLaws
+pub mod RowLaws
+pub mod Turns

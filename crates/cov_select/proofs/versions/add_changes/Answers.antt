@@ -1,5 +1,0 @@
-use Rattle.cov_select.proofs.Together.{equal-lengths}
-use Rattle.cov_select.proofs.versions.add_changes.Goals as goal
-
-pub changed_functions-requires : goal.changed_functions-requires
-changed_functions-requires c = equal-lengths c.args.fs.now c.args.gs.now _ c.same_defs.ensures c.if-same_defs.true
